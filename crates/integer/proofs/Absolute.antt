@@ -1,0 +1,41 @@
+-- Laws of the absolute value, natAbs : ℤ → ℕ. Every order of this project is stated through it, in ℕ.
+--   abs-+, abs-sub, abs-*, abs-neg — of a sum, a difference (at most the sum of the sizes), a product, a negation
+--   abs-zero — only 0 has size 0
+--   below-zero, not-below-zero — a number below 0 is minus its size, any other is its size
+use mathlib.Core.Path.{_≡_, refl, ap, subst}
+use mathlib.Core.Bool.{true, false}
+use Prim.Native.Nat.{ℕ, zero, suc, _+_, _*_, _≤_}
+use native.Mathlib.Omega.{arith}
+use borrow.Author.Tests.{ltb-true}
+use lib.Dec.{T}
+use lib.IntN.{ℤ, pos, negsuc, negℤ, natAbs, _+ℤ_, _-ℤ_, _*ℤ_}
+use lib.Signed.{ltZ}
+use Rattle.integer.proofs.Difference.{is, zz}
+
+pub abs-+ : (a b : ℤ) → natAbs (a +ℤ b) ≤ natAbs a + natAbs b
+abs-+ a b = rw (is a, is b) (simp zz (omega arith))
+
+pub abs-neg : (a : ℤ) → natAbs (negℤ a) ≡ natAbs a
+abs-neg (pos zero) = refl
+abs-neg (pos (suc a)) = refl
+abs-neg (negsuc a) = refl
+
+pub abs-sub : (a b : ℤ) → natAbs (a -ℤ b) ≤ natAbs a + natAbs b
+abs-sub a b = omega (arith, abs-+ a (negℤ b), abs-neg b)
+
+pub abs-* : (a b : ℤ) → natAbs (a *ℤ b) ≡ natAbs a * natAbs b
+abs-* (pos a) (pos b) = refl
+abs-* (pos a) (negsuc b) = abs-neg (pos (a * suc b))
+abs-* (negsuc a) (pos b) = abs-neg (pos (suc a * b))
+abs-* (negsuc a) (negsuc b) = refl
+
+pub abs-zero : (x : ℤ) → natAbs x ≤ 0 → x ≡ pos 0
+abs-zero x h = rw (is x) (simp zz (omega (arith, simp zz at (rw (is x) at h))))
+
+pub below-zero : (x : ℤ) → ltZ x (pos 0) ≡ true → pos 0 -ℤ x ≡ pos (natAbs x)
+below-zero (pos n) e = absurd (omega (arith, ltb-true n 0 e))
+below-zero (negsuc n) e = ap pos (omega arith)
+
+pub not-below-zero : (x : ℤ) → ltZ x (pos 0) ≡ false → x ≡ pos (natAbs x)
+not-below-zero (pos n) e = refl
+not-below-zero (negsuc n) e = absurd (subst T e tt)

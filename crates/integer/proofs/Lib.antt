@@ -1,0 +1,7 @@
+pub mod Difference
+pub mod Absolute
+pub mod Ring
+pub mod Sum
+pub mod Search
+pub mod Machine
+pub mod Rounding

@@ -1,0 +1,77 @@
+-- Laws of rounded quotients (specs/Quotient).
+--   ceil-covers, ceil-least — ceilDiv a b is the least E with a ≤ E · b
+--   round-near — roundDiv x d is within half of x / d;  round-half — at a half it lies farther from 0
+--   quot-neg, abs-quot — the machine's quotient toward zero, of a negative number and in size
+--   round-down, round-up — that quotient of 2x − d, and of 2x + d, by 2d is roundDiv x d, by the sign of x
+use mathlib.Core.Path.{_≡_, refl, sym, ap, _∙_, subst}
+use mathlib.Core.Bool.{true, false}
+use Prim.Native.Nat.{ℕ, zero, suc, _+_, _*_, _-_, _/_, _%_, _<_, _≤_}
+use native.Mathlib.Omega.{arith}
+use native.Mathlib.Nat.{zero-div, div-le-self, div-add-mod', mod-lt, lt-of-mul-lt-mul-right}
+use borrow.Author.Tests.{ltb-true}
+use lib.Dec.{T}
+use lib.IntN.{ℤ, pos, negsuc, negℤ, natAbs, _+ℤ_, _-ℤ_, _*ℤ_, negℤ-+ℤ}
+use lib.Signed.{ltZ, quotZ}
+use Rattle.integer.specs.Quotient.{ceilDiv, roundDiv}
+use Rattle.integer.proofs.Absolute.{abs-neg}
+use Rattle.integer.proofs.Difference.{is, zz}
+
+pub ceil-covers : (a b : ℕ) → 0 < b → a ≤ ceilDiv a b * b
+unfolding ceilDiv
+ceil-covers a b h = omega (arith, div-add-mod' (a + (b - 1)) b, mod-lt (a + (b - 1)) h)
+
+below-next : (q E b : ℕ) → q * b < E * b + b → q ≤ E
+below-next q E b l = let h : q < E + 1 = lt-of-mul-lt-mul-right b (omega arith) in omega arith
+
+pub ceil-least : (a b E : ℕ) → 0 < b → a ≤ E * b → ceilDiv a b ≤ E
+unfolding ceilDiv
+ceil-least a b E h l = below-next ((a + (b - 1)) / b) E b (omega (arith, div-add-mod' (a + (b - 1)) b))
+
+pub quot-neg : (m b : ℕ) → quotZ (negℤ (pos m)) (pos b) ≡ negℤ (pos (m / b))
+quot-neg zero b = ap (λ (n : ℕ). pos n) (zero-div b) ∙ sym (ap (λ (n : ℕ). negℤ (pos n)) (zero-div b))
+quot-neg (suc m) b = refl
+
+pub abs-quot : (z : ℤ) (b : ℕ) → natAbs (quotZ z (pos b)) ≤ natAbs z
+abs-quot (pos a) b = div-le-self a b
+abs-quot (negsuc a) b = rw (abs-neg (pos (suc a / b))) (div-le-self (suc a) b)
+
+pub round-down : (x : ℤ) (d : ℕ) → ltZ x (pos 0) ≡ true → quotZ (pos 2 *ℤ x -ℤ pos d) (pos (2 * d)) ≡ roundDiv x d
+unfolding roundDiv
+round-down (pos n) d e = absurd (omega (arith, ltb-true n 0 e))
+round-down (negsuc a) d e = rw (← (negℤ-+ℤ (pos (2 * suc a)) (pos d))) (quot-neg (2 * suc a + d) (2 * d))
+
+pub round-up : (x : ℤ) (d : ℕ) → ltZ x (pos 0) ≡ false → quotZ (pos 2 *ℤ x +ℤ pos d) (pos (2 * d)) ≡ roundDiv x d
+unfolding roundDiv
+round-up (pos n) d e = refl
+round-up (negsuc n) d e = absurd (subst T e tt)
+
+-- half a divisor at most, on either side, and at a half above
+near : (a d : ℕ) → 0 < d → ((2 * (a - d * ((2 * a + d) / (2 * d))) < d) × (2 * (d * ((2 * a + d) / (2 * d)) - a) ≤ d))
+near a d h =
+    let q : ℕ = (2 * a + d) / (2 * d) in
+    let e : q * (2 * d) + (2 * a + d) % (2 * d) ≡ 2 * a + d = div-add-mod' (2 * a + d) (2 * d) in
+    let l : (2 * a + d) % (2 * d) < 2 * d = mod-lt (2 * a + d) (omega arith) in
+    (omega arith, omega arith)
+
+-- |pos a − pos b|, and of their negations
+apart : (a b : ℕ) → natAbs (pos a -ℤ pos b) ≡ (a - b) + (b - a)
+apart a b = simp zz (omega arith)
+
+apart-neg : (a b : ℕ) → natAbs (negℤ (pos a) -ℤ negℤ (pos b)) ≡ (a - b) + (b - a)
+apart-neg a b = simp zz (omega arith)
+
+scaled-neg : (d v : ℕ) → pos d *ℤ negℤ (pos v) ≡ negℤ (pos (d * v))
+scaled-neg d v = simp zz (omega arith)
+
+pub round-near : (x : ℤ) (d : ℕ) → 0 < d → 2 * natAbs (x -ℤ pos d *ℤ roundDiv x d) ≤ d
+unfolding roundDiv
+round-near (pos a) d h = rw (apart a (d * ((2 * a + d) / (2 * d)))) (omega (arith, near a d h))
+round-near (negsuc a) d h =
+    rw (scaled-neg d ((2 * suc a + d) / (2 * d)), apart-neg (suc a) (d * ((2 * suc a + d) / (2 * d)))) (omega (arith, near (suc a) d h))
+
+pub round-half : (x : ℤ) (d : ℕ) → 0 < d → 2 * natAbs (x -ℤ pos d *ℤ roundDiv x d) ≡ d → natAbs x < d * natAbs (roundDiv x d)
+unfolding roundDiv
+round-half (pos a) d h e = omega (arith, near a d h, apart a (d * ((2 * a + d) / (2 * d))))
+round-half (negsuc a) d h e =
+    rw (abs-neg (pos ((2 * suc a + d) / (2 * d))))
+    (omega (arith, near (suc a) d h, apart-neg (suc a) (d * ((2 * suc a + d) / (2 * d))), rw (scaled-neg d ((2 * suc a + d) / (2 * d))) at e))

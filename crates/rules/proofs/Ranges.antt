@@ -1,0 +1,147 @@
+-- Laws of the table of ranges.
+--   range-good — of every kind: lowest ≤ highest, and both are at most 2 ^ 36 in size; computed once over the whole table
+--   range-size — a number in range is at most `sizeOf k` in size
+--   range-natural — where the lowest value is a natural number, a number in range is one, and at least that
+--   range-far  — a number above 2 ^ 36 in size is in no range
+--   all-none, all-next, all-end — all in range at none, at n + 1 and at the end, for loops;  all-at — each of them is;  all-in — and the converse
+use mathlib.Core.Path.{_≡_, refl, sym, ap, ap₂, _∙_, subst}
+use mathlib.Core.Bool.{Bool, true, false, _&&_}
+use mathlib.Core.List.{List, [], _∷_}
+use Prim.Native.Nat.{ℕ, zero, suc, _+_, _<_, _≤_, _^_, max}
+use native.Mathlib.Omega.{arith}
+use native.Mathlib.Nat.{le-antisymm}
+use native.Mathlib.Numerals.{add-one}
+use borrow.Author.Tests.{leb-true, le-leb}
+use lib.Dec.{T, leb}
+use lib.IntN.{ℤ, pos, negsuc, natAbs}
+use lib.ListN.{getD, length}
+use lib.Signed.{leZ}
+use Rattle.integer.proofs.Search.{upto}
+use Rattle.rules.specs.declared.Kind.{Kind}
+use Rattle.rules.specs.declared.Kind.the-variants.{Size, SolutionScale, InverseScale, Matrix, Right, Guess, Inverse, Weight}
+use Rattle.rules.specs.declared.Range.{Range}
+use Rattle.rules.specs.Range.{ranges, indexOf, rangeOf, inRange, allInRange, fromTo}
+
+-- ---- Bool
+pub both-left : (a b : Bool) → a && b ≡ true → a ≡ true
+both-left true b e = refl
+both-left false b e = e
+
+pub both-right : (a b : Bool) → a && b ≡ true → b ≡ true
+both-right true b e = e
+both-right false b e = absurd (subst T (sym e) tt)
+
+pub both : {a b : Bool} → a ≡ true → b ≡ true → a && b ≡ true
+both p q = rw (p, q)
+
+-- ---- the rule over the whole table
+good : Range → Bool
+good r = leZ (r .lowest) (r .highest) && (leb (natAbs (r .lowest)) (2 ^ 36) && leb (natAbs (r .highest)) (2 ^ 36))
+
+all-good : List Range → Bool
+all-good [] = true
+all-good (r ∷ rs) = good r && all-good rs
+
+good-at : (rs : List Range) → all-good rs ≡ true → (i : ℕ) (d : Range) → i < length rs → good (getD rs i d) ≡ true
+unfolding all-good
+good-at [] e i d l = absurd (omega arith)
+good-at (r ∷ rs) e zero d l = both-left (good r) (all-good rs) e
+good-at (r ∷ rs) e (suc i) d l = good-at rs (both-right (good r) (all-good rs) e) i d (omega arith)
+
+table-good : all-good ranges ≡ true
+unfolding all-good good ranges
+table-good = refl
+
+index-below : (k : Kind) → indexOf k < 8
+index-below Size = omega arith
+index-below SolutionScale = omega arith
+index-below InverseScale = omega arith
+index-below Matrix = omega arith
+index-below Right = omega arith
+index-below Guess = omega arith
+index-below Inverse = omega arith
+index-below Weight = omega arith
+
+-- lowest ≤ highest, and both at most 2 ^ 36 in size
+pub record Good (r : Range) : Type 0 where
+  pub ordered : leZ (r .lowest) (r .highest) ≡ true
+  pub low-size : natAbs (r .lowest) ≤ 2 ^ 36
+  pub high-size : natAbs (r .highest) ≤ 2 ^ 36
+
+goodness : (r : Range) → good r ≡ true → Good r
+unfolding good
+goodness r e = record {
+  ordered = both-left (leZ (r .lowest) (r .highest)) _ e;
+  low-size = leb-true _ _ (both-left (leb (natAbs (r .lowest)) (2 ^ 36)) _ (both-right (leZ (r .lowest) (r .highest)) _ e));
+  high-size = leb-true _ _ (both-right (leb (natAbs (r .lowest)) (2 ^ 36)) _ (both-right (leZ (r .lowest) (r .highest)) _ e));
+}
+
+pub range-good : (k : Kind) → Good (rangeOf k)
+unfolding rangeOf
+range-good k = goodness _ (good-at ranges table-good (indexOf k) (fromTo (pos 0) (pos 0)) (unfold ranges in index-below k))
+
+-- ---- sizes
+-- the largest size that a number of the kind has
+abbrev pub sizeOf : Kind → ℕ
+sizeOf k = max (natAbs (rangeOf k .lowest)) (natAbs (rangeOf k .highest))
+
+between : (a b z : ℤ) → leZ a z ≡ true → leZ z b ≡ true → natAbs z ≤ max (natAbs a) (natAbs b)
+between a (pos b) (pos z) p q = omega (arith, leb-true z b q)
+between a (negsuc b) (pos z) p q = absurd (subst T (sym q) tt)
+between (pos a) b (negsuc z) p q = absurd (subst T (sym p) tt)
+between (negsuc a) b (negsuc z) p q = omega (arith, leb-true z a p)
+
+pub range-size : (k : Kind) (z : ℤ) → inRange k z ≡ true → natAbs z ≤ sizeOf k
+unfolding inRange
+range-size k z e =
+    between (rangeOf k .lowest) (rangeOf k .highest) z
+    (both-left (leZ (rangeOf k .lowest) z) (leZ z (rangeOf k .highest)) e)
+    (both-right (leZ (rangeOf k .lowest) z) (leZ z (rangeOf k .highest)) e)
+
+at-least : (a : ℕ) (z : ℤ) → leZ (pos a) z ≡ true → ((z ≡ pos (natAbs z)) × (a ≤ natAbs z))
+at-least a (pos z) p = (refl, leb-true a z p)
+at-least a (negsuc z) p = absurd (subst T (sym p) tt)
+
+pub range-natural : (k : Kind) (a : ℕ) (z : ℤ) → rangeOf k .lowest ≡ pos a → inRange k z ≡ true → ((z ≡ pos (natAbs z)) × (a ≤ natAbs z))
+unfolding inRange
+range-natural k a z e h = at-least a z (rw e at (both-left (leZ (rangeOf k .lowest) z) (leZ z (rangeOf k .highest)) h))
+
+pub range-far : (k : Kind) (z : ℤ) → 2 ^ 36 < natAbs z → inRange k z ≡ false
+range-far k z h = go (inRange k z) refl
+  where
+    go : (t : Bool) → inRange k z ≡ t → t ≡ false
+    go true e = absurd (omega (arith, range-size k z e, range-good k .low-size, range-good k .high-size))
+    go false e = refl
+
+-- the code's test
+pub range-test : (k : Kind) (z : ℤ) {r : Range} → r ≡ rangeOf k → leZ (r .lowest) z && leZ z (r .highest) ≡ inRange k z
+unfolding inRange
+range-test k z e = rw e
+
+-- ---- all in range
+pub all-none : (k : Kind) (f : ℕ → ℤ) → allInRange k 0 f ≡ true
+unfolding allInRange
+all-none k f = refl
+
+pub all-next : (k : Kind) (n : ℕ) (f : ℕ → ℤ) → allInRange k (n + 1) f ≡ inRange k (f n) && allInRange k n f
+unfolding allInRange
+all-next k n f = rw add-one
+
+pub all-end : (k : Kind) {i n : ℕ} (f : ℕ → ℤ) → i ≤ n → n ≤ i → allInRange k i f ≡ allInRange k n f
+all-end k f p q = ap (λ (m : ℕ). allInRange k m f) (le-antisymm p q)
+
+pub all-at : (k : Kind) (n : ℕ) (f : ℕ → ℤ) → allInRange k n f ≡ true → (i : ℕ) → i < n → inRange k (f i) ≡ true
+unfolding allInRange
+all-at k zero f e i l = absurd (omega arith)
+all-at k (suc n) f e i l =
+    upto (λ (j : ℕ). inRange k (f j) ≡ true) n i l (all-at k n f (both-right (inRange k (f n)) (allInRange k n f) e)) (both-left (inRange k (f n)) (allInRange k n f) e)
+
+pub all-in : (k : Kind) (n : ℕ) (f : ℕ → ℤ) → ((i : ℕ) → i < n → inRange k (f i) ≡ true) → allInRange k n f ≡ true
+unfolding allInRange
+all-in k zero f h = refl
+all-in k (suc n) f h = both (h n (omega arith)) (all-in k n f (λ i l. h i (omega arith)))
+
+pub all-ext : (k : Kind) (n : ℕ) (f g : ℕ → ℤ) → ((i : ℕ) → i < n → f i ≡ g i) → allInRange k n f ≡ allInRange k n g
+unfolding allInRange
+all-ext k zero f g h = refl
+all-ext k (suc n) f g h = rw (h n (omega arith), all-ext k n f g (λ i l. h i (omega arith)))

@@ -1,0 +1,50 @@
+-- The ranges of document 01 ("The system and its steps"), one line of a table for each kind of number.
+--   ranges      — the table: lowest and highest value, in the order of `Kind`
+--   indexOf k   — the line of the kind k
+--   rangeOf k   — its lowest and highest value
+--   inRange k z — z is a number of that kind's range
+--   allInRange k n f — f 0, .., f (n − 1) all are
+use mathlib.Core.Bool.{Bool, true, _&&_}
+use mathlib.Core.List.{List, [], _∷_}
+use Prim.Native.Nat.{ℕ, zero, suc}
+use lib.IntN.{ℤ, pos, negsuc}
+use lib.ListN.{getD}
+use lib.Signed.{leZ}
+use Rattle.rules.specs.declared.Kind.{Kind}
+use Rattle.rules.specs.declared.Kind.the-variants.{Size, SolutionScale, InverseScale, Matrix, Right, Guess, Inverse, Weight}
+use Rattle.rules.specs.declared.Range.{Range}
+
+abbrev pub fromTo : ℤ → ℤ → Range
+fromTo a b = record { lowest = a; highest = b }
+
+unfoldable pub ranges : List Range
+ranges =
+    fromTo (pos 1) (pos 32)  -- n
+    ∷ fromTo (pos 0) (pos 20)  -- s
+    ∷ fromTo (pos 0) (pos 20)  -- t
+    ∷ fromTo (negsuc 1048575) (pos 1048576)  -- matrix A
+    ∷ fromTo (negsuc 1073741823) (pos 1073741824)  -- right side b
+    ∷ fromTo (negsuc 68719476735) (pos 68719476736)  -- guess X
+    ∷ fromTo (negsuc 1048575) (pos 1048576)  -- inverse G
+    ∷ fromTo (pos 1) (pos 1024)  -- weight w
+    ∷ []
+
+abbrev pub indexOf : Kind → ℕ
+indexOf Size = 0
+indexOf SolutionScale = 1
+indexOf InverseScale = 2
+indexOf Matrix = 3
+indexOf Right = 4
+indexOf Guess = 5
+indexOf Inverse = 6
+indexOf Weight = 7
+
+unfoldable pub rangeOf : Kind → Range
+rangeOf k = getD ranges (indexOf k) (fromTo (pos 0) (pos 0))
+
+unfoldable pub inRange : Kind → ℤ → Bool
+inRange k z = leZ (rangeOf k .lowest) z && leZ z (rangeOf k .highest)
+
+unfoldable pub allInRange : Kind → ℕ → (ℕ → ℤ) → Bool
+allInRange k zero f = true
+allInRange k (suc n) f = inRange k (f n) && allInRange k n f
