@@ -29,12 +29,12 @@ given d p i = hasPlace (setOf d p) (i - 1)
 
 abbrev pub marked : Loader → Part → ℕ → Loader
 marked d p i = record {
-      n = d .n;
-      s = d .s;
-      t = d .t;
-      stage = d .stage;
-      sets = set (d .sets) (partIndex p) (withPlace (setOf d p) (i - 1));
-    }
+  n = d .n;
+  s = d .s;
+  t = d .t;
+  stage = d .stage;
+  sets = set (d .sets) (partIndex p) (withPlace (setOf d p) (i - 1));
+}
 
 abbrev pub counted : List Part
 counted = Row ∷ Right ∷ Guess ∷ Inverse ∷ Weight ∷ []
