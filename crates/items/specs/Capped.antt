@@ -19,8 +19,8 @@ use Rattle.items.specs.declared.Item.the-variants.{Problem, Scale, Of, E
 use Rattle.items.specs.declared.Part.the-variants.{Row, Right, Guess, Inverse, Weight}
 
 abbrev pub itemIn : CappedForm → Item
-itemIn (form.Problem n) = Problem
-itemIn (form.Scale s t) = Scale
+itemIn (form.Problem n) = Problem n
+itemIn (form.Scale s t) = Scale s t
 itemIn (form.Row i) = Of Row i
 itemIn (form.Right i b) = Of Right i
 itemIn (form.Guess i x) = Of Guess i

@@ -1,5 +1,5 @@
 -- What a form gives, and the two refusals that are said of its numbers.
---   itemOf f       — which form it is: problem, scale, end, or the form of a part for the number i
+--   itemOf f       — which form it is: problem with n, scale with s and t, end, or the form of a part for the number i
 --   valuesOf f     — the numbers that it puts into the list of its part
 --   placed n x     — the number i is 1 to n
 --   outside f      — 3: a number of it other than i is outside its range
@@ -20,8 +20,8 @@ use Rattle.items.specs.declared.Item.the-variants.{Problem, Scale, Of, E
 use Rattle.items.specs.declared.Part.the-variants.{Row, Right, Guess, Inverse, Weight}
 
 abbrev pub itemOf : Form → Item
-itemOf (problem n) = Problem
-itemOf (scale s t) = Scale
+itemOf (problem n) = Problem n
+itemOf (scale s t) = Scale s t
 itemOf (row i a others) = Of Row i
 itemOf (right i b) = Of Right i
 itemOf (guess i x) = Of Guess i
@@ -40,8 +40,8 @@ valuesOf (weight i w) = w ∷ []
 valuesOf end = []
 
 abbrev pub placed : ℕ → Item → Bool
-placed n Problem = true
-placed n Scale = true
+placed n (Problem m) = true
+placed n (Scale s t) = true
 placed n (Of p i) = leZ (pos 1) i && leZ i (pos n)
 placed n End = true
 

@@ -29,7 +29,7 @@ width Inverse n = n
 width Weight n = 1
 
 abbrev pub put : ℕ → Part → Item → List ℤ → List ℤ → List ℤ
-put w p Problem vs l = l
-put w p Scale vs l = l
+put w p (Problem n) vs l = l
+put w p (Scale s t) vs l = l
 put w p (Of q i) vs l = cond (eqb (partIndex p) (partIndex q)) (sets l ((natAbs i - 1) * w) vs) l
 put w p End vs l = l

@@ -21,10 +21,10 @@ pub enum Part {
     Weight,
 }
 
-// Which form a line is.
+// Which form a line is, with n, with s and t, or with the number i.
 pub enum Item {
-    Problem,
-    Scale,
+    Problem(i64),
+    Scale(i64, i64),
     Of(Part, i64),
     End,
 }
@@ -45,8 +45,8 @@ pub fn item_of(form: CappedForm) -> Item
     ensures { λ r. ⌜ r ≡ itemIn form ⌝ }
 {
     match form {
-        CappedForm::Problem(_) => Item::Problem,
-        CappedForm::Scale(_, _) => Item::Scale,
+        CappedForm::Problem(n) => Item::Problem(n),
+        CappedForm::Scale(s, t) => Item::Scale(s, t),
         CappedForm::Row(i) => Item::Of(Part::Row, i),
         CappedForm::Right(i, _) => Item::Of(Part::Right, i),
         CappedForm::Guess(i, _) => Item::Of(Part::Guess, i),
@@ -61,8 +61,8 @@ pub fn is_placed(item: Item, n: u32) -> bool
     ensures { λ r. ⌜ r ≡ placed n item ⌝ }
 {
     match item {
-        Item::Problem => true,
-        Item::Scale => true,
+        Item::Problem(_) => true,
+        Item::Scale(_, _) => true,
         Item::Of(_, i) => { if 1 <= i { i <= n as i64 } else { false } }
         Item::End => true,
     }
@@ -156,8 +156,8 @@ pub fn write_part(part: Part, item: Item, values: [i64; 32], width: usize, l: &m
     ensures { λ _. ⌜ now (l .exit) ≡ put width part item (take width values) (now (l .entry)) ⌝ }
 {
     match item {
-        Item::Problem => {}
-        Item::Scale => {}
+        Item::Problem(_) => {}
+        Item::Scale(_, _) => {}
         Item::Of(of, i) => {
             if part_index(part) == part_index(of) {
                 let k = place_of(i) as usize;

@@ -1,1 +1,4 @@
 pub mod State
+pub mod Order
+pub mod Taken
+pub mod Capped

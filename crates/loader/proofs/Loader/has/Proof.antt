@@ -3,7 +3,6 @@ use Rattle.loader.proofs.Loader.has.Statement.{statement}
 use Rattle.loader.proofs.Loader.has.Tie as tie
 use Rattle.loader.proofs.Loader.has.Reads as reads
 use Rattle.loader.proofs.Loader.has.Lts as lts
-use Rattle.loader.proofs.part_index.Reads as part-index-reads
 use Rattle.places.proofs.has_place.Reads as has-place-reads
 
 -- src/lib.rt:50:13

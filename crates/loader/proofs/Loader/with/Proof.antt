@@ -3,7 +3,6 @@ use Rattle.loader.proofs.Loader.with.Statement.{statement}
 use Rattle.loader.proofs.Loader.with.Tie as tie
 use Rattle.loader.proofs.Loader.with.Reads as reads
 use Rattle.loader.proofs.Loader.with.Lts as lts
-use Rattle.loader.proofs.part_index.Reads as part-index-reads
 use Rattle.places.proofs.with_place.Reads as with-place-reads
 
 -- src/lib.rt:59:13

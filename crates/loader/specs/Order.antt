@@ -1,0 +1,99 @@
+-- The refusals of a line in 01's order: 8, 14, 1, 2, 11, 3, 4, 12, 13, where 3 is two tests, of the place i and then of the values.
+--   Test     — what is said, in 01's numbers, where a condition holds
+--   verdict  — what the first test that holds says; nothing where none holds
+--   Case     — for each refusal whether its stated case holds, and the count of missing forms, which 13 gives
+--   order    — the tests in 01's order
+--   Lists    — the five lent lists;  short — 8: one of them is too short
+--   caseOf   — which cases hold of a line at a loader, with these lists
+--   answer   — what is said of the line: nothing where it is accepted
+use mathlib.Core.Bool.{Bool, true, false, _||_, cond}
+use mathlib.Core.List.{List, [], _∷_}
+use mathlib.Core.Option.{Option, none, some}
+use Prim.Native.Nat.{ℕ}
+use lib.Dec.{ltb}
+use lib.IntN.{ℤ}
+use lib.ListN.{length}
+use Rattle.line.specs.Form.{Form}
+use Rattle.line.specs.Reading.{reading}
+use Rattle.items.specs.Item.{itemOf, outside, miscounted}
+use Rattle.loader.specs.declared.Loader.{Loader}
+use Rattle.loader.specs.State.{missing, ended, early, misplaced, repeated, incomplete}
+
+pub record Test : Type 0 where
+  pub says : List ℕ
+  pub holds : Bool
+
+-- a refusal that gives its number alone
+abbrev pub number : ℕ → Bool → Test
+number k b = record { says = k ∷ []; holds = b }
+
+abbrev pub verdict : List Test → List ℕ
+verdict [] = []
+verdict (t ∷ ts) = cond (t .holds) (t .says) (verdict ts)
+
+pub record Case : Type 0 where
+  pub short : Bool
+  pub ended : Bool
+  pub long : Bool
+  pub unspelled : Bool
+  pub early : Bool
+  pub misplaced : Bool
+  pub outside : Bool
+  pub miscounted : Bool
+  pub repeated : Bool
+  pub incomplete : Bool
+  pub missing : ℕ
+
+abbrev pub order : Case → List Test
+order c =
+    number 8 (c .short)
+    ∷ number 14 (c .ended)
+    ∷ number 1 (c .long)
+    ∷ number 2 (c .unspelled)
+    ∷ number 11 (c .early)
+    ∷ number 3 (c .misplaced)
+    ∷ number 3 (c .outside)
+    ∷ number 4 (c .miscounted)
+    ∷ number 12 (c .repeated)
+    ∷ record { says = 13 ∷ c .missing ∷ []; holds = c .incomplete }
+    ∷ []
+
+pub record Lists : Type 0 where
+  pub matrix : List ℤ
+  pub right : List ℤ
+  pub guess : List ℤ
+  pub inverse : List ℤ
+  pub weights : List ℤ
+
+abbrev pub tooShort : ℕ → ℕ → ℕ → ℕ → ℕ → Bool
+tooShort a b x g w = ltb a 1024 || (ltb b 32 || (ltb x 32 || (ltb g 1024 || ltb w 32)))
+
+abbrev pub short : Lists → Bool
+short l = tooShort (length (l .matrix)) (length (l .right)) (length (l .guess)) (length (l .inverse)) (length (l .weights))
+
+-- none of the eight forms; a condition on the form that a line is
+abbrev pub isNone : Option Form → Bool
+isNone none = true
+isNone (some f) = false
+
+abbrev pub ofForm : Option Form → (Form → Bool) → Bool
+ofForm none p = false
+ofForm (some f) p = p f
+
+abbrev pub caseOf : Loader → Lists → List ℕ → Case
+caseOf d l line = record {
+  short = short l;
+  ended = ended (d .stage);
+  long = ltb 320 (length line);
+  unspelled = isNone (reading line);
+  early = ofForm (reading line) (λ (f : Form). early (d .stage) (itemOf f));
+  misplaced = ofForm (reading line) (λ (f : Form). misplaced d (itemOf f));
+  outside = ofForm (reading line) (λ (f : Form). outside f);
+  miscounted = ofForm (reading line) (λ (f : Form). miscounted (d .n) f);
+  repeated = ofForm (reading line) (λ (f : Form). repeated d (itemOf f));
+  incomplete = ofForm (reading line) (λ (f : Form). incomplete d (itemOf f));
+  missing = missing d;
+}
+
+unfoldable pub answer : Loader → Lists → List ℕ → List ℕ
+answer d l line = verdict (order (caseOf d l line))
