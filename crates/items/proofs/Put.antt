@@ -1,5 +1,6 @@
 -- Laws of writing a form's numbers into a list.
---   placed-at  — a number i that is 1 to n, as a natural number
+--   between, placed-at — a number that is a to n, an i that is 1 to n, as a natural number;  not-negative — it is one
+--   room-at    — the room for an item of a part
 --   stride     — the numbers of a form end at 32 · w
 --   put-same, put-other — what a form of the part itself, and of another part, leaves
 use mathlib.Core.Path.{_≡_, refl, sym, ap, subst, _∙_}
@@ -20,24 +21,29 @@ use Rattle.items.specs.declared.Item.the-variants.{Of}
 use Rattle.items.specs.declared.Part.{Part}
 use Rattle.items.specs.Item.{placed}
 use Rattle.items.specs.Put.{partIndex, put}
+use Rattle.items.specs.Capped.{Room}
 
-pub record PlacedAt (n : ℕ) (i : ℤ) : Type 0 where
+-- a number from a to n
+pub record Between (a n : ℕ) (i : ℤ) : Type 0 where
   pub whole : i ≡ pos (natAbs i)
-  pub from : 1 ≤ natAbs i
+  pub from : a ≤ natAbs i
   pub to : natAbs i ≤ n
 
-between : (n : ℕ) (i : ℤ) → leZ (pos 1) i ≡ true → leZ i (pos n) ≡ true → PlacedAt n i
-between n (pos i) p q = record { whole = refl; from = leb-true 1 i p; to = leb-true i n q }
-between n (negsuc i) p q = absurd (subst T (sym p) tt)
+by-sign : (a n : ℕ) (i : ℤ) → leZ (pos a) i ≡ true → leZ i (pos n) ≡ true → Between a n i
+by-sign a n (pos i) p q = record { whole = refl; from = leb-true a i p; to = leb-true i n q }
+by-sign a n (negsuc i) p q = absurd (subst T (sym p) tt)
 
-pub between-at : (n : ℕ) (i : ℤ) → leZ (pos 1) i && leZ i (pos n) ≡ true → PlacedAt n i
-between-at n i b = between n i (both-left (leZ (pos 1) i) (leZ i (pos n)) b) (both-right (leZ (pos 1) i) (leZ i (pos n)) b)
+pub between : (a n : ℕ) (i : ℤ) → leZ (pos a) i && leZ i (pos n) ≡ true → Between a n i
+between a n i b = by-sign a n i (both-left (leZ (pos a) i) (leZ i (pos n)) b) (both-right (leZ (pos a) i) (leZ i (pos n)) b)
 
-pub not-negative : {n : ℕ} (i : ℤ) → PlacedAt n i → T (nonNeg i)
+pub not-negative : {a n : ℕ} (i : ℤ) → Between a n i → T (nonNeg i)
 not-negative i h = rw (h .whole) tt
 
-pub placed-at : (n : ℕ) {x : Item} {p : Part} {i : ℤ} → x ≡ Of p i → placed n x ≡ true → PlacedAt n i
-placed-at n {x} {p} {i} e h = between-at n i (rw e at h)
+pub placed-at : (n : ℕ) {x : Item} {p : Part} {i : ℤ} → x ≡ Of p i → placed n x ≡ true → Between 1 n i
+placed-at n {x} {p} {i} e h = between 1 n i (rw e at h)
+
+pub room-at : (w k : ℕ) {x : Item} {p : Part} {i : ℤ} → x ≡ Of p i → Room w k x → (w ≤ 32) × (32 * w ≤ k) × (leZ (pos 1) i && leZ i (pos 32) ≡ true)
+room-at w k e h = rw e at h
 
 pub stride : (k w : ℕ) → 1 ≤ k → k ≤ 32 → (k - 1) * w + w ≤ 32 * w
 stride k w p q = omega (arith, suc-mul (k - 1) w, mul-le-mul-right {m = suc (k - 1)} {n = 32} w (omega arith))

@@ -4,9 +4,11 @@
 --   outsideIn m b — outside, b telling whether the numbers of a list are in their range
 --   miscountedIn n m c — miscounted, c being the count of a list
 --   valuesIn m vs — 32 numbers, of which the first are valuesOf
+--   Room w k x    — the item x, if it is of a part, has i in 1 to 32 and at most 32 numbers, w, in a list of length k that has room for 32 · w
 use mathlib.Core.Bool.{Bool, true, false, not, _&&_}
 use mathlib.Core.List.{List}
-use Prim.Native.Nat.{ℕ}
+use mathlib.Core.Path.{_≡_}
+use Prim.Native.Nat.{ℕ, _*_, _≤_}
 use lib.Dec.{eqb}
 use lib.IntN.{ℤ}
 use lib.ListN.{set}
@@ -17,6 +19,7 @@ use Rattle.line.specs.declared.CappedForm.the-variants as form
 use Rattle.items.specs.declared.Item.{Item}
 use Rattle.items.specs.declared.Item.the-variants.{Problem, Scale, Of, End}
 use Rattle.items.specs.declared.Part.the-variants.{Row, Right, Guess, Inverse, Weight}
+use Rattle.items.specs.Item.{placed}
 
 abbrev pub itemIn : CappedForm → Item
 itemIn (form.Problem n) = Problem n
@@ -57,3 +60,9 @@ valuesIn (form.Guess i x) vs = set vs 0 x
 valuesIn (form.Inverse i) vs = vs
 valuesIn (form.Weight i w) vs = set vs 0 w
 valuesIn form.End vs = vs
+
+abbrev pub Room : ℕ → ℕ → Item → Type 0
+Room w k (Problem n) = Unit
+Room w k (Scale s t) = Unit
+Room w k (Of p i) = (w ≤ 32) × (32 * w ≤ k) × (placed 32 (Of p i) ≡ true)
+Room w k End = Unit

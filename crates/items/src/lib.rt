@@ -8,7 +8,7 @@ ghost use lib.Seq.{paste};
 ghost use lib.Signed.{leZ};
 ghost use Rattle.items.specs.Item.{placed};
 ghost use Rattle.items.specs.Put.{partIndex, put};
-ghost use Rattle.items.specs.Capped.{itemIn, outsideIn, miscountedIn, valuesIn};
+ghost use Rattle.items.specs.Capped.{itemIn, outsideIn, miscountedIn, valuesIn, Room};
 use line::CappedForm;
 use rules::Kind;
 
@@ -130,6 +130,14 @@ pub fn values_of(form: CappedForm, listed: [i64; 32]) -> [i64; 32]
     values
 }
 
+// A number that is 0 to 32.
+pub fn natural(x: i64) -> u32
+    requires { ⌜ leZ (pos 0) x && leZ x (pos 32) ≡ true ⌝ }
+    ensures { λ r. ⌜ r ≡ natAbs x ⌝ }
+{
+    x as u32
+}
+
 // The number i of a form, where it is 1 to 32.
 pub fn place_of(i: i64) -> u32
     requires { ⌜ leZ (pos 1) i && leZ i (pos 32) ≡ true ⌝ }
@@ -152,7 +160,7 @@ fn write_values(values: [i64; 32], count: usize, l: &mut [i64], at: usize)
 
 // Writes the first width of the numbers of a form into the list of a part, where the form is of that part, from the place (i − 1)·width on.
 pub fn write_part(part: Part, item: Item, values: [i64; 32], width: usize, l: &mut [i64])
-    requires { ⌜ (width ≤ 32) × (32 * width ≤ length (now l)) × (placed 32 item ≡ true) ⌝ }
+    requires { ⌜ Room width (length (now l)) item ⌝ }
     ensures { λ _. ⌜ now (l .exit) ≡ put width part item (take width values) (now (l .entry)) ⌝ }
 {
     match item {

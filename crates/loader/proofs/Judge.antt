@@ -24,15 +24,15 @@ use Rattle.loader.specs.declared.Loader.{Loader}
 use Rattle.loader.specs.declared.Stage.{Stage}
 use Rattle.loader.specs.declared.Stage.the-variants.{Start, Sized, Scaled, Ended}
 use Rattle.loader.specs.State.{sized, scaled, early, misplaced, repeated, incomplete, missing}
-use Rattle.loader.specs.Order.{Test, verdict, order}
-use Rattle.loader.specs.Capped.{caseIn}
+use Rattle.loader.specs.Order.{Test, verdict}
+use Rattle.loader.specs.Capped.{saidIn}
 
 -- ---- Bool
-neither-left : (a b : Bool) → a || b ≡ false → a ≡ false
+pub neither-left : (a b : Bool) → a || b ≡ false → a ≡ false
 neither-left true b e = e
 neither-left false b e = refl
 
-neither-right : (a b : Bool) → a || b ≡ false → b ≡ false
+pub neither-right : (a b : Bool) → a || b ≡ false → b ≡ false
 neither-right true b e = absurd (subst T e tt)
 neither-right false b e = e
 
@@ -68,7 +68,7 @@ scaled-sized Sized e = refl
 scaled-sized Scaled e = refl
 scaled-sized Ended e = refl
 
-late : (s : Stage) → not (scaled s) ≡ false → sized s ≡ true
+pub late : (s : Stage) → not (scaled s) ≡ false → sized s ≡ true
 late s e = scaled-sized s (not-false (scaled s) e)
 
 pub placed-32 : (d : Loader) (x : Item) → early (d .stage) x ≡ false → misplaced d x ≡ false → placed 32 x ≡ true
@@ -109,13 +109,15 @@ last d x = record { says = 13 ∷ missing d ∷ []; holds = incomplete d x } ∷
 
 module _ (d : Loader) (m : CappedForm) (count : ℕ) (inside : Bool) {x : Item} (e : x ≡ itemIn m) where
   abbrev told : List ℕ
-  told = verdict (order (caseIn d m count inside))
+  told = saidIn d m count inside
 
   pub says-11 : early (d .stage) x ≡ true → 11 ∷ [] ≡ told
+  unfolding saidIn
   says-11 a = let a1 = rw e at a in rw a1
 
   module _ (a : early (d .stage) x ≡ false) where
     pub says-3-place : misplaced d x ≡ true → 3 ∷ [] ≡ told
+    unfolding saidIn
     says-3-place b =
         let a1 = rw e at a in
         let b1 = rw e at b in
@@ -123,6 +125,7 @@ module _ (d : Loader) (m : CappedForm) (count : ℕ) (inside : Bool) {x : Item} 
 
     module _ (b : misplaced d x ≡ false) where
       pub says-3-values : outsideIn m inside ≡ true → 3 ∷ [] ≡ told
+      unfolding saidIn
       says-3-values c =
           let a1 = rw e at a in
           let b1 = rw e at b in
@@ -130,6 +133,7 @@ module _ (d : Loader) (m : CappedForm) (count : ℕ) (inside : Bool) {x : Item} 
 
       module _ (c : outsideIn m inside ≡ false) where
         pub says-4 : miscountedIn (d .n) m count ≡ true → 4 ∷ [] ≡ told
+        unfolding saidIn
         says-4 f =
             let a1 = rw e at a in
             let b1 = rw e at b in
@@ -137,6 +141,7 @@ module _ (d : Loader) (m : CappedForm) (count : ℕ) (inside : Bool) {x : Item} 
 
         module _ (f : miscountedIn (d .n) m count ≡ false) where
           pub says-12 : repeated d x ≡ true → 12 ∷ [] ≡ told
+          unfolding saidIn
           says-12 g =
               let a1 = rw e at a in
               let b1 = rw e at b in
@@ -144,6 +149,7 @@ module _ (d : Loader) (m : CappedForm) (count : ℕ) (inside : Bool) {x : Item} 
               rw (a1, b1, c, f, g1)
 
           pub says-rest : {r : List ℕ} → repeated d x ≡ false → r ≡ verdict (last d x) → r ≡ told
+          unfolding saidIn
           says-rest {r} g h =
               let a1 = rw e at a in
               let b1 = rw e at b in

@@ -1,1 +1,5 @@
+pub mod Order
 pub mod Judge
+pub mod Advance
+pub mod Write
+pub mod Form

@@ -65,33 +65,32 @@ pub record Lists : Type 0 where
   pub inverse : List ℤ
   pub weights : List ℤ
 
+abbrev pub lists : List ℤ → List ℤ → List ℤ → List ℤ → List ℤ → Lists
+lists a b x g w = record { matrix = a; right = b; guess = x; inverse = g; weights = w }
+
 abbrev pub tooShort : ℕ → ℕ → ℕ → ℕ → ℕ → Bool
 tooShort a b x g w = ltb a 1024 || (ltb b 32 || (ltb x 32 || (ltb g 1024 || ltb w 32)))
 
 abbrev pub short : Lists → Bool
 short l = tooShort (length (l .matrix)) (length (l .right)) (length (l .guess)) (length (l .inverse)) (length (l .weights))
 
--- none of the eight forms; a condition on the form that a line is
-abbrev pub isNone : Option Form → Bool
-isNone none = true
-isNone (some f) = false
-
-abbrev pub ofForm : Option Form → (Form → Bool) → Bool
-ofForm none p = false
-ofForm (some f) p = p f
+-- something of the form that a line is, and a thing to stand for it where the line is no form
+abbrev pub ofForm {ℓ} : {A : Type ℓ} → Option Form → A → (Form → A) → A
+ofForm none other g = other
+ofForm (some f) other g = g f
 
 abbrev pub caseOf : Loader → Lists → List ℕ → Case
 caseOf d l line = record {
   short = short l;
   ended = ended (d .stage);
   long = ltb 320 (length line);
-  unspelled = isNone (reading line);
-  early = ofForm (reading line) (λ (f : Form). early (d .stage) (itemOf f));
-  misplaced = ofForm (reading line) (λ (f : Form). misplaced d (itemOf f));
-  outside = ofForm (reading line) (λ (f : Form). outside f);
-  miscounted = ofForm (reading line) (λ (f : Form). miscounted (d .n) f);
-  repeated = ofForm (reading line) (λ (f : Form). repeated d (itemOf f));
-  incomplete = ofForm (reading line) (λ (f : Form). incomplete d (itemOf f));
+  unspelled = ofForm (reading line) true (λ (f : Form). false);
+  early = ofForm (reading line) false (λ (f : Form). early (d .stage) (itemOf f));
+  misplaced = ofForm (reading line) false (λ (f : Form). misplaced d (itemOf f));
+  outside = ofForm (reading line) false (λ (f : Form). outside f);
+  miscounted = ofForm (reading line) false (λ (f : Form). miscounted (d .n) f);
+  repeated = ofForm (reading line) false (λ (f : Form). repeated d (itemOf f));
+  incomplete = ofForm (reading line) false (λ (f : Form). incomplete d (itemOf f));
   missing = missing d;
 }
 

@@ -1,4 +1,5 @@
 -- What a loader remembers (01: the desk), and the refusals for how far it has come.
+--   fresh       — the loader that was given nothing
 --   setOf d p   — the set of the i that were given of the part p; the number i, from 1, is the place i − 1 of the set
 --   given d p i — the form of the part p for the number i was given
 --   marked d p i — the loader with that form
@@ -14,7 +15,7 @@ use mathlib.Core.List.{List, [], _∷_}
 use Prim.Native.Nat.{ℕ, _+_, _-_}
 use lib.Dec.{ltb}
 use lib.IntN.{pos, natAbs}
-use lib.ListN.{getD, set}
+use lib.ListN.{getD, set, replicate}
 use Rattle.rules.specs.Range.{inRange}
 use Rattle.rules.specs.declared.Kind.the-variants.{Size}
 use Rattle.places.specs.Places.{hasPlace, withPlace, lacking}
@@ -27,6 +28,9 @@ use Rattle.items.specs.declared.Part.the-variants.{Row, Right, Guess, Inverse, 
 use Rattle.loader.specs.declared.Loader.{Loader}
 use Rattle.loader.specs.declared.Stage.{Stage}
 use Rattle.loader.specs.declared.Stage.the-variants.{Start, Sized, Scaled, Ended}
+
+abbrev pub fresh : Loader
+fresh = record { n = 0; s = 0; t = 0; stage = Start; sets = replicate 5 0 }
 
 abbrev pub setOf : Loader → Part → ℕ
 setOf d p = getD (d .sets) (partIndex p) 0

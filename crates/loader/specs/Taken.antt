@@ -2,11 +2,10 @@
 -- lists, and changes no other number in those lists. A refused line leaves the desk as before the call, and its lists").
 --   after d x    — the loader after a form
 --   putAll n f l — the lists after the form f
---   ifAccepted   — one thing where nothing is said and the line is a form, another where not
+--   accepted     — the new where nothing is said, the old where a refusal is
 --   loaderAfter, listsAfter — what is left of a line, accepted or refused
 --   TakenAs      — the contract of `take`
 use mathlib.Core.List.{List, [], _∷_}
-use mathlib.Core.Option.{Option, none, some}
 use mathlib.Core.Path.{_≡_}
 use Prim.Native.Nat.{ℕ}
 use lib.IntN.{ℤ, natAbs}
@@ -23,7 +22,7 @@ use Rattle.loader.specs.declared.Loader.{Loader}
 use Rattle.loader.specs.declared.Stage.the-variants.{Sized, Scaled, Ended}
 use Rattle.loader.specs.declared.Taken.{Taken}
 use Rattle.loader.specs.State.{marked}
-use Rattle.loader.specs.Order.{Lists, answer}
+use Rattle.loader.specs.Order.{Lists, answer, ofForm}
 
 abbrev pub after : Loader → Item → Loader
 after d (Problem n) = record { n = natAbs n; s = d .s; t = d .t; stage = Sized; sets = d .sets }
@@ -43,16 +42,15 @@ putAll n f l = record {
   weights = putIn Weight n f (l .weights);
 }
 
-abbrev pub ifAccepted {ℓ} : {A : Type ℓ} → List ℕ → Option Form → (Form → A) → A → A
-ifAccepted [] none new old = old
-ifAccepted [] (some f) new old = new f
-ifAccepted (k ∷ ks) o new old = old
+abbrev pub accepted {ℓ} : {A : Type ℓ} → List ℕ → A → A → A
+accepted [] new old = new
+accepted (k ∷ ks) new old = old
 
 unfoldable pub loaderAfter : Loader → Lists → List ℕ → Loader
-loaderAfter d l line = ifAccepted (answer d l line) (reading line) (λ (f : Form). after d (itemOf f)) d
+loaderAfter d l line = accepted (answer d l line) (ofForm (reading line) d (λ (f : Form). after d (itemOf f))) d
 
 unfoldable pub listsAfter : Loader → Lists → List ℕ → Lists
-listsAfter d l line = ifAccepted (answer d l line) (reading line) (λ (f : Form). putAll (d .n) f l) l
+listsAfter d l line = accepted (answer d l line) (ofForm (reading line) l (λ (f : Form). putAll (d .n) f l)) l
 
 pub record TakenAs (d : Loader) (line : List ℕ) (l : Lists) (r : Taken) (l′ : Lists) : Type 0 where
   pub says : said (r .outcome) ≡ answer d l line

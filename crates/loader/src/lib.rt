@@ -3,15 +3,18 @@ ghost use mathlib.Core.Path.{_≡_};
 ghost use mathlib.Core.Bool.{true, false};
 ghost use mathlib.Core.List.{[], _∷_};
 ghost use Prim.Native.Nat.{_+_, _≤_, _<_, _-_};
+ghost use lib.ListN.{length};
 ghost use Rattle.rules.specs.Refusal.{said};
 ghost use Rattle.items.specs.Item.{placed};
-ghost use Rattle.loader.specs.State.{given, marked, missing, sized, scaled, ended, early, misplaced, repeated, incomplete};
-ghost use Rattle.loader.specs.Order.{verdict, order, tooShort};
+ghost use Rattle.items.specs.Capped.{Room};
+ghost use Rattle.loader.specs.State.{fresh, given, marked, missing, sized, scaled, ended, early, misplaced, repeated, incomplete};
+ghost use Rattle.loader.specs.Order.{verdict, lists, tooShort};
 ghost use Rattle.loader.specs.Taken.{after};
-ghost use Rattle.loader.specs.Capped.{caseIn};
+ghost use Rattle.loader.specs.Capped.{saidIn, fits, putAllIn, TakenIn};
 use items::Item;
 use items::Part;
 use line::CappedForm;
+use line::Numbers;
 use rules::Kind;
 use rules::Outcome;
 use rules::Refusal;
@@ -83,7 +86,61 @@ fn is_early(stage: Stage, item: Item) -> bool
     }
 }
 
+// 8: whether a list of one of these lengths is too short.
+fn is_short(matrix: usize, right: usize, guess: usize, inverse: usize, weights: usize) -> bool
+    ensures { λ r. ⌜ r ≡ tooShort matrix right guess inverse weights ⌝ }
+{
+    if matrix < 1024 {
+        return true;
+    }
+    if right < 32 {
+        return true;
+    }
+    if guess < 32 {
+        return true;
+    }
+    if inverse < 1024 {
+        return true;
+    }
+    weights < 32
+}
+
+// Writes the numbers of an accepted form at their own places: they come first among the values, n of them in a row, else one.
+fn write_all(
+    item: Item,
+    values: [i64; 32],
+    n: usize,
+    matrix: &mut [i64],
+    right: &mut [i64],
+    guess: &mut [i64],
+    inverse: &mut [i64],
+    weights: &mut [i64],
+)
+    requires { ⌜ Room n 1024 item ⌝ }
+    requires { ⌜ tooShort (length (now matrix)) (length (now right)) (length (now guess)) (length (now inverse)) (length (now weights)) ≡ false ⌝ }
+    ensures { λ _. ⌜ lists (now (matrix .exit)) (now (right .exit)) (now (guess .exit)) (now (inverse .exit)) (now (weights .exit)) ≡ putAllIn n item values (lists (now (matrix .entry)) (now (right .entry)) (now (guess .entry)) (now (inverse .entry)) (now (weights .entry))) ⌝ }
+{
+    items::write_part(Part::Row, item, values, n, matrix);
+    items::write_part(Part::Right, item, values, 1, right);
+    items::write_part(Part::Guess, item, values, 1, guess);
+    items::write_part(Part::Inverse, item, values, n, inverse);
+    items::write_part(Part::Weight, item, values, 1, weights);
+}
+
 impl Loader {
+    // A loader that was given nothing yet.
+    pub fn new() -> Loader
+        ensures { λ r. ⌜ r ≡ fresh ⌝ }
+    {
+        Loader {
+            n: 0,
+            s: 0,
+            t: 0,
+            stage: Stage::Start,
+            sets: [0; 5],
+        }
+    }
+
     // Whether the form of a part for the number i, from 1, was given.
     fn has(self, part: Part, i: u32) -> bool
         requires { ⌜ (1 ≤ i) × (i ≤ 32) ⌝ }
@@ -169,7 +226,7 @@ impl Loader {
 
     // What is said of a form: 11, 3, 4, 12 and 13, in this order.
     fn judge(self, form: CappedForm, count: usize, inside: bool) -> Outcome
-        ensures { λ r. ⌜ said r ≡ verdict (order (caseIn self form count inside)) ⌝ }
+        ensures { λ r. ⌜ said r ≡ saidIn self form count inside ⌝ }
     {
         let n = self.n as usize;
         let stage = self.stage;
@@ -190,5 +247,73 @@ impl Loader {
             return Outcome::Refused(Refusal::Repeated);
         }
         self.judge_end(item)
+    }
+
+    // The loader after an accepted form.
+    fn advance(self, item: Item) -> Loader
+        requires { ⌜ fits item ≡ true ⌝ }
+        ensures { λ r. ⌜ r ≡ after self item ⌝ }
+    {
+        let sets = self.sets;
+        match item {
+            Item::Problem(n) => Loader {
+                n: items::natural(n),
+                s: self.s,
+                t: self.t,
+                stage: Stage::Sized,
+                sets: sets,
+            },
+            Item::Scale(s, t) => Loader {
+                n: self.n,
+                s: items::natural(s),
+                t: items::natural(t),
+                stage: Stage::Scaled,
+                sets: sets,
+            },
+            Item::Of(part, i) => self.with(part, items::place_of(i)),
+            Item::End => Loader {
+                n: self.n,
+                s: self.s,
+                t: self.t,
+                stage: Stage::Ended,
+                sets: sets,
+            },
+        }
+    }
+
+    // What a form leaves, the lists being long enough.
+    fn take_form(
+        self,
+        form: CappedForm,
+        numbers: Numbers,
+        matrix: &mut [i64],
+        right: &mut [i64],
+        guess: &mut [i64],
+        inverse: &mut [i64],
+        weights: &mut [i64],
+    ) -> Taken
+        requires { ⌜ tooShort (length (now matrix)) (length (now right)) (length (now guess)) (length (now inverse)) (length (now weights)) ≡ false ⌝ }
+        ensures { λ r. ⌜ TakenIn self form numbers (lists (now (matrix .entry)) (now (right .entry)) (now (guess .entry)) (now (inverse .entry)) (now (weights .entry))) r (lists (now (matrix .exit)) (now (right .exit)) (now (guess .exit)) (now (inverse .exit)) (now (weights .exit))) ⌝ }
+    {
+        let count = numbers.count;
+        let inside = numbers.inside;
+        let listed = numbers.values;
+        let n = self.n as usize;
+        let outcome = self.judge(form, count, inside);
+        match outcome {
+            Outcome::Refused(refusal) => Taken {
+                loader: self,
+                outcome: Outcome::Refused(refusal),
+            },
+            Outcome::Accepted => {
+                let item = items::item_of(form);
+                let values = items::values_of(form, listed);
+                write_all(item, values, n, matrix, right, guess, inverse, weights);
+                Taken {
+                    loader: self.advance(item),
+                    outcome: Outcome::Accepted,
+                }
+            }
+        }
     }
 }

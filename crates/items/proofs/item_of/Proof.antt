@@ -1,70 +1,52 @@
 use borrow.Author.Needs.{needs}
 use Rattle.items.proofs.item_of.Statement.{statement}
 use Rattle.items.proofs.item_of.Tie as tie
-use Rattle.items.proofs.item_of.Reads as reads
-use Rattle.items.proofs.item_of.Lts as lts
 
--- src/lib.rt:48:29
 enum-known-form : tie.Need-enum-known-form
 enum-known-form c = search needs
 
--- src/lib.rt:49:27
 enum-known-form-2 : tie.Need-enum-known-form-2
 enum-known-form-2 c = search needs
 
--- src/lib.rt:50:25
 enum-known-form-3 : tie.Need-enum-known-form-3
 enum-known-form-3 c = search needs
 
--- src/lib.rt:51:27
 enum-known-form-4 : tie.Need-enum-known-form-4
 enum-known-form-4 c = search needs
 
--- src/lib.rt:52:27
 enum-known-form-5 : tie.Need-enum-known-form-5
 enum-known-form-5 c = search needs
 
--- src/lib.rt:53:29
 enum-known-form-6 : tie.Need-enum-known-form-6
 enum-known-form-6 c = search needs
 
--- src/lib.rt:54:28
 enum-known-form-7 : tie.Need-enum-known-form-7
 enum-known-form-7 c = search needs
 
--- src/lib.rt:55:28
 enum-told : tie.Need-enum-told
 enum-told c = search needs
 
--- src/lib.rt:44:1
 returns : tie.Need-returns
 returns c = rw (c .before .form .given .1) (search needs)
 
--- src/lib.rt:44:1
 returns-2 : tie.Need-returns-2
 returns-2 c = rw (c .before .form2 .given .1) (search needs)
 
--- src/lib.rt:44:1
 returns-3 : tie.Need-returns-3
 returns-3 c = rw (c .before .form3 .given .1) (search needs)
 
--- src/lib.rt:44:1
 returns-4 : tie.Need-returns-4
 returns-4 c = rw (c .before .form4 .given .1) (search needs)
 
--- src/lib.rt:44:1
 returns-5 : tie.Need-returns-5
 returns-5 c = rw (c .before .form5 .given .1) (search needs)
 
--- src/lib.rt:44:1
 returns-6 : tie.Need-returns-6
 returns-6 c = rw (c .before .form6 .given .1) (search needs)
 
--- src/lib.rt:44:1
 returns-7 : tie.Need-returns-7
 returns-7 c = rw (c .before .form7 .given .1) (search needs)
 
--- src/lib.rt:44:1
 returns-8 : tie.Need-returns-8
 returns-8 c = search needs
 
