@@ -13,7 +13,6 @@ use lib.Dec.{eqb}
 use lib.IntN.{ℤ}
 use lib.ListN.{length, drop, getD}
 use Rattle.numeral.specs.Numeral.{lost, numberAt}
-use Rattle.numeral.specs.declared.Number.{Number}
 use Rattle.line.specs.declared.Head.{Head}
 use Rattle.line.specs.declared.Word.{Word}
 use Rattle.line.specs.declared.Word.the-variants.{Problem, Scale, Row, Right, Guess, Inverse, Weight, End}

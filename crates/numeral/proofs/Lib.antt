@@ -1,0 +1,4 @@
+pub mod Places
+pub mod Decimal
+pub mod Spelling
+pub mod Steps
