@@ -1,7 +1,7 @@
 -- The exact reading of a line, from left to right, by places: each part is read at the place after the part before it.
 --   opening w       — how a form of the word w starts
 --   wordAt s at w   — the place after the bytes w, where they stand at the place
---   headAt s        — the word that the line starts with
+--   headAt s at     — the first of the eight words whose opening stands at the place
 --   othersAt s f at — the further numbers of a list, each after a single space, at most f
 --   endAt           — the place after the last bracket, by the word's shape
 --   reading s       — the form that the line s is, if it is one; it is one where that place is the line's end
@@ -9,7 +9,7 @@ use mathlib.Core.Bool.{Bool, true, false, _&&_, cond}
 use mathlib.Core.List.{List, [], _∷_}
 use mathlib.Core.Option.{Option, none, some}
 use Prim.Native.Nat.{ℕ, zero, suc, _+_}
-use lib.Dec.{eqb}
+use lib.Dec.{eqb, leb}
 use lib.IntN.{ℤ}
 use lib.ListN.{length, drop, getD}
 use Rattle.numeral.specs.Numeral.{lost, numberAt}
@@ -36,12 +36,16 @@ starts (w ∷ ws) (b ∷ bs) = eqb b w && starts ws bs
 unfoldable pub wordAt : List ℕ → ℕ → List ℕ → ℕ
 wordAt s at w = cond (starts w (drop at s)) (at + length w) (lost s)
 
-unfoldable pub firstOf : List ℕ → List Word → Head
-firstOf s [] = record { word = End; next = lost s }
-firstOf s (w ∷ ws) = cond (starts (opening w) s) (record { word = w; next = length (opening w) }) (firstOf s ws)
+-- h, or the word w where h is none
+unfoldable pub orWord : List ℕ → ℕ → Head → Word → Head
+orWord s at h w = cond (leb (h .next) (length s)) h (record { word = w; next = wordAt s at (opening w) })
 
-unfoldable pub headAt : List ℕ → Head
-headAt s = firstOf s (Problem ∷ Scale ∷ Row ∷ Right ∷ Guess ∷ Inverse ∷ Weight ∷ End ∷ [])
+unfoldable pub firstOf : List ℕ → ℕ → Head → List Word → Head
+firstOf s at h [] = h
+firstOf s at h (w ∷ ws) = firstOf s at (orWord s at h w) ws
+
+unfoldable pub headAt : List ℕ → ℕ → Head
+headAt s at = firstOf s at (record { word = End; next = lost s }) (Problem ∷ Scale ∷ Row ∷ Right ∷ Guess ∷ Inverse ∷ Weight ∷ End ∷ [])
 
 pub record Others : Type 0 where
   pub values : List ℤ
@@ -81,7 +85,7 @@ formOf End i v a others = end
 
 unfoldable pub reading : List ℕ → Option Form
 reading s =
-    let h = headAt s in
+    let h = headAt s 0 in
     let i = numberAt s (h .next) in
     let v = numberAt s (wordAt s (i .next) (bytes " ")) in
     let a = numberAt s (wordAt s (i .next) (bytes " (")) in

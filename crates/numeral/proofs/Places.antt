@@ -34,5 +34,8 @@ module _ (s : List ℕ) (at : ℕ) where
       go true e = ltb-true at (length s) e
       go false e = absurd (omega (arith, List·getD-eq-default s 0 (ltb-false at (length s) e)))
 
+  pub inside-byte : {b : ℕ} → b ≡ getD s at 0 → 0 < b → at < length s
+  inside-byte e h = inside (omega arith)
+
   pub rest-at : (w : List ℕ) {t : List ℕ} → drop at s ≡ w ++ t → drop (at + length w) s ≡ t
   rest-at w {t} e = sym (drop-drop (length w) at s) ∙ rw e (drop-append-seam w t)

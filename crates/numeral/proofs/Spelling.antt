@@ -1,6 +1,7 @@
 -- The spelling of a number and its reading are inverse to each other, for numbers of any size.
 --   number-spelled — where the spelling of z stands at a place, and no further digit after it, the number there is z
 --   number-read    — where a number is read at a place, its spelling stands there
+--   numeral-length — a spelling has one byte or more
 use mathlib.Core.Path.{_≡_, refl, sym, ap, ap₂, _∙_}
 use mathlib.Core.Bool.{Bool, true, false, cond}
 use mathlib.Core.List.{List, [], _∷_, _++_, append-assoc}
@@ -74,6 +75,11 @@ no-minus zero t e =
     let z : _≡_ {A = ℕ} 48 45 = rw (decimal-small 0 (omega arith)) at e in
     omega arith
 no-minus (suc n) t e = omega (arith, first-digit (suc n) t (omega arith))
+
+pub numeral-length : (z : ℤ) → 1 ≤ length (numeral z)
+unfolding numeral
+numeral-length (pos n) = decimal-induction (λ n l. 1 ≤ length l) (λ n h. omega arith) (λ n h ih. simp length-append (omega arith)) n
+numeral-length (negsuc n) = omega arith
 
 -- ---- what is spelled is read
 module _ (s t : List ℕ) (stop : Stops t) where

@@ -1,7 +1,7 @@
 -- Laws of the exact reading, at one byte and at the end, in the form in which the code meets them.
 --   run-digit, run-stop, run-end — a run of digits, its value capped on the way, at a digit, at another byte and at the line's end
---   size-none, size-zero, size-other, size-run — a size, by the byte at its place
---   number-none, number-minus, number-plain    — a number, by the byte at its place
+--   size-zero, size-other, size-run — a size, by the byte at its place
+--   number-minus, number-plain      — a number, by the byte at its place
 use mathlib.Core.Path.{_≡_, refl, _∙_}
 use mathlib.Core.Bool.{Bool, true, false, cond}
 use mathlib.Core.List.{List, [], _∷_}
@@ -11,12 +11,12 @@ use native.Mathlib.Omega.{arith}
 use borrow.Author.Tests.{lt-ltb, le-ltb, eq-eqb, ne-eqb}
 use lib.Dec.{ltb}
 use lib.IntN.{pos, negℤ}
-use lib.ListN.{length, drop, getD, drop-of-length-le, List·getD-eq-default}
+use lib.ListN.{length, drop, getD, drop-of-length-le}
 use lib.Seq.{drop-cons}
 use lib.Signed.{mag}
 use Rattle.numeral.specs.declared.Number.{Number}
 use Rattle.numeral.specs.declared.Size.{Size}
-use Rattle.numeral.specs.Numeral.{digitOf, lost, runAt, sizeAt, numberAt, positiveOf, negativeOf, cap, capSize, cappedSize, cappedNumber}
+use Rattle.numeral.specs.Numeral.{digitOf, lost, runAt, sizeAt, numberAt, positiveOf, negativeOf, cap, capAt, capSize, cappedSize, cappedNumber}
 
 -- ---- a run of digits
 -- a value that is capped before the rest of the digits is read
@@ -40,14 +40,14 @@ module _ (s : List ℕ) (v i : ℕ) where
   run-digit {d} {w} h e l c =
       run-capped w (v * 10 + d) (i + 1) (drop (i + 1) s) (omega arith) ∙ rw (drop-cons s i 0, ← e, lt-ltb _ 10 l, add-one)
 
-  pub run-stop : {d : ℕ} → i < length s → d ≡ digitOf (getD s i 0) → 10 ≤ d → v ≤ 2 ^ 40
+  pub run-stop : {d : ℕ} → i < length s → d ≡ digitOf (getD s i 0) → 10 ≤ d → v ≤ capAt
       → record { value = v; next = i } ≡ cappedSize (runAt v i (drop i s))
   unfolding runAt
   run-stop h e d c =
       let k : capSize v ≡ v = omega arith in
       rw (drop-cons s i 0, ← e, le-ltb _ 10 d, k)
 
-  pub run-end : length s ≤ i → v ≤ 2 ^ 40 → record { value = v; next = i } ≡ cappedSize (runAt v i (drop i s))
+  pub run-end : length s ≤ i → v ≤ capAt → record { value = v; next = i } ≡ cappedSize (runAt v i (drop i s))
   unfolding runAt
   run-end h c =
       let k : capSize v ≡ v = omega arith in
@@ -55,7 +55,7 @@ module _ (s : List ℕ) (v i : ℕ) where
 
 -- ---- the cap
 -- −v of a small v fits
-pub neg-fits : (v : ℕ) → v ≤ 2 ^ 40 → mag (negℤ (pos v)) < 2 ^ 63
+pub neg-fits : (v : ℕ) → v ≤ capAt → mag (negℤ (pos v)) < 2 ^ 63
 neg-fits zero h = omega arith
 neg-fits (suc v) h = omega arith
 
@@ -70,36 +70,29 @@ negative-capped other z = go (z .value)
     go zero = unfold cap in refl
     go (suc v) = unfold cap in rw (ne-eqb (capSize (suc v)) 0 (λ e. omega arith), ne-eqb (suc v) 0 (λ e. omega arith))
 
+-- NUL is no digit
+pub digit-inside : {b d : ℕ} → d ≡ digitOf b → d < 10 → 0 < b
+digit-inside {b = zero} {d} e h = absurd (omega arith)
+digit-inside {b = suc b} {d} e h = omega arith
+
 -- ---- a size and a number, by the byte at their place
-module _ (s : List ℕ) (i : ℕ) where
-  none : length s ≤ i → getD s i 0 ≡ 0
-  none h = List·getD-eq-default s 0 h
-
-  pub size-none : length s ≤ i → record { value = 0; next = lost s } ≡ cappedSize (sizeAt s i)
+module _ (s : List ℕ) (i : ℕ) {b : ℕ} (byte : b ≡ getD s i 0) where
+  pub size-zero : b ≡ 48 → record { value = 0; next = i + 1 } ≡ cappedSize (sizeAt s i)
   unfolding sizeAt
-  size-none h = rw (none h)
+  size-zero e = rw (← byte, e)
 
-  pub size-zero : getD s i 0 ≡ 48 → record { value = 0; next = i + 1 } ≡ cappedSize (sizeAt s i)
+  pub size-other : {d : ℕ} → (b ≡ 48 → ⊥) → d ≡ digitOf b → 10 ≤ d → record { value = 0; next = lost s } ≡ cappedSize (sizeAt s i)
   unfolding sizeAt
-  size-zero e = rw e
+  size-other n e l = rw (← byte, ne-eqb b 48 n, ← e, le-ltb _ 10 l)
 
-  pub size-other : {d : ℕ} → (getD s i 0 ≡ 48 → ⊥) → d ≡ digitOf (getD s i 0) → 10 ≤ d → record { value = 0; next = lost s } ≡ cappedSize (sizeAt s i)
+  pub size-run : {d : ℕ} {r : Size} → (b ≡ 48 → ⊥) → d ≡ digitOf b → d < 10 → r ≡ cappedSize (runAt 0 i (drop i s)) → r ≡ cappedSize (sizeAt s i)
   unfolding sizeAt
-  size-other n e l = rw (ne-eqb _ 48 n, ← e, le-ltb _ 10 l)
+  size-run n e l q = rw (q, ← byte, ne-eqb b 48 n, ← e, lt-ltb _ 10 l)
 
-  pub size-run : {d : ℕ} {r : Size} → (getD s i 0 ≡ 48 → ⊥) → d ≡ digitOf (getD s i 0) → d < 10 → r ≡ cappedSize (runAt 0 i (drop i s))
-      → r ≡ cappedSize (sizeAt s i)
-  unfolding sizeAt
-  size-run n e l q = rw (q, ne-eqb _ 48 n, ← e, lt-ltb _ 10 l)
-
-  pub number-none : length s ≤ i → record { value = pos 0; next = lost s } ≡ cappedNumber (numberAt s i)
-  unfolding numberAt sizeAt cap
-  number-none h = rw (none h)
-
-  pub number-minus : {z : Size} {r : Number} → getD s i 0 ≡ 45 → z ≡ cappedSize (sizeAt s (i + 1)) → r ≡ negativeOf (lost s) z → r ≡ cappedNumber (numberAt s i)
+  pub number-minus : {z : Size} {r : Number} → b ≡ 45 → z ≡ cappedSize (sizeAt s (i + 1)) → r ≡ negativeOf (lost s) z → r ≡ cappedNumber (numberAt s i)
   unfolding numberAt
-  number-minus e q w = rw (w, q, eq-eqb _ 45 e) (negative-capped (lost s) (sizeAt s (i + 1)))
+  number-minus e q w = rw (w, q, ← byte, eq-eqb b 45 e) (negative-capped (lost s) (sizeAt s (i + 1)))
 
-  pub number-plain : {z : Size} {r : Number} → (getD s i 0 ≡ 45 → ⊥) → z ≡ cappedSize (sizeAt s i) → r ≡ positiveOf z → r ≡ cappedNumber (numberAt s i)
+  pub number-plain : {z : Size} {r : Number} → (b ≡ 45 → ⊥) → z ≡ cappedSize (sizeAt s i) → r ≡ positiveOf z → r ≡ cappedNumber (numberAt s i)
   unfolding numberAt
-  number-plain e q w = rw (w, q, ne-eqb _ 45 e) (positive-capped (sizeAt s i))
+  number-plain e q w = rw (w, q, ← byte, ne-eqb b 45 e) (positive-capped (sizeAt s i))

@@ -5,7 +5,7 @@
 --   runAt v i l   — the digits at the head of l, which starts at the place i, after digits of value v
 --   sizeAt s at   — 0, or digits without a leading 0
 --   numberAt s at — a number; −0 is none
---   cap z         — z, or ±2^40 where z is larger in size; every range of 01 lies far below
+--   cap z         — z, or ±2^40 where z is larger in size; no range of 01 reaches so far (law `cap-range`)
 use mathlib.Core.Bool.{cond}
 use mathlib.Core.List.{List, [], _∷_}
 use Prim.Native.Nat.{ℕ, suc, _+_, _-_, _*_, _^_, min}
@@ -41,8 +41,11 @@ unfoldable pub numberAt : List ℕ → ℕ → Number
 numberAt s at = cond (eqb (getD s at 0) 45) (negativeOf (lost s) (sizeAt s (at + 1))) (positiveOf (sizeAt s at))
 
 -- the one place where numbers are capped
+abbrev pub capAt : ℕ
+capAt = 2 ^ 40
+
 abbrev pub capSize : ℕ → ℕ
-capSize v = min v (2 ^ 40)
+capSize v = min v capAt
 
 unfoldable pub cap : ℤ → ℤ
 cap (pos n) = pos (capSize n)

@@ -1,9 +1,11 @@
 // A number at a place of a line (01: "A number is 0, or digits without a leading 0, with a minus before it where negative; −0 is no number").
 ghost use mathlib.Core.Path.{_≡_};
-ghost use Prim.Native.Nat.{_≤_, _^_};
+ghost use Prim.Native.Nat.{_≤_};
 ghost use lib.IntN.{pos, negℤ};
-ghost use lib.ListN.{length, drop};
-ghost use Rattle.numeral.specs.Numeral.{digitOf, lost, runAt, sizeAt, numberAt, positiveOf, negativeOf, capSize, cappedSize, cappedNumber};
+ghost use lib.ListN.{length, drop, getD};
+ghost use Rattle.numeral.specs.Numeral.{digitOf, lost, runAt, sizeAt, numberAt, positiveOf, negativeOf, capAt, capSize, cappedSize, cappedNumber};
+
+const CAP: u64 = 1099511627776;
 
 // The size of a number, and the place after it.
 pub struct Size {
@@ -15,6 +17,13 @@ pub struct Size {
 pub struct Number {
     pub value: i64,
     pub next: usize,
+}
+
+// The byte at a place; NUL past the end of the line, which no form has.
+pub fn byte_at(s: &[u8], at: usize) -> u8
+    ensures { λ r. ⌜ r ≡ getD (now (s .entry)) at 0 ⌝ }
+{
+    if at < s.len() { s[at] } else { 0 }
 }
 
 // The value of a decimal digit; 10 for any other byte.
@@ -29,9 +38,9 @@ fn digit(b: u8) -> u64
 
 // At most 2^40, so that no further digit wraps.
 fn cap_size(v: u64) -> u64
-    ensures { λ r. ⌜ (r ≡ capSize v) × (r ≤ 2 ^ 40) ⌝ }
+    ensures { λ r. ⌜ (r ≡ capSize v) × (r ≤ capAt) ⌝ }
 {
-    if v < 1099511627776 { v } else { 1099511627776 }
+    if v < CAP { v } else { CAP }
 }
 
 // All digits from a place on.
@@ -54,23 +63,16 @@ fn run_at(s: &[u8], at: usize) -> Size
 
 // 0, or digits without a leading 0.
 fn size_at(s: &[u8], at: usize) -> Size
-    ensures { λ r. ⌜ (r ≡ cappedSize (sizeAt (now (s .entry)) at)) × (r .value ≤ 2 ^ 40) ⌝ }
+    ensures { λ r. ⌜ (r ≡ cappedSize (sizeAt (now (s .entry)) at)) × (r .value ≤ capAt) ⌝ }
 {
-    if s.len() <= at {
-        return Size {
-            value: 0,
-            next: s.len() + 1,
-        };
-    }
-    let b = s[at];
+    let b = byte_at(s, at);
     if b == 48 {
         return Size {
             value: 0,
             next: at + 1,
         };
     }
-    let d = digit(b);
-    if 10 <= d {
+    if 10 <= digit(b) {
         return Size {
             value: 0,
             next: s.len() + 1,
@@ -80,21 +82,21 @@ fn size_at(s: &[u8], at: usize) -> Size
 }
 
 fn plus(v: u64) -> i64
-    requires { ⌜ v ≤ 2 ^ 40 ⌝ }
+    requires { ⌜ v ≤ capAt ⌝ }
     ensures { λ r. ⌜ r ≡ pos v ⌝ }
 {
     v as i64
 }
 
 fn minus(v: u64) -> i64
-    requires { ⌜ v ≤ 2 ^ 40 ⌝ }
+    requires { ⌜ v ≤ capAt ⌝ }
     ensures { λ r. ⌜ r ≡ negℤ (pos v) ⌝ }
 {
     0 - (v as i64)
 }
 
 fn positive(z: Size) -> Number
-    requires { ⌜ z .value ≤ 2 ^ 40 ⌝ }
+    requires { ⌜ z .value ≤ capAt ⌝ }
     ensures { λ r. ⌜ r ≡ positiveOf z ⌝ }
 {
     Number {
@@ -105,7 +107,7 @@ fn positive(z: Size) -> Number
 
 // A minus before a size: −0 is no number.
 fn negative(z: Size, lost: usize) -> Number
-    requires { ⌜ z .value ≤ 2 ^ 40 ⌝ }
+    requires { ⌜ z .value ≤ capAt ⌝ }
     ensures { λ r. ⌜ r ≡ negativeOf lost z ⌝ }
 {
     if z.value == 0 {
@@ -124,13 +126,7 @@ fn negative(z: Size, lost: usize) -> Number
 pub fn number_at(s: &[u8], at: usize) -> Number
     ensures { λ r. ⌜ r ≡ cappedNumber (numberAt (now (s .entry)) at) ⌝ }
 {
-    if s.len() <= at {
-        return Number {
-            value: 0,
-            next: s.len() + 1,
-        };
-    }
-    if s[at] == 45 {
+    if byte_at(s, at) == 45 {
         negative(size_at(s, at + 1), s.len() + 1)
     } else {
         positive(size_at(s, at))

@@ -1,14 +1,14 @@
 use mathlib.Core.Path.{_≡_, _∙_}
-use Prim.Native.Nat.{_≤_, _-_, _^_}
+use Prim.Native.Nat.{_≤_, _-_}
 use lib.ListN.{length, drop}
-use Rattle.numeral.specs.Numeral.{runAt, cappedSize}
+use Rattle.numeral.specs.Numeral.{runAt, capAt, cappedSize}
 use Rattle.numeral.proofs.Steps.{run-digit, run-stop, run-end}
 use borrow.Author.Needs.{needs}
 use Rattle.numeral.proofs.run_at.Statement.{statement}
 use Rattle.numeral.proofs.run_at.Tie as tie
 
 abbrev Inv-loop : tie.InvT-loop
-Inv-loop s at v₀ i₀ v i = (i ≤ length s) × (v ≤ 2 ^ 40) × (cappedSize (runAt v i (drop i s)) ≡ cappedSize (runAt 0 at (drop at s)))
+Inv-loop s at v₀ i₀ v i = (i ≤ length s) × (v ≤ capAt) × (cappedSize (runAt v i (drop i s)) ≡ cappedSize (runAt 0 at (drop at s)))
 
 abbrev μ-loop : tie.MeasureT-loop
 μ-loop s at v₀ i₀ v i = length s - i
