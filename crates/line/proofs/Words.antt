@@ -52,7 +52,7 @@ unfolding starts
 starts-here [] t = refl
 starts-here (b ∷ w) t = rw (eq-eqb b b refl) (starts-here w t)
 
-starts-is : (w l : List ℕ) → starts w l ≡ true → l ≡ w ++ drop (length w) l
+pub starts-is : (w l : List ℕ) → starts w l ≡ true → l ≡ w ++ drop (length w) l
 unfolding starts
 starts-is [] l e = refl
 starts-is (b ∷ w) [] e = absurd (subst T (sym e) tt)
@@ -88,14 +88,14 @@ module _ (s : List ℕ) (at : ℕ) where
   opening-length Weight = omega arith
   opening-length End = omega arith
 
-  or-then : (h : Head) (w : Word) → HeadThen h → HeadThen (orWord s at h w)
+  or-then : (h : Head) (w : Word) → HeadThen h → HeadThen (orWord s at h w (opening w))
   unfolding orWord
   or-then h w p = by-test HeadThen (leb (h .next) (length s)) (λ _. p) (λ _. word-then s at (opening w) (opening-length w))
 
   first-then : (ws : List Word) (h : Head) → HeadThen h → HeadThen (firstOf s at h ws)
   unfolding firstOf
   first-then [] h p = p
-  first-then (w ∷ ws) h p = first-then ws (orWord s at h w) (or-then h w p)
+  first-then (w ∷ ws) h p = first-then ws (orWord s at h w (opening w)) (or-then h w p)
 
   pub head-then : HeadThen (headAt s at)
   unfolding headAt
@@ -111,7 +111,7 @@ unfolding firstOf orWord
 first-stays s h [] l = refl
 first-stays s h (w ∷ ws) l = rw (le-leb (h .next) (length s) l) (first-stays s h ws l)
 
-or-lost : (s : List ℕ) (w v : Word) {b : ℕ} → wordAt s 0 (opening v) ≡ b → orWord s 0 (record { word = w; next = lost s }) v ≡ record { word = v; next = b }
+or-lost : (s : List ℕ) (w v : Word) {b : ℕ} → wordAt s 0 (opening v) ≡ b → orWord s 0 (record { word = w; next = lost s }) v (opening v) ≡ record { word = v; next = b }
 unfolding orWord
 or-lost s w v e = rw (lt-leb (lost s) (length s) (omega arith), e)
 
@@ -122,7 +122,7 @@ first-is s w (v ∷ ws) = go (starts (opening v) s) refl (first-is s v ws)
   where
     go : (t : Bool) → starts (opening v) s ≡ t
         → firstOf s 0 (record { word = v; next = lost s }) ws ≡ firstStart s (record { word = v; next = lost s }) ws
-        → firstOf s 0 (orWord s 0 (record { word = w; next = lost s }) v) ws
+        → firstOf s 0 (orWord s 0 (record { word = w; next = lost s }) v (opening v)) ws
         ≡ cond t (record { word = v; next = length (opening v) }) (firstStart s (record { word = v; next = lost s }) ws)
     go true e ih =
         let l : length s ≡ length (opening v) + length (drop (length (opening v)) s) = ap length (starts-is (opening v) s e) ∙ length-append (opening v) (drop (length (opening v)) s) in

@@ -36,13 +36,13 @@ starts (w ∷ ws) (b ∷ bs) = eqb b w && starts ws bs
 unfoldable pub wordAt : List ℕ → ℕ → List ℕ → ℕ
 wordAt s at w = cond (starts w (drop at s)) (at + length w) (lost s)
 
--- h, or the word w where h is none
-unfoldable pub orWord : List ℕ → ℕ → Head → Word → Head
-orWord s at h w = cond (leb (h .next) (length s)) h (record { word = w; next = wordAt s at (opening w) })
+-- h, or the word w with the opening o where h is none
+unfoldable pub orWord : List ℕ → ℕ → Head → Word → List ℕ → Head
+orWord s at h w o = cond (leb (h .next) (length s)) h (record { word = w; next = wordAt s at o })
 
 unfoldable pub firstOf : List ℕ → ℕ → Head → List Word → Head
 firstOf s at h [] = h
-firstOf s at h (w ∷ ws) = firstOf s at (orWord s at h w) ws
+firstOf s at h (w ∷ ws) = firstOf s at (orWord s at h w (opening w)) ws
 
 unfoldable pub headAt : List ℕ → ℕ → Head
 headAt s at = firstOf s at (record { word = End; next = lost s }) (Problem ∷ Scale ∷ Row ∷ Right ∷ Guess ∷ Inverse ∷ Weight ∷ End ∷ [])
