@@ -18,7 +18,7 @@ use lib.Seq.{drop-append-seam}
 use Rattle.line.specs.declared.Word.{Word}
 use Rattle.line.specs.declared.Word.the-variants.{Problem, Scale, Row, Right, Guess, Inverse, Weight, End}
 use Rattle.line.specs.Form.{bytes, numerals, Form, problem, scale, row, right, guess, inverse, weight, end, spell}
-use Rattle.line.specs.Reading.{opening, wordAt, headAt, othersAt, endAt, formOf, reading}
+use Rattle.line.specs.Reading.{opening, wordAt, headAt, othersAt, first, second, front, others, close, endOf, formAt, reading}
 use Rattle.line.proofs.Words.{Then, then, whole, word-then, number-then, head-then, word-spelled, head-spelled}
 use Rattle.line.proofs.Lists.{tails, tails-length, numerals-is, others-then, stops-tails, others-spelled}
 
@@ -30,38 +30,39 @@ chosen false g f e =
     absurd (omega arith)
 
 module _ (s : List ℕ) where
-  -- a second number after a single space, and the closing bracket
-  two-then : {w : List ℕ} {h : ℕ} → Then s 0 w h
-      → let i = numberAt s h in
-      let v = numberAt s (wordAt s (i .next) (bytes " ")) in
-      Then s 0 (w ++ numeral (i .value) ++ bytes " " ++ numeral (v .value) ++ bytes ")") (wordAt s (v .next) (bytes ")"))
-  two-then {w} {h} t =
-      then (then (then (then t (number-then s h)) (word-then s _ (bytes " ") (omega arith))) (number-then s _)) (word-then s _ (bytes ")") (omega arith))
+  closed : {w : List ℕ} {b : ℕ} → Then s 0 w b → wordAt s b (bytes ")") ≡ length s → s ≡ w ++ bytes ")"
+  closed {w} {b} t e = whole (then t (word-then s b (bytes ")") (omega arith))) e
 
-  -- a list, and the two closing brackets
+  one-then : {w : List ℕ} {h : ℕ} → Then s 0 w h → Then s 0 (w ++ numeral (first s h .value)) (first s h .next)
+  one-then {w} {h} t = then t (number-then s h)
+
+  two-then : {w : List ℕ} {h : ℕ} → Then s 0 w h → Then s 0 (w ++ numeral (first s h .value) ++ bytes " " ++ numeral (second s h .value)) (second s h .next)
+  two-then {w} {h} t = then (then (one-then t) (word-then s _ (bytes " ") (omega arith))) (number-then s _)
+
   list-then : {w : List ℕ} {h : ℕ} → Then s 0 w h
-      → let i = numberAt s h in
-      let a = numberAt s (wordAt s (i .next) (bytes " (")) in
-      let l = othersAt s (length s) (a .next) in
-      Then s 0 (w ++ numeral (i .value) ++ bytes " (" ++ numerals (a .value) (l .values) ++ bytes "))") (wordAt s (l .next) (bytes "))"))
+      → Then s 0 (w ++ numeral (first s h .value) ++ bytes " (" ++ numerals (front s h .value) (others s h .values) ++ bytes ")") (close s h)
   list-then {w} {h} t =
-      rw numerals-is (then (then (then (then t (number-then s h)) (word-then s _ (bytes " (") (omega arith))) (then (number-then s _) (others-then s _ _))) (word-then s _ (bytes "))") (omega arith)))
+      rw numerals-is
+      (then (then (then (one-then t) (word-then s _ (bytes " (") (omega arith))) (then (number-then s _) (others-then s _ _))) (word-then s _ (bytes ")") (omega arith)))
 
-  ended : (w : Word) (h : ℕ) → Then s 0 (opening w) h
-      → let i = numberAt s h in
-      let v = numberAt s (wordAt s (i .next) (bytes " ")) in
-      let a = numberAt s (wordAt s (i .next) (bytes " (")) in
-      let l = othersAt s (length s) (a .next) in
-      endAt s w h (i .next) (v .next) (l .next) ≡ length s → s ≡ spell (formOf w (i .value) (v .value) (a .value) (l .values))
+  two-ended : {w : List ℕ} {h : ℕ} → Then s 0 w h → wordAt s (second s h .next) (bytes ")") ≡ length s
+      → s ≡ w ++ numeral (first s h .value) ++ bytes " " ++ numeral (second s h .value) ++ bytes ")"
+  two-ended t e = closed (two-then t) e
+
+  list-ended : {w : List ℕ} {h : ℕ} → Then s 0 w h → wordAt s (close s h) (bytes ")") ≡ length s
+      → s ≡ w ++ numeral (first s h .value) ++ bytes " (" ++ numerals (front s h .value) (others s h .values) ++ bytes "))"
+  list-ended t e = closed (list-then t) e ∙ rw append-assoc
+
+  ended : (w : Word) (h : ℕ) → Then s 0 (opening w) h → endOf s w h ≡ length s → s ≡ spell (formAt s w h)
   unfolding spell
-  ended Problem h t e = whole (then (then t (number-then s h)) (word-then s _ (bytes ")") (omega arith))) e
-  ended Scale h t e = whole (two-then t) e
-  ended Row h t e = whole (list-then t) e
-  ended Right h t e = whole (two-then t) e
-  ended Guess h t e = whole (two-then t) e
-  ended Inverse h t e = whole (list-then t) e
-  ended Weight h t e = whole (two-then t) e
-  ended End h t e = whole t e
+  ended Problem h t e = closed (one-then t) e
+  ended Scale h t e = two-ended t e
+  ended Row h t e = list-ended t e
+  ended Right h t e = two-ended t e
+  ended Guess h t e = two-ended t e
+  ended Inverse h t e = list-ended t e
+  ended Weight h t e = two-ended t e
+  ended End h t e = closed t e
 
   pub spelled-read : (f : Form) → reading s ≡ some f → s ≡ spell f
   unfolding reading
@@ -70,36 +71,31 @@ module _ (s : List ℕ) where
       ended (headAt s 0 .word) (headAt s 0 .next) (head-then s 0) (eqb-true _ (length s) (c .0)) ∙ ap spell (c .1)
 
 -- ---- what is spelled is read
--- the three shapes of a line s after its opening p, as the reading has them
 -- s starts with p
 abbrev Starts : List ℕ → List ℕ → Type 0
 Starts s p = (t : List ℕ) × (s ≡ p ++ t)
 
-pub record One (s p : List ℕ) (i : ℤ) : Type 0 where
-  pub rest : Starts s p
-  pub first : numberAt s (length p) .value ≡ i
-  pub close : wordAt s (numberAt s (length p) .next) (bytes ")") ≡ length s
+-- the three shapes of a line s after its opening p, as the reading has them
+record One (s p : List ℕ) (i : ℤ) : Type 0 where
+  rest : Starts s p
+  one : first s (length p) .value ≡ i
+  ends : wordAt s (first s (length p) .next) (bytes ")") ≡ length s
 
-pub record Two (s p : List ℕ) (i v : ℤ) : Type 0 where
-  pub rest : Starts s p
-  pub first : numberAt s (length p) .value ≡ i
-  pub second : numberAt s (wordAt s (numberAt s (length p) .next) (bytes " ")) .value ≡ v
-  pub close : wordAt s (numberAt s (wordAt s (numberAt s (length p) .next) (bytes " ")) .next) (bytes ")") ≡ length s
+record Two (s p : List ℕ) (i v : ℤ) : Type 0 where
+  rest : Starts s p
+  one : first s (length p) .value ≡ i
+  two : second s (length p) .value ≡ v
+  ends : wordAt s (second s (length p) .next) (bytes ")") ≡ length s
 
-pub record Many (s p : List ℕ) (i a : ℤ) (zs : List ℤ) : Type 0 where
-  pub rest : Starts s p
-  pub first : numberAt s (length p) .value ≡ i
-  pub head : numberAt s (wordAt s (numberAt s (length p) .next) (bytes " (")) .value ≡ a
-  pub others : othersAt s (length s) (numberAt s (wordAt s (numberAt s (length p) .next) (bytes " (")) .next) .values ≡ zs
-  pub close : wordAt s (othersAt s (length s) (numberAt s (wordAt s (numberAt s (length p) .next) (bytes " (")) .next) .next) (bytes "))") ≡ length s
+record Many (s p : List ℕ) (i a : ℤ) (zs : List ℤ) : Type 0 where
+  rest : Starts s p
+  one : first s (length p) .value ≡ i
+  head : front s (length p) .value ≡ a
+  more : others s (length p) .values ≡ zs
+  ends : wordAt s (close s (length p)) (bytes ")") ≡ length s
 
 module _ (s : List ℕ) where
-  reads : (w : Word) (h : ℕ) → headAt s 0 ≡ record { word = w; next = h }
-      → let i = numberAt s h in
-      let v = numberAt s (wordAt s (i .next) (bytes " ")) in
-      let a = numberAt s (wordAt s (i .next) (bytes " (")) in
-      let l = othersAt s (length s) (a .next) in
-      endAt s w h (i .next) (v .next) (l .next) ≡ length s → reading s ≡ some (formOf w (i .value) (v .value) (a .value) (l .values))
+  reads : (w : Word) (h : ℕ) → headAt s 0 ≡ record { word = w; next = h } → endOf s w h ≡ length s → reading s ≡ some (formAt s w h)
   unfolding reading
   reads w h p e = rw (p, eq-eqb _ (length s) e)
 
@@ -123,7 +119,7 @@ module _ (s : List ℕ) where
   one-spelled p i e =
       let n = number-step p i (bytes ")") (omega arith) e in
       let c = word-step (p ++ numeral i) (bytes ")") [] (e ∙ simp append-nil) in
-      record { rest = (_, e ∙ append-assoc p (numeral i) (bytes ")")); first = rw n; close = rw n (c ∙ ap length (sym e)) }
+      record { rest = (_, e ∙ append-assoc p (numeral i) (bytes ")")); one = rw n; ends = rw n (c ∙ ap length (sym e)) }
 
   two-spelled : (p : List ℕ) (i v : ℤ) → s ≡ p ++ numeral i ++ bytes " " ++ numeral v ++ bytes ")" → Two s p i v
   two-spelled p i v e =
@@ -131,7 +127,7 @@ module _ (s : List ℕ) where
       let g = word-step (p ++ numeral i) (bytes " ") (numeral v ++ bytes ")") (e ∙ simp append-assoc) in
       let m = number-step (p ++ numeral i ++ bytes " ") v (bytes ")") (omega arith) e in
       let c = word-step (p ++ numeral i ++ bytes " " ++ numeral v) (bytes ")") [] (e ∙ simp append-nil) in
-      record { rest = (numeral i ++ (bytes " " ++ (numeral v ++ bytes ")")), e ∙ simp append-assoc); first = rw n; second = rw (n, g, m); close = rw (n, g, m) (c ∙ ap length (sym e)) }
+      record { rest = (numeral i ++ (bytes " " ++ (numeral v ++ bytes ")")), e ∙ simp append-assoc); one = rw n; two = rw (n, g, m); ends = rw (n, g, m) (c ∙ ap length (sym e)) }
 
   many-spelled : (p : List ℕ) (i a : ℤ) (zs : List ℤ) → s ≡ p ++ numeral i ++ bytes " (" ++ numerals a zs ++ bytes "))" → Many s p i a zs
   many-spelled p i a zs d =
@@ -140,33 +136,42 @@ module _ (s : List ℕ) where
       let g = word-step (p ++ numeral i) (bytes " (") (numeral a ++ (tails zs ++ bytes "))")) (e ∙ simp append-assoc) in
       let m = number-step (p ++ numeral i ++ bytes " (") a (tails zs ++ bytes "))") (stops-tails zs) (e ∙ simp append-assoc) in
       let o = others-step (p ++ numeral i ++ bytes " (" ++ numeral a) zs e in
-      let c = word-step (p ++ numeral i ++ bytes " (" ++ numeral a ++ tails zs) (bytes "))") [] (e ∙ simp append-nil) in
-      record { rest = (numeral i ++ (bytes " (" ++ (numeral a ++ (tails zs ++ bytes "))"))), e ∙ simp append-assoc); first = rw n; head = rw (n, g, m); others = rw (n, g, m, o); close = rw (n, g, m, o) (c ∙ ap length (sym e)) }
+      let q = p ++ numeral i ++ bytes " (" ++ numeral a ++ tails zs in
+      let b : s ≡ q ++ bytes ")" ++ bytes ")" = e ∙ sym (append-assoc q (bytes ")") (bytes ")")) in
+      let c = word-step q (bytes ")") (bytes ")") b in
+      let l = word-step (q ++ bytes ")") (bytes ")") [] (b ∙ sym (append-nil (q ++ bytes ")" ++ bytes ")"))) in
+      record {
+        rest = (numeral i ++ (bytes " (" ++ (numeral a ++ (tails zs ++ bytes "))"))), e ∙ simp append-assoc);
+        one = rw n;
+        head = rw (n, g, m);
+        more = rw (n, g, m, o);
+        ends = rw (n, g, m, o, c) (l ∙ ap length (sym b));
+      }
 
 spelled : (s : List ℕ) (f : Form) → s ≡ spell f → reading s ≡ some f
 unfolding spell
 spelled s (problem n) e =
     let o = one-spelled s (opening Problem) n e in
-    reads s Problem _ (headed s Problem (o .rest)) (o .close) ∙ rw (o .first)
+    reads s Problem _ (headed s Problem (o .rest)) (o .ends) ∙ rw (o .one)
 spelled s (scale a b) e =
     let o = two-spelled s (opening Scale) a b e in
-    reads s Scale _ (headed s Scale (o .rest)) (o .close) ∙ rw (o .first, o .second)
-spelled s (row i a others) e =
-    let o = many-spelled s (opening Row) i a others e in
-    reads s Row _ (headed s Row (o .rest)) (o .close) ∙ rw (o .first, o .head, o .others)
+    reads s Scale _ (headed s Scale (o .rest)) (o .ends) ∙ rw (o .one, o .two)
+spelled s (row i a zs) e =
+    let o = many-spelled s (opening Row) i a zs e in
+    reads s Row _ (headed s Row (o .rest)) (o .ends) ∙ rw (o .one, o .head, o .more)
 spelled s (right i b) e =
     let o = two-spelled s (opening Right) i b e in
-    reads s Right _ (headed s Right (o .rest)) (o .close) ∙ rw (o .first, o .second)
+    reads s Right _ (headed s Right (o .rest)) (o .ends) ∙ rw (o .one, o .two)
 spelled s (guess i x) e =
     let o = two-spelled s (opening Guess) i x e in
-    reads s Guess _ (headed s Guess (o .rest)) (o .close) ∙ rw (o .first, o .second)
-spelled s (inverse i g others) e =
-    let o = many-spelled s (opening Inverse) i g others e in
-    reads s Inverse _ (headed s Inverse (o .rest)) (o .close) ∙ rw (o .first, o .head, o .others)
+    reads s Guess _ (headed s Guess (o .rest)) (o .ends) ∙ rw (o .one, o .two)
+spelled s (inverse i g zs) e =
+    let o = many-spelled s (opening Inverse) i g zs e in
+    reads s Inverse _ (headed s Inverse (o .rest)) (o .ends) ∙ rw (o .one, o .head, o .more)
 spelled s (weight i w) e =
     let o = two-spelled s (opening Weight) i w e in
-    reads s Weight _ (headed s Weight (o .rest)) (o .close) ∙ rw (o .first, o .second)
-spelled s end e = reads s End _ (headed s End ([], e)) (ap length (sym e))
+    reads s Weight _ (headed s Weight (o .rest)) (o .ends) ∙ rw (o .one, o .two)
+spelled s end e = reads s End _ (headed s End (bytes ")", e)) (word-step s (bytes "(end") (bytes ")") [] e ∙ ap length (sym e))
 
 pub read-spelled : (f : Form) → reading (spell f) ≡ some f
 read-spelled f = spelled (spell f) f refl

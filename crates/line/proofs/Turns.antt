@@ -1,7 +1,7 @@
 -- Laws of the loop over the numbers of a list, in the form in which the code meets them.
 --   listed — the numbers so far, and those that are still to be read
 --   list-start, list-more, list-stop, list-out — at the first number, at a further one, where no space follows, and where the loop's count runs out
-use mathlib.Core.Path.{_≡_, refl, sym, ap, _∙_}
+use mathlib.Core.Path.{_≡_, ap}
 use mathlib.Core.Bool.{Bool, _&&_}
 use mathlib.Core.List.{List}
 use Prim.Native.Nat.{ℕ, suc, _+_, _-_, _≤_, _<_}

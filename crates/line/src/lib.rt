@@ -2,8 +2,8 @@
 ghost use mathlib.Core.Path.{_≡_};
 ghost use mathlib.Core.Bool.{_&&_};
 ghost use Prim.Native.Nat.{_-_, _<_, _^_};
-ghost use lib.ListN.{length, drop, set};
-ghost use Rattle.line.specs.Reading.{starts, wordAt, orWord, headAt, endAt};
+ghost use lib.ListN.{drop, set};
+ghost use Rattle.line.specs.Reading.{starts, wordAt, orWord, headAt, lastOf};
 ghost use Rattle.line.specs.Line.{noNumbers, refused, lineOf};
 ghost use Rattle.line.specs.Parts.{addNumber, listedAt, kindOf, cappedOf, besideOf};
 use rules::Kind;
@@ -127,7 +127,7 @@ fn head_at(s: &[u8], at: usize) -> Head
     let h = or_word(s, at, h, Word::Guess, b"(guess ");
     let h = or_word(s, at, h, Word::Inverse, b"(inverse ");
     let h = or_word(s, at, h, Word::Weight, b"(weight ");
-    or_word(s, at, h, Word::End, b"(end)")
+    or_word(s, at, h, Word::End, b"(end")
 }
 
 fn no_numbers() -> Numbers
@@ -189,4 +189,100 @@ fn list_at(s: &[u8], at: usize, kind: Kind) -> Listed
         k += 1;
     }
     Listed { numbers, next }
+}
+
+// The kind of the numbers in a form's list.
+fn kind_of(word: Word) -> Kind
+    ensures { λ r. ⌜ r ≡ kindOf word ⌝ }
+{
+    match word {
+        Word::Problem => Kind::Matrix,
+        Word::Scale => Kind::Matrix,
+        Word::Row => Kind::Matrix,
+        Word::Right => Kind::Matrix,
+        Word::Guess => Kind::Matrix,
+        Word::Inverse => Kind::Inverse,
+        Word::Weight => Kind::Matrix,
+        Word::End => Kind::Matrix,
+    }
+}
+
+// The place of a form's last bracket, from the places after its opening, its first number, a second number and a list.
+fn last_of(word: Word, head: usize, first: usize, second: usize, list: usize) -> usize
+    ensures { λ r. ⌜ r ≡ lastOf word head first second list ⌝ }
+{
+    match word {
+        Word::Problem => first,
+        Word::Scale => second,
+        Word::Row => list,
+        Word::Right => second,
+        Word::Guess => second,
+        Word::Inverse => list,
+        Word::Weight => second,
+        Word::End => head,
+    }
+}
+
+fn form_of(word: Word, first: i64, second: i64) -> CappedForm
+    ensures { λ r. ⌜ r ≡ cappedOf word first second ⌝ }
+{
+    match word {
+        Word::Problem => CappedForm::Problem(first),
+        Word::Scale => CappedForm::Scale(first, second),
+        Word::Row => CappedForm::Row(first),
+        Word::Right => CappedForm::Right(first, second),
+        Word::Guess => CappedForm::Guess(first, second),
+        Word::Inverse => CappedForm::Inverse(first),
+        Word::Weight => CappedForm::Weight(first, second),
+        Word::End => CappedForm::End,
+    }
+}
+
+// The numbers beside a form: those of its list, if it has one.
+fn numbers_of(word: Word, list: Numbers) -> Numbers
+    ensures { λ r. ⌜ r ≡ besideOf word list ⌝ }
+{
+    match word {
+        Word::Problem => no_numbers(),
+        Word::Scale => no_numbers(),
+        Word::Row => list,
+        Word::Right => no_numbers(),
+        Word::Guess => no_numbers(),
+        Word::Inverse => list,
+        Word::Weight => no_numbers(),
+        Word::End => no_numbers(),
+    }
+}
+
+fn refuse(refusal: Refusal) -> Line
+    ensures { λ r. ⌜ r ≡ refused refusal ⌝ }
+{
+    Line {
+        answer: Answer::Refused(refusal),
+        numbers: no_numbers(),
+    }
+}
+
+// What a line is: 1 above 320 bytes, 2 where it is the spelling of no form, else the form; each part is read at the place after the part before it.
+pub fn read_line(line: &[u8]) -> Line
+    ensures { λ r. ⌜ r ≡ lineOf (now (line .entry)) ⌝ }
+{
+    if 320 < line.len() {
+        return refuse(Refusal::TooLong);
+    }
+    let head = head_at(line, 0);
+    let word = head.word;
+    let first = numeral::number_at(line, head.next);
+    let second = numeral::number_at(line, word_at(line, first.next, b" "));
+    let list = list_at(line, word_at(line, first.next, b" ("), kind_of(word));
+    let close = word_at(line, list.next, b")");
+    let last = last_of(word, head.next, first.next, second.next, close);
+    if word_at(line, last, b")") != line.len() {
+        return refuse(Refusal::NoForm);
+    }
+    let numbers = list.numbers;
+    Line {
+        answer: Answer::Form(form_of(word, first.value, second.value)),
+        numbers: numbers_of(word, numbers),
+    }
 }

@@ -8,9 +8,6 @@ use Rattle.line.proofs.Steps.{word-all, word-short, word-same, word-oth
 use borrow.Author.Needs.{needs}
 use Rattle.line.proofs.has_word.Statement.{statement}
 use Rattle.line.proofs.has_word.Tie as tie
-use Rattle.line.proofs.has_word.Reads as reads
-use Rattle.line.proofs.has_word.Lts as lts
-use Rattle.line.proofs.left_from.Reads as left-from-reads
 
 abbrev Inv-loop : tie.InvT-loop
 Inv-loop s at word left i₀ i = (i ≤ length word) × (starts (drop i word) (drop (at + i) s) ≡ starts word (drop at s))
@@ -18,34 +15,27 @@ Inv-loop s at word left i₀ i = (i ≤ length word) × (starts (drop i word) (d
 abbrev μ-loop : tie.MeasureT-loop
 μ-loop s at word left i₀ i = length word - i
 
--- src/lib.rt:77:9
 left-from-requires : tie.Need-left-from-requires Inv-loop μ-loop
 left-from-requires c κs = search needs
 
--- src/lib.rt:79:5
 loop-holds : tie.Need-loop-holds Inv-loop μ-loop
 loop-holds c = (search needs, rw add-zero)
 
--- src/lib.rt:81:13
 returns : tie.Need-returns Inv-loop μ-loop
 returns c =
     let l = c .before .before in
     let a = l .before .before .before .before .args in
     word-short (a .s .now) (a .word .now) (a .at + l .loop .i) _ (c .before .loop-test .taken) (omega arith) ∙ l .loop .inv .1
 
--- src/lib.rt:83:14
 add-if2 : tie.Need-add-if2 Inv-loop μ-loop
 add-if2 c = search needs
 
--- src/lib.rt:83:12
 shared-slice-read-if2 : tie.Need-shared-slice-read-if2 Inv-loop μ-loop
 shared-slice-read-if2 c = search needs
 
--- src/lib.rt:83:25
 shared-slice-read-if2-2 : tie.Need-shared-slice-read-if2-2 Inv-loop μ-loop
 shared-slice-read-if2-2 c = search needs
 
--- src/lib.rt:84:13
 returns-2 : tie.Need-returns-2 Inv-loop μ-loop
 returns-2 c =
     let t = c .before .before .before .before in
@@ -53,26 +43,21 @@ returns-2 c =
     let a = l .before .before .before .before .args in
     word-other (a .s .now) (a .word .now) (a .at + l .loop .i) _ (t .loop-test .taken) (omega arith) (c .if2 .taken) ∙ l .loop .inv .1
 
--- src/lib.rt:86:9
 add-i : tie.Need-add-i Inv-loop μ-loop
 add-i c = search needs
 
--- src/lib.rt:79:5
 loop-less : tie.Need-loop-less Inv-loop μ-loop
 loop-less c = search needs
 
--- src/lib.rt:79:5
 loop-again : tie.Need-loop-again Inv-loop μ-loop
 loop-again c =
     let t = c .before .before .before .before in
     let l = t .before in
-    let a = l .before .before .before .before .args in
-    (
+    let a = l .before .before .before .before .args in (
       search needs,
       rw (← add-assoc) (word-same (a .s .now) (a .word .now) (a .at + l .loop .i) _ (t .loop-test .taken) (omega arith) (c .if2 .left) ∙ l .loop .inv .1),
     )
 
--- src/lib.rt:74:1
 returns-3 : tie.Need-returns-3 Inv-loop μ-loop
 returns-3 c =
     let l = c .before in

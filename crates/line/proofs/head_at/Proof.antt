@@ -2,79 +2,58 @@ use Rattle.line.proofs.Steps.{eight-words}
 use borrow.Author.Needs.{needs}
 use Rattle.line.proofs.head_at.Statement.{statement}
 use Rattle.line.proofs.head_at.Tie as tie
-use Rattle.line.proofs.head_at.Reads as reads
-use Rattle.line.proofs.head_at.Lts as lts
-use Rattle.line.proofs.or_word.Reads as or-word-reads
 
--- src/lib.rt:121:15
 add-t21 : tie.Need-add-t21
 add-t21 c = search needs
 
--- src/lib.rt:123:49
 slice-aggregate-or-word : tie.Need-slice-aggregate-or-word
 slice-aggregate-or-word c = search needs
 
--- src/lib.rt:123:9
 or-word-requires : tie.Need-or-word-requires
 or-word-requires c κs = search needs
 
--- src/lib.rt:124:44
 slice-aggregate-or-word-2 : tie.Need-slice-aggregate-or-word-2
 slice-aggregate-or-word-2 c = search needs
 
--- src/lib.rt:124:9
 or-word-requires-2 : tie.Need-or-word-requires-2
 or-word-requires-2 c κs = search needs
 
--- src/lib.rt:125:42
 slice-aggregate-or-word-3 : tie.Need-slice-aggregate-or-word-3
 slice-aggregate-or-word-3 c = search needs
 
--- src/lib.rt:125:9
 or-word-requires-3 : tie.Need-or-word-requires-3
 or-word-requires-3 c κs = search needs
 
--- src/lib.rt:126:44
 slice-aggregate-or-word-4 : tie.Need-slice-aggregate-or-word-4
 slice-aggregate-or-word-4 c = search needs
 
--- src/lib.rt:126:9
 or-word-requires-4 : tie.Need-or-word-requires-4
 or-word-requires-4 c κs = search needs
 
--- src/lib.rt:127:44
 slice-aggregate-or-word-5 : tie.Need-slice-aggregate-or-word-5
 slice-aggregate-or-word-5 c = search needs
 
--- src/lib.rt:127:9
 or-word-requires-5 : tie.Need-or-word-requires-5
 or-word-requires-5 c κs = search needs
 
--- src/lib.rt:128:46
 slice-aggregate-or-word-6 : tie.Need-slice-aggregate-or-word-6
 slice-aggregate-or-word-6 c = search needs
 
--- src/lib.rt:128:9
 or-word-requires-6 : tie.Need-or-word-requires-6
 or-word-requires-6 c κs = search needs
 
--- src/lib.rt:129:45
 slice-aggregate-or-word-7 : tie.Need-slice-aggregate-or-word-7
 slice-aggregate-or-word-7 c = search needs
 
--- src/lib.rt:129:9
 or-word-requires-7 : tie.Need-or-word-requires-7
 or-word-requires-7 c κs = search needs
 
--- src/lib.rt:130:34
 slice-aggregate-or-word-8 : tie.Need-slice-aggregate-or-word-8
 slice-aggregate-or-word-8 c = search needs
 
--- src/lib.rt:130:5
 or-word-requires-8 : tie.Need-or-word-requires-8
 or-word-requires-8 c κs = search needs
 
--- src/lib.rt:116:1
 returns : tie.Need-returns
 returns c =
     let c₇ = c .before .before in

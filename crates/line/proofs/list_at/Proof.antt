@@ -1,4 +1,4 @@
-use mathlib.Core.Path.{_≡_, refl, _∙_}
+use mathlib.Core.Path.{_≡_, _∙_}
 use Prim.Native.Nat.{_≤_, _-_, _+_}
 use native.Mathlib.Omega.{arith}
 use lib.ListN.{length}
@@ -9,12 +9,6 @@ use Rattle.line.proofs.Turns.{count-added, listed, list-start, list-mor
 use borrow.Author.Needs.{needs}
 use Rattle.line.proofs.list_at.Statement.{statement}
 use Rattle.line.proofs.list_at.Tie as tie
-use Rattle.line.proofs.list_at.Reads as reads
-use Rattle.line.proofs.list_at.Lts as lts
-use Rattle.line.proofs.add_number.Reads as add-number-reads
-use Rattle.line.proofs.no_numbers.Reads as no-numbers-reads
-use Rattle.numeral.proofs.byte_at.Reads as byte-at-reads
-use Rattle.numeral.proofs.number_at.Reads as number-at-reads
 
 abbrev Inv-loop : tie.InvT-loop
 Inv-loop s at kind numbers₀ next₀ k₀ numbers next k = (k ≤ length s) × (numbers .count ≡ k + 1) × (listed kind numbers (othersAt s (length s - k) next) ≡ listedAt kind s at)
@@ -22,72 +16,57 @@ Inv-loop s at kind numbers₀ next₀ k₀ numbers next k = (k ≤ length s) × 
 abbrev μ-loop : tie.MeasureT-loop
 μ-loop s at kind numbers₀ next₀ k₀ numbers next k = length s - k
 
--- src/lib.rt:178:9
 number-at-requires : tie.Need-number-at-requires Inv-loop μ-loop
 number-at-requires c κs = search needs
 
--- src/lib.rt:179:34
 no-numbers-requires : tie.Need-no-numbers-requires Inv-loop μ-loop
 no-numbers-requires c κs = search needs
 
--- src/lib.rt:179:9
 add-number-requires : tie.Need-add-number-requires Inv-loop μ-loop
 add-number-requires c κs = rw (c .before .no-numbers .ensures) (omega arith)
 
--- src/lib.rt:182:5
 loop-holds : tie.Need-loop-holds Inv-loop μ-loop
 loop-holds c =
     let n = c .before .before in
-    let m = n .before in
-    (
+    let m = n .before in (
       search needs,
       count-added _ _ _ (c .add-number .ensures) ∙ rw (n .no-numbers .ensures),
       list-start _ _ _ (m .number-at .ensures) (n .no-numbers .ensures) (search needs) (c .add-number .ensures),
     )
 
--- src/lib.rt:183:12
 byte-at-requires : tie.Need-byte-at-requires Inv-loop μ-loop
 byte-at-requires c κs = search needs
 
--- src/lib.rt:186:39
 add-number-at : tie.Need-add-number-at Inv-loop μ-loop
 add-number-at c =
     let l = c .before .before .before in
     omega (arith, inside-byte (l .before .before .before .before .before .before .args .s .now) (l .loop .next) (c .before .byte-at .ensures) (omega arith))
 
--- src/lib.rt:186:13
 number-at-requires-2 : tie.Need-number-at-requires-2 Inv-loop μ-loop
 number-at-requires-2 c κs = search needs
 
--- src/lib.rt:187:9
 add-number-requires-2 : tie.Need-add-number-requires-2 Inv-loop μ-loop
 add-number-requires-2 c κs = search needs
 
--- src/lib.rt:189:9
 add-k : tie.Need-add-k Inv-loop μ-loop
 add-k c = search needs
 
--- src/lib.rt:182:5
 loop-less : tie.Need-loop-less Inv-loop μ-loop
 loop-less c = search needs
 
--- src/lib.rt:182:5
 loop-again : tie.Need-loop-again Inv-loop μ-loop
 loop-again c =
     let n = c .before .before in
     let b = n .before .before in
-    let l = b .before .before in
-    (
+    let l = b .before .before in (
       search needs,
       count-added _ _ _ (c .add-number2 .ensures) ∙ rw (l .loop .inv .1),
       list-more _ _ _ _ _ (b .byte-at .ensures) (b .before .loop-test .taken) (n .before .if1 .left) (n .number-at2 .ensures) (search needs) (c .add-number2 .ensures) ∙ l .loop .inv .2,
     )
 
--- src/lib.rt:175:1
 returns : tie.Need-returns Inv-loop μ-loop
 returns c = list-out _ _ _ _ _ (c .loop-test .left) ∙ c .before .loop .inv .2
 
--- src/lib.rt:175:1
 returns-2 : tie.Need-returns-2 Inv-loop μ-loop
 returns-2 c =
     let l = c .before .before .before in

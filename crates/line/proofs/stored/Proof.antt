@@ -5,22 +5,16 @@ use lib.Seq.{set-out}
 use borrow.Author.Needs.{needs}
 use Rattle.line.proofs.stored.Statement.{statement}
 use Rattle.line.proofs.stored.Tie as tie
-use Rattle.line.proofs.stored.Reads as reads
-use Rattle.line.proofs.stored.Lts as lts
 
--- src/lib.rt:155:9
 mul-next : tie.Need-mul-next
 mul-next c = search needs
 
--- src/lib.rt:155:9
 array-set-from-next : tie.Need-array-set-from-next
 array-set-from-next c = search needs
 
--- src/lib.rt:156:9
 returns : tie.Need-returns
 returns c = search needs
 
--- src/lib.rt:150:1
 returns-2 : tie.Need-returns-2
 returns-2 c =
     let l : length (c .before .args .values) ≡ 32 = search needs in

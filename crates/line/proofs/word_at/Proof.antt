@@ -3,29 +3,21 @@ use Rattle.line.proofs.Steps.{word-yes, word-no, word-fits}
 use borrow.Author.Needs.{needs}
 use Rattle.line.proofs.word_at.Statement.{statement}
 use Rattle.line.proofs.word_at.Tie as tie
-use Rattle.line.proofs.word_at.Reads as reads
-use Rattle.line.proofs.word_at.Lts as lts
-use Rattle.line.proofs.has_word.Reads as has-word-reads
 
--- src/lib.rt:95:8
 has-word-requires : tie.Need-has-word-requires
 has-word-requires c κs = search needs
 
--- src/lib.rt:96:9
 add-result : tie.Need-add-result
 add-result c =
     let a = c .before .before .before .before .args in
     omega (arith, word-fits (a .s .now) (a .word .now) (a .at) (c .before .has-word .ensures) (c .if1 .taken))
 
--- src/lib.rt:98:9
 add-result-2 : tie.Need-add-result-2
 add-result-2 c = search needs
 
--- src/lib.rt:92:1
 returns : tie.Need-returns
 returns c = word-yes _ _ _ (c .before .has-word .ensures) (c .if1 .taken)
 
--- src/lib.rt:92:1
 returns-2 : tie.Need-returns-2
 returns-2 c = word-no _ _ _ (c .before .has-word .ensures) (c .if1 .left)
 
