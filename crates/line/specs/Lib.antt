@@ -1,3 +1,4 @@
 pub mod Form
 pub mod Reading
 pub mod Line
+pub mod Parts

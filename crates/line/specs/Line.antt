@@ -5,12 +5,12 @@
 --   lineOf s       — what the line s is
 --   said a         — 01's number for an answer; nothing where it is a form
 use mathlib.Core.Bool.{Bool, true, _&&_, cond}
-use mathlib.Core.List.{List, [], _∷_, _++_, map}
+use mathlib.Core.List.{List, [], _∷_}
 use mathlib.Core.Option.{Option, none, some}
-use Prim.Native.Nat.{ℕ, _-_}
+use Prim.Native.Nat.{ℕ, zero, suc}
 use lib.Dec.{ltb}
 use lib.IntN.{ℤ, pos}
-use lib.ListN.{length, take, replicate}
+use lib.ListN.{length, replicate}
 use Rattle.numeral.specs.Numeral.{cap}
 use Rattle.rules.specs.Range.{inRange}
 use Rattle.rules.specs.Refusal.{numberOf, valuesOf}
@@ -34,8 +34,14 @@ unfoldable pub allInside : Kind → List ℤ → Bool
 allInside k [] = true
 allInside k (z ∷ zs) = inRange k z && allInside k zs
 
+-- the first n of them, capped; 0 where there are fewer
+unfoldable pub firstValues : ℕ → List ℤ → List ℤ
+firstValues zero zs = []
+firstValues (suc n) [] = pos 0 ∷ firstValues n []
+firstValues (suc n) (z ∷ zs) = cap z ∷ firstValues n zs
+
 unfoldable pub numbersOf : Kind → List ℤ → Numbers
-numbersOf k zs = record { count = length zs; inside = allInside k zs; values = map cap (take 32 zs) ++ replicate (32 - length zs) (pos 0) }
+numbersOf k zs = record { count = length zs; inside = allInside k zs; values = firstValues 32 zs }
 
 abbrev pub cappedForm : Form → CappedForm
 cappedForm (problem n) = Problem (cap n)

@@ -5,7 +5,7 @@
 --   runAt v i l   — the digits at the head of l, which starts at the place i, after digits of value v
 --   sizeAt s at   — 0, or digits without a leading 0
 --   numberAt s at — a number; −0 is none
---   cap z         — z, or ±2^40 where z is larger in size; every range of 01 lies far below
+--   cap z         — z, or ±2^40 where z is larger in size; no range of 01 reaches so far (law `cap-range`)
 use mathlib.Core.Bool.{cond}
 use mathlib.Core.List.{List, [], _∷_}
 use Prim.Native.Nat.{ℕ, suc, _+_, _-_, _*_, _^_, min}
@@ -30,22 +30,29 @@ sizeAt s at =
     cond (eqb (getD s at 0) 48) (record { value = 0; next = at + 1 })
     (cond (ltb (digitOf (getD s at 0)) 10) (runAt 0 at (drop at s)) (record { value = 0; next = lost s }))
 
-abbrev pub positive : Size → Number
-positive z = record { value = pos (z .value); next = z .next }
+abbrev pub positiveOf : Size → Number
+positiveOf z = record { value = pos (z .value); next = z .next }
 
-abbrev pub negative : List ℕ → Size → Number
-negative s z = cond (eqb (z .value) 0) (record { value = pos 0; next = lost s }) (record { value = negℤ (pos (z .value)); next = z .next })
+-- the first argument is the place that is given for −0
+abbrev pub negativeOf : ℕ → Size → Number
+negativeOf other z = cond (eqb (z .value) 0) (record { value = pos 0; next = other }) (record { value = negℤ (pos (z .value)); next = z .next })
 
 unfoldable pub numberAt : List ℕ → ℕ → Number
-numberAt s at = cond (eqb (getD s at 0) 45) (negative s (sizeAt s (at + 1))) (positive (sizeAt s at))
+numberAt s at = cond (eqb (getD s at 0) 45) (negativeOf (lost s) (sizeAt s (at + 1))) (positiveOf (sizeAt s at))
 
 -- the one place where numbers are capped
+abbrev pub capAt : ℕ
+capAt = 2 ^ 40
+
 abbrev pub capSize : ℕ → ℕ
-capSize v = min v (2 ^ 40)
+capSize v = min v capAt
 
 unfoldable pub cap : ℤ → ℤ
 cap (pos n) = pos (capSize n)
 cap (negsuc n) = negℤ (pos (capSize (suc n)))
 
-abbrev pub capped : Number → Number
-capped r = record { value = cap (r .value); next = r .next }
+abbrev pub cappedSize : Size → Size
+cappedSize z = record { value = capSize (z .value); next = z .next }
+
+abbrev pub cappedNumber : Number → Number
+cappedNumber r = record { value = cap (r .value); next = r .next }
