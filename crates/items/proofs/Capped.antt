@@ -117,6 +117,7 @@ put-by n p q i us vs l e = go (eqb (partIndex p) (partIndex q)) refl
   where
     k : ℕ
     k = (natAbs i - 1) * width p n
+
     go : (b : Bool) → eqb (partIndex p) (partIndex q) ≡ b → cond b (sets l k (take (width p n) us)) l ≡ cond b (sets l k vs) l
     go true t = ap (sets l k) (ap (λ (r : Part). take (width r n) us) (part-same p q (eqb-true (partIndex p) (partIndex q) t)) ∙ e)
     go false t = refl

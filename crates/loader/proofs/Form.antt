@@ -70,7 +70,7 @@ fits-by (form.Inverse i) b p e = p
 fits-by (form.Weight i v) b p e = p
 fits-by form.End b p e = refl
 
-room-by : (d : Loader) (x : Item) → early (d .stage) x ≡ false → misplaced d x ≡ false → Room (d .n) 1024 x
+pub room-by : (d : Loader) (x : Item) → early (d .stage) x ≡ false → misplaced d x ≡ false → Room (d .n) 1024 x
 room-by d (Problem n) a b = tt
 room-by d (Scale s t) a b = tt
 room-by d (Of p i) a b =

@@ -3,3 +3,5 @@ pub mod Judge
 pub mod Advance
 pub mod Write
 pub mod Form
+pub mod Exact
+pub mod Line

@@ -9,10 +9,11 @@ ghost use Rattle.items.specs.Item.{placed};
 ghost use Rattle.items.specs.Capped.{Room};
 ghost use Rattle.loader.specs.State.{fresh, given, marked, missing, sized, scaled, ended, early, misplaced, repeated, incomplete};
 ghost use Rattle.loader.specs.Order.{verdict, lists, tooShort};
-ghost use Rattle.loader.specs.Taken.{after};
+ghost use Rattle.loader.specs.Taken.{after, TakenAs};
 ghost use Rattle.loader.specs.Capped.{saidIn, fits, putAllIn, TakenIn};
 use items::Item;
 use items::Part;
+use line::Answer;
 use line::CappedForm;
 use line::Numbers;
 use rules::Kind;
@@ -313,6 +314,51 @@ impl Loader {
                     loader: self.advance(item),
                     outcome: Outcome::Accepted,
                 }
+            }
+        }
+    }
+
+    // One line without its line feed, and the lists that its numbers go into.
+    pub fn take(
+        self,
+        line: &[u8],
+        matrix: &mut [i64],
+        right: &mut [i64],
+        guess: &mut [i64],
+        inverse: &mut [i64],
+        weights: &mut [i64],
+    ) -> Taken
+        ensures { λ r. ⌜ TakenAs self (now (line .entry)) (lists (now (matrix .entry)) (now (right .entry)) (now (guess .entry)) (now (inverse .entry)) (now (weights .entry))) r (lists (now (matrix .exit)) (now (right .exit)) (now (guess .exit)) (now (inverse .exit)) (now (weights .exit))) ⌝ }
+    {
+        if is_short(
+            matrix.len(),
+            right.len(),
+            guess.len(),
+            inverse.len(),
+            weights.len(),
+        ) {
+            return Taken {
+                loader: self,
+                outcome: Outcome::Refused(Refusal::TooShort),
+            };
+        }
+        let stage = self.stage;
+        if is_ended(stage) {
+            return Taken {
+                loader: self,
+                outcome: Outcome::Refused(Refusal::AfterEnd),
+            };
+        }
+        let read = line::read_line(line);
+        let answer = read.answer;
+        match answer {
+            Answer::Refused(refusal) => Taken {
+                loader: self,
+                outcome: Outcome::Refused(refusal),
+            },
+            Answer::Form(form) => {
+                let numbers = read.numbers;
+                self.take_form(form, numbers, matrix, right, guess, inverse, weights)
             }
         }
     }
