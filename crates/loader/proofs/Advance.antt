@@ -16,9 +16,9 @@ use Rattle.rules.proofs.Ranges.{both, both-left, both-right, range-size, range-
 use Rattle.items.specs.declared.Item.{Item}
 use Rattle.items.specs.declared.Item.the-variants.{Problem, Scale, Of, End}
 use Rattle.items.specs.declared.Part.{Part}
+use Rattle.progress.specs.Progress.{marked}
+use Rattle.progress.specs.declared.Stage.the-variants.{Sized, Scaled, Ended}
 use Rattle.loader.specs.declared.Loader.{Loader}
-use Rattle.loader.specs.declared.Stage.the-variants.{Sized, Scaled, Ended}
-use Rattle.loader.specs.State.{marked}
 use Rattle.loader.specs.Taken.{after}
 use Rattle.loader.specs.Capped.{fits}
 
@@ -51,8 +51,8 @@ module _ {x : Item} where
     pub after-scale : {s t : ℤ} {u v : ℕ} → x ≡ Scale s t → u ≡ natAbs s → v ≡ natAbs t → record { n = d .n; s = u; t = v; stage = Scaled; sets = d .sets } ≡ after d x
     after-scale e f g = rw (e, f, g)
 
-    pub after-part : {p : Part} {i : ℤ} {j : ℕ} {r : Loader} → x ≡ Of p i → j ≡ natAbs i → r ≡ marked d p j → r ≡ after d x
-    after-part e f g = rw (e, ← f) g
+    pub after-part : {p : Part} {i : ℤ} {j : ℕ} {z : List ℕ} → x ≡ Of p i → j ≡ natAbs i → z ≡ marked (d .sets) p j → record { n = d .n; s = d .s; t = d .t; stage = d .stage; sets = z } ≡ after d x
+    after-part e f g = rw (e, g, f)
 
     pub after-end : x ≡ End → record { n = d .n; s = d .s; t = d .t; stage = Ended; sets = d .sets } ≡ after d x
     after-end e = rw e

@@ -17,19 +17,20 @@ use Rattle.line.specs.Form.{Form, problem, scale, row, right, guess, inverse, w
 use Rattle.line.specs.Reading.{reading}
 use Rattle.line.specs.Line.{cappedForm, numbersIn}
 use Rattle.items.specs.Item.{itemOf, valuesOf, placed, outside, miscounted}
-use Rattle.items.specs.Capped.{itemIn, outsideIn, miscountedIn, valuesIn, Room}
+use Rattle.items.specs.Lists.{Lists, short, putAll, putIn}
+use Rattle.items.specs.Capped.{itemIn, valuesIn, putWide, putAllIn}
 use Rattle.items.specs.declared.Item.{Item}
 use Rattle.items.specs.declared.Part.{Part}
 use Rattle.items.specs.declared.Part.the-variants.{Row, Right, Guess, Inverse, Weight}
 use Rattle.items.proofs.Capped.{placed-capped, outside-capped, miscounted-capped, item-exact, put-exact}
 use Rattle.loader.specs.declared.Loader.{Loader}
-use Rattle.loader.specs.declared.Stage.{Stage}
-use Rattle.loader.specs.State.{ended, early, misplaced, repeated, incomplete, missing}
-use Rattle.loader.specs.Order.{Case, Lists, verdict, order, short, caseOf, answer}
-use Rattle.loader.specs.Taken.{after, putIn, putAll}
-use Rattle.loader.specs.Capped.{caseIn, saidIn, putWide, putAllIn}
-use Rattle.loader.proofs.Judge.{placed-of}
-use Rattle.loader.proofs.Write.{lists-≡}
+use Rattle.progress.specs.declared.Stage.{Stage}
+use Rattle.progress.specs.Progress.{ended, early, misplaced, repeated, incomplete, missing}
+use Rattle.loader.specs.Order.{Case, verdict, order, caseOf, answer}
+use Rattle.loader.specs.Taken.{after}
+use Rattle.loader.specs.Capped.{caseIn, saidIn}
+use Rattle.progress.proofs.Progress.{placed-of}
+use Rattle.items.proofs.Lists.{lists-≡}
 use Rattle.loader.proofs.Form.{Passed, passed, room-by}
 
 abbrev pub formCase : Loader → Form → Case
@@ -39,12 +40,12 @@ formCase d f = record {
   long = false;
   unspelled = false;
   early = early (d .stage) (itemOf f);
-  misplaced = misplaced d (itemOf f);
+  misplaced = misplaced (d .stage) (d .n) (itemOf f);
   outside = outside f;
   miscounted = miscounted (d .n) f;
-  repeated = repeated d (itemOf f);
-  incomplete = incomplete d (itemOf f);
-  missing = missing d;
+  repeated = repeated (d .stage) (d .sets) (itemOf f);
+  incomplete = incomplete (d .n) (d .sets) (itemOf f);
+  missing = missing (d .n) (d .sets);
 }
 
 unfoldable pub formSaid : Loader → Form → List ℕ
@@ -66,25 +67,25 @@ early-capped s (inverse i g others) = refl
 early-capped s (weight i w) = refl
 early-capped s end = refl
 
-incomplete-capped : (d : Loader) (f : Form) → incomplete d (itemIn (cappedForm f)) ≡ incomplete d (itemOf f)
-incomplete-capped d (problem n) = refl
-incomplete-capped d (scale u v) = refl
-incomplete-capped d (row i a others) = refl
-incomplete-capped d (right i b) = refl
-incomplete-capped d (guess i x) = refl
-incomplete-capped d (inverse i g others) = refl
-incomplete-capped d (weight i w) = refl
-incomplete-capped d end = refl
+incomplete-capped : (n : ℕ) (z : List ℕ) (f : Form) → incomplete n z (itemIn (cappedForm f)) ≡ incomplete n z (itemOf f)
+incomplete-capped n z (problem m) = refl
+incomplete-capped n z (scale u v) = refl
+incomplete-capped n z (row i a others) = refl
+incomplete-capped n z (right i b) = refl
+incomplete-capped n z (guess i x) = refl
+incomplete-capped n z (inverse i g others) = refl
+incomplete-capped n z (weight i w) = refl
+incomplete-capped n z end = refl
 
 module _ (d : Loader) (f : Form) (small : d .n < capAt) where
-  misplaced-capped : misplaced d (itemIn (cappedForm f)) ≡ misplaced d (itemOf f)
+  misplaced-capped : misplaced (d .stage) (d .n) (itemIn (cappedForm f)) ≡ misplaced (d .stage) (d .n) (itemOf f)
   unfolding misplaced
   misplaced-capped = rw (placed-capped (d .n) f small)
 
   -- the test of repetition comes after those of the numbers
-  said-by : (x : Item) (o : Bool) → misplaced d (itemOf f) ≡ o → (q : Bool) → outside f ≡ q → (o ≡ false → q ≡ false → x ≡ itemOf f) → (a c : Bool) (w : List ℕ)
-      → cond a (11 ∷ []) (cond o (3 ∷ []) (cond q (3 ∷ []) (cond c (4 ∷ []) (cond (repeated d x) (12 ∷ []) w))))
-      ≡ cond a (11 ∷ []) (cond o (3 ∷ []) (cond q (3 ∷ []) (cond c (4 ∷ []) (cond (repeated d (itemOf f)) (12 ∷ []) w))))
+  said-by : (x : Item) (o : Bool) → misplaced (d .stage) (d .n) (itemOf f) ≡ o → (q : Bool) → outside f ≡ q → (o ≡ false → q ≡ false → x ≡ itemOf f) → (a c : Bool) (w : List ℕ)
+      → cond a (11 ∷ []) (cond o (3 ∷ []) (cond q (3 ∷ []) (cond c (4 ∷ []) (cond (repeated (d .stage) (d .sets) x) (12 ∷ []) w))))
+      ≡ cond a (11 ∷ []) (cond o (3 ∷ []) (cond q (3 ∷ []) (cond c (4 ∷ []) (cond (repeated (d .stage) (d .sets) (itemOf f)) (12 ∷ []) w))))
   said-by x true p q r e a c w = refl
   said-by x false p true r e a c w = refl
   said-by x false p false r e a c w = rw (e refl refl)
@@ -92,8 +93,8 @@ module _ (d : Loader) (f : Form) (small : d .n < capAt) where
   pub said-capped : saidIn d (cappedForm f) (numbersIn f .count) (numbersIn f .inside) ≡ formSaid d f
   unfolding saidIn formSaid
   said-capped =
-      rw (early-capped (d .stage) f, misplaced-capped, outside-capped f, miscounted-capped (d .n) f, incomplete-capped d f)
-      (said-by (itemIn (cappedForm f)) (misplaced d (itemOf f)) refl (outside f) refl (λ p q. item-exact (d .n) f small (placed-of d (itemOf f) p) q)
+      rw (early-capped (d .stage) f, misplaced-capped, outside-capped f, miscounted-capped (d .n) f, incomplete-capped (d .n) (d .sets) f)
+      (said-by (itemIn (cappedForm f)) (misplaced (d .stage) (d .n) (itemOf f)) refl (outside f) refl (λ p q. item-exact (d .n) f small (placed-of (d .stage) (d .n) (itemOf f) p) q)
       (early (d .stage) (itemOf f)) (miscounted (d .n) f) _)
 
 -- ---- what an accepted form leaves
@@ -103,7 +104,7 @@ module _ (d : Loader) (f : Form) (small : d .n < capAt) (none : formSaid d f ≡
   holds = passed (formCase d f) none
 
   exact : itemIn (cappedForm f) ≡ itemOf f
-  exact = item-exact (d .n) f small (placed-of d (itemOf f) (holds .misplaced)) (holds .outside)
+  exact = item-exact (d .n) f small (placed-of (d .stage) (d .n) (itemOf f) (holds .misplaced)) (holds .outside)
 
   pub exact-loader : after d (itemIn (cappedForm f)) ≡ after d (itemOf f)
   exact-loader = ap (after d) exact

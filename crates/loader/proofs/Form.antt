@@ -18,16 +18,17 @@ use Rattle.line.specs.declared.CappedForm.{CappedForm}
 use Rattle.line.specs.declared.CappedForm.the-variants as form
 use Rattle.line.specs.declared.Numbers.{Numbers}
 use Rattle.items.specs.Item.{placed}
-use Rattle.items.specs.Capped.{itemIn, outsideIn, miscountedIn, valuesIn, Room}
+use Rattle.items.specs.Lists.{Lists}
+use Rattle.items.specs.Capped.{itemIn, outsideIn, valuesIn, putAllIn, Room}
 use Rattle.items.specs.declared.Item.{Item}
 use Rattle.items.specs.declared.Item.the-variants.{Problem, Scale, Of, End}
 use Rattle.loader.specs.declared.Loader.{Loader}
-use Rattle.loader.specs.State.{early, misplaced, repeated, incomplete, missing}
-use Rattle.loader.specs.Order.{Case, Lists, verdict, order}
+use Rattle.progress.specs.Progress.{early, misplaced, repeated, incomplete, missing}
+use Rattle.loader.specs.Order.{Case, verdict, order}
 use Rattle.loader.specs.Taken.{after, accepted}
-use Rattle.loader.specs.Capped.{caseIn, saidIn, fits, putAllIn, TakenIn}
+use Rattle.loader.specs.Capped.{caseIn, saidIn, fits, TakenIn}
 use Rattle.loader.proofs.Order.{none-said}
-use Rattle.loader.proofs.Judge.{placed-32, size-of, late}
+use Rattle.progress.proofs.Progress.{placed-32, size-of, late}
 
 -- ---- nothing is said
 -- no stated case holds
@@ -70,12 +71,12 @@ fits-by (form.Inverse i) b p e = p
 fits-by (form.Weight i v) b p e = p
 fits-by form.End b p e = refl
 
-pub room-by : (d : Loader) (x : Item) → early (d .stage) x ≡ false → misplaced d x ≡ false → Room (d .n) 1024 x
+pub room-by : (d : Loader) (x : Item) → early (d .stage) x ≡ false → misplaced (d .stage) (d .n) x ≡ false → Room (d .n) 1024 x
 room-by d (Problem n) a b = tt
 room-by d (Scale s t) a b = tt
 room-by d (Of p i) a b =
-    let l = size-of d (Of p i) (late (d .stage) a) b .1 in
-    (l, omega arith, placed-32 d (Of p i) a b)
+    let l = size-of (d .stage) (d .n) (Of p i) (late (d .stage) a) b .1 in
+    (l, omega arith, placed-32 (d .stage) (d .n) (Of p i) a b)
 room-by d End a b = tt
 
 module _ (d : Loader) (m : CappedForm) (count : ℕ) (inside : Bool) {x : Item} (e : x ≡ itemIn m) {o : Outcome} (s : said o ≡ saidIn d m count inside) (a : o ≡ Accepted) where
@@ -84,7 +85,7 @@ module _ (d : Loader) (m : CappedForm) (count : ℕ) (inside : Bool) {x : Item} 
   holds = passed (caseIn d m count inside) (sym s ∙ ap said a)
 
   pub fits-of : fits x ≡ true
-  fits-of = rw e (fits-by m inside (placed-32 d (itemIn m) (holds .early) (holds .misplaced)) (holds .outside))
+  fits-of = rw e (fits-by m inside (placed-32 (d .stage) (d .n) (itemIn m) (holds .early) (holds .misplaced)) (holds .outside))
 
   pub room-of : Room (d .n) 1024 x
   room-of = rw e (room-by d (itemIn m) (holds .early) (holds .misplaced))

@@ -1,7 +1,6 @@
 pub mod Order
 pub mod Judge
 pub mod Advance
-pub mod Write
 pub mod Form
 pub mod Exact
 pub mod Line

@@ -24,13 +24,14 @@ use Rattle.line.specs.declared.CappedForm.{CappedForm}
 use Rattle.line.specs.declared.Line.{Line}
 use Rattle.line.specs.declared.Numbers.{Numbers}
 use Rattle.items.specs.Item.{itemOf}
-use Rattle.items.specs.Capped.{itemIn, valuesIn}
+use Rattle.items.specs.Lists.{Lists, short, putAll}
+use Rattle.items.specs.Capped.{itemIn, valuesIn, putAllIn}
 use Rattle.loader.specs.declared.Loader.{Loader}
 use Rattle.loader.specs.declared.Taken.{Taken}
-use Rattle.loader.specs.State.{ended}
-use Rattle.loader.specs.Order.{Lists, short, answer as answerOf}
-use Rattle.loader.specs.Taken.{TakenAs, after, putAll, loaderAfter, listsAfter, accepted}
-use Rattle.loader.specs.Capped.{TakenIn, putAllIn}
+use Rattle.progress.specs.Progress.{ended}
+use Rattle.loader.specs.Order.{answer as answerOf}
+use Rattle.loader.specs.Taken.{TakenAs, after, loaderAfter, listsAfter, accepted}
+use Rattle.loader.specs.Capped.{TakenIn}
 use Rattle.loader.proofs.Exact.{formSaid, answer-form, said-capped, exact-loader, exact-lists}
 
 -- what a form leaves, exact and capped

@@ -1,4 +1,3 @@
-pub mod State
 pub mod Order
 pub mod Taken
 pub mod Capped

@@ -3,21 +3,20 @@
 --   verdict  — what the first test that holds says; nothing where none holds
 --   Case     — for each refusal whether its stated case holds, and the count of missing forms, which 13 gives
 --   order    — the tests in 01's order
---   Lists    — the five lent lists;  short — 8: one of them is too short
 --   caseOf   — which cases hold of a line at a loader, with these lists
 --   answer   — what is said of the line: nothing where it is accepted
-use mathlib.Core.Bool.{Bool, true, false, _||_, cond}
+use mathlib.Core.Bool.{Bool, true, false, cond}
 use mathlib.Core.List.{List, [], _∷_}
 use mathlib.Core.Option.{Option, none, some}
 use Prim.Native.Nat.{ℕ}
 use lib.Dec.{ltb}
-use lib.IntN.{ℤ}
 use lib.ListN.{length}
 use Rattle.line.specs.Form.{Form}
 use Rattle.line.specs.Reading.{reading}
 use Rattle.items.specs.Item.{itemOf, outside, miscounted}
+use Rattle.items.specs.Lists.{Lists, short}
+use Rattle.progress.specs.Progress.{missing, ended, early, misplaced, repeated, incomplete}
 use Rattle.loader.specs.declared.Loader.{Loader}
-use Rattle.loader.specs.State.{missing, ended, early, misplaced, repeated, incomplete}
 
 pub record Test : Type 0 where
   pub says : List ℕ
@@ -58,22 +57,6 @@ order c =
     ∷ record { says = 13 ∷ c .missing ∷ []; holds = c .incomplete }
     ∷ []
 
-pub record Lists : Type 0 where
-  pub matrix : List ℤ
-  pub right : List ℤ
-  pub guess : List ℤ
-  pub inverse : List ℤ
-  pub weights : List ℤ
-
-abbrev pub lists : List ℤ → List ℤ → List ℤ → List ℤ → List ℤ → Lists
-lists a b x g w = record { matrix = a; right = b; guess = x; inverse = g; weights = w }
-
-abbrev pub tooShort : ℕ → ℕ → ℕ → ℕ → ℕ → Bool
-tooShort a b x g w = ltb a 1024 || (ltb b 32 || (ltb x 32 || (ltb g 1024 || ltb w 32)))
-
-abbrev pub short : Lists → Bool
-short l = tooShort (length (l .matrix)) (length (l .right)) (length (l .guess)) (length (l .inverse)) (length (l .weights))
-
 -- something of the form that a line is, and a thing to stand for it where the line is no form
 abbrev pub ofForm {ℓ} : {A : Type ℓ} → Option Form → A → (Form → A) → A
 ofForm none other g = other
@@ -86,12 +69,12 @@ caseOf d l line = record {
   long = ltb 320 (length line);
   unspelled = ofForm (reading line) true (λ (f : Form). false);
   early = ofForm (reading line) false (λ (f : Form). early (d .stage) (itemOf f));
-  misplaced = ofForm (reading line) false (λ (f : Form). misplaced d (itemOf f));
+  misplaced = ofForm (reading line) false (λ (f : Form). misplaced (d .stage) (d .n) (itemOf f));
   outside = ofForm (reading line) false (λ (f : Form). outside f);
   miscounted = ofForm (reading line) false (λ (f : Form). miscounted (d .n) f);
-  repeated = ofForm (reading line) false (λ (f : Form). repeated d (itemOf f));
-  incomplete = ofForm (reading line) false (λ (f : Form). incomplete d (itemOf f));
-  missing = missing d;
+  repeated = ofForm (reading line) false (λ (f : Form). repeated (d .stage) (d .sets) (itemOf f));
+  incomplete = ofForm (reading line) false (λ (f : Form). incomplete (d .n) (d .sets) (itemOf f));
+  missing = missing (d .n) (d .sets);
 }
 
 unfoldable pub answer : Loader → Lists → List ℕ → List ℕ

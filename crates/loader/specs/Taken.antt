@@ -1,46 +1,36 @@
 -- What a line leaves (01: "An accepted line puts n, or s and t, into the desk, or its form's other numbers at their own places in the lent
 -- lists, and changes no other number in those lists. A refused line leaves the desk as before the call, and its lists").
---   after d x    — the loader after a form
---   putAll n f l — the lists after the form f
+--   fresh        — the loader that was given nothing
+--   after d x    — the loader after a form; the lists after it are `putAll`
 --   accepted     — the new where nothing is said, the old where a refusal is
 --   loaderAfter, listsAfter — what is left of a line, accepted or refused
 --   TakenAs      — the contract of `take`
 use mathlib.Core.List.{List, [], _∷_}
 use mathlib.Core.Path.{_≡_}
 use Prim.Native.Nat.{ℕ}
-use lib.IntN.{ℤ, natAbs}
+use lib.IntN.{natAbs}
+use lib.ListN.{replicate}
 use Rattle.rules.specs.Refusal.{said}
 use Rattle.line.specs.Form.{Form}
 use Rattle.line.specs.Reading.{reading}
-use Rattle.items.specs.Item.{itemOf, valuesOf}
-use Rattle.items.specs.Put.{width, put}
+use Rattle.items.specs.Item.{itemOf}
+use Rattle.items.specs.Lists.{Lists, putAll}
 use Rattle.items.specs.declared.Item.{Item}
 use Rattle.items.specs.declared.Item.the-variants.{Problem, Scale, Of, End}
-use Rattle.items.specs.declared.Part.{Part}
-use Rattle.items.specs.declared.Part.the-variants.{Row, Right, Guess, Inverse, Weight}
+use Rattle.progress.specs.Progress.{marked}
+use Rattle.progress.specs.declared.Stage.the-variants.{Start, Sized, Scaled, Ended}
 use Rattle.loader.specs.declared.Loader.{Loader}
-use Rattle.loader.specs.declared.Stage.the-variants.{Sized, Scaled, Ended}
 use Rattle.loader.specs.declared.Taken.{Taken}
-use Rattle.loader.specs.State.{marked}
-use Rattle.loader.specs.Order.{Lists, answer, ofForm}
+use Rattle.loader.specs.Order.{answer, ofForm}
+
+abbrev pub fresh : Loader
+fresh = record { n = 0; s = 0; t = 0; stage = Start; sets = replicate 5 0 }
 
 abbrev pub after : Loader → Item → Loader
 after d (Problem n) = record { n = natAbs n; s = d .s; t = d .t; stage = Sized; sets = d .sets }
 after d (Scale s t) = record { n = d .n; s = natAbs s; t = natAbs t; stage = Scaled; sets = d .sets }
-after d (Of p i) = marked d p (natAbs i)
+after d (Of p i) = record { n = d .n; s = d .s; t = d .t; stage = d .stage; sets = marked (d .sets) p (natAbs i) }
 after d End = record { n = d .n; s = d .s; t = d .t; stage = Ended; sets = d .sets }
-
-abbrev pub putIn : Part → ℕ → Form → List ℤ → List ℤ
-putIn p n f l = put (width p n) p (itemOf f) (valuesOf f) l
-
-abbrev pub putAll : ℕ → Form → Lists → Lists
-putAll n f l = record {
-  matrix = putIn Row n f (l .matrix);
-  right = putIn Right n f (l .right);
-  guess = putIn Guess n f (l .guess);
-  inverse = putIn Inverse n f (l .inverse);
-  weights = putIn Weight n f (l .weights);
-}
 
 abbrev pub accepted {ℓ} : {A : Type ℓ} → List ℕ → A → A → A
 accepted [] new old = new

@@ -1,26 +1,18 @@
 use mathlib.Core.Path.{_≡_, sym, _∙_}
 use mathlib.Core.Bool.{false}
 use Rattle.items.specs.Capped.{outsideIn, miscountedIn}
-use Rattle.loader.specs.State.{early, misplaced}
-use Rattle.loader.proofs.Judge.{placed-32, says-11, says-3-place, says-3-values, says-4, says-12, says-rest}
+use Rattle.progress.specs.Progress.{early, misplaced}
+use Rattle.progress.proofs.Progress.{placed-32}
+use Rattle.loader.proofs.Judge.{says-11, says-3-place, says-3-values, says-4, says-12, says-rest}
 use borrow.Author.Needs.{needs}
 use Rattle.loader.proofs.Loader.judge.Statement.{statement}
 use Rattle.loader.proofs.Loader.judge.Tie as tie
-use Rattle.loader.proofs.Loader.judge.Reads as reads
-use Rattle.loader.proofs.Loader.judge.Lts as lts
-use Rattle.items.proofs.is_miscounted.Reads as is-miscounted-reads
-use Rattle.items.proofs.is_outside.Reads as is-outside-reads
-use Rattle.items.proofs.item_of.Reads as item-of-reads
-use Rattle.loader.proofs.Loader.is_misplaced.Reads as is-misplaced-reads
-use Rattle.loader.proofs.Loader.is_repeated.Reads as is-repeated-reads
-use Rattle.loader.proofs.Loader.judge_end.Reads as judge-end-reads
-use Rattle.loader.proofs.is_early.Reads as is-early-reads
 
 -- what the tests before said, of the form itself
 not-early : (c : tie.Else1) → early (c .before .before .before .before .args .self .stage) (c .before .before .item-of .result) ≡ false
 not-early c = sym (c .before .is-early .ensures) ∙ c .if1 .left
 
-not-misplaced : (c : tie.Else2) → misplaced (c .before .before .before .before .before .before .args .self) (c .before .before .before .before .item-of .result) ≡ false
+not-misplaced : (c : tie.Else2) → misplaced (c .before .before .before .before .before .before .args .self .stage) (c .before .before .before .before .before .before .args .self .n) (c .before .before .before .before .item-of .result) ≡ false
 not-misplaced c = sym (c .before .is-misplaced .ensures) ∙ c .if2 .left
 
 not-outside : (c : tie.Else3) → let a = c .before .before .before .before .before .before .before .before .args in outsideIn (a .form) (a .inside) ≡ false
@@ -29,30 +21,21 @@ not-outside c = sym (c .before .is-outside .ensures) ∙ c .if3 .left
 not-miscounted : (c : tie.Else4) → let a = c .before .before .before .before .before .before .before .before .before .before .args in miscountedIn (a .self .n) (a .form) (a .count) ≡ false
 not-miscounted c = sym (c .before .is-miscounted .ensures) ∙ c .if4 .left
 
--- src/lib.rt:174:17
-cast-n : tie.Need-cast-n
-cast-n c = search needs
-
--- src/lib.rt:176:13
 item-of-requires : tie.Need-item-of-requires
 item-of-requires c κs = search needs
 
--- src/lib.rt:177:12
 is-early-requires : tie.Need-is-early-requires
 is-early-requires c κs = search needs
 
--- src/lib.rt:178:13
 returns : tie.Need-returns
 returns c =
     let m = c .before .before in
     let a = m .before .before .args in
     says-11 (a .self) (a .form) (a .count) (a .inside) (m .item-of .ensures) (sym (c .before .is-early .ensures) ∙ c .if1 .taken)
 
--- src/lib.rt:180:12
 is-misplaced-requires : tie.Need-is-misplaced-requires
 is-misplaced-requires c κs = search needs
 
--- src/lib.rt:181:13
 returns-2 : tie.Need-returns-2
 returns-2 c =
     let e = c .before .before in
@@ -60,11 +43,9 @@ returns-2 c =
     let a = m .before .before .args in
     says-3-place (a .self) (a .form) (a .count) (a .inside) (m .item-of .ensures) (not-early e) (sym (c .before .is-misplaced .ensures) ∙ c .if2 .taken)
 
--- src/lib.rt:183:12
 is-outside-requires : tie.Need-is-outside-requires
 is-outside-requires c κs = search needs
 
--- src/lib.rt:184:13
 returns-3 : tie.Need-returns-3
 returns-3 c =
     let p = c .before .before in
@@ -73,11 +54,12 @@ returns-3 c =
     let a = m .before .before .args in
     says-3-values (a .self) (a .form) (a .count) (a .inside) (m .item-of .ensures) (not-early e) (not-misplaced p) (sym (c .before .is-outside .ensures) ∙ c .if3 .taken)
 
--- src/lib.rt:186:12
+cast-is-miscounted : tie.Need-cast-is-miscounted
+cast-is-miscounted c = search needs
+
 is-miscounted-requires : tie.Need-is-miscounted-requires
 is-miscounted-requires c κs = search needs
 
--- src/lib.rt:187:13
 returns-4 : tie.Need-returns-4
 returns-4 c =
     let o = c .before .before in
@@ -87,14 +69,12 @@ returns-4 c =
     let a = m .before .before .args in
     says-4 (a .self) (a .form) (a .count) (a .inside) (m .item-of .ensures) (not-early e) (not-misplaced p) (not-outside o) (sym (c .before .is-miscounted .ensures) ∙ c .if4 .taken)
 
--- src/lib.rt:189:12
 is-repeated-requires : tie.Need-is-repeated-requires
 is-repeated-requires c κs =
     let p = c .before .before .before .before in
     let e = p .before .before in
-    placed-32 (e .before .before .before .before .args .self) (e .before .before .item-of .result) (not-early e) (not-misplaced p)
+    placed-32 (e .before .before .before .before .args .self .stage) (e .before .before .before .before .args .self .n) (e .before .before .item-of .result) (not-early e) (not-misplaced p)
 
--- src/lib.rt:190:13
 returns-5 : tie.Need-returns-5
 returns-5 c =
     let k = c .before .before in
@@ -105,13 +85,11 @@ returns-5 c =
     let a = m .before .before .args in
     says-12 (a .self) (a .form) (a .count) (a .inside) (m .item-of .ensures) (not-early e) (not-misplaced p) (not-outside o) (not-miscounted k) (sym (c .before .is-repeated .ensures) ∙ c .if5 .taken)
 
--- src/lib.rt:192:9
 judge-end-requires : tie.Need-judge-end-requires
 judge-end-requires c κs =
     let p = c .before .before .before .before .before .before in
     (not-early (p .before .before), not-misplaced p)
 
--- src/lib.rt:171:5
 returns-6 : tie.Need-returns-6
 returns-6 c =
     let g = c .before in
@@ -127,7 +105,6 @@ pub judge-spec : {M : Type 1} → statement M
 judge-spec =
     tie.close
     (tie.spec
-    cast-n
     item-of-requires
     is-early-requires
     returns
@@ -135,6 +112,7 @@ judge-spec =
     returns-2
     is-outside-requires
     returns-3
+    cast-is-miscounted
     is-miscounted-requires
     returns-4
     is-repeated-requires

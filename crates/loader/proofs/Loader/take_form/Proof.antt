@@ -2,39 +2,25 @@ use Rattle.loader.proofs.Form.{fits-of, room-of, taken-refused, taken-a
 use borrow.Author.Needs.{needs}
 use Rattle.loader.proofs.Loader.take_form.Statement.{statement}
 use Rattle.loader.proofs.Loader.take_form.Tie as tie
-use Rattle.loader.proofs.Loader.take_form.Reads as reads
-use Rattle.loader.proofs.Loader.take_form.Lts as lts
-use Rattle.items.proofs.item_of.Reads as item-of-reads
-use Rattle.items.proofs.values_of.Reads as values-of-reads
-use Rattle.loader.proofs.Loader.advance.Reads as advance-reads
-use Rattle.loader.proofs.Loader.judge.Reads as judge-reads
-use Rattle.loader.proofs.write_all.Reads as write-all-reads
 
--- src/lib.rt:283:17
 cast-n : tie.Need-cast-n
 cast-n c = search needs
 
--- src/lib.rt:284:13
 judge-requires : tie.Need-judge-requires
 judge-requires c κs = search needs
 
--- src/lib.rt:286:30
 enum-known-outcome : tie.Need-enum-known-outcome
 enum-known-outcome c = search needs
 
--- src/lib.rt:291:21
 enum-told : tie.Need-enum-told
 enum-told c = search needs
 
--- src/lib.rt:291:21
 item-of-requires : tie.Need-item-of-requires
 item-of-requires c κs = search needs
 
--- src/lib.rt:292:21
 values-of-requires : tie.Need-values-of-requires
 values-of-requires c κs = search needs
 
--- src/lib.rt:293:17
 write-all-requires : tie.Need-write-all-requires
 write-all-requires c κs =
     let m = c .before .before .before .before .before .before in
@@ -43,7 +29,6 @@ write-all-requires c κs =
     let a = s .args in
     (room-of (a .self) (a .form) (a .numbers .count) (a .numbers .inside) (m .item-of .ensures) (j .judge .ensures) (m .before .enum-told .given .1), s .pre)
 
--- src/lib.rt:295:29
 advance-requires : tie.Need-advance-requires
 advance-requires c κs =
     let m = c .before .before .before .before .before .before .before .before .before .before .before .before in
@@ -51,34 +36,27 @@ advance-requires c κs =
     let a = j .before .before .before .args in
     fits-of (a .self) (a .form) (a .numbers .count) (a .numbers .inside) (m .item-of .ensures) (j .judge .ensures) (m .before .enum-told .given .1)
 
--- src/lib.rt:276:5
 returns : tie.Need-returns
 returns c =
     let j = c .before .before .before in
     let a = j .before .before .before .args in
     taken-refused (a .self) (a .form) (a .numbers) _ (j .judge .ensures) (c .before .outcome .given .1)
 
--- src/lib.rt:276:5
 same-length : tie.Need-same-length
 same-length c = search needs
 
--- src/lib.rt:276:5
 same-length-2 : tie.Need-same-length-2
 same-length-2 c = search needs
 
--- src/lib.rt:276:5
 same-length-3 : tie.Need-same-length-3
 same-length-3 c = search needs
 
--- src/lib.rt:276:5
 same-length-4 : tie.Need-same-length-4
 same-length-4 c = search needs
 
--- src/lib.rt:276:5
 same-length-5 : tie.Need-same-length-5
 same-length-5 c = search needs
 
--- src/lib.rt:276:5
 returns-2 : tie.Need-returns-2
 returns-2 c =
     let m = c .before .before .before .before .before .before .before .before .before .before .before .before .before in

@@ -1,7 +1,7 @@
 use borrow.Author.Tests.{lt-ltb, le-ltb}
 use borrow.Author.Needs.{needs}
-use Rattle.loader.proofs.is_short.Statement.{statement}
-use Rattle.loader.proofs.is_short.Tie as tie
+use Rattle.items.proofs.is_short.Statement.{statement}
+use Rattle.items.proofs.is_short.Tie as tie
 
 returns : tie.Need-returns
 returns c = rw (lt-ltb _ _ (c .if1 .taken))

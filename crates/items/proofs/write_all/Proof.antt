@@ -1,8 +1,8 @@
-use Rattle.loader.proofs.Write.{Long, long, room-more, room-one, lists-≡}
+use Rattle.items.proofs.Lists.{Long, long, room-more, room-one, lists-≡}
 use lib.ListN.{length}
 use borrow.Author.Needs.{needs}
-use Rattle.loader.proofs.write_all.Statement.{statement}
-use Rattle.loader.proofs.write_all.Tie as tie
+use Rattle.items.proofs.write_all.Statement.{statement}
+use Rattle.items.proofs.write_all.Tie as tie
 
 room : (s : tie.Start) → let a = s .args in Long (length (a .matrix .now)) (length (a .right .now)) (length (a .guess .now)) (length (a .inverse .now)) (length (a .weights .now))
 room s = long _ _ _ _ _ (s .pre .1)
