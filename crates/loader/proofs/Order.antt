@@ -45,7 +45,7 @@ pub skip : (before after : List Test) → None before → verdict (before ++ aft
 skip [] after n = refl
 skip (t ∷ ts) after n = rw (n .0) (skip ts after (n .1))
 
-skipped : (before after : List Test) (w : List ℕ) → without (head w) before ≡ true → verdict (before ++ after) ≡ w → None before × (verdict after ≡ w)
+pub skipped : (before after : List Test) (w : List ℕ) → without (head w) before ≡ true → verdict (before ++ after) ≡ w → None before × (verdict after ≡ w)
 skipped [] after w d e = (tt, e)
 skipped (t ∷ ts) after w d e = go (t .holds) refl e (skipped ts after w (both-right (not (eqb (head (t .says)) (head w))) (without (head w) ts) d))
   where
@@ -54,7 +54,7 @@ skipped (t ∷ ts) after w d e = go (t .holds) refl e (skipped ts after w (both-
     go true p q rest = absurd (clash (eq-eqb (head (t .says)) (head w) (ap head q)) (both-left (not (eqb (head (t .says)) (head w))) (without (head w) ts) d))
 
 -- tests that do not hold say nothing
-silent : (ts : List Test) → None ts → verdict ts ≡ []
+pub silent : (ts : List Test) → None ts → verdict ts ≡ []
 silent [] n = refl
 silent (t ∷ ts) n = rw (n .0) (silent ts (n .1))
 

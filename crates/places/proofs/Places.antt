@@ -1,6 +1,6 @@
 -- Laws of sets of places.
---   has-same, has-other — the place i is in the set with it; every other place is in it as before
---   lacking-with — with a place below n that it lacked, a set lacks one place fewer;  lacking-again — with a place that it has, as many
+--   has-same, has-other — the place i is in the set with it; every other place is in it as before;  has-none — the number 0 is the empty set
+--   lacking-with — with a place below n that it lacked, a set lacks one place fewer;  lacking-≤ — it lacks at most n
 --   lacking-all  — the empty set lacks all n places;  lacking-none — a set that lacks none has every place below n
 --   lack, mask   — the ones of the complement within n bits are the places that the set lacks; the mask of n bits
 use mathlib.Core.Path.{_≡_, refl, sym, ap, subst, _∙_}
@@ -15,7 +15,7 @@ use lib.Bits.{bitOr, or-shr, or-mod}
 use lib.Count.{ones, ones-cat}
 use lib.Dec.{eqb, lit<}
 use lib.Pow.{shl-shr, pow-add, pow-lt, pow-pos, split, high, mod-pow-add, ones-split, ones-lt, shr-lt}
-use Rattle.integer.proofs.Sum.{sumℕ-ext, sumℕ-at}
+use Rattle.integer.proofs.Sum.{sumℕ-ext, sumℕ-mono, sumℕ-at}
 use Rattle.integer.specs.Finite.{sumℕ}
 use Rattle.places.specs.Places.{hasPlace, withPlace, lacking}
 
@@ -121,7 +121,15 @@ has-other x i j n =
     let e : withPlace x i / 2 ^ j % 2 ≡ x / 2 ^ j % 2 = omega (arith, with-digit x i j, pow-digit-other i j n) in
     ap (λ (d : ℕ). eqb d 1) e
 
+pub has-none : (i : ℕ) → hasPlace 0 i ≡ false
+has-none i = ap (λ (q : ℕ). eqb (q % 2) 1) (zero-div (2 ^ i))
+
 -- ---- what a set lacks
+sumℕ-one : (n : ℕ) → sumℕ n (λ (i : ℕ). 1) ≡ n
+unfolding sumℕ
+sumℕ-one zero = refl
+sumℕ-one (suc n) = omega (arith, sumℕ-one n)
+
 -- a sum whose term at i falls by one
 one-less : (n : ℕ) (f g : ℕ → ℕ) (i : ℕ) → i < n → f i ≡ suc (g i) → ((j : ℕ) → (i ≡ j → ⊥) → f j ≡ g j) → sumℕ n f ≡ suc (sumℕ n g)
 unfolding sumℕ
@@ -143,8 +151,15 @@ pub lacking-all : (n : ℕ) → lacking 0 n ≡ n
 unfolding lacking sumℕ
 lacking-all zero = refl
 lacking-all (suc n) =
-    let here : hasPlace 0 n ≡ false = ap (λ (q : ℕ). eqb (q % 2) 1) (zero-div (2 ^ n)) in
-    rw (here, lacking-all n) (omega arith)
+    rw (has-none n, lacking-all n) (omega arith)
+
+pub lacking-≤ : (x n : ℕ) → lacking x n ≤ n
+unfolding lacking
+lacking-≤ x n = omega (arith, sumℕ-mono n (λ (i : ℕ). cond (hasPlace x i) 0 1) (λ (i : ℕ). 1) (λ i l. at-most (hasPlace x i)), sumℕ-one n)
+  where
+    at-most : (b : Bool) → cond b 0 1 ≤ 1
+    at-most true = omega arith
+    at-most false = omega arith
 
 pub lacking-none : (x n : ℕ) → lacking x n ≡ 0 → (i : ℕ) → i < n → hasPlace x i ≡ true
 unfolding lacking
