@@ -1,3 +1,5 @@
 pub mod Sound
 pub mod Outstanding
 pub mod Cells
+pub mod Collected
+pub mod Runs

@@ -34,7 +34,7 @@ neither-right true b e = absurd (subst T e tt)
 neither-right false b e = e
 
 -- ---- the place
-scaled-sized : (s : Stage) → scaled s ≡ true → sized s ≡ true
+pub scaled-sized : (s : Stage) → scaled s ≡ true → sized s ≡ true
 scaled-sized Start e = e
 scaled-sized Sized e = refl
 scaled-sized Scaled e = refl
