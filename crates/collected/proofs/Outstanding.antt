@@ -42,7 +42,7 @@ use Rattle.collected.proofs.Sound.{Sound, fresh-sound, form-sound, line
 
 -- ---- one form more
 -- 1 for the part p itself
-hits : Part → Part → ℕ
+abbrev pub hits : Part → Part → ℕ
 hits p q = cond (eqb (partIndex p) (partIndex q)) 1 0
 
 total-more : (p : Part) (ps : List Part) (f g : Part → ℕ) → ((q : Part) → f q ≡ g q + hits p q) → total ps f ≡ total ps g + total ps (hits p)
@@ -50,8 +50,7 @@ total-more p [] f g h = refl
 total-more p (q ∷ ps) f g h = omega (arith, h q, total-more p ps f g h)
 
 -- the part is counted once
-once : (p : Part) → total counted (hits p) ≡ 1
-unfolding hits
+pub once : (p : Part) → total counted (hits p) ≡ 1
 once Row = refl
 once Right = refl
 once Guess = refl
@@ -74,7 +73,6 @@ module _ (z : List ℕ) (five : length z ≡ 5) (p : Part) (i : ℕ) where
   marked-other q e = getD-set-other z (partIndex p) (partIndex q) (withPlace (setOf z p) (i - 1)) 0 e
 
   fewer : (n : ℕ) → 1 ≤ i → i ≤ n → given z p i ≡ false → (q : Part) → lacking (setOf z q) n ≡ lacking (setOf (marked z p i) q) n + hits p q
-  unfolding hits
   fewer n l h e q = go (eqb (partIndex p) (partIndex q)) refl
     where
       go : (b : Bool) → eqb (partIndex p) (partIndex q) ≡ b → lacking (setOf z q) n ≡ lacking (setOf (marked z p i) q) n + cond b 1 0

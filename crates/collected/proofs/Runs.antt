@@ -41,7 +41,7 @@ pub step-next : (u : State) {line : List ℕ} {f : Form} → Accepted (u .loader
 step-next u a = λ i. record { loader = a .loader i; lists = a .lists i }
 
 module _ (u : State) (sound : Sound (u .loader)) {line : List ℕ} {g : Form} (a : Accepted (u .loader) (u .lists) line g) where
-  step-own : Holds g (step u line)
+  pub step-own : Holds g (step u line)
   step-own = rw (step-next u a) (holds-own u sound g (a .fine) (a .long))
 
   step-kept : (f : Form) → Holds f u → Holds f (step u line)
@@ -55,7 +55,7 @@ kept-all u s (line ∷ lines) a f h =
     let r = accepted-form (u .loader) (u .lists) line (a .0) in
     kept-all (step u line) (line-sound (u .loader) (u .lists) line s) lines (a .1) f (step-kept u s (r .1) f h)
 
-forms-next : (line : List ℕ) {f : Form} (lines : List (List ℕ)) → reading line ≡ some f → forms (line ∷ lines) ≡ f ∷ forms lines
+pub forms-next : (line : List ℕ) {f : Form} (lines : List (List ℕ)) → reading line ≡ some f → forms (line ∷ lines) ≡ f ∷ forms lines
 unfolding forms
 forms-next line lines e = rw e
 
@@ -131,10 +131,12 @@ found p k l u s (line ∷ lines) a before now =
   where
     r : (g : Form) × Accepted (u .loader) (u .lists) line g
     r = accepted-form (u .loader) (u .lists) line (a .0)
+
     same : isOf p k (itemOf (r .0)) ≡ false → given (step u line .loader .sets) p k ≡ false
     same e =
         rw (r .1 .loader)
         (other-marks (u .loader) s p k l (itemOf (r .0)) (placed-of (u .loader .stage) (u .loader .n) (itemOf (r .0)) (r .1 .fine .misplaced)) e ∙ before)
+
     go : (b : Bool) → isOf p k (itemOf (r .0)) ≡ b → (given (step u line .loader .sets) p k ≡ false → Found p k (forms lines)) → Found p k (r .0 ∷ forms lines)
     go true e rest = found-here p k (r .0) (forms lines) e
     go false e rest = found-next p k (r .0) (forms lines) e (rest (same e))

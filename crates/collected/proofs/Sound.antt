@@ -72,7 +72,7 @@ unfolding rangeOf ranges
 inverse-kept t h = kept kind.InverseScale 0 t refl h
 
 -- ---- from line to line
-fresh-empty : (p : Part) (i : ℕ) → given (replicate 5 0) p i ≡ false
+pub fresh-empty : (p : Part) (i : ℕ) → given (replicate 5 0) p i ≡ false
 fresh-empty Row i = has-none (i - 1)
 fresh-empty Right i = has-none (i - 1)
 fresh-empty Guess i = has-none (i - 1)
