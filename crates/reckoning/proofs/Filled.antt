@@ -2,7 +2,7 @@
 --   holds-none, holds-more, holds-end — at none, one element more, and at the end, for loops
 --   holds-less — a smaller count;  holds-as — of equal functions
 --   stored-none, stored-next, stored-more, stored-end, stored-length — at none, one more, at the end, and the length, for loops; columns-.. likewise
---   stored-at, stored-else — the places p + i·s hold f i, every other place is as before
+--   stored-at, stored-else — the places p + i·s hold f i, every other place is as before;  stored-ext — of equal functions
 use mathlib.Core.Path.{_≡_, refl, sym, ap, _∙_, subst}
 use mathlib.Core.List.{List}
 use Prim.Native.Nat.{ℕ, zero, suc, _+_, _*_, _≤_, _<_}
@@ -66,6 +66,11 @@ module _ {A : Type 0} (xs : List A) (p s : ℕ) (f : ℕ → A) where
       go (no e) ih =
           let l : i < n = omega arith in
           getD-set-other (stored xs p s f n) (p + n * s) (p + i * s) (f n) d (omega (arith, mul-le-mul-right s l)) ∙ ih l
+
+pub stored-ext : {A : Type 0} (xs : List A) (p s : ℕ) (f g : ℕ → A) (n : ℕ) → ((i : ℕ) → i < n → f i ≡ g i) → stored xs p s f n ≡ stored xs p s g n
+unfolding stored
+stored-ext xs p s f g zero h = refl
+stored-ext xs p s f g (suc n) h = rw (h n (omega arith), stored-ext xs p s f g n (λ i l. h i (omega arith)))
 
 module _ {A : Type 0} (xs : List A) (n : ℕ) (f : ℕ → ℕ → A) where
   pub columns-none : storedColumns xs n f 0 ≡ xs
