@@ -1,0 +1,4 @@
+pub mod Input
+pub mod Order
+pub mod Checked
+pub mod Ready
