@@ -1,8 +1,8 @@
 use native.Mathlib.Omega.{arith}
-use Rattle.line.proofs.Steps.{word-yes, word-no, word-fits}
+use Rattle.form.proofs.Steps.{word-yes, word-no, word-fits}
 use borrow.Author.Needs.{needs}
-use Rattle.line.proofs.word_at.Statement.{statement}
-use Rattle.line.proofs.word_at.Tie as tie
+use Rattle.form.proofs.word_at.Statement.{statement}
+use Rattle.form.proofs.word_at.Tie as tie
 
 has-word-requires : tie.Need-has-word-requires
 has-word-requires c κs = search needs

@@ -3,12 +3,12 @@ use Prim.Native.Nat.{_≤_, _-_, _+_}
 use native.Mathlib.Omega.{arith}
 use lib.ListN.{length}
 use Rattle.numeral.proofs.Places.{inside-byte}
-use Rattle.line.specs.Reading.{othersAt}
-use Rattle.line.specs.Parts.{listedAt}
-use Rattle.line.proofs.Turns.{count-added, listed, list-start, list-more, list-stop, list-out}
+use Rattle.form.specs.Reading.{othersAt}
+use Rattle.form.specs.List.{listedAt}
+use Rattle.form.proofs.Turns.{count-added, listed, list-start, list-more, list-stop, list-out}
 use borrow.Author.Needs.{needs}
-use Rattle.line.proofs.list_at.Statement.{statement}
-use Rattle.line.proofs.list_at.Tie as tie
+use Rattle.form.proofs.list_at.Statement.{statement}
+use Rattle.form.proofs.list_at.Tie as tie
 
 abbrev Inv-loop : tie.InvT-loop
 Inv-loop s at kind numbers₀ next₀ k₀ numbers next k = (k ≤ length s) × (numbers .count ≡ k + 1) × (listed kind numbers (othersAt s (length s - k) next) ≡ listedAt kind s at)

@@ -15,12 +15,12 @@ use Rattle.numeral.specs.Decimal.{numeral}
 use Rattle.numeral.specs.Numeral.{numberAt}
 use Rattle.numeral.proofs.Spelling.{Stops, number-spelled}
 use lib.Seq.{drop-append-seam}
-use Rattle.line.specs.declared.Word.{Word}
-use Rattle.line.specs.declared.Word.the-variants.{Problem, Scale, Row, Right, Guess, Inverse, Weight, End}
-use Rattle.line.specs.Form.{bytes, numerals, Form, problem, scale, row, right, guess, inverse, weight, end, spell}
-use Rattle.line.specs.Reading.{opening, wordAt, headAt, othersAt, first, second, front, others, close, endOf, formAt, reading}
-use Rattle.line.proofs.Words.{Then, then, whole, word-then, number-then, head-then, word-spelled, head-spelled}
-use Rattle.line.proofs.Lists.{tails, tails-length, numerals-is, others-then, stops-tails, others-spelled}
+use Rattle.form.specs.declared.Word.{Word}
+use Rattle.form.specs.declared.Word.the-variants.{Problem, Scale, Row, Right, Guess, Inverse, Weight, End}
+use Rattle.form.specs.Form.{bytes, numerals, Form, problem, scale, row, right, guess, inverse, weight, end, spell}
+use Rattle.form.specs.Reading.{opening, wordAt, headAt, othersAt, first, second, front, others, close, endOf, formAt, reading}
+use Rattle.form.proofs.Words.{Then, then, whole, word-then, number-then, head-then, word-spelled, head-spelled}
+use Rattle.form.proofs.Lists.{tails, tails-length, numerals-is, others-then, stops-tails, others-spelled}
 
 -- ---- what is read is spelled
 chosen : (t : Bool) (g f : Form) → cond t (some g) none ≡ some f → (t ≡ true) × (g ≡ f)

@@ -12,11 +12,11 @@ use borrow.Author.Tests.{eq-eqb, ne-eqb, le-leb, lt-leb}
 use lib.ListN.{length, drop, getD, drop-of-length-le, length-append, length-drop}
 use lib.Seq.{drop-cons}
 use Rattle.numeral.specs.Numeral.{lost}
-use Rattle.line.specs.declared.Head.{Head}
-use Rattle.line.specs.declared.Word.{Word}
-use Rattle.line.specs.declared.Word.the-variants.{Problem, Scale, Row, Right, Guess, Inverse, Weight, End}
-use Rattle.line.specs.Reading.{opening, starts, wordAt, orWord, firstOf, headAt}
-use Rattle.line.proofs.Words.{starts-is}
+use Rattle.form.specs.declared.Head.{Head}
+use Rattle.form.specs.declared.Word.{Word}
+use Rattle.form.specs.declared.Word.the-variants.{Problem, Scale, Row, Right, Guess, Inverse, Weight, End}
+use Rattle.form.specs.Reading.{opening, starts, wordAt, orWord, firstOf, headAt}
+use Rattle.form.proofs.Words.{starts-is}
 
 module _ (s w : List ℕ) (j i : ℕ) where
   pub word-all : length w ≤ i → true ≡ starts (drop i w) (drop j s)
@@ -29,7 +29,7 @@ module _ (s w : List ℕ) (j i : ℕ) where
 
   pub word-same : i < length w → j < length s → getD s j 0 ≡ getD w i 0 → starts (drop (i + 1) w) (drop (j + 1) s) ≡ starts (drop i w) (drop j s)
   unfolding starts
-  word-same h l e = rw (drop-cons w i 0, drop-cons s j 0, eq-eqb _ _ e, add-one, add-one)
+  word-same h l e = rw (drop-cons w i 0, drop-cons s j 0, eq-eqb _ _ e, add-one i, add-one j)
 
   pub word-other : i < length w → j < length s → (getD s j 0 ≡ getD w i 0 → ⊥) → false ≡ starts (drop i w) (drop j s)
   unfolding starts

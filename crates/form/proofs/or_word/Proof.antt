@@ -1,7 +1,7 @@
-use Rattle.line.proofs.Steps.{or-yes, or-no}
+use Rattle.form.proofs.Steps.{or-yes, or-no}
 use borrow.Author.Needs.{needs}
-use Rattle.line.proofs.or_word.Statement.{statement}
-use Rattle.line.proofs.or_word.Tie as tie
+use Rattle.form.proofs.or_word.Statement.{statement}
+use Rattle.form.proofs.or_word.Tie as tie
 
 returns : tie.Need-returns
 returns c = or-yes _ _ _ _ _ (c .if1 .taken)

@@ -3,11 +3,11 @@ use Prim.Native.Nat.{_≤_, _-_, _+_}
 use native.Mathlib.Nat.{add-zero, add-assoc}
 use native.Mathlib.Omega.{arith}
 use lib.ListN.{length, drop}
-use Rattle.line.specs.Reading.{starts}
-use Rattle.line.proofs.Steps.{word-all, word-short, word-same, word-other}
+use Rattle.form.specs.Reading.{starts}
+use Rattle.form.proofs.Steps.{word-all, word-short, word-same, word-other}
 use borrow.Author.Needs.{needs}
-use Rattle.line.proofs.has_word.Statement.{statement}
-use Rattle.line.proofs.has_word.Tie as tie
+use Rattle.form.proofs.has_word.Statement.{statement}
+use Rattle.form.proofs.has_word.Tie as tie
 
 abbrev Inv-loop : tie.InvT-loop
 Inv-loop s at word left i₀ i = (i ≤ length word) × (starts (drop i word) (drop (at + i) s) ≡ starts word (drop at s))

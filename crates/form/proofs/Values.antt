@@ -13,9 +13,9 @@ use Rattle.numeral.specs.Numeral.{cap}
 use Rattle.numeral.proofs.Cap.{cap-range}
 use Rattle.rules.specs.Range.{inRange}
 use Rattle.rules.specs.declared.Kind.{Kind}
-use Rattle.line.specs.declared.Numbers.{Numbers}
-use Rattle.line.specs.Line.{noNumbers, allInside, firstValues, numbersOf}
-use Rattle.line.specs.Parts.{addNumber}
+use Rattle.form.specs.declared.Numbers.{Numbers}
+use Rattle.form.specs.List.{noNumbers, allInside, firstValues, numbersOf}
+use Rattle.form.specs.List.{addNumber}
 
 both-assoc : (a b c : Bool) → (a && b) && c ≡ a && (b && c)
 both-assoc true b c = refl

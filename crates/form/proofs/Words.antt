@@ -16,10 +16,10 @@ use Rattle.numeral.specs.Numeral.{lost, numberAt}
 use Rattle.numeral.proofs.Places.{by-test}
 use Rattle.numeral.proofs.Spelling.{number-read, numeral-length}
 use Rattle.rules.proofs.Ranges.{both-left, both-right}
-use Rattle.line.specs.declared.Head.{Head}
-use Rattle.line.specs.declared.Word.{Word}
-use Rattle.line.specs.declared.Word.the-variants.{Problem, Scale, Row, Right, Guess, Inverse, Weight, End}
-use Rattle.line.specs.Reading.{opening, starts, wordAt, orWord, firstOf, headAt}
+use Rattle.form.specs.declared.Head.{Head}
+use Rattle.form.specs.declared.Word.{Word}
+use Rattle.form.specs.declared.Word.the-variants.{Problem, Scale, Row, Right, Guess, Inverse, Weight, End}
+use Rattle.form.specs.Reading.{opening, starts, wordAt, orWord, firstOf, headAt}
 
 -- ---- a part of the line between two places
 pub record Then (s : List ℕ) (a : ℕ) (w : List ℕ) (b : ℕ) : Type 0 where

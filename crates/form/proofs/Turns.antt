@@ -14,17 +14,17 @@ use Rattle.numeral.specs.Numeral.{numberAt, cappedNumber}
 use Rattle.numeral.specs.declared.Number.{Number}
 use Rattle.rules.specs.Range.{inRange}
 use Rattle.rules.specs.declared.Kind.{Kind}
-use Rattle.line.specs.declared.Listed.{Listed}
-use Rattle.line.specs.declared.Numbers.{Numbers}
-use Rattle.line.specs.Reading.{Others, othersAt}
-use Rattle.line.specs.Line.{noNumbers}
-use Rattle.line.specs.Parts.{addNumber, listedAt}
-use Rattle.line.proofs.Values.{addAll, numbers-all}
+use Rattle.form.specs.declared.Listed.{Listed}
+use Rattle.form.specs.declared.Numbers.{Numbers}
+use Rattle.form.specs.Reading.{Others, othersAt}
+use Rattle.form.specs.List.{noNumbers}
+use Rattle.form.specs.List.{addNumber, listedAt}
+use Rattle.form.proofs.Values.{addAll, numbers-all}
 
-pub number-added : (k : Kind) (l : Numbers) (v : ℤ) {t u : Bool} {w : ℤ} {vs : List ℤ}
-    → w ≡ v → t ≡ inRange k w → u ≡ l .inside && t → vs ≡ set (l .values) (l .count) w → record { count = l .count + 1; inside = u; values = vs } ≡ addNumber k l v
+pub number-added : (k : Kind) (l : Numbers) (v : ℤ) {t : Bool} {w : ℤ} {vs : List ℤ}
+    → w ≡ v → t ≡ inRange k w → vs ≡ set (l .values) (l .count) w → record { count = l .count + 1; inside = l .inside && t; values = vs } ≡ addNumber k l v
 unfolding addNumber
-number-added k l v e p q r = rw (r, q, p, e)
+number-added k l v e p r = rw (r, p, e)
 
 pub count-added : (k : Kind) (l : Numbers) (v : ℤ) {m : Numbers} → m ≡ addNumber k l v → m .count ≡ l .count + 1
 unfolding addNumber

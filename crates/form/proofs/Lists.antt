@@ -16,9 +16,9 @@ use Rattle.numeral.specs.Decimal.{numeral}
 use Rattle.numeral.specs.Numeral.{numberAt}
 use Rattle.numeral.proofs.Places.{by-test, head-at, from, inside, rest-at}
 use Rattle.numeral.proofs.Spelling.{Stops, number-spelled}
-use Rattle.line.specs.Form.{bytes, numerals}
-use Rattle.line.specs.Reading.{Others, othersAt}
-use Rattle.line.proofs.Words.{Then, then, part, number-then}
+use Rattle.form.specs.Form.{bytes, numerals}
+use Rattle.form.specs.Reading.{Others, othersAt}
+use Rattle.form.proofs.Words.{Then, then, part, number-then}
 
 unfoldable pub tails : List ℤ → List ℕ
 tails [] = []

@@ -3,8 +3,8 @@ use native.Mathlib.Omega.{arith}
 use lib.ListN.{length}
 use lib.Seq.{set-out}
 use borrow.Author.Needs.{needs}
-use Rattle.line.proofs.stored.Statement.{statement}
-use Rattle.line.proofs.stored.Tie as tie
+use Rattle.form.proofs.stored.Statement.{statement}
+use Rattle.form.proofs.stored.Tie as tie
 
 mul-next : tie.Need-mul-next
 mul-next c = search needs

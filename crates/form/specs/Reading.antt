@@ -15,10 +15,10 @@ use lib.IntN.{ℤ}
 use lib.ListN.{length, drop, getD}
 use Rattle.numeral.specs.Numeral.{lost, numberAt}
 use Rattle.numeral.specs.declared.Number.{Number}
-use Rattle.line.specs.declared.Head.{Head}
-use Rattle.line.specs.declared.Word.{Word}
-use Rattle.line.specs.declared.Word.the-variants.{Problem, Scale, Row, Right, Guess, Inverse, Weight, End}
-use Rattle.line.specs.Form.{bytes, Form, problem, scale, row, right, guess, inverse, weight, end}
+use Rattle.form.specs.declared.Head.{Head}
+use Rattle.form.specs.declared.Word.{Word}
+use Rattle.form.specs.declared.Word.the-variants.{Problem, Scale, Row, Right, Guess, Inverse, Weight, End}
+use Rattle.form.specs.Form.{bytes, Form, problem, scale, row, right, guess, inverse, weight, end}
 
 abbrev pub opening : Word → List ℕ
 opening Problem = bytes "(problem "

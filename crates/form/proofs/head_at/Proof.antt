@@ -1,7 +1,7 @@
-use Rattle.line.proofs.Steps.{eight-words}
+use Rattle.form.proofs.Steps.{eight-words}
 use borrow.Author.Needs.{needs}
-use Rattle.line.proofs.head_at.Statement.{statement}
-use Rattle.line.proofs.head_at.Tie as tie
+use Rattle.form.proofs.head_at.Statement.{statement}
+use Rattle.form.proofs.head_at.Tie as tie
 
 add-t21 : tie.Need-add-t21
 add-t21 c = search needs
