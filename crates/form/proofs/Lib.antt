@@ -1,0 +1,6 @@
+pub mod Words
+pub mod Lists
+pub mod Spelling
+pub mod Steps
+pub mod Values
+pub mod Turns

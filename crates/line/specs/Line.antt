@@ -1,0 +1,59 @@
+-- What a line is, as the code has it: the exact reading, its numbers capped; or 01's refusals 1 and 2.
+--   cappedForm f — the form with its numbers capped
+--   numbersIn f  — the numbers of its list, beside it
+--   lineOf s     — what the line s is
+--   said a       — 01's number for an answer; nothing where it is a form
+use mathlib.Core.Bool.{cond}
+use mathlib.Core.List.{List, [], _∷_}
+use mathlib.Core.Option.{Option, none, some}
+use Prim.Native.Nat.{ℕ}
+use lib.Dec.{ltb}
+use lib.ListN.{length}
+use Rattle.numeral.specs.Numeral.{cap}
+use Rattle.rules.specs.Refusal.{numberOf, valuesOf}
+use Rattle.rules.specs.declared.Kind.the-variants as kind
+use Rattle.rules.specs.declared.Refusal.{Refusal}
+use Rattle.rules.specs.declared.Refusal.the-variants.{TooLong, NoForm}
+use Rattle.line.specs.declared.Answer.{Answer}
+use Rattle.line.specs.declared.Answer.the-variants as answer
+use Rattle.line.specs.declared.CappedForm.{CappedForm}
+use Rattle.line.specs.declared.CappedForm.the-variants.{Problem, Scale, Row, Right, Guess, Inverse, Weight, End}
+use Rattle.line.specs.declared.Line.{Line}
+use Rattle.form.specs.declared.Numbers.{Numbers}
+use Rattle.form.specs.Form.{Form, problem, scale, row, right, guess, inverse, weight, end}
+use Rattle.form.specs.Reading.{reading}
+use Rattle.form.specs.List.{noNumbers, numbersOf}
+
+abbrev pub cappedForm : Form → CappedForm
+cappedForm (problem n) = Problem (cap n)
+cappedForm (scale s t) = Scale (cap s) (cap t)
+cappedForm (row i a others) = Row (cap i)
+cappedForm (right i b) = Right (cap i) (cap b)
+cappedForm (guess i x) = Guess (cap i) (cap x)
+cappedForm (inverse i g others) = Inverse (cap i)
+cappedForm (weight i w) = Weight (cap i) (cap w)
+cappedForm end = End
+
+abbrev pub numbersIn : Form → Numbers
+numbersIn (problem n) = noNumbers
+numbersIn (scale s t) = noNumbers
+numbersIn (row i a others) = numbersOf kind.Matrix (a ∷ others)
+numbersIn (right i b) = noNumbers
+numbersIn (guess i x) = noNumbers
+numbersIn (inverse i g others) = numbersOf kind.Inverse (g ∷ others)
+numbersIn (weight i w) = noNumbers
+numbersIn end = noNumbers
+
+abbrev pub refused : Refusal → Line
+refused r = record { answer = answer.Refused r; numbers = noNumbers }
+
+abbrev pub ofReading : Option Form → Line
+ofReading none = refused NoForm
+ofReading (some f) = record { answer = answer.Form (cappedForm f); numbers = numbersIn f }
+
+unfoldable pub lineOf : List ℕ → Line
+lineOf s = cond (ltb 320 (length s)) (refused TooLong) (ofReading (reading s))
+
+abbrev pub said : Answer → List ℕ
+said (answer.Form f) = []
+said (answer.Refused r) = numberOf r ∷ valuesOf r

@@ -1,0 +1,43 @@
+-- What the inner functions of the crate answer. `lineOf` is the whole of them, which proofs/ shows; nothing of it rests on this file.
+--   kindOf w       — the kind of the numbers in the list of a form
+--   cappedOf w i v — the form of the word w with the number i and a second one
+--   besideOf w l   — the numbers beside it
+use lib.IntN.{ℤ}
+use Rattle.rules.specs.declared.Kind.{Kind}
+use Rattle.rules.specs.declared.Kind.the-variants as kind
+use Rattle.line.specs.declared.CappedForm.{CappedForm}
+use Rattle.line.specs.declared.CappedForm.the-variants as capped
+use Rattle.form.specs.declared.Numbers.{Numbers}
+use Rattle.form.specs.declared.Word.{Word}
+use Rattle.form.specs.declared.Word.the-variants.{Problem, Scale, Row, Right, Guess, Inverse, Weight, End}
+use Rattle.form.specs.List.{noNumbers}
+
+abbrev pub kindOf : Word → Kind
+kindOf Problem = kind.Matrix
+kindOf Scale = kind.Matrix
+kindOf Row = kind.Matrix
+kindOf Right = kind.Matrix
+kindOf Guess = kind.Matrix
+kindOf Inverse = kind.Inverse
+kindOf Weight = kind.Matrix
+kindOf End = kind.Matrix
+
+abbrev pub cappedOf : Word → ℤ → ℤ → CappedForm
+cappedOf Problem i v = capped.Problem i
+cappedOf Scale i v = capped.Scale i v
+cappedOf Row i v = capped.Row i
+cappedOf Right i v = capped.Right i v
+cappedOf Guess i v = capped.Guess i v
+cappedOf Inverse i v = capped.Inverse i
+cappedOf Weight i v = capped.Weight i v
+cappedOf End i v = capped.End
+
+abbrev pub besideOf : Word → Numbers → Numbers
+besideOf Problem l = noNumbers
+besideOf Scale l = noNumbers
+besideOf Row l = l
+besideOf Right l = noNumbers
+besideOf Guess l = noNumbers
+besideOf Inverse l = l
+besideOf Weight l = noNumbers
+besideOf End l = noNumbers

@@ -1,0 +1,5 @@
+pub mod Places
+pub mod Decimal
+pub mod Spelling
+pub mod Steps
+pub mod Cap

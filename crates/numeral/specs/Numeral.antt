@@ -1,0 +1,58 @@
+-- What stands at a place of a line, read exactly: numbers of any size, to the end of their digits.
+-- Each reading gives the place after what it read, or the place `lost`, past every place of the line, where nothing of the kind stands there.
+--   digitOf b     — the value of a decimal digit; 10 for any other byte
+--   lost s        — the place that is given where a reading fails
+--   runAt v i l   — the digits at the head of l, which starts at the place i, after digits of value v
+--   sizeAt s at   — 0, or digits without a leading 0
+--   numberAt s at — a number; −0 is none
+--   cap z         — z, or ±2^40 where z is larger in size; no range of 01 reaches so far (law `cap-range`)
+use mathlib.Core.Bool.{cond}
+use mathlib.Core.List.{List, [], _∷_}
+use Prim.Native.Nat.{ℕ, suc, _+_, _-_, _*_, _^_, min}
+use lib.Dec.{ltb, eqb}
+use lib.IntN.{ℤ, pos, negsuc, negℤ}
+use lib.ListN.{length, drop, getD}
+use Rattle.numeral.specs.declared.Number.{Number}
+use Rattle.numeral.specs.declared.Size.{Size}
+
+abbrev pub digitOf : ℕ → ℕ
+digitOf b = cond (ltb b 48) 10 (cond (ltb b 58) (b - 48) 10)
+
+abbrev pub lost : List ℕ → ℕ
+lost s = length s + 1
+
+unfoldable pub runAt : ℕ → ℕ → List ℕ → Size
+runAt v i [] = record { value = v; next = i }
+runAt v i (b ∷ bs) = cond (ltb (digitOf b) 10) (runAt (v * 10 + digitOf b) (i + 1) bs) (record { value = v; next = i })
+
+unfoldable pub sizeAt : List ℕ → ℕ → Size
+sizeAt s at =
+    cond (eqb (getD s at 0) 48) (record { value = 0; next = at + 1 })
+    (cond (ltb (digitOf (getD s at 0)) 10) (runAt 0 at (drop at s)) (record { value = 0; next = lost s }))
+
+abbrev pub positiveOf : Size → Number
+positiveOf z = record { value = pos (z .value); next = z .next }
+
+-- the first argument is the place that is given for −0
+abbrev pub negativeOf : ℕ → Size → Number
+negativeOf other z = cond (eqb (z .value) 0) (record { value = pos 0; next = other }) (record { value = negℤ (pos (z .value)); next = z .next })
+
+unfoldable pub numberAt : List ℕ → ℕ → Number
+numberAt s at = cond (eqb (getD s at 0) 45) (negativeOf (lost s) (sizeAt s (at + 1))) (positiveOf (sizeAt s at))
+
+-- the one place where numbers are capped
+abbrev pub capAt : ℕ
+capAt = 2 ^ 40
+
+abbrev pub capSize : ℕ → ℕ
+capSize v = min v capAt
+
+unfoldable pub cap : ℤ → ℤ
+cap (pos n) = pos (capSize n)
+cap (negsuc n) = negℤ (pos (capSize (suc n)))
+
+abbrev pub cappedSize : Size → Size
+cappedSize z = record { value = capSize (z .value); next = z .next }
+
+abbrev pub cappedNumber : Number → Number
+cappedNumber r = record { value = cap (r .value); next = r .next }
