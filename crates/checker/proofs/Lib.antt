@@ -3,3 +3,6 @@ pub mod Places
 pub mod Limits
 pub mod Outcome
 pub mod Contract
+pub mod Statements
+pub mod Agreement
+pub mod Table

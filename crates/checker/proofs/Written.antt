@@ -2,18 +2,23 @@
 --   written-at, written-else, written-length — the first n places hold f, the rest is as before
 --   written-stored  — n numbers stored from place 0 on
 --   written-columns — the columns of an n-by-n matrix stored row after row
+--   solution-written, inverse-written — the lists of an accepted check
 use mathlib.Core.Path.{_≡_, refl, sym, ap, _∙_}
-use mathlib.Core.List.{List}
+use mathlib.Core.List.{List, []}
 use Prim.Native.Nat.{ℕ, zero, suc, _+_, _*_, _/_, _%_, _≤_, _<_}
 use native.Mathlib.Omega.{arith}
 use native.Mathlib.Decide.{decLe, ℕ-discrete}
 use native.Mathlib.Nat.{div-add-mod', mod-lt, div-lt-iff-lt-mul}
 use lib.ListN.{length, getD, set, length-set}
 use lib.Seq.{getD-set-same, getD-set-other, ext-getD}
+use Rattle.rules.proofs.Verdicts.{accepted-new}
+use Rattle.enclosure.specs.Reckoning.{bound, inverseBound}
 use Rattle.reckoning.specs.Arrays.{stored, storedColumns}
 use Rattle.reckoning.proofs.Columns.{columns-at, columns-else}
 use Rattle.reckoning.proofs.Filled.{columns-length}
-use Rattle.checker.specs.Checked.{written}
+use Rattle.checker.specs.Checked.{written, solutionBoundsAfter, inverseBoundsAfter}
+use Rattle.checker.specs.Input.{Input, problem}
+use Rattle.checker.specs.Order.{answer}
 
 pub written-length : (n : ℕ) (f : ℕ → ℕ) (l : List ℕ) → length (written n f l) ≡ length l
 unfolding written
@@ -59,3 +64,13 @@ written-columns n f g l some long h =
         ∙ columns-at 0 l n f n i j li lj (omega arith) long
         ∙ h i j li lj
         ∙ sym (written-at (n * n) (λ (k : ℕ). g (k / n) (k % n)) l k (omega arith) long)
+
+-- ---- the lists of an accepted check
+module _ (I : Input) (e : answer I ≡ []) where
+  pub solution-written : solutionBoundsAfter I ≡ written (I .n) (bound (problem I)) (I .solutionBounds)
+  unfolding solutionBoundsAfter
+  solution-written = accepted-new _ _ e
+
+  pub inverse-written : inverseBoundsAfter I ≡ written (I .n * I .n) (λ (k : ℕ). inverseBound (problem I) (k / I .n) (k % I .n)) (I .inverseBounds)
+  unfolding inverseBoundsAfter
+  inverse-written = accepted-new _ _ e
