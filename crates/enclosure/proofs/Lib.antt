@@ -5,3 +5,4 @@ pub mod Demands
 pub mod Acceptance
 pub mod Condition
 pub mod Instance
+pub mod Agreement

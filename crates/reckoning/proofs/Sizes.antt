@@ -1,14 +1,18 @@
 -- Sizes of the reckoning's numbers, all within an i64.
---   unit-same, unit-other, unit-size — the numbers of T·I;  difference-size — |base − a·x| from the bounds of its parts
---   defect-size — |D_mj| ≤ 2^46;  load-size — a load is at most 2^61;  margin-size — a margin is at most 2^30
-use mathlib.Core.Path.{_≡_, ap}
+--   power-size, unit-same, unit-other, unit-size, scaled-size — of 2^t, of the numbers of T·I and of S·b
+--   wider, square-row, square-column, numbers-reach — rows, columns and lists as `dot` asks for them
+--   defect-size, term-size, sum-size — |D_mj| ≤ 2^46, a term of a load is at most 2^56, a sum of n terms
+--   row-ends, column-ends — places of rows and columns;  large-below, large-above — the code's test of a residual
+use mathlib.Core.Path.{_≡_, refl, sym, ap, subst}
 use mathlib.Core.Bool.{Bool, true, false, cond}
 use mathlib.Core.List.{List}
 use Prim.Native.Nat.{ℕ, zero, suc, _+_, _*_, _<_, _≤_, _^_}
 use native.Mathlib.Omega.{arith}
 use native.Mathlib.Nat.{mul-le-mul, mul-le-mul-right, suc-mul, pow-le-pow-right, le-trans}
-use lib.Dec.{eqb, lit≤}
-use lib.IntN.{ℤ, pos, natAbs, _*ℤ_}
+use borrow.Author.Tests.{ltb-true, ltb-false, lt-ltb, le-ltb}
+use lib.Dec.{T, eqb, ltb, lit≤}
+use lib.IntN.{ℤ, pos, negsuc, natAbs, _*ℤ_}
+use lib.Signed.{ltZ}
 use Rattle.integer.specs.Finite.{sumℕ}
 use Rattle.integer.proofs.Absolute.{abs-sub, abs-*}
 use Rattle.linear.specs.Matrix.{identity, product}
@@ -82,3 +86,12 @@ row-ends {m} {n} l few = omega (arith, mul-le-mul-right n l, square few)
 
 pub column-ends : {j n : ℕ} → j < n → n ≤ 32 → j + n * n < 2048
 column-ends l few = omega (arith, square few)
+
+-- the code's test of a residual
+pub large-below : (z : ℤ) → ltZ z (negsuc 33554431) ≡ true → true ≡ ltb (2 ^ 25) (natAbs z)
+large-below (pos n) e = absurd (subst T (sym e) tt)
+large-below (negsuc n) e = sym (lt-ltb (2 ^ 25) (suc n) (omega (arith, ltb-true 33554431 n e)))
+
+pub large-above : (z : ℤ) → ltZ z (negsuc 33554431) ≡ false → ltZ (pos 33554432) z ≡ ltb (2 ^ 25) (natAbs z)
+large-above (pos n) e = refl
+large-above (negsuc n) e = sym (le-ltb (2 ^ 25) (suc n) (omega (arith, ltb-false 33554431 n e)))

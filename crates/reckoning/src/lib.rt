@@ -3,7 +3,7 @@ ghost use mathlib.Core.Path.{_≡_};
 ghost use Prim.Native.Nat.{ℕ, _+_, _*_, _/_, _%_, _≤_, _<_, _^_};
 ghost use lib.Dec.{ltb, eqb};
 ghost use lib.IntN.{pos, natAbs, _-ℤ_, _*ℤ_};
-ghost use lib.ListN.{getD};
+ghost use lib.ListN.{getD, length};
 ghost use Rattle.integer.specs.Finite.{first};
 ghost use Rattle.linear.specs.Matrix.{identity};
 ghost use Rattle.linear.specs.Slice.{at, dotOf, Reach};
@@ -179,15 +179,17 @@ pub fn first_zero(margins: [u64; 32], n: usize) -> usize
 
 // Whether a residual is above 2^25 in size.
 fn is_large(z: i64) -> bool
-    requires { ⌜ natAbs z < 2 ^ 63 ⌝ }
     ensures { λ r. ⌜ r ≡ ltb (2 ^ 25) (natAbs z) ⌝ }
 {
-    33554432 < magnitude(z)
+    if z < -33554432 {
+        return true;
+    }
+    33554432 < z
 }
 
 // The first of n residuals that is above 2^25 in size; n where there is none.
 pub fn first_large(residuals: &[i64], n: usize) -> usize
-    requires { ⌜ (n ≤ 1024) × Numbers (now residuals) n (2 ^ 62) ⌝ }
+    requires { ⌜ (n ≤ 1024) × (n ≤ length (now residuals)) ⌝ }
     ensures { λ r. ⌜ r ≡ first n (λ (k : ℕ). ltb (2 ^ 25) (natAbs (at (now (residuals .entry)) k))) ⌝ }
 {
     let mut found = 0;

@@ -27,8 +27,7 @@ shared-slice-copy-out-is-large : tie.Need-shared-slice-copy-out-is-large Inv-loo
 shared-slice-copy-out-is-large c = omega arith
 
 is-large-requires : tie.Need-is-large-requires Inv-loop μ-loop
-is-large-requires c κs =
-    rw (read _ (c .is-large-arg .given)) (omega (arith, c .before .before .before .pre .1 .within .size _ (c .before .loop-test .taken)))
+is-large-requires c κs = search needs
 
 first-or-requires : tie.Need-first-or-requires Inv-loop μ-loop
 first-or-requires c κs = search needs
