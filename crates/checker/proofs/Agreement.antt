@@ -46,9 +46,13 @@ module _ (I : Input) (B b′ x′ H w′ : List ℤ) (E L : List ℕ) (hA : (k :
 
   ranges-same : inRanges I ≡ inRanges J
   ranges-same =
-      rw (all-ext kind.Matrix (I .n * I .n) (at (I .matrix)) (at B) hA, all-ext kind.Right (I .n) (at (I .right)) (at b′) hb,
-      all-ext kind.Guess (I .n) (at (I .guess)) (at x′) hx, all-ext kind.Inverse (I .n * I .n) (at (I .inverse)) (at H) hG,
-      all-ext kind.Weight (I .n) (at (I .weights)) (at w′) hw)
+      rw (
+        all-ext kind.Matrix (I .n * I .n) (at (I .matrix)) (at B) hA,
+        all-ext kind.Right (I .n) (at (I .right)) (at b′) hb,
+        all-ext kind.Guess (I .n) (at (I .guess)) (at x′) hx,
+        all-ext kind.Inverse (I .n * I .n) (at (I .inverse)) (at H) hG,
+        all-ext kind.Weight (I .n) (at (I .weights)) (at w′) hw,
+      )
 
   fails-same : (m : ℕ) → m < I .n → marginFails (problem I) m ≡ marginFails (problem J) m
   fails-same m l =
@@ -79,10 +83,15 @@ module _ (I : Input) (B b′ x′ H w′ : List ℤ) (E L : List ℕ) (hA : (k :
   answer-same : short I ≡ false → short J ≡ false → answer I ≡ answer J
   unfolding answer
   answer-same e f =
-      rw (e, f, ranges-same, first-ext (I .n) (marginFails (problem I)) (marginFails (problem J)) fails-same,
-      first-ext (I .n) (λ (k : ℕ). exceeds (problem I) k (residual (problem I) k)) (λ (k : ℕ). exceeds (problem J) k (residual (problem J) k)) (λ k l. rw (large-same k l)),
-      first-ext (I .n * I .n) (λ (i : ℕ). exceeds (problem I) (i % I .n) (residual (columnOf (problem I) (i / I .n)) (i % I .n)))
-      (λ (i : ℕ). exceeds (problem J) (i % I .n) (residual (columnOf (problem J) (i / I .n)) (i % I .n))) (λ i l. column-there i l))
+      rw (
+        e,
+        f,
+        ranges-same,
+        first-ext (I .n) (marginFails (problem I)) (marginFails (problem J)) fails-same,
+        first-ext (I .n) (λ (k : ℕ). exceeds (problem I) k (residual (problem I) k)) (λ (k : ℕ). exceeds (problem J) k (residual (problem J) k)) (λ k l. rw (large-same k l)),
+        first-ext (I .n * I .n) (λ (i : ℕ). exceeds (problem I) (i % I .n) (residual (columnOf (problem I) (i / I .n)) (i % I .n)))
+            (λ (i : ℕ). exceeds (problem J) (i % I .n) (residual (columnOf (problem J) (i / I .n)) (i % I .n))) (λ i l. column-there i l),
+      )
     where
       some-of : (i : ℕ) → i < I .n * I .n → 0 < I .n
       some-of i l = go (I .n) l
@@ -135,5 +144,5 @@ module _ (I J : Input) (a : Agree I J) where
             rw (inverse-written I e, inverse-written K (ap answer K-is ∙ sym same-answer ∙ e))
             (written-at (I .n * I .n) (λ (x : ℕ). inverseBound (problem I) (x / I .n) (x % I .n)) (I .inverseBounds) k l (omega (arith, square few, long-of I (a .long) .inverses))
             ∙ inverse-same I (J .matrix) (J .right) (J .guess) (J .inverse) (J .weights) (J .solutionBounds) (J .inverseBounds) (a .matrix) (a .right) (a .guess) (a .inverse) (a .weights)
-                (k / I .n) (k % I .n) (div-lt-iff-lt-mul some .1 l) (mod-lt k some)
+            (k / I .n) (k % I .n) (div-lt-iff-lt-mul some .1 l) (mod-lt k some)
             ∙ sym (written-at (I .n * I .n) (λ (x : ℕ). inverseBound (problem K) (x / I .n) (x % I .n)) (J .inverseBounds) k l (omega (arith, square few, long .inverses))))
