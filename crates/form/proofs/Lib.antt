@@ -1,5 +1,6 @@
 pub mod Words
 pub mod Lists
+pub mod Shapes
 pub mod Spelling
 pub mod Steps
 pub mod Values

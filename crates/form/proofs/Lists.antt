@@ -15,7 +15,8 @@ use lib.ListN.{length, drop, getD, length-append}
 use Rattle.numeral.specs.Decimal.{numeral}
 use Rattle.numeral.specs.Numeral.{numberAt}
 use Rattle.numeral.proofs.Places.{by-test, head-at, from, inside, rest-at}
-use Rattle.numeral.proofs.Spelling.{Stops, number-spelled}
+use Rattle.numeral.proofs.Digits.{Stops}
+use Rattle.numeral.proofs.Spelling.{number-spelled}
 use Rattle.form.specs.Form.{bytes, numerals}
 use Rattle.form.specs.Reading.{Others, othersAt}
 use Rattle.form.proofs.Words.{Then, then, part, number-then}

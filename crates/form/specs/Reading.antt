@@ -2,7 +2,7 @@
 --   opening w       — how a form of the word w starts
 --   wordAt s at w   — the place after the bytes w, where they stand at the place
 --   headAt s at     — the first of the eight words whose opening stands at the place
---   othersAt s f at — the further numbers of a list, each after a single space, at most f
+--   othersAt s f at — the further numbers of a list, each after a single space (32), at most f
 --   lastOf w ..     — the place of a form's last bracket, by its word;  endOf — the place after it
 --   formAt s w h    — the form of the word w whose opening ends at the place h
 --   reading s       — the form that the line s is, if it is one; it is one where the line ends after its last bracket

@@ -73,6 +73,7 @@ pub fn word_at(s: &[u8], at: usize, word: &[u8]) -> usize
     }
 }
 
+// The head, or this word where the head is none.
 fn or_word(s: &[u8], at: usize, head: Head, word: Word, opening: &[u8]) -> Head
     ensures { λ r. ⌜ r ≡ orWord (now (s .entry)) at head word (now (opening .entry)) ⌝ }
 {
@@ -104,6 +105,7 @@ pub fn head_at(s: &[u8], at: usize) -> Head
     or_word(s, at, h, Word::End, b"(end")
 }
 
+// What stands beside a form that has no list.
 pub fn no_numbers() -> Numbers
     ensures { λ r. ⌜ r ≡ noNumbers ⌝ }
 {
@@ -148,7 +150,7 @@ pub fn list_at(s: &[u8], at: usize, kind: Kind) -> Listed
     let mut next = first.next;
     let mut k: usize = 0;
     while k < s.len() {
-        if numeral::byte_at(s, next) != 32 {
+        if numeral::byte_at(s, next) != b' ' {
             break;
         }
         let n = numeral::number_at(s, next + 1);

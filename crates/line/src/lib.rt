@@ -20,6 +20,7 @@ pub enum CappedForm {
     End,
 }
 
+// The form, or 1 or 2 (01's numbers by `said` of specs/Line.antt).
 pub enum Answer {
     Form(CappedForm),
     Refused(Refusal),
