@@ -4,7 +4,7 @@ use mathlib.Core.Path.{_≡_, refl, sym, subst, _∙_}
 use mathlib.Core.Bool.{true}
 use mathlib.Core.List.{List}
 use Prim.Native.Nat.{ℕ, _≤_, _<_}
-use Rattle.line.specs.Form.{Form}
+use Rattle.form.specs.Form.{Form}
 use Rattle.items.specs.Item.{itemOf, valuesOf}
 use Rattle.items.specs.Lists.{Lists}
 use Rattle.items.specs.Put.{width}

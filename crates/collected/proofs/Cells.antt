@@ -14,7 +14,7 @@ use lib.Dec.{eqb}
 use lib.IntN.{ℤ, pos, natAbs}
 use lib.ListN.{length, getD, set, length-set}
 use lib.Seq.{sets, getD-set-same, getD-set-other}
-use Rattle.line.specs.Form.{Form}
+use Rattle.form.specs.Form.{Form}
 use Rattle.items.specs.Item.{itemOf, valuesOf}
 use Rattle.items.specs.Lists.{Lists, putIn, putAll}
 use Rattle.items.specs.Put.{partIndex, width, put}

@@ -16,8 +16,8 @@ use Rattle.rules.specs.Range.{inRange}
 use Rattle.rules.specs.declared.Kind.{Kind}
 use Rattle.rules.specs.declared.Kind.the-variants as kind
 use Rattle.rules.proofs.Ranges.{both-left, both-right}
-use Rattle.line.specs.Form.{Form, problem, scale, row, right, guess, inverse, weight, end}
-use Rattle.line.specs.Line.{allInside}
+use Rattle.form.specs.Form.{Form, problem, scale, row, right, guess, inverse, weight, end}
+use Rattle.form.specs.List.{allInside}
 use Rattle.items.specs.Item.{itemOf, valuesOf, placed, outside, miscounted}
 use Rattle.items.specs.Lists.{Lists, short, putAll}
 use Rattle.items.specs.Put.{partIndex, width}

@@ -15,7 +15,7 @@ use lib.IntN.{pos, natAbs}
 use lib.ListN.{getD}
 use Rattle.rules.specs.Range.{inRange, allInRange}
 use Rattle.rules.proofs.Ranges.{all-in}
-use Rattle.line.specs.Form.{Form}
+use Rattle.form.specs.Form.{Form}
 use Rattle.items.specs.Item.{valuesOf}
 use Rattle.items.specs.Lists.{Lists}
 use Rattle.items.specs.Put.{partIndex, width}

@@ -15,7 +15,7 @@ use lib.ListN.{length, getD, set}
 use lib.Seq.{getD-set-same, getD-set-other}
 use Rattle.rules.specs.Range.{inRange}
 use Rattle.rules.specs.declared.Kind.the-variants as kind
-use Rattle.line.specs.Form.{Form, problem, scale, row, right, guess, inverse, weight, end}
+use Rattle.form.specs.Form.{Form, problem, scale, row, right, guess, inverse, weight, end}
 use Rattle.items.specs.Item.{itemOf, placed}
 use Rattle.items.specs.Lists.{Lists}
 use Rattle.items.specs.Put.{partIndex}

@@ -13,8 +13,8 @@ use lib.Dec.{eqb}
 use lib.IntN.{ℤ, pos, natAbs}
 use lib.ListN.{length, getD}
 use Rattle.rules.proofs.Ranges.{both-left, both-right}
-use Rattle.line.specs.Form.{Form}
-use Rattle.line.specs.Reading.{reading}
+use Rattle.form.specs.Form.{Form}
+use Rattle.form.specs.Reading.{reading}
 use Rattle.items.specs.Item.{itemOf, valuesOf, placed}
 use Rattle.items.specs.Lists.{Lists}
 use Rattle.items.specs.Put.{partIndex, width}

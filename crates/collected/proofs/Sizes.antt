@@ -7,7 +7,7 @@ use mathlib.Core.List.{List, [], _∷_}
 use Prim.Native.Nat.{ℕ}
 use borrow.Author.Tests.{not-false}
 use lib.IntN.{ℤ}
-use Rattle.line.specs.Form.{Form}
+use Rattle.form.specs.Form.{Form}
 use Rattle.items.specs.Item.{itemOf, valuesOf}
 use Rattle.items.specs.declared.Item.{Item}
 use Rattle.items.specs.declared.Item.the-variants.{Problem, Scale}

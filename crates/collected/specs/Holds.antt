@@ -14,7 +14,7 @@ use lib.IntN.{ℤ, pos, natAbs}
 use lib.ListN.{getD}
 use Rattle.rules.specs.Range.{inRange, allInRange}
 use Rattle.rules.specs.declared.Kind.the-variants as kind
-use Rattle.line.specs.Form.{Form}
+use Rattle.form.specs.Form.{Form}
 use Rattle.items.specs.Item.{itemOf, valuesOf, placed}
 use Rattle.items.specs.Put.{partIndex, width}
 use Rattle.items.specs.declared.Item.{Item}

@@ -15,8 +15,8 @@ use lib.IntN.{ℤ, pos}
 use lib.ListN.{getD}
 use Rattle.rules.specs.declared.Kind.{Kind}
 use Rattle.rules.specs.declared.Kind.the-variants as kind
-use Rattle.line.specs.Form.{Form}
-use Rattle.line.specs.Reading.{reading}
+use Rattle.form.specs.Form.{Form}
+use Rattle.form.specs.Reading.{reading}
 use Rattle.items.specs.Lists.{Lists}
 use Rattle.items.specs.Put.{width}
 use Rattle.items.specs.declared.Part.{Part}

@@ -14,7 +14,7 @@ use lib.IntN.{ℤ, pos, negsuc, negℤ, natAbs, _+ℤ_, _-ℤ_, _*ℤ_, negℤ-+
 use lib.Signed.{ltZ, quotZ}
 use Rattle.integer.specs.Quotient.{ceilDiv, roundDiv}
 use Rattle.integer.proofs.Absolute.{abs-neg}
-use Rattle.integer.proofs.Difference.{is, zz}
+use Rattle.integer.proofs.Difference.{zz}
 
 pub ceil-covers : (a b : ℕ) → 0 < b → a ≤ ceilDiv a b * b
 unfolding ceilDiv

@@ -4,13 +4,13 @@
 --   abs-sum   — |Σ f| ≤ Σ |f|;  abs-sum≤ — |Σ f| ≤ n · b where every |f i| ≤ b
 --   sumℕ-ext, sumℕ-mono, sumℕ-*, sumℕ-+, sumℕ-swap — as above, and monotone
 --   sumℕ-at   — a term is at most the sum
-use mathlib.Core.Path.{_≡_, refl, sym, ap, _∙_}
-use Prim.Native.Nat.{ℕ, zero, suc, _+_, _*_, _-_, _≤_, _<_}
+use mathlib.Core.Path.{_≡_, refl, sym, ap}
+use Prim.Native.Nat.{ℕ, zero, suc, _+_, _*_, _≤_, _<_}
 use native.Mathlib.Omega.{arith}
 use native.Mathlib.Decide.{ℕ-discrete}
 use native.Mathlib.Nat.{suc-mul, le-antisymm}
 use native.Mathlib.Numerals.{add-one}
-use lib.IntN.{ℤ, pos, natAbs, _+ℤ_, _-ℤ_, _*ℤ_}
+use lib.IntN.{ℤ, pos, natAbs, _+ℤ_, _*ℤ_}
 use Rattle.integer.specs.Finite.{sum, sumℕ}
 use Rattle.integer.proofs.Absolute.{abs-+}
 use Rattle.integer.proofs.Ring.{ring, zero-*, *-zero}

@@ -19,8 +19,9 @@ use Rattle.rules.specs.declared.Kind.the-variants as kind
 use Rattle.rules.proofs.Ranges.{both-left, both-right}
 use Rattle.numeral.specs.Numeral.{cap, capAt}
 use Rattle.numeral.proofs.Cap.{cap-between, cap-range, cap-small, cap-in}
-use Rattle.line.specs.Form.{Form, problem, scale, row, right, guess, inverse, weight, end}
-use Rattle.line.specs.Line.{cappedForm, numbersIn, numbersOf, allInside, firstValues}
+use Rattle.form.specs.Form.{Form, problem, scale, row, right, guess, inverse, weight, end}
+use Rattle.form.specs.List.{numbersOf, allInside, firstValues}
+use Rattle.line.specs.Line.{cappedForm, numbersIn}
 use Rattle.items.specs.declared.Item.{Item}
 use Rattle.items.specs.declared.Item.the-variants.{Problem, Scale, Of, End}
 use Rattle.items.specs.declared.Part.{Part}

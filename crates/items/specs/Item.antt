@@ -13,8 +13,8 @@ use lib.ListN.{length}
 use lib.Signed.{leZ}
 use Rattle.rules.specs.Range.{inRange}
 use Rattle.rules.specs.declared.Kind.the-variants as kind
-use Rattle.line.specs.Form.{Form, problem, scale, row, right, guess, inverse, weight, end}
-use Rattle.line.specs.Line.{allInside}
+use Rattle.form.specs.Form.{Form, problem, scale, row, right, guess, inverse, weight, end}
+use Rattle.form.specs.List.{allInside}
 use Rattle.items.specs.declared.Item.{Item}
 use Rattle.items.specs.declared.Item.the-variants.{Problem, Scale, Of, End}
 use Rattle.items.specs.declared.Part.the-variants.{Row, Right, Guess, Inverse, Weight}

@@ -14,10 +14,10 @@ use lib.Dec.{T, ltb, eqb}
 use lib.ListN.{length, getD}
 use Rattle.rules.specs.declared.Refusal.the-variants.{TooLong}
 use Rattle.line.specs.declared.Line.{Line}
-use Rattle.line.specs.Form.{Form, spell}
-use Rattle.line.specs.Reading.{reading}
+use Rattle.form.specs.Form.{Form, spell}
+use Rattle.form.specs.Reading.{reading}
 use Rattle.line.specs.Line.{lineOf, ofReading, refused, said}
-use Rattle.line.proofs.Spelling.{spelled-read, read-spelled}
+use Rattle.form.proofs.Spelling.{spelled-read, read-spelled}
 
 pub spell-one : (f g : Form) → spell f ≡ spell g → f ≡ g
 spell-one f g e =

@@ -12,16 +12,17 @@ use Rattle.rules.specs.declared.Kind.{Kind}
 use Rattle.rules.specs.declared.Refusal.the-variants.{TooLong, NoForm}
 use Rattle.line.specs.declared.Answer.the-variants as answer
 use Rattle.line.specs.declared.CappedForm.{CappedForm}
-use Rattle.line.specs.declared.Head.{Head}
+use Rattle.form.specs.declared.Head.{Head}
 use Rattle.line.specs.declared.Line.{Line}
-use Rattle.line.specs.declared.Listed.{Listed}
-use Rattle.line.specs.declared.Numbers.{Numbers}
-use Rattle.line.specs.declared.Word.{Word}
-use Rattle.line.specs.declared.Word.the-variants.{Problem, Scale, Row, Right, Guess, Inverse, Weight, End}
-use Rattle.line.specs.Form.{bytes}
-use Rattle.line.specs.Reading.{wordAt, headAt, lastOf, endOf, formOf, formAt, reading}
-use Rattle.line.specs.Line.{numbersOf, cappedForm, numbersIn, refused, lineOf}
-use Rattle.line.specs.Parts.{listedAt, kindOf, cappedOf, besideOf}
+use Rattle.form.specs.declared.Listed.{Listed}
+use Rattle.form.specs.declared.Numbers.{Numbers}
+use Rattle.form.specs.declared.Word.{Word}
+use Rattle.form.specs.declared.Word.the-variants.{Problem, Scale, Row, Right, Guess, Inverse, Weight, End}
+use Rattle.form.specs.Form.{bytes}
+use Rattle.form.specs.Reading.{wordAt, headAt, lastOf, endOf, formOf, formAt, reading}
+use Rattle.form.specs.List.{numbersOf, listedAt}
+use Rattle.line.specs.Line.{cappedForm, numbersIn, refused, lineOf}
+use Rattle.line.specs.Parts.{kindOf, cappedOf, besideOf}
 
 capped-form : (w : Word) (i v a : ℤ) (zs : List ℤ) → cappedOf w (cap i) (cap v) ≡ cappedForm (formOf w i v a zs)
 capped-form Problem i v a zs = refl

@@ -1,4 +1,2 @@
-pub mod Form
-pub mod Reading
 pub mod Line
 pub mod Parts

@@ -1,20 +1,16 @@
 -- What a line is, as the code has it: the exact reading, its numbers capped; or 01's refusals 1 and 2.
---   noNumbers      — beside every answer that has no list
---   numbersOf k zs — how many, whether all are in the range of the kind k, and the first 32, capped
---   cappedForm f   — the form with its numbers capped
---   lineOf s       — what the line s is
---   said a         — 01's number for an answer; nothing where it is a form
-use mathlib.Core.Bool.{Bool, true, _&&_, cond}
+--   cappedForm f — the form with its numbers capped
+--   numbersIn f  — the numbers of its list, beside it
+--   lineOf s     — what the line s is
+--   said a       — 01's number for an answer; nothing where it is a form
+use mathlib.Core.Bool.{cond}
 use mathlib.Core.List.{List, [], _∷_}
 use mathlib.Core.Option.{Option, none, some}
-use Prim.Native.Nat.{ℕ, zero, suc}
+use Prim.Native.Nat.{ℕ}
 use lib.Dec.{ltb}
-use lib.IntN.{ℤ, pos}
-use lib.ListN.{length, replicate}
+use lib.ListN.{length}
 use Rattle.numeral.specs.Numeral.{cap}
-use Rattle.rules.specs.Range.{inRange}
 use Rattle.rules.specs.Refusal.{numberOf, valuesOf}
-use Rattle.rules.specs.declared.Kind.{Kind}
 use Rattle.rules.specs.declared.Kind.the-variants as kind
 use Rattle.rules.specs.declared.Refusal.{Refusal}
 use Rattle.rules.specs.declared.Refusal.the-variants.{TooLong, NoForm}
@@ -23,25 +19,10 @@ use Rattle.line.specs.declared.Answer.the-variants as answer
 use Rattle.line.specs.declared.CappedForm.{CappedForm}
 use Rattle.line.specs.declared.CappedForm.the-variants.{Problem, Scale, Row, Right, Guess, Inverse, Weight, End}
 use Rattle.line.specs.declared.Line.{Line}
-use Rattle.line.specs.declared.Numbers.{Numbers}
-use Rattle.line.specs.Form.{Form, problem, scale, row, right, guess, inverse, weight, end}
-use Rattle.line.specs.Reading.{reading}
-
-abbrev pub noNumbers : Numbers
-noNumbers = record { count = 0; inside = true; values = replicate 32 (pos 0) }
-
-unfoldable pub allInside : Kind → List ℤ → Bool
-allInside k [] = true
-allInside k (z ∷ zs) = inRange k z && allInside k zs
-
--- the first n of them, capped; 0 where there are fewer
-unfoldable pub firstValues : ℕ → List ℤ → List ℤ
-firstValues zero zs = []
-firstValues (suc n) [] = pos 0 ∷ firstValues n []
-firstValues (suc n) (z ∷ zs) = cap z ∷ firstValues n zs
-
-unfoldable pub numbersOf : Kind → List ℤ → Numbers
-numbersOf k zs = record { count = length zs; inside = allInside k zs; values = firstValues 32 zs }
+use Rattle.form.specs.declared.Numbers.{Numbers}
+use Rattle.form.specs.Form.{Form, problem, scale, row, right, guess, inverse, weight, end}
+use Rattle.form.specs.Reading.{reading}
+use Rattle.form.specs.List.{noNumbers, numbersOf}
 
 abbrev pub cappedForm : Form → CappedForm
 cappedForm (problem n) = Problem (cap n)

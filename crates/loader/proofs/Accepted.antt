@@ -7,8 +7,8 @@ use mathlib.Core.Option.{Option, none, some}
 use Prim.Native.Nat.{ℕ}
 use lib.Dec.{T, ltb}
 use lib.ListN.{length}
-use Rattle.line.specs.Form.{Form}
-use Rattle.line.specs.Reading.{reading}
+use Rattle.form.specs.Form.{Form}
+use Rattle.form.specs.Reading.{reading}
 use Rattle.items.specs.Item.{itemOf}
 use Rattle.items.specs.Lists.{Lists, short, putAll}
 use Rattle.progress.specs.Progress.{ended}

@@ -13,8 +13,8 @@ use lib.Dec.{ltb}
 use lib.IntN.{ℤ, pos, natAbs}
 use lib.ListN.{length}
 use Rattle.numeral.specs.Numeral.{cap, capAt}
-use Rattle.line.specs.Form.{Form, problem, scale, row, right, guess, inverse, weight, end}
-use Rattle.line.specs.Reading.{reading}
+use Rattle.form.specs.Form.{Form, problem, scale, row, right, guess, inverse, weight, end}
+use Rattle.form.specs.Reading.{reading}
 use Rattle.line.specs.Line.{cappedForm, numbersIn}
 use Rattle.items.specs.Item.{itemOf, valuesOf, placed, outside, miscounted}
 use Rattle.items.specs.Lists.{Lists, short, putAll, putIn}

@@ -16,7 +16,7 @@ use Rattle.rules.specs.declared.Outcome.the-variants.{Accepted, Refused}
 use Rattle.rules.specs.declared.Refusal.{Refusal}
 use Rattle.line.specs.declared.CappedForm.{CappedForm}
 use Rattle.line.specs.declared.CappedForm.the-variants as form
-use Rattle.line.specs.declared.Numbers.{Numbers}
+use Rattle.form.specs.declared.Numbers.{Numbers}
 use Rattle.items.specs.Item.{placed}
 use Rattle.items.specs.Lists.{Lists}
 use Rattle.items.specs.Capped.{itemIn, outsideIn, valuesIn, putAllIn, Room}

@@ -15,14 +15,14 @@ use Rattle.rules.specs.declared.Outcome.the-variants.{Refused}
 use Rattle.rules.specs.declared.Refusal.{Refusal}
 use Rattle.rules.specs.declared.Refusal.the-variants.{TooShort, AfterEnd, TooLong, NoForm}
 use Rattle.numeral.specs.Numeral.{capAt}
-use Rattle.line.specs.Form.{Form}
-use Rattle.line.specs.Reading.{reading}
+use Rattle.form.specs.Form.{Form}
+use Rattle.form.specs.Reading.{reading}
 use Rattle.line.specs.Line.{cappedForm, numbersIn, lineOf, ofReading, refused}
 use Rattle.line.specs.declared.Answer.{Answer}
 use Rattle.line.specs.declared.Answer.the-variants as answer
 use Rattle.line.specs.declared.CappedForm.{CappedForm}
 use Rattle.line.specs.declared.Line.{Line}
-use Rattle.line.specs.declared.Numbers.{Numbers}
+use Rattle.form.specs.declared.Numbers.{Numbers}
 use Rattle.items.specs.Item.{itemOf}
 use Rattle.items.specs.Lists.{Lists, short, putAll}
 use Rattle.items.specs.Capped.{itemIn, valuesIn, putAllIn}

@@ -14,8 +14,8 @@ use lib.IntN.{pos}
 use lib.ListN.{length, take, drop}
 use Rattle.rules.specs.Range.{inRange}
 use Rattle.rules.specs.declared.Kind.the-variants.{Size}
-use Rattle.line.specs.Form.{Form}
-use Rattle.line.specs.Reading.{reading}
+use Rattle.form.specs.Form.{Form}
+use Rattle.form.specs.Reading.{reading}
 use Rattle.items.specs.Item.{itemOf}
 use Rattle.items.specs.Lists.{Lists, short}
 use Rattle.progress.specs.Progress.{missing, ended, sized, misplaced}

@@ -11,7 +11,7 @@ use Rattle.rules.specs.Range.{inRange}
 use Rattle.rules.specs.Refusal.{said}
 use Rattle.rules.specs.declared.Kind.the-variants as kind
 use Rattle.line.specs.declared.CappedForm.{CappedForm}
-use Rattle.line.specs.declared.Numbers.{Numbers}
+use Rattle.form.specs.declared.Numbers.{Numbers}
 use Rattle.items.specs.Item.{placed}
 use Rattle.items.specs.Lists.{Lists}
 use Rattle.items.specs.Capped.{itemIn, outsideIn, miscountedIn, valuesIn, putAllIn}

@@ -11,8 +11,8 @@ use Prim.Native.Nat.{ℕ}
 use lib.IntN.{natAbs}
 use lib.ListN.{replicate}
 use Rattle.rules.specs.Refusal.{said}
-use Rattle.line.specs.Form.{Form}
-use Rattle.line.specs.Reading.{reading}
+use Rattle.form.specs.Form.{Form}
+use Rattle.form.specs.Reading.{reading}
 use Rattle.items.specs.Item.{itemOf}
 use Rattle.items.specs.Lists.{Lists, putAll}
 use Rattle.items.specs.declared.Item.{Item}

@@ -9,7 +9,7 @@ ghost use Rattle.loader.specs.Capped.{saidIn, fits, TakenIn};
 use items::Item;
 use line::Answer;
 use line::CappedForm;
-use line::Numbers;
+use form::Numbers;
 use progress::Stage;
 use rules::Outcome;
 use rules::Refusal;

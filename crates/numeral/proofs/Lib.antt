@@ -1,5 +1,6 @@
 pub mod Places
 pub mod Decimal
+pub mod Digits
 pub mod Spelling
 pub mod Steps
 pub mod Cap

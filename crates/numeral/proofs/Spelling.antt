@@ -2,12 +2,12 @@
 --   number-spelled — where the spelling of z stands at a place, and no further digit after it, the number there is z
 --   number-read    — where a number is read at a place, its spelling stands there
 --   numeral-length — a spelling has one byte or more
-use mathlib.Core.Path.{_≡_, refl, sym, ap, ap₂, _∙_}
+use mathlib.Core.Path.{_≡_, refl, sym, ap, _∙_}
 use mathlib.Core.Bool.{Bool, true, false, cond}
 use mathlib.Core.List.{List, [], _∷_, _++_, append-assoc}
-use Prim.Native.Nat.{ℕ, zero, suc, _+_, _-_, _*_, _/_, _%_, _≤_, _<_}
+use Prim.Native.Nat.{ℕ, zero, suc, _+_, _-_, _*_, _≤_, _<_}
 use native.Mathlib.Omega.{arith}
-use borrow.Author.Tests.{lt-ltb, le-ltb, ltb-true, ltb-false, eq-eqb, ne-eqb, eqb-true, eqb-false}
+use borrow.Author.Tests.{lt-ltb, le-ltb, ltb-true, eq-eqb, ne-eqb, eqb-true, eqb-false}
 use lib.Dec.{ltb, eqb}
 use lib.IntN.{ℤ, pos, negsuc, negℤ}
 use lib.ListN.{length, drop, getD, length-append}
@@ -16,65 +16,8 @@ use Rattle.numeral.specs.declared.Size.{Size}
 use Rattle.numeral.specs.Decimal.{decimal, numeral}
 use Rattle.numeral.specs.Numeral.{digitOf, lost, runAt, sizeAt, numberAt, negativeOf}
 use Rattle.numeral.proofs.Decimal.{decimal-small, decimal-more, decimal-induction}
+use Rattle.numeral.proofs.Digits.{Stops, digit-byte, run-digit, run-decimal, run-stops, first-digit, no-minus}
 use Rattle.numeral.proofs.Places.{by-test, head-at, from, inside, rest-at}
-
--- no digit stands at the head of t
-abbrev pub Stops : List ℕ → Type 0
-Stops t = 10 ≤ digitOf (getD t 0 0)
-
--- ---- digits
-digit-of : (d : ℕ) → d < 10 → digitOf (48 + d) ≡ d
-digit-of d h = rw (le-ltb (48 + d) 48 (omega arith), lt-ltb (48 + d) 58 (omega arith)) (omega arith)
-
-digit-byte : (b : ℕ) → digitOf b < 10 → b ≡ 48 + digitOf b
-digit-byte b h = go (ltb b 48) refl (ltb b 58) refl
-  where
-    go : (t : Bool) → ltb b 48 ≡ t → (u : Bool) → ltb b 58 ≡ u → b ≡ 48 + digitOf b
-    go true p u q = absurd (omega (arith, rw p at h))
-    go false p true q = rw (p, q) (omega (arith, ltb-false b 48 p))
-    go false p false q = absurd (omega (arith, rw (p, q) at h))
-
-run-digit : (v i d : ℕ) (l : List ℕ) → d < 10 → runAt v i ((48 + d) ∷ l) ≡ runAt (v * 10 + d) (i + 1) l
-unfolding runAt
-run-digit v i d l h = rw (digit-of d h, lt-ltb d 10 h)
-
-run-decimal : (n i : ℕ) (t : List ℕ) → runAt 0 i (decimal n ++ t) ≡ runAt n (i + length (decimal n)) t
-run-decimal n i t = decimal-induction P one next n i t
-  where
-    P : ℕ → List ℕ → Type 0
-    P n l = (i : ℕ) (t : List ℕ) → runAt 0 i (l ++ t) ≡ runAt n (i + length l) t
-
-    one : (n : ℕ) → n < 10 → P n ((48 + n) ∷ [])
-    one n h i t = run-digit 0 i n t h ∙ ap (λ (v : ℕ). runAt v (i + 1) t) (omega arith)
-
-    next : (n : ℕ) → 10 ≤ n → P (n / 10) (decimal (n / 10)) → P n (decimal (n / 10) ++ ((48 + n % 10) ∷ []))
-    next n h ih i t =
-        rw append-assoc (ih i ((48 + n % 10) ∷ t))
-        ∙ run-digit (n / 10) (i + length (decimal (n / 10))) (n % 10) t (omega arith)
-        ∙ ap₂ (λ (v j : ℕ). runAt v j t) (omega arith) (simp length-append (omega arith))
-
-run-stops : (v i : ℕ) (t : List ℕ) → Stops t → runAt v i t ≡ record { value = v; next = i }
-unfolding runAt
-run-stops v i [] h = refl
-run-stops v i (b ∷ bs) h = rw (le-ltb (digitOf b) 10 h)
-
-first-digit : (n : ℕ) (t : List ℕ) → 1 ≤ n → (49 ≤ getD (decimal n ++ t) 0 0) × (getD (decimal n ++ t) 0 0 ≤ 57)
-first-digit n t = decimal-induction P one next n t
-  where
-    P : ℕ → List ℕ → Type 0
-    P n l = (t : List ℕ) → 1 ≤ n → (49 ≤ getD (l ++ t) 0 0) × (getD (l ++ t) 0 0 ≤ 57)
-
-    one : (n : ℕ) → n < 10 → P n ((48 + n) ∷ [])
-    one n h t p = omega arith
-
-    next : (n : ℕ) → 10 ≤ n → P (n / 10) (decimal (n / 10)) → P n (decimal (n / 10) ++ ((48 + n % 10) ∷ []))
-    next n h ih t p = rw append-assoc (ih ((48 + n % 10) ∷ t) (omega arith))
-
-no-minus : (n : ℕ) (t : List ℕ) → getD (decimal n ++ t) 0 0 ≡ 45 → ⊥
-no-minus zero t e =
-    let z : _≡_ {A = ℕ} 48 45 = rw (decimal-small 0 (omega arith)) at e in
-    omega arith
-no-minus (suc n) t e = omega (arith, first-digit (suc n) t (omega arith))
 
 pub numeral-length : (z : ℤ) → 1 ≤ length (numeral z)
 unfolding numeral

@@ -1,5 +1,6 @@
 -- What stands at a place of a line, read exactly: numbers of any size, to the end of their digits.
 -- Each reading gives the place after what it read, or the place `lost`, past every place of the line, where nothing of the kind stands there.
+-- Bytes: 48 to 57 are the digits, 45 is the minus.
 --   digitOf b     — the value of a decimal digit; 10 for any other byte
 --   lost s        — the place that is given where a reading fails
 --   runAt v i l   — the digits at the head of l, which starts at the place i, after digits of value v

@@ -8,9 +8,9 @@ ghost use Rattle.numeral.specs.Numeral.{digitOf, lost, runAt, sizeAt, nu
 const CAP: u64 = 1099511627776;
 
 // The size of a number, and the place after it.
-pub struct Size {
-    pub value: u64,
-    pub next: usize,
+struct Size {
+    value: u64,
+    next: usize,
 }
 
 // A number, and the place after it.
@@ -19,7 +19,7 @@ pub struct Number {
     pub next: usize,
 }
 
-// The byte at a place; NUL past the end of the line, which no form has.
+// The byte at a place. Past the end of the line it is NUL, which stands in no form.
 pub fn byte_at(s: &[u8], at: usize) -> u8
     ensures { λ r. ⌜ r ≡ getD (now (s .entry)) at 0 ⌝ }
 {
@@ -30,10 +30,10 @@ pub fn byte_at(s: &[u8], at: usize) -> u8
 fn digit(b: u8) -> u64
     ensures { λ r. ⌜ (r ≡ digitOf b) × (r ≤ 10) ⌝ }
 {
-    if b < 48 {
+    if b < b'0' {
         return 10;
     }
-    if b < 58 { (b - 48) as u64 } else { 10 }
+    if b < 58 { (b - b'0') as u64 } else { 10 }
 }
 
 // At most 2^40, so that no further digit wraps.
@@ -66,7 +66,7 @@ fn size_at(s: &[u8], at: usize) -> Size
     ensures { λ r. ⌜ (r ≡ cappedSize (sizeAt (now (s .entry)) at)) × (r .value ≤ capAt) ⌝ }
 {
     let b = byte_at(s, at);
-    if b == 48 {
+    if b == b'0' {
         return Size {
             value: 0,
             next: at + 1,
@@ -126,7 +126,7 @@ fn negative(z: Size, lost: usize) -> Number
 pub fn number_at(s: &[u8], at: usize) -> Number
     ensures { λ r. ⌜ r ≡ cappedNumber (numberAt (now (s .entry)) at) ⌝ }
 {
-    if byte_at(s, at) == 45 {
+    if byte_at(s, at) == b'-' {
         negative(size_at(s, at + 1), s.len() + 1)
     } else {
         positive(size_at(s, at))

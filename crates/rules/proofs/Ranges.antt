@@ -2,16 +2,17 @@
 --   range-good — of every kind: lowest ≤ highest, and both are at most 2 ^ 36 in size; computed once over the whole table
 --   range-size — a number in range is at most `sizeOf k` in size
 --   range-natural — where the lowest value is a natural number, a number in range is one, and at least that
+--   size-range, solution-scale-range, .., weight-range — what the range of each kind is
 --   range-far  — a number above 2 ^ 36 in size is in no range
 --   all-none, all-next, all-end — all in range at none, at n + 1 and at the end, for loops;  all-at — each of them is;  all-in — and the converse
-use mathlib.Core.Path.{_≡_, refl, sym, ap, ap₂, _∙_, subst}
+use mathlib.Core.Path.{_≡_, refl, sym, ap, subst}
 use mathlib.Core.Bool.{Bool, true, false, _&&_}
 use mathlib.Core.List.{List, [], _∷_}
 use Prim.Native.Nat.{ℕ, zero, suc, _+_, _<_, _≤_, _^_, max}
 use native.Mathlib.Omega.{arith}
 use native.Mathlib.Nat.{le-antisymm}
 use native.Mathlib.Numerals.{add-one}
-use borrow.Author.Tests.{leb-true, le-leb}
+use borrow.Author.Tests.{leb-true}
 use lib.Dec.{T, leb}
 use lib.IntN.{ℤ, pos, negsuc, natAbs}
 use lib.ListN.{getD, length}
@@ -145,3 +146,38 @@ pub all-ext : (k : Kind) (n : ℕ) (f g : ℕ → ℤ) → ((i : ℕ) → i < n 
 unfolding allInRange
 all-ext k zero f g h = refl
 all-ext k (suc n) f g h = rw (h n (omega arith), all-ext k n f g (λ i l. h i (omega arith)))
+
+-- ---- the sizes of document 01
+module _ (n : ℕ) where
+  pub size-range : inRange Size (pos n) ≡ true → (0 < n) × (n ≤ 32)
+  unfolding rangeOf ranges
+  size-range e = (range-natural Size 1 (pos n) refl e .1, range-size Size (pos n) e)
+
+  pub solution-scale-range : inRange SolutionScale (pos n) ≡ true → n ≤ 20
+  unfolding rangeOf ranges
+  solution-scale-range e = range-size SolutionScale (pos n) e
+
+  pub inverse-scale-range : inRange InverseScale (pos n) ≡ true → n ≤ 20
+  unfolding rangeOf ranges
+  inverse-scale-range e = range-size InverseScale (pos n) e
+
+module _ (z : ℤ) where
+  pub matrix-range : inRange Matrix z ≡ true → natAbs z ≤ 2 ^ 20
+  unfolding rangeOf ranges
+  matrix-range e = range-size Matrix z e
+
+  pub right-range : inRange Right z ≡ true → natAbs z ≤ 2 ^ 30
+  unfolding rangeOf ranges
+  right-range e = range-size Right z e
+
+  pub guess-range : inRange Guess z ≡ true → natAbs z ≤ 2 ^ 36
+  unfolding rangeOf ranges
+  guess-range e = range-size Guess z e
+
+  pub inverse-range : inRange Inverse z ≡ true → natAbs z ≤ 2 ^ 20
+  unfolding rangeOf ranges
+  inverse-range e = range-size Inverse z e
+
+  pub weight-range : inRange Weight z ≡ true → (1 ≤ natAbs z) × (natAbs z ≤ 1024)
+  unfolding rangeOf ranges
+  weight-range e = (range-natural Weight 1 z refl e .1, range-size Weight z e)

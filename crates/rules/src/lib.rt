@@ -134,12 +134,6 @@ pub fn is_in_range(kind: Kind, x: i64) -> bool
     is_between(x, range.lowest, range.highest)
 }
 
-fn both(a: bool, b: bool) -> bool
-    ensures { λ r. ⌜ r ≡ a && b ⌝ }
-{
-    if a { b } else { false }
-}
-
 // Whether the first n numbers of a list all are.
 pub fn all_in_range(kind: Kind, xs: &[i64], n: usize) -> bool
     requires { ⌜ n ≤ length (now xs) ⌝ }
@@ -147,7 +141,7 @@ pub fn all_in_range(kind: Kind, xs: &[i64], n: usize) -> bool
 {
     let mut all = true;
     for i in 0..n {
-        all = both(is_in_range(kind, xs[i]), all);
+        all = is_in_range(kind, xs[i]) & all;
     }
     all
 }

@@ -3,11 +3,9 @@ use Rattle.integer.proofs.magnitude.Statement.{statement}
 use Rattle.integer.proofs.magnitude.Tie as tie
 use native.Mathlib.Omega.{arith}
 use mathlib.Core.Path.{_≡_}
-use mathlib.Core.Bool.{true, false}
-use lib.IntN.{ℤ, pos, natAbs, _-ℤ_}
-use lib.Signed.{ltZ}
+use lib.IntN.{pos, natAbs, _-ℤ_}
 use mir.Syntax.{w64}
-use mir.Val.{SFits, Fits}
+use mir.Val.{SFits}
 use mir.ValLaws.{toZ-ofZ}
 use Rattle.integer.proofs.Absolute.{below-zero, not-below-zero}
 

@@ -27,9 +27,6 @@ shared-slice-copy-out-is-in-range c = search needs
 is-in-range-requires : tie.Need-is-in-range-requires Inv-loop μ-loop
 is-in-range-requires c κs = search needs
 
-both-requires : tie.Need-both-requires Inv-loop μ-loop
-both-requires c κs = search needs
-
 add-i : tie.Need-add-i Inv-loop μ-loop
 add-i c = search needs
 
@@ -39,7 +36,7 @@ loop-less c = search needs
 loop-again : tie.Need-loop-again Inv-loop μ-loop
 loop-again c = (
   search needs,
-  c .both .ensures ∙ rw (c .before .is-in-range .ensures, read _ (c .before .before .is-in-range-arg .given), c .before .before .before .before .loop .inv .1) (sym (all-next _ _ _)),
+  rw (c .is-in-range .ensures, read _ (c .before .is-in-range-arg .given), c .before .before .before .loop .inv .1) (sym (all-next _ _ _)),
 )
 
 returns : tie.Need-returns Inv-loop μ-loop
@@ -55,7 +52,6 @@ all-in-range-spec =
     mul-is-in-range
     shared-slice-copy-out-is-in-range
     is-in-range-requires
-    both-requires
     add-i
     loop-less
     loop-again

@@ -3,7 +3,6 @@ use mathlib.Core.Bool.{true, false}
 use lib.Signed.{leZ}
 use mir.Syntax.{w64}
 use mir.ValLaws.{toZ-ofZ}
-use borrow.Author.Needs.{needs}
 use Rattle.rules.proofs.is_between.Statement.{statement}
 use Rattle.rules.proofs.is_between.Tie as tie
 

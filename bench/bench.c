@@ -1,0 +1,110 @@
+/* Microseconds a net for the check on lists, at n = 8, 16 and 32.
+ *
+ *   bench FILE   reads accepted nets as tests/emit.py writes them
+ *
+ * The versions run on the same nets in alternation in one process, each on lists of limits that were not cleared before; the time of a
+ * version is the middle one of many rounds. With -DPROVED the proved library runs beside the two in C. */
+#include "nets.h"
+
+#include <stdlib.h>
+#include <time.h>
+
+enum { MOST_NETS = 1000, ROUNDS = 61 };
+
+struct version {
+    const char *name;
+    check_on_lists *check;
+};
+
+static const struct version VERSIONS[] = {
+    {"C, n * n divisions a column", native_check_naive},
+    {"C, 2 * n divisions a column", native_check_quick},
+#ifdef PROVED
+    {"proved", kodarfi_check},
+#endif
+};
+
+enum { COUNT = sizeof VERSIONS / sizeof *VERSIONS };
+
+static struct net nets[MOST_NETS];
+static struct outcome answers[COUNT];
+
+static double now(void) {
+    struct timespec t;
+    clock_gettime(CLOCK_MONOTONIC, &t);
+    return (double)t.tv_sec * 1e6 + (double)t.tv_nsec / 1e3;
+}
+
+static int by_size(const void *a, const void *b) {
+    const double x = *(const double *)a, y = *(const double *)b;
+    return (x > y) - (x < y);
+}
+
+static uint32_t read_all(const char *path) {
+    struct outcome expected;
+    uint32_t count = 0;
+    FILE *file = fopen(path, "r");
+    if (!file) {
+        perror(path);
+        exit(2);
+    }
+    while (count < MOST_NETS && read_net(file, &nets[count], &expected)) count++;
+    fclose(file);
+    return count;
+}
+
+/* Whether all versions give the same outcome on every net. */
+static bool agree(uint32_t count) {
+    for (uint32_t k = 0; k < count; k++) {
+        for (uint32_t v = 0; v < COUNT; v++) {
+            run_check(VERSIONS[v].check, &nets[k], &answers[v]);
+            if (!same_outcome(&answers[v], &answers[0])) {
+                printf("net %u: '%s' differs\n", k, VERSIONS[v].name);
+                return false;
+            }
+        }
+    }
+    return true;
+}
+
+/* One round of a version over the nets with n equations; microseconds a net. */
+static double round_of(uint32_t v, uint32_t count, uint32_t n) {
+    uint32_t used = 0, refused = 0;
+    struct outcome *out = &answers[v];
+    const double start = now();
+    for (uint32_t k = 0; k < count; k++) {
+        const struct net *x = &nets[k];
+        if (x->n != n) continue;
+        used++;
+        refused += VERSIONS[v].check(x->n, x->s, x->t, x->matrix, MATRIX, x->right, COLUMN, x->guess, COLUMN, x->inverse, MATRIX, x->weights,
+                                     COLUMN, out->solution, COLUMN, out->inverse, MATRIX, out->places) != 0;
+    }
+    const double spent = now() - start;
+    if (refused) printf("%u nets refused\n", refused);
+    return used ? spent / used : 0;
+}
+
+static void measure(uint32_t count, uint32_t n) {
+    static double times[COUNT][ROUNDS];
+    for (uint32_t round = 0; round < ROUNDS; round++) {
+        for (uint32_t v = 0; v < COUNT; v++) times[v][round] = round_of(v, count, n);
+    }
+    for (uint32_t v = 0; v < COUNT; v++) qsort(times[v], ROUNDS, sizeof(double), by_size);
+    for (uint32_t v = 0; v < COUNT; v++) {
+        const double middle = times[v][ROUNDS / 2];
+        printf("n = %2u  %-28s %8.2f us a net", n, VERSIONS[v].name, middle);
+        for (uint32_t other = 0; other < v; other++) printf("  %5.2f x %s", middle / times[other][ROUNDS / 2], VERSIONS[other].name);
+        printf("\n");
+    }
+}
+
+int main(int argc, char **argv) {
+    if (argc != 2) {
+        fprintf(stderr, "usage: bench FILE\n");
+        return 2;
+    }
+    const uint32_t count = read_all(argv[1]);
+    if (!agree(count)) return 1;
+    for (uint32_t n = 8; n <= 32; n *= 2) measure(count, n);
+    return 0;
+}

@@ -1,0 +1,174 @@
+/* Every number here fits 64 bits: |D| <= 2^20 + 2^45, the sum of |D| * w <= 2^60 + 2^35, |S * b - A * X| <= 2^61 + 2^50, |p| <= 2^50. */
+#include "native.h"
+
+#include <stdbool.h>
+#include <string.h>
+
+enum { MOST = 32, PLACES = MOST * MOST };
+
+#define LARGEST_RESIDUAL ((int64_t)1 << 25)
+
+/* A problem whose numbers are in their ranges. */
+struct system {
+    uint32_t n;
+    int64_t S, T;
+    const int64_t *A, *b, *X, *G, *w;
+};
+
+/* The limits of one column from its sizes |p_m|, the margins and the weights. */
+typedef void limits_of_column(uint32_t n, const int64_t *w, const int64_t *p, const int64_t *g, uint64_t *limits);
+
+static int64_t size_of(int64_t x) {
+    return x < 0 ? -x : x;
+}
+
+static bool all_within(const int64_t *numbers, uint32_t count, int64_t lowest, int64_t highest) {
+    for (uint32_t i = 0; i < count; i++) {
+        if (numbers[i] < lowest || numbers[i] > highest) return false;
+    }
+    return true;
+}
+
+/* 3: "A check on lists tests all ranges itself." */
+static bool is_in_range(uint32_t n, uint32_t s, uint32_t t, const struct system *y) {
+    const int64_t small = (int64_t)1 << 20, whole = (int64_t)1 << 30, large = (int64_t)1 << 36;
+    if (n < 1 || n > MOST || s > 20 || t > 20) return false;
+    return all_within(y->A, n * n, -small, small) && all_within(y->b, n, -whole, whole) && all_within(y->X, n, -large, large) &&
+           all_within(y->G, n * n, -small, small) && all_within(y->w, n, 1, 1024);
+}
+
+/* out = diagonal * I - left * right, row after row. */
+static void defect(uint32_t n, int64_t diagonal, const int64_t *left, const int64_t *right, int64_t *out) {
+    for (uint32_t i = 0; i < n; i++) {
+        int64_t *row = out + i * n;
+        memset(row, 0, n * sizeof *row);
+        row[i] = diagonal;
+        for (uint32_t k = 0; k < n; k++) {
+            const int64_t factor = left[i * n + k];
+            for (uint32_t j = 0; j < n; j++) row[j] -= factor * right[k * n + j];
+        }
+    }
+}
+
+/* g_m = T * w_m - (sum over j of |D_mj| * w_j), D = T * I - G * A. Gives the lowest row with a margin of 0 or less, from 1, or 0. */
+static uint32_t failing_margin(const struct system *y, int64_t *g) {
+    int64_t D[PLACES];
+    uint32_t failing = 0;
+    defect(y->n, y->T, y->G, y->A, D);
+    for (uint32_t m = y->n; m-- > 0;) {
+        int64_t sum = 0;
+        for (uint32_t j = 0; j < y->n; j++) sum += size_of(D[m * y->n + j]) * y->w[j];
+        g[m] = y->T * y->w[m] - sum;
+        if (g[m] <= 0) failing = m + 1;
+    }
+    return failing;
+}
+
+/* r = S * b - A * X. Gives the lowest row with a size above 2^25, from 1, or 0. */
+static uint32_t failing_residual(const struct system *y, int64_t *r) {
+    uint32_t failing = 0;
+    for (uint32_t k = y->n; k-- > 0;) {
+        r[k] = y->S * y->b[k];
+        for (uint32_t j = 0; j < y->n; j++) r[k] -= y->A[k * y->n + j] * y->X[j];
+        if (size_of(r[k]) > LARGEST_RESIDUAL) failing = k + 1;
+    }
+    return failing;
+}
+
+/* R = T * I - A * G, column j in column j. Gives the lowest column, then its lowest row, with a size above 2^25. */
+static bool failing_inverse(const struct system *y, int64_t *R, uint32_t places[2]) {
+    defect(y->n, y->T, y->A, y->G, R);
+    for (uint32_t j = 0; j < y->n; j++) {
+        for (uint32_t k = 0; k < y->n; k++) {
+            if (size_of(R[k * y->n + j]) > LARGEST_RESIDUAL) {
+                places[0] = j + 1;
+                places[1] = k + 1;
+                return true;
+            }
+        }
+    }
+    return false;
+}
+
+static void naive_limits(uint32_t n, const int64_t *w, const int64_t *p, const int64_t *g, uint64_t *limits) {
+    for (uint32_t i = 0; i < n; i++) {
+        int64_t largest = 0;
+        for (uint32_t m = 0; m < n; m++) {
+            const int64_t limit = (w[i] * p[m] + g[m] - 1) / g[m];
+            if (limit > largest) largest = limit;
+        }
+        limits[i] = (uint64_t)largest;
+    }
+}
+
+/* The largest of the limits rounded up is the largest ratio rounded up: that row is found by quotients, then by remainders times the other margin. */
+static void quick_limits(uint32_t n, const int64_t *w, const int64_t *p, const int64_t *g, uint64_t *limits) {
+    uint32_t best = 0;
+    int64_t whole = p[0] / g[0], rest = p[0] % g[0];
+    for (uint32_t m = 1; m < n; m++) {
+        const int64_t next_whole = p[m] / g[m], next_rest = p[m] % g[m];
+        if (next_whole > whole || (next_whole == whole && next_rest * g[best] > rest * g[m])) {
+            best = m;
+            whole = next_whole;
+            rest = next_rest;
+        }
+    }
+    for (uint32_t i = 0; i < n; i++) limits[i] = (uint64_t)((w[i] * p[best] + g[best] - 1) / g[best]);
+}
+
+/* P = |G * R|, for `columns` columns of R, row after row. */
+static void sizes(const struct system *y, const int64_t *R, uint32_t columns, int64_t *P) {
+    for (uint32_t m = 0; m < y->n; m++) {
+        int64_t *row = P + m * columns;
+        memset(row, 0, columns * sizeof *row);
+        for (uint32_t k = 0; k < y->n; k++) {
+            const int64_t factor = y->G[m * y->n + k];
+            for (uint32_t j = 0; j < columns; j++) row[j] += factor * R[k * columns + j];
+        }
+        for (uint32_t j = 0; j < columns; j++) row[j] = size_of(row[j]);
+    }
+}
+
+/* "The limits of one column are worked out whole before any of them is written." */
+static void write_inverse(const struct system *y, const int64_t *R, const int64_t *g, limits_of_column *limits_of, uint64_t *bounds) {
+    int64_t P[PLACES], p[MOST];
+    uint64_t limits[MOST];
+    sizes(y, R, y->n, P);
+    for (uint32_t j = 0; j < y->n; j++) {
+        for (uint32_t m = 0; m < y->n; m++) p[m] = P[m * y->n + j];
+        limits_of(y->n, y->w, p, g, limits);
+        for (uint32_t i = 0; i < y->n; i++) bounds[i * y->n + j] = limits[i];
+    }
+}
+
+/* "Order for a check: .. 5, 6, 7." */
+static uint32_t reckon(const struct system *y, limits_of_column *limits_of, uint64_t *solution_bounds, uint64_t *inverse_bounds, uint32_t places[2]) {
+    int64_t g[MOST], r[MOST], p[MOST], R[PLACES];
+    uint64_t limits[MOST];
+    if ((places[0] = failing_margin(y, g)) != 0) return 5;
+    if ((places[0] = failing_residual(y, r)) != 0) return 6;
+    if (failing_inverse(y, R, places)) return 7;
+    sizes(y, r, 1, p);
+    limits_of(y->n, y->w, p, g, limits);
+    memcpy(solution_bounds, limits, y->n * sizeof *limits);
+    write_inverse(y, R, g, limits_of, inverse_bounds);
+    return 0;
+}
+
+/* The two checks differ in `limits_of` alone. */
+#define CHECK(name, limits_of)                                                                                                          \
+    uint32_t name(uint32_t n, uint32_t s, uint32_t t, const int64_t *matrix, size_t matrix_len, const int64_t *right, size_t right_len, \
+                  const int64_t *guess, size_t guess_len, const int64_t *inverse, size_t inverse_len, const int64_t *weights,           \
+                  size_t weights_len, uint64_t *solution_bounds, size_t solution_bounds_len, uint64_t *inverse_bounds,                  \
+                  size_t inverse_bounds_len, uint32_t places[2]) {                                                                      \
+        const struct system y = {n, (int64_t)1 << (s & 31), (int64_t)1 << (t & 31), matrix, right, guess, inverse, weights};            \
+        places[0] = places[1] = 0;                                                                                                      \
+        if (matrix_len < PLACES || inverse_len < PLACES || inverse_bounds_len < PLACES || right_len < MOST || guess_len < MOST ||       \
+            weights_len < MOST || solution_bounds_len < MOST)                                                                           \
+            return 8;                                                                                                                   \
+        if (!is_in_range(n, s, t, &y)) return 3;                                                                                        \
+        return reckon(&y, limits_of, solution_bounds, inverse_bounds, places);                                                          \
+    }
+
+CHECK(native_check_naive, naive_limits)
+CHECK(native_check_quick, quick_limits)

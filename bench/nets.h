@@ -1,0 +1,43 @@
+/* Systems as tests/emit.py writes them. */
+#ifndef NETS_H
+#define NETS_H
+
+#include "native.h"
+
+#include <stdbool.h>
+#include <stdio.h>
+
+enum { MATRIX = 1024, COLUMN = 32 };
+
+/* What a call on lists is handed, the lengths included. */
+struct net {
+    uint32_t n, s, t;
+    int64_t matrix[MATRIX], right[COLUMN], guess[COLUMN], inverse[MATRIX], weights[COLUMN];
+    size_t matrix_len, right_len, guess_len, inverse_len, weights_len, solution_len, bounds_len;
+};
+
+/* What a call on lists leaves. */
+struct outcome {
+    uint32_t number, places[2];
+    uint64_t solution[COLUMN], inverse[MATRIX];
+};
+
+/* A number in the lists past those in use, and in the lists of limits before a call. */
+#define UNREAD INT64_MIN
+#define UNWRITTEN UINT64_C(0xdeadbeefdeadbeef)
+
+/* Reads a system and the outcome that stands after it; false at the end of the file. */
+bool read_net(FILE *file, struct net *net, struct outcome *expected);
+
+/* Lists of full length whose numbers are all UNREAD. */
+void clear_net(struct net *net);
+
+/* Places of 0 and limits that are all UNWRITTEN. */
+void clear_outcome(struct outcome *outcome);
+
+/* The outcome of a check on cleared limits; the places hold other numbers before. */
+void run_check(check_on_lists *check, const struct net *net, struct outcome *outcome);
+
+bool same_outcome(const struct outcome *a, const struct outcome *b);
+
+#endif

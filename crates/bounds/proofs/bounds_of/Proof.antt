@@ -1,0 +1,98 @@
+use mathlib.Core.Path.{_≡_, refl, sym}
+use Prim.Native.Nat.{ℕ, _*_, _≤_, _-_}
+use native.Mathlib.Omega.{arith}
+use lib.IntN.{natAbs}
+use lib.ListN.{length, length-set}
+use Rattle.integer.specs.Quotient.{ceilDiv}
+use Rattle.integer.proofs.Machine.{read}
+use Rattle.linear.specs.Slice.{at}
+use Rattle.enclosure.proofs.Bounds.{bound-at}
+use Rattle.reckoning.specs.Arrays.{Holds}
+use Rattle.reckoning.proofs.Filled.{holds-none, holds-more, holds-end, holds-as}
+use borrow.Author.Needs.{needs}
+use Rattle.bounds.proofs.bounds_of.Statement.{statement}
+use Rattle.bounds.proofs.bounds_of.Tie as tie
+
+abbrev Inv-loop : tie.InvT-loop
+Inv-loop weights n k p g out₀ i₀ out i =
+    (i ≤ n) × ((length out ≡ 32) × Holds 0 out i (λ (j : ℕ). ceilDiv (natAbs (at weights j) * p) g))
+
+abbrev μ-loop : tie.MeasureT-loop
+μ-loop weights n k p g out₀ i₀ out i = n - i
+
+steepest-of-requires : tie.Need-steepest-of-requires Inv-loop μ-loop
+steepest-of-requires c κs = search needs
+
+mul-p : tie.Need-mul-p Inv-loop μ-loop
+mul-p c = omega (arith, c .steepest-of .ensures .below)
+
+array-read-p : tie.Need-array-read-p Inv-loop μ-loop
+array-read-p c = omega (arith, c .steepest-of .ensures .below)
+
+mul-g : tie.Need-mul-g Inv-loop μ-loop
+mul-g c = omega (arith, c .steepest-of .ensures .below)
+
+array-read-g : tie.Need-array-read-g Inv-loop μ-loop
+array-read-g c = omega (arith, c .steepest-of .ensures .below)
+
+loop-holds : tie.Need-loop-holds Inv-loop μ-loop
+loop-holds c = (omega arith, (refl, holds-none _ _ _))
+
+mul-limit-of : tie.Need-mul-limit-of Inv-loop μ-loop
+mul-limit-of c = omega arith
+
+shared-slice-copy-out-limit-of : tie.Need-shared-slice-copy-out-limit-of Inv-loop μ-loop
+shared-slice-copy-out-limit-of c = omega arith
+
+limit-of-requires : tie.Need-limit-of-requires Inv-loop μ-loop
+limit-of-requires c κs =
+    let s = c .before .before .before .before in
+    let k = c .before .before .before .steepest-of .ensures .below in
+    rw (read _ (c .limit-of-arg .given))
+    (s .pre .1 .1 .1 .within .size _ (c .before .loop-test .taken), (s .pre .1 .0 .most _ k, (s .pre .1 .1 .0 .above _ k, s .pre .1 .1 .0 .most _ k)))
+
+mul-out : tie.Need-mul-out Inv-loop μ-loop
+mul-out c = search needs
+
+array-write-out : tie.Need-array-write-out Inv-loop μ-loop
+array-write-out c = search needs
+
+add-i : tie.Need-add-i Inv-loop μ-loop
+add-i c = search needs
+
+loop-less : tie.Need-loop-less Inv-loop μ-loop
+loop-less c = search needs
+
+loop-again : tie.Need-loop-again Inv-loop μ-loop
+loop-again c =
+    let l = c .before .before .before .loop in
+    (omega arith, (simp length-set (l .inv .1 .0), holds-more _ _ _ _ _ (l .inv .1 .1) (omega arith) (rw (read _ (c .before .limit-of-arg .given)) at (c .limit-of .ensures))))
+
+returns : tie.Need-returns Inv-loop μ-loop
+returns c =
+    let s = c .before .before .before in
+    let k = c .before .before .steepest-of .ensures in
+    holds-as 0 _ _ (λ i l. sym (bound-at _ _ _ (λ (j : ℕ). natAbs (at (s .args .weights .now) j)) i _ (k .below) (s .pre .1 .1 .0 .above) (k .most)))
+    (holds-end 0 (c .before .loop .inv .0) (c .loop-test .left) (c .before .loop .inv .1 .1))
+
+pub bounds-of-spec : {M : Type 1} → statement M
+bounds-of-spec =
+    tie.close
+    (tie.spec
+    Inv-loop
+    μ-loop
+    steepest-of-requires
+    mul-p
+    array-read-p
+    mul-g
+    array-read-g
+    loop-holds
+    mul-limit-of
+    shared-slice-copy-out-limit-of
+    limit-of-requires
+    mul-out
+    array-write-out
+    add-i
+    loop-less
+    loop-again
+    returns)

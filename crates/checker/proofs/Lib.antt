@@ -1,0 +1,8 @@
+pub mod Written
+pub mod Places
+pub mod Limits
+pub mod Outcome
+pub mod Contract
+pub mod Statements
+pub mod Agreement
+pub mod Table

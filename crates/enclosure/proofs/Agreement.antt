@@ -1,0 +1,47 @@
+-- The reckoning uses only the first n numbers of each list: problems that agree on them have the same margins, residuals and limits.
+--   margin-same, residual-same, bound-same — of row m, k and i; for a column of the inverse they are used with its problem
+use mathlib.Core.Path.{_≡_, refl, ap, ap₂}
+use Prim.Native.Nat.{ℕ, _*_, _^_, _<_}
+use lib.IntN.{ℤ, pos, natAbs, _-ℤ_, _*ℤ_}
+use lib.Signed.{leZ}
+use Rattle.integer.specs.Finite.{sum, sumℕ, largest}
+use Rattle.integer.specs.Quotient.{ceilDiv}
+use Rattle.integer.proofs.Search.{largest-ext}
+use Rattle.integer.proofs.Sum.{sum-ext, sumℕ-ext}
+use Rattle.linear.specs.Matrix.{Vec, Mat, column, apply, product, identity}
+use Rattle.enclosure.specs.Problem.{Problem, columnOf}
+use Rattle.enclosure.specs.Reckoning.{defect, load, margin, marginFails, residual, image, sizes, boundFrom, bound, inverseBound}
+
+apply-same : (n : ℕ) (A B : Mat) (u v : Vec) (k : ℕ) → ((j : ℕ) → j < n → A k j ≡ B k j) → ((j : ℕ) → j < n → u j ≡ v j) → apply n A u k ≡ apply n B v k
+unfolding apply
+apply-same n A B u v k p q = sum-ext n (λ (j : ℕ). A k j *ℤ u j) (λ (j : ℕ). B k j *ℤ v j) (λ j l. rw (p j l, q j l))
+
+module _ (n s t : ℕ) (A A′ : Mat) (b b′ X X′ : Vec) (G G′ : Mat) (w w′ : ℕ → ℕ) (hA : (i j : ℕ) → i < n → j < n → A i j ≡ A′ i j)
+    (hb : (i : ℕ) → i < n → b i ≡ b′ i) (hX : (i : ℕ) → i < n → X i ≡ X′ i) (hG : (i j : ℕ) → i < n → j < n → G i j ≡ G′ i j) (hw : (i : ℕ) → i < n → w i ≡ w′ i) where
+  abbrev P : Problem
+  P = record { n = n; s = s; t = t; A = A; b = b; X = X; G = G; w = w }
+
+  abbrev Q : Problem
+  Q = record { n = n; s = s; t = t; A = A′; b = b′; X = X′; G = G′; w = w′ }
+
+  defect-same : (m j : ℕ) → m < n → j < n → defect P m j ≡ defect Q m j
+  unfolding defect product
+  defect-same m j lm lj =
+      ap (λ (z : ℤ). pos (2 ^ t) *ℤ identity m j -ℤ z) (apply-same n G G′ (column A j) (column A′ j) m (λ k l. hG m k lm l) (λ k l. hA k j l lj))
+
+  pub margin-same : (m : ℕ) → m < n → margin P m ≡ margin Q m
+  unfolding margin load
+  margin-same m l =
+      ap₂ (λ (x y : ℕ). pos (2 ^ t * x) -ℤ pos y) (hw m l)
+      (sumℕ-ext n (λ (j : ℕ). natAbs (defect P m j) * w j) (λ (j : ℕ). natAbs (defect Q m j) * w′ j) (λ j lj. rw (defect-same m j l lj, hw j lj)))
+
+  pub residual-same : (k : ℕ) → k < n → residual P k ≡ residual Q k
+  unfolding residual
+  residual-same k l = ap₂ (λ (x y : ℤ). pos (2 ^ s) *ℤ x -ℤ y) (hb k l) (apply-same n A A′ X X′ k (λ j lj. hA k j l lj) hX)
+
+  pub bound-same : (i : ℕ) → i < n → bound P i ≡ bound Q i
+  unfolding bound boundFrom sizes image
+  bound-same i l =
+      largest-ext n (λ (m : ℕ). ceilDiv (w i * natAbs (apply n G (residual P) m)) (natAbs (margin P m)))
+      (λ (m : ℕ). ceilDiv (w′ i * natAbs (apply n G′ (residual Q) m)) (natAbs (margin Q m)))
+      (λ m lm. rw (hw i l, apply-same n G G′ (residual P) (residual Q) m (λ k lk. hG m k lm lk) residual-same, margin-same m lm))

@@ -1,0 +1,44 @@
+-- Laws of the limits of a column.
+--   bound-covers — w_i·sizes_m ≤ limit_i·margins_m: the limit covers every row
+--   bound-least  — and is the least whole number that does
+--   bound-at     — it is the rounded-up quotient of a row where sizes / margins is largest
+--   bound-ext    — sizes and margins that agree on the first n rows give the same limits
+use mathlib.Core.Path.{_≡_}
+use Prim.Native.Nat.{ℕ, _*_, _≤_, _<_}
+use native.Mathlib.Omega.{arith}
+use native.Mathlib.Nat.{le-trans, le-antisymm, mul-le-mul-left, mul-le-mul-right, le-of-mul-le-mul-right}
+use Rattle.integer.specs.Quotient.{ceilDiv}
+use Rattle.integer.proofs.Rounding.{ceil-covers, ceil-least}
+use Rattle.integer.proofs.Search.{largest-at, largest-≤, largest-ext}
+use Rattle.enclosure.specs.Reckoning.{boundFrom}
+
+module _ (n : ℕ) (sizes margins w : ℕ → ℕ) (i : ℕ) where
+  pub bound-covers : (m : ℕ) → m < n → 0 < margins m → w i * sizes m ≤ boundFrom n sizes margins w i * margins m
+  unfolding boundFrom
+  bound-covers m l h =
+      le-trans (ceil-covers (w i * sizes m) (margins m) h)
+      (mul-le-mul-right (margins m) (largest-at n (λ (k : ℕ). ceilDiv (w i * sizes k) (margins k)) m l))
+
+  pub bound-least : (E : ℕ) → ((m : ℕ) → m < n → 0 < margins m) → ((m : ℕ) → m < n → w i * sizes m ≤ E * margins m) → boundFrom n sizes margins w i ≤ E
+  unfolding boundFrom
+  bound-least E h c = largest-≤ n (λ (k : ℕ). ceilDiv (w i * sizes k) (margins k)) E (λ m l. ceil-least (w i * sizes m) (margins m) E (h m l) (c m l))
+
+ratio : (w p g P G C : ℕ) → p * G ≤ P * g → w * P ≤ C * G → 0 < G → w * p ≤ C * g
+ratio w p g P G C h k o =
+    let x : w * p * G ≤ C * g * G = omega (arith, mul-le-mul-left w h, mul-le-mul-right g k) in le-of-mul-le-mul-right x o
+
+pub bound-at : (n : ℕ) (sizes margins w : ℕ → ℕ) (i k : ℕ) → k < n → ((m : ℕ) → m < n → 0 < margins m) →
+    ((m : ℕ) → m < n → sizes m * margins k ≤ sizes k * margins m) → boundFrom n sizes margins w i ≡ ceilDiv (w i * sizes k) (margins k)
+unfolding boundFrom
+bound-at n sizes margins w i k l h most =
+    le-antisymm
+    (bound-least n sizes margins w i (ceilDiv (w i * sizes k) (margins k)) h
+    (λ m lm. ratio (w i) (sizes m) (margins m) (sizes k) (margins k) (ceilDiv (w i * sizes k) (margins k)) (most m lm)
+    (ceil-covers (w i * sizes k) (margins k) (h k l)) (h k l)))
+    (largest-at n (λ (m : ℕ). ceilDiv (w i * sizes m) (margins m)) k l)
+
+pub bound-ext : (n : ℕ) (sizes margins sizes′ margins′ w : ℕ → ℕ) (i : ℕ) → ((m : ℕ) → m < n → sizes m ≡ sizes′ m) →
+    ((m : ℕ) → m < n → margins m ≡ margins′ m) → boundFrom n sizes margins w i ≡ boundFrom n sizes′ margins′ w i
+unfolding boundFrom
+bound-ext n sizes margins sizes′ margins′ w i p q =
+    largest-ext n (λ (m : ℕ). ceilDiv (w i * sizes m) (margins m)) (λ (m : ℕ). ceilDiv (w i * sizes′ m) (margins′ m)) (λ m l. rw (p m l, q m l))

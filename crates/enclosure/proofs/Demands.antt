@@ -1,0 +1,66 @@
+-- The first half of demand 3: where every margin is above 0 and every weight at least 1, the limits enclose.
+--   error-solves — A·(S·N − q·X) = q·r for an exact solution N / q
+--   solution, inverse, kernel — the three parts
+--   encloses — together, for the limits of the reckoning
+use mathlib.Core.Path.{_≡_, refl, _∙_}
+use mathlib.Core.Bool.{false}
+use Prim.Native.Nat.{ℕ, _*_, _≤_, _<_}
+use native.Mathlib.Omega.{arith}
+use lib.IntN.{ℤ, pos, natAbs, _-ℤ_, _*ℤ_, +ℤ-invr}
+use Rattle.integer.specs.Finite.{sumℕ}
+use Rattle.integer.proofs.Absolute.{abs-zero}
+use Rattle.integer.proofs.Ring.{ring, zero-*}
+use Rattle.integer.proofs.Sum.{sumℕ-*}
+use Rattle.linear.specs.Matrix.{Vec, column, apply, product}
+use Rattle.linear.proofs.Product.{apply-vectors, apply-scale}
+use Rattle.enclosure.specs.Problem.{Problem, S, columnOf}
+use Rattle.enclosure.specs.Reckoning.{load, margin, marginFails, residual, image, sizes, bound, inverseBound, defect}
+use Rattle.enclosure.specs.Demand.{Encloses}
+use Rattle.enclosure.proofs.Margin.{margin-above}
+use Rattle.enclosure.proofs.Bounds.{bound-covers}
+use Rattle.enclosure.proofs.Enclosure.{enclosed}
+
+pub error-solves : (P : Problem) (q : ℕ) (N : Vec) → ((k : ℕ) → k < P .n → apply (P .n) (P .A) N k ≡ pos q *ℤ P .b k) →
+    (k : ℕ) → k < P .n → apply (P .n) (P .A) (λ (i : ℕ). pos (S P) *ℤ N i -ℤ pos q *ℤ P .X i) k ≡ pos q *ℤ residual P k
+unfolding residual
+error-solves P q N h k l = rw (apply-vectors (P .n) (P .A) (pos (S P)) (pos q) N (P .X) k, h k l) (simp ring)
+
+-- an equation is no slack
+exact : (x y : ℤ) (q : ℕ) → x ≡ y → natAbs (x -ℤ y) ≤ q * 0
+exact x y q e = rw (e, +ℤ-invr y) (omega arith)
+
+none : (n : ℕ) (f : ℕ → ℕ) → sumℕ n (λ (j : ℕ). f j * 0) ≡ 0
+none n f = sumℕ-* n 0 f ∙ omega arith
+
+module _ (P : Problem) (hw : (i : ℕ) → i < P .n → 1 ≤ P .w i) (hm : (m : ℕ) → m < P .n → marginFails P m ≡ false) where
+  pub solution : (N : Vec) (q : ℕ) → ((k : ℕ) → k < P .n → apply (P .n) (P .A) N k ≡ pos q *ℤ P .b k) →
+      (i : ℕ) → i < P .n → natAbs (pos (S P) *ℤ N i -ℤ pos q *ℤ P .X i) ≤ q * bound P i
+  unfolding bound sizes image
+  solution N q h =
+      enclosed P q (λ i. pos (S P) *ℤ N i -ℤ pos q *ℤ P .X i) (residual P) (λ k. 0)
+      (λ k l. exact _ _ q (error-solves P q N h k l)) hw hm (bound P)
+      (λ i m li lm. rw (none (P .n) (λ (j : ℕ). natAbs (P .G m j)))
+      (omega (arith, bound-covers (P .n) (sizes P) (λ (m : ℕ). natAbs (margin P m)) (P .w) i m lm (margin-above P m (hm m lm)))))
+
+  pub kernel : (N : Vec) → ((k : ℕ) → k < P .n → apply (P .n) (P .A) N k ≡ pos 0) → (i : ℕ) → i < P .n → N i ≡ pos 0
+  kernel N h i l =
+      abs-zero (N i)
+      (enclosed P 1 N (λ k. pos 0) (λ k. 0) (λ k lk. exact _ _ 1 (h k lk)) hw hm (λ i. 0)
+      (λ i m li lm. rw (zero-image m, none (P .n) (λ (j : ℕ). natAbs (P .G m j))) (omega arith)) i l)
+    where
+      zero-image : (m : ℕ) → apply (P .n) (P .G) (λ (k : ℕ). pos 0) m ≡ pos 0
+      zero-image m = apply-scale (P .n) (P .G) (pos 0) (λ (k : ℕ). pos 0) m ∙ zero-* (apply (P .n) (P .G) (λ (k : ℕ). pos 0) m)
+
+-- the margins of a column's problem are those of the problem
+column-margin : (P : Problem) (j m : ℕ) → margin (columnOf P j) m ≡ margin P m
+unfolding margin load defect
+column-margin P j m = refl
+
+pub encloses : (P : Problem) → ((i : ℕ) → i < P .n → 1 ≤ P .w i) → ((m : ℕ) → m < P .n → marginFails P m ≡ false) →
+    Encloses P (bound P) (inverseBound P)
+unfolding product
+encloses P hw hm = record {
+  solution = λ N q x. solution P hw hm N q (x .solves);
+  inverse = λ H q x i j li lj. solution (columnOf P j) hw (λ m l. rw (column-margin P j m) (hm m l)) (column H j) q (λ k l. x .right k j l lj) i li;
+  kernel = kernel P hw hm;
+}

@@ -1,0 +1,54 @@
+-- The margin in ℕ: g_m = T·w_m − load where it is above 0.
+--   margin-test  — it is 0 or less exactly where T·w_m ≤ load
+--   margin-sum   — where it is above 0, g_m + load = T·w_m;  margin-above — and its size is above 0
+--   margin-cut   — its size is then ℕ's difference
+use mathlib.Core.Path.{_≡_, refl, sym, _∙_}
+use mathlib.Core.Bool.{Bool, true, false}
+use Prim.Native.Nat.{ℕ, zero, suc, _+_, _*_, _-_, _≤_, _<_}
+use native.Mathlib.Omega.{arith}
+use borrow.Author.Tests.{leb-true, leb-false, lt-leb}
+use lib.Dec.{leb}
+use lib.IntN.{pos, negℤ, natAbs, _-ℤ_}
+use lib.Signed.{leZ}
+use Rattle.integer.proofs.Difference.{zz}
+use Rattle.enclosure.specs.Problem.{Problem, T}
+use Rattle.enclosure.specs.Reckoning.{load, margin, marginFails}
+
+not-above : (k : ℕ) → leZ (negℤ (pos k)) (pos 0) ≡ true
+not-above zero = refl
+not-above (suc k) = refl
+
+less : (a b : ℕ) → a ≤ b → pos a -ℤ pos b ≡ negℤ (pos (b - a))
+less a b h = simp zz (omega arith)
+
+more : (a b : ℕ) → b ≤ a → pos a -ℤ pos b ≡ pos (a - b)
+more a b h = simp zz (omega arith)
+
+pub difference-test : (a b : ℕ) → leZ (pos a -ℤ pos b) (pos 0) ≡ leb a b
+difference-test a b = go (leb a b) refl
+  where
+    go : (t : Bool) → leb a b ≡ t → leZ (pos a -ℤ pos b) (pos 0) ≡ t
+    go true e = rw (less a b (leb-true a b e)) (not-above (b - a))
+    go false e = let l : b < a = leb-false a b e in rw (more a b (omega arith)) (lt-leb (a - b) 0 (omega arith))
+
+pub difference-size : (a b : ℕ) → natAbs (pos a -ℤ pos b) ≡ (a - b) + (b - a)
+difference-size a b = simp zz (omega arith)
+
+module _ (P : Problem) (m : ℕ) where
+  pub margin-test : marginFails P m ≡ leb (T P * P .w m) (load P m)
+  unfolding margin
+  margin-test = difference-test (T P * P .w m) (load P m)
+
+  pub margin-cut : load P m ≤ T P * P .w m → natAbs (margin P m) ≡ T P * P .w m - load P m
+  unfolding margin
+  margin-cut h = difference-size (T P * P .w m) (load P m) ∙ omega arith
+
+module _ (P : Problem) (m : ℕ) (h : marginFails P m ≡ false) where
+  pub load-below : load P m < T P * P .w m
+  load-below = leb-false (T P * P .w m) (load P m) (sym (margin-test P m) ∙ h)
+
+  pub margin-sum : natAbs (margin P m) + load P m ≡ T P * P .w m
+  margin-sum = let l = load-below in omega (arith, margin-cut P m (omega arith))
+
+  pub margin-above : 0 < natAbs (margin P m)
+  margin-above = omega (arith, load-below, margin-sum)

@@ -1,0 +1,5 @@
+pub mod Problem
+pub mod Reckoning
+pub mod Demand
+pub mod Schroeder
+pub mod Example

@@ -1,0 +1,26 @@
+-- Condition (2.9) of source document 002, Theorem 1, for M = I − (G/T)·A, B = |M| and s = (G/T)·b, in whole numbers.
+--   start P i  — u_0 = X/S, in steps of 1/(S·T)
+--   next P i   — u_1 = M·u_0 + s, in steps of 1/(S·T)
+--   Condition29 P k — |u_0 − u_1| ≤ v − B·v for v_i = w_i·|p_k| / (g_k·S), multiplied by g_k·S·T
+--   Steepest P k — row k is one where |p_k| / g_k is largest
+use Prim.Native.Nat.{ℕ, _+_, _*_, _≤_, _<_}
+use lib.IntN.{pos, natAbs, _+ℤ_, _-ℤ_, _*ℤ_}
+use Rattle.integer.specs.Finite.{sumℕ}
+use Rattle.linear.specs.Matrix.{Vec, apply}
+use Rattle.enclosure.specs.Problem.{Problem, S, T}
+use Rattle.enclosure.specs.Reckoning.{defect, margin, image}
+
+unfoldable pub start : Problem → Vec
+start P i = pos (T P) *ℤ P .X i
+
+unfoldable pub next : Problem → Vec
+next P i = apply (P .n) (defect P) (P .X) i +ℤ pos (S P) *ℤ apply (P .n) (P .G) (P .b) i
+
+pub record Condition29 (P : Problem) (k : ℕ) : Type 0 where
+  pub holds : (i : ℕ) → i < P .n →
+      natAbs (margin P k) * natAbs (start P i -ℤ next P i) + sumℕ (P .n) (λ (j : ℕ). natAbs (defect P i j) * (P .w j * natAbs (image P k)))
+      ≤ T P * (P .w i * natAbs (image P k))
+
+pub record Steepest (P : Problem) (k : ℕ) : Type 0 where
+  pub below : k < P .n
+  pub most : (m : ℕ) → m < P .n → natAbs (image P m) * natAbs (margin P k) ≤ natAbs (image P k) * natAbs (margin P m)

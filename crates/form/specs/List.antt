@@ -1,0 +1,43 @@
+-- The numbers of a list, as the code has them: beside a form, since there may be any count of them.
+--   noNumbers       — of no list
+--   allInside k zs  — all numbers are in the range of the kind k
+--   numbersOf k zs  — how many, whether all are in range, and the first 32, capped
+--   addNumber k l v — the numbers l, and v after them
+--   listedAt k s at — the list at a place
+use mathlib.Core.Bool.{Bool, true, _&&_}
+use mathlib.Core.List.{List, [], _∷_}
+use Prim.Native.Nat.{ℕ, zero, suc, _+_}
+use lib.IntN.{ℤ, pos}
+use lib.ListN.{length, replicate, set}
+use Rattle.numeral.specs.Numeral.{numberAt, cap}
+use Rattle.rules.specs.Range.{inRange}
+use Rattle.rules.specs.declared.Kind.{Kind}
+use Rattle.form.specs.declared.Listed.{Listed}
+use Rattle.form.specs.declared.Numbers.{Numbers}
+use Rattle.form.specs.Reading.{othersAt}
+
+abbrev pub noNumbers : Numbers
+noNumbers = record { count = 0; inside = true; values = replicate 32 (pos 0) }
+
+unfoldable pub allInside : Kind → List ℤ → Bool
+allInside k [] = true
+allInside k (z ∷ zs) = inRange k z && allInside k zs
+
+-- the first n of them, capped; 0 where there are fewer
+unfoldable pub firstValues : ℕ → List ℤ → List ℤ
+firstValues zero zs = []
+firstValues (suc n) [] = pos 0 ∷ firstValues n []
+firstValues (suc n) (z ∷ zs) = cap z ∷ firstValues n zs
+
+unfoldable pub numbersOf : Kind → List ℤ → Numbers
+numbersOf k zs = record { count = length zs; inside = allInside k zs; values = firstValues 32 zs }
+
+unfoldable pub addNumber : Kind → Numbers → ℤ → Numbers
+addNumber k l v = record { count = l .count + 1; inside = l .inside && inRange k v; values = set (l .values) (l .count) v }
+
+unfoldable pub listedAt : Kind → List ℕ → ℕ → Listed
+listedAt k s at =
+    record {
+      numbers = numbersOf k (numberAt s at .value ∷ othersAt s (length s) (numberAt s at .next) .values);
+      next = othersAt s (length s) (numberAt s at .next) .next;
+    }

@@ -1,0 +1,113 @@
+-- The exact reading of a line, from left to right, by places: each part is read at the place after the part before it.
+--   opening w       — how a form of the word w starts
+--   wordAt s at w   — the place after the bytes w, where they stand at the place
+--   headAt s at     — the first of the eight words whose opening stands at the place
+--   othersAt s f at — the further numbers of a list, each after a single space (32), at most f
+--   lastOf w ..     — the place of a form's last bracket, by its word;  endOf — the place after it
+--   formAt s w h    — the form of the word w whose opening ends at the place h
+--   reading s       — the form that the line s is, if it is one; it is one where the line ends after its last bracket
+use mathlib.Core.Bool.{Bool, true, false, _&&_, cond}
+use mathlib.Core.List.{List, [], _∷_}
+use mathlib.Core.Option.{Option, none, some}
+use Prim.Native.Nat.{ℕ, zero, suc, _+_}
+use lib.Dec.{eqb, leb}
+use lib.IntN.{ℤ}
+use lib.ListN.{length, drop, getD}
+use Rattle.numeral.specs.Numeral.{lost, numberAt}
+use Rattle.numeral.specs.declared.Number.{Number}
+use Rattle.form.specs.declared.Head.{Head}
+use Rattle.form.specs.declared.Word.{Word}
+use Rattle.form.specs.declared.Word.the-variants.{Problem, Scale, Row, Right, Guess, Inverse, Weight, End}
+use Rattle.form.specs.Form.{bytes, Form, problem, scale, row, right, guess, inverse, weight, end}
+
+abbrev pub opening : Word → List ℕ
+opening Problem = bytes "(problem "
+opening Scale = bytes "(scale "
+opening Row = bytes "(row "
+opening Right = bytes "(right "
+opening Guess = bytes "(guess "
+opening Inverse = bytes "(inverse "
+opening Weight = bytes "(weight "
+opening End = bytes "(end"
+
+unfoldable pub starts : List ℕ → List ℕ → Bool
+starts [] l = true
+starts (w ∷ ws) [] = false
+starts (w ∷ ws) (b ∷ bs) = eqb b w && starts ws bs
+
+unfoldable pub wordAt : List ℕ → ℕ → List ℕ → ℕ
+wordAt s at w = cond (starts w (drop at s)) (at + length w) (lost s)
+
+-- h, or the word w with the opening o where h is none
+unfoldable pub orWord : List ℕ → ℕ → Head → Word → List ℕ → Head
+orWord s at h w o = cond (leb (h .next) (length s)) h (record { word = w; next = wordAt s at o })
+
+unfoldable pub firstOf : List ℕ → ℕ → Head → List Word → Head
+firstOf s at h [] = h
+firstOf s at h (w ∷ ws) = firstOf s at (orWord s at h w (opening w)) ws
+
+unfoldable pub headAt : List ℕ → ℕ → Head
+headAt s at = firstOf s at (record { word = End; next = lost s }) (Problem ∷ Scale ∷ Row ∷ Right ∷ Guess ∷ Inverse ∷ Weight ∷ End ∷ [])
+
+pub record Others : Type 0 where
+  pub values : List ℤ
+  pub next : ℕ
+
+unfoldable pub othersAt : List ℕ → ℕ → ℕ → Others
+othersAt s zero at = record { values = []; next = at }
+othersAt s (suc f) at =
+    cond (eqb (getD s at 0) 32)
+    (record {
+      values = numberAt s (at + 1) .value ∷ othersAt s f (numberAt s (at + 1) .next) .values;
+      next = othersAt s f (numberAt s (at + 1) .next) .next;
+    })
+    (record { values = []; next = at })
+
+-- ---- the parts of a line, by the place h after its opening
+--   first, second — the number there, and the number after a single space
+--   front, others — the first number of a list, and the others
+--   close         — the place after the list's bracket
+abbrev pub first : List ℕ → ℕ → Number
+first s h = numberAt s h
+
+abbrev pub second : List ℕ → ℕ → Number
+second s h = numberAt s (wordAt s (first s h .next) (bytes " "))
+
+abbrev pub front : List ℕ → ℕ → Number
+front s h = numberAt s (wordAt s (first s h .next) (bytes " ("))
+
+abbrev pub others : List ℕ → ℕ → Others
+others s h = othersAt s (length s) (front s h .next)
+
+abbrev pub close : List ℕ → ℕ → ℕ
+close s h = wordAt s (others s h .next) (bytes ")")
+
+abbrev pub lastOf : Word → ℕ → ℕ → ℕ → ℕ → ℕ
+lastOf Problem h i v l = i
+lastOf Scale h i v l = v
+lastOf Row h i v l = l
+lastOf Right h i v l = v
+lastOf Guess h i v l = v
+lastOf Inverse h i v l = l
+lastOf Weight h i v l = v
+lastOf End h i v l = h
+
+abbrev pub endOf : List ℕ → Word → ℕ → ℕ
+endOf s w h = wordAt s (lastOf w h (first s h .next) (second s h .next) (close s h)) (bytes ")")
+
+-- from the first number, a second one, and a list
+abbrev pub formOf : Word → ℤ → ℤ → ℤ → List ℤ → Form
+formOf Problem i v a zs = problem i
+formOf Scale i v a zs = scale i v
+formOf Row i v a zs = row i a zs
+formOf Right i v a zs = right i v
+formOf Guess i v a zs = guess i v
+formOf Inverse i v a zs = inverse i a zs
+formOf Weight i v a zs = weight i v
+formOf End i v a zs = end
+
+abbrev pub formAt : List ℕ → Word → ℕ → Form
+formAt s w h = formOf w (first s h .value) (second s h .value) (front s h .value) (others s h .values)
+
+unfoldable pub reading : List ℕ → Option Form
+reading s = cond (eqb (endOf s (headAt s 0 .word) (headAt s 0 .next)) (length s)) (some (formAt s (headAt s 0 .word) (headAt s 0 .next))) none

@@ -1,0 +1,80 @@
+-- Places in slices: where the numbers of a row, of a column and of a list stand, and that a dot product of them is the product's number.
+--   place, square — the place of row i and column j is below n · n, at most 1,024 where n is at most 32
+--   Within-less   — a smaller count, a larger bound
+--   row-reach, column-reach, list-reach — a row, a column, a list of n numbers, as `dot` asks for them
+--   dot-row       — row k of A times a list is (A·v) k;  dot-column — row m of G times column j of A is (G·A) m j
+--   dot-column-of — row k of A times column j of G, as a vector, is (A·(column G j)) k
+--   dot-term, dot-fits — a term is at most 2 ^ 56 in size, and a partial sum with its next term fits an i64
+use mathlib.Core.Path.{_≡_}
+use mathlib.Core.List.{List}
+use Prim.Native.Nat.{ℕ, _+_, _*_, _<_, _≤_, _^_}
+use native.Mathlib.Omega.{arith}
+use native.Mathlib.Nat.{mul-le-mul, le-refl}
+use lib.IntN.{ℤ, natAbs, _*ℤ_}
+use lib.ListN.{length}
+use Rattle.integer.proofs.Absolute.{abs-*}
+use Rattle.integer.proofs.Sum.{sum-ext, abs-sum≤}
+use Rattle.linear.specs.Matrix.{apply, product}
+use Rattle.linear.specs.Slice.{at, vectorOf, matrixOf, dotOf, Within, Reach}
+
+pub place : {i j n : ℕ} → i < n → j < n → i * n + j < n * n
+place {i} {j} {n} p q = omega (arith, mul-le-mul p (le-refl n))
+
+pub square : {n : ℕ} → n ≤ 32 → n * n ≤ 1024
+square p = mul-le-mul p p
+
+pub within-less : {xs : List ℤ} {n m a b : ℕ} → Within xs n a → m ≤ n → a ≤ b → Within xs m b
+within-less w l k = record { size = λ i h. omega (arith, w .size i (omega arith)) }
+
+-- ---- rows, columns, lists
+module _ (xs : List ℤ) (n b : ℕ) (long : n * n ≤ length xs) (w : Within xs (n * n) b) where
+  pub row-reach : (i : ℕ) → i < n → Reach xs (i * n) 1 n b
+  row-reach i l = record {
+    inside = λ j h. omega (arith, place l h);
+    size = λ j h. let e : i * n + j * 1 ≡ i * n + j = omega arith in rw e (w .size (i * n + j) (place l h));
+  }
+
+  pub column-reach : (j : ℕ) → j < n → Reach xs j n n b
+  column-reach j l = record {
+    inside = λ i h. omega (arith, place h l);
+    size = λ i h. let e : j + i * n ≡ i * n + j = omega arith in rw e (w .size (i * n + j) (place h l));
+  }
+
+pub list-reach : (xs : List ℤ) (n b : ℕ) → n ≤ length xs → Within xs n b → Reach xs 0 1 n b
+list-reach xs n b long w = record {
+  inside = λ j h. omega arith;
+  size = λ j h. let e : 0 + j * 1 ≡ j = omega arith in rw e (w .size j h);
+}
+
+-- ---- the dot products of the reckoning
+module _ (n : ℕ) where
+  pub dot-row : (a x : List ℤ) (k : ℕ) → dotOf a (k * n) 1 x 0 1 n ≡ apply n (matrixOf a n) (vectorOf x) k
+  unfolding apply
+  dot-row a x k =
+      sum-ext n (λ (j : ℕ). at a (k * n + j * 1) *ℤ at x (0 + j * 1)) (λ (j : ℕ). at a (k * n + j) *ℤ at x j)
+      (λ j l. let e : k * n + j * 1 ≡ k * n + j = omega arith in let f : 0 + j * 1 ≡ j = omega arith in rw (e, f))
+
+  pub dot-column : (g a : List ℤ) (m j : ℕ) → dotOf g (m * n) 1 a j n n ≡ product n (matrixOf g n) (matrixOf a n) m j
+  unfolding apply product
+  dot-column g a m j =
+      sum-ext n (λ (k : ℕ). at g (m * n + k * 1) *ℤ at a (j + k * n)) (λ (k : ℕ). at g (m * n + k) *ℤ at a (k * n + j))
+      (λ k l. let e : m * n + k * 1 ≡ m * n + k = omega arith in let f : j + k * n ≡ k * n + j = omega arith in rw (e, f))
+
+-- ---- sizes
+module _ (a : List ℤ) (p s : ℕ) (x : List ℤ) (q u n : ℕ) (ha : Reach a p s n (2 ^ 20)) (hx : Reach x q u n (2 ^ 36)) where
+  pub dot-term : (j : ℕ) → j < n → natAbs (at a (p + j * s) *ℤ at x (q + j * u)) ≤ 2 ^ 56
+  dot-term j l = rw (abs-* (at a (p + j * s)) (at x (q + j * u))) (mul-le-mul (ha .size j l) (hx .size j l))
+
+  pub dot-fits : (j : ℕ) → n ≤ 32 → j < n → natAbs (dotOf a p s x q u j) + natAbs (at a (p + j * s)) * natAbs (at x (q + j * u)) < 2 ^ 63
+  dot-fits j few l =
+      omega (
+        arith,
+        abs-sum≤ j (2 ^ 56) (λ (k : ℕ). at a (p + k * s) *ℤ at x (q + k * u)) (λ k m. dot-term k (omega arith)),
+        mul-le-mul (ha .size j l) (hx .size j l),
+      )
+
+-- the size of a dot product whose numbers have smaller bounds
+pub dot-size : (a : List ℤ) (p s : ℕ) (x : List ℤ) (q u n A X : ℕ) → Reach a p s n A → Reach x q u n X → natAbs (dotOf a p s x q u n) ≤ n * (A * X)
+dot-size a p s x q u n A X ha hx =
+    abs-sum≤ n (A * X) (λ (j : ℕ). at a (p + j * s) *ℤ at x (q + j * u))
+    (λ j l. rw (abs-* (at a (p + j * s)) (at x (q + j * u))) (mul-le-mul (ha .size j l) (hx .size j l)))

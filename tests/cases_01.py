@@ -1,0 +1,61 @@
+"""Document 01's cases a to l, with the lines of the listing that it gives for each."""
+
+from typing import NamedTuple
+
+from net import Net, file_of, lines_of, net_of
+
+
+class Expected(NamedTuple):
+    name: str
+    net: Net
+    lines: tuple
+    whole: bool  # the lines are the whole listing
+
+
+def one(s, t, A, b, X, G):
+    return net_of(s, t, [[A]], [b], [X], [[G]], [1])
+
+
+def whole_file(guess=(23, 13), weights=(1, 1)):
+    return net_of(4, 4, [[4, -1], [-1, 3]], [5, 1], guess, [[4, 1], [1, 6]], weights)
+
+
+def pair(G12):
+    return net_of(0, 20, [[1048576, 0], [0, 1]], [0, 0], [0, 0], [[1, G12], [0, 1048576]], [1, 1])
+
+
+def accepted_one(X, E, V, limit, L):
+    return ("(bounds 1)", f"(solution 1 ({X} {E}))", f"(entry 1 ({V} {limit}))", f"(inverse 1 ({L}))", "(end)")
+
+
+WHOLE_LISTING = (
+    "(bounds 2)", "(solution 1 (23 1))", "(solution 2 (13 1))", "(entry 1 (1 1))", "(entry 2 (1 1))",
+    "(inverse 1 (1 1))", "(inverse 2 (1 1))", "(end)",
+)
+
+CASES = (
+    Expected("a", one(0, 4, 4, 0, 0, 1), accepted_one(0, 0, 0, 0, 3), True),
+    Expected("b", one(0, 4, 4, 0, 0, 7), accepted_one(0, 0, 0, 0, 21), True),
+    Expected("c", one(0, 4, 4, 0, 0, 0), ("(refused 5 (1))",), True),
+    Expected("d", one(0, 4, 4, 0, 0, 8), ("(refused 5 (1))",), True),
+    Expected("e", whole_file(), WHOLE_LISTING, True),
+    Expected("f", whole_file((20, 13)), ("(solution 1 (20 4))", "(solution 2 (13 4))"), False),
+    Expected("g", whole_file((20, 13), (3, 1)), ("(solution 1 (20 4))", "(solution 2 (13 2))"), False),
+    Expected("h", one(0, 20, 1048576, 0, 32, 1), ("(solution 1 (32 32))",), False),
+    Expected("i", one(0, 20, 1048576, 0, 33, 1), ("(refused 6 (1))",), True),
+    Expected("j", pair(32), ("(inverse 1 (0 33))", "(inverse 2 (0 33))"), False),
+    Expected("k", pair(33), ("(refused 7 (2 1))",), True),
+    Expected("l", one(4, 4, 2, -3, -24, 8), accepted_one(-24, 0, -2, 0, 0), True),
+)
+
+
+def agrees(case, listing):
+    """Whether a listing is the one expected, or has the lines expected."""
+    lines = listing.decode("latin-1").split("\n")
+    if case.whole:
+        return lines == [*case.lines, ""]
+    return all(line in lines for line in case.lines)
+
+
+def file(case):
+    return file_of(lines_of(case.net))

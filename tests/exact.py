@@ -1,0 +1,83 @@
+"""Exact solutions and inverses in whole numbers, and document 01's statements about them."""
+
+from functools import lru_cache
+from operator import mul
+
+
+@lru_cache(maxsize=64)
+def inverse_of(matrix):
+    """(q, H) with A·H = q·I and H·A = q·I, q at least 1, for a matrix given as a tuple of tuples; None where there is none.
+
+    Elimination without fractions: each division by the last pivot leaves no remainder."""
+    n = len(matrix)
+    rows = [list(row) + [int(i == j) for j in range(n)] for i, row in enumerate(matrix)]
+    last = 1
+    for k in range(n):
+        found = next((i for i in range(k, n) if rows[i][k]), None)
+        if found is None:
+            return None
+        if found != k:
+            rows[k], rows[found] = rows[found], [-value for value in rows[k]]
+        pivot_row, pivot = rows[k], rows[k][k]
+        for i in range(n):
+            if i != k:
+                factor = rows[i][k]
+                rows[i] = [(pivot * x - factor * y) // last for x, y in zip(rows[i], pivot_row)]
+        last = pivot
+    sign = 1 if last > 0 else -1
+    return sign * last, tuple(tuple(sign * value for value in row[n:]) for row in rows)
+
+
+def product(matrix, vector):
+    return [sum(map(mul, row, vector)) for row in matrix]
+
+
+def is_exact_inverse(matrix, q, H):
+    """A·H = q·I, one column after another."""
+    columns = zip(*H)
+    return all(
+        product(matrix, column) == [q * (i == j) for i in range(len(matrix))] for j, column in enumerate(columns)
+    )
+
+
+def nearest(numerator, denominator, up=True):
+    """A nearest whole number to a fraction; at a half the upper neighbour, or the lower one."""
+    doubled = 2 * numerator + denominator
+    whole, rest = divmod(doubled, 2 * denominator)
+    return whole if rest or up else whole - 1
+
+
+def solution_within(net, q, N, bounds):
+    """01: It lies within limit E_i if |S·N_i − q·X_i| is at most q·E_i."""
+    S = 2**net.s
+    return all(abs(S * N_i - q * X) <= q * E for N_i, X, E in zip(N, net.guess, bounds))
+
+
+def inverse_within(net, q, H, bounds):
+    """01: Its number H_ij lies within the limit L of its place if |T·H_ij − q·G_ij| is at most q·L."""
+    T = 2**net.t
+    return all(
+        abs(T * h - q * g) <= q * limit
+        for H_row, G_row, limits in zip(H, net.inverse, bounds)
+        for h, g, limit in zip(H_row, G_row, limits)
+    )
+
+
+def is_rounded_exact(net):
+    """The second half of demand 3: weights 1, the sizes |A_ij| with a sum below 2T, guess and inverse rounded to nearest steps."""
+    if any(w != 1 for w in net.weights) or size_sum(net) >= 2 * 2**net.t:
+        return False
+    exact = inverse_of(net.matrix)
+    if exact is None:
+        return False
+    q, H = exact
+    S, T = 2**net.s, 2**net.t
+    N = product(H, net.right)
+    return all(2 * abs(S * N_i - q * X) <= q for N_i, X in zip(N, net.guess)) and all(
+        2 * abs(T * h - q * g) <= q for H_row, G_row in zip(H, net.inverse) for h, g in zip(H_row, G_row)
+    )
+
+
+def size_sum(net):
+    """The sum of |A_ij| over all i and j."""
+    return sum(abs(a) for row in net.matrix for a in row)

@@ -1,0 +1,73 @@
+"""The seeded sequence of files. Every file has a random source of its own, made from seed and index, so that one can be made alone."""
+
+import random
+from typing import NamedTuple
+
+import bounds
+import damage
+import edge
+import nets
+from net import file_of, lines_of
+
+
+class Case(NamedTuple):
+    name: str
+    file: bytes
+
+
+def any_n(rng):
+    return rng.randint(1, 32)
+
+
+def few(rng):
+    return rng.choice((1, 2, 2, 3, 4, 5, 6, 9))
+
+
+# How many files of a hundred, which system, and how many equations it has.
+WHOLE = (
+    (14, nets.levelling, any_n),
+    (7, nets.general, any_n),
+    (8, edge.at_edge, any_n),
+    (2, edge.with_halves, lambda rng: rng.randint(4, 10)),
+    (5, bounds.at_bounds, any_n),
+    (5, nets.small, lambda rng: rng.randint(1, 4)),
+    (1, bounds.largest_limits, lambda rng: rng.randint(2, 32)),
+    (4, bounds.near_margins, lambda rng: rng.randint(2, 12)),
+    (4, bounds.near_residuals, lambda rng: rng.randint(1, 12)),
+    (5, bounds.near_inverse_residuals, lambda rng: rng.randint(2, 12)),
+    (4, bounds.several, lambda rng: rng.randint(1, 12)),
+    (1, nets.singular, lambda rng: rng.randint(1, 6)),
+)
+
+TABLE = tuple(
+    [(make, size, None) for share, make, size in WHOLE for _ in range(share)]
+    + [(nets.levelling, few, spoil) for share, spoil in damage.SHARES for _ in range(share)]
+)
+assert len(TABLE) == 100
+# Neighbours in the sequence come from different families.
+ORDER = tuple(at * 37 % 100 for at in range(100))
+
+
+def arranged(rng, lines):
+    """01: the rest in any order. Kind after kind, place after place, or in any order."""
+    start, middle, end = lines[:2], lines[2:-1], lines[-1:]
+    way = rng.randrange(3)
+    if way == 1:
+        middle.sort(key=lambda line: int(line.split(" ")[1]))
+    elif way == 2:
+        rng.shuffle(middle)
+    return start + middle + end
+
+
+def case(seed, index):
+    """File number `index` of the sequence of `seed`."""
+    rng = random.Random(f"{seed}/{index}")
+    make, size, spoil = TABLE[ORDER[index % 100]]
+    if spoil and rng.random() < 0.1:
+        size = any_n
+    net = make(rng, size(rng))
+    lines = arranged(rng, lines_of(net))
+    if spoil:
+        return Case(f"{seed}/{index} {spoil.__name__}", spoil(rng, net, lines))
+    file = file_of(lines)
+    return Case(f"{seed}/{index} {make.__name__}", file[:-1] if rng.random() < 0.2 else file)

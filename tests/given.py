@@ -1,0 +1,124 @@
+"""Small files made by rule and not by chance: document 01's cases, its whole file with one thing changed, and the examples of source 002."""
+
+import cases_01
+import examples_002
+from damage.numbers import ENDS, with_number
+from damage.spelling import MISSPELT, WAYS
+from generate import Case
+from net import file_of, lines_of, net_of
+
+WHOLE = tuple(lines_of(cases_01.whole_file()))
+
+# The first line of each word in the whole file.
+FIRST = {line[1:-1].split(" ")[0]: at for at, line in reversed(list(enumerate(WHOLE)))}
+
+
+def replaced(at, *lines):
+    return list(WHOLE[:at]) + list(lines) + list(WHOLE[at + 1 :])
+
+
+def inserted(at, *lines):
+    return list(WHOLE[:at]) + list(lines) + list(WHOLE[at:])
+
+
+def at_ends_of_ranges():
+    """Every number of every kind at the ends of its range and one beyond."""
+    for word, (low, high) in ENDS.items():
+        line = WHOLE[FIRST[word]]
+        for which in {"problem": (0,), "scale": (0, 1), "row": (1, 2), "inverse": (1, 2)}.get(word, (1,)):
+            for value in (low - 1, low, high, high + 1):
+                yield f"{word} number {which} is {value}", replaced(FIRST[word], with_number(line, which, value))
+
+
+def places():
+    """01: i is 1 to n."""
+    for word in ("row", "right", "guess", "inverse", "weight"):
+        line = WHOLE[FIRST[word]]
+        for value in (-1, 0, 3, 32, 33, 2**32 + 1, 2**64 + 1):
+            yield f"{word} place {value}", replaced(FIRST[word], with_number(line, 0, value))
+
+
+def lists():
+    """Lists of other than n numbers, with a number out of range among them or not, given for the first time or again."""
+    for word in ("row", "inverse"):
+        for numbers in ("1", "1 2 3", "1 2 1048577", "1048577", "1 " * 31 + "1", "1 " * 32 + "1"):
+            yield f"{word} with {numbers[:12]}", replaced(FIRST[word], f"({word} 1 ({numbers}))")
+            yield f"{word} again with {numbers[:12]}", inserted(12, f"({word} 1 ({numbers}))")
+
+
+def spellings():
+    """Every misspelt line before the end, and every other way of writing a line of each word."""
+    for text in MISSPELT:
+        yield f"{text!r}", inserted(12, text)
+    for word, at in FIRST.items():
+        for number, way in enumerate(WAYS):
+            yield f"{word} written in way {number}", replaced(at, way(WHOLE[at]))
+
+
+def lengths():
+    """Lines of 319 to 322 bytes in every stage."""
+    for length in (319, 320, 321, 322):
+        for at in (0, 1, 2, 12, 13):
+            yield f"list of {length} bytes at {at}", inserted(at, "(row 1 (" + "1 " * 150 + "1" * (length - 310) + "))")
+            yield f"number of {length} bytes at {at}", inserted(at, "(right 1 " + "9" * (length - 10) + ")")
+            yield f"no form of {length} bytes at {at}", inserted(at, "x" * length)
+
+
+def orders():
+    """Forms too early, given again, missing, after the end."""
+    for at, line in enumerate(WHOLE):
+        yield f"line {at} first", [line, *WHOLE[:at], *WHOLE[at + 1 :]]
+        yield f"line {at} again", inserted(12, line)
+        yield f"line {at} after the end", inserted(13, line)
+        yield f"line {at} missing", replaced(at)
+        yield f"end after line {at}", inserted(at, "(end)")
+        if at > 0:
+            yield f"line {at} second", [WHOLE[0], line, *WHOLE[1:at], *WHOLE[at + 1 :]]
+        yield f"nothing from line {at}", list(WHOLE[:at])
+    for at in (1, 2, 5, 12, 13):
+        for text in ("(problem 2)", "(problem 3)", "(problem 33)", "(problem 0)", "(scale 4 4)", "(scale 21 4)", "(scale 4 -1)", "(end)", "", "x" * 321, "x"):
+            yield f"'{text[:12]}' at {at}", inserted(at, text)
+
+
+def entries():
+    """Guesses at halves of a unit and beside them, on both sides of 0."""
+    for X in (-41, -40, -39, -25, -24, -23, -9, -8, -7, 0, 7, 8, 9, 23, 24, 25, 39, 40, 41):
+        net = cases_01.one(4, 4, 1, X // 16, X, 16)
+        yield f"entry of {X}", lines_of(net)
+
+
+def widest():
+    """32 equations with every number at the same end of its range: the longest lines and the largest sums."""
+    for side in (1, -1):
+        for s, t in ((20, 20), (0, 0)):
+            many = lambda value: [side * value] * 32
+            rows = [many(2**20)] * 32
+            net = net_of(s, t, rows, many(2**30), many(2**36), rows, [1024] * 32)
+            yield f"sign {side}, steps {s} {t}", lines_of(net)
+
+
+def by_bytes():
+    """Line ends: none at all, none at the last line, one too many, and carriage returns."""
+    file = file_of(WHOLE)
+    yield "empty file", b""
+    yield "one line feed", b"\n"
+    yield "no last line feed", file[:-1]
+    yield "two last line feeds", file + b"\n"
+    yield "line feed first", b"\n" + file
+    yield "carriage returns", file.replace(b"\n", b"\r\n")
+    yield "carriage returns alone", file.replace(b"\n", b"\r")
+    yield "zero byte at the end", file + b"\0"
+    yield "zero byte for a space", file.replace(b" ", b"\0", 1)
+    yield "mark of the byte order", b"\xef\xbb\xbf" + file
+
+
+def cases():
+    for case in cases_01.CASES:
+        yield Case(f"01 case {case.name}", cases_01.file(case))
+    for group in (at_ends_of_ranges, places, lists, spellings, lengths, orders, entries, widest):
+        for name, lines in group():
+            yield Case(f"{group.__name__}: {name}", file_of(lines))
+    for name, file in by_bytes():
+        yield Case(f"by_bytes: {name}", file)
+    for name, net, _ in examples_002.nets():
+        yield Case(name, file_of(lines_of(net)))

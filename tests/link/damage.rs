@@ -1,0 +1,81 @@
+//! Systems damaged by chance.
+
+use crate::lists::{Lengths, Net, COLUMN};
+
+/// Numbers by chance that are the same in every run (splitmix).
+pub struct Chance(pub u64);
+
+impl Chance {
+    pub fn below(&mut self, limit: u64) -> u64 {
+        self.0 = self.0.wrapping_add(0x9e37_79b9_7f4a_7c15);
+        let mut z = self.0;
+        z = (z ^ (z >> 30)).wrapping_mul(0xbf58_476d_1ce4_e5b9);
+        z = (z ^ (z >> 27)).wrapping_mul(0x94d0_49bb_1331_11eb);
+        (z ^ (z >> 31)) % limit
+    }
+
+    fn pick<T: Copy>(&mut self, from: &[T]) -> T {
+        from[self.below(from.len() as u64) as usize]
+    }
+
+    /// A number about a bound, on either side of 0.
+    fn odd_number(&mut self) -> i64 {
+        let bound = self.pick(&[0, 1, 1024, 1 << 20, 1 << 25, 1 << 30, 1 << 36, i64::MAX - 1]) + self.pick(&[-1, 0, 1]);
+        self.pick(&[bound, -bound])
+    }
+}
+
+fn list_of<'a>(net: &'a mut Net, which: u64) -> &'a mut Vec<i64> {
+    match which {
+        0 => &mut net.matrix,
+        1 => &mut net.inverse,
+        2 => &mut net.right,
+        3 => &mut net.guess,
+        _ => &mut net.weights,
+    }
+}
+
+fn shorten(lengths: &mut Lengths, chance: &mut Chance) {
+    let length = match chance.below(7) {
+        0 => &mut lengths.matrix,
+        1 => &mut lengths.right,
+        2 => &mut lengths.guess,
+        3 => &mut lengths.inverse,
+        4 => &mut lengths.weights,
+        5 => &mut lengths.solution,
+        _ => &mut lengths.bounds,
+    };
+    *length = chance.pick(&[*length - 1, *length / 2, 0]);
+}
+
+/// One number of one list, among those in use or past them.
+fn change_number(net: &mut Net, chance: &mut Chance, value: i64) {
+    let n = (net.n as usize).min(COLUMN);
+    let which = chance.below(5);
+    let list = list_of(net, which);
+    let used = if which < 2 { n * n } else { n };
+    let range = if chance.below(4) == 0 { list.len() } else { used };
+    if range > 0 {
+        let at = chance.below(range as u64) as usize;
+        list[at] = value;
+    }
+}
+
+pub fn damage(net: &mut Net, chance: &mut Chance) {
+    match chance.below(8) {
+        0 => shorten(&mut net.lengths, chance),
+        1 => net.n = chance.pick(&[0, 1, 2, 31, 32, 33, u32::MAX]),
+        2 => net.s = chance.pick(&[0, 1, 19, 20, 21, 63, 64, u32::MAX]),
+        3 => net.t = chance.pick(&[0, 1, 19, 20, 21, 63, 64, u32::MAX]),
+        4 => {
+            let value = chance.odd_number();
+            change_number(net, chance, value);
+        }
+        5 => {
+            let value = 1 + chance.below(1024) as i64;
+            change_number(net, chance, value);
+        }
+        6 => net.weights[0] = 1 + chance.below(1024) as i64,
+        _ => net.guess[0] = net.guess[0].saturating_add(chance.pick(&[-2, -1, 1, 2])),
+    }
+}

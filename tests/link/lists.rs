@@ -1,0 +1,124 @@
+//! What a check on lists is handed and leaves; the library's check; the systems of tests/emit.py.
+
+#[link(name = "export", kind = "static")]
+extern "C" {
+    fn kodarfi_check(
+        n: u32, s: u32, t: u32,
+        matrix: *const i64, matrix_len: usize,
+        right: *const i64, right_len: usize,
+        guess: *const i64, guess_len: usize,
+        inverse: *const i64, inverse_len: usize,
+        weights: *const i64, weights_len: usize,
+        solution_bounds: *mut u64, solution_bounds_len: usize,
+        inverse_bounds: *mut u64, inverse_bounds_len: usize,
+        places: *mut u32,
+    ) -> u32;
+}
+
+pub const MATRIX: usize = 1024;
+pub const COLUMN: usize = 32;
+/// Stands in the lists past the numbers in use.
+pub const UNREAD: i64 = i64::MIN;
+/// Stands in the lists of limits before a call.
+pub const UNWRITTEN: u64 = 0xdead_beef_dead_beef;
+
+/// What a check is handed. The lists are all of full length, so that even a wrong library stays within them; the lengths are those it is told.
+#[derive(Clone)]
+pub struct Net {
+    pub n: u32,
+    pub s: u32,
+    pub t: u32,
+    pub matrix: Vec<i64>,
+    pub right: Vec<i64>,
+    pub guess: Vec<i64>,
+    pub inverse: Vec<i64>,
+    pub weights: Vec<i64>,
+    pub lengths: Lengths,
+}
+
+#[derive(Clone)]
+pub struct Lengths {
+    pub matrix: usize,
+    pub right: usize,
+    pub guess: usize,
+    pub inverse: usize,
+    pub weights: usize,
+    pub solution: usize,
+    pub bounds: usize,
+}
+
+pub const FULL: Lengths = Lengths { matrix: MATRIX, right: COLUMN, guess: COLUMN, inverse: MATRIX, weights: COLUMN, solution: COLUMN, bounds: MATRIX };
+
+/// What a check leaves: the number (0 where accepted), its places, and both lists of limits.
+#[derive(PartialEq, Debug)]
+pub struct Outcome {
+    pub number: u32,
+    pub places: [u32; 2],
+    pub solution: Vec<u64>,
+    pub inverse: Vec<u64>,
+}
+
+impl Outcome {
+    pub fn untouched(number: u32, places: [u32; 2]) -> Outcome {
+        Outcome { number, places, solution: vec![UNWRITTEN; COLUMN], inverse: vec![UNWRITTEN; MATRIX] }
+    }
+}
+
+/// The library's check, safe: no length is above that of its list. The places hold other numbers before.
+pub fn library_check(net: &Net) -> Outcome {
+    let mut out = Outcome::untouched(0, [u32::MAX; 2]);
+    let lengths = &net.lengths;
+    out.number = unsafe {
+        kodarfi_check(
+            net.n, net.s, net.t,
+            net.matrix.as_ptr(), lengths.matrix,
+            net.right.as_ptr(), lengths.right,
+            net.guess.as_ptr(), lengths.guess,
+            net.inverse.as_ptr(), lengths.inverse,
+            net.weights.as_ptr(), lengths.weights,
+            out.solution.as_mut_ptr(), lengths.solution,
+            out.inverse.as_mut_ptr(), lengths.bounds,
+            out.places.as_mut_ptr(),
+        )
+    };
+    out
+}
+
+/// Lists of full length that begin with these numbers.
+pub fn net_of(n: u32, s: u32, t: u32, a: &[i64], b: &[i64], x: &[i64], g: &[i64], w: &[i64]) -> Net {
+    let padded = |numbers: &[i64], length: usize| {
+        let mut list = numbers.to_vec();
+        list.resize(length, UNREAD);
+        list
+    };
+    Net {
+        n, s, t,
+        matrix: padded(a, MATRIX),
+        right: padded(b, COLUMN),
+        guess: padded(x, COLUMN),
+        inverse: padded(g, MATRIX),
+        weights: padded(w, COLUMN),
+        lengths: FULL,
+    }
+}
+
+/// The systems of the file with their outcomes.
+pub fn read_nets(text: &str) -> Vec<(Net, Outcome)> {
+    let mut numbers = text.split_ascii_whitespace().map(|word| word.parse::<i64>().expect("a number"));
+    let mut nets = Vec::new();
+    while let Some(n) = numbers.next() {
+        let mut take = |count: usize| numbers.by_ref().take(count).collect::<Vec<i64>>();
+        let (size, scales) = (n as usize, take(2));
+        let (a, b, x, g, w) = (take(size * size), take(size), take(size), take(size * size), take(size));
+        let net = net_of(n as u32, scales[0] as u32, scales[1] as u32, &a, &b, &x, &g, &w);
+        let said = take(3);
+        let mut out = Outcome::untouched(said[0] as u32, [said[1] as u32, said[2] as u32]);
+        if out.number == 0 {
+            let limits = |list: Vec<i64>| list.into_iter().map(|limit| limit as u64).collect::<Vec<u64>>();
+            out.solution[..size].copy_from_slice(&limits(take(size)));
+            out.inverse[..size * size].copy_from_slice(&limits(take(size * size)));
+        }
+        nets.push((net, out));
+    }
+    nets
+}

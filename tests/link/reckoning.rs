@@ -1,0 +1,134 @@
+//! Document 01's check on lists, in 128-bit numbers.
+use crate::lists::{Net, Outcome, COLUMN, MATRIX};
+
+struct System {
+    n: usize,
+    steps: i128,
+    inverse_steps: i128,
+    a: Vec<Vec<i128>>,
+    b: Vec<i128>,
+    x: Vec<i128>,
+    g: Vec<Vec<i128>>,
+    w: Vec<i128>,
+}
+
+fn wide(list: &[i64]) -> Vec<i128> {
+    list.iter().map(|&v| v as i128).collect()
+}
+
+fn rows(list: &[i64], n: usize) -> Vec<Vec<i128>> {
+    list[..n * n].chunks(n).map(wide).collect()
+}
+
+fn all_within(list: &[i64], size: i64) -> bool {
+    list.iter().all(|v| (-size..=size).contains(v))
+}
+
+/// 8: "A lent list too short."
+fn too_short(net: &Net) -> bool {
+    let told = &net.lengths;
+    let matrices = [told.matrix, told.inverse, told.bounds];
+    let columns = [told.right, told.guess, told.weights, told.solution];
+    matrices.iter().any(|&l| l < MATRIX) || columns.iter().any(|&l| l < COLUMN)
+}
+
+/// 3: "A number outside its range".
+fn out_of_range(net: &Net) -> bool {
+    if !(1..=32).contains(&net.n) || net.s > 20 || net.t > 20 {
+        return true;
+    }
+    let n = net.n as usize;
+    !(all_within(&net.matrix[..n * n], 1 << 20)
+        && all_within(&net.right[..n], 1 << 30)
+        && all_within(&net.guess[..n], 1 << 36)
+        && all_within(&net.inverse[..n * n], 1 << 20)
+        && net.weights[..n].iter().all(|w| (1..=1024).contains(w)))
+}
+
+fn dot(left: &[i128], right: &[i128]) -> i128 {
+    left.iter().zip(right).map(|(x, y)| x * y).sum()
+}
+
+fn column(matrix: &[Vec<i128>], j: usize) -> Vec<i128> {
+    matrix.iter().map(|row| row[j]).collect()
+}
+
+impl System {
+    fn of(net: &Net) -> System {
+        let n = net.n as usize;
+        System {
+            n,
+            steps: 1 << net.s,
+            inverse_steps: 1 << net.t,
+            a: rows(&net.matrix, n),
+            b: wide(&net.right[..n]),
+            x: wide(&net.guess[..n]),
+            g: rows(&net.inverse, n),
+            w: wide(&net.weights[..n]),
+        }
+    }
+
+    /// T·w_m − (sum over j of |D_mj|·w_j), D = T·I − G·A.
+    fn margin(&self, m: usize) -> i128 {
+        let sum: i128 = (0..self.n)
+            .map(|j| {
+                let unit = if j == m { self.inverse_steps } else { 0 };
+                (unit - dot(&self.g[m], &column(&self.a, j))).abs() * self.w[j]
+            })
+            .sum();
+        self.inverse_steps * self.w[m] - sum
+    }
+
+    /// scale·right − A·guess.
+    fn residual(&self, scale: i128, right: &[i128], guess: &[i128]) -> Vec<i128> {
+        (0..self.n).map(|k| scale * right[k] - dot(&self.a[k], guess)).collect()
+    }
+
+    fn inverse_residual(&self, j: usize) -> Vec<i128> {
+        let unit: Vec<i128> = (0..self.n).map(|k| (k == j) as i128).collect();
+        self.residual(self.inverse_steps, &unit, &column(&self.g, j))
+    }
+
+    /// The largest over all rows m of w_i·|p_m| / g_m, each rounded up.
+    fn limits(&self, residual: &[i128], margins: &[i128]) -> Vec<u64> {
+        let p: Vec<i128> = self.g.iter().map(|row| dot(row, residual).abs()).collect();
+        let up = |w: i128, m: usize| (w * p[m] + margins[m] - 1).div_euclid(margins[m]);
+        self.w.iter().map(|&w| (0..self.n).map(|m| up(w, m)).max().unwrap() as u64).collect()
+    }
+}
+
+fn above(residual: &[i128]) -> Option<usize> {
+    residual.iter().position(|r| r.abs() > 1 << 25)
+}
+
+pub fn check(net: &Net) -> Outcome {
+    let refused = Outcome::untouched;
+    if too_short(net) {
+        return refused(8, [0, 0]);
+    }
+    if out_of_range(net) {
+        return refused(3, [0, 0]);
+    }
+    let system = System::of(net);
+    let n = system.n;
+    let margins: Vec<i128> = (0..n).map(|m| system.margin(m)).collect();
+    if let Some(m) = margins.iter().position(|&g| g <= 0) {
+        return refused(5, [m as u32 + 1, 0]);
+    }
+    let residual = system.residual(system.steps, &system.b, &system.x);
+    if let Some(k) = above(&residual) {
+        return refused(6, [k as u32 + 1, 0]);
+    }
+    let columns: Vec<Vec<i128>> = (0..n).map(|j| system.inverse_residual(j)).collect();
+    if let Some(j) = columns.iter().position(|r| above(r).is_some()) {
+        return refused(7, [j as u32 + 1, above(&columns[j]).unwrap() as u32 + 1]);
+    }
+    let mut out = refused(0, [0, 0]);
+    out.solution[..n].copy_from_slice(&system.limits(&residual, &margins));
+    for (j, residual) in columns.iter().enumerate() {
+        for (i, limit) in system.limits(residual, &margins).into_iter().enumerate() {
+            out.inverse[i * n + j] = limit;
+        }
+    }
+    out
+}

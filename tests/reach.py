@@ -1,0 +1,68 @@
+"""What a run of files has met, and whether that is enough."""
+
+from collections import Counter
+
+from checks import is_accepted
+from exact import is_rounded_exact, size_sum
+from second.reckoning import Reckoning
+
+ENOUGH_FILES = 2000
+REFUSALS = (1, 2, 3, 4, 5, 6, 7, 11, 12, 13, 14, 15)
+NEAR = 12
+
+
+class Reach:
+    def __init__(self):
+        self.files = 0
+        self.refusals = Counter()
+        self.sizes = Counter()
+        self.edges = Counter()
+
+    def add(self, listing, problem, net):
+        """Counts a listing; `net` is None where the file was not read to its end, and `problem` is then its refusal."""
+        self.files += 1
+        if is_accepted(listing):
+            self.sizes[problem.n] += 1
+        else:
+            self.refusals[int(listing.split()[1])] += 1
+        if net is not None:
+            self.add_edges(problem, net)
+
+    def add_edges(self, problem, net):
+        """Files at the edge of demand 3's second half; margins at 0 and 1; residuals at 2^25 and 2^25 + 1."""
+        if 2 * 2**net.t - size_sum(net) in (1, 2) and is_rounded_exact(net):
+            self.edges["second half of demand 3"] += 1
+        if net.n > NEAR:
+            return
+        reckoning = Reckoning()
+        system = reckoning.system(problem)
+        margins = reckoning.margins(system)
+        for value in (-1, 0, 1):
+            self.edges[f"margin {value}"] += value in margins
+        guess = list(map(abs, reckoning.guess_residual(system)))
+        inverse = [abs(r) for j in range(net.n) for r in reckoning.inverse_residual(system, j)]
+        for beyond in (0, 1):
+            self.edges[f"residual 2^25 + {beyond}"] += 2**25 + beyond in guess
+            self.edges[f"inverse residual 2^25 + {beyond}"] += 2**25 + beyond in inverse
+
+    def needs(self):
+        """(what, how often met, how often wanted)."""
+        accepted = sum(self.sizes.values())
+        yield "accepted files", accepted, -(-30 * self.files // 100)
+        yield "files at the edge of demand 3's second half", self.edges["second half of demand 3"], 50
+        for number in REFUSALS:
+            yield f"refusal {number}", self.refusals[number], 20
+        for n in range(1, 33):
+            yield f"accepted with n = {n}", self.sizes[n], 5
+        for value in (-1, 0, 1):
+            yield f"margin {value}", self.edges[f"margin {value}"], 10
+        for kind in ("residual", "inverse residual"):
+            for beyond in (0, 1):
+                yield f"{kind} 2^25 + {beyond}", self.edges[f"{kind} 2^25 + {beyond}"], 10
+
+    def shortfalls(self):
+        return [f"{what}: {met} met, {wanted} wanted" for what, met, wanted in self.needs() if met < wanted]
+
+    def summary(self):
+        refusals = ", ".join(f"{number}: {self.refusals[number]}" for number in REFUSALS)
+        return f"{self.files} files, {sum(self.sizes.values())} accepted; refusals {refusals}; {dict(self.edges)}"

@@ -1,0 +1,111 @@
+"""Document 01's desk: it collects forms line by line and fills the lists."""
+
+from .format import LONGEST_LINE, PLACED, RANGES, read_form
+from .refusal import Refusal
+from .rules import IN_FORCE
+
+
+class Line:
+    """A line with its form, which is read only when a test asks for it."""
+
+    def __init__(self, text, read):
+        self.text = text
+        self._read = read
+
+    @property
+    def form(self):
+        if not hasattr(self, "_form"):
+            self._form = self._read(self.text)
+        return self._form
+
+
+class Loader:
+    # "Order for a line: 8, 14, 1, 2, 11, 3, 4, 12, 13." The lists here are never too short.
+    ORDER = (14, 1, 2, 11, 3, 4, 12, 13)
+
+    # The kinds of which the count of forms still missing is made: "out of 5n".
+    COUNTED = PLACED
+
+    def __init__(self, rules=IN_FORCE):
+        self.rules = rules
+        self.n = self.s = self.t = None
+        self.given = set()
+        self.ended = False
+        self.lists = {kind: [0] * (1024 if kind in ("row", "inverse") else 32) for kind in PLACED}
+
+    def take(self, text):
+        """Takes a line in; gives its refusal, or None where it is accepted."""
+        line = Line(text, self.read)
+        for number in self.ORDER:
+            values = getattr(self, f"refusal_{number}")(line)
+            if values is not None:
+                return Refusal(number, values)
+        self.accept(line.form)
+        return None
+
+    def read(self, text):
+        return read_form(text)
+
+    def refusal_14(self, line):
+        """01: Any line after an accepted end."""
+        return () if self.ended else None
+
+    def refusal_1(self, line):
+        """01: A line above 320 bytes, its line feed not counted."""
+        return () if len(line.text) > LONGEST_LINE else None
+
+    def refusal_2(self, line):
+        """01: Not one of the eight forms, spelled exactly; an empty line too."""
+        return () if line.form is None else None
+
+    def refusal_11(self, line):
+        """01: A form other than problem first, or other than problem or scale before the scale."""
+        if self.n is None:
+            allowed = ("problem",)
+        elif self.s is None:
+            allowed = ("problem", "scale")
+        else:
+            return None
+        return None if line.form.kind in allowed else ()
+
+    def refusal_3(self, line):
+        """01: A number outside its range, i above n included."""
+        form = line.form
+        if form.place is not None and not 1 <= form.place <= self.n:
+            return ()
+        if form.kind in RANGES:
+            lowest, highest = RANGES[form.kind]
+            if not all(lowest <= value <= highest for value in form.values):
+                return ()
+        return None
+
+    def refusal_4(self, line):
+        """01: A row or inverse list with other than n numbers."""
+        form = line.form
+        return () if form.kind in ("row", "inverse") and len(form.values) != self.n else None
+
+    def refusal_12(self, line):
+        """01: A form given already: problem, scale, or this kind and i."""
+        return () if (line.form.kind, line.form.place) in self.given else None
+
+    def refusal_13(self, line):
+        """01: End with forms outstanding; gives the count of forms still missing out of 5n."""
+        missing = self.missing() if line.form.kind == "end" else 0
+        return (missing,) if missing else None
+
+    def missing(self):
+        """Counted once for each kind and place."""
+        return sum((kind, i) not in self.given for kind in self.COUNTED for i in range(1, self.n + 1))
+
+    def accept(self, form):
+        """01: An accepted line puts n, or s and t, into the desk, or its form's other numbers at their own places."""
+        self.given.add((form.kind, form.place))
+        if form.kind == "problem":
+            (self.n,) = form.values
+        elif form.kind == "scale":
+            self.s, self.t = form.values
+        elif form.kind == "end":
+            self.ended = True
+        else:
+            at = (form.place - 1) * len(form.values)
+            self.lists[form.kind][at : at + len(form.values)] = form.values

@@ -1,0 +1,170 @@
+"""Document 01, "The reckoning": margins, residuals and the bounds of a column (01: limits), in exact fractions."""
+
+from fractions import Fraction
+from math import ceil
+from operator import mul
+from typing import NamedTuple
+
+from .refusal import Refusal
+from .rules import IN_FORCE
+
+LARGEST_RESIDUAL = 2**25
+
+
+class Problem(NamedTuple):
+    """n, s, t and the five lists, the matrices row after row in lists of at least n × n numbers."""
+
+    n: int
+    s: int
+    t: int
+    matrix: list
+    right: list
+    guess: list
+    inverse: list
+    weights: list
+
+
+class Bounds(NamedTuple):
+    """The limits of the guess, and those of the inverse as rows."""
+
+    solution: list
+    inverse: list
+
+
+class System(NamedTuple):
+    """A problem with S, T and the lists cut to their n × n or n numbers."""
+
+    n: int
+    S: int
+    T: int
+    A: list
+    b: list
+    X: list
+    G: list
+    w: list
+
+
+def dot(left, right):
+    return sum(map(mul, left, right))
+
+
+def times(matrix, vector):
+    return [dot(row, vector) for row in matrix]
+
+
+def transposed(matrix):
+    return [list(column) for column in zip(*matrix)]
+
+
+class Reckoning:
+    # "Order for a check: .. 5, 6, 7."
+    ORDER = (5, 6, 7)
+
+    def __init__(self, rules=IN_FORCE):
+        self.rules = rules
+
+    def check(self, problem):
+        """The bounds of an accepted problem, or the refusal of another."""
+        system = self.system(problem)
+        margins = self.margins(system)
+        residuals = self.guess_residual(system)
+        columns = [self.inverse_residual(system, j) for j in range(system.n)]
+        failing = {
+            5: self.failing_margin(margins),
+            6: self.failing_row(system, residuals),
+            7: self.failing_column(system, columns),
+        }
+        for number in self.ORDER:
+            if failing[number] is not None:
+                return Refusal(number, failing[number])
+        solution = self.bounds(system, residuals, margins)
+        return Bounds(solution, transposed(self.bounds_of_columns(system, columns, margins)))
+
+    def system(self, problem):
+        n = problem.n
+        return System(
+            n,
+            2**problem.s,
+            2**problem.t,
+            self.rows(problem.matrix, n),
+            problem.right[:n],
+            problem.guess[:n],
+            self.rows(problem.inverse, n),
+            problem.weights[:n],
+        )
+
+    def rows(self, numbers, n):
+        """01: The first n × n are used, row after row."""
+        return [numbers[i * n : i * n + n] for i in range(n)]
+
+    def defect(self, system):
+        """D = T·I − G·A."""
+        columns = transposed(system.A)
+        return [
+            [system.T * (m == j) - dot(row, column) for j, column in enumerate(columns)]
+            for m, row in enumerate(system.G)
+        ]
+
+    def margins(self, system):
+        """g_m = T·w_m − (sum over j of |D_mj|·w_j)."""
+        return [
+            system.T * system.w[m] - sum(abs(d) * w for d, w in zip(row, system.w))
+            for m, row in enumerate(self.defect(system))
+        ]
+
+    def is_margin_good(self, margin):
+        """01: Every margin must be above 0."""
+        return margin > 0
+
+    def failing_margin(self, margins):
+        """5 "gives the lowest such row"."""
+        for m, margin in enumerate(margins):
+            if not self.is_margin_good(margin):
+                return (m + 1,)
+        return None
+
+    def guess_residual(self, system):
+        """r = S·b − A·X."""
+        return [system.S * b - ax for b, ax in zip(system.b, times(system.A, system.X))]
+
+    def inverse_residual(self, system, j):
+        """01: the same with column j of G as guess, T for S, and unit column j as right side."""
+        column = [row[j] for row in system.G]
+        return [system.T * (k == j) - ag for k, ag in enumerate(times(system.A, column))]
+
+    def is_residual_good(self, system, row, residual):
+        """01: each size at most 2^25."""
+        return abs(residual) <= LARGEST_RESIDUAL
+
+    def failing_row(self, system, residuals):
+        """6 "gives the lowest row"."""
+        for k, residual in enumerate(residuals):
+            if not self.is_residual_good(system, k, residual):
+                return (k + 1,)
+        return None
+
+    def failing_column(self, system, columns):
+        """7 "gives the lowest column, then its lowest row"."""
+        for j, residuals in enumerate(columns):
+            row = self.failing_row(system, residuals)
+            if row is not None:
+                return (j + 1, *row)
+        return None
+
+    def sizes(self, system, residuals):
+        """|p_m| for p = G·r."""
+        return [abs(p) for p in times(system.G, residuals)]
+
+    def bounds(self, system, residuals, margins):
+        """The limits of one column, from its residuals."""
+        sizes = self.sizes(system, residuals)
+        return [self.bound(system, i, sizes, margins) for i in range(system.n)]
+
+    def bound(self, system, i, sizes, margins):
+        """01: the largest over all rows m of w_i·|p_m| / g_m, each rounded up to a whole number."""
+        w = system.w[i]
+        return max(ceil(Fraction(w * p, g)) for p, g in zip(sizes, margins))
+
+    def bounds_of_columns(self, system, columns, margins):
+        """For column j of the inverse the same."""
+        return [self.bounds(system, residuals, margins) for residuals in columns]

@@ -1,0 +1,87 @@
+"""The test of the tests: the wrong versions are told by the files, document 01's cases and the numbers of source 002 come out."""
+
+import cases_01
+import examples_002
+from checks import faults, is_accepted, net_from
+from net import file_of, lines_of
+from second.program import Program
+from second.refusal import Refusal
+from wrong import PRINTING
+from wrong_reading import READING
+
+# A wrong version is dropped from the run once so many files have told it.
+TOLD = 3
+
+
+def reads_otherwise(program, file, loaded, expected):
+    """Whether a version that reads wrongly prints another listing; it need not reckon where it has read the same."""
+    read = program.load(file)
+    return read != loaded and program.printed(read) != expected
+
+
+def prints_otherwise(program, file, loaded, expected):
+    """Whether a version that reckons or prints wrongly prints another listing."""
+    return not isinstance(loaded, Refusal) and program.printed(loaded) != expected
+
+
+class Telling:
+    """Which files tell which wrong version from the right one."""
+
+    VERSIONS = [(name, wrong, reads_otherwise) for name, wrong in READING.items()]
+    VERSIONS += [(name, wrong, prints_otherwise) for name, wrong in PRINTING.items()]
+
+    def __init__(self):
+        self.told = {name: [] for name, _, _ in self.VERSIONS}
+
+    def watch(self, case, loaded, expected):
+        for name, wrong, differs in self.VERSIONS:
+            if len(self.told[name]) < TOLD and self.is_told(wrong, differs, case.file, loaded, expected):
+                self.told[name].append(case.name)
+
+    def is_told(self, wrong, differs, *seen):
+        """A wrong version may also divide by 0."""
+        try:
+            return differs(wrong, *seen)
+        except ZeroDivisionError:
+            return True
+
+    def report(self, count):
+        for name, cases in self.told.items():
+            count.test(f"wrong version '{name}'", [] if cases else ["no file tells it"])
+        few = [f"{name} ({len(cases)})" for name, cases in self.told.items() if len(cases) < TOLD]
+        print(f"{len(self.told)} wrong versions; told by fewer than {TOLD} files: {', '.join(few) or 'none'}")
+
+
+def test_given(count):
+    """Document 01's cases give the lines it says; the errors that source 002 prints lie within the limits."""
+    second = Program()
+    for case in cases_01.CASES:
+        listing = second.listing(cases_01.file(case))
+        count.test(f"01 case {case.name}", [] if cases_01.agrees(case, listing) else [repr(listing)])
+    for example in examples_002.EXAMPLES:
+        differences = examples_002.table_differences(example)
+        count.test(f"002 example {example.name}", [f"printed error {place}" for place in differences])
+    for name, net, errors in examples_002.nets():
+        count.test(name, printed_errors_outside(second, net, errors))
+
+
+def printed_errors_outside(second, net, errors):
+    """Printed errors beyond their limits, a step allowed for the rounding of guess and table."""
+    listing = second.listing(file_of(lines_of(net)))
+    if not is_accepted(listing):
+        return [repr(listing)]
+    limits = [int(line.split()[3].rstrip(b")")) for line in listing.split(b"\n") if line.startswith(b"(solution")]
+    S = 2**net.s
+    return [
+        f"error {i + 1} outside its limit"
+        for i, (printed, limit) in enumerate(zip(errors or (), limits))
+        if printed is not None and abs(printed) * S > (limit + 1) * 10**9
+    ]
+
+
+def test_checks(count):
+    """The statements of checks.py tell by themselves a version that writes no limits, and one that refuses all."""
+    for name in ("no limits written", "all proposals refused"):
+        problem = Program().load(file_of(lines_of(cases_01.whole_file())))
+        told = faults(net_from(problem), PRINTING[name].printed(problem))
+        count.test(f"checks on '{name}'", [] if told else ["not told"])

@@ -1,0 +1,169 @@
+"""Wrong versions of the second implementation that read a file otherwise, by name; each breaks one rule of document 01."""
+
+import re
+
+from second.format import RANGES, Form, lines_of, read_form
+from second.loader import Loader
+from wrong import program
+
+
+def loader(**parts):
+    return program(loader=type("WrongLoader", (Loader,), parts))
+
+
+def any_kind_missing(self):
+    """Place i counted once for all kinds."""
+    return sum(any((kind, i) not in self.given for kind in self.COUNTED) for i in range(1, self.n + 1))
+
+
+def first_n_tested(self, line):
+    form = line.form
+    return Loader.refusal_3(self, type(line)(None, lambda text: form._replace(values=form.values[: self.n or 2])))
+
+
+def up_to_32(self, line):
+    """i above n taken where it is at most 32."""
+    form = line.form
+    if form.place is not None and self.n < form.place <= 32:
+        form = form._replace(place=1)
+    return Loader.refusal_3(self, type(line)(None, lambda text: form))
+
+
+def place_anywhere(self, line):
+    """The place taken by its size alone, a minus dropped."""
+    form = line.form
+    return Loader.refusal_3(self, type(line)(None, lambda text: form._replace(place=form.place and abs(form.place))))
+
+
+def by_place(self, line):
+    """A place given already in any kind."""
+    form = line.form
+    return () if any(place == form.place for _, place in self.given if form.place) else Loader.refusal_12(self, line)
+
+
+def only_scale(self, line):
+    """A second problem before the scale is 11."""
+    if self.n is not None and self.s is None:
+        return None if line.form.kind == "scale" else ()
+    return Loader.refusal_11(self, line)
+
+
+def end_early(self, line):
+    """End is taken before the scale."""
+    early = self.n is not None and self.s is None and line.form.kind == "end"
+    return None if early else Loader.refusal_11(self, line)
+
+
+def before(first, second):
+    """The order of a line with the test `first` moved to just before `second`."""
+    order = [number for number in Loader.ORDER if number != first]
+    order.insert(order.index(second), first)
+    return loader(ORDER=tuple(order))
+
+
+LOADED = {
+    "3 after 4": before(4, 3),
+    "3 after 12": before(12, 3),
+    "4 after 12": before(12, 4),
+    "14 after 1": before(1, 14),
+    "14 after 2": loader(ORDER=(1, 2, 14, 11, 3, 4, 12, 13)),
+    "2 before 1": before(2, 1),
+    "place i counted once for all kinds": loader(missing=any_kind_missing),
+    "missing out of 4n": loader(COUNTED=("row", "right", "guess", "inverse")),
+    "missing of the inverse forgotten": loader(COUNTED=("row", "right", "guess", "weight")),
+    "an invented missing count": loader(missing=lambda self: Loader.missing(self) or 1),
+    "missing count one too high": loader(missing=lambda self: Loader.missing(self) and Loader.missing(self) + 1),
+    "place repeated in any kind": loader(refusal_12=by_place),
+    "repetition overwrites": loader(refusal_12=lambda self, line: None),
+    "320 bytes too long": loader(refusal_1=lambda self, line: () if len(line.text) > 319 else None),
+    "321 bytes good": loader(refusal_1=lambda self, line: () if len(line.text) > 321 else None),
+    "i up to 32": loader(refusal_3=up_to_32),
+    "i by its size": loader(refusal_3=place_anywhere),
+    "only n numbers in range": loader(refusal_3=first_n_tested),
+    "second problem is 11": loader(refusal_11=only_scale),
+    "end before the scale": loader(refusal_11=end_early, missing=lambda self: 5 * self.n - len(self.given) + 1),
+    "the end is not kept": loader(accept=lambda self, form: None if form.kind == "end" else Loader.accept(self, form)),
+}
+
+
+def reading(change):
+    """A loader that reads a line after changing its text."""
+    return loader(read=lambda self, text: read_form(change(text)))
+
+
+def wrapped(bits):
+    """Numbers cut to a machine word."""
+    cut = lambda value: (value + 2 ** (bits - 1)) % 2**bits - 2 ** (bits - 1)
+
+    def read(self, text):
+        form = read_form(text)
+        if form is None:
+            return None
+        place = None if form.place is None else cut(form.place)
+        return Form(form.kind, place, tuple(map(cut, form.values)))
+
+    return loader(read=read)
+
+
+def long_is_none(self, text):
+    """A numeral past 2^63 is no number."""
+    form = read_form(text)
+    return None if form and any(abs(value) >= 2**63 for value in (form.place or 0, *form.values)) else form
+
+
+def substituted(pattern, text):
+    return lambda line: re.sub(pattern, text, line)
+
+
+def until_end(self, file):
+    """Nothing after an end is looked at."""
+    lines = lines_of(file)
+    return lines[: lines.index(b"(end)") + 1] if b"(end)" in lines else lines
+
+
+READ = {
+    "leading zeros": reading(substituted(rb"(?<![0-9])0+(?=[0-9])", b"")),
+    "minus zero": reading(substituted(rb"-0(?![0-9])", b"0")),
+    "plus sign": reading(substituted(rb"\+(?=[0-9])", b"")),
+    "several spaces": reading(substituted(rb"  +", b" ")),
+    "space at the line's end": reading(lambda line: line.rstrip(b" ")),
+    "space before a bracket": reading(substituted(rb" \)", b")")),
+    "carriage return dropped": reading(lambda line: line.rstrip(b"\r")),
+    "tab for a space": reading(lambda line: line.replace(b"\t", b" ")),
+    "capitals": reading(lambda line: line.lower()),
+    "bytes after the form": reading(substituted(rb"^(\(.*\))[^)]*$", rb"\1")),
+    "64-bit numbers wrap": wrapped(64),
+    "32-bit places wrap": loader(read=lambda self, text: (form := read_form(text)) and form._replace(place=form.place and form.place % 2**32)),
+    "a long numeral is 2": loader(read=long_is_none),
+    "a last line without line feed lost": program(lines=lambda self, file: file.split(b"\n")[:-1]),
+    "an empty line after the last line feed": program(lines=lambda self, file: file.split(b"\n")),
+    "empty lines skipped": program(lines=lambda self, file: [line for line in lines_of(file) if line]),
+    "stops at the end": program(lines=until_end),
+    "carriage return ends a line": program(lines=lambda self, file: lines_of(file.replace(b"\r", b"\n"))),
+}
+
+
+def narrowed(kind, lowest, highest):
+    """The range of one kind otherwise."""
+
+    def refusal_3(self, line):
+        form = line.form
+        if form.kind == kind and not all(lowest <= value <= highest for value in form.values):
+            return ()
+        inside = tuple(min(max(value, RANGES[kind][0]), RANGES[kind][1]) for value in form.values)
+        return Loader.refusal_3(self, type(line)(None, lambda text: form._replace(values=inside) if form.kind == kind else form))
+
+    return loader(refusal_3=refusal_3)
+
+
+def range_versions():
+    """For each kind the range one too narrow and one too wide at either end."""
+    for kind, (lowest, highest) in RANGES.items():
+        yield f"{kind} range without its lowest", narrowed(kind, lowest + 1, highest)
+        yield f"{kind} range without its highest", narrowed(kind, lowest, highest - 1)
+        if kind not in ("problem", "scale"):
+            yield f"{kind} range one lower", narrowed(kind, lowest - 1, highest)
+            yield f"{kind} range one higher", narrowed(kind, lowest, highest + 1)
+
+
+READING = {**LOADED, **READ, **dict(range_versions())}
