@@ -12,6 +12,7 @@ use native.Mathlib.Omega.{arith}
 use lib.Dec.{ltb}
 use lib.IntN.{ℤ, pos, natAbs}
 use lib.ListN.{length}
+use Rattle.rules.specs.Order.{verdict}
 use Rattle.numeral.specs.Numeral.{cap, capAt}
 use Rattle.form.specs.Form.{Form, problem, scale, row, right, guess, inverse, weight, end}
 use Rattle.form.specs.Reading.{reading}
@@ -26,7 +27,7 @@ use Rattle.items.proofs.Capped.{placed-capped, outside-capped, miscounted-cappe
 use Rattle.loader.specs.declared.Loader.{Loader}
 use Rattle.progress.specs.declared.Stage.{Stage}
 use Rattle.progress.specs.Progress.{ended, early, misplaced, repeated, incomplete, missing}
-use Rattle.loader.specs.Order.{Case, verdict, order, caseOf, answer}
+use Rattle.loader.specs.Order.{Case, order, caseOf, answer}
 use Rattle.loader.specs.Taken.{after}
 use Rattle.loader.specs.Capped.{caseIn, saidIn}
 use Rattle.progress.proofs.Progress.{placed-of}

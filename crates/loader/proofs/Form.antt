@@ -9,6 +9,7 @@ use Prim.Native.Nat.{ℕ, _*_, _≤_}
 use native.Mathlib.Omega.{arith}
 use borrow.Author.Tests.{not-false}
 use lib.IntN.{ℤ}
+use Rattle.rules.specs.Order.{accepted, verdict}
 use Rattle.rules.specs.Range.{inRange}
 use Rattle.rules.specs.Refusal.{said, numberOf, valuesOf}
 use Rattle.rules.specs.declared.Outcome.{Outcome}
@@ -24,8 +25,8 @@ use Rattle.items.specs.declared.Item.{Item}
 use Rattle.items.specs.declared.Item.the-variants.{Problem, Scale, Of, End}
 use Rattle.loader.specs.declared.Loader.{Loader}
 use Rattle.progress.specs.Progress.{early, misplaced, repeated, incomplete, missing}
-use Rattle.loader.specs.Order.{Case, verdict, order}
-use Rattle.loader.specs.Taken.{after, accepted}
+use Rattle.loader.specs.Order.{Case, order}
+use Rattle.loader.specs.Taken.{after}
 use Rattle.loader.specs.Capped.{caseIn, saidIn, fits, TakenIn}
 use Rattle.loader.proofs.Order.{none-said}
 use Rattle.progress.proofs.Progress.{placed-32, size-of, late}

@@ -9,6 +9,7 @@ use Prim.Native.Nat.{ℕ, _<_}
 use native.Mathlib.Omega.{arith}
 use lib.Dec.{ltb}
 use lib.ListN.{length}
+use Rattle.rules.specs.Order.{accepted}
 use Rattle.rules.specs.Refusal.{said, numberOf, valuesOf}
 use Rattle.rules.specs.declared.Outcome.{Outcome}
 use Rattle.rules.specs.declared.Outcome.the-variants.{Refused}
@@ -30,7 +31,7 @@ use Rattle.loader.specs.declared.Loader.{Loader}
 use Rattle.loader.specs.declared.Taken.{Taken}
 use Rattle.progress.specs.Progress.{ended}
 use Rattle.loader.specs.Order.{answer as answerOf}
-use Rattle.loader.specs.Taken.{TakenAs, after, loaderAfter, listsAfter, accepted}
+use Rattle.loader.specs.Taken.{TakenAs, after, loaderAfter, listsAfter}
 use Rattle.loader.specs.Capped.{TakenIn}
 use Rattle.loader.proofs.Exact.{formSaid, answer-form, said-capped, exact-loader, exact-lists}
 

@@ -11,8 +11,8 @@ use Prim.Native.Nat.{ℕ}
 use native.Mathlib.Omega.{arith}
 use borrow.Author.Tests.{eq-eqb}
 use lib.Dec.{T, eqb}
+use Rattle.rules.specs.Order.{Test, verdict}
 use Rattle.rules.proofs.Ranges.{both-left, both-right}
-use Rattle.loader.specs.Order.{Test, verdict}
 
 abbrev pub None : List Test → Type 0
 None [] = Unit

@@ -12,6 +12,7 @@ use native.Mathlib.Omega.{arith}
 use lib.Dec.{ltb}
 use lib.IntN.{pos}
 use lib.ListN.{length, take, drop}
+use Rattle.rules.specs.Order.{Test, number, verdict}
 use Rattle.rules.specs.Range.{inRange}
 use Rattle.rules.specs.declared.Kind.the-variants.{Size}
 use Rattle.form.specs.Form.{Form}
@@ -21,7 +22,7 @@ use Rattle.items.specs.Lists.{Lists, short}
 use Rattle.progress.specs.Progress.{missing, ended, sized, misplaced}
 use Rattle.progress.proofs.Progress.{misplaced-own}
 use Rattle.loader.specs.declared.Loader.{Loader}
-use Rattle.loader.specs.Order.{Test, Case, verdict, order, number, caseOf, answer}
+use Rattle.loader.specs.Order.{Case, order, caseOf, answer}
 use Rattle.loader.specs.Taken.{loaderAfter, listsAfter}
 use Rattle.loader.proofs.Order.{None, none-said, silent, skipped, said-exactly, said-either}
 

@@ -7,6 +7,7 @@ use mathlib.Core.Bool.{Bool, true, false, _&&_}
 use mathlib.Core.List.{List}
 use mathlib.Core.Path.{_≡_}
 use Prim.Native.Nat.{ℕ}
+use Rattle.rules.specs.Order.{accepted, verdict}
 use Rattle.rules.specs.Range.{inRange}
 use Rattle.rules.specs.Refusal.{said}
 use Rattle.rules.specs.declared.Kind.the-variants as kind
@@ -20,8 +21,8 @@ use Rattle.items.specs.declared.Item.the-variants.{Problem, Scale, Of, End}
 use Rattle.progress.specs.Progress.{missing, early, misplaced, repeated, incomplete}
 use Rattle.loader.specs.declared.Loader.{Loader}
 use Rattle.loader.specs.declared.Taken.{Taken}
-use Rattle.loader.specs.Order.{Case, verdict, order}
-use Rattle.loader.specs.Taken.{after, accepted}
+use Rattle.loader.specs.Order.{Case, order}
+use Rattle.loader.specs.Taken.{after}
 
 abbrev pub caseIn : Loader → CappedForm → ℕ → Bool → Case
 caseIn d m count inside = record {

@@ -1,34 +1,21 @@
 -- The refusals of a line in 01's order: 8, 14, 1, 2, 11, 3, 4, 12, 13, where 3 is two tests, of the place i and then of the values.
---   Test     — what is said, in 01's numbers, where a condition holds
---   verdict  — what the first test that holds says; nothing where none holds
 --   Case     — for each refusal whether its stated case holds, and the count of missing forms, which 13 gives
 --   order    — the tests in 01's order
 --   caseOf   — which cases hold of a line at a loader, with these lists
 --   answer   — what is said of the line: nothing where it is accepted
-use mathlib.Core.Bool.{Bool, true, false, cond}
+use mathlib.Core.Bool.{Bool, true, false}
 use mathlib.Core.List.{List, [], _∷_}
 use mathlib.Core.Option.{Option, none, some}
 use Prim.Native.Nat.{ℕ}
 use lib.Dec.{ltb}
 use lib.ListN.{length}
+use Rattle.rules.specs.Order.{Test, number, verdict}
 use Rattle.form.specs.Form.{Form}
 use Rattle.form.specs.Reading.{reading}
 use Rattle.items.specs.Item.{itemOf, outside, miscounted}
 use Rattle.items.specs.Lists.{Lists, short}
 use Rattle.progress.specs.Progress.{missing, ended, early, misplaced, repeated, incomplete}
 use Rattle.loader.specs.declared.Loader.{Loader}
-
-pub record Test : Type 0 where
-  pub says : List ℕ
-  pub holds : Bool
-
--- a refusal that gives its number alone
-abbrev pub number : ℕ → Bool → Test
-number k b = record { says = k ∷ []; holds = b }
-
-abbrev pub verdict : List Test → List ℕ
-verdict [] = []
-verdict (t ∷ ts) = cond (t .holds) (t .says) (verdict ts)
 
 pub record Case : Type 0 where
   pub short : Bool

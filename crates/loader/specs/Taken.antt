@@ -2,14 +2,14 @@
 -- lists, and changes no other number in those lists. A refused line leaves the desk as before the call, and its lists").
 --   fresh        — the loader that was given nothing
 --   after d x    — the loader after a form; the lists after it are `putAll`
---   accepted     — the new where nothing is said, the old where a refusal is
 --   loaderAfter, listsAfter — what is left of a line, accepted or refused
 --   TakenAs      — the contract of `take`
-use mathlib.Core.List.{List, [], _∷_}
+use mathlib.Core.List.{List}
 use mathlib.Core.Path.{_≡_}
 use Prim.Native.Nat.{ℕ}
 use lib.IntN.{natAbs}
 use lib.ListN.{replicate}
+use Rattle.rules.specs.Order.{accepted}
 use Rattle.rules.specs.Refusal.{said}
 use Rattle.form.specs.Form.{Form}
 use Rattle.form.specs.Reading.{reading}
@@ -31,10 +31,6 @@ after d (Problem n) = record { n = natAbs n; s = d .s; t = d .t; stage = Sized; 
 after d (Scale s t) = record { n = d .n; s = natAbs s; t = natAbs t; stage = Scaled; sets = d .sets }
 after d (Of p i) = record { n = d .n; s = d .s; t = d .t; stage = d .stage; sets = marked (d .sets) p (natAbs i) }
 after d End = record { n = d .n; s = d .s; t = d .t; stage = Ended; sets = d .sets }
-
-abbrev pub accepted {ℓ} : {A : Type ℓ} → List ℕ → A → A → A
-accepted [] new old = new
-accepted (k ∷ ks) new old = old
 
 unfoldable pub loaderAfter : Loader → Lists → List ℕ → Loader
 loaderAfter d l line = accepted (answer d l line) (ofForm (reading line) d (λ (f : Form). after d (itemOf f))) d
