@@ -10,7 +10,7 @@ use Rattle.items.specs.Lists.{Lists}
 use Rattle.items.specs.Put.{width}
 use Rattle.items.specs.declared.Item.{Item}
 use Rattle.items.specs.declared.Part.{Part}
-use Rattle.progress.specs.Progress.{given, ended}
+use Rattle.progress.specs.Progress.{ended}
 use Rattle.progress.proofs.Progress.{scaled-sized}
 use Rattle.collected.specs.Run.{State, start, run, Accepts, forms, cell}
 use Rattle.collected.specs.Holds.{In, Holds, HoldsItem}

@@ -2,14 +2,14 @@
 --   sets-before, sets-inside, sets-after — a number of a list after a run of stores
 --   rows-apart — the numbers for different i stand apart
 --   cell-own   — a form's own cells hold its numbers;  cell-else — every other cell is as before
-use mathlib.Core.Path.{_≡_, refl, sym, ap, subst, _∙_}
+use mathlib.Core.Path.{_≡_, refl, sym, ap, _∙_}
 use mathlib.Core.Bool.{Bool, true, false, cond}
 use mathlib.Core.List.{List, [], _∷_}
 use Prim.Native.Nat.{ℕ, zero, suc, _+_, _*_, _-_, _≤_, _<_}
 use native.Mathlib.Decide.{decLt}
 use native.Mathlib.Nat.{add-zero, suc-mul, mul-le-mul-right}
 use native.Mathlib.Omega.{arith}
-use borrow.Author.Tests.{eq-eqb, eqb-true, eqb-false}
+use borrow.Author.Tests.{eq-eqb, eqb-true}
 use lib.Dec.{eqb}
 use lib.IntN.{ℤ, pos, natAbs}
 use lib.ListN.{length, getD, set, length-set}
@@ -17,8 +17,7 @@ use lib.Seq.{sets, getD-set-same, getD-set-other}
 use Rattle.form.specs.Form.{Form}
 use Rattle.items.specs.Item.{itemOf, valuesOf}
 use Rattle.items.specs.Lists.{Lists, putIn, putAll}
-use Rattle.items.specs.Put.{partIndex, width, put}
-use Rattle.items.specs.declared.Item.{Item}
+use Rattle.items.specs.Put.{partIndex, width}
 use Rattle.items.specs.declared.Item.the-variants.{Problem, Scale, Of, End}
 use Rattle.items.specs.declared.Part.{Part}
 use Rattle.items.specs.declared.Part.the-variants.{Row, Right, Guess, Inverse, Weight}

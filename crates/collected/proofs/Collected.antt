@@ -2,10 +2,10 @@
 --   View, view   — an accepted form by what it gives
 --   holds-own    — a form that is accepted is held;  holds-kept — a form that is held stays so when another is accepted
 --   kept-all, collected — the same of all lines: after accepted lines every one of their forms is held
-use mathlib.Core.Path.{_≡_, refl, sym, ap, subst, _∙_}
-use mathlib.Core.Bool.{Bool, true, false, not, _&&_}
+use mathlib.Core.Path.{_≡_, refl, sym, subst, _∙_}
+use mathlib.Core.Bool.{true, false, not}
 use mathlib.Core.List.{List, [], _∷_}
-use Prim.Native.Nat.{ℕ, zero, suc, _+_, _*_, _-_, _≤_, _<_}
+use Prim.Native.Nat.{ℕ, zero, suc, _*_, _-_, _≤_, _<_}
 use native.Mathlib.Decide.{ℕ-discrete}
 use native.Mathlib.Omega.{arith}
 use borrow.Author.Tests.{not-false, eqb-true}
@@ -28,15 +28,13 @@ use Rattle.items.specs.declared.Part.the-variants.{Row, Right, Guess, Inverse, 
 use Rattle.items.proofs.Capped.{part-same}
 use Rattle.items.proofs.Lists.{Long, long}
 use Rattle.items.proofs.Put.{between}
-use Rattle.places.specs.Places.{hasPlace}
 use Rattle.places.proofs.Places.{has-same, has-other}
-use Rattle.progress.specs.Progress.{setOf, given, marked, sized, scaled, ended, early, misplaced}
+use Rattle.progress.specs.Progress.{setOf, given, marked, sized, scaled, ended}
 use Rattle.progress.proofs.Progress.{scaled-sized, placed-of, size-of, late}
-use Rattle.loader.specs.declared.Loader.{Loader}
 use Rattle.loader.specs.Taken.{after}
 use Rattle.loader.proofs.Form.{Passed}
 use Rattle.loader.proofs.Exact.{formCase}
-use Rattle.collected.specs.Run.{State, listOf, cell, kindOf}
+use Rattle.collected.specs.Run.{State, listOf, kindOf}
 use Rattle.collected.specs.Holds.{Holds, HoldsItem, HoldsPart}
 use Rattle.collected.proofs.Sound.{Sound, clash}
 use Rattle.collected.proofs.Outstanding.{marked-own, marked-other}

@@ -2,7 +2,7 @@
 --   missing-marked — with a form that was not given one form fewer is missing
 --   falls-one      — an accepted line past problem leaves one form fewer outstanding;  falls — and any accepted line leaves fewer
 --   lines-fall, at-most — so accepted lines are at most as many as were outstanding: from `new` at most 163
-use mathlib.Core.Path.{_≡_, refl, sym, ap, subst, _∙_}
+use mathlib.Core.Path.{_≡_, refl, sym, subst}
 use mathlib.Core.Bool.{Bool, true, false, not, cond}
 use mathlib.Core.List.{List, [], _∷_}
 use Prim.Native.Nat.{ℕ, suc, _+_, _*_, _-_, _≤_, _<_}
@@ -10,22 +10,19 @@ use native.Mathlib.Omega.{arith}
 use native.Mathlib.Nat.{suc-mul}
 use borrow.Author.Tests.{not-false, ltb-false, eqb-true, eqb-false}
 use lib.Dec.{eqb}
-use lib.IntN.{ℤ, pos, natAbs}
-use lib.ListN.{length, getD, set}
+use lib.IntN.{ℤ, natAbs}
+use lib.ListN.{length}
 use lib.Seq.{getD-set-same, getD-set-other}
-use Rattle.rules.specs.Range.{inRange}
-use Rattle.rules.specs.declared.Kind.the-variants as kind
 use Rattle.form.specs.Form.{Form, problem, scale, row, right, guess, inverse, weight, end}
-use Rattle.items.specs.Item.{itemOf, placed}
+use Rattle.items.specs.Item.{itemOf}
 use Rattle.items.specs.Lists.{Lists}
 use Rattle.items.specs.Put.{partIndex}
-use Rattle.items.specs.declared.Item.{Item}
 use Rattle.items.specs.declared.Item.the-variants.{Of}
 use Rattle.items.specs.declared.Part.{Part}
 use Rattle.items.specs.declared.Part.the-variants.{Row, Right, Guess, Inverse, Weight}
 use Rattle.items.proofs.Capped.{part-same}
 use Rattle.items.proofs.Put.{between}
-use Rattle.places.specs.Places.{hasPlace, withPlace, lacking}
+use Rattle.places.specs.Places.{withPlace, lacking}
 use Rattle.places.proofs.Places.{lacking-with, lacking-≤}
 use Rattle.progress.specs.Progress.{setOf, counted, total, given, marked, missing, sized, scaled, ended, misplaced}
 use Rattle.progress.specs.declared.Stage.{Stage}
@@ -36,7 +33,7 @@ use Rattle.loader.specs.Order.{answer}
 use Rattle.loader.specs.Taken.{after, loaderAfter}
 use Rattle.loader.proofs.Form.{Passed}
 use Rattle.loader.proofs.Exact.{formCase}
-use Rattle.loader.proofs.Accepted.{Accepted, accepted-form}
+use Rattle.loader.proofs.Accepted.{accepted-form}
 use Rattle.collected.specs.Run.{State, start, step, run, Accepts, outstanding}
 use Rattle.collected.proofs.Sound.{Sound, fresh-sound, form-sound, line-sound, clash}
 

@@ -2,37 +2,32 @@
 --   collected  — every one of their forms is held at the end
 --   found      — what is given at the end, and was not at the start, was given by one of the lines, and has that line's numbers
 --   size-from, scales-from — n, s and t are those of problem and scale
-use mathlib.Core.Path.{_≡_, refl, sym, ap, ap₂, subst, _∙_}
-use mathlib.Core.Bool.{Bool, true, false, not, _&&_, cond}
+use mathlib.Core.Path.{_≡_, refl, sym, ap, subst, _∙_}
+use mathlib.Core.Bool.{Bool, true, false}
 use mathlib.Core.List.{List, [], _∷_}
 use mathlib.Core.Option.{some}
-use Prim.Native.Nat.{ℕ, zero, suc, _+_, _*_, _-_, _≤_, _<_}
-use native.Mathlib.Omega.{arith}
-use borrow.Author.Tests.{not-false, eqb-true, eqb-false, eq-eqb}
+use Prim.Native.Nat.{ℕ, _≤_}
+use borrow.Author.Tests.{eqb-true, eq-eqb}
 use lib.Dec.{eqb}
 use lib.IntN.{ℤ, pos, natAbs}
-use lib.ListN.{length, getD}
+use lib.ListN.{getD}
 use Rattle.rules.proofs.Ranges.{both-left, both-right}
 use Rattle.form.specs.Form.{Form}
 use Rattle.form.specs.Reading.{reading}
 use Rattle.items.specs.Item.{itemOf, valuesOf, placed}
-use Rattle.items.specs.Lists.{Lists}
-use Rattle.items.specs.Put.{partIndex, width}
+use Rattle.items.specs.Put.{partIndex}
 use Rattle.items.specs.declared.Item.{Item}
 use Rattle.items.specs.declared.Item.the-variants.{Problem, Scale, Of, End}
 use Rattle.items.specs.declared.Part.{Part}
 use Rattle.items.proofs.Capped.{part-same}
 use Rattle.items.proofs.Put.{between}
-use Rattle.progress.specs.Progress.{given, sized, scaled, ended}
-use Rattle.progress.proofs.Progress.{placed-of, late}
+use Rattle.progress.specs.Progress.{given}
+use Rattle.progress.proofs.Progress.{placed-of}
 use Rattle.loader.specs.declared.Loader.{Loader}
-use Rattle.loader.specs.Order.{answer}
 use Rattle.loader.specs.Taken.{after}
-use Rattle.loader.proofs.Form.{Passed}
-use Rattle.loader.proofs.Exact.{formCase}
 use Rattle.loader.proofs.Accepted.{Accepted, accepted-form}
 use Rattle.collected.specs.Run.{State, step, run, Accepts, forms}
-use Rattle.collected.specs.Holds.{In, here, there, Holds, HoldsItem, isOf, valueFrom, sizeFrom, scalesFrom, Scales}
+use Rattle.collected.specs.Holds.{In, here, there, Holds, isOf, valueFrom}
 use Rattle.collected.proofs.Sound.{Sound, line-sound, clash}
 use Rattle.collected.proofs.Collected.{next, holds-own, holds-kept, given-else}
 

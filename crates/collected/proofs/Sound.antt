@@ -2,15 +2,15 @@
 --   Sound      — five sets; past problem n is in its range, past scale s and t in theirs; before the scale no form of a part was given; after the
 --                end none is missing
 --   made-sound — every such loader is sound;  made-size — so none has an n of its own out of range
-use mathlib.Core.Path.{_≡_, refl, sym, ap, subst, _∙_}
-use mathlib.Core.Bool.{Bool, true, false, not, _&&_}
+use mathlib.Core.Path.{_≡_, refl, sym, subst, _∙_}
+use mathlib.Core.Bool.{Bool, true, false, not}
 use mathlib.Core.List.{List, [], _∷_}
-use Prim.Native.Nat.{ℕ, _≤_, _-_}
+use Prim.Native.Nat.{ℕ, _-_}
 use native.Mathlib.Omega.{arith}
 use borrow.Author.Tests.{not-false, ltb-false}
-use lib.Dec.{T, ltb}
+use lib.Dec.{T}
 use lib.IntN.{ℤ, pos, natAbs}
-use lib.ListN.{length, set, length-set, replicate}
+use lib.ListN.{length, length-set, replicate}
 use Rattle.rules.specs.Range.{inRange, rangeOf, ranges}
 use Rattle.rules.specs.declared.Kind.{Kind}
 use Rattle.rules.specs.declared.Kind.the-variants as kind
@@ -18,12 +18,11 @@ use Rattle.rules.proofs.Ranges.{both-left, both-right, range-natural}
 use Rattle.form.specs.Form.{Form, problem, scale, row, right, guess, inverse, weight, end}
 use Rattle.items.specs.Item.{itemOf}
 use Rattle.items.specs.Lists.{Lists}
-use Rattle.items.specs.declared.Item.{Item}
 use Rattle.items.specs.declared.Item.the-variants.{Of}
 use Rattle.items.specs.declared.Part.{Part}
 use Rattle.items.specs.declared.Part.the-variants.{Row, Right, Guess, Inverse, Weight}
 use Rattle.places.proofs.Places.{has-none}
-use Rattle.progress.specs.Progress.{given, marked, missing, sized, scaled, ended}
+use Rattle.progress.specs.Progress.{given, missing, sized, scaled, ended}
 use Rattle.progress.specs.declared.Stage.{Stage}
 use Rattle.progress.specs.declared.Stage.the-variants.{Start, Sized, Scaled, Ended}
 use Rattle.progress.proofs.Progress.{late}
@@ -33,7 +32,7 @@ use Rattle.loader.specs.Taken.{fresh, after, loaderAfter}
 use Rattle.loader.proofs.Form.{Passed}
 use Rattle.loader.proofs.Exact.{formCase}
 use Rattle.loader.proofs.Said.{refused-leaves}
-use Rattle.loader.proofs.Accepted.{Accepted, accepted-form}
+use Rattle.loader.proofs.Accepted.{accepted-form}
 use Rattle.collected.specs.Run.{Made, new, taken}
 
 pub record Sound (d : Loader) : Type 0 where

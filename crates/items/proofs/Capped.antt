@@ -2,10 +2,10 @@
 --   placed-capped, outside-capped, miscounted-capped — the tests say the same of both
 --   item-exact — a form of which they do not hold is its capped form
 --   put-exact  — and its numbers, as the code has them, leave what the exact ones leave
-use mathlib.Core.Path.{_≡_, refl, sym, ap, ap₂, subst, _∙_}
+use mathlib.Core.Path.{_≡_, refl, sym, ap, ap₂, _∙_}
 use mathlib.Core.Bool.{Bool, true, false, not, _&&_, cond}
 use mathlib.Core.List.{List, [], _∷_}
-use Prim.Native.Nat.{ℕ, zero, suc, _*_, _-_, _≤_, _<_, _^_}
+use Prim.Native.Nat.{ℕ, zero, suc, _*_, _-_, _≤_, _<_}
 use native.Mathlib.Omega.{arith}
 use borrow.Author.Tests.{eqb-true, not-false}
 use lib.Dec.{eqb}
@@ -22,8 +22,7 @@ use Rattle.numeral.proofs.Cap.{cap-between, cap-range, cap-small, cap-in}
 use Rattle.form.specs.Form.{Form, problem, scale, row, right, guess, inverse, weight, end}
 use Rattle.form.specs.List.{numbersOf, allInside, firstValues}
 use Rattle.line.specs.Line.{cappedForm, numbersIn}
-use Rattle.items.specs.declared.Item.{Item}
-use Rattle.items.specs.declared.Item.the-variants.{Problem, Scale, Of, End}
+use Rattle.items.specs.declared.Item.the-variants.{Problem, Scale, Of}
 use Rattle.items.specs.declared.Part.{Part}
 use Rattle.items.specs.declared.Part.the-variants.{Row, Right, Guess, Inverse, Weight}
 use Rattle.items.specs.Item.{itemOf, valuesOf, placed, outside, miscounted}

@@ -4,7 +4,7 @@
 --   stride     — the numbers of a form end at 32 · w
 --   put-same, put-other — what a form of the part itself, and of another part, leaves
 use mathlib.Core.Path.{_≡_, refl, sym, ap, subst, _∙_}
-use mathlib.Core.Bool.{Bool, true, false, _&&_}
+use mathlib.Core.Bool.{true, _&&_}
 use mathlib.Core.List.{List, _++_}
 use Prim.Native.Nat.{ℕ, suc, _+_, _*_, _-_, _≤_}
 use native.Mathlib.Nat.{mul-le-mul-right, suc-mul}

@@ -1,19 +1,18 @@
 -- An accepted line is a form, which no test refuses, and leaves what that form gives.
 --   Accepted, accepted-form
-use mathlib.Core.Path.{_≡_, refl, sym, ap, subst, _∙_}
-use mathlib.Core.Bool.{Bool, true, false}
-use mathlib.Core.List.{List, [], _∷_}
+use mathlib.Core.Path.{_≡_, refl, sym, subst, _∙_}
+use mathlib.Core.Bool.{true, false}
+use mathlib.Core.List.{List, []}
 use mathlib.Core.Option.{Option, none, some}
 use Prim.Native.Nat.{ℕ}
-use lib.Dec.{T, ltb}
-use lib.ListN.{length}
+use lib.Dec.{T}
 use Rattle.form.specs.Form.{Form}
 use Rattle.form.specs.Reading.{reading}
 use Rattle.items.specs.Item.{itemOf}
 use Rattle.items.specs.Lists.{Lists, short, putAll}
 use Rattle.progress.specs.Progress.{ended}
 use Rattle.loader.specs.declared.Loader.{Loader}
-use Rattle.loader.specs.Order.{Case, caseOf, answer, ofForm}
+use Rattle.loader.specs.Order.{caseOf, answer, ofForm}
 use Rattle.loader.specs.Taken.{after, loaderAfter, listsAfter}
 use Rattle.loader.proofs.Form.{Passed, passed}
 use Rattle.loader.proofs.Exact.{formCase, formSaid, answer-form}

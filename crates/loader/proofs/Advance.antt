@@ -1,10 +1,10 @@
 -- Laws of the loader after an accepted form, in the shape in which the code meets them.
 --   size-small, scale-small, time-small — n, s and t in their ranges are 0 to 32
 --   after-problem, after-scale, after-part, after-end — the loader that the code makes
-use mathlib.Core.Path.{_≡_, refl, sym, ap, subst, _∙_}
-use mathlib.Core.Bool.{Bool, true, false, _&&_}
+use mathlib.Core.Path.{_≡_, refl, sym, subst}
+use mathlib.Core.Bool.{true, _&&_}
 use mathlib.Core.List.{List}
-use Prim.Native.Nat.{ℕ, zero, _≤_, max}
+use Prim.Native.Nat.{ℕ, _≤_}
 use native.Mathlib.Omega.{arith}
 use borrow.Author.Tests.{le-leb}
 use lib.IntN.{ℤ, pos, natAbs}

@@ -3,21 +3,20 @@
 --   answer-form  — what is said of a line that is a form is what is said of the form
 --   said-capped  — and of its capped form
 --   exact-loader, exact-lists — where nothing is said, both leave the same
-use mathlib.Core.Path.{_≡_, refl, sym, ap, _∙_}
-use mathlib.Core.Bool.{Bool, true, false, not, cond}
+use mathlib.Core.Path.{_≡_, refl, ap, _∙_}
+use mathlib.Core.Bool.{Bool, true, false, cond}
 use mathlib.Core.List.{List, [], _∷_}
-use mathlib.Core.Option.{Option, none, some}
-use Prim.Native.Nat.{ℕ, _<_, _≤_, _^_}
-use native.Mathlib.Omega.{arith}
+use mathlib.Core.Option.{none, some}
+use Prim.Native.Nat.{ℕ, _<_}
 use lib.Dec.{ltb}
-use lib.IntN.{ℤ, pos, natAbs}
+use lib.IntN.{ℤ}
 use lib.ListN.{length}
 use Rattle.rules.specs.Order.{verdict}
-use Rattle.numeral.specs.Numeral.{cap, capAt}
+use Rattle.numeral.specs.Numeral.{capAt}
 use Rattle.form.specs.Form.{Form, problem, scale, row, right, guess, inverse, weight, end}
 use Rattle.form.specs.Reading.{reading}
 use Rattle.line.specs.Line.{cappedForm, numbersIn}
-use Rattle.items.specs.Item.{itemOf, valuesOf, placed, outside, miscounted}
+use Rattle.items.specs.Item.{itemOf, outside, miscounted}
 use Rattle.items.specs.Lists.{Lists, short, putAll, putIn}
 use Rattle.items.specs.Capped.{itemIn, valuesIn, putWide, putAllIn}
 use Rattle.items.specs.declared.Item.{Item}
@@ -27,9 +26,9 @@ use Rattle.items.proofs.Capped.{placed-capped, outside-capped, miscounted-cappe
 use Rattle.loader.specs.declared.Loader.{Loader}
 use Rattle.progress.specs.declared.Stage.{Stage}
 use Rattle.progress.specs.Progress.{ended, early, misplaced, repeated, incomplete, missing}
-use Rattle.loader.specs.Order.{Case, order, caseOf, answer}
+use Rattle.loader.specs.Order.{Case, order, answer}
 use Rattle.loader.specs.Taken.{after}
-use Rattle.loader.specs.Capped.{caseIn, saidIn}
+use Rattle.loader.specs.Capped.{saidIn}
 use Rattle.progress.proofs.Progress.{placed-of}
 use Rattle.items.proofs.Lists.{lists-≡}
 use Rattle.loader.proofs.Form.{Passed, passed, room-by}

@@ -2,15 +2,14 @@
 --   Passed, passed — where nothing is said, no test holds
 --   fits-of, room-of — then its numbers are in their ranges, and there is room for them
 --   taken-refused, taken-accepted — what the code leaves
-use mathlib.Core.Path.{_≡_, refl, sym, ap, subst, _∙_}
-use mathlib.Core.Bool.{Bool, true, false, not, cond}
+use mathlib.Core.Path.{_≡_, refl, sym, ap, _∙_}
+use mathlib.Core.Bool.{Bool, true, false}
 use mathlib.Core.List.{List, [], _∷_}
-use Prim.Native.Nat.{ℕ, _*_, _≤_}
+use Prim.Native.Nat.{ℕ}
 use native.Mathlib.Omega.{arith}
 use borrow.Author.Tests.{not-false}
 use lib.IntN.{ℤ}
-use Rattle.rules.specs.Order.{accepted, verdict}
-use Rattle.rules.specs.Range.{inRange}
+use Rattle.rules.specs.Order.{verdict}
 use Rattle.rules.specs.Refusal.{said, numberOf, valuesOf}
 use Rattle.rules.specs.declared.Outcome.{Outcome}
 use Rattle.rules.specs.declared.Outcome.the-variants.{Accepted, Refused}
@@ -24,7 +23,7 @@ use Rattle.items.specs.Capped.{itemIn, outsideIn, valuesIn, putAllIn, Room}
 use Rattle.items.specs.declared.Item.{Item}
 use Rattle.items.specs.declared.Item.the-variants.{Problem, Scale, Of, End}
 use Rattle.loader.specs.declared.Loader.{Loader}
-use Rattle.progress.specs.Progress.{early, misplaced, repeated, incomplete, missing}
+use Rattle.progress.specs.Progress.{early, misplaced, repeated, incomplete}
 use Rattle.loader.specs.Order.{Case, order}
 use Rattle.loader.specs.Taken.{after}
 use Rattle.loader.specs.Capped.{caseIn, saidIn, fits, TakenIn}

@@ -2,7 +2,7 @@
 --   said-8, said-14, said-1, said-2, said-11, said-3, said-4, said-12, said-13, said-none;  count-13 — the count that 13 gives
 --   refused-leaves — a refused line leaves the loader and the lists as they were; so after 13 the loader can still be completed
 --   own-size       — past problem, a loader whose own n is outside its range answers 3 to every line that reaches the test
-use mathlib.Core.Path.{_≡_, refl, sym, _∙_}
+use mathlib.Core.Path.{_≡_, refl}
 use mathlib.Core.Bool.{Bool, true, false, _||_, cond}
 use mathlib.Core.List.{List, [], _∷_}
 use mathlib.Core.Logic.{_↔_}
@@ -12,14 +12,14 @@ use native.Mathlib.Omega.{arith}
 use lib.Dec.{ltb}
 use lib.IntN.{pos}
 use lib.ListN.{length, take, drop}
-use Rattle.rules.specs.Order.{Test, number, verdict}
+use Rattle.rules.specs.Order.{Test, number}
 use Rattle.rules.specs.Range.{inRange}
 use Rattle.rules.specs.declared.Kind.the-variants.{Size}
 use Rattle.form.specs.Form.{Form}
 use Rattle.form.specs.Reading.{reading}
 use Rattle.items.specs.Item.{itemOf}
 use Rattle.items.specs.Lists.{Lists, short}
-use Rattle.progress.specs.Progress.{missing, ended, sized, misplaced}
+use Rattle.progress.specs.Progress.{missing, ended, sized}
 use Rattle.progress.proofs.Progress.{misplaced-own}
 use Rattle.loader.specs.declared.Loader.{Loader}
 use Rattle.loader.specs.Order.{Case, order, caseOf, answer}

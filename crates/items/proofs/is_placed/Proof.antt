@@ -5,7 +5,7 @@ use mir.Syntax.{w64}
 use lib.Signed.{leZ}
 use lib.IntN.{pos}
 use mathlib.Core.Bool.{true, false}
-use mathlib.Core.Path.{_≡_, sym, _∙_}
+use mathlib.Core.Path.{_≡_}
 use borrow.Author.Needs.{needs}
 use Rattle.items.proofs.is_placed.Statement.{statement}
 use Rattle.items.proofs.is_placed.Tie as tie

@@ -1,5 +1,4 @@
 use borrow.Author.Tests.{lt-ltb, le-ltb}
-use borrow.Author.Needs.{needs}
 use Rattle.items.proofs.is_short.Statement.{statement}
 use Rattle.items.proofs.is_short.Tie as tie
 

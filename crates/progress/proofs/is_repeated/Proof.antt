@@ -2,7 +2,6 @@ use Rattle.progress.specs.Progress.{given}
 use mir.Facts.{toZ-ofZ}
 use mir.Val.{SFits}
 use mir.Syntax.{w64}
-use Prim.Native.Nat.{ℕ}
 use mathlib.Core.Path.{ap, _∙_}
 use borrow.Author.Needs.{needs}
 use Rattle.progress.proofs.is_repeated.Statement.{statement}
