@@ -60,14 +60,14 @@ fn print_outcome(outcome: Outcome) {
 }
 
 // The first count numbers of a list; a dash where nothing was written.
-fn print_limits(limits: &[u64], count: usize) {
+fn print_bounds(bounds: &[u64], count: usize) {
     for i in 0..count {
-        if i < limits.len() {
+        if i < bounds.len() {
             print_text(b" ");
-            if limits[i] == UNWRITTEN {
+            if bounds[i] == UNWRITTEN {
                 print_text(b"-");
             } else {
-                print_number(limits[i]);
+                print_number(bounds[i]);
             }
         }
     }
@@ -109,9 +109,9 @@ fn run(
     print_text(b": ");
     print_outcome(outcome);
     print_text(b"; solution");
-    print_limits(&solution_bounds, 2);
+    print_bounds(&solution_bounds, 2);
     print_text(b"; inverse");
-    print_limits(&inverse_bounds, 4);
+    print_bounds(&inverse_bounds, 4);
     print_text(b"\n");
 }
 

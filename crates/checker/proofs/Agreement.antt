@@ -1,7 +1,7 @@
 -- The rest of each list is not read: inputs that agree on the places used get the same answer and the same limits.
 --   same-answer — what is said;  same-solution, same-inverse — the limits that are written
-use mathlib.Core.Path.{_≡_, refl, sym, ap, ap₂, _∙_, subst}
-use mathlib.Core.Bool.{Bool, true, false, _&&_}
+use mathlib.Core.Path.{_≡_, refl, sym, ap, _∙_}
+use mathlib.Core.Bool.{false}
 use mathlib.Core.List.{List, []}
 use Prim.Native.Nat.{ℕ, zero, suc, _+_, _*_, _/_, _%_, _≤_, _<_}
 use native.Mathlib.Omega.{arith}
@@ -9,22 +9,19 @@ use native.Mathlib.Nat.{mod-lt, div-lt-iff-lt-mul}
 use lib.IntN.{ℤ, pos, natAbs}
 use lib.ListN.{getD}
 use lib.Signed.{leZ}
-use Rattle.integer.specs.Finite.{first}
 use Rattle.integer.proofs.Search.{first-ext}
 use Rattle.linear.specs.Matrix.{column, identity}
 use Rattle.linear.specs.Slice.{at, vectorOf, matrixOf}
 use Rattle.linear.proofs.Places.{place, square}
-use Rattle.rules.specs.Range.{allInRange}
 use Rattle.rules.specs.declared.Kind.the-variants as kind
 use Rattle.rules.proofs.Ranges.{all-ext}
-use Rattle.rules.proofs.Verdicts.{accepted-new}
-use Rattle.enclosure.specs.Problem.{Problem, columnOf}
-use Rattle.enclosure.specs.Reckoning.{margin, marginFails, residual, exceeds, bound, inverseBound}
+use Rattle.enclosure.specs.Problem.{columnOf}
+use Rattle.enclosure.specs.Reckoning.{marginFails, residual, exceeds, bound, inverseBound}
 use Rattle.enclosure.proofs.Agreement.{margin-same, residual-same, bound-same}
 use Rattle.checker.specs.Checked.{solutionBoundsAfter, inverseBoundsAfter}
-use Rattle.checker.specs.Input.{Input, input, problem, short, sizesInRange, listsInRange, inRanges}
-use Rattle.checker.specs.Order.{firstMargin, firstResidual, firstColumn, answer}
-use Rattle.checker.specs.Stated.{Agree, Usable}
+use Rattle.checker.specs.Input.{Input, input, problem, short, inRanges}
+use Rattle.checker.specs.Order.{answer}
+use Rattle.checker.specs.Stated.{Agree}
 use Rattle.checker.proofs.Contract.{Long, long-of, ready-of}
 use Rattle.checker.proofs.Statements.{accepted-usable}
 use Rattle.checker.proofs.Written.{written-at, solution-written, inverse-written}

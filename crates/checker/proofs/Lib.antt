@@ -1,6 +1,6 @@
 pub mod Written
 pub mod Places
-pub mod Limits
+pub mod Bounded
 pub mod Outcome
 pub mod Contract
 pub mod Statements

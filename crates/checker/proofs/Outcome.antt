@@ -26,7 +26,7 @@ use Rattle.bounds.specs.Ratio.{Positive}
 use Rattle.checker.specs.Input.{Input, problem}
 use Rattle.checker.specs.Order.{reckoned}
 use Rattle.checker.specs.Ready.{Ready, Reckoned, saidOf}
-use Rattle.checker.proofs.Limits.{solution-limit, inverse-limit}
+use Rattle.checker.proofs.Bounded.{solution-bound, inverse-bound}
 use Rattle.checker.proofs.Places.{first-margin, first-residual, first-column, positive, near, NoPlace, accepted-places}
 use Rattle.checker.proofs.Written.{written-stored, written-columns}
 
@@ -76,11 +76,11 @@ module _ (I : Input) (ready : Ready I) {margins : List ℕ} {residuals columns :
           says = s;
           solution-bounds = eE
               ∙ written-stored (I .n) (λ (x : ℕ). getD column x 0) (bound (problem I)) (I .solutionBounds)
-              (λ x l. h .each x l ∙ solution-limit I margins (a .hm) positive-here residuals (a .hr) x)
+              (λ x l. h .each x l ∙ solution-bound I margins (a .hm) positive-here residuals (a .hr) x)
               ∙ sym (accepted-new _ _ (sym s));
           inverse-bounds = eL
               ∙ written-columns (I .n) (λ (b c : ℕ). boundFrom (I .n) (columnSizes (I .n) (I .inverse) columns (c * I .n)) (λ (x : ℕ). getD margins x 0) (λ (x : ℕ). natAbs (at (I .weights) x)) b)
               (inverseBound (problem I)) (I .inverseBounds) (ready .some) (omega (arith, square (ready .few), ready .inverse-long))
-              (inverse-limit I margins (a .hm) positive-here columns (a .hc))
+              (inverse-bound I margins (a .hm) positive-here columns (a .hc))
               ∙ sym (accepted-new _ _ (sym s));
         }

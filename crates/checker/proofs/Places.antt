@@ -1,10 +1,10 @@
 -- The first rows that are refused, from what the arrays hold, and what holds where none is.
 --   first-margin, first-residual, first-column — the code's searches are the definition's
 --   accepted-places — nothing is said only where there is no such row
---   positive, near, near-columns — then every margin is above 0, every residual at most 2^25 in size
+--   positive, near — then every margin is above 0, every residual at most 2^25 in size
 use mathlib.Core.Path.{_≡_, refl, sym, _∙_}
 use mathlib.Core.Bool.{Bool, true, false}
-use mathlib.Core.List.{List, [], _∷_}
+use mathlib.Core.List.{List, []}
 use Prim.Native.Nat.{ℕ, zero, suc, _*_, _-_, _/_, _%_, _≤_, _<_, _^_}
 use native.Mathlib.Omega.{arith}
 use native.Mathlib.Nat.{mul-le-mul}
@@ -16,6 +16,7 @@ use Rattle.integer.specs.Finite.{first}
 use Rattle.integer.proofs.Search.{first-ext, first-past}
 use Rattle.linear.specs.Slice.{at}
 use Rattle.rules.specs.Order.{verdict}
+use Rattle.rules.proofs.Verdicts.{nothing-is-not}
 use Rattle.enclosure.specs.Problem.{T, columnOf}
 use Rattle.enclosure.specs.Reckoning.{defect, load, margin, marginFails, residual, exceeds}
 use Rattle.enclosure.proofs.Margin.{margin-test}
@@ -93,11 +94,8 @@ pub record NoPlace (n m k i : ℕ) : Type 0 where
 pub accepted-places : (n m k i : ℕ) → verdict (reckoned n m k i) ≡ [] → NoPlace n m k i
 accepted-places n m k i e = go (ltb m n) refl (ltb k n) refl (ltb i (n * n)) refl
   where
-    clash : {x : ℕ} {xs : List ℕ} → x ∷ xs ≡ [] → ⊥
-    clash p = let z : _≡_ {A = ℕ} 0 1 = cc in omega arith
-
     go : (x : Bool) → ltb m n ≡ x → (y : Bool) → ltb k n ≡ y → (z : Bool) → ltb i (n * n) ≡ z → NoPlace n m k i
-    go true p y q z r = absurd (clash (rw p at e))
-    go false p true q z r = absurd (clash (rw (p, q) at e))
-    go false p false q true r = absurd (clash (rw (p, q, r) at e))
+    go true p y q z r = absurd (nothing-is-not (rw p at e))
+    go false p true q z r = absurd (nothing-is-not (rw (p, q) at e))
+    go false p false q true r = absurd (nothing-is-not (rw (p, q, r) at e))
     go false p false q false r = record { margin = ltb-false m n p; residual = ltb-false k n q; column = ltb-false i (n * n) r }

@@ -4,9 +4,7 @@
 use mathlib.Core.Path.{_≡_, refl, _∙_}
 use mathlib.Core.Bool.{true}
 use mathlib.Core.List.{[]}
-use native.Mathlib.Omega.{arith}
-use lib.Dec.{lit<, lit≤}
-use lib.ListN.{replicate}
+use lib.Dec.{lit<}
 use Rattle.integer.specs.Finite.{sum, sumℕ, largest, first}
 use Rattle.integer.specs.Quotient.{ceilDiv}
 use Rattle.linear.specs.Matrix.{apply, product, identity}
@@ -15,20 +13,19 @@ use Rattle.enclosure.specs.Demand.{RoundedExact}
 use Rattle.enclosure.specs.Example as example
 use Rattle.enclosure.specs.Reckoning.{defect, load, margin, residual, image, sizes, boundFrom, bound}
 use Rattle.enclosure.proofs.Instance.{file-rounded, file-sound}
-use Rattle.checker.specs.Cases.{cases, allHold}
+use Rattle.checker.specs.Cases.{cases, allHold, inputOf, e}
 use Rattle.checker.specs.Checked.{written, solutionBoundsAfter, inverseBoundsAfter}
-use Rattle.checker.specs.Input.{Input, input, problem}
+use Rattle.checker.specs.Input.{Input, problem}
 use Rattle.checker.specs.Order.{answer}
 use Rattle.checker.specs.Stated.{Usable}
 use Rattle.checker.proofs.Contract.{answer-ready, sound-said}
-use Rattle.checker.proofs.Statements.{accepted-usable}
 
 pub cases-hold : allHold cases ≡ true
 unfolding answer solutionBoundsAfter inverseBoundsAfter written bound boundFrom sizes image residual margin load defect product apply identity sum sumℕ largest first ceilDiv allInRange inRange rangeOf ranges
 cases-hold = refl
 
 abbrev pub fileInput : Input
-fileInput = input 2 4 4 example.matrix example.right example.guess example.inverse example.weights (replicate 32 0) (replicate 1024 0)
+fileInput = inputOf e
 
 pub file-usable : Usable fileInput
 unfolding allInRange inRange rangeOf ranges

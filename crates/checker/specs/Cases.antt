@@ -1,8 +1,12 @@
 -- Cases a to k of document 01 ("Marked for proof"), as rows of a table. Rows and columns count from 1, as there.
 --   Claim   — a limit that 01 states: of the solution, or of a number of the inverse
 --   Row     — a proposal, what is said of it (nothing: accepted), and the limits that 01 states
---   inputOf — the row's numbers in lists that are long enough;  holds — the claims are what the definitions of the contract give
-use mathlib.Core.Bool.{Bool, true, _&&_}
+--   single, file, twice — rows of a common shape;  a to k — the rows;  cases — the table
+--   unwritten — what stands in the limit lists before the check
+--   inputOf — the row's numbers in lists that are long enough
+--   claimed, allClaimed — a limit, all limits that a row states are what the definitions of the contract give
+--   sameNumbers — two lists of numbers are equal;  holds, allHold — a row, all rows of the table hold
+use mathlib.Core.Bool.{Bool, true, false, _&&_}
 use mathlib.Core.List.{List, [], _∷_}
 use Prim.Native.Nat.{ℕ, _+_, _*_, _-_}
 use lib.Dec.{eqb}
@@ -14,8 +18,8 @@ use Rattle.checker.specs.Order.{answer}
 use Rattle.checker.specs.Checked.{solutionBoundsAfter, inverseBoundsAfter}
 
 pub data Claim : Type 0 where
-  solution : (i limit : ℕ) → Claim
-  inverse : (i j limit : ℕ) → Claim
+  solution : (i bound : ℕ) → Claim
+  inverse : (i j bound : ℕ) → Claim
 
 pub record Row : Type 0 where
   pub n : ℕ
@@ -27,15 +31,15 @@ pub record Row : Type 0 where
   pub G : List ℤ
   pub w : List ℤ
   pub says : List ℕ
-  pub limits : List Claim
+  pub bounds : List Claim
 
 -- n = 1, b = 0, w = 1
 abbrev pub single : ℤ → ℕ → ℕ → ℤ → ℤ → List ℕ → List Claim → Row
-single a s t x g says limits = record { n = 1; s = s; t = t; A = a ∷ []; b = pos 0 ∷ []; X = x ∷ []; G = g ∷ []; w = pos 1 ∷ []; says = says; limits = limits }
+single a s t x g says bounds = record { n = 1; s = s; t = t; A = a ∷ []; b = pos 0 ∷ []; X = x ∷ []; G = g ∷ []; w = pos 1 ∷ []; says = says; bounds = bounds }
 
 -- the whole file, with another guess and other weights
 abbrev pub file : ℤ → ℤ → ℤ → ℤ → List Claim → Row
-file x y v w limits = record {
+file x y v w bounds = record {
   n = 2;
   s = 4;
   t = 4;
@@ -45,12 +49,12 @@ file x y v w limits = record {
   G = pos 4 ∷ pos 1 ∷ pos 1 ∷ pos 6 ∷ [];
   w = v ∷ w ∷ [];
   says = [];
-  limits = limits;
+  bounds = bounds;
 }
 
 -- A = (1,048,576 0 / 0 1), b = X = 0
 abbrev pub twice : ℤ → List ℕ → List Claim → Row
-twice g says limits = record {
+twice g says bounds = record {
   n = 2;
   s = 0;
   t = 20;
@@ -60,7 +64,7 @@ twice g says limits = record {
   G = pos 1 ∷ g ∷ pos 0 ∷ pos 1048576 ∷ [];
   w = pos 1 ∷ pos 1 ∷ [];
   says = says;
-  limits = limits;
+  bounds = bounds;
 }
 
 abbrev pub a : Row
@@ -99,12 +103,16 @@ k = twice (pos 33) (7 ∷ 2 ∷ 1 ∷ []) []
 abbrev pub cases : List Row
 cases = a ∷ b ∷ c ∷ d ∷ e ∷ f ∷ g ∷ h ∷ i ∷ j ∷ k ∷ []
 
+-- no limit is as large
+abbrev pub unwritten : ℕ
+unwritten = 1152921504606846977
+
 abbrev pub inputOf : Row → Input
-inputOf r = input (r .n) (r .s) (r .t) (padded (r .A)) (padded (r .b)) (padded (r .X)) (padded (r .G)) (padded (r .w)) (replicate 32 0) (replicate 1024 0)
+inputOf r = input (r .n) (r .s) (r .t) (padded (r .A)) (padded (r .b)) (padded (r .X)) (padded (r .G)) (padded (r .w)) (replicate 32 unwritten) (replicate 1024 unwritten)
 
 abbrev pub claimed : Input → Claim → Bool
-claimed I (solution i limit) = eqb (getD (solutionBoundsAfter I) (i - 1) 0) limit
-claimed I (inverse i j limit) = eqb (getD (inverseBoundsAfter I) ((i - 1) * I .n + (j - 1)) 0) limit
+claimed I (solution i bound) = eqb (getD (solutionBoundsAfter I) (i - 1) 0) bound
+claimed I (inverse i j bound) = eqb (getD (inverseBoundsAfter I) ((i - 1) * I .n + (j - 1)) 0) bound
 
 abbrev pub allClaimed : Input → List Claim → Bool
 allClaimed I [] = true
@@ -112,12 +120,12 @@ allClaimed I (x ∷ xs) = claimed I x && allClaimed I xs
 
 abbrev pub sameNumbers : List ℕ → List ℕ → Bool
 sameNumbers [] [] = true
-sameNumbers [] (y ∷ ys) = eqb 0 1
-sameNumbers (x ∷ xs) [] = eqb 0 1
+sameNumbers [] (y ∷ ys) = false
+sameNumbers (x ∷ xs) [] = false
 sameNumbers (x ∷ xs) (y ∷ ys) = eqb x y && sameNumbers xs ys
 
 abbrev pub holds : Row → Bool
-holds r = sameNumbers (answer (inputOf r)) (r .says) && allClaimed (inputOf r) (r .limits)
+holds r = sameNumbers (answer (inputOf r)) (r .says) && allClaimed (inputOf r) (r .bounds)
 
 abbrev pub allHold : List Row → Bool
 allHold [] = true

@@ -1,8 +1,11 @@
 -- What is handed to a check on lists, and whether it can be used.
 --   Input    — n, s, t, the five lists of numbers and the two limit lists as they come in
+--   input    — an input from its parts
 --   problem  — its problem (the first n × n numbers of a matrix list, row after row, the first n of a column list)
---   short I  — 8: a lent list is too short (a matrix list has at least 1,024 numbers, a column list at least 32)
---   inRanges I — n, s, t and every number used are in their ranges; 3 where they are not
+--   anyShort — a list of one of these lengths is too short: a matrix list has at least 1,024 numbers, a column list at least 32
+--   short I  — 8: a lent list is too short
+--   sizesInRange, listsInRange — n, s and t, and the numbers used of the lists, are in their ranges
+--   inRanges I — all of these; 3 where they are not
 use mathlib.Core.Bool.{Bool, _&&_, _||_}
 use mathlib.Core.List.{List}
 use Prim.Native.Nat.{ℕ, _*_}

@@ -1,6 +1,6 @@
 -- Input that passes 8 and 3, and what the reckoning makes of it; cited by the contracts inside.
 --   Ready    — n, s, t in their ranges, the lists long enough, every number used in its range
---   Reckoned — what is said of it, and the two limit lists
+--   saidOf   — what is said of it;  Reckoned — that, and the two limit lists
 use mathlib.Core.List.{List}
 use mathlib.Core.Path.{_≡_}
 use Prim.Native.Nat.{ℕ, _*_, _/_, _%_, _≤_, _<_, _^_}

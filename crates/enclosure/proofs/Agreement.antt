@@ -1,16 +1,14 @@
 -- The reckoning uses only the first n numbers of each list: problems that agree on them have the same margins, residuals and limits.
 --   margin-same, residual-same, bound-same — of row m, k and i; for a column of the inverse they are used with its problem
-use mathlib.Core.Path.{_≡_, refl, ap, ap₂}
+use mathlib.Core.Path.{_≡_, ap, ap₂}
 use Prim.Native.Nat.{ℕ, _*_, _^_, _<_}
 use lib.IntN.{ℤ, pos, natAbs, _-ℤ_, _*ℤ_}
-use lib.Signed.{leZ}
-use Rattle.integer.specs.Finite.{sum, sumℕ, largest}
 use Rattle.integer.specs.Quotient.{ceilDiv}
 use Rattle.integer.proofs.Search.{largest-ext}
 use Rattle.integer.proofs.Sum.{sum-ext, sumℕ-ext}
 use Rattle.linear.specs.Matrix.{Vec, Mat, column, apply, product, identity}
-use Rattle.enclosure.specs.Problem.{Problem, columnOf}
-use Rattle.enclosure.specs.Reckoning.{defect, load, margin, marginFails, residual, image, sizes, boundFrom, bound, inverseBound}
+use Rattle.enclosure.specs.Problem.{Problem}
+use Rattle.enclosure.specs.Reckoning.{defect, load, margin, residual, image, sizes, boundFrom, bound}
 
 apply-same : (n : ℕ) (A B : Mat) (u v : Vec) (k : ℕ) → ((j : ℕ) → j < n → A k j ≡ B k j) → ((j : ℕ) → j < n → u j ≡ v j) → apply n A u k ≡ apply n B v k
 unfolding apply

@@ -1,6 +1,5 @@
 -- Laws of the limits of a column.
---   bound-covers — w_i·sizes_m ≤ limit_i·margins_m: the limit covers every row
---   bound-least  — and is the least whole number that does
+--   bound-least, bound-covers — the limit is the least whole number that covers every row: w_i·sizes_m ≤ limit_i·margins_m
 --   bound-at     — it is the rounded-up quotient of a row where sizes / margins is largest
 --   bound-ext    — sizes and margins that agree on the first n rows give the same limits
 use mathlib.Core.Path.{_≡_}
@@ -13,15 +12,15 @@ use Rattle.integer.proofs.Search.{largest-at, largest-≤, largest-ext}
 use Rattle.enclosure.specs.Reckoning.{boundFrom}
 
 module _ (n : ℕ) (sizes margins w : ℕ → ℕ) (i : ℕ) where
+  pub bound-least : (E : ℕ) → ((m : ℕ) → m < n → 0 < margins m) → ((m : ℕ) → m < n → w i * sizes m ≤ E * margins m) → boundFrom n sizes margins w i ≤ E
+  unfolding boundFrom
+  bound-least E h c = largest-≤ n (λ (k : ℕ). ceilDiv (w i * sizes k) (margins k)) E (λ m l. ceil-least (w i * sizes m) (margins m) E (h m l) (c m l))
+
   pub bound-covers : (m : ℕ) → m < n → 0 < margins m → w i * sizes m ≤ boundFrom n sizes margins w i * margins m
   unfolding boundFrom
   bound-covers m l h =
       le-trans (ceil-covers (w i * sizes m) (margins m) h)
       (mul-le-mul-right (margins m) (largest-at n (λ (k : ℕ). ceilDiv (w i * sizes k) (margins k)) m l))
-
-  pub bound-least : (E : ℕ) → ((m : ℕ) → m < n → 0 < margins m) → ((m : ℕ) → m < n → w i * sizes m ≤ E * margins m) → boundFrom n sizes margins w i ≤ E
-  unfolding boundFrom
-  bound-least E h c = largest-≤ n (λ (k : ℕ). ceilDiv (w i * sizes k) (margins k)) E (λ m l. ceil-least (w i * sizes m) (margins m) E (h m l) (c m l))
 
 ratio : (w p g P G C : ℕ) → p * G ≤ P * g → w * P ≤ C * G → 0 < G → w * p ≤ C * g
 ratio w p g P G C h k o =

@@ -19,7 +19,7 @@ use Rattle.enclosure.specs.Problem.{Problem, S, T}
 use Rattle.enclosure.specs.Reckoning.{defect, load, margin, marginFails, residual, image, sizes, bound}
 use Rattle.enclosure.specs.Schroeder.{start, next, Condition29, Steepest}
 use Rattle.enclosure.proofs.Bounds.{bound-at}
-use Rattle.enclosure.proofs.Enclosure.{apply-defect, Peak, peak-of}
+use Rattle.enclosure.proofs.Enclosure.{apply-defect, peak-of}
 use Rattle.enclosure.proofs.Margin.{margin-sum, margin-above}
 
 swap : (d x y : ℤ) → d +ℤ x -ℤ (d +ℤ y) ≡ negℤ (y -ℤ x)
@@ -36,8 +36,10 @@ start-next P i l =
     ap natAbs e ∙ abs-neg (y -ℤ x) ∙ ap natAbs (sym f)
 
 module _ (P : Problem) (hm : (m : ℕ) → m < P .n → marginFails P m ≡ false) where
-  pub steepest : 0 < P .n → Peak (P .n) (λ (m : ℕ). natAbs (image P m)) (λ (m : ℕ). natAbs (margin P m))
-  steepest = peak-of (P .n) (λ (m : ℕ). natAbs (image P m)) (λ (m : ℕ). natAbs (margin P m)) (λ m l. margin-above P m (hm m l))
+  pub steepest : 0 < P .n → (k : ℕ) × Steepest P k
+  steepest some =
+      let p = peak-of (P .n) (λ (m : ℕ). natAbs (image P m)) (λ (m : ℕ). natAbs (margin P m)) (λ m l. margin-above P m (hm m l)) some in
+      (p .at, record { below = p .below; most = p .best })
 
   pub condition : (k : ℕ) → Steepest P k → Condition29 P k
   condition k x = record { holds = at-row }

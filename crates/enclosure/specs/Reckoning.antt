@@ -4,11 +4,11 @@
 --   margin P m  — g_m = T·w_m − load, a whole number with its sign
 --   marginFails P m — that margin is 0 or less (refusal 5)
 --   residual P  — r = S·b − A·X;  residual (columnOf P j) is that of the inverse's column j
---   exceeds P k z — the residual z of row k is above 2^25 = 33,554,432 in size (refusals 6 and 7)
+--   tooLarge z  — a residual above 2^25 = 33,554,432 in size;  exceeds P k z — the residual z of row k is refused (6 and 7)
 --   image P     — p = G·r
 --   sizes P m   — what w_i is multiplied by in the limits: |p_m|
 --   boundFrom n sizes margins w i — the largest over all rows m of w_i·sizes_m / margins_m, each rounded up to a whole number
---   bound P i   — limit i, in solution steps
+--   bound P i   — limit i, in solution steps; the size of a margin is the margin, since every margin is above 0 wherever a limit is written
 --   inverseBound P i j — the limit of row i, column j of the inverse, in inverse steps
 use mathlib.Core.Bool.{Bool}
 use Prim.Native.Nat.{ℕ, _*_, _^_}
@@ -35,8 +35,11 @@ marginFails P m = leZ (margin P m) (pos 0)
 unfoldable pub residual : Problem → Vec
 residual P k = pos (S P) *ℤ P .b k -ℤ apply (P .n) (P .A) (P .X) k
 
+abbrev pub tooLarge : ℤ → Bool
+tooLarge z = ltb (2 ^ 25) (natAbs z)
+
 abbrev pub exceeds : Problem → ℕ → ℤ → Bool
-exceeds P k z = ltb (2 ^ 25) (natAbs z)
+exceeds P k z = tooLarge z
 
 unfoldable pub image : Problem → Vec
 image P = apply (P .n) (P .G) (residual P)

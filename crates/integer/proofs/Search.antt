@@ -1,5 +1,5 @@
 -- Laws of the largest value and of the first place (specs/Finite).
---   largest-none, largest-next, largest-end, first-none, first-next, first-end — at none, at n + 1 and at the end, for loops
+--   first-none, first-next, first-end — at none, at n + 1 and at the end, for loops
 --   largest-at, largest-ext — a value is at most the largest; equal values have the same largest
 --   first-≤, first-found, first-before, first-past — the first place is at most n; below n the test holds there and at no place
 --     before; at n it holds nowhere
@@ -22,17 +22,6 @@ upto P n j l f p = go (ℕ-discrete j n)
     go : Dec (j ≡ n) → P j
     go (yes e) = rw e p
     go (no e) = f j (omega arith)
-
-pub largest-none : (f : ℕ → ℕ) → largest 0 f ≡ 0
-unfolding largest
-largest-none f = refl
-
-pub largest-next : (n : ℕ) (f : ℕ → ℕ) → largest (n + 1) f ≡ max (largest n f) (f n)
-unfolding largest
-largest-next n f = rw add-one
-
-pub largest-end : {i n : ℕ} (f : ℕ → ℕ) → i ≤ n → n ≤ i → largest i f ≡ largest n f
-largest-end f p q = ap (λ (m : ℕ). largest m f) (le-antisymm p q)
 
 pub largest-at : (n : ℕ) (f : ℕ → ℕ) (i : ℕ) → i < n → f i ≤ largest n f
 unfolding largest

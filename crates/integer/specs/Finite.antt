@@ -2,6 +2,7 @@
 --   sum n f     — f 0 + f 1 + .. + f (n − 1), in ℤ
 --   sumℕ n f    — the same in ℕ
 --   largest n f — the largest of f 0, .., f (n − 1); 0 where n is 0
+--   firstOr     — the first place below n + 1, from the first below n and whether the test holds at n
 --   first n f   — the lowest place below n where f is true; n where there is none
 use mathlib.Core.Bool.{Bool, cond}
 use Prim.Native.Nat.{ℕ, zero, suc, _+_, max}
@@ -20,7 +21,6 @@ unfoldable pub largest : ℕ → (ℕ → ℕ) → ℕ
 largest zero f = 0
 largest (suc n) f = max (largest n f) (f n)
 
--- the first place below n + 1, from the first below n and whether the test holds at n
 abbrev pub firstOr : ℕ → ℕ → Bool → ℕ
 firstOr found n here = cond (ltb found n) found (cond here n (n + 1))
 

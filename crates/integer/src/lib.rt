@@ -5,7 +5,7 @@ ghost use lib.IntN.{natAbs, _+ℤ_, _*ℤ_};
 ghost use Rattle.integer.specs.Finite.{firstOr};
 ghost use Rattle.integer.specs.Quotient.{ceilDiv, roundDiv};
 
-// acc + a * b
+// One term of a sum of products.
 pub fn add_product(acc: i64, a: i64, b: i64) -> i64
     requires { ⌜ natAbs acc + natAbs a * natAbs b < 2 ^ 63 ⌝ }
     ensures { λ r. ⌜ r ≡ acc +ℤ a *ℤ b ⌝ }
@@ -21,7 +21,7 @@ pub fn magnitude(x: i64) -> u64
     if x < 0 { (-x) as u64 } else { x as u64 }
 }
 
-// a / b rounded up.
+// 01: "rounded up to a whole number".
 pub fn ceil_div(a: u64, b: u64) -> u64
     requires { ⌜ (0 < b) × (a + b ≤ 2 ^ 64) ⌝ }
     ensures { λ r. ⌜ r ≡ ceilDiv a b ⌝ }

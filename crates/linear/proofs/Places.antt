@@ -1,10 +1,8 @@
 -- Places in slices: where the numbers of a row, of a column and of a list stand, and that a dot product of them is the product's number.
 --   place, square — the place of row i and column j is below n · n, at most 1,024 where n is at most 32
---   Within-less   — a smaller count, a larger bound
 --   row-reach, column-reach, list-reach — a row, a column, a list of n numbers, as `dot` asks for them
 --   dot-row       — row k of A times a list is (A·v) k;  dot-column — row m of G times column j of A is (G·A) m j
---   dot-column-of — row k of A times column j of G, as a vector, is (A·(column G j)) k
---   dot-term, dot-fits — a term is at most 2 ^ 56 in size, and a partial sum with its next term fits an i64
+--   dot-term, dot-fits, dot-size — a term is at most 2 ^ 56 in size, a partial sum with its next term fits an i64, the size of a whole sum
 use mathlib.Core.Path.{_≡_}
 use mathlib.Core.List.{List}
 use Prim.Native.Nat.{ℕ, _+_, _*_, _<_, _≤_, _^_}
@@ -22,9 +20,6 @@ place {i} {j} {n} p q = omega (arith, mul-le-mul p (le-refl n))
 
 pub square : {n : ℕ} → n ≤ 32 → n * n ≤ 1024
 square p = mul-le-mul p p
-
-pub within-less : {xs : List ℤ} {n m a b : ℕ} → Within xs n a → m ≤ n → a ≤ b → Within xs m b
-within-less w l k = record { size = λ i h. omega (arith, w .size i (omega arith)) }
 
 -- ---- rows, columns, lists
 module _ (xs : List ℤ) (n b : ℕ) (long : n * n ≤ length xs) (w : Within xs (n * n) b) where

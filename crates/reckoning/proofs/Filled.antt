@@ -1,6 +1,6 @@
 -- Laws of what arrays hold, and of what is stored in them.
 --   holds-none, holds-more, holds-end — at none, one element more, and at the end, for loops
---   holds-less — a smaller count;  holds-as — of equal functions
+--   holds-as   — of equal functions
 --   stored-none, stored-next, stored-more, stored-end, stored-length — at none, one more, at the end, and the length, for loops; columns-.. likewise
 --   stored-at, stored-else — the places p + i·s hold f i, every other place is as before;  stored-ext — of equal functions
 use mathlib.Core.Path.{_≡_, refl, sym, ap, _∙_, subst}

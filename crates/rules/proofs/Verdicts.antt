@@ -1,6 +1,6 @@
 -- Laws of refusals in their order.
 --   accepted-new, accepted-old — what is left where nothing is said, and where something is
---   said-refused, said-nothing — a refusal says something; only acceptance says nothing
+--   nothing-is-not — something said is not nothing;  said-nothing — only acceptance says nothing
 use mathlib.Core.Path.{_≡_, refl}
 use mathlib.Core.List.{List, [], _∷_}
 use Prim.Native.Nat.{ℕ}

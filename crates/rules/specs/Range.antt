@@ -1,4 +1,5 @@
 -- The ranges of document 01 ("The system and its steps"), one line of a table for each kind of number.
+--   fromTo a b  — the range from a to b
 --   ranges      — the table: lowest and highest value, in the order of `Kind`
 --   indexOf k   — the line of the kind k
 --   rangeOf k   — its lowest and highest value

@@ -1,13 +1,13 @@
 use Prim.Native.Nat.{_≤_, _-_}
 use borrow.Author.Needs.{needs}
-use Rattle.cases.proofs.print_limits.Statement.{statement}
-use Rattle.cases.proofs.print_limits.Tie as tie
+use Rattle.cases.proofs.print_bounds.Statement.{statement}
+use Rattle.cases.proofs.print_bounds.Tie as tie
 
 abbrev Inv-loop : tie.InvT-loop
-Inv-loop limits count i₀ t4 t5 i = i ≤ count
+Inv-loop bounds count i₀ t4 t5 i = i ≤ count
 
 abbrev μ-loop : tie.MeasureT-loop
-μ-loop limits count i₀ t4 t5 i = count - i
+μ-loop bounds count i₀ t4 t5 i = count - i
 
 loop-holds : tie.Need-loop-holds Inv-loop μ-loop
 loop-holds c = search needs
@@ -51,8 +51,8 @@ loop-again c = search needs
 returns : tie.Need-returns Inv-loop μ-loop
 returns c = search needs
 
-pub print-limits-spec : {M : Type 1} → statement M
-print-limits-spec =
+pub print-bounds-spec : {M : Type 1} → statement M
+print-bounds-spec =
     tie.close
     (tie.spec
     Inv-loop
