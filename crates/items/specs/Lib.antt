@@ -1,0 +1,4 @@
+pub mod Item
+pub mod Put
+pub mod Lists
+pub mod Capped

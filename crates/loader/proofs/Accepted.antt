@@ -1,0 +1,47 @@
+-- An accepted line is a form, which no test refuses, and leaves what that form gives.
+--   Accepted, accepted-form
+use mathlib.Core.Path.{_≡_, refl, sym, subst, _∙_}
+use mathlib.Core.Bool.{true, false}
+use mathlib.Core.List.{List, []}
+use mathlib.Core.Option.{Option, none, some}
+use Prim.Native.Nat.{ℕ}
+use lib.Dec.{T}
+use Rattle.form.specs.Form.{Form}
+use Rattle.form.specs.Reading.{reading}
+use Rattle.items.specs.Item.{itemOf}
+use Rattle.items.specs.Lists.{Lists, short, putAll}
+use Rattle.progress.specs.Progress.{ended}
+use Rattle.loader.specs.declared.Loader.{Loader}
+use Rattle.loader.specs.Order.{caseOf, answer, ofForm}
+use Rattle.loader.specs.Taken.{after, loaderAfter, listsAfter}
+use Rattle.loader.proofs.Form.{Passed, passed}
+use Rattle.loader.proofs.Exact.{formCase, formSaid, answer-form}
+
+pub record Accepted (d : Loader) (l : Lists) (line : List ℕ) (f : Form) : Type 0 where
+  pub reads : reading line ≡ some f
+  pub long : short l ≡ false
+  pub going : ended (d .stage) ≡ false
+  pub fine : Passed (formCase d f)
+  pub loader : loaderAfter d l line ≡ after d (itemOf f)
+  pub lists : listsAfter d l line ≡ putAll (d .n) f l
+
+pub accepted-form : (d : Loader) (l : Lists) (line : List ℕ) → answer d l line ≡ [] → (f : Form) × Accepted d l line f
+unfolding answer loaderAfter listsAfter formSaid
+accepted-form d l line e = go (reading line) refl (h .unspelled)
+  where
+    h : Passed (caseOf d l line)
+    h = passed (caseOf d l line) e
+
+    go : (o : Option Form) → reading line ≡ o → ofForm o true (λ (f : Form). false) ≡ false → (f : Form) × Accepted d l line f
+    go none r u = absurd (subst T u tt)
+    go (some f) r u = (
+      f,
+      record {
+        reads = r;
+        long = h .short;
+        going = h .ended;
+        fine = passed (formCase d f) (sym (answer-form d l line f (h .short) (h .ended) (h .long) r) ∙ e);
+        loader = rw (e, r);
+        lists = rw (e, r);
+      },
+    )

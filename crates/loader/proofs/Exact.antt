@@ -1,0 +1,118 @@
+-- What is said of a line, of the form it is, and of that form as the code has it.
+--   formCase, formSaid — the cases of a form that is read at a loader that has not ended, and what is said
+--   answer-form  — what is said of a line that is a form is what is said of the form
+--   said-capped  — and of its capped form
+--   exact-loader, exact-lists — where nothing is said, both leave the same
+use mathlib.Core.Path.{_≡_, refl, ap, _∙_}
+use mathlib.Core.Bool.{Bool, true, false, cond}
+use mathlib.Core.List.{List, [], _∷_}
+use mathlib.Core.Option.{none, some}
+use Prim.Native.Nat.{ℕ, _<_}
+use lib.Dec.{ltb}
+use lib.IntN.{ℤ}
+use lib.ListN.{length}
+use Rattle.rules.specs.Order.{verdict}
+use Rattle.numeral.specs.Numeral.{capAt}
+use Rattle.form.specs.Form.{Form, problem, scale, row, right, guess, inverse, weight, end}
+use Rattle.form.specs.Reading.{reading}
+use Rattle.line.specs.Line.{cappedForm, numbersIn}
+use Rattle.items.specs.Item.{itemOf, outside, miscounted}
+use Rattle.items.specs.Lists.{Lists, short, putAll, putIn}
+use Rattle.items.specs.Capped.{itemIn, valuesIn, putWide, putAllIn}
+use Rattle.items.specs.declared.Item.{Item}
+use Rattle.items.specs.declared.Part.{Part}
+use Rattle.items.specs.declared.Part.the-variants.{Row, Right, Guess, Inverse, Weight}
+use Rattle.items.proofs.Capped.{placed-capped, outside-capped, miscounted-capped, item-exact, put-exact}
+use Rattle.loader.specs.declared.Loader.{Loader}
+use Rattle.progress.specs.declared.Stage.{Stage}
+use Rattle.progress.specs.Progress.{ended, early, misplaced, repeated, incomplete, missing}
+use Rattle.loader.specs.Order.{Case, order, answer}
+use Rattle.loader.specs.Taken.{after}
+use Rattle.loader.specs.Capped.{saidIn}
+use Rattle.progress.proofs.Progress.{placed-of}
+use Rattle.items.proofs.Lists.{lists-≡}
+use Rattle.loader.proofs.Form.{Passed, passed, room-by}
+
+abbrev pub formCase : Loader → Form → Case
+formCase d f = record {
+  short = false;
+  ended = false;
+  long = false;
+  unspelled = false;
+  early = early (d .stage) (itemOf f);
+  misplaced = misplaced (d .stage) (d .n) (itemOf f);
+  outside = outside f;
+  miscounted = miscounted (d .n) f;
+  repeated = repeated (d .stage) (d .sets) (itemOf f);
+  incomplete = incomplete (d .n) (d .sets) (itemOf f);
+  missing = missing (d .n) (d .sets);
+}
+
+unfoldable pub formSaid : Loader → Form → List ℕ
+formSaid d f = verdict (order (formCase d f))
+
+pub answer-form : (d : Loader) (l : Lists) (line : List ℕ) (f : Form) → short l ≡ false → ended (d .stage) ≡ false → ltb 320 (length line) ≡ false → reading line ≡ some f
+    → answer d l line ≡ formSaid d f
+unfolding answer formSaid
+answer-form d l line f a b c e = rw (a, b, c, e)
+
+-- ---- the tests of the capped form
+early-capped : (s : Stage) (f : Form) → early s (itemIn (cappedForm f)) ≡ early s (itemOf f)
+early-capped s (problem n) = refl
+early-capped s (scale u v) = refl
+early-capped s (row i a others) = refl
+early-capped s (right i b) = refl
+early-capped s (guess i x) = refl
+early-capped s (inverse i g others) = refl
+early-capped s (weight i w) = refl
+early-capped s end = refl
+
+incomplete-capped : (n : ℕ) (z : List ℕ) (f : Form) → incomplete n z (itemIn (cappedForm f)) ≡ incomplete n z (itemOf f)
+incomplete-capped n z (problem m) = refl
+incomplete-capped n z (scale u v) = refl
+incomplete-capped n z (row i a others) = refl
+incomplete-capped n z (right i b) = refl
+incomplete-capped n z (guess i x) = refl
+incomplete-capped n z (inverse i g others) = refl
+incomplete-capped n z (weight i w) = refl
+incomplete-capped n z end = refl
+
+module _ (d : Loader) (f : Form) (small : d .n < capAt) where
+  misplaced-capped : misplaced (d .stage) (d .n) (itemIn (cappedForm f)) ≡ misplaced (d .stage) (d .n) (itemOf f)
+  unfolding misplaced
+  misplaced-capped = rw (placed-capped (d .n) f small)
+
+  -- the test of repetition comes after those of the numbers
+  said-by : (x : Item) (o : Bool) → misplaced (d .stage) (d .n) (itemOf f) ≡ o → (q : Bool) → outside f ≡ q → (o ≡ false → q ≡ false → x ≡ itemOf f) → (a c : Bool) (w : List ℕ)
+      → cond a (11 ∷ []) (cond o (3 ∷ []) (cond q (3 ∷ []) (cond c (4 ∷ []) (cond (repeated (d .stage) (d .sets) x) (12 ∷ []) w))))
+      ≡ cond a (11 ∷ []) (cond o (3 ∷ []) (cond q (3 ∷ []) (cond c (4 ∷ []) (cond (repeated (d .stage) (d .sets) (itemOf f)) (12 ∷ []) w))))
+  said-by x true p q r e a c w = refl
+  said-by x false p true r e a c w = refl
+  said-by x false p false r e a c w = rw (e refl refl)
+
+  pub said-capped : saidIn d (cappedForm f) (numbersIn f .count) (numbersIn f .inside) ≡ formSaid d f
+  unfolding saidIn formSaid
+  said-capped =
+      rw (early-capped (d .stage) f, misplaced-capped, outside-capped f, miscounted-capped (d .n) f, incomplete-capped (d .n) (d .sets) f)
+      (said-by (itemIn (cappedForm f)) (misplaced (d .stage) (d .n) (itemOf f)) refl (outside f) refl (λ p q. item-exact (d .n) f small (placed-of (d .stage) (d .n) (itemOf f) p) q)
+      (early (d .stage) (itemOf f)) (miscounted (d .n) f) _)
+
+-- ---- what an accepted form leaves
+module _ (d : Loader) (f : Form) (small : d .n < capAt) (none : formSaid d f ≡ []) where
+  holds : Passed (formCase d f)
+  unfolding formSaid
+  holds = passed (formCase d f) none
+
+  exact : itemIn (cappedForm f) ≡ itemOf f
+  exact = item-exact (d .n) f small (placed-of (d .stage) (d .n) (itemOf f) (holds .misplaced)) (holds .outside)
+
+  pub exact-loader : after d (itemIn (cappedForm f)) ≡ after d (itemOf f)
+  exact-loader = ap (after d) exact
+
+  exact-list : (p : Part) (k : List ℤ) → putWide p (d .n) (itemIn (cappedForm f)) (valuesIn (cappedForm f) (numbersIn f .values)) k ≡ putIn p (d .n) f k
+  exact-list p k =
+      ap (λ (x : Item). putWide p (d .n) x (valuesIn (cappedForm f) (numbersIn f .values)) k) exact
+      ∙ put-exact (d .n) 1024 f (room-by d (itemOf f) (holds .early) (holds .misplaced)) (holds .outside) (holds .miscounted) p k
+
+  pub exact-lists : (l : Lists) → putAllIn (d .n) (itemIn (cappedForm f)) (valuesIn (cappedForm f) (numbersIn f .values)) l ≡ putAll (d .n) f l
+  exact-lists l = lists-≡ (exact-list Row (l .matrix)) (exact-list Right (l .right)) (exact-list Guess (l .guess)) (exact-list Inverse (l .inverse)) (exact-list Weight (l .weights))

@@ -1,0 +1,62 @@
+-- Laws of the tests of a form, in the shape in which the code meets them.
+--   says-11, .., says-rest — what is said where the tests before do not hold
+use mathlib.Core.Path.{_≡_}
+use mathlib.Core.Bool.{Bool, true, false, cond}
+use mathlib.Core.List.{List, [], _∷_}
+use Prim.Native.Nat.{ℕ}
+use Rattle.line.specs.declared.CappedForm.{CappedForm}
+use Rattle.items.specs.Capped.{itemIn, outsideIn, miscountedIn}
+use Rattle.items.specs.declared.Item.{Item}
+use Rattle.progress.specs.Progress.{early, misplaced, repeated, incomplete, missing}
+use Rattle.loader.specs.declared.Loader.{Loader}
+use Rattle.loader.specs.Capped.{saidIn}
+
+module _ (d : Loader) (m : CappedForm) (count : ℕ) (inside : Bool) {x : Item} (e : x ≡ itemIn m) where
+  abbrev told : List ℕ
+  told = saidIn d m count inside
+
+  pub says-11 : early (d .stage) x ≡ true → 11 ∷ [] ≡ told
+  unfolding saidIn
+  says-11 a = let a1 = rw e at a in rw a1
+
+  module _ (a : early (d .stage) x ≡ false) where
+    pub says-3-place : misplaced (d .stage) (d .n) x ≡ true → 3 ∷ [] ≡ told
+    unfolding saidIn
+    says-3-place b =
+        let a1 = rw e at a in
+        let b1 = rw e at b in
+        rw (a1, b1)
+
+    module _ (b : misplaced (d .stage) (d .n) x ≡ false) where
+      pub says-3-values : outsideIn m inside ≡ true → 3 ∷ [] ≡ told
+      unfolding saidIn
+      says-3-values c =
+          let a1 = rw e at a in
+          let b1 = rw e at b in
+          rw (a1, b1, c)
+
+      module _ (c : outsideIn m inside ≡ false) where
+        pub says-4 : miscountedIn (d .n) m count ≡ true → 4 ∷ [] ≡ told
+        unfolding saidIn
+        says-4 f =
+            let a1 = rw e at a in
+            let b1 = rw e at b in
+            rw (a1, b1, c, f)
+
+        module _ (f : miscountedIn (d .n) m count ≡ false) where
+          pub says-12 : repeated (d .stage) (d .sets) x ≡ true → 12 ∷ [] ≡ told
+          unfolding saidIn
+          says-12 g =
+              let a1 = rw e at a in
+              let b1 = rw e at b in
+              let g1 = rw e at g in
+              rw (a1, b1, c, f, g1)
+
+          pub says-rest : {r : List ℕ} → repeated (d .stage) (d .sets) x ≡ false → r ≡ cond (incomplete (d .n) (d .sets) x) (13 ∷ missing (d .n) (d .sets) ∷ []) [] → r ≡ told
+          unfolding saidIn
+          says-rest {r} g h =
+              let a1 = rw e at a in
+              let b1 = rw e at b in
+              let g1 = rw e at g in
+              let h1 = rw e at h in
+              rw (a1, b1, c, f, g1) h1

@@ -1,0 +1,8 @@
+pub mod Order
+pub mod Judge
+pub mod Advance
+pub mod Form
+pub mod Exact
+pub mod Line
+pub mod Said
+pub mod Accepted

@@ -1,0 +1,101 @@
+-- Laws of an ordered list of tests.
+--   None ts       — no test of ts holds
+--   none-holds    — where nothing is said, no test holds
+--   said-first    — a test speaks where none before it holds and it does
+--   said-exactly  — what starts with a test's number, which no other test has, is said exactly then;  said-either — the same of two neighbours with one number
+use mathlib.Core.Path.{_≡_, refl, sym, ap, subst, _∙_}
+use mathlib.Core.Bool.{Bool, true, false, not, _&&_, _||_, cond}
+use mathlib.Core.List.{List, [], _∷_, _++_}
+use mathlib.Core.Logic.{_↔_}
+use Prim.Native.Nat.{ℕ}
+use borrow.Author.Tests.{eq-eqb}
+use lib.Dec.{T, eqb}
+use Rattle.rules.specs.Order.{Test, verdict}
+use Rattle.rules.proofs.Ranges.{both-left, both-right}
+
+abbrev pub None : List Test → Type 0
+None [] = Unit
+None (t ∷ ts) = (t .holds ≡ false) × None ts
+
+-- the number that a test gives; each gives one other than 0
+abbrev pub head : List ℕ → ℕ
+head [] = 0
+head (k ∷ ks) = k
+
+-- no test of the list has the number k
+abbrev pub without : ℕ → List Test → Bool
+without k [] = true
+without k (t ∷ ts) = not (eqb (head (t .says)) k) && without k ts
+
+clash : {b : Bool} → b ≡ true → not b ≡ true → ⊥
+clash {b} p q = subst T (sym q ∙ ap not p) tt
+
+-- a list of tests none of which has the number that is said
+pub none-said : (ts : List Test) (w : List ℕ) → without (head w) ts ≡ true → verdict ts ≡ w → None ts
+none-said [] w d e = tt
+none-said (t ∷ ts) w d e = go (t .holds) refl e (none-said ts w (both-right (not (eqb (head (t .says)) (head w))) (without (head w) ts) d))
+  where
+    go : (b : Bool) → t .holds ≡ b → cond b (t .says) (verdict ts) ≡ w → (verdict ts ≡ w → None ts) → None (t ∷ ts)
+    go false p q rest = (p, rest q)
+    go true p q rest = absurd (clash (eq-eqb (head (t .says)) (head w) (ap head q)) (both-left (not (eqb (head (t .says)) (head w))) (without (head w) ts) d))
+
+-- past tests that do not hold
+pub skip : (before after : List Test) → None before → verdict (before ++ after) ≡ verdict after
+skip [] after n = refl
+skip (t ∷ ts) after n = rw (n .0) (skip ts after (n .1))
+
+pub skipped : (before after : List Test) (w : List ℕ) → without (head w) before ≡ true → verdict (before ++ after) ≡ w → None before × (verdict after ≡ w)
+skipped [] after w d e = (tt, e)
+skipped (t ∷ ts) after w d e = go (t .holds) refl e (skipped ts after w (both-right (not (eqb (head (t .says)) (head w))) (without (head w) ts) d))
+  where
+    go : (b : Bool) → t .holds ≡ b → cond b (t .says) (verdict (ts ++ after)) ≡ w → (verdict (ts ++ after) ≡ w → None ts × (verdict after ≡ w)) → None (t ∷ ts) × (verdict after ≡ w)
+    go false p q rest = let r = rest q in ((p, r .0), r .1)
+    go true p q rest = absurd (clash (eq-eqb (head (t .says)) (head w) (ap head q)) (both-left (not (eqb (head (t .says)) (head w))) (without (head w) ts) d))
+
+-- tests that do not hold say nothing
+pub silent : (ts : List Test) → None ts → verdict ts ≡ []
+silent [] n = refl
+silent (t ∷ ts) n = rw (n .0) (silent ts (n .1))
+
+-- what is said is not left to tests that have another number
+not-after : (after : List Test) (w : List ℕ) → without (head w) after ≡ true → eqb (head w) 0 ≡ false → verdict after ≡ w → ⊥
+not-after after w d h e =
+    let z : head w ≡ 0 = ap head (sym e ∙ silent after (none-said after w d e)) in
+    subst T (sym (eq-eqb (head w) 0 z) ∙ h) tt
+
+-- what a test says is said exactly where no test before it holds and it does; its number is its own
+module _ (before : List Test) (t : Test) (after : List Test) (own : without (head (t .says)) before && without (head (t .says)) after ≡ true) (heard : eqb (head (t .says)) 0 ≡ false) where
+  pub said-exactly : (verdict (before ++ t ∷ after) ≡ t .says) ↔ (None before × (t .holds ≡ true))
+  said-exactly = (
+    λ e.
+        let s = skipped before (t ∷ after) (t .says) (both-left (without (head (t .says)) before) (without (head (t .says)) after) own) e in
+        (s .0, here (t .holds) (s .1)),
+    λ h. skip before (t ∷ after) (h .0) ∙ rw (h .1),
+  )
+    where
+      here : (b : Bool) → cond b (t .says) (verdict after) ≡ t .says → b ≡ true
+      here true e = refl
+      here false e = absurd (not-after after (t .says) (both-right (without (head (t .says)) before) (without (head (t .says)) after) own) heard e)
+
+-- the same of two neighbours that say the same
+module _ (before : List Test) (w : List ℕ) (a b : Bool) (after : List Test) (own : without (head w) before && without (head w) after ≡ true) (heard : eqb (head w) 0 ≡ false) where
+  abbrev both-tests : List Test
+  both-tests = record { says = w; holds = a } ∷ record { says = w; holds = b } ∷ after
+
+  pub said-either : (verdict (before ++ both-tests) ≡ w) ↔ (None before × (a || b ≡ true))
+  said-either = (
+    λ e.
+        let s = skipped before both-tests w (both-left (without (head w) before) (without (head w) after) own) e in
+        (s .0, here a b (s .1)),
+    λ h. skip before both-tests (h .0) ∙ back a b (h .1),
+  )
+    where
+      here : (a b : Bool) → cond a w (cond b w (verdict after)) ≡ w → a || b ≡ true
+      here true b e = refl
+      here false true e = refl
+      here false false e = absurd (not-after after w (both-right (without (head w) before) (without (head w) after) own) heard e)
+
+      back : (a b : Bool) → a || b ≡ true → cond a w (cond b w (verdict after)) ≡ w
+      back true b e = refl
+      back false true e = refl
+      back false false e = absurd (subst T (sym e) tt)

@@ -1,0 +1,3 @@
+pub mod Order
+pub mod Taken
+pub mod Capped

@@ -1,0 +1,44 @@
+-- What a line leaves (01: "An accepted line puts n, or s and t, into the desk, or its form's other numbers at their own places in the lent
+-- lists, and changes no other number in those lists. A refused line leaves the desk as before the call, and its lists").
+--   fresh        — the loader that was given nothing
+--   after d x    — the loader after a form; the lists after it are `putAll`
+--   loaderAfter, listsAfter — what is left of a line, accepted or refused
+--   TakenAs      — the contract of `take`
+use mathlib.Core.List.{List}
+use mathlib.Core.Path.{_≡_}
+use Prim.Native.Nat.{ℕ}
+use lib.IntN.{natAbs}
+use lib.ListN.{replicate}
+use Rattle.rules.specs.Order.{accepted}
+use Rattle.rules.specs.Refusal.{said}
+use Rattle.form.specs.Form.{Form}
+use Rattle.form.specs.Reading.{reading}
+use Rattle.items.specs.Item.{itemOf}
+use Rattle.items.specs.Lists.{Lists, putAll}
+use Rattle.items.specs.declared.Item.{Item}
+use Rattle.items.specs.declared.Item.the-variants.{Problem, Scale, Of, End}
+use Rattle.progress.specs.Progress.{marked}
+use Rattle.progress.specs.declared.Stage.the-variants.{Start, Sized, Scaled, Ended}
+use Rattle.loader.specs.declared.Loader.{Loader}
+use Rattle.loader.specs.declared.Taken.{Taken}
+use Rattle.loader.specs.Order.{answer, ofForm}
+
+abbrev pub fresh : Loader
+fresh = record { n = 0; s = 0; t = 0; stage = Start; sets = replicate 5 0 }
+
+abbrev pub after : Loader → Item → Loader
+after d (Problem n) = record { n = natAbs n; s = d .s; t = d .t; stage = Sized; sets = d .sets }
+after d (Scale s t) = record { n = d .n; s = natAbs s; t = natAbs t; stage = Scaled; sets = d .sets }
+after d (Of p i) = record { n = d .n; s = d .s; t = d .t; stage = d .stage; sets = marked (d .sets) p (natAbs i) }
+after d End = record { n = d .n; s = d .s; t = d .t; stage = Ended; sets = d .sets }
+
+unfoldable pub loaderAfter : Loader → Lists → List ℕ → Loader
+loaderAfter d l line = accepted (answer d l line) (ofForm (reading line) d (λ (f : Form). after d (itemOf f))) d
+
+unfoldable pub listsAfter : Loader → Lists → List ℕ → Lists
+listsAfter d l line = accepted (answer d l line) (ofForm (reading line) l (λ (f : Form). putAll (d .n) f l)) l
+
+pub record TakenAs (d : Loader) (line : List ℕ) (l : Lists) (r : Taken) (l′ : Lists) : Type 0 where
+  pub says : said (r .outcome) ≡ answer d l line
+  pub loader : r .loader ≡ loaderAfter d l line
+  pub lists : l′ ≡ listsAfter d l line

@@ -1,0 +1,191 @@
+// The loader (01: desk): it collects the forms of a file, line by line.
+ghost use mathlib.Core.Path.{_≡_};
+ghost use mathlib.Core.Bool.{true, false};
+ghost use lib.ListN.{length};
+ghost use Rattle.rules.specs.Refusal.{said};
+ghost use Rattle.items.specs.Lists.{lists, tooShort};
+ghost use Rattle.loader.specs.Taken.{fresh, after, TakenAs};
+ghost use Rattle.loader.specs.Capped.{saidIn, fits, TakenIn};
+use form::Numbers;
+use items::Item;
+use line::Answer;
+use line::CappedForm;
+use progress::Stage;
+use rules::Outcome;
+use rules::Refusal;
+
+// n, s and t once given, how far the loader has come, and for each part the set of the forms it was given.
+pub struct Loader {
+    n: u32,
+    s: u32,
+    t: u32,
+    stage: Stage,
+    sets: [u32; 5],
+}
+
+// What taking a line gives back.
+pub struct Taken {
+    pub loader: Loader,
+    pub outcome: Outcome,
+}
+
+impl Loader {
+    // A loader that was given nothing yet.
+    pub fn new() -> Loader
+        ensures { λ r. ⌜ r ≡ fresh ⌝ }
+    {
+        Loader {
+            n: 0,
+            s: 0,
+            t: 0,
+            stage: Stage::Start,
+            sets: [0; 5],
+        }
+    }
+
+    // What is said of a form: 11, 3, 4, 12 and 13, in this order.
+    fn judge(self, form: CappedForm, count: usize, inside: bool) -> Outcome
+        ensures { λ r. ⌜ said r ≡ saidIn self form count inside ⌝ }
+    {
+        let n = self.n;
+        let stage = self.stage;
+        let sets = self.sets;
+        let item = items::item_of(form);
+        if progress::is_early(stage, item) {
+            return Outcome::Refused(Refusal::TooEarly);
+        }
+        if progress::is_misplaced(stage, n, item) {
+            return Outcome::Refused(Refusal::OutOfRange);
+        }
+        if items::is_outside(form, inside) {
+            return Outcome::Refused(Refusal::OutOfRange);
+        }
+        if items::is_miscounted(form, count, n as usize) {
+            return Outcome::Refused(Refusal::WrongCount);
+        }
+        if progress::is_repeated(stage, sets, item) {
+            return Outcome::Refused(Refusal::Repeated);
+        }
+        progress::judge_end(stage, n, sets, item)
+    }
+
+    // The loader after an accepted form.
+    fn advance(self, item: Item) -> Loader
+        requires { ⌜ fits item ≡ true ⌝ }
+        ensures { λ r. ⌜ r ≡ after self item ⌝ }
+    {
+        let sets = self.sets;
+        let stage = self.stage;
+        match item {
+            Item::Problem(n) => Loader {
+                n: items::natural(n),
+                s: self.s,
+                t: self.t,
+                stage: Stage::Sized,
+                sets: sets,
+            },
+            Item::Scale(s, t) => Loader {
+                n: self.n,
+                s: items::natural(s),
+                t: items::natural(t),
+                stage: Stage::Scaled,
+                sets: sets,
+            },
+            Item::Of(part, i) => Loader {
+                n: self.n,
+                s: self.s,
+                t: self.t,
+                stage: stage,
+                sets: progress::with(sets, part, items::place_of(i)),
+            },
+            Item::End => Loader {
+                n: self.n,
+                s: self.s,
+                t: self.t,
+                stage: Stage::Ended,
+                sets: sets,
+            },
+        }
+    }
+
+    // What a form leaves, the lists being long enough.
+    fn take_form(
+        self,
+        form: CappedForm,
+        numbers: Numbers,
+        matrix: &mut [i64],
+        right: &mut [i64],
+        guess: &mut [i64],
+        inverse: &mut [i64],
+        weights: &mut [i64],
+    ) -> Taken
+        requires { ⌜ tooShort (length (now matrix)) (length (now right)) (length (now guess)) (length (now inverse)) (length (now weights)) ≡ false ⌝ }
+        ensures { λ r. ⌜ TakenIn self form numbers (lists (now (matrix .entry)) (now (right .entry)) (now (guess .entry)) (now (inverse .entry)) (now (weights .entry))) r (lists (now (matrix .exit)) (now (right .exit)) (now (guess .exit)) (now (inverse .exit)) (now (weights .exit))) ⌝ }
+    {
+        let count = numbers.count;
+        let inside = numbers.inside;
+        let listed = numbers.values;
+        let n = self.n as usize;
+        let outcome = self.judge(form, count, inside);
+        match outcome {
+            Outcome::Refused(refusal) => Taken {
+                loader: self,
+                outcome: Outcome::Refused(refusal),
+            },
+            Outcome::Accepted => {
+                let item = items::item_of(form);
+                let values = items::values_of(form, listed);
+                items::write_all(item, values, n, matrix, right, guess, inverse, weights);
+                Taken {
+                    loader: self.advance(item),
+                    outcome: Outcome::Accepted,
+                }
+            }
+        }
+    }
+
+    // One line without its line feed, and the lists that its numbers go into.
+    pub fn take(
+        self,
+        line: &[u8],
+        matrix: &mut [i64],
+        right: &mut [i64],
+        guess: &mut [i64],
+        inverse: &mut [i64],
+        weights: &mut [i64],
+    ) -> Taken
+        ensures { λ r. ⌜ TakenAs self (now (line .entry)) (lists (now (matrix .entry)) (now (right .entry)) (now (guess .entry)) (now (inverse .entry)) (now (weights .entry))) r (lists (now (matrix .exit)) (now (right .exit)) (now (guess .exit)) (now (inverse .exit)) (now (weights .exit))) ⌝ }
+    {
+        if items::is_short(
+            matrix.len(),
+            right.len(),
+            guess.len(),
+            inverse.len(),
+            weights.len(),
+        ) {
+            return Taken {
+                loader: self,
+                outcome: Outcome::Refused(Refusal::TooShort),
+            };
+        }
+        let stage = self.stage;
+        if progress::is_ended(stage) {
+            return Taken {
+                loader: self,
+                outcome: Outcome::Refused(Refusal::AfterEnd),
+            };
+        }
+        let read = line::read_line(line);
+        let answer = read.answer;
+        match answer {
+            Answer::Refused(refusal) => Taken {
+                loader: self,
+                outcome: Outcome::Refused(refusal),
+            },
+            Answer::Form(form) => {
+                let numbers = read.numbers;
+                self.take_form(form, numbers, matrix, right, guess, inverse, weights)
+            }
+        }
+    }
+}
