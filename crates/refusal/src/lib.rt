@@ -1,0 +1,104 @@
+// The one line of a refused file, written into a buffer.
+ghost use mathlib.Core.Path.{_≡_};
+ghost use mathlib.Core.List.{_∷_};
+ghost use Prim.Native.Nat.{_≤_};
+ghost use lib.ListN.{length};
+ghost use Rattle.rules.specs.Refusal.{numberOf, valuesOf};
+ghost use Rattle.text.specs.Wrote.{Wrote};
+ghost use Rattle.refusal.specs.Refused.{refusedOf};
+ghost use Rattle.refusal.specs.Shown.{firstIn, secondIn, countIn};
+use rules::Refusal;
+use text::put_list;
+
+fn number_of(refusal: Refusal) -> u64
+    ensures { λ r. ⌜ r ≡ numberOf refusal ⌝ }
+{
+    match refusal {
+        Refusal::TooLong => 1,
+        Refusal::NoForm => 2,
+        Refusal::OutOfRange => 3,
+        Refusal::WrongCount => 4,
+        Refusal::Margin(_) => 5,
+        Refusal::Residual(_) => 6,
+        Refusal::InverseResidual(_, _) => 7,
+        Refusal::TooShort => 8,
+        Refusal::TooEarly => 11,
+        Refusal::Repeated => 12,
+        Refusal::Missing(_) => 13,
+        Refusal::AfterEnd => 14,
+        Refusal::NotEnded => 15,
+    }
+}
+
+// The first number in the inner brackets: of a refusal that gives its number alone, the number of the line.
+fn first_of(refusal: Refusal, line: u64) -> u64
+    ensures { λ r. ⌜ r ≡ firstIn line refusal ⌝ }
+{
+    match refusal {
+        Refusal::TooLong => line,
+        Refusal::NoForm => line,
+        Refusal::OutOfRange => line,
+        Refusal::WrongCount => line,
+        Refusal::Margin(row) => row as u64,
+        Refusal::Residual(row) => row as u64,
+        Refusal::InverseResidual(column, _) => column as u64,
+        Refusal::TooShort => line,
+        Refusal::TooEarly => line,
+        Refusal::Repeated => line,
+        Refusal::Missing(count) => count as u64,
+        Refusal::AfterEnd => line,
+        Refusal::NotEnded => line,
+    }
+}
+
+// The second number in the inner brackets, where there is one.
+fn second_of(refusal: Refusal) -> u64
+    ensures { λ r. ⌜ r ≡ secondIn refusal ⌝ }
+{
+    match refusal {
+        Refusal::TooLong => 0,
+        Refusal::NoForm => 0,
+        Refusal::OutOfRange => 0,
+        Refusal::WrongCount => 0,
+        Refusal::Margin(_) => 0,
+        Refusal::Residual(_) => 0,
+        Refusal::InverseResidual(_, row) => row as u64,
+        Refusal::TooShort => 0,
+        Refusal::TooEarly => 0,
+        Refusal::Repeated => 0,
+        Refusal::Missing(_) => 0,
+        Refusal::AfterEnd => 0,
+        Refusal::NotEnded => 0,
+    }
+}
+
+// How many numbers stand there.
+fn count_of(refusal: Refusal) -> usize
+    ensures { λ r. ⌜ (r ≡ countIn refusal) × (r ≤ 2) ⌝ }
+{
+    match refusal {
+        Refusal::TooLong => 1,
+        Refusal::NoForm => 1,
+        Refusal::OutOfRange => 1,
+        Refusal::WrongCount => 1,
+        Refusal::Margin(_) => 1,
+        Refusal::Residual(_) => 1,
+        Refusal::InverseResidual(_, _) => 2,
+        Refusal::TooShort => 1,
+        Refusal::TooEarly => 1,
+        Refusal::Repeated => 1,
+        Refusal::Missing(_) => 1,
+        Refusal::AfterEnd => 1,
+        Refusal::NotEnded => 1,
+    }
+}
+
+// The line of a refusal, from the start of the buffer on.
+pub fn put_refusal(out: &mut [u8], refusal: Refusal, line: u64) -> usize
+    requires { ⌜ 32768 ≤ length (now out) ⌝ }
+    ensures { λ r. ⌜ Wrote 32768 (now (out .entry)) 0 (refusedOf line (numberOf refusal ∷ valuesOf refusal)) (now (out .exit)) r ⌝ }
+{
+    let shown = [first_of(refusal, line), second_of(refusal)];
+    let count = count_of(refusal);
+    put_list(out, 0, b"(refused ", number_of(refusal), &shown, 0, count)
+}

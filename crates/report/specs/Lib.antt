@@ -1,0 +1,3 @@
+pub mod Entry
+pub mod Report
+pub mod Ready

@@ -1,0 +1,33 @@
+-- The lines of a listing as bytes, each with its line feed.
+--   each n f    — f 0, .., f (n − 1), one after another
+--   numbers n f — the numbers f 0, .., f (n − 1), single spaces between them
+--   pairLine word i z e   — (word i (z e));  listLine word i n f — (word i (f 0 .. f (n − 1))); the word comes with its bracket and the space after it
+use mathlib.Core.List.{List, [], _++_}
+use Prim.Native.Nat.{ℕ, zero, suc}
+use lib.IntN.{ℤ}
+use Rattle.numeral.specs.Decimal.{decimal, numeral}
+use Rattle.form.specs.Form.{bytes}
+
+unfoldable pub each : ℕ → (ℕ → List ℕ) → List ℕ
+each zero f = []
+each (suc n) f = each n f ++ f n
+
+-- a space stands before every number but the first
+abbrev pub gap : ℕ → List ℕ
+gap zero = []
+gap (suc j) = bytes " "
+
+abbrev pub numbers : ℕ → (ℕ → ℕ) → List ℕ
+numbers n f = each n (λ (j : ℕ). gap j ++ decimal (f j))
+
+abbrev pub opening : List ℕ → ℕ → List ℕ
+opening word i = word ++ decimal i ++ bytes " ("
+
+abbrev pub closing : List ℕ
+closing = bytes "))\n"
+
+abbrev pub pairLine : List ℕ → ℕ → ℤ → ℕ → List ℕ
+pairLine word i z e = opening word i ++ numeral z ++ bytes " " ++ decimal e ++ closing
+
+abbrev pub listLine : List ℕ → ℕ → ℕ → (ℕ → ℕ) → List ℕ
+listLine word i n f = opening word i ++ numbers n f ++ closing
