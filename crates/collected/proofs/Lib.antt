@@ -6,3 +6,4 @@ pub mod Runs
 pub mod Sizes
 pub mod End
 pub mod AnyOrder
+pub mod Check

@@ -5,6 +5,7 @@
 --   sizeFrom, scalesFrom fs — n, and s and t, that the forms fs give
 --   valueFrom fs p k j — the number j, from 0, that they give of the part p for the number k
 --   InRange u    — every number that a check uses is in its range
+--   Reckoned w   — w is nothing, 5, 6 or 7
 use mathlib.Core.Bool.{Bool, true, false, _&&_, cond}
 use mathlib.Core.List.{List, [], _∷_}
 use mathlib.Core.Path.{_≡_}
@@ -96,3 +97,10 @@ pub record InRange (u : State) : Type 0 where
   pub guess : allInRange kind.Guess (u .loader .n) (λ (k : ℕ). getD (u .lists .guess) k (pos 0)) ≡ true
   pub inverse : allInRange kind.Inverse (u .loader .n * u .loader .n) (λ (k : ℕ). getD (u .lists .inverse) k (pos 0)) ≡ true
   pub weights : allInRange kind.Weight (u .loader .n) (λ (k : ℕ). getD (u .lists .weights) k (pos 0)) ≡ true
+
+-- what a check can still say when 8, 15 and 3 do not hold
+pub data Reckoned : List ℕ → Type 0 where
+  accepted : Reckoned []
+  margin : (row : ℕ) → Reckoned (5 ∷ row ∷ [])
+  residual : (row : ℕ) → Reckoned (6 ∷ row ∷ [])
+  inverseResidual : (column row : ℕ) → Reckoned (7 ∷ column ∷ row ∷ [])

@@ -1,23 +1,28 @@
 -- The check through a loader, case by case.
 --   answer-ended — after an accepted end it says what the check on lists says
 --   through-ended, through-short, through-open — the contract where the check on lists decides, where 8 is said, and where 15 is
-use mathlib.Core.Path.{_≡_, sym, subst, _∙_}
-use mathlib.Core.Bool.{true, false}
-use mathlib.Core.List.{List, _∷_}
+--   check-8, check-15, check-3 — each said exactly in its case
+use mathlib.Core.Path.{_≡_, refl, sym, subst, _∙_}
+use mathlib.Core.Bool.{true, false, not}
+use mathlib.Core.List.{List, [], _∷_}
+use mathlib.Core.Logic.{_↔_}
 use Prim.Native.Nat.{ℕ}
 use lib.Dec.{T}
+use lib.ListN.{take, drop}
+use Rattle.rules.specs.Order.{Test, number}
 use Rattle.rules.specs.Refusal.{numberOf, valuesOf}
 use Rattle.rules.specs.declared.Outcome.{Outcome}
 use Rattle.rules.specs.declared.Outcome.the-variants.{Refused}
 use Rattle.rules.specs.declared.Refusal.{Refusal}
 use Rattle.rules.specs.declared.Refusal.the-variants.{TooShort, NotEnded}
 use Rattle.rules.proofs.Verdicts.{nothing-is-not}
-use Rattle.checker.specs.Input.{Input, short}
+use Rattle.checker.specs.Input.{Input, short, inRanges}
 use Rattle.checker.specs.Order.{answer}
 use Rattle.checker.specs.Checked.{Checked, solutionBoundsAfter, inverseBoundsAfter}
 use Rattle.progress.specs.Progress.{ended}
 use Rattle.progress.specs.declared.Stage.{Stage}
-use Rattle.loader.specs.Through.{answerThrough, solutionBoundsThrough, inverseBoundsThrough, CheckedThrough}
+use Rattle.loader.proofs.Order.{None, said-exactly}
+use Rattle.loader.specs.Through.{orderThrough, answerThrough, solutionBoundsThrough, inverseBoundsThrough, CheckedThrough}
 
 different : true ≡ false → ⊥
 different e = subst T e tt
@@ -59,3 +64,23 @@ module _ (s : Stage) (I : Input) where
     pub through-open : short I ≡ false → CheckedThrough s I (Refused NotEnded) (I .solutionBounds) (I .inverseBounds)
     unfolding answerThrough
     through-open e = refused (rw (e, open-still)) (λ l f. clash f)
+
+-- each said exactly where no case earlier in the order holds and its own does; after an accepted end 5, 6 and 7 are those of the check on lists
+module _ (s : Stage) (I : Input) where
+  abbrev first : ℕ → List Test
+  first k = take k (orderThrough s I)
+
+  abbrev rest : ℕ → List Test
+  rest k = drop k (orderThrough s I)
+
+  pub check-8 : (answerThrough s I ≡ 8 ∷ []) ↔ (None (first 0) × (short I ≡ true))
+  unfolding answerThrough
+  check-8 = said-exactly (first 0) (number 8 (short I)) (rest 1) refl refl
+
+  pub check-15 : (answerThrough s I ≡ 15 ∷ []) ↔ (None (first 1) × (not (ended s) ≡ true))
+  unfolding answerThrough
+  check-15 = said-exactly (first 1) (number 15 (not (ended s))) (rest 2) refl refl
+
+  pub check-3 : (answerThrough s I ≡ 3 ∷ []) ↔ (None (first 2) × (not (inRanges I) ≡ true))
+  unfolding answerThrough
+  check-3 = said-exactly (first 2) (number 3 (not (inRanges I))) (rest 3) refl refl

@@ -1,0 +1,97 @@
+-- A check through a loader after an accepted end of lines taken from `new`, on those lists, with limit lists that are long enough.
+--   length-put  — a line leaves the lengths of the lists
+--   lists-long  — the lists are long enough
+--   end-answers — the check answers accepted, 5, 6 or 7 only
+use mathlib.Core.Path.{_≡_, refl, _∙_}
+use mathlib.Core.Bool.{Bool, true, false, cond}
+use mathlib.Core.List.{List, [], _∷_}
+use Prim.Native.Nat.{ℕ, _+_, _*_, _-_, _/_, _%_, _≤_}
+use borrow.Author.Tests.{le-ltb}
+use lib.Dec.{eqb, ltb}
+use lib.IntN.{ℤ, natAbs}
+use lib.ListN.{length}
+use lib.Seq.{sets, length-sets}
+use Rattle.rules.specs.Order.{verdict}
+use Rattle.rules.proofs.Ranges.{both}
+use Rattle.form.specs.Form.{Form}
+use Rattle.items.specs.Item.{itemOf, valuesOf}
+use Rattle.items.specs.Lists.{Lists, short, putIn, putAll}
+use Rattle.items.specs.Put.{partIndex, width, put}
+use Rattle.items.specs.declared.Item.{Item}
+use Rattle.items.specs.declared.Item.the-variants.{Problem, Scale, Of, End}
+use Rattle.items.specs.declared.Part.{Part}
+use Rattle.items.specs.declared.Part.the-variants.{Row, Right, Guess, Inverse, Weight}
+use Rattle.items.proofs.Lists.{Long, long}
+use Rattle.progress.specs.Progress.{ended}
+use Rattle.checker.specs.Input.{Input, input, problem, inRanges}
+use Rattle.checker.specs.Input as checker
+use Rattle.checker.specs.Order.{reckoned, firstMargin, firstResidual, firstColumn}
+use Rattle.checker.proofs.Contract.{answer-ready}
+use Rattle.loader.specs.Through.{answerThrough}
+use Rattle.loader.proofs.Accepted.{accepted-form}
+use Rattle.loader.proofs.Through.{answer-ended}
+use Rattle.collected.specs.Run.{State, start, step, run, Accepts}
+use Rattle.collected.specs.Holds.{InRange, Reckoned, accepted, margin, residual, inverseResidual}
+use Rattle.collected.proofs.Sound.{clash}
+use Rattle.collected.proofs.End.{in-range}
+
+-- ---- lengths
+length-put : (w : ℕ) (p : Part) (x : Item) (vs l : List ℤ) → length (put w p x vs l) ≡ length l
+length-put w p (Problem n) vs l = refl
+length-put w p (Scale s t) vs l = refl
+length-put w p (Of q i) vs l = go (eqb (partIndex p) (partIndex q))
+  where
+    go : (b : Bool) → length (cond b (sets l ((natAbs i - 1) * w) vs) l) ≡ length l
+    go true = length-sets l ((natAbs i - 1) * w) vs
+    go false = refl
+length-put w p End vs l = refl
+
+long-kept : (n : ℕ) (f : Form) (l : Lists) → short (putAll n f l) ≡ short l
+long-kept n f l =
+    let same : (p : Part) (k : List ℤ) → length (putIn p n f k) ≡ length k = λ p k. length-put (width p n) p (itemOf f) (valuesOf f) k in
+    rw (same Row (l .matrix), same Right (l .right), same Guess (l .guess), same Inverse (l .inverse), same Weight (l .weights))
+
+run-long : (u : State) (lines : List (List ℕ)) → Accepts u lines → short (u .lists) ≡ false → short (run u lines .lists) ≡ false
+unfolding run
+run-long u [] a h = h
+run-long u (line ∷ lines) a h =
+    let r = accepted-form (u .loader) (u .lists) line (a .0) in
+    run-long (step u line) lines (a .1) (rw (r .1 .lists) (long-kept (u .loader .n) (r .0) (u .lists) ∙ h))
+
+-- a run that ends has a line, which was accepted, so its lists were long enough
+pub lists-long : (l : Lists) (lines : List (List ℕ)) → Accepts (start l) lines → ended (run (start l) lines .loader .stage) ≡ true → short (run (start l) lines .lists) ≡ false
+lists-long l [] a e = clash false (unfold run in e) refl
+lists-long l (line ∷ lines) a e =
+    let r = accepted-form (start l .loader) l line (a .0) in
+    run-long (start l) (line ∷ lines) a (r .1 .long)
+
+-- ---- the check
+reckons : (n m k i : ℕ) → Reckoned (verdict (reckoned n m k i))
+reckons n m k i = go (ltb m n) (ltb k n) (ltb i (n * n))
+  where
+    go : (a b c : Bool) → Reckoned (cond a (5 ∷ (m + 1) ∷ []) (cond b (6 ∷ (k + 1) ∷ []) (cond c (7 ∷ (i / n + 1) ∷ (i % n + 1) ∷ []) [])))
+    go true b c = margin (m + 1)
+    go false true c = residual (k + 1)
+    go false false true = inverseResidual (i / n + 1) (i % n + 1)
+    go false false false = accepted
+
+abbrev pub inputOf : State → List ℕ → List ℕ → Input
+inputOf u E L =
+    input (u .loader .n) (u .loader .s) (u .loader .t) (u .lists .matrix) (u .lists .right) (u .lists .guess) (u .lists .inverse) (u .lists .weights) E L
+
+enough : (u : State) (E L : List ℕ) → short (u .lists) ≡ false → 32 ≤ length E → 1024 ≤ length L → checker.short (inputOf u E L) ≡ false
+enough u E L s e l =
+    let h : Long (length (u .lists .matrix)) (length (u .lists .right)) (length (u .lists .guess)) (length (u .lists .inverse)) (length (u .lists .weights)) = long _ _ _ _ _ s in
+    rw (le-ltb _ 1024 (h .matrix), le-ltb _ 32 (h .right), le-ltb _ 32 (h .guess), le-ltb _ 1024 (h .inverse), le-ltb _ 32 (h .weights), le-ltb _ 32 e, le-ltb _ 1024 l)
+
+inside : (u : State) (E L : List ℕ) → InRange u → inRanges (inputOf u E L) ≡ true
+inside u E L h = both (both (h .size) (both (h .solution) (h .inverse-scale))) (both (h .matrix) (both (h .right) (both (h .guess) (both (h .inverse) (h .weights)))))
+
+module _ (l : Lists) (lines : List (List ℕ)) (a : Accepts (start l) lines) (e : ended (run (start l) lines .loader .stage) ≡ true) (E L : List ℕ) (few : 32 ≤ length E) (many : 1024 ≤ length L) where
+  abbrev last : State
+  last = run (start l) lines
+
+  pub end-answers : Reckoned (answerThrough (last .loader .stage) (inputOf last E L))
+  end-answers =
+      rw (answer-ended (last .loader .stage) (inputOf last E L) e, answer-ready (inputOf last E L) (enough last E L (lists-long l lines a e) few many) (inside last E L (in-range l lines a e)))
+      (reckons (last .loader .n) (firstMargin (problem (inputOf last E L))) (firstResidual (problem (inputOf last E L))) (firstColumn (problem (inputOf last E L))))
