@@ -1,0 +1,4 @@
+pub mod Register
+pub mod Problem
+pub mod Listing
+pub mod Cases
