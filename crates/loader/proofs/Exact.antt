@@ -4,22 +4,25 @@
 --   said-capped  — and of its capped form
 --   exact-loader, exact-lists — where nothing is said, both leave the same
 use mathlib.Core.Path.{_≡_, refl, ap, _∙_}
-use mathlib.Core.Bool.{Bool, true, false, cond}
-use mathlib.Core.List.{List, [], _∷_}
+use mathlib.Core.Bool.{Bool, true, false}
+use mathlib.Core.List.{List, []}
 use mathlib.Core.Option.{none, some}
 use Prim.Native.Nat.{ℕ, _<_}
+use native.Mathlib.Omega.{arith}
 use lib.Dec.{ltb}
 use lib.IntN.{ℤ}
 use lib.ListN.{length}
 use Rattle.rules.specs.Order.{verdict}
-use Rattle.numeral.specs.Numeral.{capAt}
+use Rattle.numeral.specs.Numeral.{cap, capAt}
+use Rattle.numeral.proofs.Cap.{cap-small}
 use Rattle.form.specs.Form.{Form, problem, scale, row, right, guess, inverse, weight, end}
 use Rattle.form.specs.Reading.{reading}
 use Rattle.line.specs.Line.{cappedForm, numbersIn}
-use Rattle.items.specs.Item.{itemOf, outside, miscounted}
+use Rattle.items.specs.Item.{itemOf, placed, outside, miscounted}
 use Rattle.items.specs.Lists.{Lists, short, putAll, putIn}
 use Rattle.items.specs.Capped.{itemIn, valuesIn, putWide, putAllIn}
 use Rattle.items.specs.declared.Item.{Item}
+use Rattle.items.specs.declared.Item.the-variants.{Of}
 use Rattle.items.specs.declared.Part.{Part}
 use Rattle.items.specs.declared.Part.the-variants.{Row, Right, Guess, Inverse, Weight}
 use Rattle.items.proofs.Capped.{placed-capped, outside-capped, miscounted-capped, item-exact, put-exact}
@@ -31,6 +34,7 @@ use Rattle.loader.specs.Taken.{after}
 use Rattle.loader.specs.Capped.{saidIn}
 use Rattle.progress.proofs.Progress.{placed-of}
 use Rattle.items.proofs.Lists.{lists-≡}
+use Rattle.items.proofs.Put.{between}
 use Rattle.loader.proofs.Form.{Passed, passed, room-by}
 
 abbrev pub formCase : Loader → Form → Case
@@ -82,20 +86,28 @@ module _ (d : Loader) (f : Form) (small : d .n < capAt) where
   unfolding misplaced
   misplaced-capped = rw (placed-capped (d .n) f small)
 
-  -- the test of repetition comes after those of the numbers
-  said-by : (x : Item) (o : Bool) → misplaced (d .stage) (d .n) (itemOf f) ≡ o → (q : Bool) → outside f ≡ q → (o ≡ false → q ≡ false → x ≡ itemOf f) → (a c : Bool) (w : List ℕ)
-      → cond a (11 ∷ []) (cond o (3 ∷ []) (cond q (3 ∷ []) (cond c (4 ∷ []) (cond (repeated (d .stage) (d .sets) x) (12 ∷ []) w))))
-      ≡ cond a (11 ∷ []) (cond o (3 ∷ []) (cond q (3 ∷ []) (cond c (4 ∷ []) (cond (repeated (d .stage) (d .sets) (itemOf f)) (12 ∷ []) w))))
-  said-by x true p q r e a c w = refl
-  said-by x false p true r e a c w = refl
-  said-by x false p false r e a c w = rw (e refl refl)
+  repeated-by : (p : Part) (i : ℤ) → placed (d .n) (Of p i) ≡ true → repeated (d .stage) (d .sets) (Of p (cap i)) ≡ repeated (d .stage) (d .sets) (Of p i)
+  repeated-by p i h = ap (λ (k : ℤ). repeated (d .stage) (d .sets) (Of p k)) (cap-small i (omega (arith, between 1 (d .n) i h .to)))
 
+  repeated-capped : (g : Form) → placed (d .n) (itemOf g) ≡ true → repeated (d .stage) (d .sets) (itemIn (cappedForm g)) ≡ repeated (d .stage) (d .sets) (itemOf g)
+  repeated-capped (problem n) h = refl
+  repeated-capped (scale u v) h = refl
+  repeated-capped (row i a others) h = repeated-by Row i h
+  repeated-capped (right i b) h = repeated-by Right i h
+  repeated-capped (guess i x) h = repeated-by Guess i h
+  repeated-capped (inverse i g others) h = repeated-by Inverse i h
+  repeated-capped (weight i w) h = repeated-by Weight i h
+  repeated-capped end h = refl
+
+  -- the test of the place comes before that of repetition
   pub said-capped : saidIn d (cappedForm f) (numbersIn f .count) (numbersIn f .inside) ≡ formSaid d f
   unfolding saidIn formSaid
-  said-capped =
-      rw (early-capped (d .stage) f, misplaced-capped, outside-capped f, miscounted-capped (d .n) f, incomplete-capped (d .n) (d .sets) f)
-      (said-by (itemIn (cappedForm f)) (misplaced (d .stage) (d .n) (itemOf f)) refl (outside f) refl (λ p q. item-exact (d .n) f small (placed-of (d .stage) (d .n) (itemOf f) p) q)
-      (early (d .stage) (itemOf f)) (miscounted (d .n) f) _)
+  said-capped = go (misplaced (d .stage) (d .n) (itemOf f)) refl
+    where
+      go : (b : Bool) → misplaced (d .stage) (d .n) (itemOf f) ≡ b → saidIn d (cappedForm f) (numbersIn f .count) (numbersIn f .inside) ≡ formSaid d f
+      go true e = rw (early-capped (d .stage) f, misplaced-capped, outside-capped f, miscounted-capped (d .n) f, incomplete-capped (d .n) (d .sets) f, e)
+      go false e =
+          rw (early-capped (d .stage) f, misplaced-capped, outside-capped f, miscounted-capped (d .n) f, incomplete-capped (d .n) (d .sets) f, repeated-capped f (placed-of (d .stage) (d .n) (itemOf f) e))
 
 -- ---- what an accepted form leaves
 module _ (d : Loader) (f : Form) (small : d .n < capAt) (none : formSaid d f ≡ []) where

@@ -48,16 +48,16 @@ pub passed : (c : Case) → verdict (order c) ≡ [] → Passed c
 passed c e =
     let n = none-said (order c) [] refl e in
     record {
-      short = n .0;
-      ended = n .1 .0;
-      long = n .1 .1 .0;
-      unspelled = n .1 .1 .1 .0;
-      early = n .1 .1 .1 .1 .0;
-      misplaced = n .1 .1 .1 .1 .1 .0;
-      outside = n .1 .1 .1 .1 .1 .1 .0;
-      miscounted = n .1 .1 .1 .1 .1 .1 .1 .0;
-      repeated = n .1 .1 .1 .1 .1 .1 .1 .1 .0;
-      incomplete = n .1 .1 .1 .1 .1 .1 .1 .1 .1 .0;
+      short = cc;
+      ended = cc;
+      long = cc;
+      unspelled = cc;
+      early = cc;
+      misplaced = cc;
+      outside = cc;
+      miscounted = cc;
+      repeated = cc;
+      incomplete = cc;
     }
 
 -- ---- a form of which nothing is said
