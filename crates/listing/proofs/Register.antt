@@ -20,10 +20,11 @@ use Rattle.listing.specs.Register.{inRanges, RegisteredAs}
 module _ (x : ℤ) (e s : ℕ) where
   pub entry-fits : inRanges x e s ≡ true → ((natAbs x ≤ 2 ^ 36) × (s ≤ 20) × (e ≤ 2 ^ 60))
   entry-fits h =
-      let r = both-right (inRange kind.Guess x) (inRange kind.SolutionScale (pos s) && leb e (2 ^ 60)) h in
-      (guess-range x (both-left (inRange kind.Guess x) (inRange kind.SolutionScale (pos s) && leb e (2 ^ 60)) h),
+      let r = both-right (inRange kind.Guess x) (inRange kind.SolutionScale (pos s) && leb e (2 ^ 60)) h in (
+        guess-range x (both-left (inRange kind.Guess x) (inRange kind.SolutionScale (pos s) && leb e (2 ^ 60)) h),
         solution-scale-range s (both-left (inRange kind.SolutionScale (pos s)) (leb e (2 ^ 60)) r),
-        leb-true e (2 ^ 60) (both-right (inRange kind.SolutionScale (pos s)) (leb e (2 ^ 60)) r))
+        leb-true e (2 ^ 60) (both-right (inRange kind.SolutionScale (pos s)) (leb e (2 ^ 60)) r),
+      )
 
   pub registered : {v : ℤ} {b : ℕ} → inRanges x e s ≡ true → v ≡ entryValue s x → b ≡ entryBound s e → RegisteredAs x e s (Entry v b)
   registered h p q = record { says = rw h; entry = λ z. ap₂ (λ (v : ℤ) (b : ℕ). Entry v b) p q }

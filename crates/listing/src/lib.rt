@@ -13,7 +13,8 @@ pub enum Registered {
 fn can_register(x: i64, e: u64, s: u32) -> bool
     ensures { λ r. ⌜ r ≡ inRanges x e s ⌝ }
 {
-    rules::is_in_range(Kind::Guess, x) & (rules::is_in_range(Kind::SolutionScale, s as i64) & (e <= 1152921504606846976))
+    rules::is_in_range(Kind::Guess, x)
+        & (rules::is_in_range(Kind::SolutionScale, s as i64) & (e <= 1152921504606846976))
 }
 
 // The register entry of a guess x and its limit e, for the solution scale s; 3 where one of them is out of range.
