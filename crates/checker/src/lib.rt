@@ -25,7 +25,7 @@ use rules::all_in_range;
 use rules::is_in_range;
 
 // 8: whether a list of one of these lengths is too short.
-fn is_short(a: usize, b: usize, x: usize, g: usize, w: usize, e: usize, l: usize) -> bool
+pub fn is_short(a: usize, b: usize, x: usize, g: usize, w: usize, e: usize, l: usize) -> bool
     ensures { λ r. ⌜ r ≡ anyShort a b x g w e l ⌝ }
 {
     if a < 1024 {

@@ -6,3 +6,4 @@ pub mod Exact
 pub mod Line
 pub mod Said
 pub mod Accepted
+pub mod Through

@@ -1,3 +1,4 @@
 pub mod Order
 pub mod Taken
+pub mod Through
 pub mod Capped

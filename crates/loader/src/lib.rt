@@ -3,8 +3,10 @@ ghost use mathlib.Core.Path.{_≡_};
 ghost use mathlib.Core.Bool.{true, false};
 ghost use lib.ListN.{length};
 ghost use Rattle.rules.specs.Refusal.{said};
+ghost use Rattle.checker.specs.Input.{input};
 ghost use Rattle.items.specs.Lists.{lists, tooShort};
 ghost use Rattle.loader.specs.Taken.{fresh, after, TakenAs};
+ghost use Rattle.loader.specs.Through.{CheckedThrough};
 ghost use Rattle.loader.specs.Capped.{saidIn, fits, TakenIn};
 use form::Numbers;
 use items::Item;
@@ -201,5 +203,47 @@ impl Loader {
                 self.take_form(form, numbers, matrix, right, guess, inverse, weights)
             }
         }
+    }
+
+    // The check of what was collected, on the lists as they are now. After an accepted end it is the check on lists.
+    pub fn check(
+        self,
+        matrix: &[i64],
+        right: &[i64],
+        guess: &[i64],
+        inverse: &[i64],
+        weights: &[i64],
+        solution_bounds: &mut [u64],
+        inverse_bounds: &mut [u64],
+    ) -> Outcome
+        ensures { λ r. ⌜ CheckedThrough (self .stage) (input (self .n) (self .s) (self .t) (now (matrix .entry)) (now (right .entry)) (now (guess .entry)) (now (inverse .entry)) (now (weights .entry)) (now («solution_bounds» .entry)) (now («inverse_bounds» .entry))) r (now («solution_bounds» .exit)) (now («inverse_bounds» .exit)) ⌝ }
+    {
+        let stage = self.stage;
+        if progress::is_ended(stage) {
+            return checker::check(
+                self.n,
+                self.s,
+                self.t,
+                matrix,
+                right,
+                guess,
+                inverse,
+                weights,
+                solution_bounds,
+                inverse_bounds,
+            );
+        }
+        if checker::is_short(
+            matrix.len(),
+            right.len(),
+            guess.len(),
+            inverse.len(),
+            weights.len(),
+            solution_bounds.len(),
+            inverse_bounds.len(),
+        ) {
+            return Outcome::Refused(Refusal::TooShort);
+        }
+        Outcome::Refused(Refusal::NotEnded)
     }
 }

@@ -1,0 +1,61 @@
+-- The check through a loader, case by case.
+--   answer-ended — after an accepted end it says what the check on lists says
+--   through-ended, through-short, through-open — the contract where the check on lists decides, where 8 is said, and where 15 is
+use mathlib.Core.Path.{_≡_, sym, subst, _∙_}
+use mathlib.Core.Bool.{true, false}
+use mathlib.Core.List.{List, _∷_}
+use Prim.Native.Nat.{ℕ}
+use lib.Dec.{T}
+use Rattle.rules.specs.Refusal.{numberOf, valuesOf}
+use Rattle.rules.specs.declared.Outcome.{Outcome}
+use Rattle.rules.specs.declared.Outcome.the-variants.{Refused}
+use Rattle.rules.specs.declared.Refusal.{Refusal}
+use Rattle.rules.specs.declared.Refusal.the-variants.{TooShort, NotEnded}
+use Rattle.rules.proofs.Verdicts.{nothing-is-not}
+use Rattle.checker.specs.Input.{Input, short}
+use Rattle.checker.specs.Order.{answer}
+use Rattle.checker.specs.Checked.{Checked, solutionBoundsAfter, inverseBoundsAfter}
+use Rattle.progress.specs.Progress.{ended}
+use Rattle.progress.specs.declared.Stage.{Stage}
+use Rattle.loader.specs.Through.{answerThrough, solutionBoundsThrough, inverseBoundsThrough, CheckedThrough}
+
+different : true ≡ false → ⊥
+different e = subst T e tt
+
+module _ (s : Stage) (I : Input) where
+  pub answer-ended : ended s ≡ true → answerThrough s I ≡ answer I
+  unfolding answerThrough answer
+  answer-ended e = rw e
+
+  pub through-ended : ended s ≡ true → {r : Outcome} {E L : List ℕ} → Checked I r E L → CheckedThrough s I r E L
+  unfolding solutionBoundsThrough inverseBoundsThrough solutionBoundsAfter inverseBoundsAfter
+  through-ended e h = record {
+    says = h .says ∙ sym (answer-ended e);
+    solution-bounds = rw (answer-ended e) (h .solution-bounds);
+    inverse-bounds = rw (answer-ended e) (h .inverse-bounds);
+    encloses = h .encloses;
+    accepts = λ N q H q′ long _ inside rounded. h .accepts N q H q′ long inside rounded;
+  }
+
+  -- a refusal leaves both limit lists
+  refused : {r : Refusal} → numberOf r ∷ valuesOf r ≡ answerThrough s I → (short I ≡ false → ended s ≡ true → ⊥) → CheckedThrough s I (Refused r) (I .solutionBounds) (I .inverseBounds)
+  unfolding solutionBoundsThrough inverseBoundsThrough
+  refused t never = record {
+    says = t;
+    solution-bounds = rw (← t);
+    inverse-bounds = rw (← t);
+    encloses = λ e. absurd (nothing-is-not e);
+    accepts = λ N q H q′ long end inside rounded. absurd (never long end);
+  }
+
+  module _ (open-still : ended s ≡ false) where
+    clash : ended s ≡ true → ⊥
+    clash e = different (sym e ∙ open-still)
+
+    pub through-short : short I ≡ true → CheckedThrough s I (Refused TooShort) (I .solutionBounds) (I .inverseBounds)
+    unfolding answerThrough
+    through-short e = refused (rw e) (λ l f. clash f)
+
+    pub through-open : short I ≡ false → CheckedThrough s I (Refused NotEnded) (I .solutionBounds) (I .inverseBounds)
+    unfolding answerThrough
+    through-open e = refused (rw (e, open-still)) (λ l f. clash f)
