@@ -13,9 +13,9 @@ use Rattle.enclosure.specs.Problem.{Problem, columnOf}
 use Rattle.enclosure.specs.Reckoning.{marginFails, residual, exceeds, bound, inverseBound}
 use Rattle.enclosure.proofs.Agreement.{margin-same, residual-same, bound-same}
 use Rattle.numeral.specs.Decimal.{decimal}
-use Rattle.text.specs.Line.{each, gap, numbers, opening, closing}
+use Rattle.text.specs.Line.{gap, numbers, opening, closing}
 use Rattle.text.proofs.Each.{each-ext}
-use Rattle.report.specs.Report.{boundsLine, solutionLine, entryLine, inverseLine, reportOf}
+use Rattle.report.specs.Report.{solutionLine, entryLine, inverseLine, reportOf}
 use Rattle.form.specs.Form.{bytes}
 use Rattle.listing.specs.Listing.{checkedOf, reportedOf}
 

@@ -1,16 +1,16 @@
 -- A file that has come to its end: what the check says of the lists, and what is reported, is what the file's forms give.
 --   checked-forms, reported-forms — what the reckoning says of the lists, and the report, are those of the problem that the forms give
 --   ranges-hold, answer-forms — no complete file gives 3, and its check says what the reckoning says
-use mathlib.Core.Path.{_≡_, refl, sym, ap, _∙_, subst}
+use mathlib.Core.Path.{_≡_, refl, ap, _∙_, subst}
 use mathlib.Core.Bool.{true, false}
 use mathlib.Core.List.{List}
-use Prim.Native.Nat.{ℕ, suc, _+_, _*_, _-_, _≤_, _<_}
+use Prim.Native.Nat.{ℕ, suc, _+_, _*_, _-_, _<_}
 use native.Mathlib.Omega.{arith}
-use lib.IntN.{ℤ, pos, natAbs}
+use lib.IntN.{pos, natAbs}
 use lib.ListN.{getD}
 use Rattle.rules.proofs.Ranges.{both}
 use Rattle.linear.specs.Slice.{at, vectorOf, matrixOf}
-use Rattle.enclosure.specs.Problem.{Problem, problemOf}
+use Rattle.enclosure.specs.Problem.{Problem}
 use Rattle.checker.specs.Input.{Input, input, problem, short, inRanges}
 use Rattle.checker.specs.Order.{answer}
 use Rattle.checker.proofs.Contract.{answer-ready}
@@ -19,7 +19,7 @@ use Rattle.items.specs.Put.{width}
 use Rattle.items.specs.declared.Part.{Part}
 use Rattle.items.specs.declared.Part.the-variants.{Row, Right, Guess, Inverse, Weight}
 use Rattle.collected.specs.Run.{State, listOf}
-use Rattle.collected.specs.Holds.{valueFrom, sizeFrom, scalesFrom, InRange}
+use Rattle.collected.specs.Holds.{valueFrom, InRange}
 use Rattle.collected.proofs.End.{FromForms}
 use Rattle.listing.specs.Problem.{problemFrom}
 use Rattle.listing.specs.Listing.{checkedOf, reportedOf}

@@ -11,7 +11,6 @@ use lib.IntN.{natAbs, _*ℤ_}
 use Rattle.integer.proofs.Absolute.{abs-*}
 use Rattle.integer.proofs.Sum.{abs-sum≤}
 use Rattle.linear.specs.Matrix.{apply}
-use Rattle.linear.specs.Slice.{at}
 use Rattle.linear.proofs.Places.{place}
 use Rattle.enclosure.specs.Problem.{Problem, columnOf}
 use Rattle.enclosure.specs.Reckoning.{margin, load, defect, residual, image, sizes, bound, inverseBound}

@@ -1,9 +1,8 @@
 -- Laws of the register entry.
 --   entry-fits — numbers in range are small enough to reckon with
 --   registered, not-registered — the contract, where the numbers are in range and where one is not
-use mathlib.Core.Path.{_≡_, refl, ap₂}
+use mathlib.Core.Path.{_≡_, ap₂}
 use mathlib.Core.Bool.{true, false, _&&_}
-use mathlib.Core.List.{[], _∷_}
 use Prim.Native.Nat.{ℕ, _≤_, _^_}
 use borrow.Author.Tests.{leb-true}
 use lib.Dec.{leb}

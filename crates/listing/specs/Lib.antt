@@ -2,3 +2,4 @@ pub mod Register
 pub mod Problem
 pub mod Listing
 pub mod Cases
+pub mod Shown

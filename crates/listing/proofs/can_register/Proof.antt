@@ -6,23 +6,16 @@ use Rattle.integer.proofs.Machine.{read}
 use borrow.Author.Needs.{needs}
 use Rattle.listing.proofs.can_register.Statement.{statement}
 use Rattle.listing.proofs.can_register.Tie as tie
-use Rattle.listing.proofs.can_register.Reads as reads
-use Rattle.listing.proofs.can_register.Lts as lts
-use Rattle.rules.proofs.is_in_range.Reads as is-in-range-reads
 
--- src/lib.rt:16:5
 is-in-range-requires : tie.Need-is-in-range-requires
 is-in-range-requires c κs = search needs
 
--- src/lib.rt:16:83
 cast-is-in-range : tie.Need-cast-is-in-range
 cast-is-in-range c = search needs
 
--- src/lib.rt:16:43
 is-in-range-requires-2 : tie.Need-is-in-range-requires-2
 is-in-range-requires-2 c κs = search needs
 
--- src/lib.rt:13:1
 small : (c : tie.After-is-in-range2) → c .before .before .args .s < 2 ^ 63
 small c = omega (arith, c .before .before .fits .s .fits)
 

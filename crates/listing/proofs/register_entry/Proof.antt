@@ -5,34 +5,25 @@ use Rattle.listing.proofs.Register.{entry-fits, registered, not-registe
 use borrow.Author.Needs.{needs}
 use Rattle.listing.proofs.register_entry.Statement.{statement}
 use Rattle.listing.proofs.register_entry.Tie as tie
-use Rattle.listing.proofs.register_entry.Reads as reads
-use Rattle.listing.proofs.register_entry.Lts as lts
-use Rattle.integer.proofs.round_scaled.Reads as round-scaled-reads
-use Rattle.listing.proofs.can_register.Reads as can-register-reads
-use Rattle.report.proofs.entry_bound.Reads as entry-bound-reads
 
--- src/lib.rt:23:8
 tested : (c : tie.After-can-register) → c .can-register .result ≡ inRanges (c .before .args .x) (c .before .args .e) (c .before .args .s)
 tested c = rw (read (c .before .args .x) (c .before .fits .x .sfits)) at (c .can-register .ensures)
 
 can-register-requires : tie.Need-can-register-requires
 can-register-requires c κs = search needs
 
--- src/lib.rt:24:34
 round-scaled-requires : tie.Need-round-scaled-requires
 round-scaled-requires c κs =
     let a = c .before .before in
     let f = entry-fits (a .args .x) (a .args .e) (a .args .s) (sym (tested (c .before)) ∙ c .if1 .taken) in
     (rw (read (a .args .x) (a .fits .x .sfits)) (f .0), f .1)
 
--- src/lib.rt:24:63
 entry-bound-requires : tie.Need-entry-bound-requires
 entry-bound-requires c κs =
     let a = c .before .before .before in
     let f = entry-fits (a .args .x) (a .args .e) (a .args .s) (sym (tested (c .before .before)) ∙ c .before .if1 .taken) in
     (f .2, f .1)
 
--- src/lib.rt:24:9
 returns : tie.Need-returns
 returns c =
     let a = c .before .before .before .before in
@@ -40,7 +31,6 @@ returns c =
     registered (a .args .x) (a .args .e) (a .args .s) (sym (tested (c .before .before .before)) ∙ c .before .before .if1 .taken)
     (read (r .result) (r .ok) ∙ rw (read (a .args .x) (a .fits .x .sfits)) at (r .ensures)) (c .entry-bound .ensures)
 
--- src/lib.rt:20:1
 returns-2 : tie.Need-returns-2
 returns-2 c =
     let a = c .before .before in
