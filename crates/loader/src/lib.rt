@@ -45,6 +45,20 @@ impl Loader {
         }
     }
 
+    // n, once given.
+    pub fn size(self) -> u32
+        ensures { λ r. ⌜ r ≡ self .n ⌝ }
+    {
+        self.n
+    }
+
+    // s, once given.
+    pub fn solution_scale(self) -> u32
+        ensures { λ r. ⌜ r ≡ self .s ⌝ }
+    {
+        self.s
+    }
+
     // What is said of a form: 11, 3, 4, 12 and 13, in this order.
     fn judge(self, form: CappedForm, count: usize, inside: bool) -> Outcome
         ensures { λ r. ⌜ said r ≡ saidIn self form count inside ⌝ }

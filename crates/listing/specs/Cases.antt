@@ -1,0 +1,47 @@
+-- Cases a to l of document 01 ("Marked for proof"), one table; and its whole file with its listing.
+--   Case  — cases a to k are rows of the check on lists; case l is a register entry
+--   cases — the table;  holds — a case is what the definitions of the contracts give
+--   wholeFile, wholeListing — 01, "A whole file"
+use mathlib.Core.Bool.{Bool, true, _&&_}
+use mathlib.Core.List.{List, [], _∷_, _++_, map}
+use Prim.Native.Nat.{ℕ}
+use lib.Dec.{eqb}
+use lib.IntN.{ℤ, pos, negsuc}
+use Rattle.checker.specs.Cases as check
+use Rattle.form.specs.Form.{bytes}
+use Rattle.report.specs.Entry.{entryValue}
+
+pub data Case : Type 0 where
+  checked : check.Row → Case
+  entry : (x : ℤ) (s : ℕ) (v : ℤ) → Case
+
+abbrev pub sameInteger : ℤ → ℤ → Bool
+sameInteger (pos a) (pos b) = eqb a b
+sameInteger (pos a) (negsuc b) = eqb 0 1
+sameInteger (negsuc a) (pos b) = eqb 0 1
+sameInteger (negsuc a) (negsuc b) = eqb a b
+
+abbrev pub holds : Case → Bool
+holds (checked r) = check.holds r
+holds (entry x s v) = sameInteger (entryValue s x) v
+
+-- X = −24, s = 4: entry −2
+abbrev pub l : Case
+l = entry (negsuc 23) 4 (negsuc 1)
+
+abbrev pub cases : List Case
+cases = map (λ (r : check.Row). checked r) check.cases ++ (l ∷ [])
+
+abbrev pub allHold : List Case → Bool
+allHold [] = true
+allHold (c ∷ cs) = holds c && allHold cs
+
+abbrev pub wholeFile : List ℕ
+wholeFile =
+    bytes "(problem 2)\n(scale 4 4)\n(row 1 (4 -1))\n(row 2 (-1 3))\n(right 1 5)\n(right 2 1)\n"
+    ++ bytes "(guess 1 23)\n(guess 2 13)\n(inverse 1 (4 1))\n(inverse 2 (1 6))\n(weight 1 1)\n(weight 2 1)\n(end)\n"
+
+abbrev pub wholeListing : List ℕ
+wholeListing =
+    bytes "(bounds 2)\n(solution 1 (23 1))\n(solution 2 (13 1))\n(entry 1 (1 1))\n(entry 2 (1 1))\n"
+    ++ bytes "(inverse 1 (1 1))\n(inverse 2 (1 1))\n(end)\n"

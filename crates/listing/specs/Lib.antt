@@ -1,0 +1,5 @@
+pub mod Register
+pub mod Problem
+pub mod Listing
+pub mod Cases
+pub mod Shown
