@@ -1,2 +1,6 @@
+pub mod Data
+pub mod Held
 pub mod Refusals
+pub mod Steps
+pub mod Walks
 pub mod Whole

@@ -8,6 +8,8 @@ use form::Word;
 use rules::Kind;
 use rules::Refusal;
 
+mod reader;
+
 // A form's numbers, ±2^40 where they are larger in size; i comes first and is kept apart. The numbers of a list stand beside it.
 pub enum CappedForm {
     Problem(i64),
