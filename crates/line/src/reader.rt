@@ -14,4 +14,14 @@ impl<'a> LineReader<'a> {
     {
         LineReader { line, at: 0 }
     }
+
+    // At another place of the same line.
+    pub fn moved(self, at: usize) -> LineReader<'a>
+        ensures { λ r. ⌜ (r .line ≡ self .entry .line) × (r .at ≡ at) ⌝ }
+    {
+        LineReader {
+            line: self.line,
+            at,
+        }
+    }
 }
