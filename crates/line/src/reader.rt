@@ -1,10 +1,22 @@
 // A line reader: a line's slice and a place in it (01: "read from left to right, one byte after another"). Each reading hands the slice and the place
 // to a function on slices, takes any place, and answers with the place after what it read, past the end of the line where nothing of the kind stands there.
 ghost use mathlib.Core.Path.{_≡_};
+ghost use Rattle.numeral.specs.Numeral.{numberAt, cappedNumber};
+ghost use Rattle.form.specs.Form.{bytes};
+ghost use Rattle.form.specs.Reading.{wordAt, headAt};
+use form::Head;
+use numeral::Number;
 
 pub struct LineReader<'a> {
     pub line: &'a [u8],
     pub at: usize,
+}
+
+// The place after a closing bracket.
+pub fn close_at(line: &[u8], at: usize) -> usize
+    ensures { λ r. ⌜ r ≡ wordAt (now (line .entry)) at (bytes ")") ⌝ }
+{
+    form::word_at(line, at, b")")
 }
 
 impl<'a> LineReader<'a> {
@@ -23,5 +35,25 @@ impl<'a> LineReader<'a> {
             line: self.line,
             at,
         }
+    }
+
+    // A form's opening word.
+    pub fn head(self) -> Head
+        ensures { λ r. ⌜ r ≡ headAt (now (self .entry .line)) (self .entry .at) ⌝ }
+    {
+        form::head_at(self.line, self.at)
+    }
+
+    pub fn number(self) -> Number
+        ensures { λ r. ⌜ r ≡ cappedNumber (numberAt (now (self .entry .line)) (self .entry .at)) ⌝ }
+    {
+        numeral::number_at(self.line, self.at)
+    }
+
+    // A closing bracket.
+    pub fn close(self) -> usize
+        ensures { λ r. ⌜ r ≡ wordAt (now (self .entry .line)) (self .entry .at) (bytes ")") ⌝ }
+    {
+        close_at(self.line, self.at)
     }
 }
