@@ -2,10 +2,9 @@
 ghost use mathlib.Core.Path.{_≡_};
 ghost use Rattle.form.specs.Reading.{lastOf};
 ghost use Rattle.line.specs.Line.{refused, lineOf};
-ghost use Rattle.line.specs.Parts.{kindOf, cappedOf, besideOf};
+ghost use Rattle.line.specs.Parts.{cappedOf, besideOf};
 use form::Numbers;
 use form::Word;
-use rules::Kind;
 use rules::Refusal;
 
 mod reader;
@@ -32,22 +31,6 @@ pub enum Answer {
 pub struct Line {
     pub answer: Answer,
     pub numbers: Numbers,
-}
-
-// The kind of the numbers in a form's list.
-fn kind_of(word: Word) -> Kind
-    ensures { λ r. ⌜ r ≡ kindOf word ⌝ }
-{
-    match word {
-        Word::Problem => Kind::Matrix,
-        Word::Scale => Kind::Matrix,
-        Word::Row => Kind::Matrix,
-        Word::Right => Kind::Matrix,
-        Word::Guess => Kind::Matrix,
-        Word::Inverse => Kind::Inverse,
-        Word::Weight => Kind::Matrix,
-        Word::End => Kind::Matrix,
-    }
 }
 
 // The place of a form's last bracket, from the places after its opening, its first number, a second number and a list.
@@ -117,7 +100,11 @@ pub fn read_line(line: &[u8]) -> Line
     let word = head.word;
     let first = numeral::number_at(line, head.next);
     let second = numeral::number_at(line, form::word_at(line, first.next, b" "));
-    let list = form::list_at(line, form::word_at(line, first.next, b" ("), kind_of(word));
+    let list = form::list_at(
+        line,
+        form::word_at(line, first.next, b" ("),
+        reader::kind_of(word),
+    );
     let close = form::word_at(line, list.next, b")");
     let last = last_of(word, head.next, first.next, second.next, close);
     if form::word_at(line, last, b")") != line.len() {

@@ -3,13 +3,41 @@
 ghost use mathlib.Core.Path.{_≡_};
 ghost use Rattle.numeral.specs.Numeral.{numberAt, cappedNumber};
 ghost use Rattle.form.specs.Form.{bytes};
+ghost use Rattle.form.specs.List.{listedAt};
 ghost use Rattle.form.specs.Reading.{wordAt, headAt};
+ghost use Rattle.line.specs.Parts.{kindOf};
 use form::Head;
+use form::Listed;
+use form::Word;
 use numeral::Number;
+use rules::Kind;
 
 pub struct LineReader<'a> {
     pub line: &'a [u8],
     pub at: usize,
+}
+
+// The kind of the numbers in a form's list.
+pub fn kind_of(word: Word) -> Kind
+    ensures { λ r. ⌜ r ≡ kindOf word ⌝ }
+{
+    match word {
+        Word::Problem => Kind::Matrix,
+        Word::Scale => Kind::Matrix,
+        Word::Row => Kind::Matrix,
+        Word::Right => Kind::Matrix,
+        Word::Guess => Kind::Matrix,
+        Word::Inverse => Kind::Inverse,
+        Word::Weight => Kind::Matrix,
+        Word::End => Kind::Matrix,
+    }
+}
+
+// The list at a place, in a form of this word.
+pub fn list_at(line: &[u8], at: usize, word: Word) -> Listed
+    ensures { λ r. ⌜ r ≡ listedAt (kindOf word) (now (line .entry)) at ⌝ }
+{
+    form::list_at(line, at, kind_of(word))
 }
 
 // The place after a closing bracket.
@@ -48,6 +76,13 @@ impl<'a> LineReader<'a> {
         ensures { λ r. ⌜ r ≡ cappedNumber (numberAt (now (self .entry .line)) (self .entry .at)) ⌝ }
     {
         numeral::number_at(self.line, self.at)
+    }
+
+    // A list in a form of this word.
+    pub fn list(self, word: Word) -> Listed
+        ensures { λ r. ⌜ r ≡ listedAt (kindOf word) (now (self .entry .line)) (self .entry .at) ⌝ }
+    {
+        list_at(self.line, self.at, word)
     }
 
     // A closing bracket.
