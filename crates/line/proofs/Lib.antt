@@ -1,2 +1,7 @@
+pub mod Data
+pub mod Held
 pub mod Refusals
+pub mod Steps
+pub mod Thin
+pub mod Walks
 pub mod Whole

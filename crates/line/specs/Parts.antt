@@ -2,15 +2,28 @@
 --   kindOf w       — the kind of the numbers in the list of a form
 --   cappedOf w i v — the form of the word w with the number i and a second one
 --   besideOf w l   — the numbers beside it
+--   decided s ..   — what the line s is, from its head, a first number, a second one, a list, and the place after its last bracket
+use mathlib.Core.Bool.{cond}
+use mathlib.Core.List.{List}
+use Prim.Native.Nat.{ℕ}
+use lib.Dec.{ltb, eqb}
 use lib.IntN.{ℤ}
+use lib.ListN.{length}
+use Rattle.numeral.specs.declared.Number.{Number}
 use Rattle.rules.specs.declared.Kind.{Kind}
 use Rattle.rules.specs.declared.Kind.the-variants as kind
+use Rattle.rules.specs.declared.Refusal.the-variants.{TooLong, NoForm}
+use Rattle.line.specs.declared.Answer.the-variants as answer
 use Rattle.line.specs.declared.CappedForm.{CappedForm}
 use Rattle.line.specs.declared.CappedForm.the-variants as capped
+use Rattle.line.specs.declared.Line.{Line}
+use Rattle.form.specs.declared.Head.{Head}
+use Rattle.form.specs.declared.Listed.{Listed}
 use Rattle.form.specs.declared.Numbers.{Numbers}
 use Rattle.form.specs.declared.Word.{Word}
 use Rattle.form.specs.declared.Word.the-variants.{Problem, Scale, Row, Right, Guess, Inverse, Weight, End}
 use Rattle.form.specs.List.{noNumbers}
+use Rattle.line.specs.Line.{refused}
 
 abbrev pub kindOf : Word → Kind
 kindOf Problem = kind.Matrix
@@ -41,3 +54,8 @@ besideOf Guess l = noNumbers
 besideOf Inverse l = l
 besideOf Weight l = noNumbers
 besideOf End l = noNumbers
+
+unfoldable pub decided : List ℕ → Head → Number → Number → Listed → ℕ → Line
+decided s h i v l e =
+    cond (ltb 320 (length s)) (refused TooLong)
+    (cond (eqb e (length s)) (record { answer = answer.Form (cappedOf (h .word) (i .value) (v .value)); numbers = besideOf (h .word) (l .numbers) }) (refused NoForm))

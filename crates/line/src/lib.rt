@@ -1,12 +1,18 @@
 // A line of the file: one of eight forms, spelled exactly, or 01's refusal 1 or 2.
 ghost use mathlib.Core.Path.{_≡_};
-ghost use Rattle.form.specs.Reading.{lastOf};
+ghost use Rattle.form.specs.Form.{bytes};
+ghost use Rattle.form.specs.Reading.{wordAt, lastOf};
 ghost use Rattle.line.specs.Line.{refused, lineOf};
-ghost use Rattle.line.specs.Parts.{kindOf, cappedOf, besideOf};
+ghost use Rattle.line.specs.Parts.{cappedOf, besideOf, decided};
+use form::Head;
+use form::Listed;
 use form::Numbers;
 use form::Word;
-use rules::Kind;
+use numeral::Number;
+use reader::LineReader;
 use rules::Refusal;
+
+mod reader;
 
 // A form's numbers, ±2^40 where they are larger in size; i comes first and is kept apart. The numbers of a list stand beside it.
 pub enum CappedForm {
@@ -32,23 +38,21 @@ pub struct Line {
     pub numbers: Numbers,
 }
 
-// The kind of the numbers in a form's list.
-fn kind_of(word: Word) -> Kind
-    ensures { λ r. ⌜ r ≡ kindOf word ⌝ }
+// The place after a single space.
+fn after_space(line: &[u8], at: usize) -> usize
+    ensures { λ r. ⌜ r ≡ wordAt (now (line .entry)) at (bytes " ") ⌝ }
 {
-    match word {
-        Word::Problem => Kind::Matrix,
-        Word::Scale => Kind::Matrix,
-        Word::Row => Kind::Matrix,
-        Word::Right => Kind::Matrix,
-        Word::Guess => Kind::Matrix,
-        Word::Inverse => Kind::Inverse,
-        Word::Weight => Kind::Matrix,
-        Word::End => Kind::Matrix,
-    }
+    form::word_at(line, at, b" ")
 }
 
-// The place of a form's last bracket, from the places after its opening, its first number, a second number and a list.
+// The place after a single space and a list's opening bracket.
+fn after_bracket(line: &[u8], at: usize) -> usize
+    ensures { λ r. ⌜ r ≡ wordAt (now (line .entry)) at (bytes " (") ⌝ }
+{
+    form::word_at(line, at, b" (")
+}
+
+// The place of a form's last bracket, from the places after its opening, its first number, a second number, and a list with its bracket.
 fn last_of(word: Word, head: usize, first: usize, second: usize, list: usize) -> usize
     ensures { λ r. ⌜ r ≡ lastOf word head first second list ⌝ }
 {
@@ -62,6 +66,15 @@ fn last_of(word: Word, head: usize, first: usize, second: usize, list: usize) ->
         Word::Weight => second,
         Word::End => head,
     }
+}
+
+// The same, from the parts themselves.
+fn last_at(line: &[u8], head: Head, first: Number, second: Number, list: Listed) -> usize
+    ensures { λ r. ⌜ r ≡ lastOf (head .word) (head .next) (first .next) (second .next) (wordAt (now (line .entry)) (list .next) (bytes ")")) ⌝ }
+{
+    let word = head.word;
+    let close = reader::close_at(line, list.next);
+    last_of(word, head.next, first.next, second.next, close)
 }
 
 fn form_of(word: Word, first: i64, second: i64) -> CappedForm
@@ -104,26 +117,36 @@ fn refuse(refusal: Refusal) -> Line
     }
 }
 
-// What a line is: 1 above 320 bytes, 2 where it is the spelling of no form, else the form; each part is read at the place after the part before it.
-pub fn read_line(line: &[u8]) -> Line
-    ensures { λ r. ⌜ r ≡ lineOf (now (line .entry)) ⌝ }
+// What a line is, from its parts and the place after its last bracket: 1 above 320 bytes, 2 where it does not end there, else the form of its word.
+fn decide(line: &[u8], head: Head, first: Number, second: Number, list: Listed, end: usize) -> Line
+    ensures { λ r. ⌜ r ≡ decided (now (line .entry)) head first second list end ⌝ }
 {
     if 320 < line.len() {
         return refuse(Refusal::TooLong);
     }
-    let head = form::head_at(line, 0);
-    let word = head.word;
-    let first = numeral::number_at(line, head.next);
-    let second = numeral::number_at(line, form::word_at(line, first.next, b" "));
-    let list = form::list_at(line, form::word_at(line, first.next, b" ("), kind_of(word));
-    let close = form::word_at(line, list.next, b")");
-    let last = last_of(word, head.next, first.next, second.next, close);
-    if form::word_at(line, last, b")") != line.len() {
+    if end != line.len() {
         return refuse(Refusal::NoForm);
     }
+    let word = head.word;
     let numbers = list.numbers;
     Line {
         answer: Answer::Form(form_of(word, first.value, second.value)),
         numbers: numbers_of(word, numbers),
     }
+}
+
+// What a line is. Every part is read, whatever the one before it was: where a part is missing, all that follow are read past the end of the line.
+pub fn read_line(line: &[u8]) -> Line
+    ensures { λ r. ⌜ r ≡ lineOf (now (line .entry)) ⌝ }
+{
+    let reader = LineReader::new(line);
+    let head = reader.head();
+    let first = reader.moved(head.next).number();
+    let second = reader.moved(after_space(line, first.next)).number();
+    let list = reader
+        .moved(after_bracket(line, first.next))
+        .list(head.word);
+    let last = last_at(line, head, first, second, list);
+    let end = reader.moved(last).close();
+    decide(line, head, first, second, list, end)
 }

@@ -1,0 +1,15 @@
+use borrow.Author.Needs.{needs}
+use Rattle.line.proofs.last_at.Statement.{statement}
+use Rattle.line.proofs.last_at.Tie as tie
+
+close-at-requires : tie.Need-close-at-requires
+close-at-requires c κs = search needs
+
+last-of-requires : tie.Need-last-of-requires
+last-of-requires c κs = search needs
+
+returns : tie.Need-returns
+returns c = rw (c .last-of .ensures, c .before .close-at .ensures)
+
+pub last-at-spec : {M : Type 1} → statement M
+last-at-spec = tie.close (tie.spec close-at-requires last-of-requires returns)

@@ -1,0 +1,94 @@
+// A line reader: a line's slice and a place in it (01: "read from left to right, one byte after another"). Each reading hands the slice and the place
+// to a function on slices, takes any place, and answers with the place after what it read, past the end of the line where nothing of the kind stands there.
+ghost use mathlib.Core.Path.{_≡_};
+ghost use Rattle.numeral.specs.Numeral.{numberAt, cappedNumber};
+ghost use Rattle.form.specs.Form.{bytes};
+ghost use Rattle.form.specs.List.{listedAt};
+ghost use Rattle.form.specs.Reading.{wordAt, headAt};
+ghost use Rattle.line.specs.Parts.{kindOf};
+use form::Head;
+use form::Listed;
+use form::Word;
+use numeral::Number;
+use rules::Kind;
+
+pub struct LineReader<'a> {
+    pub line: &'a [u8],
+    pub at: usize,
+}
+
+// The kind of the numbers in a form's list.
+pub fn kind_of(word: Word) -> Kind
+    ensures { λ r. ⌜ r ≡ kindOf word ⌝ }
+{
+    match word {
+        Word::Problem => Kind::Matrix,
+        Word::Scale => Kind::Matrix,
+        Word::Row => Kind::Matrix,
+        Word::Right => Kind::Matrix,
+        Word::Guess => Kind::Matrix,
+        Word::Inverse => Kind::Inverse,
+        Word::Weight => Kind::Matrix,
+        Word::End => Kind::Matrix,
+    }
+}
+
+// The list at a place, in a form of this word.
+pub fn list_at(line: &[u8], at: usize, word: Word) -> Listed
+    ensures { λ r. ⌜ r ≡ listedAt (kindOf word) (now (line .entry)) at ⌝ }
+{
+    form::list_at(line, at, kind_of(word))
+}
+
+// The place after a closing bracket.
+pub fn close_at(line: &[u8], at: usize) -> usize
+    ensures { λ r. ⌜ r ≡ wordAt (now (line .entry)) at (bytes ")") ⌝ }
+{
+    form::word_at(line, at, b")")
+}
+
+impl<'a> LineReader<'a> {
+    // At the line's first byte.
+    pub fn new(line: &'a [u8]) -> LineReader<'a>
+        ensures { λ r. ⌜ (r .line ≡ line .entry) × (r .at ≡ 0) ⌝ }
+    {
+        LineReader { line, at: 0 }
+    }
+
+    // At another place of the same line.
+    pub fn moved(self, at: usize) -> LineReader<'a>
+        ensures { λ r. ⌜ (r .line ≡ self .entry .line) × (r .at ≡ at) ⌝ }
+    {
+        LineReader {
+            line: self.line,
+            at,
+        }
+    }
+
+    // A form's opening word.
+    pub fn head(self) -> Head
+        ensures { λ r. ⌜ r ≡ headAt (now (self .entry .line)) (self .entry .at) ⌝ }
+    {
+        form::head_at(self.line, self.at)
+    }
+
+    pub fn number(self) -> Number
+        ensures { λ r. ⌜ r ≡ cappedNumber (numberAt (now (self .entry .line)) (self .entry .at)) ⌝ }
+    {
+        numeral::number_at(self.line, self.at)
+    }
+
+    // A list in a form of this word.
+    pub fn list(self, word: Word) -> Listed
+        ensures { λ r. ⌜ r ≡ listedAt (kindOf word) (now (self .entry .line)) (self .entry .at) ⌝ }
+    {
+        list_at(self.line, self.at, word)
+    }
+
+    // A closing bracket.
+    pub fn close(self) -> usize
+        ensures { λ r. ⌜ r ≡ wordAt (now (self .entry .line)) (self .entry .at) (bytes ")") ⌝ }
+    {
+        close_at(self.line, self.at)
+    }
+}
