@@ -1,7 +1,8 @@
 -- What a line reader owns: what its slice owns, and that its place fits into 64 bits.
---   Bytes κ   — the type of a slice of bytes; Reader κ — of a line reader, at the lifetime κ
---   reader-of — from what the slice owns
---   slice-of  — back to it
+--   first κ    — the one lifetime of a signature, as a declared type takes it
+--   Bytes κ    — the type of a slice of bytes; Reader κ — of a line reader
+--   reader s n — the reader of the slice s at the place n
+--   reader-of  — what it owns, from what the slice owns; slice-of — and back
 use mathlib.Core.Path.{_≡_, refl}
 use mathlib.Core.List.{List, [], _∷_}
 use Prim.Native.Nat.{ℕ, _<_, _^_}
