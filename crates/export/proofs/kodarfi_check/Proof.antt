@@ -21,7 +21,7 @@ returns : tie.Need-returns
 returns c = record {
   outcome = c .before .before .before .before .before .before .check .result;
   checked = c .before .before .before .before .before .before .check .ensures;
-  code-is = ap (λ (r : Reply). r .number) (c .before .reply-of .ensures);
+  number-is = ap (λ (r : Reply). r .number) (c .before .reply-of .ensures);
   places-are = ap (λ (r : Reply). r .first ∷ r .second ∷ []) (c .before .reply-of .ensures);
 }
 
