@@ -1,0 +1,100 @@
+use mathlib.Core.Path.{_≡_, refl, sym, _∙_}
+use Prim.Native.Nat.{ℕ, _+_, _*_, _≤_, _<_, _-_}
+use native.Mathlib.Omega.{arith}
+use native.Mathlib.Nat.{mul-le-mul}
+use lib.ListN.{length}
+use Rattle.linear.specs.Slice.{at}
+use Rattle.linear.proofs.Places.{square}
+use Rattle.raised.specs.Raised.{Lines}
+use Rattle.raised.proofs.Filling.{line-below, lines-none, lines-more, lines-end}
+use borrow.Author.Needs.{needs}
+use Rattle.raised.proofs.raise_lines.Statement.{statement}
+use Rattle.raised.proofs.raise_lines.Tie as tie
+
+abbrev Inv-loop : tie.InvT-loop
+Inv-loop xs step stride n out₀ place₀ start₀ i₀ out place start i =
+    (i ≤ n) × ((place ≡ i * (n + 1)) × ((start ≡ i * step) × ((length out ≡ 1056) × Lines out n i (λ (a k : ℕ). at xs (a * step + k * stride)))))
+
+abbrev μ-loop : tie.MeasureT-loop
+μ-loop xs step stride n out₀ place₀ start₀ i₀ out place start i = n - i
+
+module _ (s : tie.Start Inv-loop μ-loop) (i : ℕ) where
+  steps : i ≤ s .args .n → i * s .args .step ≤ 1024
+  steps l = let few : i ≤ 32 = omega (arith, s .pre .0 .0) in mul-le-mul few (s .pre .0 .1 .0)
+
+  room : i < s .args .n → i * (s .args .n + 1) + s .args .n < 1056
+  room l = omega (arith, line-below (s .args .n) l, square (s .pre .0 .0), s .pre .0 .0)
+
+loop-holds : tie.Need-loop-holds Inv-loop μ-loop
+loop-holds c = (omega arith, (omega arith, (omega arith, (refl, lines-none _ _ _))))
+
+slice-aggregate-raise-line : tie.Need-slice-aggregate-raise-line Inv-loop μ-loop
+slice-aggregate-raise-line c = sym (c .before .before .loop .inv .1 .1 .1 .0)
+
+raise-line-requires : tie.Need-raise-line-requires Inv-loop μ-loop
+raise-line-requires c κs =
+    let l = c .before .before .loop in
+    let s = c .before .before .before in
+    let few = s .pre .0 .0 in (
+      (
+        few,
+        (
+          omega (arith, l .inv .1 .1 .0, steps s (l .i) (l .inv .0), mul-le-mul few (s .pre .0 .1 .1)),
+          omega (arith, l .inv .1 .0, l .inv .1 .1 .1 .0, room s (l .i) (c .before .loop-test .taken)),
+        ),
+      ),
+      rw (l .inv .1 .1 .0) (s .pre .1 (l .i) (c .before .loop-test .taken)),
+    )
+
+add-place : tie.Need-add-place Inv-loop μ-loop
+add-place c = search needs
+
+add-place-2 : tie.Need-add-place-2 Inv-loop μ-loop
+add-place-2 c = search needs
+
+add-start : tie.Need-add-start Inv-loop μ-loop
+add-start c =
+    let l = c .before .before .before .before .loop in
+    let s = c .before .before .before .before .before in omega (arith, l .inv .1 .1 .0, steps s (l .i) (l .inv .0), s .pre .0 .1 .0)
+
+add-i : tie.Need-add-i Inv-loop μ-loop
+add-i c = search needs
+
+loop-less : tie.Need-loop-less Inv-loop μ-loop
+loop-less c = search needs
+
+loop-again : tie.Need-loop-again Inv-loop μ-loop
+loop-again c =
+    let l = c .before .before .before .before .loop in (
+      omega arith,
+      (
+        omega arith,
+        (
+          omega arith,
+          (
+            c .before .raise-line .ensures .1 .long ∙ l .inv .1 .1 .1 .0,
+            lines-more (l .inv .1 .1 .1 .1) (rw (l .inv .1 .0, l .inv .1 .1 .0) at (c .before .raise-line .ensures)),
+          ),
+        ),
+      ),
+    )
+
+returns : tie.Need-returns Inv-loop μ-loop
+returns c = lines-end (c .before .loop .inv .0) (c .loop-test .left) (c .before .loop .inv .1 .1 .1 .1)
+
+pub raise-lines-spec : {M : Type 1} → statement M
+raise-lines-spec =
+    tie.close
+    (tie.spec
+    Inv-loop
+    μ-loop
+    loop-holds
+    slice-aggregate-raise-line
+    raise-line-requires
+    add-place
+    add-place-2
+    add-start
+    add-i
+    loop-less
+    loop-again
+    returns)
