@@ -6,6 +6,7 @@ ghost use lib.IntN.{natAbs};
 ghost use lib.ListN.{getD, length};
 ghost use Rattle.integer.specs.Quotient.{ceilDiv};
 ghost use Rattle.linear.specs.Slice.{at, Reach};
+ghost use Rattle.raised.specs.Raised.{Line, lineDot};
 ghost use Rattle.enclosure.specs.Reckoning.{boundFrom};
 ghost use Rattle.reckoning.specs.Arrays.{Holds, stored, storedColumns, Square, Numbers};
 ghost use Rattle.reckoning.specs.Part.{columnSizes};
@@ -13,6 +14,8 @@ ghost use Rattle.bounds.specs.Ratio.{ratioOf, steeperOf, Narrow, Steep, 
 use integer::ceil_div;
 use integer::magnitude;
 use linear::dot;
+use raised::line_dot;
+use raised::raise_lines;
 
 // A row with the quotient and the remainder of |p_m| by its margin g_m.
 pub struct Ratio {
@@ -139,6 +142,21 @@ pub fn store(dst: &mut [u64], start: usize, stride: usize, column: [u64; 32], n:
     }
 }
 
+// The sizes of p = G·r, from the raised rows of G and the raised line of r.
+fn line_sizes_of(rows: &[u64], lines: &[u64], line: usize, n: usize) -> [u64; 32]
+    requires { ⌜ n ≤ 32 ⌝ }
+    requires { ⌜ ((m : ℕ) → m < n → Line (now rows) (m * (n + 1)) n) × Line (now lines) line n ⌝ }
+    ensures { λ r. ⌜ Holds 0 r n (λ (m : ℕ). natAbs (lineDot (now (rows .entry)) (m * (n + 1)) (now (lines .entry)) line n)) ⌝ }
+{
+    let mut out = [0u64; 32];
+    let mut row = 0;
+    for m in 0..n {
+        out[m] = magnitude(line_dot(rows, row, lines, line, n));
+        row += n + 1;
+    }
+    out
+}
+
 // Writes the limits of all columns of the inverse, row after row, from their residuals, column after column.
 pub fn store_columns(
     dst: &mut [u64],
@@ -155,10 +173,13 @@ pub fn store_columns(
     requires { ⌜ Numbers (now weights) n 1024 ⌝ }
     ensures { λ _. ⌜ now (dst .exit) ≡ storedColumns (now (dst .entry)) n (λ (i j : ℕ). boundFrom n (columnSizes n (now (inverse .entry)) (now (residuals .entry)) (j * n)) (λ (m : ℕ). getD margins m 0) (λ (k : ℕ). natAbs (at (now (weights .entry)) k)) i) n ⌝ }
 {
-    let mut place = 0;
+    let rows = raise_lines(inverse, n, 1, n);
+    let lines = raise_lines(residuals, n, 1, n);
+    let mut line = 0;
     for j in 0..n {
-        let column = column_bounds(inverse, residuals, place, margins, weights, n);
+        let sizes = line_sizes_of(&rows, &lines, line, n);
+        let column = bounds_of(sizes, margins, weights, n);
         store(dst, j, n, column, n);
-        place += n;
+        line += n + 1;
     }
 }

@@ -1,7 +1,7 @@
 -- Lines as they are filled.
 --   Part  — k numbers of a line stand from place p on; nothing below p has changed
 --   part-none, part-more, part-end — at none, one number more, and with the sum after them;  part-whole — at the end;  part-sum — the sum so far
---   shows-kept — a line below a place that nothing below changes;  lines-none, lines-more, lines-end — for the loop over lines
+--   shows-kept — a line below a place that nothing below changes;  line-below, line-room — where lines end;  lines-none, lines-more, lines-end — for the loop over lines
 use mathlib.Core.List.{List}
 use mathlib.Core.Path.{_≡_, refl, sym, subst, _∙_}
 use Prim.Native.Nat.{ℕ, _+_, _*_, _≤_, _<_, _^_}
@@ -13,6 +13,7 @@ use lib.ListN.{getD, length, set, length-set}
 use lib.Seq.{getD-set-same, getD-set-other}
 use Rattle.integer.specs.Finite.{sumℕ}
 use Rattle.integer.proofs.Sum.{sumℕ-none, sumℕ-next, sumℕ-ext, sumℕ≤}
+use Rattle.linear.proofs.Places.{square}
 use Rattle.raised.specs.Raised.{lowered, Small, Line, Shows, Lines, Kept}
 
 pub record Part (before out : List ℕ) (p k : ℕ) (f : ℕ → ℤ) (sum : ℕ) : Type 0 where
@@ -84,6 +85,9 @@ shows-kept {xs} {ys} {p} {q} {n} h l k = record {
 
 pub line-below : {a i : ℕ} (n : ℕ) → a < i → a * (n + 1) + n < i * (n + 1)
 line-below n l = omega (arith, mul-le-mul-right (n + 1) l)
+
+pub line-room : {i n : ℕ} → i < n → n ≤ 32 → i * (n + 1) + n < 1056
+line-room {i} {n} l few = omega (arith, line-below n l, square few)
 
 pub lines-none : (xs : List ℕ) (n : ℕ) (f : ℕ → ℕ → ℤ) → Lines xs n 0 f
 lines-none xs n f = record { each = λ i l. absurd (omega arith) }

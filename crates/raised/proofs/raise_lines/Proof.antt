@@ -1,12 +1,11 @@
 use mathlib.Core.Path.{_≡_, refl, sym, _∙_}
-use Prim.Native.Nat.{ℕ, _+_, _*_, _≤_, _<_, _-_}
+use Prim.Native.Nat.{ℕ, _+_, _*_, _≤_, _-_}
 use native.Mathlib.Omega.{arith}
 use native.Mathlib.Nat.{mul-le-mul}
 use lib.ListN.{length}
 use Rattle.linear.specs.Slice.{at}
-use Rattle.linear.proofs.Places.{square}
 use Rattle.raised.specs.Raised.{Lines}
-use Rattle.raised.proofs.Filling.{line-below, lines-none, lines-more, lines-end}
+use Rattle.raised.proofs.Filling.{line-room, lines-none, lines-more, lines-end}
 use borrow.Author.Needs.{needs}
 use Rattle.raised.proofs.raise_lines.Statement.{statement}
 use Rattle.raised.proofs.raise_lines.Tie as tie
@@ -21,9 +20,6 @@ abbrev μ-loop : tie.MeasureT-loop
 module _ (s : tie.Start Inv-loop μ-loop) (i : ℕ) where
   steps : i ≤ s .args .n → i * s .args .step ≤ 1024
   steps l = let few : i ≤ 32 = omega (arith, s .pre .0 .0) in mul-le-mul few (s .pre .0 .1 .0)
-
-  room : i < s .args .n → i * (s .args .n + 1) + s .args .n < 1056
-  room l = omega (arith, line-below (s .args .n) l, square (s .pre .0 .0), s .pre .0 .0)
 
 loop-holds : tie.Need-loop-holds Inv-loop μ-loop
 loop-holds c = (omega arith, (omega arith, (omega arith, (refl, lines-none _ _ _))))
@@ -40,7 +36,7 @@ raise-line-requires c κs =
         few,
         (
           omega (arith, l .inv .1 .1 .0, steps s (l .i) (l .inv .0), mul-le-mul few (s .pre .0 .1 .1)),
-          omega (arith, l .inv .1 .0, l .inv .1 .1 .1 .0, room s (l .i) (c .before .loop-test .taken)),
+          omega (arith, l .inv .1 .0, l .inv .1 .1 .1 .0, line-room (c .before .loop-test .taken) few),
         ),
       ),
       rw (l .inv .1 .1 .0) (s .pre .1 (l .i) (c .before .loop-test .taken)),
