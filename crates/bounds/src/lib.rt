@@ -55,10 +55,10 @@ fn steeper(a: Ratio, b: Ratio) -> Ratio
 }
 
 // A row where sizes / margins is largest.
-fn steepest_of(sizes: [u64; 32], margins: [u64; 32], n: usize) -> usize
+fn steepest_of(sizes: &[u64; 32], margins: &[u64; 32], n: usize) -> usize
     requires { ⌜ (0 < n) × (n ≤ 32) ⌝ }
-    requires { ⌜ Positive margins n ⌝ }
-    ensures { λ r. ⌜ Steep n (λ (m : ℕ). getD sizes m 0) (λ (m : ℕ). getD margins m 0) r ⌝ }
+    requires { ⌜ Positive (now margins) n ⌝ }
+    ensures { λ r. ⌜ Steep n (λ (m : ℕ). getD (now (sizes .entry)) m 0) (λ (m : ℕ). getD (now (margins .entry)) m 0) r ⌝ }
 {
     let mut best = ratio_of(0, sizes[0], margins[0]);
     for m in 1..n {
@@ -76,12 +76,12 @@ fn limit_of(w: i64, p: u64, g: u64) -> u64
 }
 
 // The limits of a column: each is that of the row where |p_m| / g_m is largest.
-fn bounds_of(sizes: [u64; 32], margins: [u64; 32], weights: &[i64], n: usize) -> [u64; 32]
+fn bounds_of(sizes: &[u64; 32], margins: &[u64; 32], weights: &[i64], n: usize) -> [u64; 32]
     requires { ⌜ (0 < n) × (n ≤ 32) ⌝ }
-    requires { ⌜ Sized sizes n ⌝ }
-    requires { ⌜ Positive margins n ⌝ }
+    requires { ⌜ Sized (now sizes) n ⌝ }
+    requires { ⌜ Positive (now margins) n ⌝ }
     requires { ⌜ Numbers (now weights) n 1024 ⌝ }
-    ensures { λ r. ⌜ Holds 0 r n (boundFrom n (λ (m : ℕ). getD sizes m 0) (λ (m : ℕ). getD margins m 0) (λ (i : ℕ). natAbs (at (now (weights .entry)) i))) ⌝ }
+    ensures { λ r. ⌜ Holds 0 r n (boundFrom n (λ (m : ℕ). getD (now (sizes .entry)) m 0) (λ (m : ℕ). getD (now (margins .entry)) m 0) (λ (i : ℕ). natAbs (at (now (weights .entry)) i))) ⌝ }
 {
     let k = steepest_of(sizes, margins, n);
     let p = sizes[k];
@@ -126,7 +126,7 @@ pub fn column_bounds(
     ensures { λ r. ⌜ Holds 0 r n (boundFrom n (columnSizes n (now (inverse .entry)) (now (residuals .entry)) start) (λ (m : ℕ). getD margins m 0) (λ (i : ℕ). natAbs (at (now (weights .entry)) i))) ⌝ }
 {
     let sizes = sizes_of(inverse, residuals, start, n);
-    bounds_of(sizes, margins, weights, n)
+    bounds_of(&sizes, &margins, weights, n)
 }
 
 // Writes n limits from a place on, some places apart.
@@ -173,12 +173,14 @@ pub fn store_columns(
     requires { ⌜ Numbers (now weights) n 1024 ⌝ }
     ensures { λ _. ⌜ now (dst .exit) ≡ storedColumns (now (dst .entry)) n (λ (i j : ℕ). boundFrom n (columnSizes n (now (inverse .entry)) (now (residuals .entry)) (j * n)) (λ (m : ℕ). getD margins m 0) (λ (k : ℕ). natAbs (at (now (weights .entry)) k)) i) n ⌝ }
 {
-    let rows = raise_lines(inverse, n, 1, n);
-    let lines = raise_lines(residuals, n, 1, n);
+    let mut rows = [0u64; 1056];
+    let mut lines = [0u64; 1056];
+    raise_lines(&mut rows, inverse, n, 1, n);
+    raise_lines(&mut lines, residuals, n, 1, n);
     let mut line = 0;
     for j in 0..n {
         let sizes = line_sizes_of(&rows, &lines, line, n);
-        let column = bounds_of(sizes, margins, weights, n);
+        let column = bounds_of(&sizes, &margins, weights, n);
         store(dst, j, n, column, n);
         line += n + 1;
     }

@@ -72,19 +72,17 @@ fn raise_line(out: &mut [u64], place: usize, xs: &[i64], start: usize, stride: u
     out[place + n] = sum;
 }
 
-// n lines of a list one after another, each from so many places on after the one before: rows of a matrix (n, 1) or columns (1, n).
-pub fn raise_lines(xs: &[i64], step: usize, stride: usize, n: usize) -> [u64; 1056]
-    requires { ⌜ (n ≤ 32) × ((step ≤ 32) × (stride ≤ 32)) ⌝ }
+// Raises n lines of a list one after another, each from so many places on after the one before: rows of a matrix (n, 1) or columns (1, n).
+pub fn raise_lines(out: &mut [u64], xs: &[i64], step: usize, stride: usize, n: usize)
+    requires { ⌜ (n ≤ 32) × ((step ≤ 32) × ((stride ≤ 32) × (1056 ≤ length (now out)))) ⌝ }
     requires { ⌜ ((i : ℕ) → i < n → Reach (now xs) (i * step) stride n (2 ^ 25)) ⌝ }
-    ensures { λ r. ⌜ Lines r n n (λ (i k : ℕ). at (now (xs .entry)) (i * step + k * stride)) ⌝ }
+    ensures { λ _. ⌜ Lines (now (out .exit)) n n (λ (i k : ℕ). at (now (xs .entry)) (i * step + k * stride)) ⌝ }
 {
-    let mut out = [0u64; 1056];
     let mut place = 0;
     let mut start = 0;
     for i in 0..n {
-        raise_line(&mut out, place, xs, start, stride, n);
+        raise_line(out, place, xs, start, stride, n);
         place += n + 1;
         start += step;
     }
-    out
 }
