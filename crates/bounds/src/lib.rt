@@ -6,7 +6,7 @@ ghost use lib.IntN.{natAbs};
 ghost use lib.ListN.{getD, length};
 ghost use Rattle.integer.specs.Quotient.{ceilDiv};
 ghost use Rattle.linear.specs.Slice.{at, Reach};
-ghost use Rattle.raised.specs.Raised.{Line, lineDot};
+ghost use Rattle.raised.specs.Raised.{Line, Lined, lineDot};
 ghost use Rattle.enclosure.specs.Reckoning.{boundFrom};
 ghost use Rattle.reckoning.specs.Arrays.{Holds, stored, storedColumns, Square, Numbers};
 ghost use Rattle.reckoning.specs.Part.{columnSizes};
@@ -145,7 +145,7 @@ pub fn store(dst: &mut [u64], start: usize, stride: usize, column: [u64; 32], n:
 // The sizes of p = G·r, from the raised rows of G and the raised line of r.
 fn line_sizes_of(rows: &[u64], lines: &[u64], line: usize, n: usize) -> [u64; 32]
     requires { ⌜ n ≤ 32 ⌝ }
-    requires { ⌜ ((m : ℕ) → m < n → Line (now rows) (m * (n + 1)) n) × Line (now lines) line n ⌝ }
+    requires { ⌜ Lined (now rows) n × Line (now lines) line n ⌝ }
     ensures { λ r. ⌜ Holds 0 r n (λ (m : ℕ). natAbs (lineDot (now (rows .entry)) (m * (n + 1)) (now (lines .entry)) line n)) ⌝ }
 {
     let mut out = [0u64; 32];

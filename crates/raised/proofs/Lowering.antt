@@ -1,7 +1,7 @@
 -- Raised numbers and the numbers they stand for.
 --   raised-is, raised-small, lowered-raised — x + 2^25 is a natural number, at most 2^26, and stands for x
 --   line-sum, line-products — a line's sum is at most 2^31, the sum of the products of two lines at most 2^57
---   line-dot-size, line-dot-shows — the size of a sum of products, and what it is of lines that stand for f and g
+--   line-dot-size, line-dot-shows — the size of a sum of products, and what it is of lines that stand for f and g;  lines-lined — these are lines
 --   dot-lowered, line-dot-is — a sum of products of raised numbers, put right, is that of the numbers that they stand for
 use mathlib.Core.List.{List}
 use mathlib.Core.Path.{_≡_, refl, sym, ap, _∙_}
@@ -14,7 +14,7 @@ use Rattle.integer.specs.Finite.{sum, sumℕ}
 use Rattle.integer.proofs.Difference.{is, zz}
 use Rattle.integer.proofs.Absolute.{abs-*}
 use Rattle.integer.proofs.Sum.{sum-ext, abs-sum≤, sumℕ≤}
-use Rattle.raised.specs.Raised.{lowered, Small, Line, lineDot, Shows}
+use Rattle.raised.specs.Raised.{lowered, Small, Line, Lined, lineDot, Shows, Lines}
 
 module _ (z : ℤ) (h : natAbs z ≤ 2 ^ 25) where
   pub raised-is : z +ℤ pos 33554432 ≡ pos (natAbs (z +ℤ pos 33554432))
@@ -72,3 +72,6 @@ line-dot-size {xs} {ys} {p} {q} {n} few a b =
 pub line-dot-shows : {xs ys : List ℕ} {p q : ℕ} (n : ℕ) {f g : ℕ → ℤ} → Shows xs p n f → Shows ys q n g → lineDot xs p ys q n ≡ sum n (λ (k : ℕ). f k *ℤ g k)
 unfolding lineDot
 line-dot-shows n a b = sum-ext n _ _ (λ k l. rw (a .each k l, b .each k l))
+
+pub lines-lined : {xs : List ℕ} {n : ℕ} {f : ℕ → ℕ → ℤ} → Lines xs n n f → Lined xs n
+lines-lined h = record { each = λ i l. h .each i l .line }

@@ -21,7 +21,7 @@ abbrev μ-loop : tie.MeasureT-loop
 μ-loop rows lines line n out₀ row₀ m₀ out row m = n - m
 
 row-here : (c : tie.In-loop Inv-loop μ-loop) → Line (c .before .before .before .before .args .rows .now) (c .before .loop .row) (c .before .before .before .before .args .n)
-row-here c = rw (c .before .loop .inv .1 .0) (c .before .before .before .before .pre .1 .0 (c .before .loop .m) (c .loop-test .taken))
+row-here c = rw (c .before .loop .inv .1 .0) (c .before .before .before .before .pre .1 .0 .each (c .before .loop .m) (c .loop-test .taken))
 
 loop-holds : tie.Need-loop-holds Inv-loop μ-loop
 loop-holds c = (omega arith, (omega arith, (refl, holds-none _ _ _)))

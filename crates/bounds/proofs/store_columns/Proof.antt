@@ -8,6 +8,7 @@ use Rattle.linear.specs.Slice.{at}
 use Rattle.linear.proofs.Places.{place, row-reach}
 use Rattle.raised.specs.Raised.{Lines}
 use Rattle.raised.proofs.Filling.{line-room}
+use Rattle.raised.proofs.Lowering.{lines-lined}
 use Rattle.enclosure.specs.Reckoning.{boundFrom}
 use Rattle.reckoning.specs.Arrays.{Holds, storedColumns}
 use Rattle.reckoning.specs.Part.{columnSizes}
@@ -78,7 +79,7 @@ line-sizes-of-requires : tie.Need-line-sizes-of-requires Inv-loop μ-loop
 line-sizes-of-requires c κs =
     let t = c .before .before in
     let l = t .before .loop in
-    (start t .pre .0 .1 .0, ((λ m h. rows-are t .each m h .line), rw (l .inv .1 .0) (lines-are t .each (l .j) (t .loop-test .taken) .line)))
+    (start t .pre .0 .1 .0, (lines-lined (rows-are t), rw (l .inv .1 .0) (lines-are t .each (l .j) (t .loop-test .taken) .line)))
 
 bounds-of-requires : tie.Need-bounds-of-requires Inv-loop μ-loop
 bounds-of-requires c κs =
