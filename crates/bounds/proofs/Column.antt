@@ -40,11 +40,12 @@ bounds-of-sizes n sizes f margins w h k =
     holds-as 0 _ _ (λ i l. bound-ext n (λ (m : ℕ). getD sizes m 0) margins f margins w i (h .each) (λ m lm. refl)) k
 
 -- the sizes of column j from raised lines
-pub line-sizes : (n : ℕ) (inverse residuals : List ℤ) {rows lines sizes : List ℕ} (j : ℕ) → j < n → Lines rows n n (λ (i k : ℕ). at inverse (i * n + k * 1)) →
-    Lines lines n n (λ (i k : ℕ). at residuals (i * n + k * 1)) → Holds 0 sizes n (λ (m : ℕ). natAbs (lineDot rows (m * (n + 1)) lines (j * (n + 1)) n)) →
-    Holds 0 sizes n (columnSizes n inverse residuals (j * n))
-line-sizes n inverse residuals j l r s h =
-    holds-as 0 _ _ (λ m lm. ap natAbs (line-dot-shows n (r .each m lm) (s .each j l) ∙ sizes-is n inverse residuals (j * n) m)) h
+pub line-sizes : (n : ℕ) (inverse residuals : List ℤ) {rows lines sizes : List ℕ} (line j : ℕ) → line ≡ j * (n + 1) → j < n →
+    Lines rows n n (λ (i k : ℕ). at inverse (i * n + k * 1)) → Lines lines n n (λ (i k : ℕ). at residuals (i * n + k * 1)) →
+    Holds 0 sizes n (λ (m : ℕ). natAbs (lineDot rows (m * (n + 1)) lines line n)) → Holds 0 sizes n (columnSizes n inverse residuals (j * n))
+line-sizes n inverse residuals {rows} {lines} line j e l r s h =
+    holds-as 0 _ _
+    (λ m lm. ap natAbs (ap (λ (x : ℕ). lineDot rows (m * (n + 1)) lines x n) e ∙ line-dot-shows n (r .each m lm) (s .each j l) ∙ sizes-is n inverse residuals (j * n) m)) h
 
 -- one column more
 pub column-more : (xs : List ℕ) (n : ℕ) (f : ℕ → ℕ → ℕ) (j : ℕ) {now after column : List ℕ} → now ≡ storedColumns xs n f j →

@@ -4,7 +4,7 @@
 --   line-dot-size, line-dot-shows — the size of a sum of products, and what it is of lines that stand for f and g;  lines-lined — these are lines
 --   dot-lowered, line-dot-is — a sum of products of raised numbers, put right, is that of the numbers that they stand for
 use mathlib.Core.List.{List}
-use mathlib.Core.Path.{_≡_, refl, sym, ap, _∙_}
+use mathlib.Core.Path.{_≡_, sym, ap, _∙_}
 use Prim.Native.Nat.{ℕ, zero, suc, _+_, _*_, _≤_, _^_}
 use native.Mathlib.Omega.{arith}
 use native.Mathlib.Nat.{mul-le-mul, mul-le-mul-right}

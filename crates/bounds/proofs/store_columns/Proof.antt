@@ -50,7 +50,7 @@ sizes-here : (c : tie.After-line-sizes-of Inv-loop μ-loop) →
 sizes-here c =
     let t = turn c in
     let s = start t in
-    line-sizes (s .args .n) (s .args .inverse .now) (s .args .residuals .now) (t .before .loop .j) (t .loop-test .taken) (rows-are t) (lines-are t) (rw (t .before .loop .inv .1 .0) at (c .line-sizes-of .ensures))
+    line-sizes (s .args .n) (s .args .inverse .now) (s .args .residuals .now) (t .before .loop .line) (t .before .loop .j) (t .before .loop .inv .1 .0) (t .loop-test .taken) (rows-are t) (lines-are t) (c .line-sizes-of .ensures)
 
 slice-aggregate-raise-lines : tie.Need-slice-aggregate-raise-lines Inv-loop μ-loop
 slice-aggregate-raise-lines c = search needs

@@ -4,7 +4,6 @@ use Prim.Native.Nat.{ℕ, _≤_, _*_, _^_}
 use native.Mathlib.Omega.{arith}
 use native.Mathlib.Nat.{mul-le-mul}
 use lib.Bits.{bitAnd, and-mask}
-use borrow.Author.Needs.{needs}
 use Rattle.raised.proofs.add_low.Statement.{statement}
 use Rattle.raised.proofs.add_low.Tie as tie
 

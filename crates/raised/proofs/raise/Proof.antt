@@ -1,12 +1,11 @@
 use native.Mathlib.Omega.{arith}
-use lib.IntN.{pos, natAbs, _+ℤ_}
+use lib.IntN.{pos, _+ℤ_}
 use mir.Syntax.{w64}
 use mir.Val.{SFits}
 use mir.ValLaws.{toZ-ofZ}
 use Rattle.integer.proofs.Absolute.{abs-+}
 use Rattle.integer.proofs.Machine.{small}
 use Rattle.raised.proofs.Lowering.{raised-is, raised-small, lowered-raised}
-use borrow.Author.Needs.{needs}
 use Rattle.raised.proofs.raise.Statement.{statement}
 use Rattle.raised.proofs.raise.Tie as tie
 
