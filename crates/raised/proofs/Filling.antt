@@ -51,16 +51,19 @@ module _ {before out : List ℕ} {p k sum : ℕ} {f : ℕ → ℤ} (h : Part bef
     here : getD (set out (p + k) x) (p + k) 0 ≡ x
     here = getD-set-same out (p + k) x 0 inside
 
-  pub part-more : (x : ℕ) → lowered x ≡ f k → x ≤ 2 ^ 26 → Part before (set out (p + k) x) p (k + 1) f (sum + x)
-  part-more x e s = record {
+  more : (x : ℕ) → lowered x ≡ f k → x ≤ 2 ^ 26 → Part before (set out (p + k) x) p (k + 1) f (sum + x)
+  more x e s = record {
     kept = kept-more x;
     small = record { each = below-more (λ j. getD (set out (p + k) x) (p + j) 0 ≤ 2 ^ 26) k (λ j l. rw (same x (p + j) (omega arith)) (h .small .each j l)) (rw (here x) s) };
     each = below-more (λ j. lowered (getD (set out (p + k) x) (p + j) 0) ≡ f j) k (λ j l. rw (same x (p + j) (omega arith)) (h .each j l)) (rw (here x) e);
     total = sym (sumℕ-next k _ ∙ rw (sum-same x, here x, h .total));
   }
 
-  pub part-end : Shows (set out (p + k) sum) p k f × Kept before (set out (p + k) sum) p
-  part-end = (
+  pub part-more : {to : ℕ} → to ≡ p + k → (x : ℕ) → lowered x ≡ f k → x ≤ 2 ^ 26 → Part before (set out to x) p (k + 1) f (sum + x)
+  part-more e x = rw e (more x)
+
+  end : Shows (set out (p + k) sum) p k f × Kept before (set out (p + k) sum) p
+  end = (
     record {
       line = record {
         inside = rw (length-set out (p + k) sum) inside;
@@ -71,6 +74,9 @@ module _ {before out : List ℕ} {p k sum : ℕ} {f : ℕ → ℤ} (h : Part bef
     },
     kept-more sum,
   )
+
+  pub part-end : {to : ℕ} → to ≡ p + k → Shows (set out to sum) p k f × Kept before (set out to sum) p
+  part-end e = rw e end
 
 -- ---- line after line
 pub shows-kept : {xs ys : List ℕ} {p q n : ℕ} {f : ℕ → ℤ} → Shows xs p n f → p + n < q → Kept xs ys q → Shows ys p n f

@@ -24,15 +24,19 @@ fn add_low(sum: u64, a: u64, b: u64) -> u64
     sum + (a & 0xffffffff) * (b & 0xffffffff)
 }
 
-// The sum of the products of two lines as they stand.
+// The sum of the products of two lines as they stand; the places are carried from term to term.
 fn low_dot(a: &[u64], p: usize, b: &[u64], q: usize, n: usize) -> u64
     requires { ⌜ (n ≤ 32) × ((p + n < length (now a)) × (q + n < length (now b))) ⌝ }
     requires { ⌜ Small (now a) p n × Small (now b) q n ⌝ }
     ensures { λ r. ⌜ r ≡ sumℕ n (λ (k : ℕ). getD (now (a .entry)) (p + k) 0 * getD (now (b .entry)) (q + k) 0) ⌝ }
 {
     let mut sum: u64 = 0;
+    let mut at_a = p;
+    let mut at_b = q;
     for k in 0..n {
-        sum = add_low(sum, a[p + k], b[q + k]);
+        sum = add_low(sum, a[at_a], b[at_b]);
+        at_a += 1;
+        at_b += 1;
     }
     sum
 }
@@ -63,13 +67,15 @@ fn raise_line(out: &mut [u64], place: usize, xs: &[i64], start: usize, stride: u
 {
     let mut sum: u64 = 0;
     let mut from = start;
+    let mut to = place;
     for k in 0..n {
         let x = raise(xs[from]);
-        out[place + k] = x;
+        out[to] = x;
         sum += x;
         from += stride;
+        to += 1;
     }
-    out[place + n] = sum;
+    out[to] = sum;
 }
 
 // Raises n lines of a list one after another, each from so many places on after the one before: rows of a matrix (n, 1) or columns (1, n).

@@ -12,11 +12,11 @@ use Rattle.raised.proofs.raise_line.Statement.{statement}
 use Rattle.raised.proofs.raise_line.Tie as tie
 
 abbrev Inv-loop : tie.InvT-loop
-Inv-loop out₀ place xs start stride n sum₀ from₀ k₀ out sum from k =
-    (k ≤ n) × ((from ≡ start + k * stride) × Part out₀ out place k (λ (j : ℕ). at xs (start + j * stride)) sum)
+Inv-loop out₀ place xs start stride n sum₀ from₀ to₀ k₀ out sum from to k =
+    (k ≤ n) × ((from ≡ start + k * stride) × ((to ≡ place + k) × Part out₀ out place k (λ (j : ℕ). at xs (start + j * stride)) sum))
 
 abbrev μ-loop : tie.MeasureT-loop
-μ-loop out₀ place xs start stride n sum₀ from₀ k₀ out sum from k = n - k
+μ-loop out₀ place xs start stride n sum₀ from₀ to₀ k₀ out sum from to k = n - k
 
 module _ (c : tie.In-loop Inv-loop μ-loop) where
   read-here : natAbs (at (c .before .before .before .args .xs .now) (c .before .loop .from)) ≤ 2 ^ 25
@@ -25,11 +25,11 @@ module _ (c : tie.In-loop Inv-loop μ-loop) where
   inside-here : c .before .loop .from < length (c .before .before .before .args .xs .now)
   inside-here = rw (c .before .loop .inv .1 .0) (c .before .before .before .pre .1 .inside (c .before .loop .k) (c .loop-test .taken))
 
-  length-here : length (c .before .loop .out) ≡ length (c .before .before .before .args .out .now)
-  length-here = c .before .loop .inv .1 .1 .kept .long
+length-here : (c : tie.At-loop Inv-loop μ-loop) → length (c .loop .out) ≡ length (c .before .before .args .out .now)
+length-here c = c .loop .inv .1 .1 .1 .kept .long
 
 loop-holds : tie.Need-loop-holds Inv-loop μ-loop
-loop-holds c = (omega arith, (omega arith, part-none _ _ _))
+loop-holds c = (omega arith, (omega arith, (omega arith, part-none _ _ _)))
 
 mul-raise : tie.Need-mul-raise Inv-loop μ-loop
 mul-raise c = let l = inside-here c in search needs
@@ -39,9 +39,6 @@ shared-slice-copy-out-raise c = inside-here c
 
 raise-requires : tie.Need-raise-requires Inv-loop μ-loop
 raise-requires c κs = rw (read _ (c .raise-arg .given)) (read-here (c .before))
-
-add-out : tie.Need-add-out Inv-loop μ-loop
-add-out c = search needs
 
 mul-out : tie.Need-mul-out Inv-loop μ-loop
 mul-out c = search needs
@@ -53,12 +50,15 @@ add-sum : tie.Need-add-sum Inv-loop μ-loop
 add-sum c =
     let l = c .before .before .before .loop in
     let s = c .before .before .before .before .before in
-    omega (arith, c .raise .ensures .1, part-sum (omega (arith, l .inv .0, s .pre .0 .0)) (l .inv .1 .1))
+    omega (arith, c .raise .ensures .1, part-sum (omega (arith, l .inv .0, s .pre .0 .0)) (l .inv .1 .1 .1))
 
 add-from : tie.Need-add-from Inv-loop μ-loop
 add-from c =
     let s = c .before .before .before .before .before in
     omega (arith, mul-le-mul-right (s .args .stride) (c .before .before .loop-test .taken))
+
+add-to : tie.Need-add-to Inv-loop μ-loop
+add-to c = search needs
 
 add-k : tie.Need-add-k Inv-loop μ-loop
 add-k c = search needs
@@ -68,18 +68,18 @@ loop-less c = search needs
 
 loop-again : tie.Need-loop-again Inv-loop μ-loop
 loop-again c =
-    let l = c .before .before .before .loop in
-    let s = c .before .before .before .before .before in (
+    let h = c .before .before .before in
+    let l = h .loop in (
       omega arith,
       (
         omega arith,
-        part-more (l .inv .1 .1) (omega (arith, length-here (c .before .before), c .before .before .loop-test .taken)) (c .raise .result)
-            (rw (read _ (c .before .raise-arg .given), l .inv .1 .0) at (c .raise .ensures .0)) (c .raise .ensures .1),
+        (
+          omega arith,
+          part-more (l .inv .1 .1 .1) (omega (arith, length-here h, c .before .before .loop-test .taken)) (l .inv .1 .1 .0) (c .raise .result)
+              (rw (read _ (c .before .raise-arg .given), l .inv .1 .0) at (c .raise .ensures .0)) (c .raise .ensures .1),
+        ),
       ),
     )
-
-add-out-2 : tie.Need-add-out-2 Inv-loop μ-loop
-add-out-2 c = search needs
 
 mul-out-2 : tie.Need-mul-out-2 Inv-loop μ-loop
 mul-out-2 c = search needs
@@ -92,9 +92,9 @@ same-length c = search needs
 
 returns : tie.Need-returns Inv-loop μ-loop
 returns c =
-    let l = c .before .loop in
-    let s = c .before .before .before in
-    part-end (part-whole (l .inv .0) (c .loop-test .left) (l .inv .1 .1)) (omega (arith, l .inv .1 .1 .kept .long, s .pre .0 .1 .1))
+    let h = c .before in
+    let l = h .loop in
+    part-end (part-whole (l .inv .0) (c .loop-test .left) (l .inv .1 .1 .1)) (omega (arith, length-here h, h .before .before .pre .0 .1 .1)) (omega (arith, l .inv .1 .1 .0, l .inv .0, c .loop-test .left))
 
 pub raise-line-spec : {M : Type 1} → statement M
 raise-line-spec =
@@ -106,15 +106,14 @@ raise-line-spec =
     mul-raise
     shared-slice-copy-out-raise
     raise-requires
-    add-out
     mul-out
     slice-write-out
     add-sum
     add-from
+    add-to
     add-k
     loop-less
     loop-again
-    add-out-2
     mul-out-2
     slice-write-out-2
     same-length
