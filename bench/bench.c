@@ -2,14 +2,15 @@
  *
  *   bench FILE   reads accepted nets as tests/emit.py writes them
  *
- * The versions run on the same nets in alternation in one process, each on lists of limits that were not cleared before; the time of a
- * version is the middle one of many rounds. With -DPROVED the proved library runs beside the two in C. */
+ * The versions run on the same nets in alternation in one process, each on lists of limits that were not cleared before. Time is processor
+ * time. A version's time is the middle one of many rounds, and its ratio to another the middle one of the ratios within a round. With
+ * -DPROVED the proved library runs beside the two in C. */
 #include "nets.h"
 
 #include <stdlib.h>
 #include <time.h>
 
-enum { MOST_NETS = 1000, ROUNDS = 61 };
+enum { MOST_NETS = 1000, ROUNDS = 201 };
 
 struct version {
     const char *name;
@@ -31,7 +32,7 @@ static struct outcome answers[COUNT];
 
 static double now(void) {
     struct timespec t;
-    clock_gettime(CLOCK_MONOTONIC, &t);
+    clock_gettime(CLOCK_PROCESS_CPUTIME_ID, &t);
     return (double)t.tv_sec * 1e6 + (double)t.tv_nsec / 1e3;
 }
 
@@ -84,16 +85,27 @@ static double round_of(uint32_t v, uint32_t count, uint32_t n) {
     return used ? spent / used : 0;
 }
 
+static double middle_of(double *numbers) {
+    qsort(numbers, ROUNDS, sizeof *numbers, by_size);
+    return numbers[ROUNDS / 2];
+}
+
 static void measure(uint32_t count, uint32_t n) {
     static double times[COUNT][ROUNDS];
+    double ratios[COUNT][COUNT];
     for (uint32_t round = 0; round < ROUNDS; round++) {
         for (uint32_t v = 0; v < COUNT; v++) times[v][round] = round_of(v, count, n);
     }
-    for (uint32_t v = 0; v < COUNT; v++) qsort(times[v], ROUNDS, sizeof(double), by_size);
     for (uint32_t v = 0; v < COUNT; v++) {
-        const double middle = times[v][ROUNDS / 2];
-        printf("n = %2u  %-28s %8.2f us a net", n, VERSIONS[v].name, middle);
-        for (uint32_t other = 0; other < v; other++) printf("  %5.2f x %s", middle / times[other][ROUNDS / 2], VERSIONS[other].name);
+        for (uint32_t other = 0; other < v; other++) {
+            double within[ROUNDS];
+            for (uint32_t round = 0; round < ROUNDS; round++) within[round] = times[v][round] / times[other][round];
+            ratios[v][other] = middle_of(within);
+        }
+    }
+    for (uint32_t v = 0; v < COUNT; v++) {
+        printf("n = %2u  %-28s %8.2f us a net", n, VERSIONS[v].name, middle_of(times[v]));
+        for (uint32_t other = 0; other < v; other++) printf("  %5.2f x %s", ratios[v][other], VERSIONS[other].name);
         printf("\n");
     }
 }

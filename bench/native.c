@@ -37,16 +37,17 @@ static bool is_in_range(uint32_t n, uint32_t s, uint32_t t, const struct system 
            all_within(y->G, n * n, -small, small) && all_within(y->w, n, 1, 1024);
 }
 
+/* The sum of a[j] * x[j * stride]. */
+static int64_t dot(uint32_t n, const int64_t *a, const int64_t *x, uint32_t stride) {
+    int64_t sum = 0;
+    for (uint32_t j = 0; j < n; j++) sum += a[j] * x[j * stride];
+    return sum;
+}
+
 /* out = diagonal * I - left * right, row after row. */
 static void defect(uint32_t n, int64_t diagonal, const int64_t *left, const int64_t *right, int64_t *out) {
     for (uint32_t i = 0; i < n; i++) {
-        int64_t *row = out + i * n;
-        memset(row, 0, n * sizeof *row);
-        row[i] = diagonal;
-        for (uint32_t k = 0; k < n; k++) {
-            const int64_t factor = left[i * n + k];
-            for (uint32_t j = 0; j < n; j++) row[j] -= factor * right[k * n + j];
-        }
+        for (uint32_t j = 0; j < n; j++) out[i * n + j] = (i == j ? diagonal : 0) - dot(n, left + i * n, right + j, n);
     }
 }
 
@@ -68,8 +69,7 @@ static uint32_t failing_margin(const struct system *y, int64_t *g) {
 static uint32_t failing_residual(const struct system *y, int64_t *r) {
     uint32_t failing = 0;
     for (uint32_t k = y->n; k-- > 0;) {
-        r[k] = y->S * y->b[k];
-        for (uint32_t j = 0; j < y->n; j++) r[k] -= y->A[k * y->n + j] * y->X[j];
+        r[k] = y->S * y->b[k] - dot(y->n, y->A + k * y->n, y->X, 1);
         if (size_of(r[k]) > LARGEST_RESIDUAL) failing = k + 1;
     }
     return failing;
@@ -116,26 +116,17 @@ static void quick_limits(uint32_t n, const int64_t *w, const int64_t *p, const i
     for (uint32_t i = 0; i < n; i++) limits[i] = (uint64_t)((w[i] * p[best] + g[best] - 1) / g[best]);
 }
 
-/* P = |G * R|, for `columns` columns of R, row after row. */
-static void sizes(const struct system *y, const int64_t *R, uint32_t columns, int64_t *P) {
-    for (uint32_t m = 0; m < y->n; m++) {
-        int64_t *row = P + m * columns;
-        memset(row, 0, columns * sizeof *row);
-        for (uint32_t k = 0; k < y->n; k++) {
-            const int64_t factor = y->G[m * y->n + k];
-            for (uint32_t j = 0; j < columns; j++) row[j] += factor * R[k * columns + j];
-        }
-        for (uint32_t j = 0; j < columns; j++) row[j] = size_of(row[j]);
-    }
+/* p = |G * r|, for r that stands in every so manyth place. */
+static void sizes(const struct system *y, const int64_t *r, uint32_t stride, int64_t *p) {
+    for (uint32_t m = 0; m < y->n; m++) p[m] = size_of(dot(y->n, y->G + m * y->n, r, stride));
 }
 
 /* "The limits of one column are worked out whole before any of them is written." */
 static void write_inverse(const struct system *y, const int64_t *R, const int64_t *g, limits_of_column *limits_of, uint64_t *bounds) {
-    int64_t P[PLACES], p[MOST];
+    int64_t p[MOST];
     uint64_t limits[MOST];
-    sizes(y, R, y->n, P);
     for (uint32_t j = 0; j < y->n; j++) {
-        for (uint32_t m = 0; m < y->n; m++) p[m] = P[m * y->n + j];
+        sizes(y, R + j, y->n, p);
         limits_of(y->n, y->w, p, g, limits);
         for (uint32_t i = 0; i < y->n; i++) bounds[i * y->n + j] = limits[i];
     }

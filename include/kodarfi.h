@@ -1,15 +1,29 @@
-/* The check on lists of document 01, as the library exports it to C.
+/* The calls that the library libexport.a gives to C.
  *
- * A matrix list has at least 1,024 numbers and a column list at least 32; the first n * n or n are used, row after row.
- * The answer is 0 where the proposal is accepted: then n solution limits and n * n inverse limits are written.
- * Else it is document 01's number (8, 3, 5, 6 or 7) and both lists of limits are as before. places gets the row for 5 and 6,
- * column and row for 7, counted from 1; places without a meaning are 0. */
+ * Each answers every input: there is nothing to be kept but what C's types cannot say, that a pointer leads to as many numbers as the length after
+ * it says, and that a list to be written overlaps no other list of the call. Calls keep no state and may run at the same time. */
 #ifndef KODARFI_H
 #define KODARFI_H
 
 #include <stddef.h>
 #include <stdint.h>
 
+/* The check on lists.
+ *
+ * n equations (1 to 32); 2^s solution steps and 2^t inverse steps make one unit (0 to 20). A matrix list has at least 1,024 numbers and a column
+ * list at least 32; the first n * n are used, row after row, or the first n. The rest is neither read nor written.
+ *
+ * The answer is 0 where the proposal is accepted: then the first n solution_bounds are the limits of the guess, in solution steps, and the first
+ * n * n inverse_bounds those of the inverse, row after row, in inverse steps. Else it is the number of the first refusal in this order, and both
+ * lists of limits are as before:
+ *
+ *   8   a list is too short
+ *   3   n, s, t or a number that is used is outside its range
+ *   5   a margin is 0 or less                               places: row, 0
+ *   6   a residual of the guess is above 2^25 in size       places: row, 0
+ *   7   a residual of the inverse is above 2^25 in size     places: column, row
+ *
+ * Rows and columns count from 1. places is written in any case; what has no meaning there is 0. */
 uint32_t kodarfi_check(uint32_t n, uint32_t s, uint32_t t,
                        const int64_t *matrix, size_t matrix_len,
                        const int64_t *right, size_t right_len,

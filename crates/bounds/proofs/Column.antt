@@ -1,18 +1,20 @@
 -- The limits of a column.
 --   sized-columns — the sizes of p are at most 2^50
---   bounds-of-sizes, residual-reach, column-more, bounds-more — the steps of the loop over all columns
-use mathlib.Core.Path.{_≡_, refl, sym, ap, _∙_, subst}
+--   bounds-of-sizes, line-sizes, column-more — the steps of the loop over all columns
+use mathlib.Core.Path.{_≡_, refl, sym, ap, _∙_}
 use mathlib.Core.List.{List}
 use Prim.Native.Nat.{ℕ, _+_, _*_, _≤_, _<_, _^_}
 use native.Mathlib.Omega.{arith}
 use native.Mathlib.Nat.{mul-le-mul-right}
 use lib.IntN.{ℤ, natAbs}
 use lib.ListN.{getD}
-use Rattle.linear.specs.Slice.{Reach}
-use Rattle.linear.proofs.Places.{place, dot-size}
+use Rattle.linear.specs.Slice.{at, Reach}
+use Rattle.linear.proofs.Places.{dot-size}
+use Rattle.raised.specs.Raised.{lineDot, Lines}
+use Rattle.raised.proofs.Lowering.{line-dot-shows}
 use Rattle.enclosure.specs.Reckoning.{boundFrom}
 use Rattle.enclosure.proofs.Bounds.{bound-ext}
-use Rattle.reckoning.specs.Arrays.{Holds, Square, Numbers, stored, storedColumns}
+use Rattle.reckoning.specs.Arrays.{Holds, Square, stored, storedColumns}
 use Rattle.reckoning.specs.Part.{columnSizes}
 use Rattle.reckoning.proofs.Filled.{holds-as, stored-ext, columns-next}
 use Rattle.reckoning.proofs.Numbers.{sizes-is}
@@ -37,21 +39,16 @@ pub bounds-of-sizes : (n : ℕ) (sizes : List ℕ) (f margins w : ℕ → ℕ) {
 bounds-of-sizes n sizes f margins w h k =
     holds-as 0 _ _ (λ i l. bound-ext n (λ (m : ℕ). getD sizes m 0) margins f margins w i (h .each) (λ m lm. refl)) k
 
--- n residuals from place j·n on
-pub residual-reach : {residuals : List ℤ} {n place : ℕ} (j : ℕ) → Numbers residuals (n * n) (2 ^ 25) → j < n → place ≡ j * n → Reach residuals place 1 n (2 ^ 25)
-residual-reach {residuals} {n} j r l e =
-    rw e (record { inside = λ k h. omega (arith, place l h, r .long); size = λ k h. r .within .size (j * n + k * 1) (omega (arith, place l h)) })
+-- the sizes of column j from raised lines
+pub line-sizes : (n : ℕ) (inverse residuals : List ℤ) {rows lines sizes : List ℕ} (line j : ℕ) → line ≡ j * (n + 1) → j < n →
+    Lines rows n n (λ (i k : ℕ). at inverse (i * n + k * 1)) → Lines lines n n (λ (i k : ℕ). at residuals (i * n + k * 1)) →
+    Holds 0 sizes n (λ (m : ℕ). natAbs (lineDot rows (m * (n + 1)) lines line n)) → Holds 0 sizes n (columnSizes n inverse residuals (j * n))
+line-sizes n inverse residuals {rows} {lines} line j e l r s h =
+    holds-as 0 _ _
+    (λ m lm. ap natAbs (ap (λ (x : ℕ). lineDot rows (m * (n + 1)) lines x n) e ∙ line-dot-shows n (r .each m lm) (s .each j l) ∙ sizes-is n inverse residuals (j * n) m)) h
 
 -- one column more
 pub column-more : (xs : List ℕ) (n : ℕ) (f : ℕ → ℕ → ℕ) (j : ℕ) {now after column : List ℕ} → now ≡ storedColumns xs n f j →
     Holds 0 column n (λ (i : ℕ). f i j) → after ≡ stored now j n (λ (i : ℕ). getD column i 0) n → after ≡ storedColumns xs n f (j + 1)
 column-more xs n f j {now} {after} {column} e h a =
     a ∙ stored-ext now j n (λ (i : ℕ). getD column i 0) (λ (i : ℕ). f i j) n (h .each) ∙ rw e (sym (columns-next xs n f j))
-
-pub bounds-more : (xs : List ℕ) (n : ℕ) (inverse residuals : List ℤ) (margins w : ℕ → ℕ) (j : ℕ) {now after column : List ℕ} {start : ℕ} →
-    now ≡ storedColumns xs n (λ (i k : ℕ). boundFrom n (columnSizes n inverse residuals (k * n)) margins w i) j → start ≡ j * n →
-    Holds 0 column n (boundFrom n (columnSizes n inverse residuals start) margins w) → after ≡ stored now j n (λ (i : ℕ). getD column i 0) n →
-    after ≡ storedColumns xs n (λ (i k : ℕ). boundFrom n (columnSizes n inverse residuals (k * n)) margins w i) (j + 1)
-bounds-more xs n inverse residuals margins w j {now} {after} {column} e p h a =
-    column-more xs n (λ (i k : ℕ). boundFrom n (columnSizes n inverse residuals (k * n)) margins w i) j e
-    (subst (λ (x : ℕ). Holds 0 column n (boundFrom n (columnSizes n inverse residuals x) margins w)) p h) a

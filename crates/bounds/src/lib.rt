@@ -6,6 +6,7 @@ ghost use lib.IntN.{natAbs};
 ghost use lib.ListN.{getD, length};
 ghost use Rattle.integer.specs.Quotient.{ceilDiv};
 ghost use Rattle.linear.specs.Slice.{at, Reach};
+ghost use Rattle.raised.specs.Raised.{Line, Lined, lineDot};
 ghost use Rattle.enclosure.specs.Reckoning.{boundFrom};
 ghost use Rattle.reckoning.specs.Arrays.{Holds, stored, storedColumns, Square, Numbers};
 ghost use Rattle.reckoning.specs.Part.{columnSizes};
@@ -13,6 +14,8 @@ ghost use Rattle.bounds.specs.Ratio.{ratioOf, steeperOf, Narrow, Steep, 
 use integer::ceil_div;
 use integer::magnitude;
 use linear::dot;
+use raised::line_dot;
+use raised::raise_lines;
 
 // A row with the quotient and the remainder of |p_m| by its margin g_m.
 pub struct Ratio {
@@ -52,10 +55,10 @@ fn steeper(a: Ratio, b: Ratio) -> Ratio
 }
 
 // A row where sizes / margins is largest.
-fn steepest_of(sizes: [u64; 32], margins: [u64; 32], n: usize) -> usize
+fn steepest_of(sizes: &[u64; 32], margins: &[u64; 32], n: usize) -> usize
     requires { ⌜ (0 < n) × (n ≤ 32) ⌝ }
-    requires { ⌜ Positive margins n ⌝ }
-    ensures { λ r. ⌜ Steep n (λ (m : ℕ). getD sizes m 0) (λ (m : ℕ). getD margins m 0) r ⌝ }
+    requires { ⌜ Positive (now margins) n ⌝ }
+    ensures { λ r. ⌜ Steep n (λ (m : ℕ). getD (now (sizes .entry)) m 0) (λ (m : ℕ). getD (now (margins .entry)) m 0) r ⌝ }
 {
     let mut best = ratio_of(0, sizes[0], margins[0]);
     for m in 1..n {
@@ -73,12 +76,12 @@ fn limit_of(w: i64, p: u64, g: u64) -> u64
 }
 
 // The limits of a column: each is that of the row where |p_m| / g_m is largest.
-fn bounds_of(sizes: [u64; 32], margins: [u64; 32], weights: &[i64], n: usize) -> [u64; 32]
+fn bounds_of(sizes: &[u64; 32], margins: &[u64; 32], weights: &[i64], n: usize) -> [u64; 32]
     requires { ⌜ (0 < n) × (n ≤ 32) ⌝ }
-    requires { ⌜ Sized sizes n ⌝ }
-    requires { ⌜ Positive margins n ⌝ }
+    requires { ⌜ Sized (now sizes) n ⌝ }
+    requires { ⌜ Positive (now margins) n ⌝ }
     requires { ⌜ Numbers (now weights) n 1024 ⌝ }
-    ensures { λ r. ⌜ Holds 0 r n (boundFrom n (λ (m : ℕ). getD sizes m 0) (λ (m : ℕ). getD margins m 0) (λ (i : ℕ). natAbs (at (now (weights .entry)) i))) ⌝ }
+    ensures { λ r. ⌜ Holds 0 r n (boundFrom n (λ (m : ℕ). getD (now (sizes .entry)) m 0) (λ (m : ℕ). getD (now (margins .entry)) m 0) (λ (i : ℕ). natAbs (at (now (weights .entry)) i))) ⌝ }
 {
     let k = steepest_of(sizes, margins, n);
     let p = sizes[k];
@@ -123,7 +126,7 @@ pub fn column_bounds(
     ensures { λ r. ⌜ Holds 0 r n (boundFrom n (columnSizes n (now (inverse .entry)) (now (residuals .entry)) start) (λ (m : ℕ). getD margins m 0) (λ (i : ℕ). natAbs (at (now (weights .entry)) i))) ⌝ }
 {
     let sizes = sizes_of(inverse, residuals, start, n);
-    bounds_of(sizes, margins, weights, n)
+    bounds_of(&sizes, &margins, weights, n)
 }
 
 // Writes n limits from a place on, some places apart.
@@ -137,6 +140,21 @@ pub fn store(dst: &mut [u64], start: usize, stride: usize, column: [u64; 32], n:
         dst[place] = column[i];
         place += stride;
     }
+}
+
+// The sizes of p = G·r, from the raised rows of G and the raised line of r.
+fn line_sizes_of(rows: &[u64], lines: &[u64], line: usize, n: usize) -> [u64; 32]
+    requires { ⌜ n ≤ 32 ⌝ }
+    requires { ⌜ Lined (now rows) n × Line (now lines) line n ⌝ }
+    ensures { λ r. ⌜ Holds 0 r n (λ (m : ℕ). natAbs (lineDot (now (rows .entry)) (m * (n + 1)) (now (lines .entry)) line n)) ⌝ }
+{
+    let mut out = [0u64; 32];
+    let mut row = 0;
+    for m in 0..n {
+        out[m] = magnitude(line_dot(rows, row, lines, line, n));
+        row += n + 1;
+    }
+    out
 }
 
 // Writes the limits of all columns of the inverse, row after row, from their residuals, column after column.
@@ -155,10 +173,15 @@ pub fn store_columns(
     requires { ⌜ Numbers (now weights) n 1024 ⌝ }
     ensures { λ _. ⌜ now (dst .exit) ≡ storedColumns (now (dst .entry)) n (λ (i j : ℕ). boundFrom n (columnSizes n (now (inverse .entry)) (now (residuals .entry)) (j * n)) (λ (m : ℕ). getD margins m 0) (λ (k : ℕ). natAbs (at (now (weights .entry)) k)) i) n ⌝ }
 {
-    let mut place = 0;
+    let mut rows = [0u64; 1056];
+    let mut lines = [0u64; 1056];
+    raise_lines(&mut rows, inverse, n, 1, n);
+    raise_lines(&mut lines, residuals, n, 1, n);
+    let mut line = 0;
     for j in 0..n {
-        let column = column_bounds(inverse, residuals, place, margins, weights, n);
+        let sizes = line_sizes_of(&rows, &lines, line, n);
+        let column = bounds_of(&sizes, &margins, weights, n);
         store(dst, j, n, column, n);
-        place += n;
+        line += n + 1;
     }
 }

@@ -3,7 +3,7 @@
 --   sum-ext, sum-+, sum-*, sum-*r, sum-swap — equal terms, sums of sums, factors left and right, exchange of two sums
 --   abs-sum   — |Σ f| ≤ Σ |f|;  abs-sum≤ — |Σ f| ≤ n · b where every |f i| ≤ b
 --   sumℕ-ext, sumℕ-mono, sumℕ-*, sumℕ-+, sumℕ-swap — as above, and monotone
---   sumℕ-at   — a term is at most the sum
+--   sumℕ-at   — a term is at most the sum;  sumℕ≤ — Σ f ≤ n · b where every f i ≤ b
 use mathlib.Core.Path.{_≡_, refl, sym, ap}
 use Prim.Native.Nat.{ℕ, zero, suc, _+_, _*_, _≤_, _<_}
 use native.Mathlib.Omega.{arith}
@@ -117,3 +117,8 @@ sumℕ-at (suc n) f i h = go (ℕ-discrete i n) (sumℕ-at n f i)
     go : Dec (i ≡ n) → (i < n → f i ≤ sumℕ n f) → f i ≤ sumℕ n f + f n
     go (yes p) ih = rw p (omega arith)
     go (no p) ih = omega (arith, ih (omega (arith, h)))
+
+pub sumℕ≤ : (n b : ℕ) (f : ℕ → ℕ) → ((i : ℕ) → i < n → f i ≤ b) → sumℕ n f ≤ n * b
+unfolding sumℕ
+sumℕ≤ zero b f h = omega arith
+sumℕ≤ (suc n) b f h = omega (arith, suc-mul n b, sumℕ≤ n b f (λ i l. h i (omega arith)), h n (omega arith))

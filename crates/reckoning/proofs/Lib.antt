@@ -2,3 +2,4 @@ pub mod Filled
 pub mod Sizes
 pub mod Numbers
 pub mod Columns
+pub mod Raised

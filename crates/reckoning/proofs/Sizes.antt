@@ -1,22 +1,21 @@
 -- Sizes of the reckoning's numbers, all within an i64.
 --   power-size, unit-same, unit-other, unit-size, scaled-size — of 2^t, of the numbers of T·I and of S·b
 --   wider, square-row, square-column, numbers-reach — rows, columns and lists as `dot` asks for them
---   defect-size, term-size, sum-size — |D_mj| ≤ 2^46, a term of a load is at most 2^56, a sum of n terms
+--   defect-size — |D_mj| ≤ 2^46
 --   row-ends, column-ends — places of rows and columns;  large-below, large-above — the code's test of a residual
 use mathlib.Core.Path.{_≡_, refl, sym, ap, subst}
 use mathlib.Core.Bool.{Bool, true, false, cond}
 use mathlib.Core.List.{List}
-use Prim.Native.Nat.{ℕ, zero, suc, _+_, _*_, _<_, _≤_, _^_}
+use Prim.Native.Nat.{ℕ, suc, _+_, _*_, _<_, _≤_, _^_}
 use native.Mathlib.Omega.{arith}
-use native.Mathlib.Nat.{mul-le-mul, mul-le-mul-right, suc-mul, pow-le-pow-right, le-trans}
+use native.Mathlib.Nat.{mul-le-mul, mul-le-mul-right, pow-le-pow-right, le-trans}
 use borrow.Author.Tests.{ltb-true, ltb-false, lt-ltb, le-ltb}
 use lib.Dec.{T, eqb, ltb, lit≤}
 use lib.IntN.{ℤ, pos, negsuc, natAbs, _*ℤ_}
 use lib.Signed.{ltZ}
-use Rattle.integer.specs.Finite.{sumℕ}
 use Rattle.integer.proofs.Absolute.{abs-sub, abs-*}
 use Rattle.linear.specs.Matrix.{identity, product}
-use Rattle.linear.specs.Slice.{at, matrixOf, Reach}
+use Rattle.linear.specs.Slice.{matrixOf, Reach}
 use Rattle.linear.proofs.Product.{identity-same, identity-other}
 use Rattle.linear.proofs.Places.{square, row-reach, column-reach, list-reach, dot-column, dot-size}
 use Rattle.enclosure.specs.Reckoning.{defect}
@@ -71,14 +70,6 @@ module _ (n t : ℕ) (matrix inverse weights : List ℤ) (ht : t ≤ 20) (few : 
         ap natAbs (dot-column n inverse matrix m j),
         dot-size inverse (m * n) 1 matrix j n n (2 ^ 20) (2 ^ 20) (square-row hi m lm) (square-column hm j lj),
       )
-
-  pub term-size : (m j : ℕ) → m < n → j < n → natAbs (defect (marginPart n t matrix inverse weights) m j) * natAbs (at weights j) ≤ 2 ^ 56
-  term-size m j lm lj = mul-le-mul (defect-size m j lm lj) (hw .within .size j lj)
-
-pub sum-size : (n b : ℕ) (f : ℕ → ℕ) → ((k : ℕ) → k < n → f k ≤ b) → sumℕ n f ≤ n * b
-unfolding sumℕ
-sum-size zero b f h = omega arith
-sum-size (suc n) b f h = omega (arith, suc-mul n b, sum-size n b f (λ k l. h k (omega arith)), h n (omega arith))
 
 -- places of a row and of a column stay small
 pub row-ends : {m n : ℕ} → m < n → n ≤ 32 → m * n + n ≤ 1024

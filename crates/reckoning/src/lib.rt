@@ -1,19 +1,23 @@
 // The reckoning of document 01 on slices: margins and residuals, and the first of them that is refused.
 ghost use mathlib.Core.Path.{_≡_};
-ghost use Prim.Native.Nat.{ℕ, _+_, _*_, _/_, _%_, _≤_, _<_, _^_};
+ghost use Prim.Native.Nat.{ℕ, _+_, _*_, _-_, _/_, _%_, _≤_, _<_, _^_};
 ghost use lib.Dec.{ltb, eqb};
 ghost use lib.IntN.{pos, natAbs, _-ℤ_, _*ℤ_};
 ghost use lib.ListN.{getD, length};
 ghost use Rattle.integer.specs.Finite.{first};
 ghost use Rattle.linear.specs.Matrix.{identity};
 ghost use Rattle.linear.specs.Slice.{at, dotOf, Reach};
-ghost use Rattle.enclosure.specs.Reckoning.{load, residual};
+ghost use Rattle.raised.specs.Raised.{Line, Lined, lineDot};
+ghost use Rattle.enclosure.specs.Reckoning.{residual};
 ghost use Rattle.reckoning.specs.Arrays.{Holds, stored, Square, Numbers};
 ghost use Rattle.reckoning.specs.Part.{marginPart, residualPart, columnResidual, cutMargin};
+ghost use Rattle.reckoning.specs.Lines.{lineDifference, lineLoad};
 use integer::first_or;
 use integer::magnitude;
 use integer::power;
 use linear::dot;
+use raised::line_dot;
+use raised::raise_lines;
 
 // A number of 2^t·I.
 fn unit_at(t: u32, i: usize, j: usize) -> i64
@@ -41,6 +45,15 @@ fn difference(base: i64, a: &[i64], p: usize, x: &[i64], q: usize, u: usize, n: 
     base - dot(a, p, 1, x, q, u, n)
 }
 
+// base less the products of two raised lines.
+fn line_difference(base: i64, xs: &[u64], p: usize, ys: &[u64], q: usize, n: usize) -> i64
+    requires { ⌜ (n ≤ 32) × (natAbs base ≤ 2 ^ 50) ⌝ }
+    requires { ⌜ Line (now xs) p n × Line (now ys) q n ⌝ }
+    ensures { λ r. ⌜ r ≡ base -ℤ lineDot (now (xs .entry)) p (now (ys .entry)) q n ⌝ }
+{
+    base - line_dot(xs, p, ys, q, n)
+}
+
 // One term of a load: sum + |d|·|w|.
 fn weigh(sum: u64, d: i64, w: i64) -> u64
     requires { ⌜ (sum ≤ 2 ^ 62) × ((natAbs d ≤ 2 ^ 46) × (natAbs w ≤ 1024)) ⌝ }
@@ -49,26 +62,28 @@ fn weigh(sum: u64, d: i64, w: i64) -> u64
     sum + magnitude(d) * magnitude(w)
 }
 
-// The sum over j of |D_mj|·w_j, for the row m that starts at place row.
+// The sum over j of |D_mj|·w_j, for the row m that starts at place row; D from the raised rows of G and columns of A.
 fn load_of(
     t: u32,
-    matrix: &[i64],
-    inverse: &[i64],
+    rows: &[u64],
+    columns: &[u64],
     weights: &[i64],
     n: usize,
     m: usize,
     row: usize,
 ) -> u64
-    requires { ⌜ (t ≤ 20) × ((n ≤ 32) × ((m < n) × (row ≡ m * n))) ⌝ }
-    requires { ⌜ Square (now matrix) n ⌝ }
-    requires { ⌜ Square (now inverse) n ⌝ }
+    requires { ⌜ (t ≤ 20) × ((n ≤ 32) × ((m < n) × (row ≡ m * (n + 1)))) ⌝ }
+    requires { ⌜ Lined (now rows) n × Lined (now columns) n ⌝ }
+    requires { ⌜ ((j : ℕ) → j < n → natAbs (lineDifference n t (now rows) (now columns) m j) ≤ 2 ^ 46) ⌝ }
     requires { ⌜ Numbers (now weights) n 1024 ⌝ }
-    ensures { λ r. ⌜ r ≡ load (marginPart n t (now (matrix .entry)) (now (inverse .entry)) (now (weights .entry))) m ⌝ }
+    ensures { λ r. ⌜ r ≡ lineLoad n t (now (rows .entry)) (now (columns .entry)) (now (weights .entry)) m ⌝ }
 {
     let mut sum: u64 = 0;
+    let mut column = 0;
     for j in 0..n {
-        let d = difference(unit_at(t, m, j), inverse, row, matrix, j, n, n);
+        let d = line_difference(unit_at(t, m, j), rows, row, columns, column, n);
         sum = weigh(sum, d, weights[j]);
+        column += n + 1;
     }
     sum
 }
@@ -76,21 +91,21 @@ fn load_of(
 // The margin of row m, 0 where it is 0 or less.
 fn margin_of(
     t: u32,
-    matrix: &[i64],
-    inverse: &[i64],
+    rows: &[u64],
+    columns: &[u64],
     weights: &[i64],
     n: usize,
     m: usize,
     row: usize,
 ) -> u64
-    requires { ⌜ (t ≤ 20) × ((n ≤ 32) × ((m < n) × (row ≡ m * n))) ⌝ }
-    requires { ⌜ Square (now matrix) n ⌝ }
-    requires { ⌜ Square (now inverse) n ⌝ }
+    requires { ⌜ (t ≤ 20) × ((n ≤ 32) × ((m < n) × (row ≡ m * (n + 1)))) ⌝ }
+    requires { ⌜ Lined (now rows) n × Lined (now columns) n ⌝ }
+    requires { ⌜ ((j : ℕ) → j < n → natAbs (lineDifference n t (now rows) (now columns) m j) ≤ 2 ^ 46) ⌝ }
     requires { ⌜ Numbers (now weights) n 1024 ⌝ }
-    ensures { λ r. ⌜ r ≡ cutMargin (marginPart n t (now (matrix .entry)) (now (inverse .entry)) (now (weights .entry))) m ⌝ }
+    ensures { λ r. ⌜ r ≡ 2 ^ t * natAbs (at (now (weights .entry)) m) - lineLoad n t (now (rows .entry)) (now (columns .entry)) (now (weights .entry)) m ⌝ }
 {
     let full = power(t) * magnitude(weights[m]);
-    let sum = load_of(t, matrix, inverse, weights, n, m, row);
+    let sum = load_of(t, rows, columns, weights, n, m, row);
     if sum < full { full - sum } else { 0 }
 }
 
@@ -102,11 +117,15 @@ pub fn margins_of(t: u32, matrix: &[i64], inverse: &[i64], weights: &[i64], n: u
     requires { ⌜ Numbers (now weights) n 1024 ⌝ }
     ensures { λ r. ⌜ Holds 0 r n (cutMargin (marginPart n t (now (matrix .entry)) (now (inverse .entry)) (now (weights .entry)))) ⌝ }
 {
+    let mut rows = [0u64; 1056];
+    let mut columns = [0u64; 1056];
+    raise_lines(&mut rows, inverse, n, 1, n);
+    raise_lines(&mut columns, matrix, 1, n, n);
     let mut out = [0u64; 32];
     let mut row = 0;
     for m in 0..n {
-        out[m] = margin_of(t, matrix, inverse, weights, n, m, row);
-        row += n;
+        out[m] = margin_of(t, &rows, &columns, weights, n, m, row);
+        row += n + 1;
     }
     out
 }
@@ -128,26 +147,26 @@ pub fn residuals_of(s: u32, matrix: &[i64], right: &[i64], guess: &[i64], n: usi
     out
 }
 
-// The residuals of column j of the inverse, stored from place j·n on.
+// The residuals of column j of the inverse, stored from place j·n on, from the raised rows of A and columns of G.
 fn column_residuals(
     out: &mut [i64; 1024],
     t: u32,
-    matrix: &[i64],
-    inverse: &[i64],
+    rows: &[u64],
+    columns: &[u64],
     n: usize,
     j: usize,
 )
     requires { ⌜ (t ≤ 20) × ((n ≤ 32) × (j < n)) ⌝ }
-    requires { ⌜ Square (now matrix) n ⌝ }
-    requires { ⌜ Square (now inverse) n ⌝ }
-    ensures { λ _. ⌜ now (out .exit) ≡ stored (now (out .entry)) (j * n) 1 (columnResidual n t (now (matrix .entry)) (now (inverse .entry)) j) n ⌝ }
+    requires { ⌜ Lined (now rows) n × Lined (now columns) n ⌝ }
+    ensures { λ _. ⌜ now (out .exit) ≡ stored (now (out .entry)) (j * n) 1 (λ (k : ℕ). lineDifference n t (now (rows .entry)) (now (columns .entry)) k j) n ⌝ }
 {
+    let column = j * (n + 1);
     let mut place = j * n;
     let mut row = 0;
     for k in 0..n {
-        out[place] = difference(unit_at(t, k, j), matrix, row, inverse, j, n, n);
+        out[place] = line_difference(unit_at(t, k, j), rows, row, columns, column, n);
         place += 1;
-        row += n;
+        row += n + 1;
     }
 }
 
@@ -158,9 +177,13 @@ pub fn inverse_residuals_of(t: u32, matrix: &[i64], inverse: &[i64], n: usize) -
     requires { ⌜ Square (now inverse) n ⌝ }
     ensures { λ r. ⌜ Holds (pos 0) r (n * n) (λ (i : ℕ). columnResidual n t (now (matrix .entry)) (now (inverse .entry)) (i / n) (i % n)) ⌝ }
 {
+    let mut rows = [0u64; 1056];
+    let mut columns = [0u64; 1056];
+    raise_lines(&mut rows, matrix, n, 1, n);
+    raise_lines(&mut columns, inverse, 1, n, n);
     let mut out = [0i64; 1024];
     for j in 0..n {
-        column_residuals(&mut out, t, matrix, inverse, n, j);
+        column_residuals(&mut out, t, &rows, &columns, n, j);
     }
     out
 }

@@ -14,11 +14,11 @@ use Rattle.bounds.proofs.bounds_of.Statement.{statement}
 use Rattle.bounds.proofs.bounds_of.Tie as tie
 
 abbrev Inv-loop : tie.InvT-loop
-Inv-loop weights n k p g out₀ i₀ out i =
+Inv-loop sizes margins weights n k p g out₀ i₀ out i =
     (i ≤ n) × ((length out ≡ 32) × Holds 0 out i (λ (j : ℕ). ceilDiv (natAbs (at weights j) * p) g))
 
 abbrev μ-loop : tie.MeasureT-loop
-μ-loop weights n k p g out₀ i₀ out i = n - i
+μ-loop sizes margins weights n k p g out₀ i₀ out i = n - i
 
 steepest-of-requires : tie.Need-steepest-of-requires Inv-loop μ-loop
 steepest-of-requires c κs = search needs
@@ -26,14 +26,14 @@ steepest-of-requires c κs = search needs
 mul-p : tie.Need-mul-p Inv-loop μ-loop
 mul-p c = omega (arith, c .steepest-of .ensures .below)
 
-array-read-p : tie.Need-array-read-p Inv-loop μ-loop
-array-read-p c = omega (arith, c .steepest-of .ensures .below)
+element-copy-out-p : tie.Need-element-copy-out-p Inv-loop μ-loop
+element-copy-out-p c = omega (arith, c .steepest-of .ensures .below)
 
 mul-g : tie.Need-mul-g Inv-loop μ-loop
-mul-g c = omega (arith, c .steepest-of .ensures .below)
+mul-g c = omega (arith, c .before .steepest-of .ensures .below)
 
-array-read-g : tie.Need-array-read-g Inv-loop μ-loop
-array-read-g c = omega (arith, c .steepest-of .ensures .below)
+element-copy-out-g : tie.Need-element-copy-out-g Inv-loop μ-loop
+element-copy-out-g c = omega (arith, c .before .steepest-of .ensures .below)
 
 loop-holds : tie.Need-loop-holds Inv-loop μ-loop
 loop-holds c = (omega arith, (refl, holds-none _ _ _))
@@ -46,8 +46,8 @@ shared-slice-copy-out-limit-of c = omega arith
 
 limit-of-requires : tie.Need-limit-of-requires Inv-loop μ-loop
 limit-of-requires c κs =
-    let s = c .before .before .before .before in
-    let k = c .before .before .before .steepest-of .ensures .below in
+    let s = c .before .before .before .before .before .before in
+    let k = c .before .before .before .before .before .steepest-of .ensures .below in
     rw (read _ (c .limit-of-arg .given))
     (s .pre .1 .1 .1 .within .size _ (c .before .loop-test .taken), (s .pre .1 .0 .most _ k, (s .pre .1 .1 .0 .above _ k, s .pre .1 .1 .0 .most _ k)))
 
@@ -70,8 +70,8 @@ loop-again c =
 
 returns : tie.Need-returns Inv-loop μ-loop
 returns c =
-    let s = c .before .before .before in
-    let k = c .before .before .steepest-of .ensures in
+    let s = c .before .before .before .before .before in
+    let k = c .before .before .before .before .steepest-of .ensures in
     holds-as 0 _ _ (λ i l. sym (bound-at _ _ _ (λ (j : ℕ). natAbs (at (s .args .weights .now) j)) i _ (k .below) (s .pre .1 .1 .0 .above) (k .most)))
     (holds-end 0 (c .before .loop .inv .0) (c .loop-test .left) (c .before .loop .inv .1 .1))
 
@@ -83,9 +83,9 @@ bounds-of-spec =
     μ-loop
     steepest-of-requires
     mul-p
-    array-read-p
+    element-copy-out-p
     mul-g
-    array-read-g
+    element-copy-out-g
     loop-holds
     mul-limit-of
     shared-slice-copy-out-limit-of

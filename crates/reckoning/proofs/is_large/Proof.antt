@@ -3,14 +3,10 @@ use mir.ValLaws.{toZ-ofZ}
 use Rattle.reckoning.proofs.Sizes.{large-below, large-above}
 use Rattle.reckoning.proofs.is_large.Statement.{statement}
 use Rattle.reckoning.proofs.is_large.Tie as tie
-use Rattle.reckoning.proofs.is_large.Reads as reads
-use Rattle.reckoning.proofs.is_large.Lts as lts
 
--- src/lib.rt:185:9
 returns : tie.Need-returns
 returns c = large-below (c .before .args .z) (simp (toZ-ofZ w64, c .before .fits .z) at (c .if1 .taken))
 
--- src/lib.rt:181:1
 returns-2 : tie.Need-returns-2
 returns-2 c =
     simp (toZ-ofZ w64, c .before .fits .z) (large-above (c .before .args .z) (simp (toZ-ofZ w64, c .before .fits .z) at (c .if1 .left)))

@@ -1,0 +1,90 @@
+use Rattle.raised.proofs.Filling.{line-room}
+use mathlib.Core.Path.{_≡_, refl}
+use Prim.Native.Nat.{ℕ, _+_, _*_, _≤_, _-_}
+use native.Mathlib.Omega.{arith}
+use lib.IntN.{natAbs}
+use lib.ListN.{length, length-set}
+use Rattle.integer.proofs.Machine.{read}
+use Rattle.raised.specs.Raised.{Line, lineDot}
+use Rattle.raised.proofs.Lowering.{line-dot-size}
+use Rattle.reckoning.specs.Arrays.{Holds}
+use Rattle.reckoning.proofs.Filled.{holds-none, holds-more, holds-end}
+use borrow.Author.Needs.{needs}
+use Rattle.bounds.proofs.line_sizes_of.Statement.{statement}
+use Rattle.bounds.proofs.line_sizes_of.Tie as tie
+
+abbrev Inv-loop : tie.InvT-loop
+Inv-loop rows lines line n out₀ row₀ m₀ out row m =
+    (m ≤ n) × ((row ≡ m * (n + 1)) × ((length out ≡ 32) × (Holds 0 out m (λ (i : ℕ). natAbs (lineDot rows (i * (n + 1)) lines line n)))))
+
+abbrev μ-loop : tie.MeasureT-loop
+μ-loop rows lines line n out₀ row₀ m₀ out row m = n - m
+
+row-here : (c : tie.In-loop Inv-loop μ-loop) → Line (c .before .before .before .before .args .rows .now) (c .before .loop .row) (c .before .before .before .before .args .n)
+row-here c = rw (c .before .loop .inv .1 .0) (c .before .before .before .before .pre .1 .0 .each (c .before .loop .m) (c .loop-test .taken))
+
+loop-holds : tie.Need-loop-holds Inv-loop μ-loop
+loop-holds c = (omega arith, (omega arith, (refl, holds-none _ _ _)))
+
+line-dot-requires : tie.Need-line-dot-requires Inv-loop μ-loop
+line-dot-requires c κs =
+    let s = c .before .before .before .before in (s .pre .0, (row-here c, s .pre .1 .1))
+
+magnitude-requires : tie.Need-magnitude-requires Inv-loop μ-loop
+magnitude-requires c κs =
+    let s = c .before .before .before .before .before in
+    rw (read _ (c .line-dot .ok), c .line-dot .ensures) (omega (arith, line-dot-size (s .pre .0) (row-here (c .before) .small) (s .pre .1 .1 .small)))
+
+mul-out : tie.Need-mul-out Inv-loop μ-loop
+mul-out c = search needs
+
+array-write-out : tie.Need-array-write-out Inv-loop μ-loop
+array-write-out c = search needs
+
+add-row : tie.Need-add-row Inv-loop μ-loop
+add-row c = search needs
+
+add-row-2 : tie.Need-add-row-2 Inv-loop μ-loop
+add-row-2 c =
+    let l = c .before .before .before .loop in
+    omega (arith, l .inv .1 .0, line-room (c .before .before .loop-test .taken) (c .before .before .before .before .before .before .pre .0))
+
+add-m : tie.Need-add-m Inv-loop μ-loop
+add-m c = search needs
+
+loop-less : tie.Need-loop-less Inv-loop μ-loop
+loop-less c = search needs
+
+loop-again : tie.Need-loop-again Inv-loop μ-loop
+loop-again c =
+    let l = c .before .before .before .loop in (
+      omega arith,
+      (
+        omega arith,
+        (
+          simp length-set (l .inv .1 .1 .0),
+          holds-more _ _ _ _ _ (l .inv .1 .1 .1) (omega arith) (rw (read _ (c .before .line-dot .ok), c .before .line-dot .ensures, l .inv .1 .0) at (c .magnitude .ensures)),
+        ),
+      ),
+    )
+
+returns : tie.Need-returns Inv-loop μ-loop
+returns c = holds-end 0 (c .before .loop .inv .0) (c .loop-test .left) (c .before .loop .inv .1 .1 .1)
+
+pub line-sizes-of-spec : {M : Type 1} → statement M
+line-sizes-of-spec =
+    tie.close
+    (tie.spec
+    Inv-loop
+    μ-loop
+    loop-holds
+    line-dot-requires
+    magnitude-requires
+    mul-out
+    array-write-out
+    add-row
+    add-row-2
+    add-m
+    loop-less
+    loop-again
+    returns)

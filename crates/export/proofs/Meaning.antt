@@ -1,0 +1,49 @@
+-- The exported check in 01's words.
+--   number-answer, places-answer — the number and the values are those of 01's order of tests
+--   zero-said   — the number 0 is said of nothing but acceptance
+--   zero-encloses, exact-zero — both halves of demand 3: 0 gives limits that enclose; a rounded exact proposal gets 0
+use mathlib.Core.Bool.{true, false}
+use mathlib.Core.List.{List, []}
+use mathlib.Core.Path.{_≡_, refl, sym, ap, _∙_}
+use Prim.Native.Nat.{ℕ, _+_, _*_}
+use native.Mathlib.Omega.{arith}
+use lib.ListN.{getD}
+use Rattle.linear.specs.Matrix.{Vec, Mat}
+use Rattle.rules.specs.Refusal.{said}
+use Rattle.rules.specs.declared.Outcome.{Outcome}
+use Rattle.rules.specs.declared.Outcome.the-variants.{Accepted, Refused}
+use Rattle.rules.specs.declared.Refusal.the-variants.{TooLong, NoForm, OutOfRange, WrongCount, Margin, Residual, InverseResidual, TooShort, TooEarly, Repeated, Missing, AfterEnd, NotEnded}
+use Rattle.enclosure.specs.Demand.{Encloses, RoundedExact}
+use Rattle.checker.specs.Input.{Input, problem, short, inRanges}
+use Rattle.checker.specs.Order.{answer}
+use Rattle.export.specs.Reply.{numberIn, placesIn}
+use Rattle.export.specs.Exported.{Exported}
+
+pub zero-said : (o : Outcome) → numberIn (said o) ≡ 0 → said o ≡ []
+zero-said Accepted e = refl
+zero-said (Refused TooLong) e = absurd (omega arith)
+zero-said (Refused NoForm) e = absurd (omega arith)
+zero-said (Refused OutOfRange) e = absurd (omega arith)
+zero-said (Refused WrongCount) e = absurd (omega arith)
+zero-said (Refused (Margin row)) e = absurd (omega arith)
+zero-said (Refused (Residual row)) e = absurd (omega arith)
+zero-said (Refused (InverseResidual column row)) e = absurd (omega arith)
+zero-said (Refused TooShort) e = absurd (omega arith)
+zero-said (Refused TooEarly) e = absurd (omega arith)
+zero-said (Refused Repeated) e = absurd (omega arith)
+zero-said (Refused (Missing count)) e = absurd (omega arith)
+zero-said (Refused AfterEnd) e = absurd (omega arith)
+zero-said (Refused NotEnded) e = absurd (omega arith)
+
+module _ {I : Input} {number : ℕ} {places E L : List ℕ} (x : Exported I number places E L) where
+  pub number-answer : number ≡ numberIn (answer I)
+  number-answer = x .number-is ∙ ap numberIn (x .checked .says)
+
+  pub places-answer : places ≡ placesIn (answer I)
+  places-answer = x .places-are ∙ ap placesIn (x .checked .says)
+
+  pub zero-encloses : number ≡ 0 → Encloses (problem I) (λ (i : ℕ). getD E i 0) (λ (i j : ℕ). getD L (i * I .n + j) 0)
+  zero-encloses e = x .checked .encloses (zero-said (x .outcome) (sym (x .number-is) ∙ e))
+
+  pub exact-zero : (N : Vec) (q : ℕ) (H : Mat) (q′ : ℕ) → short I ≡ false → inRanges I ≡ true → RoundedExact (problem I) N q H q′ → number ≡ 0
+  exact-zero N q H q′ s r h = x .number-is ∙ ap numberIn (x .checked .accepts N q H q′ s r h)
