@@ -14,7 +14,7 @@ use lib.Dec.{eqb}
 use lib.IntN.{pos, natAbs}
 use lib.ListN.{getD}
 use Rattle.rules.specs.Range.{inRange, allInRange}
-use Rattle.rules.proofs.Ranges.{all-in}
+use Rattle.rules.proofs.Ranges.{all-in, size-range}
 use Rattle.form.specs.Form.{Form}
 use Rattle.items.specs.Item.{valuesOf}
 use Rattle.items.specs.Lists.{Lists}
@@ -28,7 +28,7 @@ use Rattle.places.proofs.Places.{lacking-none}
 use Rattle.progress.specs.Progress.{setOf, counted, total, given, missing, scaled, ended}
 use Rattle.progress.specs.declared.Stage.{Stage}
 use Rattle.progress.specs.declared.Stage.the-variants.{Start, Sized, Scaled, Ended}
-use Rattle.progress.proofs.Progress.{scaled-sized, size-range}
+use Rattle.progress.proofs.Progress.{scaled-sized}
 use Rattle.collected.specs.Run.{State, start, step, run, Accepts, forms, listOf, cell, kindOf}
 use Rattle.collected.specs.Holds.{HoldsItem, HoldsPart, valueFrom, sizeFrom, scalesFrom, InRange}
 use Rattle.collected.proofs.Sound.{Sound, fresh-sound, fresh-empty, line-sound}

@@ -13,6 +13,7 @@ use lib.Dec.{eqb}
 use lib.IntN.{ℤ, natAbs}
 use lib.ListN.{length}
 use lib.Seq.{getD-set-same, getD-set-other}
+use Rattle.rules.proofs.Ranges.{size-range}
 use Rattle.form.specs.Form.{Form, problem, scale, row, right, guess, inverse, weight, end}
 use Rattle.items.specs.Item.{itemOf}
 use Rattle.items.specs.Lists.{Lists}
@@ -27,7 +28,7 @@ use Rattle.places.proofs.Places.{lacking-with, lacking-≤}
 use Rattle.progress.specs.Progress.{setOf, counted, total, given, marked, missing, sized, scaled, ended, misplaced}
 use Rattle.progress.specs.declared.Stage.{Stage}
 use Rattle.progress.specs.declared.Stage.the-variants.{Start, Sized, Scaled, Ended}
-use Rattle.progress.proofs.Progress.{late, placed-of, size-range}
+use Rattle.progress.proofs.Progress.{late, placed-of}
 use Rattle.loader.specs.declared.Loader.{Loader}
 use Rattle.loader.specs.Order.{answer}
 use Rattle.loader.specs.Taken.{after, loaderAfter}

@@ -18,16 +18,16 @@ use Rattle.progress.specs.Progress.{missing, ended, early, misplaced, repeated,
 use Rattle.loader.specs.declared.Loader.{Loader}
 
 pub record Case : Type 0 where
-  pub short : Bool
-  pub ended : Bool
-  pub long : Bool
-  pub unspelled : Bool
-  pub early : Bool
-  pub misplaced : Bool
-  pub outside : Bool
-  pub miscounted : Bool
-  pub repeated : Bool
-  pub incomplete : Bool
+  pub short : Bool  -- 8
+  pub ended : Bool  -- 14
+  pub long : Bool  -- 1
+  pub unspelled : Bool  -- 2
+  pub early : Bool  -- 11
+  pub misplaced : Bool  -- 3, of i
+  pub outside : Bool  -- 3, of the values
+  pub miscounted : Bool  -- 4
+  pub repeated : Bool  -- 12
+  pub incomplete : Bool  -- 13
   pub missing : ℕ
 
 abbrev pub order : Case → List Test

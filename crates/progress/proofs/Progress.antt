@@ -11,12 +11,12 @@ use mathlib.Core.List.{List, [], _∷_}
 use Prim.Native.Nat.{ℕ, _≤_, _<_}
 use native.Mathlib.Omega.{arith}
 use borrow.Author.Tests.{not-false, leb-true, le-leb, lt-ltb, le-ltb}
-use lib.Dec.{T, leb}
+use lib.Dec.{T}
 use lib.IntN.{ℤ, pos, negsuc}
 use lib.Signed.{leZ}
-use Rattle.rules.specs.Range.{inRange, rangeOf, ranges}
+use Rattle.rules.specs.Range.{inRange}
 use Rattle.rules.specs.declared.Kind.the-variants.{Size}
-use Rattle.rules.proofs.Ranges.{both-left, both-right, both}
+use Rattle.rules.proofs.Ranges.{both-left, both-right, both, size-range}
 use Rattle.items.specs.Item.{placed}
 use Rattle.items.specs.declared.Item.{Item}
 use Rattle.items.specs.declared.Item.the-variants.{Problem, Scale, Of, End}
@@ -42,10 +42,6 @@ scaled-sized Ended e = refl
 
 pub late : (s : Stage) → not (scaled s) ≡ false → sized s ≡ true
 late s e = scaled-sized s (not-false (scaled s) e)
-
-pub size-range : (n : ℕ) → inRange Size (pos n) ≡ true → (1 ≤ n) × (n ≤ 32)
-unfolding inRange rangeOf ranges
-size-range n e = (leb-true 1 n (both-left (leb 1 n) (leb n 32) e), leb-true n 32 (both-right (leb 1 n) (leb n 32) e))
 
 own-size : (s : Bool) (n : ℕ) → s ≡ true → s && not (inRange Size (pos n)) ≡ false → inRange Size (pos n) ≡ true
 own-size s n e h = not-false (inRange Size (pos n)) (rw e at h)
