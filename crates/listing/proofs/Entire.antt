@@ -1,7 +1,8 @@
 -- The listing of a file, from what its lines and its check give.
 --   listing-refused, listing-open, listing-judged — the listing where a line is refused, where the file stops before an end, and where it does not
 --   listing-shown — of a file whose lines are all accepted the listing is what its check shows
---   as-listed, listed-refusal, listed-check, long-enough — what was written is the listing, and the other bytes are as before
+--   wrote-refusal, wrote-check, long-enough — what was written is the listing
+--   as-listed     — and the other bytes are as before
 use mathlib.Core.Path.{_≡_, refl, sym, ap, _∙_, subst}
 use mathlib.Core.Bool.{Bool, true, false}
 use mathlib.Core.List.{List, [], _∷_, _++_}
@@ -22,15 +23,17 @@ use Rattle.collected.specs.Run.{State, start, run, Accepts, forms}
 use Rattle.collected.specs.Holds.{InRange}
 use Rattle.collected.proofs.End.{FromForms, from-forms, in-range}
 use Rattle.text.specs.Wrote.{Wrote}
+use Rattle.text.proofs.Wrote.{called}
 use Rattle.refusal.specs.Refused.{refusedOf}
 use Rattle.file.specs.declared.Read.{Read}
 use Rattle.file.specs.Lines.{linesOf}
 use Rattle.file.specs.Read.{Reading, readingOf, ReadAs}
 use Rattle.file.proofs.Whole.{all-accepted, all-run}
-use Rattle.listing.specs.Problem.{problemFrom}
-use Rattle.listing.specs.Listing.{zeros, reportedOf, lineOr, judgedOf, listingOf, Listed}
-use Rattle.listing.specs.Shown.{shownBy}
-use Rattle.listing.proofs.Judged.{inputAt, reported-forms, answer-forms}
+use Rattle.judged.specs.Problem.{problemFrom}
+use Rattle.judged.specs.Judged.{reportedOf, lineOr, judgedOf}
+use Rattle.listing.specs.Listing.{zeros, listingOf, Listed}
+use Rattle.judged.specs.Shown.{shownBy}
+use Rattle.judged.proofs.Forms.{inputAt, reported-forms, answer-forms}
 
 module _ (file : List ℕ) where
   abbrev R : Reading
@@ -92,35 +95,43 @@ module _ (file : List ℕ) where
           go false e = listing-open e ∙ ap (λ (k : List ℕ). lineOr 0 k (reportedOf (problem I))) (sym (open-said e))
           go true e = listing-judged e ∙ judged-shown e
 
+-- what a check gets of a loader and its lists
+abbrev given : Loader → Lists → Input
+given d l = inputAt (record { loader = d; lists = l }) (replicate 32 0) (replicate 1024 0)
+
+module _ (file : List ℕ) {r : Read} {l l′ : Lists} (z : l ≡ zeros) (read : ReadAs file l r l′) where
+  here : ReadAs file zeros r l′
+  here = rw z at read
+
+  pub wrote-refusal : {o p : List ℕ} {m end : ℕ} (x : Refusal) → r .outcome ≡ Refused x → Wrote m o 0 (refusedOf (r .line) (numberOf x ∷ valuesOf x)) p end → Wrote m o 0 (listingOf file) p end
+  wrote-refusal x e =
+      called (ap (λ (k : ℕ). refusedOf k (numberOf x ∷ valuesOf x)) (here .line) ∙ sym (listing-refused file (sym (here .says) ∙ ap said e)))
+
+  pub wrote-check : {o p : List ℕ} {m end : ℕ} → r .outcome ≡ Accepted → short (given (r .loader) l′) ≡ false → Wrote m o 0 (shownBy (r .loader .stage) (given (r .loader) l′)) p end →
+      Wrote m o 0 (listingOf file) p end
+  wrote-check e h =
+      let u : record { loader = r .loader; lists = l′ } ≡ R file .state = λ i. record { loader = here .loader i; lists = here .lists i } in
+      called
+      (sym
+      (subst (λ (v : State). short (given (v .loader) (v .lists)) ≡ false → listingOf file ≡ shownBy (v .loader .stage) (given (v .loader) (v .lists))) (sym u)
+      (λ k. listing-shown file (sym (here .says) ∙ ap said e) (replicate 32 0) (replicate 1024 0) k) h))
+
+-- the program's own lists keep their lengths
+pub long-enough : {l : Lists} {a b x g w : ℕ} → l ≡ zeros → a ≡ length (l .matrix) → b ≡ length (l .right) → x ≡ length (l .guess) → g ≡ length (l .inverse) →
+    w ≡ length (l .weights) → anyShort a b x g w 32 1024 ≡ false
+unfolding zeros
+long-enough z a b x g w = rw (a, b, x, g, w, z)
+
 -- ---- what was written
-pub as-listed : (file : List ℕ) {text o p : List ℕ} {end : ℕ} → listingOf file ≡ text → 32768 ≤ length o → Wrote 32768 o 0 text p end → Listed file o p end
-as-listed file {text} {o} {p} {end} e h w =
+pub as-listed : (file : List ℕ) {o p : List ℕ} {end : ℕ} → 32768 ≤ length o → Wrote 32768 o 0 (listingOf file) p end → Listed file o p end
+as-listed file {o} {p} {end} h w =
+    let text = listingOf file in
     let n : end ≡ length text = omega (arith, w .place) in
     let z : 0 + length text ≡ length text = omega arith in
     let q : p ≡ text ++ drop (length text) o = w .stored ∙ sets-eq text o 0 (omega (arith, w .few)) ∙ rw z in
     record {
-      size = n ∙ ap length (sym e);
-      bytes = rw q (take-at text (drop (length text) o) end (sym n)) ∙ sym e;
+      size = n;
+      bytes = rw q (take-at text (drop (length text) o) end (sym n));
       others = rw q (drop-at text (drop (length text) o) end (sym n)) ∙ ap (λ (k : ℕ). drop k o) (sym n);
       fits = omega (arith, w .few);
     }
-
-abbrev given : Loader → Lists → Input
-given d l = inputAt (record { loader = d; lists = l }) (replicate 32 0) (replicate 1024 0)
-
-module _ (file : List ℕ) {r : Read} {l′ : Lists} (read : ReadAs file zeros r l′) {o p : List ℕ} {end : ℕ} (long : 32768 ≤ length o) where
-  pub listed-refusal : (x : Refusal) → r .outcome ≡ Refused x → Wrote 32768 o 0 (refusedOf (r .line) (numberOf x ∷ valuesOf x)) p end → Listed file o p end
-  listed-refusal x e w =
-      as-listed file (listing-refused file (sym (read .says) ∙ ap said e) ∙ ap (λ (k : ℕ). refusedOf k (numberOf x ∷ valuesOf x)) (sym (read .line))) long w
-
-  pub listed-check : r .outcome ≡ Accepted → short (given (r .loader) l′) ≡ false → Wrote 32768 o 0 (shownBy (r .loader .stage) (given (r .loader) l′)) p end →
-      Listed file o p end
-  listed-check e h w =
-      let u : record { loader = r .loader; lists = l′ } ≡ R file .state = λ i. record { loader = read .loader i; lists = read .lists i } in
-      as-listed file
-      (subst (λ (v : State). short (given (v .loader) (v .lists)) ≡ false → listingOf file ≡ shownBy (v .loader .stage) (given (v .loader) (v .lists))) (sym u)
-      (λ k. listing-shown file (sym (read .says) ∙ ap said e) (replicate 32 0) (replicate 1024 0) k) h) long w
-
--- the program's own lists keep their lengths
-pub long-enough : {a b x g w : ℕ} → a ≡ 1024 → b ≡ 32 → x ≡ 32 → g ≡ 1024 → w ≡ 32 → anyShort a b x g w 32 1024 ≡ false
-long-enough a b x g w = rw (a, b, x, g, w)

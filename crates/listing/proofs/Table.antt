@@ -25,7 +25,8 @@ use Rattle.report.specs.Report.{reportOf}
 use Rattle.file.specs.Lines.{linesOf}
 use Rattle.file.specs.Read.{readFrom}
 use Rattle.listing.specs.Cases.{cases, allHold, wholeFile, wholeListing}
-use Rattle.listing.specs.Listing.{zeros, judgedOf, listingOf}
+use Rattle.judged.specs.Judged.{judgedOf}
+use Rattle.listing.specs.Listing.{zeros, listingOf}
 
 pub cases-hold : allHold cases ≡ true
 unfolding check.answer solutionBoundsAfter inverseBoundsAfter written bound boundFrom sizes image residual margin load defect product apply identity sum sumℕ largest first ceilDiv roundDiv allInRange inRange rangeOf ranges

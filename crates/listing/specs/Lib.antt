@@ -1,5 +1,3 @@
 pub mod Register
-pub mod Problem
 pub mod Listing
 pub mod Cases
-pub mod Shown

@@ -1,8 +1,5 @@
 -- The listing of a file (01: "A whole file" and the program): one line for the first refusal, or the report of the problem that its forms give.
 --   zeros         — the program's own lists, long enough
---   checkedOf P   — what the reckoning says: 5, 6 or 7, or nothing
---   reportedOf P  — the report, with the limits of the reckoning
---   judgedOf P    — of a file that has come to its end: the refusal's line or the report
 --   listingOf file — the line of the first refusal of a line; of 15, with 0, where the file stops before an end; else what is judged of its problem.
 --     No file gives 8, and no complete file 3: its lists are long enough, and its forms were tested
 --   Listed        — the contract of `listing`: the bytes written are the listing, the others as before
@@ -12,35 +9,18 @@ use mathlib.Core.Path.{_≡_}
 use Prim.Native.Nat.{ℕ, _≤_}
 use lib.IntN.{pos}
 use lib.ListN.{length, take, drop, replicate}
-use Rattle.rules.specs.Order.{verdict}
 use Rattle.enclosure.specs.Problem.{Problem}
-use Rattle.enclosure.specs.Reckoning.{bound, inverseBound}
-use Rattle.checker.specs.Order.{firstMargin, firstResidual, firstColumn, reckoned}
 use Rattle.items.specs.Lists.{Lists, lists}
 use Rattle.progress.specs.Progress.{ended}
 use Rattle.collected.specs.Run.{forms}
-use Rattle.report.specs.Report.{reportOf}
 use Rattle.refusal.specs.Refused.{refusedOf}
+use Rattle.judged.specs.Judged.{lineOr, judgedOf}
 use Rattle.file.specs.Lines.{linesOf}
 use Rattle.file.specs.Read.{Reading, readingOf}
-use Rattle.listing.specs.Problem.{problemFrom}
+use Rattle.judged.specs.Problem.{problemFrom}
 
 unfoldable pub zeros : Lists
 zeros = lists (replicate 1024 (pos 0)) (replicate 32 (pos 0)) (replicate 32 (pos 0)) (replicate 1024 (pos 0)) (replicate 32 (pos 0))
-
-abbrev pub checkedOf : Problem → List ℕ
-checkedOf P = verdict (reckoned (P .n) (firstMargin P) (firstResidual P) (firstColumn P))
-
-abbrev pub reportedOf : Problem → List ℕ
-reportedOf P = reportOf (P .n) (P .s) (P .X) (bound P) (inverseBound P)
-
--- the line of what is said, or the rest where nothing is
-abbrev pub lineOr : ℕ → List ℕ → List ℕ → List ℕ
-lineOr line [] rest = rest
-lineOr line (k ∷ vs) rest = refusedOf line (k ∷ vs)
-
-unfoldable pub judgedOf : Problem → List ℕ
-judgedOf P = lineOr 0 (checkedOf P) (reportedOf P)
 
 abbrev pub listed : Reading → Problem → List ℕ
 listed r P = lineOr (r .line) (r .said) (cond (ended (r .state .loader .stage)) (judgedOf P) (refusedOf 0 (15 ∷ [])))

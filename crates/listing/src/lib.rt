@@ -1,16 +1,14 @@
 // The register entry, and the listing of a file.
 ghost use mathlib.Core.Path.{_≡_};
 ghost use Prim.Native.Nat.{_≤_};
-ghost use lib.ListN.{length, replicate};
-ghost use Rattle.checker.specs.Input.{input};
+ghost use lib.ListN.{length};
+ghost use Rattle.items.specs.Lists.{lists};
 ghost use Rattle.text.specs.Wrote.{Wrote};
 ghost use Rattle.listing.specs.Register.{inRanges, RegisteredAs};
-ghost use Rattle.listing.specs.Listing.{Listed};
-ghost use Rattle.listing.specs.Shown.{shownBy};
+ghost use Rattle.listing.specs.Listing.{zeros, listingOf, Listed};
 use file::read_file;
-use loader::Loader;
+use judged::put_checked;
 use refusal::put_refusal;
-use report::put_report;
 use rules::Kind;
 use rules::Outcome;
 use rules::Refusal;
@@ -38,43 +36,25 @@ pub fn register_entry(x: i64, e: u64, s: u32) -> Registered
     Registered::Refused(Refusal::OutOfRange)
 }
 
-// What the check of a complete file says, or the report.
-fn put_checked(
+// The listing of a file, from the start of the buffer on, with lists of zeros for its numbers.
+fn put_listing(
+    file: &[u8],
     out: &mut [u8],
-    loader: Loader,
-    matrix: &[i64],
-    right: &[i64],
-    guess: &[i64],
-    inverse: &[i64],
-    weights: &[i64],
+    matrix: &mut [i64],
+    right: &mut [i64],
+    guess: &mut [i64],
+    inverse: &mut [i64],
+    weights: &mut [i64],
 ) -> usize
-    requires { ⌜ 32768 ≤ length (now out) ⌝ }
-    ensures { λ r. ⌜ Wrote 32768 (now (out .entry)) 0 (shownBy (loader .stage) (input (loader .n) (loader .s) (loader .t) (now (matrix .entry)) (now (right .entry)) (now (guess .entry)) (now (inverse .entry)) (now (weights .entry)) (replicate 32 0) (replicate 1024 0))) (now (out .exit)) r ⌝ }
+    requires { ⌜ (lists (now matrix) (now right) (now guess) (now inverse) (now weights) ≡ zeros) × (32768 ≤ length (now out)) ⌝ }
+    ensures { λ r. ⌜ Wrote 32768 (now (out .entry)) 0 (listingOf (now (file .entry))) (now (out .exit)) r ⌝ }
 {
-    let mut solution_bounds = [0u64; 32];
-    let mut inverse_bounds = [0u64; 1024];
-    let outcome = loader.check(
-        matrix,
-        right,
-        guess,
-        inverse,
-        weights,
-        &mut solution_bounds,
-        &mut inverse_bounds,
-    );
+    let read = read_file(file, matrix, right, guess, inverse, weights);
+    let loader = read.loader;
+    let outcome = read.outcome;
     match outcome {
-        Outcome::Refused(refusal) => put_refusal(out, refusal, 0),
-        Outcome::Accepted => {
-            let n = loader.size() as usize;
-            put_report(
-                out,
-                n,
-                loader.solution_scale(),
-                guess,
-                &solution_bounds,
-                &inverse_bounds,
-            )
-        }
+        Outcome::Refused(refusal) => put_refusal(out, refusal, read.line),
+        Outcome::Accepted => put_checked(out, loader, matrix, right, guess, inverse, weights),
     }
 }
 
@@ -87,18 +67,13 @@ pub fn listing(file: &[u8], out: &mut [u8; 32768]) -> usize
     let mut guess = [0i64; 32];
     let mut inverse = [0i64; 1024];
     let mut weights = [0i64; 32];
-    let read = read_file(
+    put_listing(
         file,
+        out,
         &mut matrix,
         &mut right,
         &mut guess,
         &mut inverse,
         &mut weights,
-    );
-    let loader = read.loader;
-    let outcome = read.outcome;
-    match outcome {
-        Outcome::Refused(refusal) => put_refusal(out, refusal, read.line),
-        Outcome::Accepted => put_checked(out, loader, &matrix, &right, &guess, &inverse, &weights),
-    }
+    )
 }

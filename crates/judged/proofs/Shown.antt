@@ -34,10 +34,10 @@ use Rattle.text.specs.Wrote.{Wrote}
 use Rattle.text.proofs.Wrote.{called}
 use Rattle.report.specs.Ready.{Ready, reportIn}
 use Rattle.refusal.specs.Refused.{refusedOf}
-use Rattle.listing.specs.Listing.{reportedOf, lineOr}
-use Rattle.listing.specs.Shown.{shownBy}
-use Rattle.listing.proofs.Agreed.{report-same}
-use Rattle.listing.proofs.Largest.{solution-size}
+use Rattle.judged.specs.Judged.{reportedOf, lineOr}
+use Rattle.judged.specs.Shown.{shownBy}
+use Rattle.judged.proofs.Agreed.{report-same}
+use Rattle.judged.proofs.Largest.{solution-size}
 
 module _ (s : Stage) (I : Input) where
   open-said : ended s ≡ false → answerThrough s I ≡ [] → ⊥

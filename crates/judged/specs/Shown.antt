@@ -5,7 +5,7 @@ use Prim.Native.Nat.{ℕ}
 use Rattle.checker.specs.Input.{Input, problem}
 use Rattle.progress.specs.declared.Stage.{Stage}
 use Rattle.loader.specs.Through.{answerThrough}
-use Rattle.listing.specs.Listing.{reportedOf, lineOr}
+use Rattle.judged.specs.Judged.{reportedOf, lineOr}
 
 abbrev pub shownBy : Stage → Input → List ℕ
 shownBy s I = lineOr 0 (answerThrough s I) (reportedOf (problem I))

@@ -1,7 +1,7 @@
-use Rattle.listing.proofs.Shown.{shown-refused, shown-accepted, report-ready}
+use Rattle.judged.proofs.Shown.{shown-refused, shown-accepted, report-ready}
 use borrow.Author.Needs.{needs}
-use Rattle.listing.proofs.put_checked.Statement.{statement}
-use Rattle.listing.proofs.put_checked.Tie as tie
+use Rattle.judged.proofs.put_checked.Statement.{statement}
+use Rattle.judged.proofs.put_checked.Tie as tie
 
 slice-aggregate-check : tie.Need-slice-aggregate-check
 slice-aggregate-check c = search needs

@@ -21,9 +21,9 @@ use Rattle.items.specs.declared.Part.the-variants.{Row, Right, Guess, Inverse, 
 use Rattle.collected.specs.Run.{State, listOf}
 use Rattle.collected.specs.Holds.{valueFrom, InRange}
 use Rattle.collected.proofs.End.{FromForms}
-use Rattle.listing.specs.Problem.{problemFrom}
-use Rattle.listing.specs.Listing.{checkedOf, reportedOf}
-use Rattle.listing.proofs.Agreed.{checked-same, reported-same}
+use Rattle.judged.specs.Problem.{problemFrom}
+use Rattle.judged.specs.Judged.{checkedOf, reportedOf}
+use Rattle.judged.proofs.Agreed.{checked-same, reported-same}
 
 -- what a loader and its lists hand to a check
 abbrev pub inputAt : State → List ℕ → List ℕ → Input

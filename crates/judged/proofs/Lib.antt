@@ -1,0 +1,4 @@
+pub mod Agreed
+pub mod Forms
+pub mod Largest
+pub mod Shown

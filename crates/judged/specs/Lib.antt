@@ -1,0 +1,3 @@
+pub mod Problem
+pub mod Judged
+pub mod Shown
