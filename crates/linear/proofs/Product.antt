@@ -1,6 +1,6 @@
 -- Laws of products of matrices and vectors.
 --   identity-same, identity-other — the numbers of I
---   apply-identity — I·v = v;  apply-product — (G·A)·v = G·(A·v)
+--   apply-identity — I·v = v;  apply-product, product-assoc — (G·A)·v = G·(A·v), (G·A)·H = G·(A·H)
 --   apply-vectors, apply-sub, apply-matrices, apply-less, apply-scale — products with k·u − l·v, u − v, k·A − l·B, k·A − B, q·v
 --   apply-ext — only the first n numbers count;  abs-apply — |A·v| ≤ |A|·|v|
 use mathlib.Core.Path.{_≡_, refl, sym, _∙_}
@@ -14,7 +14,7 @@ use Rattle.integer.specs.Finite.{sum, sumℕ}
 use Rattle.integer.proofs.Absolute.{abs-*}
 use Rattle.integer.proofs.Ring.{ring, *-assoc, one-*, zero-*, *-zero}
 use Rattle.integer.proofs.Sum.{sum-ext, sum-zero, sum-*, sum-*r, sum-swap, abs-sum}
-use Rattle.linear.specs.Matrix.{Vec, Mat, apply, product, identity}
+use Rattle.linear.specs.Matrix.{Vec, Mat, column, apply, product, identity}
 
 if-yes : (b : Bool) (x y : ℤ) → T b → cond b x y ≡ x
 if-yes true x y t = refl
@@ -49,6 +49,10 @@ sum-identity (suc n) i e h = go (ℕ-discrete i n) (sum-identity n i e)
 pub apply-product : (n : ℕ) (g a : Mat) (e : Vec) (m : ℕ) → apply n (product n g a) e m ≡ apply n g (apply n a e) m
 unfolding apply product
 apply-product n g a e m = simp (← sum-*, ← sum-*r, *-assoc) (sum-swap n n (λ (j k : ℕ). g m k *ℤ (a k j *ℤ e j)))
+
+pub product-assoc : (n : ℕ) (g a h : Mat) (m j : ℕ) → product n (product n g a) h m j ≡ product n g (product n a h) m j
+unfolding product
+product-assoc n g a h m j = apply-product n g a (column h j) m
 
 pub apply-identity : (n : ℕ) (e : Vec) (m : ℕ) → m < n → apply n identity e m ≡ e m
 unfolding apply
