@@ -3,8 +3,7 @@
  *   bench FILE   reads accepted nets as tests/emit.py writes them
  *
  * The versions run on the same nets in alternation in one process, each on lists of limits that were not cleared before. Time is processor
- * time. A version's time is the middle one of many rounds, and its ratio to another the middle one of the ratios within a round. With
- * -DPROVED the proved library runs beside the two in C. */
+ * time. A version's time is the middle one of many rounds, and its ratio to another the middle one of the ratios within a round. */
 #include "nets.h"
 
 #include <stdlib.h>
@@ -18,11 +17,10 @@ struct version {
 };
 
 static const struct version VERSIONS[] = {
-    {"C, n * n divisions a column", native_check_naive},
-    {"C, 2 * n divisions a column", native_check_quick},
-#ifdef PROVED
+    {"naive", native_check_naive},
+    {"quick", native_check_quick},
+    {"raised", native_check_raised},
     {"proved", kodarfi_check},
-#endif
 };
 
 enum { COUNT = sizeof VERSIONS / sizeof *VERSIONS };
@@ -104,8 +102,8 @@ static void measure(uint32_t count, uint32_t n) {
         }
     }
     for (uint32_t v = 0; v < COUNT; v++) {
-        printf("n = %2u  %-28s %8.2f us a net", n, VERSIONS[v].name, middle_of(times[v]));
-        for (uint32_t other = 0; other < v; other++) printf("  %5.2f x %s", ratios[v][other], VERSIONS[other].name);
+        printf("n = %2u  %-6s %8.2f us a net", n, VERSIONS[v].name, middle_of(times[v]));
+        for (uint32_t other = 0; other < v; other++) printf("  %5.2f of %s", ratios[v][other], VERSIONS[other].name);
         printf("\n");
     }
 }

@@ -4,7 +4,7 @@
 #include <stdbool.h>
 #include <string.h>
 
-enum { MOST = 32, PLACES = MOST * MOST };
+enum { MOST = 32, PLACES = MOST * MOST, RAISED = MOST * (MOST + 1) };
 
 #define LARGEST_RESIDUAL ((int64_t)1 << 25)
 
@@ -14,6 +14,9 @@ struct system {
     int64_t S, T;
     const int64_t *A, *b, *X, *G, *w;
 };
+
+/* out = diagonal * I - left * right, row after row. */
+typedef void defect_of(size_t n, int64_t diagonal, const int64_t *left, const int64_t *right, int64_t *out);
 
 /* The limits of one column from its sizes |p_m|, the margins and the weights. */
 typedef void limits_of_column(uint32_t n, const int64_t *w, const int64_t *p, const int64_t *g, uint64_t *limits);
@@ -37,22 +40,45 @@ static bool is_in_range(uint32_t n, uint32_t s, uint32_t t, const struct system 
            all_within(y->G, n * n, -small, small) && all_within(y->w, n, 1, 1024);
 }
 
-/* The sum of a[j] * x[j * stride]. */
-static int64_t dot(uint32_t n, const int64_t *a, const int64_t *x, uint32_t stride) {
+/* The sum over n terms of a number of a times one of x, which stand a stride apart. */
+static int64_t dot(size_t n, const int64_t *a, const int64_t *x, size_t stride) {
     int64_t sum = 0;
-    for (uint32_t j = 0; j < n; j++) sum += a[j] * x[j * stride];
+    for (size_t j = 0; j < n; j++, x += stride) sum += a[j] * *x;
     return sum;
 }
 
-/* out = diagonal * I - left * right, row after row. */
-static void defect(uint32_t n, int64_t diagonal, const int64_t *left, const int64_t *right, int64_t *out) {
-    for (uint32_t i = 0; i < n; i++) {
-        for (uint32_t j = 0; j < n; j++) out[i * n + j] = (i == j ? diagonal : 0) - dot(n, left + i * n, right + j, n);
+static void signed_defect(size_t n, int64_t diagonal, const int64_t *left, const int64_t *right, int64_t *out) {
+    for (size_t i = 0; i < n; i++) {
+        for (size_t j = 0; j < n; j++) *out++ = (i == j ? diagonal : 0) - dot(n, left + i * n, right + j, n);
+    }
+}
+
+/* n lines of n numbers raised by 2^25, each with its sum after it; sizes are at most 2^25. */
+static void raise_lines(size_t n, const int64_t *x, size_t step, size_t stride, uint64_t *out) {
+    for (size_t i = 0; i < n; i++, x += step, out += n + 1) {
+        uint64_t sum = 0;
+        for (size_t k = 0; k < n; k++) sum += out[k] = (uint64_t)(x[k * stride] + LARGEST_RESIDUAL);
+        out[n] = sum;
+    }
+}
+
+/* The same, by products of unsigned 32-bit numbers. */
+static void raised_defect(size_t n, int64_t diagonal, const int64_t *left, const int64_t *right, int64_t *out) {
+    uint64_t rows[RAISED], columns[RAISED];
+    raise_lines(n, left, n, 1, rows);
+    raise_lines(n, right, 1, n, columns);
+    for (size_t i = 0; i < n; i++) {
+        for (size_t j = 0; j < n; j++) {
+            const uint64_t *a = rows + i * (n + 1), *b = columns + j * (n + 1);
+            uint64_t sum = 0;
+            for (size_t k = 0; k < n; k++) sum += (a[k] & UINT32_MAX) * (b[k] & UINT32_MAX);
+            *out++ = (i == j ? diagonal : 0) - (int64_t)(sum + (n << 50)) + (int64_t)((a[n] + b[n]) << 25);
+        }
     }
 }
 
 /* g_m = T * w_m - (sum over j of |D_mj| * w_j), D = T * I - G * A. Gives the lowest row with a margin of 0 or less, from 1, or 0. */
-static uint32_t failing_margin(const struct system *y, int64_t *g) {
+static uint32_t failing_margin(const struct system *y, defect_of *defect, int64_t *g) {
     int64_t D[PLACES];
     uint32_t failing = 0;
     defect(y->n, y->T, y->G, y->A, D);
@@ -76,7 +102,7 @@ static uint32_t failing_residual(const struct system *y, int64_t *r) {
 }
 
 /* R = T * I - A * G, column j in column j. Gives the lowest column, then its lowest row, with a size above 2^25. */
-static bool failing_inverse(const struct system *y, int64_t *R, uint32_t places[2]) {
+static bool failing_inverse(const struct system *y, defect_of *defect, int64_t *R, uint32_t places[2]) {
     defect(y->n, y->T, y->A, y->G, R);
     for (uint32_t j = 0; j < y->n; j++) {
         for (uint32_t k = 0; k < y->n; k++) {
@@ -116,38 +142,35 @@ static void quick_limits(uint32_t n, const int64_t *w, const int64_t *p, const i
     for (uint32_t i = 0; i < n; i++) limits[i] = (uint64_t)((w[i] * p[best] + g[best] - 1) / g[best]);
 }
 
-/* p = |G * r|, for r that stands in every so manyth place. */
-static void sizes(const struct system *y, const int64_t *r, uint32_t stride, int64_t *p) {
-    for (uint32_t m = 0; m < y->n; m++) p[m] = size_of(dot(y->n, y->G + m * y->n, r, stride));
-}
-
 /* "The limits of one column are worked out whole before any of them is written." */
-static void write_inverse(const struct system *y, const int64_t *R, const int64_t *g, limits_of_column *limits_of, uint64_t *bounds) {
-    int64_t p[MOST];
+static void write_inverse(const struct system *y, const int64_t *R, const int64_t *g, defect_of *defect, limits_of_column *limits_of, uint64_t *bounds) {
+    int64_t P[PLACES], p[MOST];
     uint64_t limits[MOST];
+    defect(y->n, 0, y->G, R, P);
     for (uint32_t j = 0; j < y->n; j++) {
-        sizes(y, R + j, y->n, p);
+        for (uint32_t m = 0; m < y->n; m++) p[m] = size_of(P[m * y->n + j]);
         limits_of(y->n, y->w, p, g, limits);
         for (uint32_t i = 0; i < y->n; i++) bounds[i * y->n + j] = limits[i];
     }
 }
 
 /* "Order for a check: .. 5, 6, 7." */
-static uint32_t reckon(const struct system *y, limits_of_column *limits_of, uint64_t *solution_bounds, uint64_t *inverse_bounds, uint32_t places[2]) {
+static uint32_t reckon(const struct system *y, defect_of *defect, limits_of_column *limits_of, uint64_t *solution_bounds, uint64_t *inverse_bounds,
+                       uint32_t places[2]) {
     int64_t g[MOST], r[MOST], p[MOST], R[PLACES];
     uint64_t limits[MOST];
-    if ((places[0] = failing_margin(y, g)) != 0) return 5;
+    if ((places[0] = failing_margin(y, defect, g)) != 0) return 5;
     if ((places[0] = failing_residual(y, r)) != 0) return 6;
-    if (failing_inverse(y, R, places)) return 7;
-    sizes(y, r, 1, p);
+    if (failing_inverse(y, defect, R, places)) return 7;
+    for (uint32_t m = 0; m < y->n; m++) p[m] = size_of(dot(y->n, y->G + m * y->n, r, 1));
     limits_of(y->n, y->w, p, g, limits);
     memcpy(solution_bounds, limits, y->n * sizeof *limits);
-    write_inverse(y, R, g, limits_of, inverse_bounds);
+    write_inverse(y, R, g, defect, limits_of, inverse_bounds);
     return 0;
 }
 
-/* The two checks differ in `limits_of` alone. */
-#define CHECK(name, limits_of)                                                                                                          \
+/* The checks differ in `defect` and `limits_of` alone. */
+#define CHECK(name, defect, limits_of)                                                                                                  \
     uint32_t name(uint32_t n, uint32_t s, uint32_t t, const int64_t *matrix, size_t matrix_len, const int64_t *right, size_t right_len, \
                   const int64_t *guess, size_t guess_len, const int64_t *inverse, size_t inverse_len, const int64_t *weights,           \
                   size_t weights_len, uint64_t *solution_bounds, size_t solution_bounds_len, uint64_t *inverse_bounds,                  \
@@ -158,8 +181,9 @@ static uint32_t reckon(const struct system *y, limits_of_column *limits_of, uint
             weights_len < MOST || solution_bounds_len < MOST)                                                                           \
             return 8;                                                                                                                   \
         if (!is_in_range(n, s, t, &y)) return 3;                                                                                        \
-        return reckon(&y, limits_of, solution_bounds, inverse_bounds, places);                                                          \
+        return reckon(&y, defect, limits_of, solution_bounds, inverse_bounds, places);                                                  \
     }
 
-CHECK(native_check_naive, naive_limits)
-CHECK(native_check_quick, quick_limits)
+CHECK(native_check_naive, signed_defect, naive_limits)
+CHECK(native_check_quick, signed_defect, quick_limits)
+CHECK(native_check_raised, raised_defect, quick_limits)
