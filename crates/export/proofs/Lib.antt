@@ -1,1 +1,3 @@
+pub mod Reply
+pub mod Entry
 pub mod Meaning

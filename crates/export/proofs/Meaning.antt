@@ -1,5 +1,5 @@
 -- The exported check in 01's words.
---   number-answer, places-answer — the number and the values are those of 01's order of tests
+--   told-answer — the number and the values are those of 01's order of tests
 --   zero-said   — the number 0 is said of nothing but acceptance
 --   zero-encloses, exact-zero — both halves of demand 3: 0 gives limits that enclose; a rounded exact proposal gets 0
 use mathlib.Core.Bool.{true, false}
@@ -16,10 +16,10 @@ use Rattle.rules.specs.declared.Refusal.the-variants.{TooLong, NoForm, OutOfRan
 use Rattle.enclosure.specs.Demand.{Encloses, RoundedExact}
 use Rattle.checker.specs.Input.{Input, problem, short, inRanges}
 use Rattle.checker.specs.Order.{answer}
-use Rattle.export.specs.Reply.{numberIn, placesIn}
-use Rattle.export.specs.Exported.{Exported}
+use Rattle.export.specs.Reply.{Told}
+use Rattle.export.specs.Exported.{CheckExported}
 
-pub zero-said : (o : Outcome) → numberIn (said o) ≡ 0 → said o ≡ []
+pub zero-said : (o : Outcome) → getD (said o) 0 0 ≡ 0 → said o ≡ []
 zero-said Accepted e = refl
 zero-said (Refused TooLong) e = absurd (omega arith)
 zero-said (Refused NoForm) e = absurd (omega arith)
@@ -35,15 +35,12 @@ zero-said (Refused (Missing count)) e = absurd (omega arith)
 zero-said (Refused AfterEnd) e = absurd (omega arith)
 zero-said (Refused NotEnded) e = absurd (omega arith)
 
-module _ {I : Input} {number : ℕ} {places E L : List ℕ} (x : Exported I number places E L) where
-  pub number-answer : number ≡ numberIn (answer I)
-  number-answer = x .number-is ∙ ap numberIn (x .checked .says)
-
-  pub places-answer : places ≡ placesIn (answer I)
-  places-answer = x .places-are ∙ ap placesIn (x .checked .says)
+module _ {I : Input} {number : ℕ} {places E L : List ℕ} (x : CheckExported I number places E L) where
+  pub told-answer : Told (answer I) number places
+  told-answer = rw (x .checked .says) at (x .told)
 
   pub zero-encloses : number ≡ 0 → Encloses (problem I) (λ (i : ℕ). getD E i 0) (λ (i j : ℕ). getD L (i * I .n + j) 0)
-  zero-encloses e = x .checked .encloses (zero-said (x .outcome) (sym (x .number-is) ∙ e))
+  zero-encloses e = x .checked .encloses (zero-said (x .outcome) (sym (x .told .number-is) ∙ e))
 
   pub exact-zero : (N : Vec) (q : ℕ) (H : Mat) (q′ : ℕ) → short I ≡ false → inRanges I ≡ true → RoundedExact (problem I) N q H q′ → number ≡ 0
-  exact-zero N q H q′ s r h = x .number-is ∙ ap numberIn (x .checked .accepts N q H q′ s r h)
+  exact-zero N q H q′ s r h = x .told .number-is ∙ ap (λ (l : List ℕ). getD l 0 0) (x .checked .accepts N q H q′ s r h)

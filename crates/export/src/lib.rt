@@ -1,100 +1,36 @@
 // The functions that C and Rust link: total, over numbers and slices, with document 01's number as their result (include/kodarfi.h).
 ghost use mathlib.Core.Path.{_≡_};
-ghost use lib.ListN.{getD};
-ghost use Rattle.rules.specs.Refusal.{numberOf, valuesOf, said};
+ghost use mathlib.Core.List.{[], _∷_};
+ghost use Rattle.rules.specs.Refusal.{said};
 ghost use Rattle.checker.specs.Input.{input};
-ghost use Rattle.export.specs.Reply.{replyOf};
-ghost use Rattle.export.specs.Exported.{Exported};
+ghost use Rattle.refusal.specs.Refused.{printed};
+ghost use Rattle.refusal.specs.Reply.{replyOf};
+ghost use Rattle.export.specs.Exported.{CheckExported, ListingExported, EntryExported};
 use checker::check;
+use listing::Registered;
+use listing::answer_file;
+use listing::register_entry;
+use refusal::Reply;
+use refusal::no_refusal;
+use refusal::reply_of;
 use rules::Outcome;
-use rules::Refusal;
 
-// 01's number, 0 where nothing is refused, with its values; 0 where there is none.
-pub struct Reply {
-    pub number: u32,
-    pub first: u32,
-    pub second: u32,
-}
-
-// 01's number of a refusal.
-fn number_of(refusal: Refusal) -> u32
-    ensures { λ r. ⌜ r ≡ numberOf refusal ⌝ }
-{
-    match refusal {
-        Refusal::TooLong => 1,
-        Refusal::NoForm => 2,
-        Refusal::OutOfRange => 3,
-        Refusal::WrongCount => 4,
-        Refusal::Margin(_) => 5,
-        Refusal::Residual(_) => 6,
-        Refusal::InverseResidual(_, _) => 7,
-        Refusal::TooShort => 8,
-        Refusal::TooEarly => 11,
-        Refusal::Repeated => 12,
-        Refusal::Missing(_) => 13,
-        Refusal::AfterEnd => 14,
-        Refusal::NotEnded => 15,
-    }
-}
-
-// Its first value; 0 where it has none.
-fn first_of(refusal: Refusal) -> u32
-    ensures { λ r. ⌜ r ≡ getD (valuesOf refusal) 0 0 ⌝ }
-{
-    match refusal {
-        Refusal::TooLong => 0,
-        Refusal::NoForm => 0,
-        Refusal::OutOfRange => 0,
-        Refusal::WrongCount => 0,
-        Refusal::Margin(row) => row,
-        Refusal::Residual(row) => row,
-        Refusal::InverseResidual(column, _) => column,
-        Refusal::TooShort => 0,
-        Refusal::TooEarly => 0,
-        Refusal::Repeated => 0,
-        Refusal::Missing(count) => count,
-        Refusal::AfterEnd => 0,
-        Refusal::NotEnded => 0,
-    }
-}
-
-// Its second value; 0 where it has none.
-fn second_of(refusal: Refusal) -> u32
-    ensures { λ r. ⌜ r ≡ getD (valuesOf refusal) 1 0 ⌝ }
-{
-    match refusal {
-        Refusal::TooLong => 0,
-        Refusal::NoForm => 0,
-        Refusal::OutOfRange => 0,
-        Refusal::WrongCount => 0,
-        Refusal::Margin(_) => 0,
-        Refusal::Residual(_) => 0,
-        Refusal::InverseResidual(_, row) => row,
-        Refusal::TooShort => 0,
-        Refusal::TooEarly => 0,
-        Refusal::Repeated => 0,
-        Refusal::Missing(_) => 0,
-        Refusal::AfterEnd => 0,
-        Refusal::NotEnded => 0,
-    }
-}
-
-// What is said, as a number and two values.
-fn reply_of(outcome: Outcome) -> Reply
-    ensures { λ r. ⌜ r ≡ replyOf (said outcome) ⌝ }
+// What a check says; a refusal that gives its number alone leaves both places 0.
+fn outcome_reply(outcome: Outcome) -> Reply
+    ensures { λ r. ⌜ r ≡ replyOf (printed 0 (said outcome)) ⌝ }
 {
     match outcome {
-        Outcome::Accepted => Reply {
-            number: 0,
-            first: 0,
-            second: 0,
-        },
-        Outcome::Refused(refusal) => Reply {
-            number: number_of(refusal),
-            first: first_of(refusal),
-            second: second_of(refusal),
-        },
+        Outcome::Accepted => no_refusal(),
+        Outcome::Refused(refusal) => reply_of(refusal, 0),
     }
+}
+
+// Writes the two places of a reply; gives its number.
+fn tell(reply: Reply, places: &mut [u64; 2]) -> u32
+    ensures { λ r. ⌜ (r ≡ reply .number) × (now (places .exit) ≡ reply .first ∷ reply .second ∷ []) ⌝ }
+{
+    *places = [reply.first, reply.second];
+    reply.number
 }
 
 // The check on lists: `checker::check`.
@@ -110,9 +46,9 @@ pub extern "C" fn kodarfi_check(
     weights: &[i64],
     solution_bounds: &mut [u64],
     inverse_bounds: &mut [u64],
-    places: &mut [u32; 2],
+    places: &mut [u64; 2],
 ) -> u32
-    ensures { λ r. ⌜ Exported (input n s t (now (matrix .entry)) (now (right .entry)) (now (guess .entry)) (now (inverse .entry)) (now (weights .entry)) (now («solution_bounds» .entry)) (now («inverse_bounds» .entry))) r (now (places .exit)) (now («solution_bounds» .exit)) (now («inverse_bounds» .exit)) ⌝ }
+    ensures { λ r. ⌜ CheckExported (input n s t (now (matrix .entry)) (now (right .entry)) (now (guess .entry)) (now (inverse .entry)) (now (weights .entry)) (now («solution_bounds» .entry)) (now («inverse_bounds» .entry))) r (now (places .exit)) (now («solution_bounds» .exit)) (now («inverse_bounds» .exit)) ⌝ }
 {
     let outcome = check(
         n,
@@ -126,7 +62,43 @@ pub extern "C" fn kodarfi_check(
         solution_bounds,
         inverse_bounds,
     );
-    let reply = reply_of(outcome);
-    *places = [reply.first, reply.second];
-    reply.number
+    tell(outcome_reply(outcome), places)
+}
+
+// The listing of a file: `listing::listing`, with what is said in it.
+#[no_mangle]
+pub extern "C" fn kodarfi_listing(
+    file: &[u8],
+    listing: &mut [u8; 32768],
+    length: &mut usize,
+    places: &mut [u64; 2],
+) -> u32
+    ensures { λ r. ⌜ ListingExported (now (file .entry)) (now (listing .entry)) r (now (places .exit)) (now (listing .exit)) (now (length .exit)) ⌝ }
+{
+    let answer = answer_file(file, listing);
+    *length = answer.length;
+    tell(answer.reply, places)
+}
+
+// The register entry of a guess and its limit: `listing::register_entry`.
+#[no_mangle]
+pub extern "C" fn kodarfi_entry(
+    guess: i64,
+    bound: u64,
+    s: u32,
+    value: &mut i64,
+    value_bound: &mut u64,
+    places: &mut [u64; 2],
+) -> u32
+    ensures { λ r. ⌜ EntryExported guess bound s (now (value .entry)) (now («value_bound» .entry)) r (now (places .exit)) (now (value .exit)) (now («value_bound» .exit)) ⌝ }
+{
+    let registered = register_entry(guess, bound, s);
+    match registered {
+        Registered::Entry(v, e) => {
+            *value = v;
+            *value_bound = e;
+            tell(no_refusal(), places)
+        }
+        Registered::Refused(refusal) => tell(reply_of(refusal, 0), places),
+    }
 }

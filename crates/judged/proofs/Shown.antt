@@ -2,7 +2,7 @@
 --   nothing-said   — where nothing is said the end was accepted, and the check on lists says nothing
 --   shown-refused, shown-accepted — the line of the refusal, and the report with the limits that the check wrote, are what is shown
 --   report-ready   — what a report asks holds of an accepted check
-use mathlib.Core.Path.{_≡_, refl, sym, ap, _∙_}
+use mathlib.Core.Path.{_≡_, refl, sym, ap, _∙_, subst}
 use mathlib.Core.Bool.{Bool, true, false}
 use mathlib.Core.List.{List, [], _∷_}
 use Prim.Native.Nat.{ℕ, _+_, _*_, _/_, _%_, _<_}
@@ -33,7 +33,9 @@ use Rattle.loader.proofs.Through.{answer-ended}
 use Rattle.text.specs.Wrote.{Wrote}
 use Rattle.text.proofs.Wrote.{called}
 use Rattle.report.specs.Ready.{Ready, reportIn}
-use Rattle.refusal.specs.Refused.{refusedOf}
+use Rattle.refusal.specs.Refused.{printed, refusedOf}
+use Rattle.refusal.specs.Reply.{replyOf, Answered}
+use Rattle.refusal.specs.declared.Answer.{Answer}
 use Rattle.judged.specs.Judged.{reportedOf, lineOr}
 use Rattle.judged.specs.Shown.{shownBy}
 use Rattle.judged.proofs.Agreed.{report-same}
@@ -59,9 +61,9 @@ module _ (s : Stage) (I : Input) where
   nothing-said h = sym (answer-ended s I (has-ended h)) ∙ h
 
   -- ---- refused
-  pub shown-refused : {r : Outcome} {E L o p : List ℕ} {m from end : ℕ} → CheckedThrough s I r E L → (x : Refusal) → r ≡ Refused x →
-      Wrote m o from (refusedOf 0 (numberOf x ∷ valuesOf x)) p end → Wrote m o from (shownBy s I) p end
-  shown-refused c x e = called (ap (λ (k : List ℕ). lineOr 0 k (reportedOf (problem I))) (sym (ap said e) ∙ c .says))
+  pub shown-refused : {r : Outcome} {E L o p : List ℕ} {a : Answer} → CheckedThrough s I r E L → (x : Refusal) → r ≡ Refused x →
+      Answered (printed 0 (numberOf x ∷ valuesOf x)) (refusedOf (printed 0 (numberOf x ∷ valuesOf x))) o p a → Answered (printed 0 (answerThrough s I)) (shownBy s I) o p a
+  shown-refused {r} {E} {L} {o} {p} {a} c x e = subst (λ (k : List ℕ). Answered (printed 0 k) (lineOr (printed 0 k) (reportedOf (problem I))) o p a) (sym (ap said e) ∙ c .says)
 
   -- ---- accepted
   module _ {r : Outcome} {E L : List ℕ} (c : CheckedThrough s I r E L) (e : r ≡ Accepted) where
@@ -104,10 +106,14 @@ module _ (s : Stage) (I : Input) where
           solution = λ i l. rw (solution-at i l) (solution-size I ready reckoned-quiet i l);
         })
 
-    pub shown-accepted : {o p : List ℕ} {m from end n t : ℕ} → n ≡ I .n → t ≡ I .s → Wrote m o from (reportIn n t (I .guess) E L) p end → Wrote m o from (shownBy s I) p end
-    shown-accepted en et w =
-        called
-        (report-same (I .n) (I .s) (at (I .guess)) (at (I .guess)) (λ (i : ℕ). getD E i 0) (bound (problem I)) (λ (i j : ℕ). getD L (i * I .n + j) 0) (inverseBound (problem I))
-        (λ i l. refl) solution-at inverse-at
-        ∙ ap (λ (k : List ℕ). lineOr 0 k (reportedOf (problem I))) (sym quiet))
-        (rw (en, et) at w)
+    pub shown-accepted : {o p : List ℕ} {a : Answer} {n t : ℕ} → n ≡ I .n → t ≡ I .s → a .reply ≡ replyOf [] → Wrote 32768 o 0 (reportIn n t (I .guess) E L) p (a .length) →
+        Answered (printed 0 (answerThrough s I)) (shownBy s I) o p a
+    shown-accepted en et q w = record {
+      reply = rw quiet q;
+      wrote =
+          called
+          (report-same (I .n) (I .s) (at (I .guess)) (at (I .guess)) (λ (i : ℕ). getD E i 0) (bound (problem I)) (λ (i j : ℕ). getD L (i * I .n + j) 0) (inverseBound (problem I))
+          (λ i l. refl) solution-at inverse-at
+          ∙ ap (λ (k : List ℕ). lineOr (printed 0 k) (reportedOf (problem I))) (sym quiet))
+          (rw (en, et) at w);
+    }

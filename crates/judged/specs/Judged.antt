@@ -1,8 +1,7 @@
 -- The lines for a problem of a complete file (01: "Refused for what was handed in", 5 to 7, and "A whole file").
 --   checkedOf P  — what the reckoning says: 5, 6 or 7, or nothing
 --   reportedOf P — the report, with the limits of the reckoning
---   lineOr line said rest — the line of what is said, with the number of the line where it gives its number alone; the rest where nothing is said
---   judgedOf P   — the refusal's line or the report
+--   lineOr numbers rest — the line of a refusal with these numbers; the rest where there are none
 use mathlib.Core.List.{List, [], _∷_}
 use Prim.Native.Nat.{ℕ}
 use Rattle.rules.specs.Order.{verdict}
@@ -18,9 +17,6 @@ checkedOf P = verdict (reckoned (P .n) (firstMargin P) (firstResidual P) (firstC
 abbrev pub reportedOf : Problem → List ℕ
 reportedOf P = reportOf (P .n) (P .s) (P .X) (bound P) (inverseBound P)
 
-abbrev pub lineOr : ℕ → List ℕ → List ℕ → List ℕ
-lineOr line [] rest = rest
-lineOr line (k ∷ vs) rest = refusedOf line (k ∷ vs)
-
-unfoldable pub judgedOf : Problem → List ℕ
-judgedOf P = lineOr 0 (checkedOf P) (reportedOf P)
+abbrev pub lineOr : List ℕ → List ℕ → List ℕ
+lineOr [] rest = rest
+lineOr (k ∷ vs) rest = refusedOf (k ∷ vs)

@@ -1,11 +1,12 @@
--- What a check through a loader gives, as lines; cited by the contract inside. proofs/ show that it is what `judgedOf` and `listingOf` say of a file.
+-- What a check through a loader gives, as lines; cited by the contract inside. proofs/ show that it is what `answerOf` and `listingOf` say of a file.
 --   shownBy s I — the line of the refusal, or the report; s is how far the loader has come
 use mathlib.Core.List.{List}
 use Prim.Native.Nat.{ℕ}
 use Rattle.checker.specs.Input.{Input, problem}
 use Rattle.progress.specs.declared.Stage.{Stage}
 use Rattle.loader.specs.Through.{answerThrough}
+use Rattle.refusal.specs.Refused.{printed}
 use Rattle.judged.specs.Judged.{reportedOf, lineOr}
 
 abbrev pub shownBy : Stage → Input → List ℕ
-shownBy s I = lineOr 0 (answerThrough s I) (reportedOf (problem I))
+shownBy s I = lineOr (printed 0 (answerThrough s I)) (reportedOf (problem I))

@@ -2,9 +2,13 @@
 ghost use Prim.Native.Nat.{_≤_};
 ghost use lib.ListN.{length, replicate};
 ghost use Rattle.checker.specs.Input.{input};
-ghost use Rattle.text.specs.Wrote.{Wrote};
+ghost use Rattle.loader.specs.Through.{answerThrough};
+ghost use Rattle.refusal.specs.Refused.{printed};
+ghost use Rattle.refusal.specs.Reply.{Answered};
 ghost use Rattle.judged.specs.Shown.{shownBy};
 use loader::Loader;
+use refusal::Answer;
+use refusal::no_refusal;
 use refusal::put_refusal;
 use report::put_report;
 use rules::Outcome;
@@ -18,9 +22,9 @@ pub fn put_checked(
     guess: &[i64],
     inverse: &[i64],
     weights: &[i64],
-) -> usize
+) -> Answer
     requires { ⌜ 32768 ≤ length (now out) ⌝ }
-    ensures { λ r. ⌜ Wrote 32768 (now (out .entry)) 0 (shownBy (loader .stage) (input (loader .n) (loader .s) (loader .t) (now (matrix .entry)) (now (right .entry)) (now (guess .entry)) (now (inverse .entry)) (now (weights .entry)) (replicate 32 0) (replicate 1024 0))) (now (out .exit)) r ⌝ }
+    ensures { λ r. ⌜ Answered (printed 0 (answerThrough (loader .stage) (input (loader .n) (loader .s) (loader .t) (now (matrix .entry)) (now (right .entry)) (now (guess .entry)) (now (inverse .entry)) (now (weights .entry)) (replicate 32 0) (replicate 1024 0)))) (shownBy (loader .stage) (input (loader .n) (loader .s) (loader .t) (now (matrix .entry)) (now (right .entry)) (now (guess .entry)) (now (inverse .entry)) (now (weights .entry)) (replicate 32 0) (replicate 1024 0))) (now (out .entry)) (now (out .exit)) r ⌝ }
 {
     let mut solution_bounds = [0u64; 32];
     let mut inverse_bounds = [0u64; 1024];
@@ -37,14 +41,18 @@ pub fn put_checked(
         Outcome::Refused(refusal) => put_refusal(out, refusal, 0),
         Outcome::Accepted => {
             let n = loader.size() as usize;
-            put_report(
+            let length = put_report(
                 out,
                 n,
                 loader.solution_scale(),
                 guess,
                 &solution_bounds,
                 &inverse_bounds,
-            )
+            );
+            Answer {
+                reply: no_refusal(),
+                length,
+            }
         }
     }
 }

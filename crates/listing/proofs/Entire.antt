@@ -1,8 +1,9 @@
 -- The listing of a file, from what its lines and its check give.
---   listing-refused, listing-open, listing-judged — the listing where a line is refused, where the file stops before an end, and where it does not
---   listing-shown — of a file whose lines are all accepted the listing is what its check shows
---   wrote-refusal, wrote-check, long-enough — what was written is the listing
---   as-listed     — and the other bytes are as before
+--   answer-refused, answer-open, answer-judged — what is said where a line is refused, where the file stops before an end, and where it does not
+--   listing-from  — the listing, from what is said
+--   as-checked    — of a file whose lines are all accepted what is said, and the listing, are those of its check
+--   refusal-answered, check-answered, long-enough — what was written is the listing
+--   as-listed, as-answered — and the other bytes are as before
 use mathlib.Core.Path.{_≡_, refl, sym, ap, _∙_, subst}
 use mathlib.Core.Bool.{Bool, true, false}
 use mathlib.Core.List.{List, [], _∷_, _++_}
@@ -23,15 +24,16 @@ use Rattle.collected.specs.Run.{State, start, run, Accepts, forms}
 use Rattle.collected.specs.Holds.{InRange}
 use Rattle.collected.proofs.End.{FromForms, from-forms, in-range}
 use Rattle.text.specs.Wrote.{Wrote}
-use Rattle.text.proofs.Wrote.{called}
-use Rattle.refusal.specs.Refused.{refusedOf}
+use Rattle.refusal.specs.Refused.{printed, refusedOf}
+use Rattle.refusal.specs.Reply.{Answered}
+use Rattle.refusal.specs.declared.Answer.{Answer}
+use Rattle.refusal.proofs.Refused.{same-answer}
 use Rattle.file.specs.declared.Read.{Read}
 use Rattle.file.specs.Lines.{linesOf}
 use Rattle.file.specs.Read.{Reading, readingOf, ReadAs}
 use Rattle.file.proofs.Whole.{all-accepted, all-run}
-use Rattle.judged.specs.Problem.{problemFrom}
-use Rattle.judged.specs.Judged.{reportedOf, lineOr, judgedOf}
-use Rattle.listing.specs.Listing.{zeros, listingOf, Listed}
+use Rattle.judged.specs.Judged.{checkedOf, reportedOf, lineOr}
+use Rattle.listing.specs.Listing.{zeros, problemIn, answerOf, listingOf, Listed, AnsweredAs}
 use Rattle.judged.specs.Shown.{shownBy}
 use Rattle.judged.proofs.Forms.{inputAt, reported-forms, answer-forms}
 
@@ -42,18 +44,22 @@ module _ (file : List ℕ) where
   abbrev lines : List (List ℕ)
   lines = linesOf file
 
-  pub listing-refused : {k : ℕ} {vs : List ℕ} → R .said ≡ k ∷ vs → listingOf file ≡ refusedOf (R .line) (k ∷ vs)
+  pub answer-refused : {k : ℕ} {vs : List ℕ} → R .said ≡ k ∷ vs → answerOf file ≡ printed (R .line) (k ∷ vs)
+  unfolding answerOf
+  answer-refused e = rw e
+
+  pub listing-from : {l : List ℕ} → answerOf file ≡ l → listingOf file ≡ lineOr l (reportedOf (problemIn file))
   unfolding listingOf
-  listing-refused e = rw e
+  listing-from e = rw e
 
   module _ (quiet : R .said ≡ []) where
-    pub listing-open : ended (R .state .loader .stage) ≡ false → listingOf file ≡ refusedOf 0 (15 ∷ [])
-    unfolding listingOf
-    listing-open e = rw (quiet, e)
+    pub answer-open : ended (R .state .loader .stage) ≡ false → answerOf file ≡ printed 0 (15 ∷ [])
+    unfolding answerOf
+    answer-open e = rw (quiet, e)
 
-    pub listing-judged : ended (R .state .loader .stage) ≡ true → listingOf file ≡ judgedOf (problemFrom (forms lines))
-    unfolding listingOf
-    listing-judged e = rw (quiet, e)
+    pub answer-judged : ended (R .state .loader .stage) ≡ true → answerOf file ≡ printed 0 (checkedOf (problemIn file))
+    unfolding answerOf
+    answer-judged e = rw (quiet, e)
 
     accepts : Accepts (start zeros) lines
     accepts = all-accepted 0 (start zeros) lines quiet
@@ -79,21 +85,25 @@ module _ (file : List ℕ) where
       unfolding answerThrough
       open-said e = rw (long, e)
 
-      judged-shown : ended (R .state .loader .stage) ≡ true → judgedOf (problemFrom (forms lines)) ≡ shownBy (R .state .loader .stage) I
-      unfolding judgedOf
-      judged-shown e =
-          rw (
-            answer-ended (R .state .loader .stage) I e,
-            answer-forms (R .state) (forms lines) (from e) E L (inside e) long,
-            reported-forms (R .state) (forms lines) (from e) E L,
-          )
+      check-said : ended (R .state .loader .stage) ≡ true → answerThrough (R .state .loader .stage) I ≡ checkedOf (problemIn file)
+      check-said e = answer-ended (R .state .loader .stage) I e ∙ answer-forms (R .state) (forms lines) (from e) E L (inside e) long
 
-      pub listing-shown : listingOf file ≡ shownBy (R .state .loader .stage) I
-      listing-shown = go (ended (R .state .loader .stage)) refl
+      pub record AsChecked : Type 0 where
+        pub answer : answerOf file ≡ printed 0 (answerThrough (R .state .loader .stage) I)
+        pub listing : listingOf file ≡ shownBy (R .state .loader .stage) I
+
+      pub as-checked : AsChecked
+      as-checked = go (ended (R .state .loader .stage)) refl
         where
-          go : (b : Bool) → ended (R .state .loader .stage) ≡ b → listingOf file ≡ shownBy (R .state .loader .stage) I
-          go false e = listing-open e ∙ ap (λ (k : List ℕ). lineOr 0 k (reportedOf (problem I))) (sym (open-said e))
-          go true e = listing-judged e ∙ judged-shown e
+          go : (b : Bool) → ended (R .state .loader .stage) ≡ b → AsChecked
+          go false e = record {
+            answer = rw (open-said e) (answer-open e);
+            listing = rw (open-said e) (listing-from (answer-open e));
+          }
+          go true e = record {
+            answer = rw (check-said e) (answer-judged e);
+            listing = rw (check-said e, reported-forms (R .state) (forms lines) (from e) E L) (listing-from (answer-judged e));
+          }
 
 -- what a check gets of a loader and its lists
 abbrev given : Loader → Lists → Input
@@ -103,18 +113,24 @@ module _ (file : List ℕ) {r : Read} {l l′ : Lists} (z : l ≡ zeros) (read :
   here : ReadAs file zeros r l′
   here = rw z at read
 
-  pub wrote-refusal : {o p : List ℕ} {m end : ℕ} (x : Refusal) → r .outcome ≡ Refused x → Wrote m o 0 (refusedOf (r .line) (numberOf x ∷ valuesOf x)) p end → Wrote m o 0 (listingOf file) p end
-  wrote-refusal x e =
-      called (ap (λ (k : ℕ). refusedOf k (numberOf x ∷ valuesOf x)) (here .line) ∙ sym (listing-refused file (sym (here .says) ∙ ap said e)))
+  pub refusal-answered : {o p : List ℕ} {a : Answer} (x : Refusal) → r .outcome ≡ Refused x →
+      Answered (printed (r .line) (numberOf x ∷ valuesOf x)) (refusedOf (printed (r .line) (numberOf x ∷ valuesOf x))) o p a → Answered (answerOf file) (listingOf file) o p a
+  refusal-answered x e =
+      let q : answerOf file ≡ printed (r .line) (numberOf x ∷ valuesOf x) = rw (here .line) (answer-refused file (sym (here .says) ∙ ap said e)) in
+      same-answer (sym q) (sym (listing-from file q))
 
-  pub wrote-check : {o p : List ℕ} {m end : ℕ} → r .outcome ≡ Accepted → short (given (r .loader) l′) ≡ false → Wrote m o 0 (shownBy (r .loader .stage) (given (r .loader) l′)) p end →
-      Wrote m o 0 (listingOf file) p end
-  wrote-check e h =
+  pub check-answered : {o p : List ℕ} {a : Answer} → r .outcome ≡ Accepted → short (given (r .loader) l′) ≡ false →
+      Answered (printed 0 (answerThrough (r .loader .stage) (given (r .loader) l′))) (shownBy (r .loader .stage) (given (r .loader) l′)) o p a → Answered (answerOf file) (listingOf file) o p a
+  check-answered {o} {p} {a} e h =
       let u : record { loader = r .loader; lists = l′ } ≡ R file .state = λ i. record { loader = here .loader i; lists = here .lists i } in
-      called
-      (sym
-      (subst (λ (v : State). short (given (v .loader) (v .lists)) ≡ false → listingOf file ≡ shownBy (v .loader .stage) (given (v .loader) (v .lists))) (sym u)
-      (λ k. listing-shown file (sym (here .says) ∙ ap said e) (replicate 32 0) (replicate 1024 0) k) h))
+      subst
+      (λ (v : State).
+      short (given (v .loader) (v .lists)) ≡ false →
+      Answered (printed 0 (answerThrough (v .loader .stage) (given (v .loader) (v .lists)))) (shownBy (v .loader .stage) (given (v .loader) (v .lists))) o p a →
+      Answered (answerOf file) (listingOf file) o p a)
+      (sym u)
+      (λ k. let c = as-checked file (sym (here .says) ∙ ap said e) (replicate 32 0) (replicate 1024 0) k in same-answer (sym (c .answer)) (sym (c .listing)))
+      h
 
 -- the program's own lists keep their lengths
 pub long-enough : {l : Lists} {a b x g w : ℕ} → l ≡ zeros → a ≡ length (l .matrix) → b ≡ length (l .right) → x ≡ length (l .guess) → g ≡ length (l .inverse) →
@@ -135,3 +151,6 @@ as-listed file {o} {p} {end} h w =
       others = rw q (drop-at text (drop (length text) o) end (sym n)) ∙ ap (λ (k : ℕ). drop k o) (sym n);
       fits = omega (arith, w .few);
     }
+
+pub as-answered : (file : List ℕ) {o p : List ℕ} {a : Answer} → 32768 ≤ length o → Answered (answerOf file) (listingOf file) o p a → AnsweredAs file o p a
+as-answered file h x = record { reply = x .reply; listed = as-listed file h (x .wrote) }

@@ -8,9 +8,9 @@ use Rattle.collected.specs.Run.{start}
 use Rattle.file.specs.Read.{Reading, readingOf}
 use Rattle.file.proofs.FirstBytes.{Cut, whole, stopped}
 use Rattle.file.proofs.FirstBytes as file
-use Rattle.refusal.specs.Refused.{refusedOf}
+use Rattle.refusal.specs.Refused.{printed, refusedOf}
 use Rattle.listing.specs.Listing.{zeros, listingOf}
-use Rattle.listing.proofs.Entire.{listing-refused}
+use Rattle.listing.proofs.Entire.{answer-refused, listing-from}
 
 -- a refusal decides the listing
 refused-alike : (s t : List ℕ) → readingOf t zeros ≡ readingOf s zeros → (readingOf s zeros .said ≡ [] → ⊥) → listingOf s ≡ listingOf t
@@ -19,9 +19,9 @@ refused-alike s t e n = go (readingOf s zeros .said) refl
     go : (r : List ℕ) → readingOf s zeros .said ≡ r → listingOf s ≡ listingOf t
     go [] q = absurd (n q)
     go (k ∷ vs) q =
-        listing-refused s q
-        ∙ ap (λ (R : Reading). refusedOf (R .line) (k ∷ vs)) (sym e)
-        ∙ sym (listing-refused t (ap (λ (R : Reading). R .said) e ∙ q))
+        listing-from s (answer-refused s q)
+        ∙ ap (λ (R : Reading). refusedOf (printed (R .line) (k ∷ vs))) (sym e)
+        ∙ sym (listing-from t (answer-refused t (ap (λ (R : Reading). R .said) e ∙ q)))
 
 pub first-bytes : (s : List ℕ) → listingOf s ≡ listingOf (take 65536 s)
 first-bytes s = go (file.first-bytes zeros s)

@@ -25,13 +25,12 @@ use Rattle.report.specs.Report.{reportOf}
 use Rattle.file.specs.Lines.{linesOf}
 use Rattle.file.specs.Read.{readFrom}
 use Rattle.listing.specs.Cases.{cases, allHold, wholeFile, wholeListing}
-use Rattle.judged.specs.Judged.{judgedOf}
-use Rattle.listing.specs.Listing.{zeros, listingOf}
+use Rattle.listing.specs.Listing.{zeros, answerOf, listingOf}
 
 pub cases-hold : allHold cases ≡ true
 unfolding check.answer solutionBoundsAfter inverseBoundsAfter written bound boundFrom sizes image residual margin load defect product apply identity sum sumℕ largest first ceilDiv roundDiv allInRange inRange rangeOf ranges
 cases-hold = refl
 
 pub whole-file : listingOf wholeFile ≡ wholeListing
-unfolding listingOf judgedOf zeros linesOf readFrom loader.answer loaderAfter listsAfter missing misplaced withPlace lacking forms valueFrom sizeFrom scalesFrom reading starts wordAt orWord firstOf headAt othersAt allInside runAt sizeAt numberAt digits decimal numeral each reportOf bound boundFrom sizes image residual margin load defect product apply identity sum sumℕ largest first ceilDiv roundDiv inRange rangeOf ranges
+unfolding listingOf answerOf zeros linesOf readFrom loader.answer loaderAfter listsAfter missing misplaced withPlace lacking forms valueFrom sizeFrom scalesFrom reading starts wordAt orWord firstOf headAt othersAt allInside runAt sizeAt numberAt digits decimal numeral each reportOf bound boundFrom sizes image residual margin load defect product apply identity sum sumℕ largest first ceilDiv roundDiv inRange rangeOf ranges
 whole-file = refl

@@ -1,8 +1,11 @@
 -- The listing of a file (01: "A whole file" and the program): one line for the first refusal, or the report of the problem that its forms give.
---   zeros         — the program's own lists, long enough
---   listingOf file — the line of the first refusal of a line; of 15, with 0, where the file stops before an end; else what is judged of its problem.
---     No file gives 8, and no complete file 3: its lists are long enough, and its forms were tested
---   Listed        — the contract of `listing`: the bytes written are the listing, the others as before
+--   zeros          — the program's own lists, long enough
+--   problemIn file — the problem that the file's forms give
+--   answerOf file  — what is said of the file, in the numbers of its line: the first refusal of a line; 15, with 0, where the file stops before an end;
+--     else what is said of its problem. None where it is accepted. No file gives 8, and no complete file 3: its lists are long enough, and its forms were tested
+--   listingOf file — that line, or the report
+--   Listed         — the contract of `listing`: the bytes written are the listing, the others as before
+--   AnsweredAs     — the contract of `answer_file`: what is said, with the listing
 use mathlib.Core.Bool.{cond}
 use mathlib.Core.List.{List, [], _∷_}
 use mathlib.Core.Path.{_≡_}
@@ -13,8 +16,10 @@ use Rattle.enclosure.specs.Problem.{Problem}
 use Rattle.items.specs.Lists.{Lists, lists}
 use Rattle.progress.specs.Progress.{ended}
 use Rattle.collected.specs.Run.{forms}
-use Rattle.refusal.specs.Refused.{refusedOf}
-use Rattle.judged.specs.Judged.{lineOr, judgedOf}
+use Rattle.refusal.specs.Refused.{printed}
+use Rattle.refusal.specs.Reply.{replyOf}
+use Rattle.refusal.specs.declared.Answer.{Answer}
+use Rattle.judged.specs.Judged.{checkedOf, reportedOf, lineOr}
 use Rattle.file.specs.Lines.{linesOf}
 use Rattle.file.specs.Read.{Reading, readingOf}
 use Rattle.judged.specs.Problem.{problemFrom}
@@ -22,14 +27,29 @@ use Rattle.judged.specs.Problem.{problemFrom}
 unfoldable pub zeros : Lists
 zeros = lists (replicate 1024 (pos 0)) (replicate 32 (pos 0)) (replicate 32 (pos 0)) (replicate 1024 (pos 0)) (replicate 32 (pos 0))
 
-abbrev pub listed : Reading → Problem → List ℕ
-listed r P = lineOr (r .line) (r .said) (cond (ended (r .state .loader .stage)) (judgedOf P) (refusedOf 0 (15 ∷ [])))
+abbrev pub problemIn : List ℕ → Problem
+problemIn file = problemFrom (forms (linesOf file))
+
+-- nothing said of the lines: the rest
+abbrev pub orElse : List ℕ → List ℕ → List ℕ
+orElse [] rest = rest
+orElse (k ∷ vs) rest = k ∷ vs
+
+abbrev pub answered : Reading → Problem → List ℕ
+answered r P = orElse (printed (r .line) (r .said)) (printed 0 (cond (ended (r .state .loader .stage)) (checkedOf P) (15 ∷ [])))
+
+unfoldable pub answerOf : List ℕ → List ℕ
+answerOf file = answered (readingOf file zeros) (problemIn file)
 
 unfoldable pub listingOf : List ℕ → List ℕ
-listingOf file = listed (readingOf file zeros) (problemFrom (forms (linesOf file)))
+listingOf file = lineOr (answerOf file) (reportedOf (problemIn file))
 
 pub record Listed (file old new : List ℕ) (count : ℕ) : Type 0 where
   pub size : count ≡ length (listingOf file)
   pub bytes : take count new ≡ listingOf file
   pub others : drop count new ≡ drop count old
   pub fits : count ≤ 32768
+
+pub record AnsweredAs (file old new : List ℕ) (r : Answer) : Type 0 where
+  pub reply : r .reply ≡ replyOf (answerOf file)
+  pub listed : Listed file old new (r .length)

@@ -3,11 +3,12 @@ ghost use mathlib.Core.Path.{_≡_};
 ghost use Prim.Native.Nat.{_≤_};
 ghost use lib.ListN.{length};
 ghost use Rattle.items.specs.Lists.{lists};
-ghost use Rattle.text.specs.Wrote.{Wrote};
+ghost use Rattle.refusal.specs.Reply.{Answered};
 ghost use Rattle.listing.specs.Register.{inRanges, RegisteredAs};
-ghost use Rattle.listing.specs.Listing.{zeros, listingOf, Listed};
+ghost use Rattle.listing.specs.Listing.{zeros, answerOf, listingOf, Listed, AnsweredAs};
 use file::read_file;
 use judged::put_checked;
+use refusal::Answer;
 use refusal::put_refusal;
 use rules::Kind;
 use rules::Outcome;
@@ -45,9 +46,9 @@ fn put_listing(
     guess: &mut [i64],
     inverse: &mut [i64],
     weights: &mut [i64],
-) -> usize
+) -> Answer
     requires { ⌜ (lists (now matrix) (now right) (now guess) (now inverse) (now weights) ≡ zeros) × (32768 ≤ length (now out)) ⌝ }
-    ensures { λ r. ⌜ Wrote 32768 (now (out .entry)) 0 (listingOf (now (file .entry))) (now (out .exit)) r ⌝ }
+    ensures { λ r. ⌜ Answered (answerOf (now (file .entry))) (listingOf (now (file .entry))) (now (out .entry)) (now (out .exit)) r ⌝ }
 {
     let read = read_file(file, matrix, right, guess, inverse, weights);
     let loader = read.loader;
@@ -58,9 +59,9 @@ fn put_listing(
     }
 }
 
-// The listing of a file, from the start of the buffer on; gives its length.
-pub fn listing(file: &[u8], out: &mut [u8; 32768]) -> usize
-    ensures { λ r. ⌜ Listed (now (file .entry)) (now (out .entry)) (now (out .exit)) r ⌝ }
+// The listing of a file, from the start of the buffer on, and what is said in it.
+pub fn answer_file(file: &[u8], out: &mut [u8; 32768]) -> Answer
+    ensures { λ r. ⌜ AnsweredAs (now (file .entry)) (now (out .entry)) (now (out .exit)) r ⌝ }
 {
     let mut matrix = [0i64; 1024];
     let mut right = [0i64; 32];
@@ -76,4 +77,12 @@ pub fn listing(file: &[u8], out: &mut [u8; 32768]) -> usize
         &mut inverse,
         &mut weights,
     )
+}
+
+// The listing of a file, from the start of the buffer on; gives its length.
+pub fn listing(file: &[u8], out: &mut [u8; 32768]) -> usize
+    ensures { λ r. ⌜ Listed (now (file .entry)) (now (out .entry)) (now (out .exit)) r ⌝ }
+{
+    let answer = answer_file(file, out);
+    answer.length
 }

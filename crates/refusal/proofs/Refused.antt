@@ -1,10 +1,13 @@
 -- The line of a refusal, by its cases.
---   wrote-refusal — the line is that of the refusal: one number or two of a pair in the inner brackets
-use mathlib.Core.Path.{_≡_, refl}
+--   reply-first — what a refusal says, from its parts
+--   few-shown — at most two numbers stand in the inner brackets
+--   answered  — the line is that of the refusal: one number or two of a pair in the inner brackets
+--   same-answer — the same answer in other words
+use mathlib.Core.Path.{_≡_, refl, ap, _∙_}
 use mathlib.Core.List.{List, [], _∷_}
-use Prim.Native.Nat.{ℕ, _+_}
+use Prim.Native.Nat.{ℕ, _+_, _≤_}
 use native.Mathlib.Omega.{arith}
-use lib.ListN.{getD}
+use lib.ListN.{length, getD}
 use Rattle.form.specs.Form.{bytes}
 use Rattle.rules.specs.Refusal.{numberOf, valuesOf}
 use Rattle.rules.specs.declared.Refusal.{Refusal}
@@ -12,13 +15,43 @@ use Rattle.rules.specs.declared.Refusal.the-variants.{TooLong, NoForm, OutOfRan
 use Rattle.text.specs.Wrote.{Wrote}
 use Rattle.text.proofs.Wrote.{wider, called}
 use Rattle.text.specs.Line.{each, listLine}
-use Rattle.refusal.specs.Refused.{refusedOf}
-use Rattle.refusal.specs.Shown.{firstIn, secondIn, countIn}
+use Rattle.refusal.specs.declared.Reply.{Reply}
+use Rattle.refusal.specs.declared.Answer.{Answer}
+use Rattle.refusal.specs.Refused.{shown, printed, refusedOf}
+use Rattle.refusal.specs.Reply.{replyOf, Answered}
 
-abbrev written : ℕ → Refusal → List ℕ
-written line r = listLine (bytes "(refused ") (numberOf r) (countIn r) (λ (j : ℕ). getD (firstIn line r ∷ secondIn r ∷ []) (0 + j) 0)
+-- the numbers of its line
+abbrev numbers : ℕ → Refusal → List ℕ
+numbers line r = printed line (numberOf r ∷ valuesOf r)
 
-refused-line : (line : ℕ) (r : Refusal) → written line r ≡ refusedOf line (numberOf r ∷ valuesOf r)
+module _ (line k : ℕ) where
+  pub reply-first : (vs : List ℕ) {n c a b : ℕ} → n ≡ k → c ≡ length (shown 0 vs) → a ≡ getD (shown line vs) 0 0 → b ≡ getD vs 1 0 →
+      record { number = n; count = c; first = a; second = b } ≡ replyOf (printed line (k ∷ vs))
+  reply-first [] en ec ea eb = rw (en, ec, ea, eb)
+  reply-first (v ∷ vs) en ec ea eb = rw (en, ec, ea, eb)
+
+few : (line : ℕ) (r : Refusal) → replyOf (numbers line r) .count ≤ 2
+few line TooLong = omega arith
+few line NoForm = omega arith
+few line OutOfRange = omega arith
+few line WrongCount = omega arith
+few line (Margin row) = omega arith
+few line (Residual row) = omega arith
+few line (InverseResidual column row) = omega arith
+few line TooShort = omega arith
+few line TooEarly = omega arith
+few line Repeated = omega arith
+few line (Missing count) = omega arith
+few line AfterEnd = omega arith
+few line NotEnded = omega arith
+
+pub few-shown : (line : ℕ) (r : Refusal) {a : Reply} → a ≡ replyOf (numbers line r) → a .count ≤ 2
+few-shown line r e = rw e (few line r)
+
+abbrev written : Reply → List ℕ
+written r = listLine (bytes "(refused ") (r .number) (r .count) (λ (j : ℕ). getD (r .first ∷ r .second ∷ []) (0 + j) 0)
+
+refused-line : (line : ℕ) (r : Refusal) → written (replyOf (numbers line r)) ≡ refusedOf (numbers line r)
 unfolding each
 refused-line line TooLong = refl
 refused-line line NoForm = refl
@@ -34,6 +67,9 @@ refused-line line (Missing count) = refl
 refused-line line AfterEnd = refl
 refused-line line NotEnded = refl
 
-pub wrote-refusal : (line : ℕ) (r : Refusal) {k a b n : ℕ} {o p : List ℕ} {end : ℕ} → k ≡ numberOf r → a ≡ firstIn line r → b ≡ secondIn r → n ≡ countIn r →
-    Wrote 707 o 0 (listLine (bytes "(refused ") k n (λ (j : ℕ). getD (a ∷ b ∷ []) (0 + j) 0)) p end → Wrote 32768 o 0 (refusedOf line (numberOf r ∷ valuesOf r)) p end
-wrote-refusal line r ek ea eb en x = wider 32768 (omega arith) (called (refused-line line r) (rw (ek, ea, eb, en) at x))
+pub answered : (line : ℕ) (r : Refusal) {a : Reply} {o p : List ℕ} {end : ℕ} → a ≡ replyOf (numbers line r) → Wrote 707 o 0 (written a) p end →
+    Answered (numbers line r) (refusedOf (numbers line r)) o p (record { reply = a; length = end })
+answered line r e x = record { reply = e; wrote = wider 32768 (omega arith) (called (refused-line line r) (rw e at x)) }
+
+pub same-answer : {m n t u o p : List ℕ} {a : Answer} → m ≡ n → t ≡ u → Answered m t o p a → Answered n u o p a
+same-answer e f x = record { reply = x .reply ∙ ap replyOf e; wrote = called f (x .wrote) }

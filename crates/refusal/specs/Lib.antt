@@ -1,2 +1,2 @@
 pub mod Refused
-pub mod Shown
+pub mod Reply

@@ -1,16 +1,29 @@
-// The one line of a refused file, written into a buffer.
+// What is said of a refused file: in numbers, and as one line written into a buffer.
 ghost use mathlib.Core.Path.{_≡_};
-ghost use mathlib.Core.List.{_∷_};
+ghost use mathlib.Core.List.{[], _∷_};
 ghost use Prim.Native.Nat.{_≤_};
-ghost use lib.ListN.{length};
+ghost use lib.ListN.{length, getD};
 ghost use Rattle.rules.specs.Refusal.{numberOf, valuesOf};
-ghost use Rattle.text.specs.Wrote.{Wrote};
-ghost use Rattle.refusal.specs.Refused.{refusedOf};
-ghost use Rattle.refusal.specs.Shown.{firstIn, secondIn, countIn};
+ghost use Rattle.refusal.specs.Refused.{shown, printed, refusedOf};
+ghost use Rattle.refusal.specs.Reply.{replyOf, Answered};
 use rules::Refusal;
 use text::put_list;
 
-fn number_of(refusal: Refusal) -> u64
+// What is said, in numbers: 01's number of a refusal, how many numbers stand in the inner brackets, and these; 0 where there is none.
+pub struct Reply {
+    pub number: u32,
+    pub count: usize,
+    pub first: u64,
+    pub second: u64,
+}
+
+// What is said, and the bytes written of it.
+pub struct Answer {
+    pub reply: Reply,
+    pub length: usize,
+}
+
+fn number_of(refusal: Refusal) -> u32
     ensures { λ r. ⌜ r ≡ numberOf refusal ⌝ }
 {
     match refusal {
@@ -32,7 +45,7 @@ fn number_of(refusal: Refusal) -> u64
 
 // The first number in the inner brackets: of a refusal that gives its number alone, the number of the line.
 fn first_of(refusal: Refusal, line: u64) -> u64
-    ensures { λ r. ⌜ r ≡ firstIn line refusal ⌝ }
+    ensures { λ r. ⌜ r ≡ getD (shown line (valuesOf refusal)) 0 0 ⌝ }
 {
     match refusal {
         Refusal::TooLong => line,
@@ -53,7 +66,7 @@ fn first_of(refusal: Refusal, line: u64) -> u64
 
 // The second number in the inner brackets, where there is one.
 fn second_of(refusal: Refusal) -> u64
-    ensures { λ r. ⌜ r ≡ secondIn refusal ⌝ }
+    ensures { λ r. ⌜ r ≡ getD (valuesOf refusal) 1 0 ⌝ }
 {
     match refusal {
         Refusal::TooLong => 0,
@@ -74,7 +87,7 @@ fn second_of(refusal: Refusal) -> u64
 
 // How many numbers stand there.
 fn count_of(refusal: Refusal) -> usize
-    ensures { λ r. ⌜ (r ≡ countIn refusal) × (r ≤ 2) ⌝ }
+    ensures { λ r. ⌜ r ≡ length (shown 0 (valuesOf refusal)) ⌝ }
 {
     match refusal {
         Refusal::TooLong => 1,
@@ -93,12 +106,45 @@ fn count_of(refusal: Refusal) -> usize
     }
 }
 
-// The line of a refusal, from the start of the buffer on.
-pub fn put_refusal(out: &mut [u8], refusal: Refusal, line: u64) -> usize
-    requires { ⌜ 32768 ≤ length (now out) ⌝ }
-    ensures { λ r. ⌜ Wrote 32768 (now (out .entry)) 0 (refusedOf line (numberOf refusal ∷ valuesOf refusal)) (now (out .exit)) r ⌝ }
+// What a refusal says; of one that gives its number alone, with the number of the line.
+pub fn reply_of(refusal: Refusal, line: u64) -> Reply
+    ensures { λ r. ⌜ r ≡ replyOf (printed line (numberOf refusal ∷ valuesOf refusal)) ⌝ }
 {
-    let shown = [first_of(refusal, line), second_of(refusal)];
-    let count = count_of(refusal);
-    put_list(out, 0, b"(refused ", number_of(refusal), &shown, 0, count)
+    Reply {
+        number: number_of(refusal),
+        count: count_of(refusal),
+        first: first_of(refusal, line),
+        second: second_of(refusal),
+    }
+}
+
+// Nothing is refused.
+pub fn no_refusal() -> Reply
+    ensures { λ r. ⌜ r ≡ replyOf [] ⌝ }
+{
+    Reply {
+        number: 0,
+        count: 0,
+        first: 0,
+        second: 0,
+    }
+}
+
+// The line of a refusal, from the start of the buffer on.
+pub fn put_refusal(out: &mut [u8], refusal: Refusal, line: u64) -> Answer
+    requires { ⌜ 32768 ≤ length (now out) ⌝ }
+    ensures { λ r. ⌜ Answered (printed line (numberOf refusal ∷ valuesOf refusal)) (refusedOf (printed line (numberOf refusal ∷ valuesOf refusal))) (now (out .entry)) (now (out .exit)) r ⌝ }
+{
+    let reply = reply_of(refusal, line);
+    let shown = [reply.first, reply.second];
+    let length = put_list(
+        out,
+        0,
+        b"(refused ",
+        reply.number as u64,
+        &shown,
+        0,
+        reply.count,
+    );
+    Answer { reply, length }
 }

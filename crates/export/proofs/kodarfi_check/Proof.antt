@@ -1,6 +1,5 @@
-use mathlib.Core.Path.{ap}
-use mathlib.Core.List.{[], _∷_}
-use Rattle.export.specs.declared.Reply.{Reply}
+use Rattle.rules.specs.Refusal.{said}
+use Rattle.export.proofs.Reply.{told-alone}
 use borrow.Author.Needs.{needs}
 use Rattle.export.proofs.kodarfi_check.Statement.{statement}
 use Rattle.export.proofs.kodarfi_check.Tie as tie
@@ -8,8 +7,11 @@ use Rattle.export.proofs.kodarfi_check.Tie as tie
 check-requires : tie.Need-check-requires
 check-requires c κs = search needs
 
-reply-of-requires : tie.Need-reply-of-requires
-reply-of-requires c κs = search needs
+outcome-reply-requires : tie.Need-outcome-reply-requires
+outcome-reply-requires c κs = search needs
+
+tell-requires : tie.Need-tell-requires
+tell-requires c κs = search needs
 
 same-length : tie.Need-same-length
 same-length c = search needs
@@ -18,13 +20,18 @@ same-length-2 : tie.Need-same-length-2
 same-length-2 c = search needs
 
 returns : tie.Need-returns
-returns c = record {
-  outcome = c .before .before .before .before .before .before .check .result;
-  checked = c .before .before .before .before .before .before .check .ensures;
-  number-is = ap (λ (r : Reply). r .number) (c .before .reply-of .ensures);
-  places-are = ap (λ (r : Reply). r .first ∷ r .second ∷ []) (c .before .reply-of .ensures);
-}
+returns c =
+    let r = c .before .before in
+    let k = r .before .before .before .before .before in
+    record { outcome = k .check .result; checked = k .check .ensures; told = told-alone (said (k .check .result)) (c .tell .ensures) (r .outcome-reply .ensures) }
 
 pub kodarfi-check-spec : {M : Type 1} → statement M
 kodarfi-check-spec =
-    tie.close (tie.spec check-requires reply-of-requires same-length same-length-2 returns)
+    tie.close
+    (tie.spec
+    check-requires
+    outcome-reply-requires
+    tell-requires
+    same-length
+    same-length-2
+    returns)

@@ -41,6 +41,9 @@ put-report-requires c κs =
     let k = c .before .before .before .before .before .before .before .before .before in
     (report-ready _ _ (k .check .ensures) (c .before .before .before .before .before .enum-told .given .1) (c .before .before .before .before .size .ensures) (c .before .before .solution-scale .ensures), search needs)
 
+no-refusal-requires : tie.Need-no-refusal-requires
+no-refusal-requires c κs = search needs
+
 same-length : tie.Need-same-length
 same-length c = search needs
 
@@ -54,10 +57,10 @@ same-length-2 c = search needs
 
 returns-2 : tie.Need-returns-2
 returns-2 c =
-    let p = c .before .before in
+    let p = c .before .before .before in
     let k = p .before .before .before .before .before .before .before .before .before .before in
     shown-accepted _ _ (k .check .ensures) (p .before .before .before .before .before .before .enum-told .given .1) (p .before .before .before .before .before .size .ensures) (p .before .before .before .solution-scale .ensures)
-    (p .put-report .ensures)
+    (c .no-refusal .ensures) (p .put-report .ensures)
 
 pub put-checked-spec : {M : Type 1} → statement M
 put-checked-spec =
@@ -75,6 +78,7 @@ put-checked-spec =
     slice-aggregate-put-report
     slice-aggregate-put-report-2
     put-report-requires
+    no-refusal-requires
     same-length
     returns
     same-length-2

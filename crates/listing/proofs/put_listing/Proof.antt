@@ -1,90 +1,66 @@
-use Rattle.listing.proofs.Entire.{wrote-refusal, wrote-check, long-enough}
+use Rattle.listing.proofs.Entire.{refusal-answered, check-answered, long-enough}
 use borrow.Author.Needs.{needs}
 use Rattle.listing.proofs.put_listing.Statement.{statement}
 use Rattle.listing.proofs.put_listing.Tie as tie
-use Rattle.listing.proofs.put_listing.Reads as reads
-use Rattle.listing.proofs.put_listing.Lts as lts
-use Rattle.file.proofs.read_file.Reads as read-file-reads
-use Rattle.judged.proofs.put_checked.Reads as put-checked-reads
-use Rattle.refusal.proofs.put_refusal.Reads as put-refusal-reads
 
--- src/lib.rt:52:9
 read-file-requires : tie.Need-read-file-requires
 read-file-requires c κs = search needs
 
--- src/lib.rt:56:26
 enum-known-outcome : tie.Need-enum-known-outcome
 enum-known-outcome c = search needs
 
--- src/lib.rt:56:38
 put-refusal-requires : tie.Need-put-refusal-requires
 put-refusal-requires c κs = search needs
 
--- src/lib.rt:57:42
 enum-told : tie.Need-enum-told
 enum-told c = search needs
 
--- src/lib.rt:57:30
 put-checked-requires : tie.Need-put-checked-requires
 put-checked-requires c κs = search needs
 
--- src/lib.rt:40:1
 same-length : tie.Need-same-length
 same-length c = search needs
 
--- src/lib.rt:40:1
 same-length-2 : tie.Need-same-length-2
 same-length-2 c = search needs
 
--- src/lib.rt:40:1
 same-length-3 : tie.Need-same-length-3
 same-length-3 c = search needs
 
--- src/lib.rt:40:1
 same-length-4 : tie.Need-same-length-4
 same-length-4 c = search needs
 
--- src/lib.rt:40:1
 same-length-5 : tie.Need-same-length-5
 same-length-5 c = search needs
 
--- src/lib.rt:40:1
 same-length-6 : tie.Need-same-length-6
 same-length-6 c = search needs
 
--- src/lib.rt:40:1
 returns : tie.Need-returns
 returns c =
     let p = c .before .before in
     let k = p .before .before .before .before .before .before .before .before .before .before .before in
     let s = k .before .before .before .before .before .before .before .before in
-    wrote-refusal (s .args .file .now) (s .pre .0) (k .read-file .ensures) _ (p .before .before .before .outcome .given .1) (p .put-refusal .ensures)
+    refusal-answered (s .args .file .now) (s .pre .0) (k .read-file .ensures) _ (p .before .before .before .outcome .given .1) (p .put-refusal .ensures)
 
--- src/lib.rt:40:1
 same-length-7 : tie.Need-same-length-7
 same-length-7 c = search needs
 
--- src/lib.rt:40:1
 same-length-8 : tie.Need-same-length-8
 same-length-8 c = search needs
 
--- src/lib.rt:40:1
 same-length-9 : tie.Need-same-length-9
 same-length-9 c = search needs
 
--- src/lib.rt:40:1
 same-length-10 : tie.Need-same-length-10
 same-length-10 c = search needs
 
--- src/lib.rt:40:1
 same-length-11 : tie.Need-same-length-11
 same-length-11 c = search needs
 
--- src/lib.rt:40:1
 same-length-12 : tie.Need-same-length-12
 same-length-12 c = search needs
 
--- src/lib.rt:40:1
 returns-2 : tie.Need-returns-2
 returns-2 c =
     let p = c .before .before in
@@ -92,7 +68,7 @@ returns-2 c =
     let k = t .before .before .before .before .before .before .before .before in
     let s = k .before .before .before .before .before .before .before .before in
     let z = k .read-file .kept in
-    wrote-check (s .args .file .now) (s .pre .0) (k .read-file .ensures) (t .enum-told .given .1) (long-enough (s .pre .0) (z .1 .0) (z .1 .1 .0) (z .1 .1 .1 .0) (z .1 .1 .1 .1 .0) (z .1 .1 .1 .1 .1 .0)) (p .put-checked .ensures)
+    check-answered (s .args .file .now) (s .pre .0) (k .read-file .ensures) (t .enum-told .given .1) (long-enough (s .pre .0) (z .1 .0) (z .1 .1 .0) (z .1 .1 .1 .0) (z .1 .1 .1 .1 .0) (z .1 .1 .1 .1 .1 .0)) (p .put-checked .ensures)
 
 pub put-listing-spec : {M : Type 1} → statement M
 put-listing-spec =
