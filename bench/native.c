@@ -102,7 +102,7 @@ static uint32_t failing_residual(const struct system *y, int64_t *r) {
 }
 
 /* R = T * I - A * G, column j in column j. Gives the lowest column, then its lowest row, with a size above 2^25. */
-static bool failing_inverse(const struct system *y, defect_of *defect, int64_t *R, uint32_t places[2]) {
+static bool failing_inverse(const struct system *y, defect_of *defect, int64_t *R, uint64_t places[2]) {
     defect(y->n, y->T, y->A, y->G, R);
     for (uint32_t j = 0; j < y->n; j++) {
         for (uint32_t k = 0; k < y->n; k++) {
@@ -156,7 +156,7 @@ static void write_inverse(const struct system *y, const int64_t *R, const int64_
 
 /* "Order for a check: .. 5, 6, 7." */
 static uint32_t reckon(const struct system *y, defect_of *defect, limits_of_column *limits_of, uint64_t *solution_bounds, uint64_t *inverse_bounds,
-                       uint32_t places[2]) {
+                       uint64_t places[2]) {
     int64_t g[MOST], r[MOST], p[MOST], R[PLACES];
     uint64_t limits[MOST];
     if ((places[0] = failing_margin(y, defect, g)) != 0) return 5;
@@ -174,7 +174,7 @@ static uint32_t reckon(const struct system *y, defect_of *defect, limits_of_colu
     uint32_t name(uint32_t n, uint32_t s, uint32_t t, const int64_t *matrix, size_t matrix_len, const int64_t *right, size_t right_len, \
                   const int64_t *guess, size_t guess_len, const int64_t *inverse, size_t inverse_len, const int64_t *weights,           \
                   size_t weights_len, uint64_t *solution_bounds, size_t solution_bounds_len, uint64_t *inverse_bounds,                  \
-                  size_t inverse_bounds_len, uint32_t places[2]) {                                                                      \
+                  size_t inverse_bounds_len, uint64_t places[2]) {                                                                      \
         const struct system y = {n, (int64_t)1 << (s & 31), (int64_t)1 << (t & 31), matrix, right, guess, inverse, weights};            \
         places[0] = places[1] = 0;                                                                                                      \
         if (matrix_len < PLACES || inverse_len < PLACES || inverse_bounds_len < PLACES || right_len < MOST || guess_len < MOST ||       \

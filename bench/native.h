@@ -13,7 +13,7 @@ typedef uint32_t check_on_lists(uint32_t n, uint32_t s, uint32_t t,
                                 const int64_t *weights, size_t weights_len,
                                 uint64_t *solution_bounds, size_t solution_bounds_len,
                                 uint64_t *inverse_bounds, size_t inverse_bounds_len,
-                                uint32_t places[2]);
+                                uint64_t places[2]);
 
 /* The limits of a column with n * n divisions, as document 01 states them. */
 check_on_lists native_check_naive;

@@ -12,7 +12,8 @@ void clear_net(struct net *net) {
 }
 
 void clear_outcome(struct outcome *outcome) {
-    memset(outcome, 0, sizeof *outcome);
+    outcome->number = 0;
+    outcome->places[0] = outcome->places[1] = 0;
     for (uint32_t i = 0; i < COLUMN; i++) outcome->solution[i] = UNWRITTEN;
     for (uint32_t i = 0; i < MATRIX; i++) outcome->inverse[i] = UNWRITTEN;
 }
@@ -47,8 +48,8 @@ bool read_net(FILE *file, struct net *net, struct outcome *expected) {
     read_numbers(file, net->weights, n);
     clear_outcome(expected);
     expected->number = (uint32_t)next_number(file);
-    expected->places[0] = (uint32_t)next_number(file);
-    expected->places[1] = (uint32_t)next_number(file);
+    expected->places[0] = (uint64_t)next_number(file);
+    expected->places[1] = (uint64_t)next_number(file);
     if (expected->number == 0) {
         read_limits(file, expected->solution, n);
         read_limits(file, expected->inverse, n * n);
@@ -58,12 +59,13 @@ bool read_net(FILE *file, struct net *net, struct outcome *expected) {
 
 void run_check(check_on_lists *check, const struct net *net, struct outcome *outcome) {
     clear_outcome(outcome);
-    outcome->places[0] = outcome->places[1] = UINT32_MAX;
+    outcome->places[0] = outcome->places[1] = UINT64_MAX;
     outcome->number = check(net->n, net->s, net->t, net->matrix, net->matrix_len, net->right, net->right_len, net->guess, net->guess_len,
                             net->inverse, net->inverse_len, net->weights, net->weights_len, outcome->solution, net->solution_len,
                             outcome->inverse, net->bounds_len, outcome->places);
 }
 
 bool same_outcome(const struct outcome *a, const struct outcome *b) {
-    return memcmp(a, b, sizeof *a) == 0;
+    return a->number == b->number && memcmp(a->places, b->places, sizeof a->places) == 0 &&
+           memcmp(a->solution, b->solution, sizeof a->solution) == 0 && memcmp(a->inverse, b->inverse, sizeof a->inverse) == 0;
 }

@@ -18,7 +18,8 @@ struct net {
 
 /* What a call on lists leaves. */
 struct outcome {
-    uint32_t number, places[2];
+    uint32_t number;
+    uint64_t places[2];
     uint64_t solution[COLUMN], inverse[MATRIX];
 };
 

@@ -1,7 +1,11 @@
 /* The calls that the library libexport.a gives to C.
  *
- * Each answers every input: there is nothing to be kept but what C's types cannot say, that a pointer leads to as many numbers as the length after
- * it says, and that a list to be written overlaps no other list of the call. Calls keep no state and may run at the same time. */
+ * Each answers every input: numbers, bytes and lengths may be anything. What C's types cannot say is the caller's part: no pointer is null; a pointer
+ * with a length after it leads to as many numbers or bytes as that length says, and any other to as many as its comment says; nothing that is written
+ * (a pointer without const) overlaps anything else of the same call. Calls keep no state, take no memory and may run at the same time.
+ *
+ * Each gives document 01's number of the first refusal, 0 where nothing is refused, and writes `places` in any case: two numbers that the refusal
+ * names, 0 for one that it does not name. Rows, columns and lines count from 1. */
 #ifndef KODARFI_H
 #define KODARFI_H
 
@@ -17,13 +21,12 @@
  * n * n inverse_bounds those of the inverse, row after row, in inverse steps. Else it is the number of the first refusal in this order, and both
  * lists of limits are as before:
  *
- *   8   a list is too short
- *   3   n, s, t or a number that is used is outside its range
- *   5   a margin is 0 or less                               places: row, 0
- *   6   a residual of the guess is above 2^25 in size       places: row, 0
- *   7   a residual of the inverse is above 2^25 in size     places: column, row
- *
- * Rows and columns count from 1. places is written in any case; what has no meaning there is 0. */
+ *   8   a list is too short                                 places: 0, 0
+ *   3   n, s, t or a number that is used is outside its range       0, 0
+ *   5   a margin is 0 or less                                       row, 0
+ *   6   a residual of the guess is above 2^25 in size               row, 0
+ *   7   a residual of the inverse is above 2^25 in size             column, row
+ */
 uint32_t kodarfi_check(uint32_t n, uint32_t s, uint32_t t,
                        const int64_t *matrix, size_t matrix_len,
                        const int64_t *right, size_t right_len,
@@ -32,6 +35,31 @@ uint32_t kodarfi_check(uint32_t n, uint32_t s, uint32_t t,
                        const int64_t *weights, size_t weights_len,
                        uint64_t *solution_bounds, size_t solution_bounds_len,
                        uint64_t *inverse_bounds, size_t inverse_bounds_len,
-                       uint32_t places[2]);
+                       uint64_t places[2]);
+
+/* The listing of a file, byte for byte what the program `register` prints for it.
+ *
+ * listing has 32,768 bytes, which is enough for every file. The first *length of them are the listing, its last line feed included; the others are
+ * as before. listing and *length are written whatever the answer is.
+ *
+ * The answer is 0 where the file is accepted: the listing is then the report. Else the listing is one line, (refused NUMBER (..)), and the answer
+ * is its number. places holds what stands in the line's inner brackets:
+ *
+ *   1 to 4, 11, 12, 14   the file's first line that is refused    places: line, 0
+ *   13                   forms are missing at the end                     count, 0
+ *   15                   the file stops before an end                     0, 0
+ *   5, 6, 7              the check refuses the file's numbers             as in kodarfi_check
+ */
+uint32_t kodarfi_listing(const uint8_t *file, size_t file_len,
+                         uint8_t listing[32768], size_t *length,
+                         uint64_t places[2]);
+
+/* The register entry of a guess, in solution steps, and of its limit, for 2^s solution steps a unit.
+ *
+ * The answer is 0 where guess is -2^36 to 2^36, bound at most 2^60 and s at most 20: then *value is guess / 2^s rounded to a whole unit, halves away
+ * from zero, and *value_bound is bound / 2^s rounded up. Else it is 3, and both are as before. places: always 0, 0. */
+uint32_t kodarfi_entry(int64_t guess, uint64_t bound, uint32_t s,
+                       int64_t *value, uint64_t *value_bound,
+                       uint64_t places[2]);
 
 #endif

@@ -6,7 +6,7 @@ use crate::lists::{net_of, Net};
 pub struct Expected {
     pub net: Net,
     pub number: u32,
-    pub places: [u32; 2],
+    pub places: [u64; 2],
     pub solution: &'static [(usize, u64)],
     pub inverse: &'static [(usize, u64)],
 }
@@ -27,7 +27,7 @@ fn accepted(net: Net, solution: &'static [(usize, u64)], inverse: &'static [(usi
     Expected { net, number: 0, places: [0, 0], solution, inverse }
 }
 
-fn refused(net: Net, number: u32, places: [u32; 2]) -> Expected {
+fn refused(net: Net, number: u32, places: [u64; 2]) -> Expected {
     Expected { net, number, places, solution: &[], inverse: &[] }
 }
 

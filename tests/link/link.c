@@ -25,7 +25,8 @@ struct expected_case {
     char name;
     uint32_t n, s, t;
     int64_t A[4], b[2], X[2], G[4], w[2];
-    uint32_t number, places[2];
+    uint32_t number;
+    uint64_t places[2];
     int64_t solution[2], inverse[4];
 };
 

@@ -11,7 +11,7 @@ extern "C" {
         weights: *const i64, weights_len: usize,
         solution_bounds: *mut u64, solution_bounds_len: usize,
         inverse_bounds: *mut u64, inverse_bounds_len: usize,
-        places: *mut u32,
+        places: *mut u64,
     ) -> u32;
 }
 
@@ -53,20 +53,20 @@ pub const FULL: Lengths = Lengths { matrix: MATRIX, right: COLUMN, guess: COLUMN
 #[derive(PartialEq, Debug)]
 pub struct Outcome {
     pub number: u32,
-    pub places: [u32; 2],
+    pub places: [u64; 2],
     pub solution: Vec<u64>,
     pub inverse: Vec<u64>,
 }
 
 impl Outcome {
-    pub fn untouched(number: u32, places: [u32; 2]) -> Outcome {
+    pub fn untouched(number: u32, places: [u64; 2]) -> Outcome {
         Outcome { number, places, solution: vec![UNWRITTEN; COLUMN], inverse: vec![UNWRITTEN; MATRIX] }
     }
 }
 
 /// The library's check, safe: no length is above that of its list. The places hold other numbers before.
 pub fn library_check(net: &Net) -> Outcome {
-    let mut out = Outcome::untouched(0, [u32::MAX; 2]);
+    let mut out = Outcome::untouched(0, [u64::MAX; 2]);
     let lengths = &net.lengths;
     out.number = unsafe {
         kodarfi_check(
@@ -112,7 +112,7 @@ pub fn read_nets(text: &str) -> Vec<(Net, Outcome)> {
         let (a, b, x, g, w) = (take(size * size), take(size), take(size), take(size * size), take(size));
         let net = net_of(n as u32, scales[0] as u32, scales[1] as u32, &a, &b, &x, &g, &w);
         let said = take(3);
-        let mut out = Outcome::untouched(said[0] as u32, [said[1] as u32, said[2] as u32]);
+        let mut out = Outcome::untouched(said[0] as u32, [said[1] as u64, said[2] as u64]);
         if out.number == 0 {
             let limits = |list: Vec<i64>| list.into_iter().map(|limit| limit as u64).collect::<Vec<u64>>();
             out.solution[..size].copy_from_slice(&limits(take(size)));

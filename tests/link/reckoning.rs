@@ -113,15 +113,15 @@ pub fn check(net: &Net) -> Outcome {
     let n = system.n;
     let margins: Vec<i128> = (0..n).map(|m| system.margin(m)).collect();
     if let Some(m) = margins.iter().position(|&g| g <= 0) {
-        return refused(5, [m as u32 + 1, 0]);
+        return refused(5, [m as u64 + 1, 0]);
     }
     let residual = system.residual(system.steps, &system.b, &system.x);
     if let Some(k) = above(&residual) {
-        return refused(6, [k as u32 + 1, 0]);
+        return refused(6, [k as u64 + 1, 0]);
     }
     let columns: Vec<Vec<i128>> = (0..n).map(|j| system.inverse_residual(j)).collect();
     if let Some(j) = columns.iter().position(|r| above(r).is_some()) {
-        return refused(7, [j as u32 + 1, above(&columns[j]).unwrap() as u32 + 1]);
+        return refused(7, [j as u64 + 1, above(&columns[j]).unwrap() as u64 + 1]);
     }
     let mut out = refused(0, [0, 0]);
     out.solution[..n].copy_from_slice(&system.limits(&residual, &margins));

@@ -24,11 +24,11 @@ static uint64_t scratch[1024];
 uint32_t kodarfi_check(uint32_t n, uint32_t s, uint32_t t, const int64_t *matrix, size_t matrix_len, const int64_t *right, size_t right_len,
                        const int64_t *guess, size_t guess_len, const int64_t *inverse, size_t inverse_len, const int64_t *weights,
                        size_t weights_len, uint64_t *solution_bounds, size_t solution_bounds_len, uint64_t *inverse_bounds,
-                       size_t inverse_bounds_len, uint32_t places[2]) {
+                       size_t inverse_bounds_len, uint64_t places[2]) {
     const char *named = getenv("WRONG");
     const int wrong = named ? atoi(named) : RIGHT;
     int64_t ones[32];
-    const uint32_t before[2] = {places[0], places[1]};
+    const uint64_t before[2] = {places[0], places[1]};
     if (wrong == SHORT_LIMITS_TAKEN) solution_bounds_len = 32, inverse_bounds_len = 1024;
     if (wrong == RANGES_FIRST && (n < 1 || n > 32)) return places[0] = places[1] = 0, 3;
     if (wrong == NO_RANGES_OF_WEIGHTS && n <= 32 && weights_len >= 32) {
@@ -40,7 +40,7 @@ uint32_t kodarfi_check(uint32_t n, uint32_t s, uint32_t t, const int64_t *matrix
     if (wrong == WRITES_ON_REFUSAL && number == 7) solution_bounds[0] = 0;
     if (wrong == READS_PAST_N && number == 0 && n < 32 && (matrix[n * n] > 1 << 20 || matrix[n * n] < -(1 << 20))) return 3;
     if (wrong == ROW_BEFORE_COLUMN && number == 7) {
-        const uint32_t column = places[0];
+        const uint64_t column = places[0];
         places[0] = places[1];
         places[1] = column;
     }
