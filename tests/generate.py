@@ -59,6 +59,11 @@ def arranged(rng, lines):
     return start + middle + end
 
 
+def is_damaged(index):
+    """Whether file number `index` of any sequence is a damaged one."""
+    return TABLE[ORDER[index % 100]][2] is not None
+
+
 def case(seed, index):
     """File number `index` of the sequence of `seed`."""
     rng = random.Random(f"{seed}/{index}")

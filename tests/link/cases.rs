@@ -1,4 +1,4 @@
-//! Document 01's cases a to l.
+//! Document 01's cases a to k, the ones of a check on lists.
 
 use crate::lists::{net_of, Net};
 
@@ -31,7 +31,7 @@ fn refused(net: Net, number: u32, places: [u64; 2]) -> Expected {
     Expected { net, number, places, solution: &[], inverse: &[] }
 }
 
-/// Cases a to l, in order.
+/// Cases a to k, in order.
 pub fn cases() -> Vec<Expected> {
     vec![
         accepted(one(0, 4, 4, 0, 0, 1), &[(0, 0)], &[(0, 3)]),
@@ -45,6 +45,5 @@ pub fn cases() -> Vec<Expected> {
         refused(one(0, 20, 1048576, 0, 33, 1), 6, [1, 0]),
         accepted(pair(32), &[], &[(1, 33), (3, 33)]),
         refused(pair(33), 7, [2, 1]),
-        accepted(one(4, 4, 2, -3, -24, 8), &[(0, 0)], &[(0, 0)]),
     ]
 }

@@ -1,79 +1,46 @@
-//! The library linked from Rust: document 01's cases a to l, then systems of tests/emit.py as they are and damaged, beside a reckoning of its own
-//! in 128-bit numbers.
+//! The library linked from Rust, each of its calls beside a version in Rust and beside what the second implementation says.
 //!
-//!   link FILE   the last line is 'N passed, M failed'
+//!   link NETS FILES [--first]   files of tests/emit.py and tests/emit_files.py; with --first it stops at the first test that fails
+//!
+//! The last line is 'N passed, M failed'.
 
 mod cases;
+mod count;
 mod damage;
+mod desk;
+mod files;
+mod form;
+mod listing;
 mod lists;
 mod reckoning;
+mod spoil;
+mod test_entries;
+mod test_files;
+mod test_lists;
 
-use damage::{damage, Chance};
-use lists::{library_check, read_nets, Net, Outcome};
+use count::Count;
 use std::process::exit;
 
-#[derive(Default)]
-struct Count {
-    passed: usize,
-    failed: usize,
-}
-
-impl Count {
-    fn test(&mut self, what: &str, holds: bool) {
-        if holds {
-            self.passed += 1;
-        } else {
-            self.failed += 1;
-            if self.failed <= 20 {
-                println!("FAILED {what}");
-            }
-        }
-    }
-}
-
-fn test_cases(count: &mut Count) {
-    for (case, letter) in cases::cases().iter().zip('a'..) {
-        let out = library_check(&case.net);
-        let named = |list: &[u64], limits: &[(usize, u64)]| limits.iter().all(|&(at, limit)| list[at] == limit);
-        let holds = out.number == case.number
-            && out.places == case.places
-            && named(&out.solution, case.solution)
-            && named(&out.inverse, case.inverse)
-            && out == reckoning::check(&case.net);
-        count.test(&format!("case {letter}"), holds);
-    }
-}
-
-fn test_nets(count: &mut Count, nets: &[(Net, Outcome)]) {
-    let mut chance = Chance(1);
-    let mut numbers = [0usize; 9];
-    for (index, (net, expected)) in nets.iter().enumerate() {
-        let out = library_check(net);
-        count.test(&format!("net {index}"), out == *expected && out == reckoning::check(net));
-        for _ in 0..4 {
-            let mut damaged = net.clone();
-            for _ in 0..=chance.below(2) {
-                damage(&mut damaged, &mut chance);
-            }
-            let out = library_check(&damaged);
-            count.test(&format!("net {index} damaged"), out == reckoning::check(&damaged));
-            numbers[(out.number as usize).min(8)] += 1;
-        }
-    }
-    println!("{} nets; damaged ones by number: {numbers:?}", nets.len());
-    for number in [0, 3, 5, 6, 7, 8] {
-        count.test(&format!("reach of number {number}"), numbers[number] >= 20);
-    }
+fn bytes_of(path: &str) -> Vec<u8> {
+    std::fs::read(path).unwrap_or_else(|error| {
+        eprintln!("{path}: {error}");
+        exit(2)
+    })
 }
 
 fn main() {
-    let mut count = Count::default();
-    test_cases(&mut count);
-    let path = std::env::args().nth(1).unwrap_or_default();
-    match std::fs::read_to_string(&path) {
-        Ok(text) => test_nets(&mut count, &read_nets(&text)),
-        Err(error) => count.test(&format!("reading '{path}': {error}"), false),
-    }
-    println!("{} passed, {} failed", count.passed, count.failed);
-    exit(if count.failed == 0 { 0 } else { 1 });
+    let arguments: Vec<String> = std::env::args().skip(1).collect();
+    let [nets, files, rest @ ..] = &arguments[..] else {
+        eprintln!("usage: link NETS FILES [--first]");
+        exit(2)
+    };
+    let mut count = Count::new(rest == ["--first"]);
+    let nets = lists::read_nets(&String::from_utf8(bytes_of(nets)).expect("a list of numbers"));
+    let files = files::read_files(&bytes_of(files));
+    test_lists::test_cases(&mut count);
+    test_entries::test_entries(&mut count);
+    test_files::test_files(&mut count, &files);
+    test_lists::test_lists(&mut count, &nets);
+    test_files::test_damaged(&mut count, &files);
+    count.close()
 }

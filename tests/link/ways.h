@@ -1,0 +1,57 @@
+/* The ways in which the stand-in for the library can be wrong, one a line; the environment's WRONG names one of them. */
+#ifndef WAYS_H
+#define WAYS_H
+
+#include <stdbool.h>
+
+#define WAYS(X)                   \
+    /* kodarfi_check */           \
+    X(writes_on_refusal)          \
+    X(reads_past_n)               \
+    X(short_limits_taken)         \
+    X(row_before_column)          \
+    X(stride_32)                  \
+    X(by_columns)                 \
+    X(places_left)                \
+    X(ranges_first)               \
+    X(no_ranges_of_weights)       \
+    X(writes_past_n)              \
+    /* kodarfi_entry */           \
+    X(refused_entry_written)      \
+    X(refused_limit_written)      \
+    X(entry_places_left)          \
+    X(halves_toward_zero)         \
+    X(halves_up)                  \
+    X(limit_to_nearest)           \
+    X(limit_rounded_down)         \
+    X(scale_21_taken)             \
+    X(guess_one_wider)            \
+    X(limit_one_wider)            \
+    /* kodarfi_listing: file */   \
+    X(first_4096_bytes)           \
+    X(last_line_needs_feed)       \
+    X(feed_begins_a_line)         \
+    X(stops_at_end)               \
+    X(carriage_return_taken)      \
+    X(lines_of_321_taken)         \
+    X(numbers_wrap)               \
+    /* kodarfi_listing: answer */ \
+    X(refused_length_off)         \
+    X(refused_length_left)        \
+    X(rest_cleared)               \
+    X(ended_by_zero)              \
+    X(lines_from_0)               \
+    X(listing_row_before_column)  \
+    X(listing_places_left)        \
+    X(count_not_in_places)        \
+    X(line_for_15)                \
+    X(number_lost)
+
+#define NAMED(name) name,
+enum way { RIGHT_WAY, WAYS(NAMED) };
+#undef NAMED
+
+/* Whether the stand-in is wrong in this way. */
+bool is_wrong(enum way way);
+
+#endif
