@@ -5,9 +5,9 @@
  * The versions run on the same nets in alternation in one process, each on lists of limits that were not cleared before. Time is processor
  * time. A version's time is the middle one of many rounds, and its ratio to another the middle one of the ratios within a round. */
 #include "nets.h"
+#include "timing.h"
 
 #include <stdlib.h>
-#include <time.h>
 
 enum { MOST_NETS = 1000, ROUNDS = 201 };
 
@@ -27,17 +27,6 @@ enum { COUNT = sizeof VERSIONS / sizeof *VERSIONS };
 
 static struct net nets[MOST_NETS];
 static struct outcome answers[COUNT];
-
-static double now(void) {
-    struct timespec t;
-    clock_gettime(CLOCK_PROCESS_CPUTIME_ID, &t);
-    return (double)t.tv_sec * 1e6 + (double)t.tv_nsec / 1e3;
-}
-
-static int by_size(const void *a, const void *b) {
-    const double x = *(const double *)a, y = *(const double *)b;
-    return (x > y) - (x < y);
-}
 
 static uint32_t read_all(const char *path) {
     struct outcome expected;
@@ -70,7 +59,7 @@ static bool agree(uint32_t count) {
 static double round_of(uint32_t v, uint32_t count, uint32_t n) {
     uint32_t used = 0, refused = 0;
     struct outcome *out = &answers[v];
-    const double start = now();
+    const double start = processor_time();
     for (uint32_t k = 0; k < count; k++) {
         const struct net *x = &nets[k];
         if (x->n != n) continue;
@@ -78,14 +67,9 @@ static double round_of(uint32_t v, uint32_t count, uint32_t n) {
         refused += VERSIONS[v].check(x->n, x->s, x->t, x->matrix, MATRIX, x->right, COLUMN, x->guess, COLUMN, x->inverse, MATRIX, x->weights,
                                      COLUMN, out->solution, COLUMN, out->inverse, MATRIX, out->places) != 0;
     }
-    const double spent = now() - start;
+    const double spent = processor_time() - start;
     if (refused) printf("%u nets refused\n", refused);
     return used ? spent / used : 0;
-}
-
-static double middle_of(double *numbers) {
-    qsort(numbers, ROUNDS, sizeof *numbers, by_size);
-    return numbers[ROUNDS / 2];
 }
 
 static void measure(uint32_t count, uint32_t n) {
@@ -98,11 +82,11 @@ static void measure(uint32_t count, uint32_t n) {
         for (uint32_t other = 0; other < v; other++) {
             double within[ROUNDS];
             for (uint32_t round = 0; round < ROUNDS; round++) within[round] = times[v][round] / times[other][round];
-            ratios[v][other] = middle_of(within);
+            ratios[v][other] = middle_of(within, ROUNDS);
         }
     }
     for (uint32_t v = 0; v < COUNT; v++) {
-        printf("n = %2u  %-6s %8.2f us a net", n, VERSIONS[v].name, middle_of(times[v]));
+        printf("n = %2u  %-6s %8.2f us a net", n, VERSIONS[v].name, middle_of(times[v], ROUNDS));
         for (uint32_t other = 0; other < v; other++) printf("  %5.2f of %s", ratios[v][other], VERSIONS[other].name);
         printf("\n");
     }

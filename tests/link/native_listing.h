@@ -2,12 +2,9 @@
 #ifndef NATIVE_LISTING_H
 #define NATIVE_LISTING_H
 
-#include "kodarfi.h"
+#include "listed.h"
 
-enum { LISTING = 32768 };
-
-/* The shape of kodarfi_listing. */
-uint32_t native_listing(const uint8_t *file, size_t file_len, uint8_t listing[LISTING], size_t *length, uint64_t places[2]);
+listing_of native_listing;
 
 /* The shape of kodarfi_entry. */
 uint32_t native_entry(int64_t guess, uint64_t bound, uint32_t s, int64_t *value, uint64_t *value_bound, uint64_t places[2]);

@@ -6,9 +6,7 @@
 #include <stdio.h>
 #include <string.h>
 
-enum { LONGEST_FILE = 1 << 19 };
-
-static uint8_t edited[LONGEST_FILE];
+static uint8_t edited[2 * LONGEST_FILE];
 static size_t edited_len;
 
 /* The digits from a place on, as a number that wraps at 2^64; gives their count. */

@@ -1,39 +1,11 @@
 #include "damage.h"
+#include "listed.h"
 #include "native_listing.h"
 #include "tests.h"
 
-#include <inttypes.h>
-#include <stdlib.h>
 #include <string.h>
 
-enum { LONGEST_FILE = 1 << 18, DAMAGES_A_FILE = 3 };
-
-/* What a call leaves: the whole buffer, the listing first. */
-struct listed {
-    uint32_t number;
-    uint64_t places[2];
-    size_t length;
-    uint8_t listing[LISTING];
-};
-
-typedef uint32_t listing_of(const uint8_t *file, size_t file_len, uint8_t listing[LISTING], size_t *length, uint64_t places[2]);
-
-/* The buffer before a call: no two neighbours are alike, and no run of zeros. */
-static void fill(uint8_t *listing) {
-    for (size_t i = 0; i < LISTING; i++) listing[i] = (uint8_t)(i * 151 + 89);
-}
-
-static void run_listing(listing_of *listing, const uint8_t *file, size_t file_len, struct listed *out) {
-    fill(out->listing);
-    out->places[0] = out->places[1] = UINT64_MAX;
-    out->length = SIZE_MAX;
-    out->number = listing(file, file_len, out->listing, &out->length, out->places);
-}
-
-static bool same_listed(const struct listed *a, const struct listed *b) {
-    return a->number == b->number && a->places[0] == b->places[0] && a->places[1] == b->places[1] && a->length == b->length &&
-           memcmp(a->listing, b->listing, LISTING) == 0;
-}
+enum { DAMAGES_A_FILE = 3 };
 
 static bool agrees(const uint8_t *file, size_t file_len, struct listed *answer) {
     static struct listed other;
@@ -49,25 +21,10 @@ static void test_whole_file(void) {
         "(inverse 1 (4 1))\n(inverse 2 (1 6))\n(weight 1 1)\n(weight 2 1)\n(end)\n";
     static const char LISTING_01[] =
         "(bounds 2)\n(solution 1 (23 1))\n(solution 2 (13 1))\n(entry 1 (1 1))\n(entry 2 (1 1))\n(inverse 1 (1 1))\n(inverse 2 (1 1))\n(end)\n";
-    static struct listed answer, expected = {.length = sizeof LISTING_01 - 1};
-    fill(expected.listing);
-    memcpy(expected.listing, LISTING_01, expected.length);
-    run_listing(kodarfi_listing, (const uint8_t *)FILE_01, sizeof FILE_01 - 1, &answer);
-    test("whole file of document 01", 0, same_listed(&answer, &expected));
-}
-
-/* A file of tests/emit_files.py with its outcome; false at the end. */
-static bool read_file(FILE *files, uint8_t *file, size_t *file_len, struct listed *expected) {
-    if (fscanf(files, "%zu %" SCNu32 " %" SCNu64 " %" SCNu64 " %zu", file_len, &expected->number, &expected->places[0], &expected->places[1],
-               &expected->length) != 5)
-        return false;
-    fill(expected->listing);
-    if (fgetc(files) != '\n' || *file_len > LONGEST_FILE || fread(file, 1, *file_len, files) != *file_len ||
-        fread(expected->listing, 1, expected->length, files) != expected->length) {
-        fprintf(stderr, "a file stops in its middle\n");
-        exit(2);
-    }
-    return true;
+    static struct listed answer;
+    const bool agreed = agrees((const uint8_t *)FILE_01, sizeof FILE_01 - 1, &answer);
+    test("whole file of document 01", 0,
+         agreed && answer.number == 0 && answer.length == sizeof LISTING_01 - 1 && memcmp(answer.listing, LISTING_01, answer.length) == 0);
 }
 
 /* One byte another, put in or taken out, or the file cut short: the bytes after its length stay where they are. */
@@ -90,7 +47,7 @@ void test_files(FILE *files) {
     unsigned met[16] = {0};
     size_t file_len;
     test_whole_file();
-    for (unsigned index = 0; read_file(files, file, &file_len, &expected); index++) {
+    for (unsigned index = 0; read_listed(files, file, &file_len, &expected); index++) {
         test("file", index, agrees(file, file_len, &answer) && same_listed(&answer, &expected));
         met[answer.number & 15]++;
         for (unsigned k = 0; k < DAMAGES_A_FILE && file_len > 0; k++) {

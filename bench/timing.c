@@ -1,0 +1,28 @@
+#include "timing.h"
+
+#include <stdlib.h>
+#include <time.h>
+
+static double time_of(clockid_t clock) {
+    struct timespec t;
+    clock_gettime(clock, &t);
+    return (double)t.tv_sec * 1e6 + (double)t.tv_nsec / 1e3;
+}
+
+double processor_time(void) {
+    return time_of(CLOCK_PROCESS_CPUTIME_ID);
+}
+
+double clock_time(void) {
+    return time_of(CLOCK_MONOTONIC);
+}
+
+static int by_size(const void *a, const void *b) {
+    const double x = *(const double *)a, y = *(const double *)b;
+    return (x > y) - (x < y);
+}
+
+double middle_of(double *numbers, size_t count) {
+    qsort(numbers, count, sizeof *numbers, by_size);
+    return numbers[count / 2];
+}

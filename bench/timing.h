@@ -1,0 +1,14 @@
+/* Times in microseconds. */
+#ifndef TIMING_H
+#define TIMING_H
+
+#include <stddef.h>
+
+/* The processor's time of this process, and the time of day. */
+double processor_time(void);
+double clock_time(void);
+
+/* The middle one of the numbers, which are sorted by it. */
+double middle_of(double *numbers, size_t count);
+
+#endif
