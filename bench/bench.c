@@ -99,6 +99,7 @@ int main(int argc, char **argv) {
     }
     const uint32_t count = read_all(argv[1]);
     if (!agree(count)) return 1;
+    printf("proved code %u bytes after a multiple of 64\n", (unsigned)((uintptr_t)kodarfi_check % 64));
     for (uint32_t n = 8; n <= 32; n *= 2) measure(count, n);
     return 0;
 }
