@@ -29,6 +29,7 @@ uint32_t kodarfi_check(uint32_t n, uint32_t s, uint32_t t, const int64_t *matrix
         places[1] = column;
     }
     if (is_wrong(places_left) && number != 7) places[1] = before[1];
+    if (is_wrong(places_of_32_bits)) places[0] = (before[0] & ~(uint64_t)UINT32_MAX) | (uint32_t)places[0];
     if (number != 0) return number;
     if (is_wrong(writes_past_n) && n < 32) solution_bounds[n] = 0;
     if (is_wrong(stride_32) || is_wrong(by_columns)) {

@@ -13,6 +13,7 @@
     X(stride_32)                  \
     X(by_columns)                 \
     X(places_left)                \
+    X(places_of_32_bits)          \
     X(ranges_first)               \
     X(no_ranges_of_weights)       \
     X(writes_past_n)              \
