@@ -1,4 +1,5 @@
 pub mod Register
 pub mod Entire
 pub mod FirstBytes
+pub mod Numbered
 pub mod Table
