@@ -4,12 +4,13 @@ use mathlib.Core.Path.{_≡_, refl, sym, ap, _∙_, subst}
 use mathlib.Core.Bool.{Bool, true, false, cond}
 use Prim.Native.Nat.{ℕ, _+_, _*_, _/_, _%_, _≤_, _<_, _^_}
 use native.Mathlib.Omega.{arith}
-use native.Mathlib.Nat.{mul-le-mul, mul-le-mul-right, le-of-mul-le-mul-right, div-add-mod', mod-lt}
+use native.Mathlib.Nat.{le-antisymm, mul-le-mul, mul-le-mul-right, div-add-mod', mod-lt}
 use borrow.Author.Tests.{ltb-true, ltb-false, lt-ltb, le-ltb}
 use lib.Dec.{ltb}
-use Rattle.integer.proofs.Search.{upto}
+use Rattle.integer.specs.Finite.{Steepest}
+use Rattle.integer.proofs.Steepest.{steepest-one, steepest-stays, steepest-moves}
 use Rattle.bounds.specs.declared.Ratio.{Ratio}
-use Rattle.bounds.specs.Ratio.{ratioOf, steeperOf, Narrow, Steep}
+use Rattle.bounds.specs.Ratio.{ratioOf, steeperOf, Narrow}
 
 -- by quotients, and by remainders
 less : (Q R G q r g : ℕ) → R < G → Q < q → (Q * G + R) * g ≤ (q * g + r) * G
@@ -41,37 +42,22 @@ module _ (k P G m p g : ℕ) (hG : 0 < G) (hg : 0 < g) where
 
 pub record Best (sizes margins : ℕ → ℕ) (n : ℕ) (best : Ratio) : Type 0 where
   pub at : ℕ
-  pub below : at < n
   pub is : best ≡ ratioOf at (sizes at) (margins at)
-  pub most : (m : ℕ) → m < n → sizes m * margins at ≤ sizes at * margins m
+  pub steepest : Steepest n sizes margins at
 
 pub best-first : (sizes margins : ℕ → ℕ) {best : Ratio} → best ≡ ratioOf 0 (sizes 0) (margins 0) → Best sizes margins 1 best
-best-first sizes margins e = record {
-  at = 0;
-  below = omega arith;
-  is = e;
-  most = λ m l. let z : m ≡ 0 = omega arith in rw z (omega arith);
-}
-
-carry : (a b c x y z : ℕ) → a * y ≤ b * x → b * z ≤ c * y → 0 < y → a * z ≤ c * x
-carry a b c x y z h k o =
-    let l : a * z * y ≤ c * x * y = omega (arith, mul-le-mul-right z h, mul-le-mul-right x k) in le-of-mul-le-mul-right l o
+best-first sizes margins e = record { at = 0; is = e; steepest = steepest-one sizes margins }
 
 pub best-next : (sizes margins : ℕ → ℕ) (n : ℕ) {best next new : Ratio} → ((m : ℕ) → m < n + 1 → 0 < margins m) → Best sizes margins n best →
     next ≡ ratioOf n (sizes n) (margins n) → new ≡ steeperOf best next → Best sizes margins (n + 1) new
 best-next sizes margins n pos b e f =
     let k : ℕ = b .at in
+    let above : 0 < margins k = pos k (omega (arith, b .steepest .below)) in
     let w : steeperOf (ratioOf k (sizes k) (margins k)) (ratioOf n (sizes n) (margins n)) ≡ _ = sym (f ∙ rw (b .is, e)) in
     subst (Best sizes margins (n + 1)) w
-    (steeper-outcome k (sizes k) (margins k) n (sizes n) (margins n) (pos k (omega arith)) (pos n (omega arith)) (Best sizes margins (n + 1))
-    (λ h. record { at = k; below = omega arith; is = refl; most = λ m l. upto (λ (i : ℕ). sizes i * margins k ≤ sizes k * margins i) n m (omega arith) (b .most) h })
-    (λ h. record {
-      at = n;
-      below = omega arith;
-      is = refl;
-      most = λ m l. upto (λ (i : ℕ). sizes i * margins n ≤ sizes n * margins i) n m (omega arith)
-          (λ i li. carry (sizes i) (sizes k) (sizes n) (margins i) (margins k) (margins n) (b .most i li) h (pos k (omega arith))) (omega arith);
-    }))
+    (steeper-outcome k (sizes k) (margins k) n (sizes n) (margins n) above (pos n (omega arith)) (Best sizes margins (n + 1))
+    (λ h. record { at = k; is = refl; steepest = steepest-stays sizes margins n k (b .steepest) h })
+    (λ h. record { at = n; is = refl; steepest = steepest-moves sizes margins n k above (b .steepest) h }))
 
 pub narrow : (m p g : ℕ) {a : Ratio} → a ≡ ratioOf m p g → 0 < g → g ≤ 2 ^ 30 → Narrow a
 narrow m p g e h l = rw e (record { low = omega (arith, mod-lt p h); high = l })
@@ -98,7 +84,7 @@ module _ (a b : Ratio) where
   unfolding steeperOf
   steeper-4 h k l = rw (le-ltb _ _ h, le-ltb _ _ k, le-ltb _ _ l)
 
-pub best-end : (sizes margins : ℕ → ℕ) {m n : ℕ} (best : Ratio) → m ≤ n → n ≤ m → Best sizes margins m best → Steep n sizes margins (best .row)
+pub best-end : (sizes margins : ℕ → ℕ) {m n : ℕ} (best : Ratio) → m ≤ n → n ≤ m → Best sizes margins m best → Steepest n sizes margins (best .row)
 best-end sizes margins best p q b =
     let row : best .row ≡ b .at = ap (λ (r : Ratio). r .row) (b .is) in
-    rw row (record { below = omega arith; most = λ m l. b .most m (omega arith) })
+    rw (row, ← le-antisymm p q) (b .steepest)

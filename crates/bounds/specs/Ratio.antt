@@ -1,7 +1,6 @@
 -- Comparing |p_m| / g_m without products above 2^60: by quotients, then by remainders times the other margin.
 --   ratioOf m p g  — row m with the quotient and the remainder of p by g
 --   steeperOf a b  — b where its ratio is larger, else a
---   Steep n sizes margins k — row k is one where sizes / margins is largest
 --   Narrow, Sized, Positive — what the sizes must be for the arithmetic to fit
 use mathlib.Core.Bool.{cond}
 use mathlib.Core.List.{List}
@@ -17,10 +16,6 @@ unfoldable pub steeperOf : Ratio → Ratio → Ratio
 steeperOf a b =
     cond (ltb (a .quotient) (b .quotient)) b
     (cond (ltb (b .quotient) (a .quotient)) a (cond (ltb (a .remainder * b .margin) (b .remainder * a .margin)) b a))
-
-pub record Steep (n : ℕ) (sizes margins : ℕ → ℕ) (k : ℕ) : Type 0 where
-  pub below : k < n
-  pub most : (m : ℕ) → m < n → sizes m * margins k ≤ sizes k * margins m
 
 -- remainder and margin of a ratio are at most 2^30
 pub record Narrow (a : Ratio) : Type 0 where

@@ -4,13 +4,14 @@ ghost use mathlib.Core.Path.{_≡_};
 ghost use Prim.Native.Nat.{ℕ, _+_, _*_, _≤_, _<_, _^_};
 ghost use lib.IntN.{natAbs};
 ghost use lib.ListN.{getD, length};
+ghost use Rattle.integer.specs.Finite.{Steepest};
 ghost use Rattle.integer.specs.Quotient.{ceilDiv};
 ghost use Rattle.linear.specs.Slice.{at, Reach};
 ghost use Rattle.raised.specs.Raised.{Line, Lined, lineDot};
 ghost use Rattle.enclosure.specs.Reckoning.{boundFrom};
 ghost use Rattle.reckoning.specs.Arrays.{Holds, stored, storedColumns, Square, Numbers};
 ghost use Rattle.reckoning.specs.Part.{columnSizes};
-ghost use Rattle.bounds.specs.Ratio.{ratioOf, steeperOf, Narrow, Steep, Sized, Positive};
+ghost use Rattle.bounds.specs.Ratio.{ratioOf, steeperOf, Narrow, Sized, Positive};
 use integer::ceil_div;
 use integer::magnitude;
 use linear::dot;
@@ -58,7 +59,7 @@ fn steeper(a: Ratio, b: Ratio) -> Ratio
 fn steepest_of(sizes: &[u64; 32], margins: &[u64; 32], n: usize) -> usize
     requires { ⌜ (0 < n) × (n ≤ 32) ⌝ }
     requires { ⌜ Positive (now margins) n ⌝ }
-    ensures { λ r. ⌜ Steep n (λ (m : ℕ). getD (now (sizes .entry)) m 0) (λ (m : ℕ). getD (now (margins .entry)) m 0) r ⌝ }
+    ensures { λ r. ⌜ Steepest n (λ (m : ℕ). getD (now (sizes .entry)) m 0) (λ (m : ℕ). getD (now (margins .entry)) m 0) r ⌝ }
 {
     let mut best = ratio_of(0, sizes[0], margins[0]);
     for m in 1..n {

@@ -12,14 +12,15 @@ use Rattle.integer.specs.Finite.{sumℕ}
 use Rattle.integer.specs.Quotient.{ceilDiv}
 use Rattle.integer.proofs.Absolute.{abs-neg}
 use Rattle.integer.proofs.Ring.{ring, ring₀, moves, by-zero}
+use Rattle.integer.proofs.Steepest.{steepest-of}
 use Rattle.integer.proofs.Sum.{sumℕ-ext, sumℕ-*}
 use Rattle.linear.specs.Matrix.{apply}
 use Rattle.linear.proofs.Product.{apply-sub, apply-scale}
 use Rattle.enclosure.specs.Problem.{Problem, S, T}
 use Rattle.enclosure.specs.Reckoning.{defect, load, margin, marginFails, residual, image, sizes, bound}
-use Rattle.enclosure.specs.Schroeder.{start, next, Condition29, Steepest}
+use Rattle.enclosure.specs.Schroeder.{start, next, Condition29, Steep}
 use Rattle.enclosure.proofs.Bounds.{bound-at}
-use Rattle.enclosure.proofs.Enclosure.{apply-defect, peak-of}
+use Rattle.enclosure.proofs.Enclosure.{apply-defect}
 use Rattle.enclosure.proofs.Margin.{margin-sum, margin-above}
 
 swap : (d x y : ℤ) → d +ℤ x -ℤ (d +ℤ y) ≡ negℤ (y -ℤ x)
@@ -36,12 +37,10 @@ start-next P i l =
     ap natAbs e ∙ abs-neg (y -ℤ x) ∙ ap natAbs (sym f)
 
 module _ (P : Problem) (hm : (m : ℕ) → m < P .n → marginFails P m ≡ false) where
-  pub steepest : 0 < P .n → (k : ℕ) × Steepest P k
-  steepest some =
-      let p = peak-of (P .n) (λ (m : ℕ). natAbs (image P m)) (λ (m : ℕ). natAbs (margin P m)) (λ m l. margin-above P m (hm m l)) some in
-      (p .at, record { below = p .below; most = p .best })
+  pub steepest : 0 < P .n → (k : ℕ) × Steep P k
+  steepest = steepest-of (λ (m : ℕ). natAbs (image P m)) (λ (m : ℕ). natAbs (margin P m)) (P .n) (λ m l. margin-above P m (hm m l))
 
-  pub condition : (k : ℕ) → Steepest P k → Condition29 P k
+  pub condition : (k : ℕ) → Steep P k → Condition29 P k
   condition k x = record { holds = at-row }
     where
       at-row : (i : ℕ) → i < P .n →
@@ -54,6 +53,6 @@ module _ (P : Problem) (hm : (m : ℕ) → m < P .n → marginFails P m ≡ fals
           sumℕ-ext (P .n) (λ (j : ℕ). natAbs (defect P i j) * (P .w j * p)) (λ (j : ℕ). f j * p) (λ j lj. omega arith) ∙ sumℕ-* (P .n) p f in
           rw (start-next P i l, e) (unfold load in omega (arith, x .most i l, ap (λ (y : ℕ). y * p) (margin-sum P i (hm i l))))
 
-  pub bound-is-v : (k : ℕ) → Steepest P k → (i : ℕ) → bound P i ≡ ceilDiv (P .w i * natAbs (image P k)) (natAbs (margin P k))
+  pub bound-is-v : (k : ℕ) → Steep P k → (i : ℕ) → bound P i ≡ ceilDiv (P .w i * natAbs (image P k)) (natAbs (margin P k))
   unfolding bound sizes
-  bound-is-v k x i = bound-at (P .n) (sizes P) (λ (m : ℕ). natAbs (margin P m)) (P .w) i k (x .below) (λ m l. margin-above P m (hm m l)) (x .most)
+  bound-is-v k x i = bound-at (P .n) (sizes P) (λ (m : ℕ). natAbs (margin P m)) (P .w) i k (λ m l. margin-above P m (hm m l)) x

@@ -1,18 +1,16 @@
 -- The enclosure, once, with a slack σ: if |(A·e)_k − q·r_k| ≤ q·σ_k for every row k, all margins are above 0 and w_i·P_m ≤ E_i·g_m with
 -- P_m = |(G·r)_m| + Σ_j |G_mj|·σ_j, then |e_i| ≤ q·E_i. Document 01's is σ = 0.
 --   apply-defect — T·e = D·e + G·(A·e)
---   Peak, peak   — a row where u / w is largest
 --   enclosed     — the theorem
 use mathlib.Core.Path.{_≡_, sym, ap}
-use Prim.Native.Nat.{ℕ, zero, suc, _+_, _*_, _≤_, _<_}
+use Prim.Native.Nat.{ℕ, _+_, _*_, _≤_, _<_}
 use native.Mathlib.Omega.{arith}
-use native.Mathlib.Decide.{decLe}
 use native.Mathlib.Nat.{mul-le-mul-left, mul-le-mul-right, le-of-mul-le-mul-right}
 use lib.IntN.{ℤ, pos, natAbs, _+ℤ_, _-ℤ_, _*ℤ_, -ℤ-+ℤ-cancel}
 use mathlib.Core.Bool.{false}
-use Rattle.integer.specs.Finite.{sumℕ}
+use Rattle.integer.specs.Finite.{sumℕ, Steepest}
 use Rattle.integer.proofs.Absolute.{abs-+, abs-*}
-use Rattle.integer.proofs.Search.{upto}
+use Rattle.integer.proofs.Steepest.{steepest-of}
 use Rattle.integer.proofs.Sum.{sumℕ-mono, sumℕ-*}
 use Rattle.linear.specs.Matrix.{Vec, apply, product, identity}
 use Rattle.linear.proofs.Product.{apply-less, apply-identity, apply-product, apply-sub, apply-scale, abs-apply}
@@ -26,40 +24,6 @@ unfolding defect
 apply-defect P e m h =
     rw (apply-less (P .n) (pos (T P)) identity (product (P .n) (P .G) (P .A)) e m, apply-identity (P .n) e m h, apply-product (P .n) (P .G) (P .A) e m)
     (sym (-ℤ-+ℤ-cancel (pos (T P) *ℤ e m) (apply (P .n) (P .G) (apply (P .n) (P .A) e) m)))
-
--- ---- a row where u / w is largest
-carry : (a b c x y z : ℕ) → a * y ≤ b * x → b * z ≤ c * y → 1 ≤ y → a * z ≤ c * x
-carry a b c x y z h k o =
-    let l : a * z * y ≤ c * x * y = omega (arith, mul-le-mul-right z h, mul-le-mul-right x k) in le-of-mul-le-mul-right l o
-
-pub record Peak (n : ℕ) (u w : ℕ → ℕ) : Type 0 where
-  pub at : ℕ
-  pub below : at < n
-  pub best : (j : ℕ) → j < n → u j * w at ≤ u at * w j
-
-pub peak : (n : ℕ) (u w : ℕ → ℕ) → ((i : ℕ) → i < suc n → 1 ≤ w i) → Peak (suc n) u w
-peak zero u w hw = record { at = 0; below = omega arith; best = λ j l. let z : j ≡ 0 = omega arith in rw z (omega arith) }
-peak (suc n) u w hw = go (peak n u w (λ i l. hw i (omega arith)))
-  where
-    pick : (r : Peak (suc n) u w) → Dec (u (suc n) * w (r .at) ≤ u (r .at) * w (suc n)) → Peak (suc (suc n)) u w
-    pick r (yes p) = record {
-      at = r .at;
-      below = omega arith;
-      best = λ j l. upto (λ (i : ℕ). u i * w (r .at) ≤ u (r .at) * w i) (suc n) j l (r .best) p;
-    }
-    pick r (no p) = record {
-      at = suc n;
-      below = omega arith;
-      best = λ j l. upto (λ (i : ℕ). u i * w (suc n) ≤ u (suc n) * w i) (suc n) j l
-          (λ i k. carry _ _ _ _ _ _ (r .best i k) (omega arith) (hw (r .at) (omega arith))) (omega arith);
-    }
-
-    go : Peak (suc n) u w → Peak (suc (suc n)) u w
-    go r = pick r (decLe (u (suc n) * w (r .at)) (u (r .at) * w (suc n)))
-
-pub peak-of : (n : ℕ) (u w : ℕ → ℕ) → ((i : ℕ) → i < n → 1 ≤ w i) → 0 < n → Peak n u w
-peak-of zero u w hw h = absurd (omega arith)
-peak-of (suc n) u w hw h = peak n u w hw
 
 -- ---- arithmetic in ℕ
 peak-arith : (t u W X L G Q : ℕ) → t * u ≤ X + Q → X * W ≤ L * u → G + L ≡ t * W → u * G ≤ Q * W
@@ -110,23 +74,21 @@ module _ (P : Problem) (q : ℕ) (e r : Vec) (σ : ℕ → ℕ)
       )
 
   module _ (hw : (i : ℕ) → i < P .n → 1 ≤ P .w i) (hm : (m : ℕ) → m < P .n → marginFails P m ≡ false) where
-    -- at the peak: |e_m|·g_m ≤ q·P_m·w_m
-    at-peak : (m : ℕ) → m < P .n → ((j : ℕ) → j < P .n → natAbs (e j) * P .w m ≤ natAbs (e m) * P .w j) →
+    -- where |e_m| / w_m is largest: |e_m|·g_m ≤ q·P_m·w_m
+    at-peak : (m : ℕ) → Steepest (P .n) (λ (j : ℕ). natAbs (e j)) (P .w) m →
         natAbs (e m) * natAbs (margin P m) ≤ q * slackSize P r σ m * P .w m
     unfolding load
-    at-peak m h best =
+    at-peak m peak =
         let x : ℕ → ℕ = λ j. natAbs (defect P m j) * natAbs (e j) in
         let y : ℕ → ℕ = λ j. natAbs (defect P m j) * P .w j in
         let s : sumℕ (P .n) (λ (j : ℕ). x j * P .w m) ≤ sumℕ (P .n) (λ (j : ℕ). y j * natAbs (e m)) =
-        sumℕ-mono (P .n) (λ (j : ℕ). x j * P .w m) (λ (j : ℕ). y j * natAbs (e m)) (λ j l. omega (arith, mul-le-mul-left (natAbs (defect P m j)) (best j l))) in
+        sumℕ-mono (P .n) (λ (j : ℕ). x j * P .w m) (λ (j : ℕ). y j * natAbs (e m)) (λ j l. omega (arith, mul-le-mul-left (natAbs (defect P m j)) (peak .most j l))) in
         peak-arith (T P) (natAbs (e m)) (P .w m) (sumℕ (P .n) x) (sumℕ (P .n) y) (natAbs (margin P m)) (q * slackSize P r σ m)
-        (row m h) (omega (arith, s, sumℕ-* (P .n) (P .w m) x, sumℕ-* (P .n) (natAbs (e m)) y)) (margin-sum P m (hm m h))
+        (row m (peak .below)) (omega (arith, s, sumℕ-* (P .n) (P .w m) x, sumℕ-* (P .n) (natAbs (e m)) y)) (margin-sum P m (hm m (peak .below)))
 
     pub enclosed : (E : ℕ → ℕ) → ((i m : ℕ) → i < P .n → m < P .n → P .w i * slackSize P r σ m ≤ E i * natAbs (margin P m)) →
         (i : ℕ) → i < P .n → natAbs (e i) ≤ q * E i
     enclosed E hE i h =
-        let l = peak-of (P .n) (λ (j : ℕ). natAbs (e j)) (P .w) hw (omega arith) in
-        let m : ℕ = l .at in
-        let lm : m < P .n = l .below in
+        let (m, peak) = steepest-of (λ (j : ℕ). natAbs (e j)) (P .w) (P .n) hw (omega arith) in
         end-arith (natAbs (e i)) (natAbs (e m)) (natAbs (margin P m)) (P .w i) (P .w m) q (slackSize P r σ m) (E i)
-        (l .best i h) (at-peak m lm (l .best)) (hE i m h lm) (hw m lm) (margin-above P m (hm m lm))
+        (peak .most i h) (at-peak m peak) (hE i m h (peak .below)) (hw m (peak .below)) (margin-above P m (hm m (peak .below)))

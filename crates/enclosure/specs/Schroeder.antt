@@ -2,10 +2,10 @@
 --   start P i  — u_0 = X/S, in steps of 1/(S·T)
 --   next P i   — u_1 = M·u_0 + s, in steps of 1/(S·T)
 --   Condition29 P k — |u_0 − u_1| ≤ v − B·v for v_i = w_i·|p_k| / (g_k·S), multiplied by g_k·S·T
---   Steepest P k — row k is one where |p_k| / g_k is largest
+--   Steep P k  — row k is one where |p_k| / g_k is largest
 use Prim.Native.Nat.{ℕ, _+_, _*_, _≤_, _<_}
 use lib.IntN.{pos, natAbs, _+ℤ_, _-ℤ_, _*ℤ_}
-use Rattle.integer.specs.Finite.{sumℕ}
+use Rattle.integer.specs.Finite.{sumℕ, Steepest}
 use Rattle.linear.specs.Matrix.{Vec, apply}
 use Rattle.enclosure.specs.Problem.{Problem, S, T}
 use Rattle.enclosure.specs.Reckoning.{defect, margin, image}
@@ -21,6 +21,5 @@ pub record Condition29 (P : Problem) (k : ℕ) : Type 0 where
       natAbs (margin P k) * natAbs (start P i -ℤ next P i) + sumℕ (P .n) (λ (j : ℕ). natAbs (defect P i j) * (P .w j * natAbs (image P k)))
       ≤ T P * (P .w i * natAbs (image P k))
 
-pub record Steepest (P : Problem) (k : ℕ) : Type 0 where
-  pub below : k < P .n
-  pub most : (m : ℕ) → m < P .n → natAbs (image P m) * natAbs (margin P k) ≤ natAbs (image P k) * natAbs (margin P m)
+abbrev pub Steep : Problem → ℕ → Type 0
+Steep P k = Steepest (P .n) (λ (m : ℕ). natAbs (image P m)) (λ (m : ℕ). natAbs (margin P m)) k

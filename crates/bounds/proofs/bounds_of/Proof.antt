@@ -72,7 +72,7 @@ returns : tie.Need-returns Inv-loop μ-loop
 returns c =
     let s = c .before .before .before .before .before in
     let k = c .before .before .before .before .steepest-of .ensures in
-    holds-as 0 _ _ (λ i l. sym (bound-at _ _ _ (λ (j : ℕ). natAbs (at (s .args .weights .now) j)) i _ (k .below) (s .pre .1 .1 .0 .above) (k .most)))
+    holds-as 0 _ _ (λ i l. sym (bound-at _ _ _ (λ (j : ℕ). natAbs (at (s .args .weights .now) j)) i _ (s .pre .1 .1 .0 .above) k))
     (holds-end 0 (c .before .loop .inv .0) (c .loop-test .left) (c .before .loop .inv .1 .1))
 
 pub bounds-of-spec : {M : Type 1} → statement M

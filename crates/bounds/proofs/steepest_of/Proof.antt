@@ -45,7 +45,7 @@ steeper-requires c κs =
     let s = c .before .before .before .before .before .before .before .before in
     let b = c .before .before .before .before .loop .inv .1 .1 in
     let t = c .before .before .before .loop-test .taken in
-    let l : b .at < s .args .n = omega arith in (
+    let l : b .at < s .args .n = omega (arith, b .steepest .below) in (
       narrow _ _ _ (b .is) (s .pre .1 .above (b .at) l) (s .pre .1 .most (b .at) l),
       narrow _ _ _ (c .ratio-of2 .ensures) (s .pre .1 .above _ t) (s .pre .1 .most _ t),
     )

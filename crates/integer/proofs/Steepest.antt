@@ -1,0 +1,45 @@
+-- A place where u / v is largest (specs/Finite), for divisors above 0.
+--   steepest-one            — of one place it is the first
+--   steepest-stays, steepest-moves — with one place more it is the same where the quotient there is no larger, and the new one where it is no smaller
+--   steepest-of             — there is one
+use mathlib.Core.Path.{_≡_}
+use Prim.Native.Nat.{ℕ, zero, suc, _+_, _*_, _≤_, _<_}
+use native.Mathlib.Omega.{arith}
+use native.Mathlib.Decide.{decLe}
+use native.Mathlib.Nat.{mul-le-mul-right, le-of-mul-le-mul-right}
+use native.Mathlib.Numerals.{add-one}
+use Rattle.integer.specs.Finite.{Steepest}
+use Rattle.integer.proofs.Search.{upto}
+
+carry : (a b c x y z : ℕ) → a * y ≤ b * x → b * z ≤ c * y → 0 < y → a * z ≤ c * x
+carry a b c x y z h k o =
+    let l : a * z * y ≤ c * x * y = omega (arith, mul-le-mul-right z h, mul-le-mul-right x k) in le-of-mul-le-mul-right l o
+
+module _ (u v : ℕ → ℕ) where
+  pub steepest-one : Steepest 1 u v 0
+  steepest-one = record { below = omega arith; most = λ m l. let z : m ≡ 0 = omega arith in rw z (omega arith) }
+
+  pub steepest-stays : (n k : ℕ) → Steepest n u v k → u n * v k ≤ u k * v n → Steepest (n + 1) u v k
+  steepest-stays n k s h = record {
+    below = omega (arith, s .below);
+    most = λ m l. upto (λ (i : ℕ). u i * v k ≤ u k * v i) n m (omega arith) (s .most) h;
+  }
+
+  pub steepest-moves : (n k : ℕ) → 0 < v k → Steepest n u v k → u k * v n ≤ u n * v k → Steepest (n + 1) u v n
+  steepest-moves n k p s h = record {
+    below = omega arith;
+    most = λ m l. upto (λ (i : ℕ). u i * v n ≤ u n * v i) n m (omega arith)
+        (λ i li. carry (u i) (u k) (u n) (v i) (v k) (v n) (s .most i li) h p) (omega arith);
+  }
+
+  pub steepest-of : (n : ℕ) → ((i : ℕ) → i < n → 0 < v i) → 0 < n → (k : ℕ) × Steepest n u v k
+  steepest-of zero hv some = absurd (omega arith)
+  steepest-of (suc zero) hv some = (0, steepest-one)
+  steepest-of (suc (suc n)) hv some = go (steepest-of (suc n) (λ i l. hv i (omega arith)) (omega arith))
+    where
+      go : (k : ℕ) × Steepest (suc n) u v k → (k : ℕ) × Steepest (suc (suc n)) u v k
+      go (k, s) = pick (decLe (u (suc n) * v k) (u k * v (suc n)))
+        where
+          pick : Dec (u (suc n) * v k ≤ u k * v (suc n)) → (k : ℕ) × Steepest (suc (suc n)) u v k
+          pick (yes p) = (k, rw add-one at (steepest-stays (suc n) k s p))
+          pick (no p) = (suc n, rw add-one at (steepest-moves (suc n) k (hv k (omega (arith, s .below))) s (omega arith)))
