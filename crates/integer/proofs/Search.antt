@@ -1,9 +1,9 @@
 -- Laws of the largest value and of the first place (specs/Finite).
 --   first-none, first-next, first-end — at none, at n + 1 and at the end, for loops
---   largest-at, largest-ext — a value is at most the largest; equal values have the same largest
---   first-≤, first-found, first-before, first-past — the first place is at most n; below n the test holds there and at no place
---     before; at n it holds nowhere
---   searched  — these outcomes as cases;  first-is, first-never — the converse: what has these properties is the first place
+--   largest-at, largest-≤, largest-ext — a value is at most the largest; the largest is at most what all values are; equal values have the same largest
+--   upto      — what holds of all below n, and of n, holds of all below n + 1
+--   Searched, searched — the test holds at the first place and nowhere before it, or nowhere;  first-past — at n it holds nowhere
+--   first-is, first-never — the converse: what has these properties is the first place
 --   first-ext — equal tests have the same first place
 use mathlib.Core.Path.{_≡_, refl, ap}
 use mathlib.Core.Bool.{Bool, true, false}
@@ -15,7 +15,6 @@ use native.Mathlib.Numerals.{add-one}
 use borrow.Author.Tests.{lt-ltb, le-ltb}
 use Rattle.integer.specs.Finite.{largest, first, firstOr}
 
--- all below n, and n: all below n + 1
 pub upto : (P : ℕ → Type 0) (n j : ℕ) → j < suc n → ((i : ℕ) → i < n → P i) → P n → P j
 upto P n j l f p = go (ℕ-discrete j n)
   where
@@ -64,33 +63,12 @@ searched (suc n) f = go (searched n f) (f n) refl
     go (nowhere e h) true q = found n (omega arith) (rw (le-ltb (first n f) n (omega arith), q)) q h
     go (nowhere e h) false q = nowhere (rw (le-ltb (first n f) n (omega arith), q) (omega arith)) (λ k l. upto (λ (j : ℕ). f j ≡ false) n k l h q)
 
-pub first-≤ : (n : ℕ) (f : ℕ → Bool) → first n f ≤ n
-first-≤ n f = go (searched n f)
-  where
-    go : Searched n f → first n f ≤ n
-    go (found i l e p h) = omega arith
-    go (nowhere e h) = omega arith
-
 pub first-past : (n : ℕ) (f : ℕ → Bool) → n ≤ first n f → (k : ℕ) → k < n → f k ≡ false
 first-past n f past = go (searched n f)
   where
     go : Searched n f → (k : ℕ) → k < n → f k ≡ false
     go (found i l e p h) = absurd (omega arith)
     go (nowhere e h) = h
-
-pub first-found : (n : ℕ) (f : ℕ → Bool) → first n f < n → f (first n f) ≡ true
-first-found n f below = go (searched n f)
-  where
-    go : Searched n f → f (first n f) ≡ true
-    go (found i l e p h) = rw e p
-    go (nowhere e h) = absurd (omega arith)
-
-pub first-before : (n : ℕ) (f : ℕ → Bool) (k : ℕ) → k < first n f → f k ≡ false
-first-before n f k before = go (searched n f)
-  where
-    go : Searched n f → f k ≡ false
-    go (found i l e p h) = h k (omega arith)
-    go (nowhere e h) = h k (omega arith)
 
 clash : {b : Bool} → b ≡ true → b ≡ false → ⊥
 clash x y = let o : _≡_ {A = ℕ} 0 1 = cc in omega arith

@@ -1,5 +1,5 @@
 -- Laws of writing a form's numbers into a list.
---   between, placed-at — a number that is a to n, an i that is 1 to n, as a natural number;  not-negative — it is one
+--   between    — a number that is a to n, as a natural number;  not-negative — it is one
 --   room-at    — the room for an item of a part
 --   stride     — the numbers of a form end at 32 · w
 --   put-same, put-other — what a form of the part itself, and of another part, leaves
@@ -19,7 +19,6 @@ use Rattle.rules.proofs.Ranges.{both-left, both-right}
 use Rattle.items.specs.declared.Item.{Item}
 use Rattle.items.specs.declared.Item.the-variants.{Of}
 use Rattle.items.specs.declared.Part.{Part}
-use Rattle.items.specs.Item.{placed}
 use Rattle.items.specs.Put.{partIndex, put}
 use Rattle.items.specs.Capped.{Room}
 
@@ -38,9 +37,6 @@ between a n i b = by-sign a n i (both-left (leZ (pos a) i) (leZ i (pos n)) b) (b
 
 pub not-negative : {a n : ℕ} (i : ℤ) → Between a n i → T (nonNeg i)
 not-negative i h = rw (h .whole) tt
-
-pub placed-at : (n : ℕ) {x : Item} {p : Part} {i : ℤ} → x ≡ Of p i → placed n x ≡ true → Between 1 n i
-placed-at n {x} {p} {i} e h = between 1 n i (rw e at h)
 
 pub room-at : (w k : ℕ) {x : Item} {p : Part} {i : ℤ} → x ≡ Of p i → Room w k x → (w ≤ 32) × (32 * w ≤ k) × (leZ (pos 1) i && leZ i (pos 32) ≡ true)
 room-at w k e h = rw e at h

@@ -1,7 +1,6 @@
 -- The cap of numbers at ±2^40 does not show: capped and exact are in and out of every range alike.
 --   cap-between — between two numbers below 2^40 in size
 --   cap-range   — of every kind, by the one rule over the table of ranges
---   cap-size    — a capped number is at most 2^40 in size;  value-read — so it fits an i64
 --   cap-small, cap-in — a number that is at most 2^40 in size, or in a range, is not capped
 use mathlib.Core.Path.{_≡_, refl, ap, _∙_}
 use mathlib.Core.Bool.{Bool, true, false, _&&_}
@@ -11,12 +10,7 @@ use borrow.Author.Tests.{leb-true, leb-false}
 use lib.Dec.{leb}
 use lib.IntN.{ℤ, pos, negsuc, negℤ, natAbs}
 use lib.Signed.{leZ}
-use mir.Syntax.{w64}
-use mir.Val.{toZ, ofZ}
-use mir.ValLaws.{toZ-ofZ}
-use Rattle.integer.proofs.Machine.{small}
-use Rattle.numeral.specs.declared.Number.{Number}
-use Rattle.numeral.specs.Numeral.{cap, capAt, capSize, cappedNumber}
+use Rattle.numeral.specs.Numeral.{cap, capAt, capSize}
 use Rattle.rules.specs.Range.{rangeOf, inRange}
 use Rattle.rules.specs.declared.Kind.{Kind}
 use Rattle.rules.proofs.Ranges.{range-good, range-size}
@@ -60,11 +54,3 @@ cap-small (negsuc z) h = cap-negsuc z ∙ ap negsuc (omega arith)
 
 pub cap-in : (k : Kind) (z : ℤ) → inRange k z ≡ true → cap z ≡ z
 cap-in k z e = cap-small z (omega (arith, range-size k z e, range-good k .low-size, range-good k .high-size))
-
-pub cap-size : (z : ℤ) → natAbs (cap z) ≤ capAt
-cap-size (pos z) = unfold cap in omega arith
-cap-size (negsuc z) = rw (cap-negsuc z) (omega arith)
-
--- what the machine reads back of a capped number is the number
-pub value-read : {r : Number} (n : Number) → r ≡ cappedNumber n → toZ w64 (ofZ w64 (r .value)) ≡ r .value
-value-read n e = rw e (toZ-ofZ w64 (cap (n .value)) (small (cap (n .value)) (omega (arith, cap-size (n .value)))))

@@ -3,7 +3,6 @@
 --   range-size — a number in range is at most `sizeOf k` in size
 --   range-natural — where the lowest value is a natural number, a number in range is one, and at least that
 --   size-range, solution-scale-range, .., weight-range — what the range of each kind is
---   range-far  — a number above 2 ^ 36 in size is in no range
 --   all-none, all-next, all-end — all in range at none, at n + 1 and at the end, for loops;  all-at — each of them is;  all-in — and the converse
 use mathlib.Core.Path.{_≡_, refl, sym, ap, subst}
 use mathlib.Core.Bool.{Bool, true, false, _&&_}
@@ -106,13 +105,6 @@ at-least a (negsuc z) p = absurd (subst T (sym p) tt)
 pub range-natural : (k : Kind) (a : ℕ) (z : ℤ) → rangeOf k .lowest ≡ pos a → inRange k z ≡ true → ((z ≡ pos (natAbs z)) × (a ≤ natAbs z))
 unfolding inRange
 range-natural k a z e h = at-least a z (rw e at (both-left (leZ (rangeOf k .lowest) z) (leZ z (rangeOf k .highest)) h))
-
-pub range-far : (k : Kind) (z : ℤ) → 2 ^ 36 < natAbs z → inRange k z ≡ false
-range-far k z h = go (inRange k z) refl
-  where
-    go : (t : Bool) → inRange k z ≡ t → t ≡ false
-    go true e = absurd (omega (arith, range-size k z e, range-good k .low-size, range-good k .high-size))
-    go false e = refl
 
 -- the code's test
 pub range-test : (k : Kind) (z : ℤ) {r : Range} → r ≡ rangeOf k → leZ (r .lowest) z && leZ z (r .highest) ≡ inRange k z

@@ -1,14 +1,11 @@
 -- Laws of refusals in their order.
 --   accepted-new, accepted-old — what is left where nothing is said, and where something is
---   nothing-is-not — something said is not nothing;  said-nothing — only acceptance says nothing
-use mathlib.Core.Path.{_≡_, refl}
+--   nothing-is-not — something said is not nothing
+use mathlib.Core.Path.{_≡_}
 use mathlib.Core.List.{List, [], _∷_}
 use Prim.Native.Nat.{ℕ}
 use native.Mathlib.Omega.{arith}
 use Rattle.rules.specs.Order.{accepted}
-use Rattle.rules.specs.Refusal.{said}
-use Rattle.rules.specs.declared.Outcome.{Outcome}
-use Rattle.rules.specs.declared.Outcome.the-variants.{Accepted, Refused}
 
 pub accepted-new : {A : Type 0} {said : List ℕ} (new old : A) → said ≡ [] → accepted said new old ≡ new
 accepted-new new old e = rw e
@@ -18,7 +15,3 @@ accepted-old new old e = rw e
 
 pub nothing-is-not : {k : ℕ} {ks : List ℕ} → k ∷ ks ≡ [] → ⊥
 nothing-is-not e = let z : _≡_ {A = ℕ} 0 1 = cc in omega arith
-
-pub said-nothing : (o : Outcome) → said o ≡ [] → o ≡ Accepted
-said-nothing Accepted e = refl
-said-nothing (Refused r) e = absurd (nothing-is-not e)
