@@ -7,7 +7,7 @@ use mathlib.Core.Path.{_≡_, sym, ap, _∙_}
 use mathlib.Core.List.{List, []}
 use Prim.Native.Nat.{ℕ, _*_, _/_, _%_, _≤_, _^_}
 use native.Mathlib.Omega.{arith}
-use lib.Dec.{eqb, ltb}
+use lib.Dec.{eqb}
 use lib.IntN.{ℤ, pos, natAbs}
 use lib.ListN.{getD, length}
 use Rattle.integer.specs.Finite.{first}
@@ -19,7 +19,7 @@ use Rattle.rules.specs.declared.Outcome.{Outcome}
 use Rattle.rules.specs.declared.Outcome.the-variants.{Accepted, Refused}
 use Rattle.rules.specs.declared.Refusal.{Refusal}
 use Rattle.rules.proofs.Verdicts.{accepted-new, accepted-old}
-use Rattle.enclosure.specs.Reckoning.{residual, boundFrom, bound, inverseBound}
+use Rattle.enclosure.specs.Reckoning.{residual, tooLarge, boundFrom, bound, inverseBound}
 use Rattle.reckoning.specs.Arrays.{Holds, Numbers, stored, storedColumns}
 use Rattle.reckoning.specs.Part.{marginPart, residualPart, columnResidual, columnSizes, cutMargin}
 use Rattle.bounds.specs.Ratio.{Positive}
@@ -39,8 +39,8 @@ pub record Worked (I : Input) (margins : List ℕ) (residuals columns : List ℤ
   pub k : ℕ
   pub i : ℕ
   pub em : m ≡ first (I .n) (λ (x : ℕ). eqb (getD margins x 0) 0)
-  pub ek : k ≡ first (I .n) (λ (x : ℕ). ltb (2 ^ 25) (natAbs (at residuals x)))
-  pub ei : i ≡ first (I .n * I .n) (λ (x : ℕ). ltb (2 ^ 25) (natAbs (at columns x)))
+  pub ek : k ≡ first (I .n) (λ (x : ℕ). tooLarge (at residuals x))
+  pub ei : i ≡ first (I .n * I .n) (λ (x : ℕ). tooLarge (at columns x))
   pub er : said r ≡ verdict (reckoned (I .n) m k i)
 
 module _ (I : Input) (ready : Ready I) {margins : List ℕ} {residuals columns : List ℤ} {r : Outcome} (a : Worked I margins residuals columns r) where

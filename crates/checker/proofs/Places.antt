@@ -18,7 +18,7 @@ use Rattle.linear.specs.Slice.{at}
 use Rattle.rules.specs.Order.{verdict}
 use Rattle.rules.proofs.Verdicts.{nothing-is-not}
 use Rattle.enclosure.specs.Problem.{T, columnOf}
-use Rattle.enclosure.specs.Reckoning.{defect, load, margin, marginFails, residual, exceeds}
+use Rattle.enclosure.specs.Reckoning.{defect, load, margin, marginFails, residual, tooLarge, exceeds}
 use Rattle.enclosure.proofs.Margin.{margin-test}
 use Rattle.reckoning.specs.Arrays.{Holds, Numbers}
 use Rattle.reckoning.specs.Part.{marginPart, residualPart, columnResidual, cutMargin}
@@ -67,23 +67,23 @@ module _ (I : Input) where
         above (suc x) e = omega arith
 
   module _ (residuals : List ℤ) (h : Holds (pos 0) residuals (I .n) (residual (residualPart (I .n) (I .s) (I .matrix) (I .right) (I .guess)))) where
-    pub first-residual : first (I .n) (λ (k : ℕ). ltb (2 ^ 25) (natAbs (at residuals k))) ≡ firstResidual (problem I)
+    pub first-residual : first (I .n) (λ (k : ℕ). tooLarge (at residuals k)) ≡ firstResidual (problem I)
     first-residual =
-        first-ext (I .n) (λ (k : ℕ). ltb (2 ^ 25) (natAbs (at residuals k))) (λ (k : ℕ). exceeds (problem I) k (residual (problem I) k))
+        first-ext (I .n) (λ (k : ℕ). tooLarge (at residuals k)) (λ (k : ℕ). exceeds (problem I) k (residual (problem I) k))
         (λ k l. rw (h .each k l, residual-is k))
 
   module _ (columns : List ℤ) (h : Holds (pos 0) columns (I .n * I .n) (λ (i : ℕ). columnResidual (I .n) (I .t) (I .matrix) (I .inverse) (i / I .n) (i % I .n))) where
-    pub first-column : first (I .n * I .n) (λ (k : ℕ). ltb (2 ^ 25) (natAbs (at columns k))) ≡ firstColumn (problem I)
+    pub first-column : first (I .n * I .n) (λ (k : ℕ). tooLarge (at columns k)) ≡ firstColumn (problem I)
     first-column =
-        first-ext (I .n * I .n) (λ (k : ℕ). ltb (2 ^ 25) (natAbs (at columns k)))
+        first-ext (I .n * I .n) (λ (k : ℕ). tooLarge (at columns k))
         (λ (i : ℕ). exceeds (problem I) (i % I .n) (residual (columnOf (problem I) (i / I .n)) (i % I .n)))
         (λ i l. rw (h .each i l, column-is (i / I .n) (i % I .n)))
 
 -- residuals of which none is too large
-pub near : (residuals : List ℤ) (n : ℕ) → n ≤ length residuals → n ≤ first n (λ (k : ℕ). ltb (2 ^ 25) (natAbs (at residuals k))) → Numbers residuals n (2 ^ 25)
+pub near : (residuals : List ℤ) (n : ℕ) → n ≤ length residuals → n ≤ first n (λ (k : ℕ). tooLarge (at residuals k)) → Numbers residuals n (2 ^ 25)
 near residuals n long past = record {
   long = long;
-  within = record { size = λ k l. ltb-false (2 ^ 25) (natAbs (at residuals k)) (first-past n (λ (k : ℕ). ltb (2 ^ 25) (natAbs (at residuals k))) past k l) };
+  within = record { size = λ k l. ltb-false (2 ^ 25) (natAbs (at residuals k)) (first-past n (λ (k : ℕ). tooLarge (at residuals k)) past k l) };
 }
 
 pub record NoPlace (n m k i : ℕ) : Type 0 where

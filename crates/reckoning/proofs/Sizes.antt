@@ -10,7 +10,7 @@ use Prim.Native.Nat.{ℕ, suc, _+_, _*_, _<_, _≤_, _^_}
 use native.Mathlib.Omega.{arith}
 use native.Mathlib.Nat.{mul-le-mul, mul-le-mul-right, pow-le-pow-right, le-trans}
 use borrow.Author.Tests.{ltb-true, ltb-false, lt-ltb, le-ltb}
-use lib.Dec.{T, eqb, ltb, lit≤}
+use lib.Dec.{T, eqb, lit≤}
 use lib.IntN.{ℤ, pos, negsuc, natAbs, _*ℤ_}
 use lib.Signed.{ltZ}
 use Rattle.integer.proofs.Absolute.{abs-sub, abs-*}
@@ -18,7 +18,7 @@ use Rattle.linear.specs.Matrix.{identity, product}
 use Rattle.linear.specs.Slice.{matrixOf, Reach}
 use Rattle.linear.proofs.Product.{identity-same, identity-other}
 use Rattle.linear.proofs.Places.{square, row-reach, column-reach, list-reach, dot-column, dot-size}
-use Rattle.enclosure.specs.Reckoning.{defect}
+use Rattle.enclosure.specs.Reckoning.{defect, tooLarge}
 use Rattle.reckoning.specs.Arrays.{Square, Numbers}
 use Rattle.reckoning.specs.Part.{marginPart}
 
@@ -79,10 +79,10 @@ pub column-ends : {j n : ℕ} → j < n → n ≤ 32 → j + n * n < 2048
 column-ends l few = omega (arith, square few)
 
 -- the code's test of a residual
-pub large-below : (z : ℤ) → ltZ z (negsuc 33554431) ≡ true → true ≡ ltb (2 ^ 25) (natAbs z)
+pub large-below : (z : ℤ) → ltZ z (negsuc 33554431) ≡ true → true ≡ tooLarge z
 large-below (pos n) e = absurd (subst T (sym e) tt)
 large-below (negsuc n) e = sym (lt-ltb (2 ^ 25) (suc n) (omega (arith, ltb-true 33554431 n e)))
 
-pub large-above : (z : ℤ) → ltZ z (negsuc 33554431) ≡ false → ltZ (pos 33554432) z ≡ ltb (2 ^ 25) (natAbs z)
+pub large-above : (z : ℤ) → ltZ z (negsuc 33554431) ≡ false → ltZ (pos 33554432) z ≡ tooLarge z
 large-above (pos n) e = refl
 large-above (negsuc n) e = sym (le-ltb (2 ^ 25) (suc n) (omega (arith, ltb-false 33554431 n e)))

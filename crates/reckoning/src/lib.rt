@@ -1,14 +1,14 @@
 // The reckoning of document 01 on slices: margins and residuals, and the first of them that is refused.
 ghost use mathlib.Core.Path.{_≡_};
 ghost use Prim.Native.Nat.{ℕ, _+_, _*_, _-_, _/_, _%_, _≤_, _<_, _^_};
-ghost use lib.Dec.{ltb, eqb};
+ghost use lib.Dec.{eqb};
 ghost use lib.IntN.{pos, natAbs, _-ℤ_, _*ℤ_};
 ghost use lib.ListN.{getD, length};
 ghost use Rattle.integer.specs.Finite.{first};
 ghost use Rattle.linear.specs.Matrix.{identity};
 ghost use Rattle.linear.specs.Slice.{at, dotOf, Reach};
 ghost use Rattle.raised.specs.Raised.{Line, Lined, lineDot};
-ghost use Rattle.enclosure.specs.Reckoning.{residual};
+ghost use Rattle.enclosure.specs.Reckoning.{residual, tooLarge};
 ghost use Rattle.reckoning.specs.Arrays.{Holds, stored, Square, Numbers};
 ghost use Rattle.reckoning.specs.Part.{marginPart, residualPart, columnResidual, cutMargin};
 ghost use Rattle.reckoning.specs.Lines.{lineDifference, lineLoad};
@@ -202,7 +202,7 @@ pub fn first_zero(margins: [u64; 32], n: usize) -> usize
 
 // Whether a residual is above 2^25 in size.
 fn is_large(z: i64) -> bool
-    ensures { λ r. ⌜ r ≡ ltb (2 ^ 25) (natAbs z) ⌝ }
+    ensures { λ r. ⌜ r ≡ tooLarge z ⌝ }
 {
     if z < -33554432 {
         return true;
@@ -213,7 +213,7 @@ fn is_large(z: i64) -> bool
 // The first of n residuals that is above 2^25 in size; n where there is none.
 pub fn first_large(residuals: &[i64], n: usize) -> usize
     requires { ⌜ (n ≤ 1024) × (n ≤ length (now residuals)) ⌝ }
-    ensures { λ r. ⌜ r ≡ first n (λ (k : ℕ). ltb (2 ^ 25) (natAbs (at (now (residuals .entry)) k))) ⌝ }
+    ensures { λ r. ⌜ r ≡ first n (λ (k : ℕ). tooLarge (at (now (residuals .entry)) k)) ⌝ }
 {
     let mut found = 0;
     for k in 0..n {

@@ -1,18 +1,17 @@
 use mathlib.Core.Path.{_≡_, sym, _∙_}
-use Prim.Native.Nat.{ℕ, _≤_, _-_, _^_}
+use Prim.Native.Nat.{ℕ, _≤_, _-_}
 use native.Mathlib.Omega.{arith}
-use lib.Dec.{ltb}
-use lib.IntN.{natAbs}
 use Rattle.integer.specs.Finite.{first}
 use Rattle.integer.proofs.Machine.{read}
 use Rattle.integer.proofs.Search.{first-none, first-next, first-end}
 use Rattle.linear.specs.Slice.{at}
+use Rattle.enclosure.specs.Reckoning.{tooLarge}
 use borrow.Author.Needs.{needs}
 use Rattle.reckoning.proofs.first_large.Statement.{statement}
 use Rattle.reckoning.proofs.first_large.Tie as tie
 
 abbrev Inv-loop : tie.InvT-loop
-Inv-loop residuals n found₀ k₀ found k = (k ≤ n) × (found ≡ first k (λ (i : ℕ). ltb (2 ^ 25) (natAbs (at residuals i))))
+Inv-loop residuals n found₀ k₀ found k = (k ≤ n) × (found ≡ first k (λ (i : ℕ). tooLarge (at residuals i)))
 
 abbrev μ-loop : tie.MeasureT-loop
 μ-loop residuals n found₀ k₀ found k = n - k
