@@ -14,6 +14,7 @@ use Rattle.rules.specs.Refusal.{said, numberOf, valuesOf}
 use Rattle.rules.specs.declared.Outcome.{Outcome}
 use Rattle.rules.specs.declared.Outcome.the-variants.{Accepted, Refused}
 use Rattle.rules.specs.declared.Refusal.{Refusal}
+use Rattle.rules.proofs.Tests.{none-said}
 use Rattle.line.specs.declared.CappedForm.{CappedForm}
 use Rattle.line.specs.declared.CappedForm.the-variants as form
 use Rattle.form.specs.declared.Numbers.{Numbers}
@@ -27,7 +28,6 @@ use Rattle.progress.specs.Progress.{early, misplaced, repeated, incomplete}
 use Rattle.loader.specs.Order.{Case, order}
 use Rattle.loader.specs.Taken.{after}
 use Rattle.loader.specs.Capped.{caseIn, saidIn, fits, TakenIn}
-use Rattle.loader.proofs.Order.{none-said}
 use Rattle.progress.proofs.Progress.{placed-32, size-of, late}
 
 -- ---- nothing is said

@@ -15,6 +15,7 @@ use lib.ListN.{length, take, drop}
 use Rattle.rules.specs.Order.{Test, number}
 use Rattle.rules.specs.Range.{inRange}
 use Rattle.rules.specs.declared.Kind.the-variants.{Size}
+use Rattle.rules.proofs.Tests.{None, none-said, silent, skipped, said-exactly, said-either}
 use Rattle.form.specs.Form.{Form}
 use Rattle.form.specs.Reading.{reading}
 use Rattle.items.specs.Item.{itemOf}
@@ -24,7 +25,6 @@ use Rattle.progress.proofs.Progress.{misplaced-own}
 use Rattle.loader.specs.declared.Loader.{Loader}
 use Rattle.loader.specs.Order.{Case, order, caseOf, answer}
 use Rattle.loader.specs.Taken.{loaderAfter, listsAfter}
-use Rattle.loader.proofs.Order.{None, none-said, silent, skipped, said-exactly, said-either}
 
 module _ (d : Loader) (l : Lists) (line : List ℕ) where
   abbrev case : Case

@@ -16,12 +16,12 @@ use Rattle.rules.specs.declared.Outcome.the-variants.{Refused}
 use Rattle.rules.specs.declared.Refusal.{Refusal}
 use Rattle.rules.specs.declared.Refusal.the-variants.{TooShort, NotEnded}
 use Rattle.rules.proofs.Verdicts.{nothing-is-not}
+use Rattle.rules.proofs.Tests.{None, said-exactly}
 use Rattle.checker.specs.Input.{Input, short, inRanges}
 use Rattle.checker.specs.Order.{answer}
 use Rattle.checker.specs.Checked.{Checked, solutionBoundsAfter, inverseBoundsAfter}
 use Rattle.progress.specs.Progress.{ended}
 use Rattle.progress.specs.declared.Stage.{Stage}
-use Rattle.loader.proofs.Order.{None, said-exactly}
 use Rattle.loader.specs.Through.{orderThrough, answerThrough, solutionBoundsThrough, inverseBoundsThrough, CheckedThrough}
 
 different : true ≡ false → ⊥

@@ -1,7 +1,9 @@
--- Laws of an ordered list of tests.
+-- Laws of an ordered list of tests (specs/Order).
 --   None ts       — no test of ts holds
---   none-holds    — where nothing is said, no test holds
---   said-first    — a test speaks where none before it holds and it does
+--   head w        — the number that w starts with; 0 where nothing is said
+--   without k ts  — no test of ts has the number k
+--   none-said     — where a number is said that no test has, or nothing, no test holds;  silent — and the converse: nothing is said
+--   skip, skipped — tests that do not hold before others are passed over, and tests without the number that is said do not hold
 --   said-exactly  — what starts with a test's number, which no other test has, is said exactly then;  said-either — the same of two neighbours with one number
 use mathlib.Core.Path.{_≡_, refl, sym, ap, subst, _∙_}
 use mathlib.Core.Bool.{Bool, true, false, not, _&&_, _||_, cond}
@@ -10,19 +12,17 @@ use mathlib.Core.Logic.{_↔_}
 use Prim.Native.Nat.{ℕ}
 use borrow.Author.Tests.{eq-eqb}
 use lib.Dec.{T, eqb}
 use Rattle.rules.specs.Order.{Test, verdict}
 use Rattle.rules.proofs.Ranges.{both-left, both-right}
 
 abbrev pub None : List Test → Type 0
 None [] = Unit
 None (t ∷ ts) = (t .holds ≡ false) × None ts
 
--- the number that a test gives; each gives one other than 0
 abbrev pub head : List ℕ → ℕ
 head [] = 0
 head (k ∷ ks) = k
 
--- no test of the list has the number k
 abbrev pub without : ℕ → List Test → Bool
 without k [] = true
 without k (t ∷ ts) = not (eqb (head (t .says)) k) && without k ts
@@ -30,7 +30,6 @@ without k (t ∷ ts) = not (eqb (head (t .says)) k) && without k ts
 clash : {b : Bool} → b ≡ true → not b ≡ true → ⊥
 clash {b} p q = subst T (sym q ∙ ap not p) tt
 
--- a list of tests none of which has the number that is said
 pub none-said : (ts : List Test) (w : List ℕ) → without (head w) ts ≡ true → verdict ts ≡ w → None ts
 none-said [] w d e = tt
 none-said (t ∷ ts) w d e = go (t .holds) refl e (none-said ts w (both-right (not (eqb (head (t .says)) (head w))) (without (head w) ts) d))
@@ -39,7 +38,6 @@ none-said (t ∷ ts) w d e = go (t .holds) refl e (none-said ts w (both-right (n
     go false p q rest = (p, rest q)
     go true p q rest = absurd (clash (eq-eqb (head (t .says)) (head w) (ap head q)) (both-left (not (eqb (head (t .says)) (head w))) (without (head w) ts) d))
 
--- past tests that do not hold
 pub skip : (before after : List Test) → None before → verdict (before ++ after) ≡ verdict after
 skip [] after n = refl
 skip (t ∷ ts) after n = rw (n .0) (skip ts after (n .1))
@@ -52,7 +50,6 @@ skipped (t ∷ ts) after w d e = go (t .holds) refl e (skipped ts after w (both-
     go false p q rest = let r = rest q in ((p, r .0), r .1)
     go true p q rest = absurd (clash (eq-eqb (head (t .says)) (head w) (ap head q)) (both-left (not (eqb (head (t .says)) (head w))) (without (head w) ts) d))
 
--- tests that do not hold say nothing
 pub silent : (ts : List Test) → None ts → verdict ts ≡ []
 silent [] n = refl
 silent (t ∷ ts) n = rw (n .0) (silent ts (n .1))
