@@ -14,7 +14,7 @@ use Rattle.linear.specs.Matrix.{column, identity}
 use Rattle.linear.specs.Slice.{at, vectorOf, matrixOf}
 use Rattle.linear.proofs.Places.{place, square}
 use Rattle.rules.specs.declared.Kind.the-variants as kind
-use Rattle.rules.proofs.Ranges.{all-ext}
+use Rattle.rules.proofs.AllInRange.{all-ext}
 use Rattle.enclosure.specs.Problem.{columnOf}
 use Rattle.enclosure.specs.Reckoning.{marginFails, residual, exceeds, bound, inverseBound}
 use Rattle.enclosure.proofs.Agreement.{margin-same, residual-same, bound-same}

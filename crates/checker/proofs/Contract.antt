@@ -22,7 +22,8 @@ use Rattle.rules.specs.declared.Kind.the-variants as kind
 use Rattle.rules.specs.declared.Outcome.{Outcome}
 use Rattle.rules.specs.declared.Outcome.the-variants.{Refused}
 use Rattle.rules.specs.declared.Refusal.the-variants.{TooShort, OutOfRange}
-use Rattle.rules.proofs.Ranges.{both-left, both-right, all-at, size-range, solution-scale-range, inverse-scale-range, matrix-range, right-range, guess-range, inverse-range, weight-range}
+use Rattle.rules.proofs.AllInRange.{all-at}
+use Rattle.rules.proofs.Ranges.{both-left, both-right, size-range, solution-scale-range, inverse-scale-range, matrix-range, right-range, guess-range, inverse-range, weight-range}
 use Rattle.rules.proofs.Verdicts.{accepted-new, accepted-old, nothing-is-not}
 use Rattle.enclosure.specs.Problem.{Problem, columnOf}
 use Rattle.enclosure.specs.Reckoning.{marginFails, residual, exceeds, bound, inverseBound}

@@ -14,7 +14,8 @@ use lib.Dec.{eqb}
 use lib.IntN.{pos, natAbs}
 use lib.ListN.{getD}
 use Rattle.rules.specs.Range.{inRange, allInRange}
-use Rattle.rules.proofs.Ranges.{all-in, size-range}
+use Rattle.rules.proofs.AllInRange.{all-in}
+use Rattle.rules.proofs.Ranges.{size-range}
 use Rattle.form.specs.Form.{Form}
 use Rattle.items.specs.Item.{valuesOf}
 use Rattle.items.specs.Lists.{Lists}

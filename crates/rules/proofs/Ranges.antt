@@ -3,24 +3,22 @@
 --   range-size — a number in range is at most `sizeOf k` in size
 --   range-natural — where the lowest value is a natural number, a number in range is one, and at least that
 --   size-range, solution-scale-range, .., weight-range — what the range of each kind is
---   all-none, all-next, all-end — all in range at none, at n + 1 and at the end, for loops;  all-at — each of them is;  all-in — and the converse
-use mathlib.Core.Path.{_≡_, refl, sym, ap, subst}
+--   both, both-left, both-right — of two tests that both hold
+--   range-test — what the code tests is inRange
+use mathlib.Core.Path.{_≡_, refl, sym, subst}
 use mathlib.Core.Bool.{Bool, true, false, _&&_}
 use mathlib.Core.List.{List, [], _∷_}
-use Prim.Native.Nat.{ℕ, zero, suc, _+_, _<_, _≤_, _^_, max}
+use Prim.Native.Nat.{ℕ, zero, suc, _<_, _≤_, _^_, max}
 use native.Mathlib.Omega.{arith}
-use native.Mathlib.Nat.{le-antisymm}
-use native.Mathlib.Numerals.{add-one}
 use borrow.Author.Tests.{leb-true}
 use lib.Dec.{T, leb}
 use lib.IntN.{ℤ, pos, negsuc, natAbs}
 use lib.ListN.{getD, length}
 use lib.Signed.{leZ}
-use Rattle.integer.proofs.Search.{upto}
 use Rattle.rules.specs.declared.Kind.{Kind}
 use Rattle.rules.specs.declared.Kind.the-variants.{Size, SolutionScale, InverseScale, Matrix, Right, Guess, Inverse, Weight}
 use Rattle.rules.specs.declared.Range.{Range}
-use Rattle.rules.specs.Range.{ranges, indexOf, rangeOf, inRange, allInRange, fromTo}
+use Rattle.rules.specs.Range.{ranges, indexOf, rangeOf, inRange, fromTo}
 
 -- ---- Bool
 pub both-left : (a b : Bool) → a && b ≡ true → a ≡ true
@@ -106,38 +104,9 @@ pub range-natural : (k : Kind) (a : ℕ) (z : ℤ) → rangeOf k .lowest ≡ pos
 unfolding inRange
 range-natural k a z e h = at-least a z (rw e at (both-left (leZ (rangeOf k .lowest) z) (leZ z (rangeOf k .highest)) h))
 
--- the code's test
 pub range-test : (k : Kind) (z : ℤ) {r : Range} → r ≡ rangeOf k → leZ (r .lowest) z && leZ z (r .highest) ≡ inRange k z
 unfolding inRange
 range-test k z e = rw e
-
--- ---- all in range
-pub all-none : (k : Kind) (f : ℕ → ℤ) → allInRange k 0 f ≡ true
-unfolding allInRange
-all-none k f = refl
-
-pub all-next : (k : Kind) (n : ℕ) (f : ℕ → ℤ) → allInRange k (n + 1) f ≡ inRange k (f n) && allInRange k n f
-unfolding allInRange
-all-next k n f = rw add-one
-
-pub all-end : (k : Kind) {i n : ℕ} (f : ℕ → ℤ) → i ≤ n → n ≤ i → allInRange k i f ≡ allInRange k n f
-all-end k f p q = ap (λ (m : ℕ). allInRange k m f) (le-antisymm p q)
-
-pub all-at : (k : Kind) (n : ℕ) (f : ℕ → ℤ) → allInRange k n f ≡ true → (i : ℕ) → i < n → inRange k (f i) ≡ true
-unfolding allInRange
-all-at k zero f e i l = absurd (omega arith)
-all-at k (suc n) f e i l =
-    upto (λ (j : ℕ). inRange k (f j) ≡ true) n i l (all-at k n f (both-right (inRange k (f n)) (allInRange k n f) e)) (both-left (inRange k (f n)) (allInRange k n f) e)
-
-pub all-in : (k : Kind) (n : ℕ) (f : ℕ → ℤ) → ((i : ℕ) → i < n → inRange k (f i) ≡ true) → allInRange k n f ≡ true
-unfolding allInRange
-all-in k zero f h = refl
-all-in k (suc n) f h = both (h n (omega arith)) (all-in k n f (λ i l. h i (omega arith)))
-
-pub all-ext : (k : Kind) (n : ℕ) (f g : ℕ → ℤ) → ((i : ℕ) → i < n → f i ≡ g i) → allInRange k n f ≡ allInRange k n g
-unfolding allInRange
-all-ext k zero f g h = refl
-all-ext k (suc n) f g h = rw (h n (omega arith), all-ext k n f g (λ i l. h i (omega arith)))
 
 -- ---- the sizes of document 01
 module _ (n : ℕ) where

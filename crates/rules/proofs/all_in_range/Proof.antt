@@ -4,7 +4,7 @@ use lib.IntN.{pos}
 use lib.ListN.{getD}
 use Rattle.integer.proofs.Machine.{read}
 use Rattle.rules.specs.Range.{allInRange}
-use Rattle.rules.proofs.Ranges.{all-none, all-next, all-end}
+use Rattle.rules.proofs.AllInRange.{all-none, all-next, all-end}
 use borrow.Author.Needs.{needs}
 use Rattle.rules.proofs.all_in_range.Statement.{statement}
 use Rattle.rules.proofs.all_in_range.Tie as tie
