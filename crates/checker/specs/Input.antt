@@ -2,17 +2,16 @@
 --   Input    — n, s, t, the five lists of numbers and the two limit lists as they come in
 --   input    — an input from its parts
 --   problem  — its problem (the first n × n numbers of a matrix list, row after row, the first n of a column list)
---   anyShort — a list of one of these lengths is too short: a matrix list has at least 1,024 numbers, a column list at least 32
+--   anyShort — a list of one of these lengths is too short
 --   short I  — 8: a lent list is too short
 --   sizesInRange, listsInRange — n, s and t, and the numbers used of the lists, are in their ranges
 --   inRanges I — all of these; 3 where they are not
 use mathlib.Core.Bool.{Bool, _&&_, _||_}
 use mathlib.Core.List.{List}
 use Prim.Native.Nat.{ℕ, _*_}
-use lib.Dec.{ltb}
 use lib.IntN.{ℤ, pos}
 use lib.ListN.{length}
-use Rattle.rules.specs.Range.{inRange, allInRange}
+use Rattle.rules.specs.Range.{inRange, allInRange, shortMatrix, shortColumn}
 use Rattle.rules.specs.declared.Kind.the-variants as kind
 use Rattle.linear.specs.Slice.{at}
 use Rattle.enclosure.specs.Problem.{Problem, problemOf}
@@ -47,7 +46,8 @@ abbrev pub problem : Input → Problem
 problem I = problemOf (I .n) (I .s) (I .t) (I .matrix) (I .right) (I .guess) (I .inverse) (I .weights)
 
 abbrev pub anyShort : ℕ → ℕ → ℕ → ℕ → ℕ → ℕ → ℕ → Bool
-anyShort a b x g w e l = ltb a 1024 || (ltb b 32 || (ltb x 32 || (ltb g 1024 || (ltb w 32 || (ltb e 32 || ltb l 1024)))))
+anyShort a b x g w e l =
+    shortMatrix a || (shortColumn b || (shortColumn x || (shortMatrix g || (shortColumn w || (shortColumn e || shortMatrix l)))))
 
 abbrev pub short : Input → Bool
 short I =

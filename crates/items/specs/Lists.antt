@@ -1,13 +1,13 @@
 -- The five lent lists (01: "A lent matrix list has at least 1,024 numbers and a column list at least 32").
 --   Lists, lists — the lists
---   short l      — 8: one of them is too short
+--   tooShort     — a list of one of these lengths is too short;  short l — 8: one of them is
 --   putIn p n f k, putAll n f l — the list k of the part p, and all lists, after the form f at a loader of size n
 use mathlib.Core.Bool.{Bool, _||_}
 use mathlib.Core.List.{List}
 use Prim.Native.Nat.{ℕ}
-use lib.Dec.{ltb}
 use lib.IntN.{ℤ}
 use lib.ListN.{length}
+use Rattle.rules.specs.Range.{shortMatrix, shortColumn}
 use Rattle.form.specs.Form.{Form}
 use Rattle.items.specs.declared.Part.{Part}
 use Rattle.items.specs.declared.Part.the-variants.{Row, Right, Guess, Inverse, Weight}
@@ -25,7 +25,7 @@ abbrev pub lists : List ℤ → List ℤ → List ℤ → List ℤ → List ℤ 
 lists a b x g w = record { matrix = a; right = b; guess = x; inverse = g; weights = w }
 
 abbrev pub tooShort : ℕ → ℕ → ℕ → ℕ → ℕ → Bool
-tooShort a b x g w = ltb a 1024 || (ltb b 32 || (ltb x 32 || (ltb g 1024 || ltb w 32)))
+tooShort a b x g w = shortMatrix a || (shortColumn b || (shortColumn x || (shortMatrix g || shortColumn w)))
 
 abbrev pub short : Lists → Bool
 short l = tooShort (length (l .matrix)) (length (l .right)) (length (l .guess)) (length (l .inverse)) (length (l .weights))

@@ -1,13 +1,15 @@
--- The ranges of document 01 ("The system and its steps"), one line of a table for each kind of number.
+-- The ranges of document 01 ("The system and its steps"), one line of a table for each kind of number, and the lengths of lent lists.
 --   fromTo a b  — the range from a to b
 --   ranges      — the table: lowest and highest value, in the order of `Kind`
 --   indexOf k   — the line of the kind k
 --   rangeOf k   — its lowest and highest value
 --   inRange k z — z is a number of that kind's range
 --   allInRange k n f — f 0, .., f (n − 1) all are
+--   shortMatrix k, shortColumn k — 8: a lent matrix list, or column list, of k numbers is too short
 use mathlib.Core.Bool.{Bool, true, _&&_}
 use mathlib.Core.List.{List, [], _∷_}
 use Prim.Native.Nat.{ℕ, zero, suc}
+use lib.Dec.{ltb}
 use lib.IntN.{ℤ, pos, negsuc}
 use lib.ListN.{getD}
 use lib.Signed.{leZ}
@@ -49,3 +51,9 @@ inRange k z = leZ (rangeOf k .lowest) z && leZ z (rangeOf k .highest)
 unfoldable pub allInRange : Kind → ℕ → (ℕ → ℤ) → Bool
 allInRange k zero f = true
 allInRange k (suc n) f = inRange k (f n) && allInRange k n f
+
+abbrev pub shortMatrix : ℕ → Bool
+shortMatrix k = ltb k 1024
+
+abbrev pub shortColumn : ℕ → Bool
+shortColumn k = ltb k 32
