@@ -10,8 +10,9 @@ use Prim.Native.Nat.{ℕ}
 use lib.Dec.{ltb}
 use lib.ListN.{length}
 use Rattle.numeral.specs.Numeral.{cap}
-use Rattle.rules.specs.Refusal.{numberOf, valuesOf}
+use Rattle.rules.specs.Refusal.{said as saidOf}
 use Rattle.rules.specs.declared.Kind.the-variants as kind
+use Rattle.rules.specs.declared.Outcome.the-variants.{Refused}
 use Rattle.rules.specs.declared.Refusal.{Refusal}
 use Rattle.rules.specs.declared.Refusal.the-variants.{TooLong, NoForm}
 use Rattle.line.specs.declared.Answer.{Answer}
@@ -56,4 +57,4 @@ lineOf s = cond (ltb 320 (length s)) (refused TooLong) (ofReading (reading s))
 
 abbrev pub said : Answer → List ℕ
 said (answer.Form f) = []
-said (answer.Refused r) = numberOf r ∷ valuesOf r
+said (answer.Refused r) = saidOf (Refused r)
