@@ -70,7 +70,8 @@ first-past n f past = go (searched n f)
     go (found i l e p h) = absurd (omega arith)
     go (nowhere e h) = h
 
-clash : {b : Bool} → b ≡ true → b ≡ false → ⊥
+-- a test does not both hold and fail
+pub clash : {b : Bool} → b ≡ true → b ≡ false → ⊥
 clash x y = let o : _≡_ {A = ℕ} 0 1 = cc in omega arith
 
 -- a place where the test holds and before which it does not is the first

@@ -1,25 +1,21 @@
 -- Laws of the lent lists.
---   long     — lists that are not too short are long enough
+--   Long, long — lists that are not too short are long enough
 --   room-more, room-one — room in a longer list, and for one number in place of several
 --   lists-≡  — five equal lists
-use mathlib.Core.Path.{_≡_, refl, subst}
-use mathlib.Core.Bool.{Bool, true, false, _||_}
+use mathlib.Core.Path.{_≡_}
+use mathlib.Core.Bool.{false}
 use mathlib.Core.List.{List}
 use Prim.Native.Nat.{ℕ, _≤_}
 use native.Mathlib.Nat.{le-trans}
 use native.Mathlib.Omega.{arith}
 use borrow.Author.Tests.{ltb-false}
-use lib.Dec.{T, ltb}
 use lib.IntN.{ℤ}
+use Rattle.rules.specs.Range.{shortMatrix, shortColumn}
+use Rattle.rules.proofs.Ranges.{neither-left, neither-right}
 use Rattle.items.specs.Capped.{Room}
 use Rattle.items.specs.declared.Item.{Item}
 use Rattle.items.specs.declared.Item.the-variants.{Problem, Scale, Of, End}
 use Rattle.items.specs.Lists.{lists, tooShort}
-
--- of two tests neither holds
-neither : (a b : Bool) → a || b ≡ false → (a ≡ false) × (b ≡ false)
-neither true b e = absurd (subst T e tt)
-neither false b e = (refl, e)
 
 pub record Long (a b x g w : ℕ) : Type 0 where
   pub matrix : 1024 ≤ a
@@ -30,16 +26,15 @@ pub record Long (a b x g w : ℕ) : Type 0 where
 
 pub long : (a b x g w : ℕ) → tooShort a b x g w ≡ false → Long a b x g w
 long a b x g w e =
-    let s₁ = neither (ltb a 1024) (ltb b 32 || (ltb x 32 || (ltb g 1024 || ltb w 32))) e in
-    let s₂ = neither (ltb b 32) (ltb x 32 || (ltb g 1024 || ltb w 32)) (s₁ .1) in
-    let s₃ = neither (ltb x 32) (ltb g 1024 || ltb w 32) (s₂ .1) in
-    let s₄ = neither (ltb g 1024) (ltb w 32) (s₃ .1) in
+    let s₂ = neither-right (shortMatrix a) _ e in
+    let s₃ = neither-right (shortColumn b) _ s₂ in
+    let s₄ = neither-right (shortColumn x) _ s₃ in
     record {
-      matrix = ltb-false a 1024 (s₁ .0);
-      right = ltb-false b 32 (s₂ .0);
-      guess = ltb-false x 32 (s₃ .0);
-      inverse = ltb-false g 1024 (s₄ .0);
-      weights = ltb-false w 32 (s₄ .1);
+      matrix = ltb-false a 1024 (neither-left _ _ e);
+      right = ltb-false b 32 (neither-left _ _ s₂);
+      guess = ltb-false x 32 (neither-left _ _ s₃);
+      inverse = ltb-false g 1024 (neither-left _ _ s₄);
+      weights = ltb-false w 32 (neither-right (shortMatrix g) _ s₄);
     }
 
 pub lists-≡ : {a b x g w a′ b′ x′ g′ w′ : List ℤ} → a ≡ a′ → b ≡ b′ → x ≡ x′ → g ≡ g′ → w ≡ w′ → lists a b x g w ≡ lists a′ b′ x′ g′ w′

@@ -13,7 +13,8 @@ use lib.Signed.{leZ}
 use Rattle.numeral.specs.Numeral.{cap, capAt, capSize}
 use Rattle.rules.specs.Range.{rangeOf, inRange}
 use Rattle.rules.specs.declared.Kind.{Kind}
-use Rattle.rules.proofs.Ranges.{range-good, range-size}
+use Rattle.rules.proofs.Ranges.{range-size}
+use Rattle.rules.proofs.Table.{range-good}
 
 leb-alike : (a b c d : ℕ) → (a ≤ b → c ≤ d) → (c ≤ d → a ≤ b) → leb a b ≡ leb c d
 leb-alike a b c d f g = go (leb a b) refl (leb c d) refl

@@ -1,37 +1,26 @@
 -- Laws of the tests that depend on how far a loader has come, in the shape in which the code meets them.
---   neither-left, neither-right — of two tests of which neither holds
 --   late      — after the scale comes after problem
 --   size-of   — past problem, where a form is not misplaced, n is 1 to 32;  placed-of — and its i is 1 to n
 --   placed-32 — a form that is neither early nor misplaced has i in 1 to 32
 --   misplaced-by, misplaced-own, misplaced-start — the outcomes of the test of the place
 --   end-size, says-13, says-none — the outcomes of the end
-use mathlib.Core.Path.{_≡_, refl, subst}
-use mathlib.Core.Bool.{Bool, true, false, not, _&&_, _||_, cond}
+use mathlib.Core.Path.{_≡_, refl}
+use mathlib.Core.Bool.{Bool, true, false, not, _&&_, cond}
 use mathlib.Core.List.{List, [], _∷_}
 use Prim.Native.Nat.{ℕ, _≤_, _<_}
 use native.Mathlib.Omega.{arith}
 use borrow.Author.Tests.{not-false, leb-true, le-leb, lt-ltb, le-ltb}
-use lib.Dec.{T}
 use lib.IntN.{ℤ, pos, negsuc}
 use lib.Signed.{leZ}
 use Rattle.rules.specs.Range.{inRange}
 use Rattle.rules.specs.declared.Kind.the-variants.{Size}
-use Rattle.rules.proofs.Ranges.{both-left, both-right, both, size-range}
+use Rattle.rules.proofs.Ranges.{both-left, both-right, both, neither-left, neither-right, size-range}
 use Rattle.items.specs.Item.{placed}
 use Rattle.items.specs.declared.Item.{Item}
 use Rattle.items.specs.declared.Item.the-variants.{Problem, Scale, Of, End}
 use Rattle.progress.specs.declared.Stage.{Stage}
 use Rattle.progress.specs.declared.Stage.the-variants.{Start, Sized, Scaled, Ended}
 use Rattle.progress.specs.Progress.{sized, scaled, early, misplaced, incomplete, missing}
-
--- ---- Bool
-pub neither-left : (a b : Bool) → a || b ≡ false → a ≡ false
-neither-left true b e = e
-neither-left false b e = refl
-
-pub neither-right : (a b : Bool) → a || b ≡ false → b ≡ false
-neither-right true b e = absurd (subst T e tt)
-neither-right false b e = e
 
 -- ---- the place
 pub scaled-sized : (s : Stage) → scaled s ≡ true → sized s ≡ true

@@ -1,26 +1,23 @@
--- Laws of the table of ranges.
---   range-good — of every kind: lowest ≤ highest, and both are at most 2 ^ 36 in size; computed once over the whole table
+-- What the ranges say of a number.
 --   range-size — a number in range is at most `sizeOf k` in size
 --   range-natural — where the lowest value is a natural number, a number in range is one, and at least that
 --   size-range, solution-scale-range, .., weight-range — what the range of each kind is
---   both, both-left, both-right — of two tests that both hold
+--   both, both-left, both-right, not-both, not-first, neither-left, neither-right — of two tests
 --   range-test — what the code tests is inRange
 use mathlib.Core.Path.{_≡_, refl, sym, subst}
-use mathlib.Core.Bool.{Bool, true, false, _&&_}
-use mathlib.Core.List.{List, [], _∷_}
-use Prim.Native.Nat.{ℕ, zero, suc, _<_, _≤_, _^_, max}
+use mathlib.Core.Bool.{Bool, true, false, _&&_, _||_}
+use Prim.Native.Nat.{ℕ, _<_, _≤_, _^_, max}
 use native.Mathlib.Omega.{arith}
 use borrow.Author.Tests.{leb-true}
-use lib.Dec.{T, leb}
+use lib.Dec.{T}
 use lib.IntN.{ℤ, pos, negsuc, natAbs}
-use lib.ListN.{getD, length}
 use lib.Signed.{leZ}
 use Rattle.rules.specs.declared.Kind.{Kind}
 use Rattle.rules.specs.declared.Kind.the-variants.{Size, SolutionScale, InverseScale, Matrix, Right, Guess, Inverse, Weight}
 use Rattle.rules.specs.declared.Range.{Range}
-use Rattle.rules.specs.Range.{ranges, indexOf, rangeOf, inRange, fromTo}
+use Rattle.rules.specs.Range.{ranges, rangeOf, inRange}
 
--- ---- Bool
+-- ---- two tests
 pub both-left : (a b : Bool) → a && b ≡ true → a ≡ true
 both-left true b e = refl
 both-left false b e = e
@@ -32,51 +29,19 @@ both-right false b e = absurd (subst T (sym e) tt)
 pub both : {a b : Bool} → a ≡ true → b ≡ true → a && b ≡ true
 both p q = rw (p, q)
 
--- ---- the rule over the whole table
-good : Range → Bool
-good r = leZ (r .lowest) (r .highest) && (leb (natAbs (r .lowest)) (2 ^ 36) && leb (natAbs (r .highest)) (2 ^ 36))
+pub not-both : {a b : Bool} → a ≡ true → b ≡ false → a && b ≡ false
+not-both p q = rw (p, q)
 
-all-good : List Range → Bool
-all-good [] = true
-all-good (r ∷ rs) = good r && all-good rs
+pub not-first : {a : Bool} (b : Bool) → a ≡ false → a && b ≡ false
+not-first b p = rw p
 
-good-at : (rs : List Range) → all-good rs ≡ true → (i : ℕ) (d : Range) → i < length rs → good (getD rs i d) ≡ true
-unfolding all-good
-good-at [] e i d l = absurd (omega arith)
-good-at (r ∷ rs) e zero d l = both-left (good r) (all-good rs) e
-good-at (r ∷ rs) e (suc i) d l = good-at rs (both-right (good r) (all-good rs) e) i d (omega arith)
+pub neither-left : (a b : Bool) → a || b ≡ false → a ≡ false
+neither-left true b e = e
+neither-left false b e = refl
 
-table-good : all-good ranges ≡ true
-unfolding all-good good ranges
-table-good = refl
-
-index-below : (k : Kind) → indexOf k < 8
-index-below Size = omega arith
-index-below SolutionScale = omega arith
-index-below InverseScale = omega arith
-index-below Matrix = omega arith
-index-below Right = omega arith
-index-below Guess = omega arith
-index-below Inverse = omega arith
-index-below Weight = omega arith
-
--- lowest ≤ highest, and both at most 2 ^ 36 in size
-pub record Good (r : Range) : Type 0 where
-  pub ordered : leZ (r .lowest) (r .highest) ≡ true
-  pub low-size : natAbs (r .lowest) ≤ 2 ^ 36
-  pub high-size : natAbs (r .highest) ≤ 2 ^ 36
-
-goodness : (r : Range) → good r ≡ true → Good r
-unfolding good
-goodness r e = record {
-  ordered = both-left (leZ (r .lowest) (r .highest)) _ e;
-  low-size = leb-true _ _ (both-left (leb (natAbs (r .lowest)) (2 ^ 36)) _ (both-right (leZ (r .lowest) (r .highest)) _ e));
-  high-size = leb-true _ _ (both-right (leb (natAbs (r .lowest)) (2 ^ 36)) _ (both-right (leZ (r .lowest) (r .highest)) _ e));
-}
-
-pub range-good : (k : Kind) → Good (rangeOf k)
-unfolding rangeOf
-range-good k = goodness _ (good-at ranges table-good (indexOf k) (fromTo (pos 0) (pos 0)) (unfold ranges in index-below k))
+pub neither-right : (a b : Bool) → a || b ≡ false → b ≡ false
+neither-right true b e = absurd (subst T e tt)
+neither-right false b e = e
 
 -- ---- sizes
 -- the largest size that a number of the kind has
