@@ -11,14 +11,15 @@ use borrow.Author.Tests.{lt-ltb, le-ltb}
 use Rattle.integer.proofs.Search.{Searched, found, nowhere, searched, first-is, first-never}
 use Rattle.linear.proofs.Places.{place}
 use Rattle.rules.proofs.Verdicts.{nothing-is-not}
+use Rattle.enclosure.specs.Demand.{Margins, Residuals}
 use Rattle.enclosure.specs.Problem.{columnOf}
 use Rattle.enclosure.specs.Reckoning.{marginFails, residual, exceeds}
 use Rattle.reckoning.proofs.Columns.{place-column, place-row}
 use Rattle.checker.specs.Input.{Input, problem, short, inRanges}
 use Rattle.checker.specs.Order.{firstMargin, firstResidual, firstColumn, answer}
 use Rattle.checker.specs.Ready.{saidOf}
-use Rattle.checker.specs.Stated.{Usable, Margins, Residuals, Stated, too-short, out-of-range, margin-low, residual-large, inverse-large, accepted}
-use Rattle.checker.proofs.Contract.{answer-short, answer-range, answer-ready, ready-of}
+use Rattle.checker.specs.Stated.{Usable, Stated, too-short, out-of-range, margin-low, residual-large, inverse-large, accepted}
+use Rattle.checker.proofs.Contract.{answer-short, answer-range, answer-ready, ready-of, sound-said}
 
 module _ (I : Input) where
   -- the test of 7 at a place, column after column
@@ -58,15 +59,15 @@ module _ (I : Input) where
         below c x lc lx = omega (arith, div-add-mod' i (I .n), mul-le-mul-right (I .n) lc)
     at-columns m r e f (nowhere g h) =
         subst (Stated I) (sym (says (said-0 e f g)))
-        (accepted u m r (λ j k lj lk. rw (place-column j k (I .n) lk, place-row j k (I .n) lk) at (h (j * I .n + k) (place lj lk))))
+        (accepted u (record { margins = m; residuals = r; columns = λ j lj k lk. rw (place-column j k (I .n) lk, place-row j k (I .n) lk) at (h (j * I .n + k) (place lj lk)) }))
 
     at-residuals : Margins (problem I) → firstMargin (problem I) ≡ I .n → Searched (I .n) (λ (k : ℕ). exceeds (problem I) k (residual (problem I) k)) → Stated I (answer I)
     at-residuals m e (found k l f p h) = subst (Stated I) (sym (says (said-6 k e f l))) (residual-large k u m l p h)
-    at-residuals m e (nowhere f h) = at-columns m (record { small = h }) e f (searched (I .n * I .n) large)
+    at-residuals m e (nowhere f h) = at-columns m h e f (searched (I .n * I .n) large)
 
     at-margins : Searched (I .n) (marginFails (problem I)) → Stated I (answer I)
     at-margins (found m l e p h) = subst (Stated I) (sym (says (said-5 m e l))) (margin-low m u l p h)
-    at-margins (nowhere e h) = at-residuals (record { above = h }) e (searched (I .n) (λ (k : ℕ). exceeds (problem I) k (residual (problem I) k)))
+    at-margins (nowhere e h) = at-residuals h e (searched (I .n) (λ (k : ℕ). exceeds (problem I) k (residual (problem I) k)))
 
   pub stated : Stated I (answer I)
   stated = go (short I) refl (inRanges I) refl
@@ -77,10 +78,10 @@ module _ (I : Input) where
       go false e true f = at-margins (record { long = e; inside = f }) (searched (I .n) (marginFails (problem I)))
 
   no-margin : Margins (problem I) → firstMargin (problem I) ≡ I .n
-  no-margin m = first-never (I .n) (marginFails (problem I)) (m .above)
+  no-margin m = first-never (I .n) (marginFails (problem I)) m
 
   no-residual : Residuals (problem I) → firstResidual (problem I) ≡ I .n
-  no-residual r = first-never (I .n) (λ (k : ℕ). exceeds (problem I) k (residual (problem I) k)) (r .small)
+  no-residual r = first-never (I .n) (λ (k : ℕ). exceeds (problem I) k (residual (problem I) k)) r
 
   -- a test that holds at column j and row k, and nowhere before
   first-place : (j k : ℕ) → j < I .n → k < I .n → exceeds (problem I) k (residual (columnOf (problem I) j) k) ≡ true →
@@ -108,10 +109,7 @@ module _ (I : Input) where
   said-of (inverse-large j k u m r lj lk p q h) =
       says u (said-7 (j * I .n + k) (no-margin m) (no-residual r) (first-place j k lj lk p q h) (place lj lk)
       ∙ rw (place-column j k (I .n) lk, place-row j k (I .n) lk))
-  said-of (accepted u m r h) =
-      says u (said-0 (no-margin m) (no-residual r)
-      (first-never (I .n * I .n) (λ (i : ℕ). exceeds (problem I) (i % I .n) (residual (columnOf (problem I) (i / I .n)) (i % I .n)))
-      (λ i l. h (i / I .n) (i % I .n) (div-lt-iff-lt-mul (some u) .1 l) (mod-lt i (some u)))))
+  said-of (accepted u x) = says u (sound-said I (some u) x)
 
 -- what is accepted is usable
 usable-of : (I : Input) {l : List ℕ} → Stated I l → l ≡ [] → Usable I
@@ -120,7 +118,7 @@ usable-of I (out-of-range e f) n = absurd (nothing-is-not n)
 usable-of I (margin-low m u l p h) n = u
 usable-of I (residual-large k u m l p h) n = u
 usable-of I (inverse-large j k u m r lj lk p q h) n = u
-usable-of I (accepted u m r h) n = u
+usable-of I (accepted u x) n = u
 
 pub accepted-usable : (I : Input) → answer I ≡ [] → Usable I
 accepted-usable I = usable-of I (stated I)

@@ -1,27 +1,21 @@
 -- What document 01 says of each refusal of a check, with the order 8, 3, 5, 6, 7 written out: each case holds only where no earlier one does.
 -- Rows and columns count from 0 here, and from 1 in what is said.
 --   Usable I  — no lent list is too short, and n, s, t and every number used are in their ranges: neither 8 nor 3
---   Margins P — every margin is above 0: no 5;  Residuals P — no residual of the guess is too large: no 6
---   Stated I said — the case that is stated for what is said
+--   Stated I said — the case that is stated for what is said;  `Margins` is no 5, `Residuals` no 6, `Sound` none of 5, 6 and 7 (enclosure/specs/Demand)
 --   Agree I J — two inputs whose lists are long enough and agree on the places used
 use mathlib.Core.Bool.{true, false}
 use mathlib.Core.List.{List, [], _∷_}
 use mathlib.Core.Path.{_≡_}
 use Prim.Native.Nat.{ℕ, _+_, _*_, _<_}
 use Rattle.linear.specs.Slice.{at}
-use Rattle.enclosure.specs.Problem.{Problem, columnOf}
+use Rattle.enclosure.specs.Problem.{columnOf}
 use Rattle.enclosure.specs.Reckoning.{marginFails, residual, exceeds}
+use Rattle.enclosure.specs.Demand.{Margins, Residuals, Sound}
 use Rattle.checker.specs.Input.{Input, problem, short, inRanges}
 
 pub record Usable (I : Input) : Type 0 where
   pub long : short I ≡ false
   pub inside : inRanges I ≡ true
-
-pub record Margins (P : Problem) : Type 0 where
-  pub above : (m : ℕ) → m < P .n → marginFails P m ≡ false
-
-pub record Residuals (P : Problem) : Type 0 where
-  pub small : (k : ℕ) → k < P .n → exceeds P k (residual P k) ≡ false
 
 pub data Stated (I : Input) : List ℕ → Type 0 where
   -- 8: a lent list too short
@@ -40,8 +34,7 @@ pub data Stated (I : Input) : List ℕ → Type 0 where
       ((c r : ℕ) → c < j → r < I .n → exceeds (problem I) r (residual (columnOf (problem I) c) r) ≡ false) →
       ((r : ℕ) → r < k → exceeds (problem I) r (residual (columnOf (problem I) j) r) ≡ false) → Stated I (7 ∷ (j + 1) ∷ (k + 1) ∷ [])
   -- accepted: none of them
-  accepted : Usable I → Margins (problem I) → Residuals (problem I) →
-      ((j k : ℕ) → j < I .n → k < I .n → exceeds (problem I) k (residual (columnOf (problem I) j) k) ≡ false) → Stated I []
+  accepted : Usable I → Sound (problem I) → Stated I []
 
 pub record Agree (I J : Input) : Type 0 where
   pub n : I .n ≡ J .n

@@ -4,7 +4,6 @@
 --   condition    — v_i = w_i·|p_k| / (g_k·S) meets (2.9) for such a row k
 --   bound-is-v   — limit i is S·v_i rounded up
 use mathlib.Core.Path.{_≡_, sym, ap, _∙_}
-use mathlib.Core.Bool.{false}
 use Prim.Native.Nat.{ℕ, _+_, _*_, _≤_, _<_}
 use native.Mathlib.Omega.{arith}
 use lib.IntN.{ℤ, pos, negℤ, natAbs, _+ℤ_, _-ℤ_, _*ℤ_}
@@ -17,7 +16,8 @@ use Rattle.integer.proofs.Sum.{sumℕ-ext, sumℕ-*}
 use Rattle.linear.specs.Matrix.{apply}
 use Rattle.linear.proofs.Product.{apply-sub, apply-scale}
 use Rattle.enclosure.specs.Problem.{Problem, S, T}
-use Rattle.enclosure.specs.Reckoning.{defect, load, margin, marginFails, residual, image, sizes, bound}
+use Rattle.enclosure.specs.Reckoning.{defect, load, margin, residual, image, sizes, bound}
+use Rattle.enclosure.specs.Demand.{Margins}
 use Rattle.enclosure.specs.Schroeder.{start, next, Condition29, Steep}
 use Rattle.enclosure.proofs.Bounds.{bound-at}
 use Rattle.enclosure.proofs.Enclosure.{apply-defect}
@@ -36,7 +36,7 @@ start-next P i l =
     let f : apply (P .n) (P .G) (residual P) i ≡ y -ℤ x = apply-sub (P .n) (P .G) (λ (k : ℕ). pos (S P) *ℤ P .b k) (apply (P .n) (P .A) (P .X)) i ∙ rw (apply-scale (P .n) (P .G) (pos (S P)) (P .b) i) in
     ap natAbs e ∙ abs-neg (y -ℤ x) ∙ ap natAbs (sym f)
 
-module _ (P : Problem) (hm : (m : ℕ) → m < P .n → marginFails P m ≡ false) where
+module _ (P : Problem) (hm : Margins P) where
   pub steepest : 0 < P .n → (k : ℕ) × Steep P k
   steepest = steepest-of (λ (m : ℕ). natAbs (image P m)) (λ (m : ℕ). natAbs (margin P m)) (P .n) (λ m l. margin-above P m (hm m l))
 

@@ -1,9 +1,8 @@
 -- The first half of demand 3: where every margin is above 0 and every weight at least 1, the limits enclose.
 --   error-solves — A·(S·N − q·X) = q·r for an exact solution N / q
 --   solution, inverse, kernel — the three parts
---   encloses — together, for the limits of the reckoning
+--   encloses — together, for the limits of the reckoning;  encloses-as — limits that agree on the first n places enclose alike
 use mathlib.Core.Path.{_≡_, refl, _∙_}
-use mathlib.Core.Bool.{false}
 use Prim.Native.Nat.{ℕ, _*_, _≤_, _<_}
 use native.Mathlib.Omega.{arith}
 use lib.IntN.{ℤ, pos, natAbs, _-ℤ_, _*ℤ_, +ℤ-invr}
@@ -14,8 +13,8 @@ use Rattle.integer.proofs.Sum.{sumℕ-*}
 use Rattle.linear.specs.Matrix.{Vec, column, apply, product}
 use Rattle.linear.proofs.Product.{apply-vectors, apply-scale}
 use Rattle.enclosure.specs.Problem.{Problem, S, columnOf}
-use Rattle.enclosure.specs.Reckoning.{load, margin, marginFails, residual, image, sizes, bound, inverseBound, defect}
-use Rattle.enclosure.specs.Demand.{Encloses}
+use Rattle.enclosure.specs.Reckoning.{load, margin, residual, image, sizes, bound, inverseBound, defect}
+use Rattle.enclosure.specs.Demand.{Encloses, Margins}
 use Rattle.enclosure.proofs.Margin.{margin-above}
 use Rattle.enclosure.proofs.Bounds.{bound-covers}
 use Rattle.enclosure.proofs.Enclosure.{enclosed}
@@ -32,7 +31,7 @@ exact x y q e = rw (e, +ℤ-invr y) (omega arith)
 none : (n : ℕ) (f : ℕ → ℕ) → sumℕ n (λ (j : ℕ). f j * 0) ≡ 0
 none n f = sumℕ-* n 0 f ∙ omega arith
 
-module _ (P : Problem) (hw : (i : ℕ) → i < P .n → 1 ≤ P .w i) (hm : (m : ℕ) → m < P .n → marginFails P m ≡ false) where
+module _ (P : Problem) (hw : (i : ℕ) → i < P .n → 1 ≤ P .w i) (hm : Margins P) where
   pub solution : (N : Vec) (q : ℕ) → ((k : ℕ) → k < P .n → apply (P .n) (P .A) N k ≡ pos q *ℤ P .b k) →
       (i : ℕ) → i < P .n → natAbs (pos (S P) *ℤ N i -ℤ pos q *ℤ P .X i) ≤ q * bound P i
   unfolding bound sizes image
@@ -56,11 +55,18 @@ column-margin : (P : Problem) (j m : ℕ) → margin (columnOf P j) m ≡ margin
 unfolding margin load defect
 column-margin P j m = refl
 
-pub encloses : (P : Problem) → ((i : ℕ) → i < P .n → 1 ≤ P .w i) → ((m : ℕ) → m < P .n → marginFails P m ≡ false) →
-    Encloses P (bound P) (inverseBound P)
+pub encloses : (P : Problem) → ((i : ℕ) → i < P .n → 1 ≤ P .w i) → Margins P → Encloses P (bound P) (inverseBound P)
 unfolding product
 encloses P hw hm = record {
   solution = λ N q x. solution P hw hm N q (x .solves);
   inverse = λ H q x i j li lj. solution (columnOf P j) hw (λ m l. rw (column-margin P j m) (hm m l)) (column H j) q (λ k l. x .right k j l lj) i li;
   kernel = kernel P hw hm;
+}
+
+pub encloses-as : (P : Problem) (E E′ : ℕ → ℕ) (L L′ : ℕ → ℕ → ℕ) → ((i : ℕ) → i < P .n → E′ i ≡ E i) → ((i j : ℕ) → i < P .n → j < P .n → L′ i j ≡ L i j) →
+    Encloses P E L → Encloses P E′ L′
+encloses-as P E E′ L L′ e f x = record {
+  solution = λ N q h i l. rw (e i l) (x .solution N q h i l);
+  inverse = λ H q h i j li lj. rw (f i j li lj) (x .inverse H q h i j li lj);
+  kernel = x .kernel;
 }

@@ -7,7 +7,6 @@ use Prim.Native.Nat.{ℕ, _+_, _*_, _≤_, _<_}
 use native.Mathlib.Omega.{arith}
 use native.Mathlib.Nat.{mul-le-mul-left, mul-le-mul-right, le-of-mul-le-mul-right}
 use lib.IntN.{ℤ, pos, natAbs, _+ℤ_, _-ℤ_, _*ℤ_, -ℤ-+ℤ-cancel}
-use mathlib.Core.Bool.{false}
 use Rattle.integer.specs.Finite.{sumℕ, Steepest}
 use Rattle.integer.proofs.Absolute.{abs-+, abs-*}
 use Rattle.integer.proofs.Steepest.{steepest-of}
@@ -15,7 +14,8 @@ use Rattle.integer.proofs.Sum.{sumℕ-mono, sumℕ-*}
 use Rattle.linear.specs.Matrix.{Vec, apply, product, identity}
 use Rattle.linear.proofs.Product.{apply-less, apply-identity, apply-product, apply-sub, apply-scale, abs-apply}
 use Rattle.enclosure.specs.Problem.{Problem, T}
-use Rattle.enclosure.specs.Reckoning.{defect, load, margin, marginFails}
+use Rattle.enclosure.specs.Reckoning.{defect, load, margin}
+use Rattle.enclosure.specs.Demand.{Margins}
 use Rattle.enclosure.proofs.Margin.{margin-sum, margin-above}
 
 pub apply-defect : (P : Problem) (e : Vec) (m : ℕ) → m < P .n →
@@ -73,7 +73,7 @@ module _ (P : Problem) (q : ℕ) (e r : Vec) (σ : ℕ → ℕ)
         abs-apply (P .n) (defect P) e m,
       )
 
-  module _ (hw : (i : ℕ) → i < P .n → 1 ≤ P .w i) (hm : (m : ℕ) → m < P .n → marginFails P m ≡ false) where
+  module _ (hw : (i : ℕ) → i < P .n → 1 ≤ P .w i) (hm : Margins P) where
     -- where |e_m| / w_m is largest: |e_m|·g_m ≤ q·P_m·w_m
     at-peak : (m : ℕ) → Steepest (P .n) (λ (j : ℕ). natAbs (e j)) (P .w) m →
         natAbs (e m) * natAbs (margin P m) ≤ q * slackSize P r σ m * P .w m

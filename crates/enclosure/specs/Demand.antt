@@ -5,7 +5,8 @@
 --   total P             — the sum of |A_ij| over all i and j
 --   RoundedExact P N q H q′ — the second half's hypotheses: exact N and two-sided H, guess and inverse rounded to nearest steps, weights 1,
 --     total below 2T
---   Sound P             — every margin is above 0, and no residual is above its limit, of the guess and of every column of the inverse
+--   Margins P, Residuals P — every margin is above 0; no residual of the guess is above its limit
+--   Sound P             — both, and no residual of a column of the inverse is above its limit
 use mathlib.Core.Path.{_≡_}
 use mathlib.Core.Bool.{false}
 use Prim.Native.Nat.{ℕ, _*_, _≤_, _<_}
@@ -44,7 +45,13 @@ pub record RoundedExact (P : Problem) (N : Vec) (q : ℕ) (H : Mat) (q′ : ℕ)
   pub weights : (i : ℕ) → i < P .n → P .w i ≡ 1
   pub small : total P < 2 * T P
 
+abbrev pub Margins : Problem → Type 0
+Margins P = (m : ℕ) → m < P .n → marginFails P m ≡ false
+
+abbrev pub Residuals : Problem → Type 0
+Residuals P = (k : ℕ) → k < P .n → exceeds P k (residual P k) ≡ false
+
 pub record Sound (P : Problem) : Type 0 where
-  pub margins : (m : ℕ) → m < P .n → marginFails P m ≡ false
-  pub residuals : (k : ℕ) → k < P .n → exceeds P k (residual P k) ≡ false
+  pub margins : Margins P
+  pub residuals : Residuals P
   pub columns : (j : ℕ) → j < P .n → (k : ℕ) → k < P .n → exceeds P k (residual (columnOf P j) k) ≡ false
