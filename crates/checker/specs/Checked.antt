@@ -1,6 +1,7 @@
 -- What a check on lists says and leaves.
 --   written n f l — l with f 0, .., f (n − 1) at its first n places; the rest as before
---   solutionBoundsAfter, inverseBoundsAfter — the limit lists afterwards: the limits of the reckoning where the proposal is accepted, as before where it is refused
+--   solutionAfter said I, inverseAfter said I — the limit lists where this is said: the limits of the reckoning where it is nothing, as before where it is a refusal
+--   solutionBoundsAfter, inverseBoundsAfter — the limit lists after a check
 --   Checked — the contract of `check`: what is said, the two lists, and both halves of demand 3 for the limits that the call wrote
 use mathlib.Core.Bool.{true, false}
 use mathlib.Core.List.{List, []}
@@ -20,12 +21,18 @@ unfoldable pub written : ℕ → (ℕ → ℕ) → List ℕ → List ℕ
 written zero f l = l
 written (suc n) f l = set (written n f l) n (f n)
 
+abbrev pub solutionAfter : List ℕ → Input → List ℕ
+solutionAfter said I = accepted said (written (I .n) (bound (problem I)) (I .solutionBounds)) (I .solutionBounds)
+
+abbrev pub inverseAfter : List ℕ → Input → List ℕ
+inverseAfter said I =
+    accepted said (written (I .n * I .n) (λ (k : ℕ). inverseBound (problem I) (k / I .n) (k % I .n)) (I .inverseBounds)) (I .inverseBounds)
+
 unfoldable pub solutionBoundsAfter : Input → List ℕ
-solutionBoundsAfter I = accepted (answer I) (written (I .n) (bound (problem I)) (I .solutionBounds)) (I .solutionBounds)
+solutionBoundsAfter I = solutionAfter (answer I) I
 
 unfoldable pub inverseBoundsAfter : Input → List ℕ
-inverseBoundsAfter I =
-    accepted (answer I) (written (I .n * I .n) (λ (k : ℕ). inverseBound (problem I) (k / I .n) (k % I .n)) (I .inverseBounds)) (I .inverseBounds)
+inverseBoundsAfter I = inverseAfter (answer I) I
 
 pub record Checked (I : Input) (r : Outcome) (E L : List ℕ) : Type 0 where
   pub says : said r ≡ answer I

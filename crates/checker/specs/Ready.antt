@@ -1,20 +1,19 @@
--- Input that passes 8 and 3, and what the reckoning makes of it; cited by the contracts inside.
+-- Input that passes 8 and 3, and what the reckoning makes of it; cited by the contract of `check_ready` alone.
 --   Ready    — n, s, t in their ranges, the lists long enough, every number used in its range
 --   saidOf   — what is said of it;  Reckoned — that, and the two limit lists
 use mathlib.Core.List.{List}
 use mathlib.Core.Path.{_≡_}
-use Prim.Native.Nat.{ℕ, _*_, _/_, _%_, _≤_, _<_, _^_}
+use Prim.Native.Nat.{ℕ, _≤_, _<_, _^_}
 use lib.IntN.{natAbs}
 use lib.ListN.{length}
 use Rattle.linear.specs.Slice.{at}
 use Rattle.reckoning.specs.Arrays.{Square, Numbers}
-use Rattle.rules.specs.Order.{verdict, accepted}
+use Rattle.rules.specs.Order.{verdict}
 use Rattle.rules.specs.Refusal.{said}
 use Rattle.rules.specs.declared.Outcome.{Outcome}
-use Rattle.enclosure.specs.Reckoning.{bound, inverseBound}
 use Rattle.checker.specs.Input.{Input, problem}
-use Rattle.checker.specs.Order.{firstMargin, firstResidual, firstColumn, reckoned}
-use Rattle.checker.specs.Checked.{written}
+use Rattle.checker.specs.Order.{reckonedOf}
+use Rattle.checker.specs.Checked.{solutionAfter, inverseAfter}
 
 pub record Ready (I : Input) : Type 0 where
   pub some : 0 < I .n
@@ -31,9 +30,9 @@ pub record Ready (I : Input) : Type 0 where
   pub inverse-long : 1024 ≤ length (I .inverseBounds)
 
 abbrev pub saidOf : Input → List ℕ
-saidOf I = verdict (reckoned (I .n) (firstMargin (problem I)) (firstResidual (problem I)) (firstColumn (problem I)))
+saidOf I = verdict (reckonedOf (problem I))
 
 pub record Reckoned (I : Input) (r : Outcome) (E L : List ℕ) : Type 0 where
   pub says : said r ≡ saidOf I
-  pub solution-bounds : E ≡ accepted (saidOf I) (written (I .n) (bound (problem I)) (I .solutionBounds)) (I .solutionBounds)
-  pub inverse-bounds : L ≡ accepted (saidOf I) (written (I .n * I .n) (λ (k : ℕ). inverseBound (problem I) (k / I .n) (k % I .n)) (I .inverseBounds)) (I .inverseBounds)
+  pub solution-bounds : E ≡ solutionAfter (saidOf I) I
+  pub inverse-bounds : L ≡ inverseAfter (saidOf I) I

@@ -5,17 +5,16 @@
 use mathlib.Core.Bool.{true, false, not}
 use mathlib.Core.List.{List, [], _∷_}
 use mathlib.Core.Path.{_≡_}
-use Prim.Native.Nat.{ℕ, _+_, _*_, _/_, _%_}
+use Prim.Native.Nat.{ℕ, _+_, _*_}
 use lib.ListN.{getD}
-use Rattle.rules.specs.Order.{Test, number, verdict, accepted}
+use Rattle.rules.specs.Order.{Test, number, verdict}
 use Rattle.rules.specs.Refusal.{said}
 use Rattle.rules.specs.declared.Outcome.{Outcome}
 use Rattle.linear.specs.Matrix.{Vec, Mat}
 use Rattle.enclosure.specs.Demand.{Encloses, RoundedExact}
-use Rattle.enclosure.specs.Reckoning.{bound, inverseBound}
 use Rattle.checker.specs.Input.{Input, problem, short, inRanges}
-use Rattle.checker.specs.Order.{firstMargin, firstResidual, firstColumn, reckoned}
-use Rattle.checker.specs.Checked.{written}
+use Rattle.checker.specs.Order.{reckonedOf}
+use Rattle.checker.specs.Checked.{solutionAfter, inverseAfter}
 use Rattle.progress.specs.Progress.{ended}
 use Rattle.progress.specs.declared.Stage.{Stage}
 
@@ -24,17 +23,16 @@ orderThrough s I =
     number 8 (short I)
     ∷ number 15 (not (ended s))
     ∷ number 3 (not (inRanges I))
-    ∷ reckoned (I .n) (firstMargin (problem I)) (firstResidual (problem I)) (firstColumn (problem I))
+    ∷ reckonedOf (problem I)
 
 unfoldable pub answerThrough : Stage → Input → List ℕ
 answerThrough s I = verdict (orderThrough s I)
 
 unfoldable pub solutionBoundsThrough : Stage → Input → List ℕ
-solutionBoundsThrough s I = accepted (answerThrough s I) (written (I .n) (bound (problem I)) (I .solutionBounds)) (I .solutionBounds)
+solutionBoundsThrough s I = solutionAfter (answerThrough s I) I
 
 unfoldable pub inverseBoundsThrough : Stage → Input → List ℕ
-inverseBoundsThrough s I =
-    accepted (answerThrough s I) (written (I .n * I .n) (λ (k : ℕ). inverseBound (problem I) (k / I .n) (k % I .n)) (I .inverseBounds)) (I .inverseBounds)
+inverseBoundsThrough s I = inverseAfter (answerThrough s I) I
 
 pub record CheckedThrough (s : Stage) (I : Input) (r : Outcome) (E L : List ℕ) : Type 0 where
   pub says : said r ≡ answerThrough s I
