@@ -22,7 +22,8 @@ use Rattle.checker.specs.Checked.{solutionBoundsAfter, inverseBoundsAfte
 use Rattle.checker.specs.Input.{Input, input, problem, short, inRanges}
 use Rattle.checker.specs.Order.{answer}
 use Rattle.checker.specs.Stated.{Agree}
-use Rattle.checker.proofs.Contract.{Long, long-of, ready-of}
+use Rattle.checker.proofs.Contract.{ready-of}
+use Rattle.checker.proofs.Lengths.{Long, long-of}
 use Rattle.checker.proofs.Statements.{accepted-usable}
 use Rattle.checker.proofs.Written.{written-at, solution-written, inverse-written}
 

@@ -3,17 +3,16 @@
 --   ready-of  — input that passes 8 and 3
 --   sound-said, said-sound — nothing is said of ready input exactly where it is sound
 --   checked-short, checked-range, checked-ready — the contract where 8 is said, where 3 is, and where the reckoning decides
-use mathlib.Core.Path.{_≡_, refl, sym, _∙_}
-use mathlib.Core.Bool.{Bool, true, false, _&&_, _||_}
+use mathlib.Core.Path.{_≡_, sym, _∙_}
+use mathlib.Core.Bool.{true, false}
 use mathlib.Core.List.{List, [], _∷_}
 use Prim.Native.Nat.{ℕ, _+_, _*_, _/_, _%_, _≤_, _<_, _^_}
 use native.Mathlib.Omega.{arith}
 use native.Mathlib.Nat.{mod-lt, div-lt-iff-lt-mul}
-use borrow.Author.Tests.{ltb-false, le-ltb}
-use lib.Dec.{ltb}
+use borrow.Author.Tests.{le-ltb}
 use lib.IntN.{ℤ, pos, natAbs}
 use lib.ListN.{getD, length}
-use Rattle.integer.proofs.Search.{first-past, first-never}
+use Rattle.integer.proofs.Search.{first-past, first-never, clash}
 use Rattle.linear.specs.Slice.{at}
 use Rattle.linear.proofs.Places.{place, square}
 use Rattle.rules.specs.Range.{inRange, allInRange}
@@ -27,15 +26,16 @@ use Rattle.rules.proofs.Ranges.{both-left, both-right, size-range, solution-sca
 use Rattle.rules.proofs.Verdicts.{accepted-new, accepted-old, nothing-is-not}
 use Rattle.enclosure.specs.Problem.{Problem, columnOf}
 use Rattle.enclosure.specs.Reckoning.{marginFails, residual, exceeds, bound, inverseBound}
-use Rattle.enclosure.specs.Demand.{Encloses, Sound}
+use Rattle.enclosure.specs.Demand.{Sound}
 use Rattle.enclosure.proofs.Acceptance.{rounded-sound}
-use Rattle.enclosure.proofs.Demands.{encloses}
+use Rattle.enclosure.proofs.Demands.{encloses, encloses-as}
 use Rattle.reckoning.specs.Arrays.{Square, Numbers}
 use Rattle.reckoning.proofs.Columns.{place-column, place-row}
 use Rattle.checker.specs.Input.{Input, problem, short, inRanges, sizesInRange, listsInRange}
 use Rattle.checker.specs.Order.{firstMargin, firstResidual, firstColumn, answer}
 use Rattle.checker.specs.Checked.{written, solutionBoundsAfter, inverseBoundsAfter, Checked}
 use Rattle.checker.specs.Ready.{Ready, Reckoned, saidOf}
+use Rattle.checker.proofs.Lengths.{long-of}
 use Rattle.checker.proofs.Places.{accepted-places}
 use Rattle.checker.proofs.Written.{written-at}
 
@@ -53,43 +53,6 @@ module _ (I : Input) where
   answer-ready e f = rw (e, f)
 
 -- ---- 8 and 3
-neither-left : (a b : Bool) → a || b ≡ false → a ≡ false
-neither-left true b e = e
-neither-left false b e = refl
-
-neither-right : (a b : Bool) → a || b ≡ false → b ≡ false
-neither-right true b e = absurd (clash e)
-  where
-    clash : true ≡ false → ⊥
-    clash p = let z : _≡_ {A = ℕ} 0 1 = cc in omega arith
-neither-right false b e = e
-
-pub record Long (I : Input) : Type 0 where
-  pub matrix : 1024 ≤ length (I .matrix)
-  pub right : 32 ≤ length (I .right)
-  pub guess : 32 ≤ length (I .guess)
-  pub inverse : 1024 ≤ length (I .inverse)
-  pub weights : 32 ≤ length (I .weights)
-  pub solution : 32 ≤ length (I .solutionBounds)
-  pub inverses : 1024 ≤ length (I .inverseBounds)
-
-pub long-of : (I : Input) → short I ≡ false → Long I
-long-of I h1 =
-    let h2 = neither-right (ltb (length (I .matrix)) 1024) _ h1 in
-    let h3 = neither-right (ltb (length (I .right)) 32) _ h2 in
-    let h4 = neither-right (ltb (length (I .guess)) 32) _ h3 in
-    let h5 = neither-right (ltb (length (I .inverse)) 1024) _ h4 in
-    let h6 = neither-right (ltb (length (I .weights)) 32) _ h5 in
-    record {
-      matrix = ltb-false _ 1024 (neither-left _ _ h1);
-      right = ltb-false _ 32 (neither-left _ _ h2);
-      guess = ltb-false _ 32 (neither-left _ _ h3);
-      inverse = ltb-false _ 1024 (neither-left _ _ h4);
-      weights = ltb-false _ 32 (neither-left _ _ h5);
-      solution = ltb-false _ 32 (neither-left _ _ h6);
-      inverses = ltb-false _ 1024 (neither-right (ltb (length (I .solutionBounds)) 32) _ h6);
-    }
-
 numbers : (k : Kind) (xs : List ℤ) (n b : ℕ) → ((z : ℤ) → inRange k z ≡ true → natAbs z ≤ b) → allInRange k n (at xs) ≡ true → n ≤ length xs → Numbers xs n b
 numbers k xs n b h e long = record { long = long; within = record { size = λ i l. h (at xs i) (all-at k n (at xs) e i l) } }
 
@@ -146,25 +109,7 @@ said-sound I e =
           rw (place-column j k (I .n) lk, place-row j k (I .n) lk) at h;
     }
 
--- limits that agree on the first n places enclose alike
-encloses-as : (P : Problem) (E E′ : ℕ → ℕ) (L L′ : ℕ → ℕ → ℕ) → ((i : ℕ) → i < P .n → E′ i ≡ E i) → ((i j : ℕ) → i < P .n → j < P .n → L′ i j ≡ L i j) →
-    Encloses P E L → Encloses P E′ L′
-encloses-as P E E′ L L′ e f x = record {
-  solution = λ N q h i l. rw (e i l) (x .solution N q h i l);
-  inverse = λ H q h i j li lj. rw (f i j li lj) (x .inverse H q h i j li lj);
-  kernel = x .kernel;
-}
-
-pub not-both : {a b : Bool} → a ≡ true → b ≡ false → a && b ≡ false
-not-both p q = rw (p, q)
-
-pub not-first : {a : Bool} (b : Bool) → a ≡ false → a && b ≡ false
-not-first b p = rw p
-
 -- ---- the three cases
-clash-bool : {b : Bool} → b ≡ true → b ≡ false → ⊥
-clash-bool p q = let z : _≡_ {A = ℕ} 0 1 = cc in omega arith
-
 pub checked-short : (I : Input) → short I ≡ true → Checked I (Refused TooShort) (I .solutionBounds) (I .inverseBounds)
 unfolding solutionBoundsAfter inverseBoundsAfter
 checked-short I e = record {
@@ -172,7 +117,7 @@ checked-short I e = record {
   solution-bounds = sym (accepted-old _ _ (answer-short I e));
   inverse-bounds = sym (accepted-old _ _ (answer-short I e));
   encloses = λ n. absurd (nothing-is-not n);
-  accepts = λ N q H q′ s r x. absurd (clash-bool e s);
+  accepts = λ N q H q′ s r x. absurd (clash e s);
 }
 
 pub checked-range : (I : Input) → short I ≡ false → inRanges I ≡ false → Checked I (Refused OutOfRange) (I .solutionBounds) (I .inverseBounds)
@@ -182,7 +127,7 @@ checked-range I e f = record {
   solution-bounds = sym (accepted-old _ _ (answer-range I e f));
   inverse-bounds = sym (accepted-old _ _ (answer-range I e f));
   encloses = λ n. absurd (nothing-is-not n);
-  accepts = λ N q H q′ s r x. absurd (clash-bool r f);
+  accepts = λ N q H q′ s r x. absurd (clash r f);
 }
 
 pub checked-ready : (I : Input) → short I ≡ false → inRanges I ≡ true → {r : Outcome} {E L : List ℕ} → Reckoned I r E L → Checked I r E L

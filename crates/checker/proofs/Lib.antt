@@ -2,6 +2,7 @@ pub mod Written
 pub mod Places
 pub mod Bounded
 pub mod Outcome
+pub mod Lengths
 pub mod Contract
 pub mod Statements
 pub mod Agreement

@@ -1,8 +1,9 @@
 use mathlib.Core.Path.{_≡_, sym, _∙_}
 use mathlib.Core.Bool.{true, false}
-use Rattle.rules.proofs.Ranges.{both, both-left, size-range}
+use Rattle.rules.proofs.Ranges.{both, both-left, not-both, not-first, size-range}
 use Rattle.checker.specs.Input.{Input, input, short, sizesInRange, inRanges}
-use Rattle.checker.proofs.Contract.{long-of, ready-of, not-both, not-first, checked-short, checked-range, checked-ready}
+use Rattle.checker.proofs.Lengths.{long-of}
+use Rattle.checker.proofs.Contract.{ready-of, checked-short, checked-range, checked-ready}
 use borrow.Author.Needs.{needs}
 use Rattle.checker.proofs.check.Statement.{statement}
 use Rattle.checker.proofs.check.Tie as tie
