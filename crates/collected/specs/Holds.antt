@@ -1,8 +1,10 @@
 -- What forms give, and what a state holds of them.
 --   In f fs      — f is one of the forms fs
 --   Holds f u    — the state u holds what the form f gives: n; s and t; a part's numbers at their own places, all in their range, the form marked as
---                  given; the accepted end
---   sizeFrom, scalesFrom fs — n, and s and t, that the forms fs give
+--                  given; the accepted end.  HoldsSize, HoldsScale, HoldsPart, HoldsItem — by the kind of form
+--   Scales       — s and t
+--   sizeFrom, scalesFrom fs — n, and s and t, that the forms fs give;  sizeBy, scaleBy — that one form gives, or those of the others
+--   isOf p k x   — x is the form of the part p for the number k
 --   valueFrom fs p k j — the number j, from 0, that they give of the part p for the number k
 --   InRange u    — every number that a check uses is in its range
 --   Reckoned w   — w is nothing, 5, 6 or 7
@@ -28,7 +30,6 @@ pub data In (f : Form) : List Form → Type 0 where
   here : {fs : List Form} → In f (f ∷ fs)
   there : {g : Form} {fs : List Form} → In f fs → In f (g ∷ fs)
 
--- s and t
 pub record Scales : Type 0 where
   pub solution : ℕ
   pub inverse : ℕ

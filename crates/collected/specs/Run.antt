@@ -4,9 +4,10 @@
 --   Accepts u lines — every one of them is accepted
 --   Made d          — the loader d was made by `new` and `take`, whatever the lines and the lists lent
 --   formOf line, forms lines — the form that a line is, the forms that lines are
+--   listOf p l      — the list of the part p
 --   cell l n p i j  — the number j, from 0, of the part p for the number i, from 1, in lists of a system of n equations
 --   kindOf p        — what the numbers of a part stand for
---   outstanding d   — the forms outstanding: problem, scale, 5n and end; before problem, when n is not known, those of 32 equations
+--   outstandingAt s m, outstanding d — the forms outstanding: problem, scale, 5n and end; before problem, when n is not known, those of 32 equations
 use mathlib.Core.List.{List, [], _∷_}
 use mathlib.Core.Option.{Option, none, some}
 use mathlib.Core.Path.{_≡_}

@@ -1,5 +1,6 @@
 -- The whole file of document 01, as numbers in lists that are long enough, and its exact solution (16/11, 9/11) and inverse (3 1 / 1 4)/11.
 --   padded — a list made long enough by zeros
+--   matrix, right, guess, inverse, weights — its lists
 --   file   — its problem;  exact, exactInverse — N and H, both with q = 11
 use mathlib.Core.List.{List, [], _∷_, _++_}
 use lib.IntN.{ℤ, pos, negsuc}

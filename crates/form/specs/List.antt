@@ -1,6 +1,7 @@
 -- The numbers of a list, as the code has them: beside a form, since there may be any count of them.
 --   noNumbers       — of no list
 --   allInside k zs  — all numbers are in the range of the kind k
+--   firstValues n zs — the first n of them, capped; 0 where there are fewer
 --   numbersOf k zs  — how many, whether all are in range, and the first 32, capped
 --   addNumber k l v — the numbers l, and v after them
 --   listedAt k s at — the list at a place
@@ -23,7 +24,6 @@ unfoldable pub allInside : Kind → List ℤ → Bool
 allInside k [] = true
 allInside k (z ∷ zs) = inRange k z && allInside k zs
 
--- the first n of them, capped; 0 where there are fewer
 unfoldable pub firstValues : ℕ → List ℤ → List ℤ
 firstValues zero zs = []
 firstValues (suc n) [] = pos 0 ∷ firstValues n []

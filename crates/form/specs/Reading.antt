@@ -1,10 +1,13 @@
 -- The exact reading of a line, from left to right, by places: each part is read at the place after the part before it.
 --   opening w       — how a form of the word w starts
+--   starts w l      — the list l starts with the bytes w
 --   wordAt s at w   — the place after the bytes w, where they stand at the place
+--   orWord s at h w o — h, or the word w with the opening o where h is none;  firstOf s at h ws — h, or the first of the words ws where h is none
 --   headAt s at     — the first of the eight words whose opening stands at the place
---   othersAt s f at — the further numbers of a list, each after a single space (32), at most f
+--   Others, othersAt s f at — the further numbers of a list, each after a single space (32), at most f, and the place after them
+--   first, second, front, others, close — the parts of a line, by the place after its opening
 --   lastOf w ..     — the place of a form's last bracket, by its word;  endOf — the place after it
---   formAt s w h    — the form of the word w whose opening ends at the place h
+--   formOf w i v a zs — the form of the word w from a first number, a second one, and a list;  formAt s w h — that whose opening ends at the place h
 --   reading s       — the form that the line s is, if it is one; it is one where the line ends after its last bracket
 use mathlib.Core.Bool.{Bool, true, false, _&&_, cond}
 use mathlib.Core.List.{List, [], _∷_}
@@ -38,7 +41,6 @@ starts (w ∷ ws) (b ∷ bs) = eqb b w && starts ws bs
 unfoldable pub wordAt : List ℕ → ℕ → List ℕ → ℕ
 wordAt s at w = cond (starts w (drop at s)) (at + length w) (lost s)
 
--- h, or the word w with the opening o where h is none
 unfoldable pub orWord : List ℕ → ℕ → Head → Word → List ℕ → Head
 orWord s at h w o = cond (leb (h .next) (length s)) h (record { word = w; next = wordAt s at o })
 
@@ -95,7 +97,6 @@ lastOf End h i v l = h
 abbrev pub endOf : List ℕ → Word → ℕ → ℕ
 endOf s w h = wordAt s (lastOf w h (first s h .next) (second s h .next) (close s h)) (bytes ")")
 
--- from the first number, a second one, and a list
 abbrev pub formOf : Word → ℤ → ℤ → ℤ → List ℤ → Form
 formOf Problem i v a zs = problem i
 formOf Scale i v a zs = scale i v

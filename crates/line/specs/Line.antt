@@ -1,7 +1,8 @@
 -- What a line is, as the code has it: the exact reading, its numbers capped; or 01's refusals 1 and 2.
 --   cappedForm f — the form with its numbers capped
 --   numbersIn f  — the numbers of its list, beside it
---   lineOf s     — what the line s is
+--   refused r    — the line that is refused with r;  ofReading o — what a line is by its reading: 2 where it is no form
+--   lineOf s     — what the line s is: 1 above 320 bytes, else by its reading
 --   said a       — 01's number for an answer; nothing where it is a form
 use mathlib.Core.Bool.{cond}
 use mathlib.Core.List.{List, [], _∷_}

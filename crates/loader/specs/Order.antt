@@ -1,6 +1,7 @@
 -- The refusals of a line in 01's order: 8, 14, 1, 2, 11, 3, 4, 12, 13, where 3 is two tests, of the place i and then of the values.
 --   Case     — for each refusal whether its stated case holds, and the count of missing forms, which 13 gives
 --   order    — the tests in 01's order
+--   ofForm o other g — g of the form that a line is; `other` where the line is no form
 --   caseOf   — which cases hold of a line at a loader, with these lists
 --   answer   — what is said of the line: nothing where it is accepted
 use mathlib.Core.Bool.{Bool, true, false}
@@ -44,7 +45,6 @@ order c =
     ∷ record { says = 13 ∷ c .missing ∷ []; holds = c .incomplete }
     ∷ []
 
--- something of the form that a line is, and a thing to stand for it where the line is no form
 abbrev pub ofForm {ℓ} : {A : Type ℓ} → Option Form → A → (Form → A) → A
 ofForm none other g = other
 ofForm (some f) other g = g f

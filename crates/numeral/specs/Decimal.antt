@@ -1,5 +1,6 @@
 -- The spelling of a number (01: "A number is 0, or digits without a leading 0, with a minus before it where negative").
 --   decimal n — the decimal digits of n as bytes, the highest first, without a leading 0; 0 is the one digit 0
+--   digits f n — the same, at most f digits of it;  the bound in `decimal` is at least their count (law `decimal-next`: 10 ≤ n → decimal n ≡ decimal (n / 10) ++ ..)
 --   numeral z — the same with a minus before it where z is negative
 use mathlib.Core.Bool.{cond}
 use mathlib.Core.List.{List, [], _∷_, _++_}
@@ -7,7 +8,6 @@ use Prim.Native.Nat.{ℕ, zero, suc, _+_, _/_, _%_, _^_}
 use lib.Dec.{ltb}
 use lib.IntN.{ℤ, pos, negsuc}
 
--- the recursion's bound is at least the count of digits (law `decimal-next`: 10 ≤ n → decimal n ≡ decimal (n / 10) ++ ..)
 unfoldable pub digits : ℕ → ℕ → List ℕ
 digits zero n = []
 digits (suc f) n = cond (ltb n 10) ((48 + n) ∷ []) (digits f (n / 10) ++ ((48 + n % 10) ∷ []))

@@ -5,8 +5,11 @@
 --   lost s        — the place that is given where a reading fails
 --   runAt v i l   — the digits at the head of l, which starts at the place i, after digits of value v
 --   sizeAt s at   — 0, or digits without a leading 0
---   numberAt s at — a number; −0 is none
---   cap z         — z, or ±2^40 where z is larger in size; no range of 01 reaches so far (law `cap-range`)
+--   positiveOf, negativeOf — the number of a size, and its negative; −0 is none
+--   numberAt s at — a number
+--   capAt         — the cap, 2^40; no range of 01 reaches so far (law `cap-range`)
+--   capSize, cap z — a size, and a number, or ±2^40 where it is larger in size: the one place where numbers are capped
+--   cappedSize, cappedNumber — what is read, its value capped
 use mathlib.Core.Bool.{cond}
 use mathlib.Core.List.{List, [], _∷_}
 use Prim.Native.Nat.{ℕ, suc, _+_, _-_, _*_, _^_, min}
@@ -41,7 +44,6 @@ negativeOf other z = cond (eqb (z .value) 0) (record { value = pos 0; next = oth
 unfoldable pub numberAt : List ℕ → ℕ → Number
 numberAt s at = cond (eqb (getD s at 0) 45) (negativeOf (lost s) (sizeAt s (at + 1))) (positiveOf (sizeAt s at))
 
--- the one place where numbers are capped
 abbrev pub capAt : ℕ
 capAt = 2 ^ 40
 

@@ -3,6 +3,7 @@
 --   given z p i   — the form of the part p for the number i was given
 --   marked z p i  — the sets with that form
 --   counted       — the parts whose forms count as missing
+--   total ps f    — the sum of f over the parts ps
 --   missing n z   — how many forms are still missing out of 5n: each i from 1 to n not given, once for each part
 --   sized, scaled, ended — whether problem, whether scale was given; 14: whether the end was accepted
 --   early s x     — 11: a form other than problem first, or other than problem or scale before the scale
