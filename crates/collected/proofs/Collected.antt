@@ -1,23 +1,16 @@
--- Accepted lines: the state holds what every one of their forms gives, whatever comes after.
---   View, view   — an accepted form by what it gives
+-- An accepted form: the state holds what it gives, and what was given before.
+--   next u g     — the state after the form g
 --   holds-own    — a form that is accepted is held;  holds-kept — a form that is held stays so when another is accepted
---   kept-all, collected — the same of all lines: after accepted lines every one of their forms is held
 use mathlib.Core.Path.{_≡_, refl, sym, subst, _∙_}
 use mathlib.Core.Bool.{true, false, not}
-use mathlib.Core.List.{List, [], _∷_}
-use Prim.Native.Nat.{ℕ, zero, suc, _*_, _-_, _≤_, _<_}
-use native.Mathlib.Decide.{ℕ-discrete}
+use mathlib.Core.List.{List}
+use Prim.Native.Nat.{ℕ, _*_, _-_, _≤_, _<_}
 use native.Mathlib.Omega.{arith}
-use borrow.Author.Tests.{not-false, eqb-true}
-use lib.Dec.{eqb}
+use borrow.Author.Tests.{not-false}
 use lib.IntN.{ℤ, pos, natAbs}
 use lib.ListN.{length, getD}
 use Rattle.rules.specs.Range.{inRange}
-use Rattle.rules.specs.declared.Kind.{Kind}
-use Rattle.rules.specs.declared.Kind.the-variants as kind
-use Rattle.rules.proofs.Ranges.{both-left, both-right}
-use Rattle.form.specs.Form.{Form, problem, scale, row, right, guess, inverse, weight, end}
-use Rattle.form.specs.List.{allInside}
+use Rattle.form.specs.Form.{Form, right, guess, inverse}
 use Rattle.items.specs.Item.{itemOf, valuesOf, placed, outside, miscounted}
 use Rattle.items.specs.Lists.{Lists, short, putAll}
 use Rattle.items.specs.Put.{partIndex, width}
@@ -28,8 +21,7 @@ use Rattle.items.specs.declared.Part.the-variants.{Row, Right, Guess, Inverse, 
 use Rattle.items.proofs.Capped.{part-same}
 use Rattle.items.proofs.Lists.{Long, long}
 use Rattle.items.proofs.Put.{between}
-use Rattle.places.proofs.Places.{has-same, has-other}
-use Rattle.progress.specs.Progress.{setOf, given, marked, sized, scaled, ended}
+use Rattle.progress.specs.Progress.{given, sized, scaled, ended}
 use Rattle.progress.proofs.Progress.{scaled-sized, placed-of, size-of, late}
 use Rattle.loader.specs.Taken.{after}
 use Rattle.loader.proofs.Form.{Passed}
@@ -37,55 +29,10 @@ use Rattle.loader.proofs.Exact.{formCase}
 use Rattle.collected.specs.Run.{State, listOf, kindOf}
 use Rattle.collected.specs.Holds.{Holds, HoldsItem, HoldsPart}
 use Rattle.collected.proofs.Sound.{Sound, clash}
-use Rattle.collected.proofs.Outstanding.{marked-own, marked-other}
+use Rattle.collected.proofs.Marks.{given-own, given-else}
+use Rattle.collected.proofs.View.{View, view, a-problem, a-scale, a-part, an-end}
 use Rattle.collected.proofs.Cells.{cell-own, cell-else, cell-end}
 
--- ---- what an accepted form gives
-pub data View (n : ℕ) (f : Form) : Type 0 where
-  a-problem : (m : ℤ) → itemOf f ≡ Problem m → View n f
-  a-scale : (s t : ℤ) → itemOf f ≡ Scale s t → View n f
-  a-part : (q : Part) (i : ℤ) → itemOf f ≡ Of q i → length (valuesOf f) ≡ width q n → ((j : ℕ) → j < width q n → inRange (kindOf q) (getD (valuesOf f) j (pos 0)) ≡ true) → View n f
-  an-end : itemOf f ≡ End → View n f
-
-inside-at : (k : Kind) (zs : List ℤ) → allInside k zs ≡ true → (j : ℕ) → j < length zs → inRange k (getD zs j (pos 0)) ≡ true
-unfolding allInside
-inside-at k [] h j l = absurd (omega arith)
-inside-at k (z ∷ zs) h zero l = both-left (inRange k z) (allInside k zs) h
-inside-at k (z ∷ zs) h (suc j) l = inside-at k zs (both-right (inRange k z) (allInside k zs) h) j (omega arith)
-
-list-inside : (k : Kind) (n : ℕ) (zs : List ℤ) → not (allInside k zs) ≡ false → not (eqb (length zs) n) ≡ false → (j : ℕ) → j < n → inRange k (getD zs j (pos 0)) ≡ true
-list-inside k n zs o c j l = inside-at k zs (not-false _ o) j (omega (arith, eqb-true (length zs) n (not-false _ c)))
-
-one-inside : (k : Kind) (z : ℤ) → not (inRange k z) ≡ false → (j : ℕ) → j < 1 → inRange k (getD (z ∷ []) j (pos 0)) ≡ true
-one-inside k z o zero l = not-false _ o
-one-inside k z o (suc j) l = absurd (omega arith)
-
-pub view : (n : ℕ) (f : Form) → outside f ≡ false → miscounted n f ≡ false → View n f
-view n (problem m) o c = a-problem m refl
-view n (scale s t) o c = a-scale s t refl
-view n (row i a others) o c = a-part Row i refl (eqb-true (length (a ∷ others)) n (not-false _ c)) (list-inside kind.Matrix n (a ∷ others) o c)
-view n (right i b) o c = a-part Right i refl refl (one-inside kind.Right b o)
-view n (guess i x) o c = a-part Guess i refl refl (one-inside kind.Guess x o)
-view n (inverse i g others) o c = a-part Inverse i refl (eqb-true (length (g ∷ others)) n (not-false _ c)) (list-inside kind.Inverse n (g ∷ others) o c)
-view n (weight i w) o c = a-part Weight i refl refl (one-inside kind.Weight w o)
-view n end o c = an-end refl
-
--- ---- the sets after a form
-module _ (z : List ℕ) (five : length z ≡ 5) (q : Part) (k : ℕ) where
-  pub given-own : given (marked z q k) q k ≡ true
-  given-own = rw (marked-own z five q k) (has-same (setOf z q) (k - 1))
-
-  pub given-else : (p : Part) (i : ℕ) → 1 ≤ i → 1 ≤ k → (partIndex p ≡ partIndex q → i ≡ k → ⊥) → given (marked z q k) p i ≡ given z p i
-  given-else p i l h other = go (ℕ-discrete (partIndex p) (partIndex q))
-    where
-      go : Dec (partIndex p ≡ partIndex q) → given (marked z q k) p i ≡ given z p i
-      go (no e) = rw (marked-other z five q k p e)
-      go (yes e) =
-          subst (λ (r : Part). given (marked z q k) r i ≡ given z r i) (sym (part-same p q e))
-          (rw (marked-own z five q k) (has-other (setOf z q) (k - 1) (i - 1) (λ s. other e (omega arith))))
-
--- ---- one form
--- the state after the form g
 abbrev pub next : State → Form → State
 next u g = record { loader = after (u .loader) (itemOf g); lists = putAll (u .loader .n) g (u .lists) }
 

@@ -33,7 +33,7 @@ use Rattle.progress.proofs.Progress.{scaled-sized}
 use Rattle.collected.specs.Run.{State, start, step, run, Accepts, forms, listOf, cell, kindOf}
 use Rattle.collected.specs.Holds.{HoldsItem, HoldsPart, valueFrom, sizeFrom, scalesFrom, InRange}
 use Rattle.collected.proofs.Sound.{Sound, fresh-sound, fresh-empty, line-sound}
-use Rattle.collected.proofs.Outstanding.{hits, once}
+use Rattle.collected.proofs.Marks.{hits, once}
 use Rattle.collected.proofs.Runs.{collected, Found, found}
 use Rattle.collected.proofs.Sizes.{HasScales, size-from, scales-from}
 

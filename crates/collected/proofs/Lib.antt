@@ -1,6 +1,8 @@
 pub mod Sound
+pub mod Marks
 pub mod Outstanding
 pub mod Cells
+pub mod View
 pub mod Collected
 pub mod Runs
 pub mod Sizes

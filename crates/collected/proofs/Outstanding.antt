@@ -1,31 +1,23 @@
 -- Forms outstanding fall at each accepted line: by one, and at problem, which says how many there are, by one or more.
---   missing-marked — with a form that was not given one form fewer is missing
---   falls-one      — an accepted line past problem leaves one form fewer outstanding;  falls — and any accepted line leaves fewer
+--   falls-one   — an accepted line past problem leaves one form fewer outstanding;  falls — and any accepted line leaves fewer
 --   lines-fall, at-most — so accepted lines are at most as many as were outstanding: from `new` at most 163
-use mathlib.Core.Path.{_≡_, refl, sym, subst}
-use mathlib.Core.Bool.{Bool, true, false, not, cond}
+use mathlib.Core.Path.{_≡_, refl}
+use mathlib.Core.Bool.{Bool, true, false, not}
 use mathlib.Core.List.{List, [], _∷_}
-use Prim.Native.Nat.{ℕ, suc, _+_, _*_, _-_, _≤_, _<_}
+use Prim.Native.Nat.{ℕ, suc, _+_, _-_, _≤_, _<_}
 use native.Mathlib.Omega.{arith}
-use native.Mathlib.Nat.{suc-mul}
-use borrow.Author.Tests.{not-false, ltb-false, eqb-true, eqb-false}
-use lib.Dec.{eqb}
+use borrow.Author.Tests.{not-false, ltb-false}
 use lib.IntN.{ℤ, natAbs}
 use lib.ListN.{length}
-use lib.Seq.{getD-set-same, getD-set-other}
 use Rattle.rules.proofs.Ranges.{size-range}
 use Rattle.form.specs.Form.{Form, problem, scale, row, right, guess, inverse, weight, end}
 use Rattle.items.specs.Item.{itemOf}
 use Rattle.items.specs.Lists.{Lists}
-use Rattle.items.specs.Put.{partIndex}
 use Rattle.items.specs.declared.Item.the-variants.{Of}
 use Rattle.items.specs.declared.Part.{Part}
 use Rattle.items.specs.declared.Part.the-variants.{Row, Right, Guess, Inverse, Weight}
-use Rattle.items.proofs.Capped.{part-same}
 use Rattle.items.proofs.Put.{between}
-use Rattle.places.specs.Places.{withPlace, lacking}
-use Rattle.places.proofs.Places.{lacking-with, lacking-≤}
-use Rattle.progress.specs.Progress.{setOf, counted, total, given, marked, missing, sized, scaled, ended, misplaced}
+use Rattle.progress.specs.Progress.{given, missing, sized, scaled, ended, misplaced}
 use Rattle.progress.specs.declared.Stage.{Stage}
 use Rattle.progress.specs.declared.Stage.the-variants.{Start, Sized, Scaled, Ended}
 use Rattle.progress.proofs.Progress.{late, placed-of}
@@ -36,64 +28,9 @@ use Rattle.loader.proofs.Form.{Passed}
 use Rattle.loader.proofs.Exact.{formCase}
 use Rattle.loader.proofs.Accepted.{accepted-form}
 use Rattle.collected.specs.Run.{State, start, step, run, Accepts, outstanding}
+use Rattle.collected.proofs.Marks.{missing-marked, missing-most}
 use Rattle.collected.proofs.Sound.{Sound, fresh-sound, form-sound, line-sound, clash}
 
--- ---- one form more
--- 1 for the part p itself
-abbrev pub hits : Part → Part → ℕ
-hits p q = cond (eqb (partIndex p) (partIndex q)) 1 0
-
-total-more : (p : Part) (ps : List Part) (f g : Part → ℕ) → ((q : Part) → f q ≡ g q + hits p q) → total ps f ≡ total ps g + total ps (hits p)
-total-more p [] f g h = refl
-total-more p (q ∷ ps) f g h = omega (arith, h q, total-more p ps f g h)
-
--- the part is counted once
-pub once : (p : Part) → total counted (hits p) ≡ 1
-once Row = refl
-once Right = refl
-once Guess = refl
-once Inverse = refl
-once Weight = refl
-
-index-below : (p : Part) → partIndex p < 5
-index-below Row = omega arith
-index-below Right = omega arith
-index-below Guess = omega arith
-index-below Inverse = omega arith
-index-below Weight = omega arith
-
--- the sets after a form: its own part's set with its place, the others as before
-module _ (z : List ℕ) (five : length z ≡ 5) (p : Part) (i : ℕ) where
-  pub marked-own : setOf (marked z p i) p ≡ withPlace (setOf z p) (i - 1)
-  marked-own = getD-set-same z (partIndex p) (withPlace (setOf z p) (i - 1)) 0 (omega (arith, index-below p))
-
-  pub marked-other : (q : Part) → (partIndex q ≡ partIndex p → ⊥) → setOf (marked z p i) q ≡ setOf z q
-  marked-other q e = getD-set-other z (partIndex p) (partIndex q) (withPlace (setOf z p) (i - 1)) 0 e
-
-  fewer : (n : ℕ) → 1 ≤ i → i ≤ n → given z p i ≡ false → (q : Part) → lacking (setOf z q) n ≡ lacking (setOf (marked z p i) q) n + hits p q
-  fewer n l h e q = go (eqb (partIndex p) (partIndex q)) refl
-    where
-      go : (b : Bool) → eqb (partIndex p) (partIndex q) ≡ b → lacking (setOf z q) n ≡ lacking (setOf (marked z p i) q) n + cond b 1 0
-      go true s =
-          subst (λ (r : Part). lacking (setOf z r) n ≡ lacking (setOf (marked z p i) r) n + 1) (part-same p q (eqb-true (partIndex p) (partIndex q) s))
-          (rw marked-own (omega (arith, lacking-with (setOf z p) n (i - 1) (omega arith) e)))
-      go false s = rw (marked-other q (λ r. eqb-false (partIndex p) (partIndex q) s (sym r))) (omega arith)
-
-  pub missing-marked : (n : ℕ) → 1 ≤ i → i ≤ n → given z p i ≡ false → missing n z ≡ suc (missing n (marked z p i))
-  unfolding missing
-  missing-marked n l h e =
-      omega (arith, once p, total-more p counted (λ (q : Part). lacking (setOf z q) n) (λ (q : Part). lacking (setOf (marked z p i) q) n) (fewer n l h e))
-
--- ---- at most 5n are missing
-total-most : (ps : List Part) (f : Part → ℕ) (n : ℕ) → ((q : Part) → f q ≤ n) → total ps f ≤ length ps * n
-total-most [] f n h = omega arith
-total-most (q ∷ ps) f n h = omega (arith, h q, total-most ps f n h, suc-mul (length ps) n)
-
-pub missing-most : (n : ℕ) (z : List ℕ) → missing n z ≤ 5 * n
-unfolding missing
-missing-most n z = total-most counted (λ (q : Part). lacking (setOf z q) n) n (λ q. lacking-≤ (setOf z q) n)
-
--- ---- from line to line
 is-start : (s : Stage) → sized s ≡ false → s ≡ Start
 is-start Start e = refl
 is-start Sized e = clash true refl e

@@ -29,7 +29,8 @@ use Rattle.loader.proofs.Accepted.{Accepted, accepted-form}
 use Rattle.collected.specs.Run.{State, step, run, Accepts, forms}
 use Rattle.collected.specs.Holds.{In, here, there, Holds, isOf, valueFrom}
 use Rattle.collected.proofs.Sound.{Sound, line-sound, clash}
-use Rattle.collected.proofs.Collected.{next, holds-own, holds-kept, given-else}
+use Rattle.collected.proofs.Collected.{next, holds-own, holds-kept}
+use Rattle.collected.proofs.Marks.{given-else}
 
 -- ---- one line
 pub step-next : (u : State) {line : List ℕ} {f : Form} → Accepted (u .loader) (u .lists) line f → step u line ≡ next u f

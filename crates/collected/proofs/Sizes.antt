@@ -17,7 +17,7 @@ use Rattle.loader.proofs.Accepted.{Accepted, accepted-form}
 use Rattle.collected.specs.Run.{State, step, run, Accepts, forms}
 use Rattle.collected.specs.Holds.{In, here, there, Holds, HoldsItem, sizeFrom, scalesFrom, sizeBy, scaleBy, Scales}
 use Rattle.collected.proofs.Sound.{Sound, line-sound, clash}
-use Rattle.collected.proofs.Collected.{View, view, a-problem, a-scale, a-part, an-end}
+use Rattle.collected.proofs.View.{View, view, a-problem, a-scale, a-part, an-end}
 use Rattle.collected.proofs.Runs.{step-own, kept-all, forms-next}
 
 -- ---- n, s and t
