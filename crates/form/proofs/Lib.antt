@@ -5,3 +5,4 @@ pub mod Spelling
 pub mod Steps
 pub mod Values
 pub mod Turns
+pub mod Printable

@@ -1,6 +1,7 @@
 -- When a line is refused, in 01's words; "it is the spelling of f" is s ≡ spell f.
 --   said-1 — 1 is said exactly where the line is above 320 bytes
 --   said-2 — 2 is said exactly where it is not, and is the spelling of no form
+--   said-2-empty, said-2-byte — so 2 is said of an empty line, and of one with a byte other than 32 to 126 in it, as a line feed
 --   read-as — a line of at most 320 bytes that is the spelling of f is read as f
 --   spell-one — a line is the spelling of one form only
 use mathlib.Core.Path.{_≡_, refl, sym, ap, _∙_, subst}
@@ -9,6 +10,7 @@ use mathlib.Core.List.{List, [], _∷_}
 use mathlib.Core.Logic.{_↔_}
 use mathlib.Core.Option.{Option, none, some}
 use Prim.Native.Nat.{ℕ, _≤_, _<_}
+use native.Mathlib.Omega.{arith}
 use borrow.Author.Tests.{ltb-true, ltb-false, lt-ltb, le-ltb, eq-eqb}
 use lib.Dec.{T, ltb, eqb}
 use lib.ListN.{length, getD}
@@ -17,6 +19,7 @@ use Rattle.line.specs.declared.Line.{Line}
 use Rattle.form.specs.Form.{Form, spell}
 use Rattle.form.specs.Reading.{reading}
 use Rattle.line.specs.Line.{lineOf, ofReading, refused, said}
+use Rattle.form.proofs.Printable.{spell-some, spell-printable}
 use Rattle.form.proofs.Spelling.{spelled-read, read-spelled}
 
 pub spell-one : (f g : Form) → spell f ≡ spell g → f ≡ g
@@ -78,3 +81,9 @@ module _ (s : List ℕ) where
     (λ e. by-length (λ h. absurd (differ (sym (said-long h) ∙ e) tt)) (λ h. (h, λ f p. differ (sym (said-form f h (ap reading p ∙ read-spelled f)) ∙ e) tt))),
     λ (h, n). by-reading (λ e. said-none h e) (λ f e. absurd (n f (spelled-read s f e))),
   )
+
+  pub said-2-byte : (k : ℕ) → length s ≤ 320 → k < length s → ((32 ≤ getD s k 0) × (getD s k 0 ≤ 126) → ⊥) → said (lineOf s .answer) ≡ 2 ∷ []
+  said-2-byte k h l other = said-2 .1 (h, λ f e. other (rw (sym e) at (spell-printable f k (rw e at l))))
+
+pub said-2-empty : said (lineOf [] .answer) ≡ 2 ∷ []
+said-2-empty = said-2 [] .1 (omega arith, λ f e. let n : 0 ≡ length (spell f) = ap length e in omega (arith, spell-some f))

@@ -135,7 +135,7 @@ fn decide(line: &[u8], head: Head, first: Number, second: Number, list: Listed, 
     }
 }
 
-// What a line is. Every part is read, whatever the one before it was: where a part is missing, all that follow are read past the end of the line.
+// What a line is (`lineOf`): 1 above 320 bytes; else its form, the numbers capped, where it is the spelling of one; else 2. Every part is read, whatever the one before it was: where a part is missing, all that follow are read past the end of the line.
 pub fn read_line(line: &[u8]) -> Line
     ensures { λ r. ⌜ r ≡ lineOf (now (line .entry)) ⌝ }
 {

@@ -1,0 +1,134 @@
+-- The bytes of a form's spelling (01: "ASCII lines").
+--   spell-some      — there is one or more
+--   spell-printable — each is 32 to 126, so that no line feed, no other control character and no byte above ASCII is among them
+--   spell-no-feed   — none is a line feed
+use mathlib.Core.Path.{_≡_, refl}
+use mathlib.Core.Bool.{Bool, true, _&&_}
+use mathlib.Core.List.{List, [], _∷_, _++_}
+use Prim.Native.Nat.{ℕ, zero, suc, _+_, _%_, _≤_, _<_}
+use native.Mathlib.Omega.{arith}
+use borrow.Author.Tests.{leb-true, le-leb}
+use lib.Dec.{leb}
+use lib.IntN.{ℤ, pos, negsuc}
+use lib.ListN.{length, getD}
+use Rattle.rules.proofs.Ranges.{both-left, both-right, both}
+use Rattle.numeral.specs.Decimal.{decimal, numeral}
+use Rattle.numeral.proofs.Decimal.{decimal-induction}
+use Rattle.form.specs.declared.Word.{Word}
+use Rattle.form.specs.declared.Word.the-variants.{Problem, Scale, Row, Right, Guess, Inverse, Weight, End}
+use Rattle.form.specs.Form.{bytes, Form, problem, scale, row, right, guess, inverse, weight, end, numerals, spell}
+use Rattle.form.specs.Reading.{opening}
+
+printable : ℕ → Bool
+printable b = leb 32 b && leb b 126
+
+all-printable : List ℕ → Bool
+all-printable [] = true
+all-printable (b ∷ bs) = printable b && all-printable bs
+
+record Printable (l : List ℕ) : Type 0 where
+  all : all-printable l ≡ true
+
+joined : (a b : List ℕ) → all-printable a ≡ true → all-printable b ≡ true → all-printable (a ++ b) ≡ true
+unfolding all-printable
+joined [] b p q = q
+joined (x ∷ a) b p q = both (both-left (printable x) (all-printable a) p) (joined a b (both-right (printable x) (all-printable a) p) q)
+
+join : {a b : List ℕ} → Printable a → Printable b → Printable (a ++ b)
+join {a} {b} p q = record { all = joined a b (p .all) (q .all) }
+
+-- ---- numbers
+digit : (n : ℕ) → n < 10 → Printable ((48 + n) ∷ [])
+unfolding all-printable printable
+digit n h = record { all = both (both (le-leb 32 (48 + n) (omega arith)) (le-leb (48 + n) 126 (omega arith))) refl }
+
+digits : (n : ℕ) → Printable (decimal n)
+digits = decimal-induction (λ n l. Printable l) digit (λ n h ih. join ih (digit (n % 10) (omega arith)))
+
+number : (z : ℤ) → Printable (numeral z)
+unfolding numeral all-printable printable
+number (pos n) = digits n
+number (negsuc n) = record { all = both refl (digits (suc n) .all) }
+
+-- ---- the text around them
+opens : (w : Word) → Printable (opening w)
+unfolding all-printable printable
+opens Problem = record { all = refl }
+opens Scale = record { all = refl }
+opens Row = record { all = refl }
+opens Right = record { all = refl }
+opens Guess = record { all = refl }
+opens Inverse = record { all = refl }
+opens Weight = record { all = refl }
+opens End = record { all = refl }
+
+space : Printable (bytes " ")
+unfolding all-printable printable
+space = record { all = refl }
+
+bracket : Printable (bytes " (")
+unfolding all-printable printable
+bracket = record { all = refl }
+
+close-one : Printable (bytes ")")
+unfolding all-printable printable
+close-one = record { all = refl }
+
+close-two : Printable (bytes "))")
+unfolding all-printable printable
+close-two = record { all = refl }
+
+-- ---- forms
+list : (a : ℤ) (zs : List ℤ) → Printable (numerals a zs)
+unfolding numerals
+list a [] = number a
+list a (b ∷ zs) = join (join (number a) space) (list b zs)
+
+two : {w : List ℕ} → Printable w → (i v : ℤ) → Printable (w ++ numeral i ++ bytes " " ++ numeral v ++ bytes ")")
+two p i v = join (join (join (join p (number i)) space) (number v)) close-one
+
+many : {w : List ℕ} → Printable w → (i a : ℤ) (zs : List ℤ) → Printable (w ++ numeral i ++ bytes " (" ++ numerals a zs ++ bytes "))")
+many p i a zs = join (join (join (join p (number i)) bracket) (list a zs)) close-two
+
+spelled : (f : Form) → Printable (spell f)
+unfolding spell
+spelled (problem n) = join (join (opens Problem) (number n)) close-one
+spelled (scale s t) = two (opens Scale) s t
+spelled (row i a others) = many (opens Row) i a others
+spelled (right i b) = two (opens Right) i b
+spelled (guess i x) = two (opens Guess) i x
+spelled (inverse i g others) = many (opens Inverse) i g others
+spelled (weight i w) = two (opens Weight) i w
+spelled end = join (opens End) close-one
+
+pub spell-some : (f : Form) → 0 < length (spell f)
+unfolding spell
+spell-some (problem n) = omega arith
+spell-some (scale s t) = omega arith
+spell-some (row i a others) = omega arith
+spell-some (right i b) = omega arith
+spell-some (guess i x) = omega arith
+spell-some (inverse i g others) = omega arith
+spell-some (weight i w) = omega arith
+spell-some end = omega arith
+
+byte-at : (l : List ℕ) → all-printable l ≡ true → (k : ℕ) → k < length l → (32 ≤ getD l k 0) × (getD l k 0 ≤ 126)
+unfolding all-printable printable
+byte-at [] e k h = absurd (omega arith)
+byte-at (b ∷ l) e zero h =
+    let p : printable b ≡ true = both-left _ (all-printable l) e in
+    (leb-true 32 b (both-left (leb 32 b) (leb b 126) p), leb-true b 126 (both-right (leb 32 b) (leb b 126) p))
+byte-at (b ∷ l) e (suc k) h = byte-at l (both-right (printable b) (all-printable l) e) k (omega arith)
+
+pub spell-printable : (f : Form) (k : ℕ) → k < length (spell f) → (32 ≤ getD (spell f) k 0) × (getD (spell f) k 0 ≤ 126)
+spell-printable f = byte-at (spell f) (spelled f .all)
+
+-- past the end of a line the byte is 0
+no-feed : (l : List ℕ) → all-printable l ≡ true → (k : ℕ) → getD l k 0 ≡ 10 → ⊥
+unfolding all-printable
+no-feed [] e k h = omega arith
+no-feed (b ∷ l) e zero h = omega (arith, byte-at (b ∷ l) e 0 (omega arith) .0)
+no-feed (b ∷ l) e (suc k) h = no-feed l (both-right (printable b) (all-printable l) e) k h
+
+pub spell-no-feed : (f : Form) (k : ℕ) → getD (spell f) k 0 ≡ 10 → ⊥
+spell-no-feed f = no-feed (spell f) (spelled f .all)
