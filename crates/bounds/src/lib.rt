@@ -69,7 +69,7 @@ fn steepest_of(sizes: &[u64; 32], margins: &[u64; 32], n: usize) -> usize
 }
 
 // w·p / g rounded up, for the weight w.
-fn limit_of(w: i64, p: u64, g: u64) -> u64
+fn bound_of(w: i64, p: u64, g: u64) -> u64
     requires { ⌜ (natAbs w ≤ 1024) × ((p ≤ 2 ^ 50) × ((0 < g) × (g ≤ 2 ^ 30))) ⌝ }
     ensures { λ r. ⌜ r ≡ ceilDiv (natAbs w * p) g ⌝ }
 {
@@ -89,7 +89,7 @@ fn bounds_of(sizes: &[u64; 32], margins: &[u64; 32], weights: &[i64], n: usize) 
     let g = margins[k];
     let mut out = [0u64; 32];
     for i in 0..n {
-        out[i] = limit_of(weights[i], p, g);
+        out[i] = bound_of(weights[i], p, g);
     }
     out
 }

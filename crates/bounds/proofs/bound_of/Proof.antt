@@ -4,8 +4,8 @@ use native.Mathlib.Omega.{arith}
 use native.Mathlib.Nat.{mul-le-mul}
 use lib.IntN.{natAbs}
 use Rattle.integer.proofs.Machine.{read}
-use Rattle.bounds.proofs.limit_of.Statement.{statement}
-use Rattle.bounds.proofs.limit_of.Tie as tie
+use Rattle.bounds.proofs.bound_of.Statement.{statement}
+use Rattle.bounds.proofs.bound_of.Tie as tie
 
 module _ (c : tie.After-magnitude) where
   size : c .magnitude .result ≡ natAbs (c .before .args .w)
@@ -26,5 +26,5 @@ ceil-div-requires c κs = omega (arith, product c)
 returns : tie.Need-returns
 returns c = rw (c .ceil-div .ensures, size (c .before))
 
-pub limit-of-spec : {M : Type 1} → statement M
-limit-of-spec = tie.close (tie.spec magnitude-requires mul-ceil-div ceil-div-requires returns)
+pub bound-of-spec : {M : Type 1} → statement M
+bound-of-spec = tie.close (tie.spec magnitude-requires mul-ceil-div ceil-div-requires returns)

@@ -38,17 +38,17 @@ element-copy-out-g c = omega (arith, c .before .steepest-of .ensures .below)
 loop-holds : tie.Need-loop-holds Inv-loop μ-loop
 loop-holds c = (omega arith, (refl, holds-none _ _ _))
 
-mul-limit-of : tie.Need-mul-limit-of Inv-loop μ-loop
-mul-limit-of c = omega arith
+mul-bound-of : tie.Need-mul-bound-of Inv-loop μ-loop
+mul-bound-of c = omega arith
 
-shared-slice-copy-out-limit-of : tie.Need-shared-slice-copy-out-limit-of Inv-loop μ-loop
-shared-slice-copy-out-limit-of c = omega arith
+shared-slice-copy-out-bound-of : tie.Need-shared-slice-copy-out-bound-of Inv-loop μ-loop
+shared-slice-copy-out-bound-of c = omega arith
 
-limit-of-requires : tie.Need-limit-of-requires Inv-loop μ-loop
-limit-of-requires c κs =
+bound-of-requires : tie.Need-bound-of-requires Inv-loop μ-loop
+bound-of-requires c κs =
     let s = c .before .before .before .before .before .before in
     let k = c .before .before .before .before .before .steepest-of .ensures .below in
-    rw (read _ (c .limit-of-arg .given))
+    rw (read _ (c .bound-of-arg .given))
     (s .pre .1 .1 .1 .within .size _ (c .before .loop-test .taken), (s .pre .1 .0 .most _ k, (s .pre .1 .1 .0 .above _ k, s .pre .1 .1 .0 .most _ k)))
 
 mul-out : tie.Need-mul-out Inv-loop μ-loop
@@ -66,7 +66,7 @@ loop-less c = search needs
 loop-again : tie.Need-loop-again Inv-loop μ-loop
 loop-again c =
     let l = c .before .before .before .loop in
-    (omega arith, (simp length-set (l .inv .1 .0), holds-more _ _ _ _ _ (l .inv .1 .1) (omega arith) (rw (read _ (c .before .limit-of-arg .given)) at (c .limit-of .ensures))))
+    (omega arith, (simp length-set (l .inv .1 .0), holds-more _ _ _ _ _ (l .inv .1 .1) (omega arith) (rw (read _ (c .before .bound-of-arg .given)) at (c .bound-of .ensures))))
 
 returns : tie.Need-returns Inv-loop μ-loop
 returns c =
@@ -87,9 +87,9 @@ bounds-of-spec =
     mul-g
     element-copy-out-g
     loop-holds
-    mul-limit-of
-    shared-slice-copy-out-limit-of
-    limit-of-requires
+    mul-bound-of
+    shared-slice-copy-out-bound-of
+    bound-of-requires
     mul-out
     array-write-out
     add-i
