@@ -1,7 +1,7 @@
 -- The contract of the check on lists, case by case.
 --   answer-short, answer-range, answer-ready — what is said, by the tests 8 and 3
 --   ready-of  — input that passes 8 and 3
---   sound-said, said-sound — nothing is said of ready input exactly where it is sound
+--   sound-said, said-sound — the reckoning says nothing exactly where the problem is sound
 --   checked-short, checked-range, checked-ready — the contract where 8 is said, where 3 is, and where the reckoning decides
 use mathlib.Core.Path.{_≡_, sym, _∙_}
 use mathlib.Core.Bool.{true, false}
@@ -15,6 +15,7 @@ use lib.ListN.{getD, length}
 use Rattle.integer.proofs.Search.{first-past, first-never, clash}
 use Rattle.linear.specs.Slice.{at}
 use Rattle.linear.proofs.Places.{place, square}
+use Rattle.rules.specs.Order.{verdict}
 use Rattle.rules.specs.Range.{inRange, allInRange}
 use Rattle.rules.specs.declared.Kind.{Kind}
 use Rattle.rules.specs.declared.Kind.the-variants as kind
@@ -32,7 +33,7 @@ use Rattle.enclosure.proofs.Demands.{encloses, encloses-as}
 use Rattle.reckoning.specs.Arrays.{Square, Numbers}
 use Rattle.reckoning.proofs.Columns.{place-column, place-row}
 use Rattle.checker.specs.Input.{Input, problem, short, inRanges, sizesInRange, listsInRange}
-use Rattle.checker.specs.Order.{firstMargin, firstResidual, firstColumn, answer}
+use Rattle.checker.specs.Order.{firstMargin, firstResidual, firstColumn, answer, reckonedOf}
 use Rattle.checker.specs.Checked.{written, solutionBoundsAfter, inverseBoundsAfter, Checked}
 use Rattle.checker.specs.Ready.{Ready, Reckoned, saidOf}
 use Rattle.checker.proofs.Lengths.{long-of}
@@ -87,26 +88,24 @@ ready-of I e f =
     }
 
 -- ---- sound input
-pub sound-said : (I : Input) → 0 < I .n → Sound (problem I) → saidOf I ≡ []
-sound-said I some x =
-    let P : Problem = problem I in
-    let m : firstMargin P ≡ I .n = first-never (I .n) (marginFails P) (x .margins) in
-    let k : firstResidual P ≡ I .n = first-never (I .n) (λ (k : ℕ). exceeds P k (residual P k)) (x .residuals) in
-    let i : firstColumn P ≡ I .n * I .n =
-    first-never (I .n * I .n) (λ (i : ℕ). exceeds P (i % I .n) (residual (columnOf P (i / I .n)) (i % I .n)))
-    (λ i l. x .columns (i / I .n) (div-lt-iff-lt-mul some .1 l) (i % I .n) (mod-lt i some)) in
-    rw (m, k, i) (rw (le-ltb (I .n) (I .n) (omega arith), le-ltb (I .n * I .n) (I .n * I .n) (omega arith)))
+pub sound-said : (P : Problem) → 0 < P .n → Sound P → verdict (reckonedOf P) ≡ []
+sound-said P some x =
+    let m : firstMargin P ≡ P .n = first-never (P .n) (marginFails P) (x .margins) in
+    let k : firstResidual P ≡ P .n = first-never (P .n) (λ (k : ℕ). exceeds P k (residual P k)) (x .residuals) in
+    let i : firstColumn P ≡ P .n * P .n =
+    first-never (P .n * P .n) (λ (i : ℕ). exceeds P (i % P .n) (residual (columnOf P (i / P .n)) (i % P .n)))
+    (λ i l. x .columns (i / P .n) (div-lt-iff-lt-mul some .1 l) (i % P .n) (mod-lt i some)) in
+    rw (m, k, i) (rw (le-ltb (P .n) (P .n) (omega arith), le-ltb (P .n * P .n) (P .n * P .n) (omega arith)))
 
-pub said-sound : (I : Input) → saidOf I ≡ [] → Sound (problem I)
-said-sound I e =
-    let P : Problem = problem I in
-    let none = accepted-places (I .n) (firstMargin P) (firstResidual P) (firstColumn P) e in
+pub said-sound : (P : Problem) → verdict (reckonedOf P) ≡ [] → Sound P
+said-sound P e =
+    let none = accepted-places (P .n) (firstMargin P) (firstResidual P) (firstColumn P) e in
     record {
-      margins = first-past (I .n) (marginFails P) (none .margin);
-      residuals = first-past (I .n) (λ (k : ℕ). exceeds P k (residual P k)) (none .residual);
+      margins = first-past (P .n) (marginFails P) (none .margin);
+      residuals = first-past (P .n) (λ (k : ℕ). exceeds P k (residual P k)) (none .residual);
       columns = λ j lj k lk.
-          let h = first-past (I .n * I .n) (λ (i : ℕ). exceeds P (i % I .n) (residual (columnOf P (i / I .n)) (i % I .n))) (none .column) (j * I .n + k) (place lj lk) in
-          rw (place-column j k (I .n) lk, place-row j k (I .n) lk) at h;
+          let h = first-past (P .n * P .n) (λ (i : ℕ). exceeds P (i % P .n) (residual (columnOf P (i / P .n)) (i % P .n))) (none .column) (j * P .n + k) (place lj lk) in
+          rw (place-column j k (P .n) lk, place-row j k (P .n) lk) at h;
     }
 
 -- ---- the three cases
@@ -148,6 +147,6 @@ checked-ready I e f {r} {E} {L} x =
           (λ i l. rw eE (written-at (I .n) (bound P) (I .solutionBounds) i l (omega (arith, ready .few, ready .solution-long))))
           (λ i j li lj. rw eL (written-at (I .n * I .n) (λ (k : ℕ). inverseBound P (k / I .n) (k % I .n)) (I .inverseBounds) (i * I .n + j) (place li lj) (omega (arith, square (ready .few), ready .inverse-long))
           ∙ rw (place-column i j (I .n) lj, place-row i j (I .n) lj)))
-          (encloses P (ready .heavy) (said-sound I s .margins));
-      accepts = λ N q H q′ s r x′. x .says ∙ sound-said I (ready .some) (rounded-sound (problem I) N q H q′ (ready .inverse-scale) x′);
+          (encloses P (ready .heavy) (said-sound P s .margins));
+      accepts = λ N q H q′ s r x′. x .says ∙ sound-said (problem I) (ready .some) (rounded-sound (problem I) N q H q′ (ready .inverse-scale) x′);
     }

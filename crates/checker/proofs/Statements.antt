@@ -109,7 +109,7 @@ module _ (I : Input) where
   said-of (inverse-large j k u m r lj lk p q h) =
       says u (said-7 (j * I .n + k) (no-margin m) (no-residual r) (first-place j k lj lk p q h) (place lj lk)
       ∙ rw (place-column j k (I .n) lk, place-row j k (I .n) lk))
-  said-of (accepted u x) = says u (sound-said I (some u) x)
+  said-of (accepted u x) = says u (sound-said (problem I) (some u) x)
 
 -- what is accepted is usable
 usable-of : (I : Input) {l : List ℕ} → Stated I l → l ≡ [] → Usable I

@@ -35,4 +35,4 @@ pub file-rounded-here : RoundedExact (problem fileInput) example.exact 11 exampl
 file-rounded-here = file-rounded
 
 pub file-accepted : answer fileInput ≡ []
-file-accepted = answer-ready fileInput (file-usable .long) (file-usable .inside) ∙ sound-said fileInput (lit< tt) file-sound
+file-accepted = answer-ready fileInput (file-usable .long) (file-usable .inside) ∙ sound-said (problem fileInput) (lit< tt) file-sound

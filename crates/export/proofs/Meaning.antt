@@ -1,23 +1,30 @@
--- The exported check in 01's words.
+-- The exported calls in 01's words.
 --   told-answer — the number and the values are those of 01's order of tests
 --   zero-said   — the number 0 is said of nothing but acceptance
+--   zero-answer, zero-reported — of a listing the number 0 is said of an accepted file alone, and then the report stands there
 --   zero-encloses, exact-zero — both halves of demand 3: 0 gives limits that enclose; a rounded exact proposal gets 0
+--   reported-encloses, exact-reported — the same of a file
 use mathlib.Core.Bool.{true, false}
 use mathlib.Core.List.{List, []}
 use mathlib.Core.Path.{_≡_, refl, sym, ap, _∙_}
 use Prim.Native.Nat.{ℕ, _+_, _*_}
 use native.Mathlib.Omega.{arith}
-use lib.ListN.{getD}
+use lib.ListN.{getD, take}
 use Rattle.linear.specs.Matrix.{Vec, Mat}
 use Rattle.rules.specs.Refusal.{said}
 use Rattle.rules.specs.declared.Outcome.{Outcome}
 use Rattle.rules.specs.declared.Outcome.the-variants.{Accepted, Refused}
 use Rattle.rules.specs.declared.Refusal.the-variants.{TooLong, NoForm, OutOfRange, WrongCount, Margin, Residual, InverseResidual, TooShort, TooEarly, Repeated, Missing, AfterEnd, NotEnded}
+use Rattle.enclosure.specs.Reckoning.{bound, inverseBound}
 use Rattle.enclosure.specs.Demand.{Encloses, RoundedExact}
 use Rattle.checker.specs.Input.{Input, problem, short, inRanges}
 use Rattle.checker.specs.Order.{answer}
+use Rattle.judged.specs.Judged.{reportedOf}
+use Rattle.listing.specs.Listing.{problemIn, Complete, answerOf}
+use Rattle.listing.proofs.Demand.{file-reported, file-encloses, exact-accepted}
+use Rattle.listing.proofs.Numbered.{answer-numbered}
 use Rattle.export.specs.Reply.{Told}
-use Rattle.export.specs.Exported.{CheckExported}
+use Rattle.export.specs.Exported.{CheckExported, ListingExported}
 
 pub zero-said : (o : Outcome) → getD (said o) 0 0 ≡ 0 → said o ≡ []
 zero-said Accepted e = refl
@@ -44,3 +51,16 @@ module _ {I : Input} {number : ℕ} {places E L : List ℕ} (x : CheckExported I
 
   pub exact-zero : (N : Vec) (q : ℕ) (H : Mat) (q′ : ℕ) → short I ≡ false → inRanges I ≡ true → RoundedExact (problem I) N q H q′ → number ≡ 0
   exact-zero N q H q′ s r h = x .told .number-is ∙ ap (λ (l : List ℕ). getD l 0 0) (x .checked .accepts N q H q′ s r h)
+
+module _ {file old : List ℕ} {number : ℕ} {places new : List ℕ} {length : ℕ} (x : ListingExported file old number places new length) where
+  pub zero-answer : number ≡ 0 → answerOf file ≡ []
+  zero-answer e = answer-numbered file (sym (x .told .number-is) ∙ e)
+
+  pub zero-reported : number ≡ 0 → take length new ≡ reportedOf (problemIn file)
+  zero-reported e = x .listed .bytes ∙ file-reported file (zero-answer e)
+
+  pub reported-encloses : number ≡ 0 → Encloses (problemIn file) (bound (problemIn file)) (inverseBound (problemIn file))
+  reported-encloses e = file-encloses file (zero-answer e)
+
+  pub exact-reported : Complete file → (N : Vec) (q : ℕ) (H : Mat) (q′ : ℕ) → RoundedExact (problemIn file) N q H q′ → number ≡ 0
+  exact-reported c N q H q′ h = x .told .number-is ∙ ap (λ (l : List ℕ). getD l 0 0) (exact-accepted file c N q H q′ h)

@@ -1,14 +1,17 @@
 -- A file that has come to its end: what the check says of the lists, and what is reported, is what the file's forms give.
 --   checked-forms, reported-forms — what the reckoning says of the lists, and the report, are those of the problem that the forms give
+--   some, fine, heavy — n is above 0, t at most 20, every weight at least 1
 --   ranges-hold, answer-forms — no complete file gives 3, and its check says what the reckoning says
-use mathlib.Core.Path.{_≡_, refl, ap, _∙_, subst}
+use mathlib.Core.Path.{_≡_, refl, sym, ap, _∙_, subst}
 use mathlib.Core.Bool.{true, false}
 use mathlib.Core.List.{List}
-use Prim.Native.Nat.{ℕ, suc, _+_, _*_, _-_, _<_}
+use Prim.Native.Nat.{ℕ, suc, _+_, _*_, _-_, _≤_, _<_}
 use native.Mathlib.Omega.{arith}
 use lib.IntN.{pos, natAbs}
 use lib.ListN.{getD}
-use Rattle.rules.proofs.Ranges.{both}
+use Rattle.rules.specs.declared.Kind.the-variants as kind
+use Rattle.rules.proofs.AllInRange.{all-at}
+use Rattle.rules.proofs.Ranges.{both, size-range, inverse-scale-range, weight-range}
 use Rattle.linear.specs.Slice.{at, vectorOf, matrixOf}
 use Rattle.enclosure.specs.Problem.{Problem}
 use Rattle.checker.specs.Input.{Input, input, problem, short, inRanges}
@@ -58,6 +61,19 @@ module _ (u : State) (fs : List Form) (from : FromForms fs u) where
 
   given-is : given ≡ problemFrom fs
   given-is = rw (from .size, from .scales .0, from .scales .1)
+
+  -- what the theorems of the enclosure ask of the problem
+  module _ (h : InRange u) where
+    pub some : 0 < problemFrom fs .n
+    some = rw (sym (from .size)) (size-range n (h .size) .0)
+
+    pub fine : problemFrom fs .t ≤ 20
+    fine = rw (sym (from .scales .1)) (inverse-scale-range (u .loader .t) (h .inverse-scale))
+
+    pub heavy : (i : ℕ) → i < problemFrom fs .n → 1 ≤ problemFrom fs .w i
+    heavy i l =
+        let k : i < n = rw (from .size) l in
+        rw (sym (narrow Weight refl i k)) (weight-range (at (u .lists .weights) i) (all-at kind.Weight n (at (u .lists .weights)) (h .weights) i k) .0)
 
   module _ (E L : List ℕ) where
     pub checked-forms : checkedOf (problem (inputAt u E L)) ≡ checkedOf (problemFrom fs)

@@ -51,8 +51,8 @@ module _ (I : Input) (r : Ready I) (e : saidOf I ≡ []) where
     few = r .few;
     inverse = λ i j li lj. r .inverse .within .size (i * I .n + j) (place li lj);
     weights = r .weights .within .size;
-    residuals = λ k l. ltb-false (2 ^ 25) (natAbs (residual (problem I) k)) (said-sound I e .residuals k l);
-    margins = λ m l. margin-above (problem I) m (said-sound I e .margins m l);
+    residuals = λ k l. ltb-false (2 ^ 25) (natAbs (residual (problem I) k)) (said-sound (problem I) e .residuals k l);
+    margins = λ m l. margin-above (problem I) m (said-sound (problem I) e .margins m l);
   })
 
   pub inverse-size : (i j : ℕ) → i < I .n → j < I .n → inverseBound (problem I) i j ≤ 2 ^ 60
@@ -61,6 +61,6 @@ module _ (I : Input) (r : Ready I) (e : saidOf I ≡ []) where
     few = r .few;
     inverse = λ i j li lj. r .inverse .within .size (i * I .n + j) (place li lj);
     weights = r .weights .within .size;
-    residuals = λ k l. ltb-false (2 ^ 25) (natAbs (residual (columnOf (problem I) j) k)) (said-sound I e .columns j lj k l);
-    margins = λ m l. margin-above (problem I) m (said-sound I e .margins m l);
+    residuals = λ k l. ltb-false (2 ^ 25) (natAbs (residual (columnOf (problem I) j) k)) (said-sound (problem I) e .columns j lj k l);
+    margins = λ m l. margin-above (problem I) m (said-sound (problem I) e .margins m l);
   }) i li

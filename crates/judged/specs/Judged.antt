@@ -7,12 +7,12 @@ use Prim.Native.Nat.{ℕ}
 use Rattle.rules.specs.Order.{verdict}
 use Rattle.enclosure.specs.Problem.{Problem}
 use Rattle.enclosure.specs.Reckoning.{bound, inverseBound}
-use Rattle.checker.specs.Order.{firstMargin, firstResidual, firstColumn, reckoned}
+use Rattle.checker.specs.Order.{reckonedOf}
 use Rattle.report.specs.Report.{reportOf}
 use Rattle.refusal.specs.Refused.{refusedOf}
 
 abbrev pub checkedOf : Problem → List ℕ
-checkedOf P = verdict (reckoned (P .n) (firstMargin P) (firstResidual P) (firstColumn P))
+checkedOf P = verdict (reckonedOf P)
 
 abbrev pub reportedOf : Problem → List ℕ
 reportedOf P = reportOf (P .n) (P .s) (P .X) (bound P) (inverseBound P)

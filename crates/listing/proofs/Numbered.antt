@@ -9,7 +9,7 @@ use native.Mathlib.Omega.{arith}
 use lib.ListN.{getD}
 use Rattle.rules.specs.Order.{Test, verdict}
 use Rattle.enclosure.specs.Problem.{Problem}
-use Rattle.checker.specs.Order.{firstMargin, firstResidual, firstColumn, reckoned}
+use Rattle.checker.specs.Order.{firstMargin, firstResidual, firstColumn, reckonedOf}
 use Rattle.items.specs.Lists.{Lists}
 use Rattle.loader.specs.declared.Loader.{Loader}
 use Rattle.loader.specs.Order.{order, caseOf, answer}
@@ -54,15 +54,28 @@ else-numbered (k ∷ vs) m x y = x
 line-numbered : (d : Loader) (l : Lists) (line : List ℕ) → Numbered (answer d l line)
 unfolding answer
 line-numbered d l line =
-    verdict-numbered (order (caseOf d l line))
-    (by-number 8 [] (omega arith),
-    (by-number 14 [] (omega arith),
-    (by-number 1 [] (omega arith),
-    (by-number 2 [] (omega arith),
-    (by-number 11 [] (omega arith),
-    (by-number 3 [] (omega arith),
-    (by-number 3 [] (omega arith),
-    (by-number 4 [] (omega arith), (by-number 12 [] (omega arith), (by-number 13 (caseOf d l line .missing ∷ []) (omega arith), tt))))))))))
+    verdict-numbered (order (caseOf d l line)) (
+      by-number 8 [] (omega arith),
+      (
+        by-number 14 [] (omega arith),
+        (
+          by-number 1 [] (omega arith),
+          (
+            by-number 2 [] (omega arith),
+            (
+              by-number 11 [] (omega arith),
+              (
+                by-number 3 [] (omega arith),
+                (
+                  by-number 3 [] (omega arith),
+                  (by-number 4 [] (omega arith), (by-number 12 [] (omega arith), (by-number 13 (caseOf d l line .missing ∷ []) (omega arith), tt))),
+                ),
+              ),
+            ),
+          ),
+        ),
+      ),
+    )
 
 rest-numbered : (l : List ℕ) (k : ℕ) (u : State) (rest : Reading) → Numbered l → Numbered (rest .said) → Numbered (reading.orElse l k u rest .said)
 rest-numbered [] k u rest x y = y
@@ -77,9 +90,10 @@ lines-numbered k u (line ∷ lines) =
 
 checked-numbered : (P : Problem) → Numbered (checkedOf P)
 checked-numbered P =
-    verdict-numbered (reckoned (P .n) (firstMargin P) (firstResidual P) (firstColumn P))
-    (by-number 5 ((firstMargin P + 1) ∷ []) (omega arith),
-    (by-number 6 ((firstResidual P + 1) ∷ []) (omega arith), (by-number 7 ((firstColumn P / P .n + 1) ∷ (firstColumn P % P .n + 1) ∷ []) (omega arith), tt)))
+    verdict-numbered (reckonedOf P) (
+      by-number 5 ((firstMargin P + 1) ∷ []) (omega arith),
+      (by-number 6 ((firstResidual P + 1) ∷ []) (omega arith), (by-number 7 ((firstColumn P / P .n + 1) ∷ (firstColumn P % P .n + 1) ∷ []) (omega arith), tt)),
+    )
 
 pub answer-numbered : (file : List ℕ) → Numbered (answerOf file)
 unfolding answerOf

@@ -1,12 +1,13 @@
 -- The listing of a file (01: "A whole file" and the program): one line for the first refusal, or the report of the problem that its forms give.
 --   zeros          — the program's own lists, long enough
 --   problemIn file — the problem that the file's forms give
+--   Complete file  — every line is accepted, and the last is an end
 --   answerOf file  — what is said of the file, in the numbers of its line: the first refusal of a line; 15, with 0, where the file stops before an end;
 --     else what is said of its problem. None where it is accepted. No file gives 8, and no complete file 3: its lists are long enough, and its forms were tested
 --   listingOf file — that line, or the report
 --   Listed         — the contract of `listing`: the bytes written are the listing, the others as before
 --   AnsweredAs     — the contract of `answer_file`: what is said, with the listing
-use mathlib.Core.Bool.{cond}
+use mathlib.Core.Bool.{true, cond}
 use mathlib.Core.List.{List, [], _∷_}
 use mathlib.Core.Path.{_≡_}
 use Prim.Native.Nat.{ℕ, _≤_}
@@ -37,6 +38,10 @@ orElse (k ∷ vs) rest = k ∷ vs
 
 abbrev pub answered : Reading → Problem → List ℕ
 answered r P = orElse (printed (r .line) (r .said)) (printed 0 (cond (ended (r .state .loader .stage)) (checkedOf P) (15 ∷ [])))
+
+pub record Complete (file : List ℕ) : Type 0 where
+  pub lines : readingOf file zeros .said ≡ []
+  pub end : ended (readingOf file zeros .state .loader .stage) ≡ true
 
 unfoldable pub answerOf : List ℕ → List ℕ
 answerOf file = answered (readingOf file zeros) (problemIn file)

@@ -1,0 +1,74 @@
+-- Demand 3 of a whole file.
+--   Accepted, accepted-parts — of an accepted file every line is accepted, the last is an end, and the reckoning says nothing of its problem
+--   file-reported, file-encloses — its listing is the report, and the limits in it enclose every exact solution and inverse
+--   exact-accepted — a complete file with a rounded exact proposal is accepted
+use mathlib.Core.Path.{_≡_, refl, ap, _∙_}
+use mathlib.Core.Bool.{Bool, true, false, cond}
+use mathlib.Core.List.{List, [], _∷_}
+use Prim.Native.Nat.{ℕ}
+use Rattle.linear.specs.Matrix.{Vec, Mat}
+use Rattle.rules.proofs.Verdicts.{nothing-is-not}
+use Rattle.enclosure.specs.Problem.{Problem}
+use Rattle.enclosure.specs.Reckoning.{bound, inverseBound}
+use Rattle.enclosure.specs.Demand.{Encloses, RoundedExact}
+use Rattle.enclosure.proofs.Acceptance.{rounded-sound}
+use Rattle.enclosure.proofs.Demands.{encloses}
+use Rattle.checker.proofs.Contract.{sound-said, said-sound}
+use Rattle.collected.specs.Run.{forms}
+use Rattle.progress.specs.Progress.{ended}
+use Rattle.refusal.specs.Refused.{printed}
+use Rattle.file.specs.Lines.{linesOf}
+use Rattle.file.specs.Read.{readingOf}
+use Rattle.judged.specs.Judged.{checkedOf, reportedOf}
+use Rattle.judged.proofs.Forms.{some, fine, heavy}
+use Rattle.listing.specs.Listing.{zeros, problemIn, orElse, Complete, answerOf, listingOf}
+use Rattle.listing.proofs.Entire.{answer-judged, listing-from, from, inside}
+
+-- ---- nothing said, part by part
+nothing-printed : (line : ℕ) (l : List ℕ) → printed line l ≡ [] → l ≡ []
+nothing-printed line [] e = refl
+nothing-printed line (k ∷ vs) e = absurd (nothing-is-not e)
+
+nothing-first : (l m : List ℕ) → orElse l m ≡ [] → l ≡ []
+nothing-first [] m e = refl
+nothing-first (k ∷ vs) m e = absurd (nothing-is-not e)
+
+nothing-second : (l m : List ℕ) → orElse l m ≡ [] → m ≡ []
+nothing-second [] m e = e
+nothing-second (k ∷ vs) m e = absurd (nothing-is-not e)
+
+nothing-open : (b : Bool) (l : List ℕ) → cond b l (15 ∷ []) ≡ [] → (b ≡ true) × (l ≡ [])
+nothing-open true l e = (refl, e)
+nothing-open false l e = absurd (nothing-is-not e)
+
+module _ (file : List ℕ) where
+  pub record Accepted : Type 0 where
+    pub complete : Complete file
+    pub quiet : checkedOf (problemIn file) ≡ []
+
+  pub accepted-parts : answerOf file ≡ [] → Accepted
+  unfolding answerOf
+  accepted-parts e =
+      let R = readingOf file zeros in
+      let later = cond (ended (R .state .loader .stage)) (checkedOf (problemIn file)) (15 ∷ []) in
+      let l = nothing-printed (R .line) (R .said) (nothing-first (printed (R .line) (R .said)) (printed 0 later) e) in
+      let c = nothing-open (ended (R .state .loader .stage)) (checkedOf (problemIn file)) (nothing-printed 0 later (nothing-second (printed (R .line) (R .said)) (printed 0 later) e)) in
+      record { complete = record { lines = l; end = c .0 }; quiet = c .1 }
+
+  pub file-reported : answerOf file ≡ [] → listingOf file ≡ reportedOf (problemIn file)
+  file-reported e = listing-from file e
+
+  pub file-encloses : answerOf file ≡ [] → Encloses (problemIn file) (bound (problemIn file)) (inverseBound (problemIn file))
+  file-encloses e =
+      let a = accepted-parts e in
+      let c = a .complete in
+      encloses (problemIn file) (heavy (readingOf file zeros .state) (forms (linesOf file)) (from file (c .lines) (c .end)) (inside file (c .lines) (c .end)))
+      (said-sound (problemIn file) (a .quiet) .margins)
+
+  pub exact-accepted : Complete file → (N : Vec) (q : ℕ) (H : Mat) (q′ : ℕ) → RoundedExact (problemIn file) N q H q′ → answerOf file ≡ []
+  exact-accepted c N q H q′ x =
+      let f = from file (c .lines) (c .end) in
+      let r = inside file (c .lines) (c .end) in
+      let u = readingOf file zeros .state in
+      let s = sound-said (problemIn file) (some u (forms (linesOf file)) f r) (rounded-sound (problemIn file) N q H q′ (fine u (forms (linesOf file)) f r) x) in
+      answer-judged file (c .lines) (c .end) ∙ ap (printed 0) s
