@@ -1,6 +1,6 @@
 -- A check through a loader after an accepted end of lines taken from `new`, on those lists, with limit lists that are long enough.
 --   length-put  — a line leaves the lengths of the lists
---   lists-long  — the lists are long enough
+--   run-long, lists-long — lists that are long enough stay so, and at an accepted end they are
 --   end-answers — the check answers accepted, 5, 6 or 7 only
 use mathlib.Core.Path.{_≡_, refl, _∙_}
 use mathlib.Core.Bool.{Bool, true, false, cond}
@@ -51,7 +51,7 @@ long-kept n f l =
     let same : (p : Part) (k : List ℤ) → length (putIn p n f k) ≡ length k = λ p k. length-put (width p n) p (itemOf f) (valuesOf f) k in
     rw (same Row (l .matrix), same Right (l .right), same Guess (l .guess), same Inverse (l .inverse), same Weight (l .weights))
 
-run-long : (u : State) (lines : List (List ℕ)) → Accepts u lines → short (u .lists) ≡ false → short (run u lines .lists) ≡ false
+pub run-long : (u : State) (lines : List (List ℕ)) → Accepts u lines → short (u .lists) ≡ false → short (run u lines .lists) ≡ false
 unfolding run
 run-long u [] a h = h
 run-long u (line ∷ lines) a h =

@@ -22,7 +22,7 @@ use Rattle.checker.specs.Order.{answer}
 use Rattle.judged.specs.Judged.{reportedOf}
 use Rattle.listing.specs.Listing.{problemIn, Complete, answerOf}
 use Rattle.listing.proofs.Demand.{file-reported, file-encloses, exact-accepted}
-use Rattle.listing.proofs.Numbered.{answer-numbered}
+use Rattle.listing.proofs.Answers.{answer-zero}
 use Rattle.export.specs.Reply.{Told}
 use Rattle.export.specs.Exported.{CheckExported, ListingExported}
 
@@ -54,7 +54,7 @@ module _ {I : Input} {number : ℕ} {places E L : List ℕ} (x : CheckExported I
 
 module _ {file old : List ℕ} {number : ℕ} {places new : List ℕ} {length : ℕ} (x : ListingExported file old number places new length) where
   pub zero-answer : number ≡ 0 → answerOf file ≡ []
-  zero-answer e = answer-numbered file (sym (x .told .number-is) ∙ e)
+  zero-answer e = answer-zero file (sym (x .told .number-is) ∙ e)
 
   pub zero-reported : number ≡ 0 → take length new ≡ reportedOf (problemIn file)
   zero-reported e = x .listed .bytes ∙ file-reported file (zero-answer e)

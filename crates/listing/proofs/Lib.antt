@@ -1,6 +1,6 @@
 pub mod Register
 pub mod Entire
 pub mod FirstBytes
-pub mod Numbered
+pub mod Answers
 pub mod Demand
 pub mod Table

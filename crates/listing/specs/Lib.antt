@@ -1,3 +1,4 @@
 pub mod Register
 pub mod Listing
+pub mod Answers
 pub mod Cases

@@ -1,0 +1,121 @@
+-- What can be said of a file.
+--   file-answers — nothing, or one of 01's refusals with what stands in the inner brackets; never 8
+--   answer-zero  — 0 stands for nothing but acceptance
+use mathlib.Core.Path.{_≡_, refl, _∙_}
+use mathlib.Core.Bool.{Bool, true, false, cond}
+use mathlib.Core.List.{List, [], _∷_}
+use Prim.Native.Nat.{ℕ, _+_, _*_, _/_, _%_}
+use native.Mathlib.Omega.{arith}
+use lib.Dec.{ltb}
+use lib.ListN.{getD}
+use Rattle.rules.specs.Order.{verdict}
+use Rattle.enclosure.specs.Problem.{Problem}
+use Rattle.checker.specs.Order.{firstMargin, firstResidual, firstColumn, reckoned}
+use Rattle.items.specs.Lists.{Lists, short}
+use Rattle.loader.specs.declared.Loader.{Loader}
+use Rattle.loader.specs.Order.{Case, order, caseOf, answer}
+use Rattle.collected.specs.Run.{State, start, step, run}
+use Rattle.collected.proofs.Check.{run-long}
+use Rattle.progress.specs.Progress.{ended}
+use Rattle.refusal.specs.Refused.{printed}
+use Rattle.file.specs.Lines.{linesOf}
+use Rattle.file.specs.Read.{Reading, readFrom, readingOf}
+use Rattle.file.specs.Read as reading
+use Rattle.judged.specs.Judged.{checkedOf}
+use Rattle.listing.specs.Answers.{Alone, too-long, no-form, out-of-range, wrong-count, too-early, repeated, after-end, Answers, accepted, of-line, margin, residual, inverse-residual, missing, not-ended}
+use Rattle.listing.specs.Listing.{zeros, problemIn, orElse, answerOf}
+
+-- ---- a line
+data LineSaid : List ℕ → Type 0 where
+  quiet : LineSaid []
+  alone : {k : ℕ} → Alone k → LineSaid (k ∷ [])
+  lacking : (count : ℕ) → LineSaid (13 ∷ count ∷ [])
+
+line-said : (c : Case) → c .short ≡ false → LineSaid (verdict (order c))
+line-said c h = rw h (go (c .ended) (c .long) (c .unspelled) (c .early) (c .misplaced) (c .outside) (c .miscounted) (c .repeated) (c .incomplete))
+  where
+    go : (b14 b1 b2 b11 b3 b3′ b4 b12 b13 : Bool) →
+        LineSaid (cond b14 (14 ∷ []) (cond b1 (1 ∷ []) (cond b2 (2 ∷ []) (cond b11 (11 ∷ []) (cond b3 (3 ∷ []) (cond b3′ (3 ∷ []) (cond b4 (4 ∷ []) (cond b12 (12 ∷ []) (cond b13 (13 ∷ c .missing ∷ []) [])))))))))
+    go true b1 b2 b11 b3 b3′ b4 b12 b13 = alone after-end
+    go false true b2 b11 b3 b3′ b4 b12 b13 = alone too-long
+    go false false true b11 b3 b3′ b4 b12 b13 = alone no-form
+    go false false false true b3 b3′ b4 b12 b13 = alone too-early
+    go false false false false true b3′ b4 b12 b13 = alone out-of-range
+    go false false false false false true b4 b12 b13 = alone out-of-range
+    go false false false false false false true b12 b13 = alone wrong-count
+    go false false false false false false false true b13 = alone repeated
+    go false false false false false false false false true = lacking (c .missing)
+    go false false false false false false false false false = quiet
+
+-- ---- the lines, one after another
+abbrev printedOf : Reading → List ℕ
+printedOf R = printed (R .line) (R .said)
+
+first-answers : {l : List ℕ} (k : ℕ) (u : State) (rest : Reading) → LineSaid l → (l ≡ [] → Answers (printedOf rest)) → Answers (printedOf (reading.orElse l (k + 1) u rest))
+first-answers k u rest quiet h = h refl
+first-answers k u rest (alone a) h = of-line a (k + 1) (omega arith)
+first-answers k u rest (lacking count) h = missing count
+
+step-long : (u : State) (line : List ℕ) → answer (u .loader) (u .lists) line ≡ [] → short (u .lists) ≡ false → short (step u line .lists) ≡ false
+unfolding run
+step-long u line e h = run-long u (line ∷ []) (e, tt) h
+
+lines-answer : (k : ℕ) (u : State) (lines : List (List ℕ)) → short (u .lists) ≡ false → Answers (printedOf (readFrom k u lines))
+unfolding readFrom answer
+lines-answer k u [] h = accepted
+lines-answer k u (line ∷ lines) h =
+    first-answers {l = answer (u .loader) (u .lists) line} k u (readFrom (k + 1) (step u line) lines) (line-said (caseOf (u .loader) (u .lists) line) h)
+    (λ e. lines-answer (k + 1) (step u line) lines (step-long u line e h))
+
+-- ---- the check
+reckoned-answers : (n m k i : ℕ) → Answers (printed 0 (verdict (reckoned n m k i)))
+reckoned-answers n m k i = go (ltb m n) (ltb k n) (ltb i (n * n))
+  where
+    go : (a b c : Bool) → Answers (printed 0 (cond a (5 ∷ (m + 1) ∷ []) (cond b (6 ∷ (k + 1) ∷ []) (cond c (7 ∷ (i / n + 1) ∷ (i % n + 1) ∷ []) []))))
+    go true b c = margin (m + 1) (omega arith)
+    go false true c = residual (k + 1) (omega arith)
+    go false false true = inverse-residual (i / n + 1) (i % n + 1) (omega arith) (omega arith)
+    go false false false = accepted
+
+checked-answers : (P : Problem) → Answers (printed 0 (checkedOf P))
+checked-answers P = reckoned-answers (P .n) (firstMargin P) (firstResidual P) (firstColumn P)
+
+-- ---- the file
+later-answers : (b : Bool) (l : List ℕ) → Answers (printed 0 l) → Answers (printed 0 (cond b l (15 ∷ [])))
+later-answers true l h = h
+later-answers false l h = not-ended
+
+else-answers : (l m : List ℕ) → Answers l → Answers m → Answers (orElse l m)
+else-answers [] m x y = y
+else-answers (k ∷ vs) m x y = x
+
+zeros-long : short zeros ≡ false
+unfolding zeros
+zeros-long = refl
+
+pub file-answers : (file : List ℕ) → Answers (answerOf file)
+unfolding answerOf
+file-answers file =
+    else-answers (printedOf (readingOf file zeros)) _ (lines-answer 0 (start zeros) (linesOf file) zeros-long)
+    (later-answers (ended (readingOf file zeros .state .loader .stage)) (checkedOf (problemIn file)) (checked-answers (problemIn file)))
+
+alone-not-zero : {k : ℕ} → Alone k → k ≡ 0 → ⊥
+alone-not-zero too-long e = absurd (omega (arith, e))
+alone-not-zero no-form e = absurd (omega (arith, e))
+alone-not-zero out-of-range e = absurd (omega (arith, e))
+alone-not-zero wrong-count e = absurd (omega (arith, e))
+alone-not-zero too-early e = absurd (omega (arith, e))
+alone-not-zero repeated e = absurd (omega (arith, e))
+alone-not-zero after-end e = absurd (omega (arith, e))
+
+answers-zero : {l : List ℕ} → Answers l → getD l 0 0 ≡ 0 → l ≡ []
+answers-zero accepted e = refl
+answers-zero (of-line a line h) e = absurd (alone-not-zero a e)
+answers-zero (margin row h) e = absurd (omega (arith, e))
+answers-zero (residual row h) e = absurd (omega (arith, e))
+answers-zero (inverse-residual column row h h′) e = absurd (omega (arith, e))
+answers-zero (missing count) e = absurd (omega (arith, e))
+answers-zero not-ended e = absurd (omega (arith, e))
+
+pub answer-zero : (file : List ℕ) → getD (answerOf file) 0 0 ≡ 0 → answerOf file ≡ []
+answer-zero file = answers-zero (file-answers file)
