@@ -19,7 +19,7 @@ struct system {
 typedef void defect_of(size_t n, int64_t diagonal, const int64_t *left, const int64_t *right, int64_t *out);
 
 /* The limits of one column from its sizes |p_m|, the margins and the weights. */
-typedef void limits_of_column(uint32_t n, const int64_t *w, const int64_t *p, const int64_t *g, uint64_t *limits);
+typedef void bounds_of_column(uint32_t n, const int64_t *w, const int64_t *p, const int64_t *g, uint64_t *bounds);
 
 static int64_t size_of(int64_t x) {
     return x < 0 ? -x : x;
@@ -116,19 +116,19 @@ static bool failing_inverse(const struct system *y, defect_of *defect, int64_t *
     return false;
 }
 
-static void naive_limits(uint32_t n, const int64_t *w, const int64_t *p, const int64_t *g, uint64_t *limits) {
+static void naive_bounds(uint32_t n, const int64_t *w, const int64_t *p, const int64_t *g, uint64_t *bounds) {
     for (uint32_t i = 0; i < n; i++) {
         int64_t largest = 0;
         for (uint32_t m = 0; m < n; m++) {
-            const int64_t limit = (w[i] * p[m] + g[m] - 1) / g[m];
-            if (limit > largest) largest = limit;
+            const int64_t bound = (w[i] * p[m] + g[m] - 1) / g[m];
+            if (bound > largest) largest = bound;
         }
-        limits[i] = (uint64_t)largest;
+        bounds[i] = (uint64_t)largest;
     }
 }
 
 /* The largest of the limits rounded up is the largest ratio rounded up: that row is found by quotients, then by remainders times the other margin. */
-static void quick_limits(uint32_t n, const int64_t *w, const int64_t *p, const int64_t *g, uint64_t *limits) {
+static void quick_bounds(uint32_t n, const int64_t *w, const int64_t *p, const int64_t *g, uint64_t *bounds) {
     uint32_t best = 0;
     int64_t whole = p[0] / g[0], rest = p[0] % g[0];
     for (uint32_t m = 1; m < n; m++) {
@@ -139,38 +139,38 @@ static void quick_limits(uint32_t n, const int64_t *w, const int64_t *p, const i
             rest = next_rest;
         }
     }
-    for (uint32_t i = 0; i < n; i++) limits[i] = (uint64_t)((w[i] * p[best] + g[best] - 1) / g[best]);
+    for (uint32_t i = 0; i < n; i++) bounds[i] = (uint64_t)((w[i] * p[best] + g[best] - 1) / g[best]);
 }
 
 /* "The limits of one column are worked out whole before any of them is written." */
-static void write_inverse(const struct system *y, const int64_t *R, const int64_t *g, defect_of *defect, limits_of_column *limits_of, uint64_t *bounds) {
+static void write_inverse(const struct system *y, const int64_t *R, const int64_t *g, defect_of *defect, bounds_of_column *bounds_of, uint64_t *bounds) {
     int64_t P[PLACES], p[MOST];
-    uint64_t limits[MOST];
+    uint64_t column[MOST];
     defect(y->n, 0, y->G, R, P);
     for (uint32_t j = 0; j < y->n; j++) {
         for (uint32_t m = 0; m < y->n; m++) p[m] = size_of(P[m * y->n + j]);
-        limits_of(y->n, y->w, p, g, limits);
-        for (uint32_t i = 0; i < y->n; i++) bounds[i * y->n + j] = limits[i];
+        bounds_of(y->n, y->w, p, g, column);
+        for (uint32_t i = 0; i < y->n; i++) bounds[i * y->n + j] = column[i];
     }
 }
 
 /* "Order for a check: .. 5, 6, 7." */
-static uint32_t reckon(const struct system *y, defect_of *defect, limits_of_column *limits_of, uint64_t *solution_bounds, uint64_t *inverse_bounds,
+static uint32_t reckon(const struct system *y, defect_of *defect, bounds_of_column *bounds_of, uint64_t *solution_bounds, uint64_t *inverse_bounds,
                        uint64_t places[2]) {
     int64_t g[MOST], r[MOST], p[MOST], R[PLACES];
-    uint64_t limits[MOST];
+    uint64_t column[MOST];
     if ((places[0] = failing_margin(y, defect, g)) != 0) return 5;
     if ((places[0] = failing_residual(y, r)) != 0) return 6;
     if (failing_inverse(y, defect, R, places)) return 7;
     for (uint32_t m = 0; m < y->n; m++) p[m] = size_of(dot(y->n, y->G + m * y->n, r, 1));
-    limits_of(y->n, y->w, p, g, limits);
-    memcpy(solution_bounds, limits, y->n * sizeof *limits);
-    write_inverse(y, R, g, defect, limits_of, inverse_bounds);
+    bounds_of(y->n, y->w, p, g, column);
+    memcpy(solution_bounds, column, y->n * sizeof *column);
+    write_inverse(y, R, g, defect, bounds_of, inverse_bounds);
     return 0;
 }
 
-/* The checks differ in `defect` and `limits_of` alone. */
-#define CHECK(name, defect, limits_of)                                                                                                  \
+/* The checks differ in `defect` and `bounds_of` alone. */
+#define CHECK(name, defect, bounds_of)                                                                                                  \
     uint32_t name(uint32_t n, uint32_t s, uint32_t t, const int64_t *matrix, size_t matrix_len, const int64_t *right, size_t right_len, \
                   const int64_t *guess, size_t guess_len, const int64_t *inverse, size_t inverse_len, const int64_t *weights,           \
                   size_t weights_len, uint64_t *solution_bounds, size_t solution_bounds_len, uint64_t *inverse_bounds,                  \
@@ -181,9 +181,9 @@ static uint32_t reckon(const struct system *y, defect_of *defect, limits_of_colu
             weights_len < MOST || solution_bounds_len < MOST)                                                                           \
             return 8;                                                                                                                   \
         if (!is_in_range(n, s, t, &y)) return 3;                                                                                        \
-        return reckon(&y, defect, limits_of, solution_bounds, inverse_bounds, places);                                                  \
+        return reckon(&y, defect, bounds_of, solution_bounds, inverse_bounds, places);                                                  \
     }
 
-CHECK(native_check_naive, signed_defect, naive_limits)
-CHECK(native_check_quick, signed_defect, quick_limits)
-CHECK(native_check_raised, raised_defect, quick_limits)
+CHECK(native_check_naive, signed_defect, naive_bounds)
+CHECK(native_check_quick, signed_defect, quick_bounds)
+CHECK(native_check_raised, raised_defect, quick_bounds)

@@ -31,7 +31,7 @@ static void read_numbers(FILE *file, int64_t *numbers, uint32_t count) {
     for (uint32_t i = 0; i < count; i++) numbers[i] = next_number(file);
 }
 
-static void read_limits(FILE *file, uint64_t *limits, uint32_t count) {
+static void read_bounds(FILE *file, uint64_t *limits, uint32_t count) {
     for (uint32_t i = 0; i < count; i++) limits[i] = (uint64_t)next_number(file);
 }
 
@@ -51,8 +51,8 @@ bool read_net(FILE *file, struct net *net, struct outcome *expected) {
     expected->places[0] = (uint64_t)next_number(file);
     expected->places[1] = (uint64_t)next_number(file);
     if (expected->number == 0) {
-        read_limits(file, expected->solution, n);
-        read_limits(file, expected->inverse, n * n);
+        read_bounds(file, expected->solution, n);
+        read_bounds(file, expected->inverse, n * n);
     }
     return true;
 }

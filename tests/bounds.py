@@ -94,7 +94,7 @@ def at_bounds(rng, n):
     return assembled(rng, n, blocks, s, t)
 
 
-def largest_limits(rng, n):
+def largest_bounds(rng, n):
     """A row with a small margin under the largest numbers p, so that limits come up to 2^60; n at least 2.
 
     The matrix has 1 on its diagonal and −1 below it, the inverse T on and below its diagonal; signs are then changed at random."""

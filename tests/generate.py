@@ -31,7 +31,7 @@ WHOLE = (
     (2, edge.with_halves, lambda rng: rng.randint(4, 10)),
     (5, bounds.at_bounds, any_n),
     (5, nets.small, lambda rng: rng.randint(1, 4)),
-    (1, bounds.largest_limits, lambda rng: rng.randint(2, 32)),
+    (1, bounds.largest_bounds, lambda rng: rng.randint(2, 32)),
     (4, bounds.near_margins, lambda rng: rng.randint(2, 12)),
     (4, bounds.near_residuals, lambda rng: rng.randint(1, 12)),
     (5, bounds.near_inverse_residuals, lambda rng: rng.randint(2, 12)),

@@ -57,7 +57,7 @@ GIVEN = {
 # Systems made by chance, with their number of equations.
 MADE = (
     (nets.levelling, 1), (nets.levelling, 5), (nets.levelling, 32), (nets.general, 9), (nets.general, 16), (nets.small, 3), (nets.singular, 3),
-    (edge.at_edge, 1), (edge.at_edge, 12), (edge.with_halves, 6), (bounds.at_bounds, 10), (bounds.largest_limits, 8), (bounds.near_margins, 6),
+    (edge.at_edge, 1), (edge.at_edge, 12), (edge.with_halves, 6), (bounds.at_bounds, 10), (bounds.largest_bounds, 8), (bounds.near_margins, 6),
     (bounds.near_residuals, 7), (bounds.near_inverse_residuals, 6), (bounds.several, 9),
 )
 

@@ -3,11 +3,11 @@
 /* Numbers by chance that are the same in every run (xorshift). */
 static uint64_t state = 88172645463325252u;
 
-uint64_t random_below(uint64_t limit) {
+uint64_t random_below(uint64_t end) {
     state ^= state << 13;
     state ^= state >> 7;
     state ^= state << 17;
-    return state % limit;
+    return state % end;
 }
 
 static int64_t random_from(int64_t lowest, int64_t highest) {

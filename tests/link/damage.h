@@ -4,8 +4,8 @@
 
 #include "nets.h"
 
-/* A number below the limit; the numbers are the same in every run. */
-uint64_t random_below(uint64_t limit);
+/* A number below the end; the numbers are the same in every run. */
+uint64_t random_below(uint64_t end);
 
 /* One damage, to a system with n from 1 to 32. */
 void damage(struct net *net);

@@ -6,12 +6,12 @@ use crate::lists::{Lengths, Net, COLUMN};
 pub struct Chance(pub u64);
 
 impl Chance {
-    pub fn below(&mut self, limit: u64) -> u64 {
+    pub fn below(&mut self, end: u64) -> u64 {
         self.0 = self.0.wrapping_add(0x9e37_79b9_7f4a_7c15);
         let mut z = self.0;
         z = (z ^ (z >> 30)).wrapping_mul(0xbf58_476d_1ce4_e5b9);
         z = (z ^ (z >> 27)).wrapping_mul(0x94d0_49bb_1331_11eb);
-        (z ^ (z >> 31)) % limit
+        (z ^ (z >> 31)) % end
     }
 
     pub fn pick<T: Copy>(&mut self, from: &[T]) -> T {

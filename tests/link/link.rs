@@ -7,7 +7,7 @@
 mod cases;
 mod count;
 mod damage;
-mod desk;
+mod loader;
 mod files;
 mod form;
 mod listing;

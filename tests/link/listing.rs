@@ -1,6 +1,6 @@
 //! Document 01's program, a file to its listing, and its register entry.
 
-use crate::desk::Desk;
+use crate::loader::Loader;
 use crate::lists::{Net, Outcome};
 use crate::reckoning;
 
@@ -31,14 +31,14 @@ fn lines(file: &[u8]) -> Vec<&[u8]> {
 }
 
 fn read(file: &[u8]) -> Result<Net, (u32, [u64; 2])> {
-    let mut desk = Desk::default();
+    let mut loader = Loader::default();
     for (line, place) in lines(file).into_iter().zip(1..) {
-        if let Err(number) = desk.take(line) {
-            return Err((number, [if number == 13 { desk.missing() } else { place }, 0]));
+        if let Err(number) = loader.take(line) {
+            return Err((number, [if number == 13 { loader.missing() } else { place }, 0]));
         }
     }
-    if desk.is_ended() {
-        Ok(desk.net())
+    if loader.is_ended() {
+        Ok(loader.net())
     } else {
         Err((15, [0, 0]))
     }

@@ -114,9 +114,9 @@ pub fn read_nets(text: &str) -> Vec<(Net, Outcome)> {
         let said = take(3);
         let mut out = Outcome::untouched(said[0] as u32, [said[1] as u64, said[2] as u64]);
         if out.number == 0 {
-            let limits = |list: Vec<i64>| list.into_iter().map(|limit| limit as u64).collect::<Vec<u64>>();
-            out.solution[..size].copy_from_slice(&limits(take(size)));
-            out.inverse[..size * size].copy_from_slice(&limits(take(size * size)));
+            let bounds = |list: Vec<i64>| list.into_iter().map(|bound| bound as u64).collect::<Vec<u64>>();
+            out.solution[..size].copy_from_slice(&bounds(take(size)));
+            out.inverse[..size * size].copy_from_slice(&bounds(take(size * size)));
         }
         nets.push((net, out));
     }

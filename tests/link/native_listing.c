@@ -1,6 +1,6 @@
 #include "native_listing.h"
 
-#include "native_desk.h"
+#include "native_loader.h"
 
 #include <inttypes.h>
 #include <stdarg.h>
@@ -23,19 +23,19 @@ static void put(struct text *text, const char *format, ...) {
 }
 
 /* "The line number from 1 for 1 to 4, 11, 12 and 14; .. the count for 13; 0 for 15." Gives the number of the first refused line, or 15, or 0. */
-static uint32_t read_lines(struct desk *desk, const uint8_t *file, size_t file_len, uint64_t places[2]) {
+static uint32_t read_lines(struct loader *loader, const uint8_t *file, size_t file_len, uint64_t places[2]) {
     uint64_t line = 1;
     for (size_t at = 0; at < file_len; line++) {
         const uint8_t *const feed = memchr(file + at, '\n', file_len - at);
         const size_t end = feed ? (size_t)(feed - file) : file_len;
-        const uint32_t number = take_line(desk, file + at, end - at);
+        const uint32_t number = take_line(loader, file + at, end - at);
         if (number != 0) {
-            places[0] = number == 13 ? missing_forms(desk) : line;
+            places[0] = number == 13 ? missing_forms(loader) : line;
             return number;
         }
         at = end + 1;
     }
-    return is_ended(desk) ? 0 : 15;
+    return is_ended(loader) ? 0 : 15;
 }
 
 static void put_refusal(struct text *text, uint32_t number, const uint64_t places[2]) {
@@ -63,19 +63,19 @@ static void put_report(struct text *text, const struct net *net, const struct ou
 }
 
 uint32_t native_listing(const uint8_t *file, size_t file_len, uint8_t listing[LISTING], size_t *length, uint64_t places[2]) {
-    struct desk desk;
+    struct loader loader;
     struct outcome checked;
     struct text text = {listing, 0};
     places[0] = places[1] = 0;
-    clear_desk(&desk);
-    uint32_t number = read_lines(&desk, file, file_len, places);
+    clear_loader(&loader);
+    uint32_t number = read_lines(&loader, file, file_len, places);
     if (number == 0) {
-        run_check(native_check_quick, &desk.net, &checked);
+        run_check(native_check_quick, &loader.net, &checked);
         number = checked.number;
         memcpy(places, checked.places, sizeof checked.places);
     }
     if (number == 0) {
-        put_report(&text, &desk.net, &checked);
+        put_report(&text, &loader.net, &checked);
     } else {
         put_refusal(&text, number, places);
     }

@@ -90,7 +90,7 @@ impl System {
     }
 
     /// The largest over all rows m of w_i·|p_m| / g_m, each rounded up.
-    fn limits(&self, residual: &[i128], margins: &[i128]) -> Vec<u64> {
+    fn bounds(&self, residual: &[i128], margins: &[i128]) -> Vec<u64> {
         let p: Vec<i128> = self.g.iter().map(|row| dot(row, residual).abs()).collect();
         let up = |w: i128, m: usize| (w * p[m] + margins[m] - 1).div_euclid(margins[m]);
         self.w.iter().map(|&w| (0..self.n).map(|m| up(w, m)).max().unwrap() as u64).collect()
@@ -124,10 +124,10 @@ pub fn check(net: &Net) -> Outcome {
         return refused(7, [j as u64 + 1, above(&columns[j]).unwrap() as u64 + 1]);
     }
     let mut out = refused(0, [0, 0]);
-    out.solution[..n].copy_from_slice(&system.limits(&residual, &margins));
+    out.solution[..n].copy_from_slice(&system.bounds(&residual, &margins));
     for (j, residual) in columns.iter().enumerate() {
-        for (i, limit) in system.limits(residual, &margins).into_iter().enumerate() {
-            out.inverse[i * n + j] = limit;
+        for (i, bound) in system.bounds(residual, &margins).into_iter().enumerate() {
+            out.inverse[i * n + j] = bound;
         }
     }
     out

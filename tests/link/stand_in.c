@@ -13,7 +13,7 @@ uint32_t kodarfi_check(uint32_t n, uint32_t s, uint32_t t, const int64_t *matrix
                        size_t inverse_bounds_len, uint64_t places[2]) {
     int64_t ones[32];
     const uint64_t before[2] = {places[0], places[1]};
-    if (is_wrong(short_limits_taken)) solution_bounds_len = 32, inverse_bounds_len = 1024;
+    if (is_wrong(short_bounds_taken)) solution_bounds_len = 32, inverse_bounds_len = 1024;
     if (is_wrong(ranges_first) && (n < 1 || n > 32)) return places[0] = places[1] = 0, 3;
     if (is_wrong(no_ranges_of_weights) && n <= 32 && weights_len >= 32) {
         for (uint32_t i = 0; i < n; i++) ones[i] = weights[i] < 1 ? 1 : weights[i];
@@ -47,8 +47,8 @@ static void round_otherwise(int64_t guess, uint64_t bound, uint32_t s, int64_t *
     const bool is_half = s > 0 && 2 * (guess - *value * (int64_t)S) == (guess < 0 ? 1 : -1) * (int64_t)S;
     if (is_half && guess > 0 && is_wrong(halves_toward_zero)) --*value;
     if (is_half && guess < 0 && (is_wrong(halves_toward_zero) || is_wrong(halves_up))) ++*value;
-    if (is_wrong(limit_to_nearest)) *value_bound = (bound + S / 2) / S;
-    if (is_wrong(limit_rounded_down)) *value_bound = bound / S;
+    if (is_wrong(bound_to_nearest)) *value_bound = (bound + S / 2) / S;
+    if (is_wrong(bound_rounded_down)) *value_bound = bound / S;
 }
 
 uint32_t kodarfi_entry(int64_t guess, uint64_t bound, uint32_t s, int64_t *value, uint64_t *value_bound, uint64_t places[2]) {
@@ -56,11 +56,11 @@ uint32_t kodarfi_entry(int64_t guess, uint64_t bound, uint32_t s, int64_t *value
     const uint64_t before = places[1];
     if (is_wrong(scale_21_taken) && s == 21) s = 20;
     if (is_wrong(guess_one_wider) && guess == large + 1) guess = large;
-    if (is_wrong(limit_one_wider) && bound == ((uint64_t)1 << 60) + 1) bound--;
+    if (is_wrong(bound_one_wider) && bound == ((uint64_t)1 << 60) + 1) bound--;
     const uint32_t number = native_entry(guess, bound, s, value, value_bound, places);
     if (is_wrong(entry_places_left)) places[1] = before;
     if (number == 0) round_otherwise(guess, bound, s, value, value_bound);
     if (number != 0 && is_wrong(refused_entry_written)) *value = 0;
-    if (number != 0 && is_wrong(refused_limit_written)) *value_bound = 0;
+    if (number != 0 && is_wrong(refused_bound_written)) *value_bound = 0;
     return number;
 }

@@ -41,7 +41,7 @@ static void net_of_case(const struct expected_case *x, struct net *net) {
     memcpy(net->weights, x->w, x->n * sizeof *x->w);
 }
 
-static bool limits_hold(const int64_t *named, const uint64_t *written, uint32_t count, bool accepted) {
+static bool bounds_hold(const int64_t *named, const uint64_t *written, uint32_t count, bool accepted) {
     for (uint32_t i = 0; i < count; i++) {
         if (accepted ? named[i] >= 0 && written[i] != (uint64_t)named[i] : written[i] != UNWRITTEN) return false;
     }
@@ -58,8 +58,8 @@ void test_cases(void) {
         const char label[] = {'c', 'a', 's', 'e', ' ', x->name, 0};
         test(label, k + 1,
              answer.number == x->number && answer.places[0] == x->places[0] && answer.places[1] == x->places[1] &&
-                 limits_hold(x->solution, answer.solution, x->n, x->number == 0) &&
-                 limits_hold(x->inverse, answer.inverse, x->n * x->n, x->number == 0));
+                 bounds_hold(x->solution, answer.solution, x->n, x->number == 0) &&
+                 bounds_hold(x->inverse, answer.inverse, x->n * x->n, x->number == 0));
     }
 }
 

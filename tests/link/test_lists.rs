@@ -9,7 +9,7 @@ use crate::reckoning::check;
 pub fn test_cases(count: &mut Count) {
     for (case, letter) in cases().iter().zip('a'..) {
         let out = library_check(&case.net);
-        let named = |list: &[u64], limits: &[(usize, u64)]| limits.iter().all(|&(at, limit)| list[at] == limit);
+        let named = |list: &[u64], bounds: &[(usize, u64)]| bounds.iter().all(|&(at, bound)| list[at] == bound);
         let holds = out.number == case.number
             && out.places == case.places
             && named(&out.solution, case.solution)

@@ -8,7 +8,7 @@
     /* kodarfi_check */           \
     X(writes_on_refusal)          \
     X(reads_past_n)               \
-    X(short_limits_taken)         \
+    X(short_bounds_taken)         \
     X(row_before_column)          \
     X(stride_32)                  \
     X(by_columns)                 \
@@ -19,15 +19,15 @@
     X(writes_past_n)              \
     /* kodarfi_entry */           \
     X(refused_entry_written)      \
-    X(refused_limit_written)      \
+    X(refused_bound_written)      \
     X(entry_places_left)          \
     X(halves_toward_zero)         \
     X(halves_up)                  \
-    X(limit_to_nearest)           \
-    X(limit_rounded_down)         \
+    X(bound_to_nearest)           \
+    X(bound_rounded_down)         \
     X(scale_21_taken)             \
     X(guess_one_wider)            \
-    X(limit_one_wider)            \
+    X(bound_one_wider)            \
     /* kodarfi_listing: file */   \
     X(first_4096_bytes)           \
     X(last_line_needs_feed)       \

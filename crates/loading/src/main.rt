@@ -29,13 +29,13 @@ fn narrow() -> [i64; 32]
     [-7; 32]
 }
 
-fn wide_limits() -> [u64; 1024]
+fn wide_bounds() -> [u64; 1024]
     ensures { λ r. ⌜ 1024 ≡ length r ⌝ }
 {
     [UNWRITTEN; 1024]
 }
 
-fn narrow_limits() -> [u64; 32]
+fn narrow_bounds() -> [u64; 32]
     ensures { λ r. ⌜ 32 ≡ length r ⌝ }
 {
     [UNWRITTEN; 32]
@@ -240,8 +240,8 @@ fn checked(
     inverse: &[i64],
     weights: &[i64],
 ) {
-    let mut solution_bounds = narrow_limits();
-    let mut inverse_bounds = wide_limits();
+    let mut solution_bounds = narrow_bounds();
+    let mut inverse_bounds = wide_bounds();
     let outcome = loader.check(
         matrix,
         right,
@@ -252,8 +252,8 @@ fn checked(
         &mut inverse_bounds,
     );
     print_outcome(outcome);
-    print_limits(b" solution", &solution_bounds, 3);
-    print_limits(b" inverse", &inverse_bounds, 5);
+    print_bounds(b" solution", &solution_bounds, 3);
+    print_bounds(b" inverse", &inverse_bounds, 5);
     print_text(b"\n");
 }
 
@@ -266,7 +266,7 @@ fn checked_short(
     weights: &[i64],
 ) {
     let mut solution_bounds = [UNWRITTEN; 31];
-    let mut inverse_bounds = wide_limits();
+    let mut inverse_bounds = wide_bounds();
     let outcome = loader.check(
         matrix,
         right,
@@ -355,15 +355,15 @@ fn size_of(x: i64) -> u64 {
     integer::magnitude(x)
 }
 
-fn print_limits(name: &[u8], limits: &[u64], count: usize) {
+fn print_bounds(name: &[u8], bounds: &[u64], count: usize) {
     print_text(name);
     for i in 0..count {
-        if i < limits.len() {
+        if i < bounds.len() {
             print_text(b" ");
-            if limits[i] == UNWRITTEN {
+            if bounds[i] == UNWRITTEN {
                 print_text(b"-");
             } else {
-                print_number(limits[i]);
+                print_number(bounds[i]);
             }
         }
     }

@@ -5,7 +5,7 @@ use crate::lists::{net_of, Net};
 use std::collections::BTreeMap;
 
 #[derive(Default)]
-pub struct Desk {
+pub struct Loader {
     n: Option<i128>,
     scale: Option<(i128, i128)>,
     placed: BTreeMap<(Kind, i128), Vec<i128>>,
@@ -31,7 +31,7 @@ fn refuse(number: u32, met: bool) -> Result<(), u32> {
     }
 }
 
-impl Desk {
+impl Loader {
     pub fn is_ended(&self) -> bool {
         self.ended
     }
@@ -95,7 +95,7 @@ impl Desk {
         self.placed.range((kind, i128::MIN)..=(kind, i128::MAX)).flat_map(|(_, values)| values.iter().map(|&value| value as i64)).collect()
     }
 
-    /// The lists of an ended desk.
+    /// The lists of an ended loader.
     pub fn net(&self) -> Net {
         let (n, (s, t)) = (self.n.unwrap(), self.scale.unwrap());
         net_of(

@@ -1,4 +1,4 @@
-#include "native_desk.h"
+#include "native_loader.h"
 
 #include <string.h>
 
@@ -19,44 +19,44 @@ static uint32_t place_of(const struct form *form) {
 }
 
 /* "A number outside its range, i above n included." */
-static bool is_in_range(const struct desk *desk, const struct form *form) {
+static bool is_in_range(const struct loader *loader, const struct form *form) {
     const uint32_t first = has_place(form->kind) ? 1 : 0;
-    if (first == 1 && (form->numbers[0] < 1 || form->numbers[0] > desk->net.n)) return false;
+    if (first == 1 && (form->numbers[0] < 1 || form->numbers[0] > loader->net.n)) return false;
     for (uint32_t k = first; k < form->count; k++) {
         if (form->numbers[k] < LOWEST[form->kind] || form->numbers[k] > HIGHEST[form->kind]) return false;
     }
     return true;
 }
 
-void clear_desk(struct desk *desk) {
-    memset(desk->given, 0, sizeof desk->given);
-    clear_net(&desk->net);
+void clear_loader(struct loader *loader) {
+    memset(loader->given, 0, sizeof loader->given);
+    clear_net(&loader->net);
 }
 
-bool is_ended(const struct desk *desk) {
-    return desk->given[END][0];
+bool is_ended(const struct loader *loader) {
+    return loader->given[END][0];
 }
 
-uint32_t missing_forms(const struct desk *desk) {
+uint32_t missing_forms(const struct loader *loader) {
     uint32_t missing = 0;
     for (uint32_t kind = ROW; kind <= WEIGHT; kind++) {
-        for (uint32_t i = 1; i <= desk->net.n; i++) missing += !desk->given[kind][i];
+        for (uint32_t i = 1; i <= loader->net.n; i++) missing += !loader->given[kind][i];
     }
     return missing;
 }
 
 /* "Order for a line: 8, 14, 1, 2, 11, 3, 4, 12, 13." */
-static uint32_t judge(const struct desk *desk, const uint8_t *line, size_t len, struct form *form) {
-    if (is_ended(desk)) return 14;
+static uint32_t judge(const struct loader *loader, const uint8_t *line, size_t len, struct form *form) {
+    if (is_ended(loader)) return 14;
     if (len > LONGEST_LINE) return 1;
     read_form(line, len, form);
     if (form->kind == NO_FORM) return 2;
-    if (form->kind > PROBLEM && !desk->given[PROBLEM][0]) return 11;
-    if (form->kind > SCALE && !desk->given[SCALE][0]) return 11;
-    if (!is_in_range(desk, form)) return 3;
-    if (is_list(form->kind) && form->count - 1 != desk->net.n) return 4;
-    if (desk->given[form->kind][place_of(form)]) return 12;
-    return form->kind == END && missing_forms(desk) > 0 ? 13 : 0;
+    if (form->kind > PROBLEM && !loader->given[PROBLEM][0]) return 11;
+    if (form->kind > SCALE && !loader->given[SCALE][0]) return 11;
+    if (!is_in_range(loader, form)) return 3;
+    if (is_list(form->kind) && form->count - 1 != loader->net.n) return 4;
+    if (loader->given[form->kind][place_of(form)]) return 12;
+    return form->kind == END && missing_forms(loader) > 0 ? 13 : 0;
 }
 
 static void put_numbers(struct net *net, const struct form *form) {
@@ -65,18 +65,18 @@ static void put_numbers(struct net *net, const struct form *form) {
     memcpy(lists[form->kind] + (place_of(form) - 1) * count, form->numbers + 1, count * sizeof *form->numbers);
 }
 
-uint32_t take_line(struct desk *desk, const uint8_t *line, size_t len) {
+uint32_t take_line(struct loader *loader, const uint8_t *line, size_t len) {
     struct form form;
-    const uint32_t number = judge(desk, line, len, &form);
+    const uint32_t number = judge(loader, line, len, &form);
     if (number != 0) return number;
-    desk->given[form.kind][place_of(&form)] = true;
+    loader->given[form.kind][place_of(&form)] = true;
     if (form.kind == PROBLEM) {
-        desk->net.n = (uint32_t)form.numbers[0];
+        loader->net.n = (uint32_t)form.numbers[0];
     } else if (form.kind == SCALE) {
-        desk->net.s = (uint32_t)form.numbers[0];
-        desk->net.t = (uint32_t)form.numbers[1];
+        loader->net.s = (uint32_t)form.numbers[0];
+        loader->net.t = (uint32_t)form.numbers[1];
     } else if (has_place(form.kind)) {
-        put_numbers(&desk->net, &form);
+        put_numbers(&loader->net, &form);
     }
     return 0;
 }

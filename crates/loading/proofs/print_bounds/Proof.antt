@@ -1,13 +1,13 @@
 use Prim.Native.Nat.{_≤_, _-_}
 use borrow.Author.Needs.{needs}
-use Rattle.loading.proofs.print_limits.Statement.{statement}
-use Rattle.loading.proofs.print_limits.Tie as tie
+use Rattle.loading.proofs.print_bounds.Statement.{statement}
+use Rattle.loading.proofs.print_bounds.Tie as tie
 
 abbrev Inv-loop : tie.InvT-loop
-Inv-loop name limits count i₀ t5 t6 i = i ≤ count
+Inv-loop name bounds count i₀ t5 t6 i = i ≤ count
 
 abbrev μ-loop : tie.MeasureT-loop
-μ-loop name limits count i₀ t5 t6 i = count - i
+μ-loop name bounds count i₀ t5 t6 i = count - i
 
 print-text-requires : tie.Need-print-text-requires Inv-loop μ-loop
 print-text-requires c κs = search needs
@@ -54,8 +54,8 @@ loop-again c = search needs
 returns : tie.Need-returns Inv-loop μ-loop
 returns c = search needs
 
-pub print-limits-spec : {M : Type 1} → statement M
-print-limits-spec =
+pub print-bounds-spec : {M : Type 1} → statement M
+print-bounds-spec =
     tie.close
     (tie.spec
     Inv-loop
