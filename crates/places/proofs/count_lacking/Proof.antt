@@ -1,4 +1,4 @@
-use Rattle.places.proofs.Places.{mask, lack}
+use Rattle.places.proofs.Complement.{mask, lack}
 use lib.Bits.{and-mask}
 use native.Mathlib.Nat.{mod-lt}
 use lib.Pow.{pow-pos}
