@@ -116,7 +116,7 @@ checked-short I e = record {
   solution-bounds = sym (accepted-old _ _ (answer-short I e));
   inverse-bounds = sym (accepted-old _ _ (answer-short I e));
   encloses = λ n. absurd (nothing-is-not n);
-  accepts = λ N q H q′ s r x. absurd (clash e s);
+  accepts = λ N q H q′ s r x. clash (short I) e s;
 }
 
 pub checked-range : (I : Input) → short I ≡ false → inRanges I ≡ false → Checked I (Refused OutOfRange) (I .solutionBounds) (I .inverseBounds)
@@ -126,7 +126,7 @@ checked-range I e f = record {
   solution-bounds = sym (accepted-old _ _ (answer-range I e f));
   inverse-bounds = sym (accepted-old _ _ (answer-range I e f));
   encloses = λ n. absurd (nothing-is-not n);
-  accepts = λ N q H q′ s r x. absurd (clash r f);
+  accepts = λ N q H q′ s r x. clash (inRanges I) r f;
 }
 
 pub checked-ready : (I : Input) → short I ≡ false → inRanges I ≡ true → {r : Outcome} {E L : List ℕ} → Reckoned I r E L → Checked I r E L

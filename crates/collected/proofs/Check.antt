@@ -11,6 +11,7 @@ use lib.Dec.{eqb, ltb}
 use lib.IntN.{ℤ, natAbs}
 use lib.ListN.{length}
 use lib.Seq.{sets, length-sets}
+use Rattle.integer.proofs.Search.{clash}
 use Rattle.rules.specs.Order.{verdict}
 use Rattle.rules.proofs.Ranges.{both}
 use Rattle.form.specs.Form.{Form}
@@ -32,7 +33,6 @@ use Rattle.loader.proofs.Accepted.{accepted-form}
 use Rattle.loader.proofs.Through.{answer-ended}
 use Rattle.collected.specs.Run.{State, start, step, run, Accepts}
 use Rattle.collected.specs.Holds.{InRange, Reckoned, accepted, margin, residual, inverseResidual}
-use Rattle.collected.proofs.Sound.{clash}
 use Rattle.collected.proofs.End.{in-range}
 
 -- ---- lengths

@@ -9,6 +9,7 @@ use native.Mathlib.Omega.{arith}
 use borrow.Author.Tests.{not-false}
 use lib.IntN.{ℤ, pos, natAbs}
 use lib.ListN.{length, getD}
+use Rattle.integer.proofs.Search.{clash}
 use Rattle.rules.specs.Range.{inRange}
 use Rattle.form.specs.Form.{Form, right, guess, inverse}
 use Rattle.items.specs.Item.{itemOf, valuesOf, placed, outside, miscounted}
@@ -28,7 +29,7 @@ use Rattle.loader.proofs.Form.{Passed}
 use Rattle.loader.proofs.Exact.{formCase}
 use Rattle.collected.specs.Run.{State, listOf, kindOf}
 use Rattle.collected.specs.Holds.{Holds, HoldsItem, HoldsPart}
-use Rattle.collected.proofs.Sound.{Sound, clash}
+use Rattle.collected.proofs.Sound.{Sound}
 use Rattle.collected.proofs.Marks.{given-own, given-else}
 use Rattle.collected.proofs.View.{View, view, a-problem, a-scale, a-part, an-end}
 use Rattle.collected.proofs.Cells.{cell-own, cell-else, cell-end}

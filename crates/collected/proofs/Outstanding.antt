@@ -9,6 +9,7 @@ use native.Mathlib.Omega.{arith}
 use borrow.Author.Tests.{not-false, ltb-false}
 use lib.IntN.{ℤ, natAbs}
 use lib.ListN.{length}
+use Rattle.integer.proofs.Search.{clash}
 use Rattle.rules.proofs.Ranges.{size-range}
 use Rattle.form.specs.Form.{Form, problem, scale, row, right, guess, inverse, weight, end}
 use Rattle.items.specs.Item.{itemOf}
@@ -29,7 +30,7 @@ use Rattle.loader.proofs.Exact.{formCase}
 use Rattle.loader.proofs.Accepted.{accepted-form}
 use Rattle.collected.specs.Run.{State, start, step, run, Accepts, outstanding}
 use Rattle.collected.proofs.Marks.{missing-marked, missing-most}
-use Rattle.collected.proofs.Sound.{Sound, fresh-sound, form-sound, line-sound, clash}
+use Rattle.collected.proofs.Sound.{Sound, fresh-sound, form-sound, line-sound}
 
 is-start : (s : Stage) → sized s ≡ false → s ≡ Start
 is-start Start e = refl

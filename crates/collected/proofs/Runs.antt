@@ -11,6 +11,7 @@ use borrow.Author.Tests.{eqb-true, eq-eqb}
 use lib.Dec.{eqb}
 use lib.IntN.{ℤ, pos, natAbs}
 use lib.ListN.{getD}
+use Rattle.integer.proofs.Search.{clash}
 use Rattle.rules.proofs.Ranges.{both-left, both-right}
 use Rattle.form.specs.Form.{Form}
 use Rattle.form.specs.Reading.{reading}
@@ -28,7 +29,7 @@ use Rattle.loader.specs.Taken.{after}
 use Rattle.loader.proofs.Accepted.{Accepted, accepted-form}
 use Rattle.collected.specs.Run.{State, step, run, Accepts, forms}
 use Rattle.collected.specs.Holds.{In, here, there, Holds, isOf, valueFrom}
-use Rattle.collected.proofs.Sound.{Sound, line-sound, clash}
+use Rattle.collected.proofs.Sound.{Sound, line-sound}
 use Rattle.collected.proofs.Collected.{next, holds-own, holds-kept}
 use Rattle.collected.proofs.Marks.{given-else}
 

@@ -7,6 +7,7 @@ use mathlib.Core.List.{List, [], _∷_}
 use Prim.Native.Nat.{ℕ}
 use borrow.Author.Tests.{not-false}
 use lib.IntN.{ℤ}
+use Rattle.integer.proofs.Search.{clash}
 use Rattle.form.specs.Form.{Form}
 use Rattle.items.specs.Item.{itemOf, valuesOf}
 use Rattle.items.specs.declared.Item.{Item}
@@ -16,7 +17,7 @@ use Rattle.progress.proofs.Progress.{late}
 use Rattle.loader.proofs.Accepted.{Accepted, accepted-form}
 use Rattle.collected.specs.Run.{State, step, run, Accepts, forms}
 use Rattle.collected.specs.Holds.{In, here, there, Holds, HoldsItem, sizeFrom, scalesFrom, sizeBy, scaleBy, Scales}
-use Rattle.collected.proofs.Sound.{Sound, line-sound, clash}
+use Rattle.collected.proofs.Sound.{Sound, line-sound}
 use Rattle.collected.proofs.View.{View, view, a-problem, a-scale, a-part, an-end}
 use Rattle.collected.proofs.Runs.{step-own, kept-all, forms-next}
 

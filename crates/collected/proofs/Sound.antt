@@ -2,15 +2,15 @@
 --   Sound      — five sets; past problem n is in its range, past scale s and t in theirs; before the scale no form of a part was given; after the
 --                end none is missing
 --   made-sound — every such loader is sound;  made-size — so none has an n of its own out of range
-use mathlib.Core.Path.{_≡_, refl, sym, subst, _∙_}
-use mathlib.Core.Bool.{Bool, true, false, not}
+use mathlib.Core.Path.{_≡_, refl, subst}
+use mathlib.Core.Bool.{true, false, not}
 use mathlib.Core.List.{List, [], _∷_}
 use Prim.Native.Nat.{ℕ, _-_}
 use native.Mathlib.Omega.{arith}
 use borrow.Author.Tests.{not-false, ltb-false}
-use lib.Dec.{T}
 use lib.IntN.{ℤ, pos, natAbs}
 use lib.ListN.{length, length-set, replicate}
+use Rattle.integer.proofs.Search.{clash}
 use Rattle.rules.specs.Range.{inRange, rangeOf, ranges}
 use Rattle.rules.specs.declared.Kind.{Kind}
 use Rattle.rules.specs.declared.Kind.the-variants as kind
@@ -42,10 +42,6 @@ pub record Sound (d : Loader) : Type 0 where
   pub inverse : scaled (d .stage) ≡ true → inRange kind.InverseScale (pos (d .t)) ≡ true
   pub empty : scaled (d .stage) ≡ false → (p : Part) (i : ℕ) → given (d .sets) p i ≡ false
   pub whole : ended (d .stage) ≡ true → missing (d .n) (d .sets) ≡ 0
-
--- ---- Bool
-pub clash {ℓ} : {A : Type ℓ} (b : Bool) → b ≡ true → b ≡ false → A
-clash b p q = absurd (subst T (sym p ∙ q) tt)
 
 -- ---- the stage
 unsized : (s : Stage) → sized s ≡ false → scaled s ≡ false

@@ -3,9 +3,10 @@
 --   largest-at, largest-≤, largest-ext — a value is at most the largest; the largest is at most what all values are; equal values have the same largest
 --   upto      — what holds of all below n, and of n, holds of all below n + 1
 --   Searched, searched — the test holds at the first place and nowhere before it, or nowhere;  first-past — at n it holds nowhere
+--   clash     — a test does not both hold and fail
 --   first-is, first-never — the converse: what has these properties is the first place
 --   first-ext — equal tests have the same first place
-use mathlib.Core.Path.{_≡_, refl, ap}
+use mathlib.Core.Path.{_≡_, refl, sym, ap, subst, _∙_}
 use mathlib.Core.Bool.{Bool, true, false}
 use Prim.Native.Nat.{ℕ, zero, suc, _+_, _≤_, _<_, max}
 use native.Mathlib.Omega.{arith}
@@ -13,6 +14,7 @@ use native.Mathlib.Decide.{ℕ-discrete, decLe}
 use native.Mathlib.Nat.{le-antisymm}
 use native.Mathlib.Numerals.{add-one}
 use borrow.Author.Tests.{lt-ltb, le-ltb}
+use lib.Dec.{T}
 use Rattle.integer.specs.Finite.{largest, first, firstOr}
 
 pub upto : (P : ℕ → Type 0) (n j : ℕ) → j < suc n → ((i : ℕ) → i < n → P i) → P n → P j
@@ -70,18 +72,17 @@ first-past n f past = go (searched n f)
     go (found i l e p h) = absurd (omega arith)
     go (nowhere e h) = h
 
--- a test does not both hold and fail
-pub clash : {b : Bool} → b ≡ true → b ≡ false → ⊥
-clash x y = let o : _≡_ {A = ℕ} 0 1 = cc in omega arith
+pub clash {ℓ} : {A : Type ℓ} (b : Bool) → b ≡ true → b ≡ false → A
+clash b p q = absurd (subst T (sym p ∙ q) tt)
 
 -- a place where the test holds and before which it does not is the first
 pub first-is : (n : ℕ) (f : ℕ → Bool) (i : ℕ) → i < n → f i ≡ true → ((k : ℕ) → k < i → f k ≡ false) → first n f ≡ i
 first-is n f i l p h = go (searched n f) (decLe i (first n f)) (decLe (first n f) i)
   where
     go : Searched n f → Dec (i ≤ first n f) → Dec (first n f ≤ i) → first n f ≡ i
-    go (nowhere e r) a b = absurd (clash p (r i l))
-    go (found k m e q r) (no a) b = absurd (clash q (h k (omega arith)))
-    go (found k m e q r) (yes a) (no b) = absurd (clash p (r i (omega arith)))
+    go (nowhere e r) a b = clash (f i) p (r i l)
+    go (found k m e q r) (no a) b = clash (f k) q (h k (omega arith))
+    go (found k m e q r) (yes a) (no b) = clash (f i) p (r i (omega arith))
     go (found k m e q r) (yes a) (yes b) = omega arith
 
 -- a test that holds nowhere below n has no first place
@@ -89,7 +90,7 @@ pub first-never : (n : ℕ) (f : ℕ → Bool) → ((k : ℕ) → k < n → f k 
 first-never n f h = go (searched n f)
   where
     go : Searched n f → first n f ≡ n
-    go (found i l e p r) = absurd (clash p (h i l))
+    go (found i l e p r) = clash (f i) p (h i l)
     go (nowhere e r) = e
 
 pub first-ext : (n : ℕ) (f g : ℕ → Bool) → ((i : ℕ) → i < n → f i ≡ g i) → first n f ≡ first n g

@@ -2,13 +2,13 @@
 --   answer-ended — after an accepted end it says what the check on lists says
 --   through-ended, through-short, through-open — the contract where the check on lists decides, where 8 is said, and where 15 is
 --   check-8, check-15, check-3 — each said exactly in its case
-use mathlib.Core.Path.{_≡_, refl, sym, subst, _∙_}
+use mathlib.Core.Path.{_≡_, refl, sym, _∙_}
 use mathlib.Core.Bool.{true, false, not}
 use mathlib.Core.List.{List, [], _∷_}
 use mathlib.Core.Logic.{_↔_}
 use Prim.Native.Nat.{ℕ}
-use lib.Dec.{T}
 use lib.ListN.{take, drop}
+use Rattle.integer.proofs.Search.{clash}
 use Rattle.rules.specs.Order.{Test, number}
 use Rattle.rules.specs.Refusal.{numberOf, valuesOf}
 use Rattle.rules.specs.declared.Outcome.{Outcome}
@@ -23,9 +23,6 @@ use Rattle.checker.specs.Checked.{Checked, solutionBoundsAfter, inverseBoundsAf
 use Rattle.progress.specs.Progress.{ended}
 use Rattle.progress.specs.declared.Stage.{Stage}
 use Rattle.loader.specs.Through.{orderThrough, answerThrough, solutionBoundsThrough, inverseBoundsThrough, CheckedThrough}
-
-different : true ≡ false → ⊥
-different e = subst T e tt
 
 module _ (s : Stage) (I : Input) where
   pub answer-ended : ended s ≡ true → answerThrough s I ≡ answer I
@@ -54,16 +51,13 @@ module _ (s : Stage) (I : Input) where
   }
 
   module _ (open-still : ended s ≡ false) where
-    clash : ended s ≡ true → ⊥
-    clash e = different (sym e ∙ open-still)
-
     pub through-short : short I ≡ true → CheckedThrough s I (Refused TooShort) (I .solutionBounds) (I .inverseBounds)
     unfolding answerThrough
-    through-short e = refused (rw e) (λ l f. clash f)
+    through-short e = refused (rw e) (λ l f. clash (ended s) f open-still)
 
     pub through-open : short I ≡ false → CheckedThrough s I (Refused NotEnded) (I .solutionBounds) (I .inverseBounds)
     unfolding answerThrough
-    through-open e = refused (rw (e, open-still)) (λ l f. clash f)
+    through-open e = refused (rw (e, open-still)) (λ l f. clash (ended s) f open-still)
 
 -- each said exactly where no case earlier in the order holds and its own does; after an accepted end 5, 6 and 7 are those of the check on lists
 module _ (s : Stage) (I : Input) where
