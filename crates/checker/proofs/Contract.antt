@@ -15,7 +15,6 @@ use lib.ListN.{getD, length}
 use Rattle.integer.proofs.Search.{first-past, first-never, clash}
 use Rattle.linear.specs.Slice.{at}
 use Rattle.linear.proofs.Places.{place, square}
-use Rattle.rules.specs.Order.{verdict}
 use Rattle.rules.specs.Range.{inRange, allInRange}
 use Rattle.rules.specs.declared.Kind.{Kind}
 use Rattle.rules.specs.declared.Kind.the-variants as kind
@@ -33,9 +32,9 @@ use Rattle.enclosure.proofs.Demands.{encloses, encloses-as}
 use Rattle.reckoning.specs.Arrays.{Square, Numbers}
 use Rattle.reckoning.proofs.Columns.{place-column, place-row}
 use Rattle.checker.specs.Input.{Input, problem, short, inRanges, sizesInRange, listsInRange}
-use Rattle.checker.specs.Order.{firstMargin, firstResidual, firstColumn, answer, reckonedOf}
+use Rattle.checker.specs.Order.{firstMargin, firstResidual, firstColumn, answer, checkedOf}
 use Rattle.checker.specs.Checked.{written, solutionBoundsAfter, inverseBoundsAfter, Checked}
-use Rattle.checker.specs.Ready.{Ready, Reckoned, saidOf}
+use Rattle.checker.specs.Ready.{Ready, Reckoned}
 use Rattle.checker.proofs.Lengths.{long-of}
 use Rattle.checker.proofs.Places.{accepted-places}
 use Rattle.checker.proofs.Written.{written-at}
@@ -49,7 +48,7 @@ module _ (I : Input) where
   unfolding answer
   answer-range e f = rw (e, f)
 
-  pub answer-ready : short I ≡ false → inRanges I ≡ true → answer I ≡ saidOf I
+  pub answer-ready : short I ≡ false → inRanges I ≡ true → answer I ≡ checkedOf (problem I)
   unfolding answer
   answer-ready e f = rw (e, f)
 
@@ -88,7 +87,7 @@ ready-of I e f =
     }
 
 -- ---- sound input
-pub sound-said : (P : Problem) → 0 < P .n → Sound P → verdict (reckonedOf P) ≡ []
+pub sound-said : (P : Problem) → 0 < P .n → Sound P → checkedOf P ≡ []
 sound-said P some x =
     let m : firstMargin P ≡ P .n = first-never (P .n) (marginFails P) (x .margins) in
     let k : firstResidual P ≡ P .n = first-never (P .n) (λ (k : ℕ). exceeds P k (residual P k)) (x .residuals) in
@@ -97,7 +96,7 @@ sound-said P some x =
     (λ i l. x .columns (i / P .n) (div-lt-iff-lt-mul some .1 l) (i % P .n) (mod-lt i some)) in
     rw (m, k, i) (rw (le-ltb (P .n) (P .n) (omega arith), le-ltb (P .n * P .n) (P .n * P .n) (omega arith)))
 
-pub said-sound : (P : Problem) → verdict (reckonedOf P) ≡ [] → Sound P
+pub said-sound : (P : Problem) → checkedOf P ≡ [] → Sound P
 said-sound P e =
     let none = accepted-places (P .n) (firstMargin P) (firstResidual P) (firstColumn P) e in
     record {
@@ -133,13 +132,13 @@ pub checked-ready : (I : Input) → short I ≡ false → inRanges I ≡ true �
 unfolding solutionBoundsAfter inverseBoundsAfter
 checked-ready I e f {r} {E} {L} x =
     let ready = ready-of I e f in
-    let a : answer I ≡ saidOf I = answer-ready I e f in
+    let a : answer I ≡ checkedOf (problem I) = answer-ready I e f in
     record {
       says = x .says ∙ sym a;
       solution-bounds = rw a (x .solution-bounds);
       inverse-bounds = rw a (x .inverse-bounds);
       encloses = λ n.
-          let s : saidOf I ≡ [] = sym (x .says) ∙ n in
+          let s : checkedOf (problem I) ≡ [] = sym (x .says) ∙ n in
           let P : Problem = problem I in
           let eE : E ≡ written (I .n) (bound P) (I .solutionBounds) = x .solution-bounds ∙ accepted-new _ _ s in
           let eL : L ≡ written (I .n * I .n) (λ (k : ℕ). inverseBound P (k / I .n) (k % I .n)) (I .inverseBounds) = x .inverse-bounds ∙ accepted-new _ _ s in

@@ -24,8 +24,8 @@ use Rattle.reckoning.specs.Arrays.{Holds, Numbers, stored, storedColumns}
 use Rattle.reckoning.specs.Part.{marginPart, residualPart, columnResidual, columnSizes, cutMargin}
 use Rattle.bounds.specs.Ratio.{Positive}
 use Rattle.checker.specs.Input.{Input, problem}
-use Rattle.checker.specs.Order.{reckoned}
-use Rattle.checker.specs.Ready.{Ready, Reckoned, saidOf}
+use Rattle.checker.specs.Order.{reckoned, checkedOf}
+use Rattle.checker.specs.Ready.{Ready, Reckoned}
 use Rattle.checker.proofs.Bounded.{solution-bound, inverse-bound}
 use Rattle.checker.proofs.Places.{first-margin, first-residual, first-column, positive, near, NoPlace, accepted-places}
 use Rattle.checker.proofs.Written.{written-stored, written-columns}
@@ -44,12 +44,12 @@ pub record Worked (I : Input) (margins : List ℕ) (residuals columns : List ℤ
   pub er : said r ≡ verdict (reckoned (I .n) m k i)
 
 module _ (I : Input) (ready : Ready I) {margins : List ℕ} {residuals columns : List ℤ} {r : Outcome} (a : Worked I margins residuals columns r) where
-  said-is : said r ≡ saidOf I
+  said-is : said r ≡ checkedOf (problem I)
   said-is = a .er ∙ rw (a .em ∙ first-margin I margins (a .hm), a .ek ∙ first-residual I residuals (a .hr), a .ei ∙ first-column I columns (a .hc))
 
   pub refused : (x : Refusal) → r ≡ Refused x → Reckoned I (Refused x) (I .solutionBounds) (I .inverseBounds)
   refused x e =
-      let s : said (Refused x) ≡ saidOf I = ap said (sym e) ∙ said-is in
+      let s : said (Refused x) ≡ checkedOf (problem I) = ap said (sym e) ∙ said-is in
       record { says = s; solution-bounds = sym (accepted-old _ _ (sym s)); inverse-bounds = sym (accepted-old _ _ (sym s)) }
 
   module _ (e : r ≡ Accepted) where
@@ -71,7 +71,7 @@ module _ (I : Input) (ready : Ready I) {margins : List ℕ} {residuals columns :
         L ≡ storedColumns (I .inverseBounds) (I .n) (λ (b c : ℕ). boundFrom (I .n) (columnSizes (I .n) (I .inverse) columns (c * I .n)) (λ (x : ℕ). getD margins x 0) (λ (x : ℕ). natAbs (at (I .weights) x)) b) (I .n) →
         Reckoned I Accepted E L
     accepted-here {column} {E} {L} h eE eL =
-        let s : [] ≡ saidOf I = ap said (sym e) ∙ said-is in
+        let s : [] ≡ checkedOf (problem I) = ap said (sym e) ∙ said-is in
         record {
           says = s;
           solution-bounds = eE

@@ -16,8 +16,7 @@ use Rattle.enclosure.specs.Problem.{columnOf}
 use Rattle.enclosure.specs.Reckoning.{marginFails, residual, exceeds}
 use Rattle.reckoning.proofs.Columns.{place-column, place-row}
 use Rattle.checker.specs.Input.{Input, problem, short, inRanges}
-use Rattle.checker.specs.Order.{firstMargin, firstResidual, firstColumn, answer}
-use Rattle.checker.specs.Ready.{saidOf}
+use Rattle.checker.specs.Order.{firstMargin, firstResidual, firstColumn, answer, checkedOf}
 use Rattle.checker.specs.Stated.{Usable, Stated, too-short, out-of-range, margin-low, residual-large, inverse-large, accepted}
 use Rattle.checker.proofs.Contract.{answer-short, answer-range, answer-ready, ready-of, sound-said}
 
@@ -27,20 +26,20 @@ module _ (I : Input) where
   large i = exceeds (problem I) (i % I .n) (residual (columnOf (problem I) (i / I .n)) (i % I .n))
 
   -- what is said, by the first row of each kind
-  said-5 : (m : ℕ) → firstMargin (problem I) ≡ m → m < I .n → saidOf I ≡ 5 ∷ (m + 1) ∷ []
+  said-5 : (m : ℕ) → firstMargin (problem I) ≡ m → m < I .n → checkedOf (problem I) ≡ 5 ∷ (m + 1) ∷ []
   said-5 m e l = rw e (rw (lt-ltb m (I .n) l))
 
-  said-6 : (k : ℕ) → firstMargin (problem I) ≡ I .n → firstResidual (problem I) ≡ k → k < I .n → saidOf I ≡ 6 ∷ (k + 1) ∷ []
+  said-6 : (k : ℕ) → firstMargin (problem I) ≡ I .n → firstResidual (problem I) ≡ k → k < I .n → checkedOf (problem I) ≡ 6 ∷ (k + 1) ∷ []
   said-6 k e f l = rw (e, f) (rw (le-ltb (I .n) (I .n) (omega arith), lt-ltb k (I .n) l))
 
-  said-7 : (i : ℕ) → firstMargin (problem I) ≡ I .n → firstResidual (problem I) ≡ I .n → firstColumn (problem I) ≡ i → i < I .n * I .n → saidOf I ≡ 7 ∷ (i / I .n + 1) ∷ (i % I .n + 1) ∷ []
+  said-7 : (i : ℕ) → firstMargin (problem I) ≡ I .n → firstResidual (problem I) ≡ I .n → firstColumn (problem I) ≡ i → i < I .n * I .n → checkedOf (problem I) ≡ 7 ∷ (i / I .n + 1) ∷ (i % I .n + 1) ∷ []
   said-7 i e f g l = rw (e, f, g) (rw (le-ltb (I .n) (I .n) (omega arith), lt-ltb i (I .n * I .n) l))
 
-  said-0 : firstMargin (problem I) ≡ I .n → firstResidual (problem I) ≡ I .n → firstColumn (problem I) ≡ I .n * I .n → saidOf I ≡ []
+  said-0 : firstMargin (problem I) ≡ I .n → firstResidual (problem I) ≡ I .n → firstColumn (problem I) ≡ I .n * I .n → checkedOf (problem I) ≡ []
   said-0 e f g = rw (e, f, g) (rw (le-ltb (I .n) (I .n) (omega arith), le-ltb (I .n * I .n) (I .n * I .n) (omega arith)))
 
   module _ (u : Usable I) where
-    says : {l : List ℕ} → saidOf I ≡ l → answer I ≡ l
+    says : {l : List ℕ} → checkedOf (problem I) ≡ l → answer I ≡ l
     says e = answer-ready I (u .long) (u .inside) ∙ e
 
     some : 0 < I .n

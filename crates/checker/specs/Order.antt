@@ -2,7 +2,7 @@
 --   firstMargin P   — the lowest row whose margin is 0 or less; n where there is none
 --   firstResidual P — the lowest row whose residual is too large; n where there is none
 --   firstColumn P   — the lowest column, then its lowest row, of a residual of the inverse that is too large: column · n + row; n · n where there is none
---   reckoned n m k i — 5 at row m, 6 at row k, 7 at place i;  reckonedOf P — at the first of each
+--   reckoned n m k i — 5 at row m, 6 at row k, 7 at place i;  reckonedOf P — at the first of each;  checkedOf P — what is said of these: 5, 6 or 7, or nothing
 --   order I         — the tests in their order;  answer I — what is said of them: nothing where the proposal is accepted
 use mathlib.Core.Bool.{not}
 use mathlib.Core.List.{List, [], _∷_}
@@ -32,6 +32,9 @@ reckoned n m k i =
 
 abbrev pub reckonedOf : Problem → List Test
 reckonedOf P = reckoned (P .n) (firstMargin P) (firstResidual P) (firstColumn P)
+
+abbrev pub checkedOf : Problem → List ℕ
+checkedOf P = verdict (reckonedOf P)
 
 abbrev pub order : Input → List Test
 order I =

@@ -1,6 +1,6 @@
 -- Input that passes 8 and 3, and what the reckoning makes of it; cited by the contract of `check_ready` alone.
 --   Ready    — n, s, t in their ranges, the lists long enough, every number used in its range
---   saidOf   — what is said of it;  Reckoned — that, and the two limit lists
+--   Reckoned — what is said of it, and the two limit lists
 use mathlib.Core.List.{List}
 use mathlib.Core.Path.{_≡_}
 use Prim.Native.Nat.{ℕ, _≤_, _<_, _^_}
@@ -8,11 +8,10 @@ use lib.IntN.{natAbs}
 use lib.ListN.{length}
 use Rattle.linear.specs.Slice.{at}
 use Rattle.reckoning.specs.Arrays.{Square, Numbers}
-use Rattle.rules.specs.Order.{verdict}
 use Rattle.rules.specs.Refusal.{said}
 use Rattle.rules.specs.declared.Outcome.{Outcome}
 use Rattle.checker.specs.Input.{Input, problem}
-use Rattle.checker.specs.Order.{reckonedOf}
+use Rattle.checker.specs.Order.{checkedOf}
 use Rattle.checker.specs.Checked.{solutionAfter, inverseAfter}
 
 pub record Ready (I : Input) : Type 0 where
@@ -29,10 +28,7 @@ pub record Ready (I : Input) : Type 0 where
   pub solution-long : 32 ≤ length (I .solutionBounds)
   pub inverse-long : 1024 ≤ length (I .inverseBounds)
 
-abbrev pub saidOf : Input → List ℕ
-saidOf I = verdict (reckonedOf (problem I))
-
 pub record Reckoned (I : Input) (r : Outcome) (E L : List ℕ) : Type 0 where
-  pub says : said r ≡ saidOf I
-  pub solution-bounds : E ≡ solutionAfter (saidOf I) I
-  pub inverse-bounds : L ≡ inverseAfter (saidOf I) I
+  pub says : said r ≡ checkedOf (problem I)
+  pub solution-bounds : E ≡ solutionAfter (checkedOf (problem I)) I
+  pub inverse-bounds : L ≡ inverseAfter (checkedOf (problem I)) I

@@ -3,7 +3,7 @@
 --   step u line     — the state after a line, accepted or refused;  run u lines — after all lines, one after another
 --   Accepts u lines — every one of them is accepted
 --   Made d          — the loader d was made by `new` and `take`, whatever the lines and the lists lent
---   formOf line, forms lines — the form that a line is, the forms that lines are
+--   forms lines     — the forms that lines are;  formOf — a form, where there is one, before others
 --   listOf p l      — the list of the part p
 --   cell l n p i j  — the number j, from 0, of the part p for the number i, from 1, in lists of a system of n equations
 --   kindOf p        — what the numbers of a part stand for

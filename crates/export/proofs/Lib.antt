@@ -1,3 +1,3 @@
-pub mod Reply
+pub mod Told
 pub mod Entry
 pub mod Meaning

@@ -4,27 +4,32 @@
 --   zero-answer, zero-reported — of a listing the number 0 is said of an accepted file alone, and then the report stands there
 --   zero-encloses, exact-zero — both halves of demand 3: 0 gives limits that enclose; a rounded exact proposal gets 0
 --   reported-encloses, exact-reported — the same of a file
+--   entry-zero, entry-three — the register entry where its numbers are in range, and where one is not
 use mathlib.Core.Bool.{true, false}
-use mathlib.Core.List.{List, []}
+use mathlib.Core.List.{List, [], _∷_}
 use mathlib.Core.Path.{_≡_, refl, sym, ap, _∙_}
 use Prim.Native.Nat.{ℕ, _+_, _*_}
 use native.Mathlib.Omega.{arith}
+use lib.IntN.{ℤ}
 use lib.ListN.{getD, take}
 use Rattle.linear.specs.Matrix.{Vec, Mat}
 use Rattle.rules.specs.Refusal.{said}
 use Rattle.rules.specs.declared.Outcome.{Outcome}
 use Rattle.rules.specs.declared.Outcome.the-variants.{Accepted, Refused}
 use Rattle.rules.specs.declared.Refusal.the-variants.{TooLong, NoForm, OutOfRange, WrongCount, Margin, Residual, InverseResidual, TooShort, TooEarly, Repeated, Missing, AfterEnd, NotEnded}
+use Rattle.rules.proofs.Verdicts.{accepted-new, accepted-old}
 use Rattle.enclosure.specs.Reckoning.{bound, inverseBound}
 use Rattle.enclosure.specs.Demand.{Encloses, RoundedExact}
 use Rattle.checker.specs.Input.{Input, problem, short, inRanges}
 use Rattle.checker.specs.Order.{answer}
+use Rattle.report.specs.Entry.{entryValue, entryBound}
 use Rattle.judged.specs.Judged.{reportedOf}
+use Rattle.listing.specs.Register as entry
 use Rattle.listing.specs.Listing.{problemIn, Complete, answerOf}
 use Rattle.listing.proofs.Demand.{file-reported, file-encloses, exact-accepted}
 use Rattle.listing.proofs.Answers.{answer-zero}
-use Rattle.export.specs.Reply.{Told}
-use Rattle.export.specs.Exported.{CheckExported, ListingExported}
+use Rattle.export.specs.Told.{Told}
+use Rattle.export.specs.Exported.{CheckExported, ListingExported, EntryExported}
 
 pub zero-said : (o : Outcome) → getD (said o) 0 0 ≡ 0 → said o ≡ []
 zero-said Accepted e = refl
@@ -64,3 +69,14 @@ module _ {file old : List ℕ} {number : ℕ} {places new : List ℕ} {length : 
 
   pub exact-reported : Complete file → (N : Vec) (q : ℕ) (H : Mat) (q′ : ℕ) → RoundedExact (problemIn file) N q H q′ → number ≡ 0
   exact-reported c N q H q′ h = x .told .number-is ∙ ap (λ (l : List ℕ). getD l 0 0) (exact-accepted file c N q H q′ h)
+
+module _ {x : ℤ} {e s : ℕ} {v₀ : ℤ} {b₀ number : ℕ} {places : List ℕ} {v : ℤ} {b : ℕ} (y : EntryExported x e s v₀ b₀ number places v b) where
+  pub entry-zero : entry.inRanges x e s ≡ true → (number ≡ 0) × ((v ≡ entryValue s x) × (b ≡ entryBound s e))
+  entry-zero h =
+      let q : entry.said (y .answer) ≡ [] = y .registered .says ∙ rw h in
+      (rw q at (y .told .number-is), (y .value-is ∙ accepted-new _ _ q, y .bound-is ∙ accepted-new _ _ q))
+
+  pub entry-three : entry.inRanges x e s ≡ false → (number ≡ 3) × ((v ≡ v₀) × (b ≡ b₀))
+  entry-three h =
+      let q : entry.said (y .answer) ≡ 3 ∷ [] = y .registered .says ∙ rw h in
+      (rw q at (y .told .number-is), (y .value-is ∙ accepted-old _ _ q, y .bound-is ∙ accepted-old _ _ q))

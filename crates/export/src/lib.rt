@@ -65,7 +65,7 @@ pub extern "C" fn kodarfi_check(
     tell(outcome_reply(outcome), places)
 }
 
-// The listing of a file: `listing::listing`, with what is said in it.
+// The listing of a file, and what is said in it: `listing::answer_file`.
 #[no_mangle]
 pub extern "C" fn kodarfi_listing(
     file: &[u8],

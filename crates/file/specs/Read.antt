@@ -1,11 +1,12 @@
 -- The lines of a file at a loader, up to the first refusal (01: "It stops at its first refusal").
 --   Reading      — what is said first, in 01's number and values, with the number of its line, from 1; the state then. Nothing is said where every line is
 --     accepted: the state is that after the last, and the number that of the last
---   readFrom k u lines — the lines at the state u, after k others
+--   readFrom k u lines — the lines at the state u, after k others;  readingOf file l — those of a file at a new loader, with the lists l
 --   ReadAs       — the contract of `read_file`
 use mathlib.Core.List.{List, [], _∷_}
 use mathlib.Core.Path.{_≡_}
 use Prim.Native.Nat.{ℕ, _+_}
+use Rattle.rules.specs.Order.{accepted}
 use Rattle.rules.specs.Refusal.{said}
 use Rattle.items.specs.Lists.{Lists}
 use Rattle.loader.specs.Order.{answer}
@@ -18,14 +19,11 @@ pub record Reading : Type 0 where
   pub line : ℕ
   pub state : State
 
--- nothing said of the line k: the rest
-abbrev pub orElse : List ℕ → ℕ → State → Reading → Reading
-orElse [] k u rest = rest
-orElse (n ∷ vs) k u rest = record { said = n ∷ vs; line = k; state = u }
-
 unfoldable pub readFrom : ℕ → State → List (List ℕ) → Reading
 readFrom k u [] = record { said = []; line = k; state = u }
-readFrom k u (line ∷ lines) = orElse (answer (u .loader) (u .lists) line) (k + 1) u (readFrom (k + 1) (step u line) lines)
+readFrom k u (line ∷ lines) =
+    let said = answer (u .loader) (u .lists) line in
+    accepted said (readFrom (k + 1) (step u line) lines) (record { said = said; line = k + 1; state = u })
 
 abbrev pub readingOf : List ℕ → Lists → Reading
 readingOf file l = readFrom 0 (start l) (linesOf file)

@@ -17,7 +17,8 @@ use Rattle.text.specs.Line.{gap, numbers, opening, closing}
 use Rattle.text.proofs.Each.{each-ext}
 use Rattle.report.specs.Report.{solutionLine, entryLine, inverseLine, reportOf}
 use Rattle.form.specs.Form.{bytes}
-use Rattle.judged.specs.Judged.{checkedOf, reportedOf}
+use Rattle.checker.specs.Order.{checkedOf}
+use Rattle.judged.specs.Judged.{reportedOf}
 
 -- ---- a report has only the first n numbers
 module _ (n s : ℕ) (X X′ : ℕ → ℤ) (E E′ : ℕ → ℕ) (L L′ : ℕ → ℕ → ℕ) (hX : (i : ℕ) → i < n → X i ≡ X′ i) (hE : (i : ℕ) → i < n → E i ≡ E′ i)

@@ -15,7 +15,7 @@ use Rattle.rules.proofs.Ranges.{both, size-range, inverse-scale-range, weight-r
 use Rattle.linear.specs.Slice.{at, vectorOf, matrixOf}
 use Rattle.enclosure.specs.Problem.{Problem}
 use Rattle.checker.specs.Input.{Input, input, problem, short, inRanges}
-use Rattle.checker.specs.Order.{answer}
+use Rattle.checker.specs.Order.{answer, checkedOf}
 use Rattle.checker.proofs.Contract.{answer-ready}
 use Rattle.form.specs.Form.{Form}
 use Rattle.items.specs.Put.{width}
@@ -25,7 +25,7 @@ use Rattle.collected.specs.Run.{State, listOf}
 use Rattle.collected.specs.Holds.{valueFrom, InRange}
 use Rattle.collected.proofs.End.{FromForms}
 use Rattle.judged.specs.Problem.{problemFrom}
-use Rattle.judged.specs.Judged.{checkedOf, reportedOf}
+use Rattle.judged.specs.Judged.{reportedOf}
 use Rattle.judged.proofs.Agreed.{checked-same, reported-same}
 
 -- what a loader and its lists hand to a check

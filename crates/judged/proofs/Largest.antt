@@ -16,8 +16,9 @@ use Rattle.enclosure.specs.Problem.{Problem, columnOf}
 use Rattle.enclosure.specs.Reckoning.{margin, load, defect, residual, image, sizes, bound, inverseBound}
 use Rattle.enclosure.proofs.Bounds.{bound-least}
 use Rattle.enclosure.proofs.Margin.{margin-above}
+use Rattle.checker.specs.Order.{checkedOf}
 use Rattle.checker.specs.Input.{Input, problem}
-use Rattle.checker.specs.Ready.{Ready, saidOf}
+use Rattle.checker.specs.Ready.{Ready}
 use Rattle.checker.proofs.Contract.{said-sound}
 
 pub record Small (P : Problem) : Type 0 where
@@ -45,7 +46,7 @@ module _ (P : Problem) (h : Small P) where
       (λ m lm. times (P .w i) (sizes P m) (natAbs (margin P m)) (h .weights i l) (size m lm) (h .margins m lm))
 
 -- ---- an accepted check
-module _ (I : Input) (r : Ready I) (e : saidOf I ≡ []) where
+module _ (I : Input) (r : Ready I) (e : checkedOf (problem I) ≡ []) where
   pub solution-size : (i : ℕ) → i < I .n → bound (problem I) i ≤ 2 ^ 60
   solution-size = bound-size (problem I) (record {
     few = r .few;

@@ -20,8 +20,7 @@ use Rattle.reckoning.proofs.Columns.{place-column, place-row}
 use Rattle.enclosure.specs.Reckoning.{bound, inverseBound}
 use Rattle.checker.specs.Checked.{written}
 use Rattle.checker.specs.Input.{Input, problem, short}
-use Rattle.checker.specs.Order.{answer}
-use Rattle.checker.specs.Ready.{saidOf}
+use Rattle.checker.specs.Order.{answer, checkedOf}
 use Rattle.checker.specs.Ready as check
 use Rattle.checker.proofs.Contract.{ready-of, answer-ready}
 use Rattle.checker.proofs.Statements.{accepted-usable}
@@ -73,7 +72,7 @@ module _ (s : Stage) (I : Input) where
     ready : check.Ready I
     ready = let u = accepted-usable I (nothing-said quiet) in ready-of I (u .long) (u .inside)
 
-    reckoned-quiet : saidOf I ≡ []
+    reckoned-quiet : checkedOf (problem I) ≡ []
     reckoned-quiet = let u = accepted-usable I (nothing-said quiet) in sym (answer-ready I (u .long) (u .inside)) ∙ nothing-said quiet
 
     solution-is : E ≡ written (I .n) (bound (problem I)) (I .solutionBounds)

@@ -1,22 +1,16 @@
 -- The lines for a problem of a complete file (01: "Refused for what was handed in", 5 to 7, and "A whole file").
---   checkedOf P  — what the reckoning says: 5, 6 or 7, or nothing
 --   reportedOf P — the report, with the limits of the reckoning
 --   lineOr numbers rest — the line of a refusal with these numbers; the rest where there are none
-use mathlib.Core.List.{List, [], _∷_}
+use mathlib.Core.List.{List}
 use Prim.Native.Nat.{ℕ}
-use Rattle.rules.specs.Order.{verdict}
+use Rattle.rules.specs.Order.{accepted}
 use Rattle.enclosure.specs.Problem.{Problem}
 use Rattle.enclosure.specs.Reckoning.{bound, inverseBound}
-use Rattle.checker.specs.Order.{reckonedOf}
 use Rattle.report.specs.Report.{reportOf}
 use Rattle.refusal.specs.Refused.{refusedOf}
-
-abbrev pub checkedOf : Problem → List ℕ
-checkedOf P = verdict (reckonedOf P)
 
 abbrev pub reportedOf : Problem → List ℕ
 reportedOf P = reportOf (P .n) (P .s) (P .X) (bound P) (inverseBound P)
 
 abbrev pub lineOr : List ℕ → List ℕ → List ℕ
-lineOr [] rest = rest
-lineOr (k ∷ vs) rest = refusedOf (k ∷ vs)
+lineOr numbers rest = accepted numbers rest (refusedOf numbers)

@@ -1,4 +1,4 @@
--- What a check through a loader gives, as lines; cited by the contract inside. proofs/ show that it is what `answerOf` and `listingOf` say of a file.
+-- What a check through a loader gives, as lines; cited by the contract inside. It is what a file's listing shows, once its lines are all accepted.
 --   shownBy s I — the line of the refusal, or the report; s is how far the loader has come
 use mathlib.Core.List.{List}
 use Prim.Native.Nat.{ℕ}

@@ -1,4 +1,4 @@
-// The check of a complete file, as lines: what it says, or the report.
+// The check of a file whose lines are all accepted: what it says, as a line, or the report.
 ghost use Prim.Native.Nat.{_≤_};
 ghost use lib.ListN.{length, replicate};
 ghost use Rattle.checker.specs.Input.{input};
@@ -13,7 +13,7 @@ use refusal::put_refusal;
 use report::put_report;
 use rules::Outcome;
 
-// What the check of a complete file says, or the report.
+// What the check says, or the report; 15 where the file stopped before an end.
 pub fn put_checked(
     out: &mut [u8],
     loader: Loader,

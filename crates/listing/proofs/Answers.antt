@@ -8,9 +8,9 @@ use Prim.Native.Nat.{ℕ, _+_, _*_, _/_, _%_}
 use native.Mathlib.Omega.{arith}
 use lib.Dec.{ltb}
 use lib.ListN.{getD}
-use Rattle.rules.specs.Order.{verdict}
+use Rattle.rules.specs.Order.{verdict, accepted}
 use Rattle.enclosure.specs.Problem.{Problem}
-use Rattle.checker.specs.Order.{firstMargin, firstResidual, firstColumn, reckoned}
+use Rattle.checker.specs.Order.{firstMargin, firstResidual, firstColumn, reckoned, checkedOf}
 use Rattle.items.specs.Lists.{Lists, short}
 use Rattle.loader.specs.declared.Loader.{Loader}
 use Rattle.loader.specs.Order.{Case, order, caseOf, answer}
@@ -20,9 +20,8 @@ use Rattle.progress.specs.Progress.{ended}
 use Rattle.refusal.specs.Refused.{printed}
 use Rattle.file.specs.Lines.{linesOf}
 use Rattle.file.specs.Read.{Reading, readFrom, readingOf}
-use Rattle.file.specs.Read as reading
-use Rattle.judged.specs.Judged.{checkedOf}
-use Rattle.listing.specs.Answers.{Alone, too-long, no-form, out-of-range, wrong-count, too-early, repeated, after-end, Answers, accepted, of-line, margin, residual, inverse-residual, missing, not-ended}
+use Rattle.listing.specs.Answers.{Alone, too-long, no-form, out-of-range, wrong-count, too-early, repeated, after-end, Answers, of-line, margin, residual, inverse-residual, missing, not-ended}
+use Rattle.listing.specs.Answers as answers
 use Rattle.listing.specs.Listing.{zeros, problemIn, orElse, answerOf}
 
 -- ---- a line
@@ -51,7 +50,7 @@ line-said c h = rw h (go (c .ended) (c .long) (c .unspelled) (c .early) (c .misp
 abbrev printedOf : Reading → List ℕ
 printedOf R = printed (R .line) (R .said)
 
-first-answers : {l : List ℕ} (k : ℕ) (u : State) (rest : Reading) → LineSaid l → (l ≡ [] → Answers (printedOf rest)) → Answers (printedOf (reading.orElse l (k + 1) u rest))
+first-answers : {l : List ℕ} (k : ℕ) (u : State) (rest : Reading) → LineSaid l → (l ≡ [] → Answers (printedOf rest)) → Answers (printedOf (accepted l rest (record { said = l; line = k + 1; state = u })))
 first-answers k u rest quiet h = h refl
 first-answers k u rest (alone a) h = of-line a (k + 1) (omega arith)
 first-answers k u rest (lacking count) h = missing count
@@ -62,7 +61,7 @@ step-long u line e h = run-long u (line ∷ []) (e, tt) h
 
 lines-answer : (k : ℕ) (u : State) (lines : List (List ℕ)) → short (u .lists) ≡ false → Answers (printedOf (readFrom k u lines))
 unfolding readFrom answer
-lines-answer k u [] h = accepted
+lines-answer k u [] h = answers.accepted
 lines-answer k u (line ∷ lines) h =
     first-answers {l = answer (u .loader) (u .lists) line} k u (readFrom (k + 1) (step u line) lines) (line-said (caseOf (u .loader) (u .lists) line) h)
     (λ e. lines-answer (k + 1) (step u line) lines (step-long u line e h))
@@ -75,7 +74,7 @@ reckoned-answers n m k i = go (ltb m n) (ltb k n) (ltb i (n * n))
     go true b c = margin (m + 1) (omega arith)
     go false true c = residual (k + 1) (omega arith)
     go false false true = inverse-residual (i / n + 1) (i % n + 1) (omega arith) (omega arith)
-    go false false false = accepted
+    go false false false = answers.accepted
 
 checked-answers : (P : Problem) → Answers (printed 0 (checkedOf P))
 checked-answers P = reckoned-answers (P .n) (firstMargin P) (firstResidual P) (firstColumn P)
@@ -109,7 +108,7 @@ alone-not-zero repeated e = absurd (omega (arith, e))
 alone-not-zero after-end e = absurd (omega (arith, e))
 
 answers-zero : {l : List ℕ} → Answers l → getD l 0 0 ≡ 0 → l ≡ []
-answers-zero accepted e = refl
+answers-zero answers.accepted e = refl
 answers-zero (of-line a line h) e = absurd (alone-not-zero a e)
 answers-zero (margin row h) e = absurd (omega (arith, e))
 answers-zero (residual row h) e = absurd (omega (arith, e))

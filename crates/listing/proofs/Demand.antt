@@ -13,13 +13,14 @@ use Rattle.enclosure.specs.Reckoning.{bound, inverseBound}
 use Rattle.enclosure.specs.Demand.{Encloses, RoundedExact}
 use Rattle.enclosure.proofs.Acceptance.{rounded-sound}
 use Rattle.enclosure.proofs.Demands.{encloses}
+use Rattle.checker.specs.Order.{checkedOf}
 use Rattle.checker.proofs.Contract.{sound-said, said-sound}
 use Rattle.collected.specs.Run.{forms}
 use Rattle.progress.specs.Progress.{ended}
 use Rattle.refusal.specs.Refused.{printed}
 use Rattle.file.specs.Lines.{linesOf}
 use Rattle.file.specs.Read.{readingOf}
-use Rattle.judged.specs.Judged.{checkedOf, reportedOf}
+use Rattle.judged.specs.Judged.{reportedOf}
 use Rattle.judged.proofs.Forms.{some, fine, heavy}
 use Rattle.listing.specs.Listing.{zeros, problemIn, orElse, Complete, answerOf, listingOf}
 use Rattle.listing.proofs.Entire.{answer-judged, listing-from, from, inside}

@@ -14,6 +14,7 @@ use lib.Seq.{sets-eq, take-at, drop-at}
 use Rattle.rules.specs.Refusal.{said, numberOf, valuesOf}
 use Rattle.rules.specs.declared.Outcome.the-variants.{Accepted, Refused}
 use Rattle.rules.specs.declared.Refusal.{Refusal}
+use Rattle.checker.specs.Order.{checkedOf}
 use Rattle.checker.specs.Input.{Input, problem, anyShort, short}
 use Rattle.items.specs.Lists.{Lists}
 use Rattle.progress.specs.Progress.{ended}
@@ -32,7 +33,7 @@ use Rattle.file.specs.declared.Read.{Read}
 use Rattle.file.specs.Lines.{linesOf}
 use Rattle.file.specs.Read.{Reading, readingOf, ReadAs}
 use Rattle.file.proofs.Whole.{all-accepted, all-run}
-use Rattle.judged.specs.Judged.{checkedOf, reportedOf, lineOr}
+use Rattle.judged.specs.Judged.{reportedOf, lineOr}
 use Rattle.listing.specs.Listing.{zeros, problemIn, answerOf, listingOf, Listed, AnsweredAs}
 use Rattle.judged.specs.Shown.{shownBy}
 use Rattle.judged.proofs.Forms.{inputAt, reported-forms, answer-forms}

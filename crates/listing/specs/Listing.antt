@@ -2,8 +2,8 @@
 --   zeros          — the program's own lists, long enough
 --   problemIn file — the problem that the file's forms give
 --   Complete file  — every line is accepted, and the last is an end
---   answerOf file  — what is said of the file, in the numbers of its line: the first refusal of a line; 15, with 0, where the file stops before an end;
---     else what is said of its problem. None where it is accepted. No file gives 8, and no complete file 3: its lists are long enough, and its forms were tested
+--   answerOf file  — what is said of the file, in the numbers of the refusal's line: the first refusal of a line; 15, with 0, where the file stops before an end;
+--     else what is said of its problem. None where it is accepted. No complete file gives 3: its forms were tested
 --   listingOf file — that line, or the report
 --   Listed         — the contract of `listing`: the bytes written are the listing, the others as before
 --   AnsweredAs     — the contract of `answer_file`: what is said, with the listing
@@ -14,13 +14,15 @@ use Prim.Native.Nat.{ℕ, _≤_}
 use lib.IntN.{pos}
 use lib.ListN.{length, take, drop, replicate}
 use Rattle.enclosure.specs.Problem.{Problem}
+use Rattle.checker.specs.Order.{checkedOf}
 use Rattle.items.specs.Lists.{Lists, lists}
+use Rattle.rules.specs.Order.{accepted}
 use Rattle.progress.specs.Progress.{ended}
 use Rattle.collected.specs.Run.{forms}
 use Rattle.refusal.specs.Refused.{printed}
 use Rattle.refusal.specs.Reply.{replyOf}
 use Rattle.refusal.specs.declared.Answer.{Answer}
-use Rattle.judged.specs.Judged.{checkedOf, reportedOf, lineOr}
+use Rattle.judged.specs.Judged.{reportedOf, lineOr}
 use Rattle.file.specs.Lines.{linesOf}
 use Rattle.file.specs.Read.{Reading, readingOf}
 use Rattle.judged.specs.Problem.{problemFrom}
@@ -33,18 +35,16 @@ problemIn file = problemFrom (forms (linesOf file))
 
 -- nothing said of the lines: the rest
 abbrev pub orElse : List ℕ → List ℕ → List ℕ
-orElse [] rest = rest
-orElse (k ∷ vs) rest = k ∷ vs
-
-abbrev pub answered : Reading → Problem → List ℕ
-answered r P = orElse (printed (r .line) (r .said)) (printed 0 (cond (ended (r .state .loader .stage)) (checkedOf P) (15 ∷ [])))
+orElse said rest = accepted said rest said
 
 pub record Complete (file : List ℕ) : Type 0 where
   pub lines : readingOf file zeros .said ≡ []
   pub end : ended (readingOf file zeros .state .loader .stage) ≡ true
 
 unfoldable pub answerOf : List ℕ → List ℕ
-answerOf file = answered (readingOf file zeros) (problemIn file)
+answerOf file =
+    let r = readingOf file zeros in
+    orElse (printed (r .line) (r .said)) (printed 0 (cond (ended (r .state .loader .stage)) (checkedOf (problemIn file)) (15 ∷ [])))
 
 unfoldable pub listingOf : List ℕ → List ℕ
 listingOf file = lineOr (answerOf file) (reportedOf (problemIn file))

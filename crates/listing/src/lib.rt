@@ -14,7 +14,7 @@ use rules::Kind;
 use rules::Outcome;
 use rules::Refusal;
 
-// A register entry: V and its limit.
+// A register entry, V and its limit, or a refusal.
 pub enum Registered {
     Entry(i64, u64),
     Refused(Refusal),

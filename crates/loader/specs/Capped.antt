@@ -1,4 +1,4 @@
--- The cases of a form as the code has it, its numbers capped; cited by the contracts inside. proofs/Capped.antt ties them to the exact form.
+-- The cases of a form as the code has it, its numbers capped; cited by the contracts inside. proofs/Exact.antt ties them to the exact form.
 --   caseIn d m c b — the cases from 11 on; c is the count of its list, b tells whether the numbers of its list are in their range
 --   saidIn         — what is said of it
 --   fits x         — its numbers are in their ranges, i in 1 to 32

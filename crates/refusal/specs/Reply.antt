@@ -1,6 +1,6 @@
 -- What is said, as numbers for the caller.
 --   replyOf numbers — of a number and those after it: the number, how many follow, and the first two; 0 where there is none
---   Answered numbers text — the contract of what puts a text: what is said in it, and its bytes from the start of the buffer on
+--   Answered numbers text — the contract of a function that writes a text: what is said in it, and its bytes from the start of the buffer on
 use mathlib.Core.List.{List, [], _∷_}
 use mathlib.Core.Path.{_≡_}
 use Prim.Native.Nat.{ℕ}

@@ -1,6 +1,7 @@
 -- The lines of a listing as bytes, each with its line feed.
 --   each n f    — f 0, .., f (n − 1), one after another
 --   numbers n f — the numbers f 0, .., f (n − 1), single spaces between them
+--   gap j       — the space before the number j, but for the first;  opening word i, closing — a line's start, up to the inner bracket, and its end
 --   pairLine word i z e   — (word i (z e));  listLine word i n f — (word i (f 0 .. f (n − 1))); the word comes with its bracket and the space after it
 use mathlib.Core.List.{List, [], _++_}
 use Prim.Native.Nat.{ℕ, zero, suc}

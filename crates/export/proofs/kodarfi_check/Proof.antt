@@ -1,5 +1,5 @@
 use Rattle.rules.specs.Refusal.{said}
-use Rattle.export.proofs.Reply.{told-alone}
+use Rattle.export.proofs.Told.{told-alone}
 use borrow.Author.Needs.{needs}
 use Rattle.export.proofs.kodarfi_check.Statement.{statement}
 use Rattle.export.proofs.kodarfi_check.Tie as tie

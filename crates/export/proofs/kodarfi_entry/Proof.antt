@@ -1,7 +1,7 @@
 use mathlib.Core.List.{[], _∷_}
 use Rattle.integer.proofs.Machine.{read}
 use Rattle.rules.specs.Refusal.{numberOf, valuesOf}
-use Rattle.export.proofs.Reply.{told, told-alone}
+use Rattle.export.proofs.Told.{told, told-alone}
 use Rattle.export.proofs.Entry.{entry-exported, refusal-exported}
 use borrow.Author.Needs.{needs}
 use Rattle.export.proofs.kodarfi_entry.Statement.{statement}

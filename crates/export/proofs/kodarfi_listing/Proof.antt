@@ -1,5 +1,5 @@
 use Rattle.listing.specs.Listing.{answerOf}
-use Rattle.export.proofs.Reply.{told}
+use Rattle.export.proofs.Told.{told}
 use borrow.Author.Needs.{needs}
 use Rattle.export.proofs.kodarfi_listing.Statement.{statement}
 use Rattle.export.proofs.kodarfi_listing.Tie as tie
