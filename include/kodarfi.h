@@ -5,8 +5,8 @@
  * (a pointer without const) overlaps anything else of the same call. Calls keep no state, take about 64 kilobytes of
  * stack and no other memory, and may run at the same time.
  *
- * Each gives document 01's number of the first refusal, 0 where nothing is refused, and writes `places` in any case: two numbers that the refusal
- * names, 0 for one that it does not name. Rows, columns and lines count from 1. */
+ * Each gives document 01's number of the first refusal, 0 where nothing is refused, and writes `places` in any case: the row, column, count or
+ * line that goes with the refusal, 0 where there is none. Rows, columns and lines count from 1. */
 #ifndef KODARFI_H
 #define KODARFI_H
 

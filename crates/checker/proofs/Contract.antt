@@ -32,7 +32,7 @@ use Rattle.enclosure.proofs.Demands.{encloses, encloses-as}
 use Rattle.reckoning.specs.Arrays.{Square, Numbers}
 use Rattle.reckoning.proofs.Columns.{place-column, place-row}
 use Rattle.checker.specs.Input.{Input, problem, short, inRanges, sizesInRange, listsInRange}
-use Rattle.checker.specs.Order.{firstMargin, firstResidual, firstColumn, answer, checkedOf}
+use Rattle.checker.specs.Order.{firstMargin, firstResidual, firstInversePlace, answer, checkedOf}
 use Rattle.checker.specs.Checked.{written, solutionBoundsAfter, inverseBoundsAfter, Checked}
 use Rattle.checker.specs.Ready.{Ready, Reckoned}
 use Rattle.checker.proofs.Lengths.{long-of}
@@ -91,14 +91,14 @@ pub sound-said : (P : Problem) → 0 < P .n → Sound P → checkedOf P ≡ []
 sound-said P some x =
     let m : firstMargin P ≡ P .n = first-never (P .n) (marginFails P) (x .margins) in
     let k : firstResidual P ≡ P .n = first-never (P .n) (λ (k : ℕ). exceeds P k (residual P k)) (x .residuals) in
-    let i : firstColumn P ≡ P .n * P .n =
+    let i : firstInversePlace P ≡ P .n * P .n =
     first-never (P .n * P .n) (λ (i : ℕ). exceeds P (i % P .n) (residual (columnOf P (i / P .n)) (i % P .n)))
     (λ i l. x .columns (i / P .n) (div-lt-iff-lt-mul some .1 l) (i % P .n) (mod-lt i some)) in
     rw (m, k, i) (rw (le-ltb (P .n) (P .n) (omega arith), le-ltb (P .n * P .n) (P .n * P .n) (omega arith)))
 
 pub said-sound : (P : Problem) → checkedOf P ≡ [] → Sound P
 said-sound P e =
-    let none = accepted-places (P .n) (firstMargin P) (firstResidual P) (firstColumn P) e in
+    let none = accepted-places (P .n) (firstMargin P) (firstResidual P) (firstInversePlace P) e in
     record {
       margins = first-past (P .n) (marginFails P) (none .margin);
       residuals = first-past (P .n) (λ (k : ℕ). exceeds P k (residual P k)) (none .residual);

@@ -25,7 +25,7 @@ use Rattle.reckoning.specs.Part.{marginPart, residualPart, columnResidual, cutM
 use Rattle.reckoning.proofs.Sizes.{power-size}
 use Rattle.bounds.specs.Ratio.{Positive}
 use Rattle.checker.specs.Input.{Input, problem}
-use Rattle.checker.specs.Order.{firstMargin, firstResidual, firstColumn, reckoned}
+use Rattle.checker.specs.Order.{firstMargin, firstResidual, firstInversePlace, reckoned}
 use Rattle.checker.specs.Ready.{Ready}
 
 cut-test : (a b : ℕ) → eqb (a - b) 0 ≡ leb a b
@@ -73,7 +73,7 @@ module _ (I : Input) where
         (λ k l. rw (h .each k l, residual-is k))
 
   module _ (columns : List ℤ) (h : Holds (pos 0) columns (I .n * I .n) (λ (i : ℕ). columnResidual (I .n) (I .t) (I .matrix) (I .inverse) (i / I .n) (i % I .n))) where
-    pub first-column : first (I .n * I .n) (λ (k : ℕ). tooLarge (at columns k)) ≡ firstColumn (problem I)
+    pub first-column : first (I .n * I .n) (λ (k : ℕ). tooLarge (at columns k)) ≡ firstInversePlace (problem I)
     first-column =
         first-ext (I .n * I .n) (λ (k : ℕ). tooLarge (at columns k))
         (λ (i : ℕ). exceeds (problem I) (i % I .n) (residual (columnOf (problem I) (i / I .n)) (i % I .n)))

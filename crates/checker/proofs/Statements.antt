@@ -16,7 +16,7 @@ use Rattle.enclosure.specs.Problem.{columnOf}
 use Rattle.enclosure.specs.Reckoning.{marginFails, residual, exceeds}
 use Rattle.reckoning.proofs.Columns.{place-column, place-row}
 use Rattle.checker.specs.Input.{Input, problem, short, inRanges}
-use Rattle.checker.specs.Order.{firstMargin, firstResidual, firstColumn, answer, checkedOf}
+use Rattle.checker.specs.Order.{firstMargin, firstResidual, firstInversePlace, answer, checkedOf}
 use Rattle.checker.specs.Stated.{Usable, Stated, too-short, out-of-range, margin-low, residual-large, inverse-large, accepted}
 use Rattle.checker.proofs.Contract.{answer-short, answer-range, answer-ready, ready-of, sound-said}
 
@@ -32,10 +32,10 @@ module _ (I : Input) where
   said-6 : (k : ℕ) → firstMargin (problem I) ≡ I .n → firstResidual (problem I) ≡ k → k < I .n → checkedOf (problem I) ≡ 6 ∷ (k + 1) ∷ []
   said-6 k e f l = rw (e, f) (rw (le-ltb (I .n) (I .n) (omega arith), lt-ltb k (I .n) l))
 
-  said-7 : (i : ℕ) → firstMargin (problem I) ≡ I .n → firstResidual (problem I) ≡ I .n → firstColumn (problem I) ≡ i → i < I .n * I .n → checkedOf (problem I) ≡ 7 ∷ (i / I .n + 1) ∷ (i % I .n + 1) ∷ []
+  said-7 : (i : ℕ) → firstMargin (problem I) ≡ I .n → firstResidual (problem I) ≡ I .n → firstInversePlace (problem I) ≡ i → i < I .n * I .n → checkedOf (problem I) ≡ 7 ∷ (i / I .n + 1) ∷ (i % I .n + 1) ∷ []
   said-7 i e f g l = rw (e, f, g) (rw (le-ltb (I .n) (I .n) (omega arith), lt-ltb i (I .n * I .n) l))
 
-  said-0 : firstMargin (problem I) ≡ I .n → firstResidual (problem I) ≡ I .n → firstColumn (problem I) ≡ I .n * I .n → checkedOf (problem I) ≡ []
+  said-0 : firstMargin (problem I) ≡ I .n → firstResidual (problem I) ≡ I .n → firstInversePlace (problem I) ≡ I .n * I .n → checkedOf (problem I) ≡ []
   said-0 e f g = rw (e, f, g) (rw (le-ltb (I .n) (I .n) (omega arith), le-ltb (I .n * I .n) (I .n * I .n) (omega arith)))
 
   module _ (u : Usable I) where
@@ -85,7 +85,7 @@ module _ (I : Input) where
   -- a test that holds at column j and row k, and nowhere before
   first-place : (j k : ℕ) → j < I .n → k < I .n → exceeds (problem I) k (residual (columnOf (problem I) j) k) ≡ true →
       ((c r : ℕ) → c < j → r < I .n → exceeds (problem I) r (residual (columnOf (problem I) c) r) ≡ false) →
-      ((r : ℕ) → r < k → exceeds (problem I) r (residual (columnOf (problem I) j) r) ≡ false) → firstColumn (problem I) ≡ j * I .n + k
+      ((r : ℕ) → r < k → exceeds (problem I) r (residual (columnOf (problem I) j) r) ≡ false) → firstInversePlace (problem I) ≡ j * I .n + k
   first-place j k lj lk p q r =
       first-is (I .n * I .n) (λ (i : ℕ). exceeds (problem I) (i % I .n) (residual (columnOf (problem I) (i / I .n)) (i % I .n))) (j * I .n + k) (place lj lk)
       (rw (place-column j k (I .n) lk, place-row j k (I .n) lk) p) (λ i l. go i l (decLe j (i / I .n)))

@@ -1,7 +1,7 @@
 -- The refusals of a check on lists in 01's order: 8, 3, 5, 6, 7.
 --   firstMargin P   — the lowest row whose margin is 0 or less; n where there is none
 --   firstResidual P — the lowest row whose residual is too large; n where there is none
---   firstColumn P   — the lowest column, then its lowest row, of a residual of the inverse that is too large: column · n + row; n · n where there is none
+--   firstInversePlace P — the lowest column, then its lowest row, of a residual of the inverse that is too large: column · n + row; n · n where there is none
 --   reckoned n m k i — 5 at row m, 6 at row k, 7 at place i;  reckonedOf P — at the first of each;  checkedOf P — what is said of these: 5, 6 or 7, or nothing
 --   order I         — the tests in their order;  answer I — what is said of them: nothing where the proposal is accepted
 use mathlib.Core.Bool.{not}
@@ -20,8 +20,8 @@ firstMargin P = first (P .n) (marginFails P)
 abbrev pub firstResidual : Problem → ℕ
 firstResidual P = first (P .n) (λ (k : ℕ). exceeds P k (residual P k))
 
-abbrev pub firstColumn : Problem → ℕ
-firstColumn P = first (P .n * P .n) (λ (i : ℕ). exceeds P (i % P .n) (residual (columnOf P (i / P .n)) (i % P .n)))
+abbrev pub firstInversePlace : Problem → ℕ
+firstInversePlace P = first (P .n * P .n) (λ (i : ℕ). exceeds P (i % P .n) (residual (columnOf P (i / P .n)) (i % P .n)))
 
 abbrev pub reckoned : ℕ → ℕ → ℕ → ℕ → List Test
 reckoned n m k i =
@@ -31,7 +31,7 @@ reckoned n m k i =
     ∷ []
 
 abbrev pub reckonedOf : Problem → List Test
-reckonedOf P = reckoned (P .n) (firstMargin P) (firstResidual P) (firstColumn P)
+reckonedOf P = reckoned (P .n) (firstMargin P) (firstResidual P) (firstInversePlace P)
 
 abbrev pub checkedOf : Problem → List ℕ
 checkedOf P = verdict (reckonedOf P)

@@ -26,7 +26,7 @@ use Rattle.items.proofs.Lists.{Long, long}
 use Rattle.progress.specs.Progress.{ended}
 use Rattle.checker.specs.Input.{Input, input, problem, inRanges}
 use Rattle.checker.specs.Input as checker
-use Rattle.checker.specs.Order.{reckoned, firstMargin, firstResidual, firstColumn}
+use Rattle.checker.specs.Order.{reckoned, firstMargin, firstResidual, firstInversePlace}
 use Rattle.checker.proofs.Contract.{answer-ready}
 use Rattle.loader.specs.Through.{answerThrough}
 use Rattle.loader.proofs.Accepted.{accepted-form}
@@ -94,4 +94,4 @@ module _ (l : Lists) (lines : List (List ℕ)) (a : Accepts (start l) lines) (e 
   pub end-answers : Reckoned (answerThrough (last .loader .stage) (inputOf last E L))
   end-answers =
       rw (answer-ended (last .loader .stage) (inputOf last E L) e, answer-ready (inputOf last E L) (enough last E L (lists-long l lines a e) few many) (inside last E L (in-range l lines a e)))
-      (reckons (last .loader .n) (firstMargin (problem (inputOf last E L))) (firstResidual (problem (inputOf last E L))) (firstColumn (problem (inputOf last E L))))
+      (reckons (last .loader .n) (firstMargin (problem (inputOf last E L))) (firstResidual (problem (inputOf last E L))) (firstInversePlace (problem (inputOf last E L))))

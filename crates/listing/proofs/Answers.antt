@@ -10,7 +10,7 @@ use lib.Dec.{ltb}
 use lib.ListN.{getD}
 use Rattle.rules.specs.Order.{verdict, accepted}
 use Rattle.enclosure.specs.Problem.{Problem}
-use Rattle.checker.specs.Order.{firstMargin, firstResidual, firstColumn, reckoned, checkedOf}
+use Rattle.checker.specs.Order.{firstMargin, firstResidual, firstInversePlace, reckoned, checkedOf}
 use Rattle.items.specs.Lists.{Lists, short}
 use Rattle.loader.specs.declared.Loader.{Loader}
 use Rattle.loader.specs.Order.{Case, order, caseOf, answer}
@@ -77,7 +77,7 @@ reckoned-answers n m k i = go (ltb m n) (ltb k n) (ltb i (n * n))
     go false false false = answers.accepted
 
 checked-answers : (P : Problem) → Answers (printed 0 (checkedOf P))
-checked-answers P = reckoned-answers (P .n) (firstMargin P) (firstResidual P) (firstColumn P)
+checked-answers P = reckoned-answers (P .n) (firstMargin P) (firstResidual P) (firstInversePlace P)
 
 -- ---- the file
 later-answers : (b : Bool) (l : List ℕ) → Answers (printed 0 l) → Answers (printed 0 (cond b l (15 ∷ [])))

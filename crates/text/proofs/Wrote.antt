@@ -4,7 +4,6 @@
 --   then    — one text after another: the second starts where the first ends
 --   wider   — a text of at most a bytes has at most b, a ≤ b
 --   called  — the same text in other words
---   length-kept — the buffer keeps its length
 --   copied, all-copied — one byte more of a text, and all of them
 --   decimal-length — a number below 10^(k + 1) has at most k + 1 digits;  decimal-digits, decimal-sized — 20 below 2^64, 19 up to 2^63
 --   small-length, next-length — one digit below 10; one more than n / 10 has, from 10 on
@@ -20,7 +19,7 @@ use borrow.Author.Tests.{ltb-true}
 use lib.Dec.{T}
 use lib.IntN.{ℤ, pos, negsuc, natAbs}
 use lib.ListN.{length, take, getD, set, length-append}
-use lib.Seq.{sets, take-suc, length-take-le, length-sets, take-length}
+use lib.Seq.{sets, take-suc, length-take-le, take-length}
 use lib.Signed.{ltZ}
 use mathlib.Core.Bool.{true, false}
 use Rattle.numeral.specs.Decimal.{decimal, numeral}
@@ -68,9 +67,6 @@ wider b h x = record { place = x .place; stored = x .stored; few = omega (arith,
 
 pub called : {a : ℕ} {o n v w : List ℕ} {at j : ℕ} → v ≡ w → Wrote a o at v n j → Wrote a o at w n j
 called e x = rw e at x
-
-pub length-kept : {a : ℕ} {o n v : List ℕ} {at j : ℕ} → Wrote a o at v n j → length n ≡ length o
-length-kept {o = o} {v = v} {at = at} x = ap length (x .stored) ∙ length-sets o at v
 
 -- ---- how many digits
 pub decimal-length : (k n : ℕ) → n < 10 ^ suc k → length (decimal n) ≤ suc k
