@@ -14,7 +14,7 @@ PROMISES = ROOT / "docs" / "PROMISES.md"
 HEAD = """# The must-fail edits
 
 Each edit changes one operand of the code, or one entry of a definition, and the prover must refuse what comes out. The last column is the place of the first
-refusal: the file under the crate's `proofs/` and the fact that fails there. `python3 tests/edits.py` writes this table from a run of the edits.
+refusal: the file, under the crate's `proofs/` where no other folder is named, and the fact that fails there. `python3 tests/edits.py` writes this table from a run of the edits.
 """
 
 
@@ -27,8 +27,11 @@ def edits():
 
 
 def fact_at(path, line):
-    """The name of the declaration that a line of a proof file belongs to."""
-    for text in reversed(path.read_text().split("\n")[:line]):
+    """The name of the declaration that a line of a proof file belongs to, or of the function that a line of code starts."""
+    lines = path.read_text().split("\n")
+    if path.suffix == ".rt":
+        return "contract of " + re.search(r"fn (\w+)", lines[line - 1]).group(1)
+    for text in reversed(lines[:line]):
         declared = re.match(r"\s*(?:pub )?([^\s(:]+) :", text)
         if declared:
             return declared.group(1)
@@ -39,7 +42,7 @@ def refused_at(name):
     """Where the prover refused an edit first."""
     crate, edit = name.split("/")
     told = (ROOT / "target" / "must-fail" / crate / f"{edit}.out").read_text(errors="replace")
-    place = re.search(r"first at (proofs/\S+?):(\d+):\d+;", told)
+    place = re.search(r"first at (\S+?):(\d+):\d+;", told)
     if not place:
         return "?"
     path = ROOT / "crates" / crate / place.group(1)
