@@ -58,14 +58,19 @@ def accepted(seed, sizes, each):
                 yield net
 
 
-def main():
+def options(counted):
+    """The command's options; `counted` names what is counted where no sizes are given."""
     parser = argparse.ArgumentParser()
     parser.add_argument("--seed", default="1")
-    parser.add_argument("--nets", type=int)
+    parser.add_argument(f"--{counted}", dest="count", type=int)
     parser.add_argument("--sizes", type=int, nargs="*", default=())
     parser.add_argument("--each", type=int, default=50)
-    options = parser.parse_args()
-    for net in mixed(options.seed, options.nets) if options.nets is not None else accepted(options.seed, options.sizes, options.each):
+    return parser.parse_args()
+
+
+def main():
+    given = options("nets")
+    for net in mixed(given.seed, given.count) if given.count is not None else accepted(given.seed, given.sizes, given.each):
         emit(net)
 
 

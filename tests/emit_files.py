@@ -6,12 +6,12 @@
 Each is a line with five numbers: the length of the file, the number of its refusal (0 where accepted), the two numbers of the refusal's inner
 brackets (0 where there is none), and the length of its listing; then the bytes of the file and those of the listing."""
 
-import argparse
 import sys
 
 import generate
 import given
 from emit import accepted
+from emit import options as emit_options
 from net import file_of, joined, lines_of
 from second.program import Program
 
@@ -40,14 +40,9 @@ def mixed(seed, count):
 
 
 def main():
-    parser = argparse.ArgumentParser()
-    parser.add_argument("--seed", default="1")
-    parser.add_argument("--files", type=int)
-    parser.add_argument("--sizes", type=int, nargs="*", default=())
-    parser.add_argument("--each", type=int, default=50)
-    options = parser.parse_args()
+    options = emit_options("files")
     nets = accepted(options.seed, options.sizes, options.each)
-    files = mixed(options.seed, options.files) if options.files is not None else (file_of(lines_of(net)) for net in nets)
+    files = mixed(options.seed, options.count) if options.count is not None else (file_of(lines_of(net)) for net in nets)
     second = Program()
     for file in files:
         emit(file, second.listing(file))
