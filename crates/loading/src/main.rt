@@ -5,41 +5,21 @@
 //   c  check, with limit lists that are long enough;  d  check, with a solution limit list that is too short
 //   0 to 4  take the rest of the entry as a line, with that list one number too short
 // Any other entry is a line for the loader.
-ghost use mathlib.Core.Path.{_≡_};
-ghost use Prim.Native.Nat.{_≤_};
-ghost use lib.ListN.{length};
+use checks::checked;
+use checks::checked_short;
 use libc::STDIN_FILENO;
-use libc::STDOUT_FILENO;
+use lists::clear;
+use lists::less_where;
+use lists::narrow;
+use lists::wide;
 use loader::Loader;
-use rules::Outcome;
-use rules::Refusal;
+use print::print_list;
+use print::print_outcome;
+use print::print_text;
 
-// What stands in the limit lists before a check: no limit is as large.
-const UNWRITTEN: u64 = 1152921504606846977;
-
-fn wide() -> [i64; 1024]
-    ensures { λ r. ⌜ 1024 ≡ length r ⌝ }
-{
-    [-7; 1024]
-}
-
-fn narrow() -> [i64; 32]
-    ensures { λ r. ⌜ 32 ≡ length r ⌝ }
-{
-    [-7; 32]
-}
-
-fn wide_bounds() -> [u64; 1024]
-    ensures { λ r. ⌜ 1024 ≡ length r ⌝ }
-{
-    [UNWRITTEN; 1024]
-}
-
-fn narrow_bounds() -> [u64; 32]
-    ensures { λ r. ⌜ 32 ≡ length r ⌝ }
-{
-    [UNWRITTEN; 32]
-}
+mod checks;
+mod lists;
+mod print;
 
 fn main() {
     let mut text = io::large_buffer();
@@ -222,149 +202,4 @@ fn shortened(loader: Loader, which: u8, line: &[u8]) -> Loader {
         &mut inverse[..g],
         &mut weights[..w],
     )
-}
-
-fn less_where(n: usize, short: bool) -> usize
-    requires { ⌜ 1 ≤ n ⌝ }
-    ensures { λ r. ⌜ r ≤ n ⌝ }
-{
-    if short { n - 1 } else { n }
-}
-
-// Checks, and prints the answer and the first limits; a dash where none was written.
-fn checked(
-    loader: Loader,
-    matrix: &[i64],
-    right: &[i64],
-    guess: &[i64],
-    inverse: &[i64],
-    weights: &[i64],
-) {
-    let mut solution_bounds = narrow_bounds();
-    let mut inverse_bounds = wide_bounds();
-    let outcome = loader.check(
-        matrix,
-        right,
-        guess,
-        inverse,
-        weights,
-        &mut solution_bounds,
-        &mut inverse_bounds,
-    );
-    print_outcome(outcome);
-    print_bounds(b" solution", &solution_bounds, 3);
-    print_bounds(b" inverse", &inverse_bounds, 5);
-    print_text(b"\n");
-}
-
-fn checked_short(
-    loader: Loader,
-    matrix: &[i64],
-    right: &[i64],
-    guess: &[i64],
-    inverse: &[i64],
-    weights: &[i64],
-) {
-    let mut solution_bounds = [UNWRITTEN; 31];
-    let mut inverse_bounds = wide_bounds();
-    let outcome = loader.check(
-        matrix,
-        right,
-        guess,
-        inverse,
-        weights,
-        &mut solution_bounds,
-        &mut inverse_bounds,
-    );
-    print_outcome(outcome);
-    print_text(b"\n");
-}
-
-fn clear(l: &mut [i64]) {
-    for i in 0..l.len() {
-        l[i] = -7;
-    }
-}
-
-fn print_text(text: &[u8]) {
-    io::write_all(STDOUT_FILENO, text);
-}
-
-fn print_number(x: u64) {
-    io::print_decimal(STDOUT_FILENO, x);
-}
-
-fn print_outcome(outcome: Outcome) {
-    match outcome {
-        Outcome::Accepted => print_text(b"accepted"),
-        Outcome::Refused(refusal) => print_refusal(refusal),
-    }
-}
-
-// 01's number, and the places or the count that it gives.
-fn print_refusal(refusal: Refusal) {
-    match refusal {
-        Refusal::TooLong => print_text(b"1"),
-        Refusal::NoForm => print_text(b"2"),
-        Refusal::OutOfRange => print_text(b"3"),
-        Refusal::WrongCount => print_text(b"4"),
-        Refusal::Margin(row) => print_values(b"5 ", row),
-        Refusal::Residual(row) => print_values(b"6 ", row),
-        Refusal::InverseResidual(column, row) => {
-            print_values(b"7 ", column);
-            print_values(b" ", row);
-        }
-        Refusal::TooShort => print_text(b"8"),
-        Refusal::TooEarly => print_text(b"11"),
-        Refusal::Repeated => print_text(b"12"),
-        Refusal::Missing(count) => print_values(b"13 ", count),
-        Refusal::AfterEnd => print_text(b"14"),
-        Refusal::NotEnded => print_text(b"15"),
-    }
-}
-
-fn print_values(text: &[u8], x: u32) {
-    print_text(text);
-    print_number(x as u64);
-}
-
-// The first ten numbers of a list.
-fn print_list(name: &[u8], l: &[i64]) {
-    print_text(name);
-    for i in 0..10 {
-        if i < l.len() {
-            print_signed(l[i]);
-        }
-    }
-    print_text(b"\n");
-}
-
-fn print_signed(x: i64) {
-    if x < 0 {
-        print_text(b" -");
-    } else {
-        print_text(b" ");
-    }
-    print_number(size_of(x));
-}
-
-fn size_of(x: i64) -> u64 {
-    if x < -9223372036854775807 {
-        return 9223372036854775808;
-    }
-    integer::magnitude(x)
-}
-
-fn print_bounds(name: &[u8], bounds: &[u64], count: usize) {
-    print_text(name);
-    for i in 0..count {
-        if i < bounds.len() {
-            print_text(b" ");
-            if bounds[i] == UNWRITTEN {
-                print_text(b"-");
-            } else {
-                print_number(bounds[i]);
-            }
-        }
-    }
 }

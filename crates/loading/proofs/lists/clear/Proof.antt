@@ -2,8 +2,8 @@ use mathlib.Core.Path.{_≡_}
 use Prim.Native.Nat.{_≤_, _-_}
 use lib.ListN.{length}
 use borrow.Author.Needs.{needs}
-use Rattle.loading.proofs.clear.Statement.{statement}
-use Rattle.loading.proofs.clear.Tie as tie
+use Rattle.loading.proofs.lists.clear.Statement.{statement}
+use Rattle.loading.proofs.lists.clear.Tie as tie
 
 abbrev Inv-loop : tie.InvT-loop
 Inv-loop l₀ i₀ i-end l i = (i ≤ i-end) × (i-end ≡ length l₀) × (length l ≡ length l₀)

@@ -1,7 +1,7 @@
 use Prim.Native.Nat.{_≤_, _-_}
 use borrow.Author.Needs.{needs}
-use Rattle.loading.proofs.print_bounds.Statement.{statement}
-use Rattle.loading.proofs.print_bounds.Tie as tie
+use Rattle.loading.proofs.print.print_bounds.Statement.{statement}
+use Rattle.loading.proofs.print.print_bounds.Tie as tie
 
 abbrev Inv-loop : tie.InvT-loop
 Inv-loop name bounds count i₀ t5 t6 i = i ≤ count

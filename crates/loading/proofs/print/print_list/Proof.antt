@@ -1,7 +1,7 @@
 use Prim.Native.Nat.{_≤_, _-_}
 use borrow.Author.Needs.{needs}
-use Rattle.loading.proofs.print_list.Statement.{statement}
-use Rattle.loading.proofs.print_list.Tie as tie
+use Rattle.loading.proofs.print.print_list.Statement.{statement}
+use Rattle.loading.proofs.print.print_list.Tie as tie
 
 abbrev Inv-loop : tie.InvT-loop
 Inv-loop name l i₀ t4 i = i ≤ 10

@@ -7,8 +7,8 @@ use lib.IntN.{ℤ, pos, negsuc, natAbs}
 use lib.Signed.{ltZ, mag}
 use Rattle.integer.proofs.Machine.{read}
 use borrow.Author.Needs.{needs}
-use Rattle.loading.proofs.size_of.Statement.{statement}
-use Rattle.loading.proofs.size_of.Tie as tie
+use Rattle.loading.proofs.print.size_of.Statement.{statement}
+use Rattle.loading.proofs.print.size_of.Tie as tie
 
 above : (z : ℤ) → mag z < 2 ^ 63 → ltZ z (negsuc 9223372036854775806) ≡ false → natAbs z < 2 ^ 63
 above (pos n) f h = f
