@@ -6,7 +6,7 @@
 --   RoundedExact P N q H q′ — the second half's hypotheses: exact N and two-sided H, guess and inverse rounded to nearest steps, weights 1,
 --     total below 2T
 --   Margins P, Residuals P — every margin is above 0; no residual of the guess is above 2^25 in size
---   Sound P             — both, and no residual of a column of the inverse
+--   Sound P             — both, and no residual of a column of the inverse is above 2^25 in size either
 use mathlib.Core.Path.{_≡_}
 use mathlib.Core.Bool.{false}
 use Prim.Native.Nat.{ℕ, _*_, _≤_, _<_}
