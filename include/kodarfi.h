@@ -1,4 +1,4 @@
-/* The calls that the library libexport.a gives to C.
+/* The calls that the library libkodarfi.a gives to C.
  *
  * Each answers every input: numbers, bytes and lengths may be anything. What C's types cannot say is the caller's part: no pointer is null; a pointer
  * with a length after it leads to as many numbers or bytes as that length says, and any other to as many as its comment says; nothing that is written

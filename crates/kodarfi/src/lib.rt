@@ -5,7 +5,7 @@ ghost use Rattle.rules.specs.Refusal.{said};
 ghost use Rattle.checker.specs.Input.{input};
 ghost use Rattle.refusal.specs.Refused.{printed};
 ghost use Rattle.refusal.specs.Reply.{replyOf};
-ghost use Rattle.export.specs.Exported.{CheckExported, ListingExported, EntryExported};
+ghost use Rattle.kodarfi.specs.Exported.{CheckExported, ListingExported, EntryExported};
 use checker::check;
 use listing::Registered;
 use listing::answer_file;

@@ -28,8 +28,8 @@ use Rattle.listing.specs.Register as entry
 use Rattle.listing.specs.Listing.{problemIn, Complete, answerOf}
 use Rattle.listing.proofs.Demand.{file-reported, file-encloses, exact-accepted}
 use Rattle.listing.proofs.Answers.{answer-zero}
-use Rattle.export.specs.Told.{Told}
-use Rattle.export.specs.Exported.{CheckExported, ListingExported, EntryExported}
+use Rattle.kodarfi.specs.Told.{Told}
+use Rattle.kodarfi.specs.Exported.{CheckExported, ListingExported, EntryExported}
 
 pub zero-said : (o : Outcome) → getD (said o) 0 0 ≡ 0 → said o ≡ []
 zero-said Accepted e = refl

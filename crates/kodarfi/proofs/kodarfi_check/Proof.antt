@@ -1,8 +1,8 @@
 use Rattle.rules.specs.Refusal.{said}
-use Rattle.export.proofs.Told.{told-alone}
+use Rattle.kodarfi.proofs.Told.{told-alone}
 use borrow.Author.Needs.{needs}
-use Rattle.export.proofs.kodarfi_check.Statement.{statement}
-use Rattle.export.proofs.kodarfi_check.Tie as tie
+use Rattle.kodarfi.proofs.kodarfi_check.Statement.{statement}
+use Rattle.kodarfi.proofs.kodarfi_check.Tie as tie
 
 check-requires : tie.Need-check-requires
 check-requires c κs = search needs

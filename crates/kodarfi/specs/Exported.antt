@@ -19,7 +19,7 @@ use Rattle.listing.specs.Listing.{answerOf, Listed}
 use Rattle.listing.specs.Register.{RegisteredAs}
 use Rattle.listing.specs.Register as entry
 use Rattle.listing.specs.declared.Registered.{Registered}
-use Rattle.export.specs.Told.{Told}
+use Rattle.kodarfi.specs.Told.{Told}
 
 pub record CheckExported (I : Input) (number : ℕ) (places E L : List ℕ) : Type 0 where
   pub outcome : Outcome

@@ -9,8 +9,8 @@ use Rattle.rules.specs.declared.Refusal.{Refusal}
 use Rattle.listing.specs.Register.{said, RegisteredAs}
 use Rattle.listing.specs.declared.Registered.{Registered}
 use Rattle.listing.specs.declared.Registered.the-variants.{Entry, Refused}
-use Rattle.export.specs.Exported.{EntryExported}
-use Rattle.export.specs.Told.{Told}
+use Rattle.kodarfi.specs.Exported.{EntryExported}
+use Rattle.kodarfi.specs.Told.{Told}
 
 -- V and its limit in an answer, where it has them
 abbrev valueIn : ℤ → Registered → ℤ

@@ -1,11 +1,11 @@
 use mathlib.Core.List.{[], _∷_}
 use Rattle.integer.proofs.Machine.{read}
 use Rattle.rules.specs.Refusal.{numberOf, valuesOf}
-use Rattle.export.proofs.Told.{told, told-alone}
-use Rattle.export.proofs.Entry.{entry-exported, refusal-exported}
+use Rattle.kodarfi.proofs.Told.{told, told-alone}
+use Rattle.kodarfi.proofs.Entry.{entry-exported, refusal-exported}
 use borrow.Author.Needs.{needs}
-use Rattle.export.proofs.kodarfi_entry.Statement.{statement}
-use Rattle.export.proofs.kodarfi_entry.Tie as tie
+use Rattle.kodarfi.proofs.kodarfi_entry.Statement.{statement}
+use Rattle.kodarfi.proofs.kodarfi_entry.Tie as tie
 
 register-entry-requires : tie.Need-register-entry-requires
 register-entry-requires c κs = search needs

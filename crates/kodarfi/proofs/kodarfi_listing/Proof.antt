@@ -1,8 +1,8 @@
 use Rattle.listing.specs.Listing.{answerOf}
-use Rattle.export.proofs.Told.{told}
+use Rattle.kodarfi.proofs.Told.{told}
 use borrow.Author.Needs.{needs}
-use Rattle.export.proofs.kodarfi_listing.Statement.{statement}
-use Rattle.export.proofs.kodarfi_listing.Tie as tie
+use Rattle.kodarfi.proofs.kodarfi_listing.Statement.{statement}
+use Rattle.kodarfi.proofs.kodarfi_listing.Tie as tie
 
 answer-file-requires : tie.Need-answer-file-requires
 answer-file-requires c κs = search needs
