@@ -1,4 +1,4 @@
--- What `read_line` has of each function that it calls: with the token of the slice's lifetime and what the slice owns at hand, which stay, the function answers by its definition.
+-- What `read_short_line` has of each function that it calls: with the token of the slice's lifetime and what the slice owns at hand, which stay, the function answers by its definition.
 --   Callees C — that each of them meets its contract
 --   Answers   — what it answers, at places and parts that have machine values; calls — from its contract
 use mathlib.Core.Path.{_≡_, refl, _∙_}
