@@ -3,8 +3,10 @@
   python3 tests/program.py   the last line is 'N passed, M failed'"""
 
 import os
+import signal
 import subprocess
 import sys
+import tempfile
 from pathlib import Path
 
 from cases_01 import WHOLE_LISTING
@@ -33,10 +35,25 @@ def reads_a_pipe_byte_by_byte():
     return subprocess.run(["bash", "-c", slow], capture_output=True, timeout=600).stdout == LISTING
 
 
+def printed_and_writer(program):
+    """What a program prints of a file longer than what decides it and than a pipe holds, and the status of the pipe's writer, whom a closed end ends."""
+    with tempfile.TemporaryFile() as file:
+        file.write(EXAMPLE.read_bytes() + b"x" * 4000000)
+        file.seek(0)
+        writer = subprocess.Popen(["cat"], stdin=file, stdout=subprocess.PIPE)
+        printed = subprocess.run(program, stdin=writer.stdout, capture_output=True, timeout=600).stdout
+        writer.stdout.close()
+        return printed, writer.wait(timeout=600)
+
+
 def reads_to_the_end():
-    """A file longer than what decides it is read whole: the writer of the pipe meets no closed end."""
-    text = EXAMPLE.read_bytes() + b"x" * 1000000
-    return run(input=text).stdout == b"(refused 14 (14))\n"
+    return printed_and_writer([str(REGISTER)]) == (b"(refused 14 (14))\n", 0)
+
+
+def stopping_to_read_is_told():
+    """The wrong program that prints the right line and leaves the rest unread: the writer dies of it."""
+    stops = ["sh", "-c", "head -c 65536 >/dev/null; echo '(refused 14 (14))'"]
+    return printed_and_writer(stops) == (b"(refused 14 (14))\n", -signal.SIGPIPE)
 
 
 def empty_file_is_15():
@@ -59,7 +76,7 @@ def failed_write_is_told():
 
 
 TESTS = (
-    prints_the_listing, reads_standard_input, reads_a_pipe_byte_by_byte, reads_to_the_end, empty_file_is_15, failed_read_is_told, failed_write_is_told,
+    prints_the_listing, reads_standard_input, reads_a_pipe_byte_by_byte, reads_to_the_end, stopping_to_read_is_told, empty_file_is_15, failed_read_is_told, failed_write_is_told,
 )
 
 
