@@ -57,11 +57,11 @@ module _ {I : Input} {number : ℕ} {places E L : List ℕ} (x : CheckExported I
   pub exact-zero : (N : Vec) (q : ℕ) (H : Mat) (q′ : ℕ) → short I ≡ false → inRanges I ≡ true → RoundedExact (problem I) N q H q′ → number ≡ 0
   exact-zero N q H q′ s r h = x .told .number-is ∙ ap (λ (l : List ℕ). getD l 0 0) (x .checked .accepts N q H q′ s r h)
 
-module _ {file old : List ℕ} {number : ℕ} {places new : List ℕ} {length : ℕ} (x : ListingExported file old number places new length) where
+module _ {file old : List ℕ} {number : ℕ} {places new : List ℕ} {written : ℕ} (x : ListingExported file old number places new written) where
   pub zero-answer : number ≡ 0 → answerOf file ≡ []
   zero-answer e = answer-zero file (sym (x .told .number-is) ∙ e)
 
-  pub zero-reported : number ≡ 0 → take length new ≡ reportedOf (problemIn file)
+  pub zero-reported : number ≡ 0 → take written new ≡ reportedOf (problemIn file)
   zero-reported e = x .listed .bytes ∙ file-reported file (zero-answer e)
 
   pub reported-encloses : number ≡ 0 → Encloses (problemIn file) (bound (problemIn file)) (inverseBound (problemIn file))

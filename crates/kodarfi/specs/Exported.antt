@@ -26,9 +26,9 @@ pub record CheckExported (I : Input) (number : ℕ) (places E L : List ℕ) : Ty
   pub checked : Checked I outcome E L
   pub told : Told (said outcome) number places
 
-pub record ListingExported (file old : List ℕ) (number : ℕ) (places new : List ℕ) (length : ℕ) : Type 0 where
+pub record ListingExported (file old : List ℕ) (number : ℕ) (places new : List ℕ) (written : ℕ) : Type 0 where
   pub told : Told (answerOf file) number places
-  pub listed : Listed file old new length
+  pub listed : Listed file old new written
 
 pub record EntryExported (x : ℤ) (e s : ℕ) (oldValue : ℤ) (oldBound number : ℕ) (places : List ℕ) (value : ℤ) (bound : ℕ) : Type 0 where
   pub answer : Registered

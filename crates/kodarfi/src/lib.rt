@@ -70,13 +70,13 @@ pub extern "C" fn kodarfi_check(
 pub extern "C" fn kodarfi_listing(
     file: &[u8],
     listing: &mut [u8; 32768],
-    length: &mut usize,
+    written: &mut usize,
     places: &mut [u64; 2],
 ) -> u32
-    ensures { λ r. ⌜ ListingExported (now (file .entry)) (now (listing .entry)) r (now (places .exit)) (now (listing .exit)) (now (length .exit)) ⌝ }
+    ensures { λ r. ⌜ ListingExported (now (file .entry)) (now (listing .entry)) r (now (places .exit)) (now (listing .exit)) (now (written .exit)) ⌝ }
 {
     let answer = answer_file(file, listing);
-    *length = answer.length;
+    *written = answer.length;
     tell(answer.reply, places)
 }
 
