@@ -1,4 +1,4 @@
-// The functions that C and Rust link: total, over numbers and slices, with document 01's number as their result (include/kodarfi.h).
+// The functions that other languages link: total, over numbers and slices, with document 01's number as their result (include/kodarfi.h).
 ghost use mathlib.Core.Path.{_≡_};
 ghost use mathlib.Core.List.{[], _∷_};
 ghost use Rattle.rules.specs.Refusal.{said};
