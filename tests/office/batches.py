@@ -104,6 +104,32 @@ def shows_progress(room):
     return status == 1 and b"batch: 100 of 120\n" in err and out.endswith(b"\n0 accepted, 120 refused, 0 failed\n")
 
 
+# The stand-in for GNU parallel: one machine, that says this and that between its listings.
+PARALLEL = r"""#!/bin/bash
+echo "$*" >asked
+printf 'Welcome!\n\0a[$(touch owned)]\0(bounds 1)\n(end)\n\0more\0999\0(bounds 1)\n(end)\n\0'
+eval "${*: -2}"
+echo Goodbye
+"""
+
+
+def many_machines_list_the_same(room):
+    """The nets sent, judged elsewhere and sent back; a machine's other words come into no place and are not carried out."""
+    files = nets(room)
+    room.write("with-rt/parallel", PARALLEL).chmod(0o755)
+    status, out, _ = room.run("--jobs", 2, "--sshlogin", "4/:,8/name@host", "nets", "listings", script="batch")
+    asked = (room.root / "asked").read_text()
+    same = listings(room) == {name: listing_of(file) for name, file in files.items()} and not list(room.root.rglob("owned"))
+    return same and (status, out.splitlines()[-1]) == (2, b"3 accepted, 2 refused, 3 failed") and "--jobs 2 --sshlogin 4/:,8/name@host" in asked
+
+
+def machine_that_does_not_answer_is_2(room):
+    nets(room)
+    room.write("with-rt/parallel", "#!/bin/sh\ncat >/dev/null; exit 255\n").chmod(0o755)
+    status, out, _ = room.run("--sshlogin", "host", "nets", "listings", script="batch")
+    return status == 2 and out.endswith(b"\n0 accepted, 0 refused, 8 failed\n") and listings(room) == {}
+
+
 def field_lines_to_listing(room):
     """README's pipe, as it stands there: the file is the one beside the field lines, accepted, and no limit is wrong."""
     town = room.root / "examples/town"
@@ -116,5 +142,5 @@ def field_lines_to_listing(room):
 
 TESTS = (
     keeps_folders, counts_and_names_what_is_not_accepted, status_tells_the_worst, failed_writing_is_2, unseen_folder_is_2, program_that_dies_is_2,
-    nothing_to_judge_is_2, shows_progress, field_lines_to_listing,
+    nothing_to_judge_is_2, shows_progress, many_machines_list_the_same, machine_that_does_not_answer_is_2, field_lines_to_listing,
 )

@@ -55,6 +55,9 @@ WRONG = {
     "a place that is not written": (BATCH, "*) failed=", "' ') accepted=$((accepted + 1)) ;; *) failed=", batches.failed_writing_is_2),
     "a folder not seen": (BATCH, "unseen=$?", "unseen=0", batches.unseen_folder_is_2),
     "listings of another batch": (BATCH, '[ -z "$(ls -A -- "$listings")" ]', "true", batches.nothing_to_judge_is_2),
+    "a machine's words are numbers": (BATCH, "[[ $number =~ ^(0|[1-9][0-9]{0,8})$ && ", "[[ ", batches.many_machines_list_the_same),
+    "a machine's words are listings": (BATCH, "read -r -d '' _ && ", "", batches.many_machines_list_the_same),
+    "nets are sent in part": (BATCH, "head -c 65536 --", "head -c 100 --", batches.many_machines_list_the_same),
     "no progress": (BATCH, "count=$((count + 1))", ":", batches.shows_progress),
     "another solver": ("examples/propose.py", "right[mark - 1] += sign", "right[mark - 1] -= sign", batches.field_lines_to_listing),
 }
