@@ -2,7 +2,7 @@
 
 from exact import size_sum
 from net import SIZE, frozen
-from nets import fitting_right, levelling_matrix, proposal, repeated
+from .usual import fitting_right, levelling_matrix, proposal, repeated
 
 
 def bidiagonal(rng, n):

@@ -1,4 +1,4 @@
-"""Random systems that have a proposal near the exact one: levelling nets, other systems, and the edge of demand 3's second half."""
+"""Systems that have a proposal near the exact one: levelling nets, full and thin matrices, coarse steps, and a matrix without an inverse."""
 
 from exact import inverse_of, nearest, product
 from net import LARGE, SIZE, WHOLE, frozen, net_of
