@@ -20,23 +20,24 @@ def older_program(room):
     os.utime(room.put_program(), (LONG_AGO - 1, LONG_AGO - 1))
 
 
-def answers(room, **options):
+def refuses(room, **options):
     return room.run(REFUSED, **options)[:2] == (1, b"(refused 2 (5))\n")
 
 
 def good_program_is_not_built(room):
-    return answers(room) and answers(room, rt=False) and room.calls() == []
+    return refuses(room) and refuses(room, rt=False) and room.calls() == []
 
 
 def first_use_builds(room):
     room.put_program().unlink()
-    return answers(room) and answers(room) and room.calls() == ASKED
+    return refuses(room) and refuses(room) and room.calls() == ASKED
 
 
 def first_uses_at_once_build_once(room):
     room.put_program().unlink()
     started = [room.start(REFUSED) for _ in range(4)]
-    return all(ended(process)[:2] == (1, b"(refused 2 (5))\n") for process in started) and room.calls() == ASKED
+    answers = [ended(process)[:2] for process in started]
+    return answers == 4 * [(1, b"(refused 2 (5))\n")] and room.calls() == ASKED
 
 
 def newer_source_builds_again(room):
@@ -44,10 +45,10 @@ def newer_source_builds_again(room):
     for name in (SOURCE, "crates.txt", "crates/register/src"):
         older_program(room)
         (room.root / "calls").unlink(missing_ok=True)
-        if not (answers(room) and answers(room) and room.calls() == ASKED):
+        if not (refuses(room) and refuses(room) and room.calls() == ASKED):
             return False
         os.utime(room.root / name)
-        if not (answers(room) and answers(room) and room.calls() == 2 * ASKED):
+        if not (refuses(room) and refuses(room) and room.calls() == 2 * ASKED):
             return False
     return True
 
@@ -55,7 +56,7 @@ def newer_source_builds_again(room):
 def source_changed_while_building_builds_again(room):
     room.put_program().unlink()
     room.write("changed-meanwhile", "")
-    return answers(room) and answers(room) and answers(room) and room.calls() == 2 * ASKED
+    return refuses(room) and refuses(room) and refuses(room) and room.calls() == 2 * ASKED
 
 
 def building_leaves_the_input(room):
@@ -99,7 +100,7 @@ def failed_build_is_2(room):
         if (status, out) != (2, b"") or b"rt: register NOT PROVED\n" not in err or not err.endswith(b"tells more\n"):
             return False
     (room.root / "broken").unlink()
-    return answers(room) and room.calls() == 3 * ASKED
+    return refuses(room) and room.calls() == 3 * ASKED
 
 
 def build_without_a_program_is_2(room):
