@@ -4,7 +4,6 @@
   python3 tests/program.py --self-test   on the programs of wrong_programs.py: the right one passes every test, each wrong one fails those that name it"""
 
 import os
-import signal
 import subprocess
 import sys
 import tempfile
@@ -37,25 +36,15 @@ def reads_a_pipe_byte_by_byte():
     return subprocess.run(["bash", "-c", slow], capture_output=True, timeout=600).stdout == LISTING
 
 
-def printed_and_writer(program):
-    """What a program prints of a file longer than what decides it and than a pipe holds, and the status of the pipe's writer, whom a closed end ends."""
+def reads_to_the_end():
+    """A file longer than what decides it and than a pipe holds: the pipe's writer, whom a closed end would end, ends by itself."""
     with tempfile.TemporaryFile() as file:
         file.write(EXAMPLE.read_bytes() + b"x" * 4000000)
         file.seek(0)
         writer = subprocess.Popen(["cat"], stdin=file, stdout=subprocess.PIPE)
-        printed = subprocess.run(program, stdin=writer.stdout, capture_output=True, timeout=600).stdout
+        printed = subprocess.run([str(REGISTER)], stdin=writer.stdout, capture_output=True, timeout=600).stdout
         writer.stdout.close()
-        return printed, writer.wait(timeout=600)
-
-
-def reads_to_the_end():
-    return printed_and_writer([str(REGISTER)]) == (b"(refused 14 (14))\n", 0)
-
-
-def stopping_to_read_is_told():
-    """The wrong program that prints the right line and leaves the rest unread: the writer dies of it."""
-    stops = ["sh", "-c", "head -c 65536 >/dev/null; echo '(refused 14 (14))'"]
-    return printed_and_writer(stops) == (b"(refused 14 (14))\n", -signal.SIGPIPE)
+        return (printed, writer.wait(timeout=600)) == (b"(refused 14 (14))\n", 0)
 
 
 def empty_file_is_15():
@@ -83,7 +72,7 @@ def failed_write_is_told():
 
 
 TESTS = (
-    prints_the_listing, reads_standard_input, reads_a_pipe_byte_by_byte, reads_to_the_end, stopping_to_read_is_told, empty_file_is_15, failed_read_is_told, failed_write_is_told,
+    prints_the_listing, reads_standard_input, reads_a_pipe_byte_by_byte, reads_to_the_end, empty_file_is_15, failed_read_is_told, failed_write_is_told,
 )
 
 
@@ -93,6 +82,7 @@ FAILED_BY = {
     wrong.is_not_built: TESTS,
     wrong.hides_a_failed_read: (failed_read_is_told,),
     wrong.takes_a_failed_read_for_the_end: (failed_read_is_told,),
+    wrong.stops_reading: (reads_to_the_end, failed_read_is_told),
     wrong.hides_a_failed_write: (failed_write_is_told,),
 }
 

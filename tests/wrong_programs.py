@@ -78,6 +78,12 @@ def takes_a_failed_read_for_the_end(path):
     answer(got(path) or b"")
 
 
+def stops_reading(path):
+    """The first 65,536 bytes decide a file, but a writer that is cut off takes it for a failure."""
+    with open(path or 0, "rb") as file:
+        answer(file.read(65536))
+
+
 def hides_a_failed_write(path):
     file = got(path)
     put(*((UNREAD, 2) if file is None else (Program().listing(file),)))
@@ -85,7 +91,7 @@ def hides_a_failed_write(path):
 
 # Programs that compare.py must tell, and those that program.py must.
 BESIDE_THE_LISTING = (dies, fails, complains, dies_first)
-AS_RUN = (is_not_built, hides_a_failed_read, takes_a_failed_read_for_the_end, hides_a_failed_write)
+AS_RUN = (is_not_built, hides_a_failed_read, takes_a_failed_read_for_the_end, stops_reading, hides_a_failed_write)
 
 if __name__ == "__main__":
     named = {program.__name__: program for program in (right, *BESIDE_THE_LISTING, *AS_RUN)}
