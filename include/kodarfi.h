@@ -1,4 +1,4 @@
-/* The calls that the library libexport.a gives to C.
+/* The calls that the library libkodarfi.a gives to C and C++.
  *
  * Each answers every input: numbers, bytes and lengths may be anything. What C's types cannot say is the caller's part: no pointer is null; a pointer
  * with a length after it leads to as many numbers or bytes as that length says, and any other to as many as its comment says; nothing that is written
@@ -12,6 +12,10 @@
 
 #include <stddef.h>
 #include <stdint.h>
+
+#ifdef __cplusplus
+extern "C" {
+#endif
 
 /* The check on lists.
  *
@@ -40,8 +44,8 @@ uint32_t kodarfi_check(uint32_t n, uint32_t s, uint32_t t,
 
 /* The listing of a file, byte for byte what the program `register` prints for it.
  *
- * listing has 32,768 bytes, which is enough for every file. The first *length of them are the listing, its last line feed included; the others are
- * as before. listing and *length are written whatever the answer is.
+ * listing has 32,768 bytes, which is enough for every file. The first *written of them are the listing, its last line feed included; the others are
+ * as before. listing and *written are set whatever the answer is.
  *
  * The answer is 0 where the file is accepted: the listing is then the report. Else the listing is one line, (refused NUMBER (..)), and the answer
  * is its number. places holds what stands in the line's inner brackets:
@@ -52,7 +56,7 @@ uint32_t kodarfi_check(uint32_t n, uint32_t s, uint32_t t,
  *   5, 6, 7              the check refuses the file's numbers             as in kodarfi_check
  */
 uint32_t kodarfi_listing(const uint8_t *file, size_t file_len,
-                         uint8_t listing[32768], size_t *length,
+                         uint8_t listing[32768], size_t *written,
                          uint64_t places[2]);
 
 /* The register entry of a guess, in solution steps, and of its limit, for 2^s solution steps a unit.
@@ -62,5 +66,9 @@ uint32_t kodarfi_listing(const uint8_t *file, size_t file_len,
 uint32_t kodarfi_entry(int64_t guess, uint64_t bound, uint32_t s,
                        int64_t *value, uint64_t *value_bound,
                        uint64_t places[2]);
+
+#ifdef __cplusplus
+}
+#endif
 
 #endif

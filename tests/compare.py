@@ -1,4 +1,4 @@
-"""Runs a program on many files beside the second implementation and compares the listings byte for byte.
+"""Runs a program on many files beside the second implementation: listings byte for byte, nothing on standard error, status 0.
 
   python3 tests/compare.py --program target/bin/register [--files 2000] [--seed 1]
   python3 tests/compare.py --self-test [--files 2000] [--seed 1]   the second implementation beside its wrong versions
@@ -9,17 +9,17 @@ The last line is 'N passed, M failed'; the exit status is 0 only where M is 0.""
 import argparse
 import shlex
 import shutil
-import subprocess
 import sys
 import time
 
 import generate
 import given
 from checks import faults, net_from
+from outside import Ran, outside
 from reach import ENOUGH_FILES, Reach
 from second.program import Program
 from second.refusal import Refusal
-from self_test import Telling, test_checks, test_given
+from self_test import Telling, test_checks, test_given, test_programs
 
 
 class Count:
@@ -41,19 +41,6 @@ class Count:
         return 0 if self.failed == 0 and self.passed > 0 else 1
 
 
-def outside(command):
-    """A program that reads standard input and prints a listing, as a function of the file."""
-    words = shlex.split(command)
-
-    def run(file):
-        try:
-            return subprocess.run(words, input=file, stdout=subprocess.PIPE, timeout=20, check=False).stdout
-        except subprocess.TimeoutExpired:
-            return b"no listing after 20 s"
-
-    return run
-
-
 def all_cases(seed, files):
     yield from given.cases()
     for index in range(files):
@@ -61,19 +48,15 @@ def all_cases(seed, files):
 
 
 def examined(second, run, case):
-    """What is wrong with a program's listing of a file; then what the file holds, its right listing, and its net where it was read to the end."""
+    """What is wrong with a program's run on a file; then what the file holds, its right listing, and its net where it was read to the end."""
     loaded = second.load(case.file)
     expected = second.printed(loaded)
-    printed = run(case.file)
-    problems = [] if printed == expected else [f"printed {shortened(printed)}, expected {shortened(expected)}"]
+    ran = run(case.file)
+    problems = ran.differences(expected)
     if isinstance(loaded, Refusal):
         return problems, loaded, expected, None
     net = net_from(loaded)
-    return problems + faults(net, printed), loaded, expected, net
-
-
-def shortened(listing):
-    return repr(listing.decode("latin-1")[:120])
+    return problems + faults(net, ran.listing), loaded, expected, net
 
 
 def compare(run, seed, files, count, watch=None):
@@ -94,7 +77,8 @@ def self_test(seed, files, count):
     telling = Telling()
     test_given(count)
     test_checks(count)
-    compare(Program().listing, seed, files, count, telling.watch)
+    test_programs(count, lambda run, case: examined(Program(), run, case)[0])
+    compare(lambda file: Ran(Program().listing(file)), seed, files, count, telling.watch)
     telling.report(count)
 
 

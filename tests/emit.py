@@ -11,11 +11,11 @@ import random
 import sys
 
 import cases_01
-import nets
 from generate import WHOLE
 from net import joined
 from second.reckoning import Problem, Reckoning
 from second.refusal import Refusal
+from systems import usual
 
 
 def flat(matrix):
@@ -52,7 +52,7 @@ def accepted(seed, sizes, each):
         rng = random.Random(f"sizes {seed}/{n}")
         found = 0
         while found < each:
-            net = nets.levelling(rng, n)
+            net = usual.levelling(rng, n)
             if outcome(net)[0][0] == 0:
                 found += 1
                 yield net

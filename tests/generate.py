@@ -3,11 +3,9 @@
 import random
 from typing import NamedTuple
 
-import bounds
 import damage
-import edge
-import nets
 from net import file_of, lines_of
+from systems import edge, ends, usual
 
 
 class Case(NamedTuple):
@@ -25,23 +23,23 @@ def few(rng):
 
 # How many files of a hundred, which system, and how many equations it has.
 WHOLE = (
-    (14, nets.levelling, any_n),
-    (7, nets.general, any_n),
+    (14, usual.levelling, any_n),
+    (7, usual.general, any_n),
     (8, edge.at_edge, any_n),
     (2, edge.with_halves, lambda rng: rng.randint(4, 10)),
-    (5, bounds.at_bounds, any_n),
-    (5, nets.small, lambda rng: rng.randint(1, 4)),
-    (1, bounds.largest_bounds, lambda rng: rng.randint(2, 32)),
-    (4, bounds.near_margins, lambda rng: rng.randint(2, 12)),
-    (4, bounds.near_residuals, lambda rng: rng.randint(1, 12)),
-    (5, bounds.near_inverse_residuals, lambda rng: rng.randint(2, 12)),
-    (4, bounds.several, lambda rng: rng.randint(1, 12)),
-    (1, nets.singular, lambda rng: rng.randint(1, 6)),
+    (5, ends.at_bounds, any_n),
+    (5, usual.small, lambda rng: rng.randint(1, 4)),
+    (1, ends.largest_bounds, lambda rng: rng.randint(2, 32)),
+    (4, ends.near_margins, lambda rng: rng.randint(2, 12)),
+    (4, ends.near_residuals, lambda rng: rng.randint(1, 12)),
+    (5, ends.near_inverse_residuals, lambda rng: rng.randint(2, 12)),
+    (4, ends.several, lambda rng: rng.randint(1, 12)),
+    (1, usual.singular, lambda rng: rng.randint(1, 6)),
 )
 
 TABLE = tuple(
     [(make, size, None) for share, make, size in WHOLE for _ in range(share)]
-    + [(nets.levelling, few, spoil) for share, spoil in damage.SHARES for _ in range(share)]
+    + [(usual.levelling, few, spoil) for share, spoil in damage.SHARES for _ in range(share)]
 )
 assert len(TABLE) == 100
 # Neighbours in the sequence come from different families.

@@ -1,12 +1,19 @@
-"""The test of the tests: the wrong versions are told by the files, document 01's cases and the numbers of source 002 come out."""
+"""The test of the tests: wrong versions are told by the files, wrong programs by their runs, document 01's cases and the numbers of source 002 come out."""
+
+import shlex
+import sys
+from pathlib import Path
 
 import cases_01
 import examples_002
 from checks import faults, is_accepted, net_from
+from generate import Case
 from net import file_of, lines_of
+from outside import outside
 from second.program import Program
 from second.refusal import Refusal
 from wrong import PRINTING
+from wrong_programs import BESIDE_THE_LISTING
 from wrong_reading import READING
 
 # A wrong version is dropped from the run once so many files have told it.
@@ -85,3 +92,17 @@ def test_checks(count):
         problem = Program().load(file_of(lines_of(cases_01.whole_file())))
         told = faults(net_from(problem), PRINTING[name].printed(problem))
         count.test(f"checks on '{name}'", [] if told else ["not told"])
+
+
+def wrong_program(name):
+    """The command that runs one of wrong_programs.py."""
+    return shlex.join([sys.executable, str(Path(__file__).with_name("wrong_programs.py")), name])
+
+
+def test_programs(count, problems_of):
+    """A program that prints the right listing and goes wrong beside it is told; `problems_of` examines a run on a file."""
+    for case in (Case("whole file", file_of(lines_of(cases_01.whole_file()))), Case("no form", b"x\n")):
+        count.test(f"right program on {case.name}", problems_of(outside(wrong_program("right")), case))
+        for program in BESIDE_THE_LISTING:
+            told = problems_of(outside(wrong_program(program.__name__)), case)
+            count.test(f"program '{program.__name__}' on {case.name}", [] if told else ["not told"])

@@ -8,13 +8,11 @@ import random
 import sys
 from pathlib import Path
 
-import bounds
-import edge
 import given
-import nets
 from generate import arranged
 from net import file_of, lines_of
 from second.program import Program
+from systems import edge, ends, usual
 
 # Files of given.py by the names under which they are stored.
 GIVEN = {
@@ -56,9 +54,9 @@ GIVEN = {
 
 # Systems made by chance, with their number of equations.
 MADE = (
-    (nets.levelling, 1), (nets.levelling, 5), (nets.levelling, 32), (nets.general, 9), (nets.general, 16), (nets.small, 3), (nets.singular, 3),
-    (edge.at_edge, 1), (edge.at_edge, 12), (edge.with_halves, 6), (bounds.at_bounds, 10), (bounds.largest_bounds, 8), (bounds.near_margins, 6),
-    (bounds.near_residuals, 7), (bounds.near_inverse_residuals, 6), (bounds.several, 9),
+    (usual.levelling, 1), (usual.levelling, 5), (usual.levelling, 32), (usual.general, 9), (usual.general, 16), (usual.small, 3), (usual.singular, 3),
+    (edge.at_edge, 1), (edge.at_edge, 12), (edge.with_halves, 6), (ends.at_bounds, 10), (ends.largest_bounds, 8), (ends.near_margins, 6),
+    (ends.near_residuals, 7), (ends.near_inverse_residuals, 6), (ends.several, 9),
 )
 
 

@@ -1,6 +1,6 @@
 //! What a check on lists is handed and leaves; the library's check; the systems of tests/emit.py.
 
-#[link(name = "export", kind = "static")]
+#[link(name = "kodarfi", kind = "static")]
 extern "C" {
     fn kodarfi_check(
         n: u32, s: u32, t: u32,

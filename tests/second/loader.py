@@ -2,7 +2,6 @@
 
 from .format import LONGEST_LINE, PLACED, RANGES, read_form
 from .refusal import Refusal
-from .rules import IN_FORCE
 
 
 class Line:
@@ -26,8 +25,7 @@ class Loader:
     # The kinds of which the count of forms still missing is made: "out of 5n".
     COUNTED = PLACED
 
-    def __init__(self, rules=IN_FORCE):
-        self.rules = rules
+    def __init__(self):
         self.n = self.s = self.t = None
         self.given = set()
         self.ended = False

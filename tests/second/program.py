@@ -7,7 +7,6 @@ from .format import lines_of
 from .loader import Loader
 from .reckoning import Problem, Reckoning
 from .refusal import Refusal
-from .rules import IN_FORCE
 
 # Refusals with which the program prints the line's number: "the line number from 1 for 1 to 4, 11, 12 and 14".
 WITH_LINE = (1, 2, 3, 4, 11, 12, 14)
@@ -17,22 +16,19 @@ class Program:
     loader = Loader
     reckoning = Reckoning
 
-    def __init__(self, rules=IN_FORCE):
-        self.rules = rules
-
     def listing(self, file):
         """01: It stops at its first refusal and prints one line. Else it prints the report."""
         return self.printed(self.load(file))
 
     def printed(self, loaded):
         """The listing of a problem, or of the refusal met while its file was read."""
-        checked = loaded if isinstance(loaded, Refusal) else self.reckoning(self.rules).check(loaded)
+        checked = loaded if isinstance(loaded, Refusal) else self.reckoning().check(loaded)
         lines = self.refused(checked) if isinstance(checked, Refusal) else self.report(loaded, checked)
         return "".join(line + "\n" for line in lines).encode()
 
     def load(self, file):
         """The problem of a file, or its first refusal. 01: The program reads to the end of the file before it checks."""
-        loader = self.loader(self.rules)
+        loader = self.loader()
         for number, line in enumerate(self.lines(file), 1):
             refusal = loader.take(line)
             if refusal is not None:

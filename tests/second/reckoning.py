@@ -6,7 +6,6 @@ from operator import mul
 from typing import NamedTuple
 
 from .refusal import Refusal
-from .rules import IN_FORCE
 
 LARGEST_RESIDUAL = 2**25
 
@@ -59,9 +58,6 @@ def transposed(matrix):
 class Reckoning:
     # "Order for a check: .. 5, 6, 7."
     ORDER = (5, 6, 7)
-
-    def __init__(self, rules=IN_FORCE):
-        self.rules = rules
 
     def check(self, problem):
         """The bounds of an accepted problem, or the refusal of another."""

@@ -1,4 +1,5 @@
 -- When a line is refused, in 01's words; "it is the spelling of f" is s ≡ spell f.
+--   short, long — what a line of at most 320 bytes is, and a longer one
 --   said-1 — 1 is said exactly where the line is above 320 bytes
 --   said-2 — 2 is said exactly where it is not, and is the spelling of no form
 --   said-2-empty, said-2-byte — so 2 is said of an empty line, and of one with a byte other than 32 to 126 in it, as a line feed
@@ -32,11 +33,11 @@ differ : {a b : List ℕ} → a ≡ b → T (not (eqb (getD a 0 0) (getD b 0 0))
 differ e h = absurd (subst (λ x. T (not x)) (eq-eqb _ _ (ap (λ (l : List ℕ). getD l 0 0) e)) h)
 
 module _ (s : List ℕ) where
-  short : length s ≤ 320 → lineOf s ≡ ofReading (reading s)
+  pub short : length s ≤ 320 → lineOf s ≡ ofReading (reading s)
   unfolding lineOf
   short h = rw (le-ltb 320 (length s) h)
 
-  long : 320 < length s → lineOf s ≡ refused TooLong
+  pub long : 320 < length s → lineOf s ≡ refused TooLong
   unfolding lineOf
   long h = rw (lt-ltb 320 (length s) h)
 

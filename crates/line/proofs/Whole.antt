@@ -1,18 +1,18 @@
 -- The parts that the code has read make the whole line.
---   decided-long, decided-none, decided-form — the three ways in which `decide` ends
---   line-read — what is decided from the parts is what the line is
+--   decided-none, decided-form — the two ways in which `decide` ends
+--   line-read — what is decided from the parts is what the line is by its reading
 use mathlib.Core.Path.{_≡_, refl}
 use mathlib.Core.Bool.{Bool, true, false, cond}
 use mathlib.Core.List.{List, _∷_}
 use mathlib.Core.Option.{none, some}
-use Prim.Native.Nat.{ℕ, _≤_, _<_}
-use borrow.Author.Tests.{lt-ltb, le-ltb, eq-eqb, ne-eqb}
+use Prim.Native.Nat.{ℕ}
+use borrow.Author.Tests.{eq-eqb, ne-eqb}
 use lib.Dec.{eqb}
 use lib.IntN.{ℤ}
 use lib.ListN.{length}
 use Rattle.numeral.specs.Numeral.{numberAt, cap, cappedNumber}
 use Rattle.numeral.specs.declared.Number.{Number}
-use Rattle.rules.specs.declared.Refusal.the-variants.{TooLong, NoForm}
+use Rattle.rules.specs.declared.Refusal.the-variants.{NoForm}
 use Rattle.line.specs.declared.Answer.the-variants as answer
 use Rattle.line.specs.declared.CappedForm.{CappedForm}
 use Rattle.form.specs.declared.Head.{Head}
@@ -24,7 +24,7 @@ use Rattle.form.specs.declared.Word.the-variants.{Problem, Scale, Row, Right, G
 use Rattle.form.specs.Form.{Form, bytes}
 use Rattle.form.specs.Reading.{wordAt, headAt, lastOf, endOf, formOf, formAt, reading}
 use Rattle.form.specs.List.{numbersOf, listedAt}
-use Rattle.line.specs.Line.{cappedForm, numbersIn, refused, ofReading, lineOf}
+use Rattle.line.specs.Line.{cappedForm, numbersIn, refused, ofReading}
 use Rattle.line.specs.Parts.{kindOf, cappedOf, besideOf, decided}
 
 capped-form : (w : Word) (i v a : ℤ) (zs : List ℤ) → cappedOf w (cap i) (cap v) ≡ cappedForm (formOf w i v a zs)
@@ -47,20 +47,16 @@ beside-form Inverse i v a zs = refl
 beside-form Weight i v a zs = refl
 beside-form End i v a zs = refl
 
--- ---- the three ways in which `decide` ends
+-- ---- the two ways in which `decide` ends
 module _ (s : List ℕ) (h : Head) (i v : Number) (l : Listed) (e : ℕ) where
-  pub decided-long : {r : Line} → 320 < length s → r ≡ refused TooLong → r ≡ decided s h i v l e
+  pub decided-none : {r : Line} → (e ≡ length s → ⊥) → r ≡ refused NoForm → r ≡ decided s h i v l e
   unfolding decided
-  decided-long t d = rw (lt-ltb 320 (length s) t) d
+  decided-none n d = rw (ne-eqb e (length s) n) d
 
-  pub decided-none : {r : Line} → length s ≤ 320 → (e ≡ length s → ⊥) → r ≡ refused NoForm → r ≡ decided s h i v l e
-  unfolding decided
-  decided-none t n d = rw (le-ltb 320 (length s) t, ne-eqb e (length s) n) d
-
-  pub decided-form : {f : CappedForm} {n : Numbers} {x y : ℤ} → length s ≤ 320 → e ≡ length s → x ≡ i .value → y ≡ v .value → f ≡ cappedOf (h .word) x y → n ≡ besideOf (h .word) (l .numbers)
+  pub decided-form : {f : CappedForm} {n : Numbers} {x y : ℤ} → e ≡ length s → x ≡ i .value → y ≡ v .value → f ≡ cappedOf (h .word) x y → n ≡ besideOf (h .word) (l .numbers)
       → record { answer = answer.Form f; numbers = n } ≡ decided s h i v l e
   unfolding decided
-  decided-form t z a b d g = rw (le-ltb 320 (length s) t, eq-eqb e (length s) z, d, a, b, g)
+  decided-form z a b d g = rw (eq-eqb e (length s) z, d, a, b, g)
 
 of-cond : (t : Bool) (f : Form) → cond t (ofReading (some f)) (refused NoForm) ≡ ofReading (cond t (some f) none)
 of-cond true f = refl
@@ -83,6 +79,6 @@ module _ (s : List ℕ) {h : Head} {i v : Number} {p q m e : ℕ} {l : Listed}
   unfolding listedAt
   is-beside = rw (is-l, is-q, is-i, is-h) (beside-form (headAt s 0 .word) _ _ _ _)
 
-  pub line-read : decided s h i v l e ≡ lineOf s
-  unfolding decided lineOf reading
+  pub line-read : decided s h i v l e ≡ ofReading (reading s)
+  unfolding decided reading
   line-read = rw (← ends, is-form, is-beside, of-cond (eqb e (length s)) (formAt s (headAt s 0 .word) (headAt s 0 .next)))

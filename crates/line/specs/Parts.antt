@@ -2,17 +2,17 @@
 --   kindOf w       — the kind of the numbers in the list of a form
 --   cappedOf w i v — the form of the word w with the number i and a second one
 --   besideOf w l   — the numbers beside it
---   decided s ..   — what the line s is, from its head, a first number, a second one, a list, and the place after its last bracket
+--   decided s ..   — what the line s is by its reading, from its head, a first number, a second one, a list, and the place after its last bracket
 use mathlib.Core.Bool.{cond}
 use mathlib.Core.List.{List}
 use Prim.Native.Nat.{ℕ}
-use lib.Dec.{ltb, eqb}
+use lib.Dec.{eqb}
 use lib.IntN.{ℤ}
 use lib.ListN.{length}
 use Rattle.numeral.specs.declared.Number.{Number}
 use Rattle.rules.specs.declared.Kind.{Kind}
 use Rattle.rules.specs.declared.Kind.the-variants as kind
-use Rattle.rules.specs.declared.Refusal.the-variants.{TooLong, NoForm}
+use Rattle.rules.specs.declared.Refusal.the-variants.{NoForm}
 use Rattle.line.specs.declared.Answer.the-variants as answer
 use Rattle.line.specs.declared.CappedForm.{CappedForm}
 use Rattle.line.specs.declared.CappedForm.the-variants as capped
@@ -56,6 +56,4 @@ besideOf Weight l = noNumbers
 besideOf End l = noNumbers
 
 unfoldable pub decided : List ℕ → Head → Number → Number → Listed → ℕ → Line
-decided s h i v l e =
-    cond (ltb 320 (length s)) (refused TooLong)
-    (cond (eqb e (length s)) (record { answer = answer.Form (cappedOf (h .word) (i .value) (v .value)); numbers = besideOf (h .word) (l .numbers) }) (refused NoForm))
+decided s h i v l e = cond (eqb e (length s)) (record { answer = answer.Form (cappedOf (h .word) (i .value) (v .value)); numbers = besideOf (h .word) (l .numbers) }) (refused NoForm)

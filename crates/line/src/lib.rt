@@ -1,8 +1,8 @@
 // A line of the file: one of eight forms, spelled exactly, or 01's refusal 1 or 2.
 ghost use mathlib.Core.Path.{_≡_};
 ghost use Rattle.form.specs.Form.{bytes};
-ghost use Rattle.form.specs.Reading.{wordAt, lastOf};
-ghost use Rattle.line.specs.Line.{refused, lineOf};
+ghost use Rattle.form.specs.Reading.{wordAt, lastOf, reading};
+ghost use Rattle.line.specs.Line.{refused, ofReading, lineOf};
 ghost use Rattle.line.specs.Parts.{cappedOf, besideOf, decided};
 use form::Head;
 use form::Listed;
@@ -117,13 +117,10 @@ fn refuse(refusal: Refusal) -> Line
     }
 }
 
-// What a line is, from its parts and the place after its last bracket: 1 above 320 bytes, 2 where it does not end there, else the form of its word.
+// What a line is, from its parts and the place after its last bracket: 2 where it does not end there, else the form of its word.
 fn decide(line: &[u8], head: Head, first: Number, second: Number, list: Listed, end: usize) -> Line
     ensures { λ r. ⌜ r ≡ decided (now (line .entry)) head first second list end ⌝ }
 {
-    if 320 < line.len() {
-        return refuse(Refusal::TooLong);
-    }
     if end != line.len() {
         return refuse(Refusal::NoForm);
     }
@@ -135,9 +132,9 @@ fn decide(line: &[u8], head: Head, first: Number, second: Number, list: Listed, 
     }
 }
 
-// What a line is (`lineOf`): 1 above 320 bytes; else its form, the numbers capped, where it is the spelling of one; else 2. Every part is read, whatever the one before it was: where a part is missing, all that follow are read past the end of the line.
-pub fn read_line(line: &[u8]) -> Line
-    ensures { λ r. ⌜ r ≡ lineOf (now (line .entry)) ⌝ }
+// What a line is by its reading: its form, the numbers capped, where it is the spelling of one; else 2. Every part is read, whatever the one before it was: where a part is missing, all that follow are read past the end of the line.
+fn read_short_line(line: &[u8]) -> Line
+    ensures { λ r. ⌜ r ≡ ofReading (reading (now (line .entry))) ⌝ }
 {
     let reader = LineReader::new(line);
     let head = reader.head();
@@ -149,4 +146,14 @@ pub fn read_line(line: &[u8]) -> Line
     let last = last_at(line, head, first, second, list);
     let end = reader.moved(last).close();
     decide(line, head, first, second, list, end)
+}
+
+// What a line is (`lineOf`): 1 above 320 bytes, of which none is then read; else by its reading.
+pub fn read_line(line: &[u8]) -> Line
+    ensures { λ r. ⌜ r ≡ lineOf (now (line .entry)) ⌝ }
+{
+    if 320 < line.len() {
+        return refuse(Refusal::TooLong);
+    }
+    read_short_line(line)
 }

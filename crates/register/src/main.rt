@@ -1,6 +1,8 @@
 // The program: a file on standard input, its listing on standard output.
 ghost use Prim.Native.Nat.{_+_, _≤_};
-ghost use lib.ListN.{length};
+ghost use mathlib.Core.Path.{_≡_};
+ghost use lib.ListN.{length, take};
+ghost use Rattle.listing.specs.Listing.{listingOf};
 ghost use Rattle.register.specs.Step.{Inside, Filled};
 use libc::STDERR_FILENO;
 use libc::STDIN_FILENO;
@@ -13,10 +15,11 @@ enum Step {
     Failed,
 }
 
-// One read into a buffer from a place on.
+// One read into a buffer from a place on; the bytes before it stay.
 fn read_some(buf: &mut [u8], from: usize) -> Step
     requires { ⌜ from ≤ length (now buf) ⌝ }
     ensures { λ r. ⌜ Inside from (length (now (buf .entry))) r ⌝ }
+    ensures { λ _. ⌜ take from (now (buf .exit)) ≡ take from (now (buf .entry)) ⌝ }
 {
     let got = libc::read(STDIN_FILENO, &mut buf[from..]);
     if got < 0 {
@@ -86,15 +89,22 @@ fn report(text: &[u8]) {
     io::write_all(STDERR_FILENO, text);
 }
 
+// The one place that writes to standard output: what it is handed is the listing of the file.
+fn write_listing(file: &[u8], bytes: &[u8])
+    requires { ⌜ now bytes ≡ listingOf (now file) ⌝ }
+{
+    if !io::write_all(STDOUT_FILENO, bytes) {
+        report(b"register: the listing could not be written\n");
+    }
+}
+
 // The listing of the first n bytes read, which decide the whole file.
 fn print_listing(text: [u8; 65536], n: usize)
     requires { ⌜ n ≤ 65536 ⌝ }
 {
     let mut out = [0u8; 32768];
     let k = listing::listing(&text[..n], &mut out);
-    if !io::write_all(STDOUT_FILENO, &out[..k]) {
-        report(b"register: the listing could not be written\n");
-    }
+    write_listing(&text[..n], &out[..k]);
 }
 
 fn main() {

@@ -1,6 +1,7 @@
+use native.Mathlib.Omega.{arith}
 use Rattle.integer.proofs.Machine.{read}
 use borrow.Author.Needs.{needs}
-use Rattle.line.proofs.Whole.{decided-long, decided-none, decided-form}
+use Rattle.line.proofs.Whole.{decided-none, decided-form}
 use Rattle.line.proofs.decide.Statement.{statement}
 use Rattle.line.proofs.decide.Tie as tie
 
@@ -8,13 +9,9 @@ refuse-requires : tie.Need-refuse-requires
 refuse-requires c κs = search needs
 
 returns : tie.Need-returns
-returns c = decided-long _ _ _ _ _ _ (c .before .if1 .taken) (c .refuse .ensures)
-
-refuse-requires-2 : tie.Need-refuse-requires-2
-refuse-requires-2 c κs = search needs
-
-returns-2 : tie.Need-returns-2
-returns-2 c = decided-none _ _ _ _ _ _ (c .before .before .if1 .left) (c .before .if2 .taken) (c .refuse2 .ensures)
+returns c =
+    let s = c .before .before .before in
+    decided-none (s .args .line .now) (s .args .head) (s .args .first) (s .args .second) (s .args .list) (s .args .end) (λ e. omega (arith, e, c .before .if1 .taken)) (c .refuse .ensures)
 
 form-of-requires : tie.Need-form-of-requires
 form-of-requires c κs = search needs
@@ -22,12 +19,12 @@ form-of-requires c κs = search needs
 numbers-of-requires : tie.Need-numbers-of-requires
 numbers-of-requires c κs = search needs
 
-returns-3 : tie.Need-returns-3
-returns-3 c =
+returns-2 : tie.Need-returns-2
+returns-2 c =
     let v = c .before .before in
     let i = v .before in
     let t = i .before .before in
-    decided-form _ _ _ _ _ _ (t .before .if1 .left) (t .if2 .left) (read _ (i .struct-told .given .0 .1)) (read _ (v .struct-told2 .given .0 .1)) (c .before .form-of .ensures) (c .numbers-of .ensures)
+    decided-form _ _ _ _ _ _ (t .if1 .left) (read _ (i .struct-told .given .0 .1)) (read _ (v .struct-told2 .given .0 .1)) (c .before .form-of .ensures) (c .numbers-of .ensures)
 
 pub decide-spec : {M : Type 1} → statement M
 decide-spec =
@@ -35,8 +32,6 @@ decide-spec =
     (tie.spec
     refuse-requires
     returns
-    refuse-requires-2
-    returns-2
     form-of-requires
     numbers-of-requires
-    returns-3)
+    returns-2)

@@ -14,7 +14,7 @@ abbrev μ-loop : tie.MeasureT-loop
 
 module _ (c : tie.After-known-told Inv-loop μ-loop) where
   inside : (0 < c .before .step .given .0 .0) × (c .before .before .before .before .before .before .before .before .loop .done + c .before .step .given .0 .0 ≤ length (c .before .before .before .before .before .before .before .before .loop .buf))
-  inside = rw (c .before .step .given .1) at (c .before .before .before .before .before .read-some .ensures)
+  inside = rw (c .before .step .given .1) at (c .before .before .before .before .before .read-some .ensures .0)
 
   same : length (c .before .before .before .before .before .read-some .last .0) ≡ length (c .before .before .before .before .before .before .before .before .loop .buf)
   same = search needs

@@ -9,6 +9,10 @@ use Rattle.register.proofs.print_listing.Tie as tie
 wide : (c : tie.Start) → length (c .args .t1) ≡ 65536
 wide c = search needs
 
+-- the bytes that were read are n
+handed : (c : tie.Start) → length (take (c .args .n) (c .args .t1)) ≡ c .args .n
+handed c = length-take-le _ _ (omega (arith, wide c, c .pre))
+
 -- the listing's length, as its contract gives it
 counted : (c : tie.After-listing) → c .listing .result ≡ length (take (c .listing .result) (c .listing .last .1 .0))
 counted c = c .listing .ensures .size ∙ sym (ap length (c .listing .ensures .bytes))
@@ -17,31 +21,28 @@ array-share-prefix-text : tie.Need-array-share-prefix-text
 array-share-prefix-text c = search needs
 
 slice-aggregate-listing : tie.Need-slice-aggregate-listing
-slice-aggregate-listing c = sym (length-take-le _ _ (omega (arith, wide (c .before), c .before .pre)))
+slice-aggregate-listing c = omega (arith, handed (c .before))
 
 listing-requires : tie.Need-listing-requires
 listing-requires c κs = search needs
 
+array-share-prefix-text-2 : tie.Need-array-share-prefix-text-2
+array-share-prefix-text-2 c = search needs
+
+slice-aggregate-write-listing : tie.Need-slice-aggregate-write-listing
+slice-aggregate-write-listing c = omega (arith, handed (c .before .before .before .before))
+
 array-share-prefix-out : tie.Need-array-share-prefix-out
-array-share-prefix-out c = omega (arith, counted c, length-take (c .listing .result) (c .listing .last .1 .0))
+array-share-prefix-out c = omega (arith, counted (c .before), length-take (c .before .listing .result) (c .before .listing .last .1 .0))
 
-slice-aggregate-write-all : tie.Need-slice-aggregate-write-all
-slice-aggregate-write-all c = counted (c .before)
+slice-aggregate-write-listing-2 : tie.Need-slice-aggregate-write-listing-2
+slice-aggregate-write-listing-2 c = counted (c .before .before)
 
-write-all-requires : tie.Need-write-all-requires
-write-all-requires c κs = search needs
-
-slice-aggregate-report : tie.Need-slice-aggregate-report
-slice-aggregate-report c = search needs
-
-report-requires : tie.Need-report-requires
-report-requires c κs = search needs
+write-listing-requires : tie.Need-write-listing-requires
+write-listing-requires c κs = search needs
 
 returns : tie.Need-returns
 returns c = search needs
-
-returns-2 : tie.Need-returns-2
-returns-2 c = search needs
 
 pub print-listing-spec : {M : Type 1} → statement M
 print-listing-spec =
@@ -50,10 +51,9 @@ print-listing-spec =
     array-share-prefix-text
     slice-aggregate-listing
     listing-requires
+    array-share-prefix-text-2
+    slice-aggregate-write-listing
     array-share-prefix-out
-    slice-aggregate-write-all
-    write-all-requires
-    slice-aggregate-report
-    report-requires
-    returns
-    returns-2)
+    slice-aggregate-write-listing-2
+    write-listing-requires
+    returns)

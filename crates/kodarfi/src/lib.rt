@@ -1,0 +1,104 @@
+// The functions that other languages link: total, over numbers and slices, with document 01's number as their result (include/kodarfi.h).
+ghost use mathlib.Core.Path.{_≡_};
+ghost use mathlib.Core.List.{[], _∷_};
+ghost use Rattle.rules.specs.Refusal.{said};
+ghost use Rattle.checker.specs.Input.{input};
+ghost use Rattle.refusal.specs.Refused.{printed};
+ghost use Rattle.refusal.specs.Reply.{replyOf};
+ghost use Rattle.kodarfi.specs.Exported.{CheckExported, ListingExported, EntryExported};
+use checker::check;
+use listing::Registered;
+use listing::answer_file;
+use listing::register_entry;
+use refusal::Reply;
+use refusal::no_refusal;
+use refusal::reply_of;
+use rules::Outcome;
+
+// What a check says; a refusal that gives its number alone leaves both places 0.
+fn outcome_reply(outcome: Outcome) -> Reply
+    ensures { λ r. ⌜ r ≡ replyOf (printed 0 (said outcome)) ⌝ }
+{
+    match outcome {
+        Outcome::Accepted => no_refusal(),
+        Outcome::Refused(refusal) => reply_of(refusal, 0),
+    }
+}
+
+// Writes the two places of a reply; gives its number.
+fn tell(reply: Reply, places: &mut [u64; 2]) -> u32
+    ensures { λ r. ⌜ (r ≡ reply .number) × (now (places .exit) ≡ reply .first ∷ reply .second ∷ []) ⌝ }
+{
+    *places = [reply.first, reply.second];
+    reply.number
+}
+
+// The check on lists: `checker::check`.
+#[no_mangle]
+pub extern "C" fn kodarfi_check(
+    n: u32,
+    s: u32,
+    t: u32,
+    matrix: &[i64],
+    right: &[i64],
+    guess: &[i64],
+    inverse: &[i64],
+    weights: &[i64],
+    solution_bounds: &mut [u64],
+    inverse_bounds: &mut [u64],
+    places: &mut [u64; 2],
+) -> u32
+    ensures { λ r. ⌜ CheckExported (input n s t (now (matrix .entry)) (now (right .entry)) (now (guess .entry)) (now (inverse .entry)) (now (weights .entry)) (now («solution_bounds» .entry)) (now («inverse_bounds» .entry))) r (now (places .exit)) (now («solution_bounds» .exit)) (now («inverse_bounds» .exit)) ⌝ }
+{
+    let outcome = check(
+        n,
+        s,
+        t,
+        matrix,
+        right,
+        guess,
+        inverse,
+        weights,
+        solution_bounds,
+        inverse_bounds,
+    );
+    tell(outcome_reply(outcome), places)
+}
+
+// The listing of a file, and what is said in it: `listing::answer_file`.
+#[no_mangle]
+pub extern "C" fn kodarfi_listing(
+    file: &[u8],
+    listing: &mut [u8; 32768],
+    written: &mut usize,
+    places: &mut [u64; 2],
+) -> u32
+    ensures { λ r. ⌜ ListingExported (now (file .entry)) (now (listing .entry)) r (now (places .exit)) (now (listing .exit)) (now (written .exit)) ⌝ }
+{
+    let answer = answer_file(file, listing);
+    *written = answer.length;
+    tell(answer.reply, places)
+}
+
+// The register entry of a guess and its limit: `listing::register_entry`.
+#[no_mangle]
+pub extern "C" fn kodarfi_entry(
+    guess: i64,
+    bound: u64,
+    s: u32,
+    value: &mut i64,
+    value_bound: &mut u64,
+    places: &mut [u64; 2],
+) -> u32
+    ensures { λ r. ⌜ EntryExported guess bound s (now (value .entry)) (now («value_bound» .entry)) r (now (places .exit)) (now (value .exit)) (now («value_bound» .exit)) ⌝ }
+{
+    let registered = register_entry(guess, bound, s);
+    match registered {
+        Registered::Entry(v, e) => {
+            *value = v;
+            *value_bound = e;
+            tell(no_refusal(), places)
+        }
+        Registered::Refused(refusal) => tell(reply_of(refusal, 0), places),
+    }
+}

@@ -1,0 +1,145 @@
+"""A folder laid out as the repository is, with the scripts to test, the built program and a stand-in for rt."""
+
+import os
+import shutil
+import signal
+import subprocess
+import tempfile
+from pathlib import Path
+
+ROOT = Path(__file__).resolve().parent.parent.parent
+PROGRAM = ROOT / "target" / "bin" / "register"
+SOURCE = "crates/register/src/main.rt"
+LONG_AGO = 1_000_000_000
+PATIENCE = 60
+
+# The stand-in for rt: tells each call, says so where two of them build at once, reads its input, and puts the program into place.
+RT = """#!/bin/sh
+[ "$1" = version ] && { echo kit-of-the-tests; exit; }
+echo "$*" >>calls
+mkdir building || echo "two at once" >>calls
+cat >/dev/null
+sleep 0.2
+echo "fn register::main: proved"
+echo "rt: integer proved (1 s)"
+mkdir -p target/bin
+[ ! -e changed-meanwhile ] || { touch crates/register/src/main.rt; rm changed-meanwhile; }
+cp program target/bin/register
+rmdir building
+[ ! -e broken ] || { echo "rt: register NOT PROVED"; exit 1; }
+echo "rt: register proved (1 s)"
+"""
+
+
+def shadowed_path(folder):
+    """The tools of this machine without rt: a folder that has rt is replaced by links to what else is in it."""
+    path = []
+    for number, entry in enumerate(filter(None, os.environ["PATH"].split(":"))):
+        if Path(entry, "rt").exists():
+            shadow = folder / f"tools-{number}"
+            shadow.mkdir()
+            for tool in Path(entry).iterdir():
+                if tool.name != "rt":
+                    (shadow / tool.name).symlink_to(tool.resolve())
+            entry = str(shadow)
+        path.append(entry)
+    return ":".join(path)
+
+
+class Room:
+    """`edits` are triples of a file, a text in it and another text for it."""
+
+    def __init__(self, edits=()):
+        self.outside = tempfile.TemporaryDirectory()
+        os.chmod(self.outside.name, 0o755)
+        self.root = Path(self.outside.name) / "the repository"
+        self.root.mkdir()
+        for name in ("register", "batch", "crates.txt", "README.md"):
+            shutil.copy(ROOT / name, self.root)
+        for name in ("docs", "examples", "crates/register/src"):
+            shutil.copytree(ROOT / name, self.root / name)
+        for name, old, new in edits:
+            text = (self.root / name).read_text()
+            if text.count(old) < 1:
+                raise ValueError(f"{name} has no text {old!r}")
+            (self.root / name).write_text(text.replace(old, new))
+        for place in self.root.rglob("*"):
+            os.utime(place, (LONG_AGO, LONG_AGO))
+        (self.root / "target" / "bin").mkdir(parents=True)
+        shutil.copy(PROGRAM, self.root / "program")
+        self.put_program()
+        (self.root / "with-rt").mkdir()
+        self.write("with-rt/rt", RT).chmod(0o755)
+        self.without_rt = shadowed_path(Path(self.outside.name))
+        self.with_rt = f"{self.root / 'with-rt'}:{self.without_rt}"
+
+    def __enter__(self):
+        return self
+
+    def __exit__(self, *_):
+        self.outside.cleanup()
+
+    def write(self, name, text):
+        path = self.root / name
+        path.parent.mkdir(parents=True, exist_ok=True)
+        path.write_bytes(text if isinstance(text, bytes) else text.encode())
+        return path
+
+    def put_program(self, script=None):
+        """The built program, or a script in its place."""
+        target = self.root / "target" / "bin" / "register"
+        if script is None:
+            shutil.copy(self.root / "program", target)
+        else:
+            target.write_text("#!/bin/sh\n" + script)
+        target.chmod(0o755)
+        return target
+
+    def calls(self):
+        """What rt was asked to do."""
+        path = self.root / "calls"
+        return path.read_text().splitlines() if path.exists() else []
+
+    def another_user(self):
+        """What makes a call one of a user without every right."""
+        if os.geteuid() != 0:
+            return {}
+        return {"user": 65534, "group": 65534, "extra_groups": []}
+
+    def start(self, *arguments, rt=True, script="register", **options):
+        """Starts a script of the room; signals are as a shell would have them."""
+        command = [str(self.root / script), *map(str, arguments)]
+        return self.started(command, rt, options)
+
+    def started(self, command, rt, options):
+        settings = {"cwd": self.root, "stdin": subprocess.DEVNULL, "stdout": subprocess.PIPE, "stderr": subprocess.PIPE} | options
+        environment = os.environ | {"PATH": self.with_rt if rt else self.without_rt, "LC_ALL": "C"}
+        default = lambda: signal.signal(signal.SIGPIPE, signal.SIG_DFL)
+        return subprocess.Popen(command, env=environment, preexec_fn=default, start_new_session=True, **settings)
+
+    def run(self, *arguments, text=None, **options):
+        """Status, standard output and standard error of a script that reads `text`, or nothing."""
+        if text is not None:
+            options["stdin"] = subprocess.PIPE
+        return ended(self.start(*arguments, **options), text)
+
+    def shell(self, command):
+        """The same of a command of bash, which may close what it likes."""
+        return ended(self.started(["bash", "-c", command], True, {}))
+
+
+def ended(process, text=None):
+    """Status, standard output and standard error."""
+    try:
+        out, err = process.communicate(text, timeout=PATIENCE)
+    except subprocess.TimeoutExpired:
+        os.killpg(process.pid, signal.SIGKILL)
+        process.communicate()
+        return None, b"", b"no answer"
+    return process.returncode, out or b"", err or b""
+
+
+def failed(answer, *words):
+    """Nothing could be judged: status 2, no listing, one line that has the words."""
+    status, out, err = answer
+    return status == 2 and out == b"" and err.count(b"\n") == 1 and all(word.encode() in err for word in words)
