@@ -1,19 +1,22 @@
 """The stored script of the program `samples` and its stored output (crates/samples/stdin and stdout), from the second implementation.
 
   python3 tests/store.py               writes both
-  python3 tests/store.py --check       compares them kind by kind, and tells a script that fills the program's buffer
+  python3 tests/store.py --check       compares them kind by kind, and runs the program on a script that fills its buffer: it prints nothing
   python3 tests/store.py --self-test   the output tells each wrong way of printing, meets every refusal, and a stored file changed in any kind is told
 
 The last line of the last two is 'N passed, M failed'."""
 
 import re
+import subprocess
 import sys
 from pathlib import Path
 
 from samples import files, lines, loader
 from samples.printing import WRONG, Printing
 
-FOLDER = Path(__file__).resolve().parent.parent / "crates" / "samples"
+ROOT = Path(__file__).resolve().parent.parent
+FOLDER = ROOT / "crates" / "samples"
+PROGRAM = ROOT / "target" / "bin" / "samples"
 # The program reads so many bytes, and runs no script that fills them.
 BUFFER = 131072
 KINDS = {"lines": lines, "loader": loader, "files": files}
@@ -62,9 +65,21 @@ def closed(failed, count):
     return int(bool(failed))
 
 
+def cut_faults(script):
+    """What is wrong with the program's run on a script that fills its buffer, and beside it on one that just does not."""
+    if not PROGRAM.is_file():
+        return ["there is no target/bin/samples: run the gate first"]
+    fills, fits = (script + b"\xfet" + b"x" * (length - len(script) - 3) + b"\xff" for length in (BUFFER, BUFFER - 1))
+    run = lambda text: subprocess.run([str(PROGRAM)], input=text, capture_output=True, timeout=60)
+    filled, fitted = run(fills), run(fits)
+    wrong = [] if filled.stdout == b"" and filled.stderr else ["a script that fills the buffer is run, or refused in silence"]
+    return wrong + ([] if fitted.stdout.endswith(b"x\n") else ["a script that does not fill the buffer is not run to its end"])
+
+
 def check():
     stored = [(FOLDER / name).read_bytes() if (FOLDER / name).is_file() else b"" for name in ("stdin", "stdout")]
-    return closed(list(faults(list(parts()), *stored)), 2 * len(KINDS) + 2)
+    failed = list(faults(list(parts()), *stored)) + cut_faults(stored[0])
+    return closed(failed, 2 * len(KINDS) + 4)
 
 
 def self_test():
