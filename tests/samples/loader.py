@@ -6,13 +6,14 @@ import random
 
 from cases_01 import CASES, whole_file
 from net import lines_of
+from second.lists import KINDS, check
 from second.loader import Loader
-from second.reckoning import Bounds, Problem, Reckoning
+from second.reckoning import Bounds, Problem
 from second.refusal import Refusal
 
 MARK = -7
 SHOWN = 10
-KINDS = (("matrix", "row"), ("right", "right"), ("guess", "guess"), ("inverse", "inverse"), ("weights", "weight"))
+NAMES = ("matrix", "right", "guess", "inverse", "weights")
 
 
 class Session:
@@ -42,7 +43,7 @@ class Session:
                 self.command(bytes([which]) + line, self.printing.refused(8))
 
     def show(self):
-        shown = [" ".join([name, *map(str, self.loader.lists[kind][:SHOWN])]) for name, kind in KINDS]
+        shown = [" ".join([name, *map(str, self.loader.lists[kind][:SHOWN])]) for name, kind in zip(NAMES, KINDS)]
         self.command(b"p", "\n".join(shown))
 
     def limits(self, outcome, solution, inverse):
@@ -54,10 +55,7 @@ class Session:
         return f"{self.printing.said(refusal)}{one}{self.printing.limits(bounds.solution, first)}{other}{self.printing.limits(flat, second)}"
 
     def reckoned(self, n, s, t):
-        """01: "A check on lists tests all ranges itself": of n, s and t, the lists being in theirs."""
-        if not (1 <= n <= 32 and 0 <= s <= 20 and 0 <= t <= 20):
-            return Refusal(3)
-        return Reckoning().check(Problem(n, s, t, *(self.loader.lists[kind] for _, kind in KINDS)))
+        return check(Problem(n, s, t, *(self.loader.lists[kind] for kind in KINDS)))
 
     def check(self):
         """A check through the loader, and one with a solution limit list that is too short."""

@@ -1,6 +1,5 @@
-/* Stands in for the proved library: the same check and register entry, by the versions in C, right or wrong in one of the ways. */
+/* Stands in for the proved check: by a version in C, right or wrong in one of the ways. */
 #include "native.h"
-#include "native_listing.h"
 #include "ways.h"
 
 #include <string.h>
@@ -39,28 +38,4 @@ uint32_t kodarfi_check(uint32_t n, uint32_t s, uint32_t t, const int64_t *matrix
         }
     }
     return 0;
-}
-
-/* An entry at a half, rounded the other way. */
-static void round_otherwise(int64_t guess, uint64_t bound, uint32_t s, int64_t *value, uint64_t *value_bound) {
-    const uint64_t S = (uint64_t)1 << s;
-    const bool is_half = s > 0 && 2 * (guess - *value * (int64_t)S) == (guess < 0 ? 1 : -1) * (int64_t)S;
-    if (is_half && guess > 0 && is_wrong(halves_toward_zero)) --*value;
-    if (is_half && guess < 0 && (is_wrong(halves_toward_zero) || is_wrong(halves_up))) ++*value;
-    if (is_wrong(bound_to_nearest)) *value_bound = (bound + S / 2) / S;
-    if (is_wrong(bound_rounded_down)) *value_bound = bound / S;
-}
-
-uint32_t kodarfi_entry(int64_t guess, uint64_t bound, uint32_t s, int64_t *value, uint64_t *value_bound, uint64_t places[2]) {
-    const int64_t large = (int64_t)1 << 36;
-    const uint64_t before = places[1];
-    if (is_wrong(scale_21_taken) && s == 21) s = 20;
-    if (is_wrong(guess_one_wider) && guess == large + 1) guess = large;
-    if (is_wrong(bound_one_wider) && bound == ((uint64_t)1 << 60) + 1) bound--;
-    const uint32_t number = native_entry(guess, bound, s, value, value_bound, places);
-    if (is_wrong(entry_places_left)) places[1] = before;
-    if (number == 0) round_otherwise(guess, bound, s, value, value_bound);
-    if (number != 0 && is_wrong(refused_entry_written)) *value = 0;
-    if (number != 0 && is_wrong(refused_bound_written)) *value_bound = 0;
-    return number;
 }
