@@ -1,7 +1,7 @@
--- Comparing |p_m| / g_m without products above 2^60: by quotients, then by remainders times the other margin.
+-- Comparing |p_m| / g_m without products above 2^60: by quotients, then by remainders times the other margin; cited by contracts inside.
 --   ratioOf m p g  — row m with the quotient and the remainder of p by g
 --   steeperOf a b  — b where its ratio is larger, else a
---   Narrow, Sized, Positive — what the sizes must be for the arithmetic to fit
+--   Narrow, Positive — what the sizes must be for the arithmetic to fit
 use mathlib.Core.Bool.{cond}
 use mathlib.Core.List.{List}
 use Prim.Native.Nat.{ℕ, _*_, _/_, _%_, _≤_, _<_, _^_}
@@ -21,10 +21,6 @@ steeperOf a b =
 pub record Narrow (a : Ratio) : Type 0 where
   pub low : a .remainder ≤ 2 ^ 30
   pub high : a .margin ≤ 2 ^ 30
-
--- n sizes of at most 2^50
-pub record Sized (sizes : List ℕ) (n : ℕ) : Type 0 where
-  pub most : (m : ℕ) → m < n → getD sizes m 0 ≤ 2 ^ 50
 
 -- n margins above 0 and at most 2^30
 pub record Positive (margins : List ℕ) (n : ℕ) : Type 0 where

@@ -6,23 +6,30 @@ ghost use lib.ListN.{length};
 ghost use Rattle.rules.specs.Range.{inRange};
 ghost use Rattle.rules.specs.Order.{verdict};
 ghost use Rattle.rules.specs.Refusal.{said};
-ghost use Rattle.checker.specs.Checked.{Checked};
-ghost use Rattle.checker.specs.Input.{input, anyShort, sizesInRange, listsInRange};
-ghost use Rattle.checker.specs.Order.{reckoned};
-ghost use Rattle.checker.specs.Ready.{Ready, Reckoned};
+ghost use Rattle.checked.specs.Checked.{Checked};
+ghost use Rattle.checked.specs.Input.{input, anyShort, sizesInRange, listsInRange};
+ghost use Rattle.checked.specs.Order.{reckoned};
+ghost use Rattle.checker.specs.Work.{work, Workable, ReckonedAs};
 use bounds::column_bounds;
 use bounds::store;
 use bounds::store_columns;
-use reckoning::first_large;
+use raised::ROWS_LENGTH;
+use raised::raise_rows;
+use reckoning::first_above;
+use reckoning::first_above_in_columns;
 use reckoning::first_zero;
 use reckoning::inverse_residuals_of;
 use reckoning::margins_of;
 use reckoning::residuals_of;
+use reckoning::scaled_right;
 use rules::Kind;
 use rules::Outcome;
 use rules::Refusal;
 use rules::all_in_range;
 use rules::is_in_range;
+
+// How large a residual may be (01: "each size at most 2^25 = 33,554,432").
+const ALLOWED_RESIDUAL: i64 = 33554432;
 
 // 8: whether a list of one of these lengths is too short.
 pub fn is_short(a: usize, b: usize, x: usize, g: usize, w: usize, e: usize, l: usize) -> bool
@@ -109,35 +116,39 @@ fn judge(n: usize, m: usize, k: usize, i: usize) -> Outcome
     Outcome::Accepted
 }
 
-// The reckoning of input that passes 8 and 3: all refusals are decided before the first limit is written.
-fn check_ready(
+// The reckoning of what passes 8 and 3, from a base of the residuals, what is allowed of them and their slacks: all refusals are decided before
+// the first limit is written.
+fn reckon(
     n: usize,
-    s: u32,
     t: u32,
     matrix: &[i64],
-    right: &[i64],
+    base: [i64; 32],
+    allowed: [i64; 32],
+    slacks: [u64; 32],
     guess: &[i64],
     inverse: &[i64],
     weights: &[i64],
     solution_bounds: &mut [u64],
     inverse_bounds: &mut [u64],
 ) -> Outcome
-    requires { ⌜ Ready (input n s t (now matrix) (now right) (now guess) (now inverse) (now weights) (now «solution_bounds») (now «inverse_bounds»)) ⌝ }
-    ensures { λ r. ⌜ Reckoned (input n s t (now (matrix .entry)) (now (right .entry)) (now (guess .entry)) (now (inverse .entry)) (now (weights .entry)) (now («solution_bounds» .entry)) (now («inverse_bounds» .entry))) r (now («solution_bounds» .exit)) (now («inverse_bounds» .exit)) ⌝ }
+    requires { ⌜ Workable (work n t (now matrix) base allowed slacks (now guess) (now inverse) (now weights) (now «solution_bounds») (now «inverse_bounds»)) ⌝ }
+    ensures { λ r. ⌜ ReckonedAs (work n t (now (matrix .entry)) base allowed slacks (now (guess .entry)) (now (inverse .entry)) (now (weights .entry)) (now («solution_bounds» .entry)) (now («inverse_bounds» .entry))) r (now («solution_bounds» .exit)) (now («inverse_bounds» .exit)) ⌝ }
 {
-    let margins = margins_of(t, matrix, inverse, weights, n);
-    let residuals = residuals_of(s, matrix, right, guess, n);
+    let mut rows = [0u64; ROWS_LENGTH];
+    raise_rows(&mut rows, inverse, n, 1, n);
+    let margins = margins_of(t, &rows, matrix, weights, n);
+    let residuals = residuals_of(base, matrix, guess, n);
     let columns = inverse_residuals_of(t, matrix, inverse, n);
     let m = first_zero(margins, n);
-    let k = first_large(&residuals, n);
-    let i = first_large(&columns, n * n);
+    let k = first_above(&residuals, 0, &allowed, n);
+    let i = first_above_in_columns(&columns, &[ALLOWED_RESIDUAL; 32], n);
     let outcome = judge(n, m, k, i);
     match outcome {
         Outcome::Refused(refusal) => Outcome::Refused(refusal),
         Outcome::Accepted => {
-            let column = column_bounds(inverse, &residuals, 0, margins, weights, n);
+            let column = column_bounds(&rows, residuals, slacks, margins, weights, n);
             store(solution_bounds, 0, 1, column, n);
-            store_columns(inverse_bounds, inverse, &columns, margins, weights, n);
+            store_columns(inverse_bounds, &rows, &columns, margins, weights, n);
             Outcome::Accepted
         }
     }
@@ -172,12 +183,13 @@ pub fn check(
     if are_sizes_in_range(n, s, t) {
         let size = n as usize;
         if are_lists_in_range(size, matrix, right, guess, inverse, weights) {
-            return check_ready(
+            return reckon(
                 size,
-                s,
                 t,
                 matrix,
-                right,
+                scaled_right(s, right, size),
+                [ALLOWED_RESIDUAL; 32],
+                [0u64; 32],
                 guess,
                 inverse,
                 weights,

@@ -24,10 +24,10 @@ use Rattle.items.specs.declared.Part.{Part}
 use Rattle.items.specs.declared.Part.the-variants.{Row, Right, Guess, Inverse, Weight}
 use Rattle.items.proofs.Lists.{Long, long}
 use Rattle.progress.specs.Progress.{ended}
-use Rattle.checker.specs.Input.{Input, input, problem, inRanges}
-use Rattle.checker.specs.Input as checker
-use Rattle.checker.specs.Order.{reckoned, firstMargin, firstResidual, firstInversePlace}
-use Rattle.checker.proofs.Contract.{answer-ready}
+use Rattle.checked.specs.Input.{Input, input, problem, inRanges}
+use Rattle.checked.specs.Input as checker
+use Rattle.checked.specs.Order.{reckoned, firstMargin, firstResidual, firstInversePlace}
+use Rattle.checked.proofs.Contract.{answer-ready}
 use Rattle.loader.specs.Through.{answerThrough}
 use Rattle.loader.proofs.Accepted.{accepted-form}
 use Rattle.loader.proofs.Through.{answer-ended}

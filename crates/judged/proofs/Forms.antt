@@ -14,9 +14,9 @@ use Rattle.rules.proofs.AllInRange.{all-at}
 use Rattle.rules.proofs.Ranges.{both, size-range, inverse-scale-range, weight-range}
 use Rattle.linear.specs.Slice.{at, vectorOf, matrixOf}
 use Rattle.enclosure.specs.Problem.{Problem}
-use Rattle.checker.specs.Input.{Input, input, problem, short, inRanges}
-use Rattle.checker.specs.Order.{answer, checkedOf}
-use Rattle.checker.proofs.Contract.{answer-ready}
+use Rattle.checked.specs.Input.{Input, input, problem, short, inRanges}
+use Rattle.checked.specs.Order.{answer, checkedOf}
+use Rattle.checked.proofs.Contract.{answer-ready}
 use Rattle.form.specs.Form.{Form}
 use Rattle.items.specs.Put.{width}
 use Rattle.items.specs.declared.Part.{Part}
@@ -26,7 +26,8 @@ use Rattle.collected.specs.Holds.{valueFrom, InRange}
 use Rattle.collected.proofs.End.{FromForms}
 use Rattle.judged.specs.Problem.{problemFrom}
 use Rattle.judged.specs.Judged.{reportedOf}
-use Rattle.judged.proofs.Agreed.{checked-same, reported-same}
+use Rattle.checked.proofs.Agreement.{checked-same}
+use Rattle.judged.proofs.Agreed.{reported-same}
 
 -- what a loader and its lists hand to a check
 abbrev pub inputAt : State → List ℕ → List ℕ → Input

@@ -1,4 +1,3 @@
 pub mod Agreed
 pub mod Forms
-pub mod Largest
 pub mod Shown

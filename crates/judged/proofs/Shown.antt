@@ -15,16 +15,16 @@ use Rattle.rules.specs.declared.Outcome.the-variants.{Accepted, Refused}
 use Rattle.rules.specs.declared.Refusal.{Refusal}
 use Rattle.rules.proofs.Verdicts.{accepted-new, nothing-is-not}
 use Rattle.linear.specs.Slice.{at}
-use Rattle.linear.proofs.Places.{place, square}
-use Rattle.reckoning.proofs.Columns.{place-column, place-row}
+use Rattle.linear.proofs.Places.{place, square, place-column, place-row}
 use Rattle.enclosure.specs.Reckoning.{bound, inverseBound}
-use Rattle.checker.specs.Checked.{written}
-use Rattle.checker.specs.Input.{Input, problem, short}
-use Rattle.checker.specs.Order.{answer, checkedOf}
-use Rattle.checker.specs.Ready as check
-use Rattle.checker.proofs.Contract.{ready-of, answer-ready}
-use Rattle.checker.proofs.Statements.{accepted-usable}
-use Rattle.checker.proofs.Written.{written-at, written-length}
+use Rattle.checked.specs.Checked.{written}
+use Rattle.checked.specs.Input.{Input, problem, short}
+use Rattle.checked.specs.Order.{answer, checkedOf}
+use Rattle.checked.proofs.Contract.{answer-ready}
+use Rattle.checked.proofs.Fit.{Fit, fit-of}
+use Rattle.checked.proofs.Largest.{solution-size}
+use Rattle.checked.proofs.Statements.{accepted-usable}
+use Rattle.checked.proofs.Written.{written-at, written-length}
 use Rattle.progress.specs.Progress.{ended}
 use Rattle.progress.specs.declared.Stage.{Stage}
 use Rattle.loader.specs.Through.{answerThrough, solutionBoundsThrough, inverseBoundsThrough, CheckedThrough}
@@ -38,7 +38,6 @@ use Rattle.refusal.specs.declared.Answer.{Answer}
 use Rattle.judged.specs.Judged.{reportedOf, lineOr}
 use Rattle.judged.specs.Shown.{shownBy}
 use Rattle.judged.proofs.Agreed.{report-same}
-use Rattle.judged.proofs.Largest.{solution-size}
 
 module _ (s : Stage) (I : Input) where
   open-said : ended s ≡ false → answerThrough s I ≡ [] → ⊥
@@ -69,8 +68,8 @@ module _ (s : Stage) (I : Input) where
     quiet : answerThrough s I ≡ []
     quiet = sym (c .says) ∙ ap said e
 
-    ready : check.Ready I
-    ready = let u = accepted-usable I (nothing-said quiet) in ready-of I (u .long) (u .inside)
+    ready : Fit I
+    ready = let u = accepted-usable I (nothing-said quiet) in fit-of I (u .long) (u .inside)
 
     reckoned-quiet : checkedOf (problem I) ≡ []
     reckoned-quiet = let u = accepted-usable I (nothing-said quiet) in sym (answer-ready I (u .long) (u .inside)) ∙ nothing-said quiet

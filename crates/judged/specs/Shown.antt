@@ -2,7 +2,7 @@
 --   shownBy s I — the line of the refusal, or the report; s is how far the loader has come
 use mathlib.Core.List.{List}
 use Prim.Native.Nat.{ℕ}
-use Rattle.checker.specs.Input.{Input, problem}
+use Rattle.checked.specs.Input.{Input, problem}
 use Rattle.progress.specs.declared.Stage.{Stage}
 use Rattle.loader.specs.Through.{answerThrough}
 use Rattle.refusal.specs.Refused.{printed}

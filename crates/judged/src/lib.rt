@@ -1,7 +1,7 @@
 // The check of a file whose lines are all accepted: what it says, as a line, or the report.
 ghost use Prim.Native.Nat.{_≤_};
 ghost use lib.ListN.{length, replicate};
-ghost use Rattle.checker.specs.Input.{input};
+ghost use Rattle.checked.specs.Input.{input};
 ghost use Rattle.loader.specs.Through.{answerThrough};
 ghost use Rattle.refusal.specs.Refused.{printed};
 ghost use Rattle.refusal.specs.Reply.{Answered};

@@ -20,8 +20,8 @@ use Rattle.rules.specs.declared.Refusal.the-variants.{TooLong, NoForm, OutOfRan
 use Rattle.rules.proofs.Verdicts.{accepted-new, accepted-old}
 use Rattle.enclosure.specs.Reckoning.{bound, inverseBound}
 use Rattle.enclosure.specs.Demand.{Encloses, RoundedExact}
-use Rattle.checker.specs.Input.{Input, problem, short, inRanges}
-use Rattle.checker.specs.Order.{answer}
+use Rattle.checked.specs.Input.{Input, problem, short, inRanges}
+use Rattle.checked.specs.Order.{answer}
 use Rattle.report.specs.Entry.{entryValue, entryBound}
 use Rattle.judged.specs.Judged.{reportedOf}
 use Rattle.listing.specs.Register as entry

@@ -12,8 +12,8 @@ use lib.IntN.{ℤ}
 use Rattle.rules.specs.Order.{accepted}
 use Rattle.rules.specs.Refusal.{said}
 use Rattle.rules.specs.declared.Outcome.{Outcome}
-use Rattle.checker.specs.Input.{Input}
-use Rattle.checker.specs.Checked.{Checked}
+use Rattle.checked.specs.Input.{Input}
+use Rattle.checked.specs.Checked.{Checked}
 use Rattle.report.specs.Entry.{entryValue, entryBound}
 use Rattle.listing.specs.Listing.{answerOf, Listed}
 use Rattle.listing.specs.Register.{RegisteredAs}

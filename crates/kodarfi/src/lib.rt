@@ -2,7 +2,7 @@
 ghost use mathlib.Core.Path.{_≡_};
 ghost use mathlib.Core.List.{[], _∷_};
 ghost use Rattle.rules.specs.Refusal.{said};
-ghost use Rattle.checker.specs.Input.{input};
+ghost use Rattle.checked.specs.Input.{input};
 ghost use Rattle.refusal.specs.Refused.{printed};
 ghost use Rattle.refusal.specs.Reply.{replyOf};
 ghost use Rattle.kodarfi.specs.Exported.{CheckExported, ListingExported, EntryExported};

@@ -10,7 +10,7 @@ use lib.Dec.{ltb}
 use lib.ListN.{getD}
 use Rattle.rules.specs.Order.{verdict, accepted}
 use Rattle.enclosure.specs.Problem.{Problem}
-use Rattle.checker.specs.Order.{firstMargin, firstResidual, firstInversePlace, reckoned, checkedOf}
+use Rattle.checked.specs.Order.{firstMargin, firstResidual, firstInversePlace, reckoned, checkedOf}
 use Rattle.items.specs.Lists.{Lists, short}
 use Rattle.loader.specs.declared.Loader.{Loader}
 use Rattle.loader.specs.Order.{Case, order, caseOf, answer}

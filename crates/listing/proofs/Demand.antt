@@ -13,8 +13,8 @@ use Rattle.enclosure.specs.Reckoning.{bound, inverseBound}
 use Rattle.enclosure.specs.Demand.{Encloses, RoundedExact}
 use Rattle.enclosure.proofs.Acceptance.{rounded-sound}
 use Rattle.enclosure.proofs.Demands.{encloses}
-use Rattle.checker.specs.Order.{checkedOf}
-use Rattle.checker.proofs.Contract.{sound-said, said-sound}
+use Rattle.checked.specs.Order.{checkedOf}
+use Rattle.checked.proofs.Contract.{sound-said, said-sound}
 use Rattle.collected.specs.Run.{forms}
 use Rattle.progress.specs.Progress.{ended}
 use Rattle.refusal.specs.Refused.{printed}

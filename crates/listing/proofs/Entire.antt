@@ -14,8 +14,8 @@ use lib.Seq.{sets-eq, take-at, drop-at}
 use Rattle.rules.specs.Refusal.{said, numberOf, valuesOf}
 use Rattle.rules.specs.declared.Outcome.the-variants.{Accepted, Refused}
 use Rattle.rules.specs.declared.Refusal.{Refusal}
-use Rattle.checker.specs.Order.{checkedOf}
-use Rattle.checker.specs.Input.{Input, problem, anyShort, short}
+use Rattle.checked.specs.Order.{checkedOf}
+use Rattle.checked.specs.Input.{Input, problem, anyShort, short}
 use Rattle.items.specs.Lists.{Lists}
 use Rattle.progress.specs.Progress.{ended}
 use Rattle.loader.specs.declared.Loader.{Loader}

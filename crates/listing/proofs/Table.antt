@@ -7,9 +7,9 @@ use Rattle.integer.specs.Finite.{sum, sumℕ, largest, first}
 use Rattle.integer.specs.Quotient.{ceilDiv, roundDiv}
 use Rattle.linear.specs.Matrix.{apply, product, identity}
 use Rattle.rules.specs.Range.{ranges, rangeOf, inRange, allInRange}
-use Rattle.enclosure.specs.Reckoning.{defect, load, margin, residual, image, sizes, boundFrom, bound}
-use Rattle.checker.specs.Checked.{written, solutionBoundsAfter, inverseBoundsAfter}
-use Rattle.checker.specs.Order as check
+use Rattle.enclosure.specs.Reckoning.{defect, load, margin, residual, exceeds, sizesWith, boundFrom, boundWith, bound}
+use Rattle.checked.specs.Checked.{written, solutionBoundsAfter, inverseBoundsAfter}
+use Rattle.checked.specs.Order as check
 use Rattle.numeral.specs.Decimal.{digits, decimal, numeral}
 use Rattle.numeral.specs.Numeral.{runAt, sizeAt, numberAt}
 use Rattle.form.specs.List.{allInside}
@@ -28,9 +28,9 @@ use Rattle.listing.specs.Cases.{cases, allHold, wholeFile, wholeListing}
 use Rattle.listing.specs.Listing.{zeros, answerOf, listingOf}
 
 pub cases-hold : allHold cases ≡ true
-unfolding check.answer solutionBoundsAfter inverseBoundsAfter written bound boundFrom sizes image residual margin load defect product apply identity sum sumℕ largest first ceilDiv roundDiv allInRange inRange rangeOf ranges
+unfolding check.answer solutionBoundsAfter inverseBoundsAfter written bound boundWith boundFrom sizesWith exceeds residual margin load defect product apply identity sum sumℕ largest first ceilDiv roundDiv allInRange inRange rangeOf ranges
 cases-hold = refl
 
 pub whole-file : listingOf wholeFile ≡ wholeListing
-unfolding listingOf answerOf zeros linesOf readFrom loader.answer loaderAfter listsAfter missing misplaced withPlace lacking forms valueFrom sizeFrom scalesFrom reading starts wordAt orWord firstOf headAt othersAt allInside runAt sizeAt numberAt digits decimal numeral each reportOf bound boundFrom sizes image residual margin load defect product apply identity sum sumℕ largest first ceilDiv roundDiv inRange rangeOf ranges
+unfolding listingOf answerOf zeros linesOf readFrom loader.answer loaderAfter listsAfter missing misplaced withPlace lacking forms valueFrom sizeFrom scalesFrom reading starts wordAt orWord firstOf headAt othersAt allInside runAt sizeAt numberAt digits decimal numeral each reportOf bound boundWith boundFrom sizesWith exceeds residual margin load defect product apply identity sum sumℕ largest first ceilDiv roundDiv inRange rangeOf ranges
 whole-file = refl

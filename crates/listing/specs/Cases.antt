@@ -7,7 +7,7 @@ use mathlib.Core.List.{List, [], _∷_, _++_, map}
 use Prim.Native.Nat.{ℕ}
 use lib.Dec.{eqb}
 use lib.IntN.{ℤ, pos, negsuc}
-use Rattle.checker.specs.Cases as check
+use Rattle.checked.specs.Cases as check
 use Rattle.form.specs.Form.{bytes}
 use Rattle.report.specs.Entry.{entryValue}
 

@@ -14,7 +14,7 @@ use Prim.Native.Nat.{ℕ, _≤_}
 use lib.IntN.{pos}
 use lib.ListN.{length, take, drop, replicate}
 use Rattle.enclosure.specs.Problem.{Problem}
-use Rattle.checker.specs.Order.{checkedOf}
+use Rattle.checked.specs.Order.{checkedOf}
 use Rattle.items.specs.Lists.{Lists, lists}
 use Rattle.rules.specs.Order.{accepted}
 use Rattle.progress.specs.Progress.{ended}

@@ -17,9 +17,9 @@ use Rattle.rules.specs.declared.Refusal.{Refusal}
 use Rattle.rules.specs.declared.Refusal.the-variants.{TooShort, NotEnded}
 use Rattle.rules.proofs.Verdicts.{nothing-is-not}
 use Rattle.rules.proofs.Tests.{None, said-exactly}
-use Rattle.checker.specs.Input.{Input, short, inRanges}
-use Rattle.checker.specs.Order.{answer}
-use Rattle.checker.specs.Checked.{Checked, solutionBoundsAfter, inverseBoundsAfter}
+use Rattle.checked.specs.Input.{Input, short, inRanges}
+use Rattle.checked.specs.Order.{answer}
+use Rattle.checked.specs.Checked.{Checked, solutionBoundsAfter, inverseBoundsAfter}
 use Rattle.progress.specs.Progress.{ended}
 use Rattle.progress.specs.declared.Stage.{Stage}
 use Rattle.loader.specs.Through.{orderThrough, answerThrough, solutionBoundsThrough, inverseBoundsThrough, CheckedThrough}

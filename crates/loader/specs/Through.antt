@@ -12,9 +12,9 @@ use Rattle.rules.specs.Refusal.{said}
 use Rattle.rules.specs.declared.Outcome.{Outcome}
 use Rattle.linear.specs.Matrix.{Vec, Mat}
 use Rattle.enclosure.specs.Demand.{Encloses, RoundedExact}
-use Rattle.checker.specs.Input.{Input, problem, short, inRanges}
-use Rattle.checker.specs.Order.{reckonedOf}
-use Rattle.checker.specs.Checked.{solutionAfter, inverseAfter}
+use Rattle.checked.specs.Input.{Input, problem, short, inRanges}
+use Rattle.checked.specs.Order.{reckonedOf}
+use Rattle.checked.specs.Checked.{solutionAfter, inverseAfter}
 use Rattle.progress.specs.Progress.{ended}
 use Rattle.progress.specs.declared.Stage.{Stage}
 

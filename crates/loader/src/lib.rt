@@ -3,7 +3,7 @@ ghost use mathlib.Core.Path.{_≡_};
 ghost use mathlib.Core.Bool.{true, false};
 ghost use lib.ListN.{length};
 ghost use Rattle.rules.specs.Refusal.{said};
-ghost use Rattle.checker.specs.Input.{input};
+ghost use Rattle.checked.specs.Input.{input};
 ghost use Rattle.items.specs.Lists.{lists, tooShort};
 ghost use Rattle.loader.specs.Taken.{fresh, after, TakenAs};
 ghost use Rattle.loader.specs.Through.{CheckedThrough};

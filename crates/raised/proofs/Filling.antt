@@ -1,7 +1,7 @@
--- Lines as they are filled.
---   Part  — k numbers of a line stand from place p on; nothing below p has changed
+-- RowsOf as they are filled.
+--   RowPart — k numbers of a row stand from place p on; nothing below p has changed
 --   part-none, part-more, part-end — at none, one number more, and with the sum after them;  part-whole — at the end;  part-sum — the sum so far
---   shows-kept — a line below a place that nothing below changes;  line-below, line-room — where lines end;  lines-none, lines-more, lines-end — for the loop over lines
+--   row-kept — a row below a place that nothing below changes;  row-below, rows-room — where rows end;  rows-none, rows-more, rows-end — for the loop over rows
 use mathlib.Core.List.{List}
 use mathlib.Core.Path.{_≡_, refl, sym, subst, _∙_}
 use Prim.Native.Nat.{ℕ, _+_, _*_, _≤_, _<_, _^_}
@@ -14,15 +14,15 @@ use lib.Seq.{getD-set-same, getD-set-other}
 use Rattle.integer.specs.Finite.{sumℕ}
 use Rattle.integer.proofs.Sum.{sumℕ-none, sumℕ-next, sumℕ-ext, sumℕ≤}
 use Rattle.linear.proofs.Places.{square}
-use Rattle.raised.specs.Raised.{lowered, Small, Shows, Lines, Kept}
+use Rattle.raised.specs.Raised.{lowered, Small, RowOf, RowsOf, Kept}
 
-pub record Part (before out : List ℕ) (p k : ℕ) (f : ℕ → ℤ) (sum : ℕ) : Type 0 where
+pub record RowPart (before out : List ℕ) (p k : ℕ) (f : ℕ → ℤ) (sum : ℕ) : Type 0 where
   pub kept : Kept before out p
   pub small : Small out p k
   pub each : (j : ℕ) → j < k → lowered (getD out (p + j) 0) ≡ f j
   pub total : sum ≡ sumℕ k (λ (j : ℕ). getD out (p + j) 0)
 
-pub part-none : (out : List ℕ) (p : ℕ) (f : ℕ → ℤ) → Part out out p 0 f 0
+pub part-none : (out : List ℕ) (p : ℕ) (f : ℕ → ℤ) → RowPart out out p 0 f 0
 part-none out p f = record {
   kept = record { long = refl; below = λ i l. refl };
   small = record { each = λ k l. absurd (omega arith) };
@@ -30,13 +30,13 @@ part-none out p f = record {
   total = sym (sumℕ-none _);
 }
 
-pub part-whole : {before out : List ℕ} {p i n sum : ℕ} {f : ℕ → ℤ} → i ≤ n → n ≤ i → Part before out p i f sum → Part before out p n f sum
-part-whole {before} {out} {p} {i} {n} {sum} {f} a b h = subst (λ (k : ℕ). Part before out p k f sum) (le-antisymm a b) h
+pub part-whole : {before out : List ℕ} {p i n sum : ℕ} {f : ℕ → ℤ} → i ≤ n → n ≤ i → RowPart before out p i f sum → RowPart before out p n f sum
+part-whole {before} {out} {p} {i} {n} {sum} {f} a b h = subst (λ (k : ℕ). RowPart before out p k f sum) (le-antisymm a b) h
 
-pub part-sum : {before out : List ℕ} {p k sum : ℕ} {f : ℕ → ℤ} → k ≤ 32 → Part before out p k f sum → sum ≤ 2 ^ 31
+pub part-sum : {before out : List ℕ} {p k sum : ℕ} {f : ℕ → ℤ} → k ≤ 32 → RowPart before out p k f sum → sum ≤ 2 ^ 31
 part-sum {before} {out} {p} {k} few h = omega (arith, h .total, sumℕ≤ k (2 ^ 26) (λ (j : ℕ). getD out (p + j) 0) (h .small .each), mul-le-mul-right (2 ^ 26) few)
 
-module _ {before out : List ℕ} {p k sum : ℕ} {f : ℕ → ℤ} (h : Part before out p k f sum) (inside : p + k < length out) where
+module _ {before out : List ℕ} {p k sum : ℕ} {f : ℕ → ℤ} (h : RowPart before out p k f sum) (inside : p + k < length out) where
   module _ (x : ℕ) where
     -- what stood before the place that is written
     same : (i : ℕ) → i < p + k → getD (set out (p + k) x) i 0 ≡ getD out i 0
@@ -51,7 +51,7 @@ module _ {before out : List ℕ} {p k sum : ℕ} {f : ℕ → ℤ} (h : Part bef
     here : getD (set out (p + k) x) (p + k) 0 ≡ x
     here = getD-set-same out (p + k) x 0 inside
 
-  more : (x : ℕ) → lowered x ≡ f k → x ≤ 2 ^ 26 → Part before (set out (p + k) x) p (k + 1) f (sum + x)
+  more : (x : ℕ) → lowered x ≡ f k → x ≤ 2 ^ 26 → RowPart before (set out (p + k) x) p (k + 1) f (sum + x)
   more x e s = record {
     kept = kept-more x;
     small = record { each = below-more (λ j. getD (set out (p + k) x) (p + j) 0 ≤ 2 ^ 26) k (λ j l. rw (same x (p + j) (omega arith)) (h .small .each j l)) (rw (here x) s) };
@@ -59,13 +59,13 @@ module _ {before out : List ℕ} {p k sum : ℕ} {f : ℕ → ℤ} (h : Part bef
     total = sym (sumℕ-next k _ ∙ rw (sum-same x, here x, h .total));
   }
 
-  pub part-more : {to : ℕ} → to ≡ p + k → (x : ℕ) → lowered x ≡ f k → x ≤ 2 ^ 26 → Part before (set out to x) p (k + 1) f (sum + x)
+  pub part-more : {to : ℕ} → to ≡ p + k → (x : ℕ) → lowered x ≡ f k → x ≤ 2 ^ 26 → RowPart before (set out to x) p (k + 1) f (sum + x)
   part-more e x = rw e (more x)
 
-  end : Shows (set out (p + k) sum) p k f × Kept before (set out (p + k) sum) p
+  end : RowOf (set out (p + k) sum) p k f × Kept before (set out (p + k) sum) p
   end = (
     record {
-      line = record {
+      row = record {
         inside = rw (length-set out (p + k) sum) inside;
         small = record { each = λ j l. rw (same sum (p + j) (omega arith)) (h .small .each j l) };
         total = here sum ∙ h .total ∙ sym (sum-same sum);
@@ -75,32 +75,32 @@ module _ {before out : List ℕ} {p k sum : ℕ} {f : ℕ → ℤ} (h : Part bef
     kept-more sum,
   )
 
-  pub part-end : {to : ℕ} → to ≡ p + k → Shows (set out to sum) p k f × Kept before (set out to sum) p
+  pub part-end : {to : ℕ} → to ≡ p + k → RowOf (set out to sum) p k f × Kept before (set out to sum) p
   part-end e = rw e end
 
--- ---- line after line
-pub shows-kept : {xs ys : List ℕ} {p q n : ℕ} {f : ℕ → ℤ} → Shows xs p n f → p + n < q → Kept xs ys q → Shows ys p n f
-shows-kept {xs} {ys} {p} {q} {n} h l k = record {
-  line = record {
-    inside = omega (arith, k .long, h .line .inside);
-    small = record { each = λ i m. rw (k .below (p + i) (omega arith)) (h .line .small .each i m) };
-    total = k .below (p + n) l ∙ h .line .total ∙ sumℕ-ext n _ _ (λ i m. sym (k .below (p + i) (omega arith)));
+-- ---- row after row
+pub row-kept : {xs ys : List ℕ} {p q n : ℕ} {f : ℕ → ℤ} → RowOf xs p n f → p + n < q → Kept xs ys q → RowOf ys p n f
+row-kept {xs} {ys} {p} {q} {n} h l k = record {
+  row = record {
+    inside = omega (arith, k .long, h .row .inside);
+    small = record { each = λ i m. rw (k .below (p + i) (omega arith)) (h .row .small .each i m) };
+    total = k .below (p + n) l ∙ h .row .total ∙ sumℕ-ext n _ _ (λ i m. sym (k .below (p + i) (omega arith)));
   };
   each = λ i m. rw (k .below (p + i) (omega arith)) (h .each i m);
 }
 
-pub line-below : {a i : ℕ} (n : ℕ) → a < i → a * (n + 1) + n < i * (n + 1)
-line-below n l = omega (arith, mul-le-mul-right (n + 1) l)
+pub row-below : {a i : ℕ} (n : ℕ) → a < i → a * (n + 1) + n < i * (n + 1)
+row-below n l = omega (arith, mul-le-mul-right (n + 1) l)
 
-pub line-room : {i n : ℕ} → i < n → n ≤ 32 → i * (n + 1) + n < 1056
-line-room {i} {n} l few = omega (arith, line-below n l, square few)
+pub rows-room : {i n : ℕ} → i < n → n ≤ 32 → i * (n + 1) + n < 1056
+rows-room {i} {n} l few = omega (arith, row-below n l, square few)
 
-pub lines-none : (xs : List ℕ) (n : ℕ) (f : ℕ → ℕ → ℤ) → Lines xs n 0 f
-lines-none xs n f = record { each = λ i l. absurd (omega arith) }
+pub rows-none : (xs : List ℕ) (n : ℕ) (f : ℕ → ℕ → ℤ) → RowsOf xs n 0 f
+rows-none xs n f = record { each = λ i l. absurd (omega arith) }
 
-pub lines-more : {xs ys : List ℕ} {n i : ℕ} {f : ℕ → ℕ → ℤ} → Lines xs n i f → Shows ys (i * (n + 1)) n (f i) × Kept xs ys (i * (n + 1)) → Lines ys n (i + 1) f
-lines-more {xs} {ys} {n} {i} {f} h s =
-    record { each = below-more (λ a. Shows ys (a * (n + 1)) n (f a)) i (λ a l. shows-kept (h .each a l) (line-below n l) (s .1)) (s .0) }
+pub rows-more : {xs ys : List ℕ} {n i : ℕ} {f : ℕ → ℕ → ℤ} → RowsOf xs n i f → RowOf ys (i * (n + 1)) n (f i) × Kept xs ys (i * (n + 1)) → RowsOf ys n (i + 1) f
+rows-more {xs} {ys} {n} {i} {f} h s =
+    record { each = below-more (λ a. RowOf ys (a * (n + 1)) n (f a)) i (λ a l. row-kept (h .each a l) (row-below n l) (s .1)) (s .0) }
 
-pub lines-end : {xs : List ℕ} {n i m : ℕ} {f : ℕ → ℕ → ℤ} → i ≤ m → m ≤ i → Lines xs n i f → Lines xs n m f
-lines-end {xs} {n} {i} {m} {f} a b h = subst (λ (k : ℕ). Lines xs n k f) (le-antisymm a b) h
+pub rows-end : {xs : List ℕ} {n i m : ℕ} {f : ℕ → ℕ → ℤ} → i ≤ m → m ≤ i → RowsOf xs n i f → RowsOf xs n m f
+rows-end {xs} {n} {i} {m} {f} a b h = subst (λ (k : ℕ). RowsOf xs n k f) (le-antisymm a b) h

@@ -7,15 +7,15 @@ use Rattle.integer.specs.Quotient.{ceilDiv}
 use Rattle.integer.proofs.Machine.{read}
 use Rattle.linear.specs.Slice.{at}
 use Rattle.enclosure.proofs.Bounds.{bound-at}
-use Rattle.reckoning.specs.Arrays.{Holds}
-use Rattle.reckoning.proofs.Filled.{holds-none, holds-more, holds-end, holds-as}
+use Rattle.reckoning.specs.Arrays.{Begins}
+use Rattle.reckoning.proofs.Filled.{begins-none, begins-more, begins-end, begins-as}
 use borrow.Author.Needs.{needs}
 use Rattle.bounds.proofs.bounds_of.Statement.{statement}
 use Rattle.bounds.proofs.bounds_of.Tie as tie
 
 abbrev Inv-loop : tie.InvT-loop
 Inv-loop sizes margins weights n k p g out₀ i₀ out i =
-    (i ≤ n) × ((length out ≡ 32) × Holds 0 out i (λ (j : ℕ). ceilDiv (natAbs (at weights j) * p) g))
+    (i ≤ n) × ((length out ≡ 32) × Begins 0 out i (λ (j : ℕ). ceilDiv (natAbs (at weights j) * p) g))
 
 abbrev μ-loop : tie.MeasureT-loop
 μ-loop sizes margins weights n k p g out₀ i₀ out i = n - i
@@ -36,7 +36,7 @@ element-copy-out-g : tie.Need-element-copy-out-g Inv-loop μ-loop
 element-copy-out-g c = omega (arith, c .before .steepest-of .ensures .below)
 
 loop-holds : tie.Need-loop-holds Inv-loop μ-loop
-loop-holds c = (omega arith, (refl, holds-none _ _ _))
+loop-holds c = (omega arith, (refl, begins-none _ _ _))
 
 mul-bound-of : tie.Need-mul-bound-of Inv-loop μ-loop
 mul-bound-of c = omega arith
@@ -66,14 +66,14 @@ loop-less c = search needs
 loop-again : tie.Need-loop-again Inv-loop μ-loop
 loop-again c =
     let l = c .before .before .before .loop in
-    (omega arith, (simp length-set (l .inv .1 .0), holds-more _ _ _ _ _ (l .inv .1 .1) (omega arith) (rw (read _ (c .before .bound-of-arg .given)) at (c .bound-of .ensures))))
+    (omega arith, (simp length-set (l .inv .1 .0), begins-more _ _ _ _ _ (l .inv .1 .1) (omega arith) (rw (read _ (c .before .bound-of-arg .given)) at (c .bound-of .ensures))))
 
 returns : tie.Need-returns Inv-loop μ-loop
 returns c =
     let s = c .before .before .before .before .before in
     let k = c .before .before .before .before .steepest-of .ensures in
-    holds-as 0 _ _ (λ i l. sym (bound-at _ _ _ (λ (j : ℕ). natAbs (at (s .args .weights .now) j)) i _ (s .pre .1 .1 .0 .above) k))
-    (holds-end 0 (c .before .loop .inv .0) (c .loop-test .left) (c .before .loop .inv .1 .1))
+    begins-as 0 _ _ (λ i l. sym (bound-at _ _ _ (λ (j : ℕ). natAbs (at (s .args .weights .now) j)) i _ (s .pre .1 .1 .0 .above) k))
+    (begins-end 0 (c .before .loop .inv .0) (c .loop-test .left) (c .before .loop .inv .1 .1))
 
 pub bounds-of-spec : {M : Type 1} → statement M
 bounds-of-spec =

@@ -6,7 +6,7 @@ use mir.Syntax.{w64}
 use mir.Val.{toZ}
 use Rattle.integer.proofs.Machine.{read}
 use Rattle.integer.proofs.Sum.{sum-none, sum-next, sum-end}
-use Rattle.linear.specs.Slice.{dotOf}
+use Rattle.linear.specs.Reach.{dotOf}
 use Rattle.linear.proofs.Places.{dot-fits}
 use borrow.Author.Needs.{needs}
 use Rattle.linear.proofs.dot.Statement.{statement}

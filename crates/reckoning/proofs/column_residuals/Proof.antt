@@ -2,9 +2,9 @@ use mathlib.Core.Path.{_≡_, sym, _∙_}
 use Prim.Native.Nat.{ℕ, _+_, _*_, _≤_, _-_}
 use native.Mathlib.Omega.{arith}
 use Rattle.integer.proofs.Machine.{read}
-use Rattle.raised.proofs.Filling.{line-room}
+use Rattle.raised.proofs.Filling.{rows-room}
 use Rattle.reckoning.specs.Arrays.{stored}
-use Rattle.reckoning.specs.Lines.{lineDifference}
+use Rattle.reckoning.specs.Rows.{rowDifference}
 use Rattle.reckoning.proofs.Filled.{stored-none, stored-more, stored-end}
 use Rattle.reckoning.proofs.Sizes.{unit-size, row-ends}
 use borrow.Author.Needs.{needs}
@@ -13,7 +13,7 @@ use Rattle.reckoning.proofs.column_residuals.Tie as tie
 
 abbrev Inv-loop : tie.InvT-loop
 Inv-loop out₀ t rows columns n j column place₀ row₀ k₀ out place row k =
-    (k ≤ n) × ((place ≡ j * n + k) × ((row ≡ k * (n + 1)) × (out ≡ stored out₀ (j * n) 1 (λ (i : ℕ). lineDifference n t rows columns i j) k)))
+    (k ≤ n) × ((place ≡ j * n + k) × ((row ≡ k * (n + 1)) × (out ≡ stored out₀ (j * n) 1 (λ (i : ℕ). rowDifference n t rows columns i j) k)))
 
 abbrev μ-loop : tie.MeasureT-loop
 μ-loop out₀ t rows columns n j column place₀ row₀ k₀ out place row k = n - k
@@ -22,7 +22,7 @@ add-column : tie.Need-add-column Inv-loop μ-loop
 add-column c = search needs
 
 mul-column : tie.Need-mul-column Inv-loop μ-loop
-mul-column c = let p = c .before .before .pre .0 in omega (arith, line-room (p .1 .1) (p .1 .0))
+mul-column c = let p = c .before .before .pre .0 in omega (arith, rows-room (p .1 .1) (p .1 .0))
 
 mul-place : tie.Need-mul-place Inv-loop μ-loop
 mul-place c = let p = c .before .before .pre .0 in omega (arith, row-ends (p .1 .1) (p .1 .0))
@@ -33,8 +33,8 @@ loop-holds c = (omega arith, (omega arith, (omega arith, sym (stored-none _ _ _ 
 unit-at-requires : tie.Need-unit-at-requires Inv-loop μ-loop
 unit-at-requires c κs = search needs
 
-line-difference-requires : tie.Need-line-difference-requires Inv-loop μ-loop
-line-difference-requires c κs =
+row-difference-requires : tie.Need-row-difference-requires Inv-loop μ-loop
+row-difference-requires c κs =
     let s = c .before .before .before .before .before in
     let l = c .before .before .loop in (
       (s .pre .0 .1 .0, rw (read _ (c .unit-at .ok), c .unit-at .ensures) (omega (arith, unit-size (s .args .t) (l .k) (s .args .j) (s .pre .0 .0)))),
@@ -56,7 +56,7 @@ add-row c = search needs
 add-row-2 : tie.Need-add-row-2 Inv-loop μ-loop
 add-row-2 c =
     let t = c .before .before in
-    omega (arith, t .before .loop .inv .1 .1 .0, line-room (t .loop-test .taken) (t .before .before .before .before .pre .0 .1 .0))
+    omega (arith, t .before .loop .inv .1 .1 .0, rows-room (t .loop-test .taken) (t .before .before .before .before .pre .0 .1 .0))
 
 add-k : tie.Need-add-k Inv-loop μ-loop
 add-k c = search needs
@@ -73,7 +73,7 @@ loop-again c =
         (
           omega arith,
           stored-more _ _ _ _ (l .k) (l .inv .1 .1 .1) (omega arith)
-              (read _ (c .line-difference .ok) ∙ (rw (read _ (c .before .unit-at .ok), c .before .unit-at .ensures, l .inv .1 .1 .0) at (c .line-difference .ensures))),
+              (read _ (c .row-difference .ok) ∙ (rw (read _ (c .before .unit-at .ok), c .before .unit-at .ensures, l .inv .1 .1 .0) at (c .row-difference .ensures))),
         ),
       ),
     )
@@ -92,7 +92,7 @@ column-residuals-spec =
     mul-place
     loop-holds
     unit-at-requires
-    line-difference-requires
+    row-difference-requires
     mul-t15
     element-set-from-out
     add-place

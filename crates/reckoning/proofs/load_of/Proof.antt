@@ -9,8 +9,8 @@ use Rattle.integer.specs.Finite.{sumℕ}
 use Rattle.integer.proofs.Machine.{read}
 use Rattle.integer.proofs.Sum.{sumℕ-none, sumℕ-next, sumℕ-end, sumℕ≤}
 use Rattle.linear.specs.Slice.{at}
-use Rattle.raised.proofs.Filling.{line-room}
-use Rattle.reckoning.specs.Lines.{lineDifference}
+use Rattle.raised.proofs.Filling.{rows-room}
+use Rattle.reckoning.specs.Rows.{rowDifference}
 use Rattle.reckoning.proofs.Sizes.{unit-size}
 use borrow.Author.Needs.{needs}
 use Rattle.reckoning.proofs.load_of.Statement.{statement}
@@ -18,22 +18,22 @@ use Rattle.reckoning.proofs.load_of.Tie as tie
 
 abbrev Inv-loop : tie.InvT-loop
 Inv-loop t rows columns weights n m row sum₀ column₀ j₀ sum column j =
-    (j ≤ n) × ((column ≡ j * (n + 1)) × (sum ≡ sumℕ j (λ (k : ℕ). natAbs (lineDifference n t rows columns m k) * natAbs (at weights k))))
+    (j ≤ n) × ((column ≡ j * (n + 1)) × (sum ≡ sumℕ j (λ (k : ℕ). natAbs (rowDifference n t rows columns m k) * natAbs (at weights k))))
 
 abbrev μ-loop : tie.MeasureT-loop
 μ-loop t rows columns weights n m row sum₀ column₀ j₀ sum column j = n - j
 
 sized : (s : tie.Start Inv-loop μ-loop) (j : ℕ) → j < s .args .n →
-    natAbs (lineDifference (s .args .n) (s .args .t) (s .args .rows .now) (s .args .columns .now) (s .args .m) j) * natAbs (at (s .args .weights .now) j) ≤ 2 ^ 56
+    natAbs (rowDifference (s .args .n) (s .args .t) (s .args .rows .now) (s .args .columns .now) (s .args .m) j) * natAbs (at (s .args .weights .now) j) ≤ 2 ^ 56
 sized s j l = mul-le-mul (s .pre .1 .1 .0 j l) (s .pre .1 .1 .1 .within .size j l)
 
--- what the call of `line_difference` gives
-module _ (c : tie.After-line-difference Inv-loop μ-loop) where
-  difference-here : toZ w64 (ofZ w64 (c .line-difference .result)) ≡
-      lineDifference (c .before .before .before .before .before .before .args .n) (c .before .before .before .before .before .before .args .t) (c .before .before .before .before .before .before .args .rows .now) (c .before .before .before .before .before .before .args .columns .now) (c .before .before .before .before .before .before .args .m) (c .before .before .before .loop .j)
+-- what the call of `row_difference` gives
+module _ (c : tie.After-row-difference Inv-loop μ-loop) where
+  difference-here : toZ w64 (ofZ w64 (c .row-difference .result)) ≡
+      rowDifference (c .before .before .before .before .before .before .args .n) (c .before .before .before .before .before .before .args .t) (c .before .before .before .before .before .before .args .rows .now) (c .before .before .before .before .before .before .args .columns .now) (c .before .before .before .before .before .before .args .m) (c .before .before .before .loop .j)
   difference-here =
       let s = c .before .before .before .before .before .before in
-      read _ (c .line-difference .ok) ∙ (rw (read _ (c .before .unit-at .ok), c .before .unit-at .ensures, s .pre .0 .1 .1 .1, c .before .before .before .loop .inv .1 .0) at (c .line-difference .ensures))
+      read _ (c .row-difference .ok) ∙ (rw (read _ (c .before .unit-at .ok), c .before .unit-at .ensures, s .pre .0 .1 .1 .1, c .before .before .before .loop .inv .1 .0) at (c .row-difference .ensures))
 
 loop-holds : tie.Need-loop-holds Inv-loop μ-loop
 loop-holds c = (omega arith, (omega arith, sym (sumℕ-none _)))
@@ -41,8 +41,8 @@ loop-holds c = (omega arith, (omega arith, sym (sumℕ-none _)))
 unit-at-requires : tie.Need-unit-at-requires Inv-loop μ-loop
 unit-at-requires c κs = search needs
 
-line-difference-requires : tie.Need-line-difference-requires Inv-loop μ-loop
-line-difference-requires c κs =
+row-difference-requires : tie.Need-row-difference-requires Inv-loop μ-loop
+row-difference-requires c κs =
     let s = c .before .before .before .before .before in
     let l = c .before .before .loop in (
       (s .pre .0 .1 .0, rw (read _ (c .unit-at .ok), c .unit-at .ensures) (omega (arith, unit-size (s .args .t) (s .args .m) (l .j) (s .pre .0 .0)))),
@@ -70,7 +70,7 @@ add-column c = search needs
 add-column-2 : tie.Need-add-column-2 Inv-loop μ-loop
 add-column-2 c =
     let t = c .before .before .before .before in
-    omega (arith, t .before .loop .inv .1 .0, line-room (t .loop-test .taken) (t .before .before .before .before .pre .0 .1 .0))
+    omega (arith, t .before .loop .inv .1 .0, rows-room (t .loop-test .taken) (t .before .before .before .before .pre .0 .1 .0))
 
 add-j : tie.Need-add-j Inv-loop μ-loop
 add-j c = search needs
@@ -98,7 +98,7 @@ load-of-spec =
     μ-loop
     loop-holds
     unit-at-requires
-    line-difference-requires
+    row-difference-requires
     mul-weigh
     shared-slice-copy-out-weigh
     weigh-requires

@@ -1,6 +1,6 @@
 use Rattle.loader.proofs.Through.{through-ended, through-short, through-open}
 use Rattle.progress.specs.Progress.{ended}
-use Rattle.checker.specs.Input.{Input, input}
+use Rattle.checked.specs.Input.{Input, input}
 use mathlib.Core.Bool.{false}
 use mathlib.Core.Path.{_≡_, sym, _∙_}
 use borrow.Author.Needs.{needs}

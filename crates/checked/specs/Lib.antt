@@ -1,0 +1,6 @@
+pub mod Input
+pub mod Order
+pub mod Checked
+pub mod Stated
+pub mod Cases
+pub mod Before
