@@ -19,8 +19,8 @@ use Rattle.linear.specs.Slice.{at}
 use Rattle.linear.specs.Reach.{Reach, ColumnList}
 use Rattle.linear.proofs.Places.{place, list-reach}
 use Rattle.linear.proofs.Slack.{joint}
-use Rattle.raised.specs.Raised.{raisedBy, lowered, RaisedRow, RaisedRows, loweredRows, rowDot, RowOf}
-use Rattle.raised.proofs.Lowering.{lowered-size, row-dot-size, row-dot-shows, rows-themselves}
+use Rattle.raised_rows.specs.Raised.{raisedBy, lowered, RaisedRow, RaisedRows, loweredRows, rowDot, RowOf}
+use Rattle.raised_rows.proofs.Lowering.{lowered-size, row-dot-size, row-dot-shows, rows-themselves}
 use Rattle.enclosure.specs.Reckoning.{allowedResidual, sizesWith, boundFrom}
 use Rattle.enclosure.proofs.Bounds.{bound-ext}
 use Rattle.reckoning.specs.Arrays.{Begins, stored, storedColumns}

@@ -8,7 +8,7 @@ ghost use Rattle.integer.specs.Finite.{sumℕ, Steepest};
 ghost use Rattle.integer.specs.Quotient.{ceilDiv};
 ghost use Rattle.linear.specs.Slice.{at};
 ghost use Rattle.linear.specs.Reach.{ColumnList};
-ghost use Rattle.raised.specs.Raised.{raisedBy, lowered, RaisedRow, RaisedRows, loweredRows, rowDot};
+ghost use Rattle.raised_rows.specs.Raised.{raisedBy, lowered, RaisedRow, RaisedRows, loweredRows, rowDot};
 ghost use Rattle.enclosure.specs.Largest.{largestSize};
 ghost use Rattle.enclosure.specs.Reckoning.{allowedResidual, boundFrom};
 ghost use Rattle.reckoning.specs.Arrays.{Begins, stored, storedColumns};
@@ -17,12 +17,12 @@ ghost use Rattle.bounds.specs.Ratio.{ratioOf, steeperOf, Narrow, Positiv
 ghost use Rattle.bounds.specs.Limits.{Near, Sized, limitsOf};
 use integer::ceil_div;
 use integer::magnitude;
-use raised::ROWS_LENGTH;
-use raised::add_low;
-use raised::lowered_size;
-use raised::raise_row;
-use raised::raise_rows;
-use raised::row_dot;
+use raised_rows::ROWS_LENGTH;
+use raised_rows::add_low;
+use raised_rows::lowered_size;
+use raised_rows::raise_row;
+use raised_rows::raise_rows;
+use raised_rows::row_dot;
 
 // A row with the quotient and the remainder of |p_m| by its margin g_m.
 pub struct Ratio {

@@ -8,7 +8,7 @@ use lib.IntN.{ℤ, pos, natAbs}
 use lib.ListN.{getD}
 use Rattle.linear.specs.Slice.{at}
 use Rattle.linear.proofs.Places.{place, place-column, place-row}
-use Rattle.raised.specs.Raised.{RowsOf}
+use Rattle.raised_rows.specs.Raised.{RowsOf}
 use Rattle.enclosure.specs.Problem.{T, columnOf}
 use Rattle.enclosure.specs.Reckoning.{defect, load, margin, residual, slack, sizesWith, boundWith, bound, inverseBound}
 use Rattle.enclosure.proofs.Bounds.{bound-ext}

@@ -14,7 +14,7 @@ use Rattle.integer.specs.Finite.{first}
 use Rattle.linear.specs.Slice.{at}
 use Rattle.linear.specs.Reach.{ColumnList}
 use Rattle.linear.proofs.Places.{square}
-use Rattle.raised.specs.Raised.{RowsOf}
+use Rattle.raised_rows.specs.Raised.{RowsOf}
 use Rattle.rules.specs.Order.{verdict}
 use Rattle.rules.specs.Refusal.{said}
 use Rattle.rules.specs.declared.Outcome.{Outcome}

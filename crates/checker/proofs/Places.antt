@@ -15,7 +15,7 @@ use Rattle.integer.specs.Finite.{first}
 use Rattle.integer.proofs.Search.{first-ext, first-past}
 use Rattle.linear.specs.Slice.{at}
 use Rattle.linear.specs.Reach.{ColumnList}
-use Rattle.raised.specs.Raised.{RowsOf}
+use Rattle.raised_rows.specs.Raised.{RowsOf}
 use Rattle.enclosure.specs.Problem.{T, columnOf}
 use Rattle.enclosure.specs.Reckoning.{load, marginFails, residual, allowedResidual, exceeds}
 use Rattle.enclosure.proofs.Before.{exceeds-before}

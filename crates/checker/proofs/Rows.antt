@@ -12,8 +12,8 @@ use Rattle.linear.specs.Slice.{at, matrixOf}
 use Rattle.linear.specs.Reach.{MatrixList}
 use Rattle.linear.proofs.Places.{place}
 use Rattle.linear.proofs.Slack.{slack-ext}
-use Rattle.raised.specs.Raised.{loweredRows, RowsOf}
-use Rattle.raised.proofs.Lowering.{rows-raised}
+use Rattle.raised_rows.specs.Raised.{loweredRows, RowsOf}
+use Rattle.raised_rows.proofs.Lowering.{rows-raised}
 use Rattle.enclosure.specs.Reckoning.{defect, load, sizesWith}
 use Rattle.enclosure.proofs.Agreement.{load-same}
 use Rattle.reckoning.specs.Parts.{rowsPart, cutMargin}

@@ -12,8 +12,8 @@ use Rattle.linear.specs.Matrix.{Mat, identity, apply, product}
 use Rattle.linear.specs.Slice.{at, matrixOf}
 use Rattle.linear.specs.Reach.{dotOf}
 use Rattle.linear.proofs.Places.{dot-row}
-use Rattle.raised.specs.Raised.{RaisedRows, loweredRows, RowsOf}
-use Rattle.raised.proofs.Lowering.{row-dot-shows, rows-themselves}
+use Rattle.raised_rows.specs.Raised.{RaisedRows, loweredRows, RowsOf}
+use Rattle.raised_rows.proofs.Lowering.{row-dot-shows, rows-themselves}
 use Rattle.enclosure.specs.Reckoning.{defect, load, residual}
 use Rattle.reckoning.specs.Parts.{rowsPart, residualFrom, columnResidual}
 use Rattle.reckoning.specs.Rows.{rowDifference, rowLoad}

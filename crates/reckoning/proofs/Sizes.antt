@@ -21,7 +21,7 @@ use Rattle.linear.specs.Slice.{matrixOf}
 use Rattle.linear.specs.Reach.{Reach, MatrixList}
 use Rattle.linear.proofs.Product.{identity-same, identity-other}
 use Rattle.linear.proofs.Places.{place, square, row-reach, column-reach, square-list, wider}
-use Rattle.raised.specs.Raised.{raisedBy, loweredRows}
+use Rattle.raised_rows.specs.Raised.{raisedBy, loweredRows}
 use Rattle.enclosure.specs.Reckoning.{defect}
 use Rattle.reckoning.specs.Parts.{rowsPart, aboveAllowed}
 use Rattle.reckoning.specs.Rows.{InverseRows}

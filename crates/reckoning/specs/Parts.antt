@@ -10,7 +10,7 @@ use lib.IntN.{ℤ, pos, natAbs, _-ℤ_}
 use lib.Signed.{ltZ}
 use Rattle.linear.specs.Matrix.{apply}
 use Rattle.linear.specs.Slice.{at, vectorOf, matrixOf}
-use Rattle.raised.specs.Raised.{loweredRows}
+use Rattle.raised_rows.specs.Raised.{loweredRows}
 use Rattle.enclosure.specs.Problem.{Problem, T, columnOf, problemOf}
 use Rattle.enclosure.specs.Reckoning.{load, residual}
 

@@ -8,7 +8,7 @@ use lib.IntN.{ℤ, pos, natAbs, _-ℤ_, _*ℤ_}
 use Rattle.integer.specs.Finite.{sumℕ}
 use Rattle.linear.specs.Matrix.{identity}
 use Rattle.linear.specs.Slice.{at}
-use Rattle.raised.specs.Raised.{RaisedRows, loweredRows, rowDot}
+use Rattle.raised_rows.specs.Raised.{RaisedRows, loweredRows, rowDot}
 
 pub record InverseRows (xs : List ℕ) (n : ℕ) : Type 0 where
   pub rows : RaisedRows xs n

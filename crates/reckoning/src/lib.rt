@@ -8,7 +8,7 @@ ghost use Rattle.integer.specs.Finite.{first};
 ghost use Rattle.linear.specs.Matrix.{identity};
 ghost use Rattle.linear.specs.Slice.{at};
 ghost use Rattle.linear.specs.Reach.{dotOf, Reach, ColumnList, MatrixList};
-ghost use Rattle.raised.specs.Raised.{RaisedRow, RaisedRows, rowDot};
+ghost use Rattle.raised_rows.specs.Raised.{RaisedRow, RaisedRows, rowDot};
 ghost use Rattle.enclosure.specs.Reckoning.{allowedResidual};
 ghost use Rattle.reckoning.specs.Arrays.{Begins, firstFrom, stored};
 ghost use Rattle.reckoning.specs.Parts.{rowsPart, cutMargin, residualFrom, columnResidual, aboveAllowed};
@@ -17,9 +17,9 @@ use integer::first_or;
 use integer::magnitude;
 use integer::power;
 use linear::dot;
-use raised::ROWS_LENGTH;
-use raised::raise_rows;
-use raised::row_dot;
+use raised_rows::ROWS_LENGTH;
+use raised_rows::raise_rows;
+use raised_rows::row_dot;
 
 // A number of 2^t·I.
 fn unit_at(t: u32, i: usize, j: usize) -> i64

@@ -1,7 +1,7 @@
 use mathlib.Core.Path.{ap, _∙_}
 use Prim.Native.Nat.{ℕ, _+_, _*_}
 use native.Mathlib.Omega.{arith}
-use Rattle.raised.proofs.Lowering.{lowered-size}
+use Rattle.raised_rows.proofs.Lowering.{lowered-size}
 use borrow.Author.Needs.{needs}
 use Rattle.bounds.proofs.add_slack.Statement.{statement}
 use Rattle.bounds.proofs.add_slack.Tie as tie

@@ -5,8 +5,8 @@ use native.Mathlib.Nat.{mul-le-mul-right}
 use lib.IntN.{natAbs}
 use lib.ListN.{length, length-set, getD}
 use Rattle.integer.specs.Finite.{sumℕ}
-use Rattle.raised.specs.Raised.{RaisedRow, loweredRows}
-use Rattle.raised.proofs.Filling.{rows-room}
+use Rattle.raised_rows.specs.Raised.{RaisedRow, loweredRows}
+use Rattle.raised_rows.proofs.Filling.{rows-room}
 use Rattle.reckoning.specs.Arrays.{Begins}
 use Rattle.reckoning.proofs.Filled.{begins-none, begins-more, begins-end}
 use Rattle.bounds.proofs.Column.{slack-sum, no-slack}

@@ -3,8 +3,8 @@ use Prim.Native.Nat.{ℕ, _+_, _*_, _≤_}
 use native.Mathlib.Omega.{arith}
 use lib.ListN.{getD, length}
 use Rattle.linear.specs.Slice.{at}
-use Rattle.raised.specs.Raised.{RowOf}
-use Rattle.raised.proofs.Lowering.{row-as}
+use Rattle.raised_rows.specs.Raised.{RowOf}
+use Rattle.raised_rows.proofs.Lowering.{row-as}
 use Rattle.enclosure.specs.Reckoning.{sizesWith}
 use Rattle.reckoning.specs.Arrays.{Begins}
 use Rattle.bounds.specs.Limits.{inversePart}

@@ -4,9 +4,9 @@ use native.Mathlib.Omega.{arith}
 use lib.IntN.{natAbs}
 use lib.ListN.{length, length-set}
 use Rattle.integer.proofs.Machine.{read}
-use Rattle.raised.specs.Raised.{RaisedRow, rowDot}
-use Rattle.raised.proofs.Filling.{rows-room}
-use Rattle.raised.proofs.Lowering.{row-dot-size}
+use Rattle.raised_rows.specs.Raised.{RaisedRow, rowDot}
+use Rattle.raised_rows.proofs.Filling.{rows-room}
+use Rattle.raised_rows.proofs.Lowering.{row-dot-size}
 use Rattle.reckoning.specs.Arrays.{Begins}
 use Rattle.reckoning.proofs.Filled.{begins-none, begins-more, begins-end}
 use borrow.Author.Needs.{needs}

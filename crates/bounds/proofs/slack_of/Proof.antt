@@ -5,7 +5,7 @@ use lib.IntN.{natAbs}
 use lib.ListN.{getD, length}
 use Rattle.integer.specs.Finite.{sumℕ}
 use Rattle.integer.proofs.Sum.{sumℕ-none, sumℕ-next, sumℕ-end}
-use Rattle.raised.specs.Raised.{lowered}
+use Rattle.raised_rows.specs.Raised.{lowered}
 use Rattle.bounds.proofs.Column.{slack-sum}
 use borrow.Author.Needs.{needs}
 use Rattle.bounds.proofs.slack_of.Statement.{statement}

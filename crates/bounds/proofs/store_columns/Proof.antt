@@ -5,9 +5,9 @@ use lib.Dec.{lit≤}
 use lib.ListN.{length}
 use Rattle.linear.specs.Slice.{at}
 use Rattle.linear.proofs.Places.{place, row-reach}
-use Rattle.raised.specs.Raised.{RowOf}
-use Rattle.raised.proofs.Filling.{rows-room}
-use Rattle.raised.proofs.Lowering.{row-as}
+use Rattle.raised_rows.specs.Raised.{RowOf}
+use Rattle.raised_rows.proofs.Filling.{rows-room}
+use Rattle.raised_rows.proofs.Lowering.{row-as}
 use Rattle.enclosure.specs.Reckoning.{sizesWith}
 use Rattle.reckoning.specs.Arrays.{Begins, storedColumns}
 use Rattle.reckoning.proofs.Filled.{columns-none, columns-end, columns-length}

@@ -2,7 +2,7 @@ use mathlib.Core.Path.{_≡_, sym, _∙_}
 use Prim.Native.Nat.{ℕ, _+_, _*_, _≤_, _-_}
 use native.Mathlib.Omega.{arith}
 use Rattle.integer.proofs.Machine.{read}
-use Rattle.raised.proofs.Filling.{rows-room}
+use Rattle.raised_rows.proofs.Filling.{rows-room}
 use Rattle.reckoning.specs.Arrays.{stored}
 use Rattle.reckoning.specs.Rows.{rowDifference}
 use Rattle.reckoning.proofs.Filled.{stored-none, stored-more, stored-end}

@@ -6,8 +6,8 @@ use lib.Dec.{lit≤}
 use lib.IntN.{pos}
 use lib.ListN.{length}
 use Rattle.linear.specs.Slice.{at}
-use Rattle.raised.specs.Raised.{RowsOf}
-use Rattle.raised.proofs.Lowering.{rows-raised}
+use Rattle.raised_rows.specs.Raised.{RowsOf}
+use Rattle.raised_rows.proofs.Lowering.{rows-raised}
 use Rattle.reckoning.specs.Arrays.{Begins}
 use Rattle.reckoning.specs.Parts.{columnResidual}
 use Rattle.reckoning.proofs.Columns.{columns-more}

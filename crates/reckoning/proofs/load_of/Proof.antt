@@ -9,7 +9,7 @@ use Rattle.integer.specs.Finite.{sumℕ}
 use Rattle.integer.proofs.Machine.{read}
 use Rattle.integer.proofs.Sum.{sumℕ-none, sumℕ-next, sumℕ-end, sumℕ≤}
 use Rattle.linear.specs.Slice.{at}
-use Rattle.raised.proofs.Filling.{rows-room}
+use Rattle.raised_rows.proofs.Filling.{rows-room}
 use Rattle.reckoning.specs.Rows.{rowDifference}
 use Rattle.reckoning.proofs.Sizes.{unit-size}
 use borrow.Author.Needs.{needs}

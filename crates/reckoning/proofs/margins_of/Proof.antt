@@ -5,9 +5,9 @@ use lib.Dec.{lit≤}
 use lib.IntN.{natAbs}
 use lib.ListN.{length, length-set}
 use Rattle.linear.specs.Slice.{at}
-use Rattle.raised.specs.Raised.{RowsOf}
-use Rattle.raised.proofs.Filling.{rows-room}
-use Rattle.raised.proofs.Lowering.{rows-raised}
+use Rattle.raised_rows.specs.Raised.{RowsOf}
+use Rattle.raised_rows.proofs.Filling.{rows-room}
+use Rattle.raised_rows.proofs.Lowering.{rows-raised}
 use Rattle.reckoning.specs.Arrays.{Begins}
 use Rattle.reckoning.specs.Parts.{rowsPart, cutMargin}
 use Rattle.reckoning.proofs.Filled.{begins-none, begins-more, begins-end}

@@ -6,7 +6,7 @@ use mir.Val.{SFits}
 use mir.ValLaws.{toZ-ofZ}
 use Rattle.integer.proofs.Absolute.{abs-sub}
 use Rattle.integer.proofs.Machine.{small, read}
-use Rattle.raised.proofs.Lowering.{row-dot-size}
+use Rattle.raised_rows.proofs.Lowering.{row-dot-size}
 use borrow.Author.Needs.{needs}
 use Rattle.reckoning.proofs.row_difference.Statement.{statement}
 use Rattle.reckoning.proofs.row_difference.Tie as tie

@@ -14,7 +14,7 @@ use lib.Seq.{getD-set-same, getD-set-other}
 use Rattle.integer.specs.Finite.{sumℕ}
 use Rattle.integer.proofs.Sum.{sumℕ-none, sumℕ-next, sumℕ-ext, sumℕ≤}
 use Rattle.linear.proofs.Places.{square}
-use Rattle.raised.specs.Raised.{lowered, Small, RowOf, RowsOf, Kept}
+use Rattle.raised_rows.specs.Raised.{lowered, Small, RowOf, RowsOf, Kept}
 
 pub record RowPart (before out : List ℕ) (p k : ℕ) (f : ℕ → ℤ) (sum : ℕ) : Type 0 where
   pub kept : Kept before out p

@@ -4,11 +4,11 @@ use native.Mathlib.Omega.{arith}
 use native.Mathlib.Nat.{mul-le-mul}
 use lib.ListN.{length}
 use Rattle.linear.specs.Slice.{at}
-use Rattle.raised.specs.Raised.{RowsOf}
-use Rattle.raised.proofs.Filling.{rows-room, rows-none, rows-more, rows-end}
+use Rattle.raised_rows.specs.Raised.{RowsOf}
+use Rattle.raised_rows.proofs.Filling.{rows-room, rows-none, rows-more, rows-end}
 use borrow.Author.Needs.{needs}
-use Rattle.raised.proofs.raise_rows.Statement.{statement}
-use Rattle.raised.proofs.raise_rows.Tie as tie
+use Rattle.raised_rows.proofs.raise_rows.Statement.{statement}
+use Rattle.raised_rows.proofs.raise_rows.Tie as tie
 
 abbrev Inv-loop : tie.InvT-loop
 Inv-loop out₀ xs step stride n place₀ start₀ i₀ out place start i =

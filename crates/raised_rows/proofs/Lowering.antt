@@ -16,7 +16,7 @@ use Rattle.integer.specs.Finite.{sum, sumℕ}
 use Rattle.integer.proofs.Difference.{is, zz}
 use Rattle.integer.proofs.Absolute.{abs-*}
 use Rattle.integer.proofs.Sum.{sum-ext, abs-sum≤, sumℕ≤}
-use Rattle.raised.specs.Raised.{raisedBy, lowered, Small, RaisedRow, RaisedRows, loweredRows, rowDot, RowOf, RowsOf}
+use Rattle.raised_rows.specs.Raised.{raisedBy, lowered, Small, RaisedRow, RaisedRows, loweredRows, rowDot, RowOf, RowsOf}
 
 module _ (z : ℤ) (h : natAbs z ≤ 2 ^ 25) where
   pub raised-is : z +ℤ pos 33554432 ≡ pos (natAbs (z +ℤ pos 33554432))

@@ -6,8 +6,8 @@ use mir.ValLaws.{toZ-ofZ, toZ-pos}
 use Rattle.integer.proofs.Absolute.{abs-sub}
 use Rattle.integer.proofs.Machine.{small}
 use borrow.Author.Needs.{needs}
-use Rattle.raised.proofs.less.Statement.{statement}
-use Rattle.raised.proofs.less.Tie as tie
+use Rattle.raised_rows.proofs.less.Statement.{statement}
+use Rattle.raised_rows.proofs.less.Tie as tie
 
 fits : (c : tie.Start) → SFits w64 (pos (c .args .up) -ℤ pos (c .args .down))
 fits c = small (pos (c .args .up) -ℤ pos (c .args .down)) (omega (arith, abs-sub (pos (c .args .up)) (pos (c .args .down))))

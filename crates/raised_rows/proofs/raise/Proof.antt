@@ -5,10 +5,10 @@ use mir.Val.{SFits}
 use mir.ValLaws.{toZ-ofZ}
 use Rattle.integer.proofs.Absolute.{abs-+}
 use Rattle.integer.proofs.Machine.{small}
-use Rattle.raised.proofs.Lowering.{raised-is, raised-small, lowered-raised}
+use Rattle.raised_rows.proofs.Lowering.{raised-is, raised-small, lowered-raised}
 use borrow.Author.Needs.{needs}
-use Rattle.raised.proofs.raise.Statement.{statement}
-use Rattle.raised.proofs.raise.Tie as tie
+use Rattle.raised_rows.proofs.raise.Statement.{statement}
+use Rattle.raised_rows.proofs.raise.Tie as tie
 
 sum-fits : (c : tie.Start) → SFits w64 (c .args .x +ℤ pos 33554432)
 sum-fits c = small (c .args .x +ℤ pos 33554432) (omega (arith, abs-+ (c .args .x) (pos 33554432)))

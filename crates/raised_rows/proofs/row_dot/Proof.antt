@@ -2,10 +2,10 @@ use mathlib.Core.Path.{_∙_}
 use Prim.Native.Nat.{_≤_, _^_}
 use native.Mathlib.Omega.{arith}
 use Rattle.integer.proofs.Machine.{read}
-use Rattle.raised.proofs.Lowering.{row-sum, row-products, row-dot-is}
+use Rattle.raised_rows.proofs.Lowering.{row-sum, row-products, row-dot-is}
 use borrow.Author.Needs.{needs}
-use Rattle.raised.proofs.row_dot.Statement.{statement}
-use Rattle.raised.proofs.row_dot.Tie as tie
+use Rattle.raised_rows.proofs.row_dot.Statement.{statement}
+use Rattle.raised_rows.proofs.row_dot.Tie as tie
 
 products : (c : tie.After-low-dot) → c .low-dot .result ≤ 2 ^ 57
 products c =

@@ -6,10 +6,10 @@ use lib.IntN.{natAbs}
 use lib.ListN.{length}
 use Rattle.integer.proofs.Machine.{read}
 use Rattle.linear.specs.Slice.{at}
-use Rattle.raised.proofs.Filling.{RowPart, part-none, part-more, part-whole, part-end, part-sum}
+use Rattle.raised_rows.proofs.Filling.{RowPart, part-none, part-more, part-whole, part-end, part-sum}
 use borrow.Author.Needs.{needs}
-use Rattle.raised.proofs.raise_row.Statement.{statement}
-use Rattle.raised.proofs.raise_row.Tie as tie
+use Rattle.raised_rows.proofs.raise_row.Statement.{statement}
+use Rattle.raised_rows.proofs.raise_row.Tie as tie
 
 abbrev Inv-loop : tie.InvT-loop
 Inv-loop out₀ place xs start stride n sum₀ from₀ to₀ k₀ out sum from to k =

@@ -7,7 +7,7 @@ ghost use lib.ListN.{getD, length};
 ghost use Rattle.integer.specs.Finite.{sumℕ};
 ghost use Rattle.linear.specs.Slice.{at};
 ghost use Rattle.linear.specs.Reach.{Reach};
-ghost use Rattle.raised.specs.Raised.{raisedBy, rowsLength, lowered, Small, RaisedRow, rowDot, RowOf, RowsOf, Kept};
+ghost use Rattle.raised_rows.specs.Raised.{raisedBy, rowsLength, lowered, Small, RaisedRow, rowDot, RowOf, RowsOf, Kept};
 
 // What is added to a number to raise it, 2^25, and its square.
 const RAISED_BY: u64 = 33554432;

@@ -6,8 +6,8 @@ use lib.ListN.{getD}
 use Rattle.integer.specs.Finite.{sumℕ}
 use Rattle.integer.proofs.Sum.{sumℕ-none, sumℕ-next, sumℕ-end, sumℕ≤}
 use borrow.Author.Needs.{needs}
-use Rattle.raised.proofs.low_dot.Statement.{statement}
-use Rattle.raised.proofs.low_dot.Tie as tie
+use Rattle.raised_rows.proofs.low_dot.Statement.{statement}
+use Rattle.raised_rows.proofs.low_dot.Tie as tie
 
 abbrev Inv-loop : tie.InvT-loop
 Inv-loop a p b q n sum₀ at-a₀ at-b₀ k₀ sum at-a at-b k =

@@ -1,9 +1,9 @@
 use mathlib.Core.Path.{sym}
 use native.Mathlib.Omega.{arith}
-use Rattle.raised.proofs.Lowering.{lowered-below, lowered-above}
+use Rattle.raised_rows.proofs.Lowering.{lowered-below, lowered-above}
 use borrow.Author.Needs.{needs}
-use Rattle.raised.proofs.lowered_size.Statement.{statement}
-use Rattle.raised.proofs.lowered_size.Tie as tie
+use Rattle.raised_rows.proofs.lowered_size.Statement.{statement}
+use Rattle.raised_rows.proofs.lowered_size.Tie as tie
 
 sub-result : tie.Need-sub-result
 sub-result c = search needs

@@ -4,8 +4,8 @@ use Prim.Native.Nat.{ℕ, _≤_, _*_, _^_}
 use native.Mathlib.Omega.{arith}
 use native.Mathlib.Nat.{mul-le-mul}
 use lib.Bits.{bitAnd, and-mask}
-use Rattle.raised.proofs.add_low.Statement.{statement}
-use Rattle.raised.proofs.add_low.Tie as tie
+use Rattle.raised_rows.proofs.add_low.Statement.{statement}
+use Rattle.raised_rows.proofs.add_low.Tie as tie
 
 low : (x : ℕ) → x ≤ 2 ^ 26 → bitAnd x 4294967295 ≡ x
 low x h = and-mask x 32 ∙ mod-eq-of-lt (omega arith)
