@@ -26,7 +26,8 @@ use Rattle.enclosure.proofs.Bounds.{bound-ext}
 use Rattle.reckoning.specs.Arrays.{Begins, stored, storedColumns}
 use Rattle.reckoning.specs.Rows.{InverseRows}
 use Rattle.reckoning.proofs.Filled.{begins-as, stored-ext, columns-next}
-use Rattle.bounds.specs.Limits.{inversePart, Near, Sized}
+use Rattle.ratios.specs.Ratio.{Sized}
+use Rattle.bounds.specs.Limits.{inversePart, Near}
 
 module _ (n : ℕ) {rows residuals : List ℕ} {place : ℕ} {r : Vec} (h : RaisedRows rows n) (s : RowOf residuals place n r) where
   image-is : (m : ℕ) → m < n → natAbs (rowDot rows (m * (n + 1)) residuals place n) ≡ natAbs (apply n (loweredRows rows n) r m)

@@ -1,7 +1,6 @@
 -- The limits of a column from the raised rows of the inverse; cited by contracts inside.
 --   inversePart n rows — the problem whose inverse stands in raised rows, as far as p needs it
 --   Near r σ n   — the size of each residual with its slack is at most 2^25
---   Sized sizes n — n sizes of at most 2^50
 --   limitsOf n rows r σ margins weights i — limit i from the residual r and the slack σ, with margins and weights in lists
 use mathlib.Core.List.{List, []}
 use Prim.Native.Nat.{ℕ, _+_, _≤_, _<_}
@@ -9,7 +8,6 @@ use lib.IntN.{ℤ, natAbs}
 use lib.ListN.{getD}
 use Rattle.linear.specs.Matrix.{Vec}
 use Rattle.linear.specs.Slice.{at}
-use Rattle.enclosure.specs.Largest.{largestSize}
 use Rattle.enclosure.specs.Problem.{Problem}
 use Rattle.enclosure.specs.Reckoning.{allowedResidual, sizesWith, boundFrom}
 use Rattle.reckoning.specs.Parts.{rowsPart}
@@ -19,9 +17,6 @@ inversePart n rows = rowsPart n 0 [] rows []
 
 pub record Near (r : Vec) (σ : ℕ → ℕ) (n : ℕ) : Type 0 where
   pub each : (k : ℕ) → k < n → natAbs (r k) + σ k ≤ allowedResidual
-
-pub record Sized (sizes : List ℕ) (n : ℕ) : Type 0 where
-  pub most : (m : ℕ) → m < n → getD sizes m 0 ≤ largestSize
 
 abbrev pub limitsOf : ℕ → List ℕ → Vec → (ℕ → ℕ) → List ℕ → List ℤ → ℕ → ℕ
 limitsOf n rows r σ margins weights =

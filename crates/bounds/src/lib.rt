@@ -1,21 +1,18 @@
-// The limits of a column, from the sizes of p, the margins and the weights, and the writer of a column (01: "The limits of one column
-// are worked out whole before any of them is written").
+// The limits of a column from the raised rows of the inverse, and the writer of a column (01: "The limits of one column are worked out whole
+// before any of them is written").
 ghost use mathlib.Core.Path.{_≡_};
 ghost use Prim.Native.Nat.{ℕ, _+_, _*_, _≤_, _<_, _^_};
 ghost use lib.IntN.{natAbs};
 ghost use lib.ListN.{getD, length};
-ghost use Rattle.integer.specs.Finite.{sumℕ, Steepest};
-ghost use Rattle.integer.specs.Quotient.{ceilDiv};
+ghost use Rattle.integer.specs.Finite.{sumℕ};
 ghost use Rattle.linear.specs.Slice.{at};
 ghost use Rattle.linear.specs.Reach.{ColumnList};
 ghost use Rattle.raised_rows.specs.Raised.{raisedBy, lowered, RaisedRow, RaisedRows, loweredRows, rowDot};
-ghost use Rattle.enclosure.specs.Largest.{largestSize};
-ghost use Rattle.enclosure.specs.Reckoning.{allowedResidual, boundFrom};
+ghost use Rattle.enclosure.specs.Reckoning.{allowedResidual};
 ghost use Rattle.reckoning.specs.Arrays.{Begins, stored, storedColumns};
 ghost use Rattle.reckoning.specs.Rows.{InverseRows};
-ghost use Rattle.bounds.specs.Ratio.{ratioOf, steeperOf, Narrow, Positive};
-ghost use Rattle.bounds.specs.Limits.{Near, Sized, limitsOf};
-use integer::ceil_div;
+ghost use Rattle.ratios.specs.Ratio.{Positive};
+ghost use Rattle.bounds.specs.Limits.{Near, limitsOf};
 use integer::magnitude;
 use raised_rows::ROWS_LENGTH;
 use raised_rows::add_low;
@@ -23,82 +20,7 @@ use raised_rows::lowered_size;
 use raised_rows::raise_row;
 use raised_rows::raise_rows;
 use raised_rows::row_dot;
-
-// A row with the quotient and the remainder of |p_m| by its margin g_m.
-pub struct Ratio {
-    pub row: usize,
-    pub quotient: u64,
-    pub remainder: u64,
-    pub margin: u64,
-}
-
-fn ratio_of(row: usize, p: u64, g: u64) -> Ratio
-    requires { ⌜ 0 < g ⌝ }
-    ensures { λ r. ⌜ r ≡ ratioOf row p g ⌝ }
-{
-    Ratio {
-        row,
-        quotient: p / g,
-        remainder: p % g,
-        margin: g,
-    }
-}
-
-// The row with the larger ratio; a where they are equal.
-fn steeper(a: Ratio, b: Ratio) -> Ratio
-    requires { ⌜ Narrow a × Narrow b ⌝ }
-    ensures { λ r. ⌜ r ≡ steeperOf a b ⌝ }
-{
-    if a.quotient < b.quotient {
-        return b;
-    }
-    if b.quotient < a.quotient {
-        return a;
-    }
-    if a.remainder * b.margin < b.remainder * a.margin {
-        return b;
-    }
-    a
-}
-
-// A row where sizes / margins is largest.
-fn steepest_of(sizes: &[u64; 32], margins: &[u64; 32], n: usize) -> usize
-    requires { ⌜ (0 < n) × (n ≤ 32) ⌝ }
-    requires { ⌜ Positive (now margins) n ⌝ }
-    ensures { λ r. ⌜ Steepest n (λ (m : ℕ). getD (now (sizes .entry)) m 0) (λ (m : ℕ). getD (now (margins .entry)) m 0) r ⌝ }
-{
-    let mut best = ratio_of(0, sizes[0], margins[0]);
-    for m in 1..n {
-        best = steeper(best, ratio_of(m, sizes[m], margins[m]));
-    }
-    best.row
-}
-
-// w·p / g rounded up, for the weight w.
-fn bound_of(w: i64, p: u64, g: u64) -> u64
-    requires { ⌜ (natAbs w ≤ 1024) × ((p ≤ largestSize) × ((0 < g) × (g ≤ 2 ^ 30))) ⌝ }
-    ensures { λ r. ⌜ r ≡ ceilDiv (natAbs w * p) g ⌝ }
-{
-    ceil_div(magnitude(w) * p, g)
-}
-
-// The limits of a column: each is that of the row where sizes / margins is largest.
-fn bounds_of(sizes: &[u64; 32], margins: &[u64; 32], weights: &[i64], n: usize) -> [u64; 32]
-    requires { ⌜ (0 < n) × (n ≤ 32) ⌝ }
-    requires { ⌜ Sized (now sizes) n ⌝ }
-    requires { ⌜ Positive (now margins) n ⌝ }
-    requires { ⌜ ColumnList (now weights) n 1024 ⌝ }
-    ensures { λ r. ⌜ Begins 0 r n (boundFrom n (λ (m : ℕ). getD (now (sizes .entry)) m 0) (λ (m : ℕ). getD (now (margins .entry)) m 0) (λ (i : ℕ). natAbs (at (now (weights .entry)) i))) ⌝ }
-{
-    let k = steepest_of(sizes, margins, n);
-    let p = sizes[k];
-    let g = margins[k];
-    let mut out = [0u64; 32];
-    for i in 0..n {
-        out[i] = bound_of(weights[i], p, g);
-    }
-    out
-}
+use ratios::bounds_of;
 
 // The sizes of p = G·r, from the raised rows of G and the raised row of r that starts at a place.
 fn sizes_of(rows: &[u64], residuals: &[u64], place: usize, n: usize) -> [u64; 32]

@@ -16,7 +16,7 @@ use Rattle.enclosure.proofs.Margin.{margin-cut}
 use Rattle.reckoning.specs.Arrays.{Begins}
 use Rattle.reckoning.specs.Parts.{rowsPart, columnResidual, cutMargin}
 use Rattle.bounds.specs.Limits.{inversePart, limitsOf}
-use Rattle.bounds.specs.Ratio.{Positive}
+use Rattle.ratios.specs.Ratio.{Positive}
 use Rattle.checker.specs.Work.{Work, workProblem, workResidual, workSlack}
 use Rattle.checker.proofs.Rows.{margin-is, sizes-are}
 

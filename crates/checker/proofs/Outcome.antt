@@ -25,7 +25,7 @@ use Rattle.enclosure.specs.Reckoning.{allowedResidual, boundWith, inverseBound}
 use Rattle.reckoning.specs.Arrays.{Begins, stored, storedColumns}
 use Rattle.reckoning.specs.Parts.{rowsPart, columnResidual, cutMargin, aboveAllowed}
 use Rattle.bounds.specs.Limits.{Near, limitsOf}
-use Rattle.bounds.specs.Ratio.{Positive}
+use Rattle.ratios.specs.Ratio.{Positive}
 use Rattle.checked.specs.Order.{reckoned}
 use Rattle.checked.proofs.Contract.{NoPlace, accepted-places}
 use Rattle.checker.specs.Work.{Work, workProblem, workResidual, workSlack, workAnswer, Workable, ReckonedAs}

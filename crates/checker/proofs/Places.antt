@@ -24,7 +24,7 @@ use Rattle.reckoning.specs.Arrays.{Begins}
 use Rattle.reckoning.specs.Parts.{rowsPart, columnResidual, cutMargin, aboveAllowed}
 use Rattle.reckoning.proofs.Sizes.{power-size}
 use Rattle.bounds.specs.Limits.{Near}
-use Rattle.bounds.specs.Ratio.{Positive}
+use Rattle.ratios.specs.Ratio.{Positive}
 use Rattle.checked.specs.Order.{firstMargin, firstInversePlace}
 use Rattle.checker.specs.Work.{Work, workProblem, workResidual, workSlack, Workable}
 use Rattle.checker.proofs.Rows.{margin-is}

@@ -233,7 +233,7 @@ impl Loader {
                 inverse_bounds,
             );
         }
-        if checker::is_short(
+        if admission::is_short(
             matrix.len(),
             right.len(),
             guess.len(),

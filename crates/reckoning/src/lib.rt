@@ -1,24 +1,10 @@
-// The reckoning of document 01 on slices: margins and residuals, and the first of them that is refused.
+// What the reckoning of margins and of residuals share: the definitions on slices and raised rows, their laws, and one number of 2^t·I less a product.
 ghost use mathlib.Core.Path.{_≡_};
-ghost use Prim.Native.Nat.{ℕ, _+_, _*_, _-_, _/_, _%_, _≤_, _<_, _^_};
-ghost use lib.Dec.{eqb};
-ghost use lib.IntN.{pos, natAbs, _-ℤ_, _*ℤ_};
-ghost use lib.ListN.{getD, length};
-ghost use Rattle.integer.specs.Finite.{first};
+ghost use Prim.Native.Nat.{_≤_, _^_};
+ghost use lib.IntN.{pos, _-ℤ_, _*ℤ_};
 ghost use Rattle.linear.specs.Matrix.{identity};
-ghost use Rattle.linear.specs.Slice.{at};
-ghost use Rattle.linear.specs.Reach.{dotOf, Reach, ColumnList, MatrixList};
-ghost use Rattle.raised_rows.specs.Raised.{RaisedRow, RaisedRows, rowDot};
-ghost use Rattle.enclosure.specs.Reckoning.{allowedResidual};
-ghost use Rattle.reckoning.specs.Arrays.{Begins, firstFrom, stored};
-ghost use Rattle.reckoning.specs.Parts.{rowsPart, cutMargin, residualFrom, columnResidual, aboveAllowed};
-ghost use Rattle.reckoning.specs.Rows.{InverseRows, rowDifference, rowLoad};
-use integer::first_or;
-use integer::magnitude;
+ghost use Rattle.raised_rows.specs.Raised.{RaisedRow, rowDot};
 use integer::power;
-use linear::dot;
-use raised_rows::ROWS_LENGTH;
-use raised_rows::raise_rows;
 use raised_rows::row_dot;
 
 // A number of 2^t·I.
@@ -29,241 +15,20 @@ fn unit_at(t: u32, i: usize, j: usize) -> i64
     if i == j { power(t) as i64 } else { 0 }
 }
 
-// 2^s·b
-fn scaled(s: u32, b: i64) -> i64
-    requires { ⌜ (s ≤ 20) × (natAbs b ≤ 2 ^ 30) ⌝ }
-    ensures { λ r. ⌜ r ≡ pos (2 ^ s) *ℤ b ⌝ }
-{
-    (power(s) as i64) * b
-}
-
-// 2^s·b for the right side b.
-pub fn scaled_right(s: u32, right: &[i64], n: usize) -> [i64; 32]
-    requires { ⌜ (s ≤ 20) × (n ≤ 32) ⌝ }
-    requires { ⌜ ColumnList (now right) n (2 ^ 30) ⌝ }
-    ensures { λ r. ⌜ Begins (pos 0) r n (λ (k : ℕ). pos (2 ^ s) *ℤ at (now (right .entry)) k) ⌝ }
-{
-    let mut out = [0i64; 32];
-    for k in 0..n {
-        out[k] = scaled(s, right[k]);
-    }
-    out
-}
-
-// base less a row of a, from place p, times numbers of x, from place q and u places apart.
-fn difference(base: i64, a: &[i64], p: usize, x: &[i64], q: usize, u: usize, n: usize) -> i64
-    requires { ⌜ (n ≤ 32) × ((natAbs base ≤ 2 ^ 62) × ((p + n * 1 < 2 ^ 63) × (q + n * u < 2 ^ 63))) ⌝ }
-    requires { ⌜ Reach (now a) p 1 n (2 ^ 20) ⌝ }
-    requires { ⌜ Reach (now x) q u n (2 ^ 36) ⌝ }
-    ensures { λ r. ⌜ r ≡ base -ℤ dotOf (now (a .entry)) p 1 (now (x .entry)) q u n ⌝ }
-{
-    base - dot(a, p, 1, x, q, u, n)
-}
-
-// base less the products of two raised rows.
-fn row_difference(base: i64, xs: &[u64], p: usize, ys: &[u64], q: usize, n: usize) -> i64
-    requires { ⌜ (n ≤ 32) × (natAbs base ≤ 2 ^ 50) ⌝ }
+// Number a, b of 2^t·I less the products of two raised rows.
+pub fn unit_difference(
+    t: u32,
+    a: usize,
+    b: usize,
+    xs: &[u64],
+    p: usize,
+    ys: &[u64],
+    q: usize,
+    n: usize,
+) -> i64
+    requires { ⌜ (t ≤ 20) × (n ≤ 32) ⌝ }
     requires { ⌜ RaisedRow (now xs) p n × RaisedRow (now ys) q n ⌝ }
-    ensures { λ r. ⌜ r ≡ base -ℤ rowDot (now (xs .entry)) p (now (ys .entry)) q n ⌝ }
+    ensures { λ r. ⌜ r ≡ pos (2 ^ t) *ℤ identity a b -ℤ rowDot (now (xs .entry)) p (now (ys .entry)) q n ⌝ }
 {
-    base - row_dot(xs, p, ys, q, n)
-}
-
-// One term of a load: sum + |d|·|w|.
-fn weigh(sum: u64, d: i64, w: i64) -> u64
-    requires { ⌜ (sum ≤ 2 ^ 62) × ((natAbs d ≤ 2 ^ 46) × (natAbs w ≤ 1024)) ⌝ }
-    ensures { λ r. ⌜ r ≡ sum + natAbs d * natAbs w ⌝ }
-{
-    sum + magnitude(d) * magnitude(w)
-}
-
-// The sum over j of |D_mj|·w_j, for the row m that starts at place row; D from the raised rows of G and columns of A.
-fn load_of(
-    t: u32,
-    rows: &[u64],
-    columns: &[u64],
-    weights: &[i64],
-    n: usize,
-    m: usize,
-    row: usize,
-) -> u64
-    requires { ⌜ (t ≤ 20) × ((n ≤ 32) × ((m < n) × (row ≡ m * (n + 1)))) ⌝ }
-    requires { ⌜ RaisedRows (now rows) n × RaisedRows (now columns) n ⌝ }
-    requires { ⌜ ((j : ℕ) → j < n → natAbs (rowDifference n t (now rows) (now columns) m j) ≤ 2 ^ 46) ⌝ }
-    requires { ⌜ ColumnList (now weights) n 1024 ⌝ }
-    ensures { λ r. ⌜ r ≡ rowLoad n t (now (rows .entry)) (now (columns .entry)) (now (weights .entry)) m ⌝ }
-{
-    let mut sum: u64 = 0;
-    let mut column = 0;
-    for j in 0..n {
-        let d = row_difference(unit_at(t, m, j), rows, row, columns, column, n);
-        sum = weigh(sum, d, weights[j]);
-        column += n + 1;
-    }
-    sum
-}
-
-// The margin of row m, 0 where it is 0 or less.
-fn margin_of(
-    t: u32,
-    rows: &[u64],
-    columns: &[u64],
-    weights: &[i64],
-    n: usize,
-    m: usize,
-    row: usize,
-) -> u64
-    requires { ⌜ (t ≤ 20) × ((n ≤ 32) × ((m < n) × (row ≡ m * (n + 1)))) ⌝ }
-    requires { ⌜ RaisedRows (now rows) n × RaisedRows (now columns) n ⌝ }
-    requires { ⌜ ((j : ℕ) → j < n → natAbs (rowDifference n t (now rows) (now columns) m j) ≤ 2 ^ 46) ⌝ }
-    requires { ⌜ ColumnList (now weights) n 1024 ⌝ }
-    ensures { λ r. ⌜ r ≡ 2 ^ t * natAbs (at (now (weights .entry)) m) - rowLoad n t (now (rows .entry)) (now (columns .entry)) (now (weights .entry)) m ⌝ }
-{
-    let full = power(t) * magnitude(weights[m]);
-    let sum = load_of(t, rows, columns, weights, n, m, row);
-    if sum < full { full - sum } else { 0 }
-}
-
-// The margins of all rows, from the raised rows of G.
-pub fn margins_of(
-    t: u32,
-    rows: &[u64; ROWS_LENGTH],
-    matrix: &[i64],
-    weights: &[i64],
-    n: usize,
-) -> [u64; 32]
-    requires { ⌜ (t ≤ 20) × (n ≤ 32) ⌝ }
-    requires { ⌜ InverseRows (now rows) n ⌝ }
-    requires { ⌜ MatrixList (now matrix) n ⌝ }
-    requires { ⌜ ColumnList (now weights) n 1024 ⌝ }
-    ensures { λ r. ⌜ Begins 0 r n (cutMargin (rowsPart n t (now (matrix .entry)) (now (rows .entry)) (now (weights .entry)))) ⌝ }
-{
-    let mut columns = [0u64; ROWS_LENGTH];
-    raise_rows(&mut columns, matrix, 1, n, n);
-    let mut out = [0u64; 32];
-    let mut row = 0;
-    for m in 0..n {
-        out[m] = margin_of(t, rows, &columns, weights, n, m, row);
-        row += n + 1;
-    }
-    out
-}
-
-// The residuals of a guess: a base less A·X.
-pub fn residuals_of(base: [i64; 32], matrix: &[i64], guess: &[i64], n: usize) -> [i64; 32]
-    requires { ⌜ n ≤ 32 ⌝ }
-    requires { ⌜ ColumnList base n (2 ^ 62) ⌝ }
-    requires { ⌜ MatrixList (now matrix) n ⌝ }
-    requires { ⌜ ColumnList (now guess) n (2 ^ 36) ⌝ }
-    ensures { λ r. ⌜ Begins (pos 0) r n (residualFrom n base (now (matrix .entry)) (now (guess .entry))) ⌝ }
-{
-    let mut out = [0i64; 32];
-    let mut row = 0;
-    for k in 0..n {
-        out[k] = difference(base[k], matrix, row, guess, 0, 1, n);
-        row += n;
-    }
-    out
-}
-
-// The residuals of column j of the inverse, stored from place j·n on, from the raised rows of A and columns of G.
-fn column_residuals(
-    out: &mut [i64; 1024],
-    t: u32,
-    rows: &[u64],
-    columns: &[u64],
-    n: usize,
-    j: usize,
-)
-    requires { ⌜ (t ≤ 20) × ((n ≤ 32) × (j < n)) ⌝ }
-    requires { ⌜ RaisedRows (now rows) n × RaisedRows (now columns) n ⌝ }
-    ensures { λ _. ⌜ now (out .exit) ≡ stored (now (out .entry)) (j * n) 1 (λ (k : ℕ). rowDifference n t (now (rows .entry)) (now (columns .entry)) k j) n ⌝ }
-{
-    let column = j * (n + 1);
-    let mut place = j * n;
-    let mut row = 0;
-    for k in 0..n {
-        out[place] = row_difference(unit_at(t, k, j), rows, row, columns, column, n);
-        place += 1;
-        row += n + 1;
-    }
-}
-
-// The residuals of all columns of the inverse, column after column.
-pub fn inverse_residuals_of(t: u32, matrix: &[i64], inverse: &[i64], n: usize) -> [i64; 1024]
-    requires { ⌜ (t ≤ 20) × (n ≤ 32) ⌝ }
-    requires { ⌜ MatrixList (now matrix) n ⌝ }
-    requires { ⌜ MatrixList (now inverse) n ⌝ }
-    ensures { λ r. ⌜ Begins (pos 0) r (n * n) (λ (i : ℕ). columnResidual n t (now (matrix .entry)) (now (inverse .entry)) (i / n) (i % n)) ⌝ }
-{
-    let mut rows = [0u64; ROWS_LENGTH];
-    let mut columns = [0u64; ROWS_LENGTH];
-    raise_rows(&mut rows, matrix, n, 1, n);
-    raise_rows(&mut columns, inverse, 1, n, n);
-    let mut out = [0i64; 1024];
-    for j in 0..n {
-        column_residuals(&mut out, t, &rows, &columns, n, j);
-    }
-    out
-}
-
-// The first margin that is 0; n where there is none.
-pub fn first_zero(margins: [u64; 32], n: usize) -> usize
-    requires { ⌜ n ≤ 32 ⌝ }
-    ensures { λ r. ⌜ r ≡ first n (λ (m : ℕ). eqb (getD margins m 0) 0) ⌝ }
-{
-    let mut found = 0;
-    for m in 0..n {
-        found = first_or(found, m, margins[m] == 0);
-    }
-    found
-}
-
-// Whether a residual is above what is allowed, in size; compared on both sides, so that no residual is too large for it.
-fn is_above(allowed: i64, z: i64) -> bool
-    requires { ⌜ natAbs allowed ≤ allowedResidual ⌝ }
-    ensures { λ r. ⌜ r ≡ aboveAllowed allowed z ⌝ }
-{
-    if z < -allowed {
-        return true;
-    }
-    allowed < z
-}
-
-// The first of n residuals from a place on that is above what its row allows; n where there is none.
-pub fn first_above(residuals: &[i64], start: usize, allowed: &[i64; 32], n: usize) -> usize
-    requires { ⌜ (n ≤ 32) × ((start + n ≤ length (now residuals)) × (start ≤ 1024)) ⌝ }
-    requires { ⌜ ColumnList (now allowed) n allowedResidual ⌝ }
-    ensures { λ r. ⌜ r ≡ first n (λ (k : ℕ). aboveAllowed (at (now (allowed .entry)) k) (at (now (residuals .entry)) (start + k))) ⌝ }
-{
-    let mut found = 0;
-    let mut place = start;
-    for k in 0..n {
-        found = first_or(found, k, is_above(allowed[k], residuals[place]));
-        place += 1;
-    }
-    found
-}
-
-// One step of a search part by part: found, the first below start; next, the first of those from start on.
-fn first_from(found: usize, start: usize, next: usize) -> usize
-    requires { ⌜ (start ≤ 1024) × (next ≤ 1024) ⌝ }
-    ensures { λ r. ⌜ r ≡ firstFrom found start next ⌝ }
-{
-    if found < start { found } else { start + next }
-}
-
-// The first residual, column after column, that is above what its row allows; n·n where there is none.
-pub fn first_above_in_columns(columns: &[i64; 1024], allowed: &[i64; 32], n: usize) -> usize
-    requires { ⌜ n ≤ 32 ⌝ }
-    requires { ⌜ ColumnList (now allowed) n allowedResidual ⌝ }
-    ensures { λ r. ⌜ r ≡ first (n * n) (λ (i : ℕ). aboveAllowed (at (now (allowed .entry)) (i % n)) (at (now (columns .entry)) i)) ⌝ }
-{
-    let mut found = 0;
-    let mut start = 0;
-    for j in 0..n {
-        found = first_from(found, start, first_above(columns, start, allowed, n));
-        start += n;
-    }
-    found
+    unit_at(t, a, b) - row_dot(xs, p, ys, q, n)
 }
