@@ -15,14 +15,13 @@ use lib.IntN.{ℤ, pos, natAbs}
 use lib.ListN.{length, getD, set, length-set}
 use lib.Seq.{sets, getD-set-same, getD-set-other}
 use Rattle.form.specs.Form.{Form}
-use Rattle.items.specs.Item.{itemOf, valuesOf}
-use Rattle.items.specs.Lists.{Lists, putIn, putAll}
-use Rattle.items.specs.Put.{partIndex, width}
+use Rattle.items.specs.Item.{itemOf, partIndex}
 use Rattle.items.specs.declared.Item.the-variants.{Problem, Scale, Of, End}
 use Rattle.items.specs.declared.Part.{Part}
-use Rattle.items.specs.declared.Part.the-variants.{Row, Right, Guess, Inverse, Weight}
 use Rattle.items.proofs.Capped.{part-same}
-use Rattle.collected.specs.Run.{listOf, cell}
+use Rattle.lent_lists.specs.Slot.{Slot, Matrix, Right, Guess, Inverse, Weight, partOf, width, valuesFor}
+use Rattle.lent_lists.specs.Lists.{Lists, listOf, cell}
+use Rattle.lent_lists.specs.Put.{put, putAll}
 
 -- ---- a run of stores
 sets-before : (vs l : List ℤ) (k m : ℕ) → m < k → getD (sets l k vs) m (pos 0) ≡ getD l m (pos 0)
@@ -63,36 +62,38 @@ module _ (w : ℕ) (vs l : List ℤ) (i : ℕ) (from : 1 ≤ i) (count : length 
       sets-inside vs l ((i - 1) * w) j (omega arith) (rw count (omega (arith, suc-mul (i - 1) w, mul-le-mul-right {m = suc (i - 1)} {n = 32} w (omega arith))))
 
 -- ---- cells
-list-put : (p : Part) (n : ℕ) (f : Form) (l : Lists) → listOf p (putAll n f l) ≡ putIn p n f (listOf p l)
-list-put Row n f l = refl
+list-put : (s : Slot) (n : ℕ) (f : Form) (l : Lists) → listOf s (putAll n f l) ≡ put s n f (listOf s l)
+list-put Matrix n f l = refl
 list-put Right n f l = refl
 list-put Guess n f l = refl
 list-put Inverse n f l = refl
 list-put Weight n f l = refl
 
 module _ (n : ℕ) (f : Form) (l : Lists) where
-  cell-put : (p : Part) (k j : ℕ) → cell (putAll n f l) n p k j ≡ getD (putIn p n f (listOf p l)) ((k - 1) * width p n + j) (pos 0)
-  cell-put p k j = ap (λ (x : List ℤ). getD x ((k - 1) * width p n + j) (pos 0)) (list-put p n f l)
+  cell-put : (s : Slot) (k j : ℕ) → cell (putAll n f l) n s k j ≡ getD (put s n f (listOf s l)) ((k - 1) * width s n + j) (pos 0)
+  cell-put s k j = ap (λ (x : List ℤ). getD x ((k - 1) * width s n + j) (pos 0)) (list-put s n f l)
 
-  pub cell-problem : {m : ℤ} → itemOf f ≡ Problem m → (p : Part) (k j : ℕ) → cell (putAll n f l) n p k j ≡ cell l n p k j
-  cell-problem e p k j = cell-put p k j ∙ rw e
+  pub cell-problem : {m : ℤ} → itemOf f ≡ Problem m → (s : Slot) (k j : ℕ) → cell (putAll n f l) n s k j ≡ cell l n s k j
+  cell-problem e s k j = cell-put s k j ∙ rw e
 
-  pub cell-scale : {s t : ℤ} → itemOf f ≡ Scale s t → (p : Part) (k j : ℕ) → cell (putAll n f l) n p k j ≡ cell l n p k j
-  cell-scale e p k j = cell-put p k j ∙ rw e
+  pub cell-scale : {u v : ℤ} → itemOf f ≡ Scale u v → (s : Slot) (k j : ℕ) → cell (putAll n f l) n s k j ≡ cell l n s k j
+  cell-scale e s k j = cell-put s k j ∙ rw e
 
-  pub cell-end : itemOf f ≡ End → (p : Part) (k j : ℕ) → cell (putAll n f l) n p k j ≡ cell l n p k j
-  cell-end e p k j = cell-put p k j ∙ rw e
+  pub cell-end : itemOf f ≡ End → (s : Slot) (k j : ℕ) → cell (putAll n f l) n s k j ≡ cell l n s k j
+  cell-end e s k j = cell-put s k j ∙ rw e
 
-  module _ {q : Part} {i : ℤ} (e : itemOf f ≡ Of q i) (count : length (valuesOf f) ≡ width q n) (from : 1 ≤ natAbs i) where
-    pub cell-own : (j : ℕ) → j < width q n → natAbs i ≤ 32 → 32 * width q n ≤ length (listOf q l) → cell (putAll n f l) n q (natAbs i) j ≡ getD (valuesOf f) j (pos 0)
-    cell-own j h to fits = cell-put q (natAbs i) j ∙ rw (e, eq-eqb (partIndex q) (partIndex q) refl) (row-own (width q n) (valuesOf f) (listOf q l) (natAbs i) from count j h to fits)
+  module _ {q : Part} {i : ℤ} (e : itemOf f ≡ Of q i) (count : (s : Slot) → partOf s ≡ q → length (valuesFor s f) ≡ width s n) (from : 1 ≤ natAbs i) where
+    pub cell-own : (s : Slot) → partOf s ≡ q → (j : ℕ) → j < width s n → natAbs i ≤ 32 → 32 * width s n ≤ length (listOf s l) → cell (putAll n f l) n s (natAbs i) j ≡ getD (valuesFor s f) j (pos 0)
+    cell-own s o j h to fits =
+        cell-put s (natAbs i) j
+        ∙ rw (e, eq-eqb (partIndex (partOf s)) (partIndex q) (ap (λ (p : Part). partIndex p) o)) (row-own (width s n) (valuesFor s f) (listOf s l) (natAbs i) from (count s o) j h to fits)
 
-    pub cell-else : (p : Part) (k j : ℕ) → 1 ≤ k → j < width p n → (partIndex p ≡ partIndex q → k ≡ natAbs i → ⊥) → cell (putAll n f l) n p k j ≡ cell l n p k j
-    cell-else p k j h r other = cell-put p k j ∙ rw e (go (eqb (partIndex p) (partIndex q)) refl)
+    pub cell-else : (s : Slot) (k j : ℕ) → 1 ≤ k → j < width s n → (partIndex (partOf s) ≡ partIndex q → k ≡ natAbs i → ⊥) → cell (putAll n f l) n s k j ≡ cell l n s k j
+    cell-else s k j h r other = cell-put s k j ∙ rw e (go (eqb (partIndex (partOf s)) (partIndex q)) refl)
       where
-        go : (b : Bool) → eqb (partIndex p) (partIndex q) ≡ b
-            → getD (cond b (sets (listOf p l) ((natAbs i - 1) * width p n) (valuesOf f)) (listOf p l)) ((k - 1) * width p n + j) (pos 0) ≡ cell l n p k j
-        go false s = refl
-        go true s =
-            let x = part-same p q (eqb-true (partIndex p) (partIndex q) s) in
-            row-else (width p n) (valuesOf f) (listOf p l) (natAbs i) from (count ∙ ap (λ (y : Part). width y n) (sym x)) k j h r (other (eqb-true (partIndex p) (partIndex q) s))
+        go : (b : Bool) → eqb (partIndex (partOf s)) (partIndex q) ≡ b
+            → getD (cond b (sets (listOf s l) ((natAbs i - 1) * width s n) (valuesFor s f)) (listOf s l)) ((k - 1) * width s n + j) (pos 0) ≡ cell l n s k j
+        go false t = refl
+        go true t =
+            let x = eqb-true (partIndex (partOf s)) (partIndex q) t in
+            row-else (width s n) (valuesFor s f) (listOf s l) (natAbs i) from (count s (part-same (partOf s) q x)) k j h r (other x)

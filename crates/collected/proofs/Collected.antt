@@ -11,24 +11,24 @@ use lib.IntN.{ℤ, pos, natAbs}
 use lib.ListN.{length, getD}
 use Rattle.integer.proofs.Search.{clash}
 use Rattle.rules.specs.Range.{inRange}
-use Rattle.form.specs.Form.{Form, right, guess, inverse}
-use Rattle.items.specs.Item.{itemOf, valuesOf, placed, outside, miscounted}
-use Rattle.items.specs.Lists.{Lists, short, putAll}
-use Rattle.items.specs.Put.{partIndex, width}
+use Rattle.form.specs.Form.{Form}
+use Rattle.items.specs.Item.{itemOf, partIndex, placed, outside, miscounted}
 use Rattle.items.specs.declared.Item.{Item}
 use Rattle.items.specs.declared.Item.the-variants.{Problem, Scale, Of, End}
 use Rattle.items.specs.declared.Part.{Part}
-use Rattle.items.specs.declared.Part.the-variants.{Row, Right, Guess, Inverse, Weight}
 use Rattle.items.proofs.Capped.{part-same}
-use Rattle.items.proofs.Lists.{Long, long}
-use Rattle.items.proofs.Put.{between}
+use Rattle.lent_lists.specs.Slot.{Slot, Matrix, Right, Guess, Inverse, Weight, partOf, width, kindFor, valuesFor}
+use Rattle.lent_lists.specs.Lists.{Lists, listOf, shortLists}
+use Rattle.lent_lists.specs.Put.{putAll}
+use Rattle.lent_lists.proofs.Lists.{long}
+use Rattle.items.proofs.Between.{between}
 use Rattle.progress.specs.Progress.{given, sized, scaled, ended}
 use Rattle.progress.proofs.Progress.{scaled-sized, placed-of, size-of, late}
 use Rattle.loader.specs.Taken.{after}
-use Rattle.loader.proofs.Form.{Passed}
+use Rattle.loader_order.proofs.Said.{Passed}
 use Rattle.loader.proofs.Exact.{formCase}
-use Rattle.collected.specs.Run.{State, listOf, kindOf}
-use Rattle.collected.specs.Holds.{Holds, HoldsItem, HoldsPart}
+use Rattle.collected.specs.Run.{State}
+use Rattle.collected.specs.Holds.{HoldsForm, HoldsItem, HoldsPart}
 use Rattle.collected.proofs.Sound.{Sound}
 use Rattle.collected.proofs.Marks.{given-own, given-else}
 use Rattle.collected.proofs.View.{View, view, a-problem, a-scale, a-part, an-end}
@@ -37,18 +37,18 @@ use Rattle.collected.proofs.Cells.{cell-own, cell-else, cell-end}
 abbrev pub next : State → Form → State
 next u g = record { loader = after (u .loader) (itemOf g); lists = putAll (u .loader .n) g (u .lists) }
 
-enough : (l : Lists) → short l ≡ false → Long (length (l .matrix)) (length (l .right)) (length (l .guess)) (length (l .inverse)) (length (l .weights))
-enough l s = long _ _ _ _ _ s
-
-room : (l : Lists) (n : ℕ) → n ≤ 32 → short l ≡ false → (p : Part) → 32 * width p n ≤ length (listOf p l)
-room l n h s Row = omega (arith, enough l s .matrix)
-room l n h s Right = omega (arith, enough l s .right)
-room l n h s Guess = omega (arith, enough l s .guess)
-room l n h s Inverse = omega (arith, enough l s .inverse)
-room l n h s Weight = omega (arith, enough l s .weights)
+room : (l : Lists) (n : ℕ) → n ≤ 32 → shortLists l ≡ false → (s : Slot) → 32 * width s n ≤ length (listOf s l)
+room l n h e Matrix = omega (arith, long l e .matrix)
+room l n h e Right = omega (arith, long l e .right)
+room l n h e Guess = omega (arith, long l e .guess)
+room l n h e Inverse = omega (arith, long l e .inverse)
+room l n h e Weight = omega (arith, long l e .weights)
 
 module _ (u : State) (sound : Sound (u .loader)) (g : Form) (fine : Passed (formCase (u .loader) g)) where
   -- the state after g, g giving the item y
+  abbrev values : Slot → List ℤ
+  values s = valuesFor s g
+
   abbrev by : Item → State
   by y = record { loader = after (u .loader) y; lists = putAll (u .loader .n) g (u .lists) }
 
@@ -61,10 +61,10 @@ module _ (u : State) (sound : Sound (u .loader)) (g : Form) (fine : Passed (form
   placed-part {q} {i} e = placed-of (u .loader .stage) (u .loader .n) (Of q i) (rw e at (fine .misplaced))
 
   -- ---- g itself
-  module _ (long-lists : short (u .lists) ≡ false) where
-    own-part : (q : Part) (i : ℤ) → itemOf g ≡ Of q i → length (valuesOf g) ≡ width q (u .loader .n)
-        → ((j : ℕ) → j < width q (u .loader .n) → inRange (kindOf q) (getD (valuesOf g) j (pos 0)) ≡ true)
-        → HoldsItem (Of q i) (valuesOf g) (by (Of q i))
+  module _ (long-lists : shortLists (u .lists) ≡ false) where
+    own-part : (q : Part) (i : ℤ) → itemOf g ≡ Of q i → ((s : Slot) → partOf s ≡ q → length (values s) ≡ width s (u .loader .n))
+        → ((s : Slot) → partOf s ≡ q → (j : ℕ) → j < width s (u .loader .n) → inRange (kindFor s) (getD (values s) j (pos 0)) ≡ true)
+        → HoldsItem (Of q i) values (by (Of q i))
     own-part q i e count inside =
         let a : not (scaled (u .loader .stage)) ≡ false = rw e at (fine .early) in
         let b = between 1 (u .loader .n) i (placed-part e) in
@@ -72,20 +72,21 @@ module _ (u : State) (sound : Sound (u .loader)) (g : Form) (fine : Passed (form
           stage = not-false _ a;
           place = placed-part e;
           mark = given-own (u .loader .sets) (sound .five) q (natAbs i);
-          cells = λ j l. cell-own (u .loader .n) g (u .lists) e count (b .from) j l (omega (arith, b .to, sized-part e .1)) (room (u .lists) (u .loader .n) (sized-part e .1) long-lists q);
+          cells = λ s o j l.
+              cell-own (u .loader .n) g (u .lists) e count (b .from) s o j l (omega (arith, b .to, sized-part e .1)) (room (u .lists) (u .loader .n) (sized-part e .1) long-lists s);
           inside = inside;
         }
 
-    own-at : {x : Item} → itemOf g ≡ x → HoldsItem x (valuesOf g) (by x) → Holds g (next u g)
-    own-at e h = subst (λ (x : Item). HoldsItem x (valuesOf g) (by x)) (sym e) h
+    own-at : {x : Item} → itemOf g ≡ x → HoldsItem x values (by x) → HoldsForm g (next u g)
+    own-at e h = subst (λ (x : Item). HoldsItem x values (by x)) (sym e) h
 
-    own-view : View (u .loader .n) g → Holds g (next u g)
+    own-view : View (u .loader .n) g → HoldsForm g (next u g)
     own-view (a-problem m e) = own-at e (record { stage = refl; size = refl })
     own-view (a-scale s t e) = own-at e (record { stage = refl; solution = refl; inverse = refl })
     own-view (a-part q i e count inside) = own-at e (own-part q i e count inside)
     own-view (an-end e) = own-at e refl
 
-    pub holds-own : Holds g (next u g)
+    pub holds-own : HoldsForm g (next u g)
     holds-own = own-view (view (u .loader .n) g (fine .outside) (fine .miscounted))
 
   -- ---- a form that was held before
@@ -102,7 +103,8 @@ module _ (u : State) (sound : Sound (u .loader)) (g : Form) (fine : Passed (form
       let s : given (u .loader .sets) q (natAbs k) ≡ true = rw (← part-same p q a, ← b) m in
       clash (given (u .loader .sets) q (natAbs k)) s r
 
-  part-kept : {p q : Part} {i k : ℤ} {vs : List ℤ} → itemOf g ≡ Of q k → length (valuesOf g) ≡ width q (u .loader .n) → HoldsPart p i vs u → HoldsPart p i vs (by (Of q k))
+  part-kept : {p q : Part} {i k : ℤ} {vs : Slot → List ℤ} → itemOf g ≡ Of q k → ((s : Slot) → partOf s ≡ q → length (values s) ≡ width s (u .loader .n)) → HoldsPart p i vs u
+      → HoldsPart p i vs (by (Of q k))
   part-kept {p} {q} {i} {k} {vs} e count h =
       let b = between 1 (u .loader .n) i (h .place) in
       let c = between 1 (u .loader .n) k (placed-part e) in
@@ -110,15 +112,16 @@ module _ (u : State) (sound : Sound (u .loader)) (g : Form) (fine : Passed (form
         stage = h .stage;
         place = h .place;
         mark = given-else (u .loader .sets) (sound .five) q (natAbs k) p (natAbs i) (b .from) (c .from) (apart p i e (h .mark)) ∙ h .mark;
-        cells = λ j l. cell-else (u .loader .n) g (u .lists) e count (c .from) p (natAbs i) j (b .from) l (apart p i e (h .mark)) ∙ h .cells j l;
+        cells = λ s o j l.
+            cell-else (u .loader .n) g (u .lists) e count (c .from) s (natAbs i) j (b .from) l (λ x. apart p i e (h .mark) (rw (← o) x)) ∙ h .cells s o j l;
         inside = h .inside;
       }
 
   module _ (going : ended (u .loader .stage) ≡ false) where
-    kept-at : (x : Item) (vs : List ℤ) {y : Item} → itemOf g ≡ y → HoldsItem x vs (by y) → HoldsItem x vs (next u g)
+    kept-at : (x : Item) (vs : Slot → List ℤ) {y : Item} → itemOf g ≡ y → HoldsItem x vs (by y) → HoldsItem x vs (next u g)
     kept-at x vs e h = subst (λ (y : Item). HoldsItem x vs (by y)) (sym e) h
 
-    kept-view : (x : Item) (vs : List ℤ) → HoldsItem x vs u → View (u .loader .n) g → HoldsItem x vs (next u g)
+    kept-view : (x : Item) (vs : Slot → List ℤ) → HoldsItem x vs u → View (u .loader .n) g → HoldsItem x vs (next u g)
     kept-view (Problem n) vs h (a-problem m e) = not-problem e (h .stage)
     kept-view (Problem n) vs h (a-scale s t e) = kept-at (Problem n) vs e (record { stage = refl; size = h .size })
     kept-view (Problem n) vs h (a-part q k e count inside) = kept-at (Problem n) vs e (record { stage = h .stage; size = h .size })
@@ -132,8 +135,8 @@ module _ (u : State) (sound : Sound (u .loader)) (g : Form) (fine : Passed (form
     kept-view (Of p i) vs h (a-part q k e count inside) = kept-at (Of p i) vs e (part-kept e count h)
     kept-view (Of p i) vs h (an-end e) =
         kept-at (Of p i) vs e
-        (record { stage = refl; place = h .place; mark = h .mark; cells = λ j l. cell-end (u .loader .n) g (u .lists) e p (natAbs i) j ∙ h .cells j l; inside = h .inside })
+        (record { stage = refl; place = h .place; mark = h .mark; cells = λ s o j l. cell-end (u .loader .n) g (u .lists) e s (natAbs i) j ∙ h .cells s o j l; inside = h .inside })
     kept-view End vs h v = clash (ended (u .loader .stage)) h going
 
-    pub holds-kept : (f : Form) → Holds f u → Holds f (next u g)
-    holds-kept f h = kept-view (itemOf f) (valuesOf f) h (view (u .loader .n) g (fine .outside) (fine .miscounted))
+    pub holds-kept : (f : Form) → HoldsForm f u → HoldsForm f (next u g)
+    holds-kept f h = kept-view (itemOf f) (λ (s : Slot). valuesFor s f) h (view (u .loader .n) g (fine .outside) (fine .miscounted))

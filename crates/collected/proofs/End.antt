@@ -17,21 +17,21 @@ use Rattle.rules.specs.Range.{inRange, allInRange}
 use Rattle.rules.proofs.AllInRange.{all-in}
 use Rattle.rules.proofs.Ranges.{size-range}
 use Rattle.form.specs.Form.{Form}
-use Rattle.items.specs.Item.{valuesOf}
-use Rattle.items.specs.Lists.{Lists}
-use Rattle.items.specs.Put.{partIndex, width}
+use Rattle.items.specs.Item.{partIndex}
 use Rattle.items.specs.declared.Item.{Item}
 use Rattle.items.specs.declared.Part.{Part}
-use Rattle.items.specs.declared.Part.the-variants.{Row, Right, Guess, Inverse, Weight}
+use Rattle.lent_lists.specs.Slot.{Slot, Matrix, Right, Guess, Inverse, Weight, partOf, width, kindFor, valuesFor}
+use Rattle.lent_lists.specs.Lists.{Lists, listOf, cell}
 use Rattle.items.proofs.Capped.{part-same}
 use Rattle.places.specs.Places.{lacking}
 use Rattle.places.proofs.Places.{lacking-none}
-use Rattle.progress.specs.Progress.{setOf, counted, total, given, missing, scaled, ended}
+use Rattle.progress.specs.Progress.{setOf, counted, totalOver, given, missing, scaled, ended}
 use Rattle.progress.specs.declared.Stage.{Stage}
 use Rattle.progress.specs.declared.Stage.the-variants.{Start, Sized, Scaled, Ended}
 use Rattle.progress.proofs.Progress.{scaled-sized}
-use Rattle.collected.specs.Run.{State, start, step, run, Accepts, forms, listOf, cell, kindOf}
-use Rattle.collected.specs.Holds.{HoldsItem, HoldsPart, valueFrom, sizeFrom, scalesFrom, InRange}
+use Rattle.collected.specs.Run.{State, fromNew, step, run, Accepts, forms}
+use Rattle.collected.specs.Given.{valueFrom, sizeFrom, scalesFrom}
+use Rattle.collected.specs.Holds.{HoldsItem, HoldsPart, InRange}
 use Rattle.collected.proofs.Sound.{Sound, fresh-sound, fresh-empty, line-sound}
 use Rattle.collected.proofs.Marks.{hits, once}
 use Rattle.collected.proofs.Runs.{collected, Found, found}
@@ -39,11 +39,11 @@ use Rattle.collected.proofs.Sizes.{HasScales, size-from, scales-from}
 
 -- ---- nothing is missing
 -- a part that is counted has no form missing
-none-at : (p : Part) (ps : List Part) (f : Part → ℕ) → total ps f ≡ 0 → 1 ≤ total ps (hits p) → f p ≡ 0
+none-at : (p : Part) (ps : List Part) (f : Part → ℕ) → totalOver ps f ≡ 0 → 1 ≤ totalOver ps (hits p) → f p ≡ 0
 none-at p [] f e h = absurd (omega arith)
 none-at p (q ∷ ps) f e h = go (eqb (partIndex p) (partIndex q)) refl h (none-at p ps f (omega arith))
   where
-    go : (b : Bool) → eqb (partIndex p) (partIndex q) ≡ b → 1 ≤ cond b 1 0 + total ps (hits p) → (1 ≤ total ps (hits p) → f p ≡ 0) → f p ≡ 0
+    go : (b : Bool) → eqb (partIndex p) (partIndex q) ≡ b → 1 ≤ cond b 1 0 + totalOver ps (hits p) → (1 ≤ totalOver ps (hits p) → f p ≡ 0) → f p ≡ 0
     go true t l rest = subst (λ (r : Part). f r ≡ 0) (sym (part-same p q (eqb-true (partIndex p) (partIndex q) t))) (omega arith)
     go false t l rest = rest (omega arith)
 
@@ -67,73 +67,73 @@ ended-scaled Ended e = refl
 pub record FromForms (fs : List Form) (u : State) : Type 0 where
   pub size : u .loader .n ≡ sizeFrom fs
   pub scales : HasScales u (scalesFrom fs)
-  pub values : (p : Part) (k j : ℕ) → 1 ≤ k → k ≤ u .loader .n → j < width p (u .loader .n) → cell (u .lists) (u .loader .n) p k j ≡ valueFrom fs p k j
+  pub values : (s : Slot) (k j : ℕ) → 1 ≤ k → k ≤ u .loader .n → j < width s (u .loader .n) → cell (u .lists) (u .loader .n) s k j ≡ valueFrom fs s k j
 
 -- ---- the end of lines taken from `new`
-module _ (l : Lists) (lines : List (List ℕ)) (a : Accepts (start l) lines) (e : ended (run (start l) lines .loader .stage) ≡ true) where
+module _ (l : Lists) (lines : List (List ℕ)) (a : Accepts (fromNew l) lines) (e : ended (run (fromNew l) lines .loader .stage) ≡ true) where
   abbrev last : State
-  last = run (start l) lines
+  last = run (fromNew l) lines
 
   sound : Sound (last .loader)
-  sound = run-sound (start l) fresh-sound lines
+  sound = run-sound (fromNew l) fresh-sound lines
 
   pub is-scaled : scaled (last .loader .stage) ≡ true
   is-scaled = ended-scaled (last .loader .stage) e
 
   -- the line that gave a number
   pub from-line : (p : Part) (k : ℕ) → 1 ≤ k → k ≤ last .loader .n → Found p k (forms lines)
-  from-line p k f h = found p k f (start l) fresh-sound lines a (fresh-empty p k) (all-given (last .loader .n) (last .loader .sets) (sound .whole e) p k f h)
+  from-line p k f h = found p k f (fromNew l) fresh-sound lines a (fresh-empty p k) (all-given (last .loader .n) (last .loader .sets) (sound .whole e) p k f h)
 
-  held : (p : Part) (k : ℕ) (f : 1 ≤ k) (h : k ≤ last .loader .n) → let r = from-line p k f h in HoldsPart p (r .place) (valuesOf (r .form)) last
+  held : (p : Part) (k : ℕ) (f : 1 ≤ k) (h : k ≤ last .loader .n) → let r = from-line p k f h in HoldsPart p (r .place) (λ (s : Slot). valuesFor s (r .form)) last
   held p k f h =
       let r = from-line p k f h in
-      subst (λ (x : Item). HoldsItem x (valuesOf (r .form)) last) (r .item) (collected (start l) fresh-sound lines a (r .form) (r .among))
+      subst (λ (x : Item). HoldsItem x (λ (s : Slot). valuesFor s (r .form)) last) (r .item) (collected (fromNew l) fresh-sound lines a (r .form) (r .among))
 
   pub from-forms : FromForms (forms lines) last
   from-forms = record {
-    size = size-from (start l) fresh-sound lines a refl (scaled-sized (last .loader .stage) is-scaled);
-    scales = scales-from (start l) fresh-sound lines a refl is-scaled;
-    values = λ p k j f h m.
-        let r = from-line p k f h in
-        let c : cell (last .lists) (last .loader .n) p (natAbs (r .place)) j ≡ getD (valuesOf (r .form)) j (pos 0) = held p k f h .cells j m in
-        rw (← r .number) at c ∙ sym (r .values j);
+    size = size-from (fromNew l) fresh-sound lines a refl (scaled-sized (last .loader .stage) is-scaled);
+    scales = scales-from (fromNew l) fresh-sound lines a refl is-scaled;
+    values = λ s k j f h m.
+        let r = from-line (partOf s) k f h in
+        let c : cell (last .lists) (last .loader .n) s (natAbs (r .place)) j ≡ getD (valuesFor s (r .form)) j (pos 0) = held (partOf s) k f h .cells s refl j m in
+        rw (← r .number) at c ∙ sym (r .values s refl j);
   }
 
   -- every number that was given is in its range
-  inside : (p : Part) (k j : ℕ) → 1 ≤ k → k ≤ last .loader .n → j < width p (last .loader .n) → inRange (kindOf p) (cell (last .lists) (last .loader .n) p k j) ≡ true
-  inside p k j f h m =
-      let r = from-line p k f h in
-      let v = held p k f h .inside j m in
-      rw (from-forms .values p k j f h m, r .values j) v
+  inside : (s : Slot) (k j : ℕ) → 1 ≤ k → k ≤ last .loader .n → j < width s (last .loader .n) → inRange (kindFor s) (cell (last .lists) (last .loader .n) s k j) ≡ true
+  inside s k j f h m =
+      let r = from-line (partOf s) k f h in
+      let v = held (partOf s) k f h .inside s refl j m in
+      rw (from-forms .values s k j f h m, r .values s refl j) v
 
-  column : (p : Part) → width p (last .loader .n) ≡ 1 → allInRange (kindOf p) (last .loader .n) (λ (k : ℕ). getD (listOf p (last .lists)) k (pos 0)) ≡ true
-  column p w = all-in (kindOf p) (last .loader .n) (λ (k : ℕ). getD (listOf p (last .lists)) k (pos 0)) (λ k h. one k h)
+  column : (s : Slot) → width s (last .loader .n) ≡ 1 → allInRange (kindFor s) (last .loader .n) (λ (k : ℕ). getD (listOf s (last .lists)) k (pos 0)) ≡ true
+  column s w = all-in (kindFor s) (last .loader .n) (λ (k : ℕ). getD (listOf s (last .lists)) k (pos 0)) (λ k h. one k h)
     where
-      one : (k : ℕ) → k < last .loader .n → inRange (kindOf p) (getD (listOf p (last .lists)) k (pos 0)) ≡ true
+      one : (k : ℕ) → k < last .loader .n → inRange (kindFor s) (getD (listOf s (last .lists)) k (pos 0)) ≡ true
       one k h =
-          let place : (suc k - 1) * width p (last .loader .n) + 0 ≡ k = rw w (omega arith) in
-          subst (λ (m : ℕ). inRange (kindOf p) (getD (listOf p (last .lists)) m (pos 0)) ≡ true) place (inside p (suc k) 0 (omega arith) (omega arith) (rw w (omega arith)))
+          let place : (suc k - 1) * width s (last .loader .n) + 0 ≡ k = rw w (omega arith) in
+          subst (λ (m : ℕ). inRange (kindFor s) (getD (listOf s (last .lists)) m (pos 0)) ≡ true) place (inside s (suc k) 0 (omega arith) (omega arith) (rw w (omega arith)))
 
-  square : (p : Part) → width p (last .loader .n) ≡ last .loader .n → allInRange (kindOf p) (last .loader .n * last .loader .n) (λ (k : ℕ). getD (listOf p (last .lists)) k (pos 0)) ≡ true
-  square p w = all-in (kindOf p) (last .loader .n * last .loader .n) (λ (k : ℕ). getD (listOf p (last .lists)) k (pos 0)) (λ k h. one k h)
+  square : (s : Slot) → width s (last .loader .n) ≡ last .loader .n → allInRange (kindFor s) (last .loader .n * last .loader .n) (λ (k : ℕ). getD (listOf s (last .lists)) k (pos 0)) ≡ true
+  square s w = all-in (kindFor s) (last .loader .n * last .loader .n) (λ (k : ℕ). getD (listOf s (last .lists)) k (pos 0)) (λ k h. one k h)
     where
-      one : (k : ℕ) → k < last .loader .n * last .loader .n → inRange (kindOf p) (getD (listOf p (last .lists)) k (pos 0)) ≡ true
+      one : (k : ℕ) → k < last .loader .n * last .loader .n → inRange (kindFor s) (getD (listOf s (last .lists)) k (pos 0)) ≡ true
       one k h =
           let size = size-range (last .loader .n) (sound .size (scaled-sized (last .loader .stage) is-scaled)) in
           let i = k / last .loader .n in
           let first : suc i - 1 ≡ i = omega arith in
-          let place : (suc i - 1) * width p (last .loader .n) + k % last .loader .n ≡ k = rw (w, first) (div-add-mod' k (last .loader .n)) in
+          let place : (suc i - 1) * width s (last .loader .n) + k % last .loader .n ≡ k = rw (w, first) (div-add-mod' k (last .loader .n)) in
           let above : 0 < last .loader .n = size .0 in
           let below : i < last .loader .n = div-lt-iff-lt-mul above .1 h in
-          subst (λ (m : ℕ). inRange (kindOf p) (getD (listOf p (last .lists)) m (pos 0)) ≡ true) place
-          (inside p (suc i) (k % last .loader .n) (omega arith) (omega arith) (rw w (mod-lt k above)))
+          subst (λ (m : ℕ). inRange (kindFor s) (getD (listOf s (last .lists)) m (pos 0)) ≡ true) place
+          (inside s (suc i) (k % last .loader .n) (omega arith) (omega arith) (rw w (mod-lt k above)))
 
   pub in-range : InRange last
   in-range = record {
     size = sound .size (scaled-sized (last .loader .stage) is-scaled);
     solution = sound .solution is-scaled;
     inverse-scale = sound .inverse is-scaled;
-    matrix = square Row refl;
+    matrix = square Matrix refl;
     right = column Right refl;
     guess = column Guess refl;
     inverse = square Inverse refl;

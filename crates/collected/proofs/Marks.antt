@@ -14,22 +14,22 @@ use borrow.Author.Tests.{eqb-true, eqb-false}
 use lib.Dec.{eqb}
 use lib.ListN.{length}
 use lib.Seq.{getD-set-same, getD-set-other}
-use Rattle.items.specs.Put.{partIndex}
+use Rattle.items.specs.Item.{partIndex}
 use Rattle.items.specs.declared.Part.{Part}
 use Rattle.items.specs.declared.Part.the-variants.{Row, Right, Guess, Inverse, Weight}
 use Rattle.items.proofs.Capped.{part-same}
 use Rattle.places.specs.Places.{withPlace, lacking}
 use Rattle.places.proofs.Places.{has-same, has-other, lacking-with, lacking-≤}
-use Rattle.progress.specs.Progress.{setOf, counted, total, given, marked, missing}
+use Rattle.progress.specs.Progress.{setOf, counted, totalOver, given, marked, missing}
 
 abbrev pub hits : Part → Part → ℕ
 hits p q = cond (eqb (partIndex p) (partIndex q)) 1 0
 
-total-more : (p : Part) (ps : List Part) (f g : Part → ℕ) → ((q : Part) → f q ≡ g q + hits p q) → total ps f ≡ total ps g + total ps (hits p)
-total-more p [] f g h = refl
-total-more p (q ∷ ps) f g h = omega (arith, h q, total-more p ps f g h)
+totalOver-more : (p : Part) (ps : List Part) (f g : Part → ℕ) → ((q : Part) → f q ≡ g q + hits p q) → totalOver ps f ≡ totalOver ps g + totalOver ps (hits p)
+totalOver-more p [] f g h = refl
+totalOver-more p (q ∷ ps) f g h = omega (arith, h q, totalOver-more p ps f g h)
 
-pub once : (p : Part) → total counted (hits p) ≡ 1
+pub once : (p : Part) → totalOver counted (hits p) ≡ 1
 once Row = refl
 once Right = refl
 once Guess = refl
@@ -63,7 +63,7 @@ module _ (z : List ℕ) (five : length z ≡ 5) (p : Part) (i : ℕ) where
   pub missing-marked : (n : ℕ) → 1 ≤ i → i ≤ n → given z p i ≡ false → missing n z ≡ suc (missing n (marked z p i))
   unfolding missing
   missing-marked n l h e =
-      omega (arith, once p, total-more p counted (λ (q : Part). lacking (setOf z q) n) (λ (q : Part). lacking (setOf (marked z p i) q) n) (fewer n l h e))
+      omega (arith, once p, totalOver-more p counted (λ (q : Part). lacking (setOf z q) n) (λ (q : Part). lacking (setOf (marked z p i) q) n) (fewer n l h e))
 
 module _ (z : List ℕ) (five : length z ≡ 5) (q : Part) (k : ℕ) where
   pub given-own : given (marked z q k) q k ≡ true
@@ -79,10 +79,10 @@ module _ (z : List ℕ) (five : length z ≡ 5) (q : Part) (k : ℕ) where
           (rw (marked-own z five q k) (has-other (setOf z q) (k - 1) (i - 1) (λ s. other e (omega arith))))
 
 -- ---- at most 5n are missing
-total-most : (ps : List Part) (f : Part → ℕ) (n : ℕ) → ((q : Part) → f q ≤ n) → total ps f ≤ length ps * n
-total-most [] f n h = omega arith
-total-most (q ∷ ps) f n h = omega (arith, h q, total-most ps f n h, suc-mul (length ps) n)
+totalOver-most : (ps : List Part) (f : Part → ℕ) (n : ℕ) → ((q : Part) → f q ≤ n) → totalOver ps f ≤ length ps * n
+totalOver-most [] f n h = omega arith
+totalOver-most (q ∷ ps) f n h = omega (arith, h q, totalOver-most ps f n h, suc-mul (length ps) n)
 
 pub missing-most : (n : ℕ) (z : List ℕ) → missing n z ≤ 5 * n
 unfolding missing
-missing-most n z = total-most counted (λ (q : Part). lacking (setOf z q) n) n (λ q. lacking-≤ (setOf z q) n)
+missing-most n z = totalOver-most counted (λ (q : Part). lacking (setOf z q) n) n (λ q. lacking-≤ (setOf z q) n)

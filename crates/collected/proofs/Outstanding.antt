@@ -13,22 +13,23 @@ use Rattle.integer.proofs.Search.{clash}
 use Rattle.rules.proofs.Ranges.{size-range}
 use Rattle.form.specs.Form.{Form, problem, scale, row, right, guess, inverse, weight, end}
 use Rattle.items.specs.Item.{itemOf}
-use Rattle.items.specs.Lists.{Lists}
+use Rattle.lent_lists.specs.Lists.{Lists}
 use Rattle.items.specs.declared.Item.the-variants.{Of}
 use Rattle.items.specs.declared.Part.{Part}
 use Rattle.items.specs.declared.Part.the-variants.{Row, Right, Guess, Inverse, Weight}
-use Rattle.items.proofs.Put.{between}
+use Rattle.items.proofs.Between.{between}
 use Rattle.progress.specs.Progress.{given, missing, sized, scaled, ended, misplaced}
 use Rattle.progress.specs.declared.Stage.{Stage}
 use Rattle.progress.specs.declared.Stage.the-variants.{Start, Sized, Scaled, Ended}
 use Rattle.progress.proofs.Progress.{late, placed-of}
 use Rattle.loader.specs.declared.Loader.{Loader}
-use Rattle.loader.specs.Order.{answer}
+use Rattle.loader.specs.Answer.{lineAnswer}
 use Rattle.loader.specs.Taken.{after, loaderAfter}
-use Rattle.loader.proofs.Form.{Passed}
+use Rattle.loader_order.proofs.Said.{Passed}
 use Rattle.loader.proofs.Exact.{formCase}
 use Rattle.loader.proofs.Accepted.{accepted-form}
-use Rattle.collected.specs.Run.{State, start, step, run, Accepts, outstanding}
+use Rattle.collected.specs.Outstanding.{linesMost, outstanding}
+use Rattle.collected.specs.Run.{State, fromNew, step, run, Accepts}
 use Rattle.collected.proofs.Marks.{missing-marked, missing-most}
 use Rattle.collected.proofs.Sound.{Sound, fresh-sound, form-sound, line-sound}
 
@@ -80,7 +81,7 @@ module _ (d : Loader) (h : Sound d) (going : ended (d .stage) ≡ false) where
   first-falls end p q = clash (sized (d .stage)) (late (d .stage) (p .early)) q
 
 -- ---- a line that is accepted
-module _ (d : Loader) (h : Sound d) (l : Lists) (line : List ℕ) (e : answer d l line ≡ []) where
+module _ (d : Loader) (h : Sound d) (l : Lists) (line : List ℕ) (e : lineAnswer d l line ≡ []) where
   pub falls-one : sized (d .stage) ≡ true → outstanding d ≡ suc (outstanding (loaderAfter d l line))
   falls-one s = let a = accepted-form d l line e in rw (a .1 .loader) (form-falls d h (a .1 .going) (a .0) (a .1 .fine) s)
 
@@ -98,5 +99,5 @@ lines-fall u h [] a = omega arith
 lines-fall u h (line ∷ lines) a =
     omega (arith, falls (u .loader) h (u .lists) line (a .0), lines-fall (step u line) (line-sound (u .loader) (u .lists) line h) lines (a .1))
 
-pub at-most : (l : Lists) (lines : List (List ℕ)) → Accepts (start l) lines → length lines ≤ 163
-at-most l lines a = omega (arith, lines-fall (start l) fresh-sound lines a)
+pub at-most : (l : Lists) (lines : List (List ℕ)) → Accepts (fromNew l) lines → length lines ≤ linesMost
+at-most l lines a = omega (arith, lines-fall (fromNew l) fresh-sound lines a)

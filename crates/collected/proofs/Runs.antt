@@ -1,6 +1,6 @@
 -- A run of accepted lines holds exactly what its lines' forms give.
 --   collected  — every one of their forms is held at the end
---   found      — what is given at the end, and was not at the start, was given by one of the lines, and has that line's numbers
+--   found      — what is given at the end, and was not at the fromNew, was given by one of the lines, and has that line's numbers
 --   size-from, scales-from — n, s and t are those of problem and scale
 use mathlib.Core.Path.{_≡_, refl, sym, ap, subst, _∙_}
 use mathlib.Core.Bool.{Bool, true, false}
@@ -15,20 +15,21 @@ use Rattle.integer.proofs.Search.{clash}
 use Rattle.rules.proofs.Ranges.{both-left, both-right}
 use Rattle.form.specs.Form.{Form}
 use Rattle.form.specs.Reading.{reading}
-use Rattle.items.specs.Item.{itemOf, valuesOf, placed}
-use Rattle.items.specs.Put.{partIndex}
+use Rattle.items.specs.Item.{itemOf, partIndex, placed}
 use Rattle.items.specs.declared.Item.{Item}
 use Rattle.items.specs.declared.Item.the-variants.{Problem, Scale, Of, End}
 use Rattle.items.specs.declared.Part.{Part}
 use Rattle.items.proofs.Capped.{part-same}
-use Rattle.items.proofs.Put.{between}
+use Rattle.items.proofs.Between.{between}
 use Rattle.progress.specs.Progress.{given}
 use Rattle.progress.proofs.Progress.{placed-of}
 use Rattle.loader.specs.declared.Loader.{Loader}
 use Rattle.loader.specs.Taken.{after}
 use Rattle.loader.proofs.Accepted.{Accepted, accepted-form}
 use Rattle.collected.specs.Run.{State, step, run, Accepts, forms}
-use Rattle.collected.specs.Holds.{In, here, there, Holds, isOf, valueFrom}
+use Rattle.lent_lists.specs.Slot.{Slot, partOf, valuesFor}
+use Rattle.collected.specs.Given.{isOf, valueFrom}
+use Rattle.collected.specs.Holds.{In, here, there, HoldsForm}
 use Rattle.collected.proofs.Sound.{Sound, line-sound}
 use Rattle.collected.proofs.Collected.{next, holds-own, holds-kept}
 use Rattle.collected.proofs.Marks.{given-else}
@@ -38,14 +39,14 @@ pub step-next : (u : State) {line : List ℕ} {f : Form} → Accepted (u .loader
 step-next u a = λ i. record { loader = a .loader i; lists = a .lists i }
 
 module _ (u : State) (sound : Sound (u .loader)) {line : List ℕ} {g : Form} (a : Accepted (u .loader) (u .lists) line g) where
-  pub step-own : Holds g (step u line)
+  pub step-own : HoldsForm g (step u line)
   step-own = rw (step-next u a) (holds-own u sound g (a .fine) (a .long))
 
-  step-kept : (f : Form) → Holds f u → Holds f (step u line)
+  step-kept : (f : Form) → HoldsForm f u → HoldsForm f (step u line)
   step-kept f h = rw (step-next u a) (holds-kept u sound g (a .fine) (a .going) f h)
 
 -- ---- all lines
-pub kept-all : (u : State) → Sound (u .loader) → (lines : List (List ℕ)) → Accepts u lines → (f : Form) → Holds f u → Holds f (run u lines)
+pub kept-all : (u : State) → Sound (u .loader) → (lines : List (List ℕ)) → Accepts u lines → (f : Form) → HoldsForm f u → HoldsForm f (run u lines)
 unfolding run
 kept-all u s [] a f h = h
 kept-all u s (line ∷ lines) a f h =
@@ -73,13 +74,13 @@ none-of : none (forms []) ≡ false → true ≡ false
 unfolding none forms
 none-of e = e
 
-pub collected : (u : State) → Sound (u .loader) → (lines : List (List ℕ)) → Accepts u lines → (f : Form) → In f (forms lines) → Holds f (run u lines)
+pub collected : (u : State) → Sound (u .loader) → (lines : List (List ℕ)) → Accepts u lines → (f : Form) → In f (forms lines) → HoldsForm f (run u lines)
 unfolding run
 collected u s [] a f i = clash true refl (none-of (in-some i))
 collected u s (line ∷ lines) a f i =
     let r = accepted-form (u .loader) (u .lists) line (a .0) in
     let s′ = line-sound (u .loader) (u .lists) line s in
-    in-cases (λ (g : Form). Holds g (run (step u line) lines)) (subst (λ (fs : List Form). In f fs) (forms-next line lines (r .1 .reads)) i)
+    in-cases (λ (g : Form). HoldsForm g (run (step u line) lines)) (subst (λ (fs : List Form). In f fs) (forms-next line lines (r .1 .reads)) i)
     (kept-all (step u line) s′ lines (a .1) (r .0) (step-own u s (r .1)))
     (collected (step u line) s′ lines (a .1) f)
 
@@ -109,15 +110,15 @@ pub record Found (p : Part) (k : ℕ) (fs : List Form) : Type 0 where
   pub place : ℤ
   pub item : itemOf form ≡ Of p place
   pub number : k ≡ natAbs place
-  pub values : (j : ℕ) → valueFrom fs p k j ≡ getD (valuesOf form) j (pos 0)
+  pub values : (s : Slot) → partOf s ≡ p → (j : ℕ) → valueFrom fs s k j ≡ getD (valuesFor s form) j (pos 0)
 
 found-next : (p : Part) (k : ℕ) (f : Form) (fs : List Form) → isOf p k (itemOf f) ≡ false → Found p k fs → Found p k (f ∷ fs)
 unfolding valueFrom
-found-next p k f fs e h = record { form = h .form; among = there (h .among); place = h .place; item = h .item; number = h .number; values = λ j. rw e (h .values j) }
+found-next p k f fs e h = record { form = h .form; among = there (h .among); place = h .place; item = h .item; number = h .number; values = λ s o j. rw (o, e) (h .values s o j) }
 
 found-here : (p : Part) (k : ℕ) (f : Form) (fs : List Form) → isOf p k (itemOf f) ≡ true → Found p k (f ∷ fs)
 unfolding valueFrom
-found-here p k f fs e = let i = is-of p k (itemOf f) e in record { form = f; among = here; place = i .0; item = i .1; number = i .2; values = λ j. rw e }
+found-here p k f fs e = let i = is-of p k (itemOf f) e in record { form = f; among = here; place = i .0; item = i .1; number = i .2; values = λ s o j. rw (o, e) }
 
 pub found : (p : Part) (k : ℕ) → 1 ≤ k → (u : State) → Sound (u .loader) → (lines : List (List ℕ)) → Accepts u lines
     → given (u .loader .sets) p k ≡ false → given (run u lines .loader .sets) p k ≡ true → Found p k (forms lines)

@@ -9,14 +9,16 @@ use borrow.Author.Tests.{not-false}
 use lib.IntN.{ℤ}
 use Rattle.integer.proofs.Search.{clash}
 use Rattle.form.specs.Form.{Form}
-use Rattle.items.specs.Item.{itemOf, valuesOf}
+use Rattle.items.specs.Item.{itemOf}
 use Rattle.items.specs.declared.Item.{Item}
 use Rattle.items.specs.declared.Item.the-variants.{Problem, Scale}
 use Rattle.progress.specs.Progress.{sized, scaled}
 use Rattle.progress.proofs.Progress.{late}
 use Rattle.loader.proofs.Accepted.{Accepted, accepted-form}
 use Rattle.collected.specs.Run.{State, step, run, Accepts, forms}
-use Rattle.collected.specs.Holds.{In, here, there, Holds, HoldsItem, sizeFrom, scalesFrom, sizeBy, scaleBy, Scales}
+use Rattle.lent_lists.specs.Slot.{Slot, valuesFor}
+use Rattle.collected.specs.Given.{sizeFrom, scalesFrom, sizeBy, scaleBy, Scales}
+use Rattle.collected.specs.Holds.{In, here, there, HoldsForm, HoldsItem}
 use Rattle.collected.proofs.Sound.{Sound, line-sound}
 use Rattle.collected.proofs.View.{View, view, a-problem, a-scale, a-part, an-end}
 use Rattle.collected.proofs.Runs.{step-own, kept-all, forms-next}
@@ -31,7 +33,7 @@ module _ (u : State) (s : Sound (u .loader)) (line : List ℕ) (lines : List (Li
   accepted = accepted-form (u .loader) (u .lists) line (a .0) .1
 
   -- the first line's form is held to the end
-  first-held : Holds form (run (step u line) lines)
+  first-held : HoldsForm form (run (step u line) lines)
   first-held = kept-all (step u line) (line-sound (u .loader) (u .lists) line s) lines (a .1) form (step-own u s accepted)
 
   the-view : View (u .loader .n) form
@@ -49,8 +51,8 @@ size-from u s (line ∷ lines) a before now = rw (first-form u s line lines a) (
     f : Form
     f = form u s line lines a
 
-    go : View (u .loader .n) f → Holds f (run (step u line) lines) → run (step u line) lines .loader .n ≡ sizeBy (itemOf f) (sizeFrom (forms lines))
-    go (a-problem m e) h = rw e (subst (λ (x : Item). HoldsItem x (valuesOf f) (run (step u line) lines)) e h .size)
+    go : View (u .loader .n) f → HoldsForm f (run (step u line) lines) → run (step u line) lines .loader .n ≡ sizeBy (itemOf f) (sizeFrom (forms lines))
+    go (a-problem m e) h = rw e (subst (λ (x : Item). HoldsItem x (λ (s : Slot). valuesFor s f) (run (step u line) lines)) e h .size)
     go (a-scale m t e) h = clash (sized (u .loader .stage)) (not-false _ (rw e at (accepted u s line lines a .fine .early))) before
     go (a-part q i e c r) h = clash (sized (u .loader .stage)) (late (u .loader .stage) (rw e at (accepted u s line lines a .fine .early))) before
     go (an-end e) h = clash (sized (u .loader .stage)) (late (u .loader .stage) (rw e at (accepted u s line lines a .fine .early))) before
@@ -69,9 +71,9 @@ scales-from u s (line ∷ lines) a before now =
     f : Form
     f = form u s line lines a
 
-    go : View (u .loader .n) f → Holds f (run (step u line) lines) → (scaled (step u line .loader .stage) ≡ false → HasScales (run (step u line) lines) (scalesFrom (forms lines))) → HasScales (run (step u line) lines) (scaleBy (itemOf f) (scalesFrom (forms lines)))
+    go : View (u .loader .n) f → HoldsForm f (run (step u line) lines) → (scaled (step u line .loader .stage) ≡ false → HasScales (run (step u line) lines) (scalesFrom (forms lines))) → HasScales (run (step u line) lines) (scaleBy (itemOf f) (scalesFrom (forms lines)))
     go (a-problem m e) h rest = rw e (rest (rw (accepted u s line lines a .loader, e)))
-    go (a-scale m t e) h rest = let k = subst (λ (x : Item). HoldsItem x (valuesOf f) (run (step u line) lines)) e h in rw e (k .solution, k .inverse)
+    go (a-scale m t e) h rest = let k = subst (λ (x : Item). HoldsItem x (λ (s : Slot). valuesFor s f) (run (step u line) lines)) e h in rw e (k .solution, k .inverse)
     go (a-part q i e c r) h rest = clash (scaled (u .loader .stage)) (not-false _ (rw e at (accepted u s line lines a .fine .early))) before
     go (an-end e) h rest = clash (scaled (u .loader .stage)) (not-false _ (rw e at (accepted u s line lines a .fine .early))) before
 

@@ -17,7 +17,7 @@ use Rattle.rules.specs.declared.Kind.the-variants as kind
 use Rattle.rules.proofs.Ranges.{both-left, both-right, range-natural}
 use Rattle.form.specs.Form.{Form, problem, scale, row, right, guess, inverse, weight, end}
 use Rattle.items.specs.Item.{itemOf}
-use Rattle.items.specs.Lists.{Lists}
+use Rattle.lent_lists.specs.Lists.{Lists}
 use Rattle.items.specs.declared.Item.the-variants.{Of}
 use Rattle.items.specs.declared.Part.{Part}
 use Rattle.items.specs.declared.Part.the-variants.{Row, Right, Guess, Inverse, Weight}
@@ -27,9 +27,9 @@ use Rattle.progress.specs.declared.Stage.{Stage}
 use Rattle.progress.specs.declared.Stage.the-variants.{Start, Sized, Scaled, Ended}
 use Rattle.progress.proofs.Progress.{late}
 use Rattle.loader.specs.declared.Loader.{Loader}
-use Rattle.loader.specs.Order.{answer}
+use Rattle.loader.specs.Answer.{lineAnswer}
 use Rattle.loader.specs.Taken.{fresh, after, loaderAfter}
-use Rattle.loader.proofs.Form.{Passed}
+use Rattle.loader_order.proofs.Said.{Passed}
 use Rattle.loader.proofs.Exact.{formCase}
 use Rattle.loader.proofs.Said.{refused-leaves}
 use Rattle.loader.proofs.Accepted.{accepted-form}
@@ -127,9 +127,9 @@ module _ (d : Loader) (h : Sound d) (going : ended (d .stage) ≡ false) where
   }
 
 pub line-sound : (d : Loader) (l : Lists) (line : List ℕ) → Sound d → Sound (loaderAfter d l line)
-line-sound d l line h = go (answer d l line) refl
+line-sound d l line h = go (lineAnswer d l line) refl
   where
-    go : (w : List ℕ) → answer d l line ≡ w → Sound (loaderAfter d l line)
+    go : (w : List ℕ) → lineAnswer d l line ≡ w → Sound (loaderAfter d l line)
     go [] e = let a = accepted-form d l line e in rw (a .1 .loader) (form-sound d h (a .1 .going) (a .0) (a .1 .fine))
     go (k ∷ ks) e = rw (refused-leaves d l line e .0) h
 

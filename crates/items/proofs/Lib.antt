@@ -1,3 +1,2 @@
-pub mod Put
-pub mod Lists
+pub mod Between
 pub mod Capped

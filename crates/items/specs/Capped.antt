@@ -3,16 +3,13 @@
 --   itemIn m      — itemOf
 --   outsideIn m b — outside, b telling whether the numbers of a list are in their range
 --   miscountedIn n m c — miscounted, c being the count of a list
---   valuesIn m vs — 32 numbers, of which the first are valuesOf
---   putWide, putAllIn — putIn and putAll
---   Room w k x    — the item x, if it is of a part, has i in 1 to 32 and at most 32 numbers, w, in a list of length k that has room for 32 · w
-use mathlib.Core.Bool.{Bool, true, false, not, _&&_}
+--   valuesIn m vs — 32 numbers, of which the first are those that it gives for a list
+use mathlib.Core.Bool.{Bool, false, not, _&&_}
 use mathlib.Core.List.{List}
-use mathlib.Core.Path.{_≡_}
-use Prim.Native.Nat.{ℕ, _*_, _≤_}
+use Prim.Native.Nat.{ℕ}
 use lib.Dec.{eqb}
 use lib.IntN.{ℤ}
-use lib.ListN.{set, take}
+use lib.ListN.{set}
 use Rattle.rules.specs.Range.{inRange}
 use Rattle.rules.specs.declared.Kind.the-variants as kind
 use Rattle.line.specs.declared.CappedForm.{CappedForm}
@@ -20,10 +17,6 @@ use Rattle.line.specs.declared.CappedForm.the-variants as form
 use Rattle.items.specs.declared.Item.{Item}
 use Rattle.items.specs.declared.Item.the-variants.{Problem, Scale, Of, End}
 use Rattle.items.specs.declared.Part.the-variants.{Row, Right, Guess, Inverse, Weight}
-use Rattle.items.specs.declared.Part.{Part}
-use Rattle.items.specs.Item.{placed}
-use Rattle.items.specs.Put.{width, put}
-use Rattle.items.specs.Lists.{Lists}
 
 abbrev pub itemIn : CappedForm → Item
 itemIn (form.Problem n) = Problem n
@@ -64,21 +57,3 @@ valuesIn (form.Guess i x) vs = set vs 0 x
 valuesIn (form.Inverse i) vs = vs
 valuesIn (form.Weight i w) vs = set vs 0 w
 valuesIn form.End vs = vs
-
-abbrev pub putWide : Part → ℕ → Item → List ℤ → List ℤ → List ℤ
-putWide p n x vs l = put (width p n) p x (take (width p n) vs) l
-
-abbrev pub putAllIn : ℕ → Item → List ℤ → Lists → Lists
-putAllIn n x vs l = record {
-  matrix = putWide Row n x vs (l .matrix);
-  right = putWide Right n x vs (l .right);
-  guess = putWide Guess n x vs (l .guess);
-  inverse = putWide Inverse n x vs (l .inverse);
-  weights = putWide Weight n x vs (l .weights);
-}
-
-abbrev pub Room : ℕ → ℕ → Item → Type 0
-Room w k (Problem n) = Unit
-Room w k (Scale s t) = Unit
-Room w k (Of p i) = (w ≤ 32) × (32 * w ≤ k) × (placed 32 (Of p i) ≡ true)
-Room w k End = Unit

@@ -1,14 +1,14 @@
 -- What a form gives, and the two refusals that are said of its numbers.
 --   itemOf f       — which form it is: problem with n, scale with s and t, end, or the form of a part for the number i
---   valuesOf f     — the numbers that it puts into the list of its part
+--   partIndex p    — the place of the part p among the five
 --   placed n x     — the number i is 1 to n
 --   outside f      — 3: a number of it other than i is outside its range
 --   miscounted n f — 4: a row or inverse list with other than n numbers
 use mathlib.Core.Bool.{Bool, true, false, not, _&&_}
-use mathlib.Core.List.{List, [], _∷_}
+use mathlib.Core.List.{_∷_}
 use Prim.Native.Nat.{ℕ}
 use lib.Dec.{eqb}
-use lib.IntN.{ℤ, pos}
+use lib.IntN.{pos}
 use lib.ListN.{length}
 use lib.Signed.{leZ}
 use Rattle.rules.specs.Range.{inRange}
@@ -17,6 +17,7 @@ use Rattle.form.specs.Form.{Form, problem, scale, row, right, guess, inverse, w
 use Rattle.form.specs.List.{allInside}
 use Rattle.items.specs.declared.Item.{Item}
 use Rattle.items.specs.declared.Item.the-variants.{Problem, Scale, Of, End}
+use Rattle.items.specs.declared.Part.{Part}
 use Rattle.items.specs.declared.Part.the-variants.{Row, Right, Guess, Inverse, Weight}
 
 abbrev pub itemOf : Form → Item
@@ -29,15 +30,12 @@ itemOf (inverse i g others) = Of Inverse i
 itemOf (weight i w) = Of Weight i
 itemOf end = End
 
-abbrev pub valuesOf : Form → List ℤ
-valuesOf (problem n) = []
-valuesOf (scale s t) = []
-valuesOf (row i a others) = a ∷ others
-valuesOf (right i b) = b ∷ []
-valuesOf (guess i x) = x ∷ []
-valuesOf (inverse i g others) = g ∷ others
-valuesOf (weight i w) = w ∷ []
-valuesOf end = []
+abbrev pub partIndex : Part → ℕ
+partIndex Row = 0
+partIndex Right = 1
+partIndex Guess = 2
+partIndex Inverse = 3
+partIndex Weight = 4
 
 abbrev pub placed : ℕ → Item → Bool
 placed n (Problem m) = true

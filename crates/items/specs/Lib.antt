@@ -1,4 +1,2 @@
 pub mod Item
-pub mod Put
-pub mod Lists
 pub mod Capped

@@ -1,15 +1,11 @@
-// What a form of a line gives: for which part and number i, which numbers, and where they are written.
+// What a form of a line gives: for which part and number i, and which numbers.
 ghost use mathlib.Core.Path.{_≡_};
-ghost use mathlib.Core.Bool.{true, false, _&&_};
-ghost use Prim.Native.Nat.{_+_, _*_, _≤_, _<_};
+ghost use mathlib.Core.Bool.{true, _&&_};
+ghost use Prim.Native.Nat.{_≤_, _<_};
 ghost use lib.IntN.{pos, natAbs};
-ghost use lib.ListN.{length, take};
-ghost use lib.Seq.{paste};
 ghost use lib.Signed.{leZ};
-ghost use Rattle.items.specs.Item.{placed};
-ghost use Rattle.items.specs.Put.{partIndex, put};
-ghost use Rattle.items.specs.Lists.{lists, tooShort};
-ghost use Rattle.items.specs.Capped.{itemIn, outsideIn, miscountedIn, valuesIn, putAllIn, Room};
+ghost use Rattle.items.specs.Item.{partIndex, placed};
+ghost use Rattle.items.specs.Capped.{itemIn, outsideIn, miscountedIn, valuesIn};
 use line::CappedForm;
 use rules::Kind;
 
@@ -145,75 +141,4 @@ pub fn place_of(i: i64) -> u32
     ensures { λ r. ⌜ (r ≡ natAbs i) × (1 ≤ r) × (r ≤ 32) ⌝ }
 {
     i as u32
-}
-
-// Writes the first count of 32 numbers into a list from a place on.
-fn write_values(values: [i64; 32], count: usize, l: &mut [i64], at: usize)
-    requires { ⌜ (count ≤ 32) × (at + count ≤ length (now l)) ⌝ }
-    ensures { λ _. ⌜ now (l .exit) ≡ paste (now (l .entry)) at values count ⌝ }
-{
-    let mut j = 0;
-    while j < count {
-        l[at + j] = values[j];
-        j += 1;
-    }
-}
-
-// Writes the first width of the numbers of a form into the list of a part, where the form is of that part, from the place (i − 1)·width on.
-pub fn write_part(part: Part, item: Item, values: [i64; 32], width: usize, l: &mut [i64])
-    requires { ⌜ Room width (length (now l)) item ⌝ }
-    ensures { λ _. ⌜ now (l .exit) ≡ put width part item (take width values) (now (l .entry)) ⌝ }
-{
-    match item {
-        Item::Problem(_) => {}
-        Item::Scale(_, _) => {}
-        Item::Of(of, i) => {
-            if part_index(part) == part_index(of) {
-                let k = place_of(i) as usize;
-                write_values(values, width, l, (k - 1) * width);
-            }
-        }
-        Item::End => {}
-    }
-}
-
-// 8: whether a list of one of these lengths is too short.
-pub fn is_short(matrix: usize, right: usize, guess: usize, inverse: usize, weights: usize) -> bool
-    ensures { λ r. ⌜ r ≡ tooShort matrix right guess inverse weights ⌝ }
-{
-    if matrix < 1024 {
-        return true;
-    }
-    if right < 32 {
-        return true;
-    }
-    if guess < 32 {
-        return true;
-    }
-    if inverse < 1024 {
-        return true;
-    }
-    weights < 32
-}
-
-// Writes the numbers of an accepted form at their own places: they come first among the values, n of them in a row, else one.
-pub fn write_all(
-    item: Item,
-    values: [i64; 32],
-    n: usize,
-    matrix: &mut [i64],
-    right: &mut [i64],
-    guess: &mut [i64],
-    inverse: &mut [i64],
-    weights: &mut [i64],
-)
-    requires { ⌜ Room n 1024 item ⌝ }
-    requires { ⌜ tooShort (length (now matrix)) (length (now right)) (length (now guess)) (length (now inverse)) (length (now weights)) ≡ false ⌝ }
-    ensures { λ _. ⌜ lists (now (matrix .exit)) (now (right .exit)) (now (guess .exit)) (now (inverse .exit)) (now (weights .exit)) ≡ putAllIn n item values (lists (now (matrix .entry)) (now (right .entry)) (now (guess .entry)) (now (inverse .entry)) (now (weights .entry))) ⌝ }
-{
-    write_part(Part::Row, item, values, n, matrix);
-    write_part(Part::Right, item, values, 1, right);
-    write_part(Part::Guess, item, values, 1, guess);
-    write_part(Part::Inverse, item, values, n, inverse);
-    write_part(Part::Weight, item, values, 1, weights);
 }

@@ -9,7 +9,7 @@ use Rattle.enclosure.specs.Problem.{Problem}
 use Rattle.enclosure.specs.Reckoning.{bound, inverseBound}
 use Rattle.enclosure.proofs.Agreement.{bound-same}
 use Rattle.numeral.specs.Decimal.{decimal}
-use Rattle.text.specs.Line.{gap, numbers, opening, closing}
+use Rattle.text.specs.Line.{gap, numbers, lineOpening, lineClosing}
 use Rattle.text.proofs.Each.{each-ext}
 use Rattle.report.specs.Report.{solutionLine, entryLine, inverseLine, reportOf}
 use Rattle.form.specs.Form.{bytes}
@@ -28,7 +28,7 @@ module _ (n s : ℕ) (X X′ : ℕ → ℤ) (E E′ : ℕ → ℕ) (L L′ : ℕ
       rw (
         each-ext n (solutionLine X E) (solutionLine X′ E′) (λ i l. rw (hX i l, hE i l)),
         each-ext n (entryLine s X E) (entryLine s X′ E′) (λ i l. rw (hX i l, hE i l)),
-        each-ext n (inverseLine n L) (inverseLine n L′) (λ i l. ap (λ (t : List ℕ). opening (bytes "(inverse ") (i + 1) ++ t ++ closing) (row-same i l)),
+        each-ext n (inverseLine n L) (inverseLine n L′) (λ i l. ap (λ (t : List ℕ). lineOpening (bytes "(inverse ") (i + 1) ++ t ++ lineClosing) (row-same i l)),
       )
 
 module _ (n s t : ℕ) (A A′ : Mat) (b b′ X X′ : Vec) (G G′ : Mat) (w w′ : ℕ → ℕ) (hA : (i j : ℕ) → i < n → j < n → A i j ≡ A′ i j)

@@ -14,38 +14,35 @@ use Rattle.rules.proofs.AllInRange.{all-at}
 use Rattle.rules.proofs.Ranges.{both, size-range, inverse-scale-range, weight-range}
 use Rattle.linear.specs.Slice.{at, vectorOf, matrixOf}
 use Rattle.enclosure.specs.Problem.{Problem}
-use Rattle.checked.specs.Input.{Input, input, problem, short, inRanges}
+use Rattle.checked.specs.Input.{problem, short, inRanges}
 use Rattle.checked.specs.Order.{answer, checkedOf}
 use Rattle.checked.proofs.Contract.{answer-ready}
 use Rattle.form.specs.Form.{Form}
-use Rattle.items.specs.Put.{width}
-use Rattle.items.specs.declared.Part.{Part}
-use Rattle.items.specs.declared.Part.the-variants.{Row, Right, Guess, Inverse, Weight}
-use Rattle.collected.specs.Run.{State, listOf}
-use Rattle.collected.specs.Holds.{valueFrom, InRange}
+use Rattle.lent_lists.specs.Slot.{Slot, Matrix, Right, Guess, Inverse, Weight, width}
+use Rattle.lent_lists.specs.Lists.{listOf}
+use Rattle.collected.specs.Run.{State}
+use Rattle.collected.specs.Given.{valueFrom}
+use Rattle.collected.specs.Holds.{InRange}
 use Rattle.collected.proofs.End.{FromForms}
 use Rattle.judged.specs.Problem.{problemFrom}
 use Rattle.judged.specs.Judged.{reportedOf}
+use Rattle.judged.specs.Shown.{inputAt}
 use Rattle.checked.proofs.Agreement.{checked-same}
 use Rattle.judged.proofs.Agreed.{reported-same}
-
--- what a loader and its lists hand to a check
-abbrev pub inputAt : State → List ℕ → List ℕ → Input
-inputAt u E L = input (u .loader .n) (u .loader .s) (u .loader .t) (u .lists .matrix) (u .lists .right) (u .lists .guess) (u .lists .inverse) (u .lists .weights) E L
 
 module _ (u : State) (fs : List Form) (from : FromForms fs u) where
   abbrev n : ℕ
   n = u .loader .n
 
-  wide : (p : Part) → width p n ≡ n → (i j : ℕ) → i < n → j < n → getD (listOf p (u .lists)) (i * n + j) (pos 0) ≡ valueFrom fs p (suc i) j
-  wide p w i j li lj =
-      let place : (suc i - 1) * width p n + j ≡ i * n + j = let f : suc i - 1 ≡ i = omega arith in rw (w, f) in
-      subst (λ (k : ℕ). getD (listOf p (u .lists)) k (pos 0) ≡ valueFrom fs p (suc i) j) place (from .values p (suc i) j (omega arith) (omega arith) (rw w lj))
+  wide : (s : Slot) → width s n ≡ n → (i j : ℕ) → i < n → j < n → getD (listOf s (u .lists)) (i * n + j) (pos 0) ≡ valueFrom fs s (suc i) j
+  wide s w i j li lj =
+      let place : (suc i - 1) * width s n + j ≡ i * n + j = let f : suc i - 1 ≡ i = omega arith in rw (w, f) in
+      subst (λ (k : ℕ). getD (listOf s (u .lists)) k (pos 0) ≡ valueFrom fs s (suc i) j) place (from .values s (suc i) j (omega arith) (omega arith) (rw w lj))
 
-  narrow : (p : Part) → width p n ≡ 1 → (i : ℕ) → i < n → getD (listOf p (u .lists)) i (pos 0) ≡ valueFrom fs p (suc i) 0
-  narrow p w i li =
-      let place : (suc i - 1) * width p n + 0 ≡ i = rw w (omega arith) in
-      subst (λ (k : ℕ). getD (listOf p (u .lists)) k (pos 0) ≡ valueFrom fs p (suc i) 0) place (from .values p (suc i) 0 (omega arith) (omega arith) (rw w (omega arith)))
+  narrow : (s : Slot) → width s n ≡ 1 → (i : ℕ) → i < n → getD (listOf s (u .lists)) i (pos 0) ≡ valueFrom fs s (suc i) 0
+  narrow s w i li =
+      let place : (suc i - 1) * width s n + 0 ≡ i = rw w (omega arith) in
+      subst (λ (k : ℕ). getD (listOf s (u .lists)) k (pos 0) ≡ valueFrom fs s (suc i) 0) place (from .values s (suc i) 0 (omega arith) (omega arith) (rw w (omega arith)))
 
   -- the problem that the forms give, with the loader's n, s and t
   abbrev given : Problem
@@ -53,7 +50,7 @@ module _ (u : State) (fs : List Form) (from : FromForms fs u) where
     n = n;
     s = u .loader .s;
     t = u .loader .t;
-    A = λ (i j : ℕ). valueFrom fs Row (suc i) j;
+    A = λ (i j : ℕ). valueFrom fs Matrix (suc i) j;
     b = λ (i : ℕ). valueFrom fs Right (suc i) 0;
     X = λ (i : ℕ). valueFrom fs Guess (suc i) 0;
     G = λ (i j : ℕ). valueFrom fs Inverse (suc i) j;
@@ -76,25 +73,24 @@ module _ (u : State) (fs : List Form) (from : FromForms fs u) where
         let k : i < n = rw (from .size) l in
         rw (sym (narrow Weight refl i k)) (weight-range (at (u .lists .weights) i) (all-at kind.Weight n (at (u .lists .weights)) (h .weights) i k) .0)
 
-  module _ (E L : List ℕ) where
-    pub checked-forms : checkedOf (problem (inputAt u E L)) ≡ checkedOf (problemFrom fs)
-    checked-forms =
-        checked-same n (u .loader .s) (u .loader .t) (matrixOf (u .lists .matrix) n) (given .A) (vectorOf (u .lists .right)) (given .b) (vectorOf (u .lists .guess)) (given .X)
-        (matrixOf (u .lists .inverse) n) (given .G) (λ i. natAbs (at (u .lists .weights) i)) (given .w)
-        (wide Row refl) (narrow Right refl) (narrow Guess refl) (wide Inverse refl) (λ i l. ap natAbs (narrow Weight refl i l))
-        ∙ ap checkedOf given-is
+  pub checked-forms : checkedOf (problem (inputAt u)) ≡ checkedOf (problemFrom fs)
+  checked-forms =
+      checked-same n (u .loader .s) (u .loader .t) (matrixOf (u .lists .matrix) n) (given .A) (vectorOf (u .lists .right)) (given .b) (vectorOf (u .lists .guess)) (given .X)
+      (matrixOf (u .lists .inverse) n) (given .G) (λ i. natAbs (at (u .lists .weights) i)) (given .w)
+      (wide Matrix refl) (narrow Right refl) (narrow Guess refl) (wide Inverse refl) (λ i l. ap natAbs (narrow Weight refl i l))
+      ∙ ap checkedOf given-is
 
-    pub reported-forms : reportedOf (problem (inputAt u E L)) ≡ reportedOf (problemFrom fs)
-    reported-forms =
-        reported-same n (u .loader .s) (u .loader .t) (matrixOf (u .lists .matrix) n) (given .A) (vectorOf (u .lists .right)) (given .b) (vectorOf (u .lists .guess)) (given .X)
-        (matrixOf (u .lists .inverse) n) (given .G) (λ i. natAbs (at (u .lists .weights) i)) (given .w)
-        (wide Row refl) (narrow Right refl) (narrow Guess refl) (wide Inverse refl) (λ i l. ap natAbs (narrow Weight refl i l))
-        ∙ ap reportedOf given-is
+  pub reported-forms : reportedOf (problem (inputAt u)) ≡ reportedOf (problemFrom fs)
+  reported-forms =
+      reported-same n (u .loader .s) (u .loader .t) (matrixOf (u .lists .matrix) n) (given .A) (vectorOf (u .lists .right)) (given .b) (vectorOf (u .lists .guess)) (given .X)
+      (matrixOf (u .lists .inverse) n) (given .G) (λ i. natAbs (at (u .lists .weights) i)) (given .w)
+      (wide Matrix refl) (narrow Right refl) (narrow Guess refl) (wide Inverse refl) (λ i l. ap natAbs (narrow Weight refl i l))
+      ∙ ap reportedOf given-is
 
-    module _ (h : InRange u) (long : short (inputAt u E L) ≡ false) where
-      pub ranges-hold : inRanges (inputAt u E L) ≡ true
-      ranges-hold =
-          both (both (h .size) (both (h .solution) (h .inverse-scale))) (both (h .matrix) (both (h .right) (both (h .guess) (both (h .inverse) (h .weights)))))
+  module _ (h : InRange u) (long : short (inputAt u) ≡ false) where
+    pub ranges-hold : inRanges (inputAt u) ≡ true
+    ranges-hold =
+        both (both (h .size) (both (h .solution) (h .inverse-scale))) (both (h .matrix) (both (h .right) (both (h .guess) (both (h .inverse) (h .weights)))))
 
-      pub answer-forms : answer (inputAt u E L) ≡ checkedOf (problemFrom fs)
-      answer-forms = answer-ready (inputAt u E L) long ranges-hold ∙ checked-forms
+    pub answer-forms : answer (inputAt u) ≡ checkedOf (problemFrom fs)
+    answer-forms = answer-ready (inputAt u) long ranges-hold ∙ checked-forms

@@ -27,16 +27,15 @@ use Rattle.checked.proofs.Statements.{accepted-usable}
 use Rattle.checked.proofs.Written.{written-at, written-length}
 use Rattle.progress.specs.Progress.{ended}
 use Rattle.progress.specs.declared.Stage.{Stage}
-use Rattle.loader.specs.Through.{answerThrough, solutionBoundsThrough, inverseBoundsThrough, CheckedThrough}
-use Rattle.loader.proofs.Through.{answer-ended}
+use Rattle.loader_order.specs.Through.{answerThrough, solutionBoundsThrough, inverseBoundsThrough, CheckedThrough}
+use Rattle.loader_order.proofs.Through.{answer-ended}
 use Rattle.text.specs.Wrote.{Wrote}
 use Rattle.text.proofs.Wrote.{called}
-use Rattle.report.specs.Ready.{Ready, reportIn}
+use Rattle.report.specs.Ready.{Reportable, reportIn}
 use Rattle.refusal.specs.Refused.{printed, refusedOf}
 use Rattle.refusal.specs.Reply.{replyOf, Answered}
-use Rattle.refusal.specs.declared.Answer.{Answer}
+use Rattle.refusal.specs.declared.FileAnswer.{FileAnswer}
 use Rattle.judged.specs.Judged.{reportedOf, lineOr}
-use Rattle.judged.specs.Shown.{shownBy}
 use Rattle.judged.proofs.Agreed.{report-same}
 
 module _ (s : Stage) (I : Input) where
@@ -59,8 +58,8 @@ module _ (s : Stage) (I : Input) where
   nothing-said h = sym (answer-ended s I (has-ended h)) ∙ h
 
   -- ---- refused
-  pub shown-refused : {r : Outcome} {E L o p : List ℕ} {a : Answer} → CheckedThrough s I r E L → (x : Refusal) → r ≡ Refused x →
-      Answered (printed 0 (numberOf x ∷ valuesOf x)) (refusedOf (printed 0 (numberOf x ∷ valuesOf x))) o p a → Answered (printed 0 (answerThrough s I)) (shownBy s I) o p a
+  pub shown-refused : {r : Outcome} {E L o p : List ℕ} {a : FileAnswer} → CheckedThrough s I r E L → (x : Refusal) → r ≡ Refused x →
+      Answered (printed 0 (numberOf x ∷ valuesOf x)) (refusedOf (printed 0 (numberOf x ∷ valuesOf x))) o p a → Answered (printed 0 (answerThrough s I)) (lineOr (printed 0 (answerThrough s I)) (reportedOf (problem I))) o p a
   shown-refused {r} {E} {L} {o} {p} {a} c x e = subst (λ (k : List ℕ). Answered (printed 0 k) (lineOr (printed 0 k) (reportedOf (problem I))) o p a) (sym (ap said e) ∙ c .says)
 
   -- ---- accepted
@@ -92,7 +91,7 @@ module _ (s : Stage) (I : Input) where
         (omega (arith, square (ready .few), ready .inverse-long))
         ∙ rw (place-column i j (I .n) lj, place-row i j (I .n) lj))
 
-    pub report-ready : {n t : ℕ} → n ≡ I .n → t ≡ I .s → Ready n t (I .guess) E L
+    pub report-ready : {n t : ℕ} → n ≡ I .n → t ≡ I .s → Reportable n t (I .guess) E L
     report-ready en et =
         rw (en, et) (record {
           few = ready .few;
@@ -104,8 +103,8 @@ module _ (s : Stage) (I : Input) where
           solution = λ i l. rw (solution-at i l) (solution-size I ready reckoned-quiet i l);
         })
 
-    pub shown-accepted : {o p : List ℕ} {a : Answer} {n t : ℕ} → n ≡ I .n → t ≡ I .s → a .reply ≡ replyOf [] → Wrote 32768 o 0 (reportIn n t (I .guess) E L) p (a .length) →
-        Answered (printed 0 (answerThrough s I)) (shownBy s I) o p a
+    pub shown-accepted : {o p : List ℕ} {a : FileAnswer} {n t : ℕ} → n ≡ I .n → t ≡ I .s → a .reply ≡ replyOf [] → Wrote 32768 o 0 (reportIn n t (I .guess) E L) p (a .length) →
+        Answered (printed 0 (answerThrough s I)) (lineOr (printed 0 (answerThrough s I)) (reportedOf (problem I))) o p a
     shown-accepted en et q w = record {
       reply = rw quiet q;
       wrote =

@@ -20,7 +20,7 @@ use Rattle.progress.specs.Progress.{marked}
 use Rattle.progress.specs.declared.Stage.the-variants.{Sized, Scaled, Ended}
 use Rattle.loader.specs.declared.Loader.{Loader}
 use Rattle.loader.specs.Taken.{after}
-use Rattle.loader.specs.Capped.{fits}
+use Rattle.loader.specs.Decided.{fits}
 
 within : (z : ℤ) → z ≡ pos (natAbs z) → natAbs z ≤ 32 → leZ (pos 0) z && leZ z (pos 32) ≡ true
 within z e l = subst (λ (y : ℤ). leZ (pos 0) y && leZ y (pos 32) ≡ true) (sym e) (both (le-leb 0 (natAbs z) (omega arith)) (le-leb (natAbs z) 32 l))

@@ -9,7 +9,7 @@ use Rattle.items.specs.Capped.{itemIn, outsideIn, miscountedIn}
 use Rattle.items.specs.declared.Item.{Item}
 use Rattle.progress.specs.Progress.{early, misplaced, repeated, incomplete, missing}
 use Rattle.loader.specs.declared.Loader.{Loader}
-use Rattle.loader.specs.Capped.{saidIn}
+use Rattle.loader.specs.Decided.{saidIn}
 
 module _ (d : Loader) (m : CappedForm) (count : ℕ) (inside : Bool) {x : Item} (e : x ≡ itemIn m) where
   abbrev told : List ℕ

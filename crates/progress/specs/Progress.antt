@@ -3,7 +3,7 @@
 --   given z p i   — the form of the part p for the number i was given
 --   marked z p i  — the sets with that form
 --   counted       — the parts whose forms count as missing
---   total ps f    — the sum of f over the parts ps
+--   totalOver ps f — the sum of f over the parts ps
 --   missing n z   — how many forms are still missing out of 5n: each i from 1 to n not given, once for each part
 --   sized, scaled, ended — whether problem, whether scale was given; 14: whether the end was accepted
 --   early s x     — 11: a form other than problem first, or other than problem or scale before the scale
@@ -19,8 +19,7 @@ use lib.ListN.{getD, set}
 use Rattle.rules.specs.Range.{inRange}
 use Rattle.rules.specs.declared.Kind.the-variants.{Size}
 use Rattle.places.specs.Places.{hasPlace, withPlace, lacking}
-use Rattle.items.specs.Item.{placed}
-use Rattle.items.specs.Put.{partIndex}
+use Rattle.items.specs.Item.{partIndex, placed}
 use Rattle.items.specs.declared.Item.{Item}
 use Rattle.items.specs.declared.Item.the-variants.{Problem, Scale, Of, End}
 use Rattle.items.specs.declared.Part.{Part}
@@ -40,12 +39,12 @@ marked z p i = set z (partIndex p) (withPlace (setOf z p) (i - 1))
 abbrev pub counted : List Part
 counted = Row ∷ Right ∷ Guess ∷ Inverse ∷ Weight ∷ []
 
-abbrev pub total : List Part → (Part → ℕ) → ℕ
-total [] f = 0
-total (p ∷ ps) f = f p + total ps f
+abbrev pub totalOver : List Part → (Part → ℕ) → ℕ
+totalOver [] f = 0
+totalOver (p ∷ ps) f = f p + totalOver ps f
 
 unfoldable pub missing : ℕ → List ℕ → ℕ
-missing n z = total counted (λ (p : Part). lacking (setOf z p) n)
+missing n z = totalOver counted (λ (p : Part). lacking (setOf z p) n)
 
 abbrev pub sized : Stage → Bool
 sized Start = false

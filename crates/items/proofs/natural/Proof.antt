@@ -1,4 +1,4 @@
-use Rattle.items.proofs.Put.{between, not-negative}
+use Rattle.items.proofs.Between.{between, not-negative}
 use mir.ValLaws.{toZ-ofZ}
 use mir.Syntax.{w64}
 use native.Mathlib.Omega.{arith}

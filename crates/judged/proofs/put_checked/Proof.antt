@@ -3,14 +3,8 @@ use borrow.Author.Needs.{needs}
 use Rattle.judged.proofs.put_checked.Statement.{statement}
 use Rattle.judged.proofs.put_checked.Tie as tie
 
-slice-aggregate-check : tie.Need-slice-aggregate-check
-slice-aggregate-check c = search needs
-
-slice-aggregate-check-2 : tie.Need-slice-aggregate-check-2
-slice-aggregate-check-2 c = search needs
-
-check-requires : tie.Need-check-requires
-check-requires c κs = search needs
+check-file-requires : tie.Need-check-file-requires
+check-file-requires c κs = search needs
 
 enum-known-outcome : tie.Need-enum-known-outcome
 enum-known-outcome c = search needs
@@ -36,10 +30,15 @@ slice-aggregate-put-report c = search needs
 slice-aggregate-put-report-2 : tie.Need-slice-aggregate-put-report-2
 slice-aggregate-put-report-2 c = search needs
 
+slice-aggregate-put-report-3 : tie.Need-slice-aggregate-put-report-3
+slice-aggregate-put-report-3 c = search needs
+
 put-report-requires : tie.Need-put-report-requires
 put-report-requires c κs =
-    let k = c .before .before .before .before .before .before .before .before .before in
-    (report-ready _ _ (k .check .ensures) (c .before .before .before .before .before .enum-told .given .1) (c .before .before .before .before .size .ensures) (c .before .before .solution-scale .ensures), search needs)
+    let k = c .before .before .before .before .before .before in
+    let l = k .before .before in
+    let m = l .before .before in
+    (report-ready _ _ (m .before .before .check-file .ensures) (m .enum-told .given .1) (l .size .ensures) (k .before .solution-scale .ensures), search needs)
 
 no-refusal-requires : tie.Need-no-refusal-requires
 no-refusal-requires c κs = search needs
@@ -49,8 +48,9 @@ same-length c = search needs
 
 returns : tie.Need-returns
 returns c =
-    let k = c .before .before .before .before .before .before .before .before .before in
-    shown-refused _ _ (k .check .ensures) _ (c .before .before .before .before .before .outcome .given .1) (c .before .before .put-refusal .ensures)
+    let p = c .before .before in
+    let m = p .before .before .before in
+    shown-refused _ _ (m .before .before .check-file .ensures) _ (m .outcome .given .1) (p .put-refusal .ensures)
 
 same-length-2 : tie.Need-same-length-2
 same-length-2 c = search needs
@@ -58,17 +58,16 @@ same-length-2 c = search needs
 returns-2 : tie.Need-returns-2
 returns-2 c =
     let p = c .before .before .before in
-    let k = p .before .before .before .before .before .before .before .before .before .before in
-    shown-accepted _ _ (k .check .ensures) (p .before .before .before .before .before .before .enum-told .given .1) (p .before .before .before .before .before .size .ensures) (p .before .before .before .solution-scale .ensures)
-    (c .no-refusal .ensures) (p .put-report .ensures)
+    let k = p .before .before .before .before .before .before .before in
+    let l = k .before .before in
+    let m = l .before .before in
+    shown-accepted _ _ (m .before .before .check-file .ensures) (m .enum-told .given .1) (l .size .ensures) (k .before .solution-scale .ensures) (c .no-refusal .ensures) (p .put-report .ensures)
 
 pub put-checked-spec : {M : Type 1} → statement M
 put-checked-spec =
     tie.close
     (tie.spec
-    slice-aggregate-check
-    slice-aggregate-check-2
-    check-requires
+    check-file-requires
     enum-known-outcome
     put-refusal-requires
     enum-told
@@ -77,6 +76,7 @@ put-checked-spec =
     solution-scale-requires
     slice-aggregate-put-report
     slice-aggregate-put-report-2
+    slice-aggregate-put-report-3
     put-report-requires
     no-refusal-requires
     same-length
