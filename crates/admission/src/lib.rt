@@ -67,8 +67,10 @@ pub fn are_lists_in_range(
     weights: &[i64],
 ) -> bool
     requires { ⌜ n ≤ 32 ⌝ }
-    requires { ⌜ (1024 ≤ length (now matrix)) × ((32 ≤ length (now right)) × ((32 ≤ length (now guess)) × ((1024 ≤ length (now inverse)) × (32 ≤ length (now weights))))) ⌝ }
-    ensures { λ r. ⌜ r ≡ listsInRange n (now (matrix .entry)) (now (right .entry)) (now (guess .entry)) (now (inverse .entry)) (now (weights .entry)) ⌝ }
+    requires { ⌜ (1024 ≤ length (now matrix)) × ((32 ≤ length (now right)) × ((32 ≤ length (now guess))
+        × ((1024 ≤ length (now inverse)) × (32 ≤ length (now weights))))) ⌝ }
+    ensures { λ r. ⌜ r
+        ≡ listsInRange n (now (matrix .entry)) (now (right .entry)) (now (guess .entry)) (now (inverse .entry)) (now (weights .entry)) ⌝ }
 {
     if all_in_range(Kind::Matrix, matrix, n * n) {
         if all_in_range(Kind::Right, right, n) {

@@ -1,5 +1,5 @@
-// The limits of a column from the raised rows of the inverse, and the writer of a column (01: "The limits of one column are worked out whole
-// before any of them is written").
+// The limits of a column from the raised rows of the inverse, and the writer of a column (01: "The limits of one column are worked out
+// whole before any of them is written").
 ghost use mathlib.Core.Path.{_≡_};
 ghost use Prim.Native.Nat.{ℕ, _+_, _*_, _≤_, _<_, _^_};
 ghost use lib.IntN.{natAbs};
@@ -80,7 +80,8 @@ fn add_slacks(sizes: [u64; 32], rows: &[u64], slacks: &[u64; 32], n: usize) -> [
     requires { ⌜ RaisedRows (now rows) n ⌝ }
     requires { ⌜ ((k : ℕ) → k < n → getD (now slacks) k 0 ≤ allowedResidual) ⌝ }
     requires { ⌜ ((m : ℕ) → m < n → getD sizes m 0 ≤ 2 ^ 55) ⌝ }
-    ensures { λ r. ⌜ Begins 0 r n (λ (m : ℕ). getD sizes m 0 + sumℕ n (λ (j : ℕ). natAbs (loweredRows (now (rows .entry)) n m j) * getD (now (slacks .entry)) j 0)) ⌝ }
+    ensures { λ r. ⌜ Begins 0 r n (λ (m : ℕ). getD sizes m 0
+        + sumℕ n (λ (j : ℕ). natAbs (loweredRows (now (rows .entry)) n m j) * getD (now (slacks .entry)) j 0)) ⌝ }
 {
     if sum_of(slacks, n) == 0 {
         return sizes;
@@ -108,7 +109,8 @@ pub fn column_bounds(
     requires { ⌜ Near (at residuals) (λ (k : ℕ). getD slacks k 0) n ⌝ }
     requires { ⌜ Positive margins n ⌝ }
     requires { ⌜ ColumnList (now weights) n 1024 ⌝ }
-    ensures { λ r. ⌜ Begins 0 r n (limitsOf n (now (rows .entry)) (at residuals) (λ (k : ℕ). getD slacks k 0) margins (now (weights .entry))) ⌝ }
+    ensures { λ r. ⌜ Begins 0 r n
+        (limitsOf n (now (rows .entry)) (at residuals) (λ (k : ℕ). getD slacks k 0) margins (now (weights .entry))) ⌝ }
 {
     let mut raised = [0u64; 33];
     raise_row(&mut raised, 0, &residuals, 0, 1, n);
@@ -143,7 +145,9 @@ pub fn store_columns(
     requires { ⌜ ColumnList (now residuals) (n * n) allowedResidual ⌝ }
     requires { ⌜ Positive margins n ⌝ }
     requires { ⌜ ColumnList (now weights) n 1024 ⌝ }
-    ensures { λ _. ⌜ now (dst .exit) ≡ storedColumns (now (dst .entry)) n (λ (i j : ℕ). limitsOf n (now (rows .entry)) (λ (k : ℕ). at (now (residuals .entry)) (j * n + k)) (λ (k : ℕ). 0) margins (now (weights .entry)) i) n ⌝ }
+    ensures { λ _. ⌜ now (dst .exit) ≡ storedColumns (now (dst .entry)) n
+        (λ (i j : ℕ). limitsOf n (now (rows .entry)) (λ (k : ℕ). at (now (residuals .entry)) (j * n + k)) (λ (k : ℕ). 0) margins
+        (now (weights .entry)) i) n ⌝ }
 {
     let mut raised = [0u64; ROWS_LENGTH];
     raise_rows(&mut raised, residuals, n, 1, n);

@@ -22,7 +22,7 @@ use Rattle.enclosure.proofs.Agreement.{margin-same, exceeds-same, bound-same}
 use Rattle.checked.specs.Checked.{solutionBoundsAfter, inverseBoundsAfter}
 use Rattle.checked.specs.Input.{Input, input, problem, short, inRanges}
 use Rattle.checked.specs.Order.{checkedOf, answer}
-use Rattle.checked.specs.Stated.{Agree}
+use Rattle.checked.specs.Agree.{Agree}
 use Rattle.checked.proofs.Contract.{answer-range, answer-ready}
 use Rattle.checked.proofs.Fit.{fit-of}
 use Rattle.checked.proofs.Lengths.{Long, long-of}

@@ -8,7 +8,6 @@ use mathlib.Core.Bool.{Bool, true, false}
 use mathlib.Core.List.{List, [], _∷_}
 use Prim.Native.Nat.{ℕ, _+_, _*_, _/_, _%_, _≤_, _<_}
 use native.Mathlib.Omega.{arith}
-use native.Mathlib.Nat.{mod-lt, div-lt-iff-lt-mul}
 use borrow.Author.Tests.{le-ltb, ltb-false}
 use lib.Dec.{ltb}
 use lib.ListN.{getD}
@@ -20,7 +19,7 @@ use Rattle.rules.specs.declared.Outcome.{Outcome}
 use Rattle.rules.specs.declared.Outcome.the-variants.{Refused}
 use Rattle.rules.specs.declared.Refusal.the-variants.{TooShort, OutOfRange}
 use Rattle.rules.proofs.Verdicts.{accepted-new, accepted-old, nothing-is-not}
-use Rattle.enclosure.specs.Problem.{Problem, columnOf}
+use Rattle.enclosure.specs.Problem.{Problem}
 use Rattle.enclosure.specs.Reckoning.{marginFails, exceeds, bound, inverseBound}
 use Rattle.enclosure.specs.Demand.{Sound}
 use Rattle.enclosure.proofs.Acceptance.{rounded-sound}
@@ -29,6 +28,7 @@ use Rattle.checked.specs.Input.{Input, problem, short, inRanges}
 use Rattle.checked.specs.Order.{firstMargin, firstResidual, firstInversePlace, reckoned, answer, checkedOf}
 use Rattle.checked.specs.Checked.{written, solutionAfter, inverseAfter, solutionBoundsAfter, inverseBoundsAfter, Checked}
 use Rattle.checked.proofs.Fit.{fit-of}
+use Rattle.checked.proofs.Places.{no-place, none-placed}
 use Rattle.checked.proofs.Written.{written-at}
 
 module _ (I : Input) where
@@ -63,10 +63,7 @@ pub sound-said : (P : Problem) → 0 < P .n → Sound P → checkedOf P ≡ []
 sound-said P some x =
     let m : firstMargin P ≡ P .n = first-never (P .n) (marginFails P) (x .margins) in
     let k : firstResidual P ≡ P .n = first-never (P .n) (exceeds P) (x .residuals) in
-    let i : firstInversePlace P ≡ P .n * P .n =
-    first-never (P .n * P .n) (λ (i : ℕ). exceeds (columnOf P (i / P .n)) (i % P .n))
-    (λ i l. x .columns (i / P .n) (div-lt-iff-lt-mul some .1 l) (i % P .n) (mod-lt i some)) in
-    rw (m, k, i) (rw (le-ltb (P .n) (P .n) (omega arith), le-ltb (P .n * P .n) (P .n * P .n) (omega arith)))
+    rw (m, k, no-place P some (x .columns)) (rw (le-ltb (P .n) (P .n) (omega arith), le-ltb (P .n * P .n) (P .n * P .n) (omega arith)))
 
 pub said-sound : (P : Problem) → checkedOf P ≡ [] → Sound P
 said-sound P e =
@@ -74,9 +71,7 @@ said-sound P e =
     record {
       margins = first-past (P .n) (marginFails P) (none .margin);
       residuals = first-past (P .n) (exceeds P) (none .residual);
-      columns = λ j lj k lk.
-          let h = first-past (P .n * P .n) (λ (i : ℕ). exceeds (columnOf P (i / P .n)) (i % P .n)) (none .column) (j * P .n + k) (place lj lk) in
-          rw (place-column j k (P .n) lk, place-row j k (P .n) lk) at h;
+      columns = none-placed P (none .column);
     }
 
 -- ---- the three cases

@@ -1,3 +1,4 @@
+pub mod Places
 pub mod Written
 pub mod Lengths
 pub mod Fit

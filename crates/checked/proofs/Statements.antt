@@ -5,7 +5,6 @@ use mathlib.Core.Bool.{Bool, true, false}
 use mathlib.Core.List.{List, [], _∷_}
 use Prim.Native.Nat.{ℕ, _+_, _*_, _/_, _%_, _≤_, _<_}
 use native.Mathlib.Omega.{arith}
-use native.Mathlib.Decide.{decLe}
 use native.Mathlib.Nat.{mod-lt, div-lt-iff-lt-mul, div-add-mod', mul-le-mul-right}
 use borrow.Author.Tests.{lt-ltb, le-ltb}
 use Rattle.integer.proofs.Search.{Searched, found, nowhere, searched, first-is, first-never}
@@ -19,6 +18,7 @@ use Rattle.checked.specs.Order.{firstMargin, firstResidual, firstInverse
 use Rattle.checked.specs.Stated.{Usable, Stated, too-short, out-of-range, margin-low, residual-large, inverse-large, accepted}
 use Rattle.checked.proofs.Contract.{answer-short, answer-range, answer-ready, sound-said}
 use Rattle.checked.proofs.Fit.{fit-of}
+use Rattle.checked.proofs.Places.{first-place}
 
 module _ (I : Input) where
   -- the test of 7 at a place, column after column
@@ -82,22 +82,6 @@ module _ (I : Input) where
   no-residual : Residuals (problem I) → firstResidual (problem I) ≡ I .n
   no-residual r = first-never (I .n) (exceeds (problem I)) r
 
-  -- a test that holds at column j and row k, and nowhere before
-  first-place : (j k : ℕ) → j < I .n → k < I .n → exceeds (columnOf (problem I) j) k ≡ true → ((c : ℕ) → c < j → Residuals (columnOf (problem I) c)) →
-      ((r : ℕ) → r < k → exceeds (columnOf (problem I) j) r ≡ false) → firstInversePlace (problem I) ≡ j * I .n + k
-  first-place j k lj lk p q r =
-      first-is (I .n * I .n) (λ (i : ℕ). exceeds (columnOf (problem I) (i / I .n)) (i % I .n)) (j * I .n + k) (place lj lk)
-      (rw (place-column j k (I .n) lk, place-row j k (I .n) lk) p) (λ i l. go i l (decLe j (i / I .n)))
-    where
-      go : (i : ℕ) → i < j * I .n + k → Dec (j ≤ i / I .n) → exceeds (columnOf (problem I) (i / I .n)) (i % I .n) ≡ false
-      go i l (no h) = q (i / I .n) (omega arith) (i % I .n) (mod-lt i (omega arith))
-      go i l (yes h) =
-          let e : i / I .n ≡ j = omega (arith, column-of i j k (I .n) l lk h) in
-          rw e (r (i % I .n) (omega (arith, div-add-mod' i (I .n), ap (λ (x : ℕ). x * I .n) e)))
-        where
-          column-of : (i j k n : ℕ) → i < j * n + k → k < n → j ≤ i / n → i / n ≤ j
-          column-of i j k n l m h = let x : i / n < j + 1 = div-lt-iff-lt-mul {k = n} (omega arith) .1 (omega arith) in omega arith
-
   pub said-of : {l : List ℕ} → Stated I l → answer I ≡ l
   said-of (too-short e) = answer-short I e
   said-of (out-of-range e f) = answer-range I e f
@@ -105,7 +89,7 @@ module _ (I : Input) where
   said-of (residual-large k u m l p h) =
       says u (said-6 k (no-margin m) (first-is (I .n) (exceeds (problem I)) k l p h) l)
   said-of (inverse-large j k u m r lj lk p q h) =
-      says u (said-7 (j * I .n + k) (no-margin m) (no-residual r) (first-place j k lj lk p q h) (place lj lk)
+      says u (said-7 (j * I .n + k) (no-margin m) (no-residual r) (first-place (problem I) j k lj lk p q h) (place lj lk)
       ∙ rw (place-column j k (I .n) lk, place-row j k (I .n) lk))
   said-of (accepted u x) = says u (sound-said (problem I) (some u) x)
 

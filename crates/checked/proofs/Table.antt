@@ -13,14 +13,14 @@ use Rattle.enclosure.specs.Demand.{RoundedExact}
 use Rattle.enclosure.specs.Example as example
 use Rattle.enclosure.specs.Reckoning.{defect, load, margin, residual, exceeds, sizesWith, boundFrom, boundWith, bound}
 use Rattle.enclosure.proofs.Instance.{file-rounded, file-sound}
-use Rattle.checked.specs.Cases.{cases, allHold, inputOf, e}
+use Rattle.checked.specs.Cases.{rows, allRowsHold, inputOf, e}
 use Rattle.checked.specs.Checked.{written, solutionBoundsAfter, inverseBoundsAfter}
 use Rattle.checked.specs.Input.{Input, problem}
 use Rattle.checked.specs.Order.{answer}
 use Rattle.checked.specs.Stated.{Usable}
 use Rattle.checked.proofs.Contract.{answer-ready, sound-said}
 
-pub cases-hold : allHold cases ≡ true
+pub cases-hold : allRowsHold rows ≡ true
 unfolding answer solutionBoundsAfter inverseBoundsAfter written bound boundWith boundFrom sizesWith exceeds residual margin load defect product apply identity sum sumℕ largest first ceilDiv allInRange inRange rangeOf ranges
 cases-hold = refl
 

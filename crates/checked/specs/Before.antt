@@ -1,4 +1,5 @@
--- Document 01's own text of the places of 6 and 7, with its residual test (enclosure/specs/Before); proofs/Before says that the answers are equal.
+-- Document 01's own text of the places of 6 and 7, by its own residual test (enclosure/specs/Before); proofs/Before says that the answers
+-- are equal.
 --   firstResidual01, firstInversePlace01 — the lowest row, the lowest column and its lowest row, of a residual above 2^25 in size
 --   checkedOf01 P, answer01 I — what is said
 use mathlib.Core.Bool.{not}

@@ -1,14 +1,14 @@
 -- Cases a to k of document 01 ("Marked for proof"), as rows of a table. Rows and columns count from 1, as there.
 --   Claim   — a limit that 01 states: of the solution, or of a number of the inverse
 --   Row     — a proposal, what is said of it (nothing: accepted), and the limits that 01 states
---   single, file, twice — rows of a common shape;  a to k — the rows;  cases — the table
+--   single, variant, twice — rows of a common shape;  a to k, rows — the rows of the table
 --   unwritten — what stands in the limit lists before the check
 --   inputOf — the row's numbers in lists that are long enough
 --   claimed, allClaimed — a limit, all limits that a row states are what the definitions of the contract give
---   sameNumbers — two lists of numbers are equal;  holds, allHold — a row, all rows of the table hold
+--   sameNumbers — two lists of numbers are equal;  rowHolds, allRowsHold — a row, all rows of the table hold
 use mathlib.Core.Bool.{Bool, true, false, _&&_}
 use mathlib.Core.List.{List, [], _∷_}
-use Prim.Native.Nat.{ℕ, _+_, _*_, _-_}
+use Prim.Native.Nat.{ℕ, _+_, _*_, _-_, _^_}
 use lib.Dec.{eqb}
 use lib.IntN.{ℤ, pos, negsuc}
 use lib.ListN.{getD, replicate}
@@ -35,11 +35,22 @@ pub record Row : Type 0 where
 
 -- n = 1, b = 0, w = 1
 abbrev pub single : ℤ → ℕ → ℕ → ℤ → ℤ → List ℕ → List Claim → Row
-single a s t x g says bounds = record { n = 1; s = s; t = t; A = a ∷ []; b = pos 0 ∷ []; X = x ∷ []; G = g ∷ []; w = pos 1 ∷ []; says = says; bounds = bounds }
+single a s t x g says bounds = record {
+  n = 1;
+  s = s;
+  t = t;
+  A = a ∷ [];
+  b = pos 0 ∷ [];
+  X = x ∷ [];
+  G = g ∷ [];
+  w = pos 1 ∷ [];
+  says = says;
+  bounds = bounds;
+}
 
 -- the whole file, with another guess and other weights
-abbrev pub file : ℤ → ℤ → ℤ → ℤ → List Claim → Row
-file x y v w bounds = record {
+abbrev pub variant : ℤ → ℤ → ℤ → ℤ → List Claim → Row
+variant x y v w bounds = record {
   n = 2;
   s = 4;
   t = 4;
@@ -80,13 +91,15 @@ abbrev pub d : Row
 d = single (pos 4) 0 4 (pos 0) (pos 8) (5 ∷ 1 ∷ []) []
 
 abbrev pub e : Row
-e = file (pos 23) (pos 13) (pos 1) (pos 1) (solution 1 1 ∷ solution 2 1 ∷ inverse 1 1 1 ∷ inverse 1 2 1 ∷ inverse 2 1 1 ∷ inverse 2 2 1 ∷ [])
+e =
+    variant (pos 23) (pos 13) (pos 1) (pos 1)
+    (solution 1 1 ∷ solution 2 1 ∷ inverse 1 1 1 ∷ inverse 1 2 1 ∷ inverse 2 1 1 ∷ inverse 2 2 1 ∷ [])
 
 abbrev pub f : Row
-f = file (pos 20) (pos 13) (pos 1) (pos 1) (solution 1 4 ∷ solution 2 4 ∷ [])
+f = variant (pos 20) (pos 13) (pos 1) (pos 1) (solution 1 4 ∷ solution 2 4 ∷ [])
 
 abbrev pub g : Row
-g = file (pos 20) (pos 13) (pos 3) (pos 1) (solution 1 4 ∷ solution 2 2 ∷ [])
+g = variant (pos 20) (pos 13) (pos 3) (pos 1) (solution 1 4 ∷ solution 2 2 ∷ [])
 
 abbrev pub h : Row
 h = single (pos 1048576) 0 20 (pos 32) (pos 1) [] (solution 1 32 ∷ [])
@@ -100,15 +113,17 @@ j = twice (pos 32) [] (inverse 1 2 33 ∷ inverse 2 2 33 ∷ [])
 abbrev pub k : Row
 k = twice (pos 33) (7 ∷ 2 ∷ 1 ∷ []) []
 
-abbrev pub cases : List Row
-cases = a ∷ b ∷ c ∷ d ∷ e ∷ f ∷ g ∷ h ∷ i ∷ j ∷ k ∷ []
+abbrev pub rows : List Row
+rows = a ∷ b ∷ c ∷ d ∷ e ∷ f ∷ g ∷ h ∷ i ∷ j ∷ k ∷ []
 
 -- no limit is as large
 abbrev pub unwritten : ℕ
-unwritten = 1152921504606846977
+unwritten = 2 ^ 60 + 1
 
 abbrev pub inputOf : Row → Input
-inputOf r = input (r .n) (r .s) (r .t) (padded (r .A)) (padded (r .b)) (padded (r .X)) (padded (r .G)) (padded (r .w)) (replicate 32 unwritten) (replicate 1024 unwritten)
+inputOf r =
+    input (r .n) (r .s) (r .t) (padded (r .A)) (padded (r .b)) (padded (r .X)) (padded (r .G)) (padded (r .w))
+    (replicate 32 unwritten) (replicate 1024 unwritten)
 
 abbrev pub claimed : Input → Claim → Bool
 claimed I (solution i bound) = eqb (getD (solutionBoundsAfter I) (i - 1) 0) bound
@@ -124,9 +139,9 @@ sameNumbers [] (y ∷ ys) = false
 sameNumbers (x ∷ xs) [] = false
 sameNumbers (x ∷ xs) (y ∷ ys) = eqb x y && sameNumbers xs ys
 
-abbrev pub holds : Row → Bool
-holds r = sameNumbers (answer (inputOf r)) (r .says) && allClaimed (inputOf r) (r .bounds)
+abbrev pub rowHolds : Row → Bool
+rowHolds r = sameNumbers (answer (inputOf r)) (r .says) && allClaimed (inputOf r) (r .bounds)
 
-abbrev pub allHold : List Row → Bool
-allHold [] = true
-allHold (r ∷ rs) = holds r && allHold rs
+abbrev pub allRowsHold : List Row → Bool
+allRowsHold [] = true
+allRowsHold (r ∷ rs) = rowHolds r && allRowsHold rs

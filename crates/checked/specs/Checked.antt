@@ -1,6 +1,7 @@
 -- What a check on lists says and leaves.
 --   written n f l — l with f 0, .., f (n − 1) at its first n places; the rest as before
---   solutionAfter said I, inverseAfter said I — the limit lists where this is said: the limits of the reckoning where it is nothing, as before where it is a refusal
+--   solutionAfter said I, inverseAfter said I — the limit lists where this is said: the limits of the reckoning where it is nothing, as
+--     before where it is a refusal
 --   solutionBoundsAfter, inverseBoundsAfter — the limit lists after a check
 --   Checked — the contract of `check`: what is said, the two lists, and both halves of demand 3 for the limits that the call wrote
 use mathlib.Core.Bool.{true, false}

@@ -51,8 +51,8 @@ anyShort a b x g w e l =
 
 abbrev pub short : Input → Bool
 short I =
-    anyShort (length (I .matrix)) (length (I .right)) (length (I .guess)) (length (I .inverse)) (length (I .weights)) (length (I .solutionBounds))
-    (length (I .inverseBounds))
+    anyShort (length (I .matrix)) (length (I .right)) (length (I .guess)) (length (I .inverse)) (length (I .weights))
+    (length (I .solutionBounds)) (length (I .inverseBounds))
 
 abbrev pub sizesInRange : ℕ → ℕ → ℕ → Bool
 sizesInRange n s t = inRange kind.Size (pos n) && (inRange kind.SolutionScale (pos s) && inRange kind.InverseScale (pos t))

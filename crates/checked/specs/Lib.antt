@@ -4,3 +4,4 @@ pub mod Checked
 pub mod Stated
 pub mod Cases
 pub mod Before
+pub mod Agree

@@ -5,7 +5,7 @@
 --     n · n where there is none
 --   reckoned n m k i — 5 at row m, 6 at row k, 7 at place i;  reckonedOf P — at the first of each
 --   checkedOf P     — what is said of these: 5, 6 or 7, or nothing
---   order I         — the tests in their order;  answer I — what is said of them: nothing where the proposal is accepted
+--   orderOnLists I  — the tests in their order;  answer I — what is said of them: nothing where the proposal is accepted
 use mathlib.Core.Bool.{not}
 use mathlib.Core.List.{List, [], _∷_}
 use Prim.Native.Nat.{ℕ, _+_, _*_, _/_, _%_}
@@ -38,11 +38,11 @@ reckonedOf P = reckoned (P .n) (firstMargin P) (firstResidual P) (firstInversePl
 abbrev pub checkedOf : Problem → List ℕ
 checkedOf P = verdict (reckonedOf P)
 
-abbrev pub order : Input → List Test
-order I =
+abbrev pub orderOnLists : Input → List Test
+orderOnLists I =
     number 8 (short I)
     ∷ number 3 (not (inRanges I))
     ∷ reckonedOf (problem I)
 
 unfoldable pub answer : Input → List ℕ
-answer I = verdict (order I)
+answer I = verdict (orderOnLists I)

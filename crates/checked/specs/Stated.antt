@@ -1,14 +1,12 @@
--- What document 01 says of each refusal of a check, with the order 8, 3, 5, 6, 7 written out: each case holds only where no earlier one does.
--- Rows and columns count from 0 here, and from 1 in what is said.
+-- What document 01 says of each refusal of a check, with the order 8, 3, 5, 6, 7 written out: each case holds only where no earlier one
+-- does. Rows and columns count from 0 here, and from 1 in what is said.
 --   Usable I  — no lent list is too short, and n, s, t and every number used are in their ranges: neither 8 nor 3
 --   Stated I said — the case that is stated for what is said;  `Margins` is no 5, `Residuals` no 6, `Sound` none of 5, 6 and 7
 --     (enclosure/specs/Demand)
---   Agree I J — two inputs whose lists are long enough and agree on the places used
 use mathlib.Core.Bool.{true, false}
 use mathlib.Core.List.{List, [], _∷_}
 use mathlib.Core.Path.{_≡_}
-use Prim.Native.Nat.{ℕ, _+_, _*_, _<_}
-use Rattle.linear.specs.Slice.{at}
+use Prim.Native.Nat.{ℕ, _+_, _<_}
 use Rattle.enclosure.specs.Problem.{columnOf}
 use Rattle.enclosure.specs.Reckoning.{marginFails, exceeds}
 use Rattle.enclosure.specs.Demand.{Margins, Residuals, Sound}
@@ -35,15 +33,3 @@ pub data Stated (I : Input) : List ℕ → Type 0 where
       ((r : ℕ) → r < k → exceeds (columnOf (problem I) j) r ≡ false) → Stated I (7 ∷ (j + 1) ∷ (k + 1) ∷ [])
   -- accepted: none of them
   accepted : Usable I → Sound (problem I) → Stated I []
-
-pub record Agree (I J : Input) : Type 0 where
-  pub n : I .n ≡ J .n
-  pub s : I .s ≡ J .s
-  pub t : I .t ≡ J .t
-  pub long : short I ≡ false
-  pub long′ : short J ≡ false
-  pub matrix : (k : ℕ) → k < I .n * I .n → at (I .matrix) k ≡ at (J .matrix) k
-  pub right : (k : ℕ) → k < I .n → at (I .right) k ≡ at (J .right) k
-  pub guess : (k : ℕ) → k < I .n → at (I .guess) k ≡ at (J .guess) k
-  pub inverse : (k : ℕ) → k < I .n * I .n → at (I .inverse) k ≡ at (J .inverse) k
-  pub weights : (k : ℕ) → k < I .n → at (I .weights) k ≡ at (J .weights) k

@@ -1,11 +1,12 @@
 -- What is handed to the reckoning once 8 and 3 are passed, and what it makes of it; cited by the contract of `reckon` alone.
---   Work     — n, t and the lists of a problem; `base`, from which A·X is taken to give the residuals of the guess; `allowed`, how large they may be,
---     row by row; `slacks`, what may be missing in their sizes; and the two limit lists as they come in
+--   Work     — n, t and the lists of a problem; `base`, from which A·X is taken to give the residuals of the guess; `allowed`, how large
+--     they may be, row by row; `slacks`, what may be missing in their sizes; and the two limit lists as they come in
 --   work     — from its parts;  workProblem W — its problem, in which s and b don't count
 --   workResidual W, workSlack W — the residuals and the slacks that it is handed
 --   workAnswer W — 5, 6 or 7, or nothing
---   Workable W — what the reckoning asks: n and t in their ranges, the lists long enough, every number used in its range, and room for the slack
---     wherever a residual is allowed
+--   Workable W — what the reckoning asks: n and t in their ranges, the lists long enough, every number used in its range, and room for
+--     the slack wherever a residual is allowed
+--   solutionOf W, inverseOf W — the two limit lists afterwards
 --   ReckonedAs W r E L — what is said, and the two limit lists
 use mathlib.Core.Bool.{false}
 use mathlib.Core.List.{List, []}
@@ -82,9 +83,17 @@ pub record Workable (W : Work) : Type 0 where
   pub solution-long : 32 ≤ length (W .solutionBounds)
   pub inverse-long : 1024 ≤ length (W .inverseBounds)
 
+abbrev pub solutionOf : Work → List ℕ
+solutionOf W =
+    accepted (workAnswer W) (written (W .n) (boundWith (workProblem W) (workResidual W) (workSlack W)) (W .solutionBounds))
+    (W .solutionBounds)
+
+abbrev pub inverseOf : Work → List ℕ
+inverseOf W =
+    accepted (workAnswer W)
+    (written (W .n * W .n) (λ (k : ℕ). inverseBound (workProblem W) (k / W .n) (k % W .n)) (W .inverseBounds)) (W .inverseBounds)
+
 pub record ReckonedAs (W : Work) (r : Outcome) (E L : List ℕ) : Type 0 where
   pub says : said r ≡ workAnswer W
-  pub solution-bounds : E
-      ≡ accepted (workAnswer W) (written (W .n) (boundWith (workProblem W) (workResidual W) (workSlack W)) (W .solutionBounds)) (W .solutionBounds)
-  pub inverse-bounds : L
-      ≡ accepted (workAnswer W) (written (W .n * W .n) (λ (k : ℕ). inverseBound (workProblem W) (k / W .n) (k % W .n)) (W .inverseBounds)) (W .inverseBounds)
+  pub solution-bounds : E ≡ solutionOf W
+  pub inverse-bounds : L ≡ inverseOf W

@@ -24,8 +24,8 @@ use rules::Refusal;
 // How large a residual may be (01: "each size at most 2^25 = 33,554,432").
 const ALLOWED_RESIDUAL: i64 = 33554432;
 
-// The reckoning of what passes 8 and 3, from a base of the residuals, what is allowed of them and their slacks: all refusals are decided before
-// the first limit is written.
+// The reckoning of what passes 8 and 3, from a base of the residuals, what is allowed of them and their slacks: all refusals are decided
+// before the first limit is written.
 fn reckon(
     n: usize,
     t: u32,
@@ -39,8 +39,11 @@ fn reckon(
     solution_bounds: &mut [u64],
     inverse_bounds: &mut [u64],
 ) -> Outcome
-    requires { ⌜ Workable (work n t (now matrix) base allowed slacks (now guess) (now inverse) (now weights) (now «solution_bounds») (now «inverse_bounds»)) ⌝ }
-    ensures { λ r. ⌜ ReckonedAs (work n t (now (matrix .entry)) base allowed slacks (now (guess .entry)) (now (inverse .entry)) (now (weights .entry)) (now («solution_bounds» .entry)) (now («inverse_bounds» .entry))) r (now («solution_bounds» .exit)) (now («inverse_bounds» .exit)) ⌝ }
+    requires { ⌜ Workable (work n t (now matrix) base allowed slacks (now guess) (now inverse) (now weights)
+        (now «solution_bounds») (now «inverse_bounds»)) ⌝ }
+    ensures { λ r. ⌜ ReckonedAs (work n t (now (matrix .entry)) base allowed slacks (now (guess .entry)) (now (inverse .entry))
+        (now (weights .entry)) (now («solution_bounds» .entry)) (now («inverse_bounds» .entry)))
+        r (now («solution_bounds» .exit)) (now («inverse_bounds» .exit)) ⌝ }
 {
     let mut rows = [0u64; ROWS_LENGTH];
     raise_rows(&mut rows, inverse, n, 1, n);
@@ -75,7 +78,9 @@ pub fn check(
     solution_bounds: &mut [u64],
     inverse_bounds: &mut [u64],
 ) -> Outcome
-    ensures { λ r. ⌜ Checked (input n s t (now (matrix .entry)) (now (right .entry)) (now (guess .entry)) (now (inverse .entry)) (now (weights .entry)) (now («solution_bounds» .entry)) (now («inverse_bounds» .entry))) r (now («solution_bounds» .exit)) (now («inverse_bounds» .exit)) ⌝ }
+    ensures { λ r. ⌜ Checked (input n s t (now (matrix .entry)) (now (right .entry)) (now (guess .entry)) (now (inverse .entry))
+        (now (weights .entry)) (now («solution_bounds» .entry)) (now («inverse_bounds» .entry)))
+        r (now («solution_bounds» .exit)) (now («inverse_bounds» .exit)) ⌝ }
 {
     if is_short(
         matrix.len(),

@@ -7,7 +7,8 @@ use Prim.Native.Nat.{ℕ, _+_, _*_, _≤_, _<_}
 use native.Mathlib.Omega.{arith}
 use native.Mathlib.Nat.{mul-le-mul-left, mul-le-mul-right, le-of-mul-le-mul-right}
 use lib.IntN.{ℤ, pos, natAbs, _+ℤ_, _-ℤ_, _*ℤ_, -ℤ-+ℤ-cancel}
-use Rattle.integer.specs.Finite.{sumℕ, Steepest}
+use Rattle.integer.specs.Finite.{sumℕ}
+use Rattle.integer.specs.Steepest.{Steepest}
 use Rattle.integer.proofs.Absolute.{abs-+, abs-*}
 use Rattle.integer.proofs.Steepest.{steepest-of}
 use Rattle.integer.proofs.Sum.{sumℕ-mono, sumℕ-*}

@@ -1,7 +1,7 @@
 -- Demand 3 in the words of document 01. q, N and H are whole numbers of any size, and H has its own q.
 --   ExactSolution P N q — q ≥ 1 and A·N = q·b
 --   ExactInverse P H q  — q ≥ 1 and A·H = q·I;  TwoSided — H·A = q·I as well
---   Encloses P E L      — the first half: every exact solution lies within the limits E, every exact inverse within L, and the kernel is zero
+--   Encloses P E L      — the first half: every exact solution lies within the limits E, every exact inverse within L, the kernel is zero
 --   sumOfSizes P        — the sum of |A_ij| over all i and j
 --   RoundedExact P N q H q′ — the second half's hypotheses: exact N and two-sided H, guess and inverse rounded to nearest steps, weights 1,
 --     that sum below 2T

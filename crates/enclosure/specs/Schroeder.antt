@@ -6,7 +6,8 @@
 --   Steep P k  — row k is one where |p_k| / g_k is largest
 use Prim.Native.Nat.{ℕ, _+_, _*_, _≤_, _<_}
 use lib.IntN.{pos, natAbs, _+ℤ_, _-ℤ_, _*ℤ_}
-use Rattle.integer.specs.Finite.{sumℕ, Steepest}
+use Rattle.integer.specs.Finite.{sumℕ}
+use Rattle.integer.specs.Steepest.{Steepest}
 use Rattle.linear.specs.Matrix.{Vec, apply}
 use Rattle.enclosure.specs.Problem.{Problem, S, T}
 use Rattle.enclosure.specs.Reckoning.{defect, margin, residual}

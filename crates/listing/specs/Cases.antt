@@ -21,20 +21,20 @@ sameInteger (pos a) (negsuc b) = eqb 0 1
 sameInteger (negsuc a) (pos b) = eqb 0 1
 sameInteger (negsuc a) (negsuc b) = eqb a b
 
-abbrev pub rowHolds : TableRow → Bool
-rowHolds (checked r) = check.holds r
-rowHolds (entry x s v) = sameInteger (entryValue s x) v
+abbrev pub tableRowHolds : TableRow → Bool
+tableRowHolds (checked r) = check.rowHolds r
+tableRowHolds (entry x s v) = sameInteger (entryValue s x) v
 
 -- X = −24, s = 4: entry −2
 abbrev pub l : TableRow
 l = entry (negsuc 23) 4 (negsuc 1)
 
 abbrev pub table : List TableRow
-table = map (λ (r : check.Row). checked r) check.cases ++ (l ∷ [])
+table = map (λ (r : check.Row). checked r) check.rows ++ (l ∷ [])
 
 abbrev pub tableHolds : List TableRow → Bool
 tableHolds [] = true
-tableHolds (c ∷ cs) = rowHolds c && tableHolds cs
+tableHolds (c ∷ cs) = tableRowHolds c && tableHolds cs
 
 abbrev pub wholeFile : List ℕ
 wholeFile =

@@ -66,7 +66,8 @@ fn margin_of(
     requires { ⌜ RaisedRows (now rows) n × RaisedRows (now columns) n ⌝ }
     requires { ⌜ ((j : ℕ) → j < n → natAbs (rowDifference n t (now rows) (now columns) m j) ≤ 2 ^ 46) ⌝ }
     requires { ⌜ ColumnList (now weights) n 1024 ⌝ }
-    ensures { λ r. ⌜ r ≡ 2 ^ t * natAbs (at (now (weights .entry)) m) - rowLoad n t (now (rows .entry)) (now (columns .entry)) (now (weights .entry)) m ⌝ }
+    ensures { λ r. ⌜ r ≡ 2 ^ t * natAbs (at (now (weights .entry)) m)
+        - rowLoad n t (now (rows .entry)) (now (columns .entry)) (now (weights .entry)) m ⌝ }
 {
     let full = power(t) * magnitude(weights[m]);
     let sum = load_of(t, rows, columns, weights, n, m, row);

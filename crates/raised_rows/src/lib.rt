@@ -1,5 +1,5 @@
-// Sums of products by way of numbers raised above 0. x86-64 multiplies two pairs of unsigned 32-bit numbers at once, and signed 64-bit numbers
-// one pair at a time: so a matrix is raised row after row, and a sum of products is put right by the sums of its two rows.
+// Sums of products by way of numbers raised above 0. x86-64 multiplies two pairs of unsigned 32-bit numbers at once, and signed 64-bit
+// numbers one pair at a time: so a matrix is raised row after row, and a sum of products is put right by the sums of its two rows.
 ghost use mathlib.Core.Path.{_≡_};
 ghost use Prim.Native.Nat.{ℕ, _+_, _*_, _<_, _≤_, _^_};
 ghost use lib.IntN.{pos, natAbs, _-ℤ_};
@@ -85,7 +85,8 @@ pub fn row_dot(a: &[u64], p: usize, b: &[u64], q: usize, n: usize) -> i64
 pub fn raise_row(out: &mut [u64], place: usize, xs: &[i64], start: usize, stride: usize, n: usize)
     requires { ⌜ (n ≤ 32) × ((start + n * stride < 2 ^ 60) × (place + n < length (now out))) ⌝ }
     requires { ⌜ Reach (now xs) start stride n raisedBy ⌝ }
-    ensures { λ _. ⌜ RowOf (now (out .exit)) place n (λ (k : ℕ). at (now (xs .entry)) (start + k * stride)) × Kept (now (out .entry)) (now (out .exit)) place ⌝ }
+    ensures { λ _. ⌜ RowOf (now (out .exit)) place n (λ (k : ℕ). at (now (xs .entry)) (start + k * stride))
+        × Kept (now (out .entry)) (now (out .exit)) place ⌝ }
 {
     let mut sum: u64 = 0;
     let mut from = start;
@@ -100,7 +101,7 @@ pub fn raise_row(out: &mut [u64], place: usize, xs: &[i64], start: usize, stride
     out[to] = sum;
 }
 
-// Raises n rows of n numbers one after another, each from so many places on after the one before: rows of a matrix (n, 1) or columns (1, n).
+// Raises n rows of n numbers one after another, each a step after the one before: rows of a matrix (n, 1) or columns (1, n).
 pub fn raise_rows(out: &mut [u64], xs: &[i64], step: usize, stride: usize, n: usize)
     requires { ⌜ (n ≤ 32) × ((step ≤ 32) × ((stride ≤ 32) × (rowsLength ≤ length (now out)))) ⌝ }
     requires { ⌜ ((i : ℕ) → i < n → Reach (now xs) (i * step) stride n raisedBy) ⌝ }

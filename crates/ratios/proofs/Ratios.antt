@@ -7,7 +7,7 @@ use native.Mathlib.Omega.{arith}
 use native.Mathlib.Nat.{le-antisymm, mul-le-mul, mul-le-mul-right, div-add-mod', mod-lt}
 use borrow.Author.Tests.{ltb-true, ltb-false, lt-ltb, le-ltb}
 use lib.Dec.{ltb}
-use Rattle.integer.specs.Finite.{Steepest}
+use Rattle.integer.specs.Steepest.{Steepest}
 use Rattle.integer.proofs.Steepest.{steepest-one, steepest-stays, steepest-moves}
 use Rattle.ratios.specs.declared.Ratio.{Ratio}
 use Rattle.ratios.specs.Ratio.{ratioOf, steeperOf, Narrow}
@@ -62,9 +62,9 @@ best-next sizes margins n pos b e f =
 pub narrow : (m p g : ℕ) {a : Ratio} → a ≡ ratioOf m p g → 0 < g → g ≤ 2 ^ 30 → Narrow a
 narrow m p g e h l = rw e (record { low = omega (arith, mod-lt p h); high = l })
 
--- products of remainders and margins fit
-pub product-fits : (x y : ℕ) → x ≤ 2 ^ 30 → y ≤ 2 ^ 30 → x * y < 2 ^ 64
-product-fits x y h k = omega (arith, mul-le-mul h k)
+-- each product of a remainder and a margin fits
+pub products : (a b : Ratio) → Narrow a → Narrow b → (a .remainder * b .margin ≤ 2 ^ 60) × (b .remainder * a .margin ≤ 2 ^ 60)
+products a b h k = (mul-le-mul (h .low) (k .high), mul-le-mul (k .low) (h .high))
 
 -- the code's tests
 module _ (a b : Ratio) where

@@ -1,9 +1,9 @@
-// The limits of a column from its sizes, the margins and the weights: each is that of the row where the size divided by the margin is largest.
+// The limits of a column from its sizes, the margins and the weights: each is that of the row where size / margin is largest.
 ghost use mathlib.Core.Path.{_≡_};
 ghost use Prim.Native.Nat.{ℕ, _*_, _≤_, _<_, _^_};
 ghost use lib.IntN.{natAbs};
 ghost use lib.ListN.{getD};
-ghost use Rattle.integer.specs.Finite.{Steepest};
+ghost use Rattle.integer.specs.Steepest.{Steepest};
 ghost use Rattle.integer.specs.Quotient.{ceilDiv};
 ghost use Rattle.linear.specs.Slice.{at};
 ghost use Rattle.linear.specs.Reach.{ColumnList};
@@ -78,7 +78,8 @@ pub fn bounds_of(sizes: &[u64; 32], margins: &[u64; 32], weights: &[i64], n: usi
     requires { ⌜ Sized (now sizes) n ⌝ }
     requires { ⌜ Positive (now margins) n ⌝ }
     requires { ⌜ ColumnList (now weights) n 1024 ⌝ }
-    ensures { λ r. ⌜ Begins 0 r n (boundFrom n (λ (m : ℕ). getD (now (sizes .entry)) m 0) (λ (m : ℕ). getD (now (margins .entry)) m 0) (λ (i : ℕ). natAbs (at (now (weights .entry)) i))) ⌝ }
+    ensures { λ r. ⌜ Begins 0 r n (boundFrom n (λ (m : ℕ). getD (now (sizes .entry)) m 0) (λ (m : ℕ). getD (now (margins .entry)) m 0)
+        (λ (i : ℕ). natAbs (at (now (weights .entry)) i))) ⌝ }
 {
     let k = steepest_of(sizes, margins, n);
     let p = sizes[k];

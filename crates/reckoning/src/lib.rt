@@ -1,4 +1,4 @@
-// What the reckoning of margins and of residuals share: the definitions on slices and raised rows, their laws, and one number of 2^t·I less a product.
+// What margins, residuals and limits share: definitions on slices and raised rows with their laws, and a number of 2^t·I less a product.
 ghost use mathlib.Core.Path.{_≡_};
 ghost use Prim.Native.Nat.{_≤_, _^_};
 ghost use lib.IntN.{pos, _-ℤ_, _*ℤ_};

@@ -77,7 +77,8 @@ fn column_residuals(
 )
     requires { ⌜ (t ≤ 20) × ((n ≤ 32) × (j < n)) ⌝ }
     requires { ⌜ RaisedRows (now rows) n × RaisedRows (now columns) n ⌝ }
-    ensures { λ _. ⌜ now (out .exit) ≡ stored (now (out .entry)) (j * n) 1 (λ (k : ℕ). rowDifference n t (now (rows .entry)) (now (columns .entry)) k j) n ⌝ }
+    ensures { λ _. ⌜ now (out .exit)
+        ≡ stored (now (out .entry)) (j * n) 1 (λ (k : ℕ). rowDifference n t (now (rows .entry)) (now (columns .entry)) k j) n ⌝ }
 {
     let column = j * (n + 1);
     let mut place = j * n;
@@ -94,7 +95,8 @@ pub fn inverse_residuals_of(t: u32, matrix: &[i64], inverse: &[i64], n: usize) -
     requires { ⌜ (t ≤ 20) × (n ≤ 32) ⌝ }
     requires { ⌜ MatrixList (now matrix) n ⌝ }
     requires { ⌜ MatrixList (now inverse) n ⌝ }
-    ensures { λ r. ⌜ Begins (pos 0) r (n * n) (λ (i : ℕ). columnResidual n t (now (matrix .entry)) (now (inverse .entry)) (i / n) (i % n)) ⌝ }
+    ensures { λ r. ⌜ Begins (pos 0) r (n * n)
+        (λ (i : ℕ). columnResidual n t (now (matrix .entry)) (now (inverse .entry)) (i / n) (i % n)) ⌝ }
 {
     let mut rows = [0u64; ROWS_LENGTH];
     let mut columns = [0u64; ROWS_LENGTH];

@@ -80,8 +80,8 @@ store-requires c κs =
     let t = turn (c .before .before .before .before) in
     let l = t .before .loop in
     let s = start t in (
-      (s .pre .0 .1 .0, omega (arith, column-ends (t .loop-test .taken) (s .pre .0 .1 .0))),
-      λ k h. omega (arith, place h (t .loop-test .taken), ap length (l .inv .1 .1), columns-length (s .args .dst .now) (s .args .n) (F s) (l .j)),
+      (omega (arith, s .pre .0 .1 .0), omega (arith, column-ends (t .loop-test .taken) (s .pre .0 .1 .0))),
+      λ k h. omega (arith, place {i = k} {n = s .args .n} (omega (arith, h)) (t .loop-test .taken), ap length (l .inv .1 .1), columns-length (s .args .dst .now) (s .args .n) (F s) (l .j)),
     )
 
 add-place : tie.Need-add-place Inv-loop μ-loop

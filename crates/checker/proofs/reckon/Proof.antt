@@ -62,12 +62,12 @@ slice-aggregate-raise-rows : tie.Need-slice-aggregate-raise-rows
 slice-aggregate-raise-rows c = search needs
 
 raise-rows-requires : tie.Need-raise-rows-requires
-raise-rows-requires c κs = let p = c .before .before .before .pre in ((p .few, (p .few, (lit≤ tt, lit≤ tt))), row-reaches (p .inverse))
+raise-rows-requires c κs = let p = c .before .before .before .pre in ((p .few, (p .few, (lit≤ tt, lit≤ tt))), row-reaches (search (p .matrix, p .inverse)))
 
 margins-of-requires : tie.Need-margins-of-requires
 margins-of-requires c κs =
     let r = c .before .before in
-    let p = r .before .before .before .before .pre in ((p .inverse-scale, p .few), (rows-are r, (p .matrix, p .weights)))
+    let p = r .before .before .before .before .pre in ((p .inverse-scale, p .few), (rows-are r, (search (p .matrix, p .inverse), p .weights)))
 
 residuals-of-requires : tie.Need-residuals-of-requires
 residuals-of-requires c κs = search needs
@@ -108,7 +108,7 @@ column-bounds-requires c κs =
 store-requires : tie.Need-store-requires
 store-requires c κs =
     let p = start (c .before .before .before .before .before) .pre in
-    ((p .few, omega (arith, p .few)), λ k l. omega (arith, p .few, p .solution-long))
+    ((omega (arith, p .few), omega (arith, p .few)), λ k l. omega (arith, p .few, p .solution-long))
 
 store-columns-requires : tie.Need-store-columns-requires
 store-columns-requires c κs =

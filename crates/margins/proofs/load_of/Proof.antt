@@ -56,7 +56,7 @@ weigh-requires c κs =
     let s = t .before .before .before .before in
     let j = t .before .loop .j in (
       omega (arith, t .before .loop .inv .1 .1, sumℕ≤ j (2 ^ 56) _ (λ k l. sized s k (omega arith))),
-      (rw (difference-here (c .before)) (s .pre .1 .1 .0 j (t .loop-test .taken)), rw (read _ (c .weigh-arg .given)) (s .pre .1 .1 .1 .within .size j (t .loop-test .taken))),
+      (rw (difference-here (c .before)) (s .pre .1 .1 .0 j (t .loop-test .taken)), rw (read _ (c .weigh-arg .given)) (s .pre .1 .1 .1 .within .size _ (omega (arith, t .loop-test .taken, s .pre .0 .1 .1 .0)))),
     )
 
 add-column : tie.Need-add-column Inv-loop μ-loop

@@ -1,4 +1,5 @@
-use Rattle.ratios.proofs.Ratios.{product-fits, steeper-1, steeper-2, steeper-3, steeper-4}
+use native.Mathlib.Omega.{arith}
+use Rattle.ratios.proofs.Ratios.{products, steeper-1, steeper-2, steeper-3, steeper-4}
 use Rattle.ratios.proofs.steeper.Statement.{statement}
 use Rattle.ratios.proofs.steeper.Tie as tie
 
@@ -12,11 +13,10 @@ returns-2 : tie.Need-returns-2
 returns-2 c = steeper-2 _ _ (c .before .before .before .if1 .left) (c .if2 .taken)
 
 mul-if3 : tie.Need-mul-if3
-mul-if3 c = record { fits = product-fits _ _ (start6 c .pre .0 .low) (start6 c .pre .1 .high) }
+mul-if3 c = record { fits = omega (arith, products _ _ (start6 c .pre .0) (start6 c .pre .1)) }
 
 mul-if3-2 : tie.Need-mul-if3-2
-mul-if3-2 c =
-    record { fits = product-fits _ _ (start6 (c .before .before) .pre .1 .low) (start6 (c .before .before) .pre .0 .high) }
+mul-if3-2 c = record { fits = omega (arith, products _ _ (start6 (c .before .before) .pre .0) (start6 (c .before .before) .pre .1)) }
 
 returns-3 : tie.Need-returns-3
 returns-3 c = steeper-3 _ _ (c .before .before .before .before .before .before .before .before .if1 .left) (c .before .before .before .before .before .if2 .left) (c .if3 .taken)

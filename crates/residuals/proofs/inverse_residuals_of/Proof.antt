@@ -61,7 +61,7 @@ column-residuals-requires : tie.Need-column-residuals-requires Inv-loop μ-loop
 column-residuals-requires c κs =
     let t = c .before .before .before in
     let p = start t .pre in
-    ((p .0 .0, (p .0 .1, t .loop-test .taken)), (rows-raised (rows-are t), rows-raised (columns-are t)))
+    ((p .0 .0, (p .0 .1, omega (arith, t .loop-test .taken))), (rows-raised (rows-are t), rows-raised (columns-are t)))
 
 add-j : tie.Need-add-j Inv-loop μ-loop
 add-j c = search needs
