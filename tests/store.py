@@ -73,7 +73,7 @@ def cut_faults(script):
     run = lambda text: subprocess.run([str(PROGRAM)], input=text, capture_output=True, timeout=60)
     filled, fitted = run(fills), run(fits)
     wrong = [] if filled.stdout == b"" and filled.stderr else ["a script that fills the buffer is run, or refused in silence"]
-    return wrong + ([] if fitted.stdout.endswith(b"x\n") else ["a script that does not fill the buffer is not run to its end"])
+    return wrong + ([] if fitted.stdout.endswith(b"x") else ["a script that does not fill the buffer is not run to its end"])
 
 
 def check():

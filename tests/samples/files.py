@@ -69,5 +69,5 @@ def entries(printing):
     """Each name and its file as two commands of the script, with what the program prints of them."""
     second = Program()
     for name, file in stored():
-        yield b"\xfet" + name.encode(), name + "\n"
+        yield b"\xfet" + name.encode() + b"\n", name + "\n"
         yield b"\xfef" + file, second.listing(file).decode()

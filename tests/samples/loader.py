@@ -27,10 +27,12 @@ class Session:
         self.loader = Loader()
         for numbers in self.loader.lists.values():
             numbers[:] = [MARK] * len(numbers)
-        self.command(b"n", "new")
+        self.command(b"n", "")
+        self.text("new\n")
 
     def command(self, letter, text):
-        self.entries.append((b"\xfe" + letter, text + "\n"))
+        """A command that prints a line, or nothing."""
+        self.entries.append((b"\xfe" + letter, text and text + "\n"))
 
     def lines(self, *lines):
         for line in lines:
@@ -42,9 +44,15 @@ class Session:
             for which in b"01234":
                 self.command(bytes([which]) + line, self.printing.refused(8))
 
+    def text(self, text):
+        """A text that the program only prints."""
+        self.entries.append((b"\xfet" + text.encode(), text))
+
     def show(self):
-        shown = [" ".join([name, *map(str, self.loader.lists[kind][:SHOWN])]) for name, kind in zip(NAMES, KINDS)]
-        self.command(b"p", "\n".join(shown))
+        for which, (name, kind) in enumerate(zip(NAMES, KINDS)):
+            self.text(name)
+            self.entries.append((b"\xfep" + bytes([which]), "".join(f" {number}" for number in self.loader.lists[kind][:SHOWN])))
+            self.text("\n")
 
     def limits(self, outcome, solution, inverse):
         """The answer of a check, then the first limits of both lists, each list after its name."""
@@ -64,8 +72,8 @@ class Session:
         self.command(b"d", self.printing.refused(8))
 
     def check_on_lists(self, letter, n, s, t):
-        text = self.limits(self.reckoned(n, s, t), ("; solution", 2), ("; inverse", 4))
-        self.command(b"k" + bytes((n, s, t)) + f"{letter}: ".encode(), f"{letter}: {text}")
+        self.text(f"{letter}: ")
+        self.command(b"k" + bytes((n, s, t)), self.limits(self.reckoned(n, s, t), ("; solution", 2), ("; inverse", 4)))
 
 
 def whole(session, net):

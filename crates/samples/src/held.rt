@@ -8,6 +8,7 @@ use rules::Outcome;
 // What stands in the limit lists before a check: no limit is as large.
 pub const UNWRITTEN: u64 = 1152921504606846977;
 
+// The outcome is that of the line taken last.
 pub struct Held {
     pub loader: Loader,
     pub matrix: [i64; 1024],
@@ -15,29 +16,35 @@ pub struct Held {
     pub guess: [i64; 32],
     pub inverse: [i64; 1024],
     pub weights: [i64; 32],
-}
-
-// What a line answered, and the loader after it.
-pub struct Step {
     pub outcome: Outcome,
-    pub held: Held,
 }
 
 // What a check answered, and the limit lists after it.
 pub struct Checked {
     pub outcome: Outcome,
-    pub solution_bounds: [u64; 32],
-    pub inverse_bounds: [u64; 1024],
+    pub solution: [u64; 32],
+    pub inverse: [u64; 1024],
+}
+
+fn marked() -> [i64; 32] {
+    [-7; 32]
+}
+
+fn marked_matrix() -> [i64; 1024] {
+    [-7; 1024]
 }
 
 pub fn fresh() -> Held {
+    let matrix = marked_matrix();
+    let list = marked();
     Held {
         loader: Loader::new(),
-        matrix: [-7; 1024],
-        right: [-7; 32],
-        guess: [-7; 32],
-        inverse: [-7; 1024],
-        weights: [-7; 32],
+        matrix,
+        right: list,
+        guess: list,
+        inverse: matrix,
+        weights: list,
+        outcome: Outcome::Accepted,
     }
 }
 
@@ -60,6 +67,10 @@ fn unwritten() -> [u64; 32]
     [UNWRITTEN; 32]
 }
 
+fn unwritten_matrix() -> [u64; 1024] {
+    [UNWRITTEN; 1024]
+}
+
 // A length, one less where the list is to be too short.
 fn less_where(n: usize, short: bool) -> usize
     requires { ⌜ 1 ≤ n ⌝ }
@@ -69,7 +80,7 @@ fn less_where(n: usize, short: bool) -> usize
 }
 
 // Takes a line; of the lists 0 to 4 the one named is too short.
-pub fn taken(held: Held, line: &[u8], short: u8) -> Step {
+pub fn taken(held: Held, line: &[u8], short: u8) -> Held {
     let loader = held.loader;
     let held_matrix = held.matrix;
     let held_right = held.right;
@@ -96,15 +107,15 @@ pub fn taken(held: Held, line: &[u8], short: u8) -> Step {
     );
     let outcome = taken.outcome;
     let next = taken.loader;
-    let held = Held {
+    Held {
         loader: next,
         matrix,
         right,
         guess,
         inverse,
         weights,
-    };
-    Step { outcome, held }
+        outcome,
+    }
 }
 
 // A check through the loader, with a solution limit list that is long enough or too short.
@@ -116,7 +127,7 @@ pub fn checked_through(held: Held, short: bool) -> Checked {
     let inverse = held.inverse;
     let weights = held.weights;
     let mut solution_bounds = unwritten();
-    let mut inverse_bounds = [UNWRITTEN; 1024];
+    let mut inverse_bounds = unwritten_matrix();
     let k = less_where(32, short);
     let outcome = loader.check(
         &matrix,
@@ -129,8 +140,8 @@ pub fn checked_through(held: Held, short: bool) -> Checked {
     );
     Checked {
         outcome,
-        solution_bounds,
-        inverse_bounds,
+        solution: solution_bounds,
+        inverse: inverse_bounds,
     }
 }
 
@@ -141,8 +152,8 @@ pub fn checked_on_lists(held: Held, n: u32, s: u32, t: u32) -> Checked {
     let guess = held.guess;
     let inverse = held.inverse;
     let weights = held.weights;
-    let mut solution_bounds = [UNWRITTEN; 32];
-    let mut inverse_bounds = [UNWRITTEN; 1024];
+    let mut solution_bounds = unwritten();
+    let mut inverse_bounds = unwritten_matrix();
     let outcome = checker::check(
         n,
         s,
@@ -157,7 +168,7 @@ pub fn checked_on_lists(held: Held, n: u32, s: u32, t: u32) -> Checked {
     );
     Checked {
         outcome,
-        solution_bounds,
-        inverse_bounds,
+        solution: solution_bounds,
+        inverse: inverse_bounds,
     }
 }

@@ -5,29 +5,27 @@
 //   f  the listing of the rest as a file
 //   n  a new loader, and lists that hold -7 everywhere
 //   0 to 4  take the rest as a line, with that list one number too short
-//   p  print the first numbers of the lists
+//   p  print the first ten numbers of a list, 0 to 4, and no line feed
 //   c  check through the loader;  d  the same, with a solution limit list that is too short
-//   k  check on lists: the next three bytes are n, s and t, and what follows them is printed first
+//   k  check on lists: the rest is n, s and t, a byte each
 // Any other entry is a line for the loader. A script that fills the buffer may have been cut, so it is not run at all.
 ghost use mathlib.Core.Path.{_≡_};
 ghost use lib.ListN.{length};
 use held::Held;
-use held::checked_on_lists;
-use held::checked_through;
 use held::fresh;
 use held::taken;
 use libc::STDERR_FILENO;
 use libc::STDIN_FILENO;
 use print::print_answer;
-use print::print_checked;
-use print::print_lists;
 use print::print_text;
 use read::print_line;
 use read::print_listing;
+use show::print_of;
 
 mod held;
 mod print;
 mod read;
+mod show;
 
 fn script_buffer() -> [u8; 131072]
     ensures { λ r. ⌜ 131072 ≡ length r ⌝ }
@@ -68,56 +66,30 @@ fn entry(held: Held, text: &[u8]) -> Held {
 }
 
 fn print_taken(held: Held, line: &[u8], short: u8) -> Held {
-    let step = taken(held, line, short);
-    let outcome = step.outcome;
+    let next = taken(held, line, short);
+    let outcome = next.outcome;
     print_answer(outcome);
-    let next = step.held;
     next
 }
 
-fn print_short(held: Held) {
-    let checked = checked_through(held, true);
-    let outcome = checked.outcome;
-    print_answer(outcome);
-}
-
-fn print_on_lists(held: Held, rest: &[u8]) {
-    if 2 < rest.len() {
-        print_text(&rest[3..]);
-        let checked = checked_on_lists(held, number(rest[0]), number(rest[1]), number(rest[2]));
-        print_checked(checked, b"; solution", 2, b"; inverse", 4);
-    }
-}
-
-fn number(x: u8) -> u32 {
-    x as u32
-}
-
 fn command(held: Held, name: u8, rest: &[u8]) -> Held {
+    if name == b'n' {
+        return fresh();
+    }
+    if name < b'5' {
+        return print_taken(held, rest, name);
+    }
+    print_given(name, rest);
+    print_of(held, name, rest);
+    held
+}
+
+// A command on the rest of its entry alone.
+fn print_given(name: u8, rest: &[u8]) {
     match name {
-        b'n' => {
-            print_text(b"new\n");
-            return fresh();
-        }
-        b't' => {
-            print_text(rest);
-            print_text(b"\n");
-        }
+        b't' => print_text(rest),
         b'l' => print_line(rest),
         b'f' => print_listing(rest),
-        b'p' => print_lists(held),
-        b'c' => print_checked(
-            checked_through(held, false),
-            b" solution",
-            3,
-            b" inverse",
-            5,
-        ),
-        b'd' => print_short(held),
-        b'k' => print_on_lists(held, rest),
-        _ => {
-            return print_taken(held, rest, name);
-        }
+        _ => {}
     }
-    held
 }

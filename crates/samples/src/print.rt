@@ -1,6 +1,5 @@
 // Answers, lists and numbers on standard output.
 use crate::held::Checked;
-use crate::held::Held;
 use crate::held::UNWRITTEN;
 use libc::STDOUT_FILENO;
 use rules::Outcome;
@@ -17,23 +16,6 @@ pub fn print_number(x: u64) {
 // An answer by itself on a line.
 pub fn print_answer(outcome: Outcome) {
     print_outcome(outcome);
-    print_text(b"\n");
-}
-
-// An answer, and the first limits of both lists.
-pub fn print_checked(
-    checked: Checked,
-    solution: &[u8],
-    solutions: usize,
-    inverse: &[u8],
-    inverses: usize,
-) {
-    let outcome = checked.outcome;
-    let solution_bounds = checked.solution_bounds;
-    let inverse_bounds = checked.inverse_bounds;
-    print_outcome(outcome);
-    print_column_bounds(solution, solution_bounds, solutions);
-    print_matrix_bounds(inverse, inverse_bounds, inverses);
     print_text(b"\n");
 }
 
@@ -76,9 +58,15 @@ fn size_of(x: i64) -> u64 {
     integer::magnitude(x)
 }
 
-// The first count numbers of a list, after its name.
-fn print_list(name: &[u8], l: &[i64], count: usize) {
-    print_text(name);
+pub fn print_column(l: [i64; 32], count: usize) {
+    print_list(&l, count);
+}
+
+pub fn print_matrix(l: [i64; 1024]) {
+    print_list(&l, 10);
+}
+
+fn print_list(l: &[i64], count: usize) {
     for i in 0..count {
         if i < l.len() {
             print_signed(l[i]);
@@ -86,32 +74,8 @@ fn print_list(name: &[u8], l: &[i64], count: usize) {
     }
 }
 
-// The first numbers of each list of a loader.
-pub fn print_lists(held: Held) {
-    let matrix = held.matrix;
-    let right = held.right;
-    let guess = held.guess;
-    let inverse = held.inverse;
-    let weights = held.weights;
-    print_matrix(b"matrix", matrix);
-    print_column(b"\nright", right, 10);
-    print_column(b"\nguess", guess, 10);
-    print_matrix(b"\ninverse", inverse);
-    print_column(b"\nweights", weights, 10);
-    print_text(b"\n");
-}
-
-pub fn print_column(name: &[u8], l: [i64; 32], count: usize) {
-    print_list(name, &l, count);
-}
-
-fn print_matrix(name: &[u8], l: [i64; 1024]) {
-    print_list(name, &l, 10);
-}
-
-// The first count limits of a list, after its name; a dash where none was written.
-fn print_bounds(name: &[u8], bounds: &[u64], count: usize) {
-    print_text(name);
+// Limits; a dash where none was written.
+fn print_bounds(bounds: &[u64], count: usize) {
     for i in 0..count {
         if i < bounds.len() {
             print_bound(bounds[i]);
@@ -128,10 +92,21 @@ fn print_bound(bound: u64) {
     }
 }
 
-fn print_column_bounds(name: &[u8], bounds: [u64; 32], count: usize) {
-    print_bounds(name, &bounds, count);
-}
-
-fn print_matrix_bounds(name: &[u8], bounds: [u64; 1024], count: usize) {
-    print_bounds(name, &bounds, count);
+// An answer, and the first limits of both lists, each list after its name.
+pub fn print_checked(
+    checked: Checked,
+    solution_name: &[u8],
+    solutions: usize,
+    inverse_name: &[u8],
+    inverses: usize,
+) {
+    let outcome = checked.outcome;
+    let solution = checked.solution;
+    let inverse = checked.inverse;
+    print_outcome(outcome);
+    print_text(solution_name);
+    print_bounds(&solution, solutions);
+    print_text(inverse_name);
+    print_bounds(&inverse, inverses);
+    print_text(b"\n");
 }

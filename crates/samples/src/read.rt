@@ -12,40 +12,80 @@ pub fn print_line(text: &[u8]) {
     let line = line::read_line(text);
     let answer = line.answer;
     let numbers = line.numbers;
+    print_read(answer);
+    print_numbers(numbers);
+    print_text(b"\n");
+}
+
+// A line that is refused has no numbers beside it.
+fn print_read(answer: Answer) {
     match answer {
         Answer::Refused(refusal) => {
             print_text(b"refused ");
             print_refusal(refusal);
         }
-        Answer::Form(form) => {
-            print_form(form);
-            print_numbers(numbers);
-        }
+        Answer::Form(form) => print_form(form),
     }
-    print_text(b"\n");
+}
+
+// How a form is printed: a word, and so many numbers.
+struct Words {
+    from: usize,
+    to: usize,
+    count: usize,
+    first: i64,
+    second: i64,
+}
+
+fn shown(from: usize, to: usize, count: usize, first: i64, second: i64) -> Words {
+    Words {
+        from,
+        to,
+        count,
+        first,
+        second,
+    }
+}
+
+// The words stand one after another in the text of `print_form`.
+fn shown_form(form: CappedForm) -> Words {
+    match form {
+        CappedForm::Problem(n) => shown(0, 7, 1, n, 0),
+        CappedForm::Scale(s, t) => shown(7, 12, 2, s, t),
+        CappedForm::Row(i) => shown(12, 15, 1, i, 0),
+        CappedForm::Right(i, b) => shown(15, 20, 2, i, b),
+        CappedForm::Guess(i, x) => shown(20, 25, 2, i, x),
+        CappedForm::Inverse(i) => shown(25, 32, 1, i, 0),
+        CappedForm::Weight(i, w) => shown(32, 38, 2, i, w),
+        CappedForm::End => shown(38, 41, 0, 0, 0),
+    }
 }
 
 fn print_form(form: CappedForm) {
-    match form {
-        CappedForm::Problem(n) => print_one(b"problem", n),
-        CappedForm::Scale(s, t) => print_two(b"scale", s, t),
-        CappedForm::Row(i) => print_one(b"row", i),
-        CappedForm::Right(i, b) => print_two(b"right", i, b),
-        CappedForm::Guess(i, x) => print_two(b"guess", i, x),
-        CappedForm::Inverse(i) => print_one(b"inverse", i),
-        CappedForm::Weight(i, w) => print_two(b"weight", i, w),
-        CappedForm::End => print_text(b"end"),
+    let shown = shown_form(form);
+    print_part(
+        b"problemscalerowrightguessinverseweightend",
+        shown.from,
+        shown.to,
+    );
+    print_pair(shown.count, shown.first, shown.second);
+}
+
+fn print_part(words: &[u8], from: usize, to: usize) {
+    if from <= to {
+        if to <= words.len() {
+            print_text(&words[from..to]);
+        }
     }
 }
 
-fn print_one(word: &[u8], a: i64) {
-    print_text(word);
-    print_signed(a);
-}
-
-fn print_two(word: &[u8], a: i64, b: i64) {
-    print_one(word, a);
-    print_signed(b);
+fn print_pair(count: usize, first: i64, second: i64) {
+    if 0 < count {
+        print_signed(first);
+    }
+    if 1 < count {
+        print_signed(second);
+    }
 }
 
 // The count of a list, whether all its numbers are in range, and the first 32.
@@ -56,12 +96,13 @@ fn print_numbers(numbers: Numbers) {
     }
     print_text(b" of ");
     print_number(count as u64);
-    let values = numbers.values;
     if numbers.inside {
-        print_column(b" in range:", values, count);
+        print_text(b" in range:");
     } else {
-        print_column(b" not in range:", values, count);
+        print_text(b" not in range:");
     }
+    let values = numbers.values;
+    print_column(values, count);
 }
 
 pub fn print_listing(file: &[u8]) {

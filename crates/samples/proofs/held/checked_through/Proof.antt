@@ -1,12 +1,15 @@
-use lib.Seq.{length-take-le}
-use native.Mathlib.Omega.{arith}
 use mathlib.Core.Path.{sym}
+use native.Mathlib.Omega.{arith}
+use lib.Seq.{length-take-le}
 use borrow.Author.Needs.{needs}
 use Rattle.samples.proofs.held.checked_through.Statement.{statement}
 use Rattle.samples.proofs.held.checked_through.Tie as tie
 
 unwritten-requires : tie.Need-unwritten-requires
 unwritten-requires c κs = search needs
+
+unwritten-matrix-requires : tie.Need-unwritten-matrix-requires
+unwritten-matrix-requires c κs = search needs
 
 less-where-requires : tie.Need-less-where-requires
 less-where-requires c κs = search needs
@@ -32,7 +35,7 @@ array-borrow-prefix-solution-bounds c = search needs
 slice-aggregate-check-6 : tie.Need-slice-aggregate-check-6
 slice-aggregate-check-6 c =
     let n = c .before .before .before .before .before .before .less-where in
-    let l = c .before .before .before .before .before .before .before .unwritten in
+    let l = c .before .before .before .before .before .before .before .before .unwritten in
     sym (length-take-le (n .result) (l .result) (omega (arith, n .ensures, l .ensures)))
 
 slice-aggregate-check-7 : tie.Need-slice-aggregate-check-7
@@ -49,6 +52,7 @@ checked-through-spec =
     tie.close
     (tie.spec
     unwritten-requires
+    unwritten-matrix-requires
     less-where-requires
     slice-aggregate-check
     slice-aggregate-check-2

@@ -4,13 +4,10 @@ use Rattle.samples.proofs.print.print_list.Statement.{statement}
 use Rattle.samples.proofs.print.print_list.Tie as tie
 
 abbrev Inv-loop : tie.InvT-loop
-Inv-loop name l count i₀ i = i ≤ count
+Inv-loop l count i₀ i = i ≤ count
 
 abbrev μ-loop : tie.MeasureT-loop
-μ-loop name l count i₀ i = count - i
-
-print-text-requires : tie.Need-print-text-requires Inv-loop μ-loop
-print-text-requires c κs = search needs
+μ-loop l count i₀ i = count - i
 
 loop-holds : tie.Need-loop-holds Inv-loop μ-loop
 loop-holds c = search needs
@@ -42,7 +39,6 @@ print-list-spec =
     (tie.spec
     Inv-loop
     μ-loop
-    print-text-requires
     loop-holds
     mul-print-signed
     shared-slice-copy-out-print-signed
