@@ -1,6 +1,6 @@
 -- Cases a to l of document 01 ("Marked for proof"), one table; and its whole file with its listing.
 --   TableRow  — cases a to k are rows of the check on lists; case l is a register entry
---   table — the table;  rowHolds — a case is what the definitions of the contracts give
+--   table — the table;  tableRowHolds — a case is what the definitions of the contracts give
 --   wholeFile, wholeListing — 01, "A whole file"
 use mathlib.Core.Bool.{Bool, true, _&&_}
 use mathlib.Core.List.{List, [], _∷_, _++_, map}
