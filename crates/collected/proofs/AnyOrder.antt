@@ -8,11 +8,11 @@ use Rattle.form.specs.Form.{Form}
 use Rattle.items.specs.Item.{itemOf}
 use Rattle.items.specs.declared.Item.{Item}
 use Rattle.lent_lists.specs.Slot.{Slot, partOf, width, valuesFor}
-use Rattle.lent_lists.specs.Lists.{Lists, cell}
+use Rattle.lent_lists.specs.Lists.{Lists}
 use Rattle.progress.specs.Progress.{ended}
 use Rattle.progress.proofs.Progress.{scaled-sized}
 use Rattle.collected.specs.Run.{State, fromNew, run, Accepts, forms}
-use Rattle.collected.specs.Holds.{In, HoldsForm, HoldsItem}
+use Rattle.collected.specs.Holds.{In, HoldsForm, HoldsItem, cell}
 use Rattle.collected.proofs.Sound.{fresh-sound}
 use Rattle.collected.proofs.Runs.{collected}
 use Rattle.collected.proofs.Sizes.{problem-line, scale-line}

@@ -20,8 +20,9 @@ use Rattle.items.specs.declared.Item.the-variants.{Problem, Scale, Of, End}
 use Rattle.items.specs.declared.Part.{Part}
 use Rattle.items.proofs.Capped.{part-same}
 use Rattle.lent_lists.specs.Slot.{Slot, Matrix, Right, Guess, Inverse, Weight, partOf, width, valuesFor}
-use Rattle.lent_lists.specs.Lists.{Lists, listOf, cell}
+use Rattle.lent_lists.specs.Lists.{Lists, listOf}
 use Rattle.lent_lists.specs.Put.{put, putAll}
+use Rattle.collected.specs.Holds.{cell}
 
 -- ---- a run of stores
 sets-before : (vs l : List ℤ) (k m : ℕ) → m < k → getD (sets l k vs) m (pos 0) ≡ getD l m (pos 0)

@@ -17,7 +17,7 @@ use Rattle.items.specs.declared.Item.{Item}
 use Rattle.items.specs.declared.Item.the-variants.{Problem, Scale, Of, End}
 use Rattle.items.specs.declared.Part.{Part}
 use Rattle.items.proofs.Capped.{part-same}
-use Rattle.lent_lists.specs.Slot.{Slot, Matrix, Right, Guess, Inverse, Weight, partOf, width, kindFor, valuesFor}
+use Rattle.lent_lists.specs.Slot.{Slot, Matrix, Right, Guess, Inverse, Weight, partOf, width, valuesFor}
 use Rattle.lent_lists.specs.Lists.{Lists, listOf, shortLists}
 use Rattle.lent_lists.specs.Put.{putAll}
 use Rattle.lent_lists.proofs.Lists.{long}
@@ -28,7 +28,7 @@ use Rattle.loader.specs.Taken.{after}
 use Rattle.loader_order.proofs.Said.{Passed}
 use Rattle.loader.proofs.Exact.{formCase}
 use Rattle.collected.specs.Run.{State}
-use Rattle.collected.specs.Holds.{HoldsForm, HoldsItem, HoldsPart}
+use Rattle.collected.specs.Holds.{HoldsForm, HoldsItem, HoldsPart, kindFor}
 use Rattle.collected.proofs.Sound.{Sound}
 use Rattle.collected.proofs.Marks.{given-own, given-else}
 use Rattle.collected.proofs.View.{View, view, a-problem, a-scale, a-part, an-end}

@@ -20,8 +20,8 @@ use Rattle.form.specs.Form.{Form}
 use Rattle.items.specs.Item.{partIndex}
 use Rattle.items.specs.declared.Item.{Item}
 use Rattle.items.specs.declared.Part.{Part}
-use Rattle.lent_lists.specs.Slot.{Slot, Matrix, Right, Guess, Inverse, Weight, partOf, width, kindFor, valuesFor}
-use Rattle.lent_lists.specs.Lists.{Lists, listOf, cell}
+use Rattle.lent_lists.specs.Slot.{Slot, Matrix, Right, Guess, Inverse, Weight, partOf, width, valuesFor}
+use Rattle.lent_lists.specs.Lists.{Lists, listOf}
 use Rattle.items.proofs.Capped.{part-same}
 use Rattle.places.specs.Places.{lacking}
 use Rattle.places.proofs.Places.{lacking-none}
@@ -31,7 +31,7 @@ use Rattle.progress.specs.declared.Stage.the-variants.{Start, Sized, Scaled, En
 use Rattle.progress.proofs.Progress.{scaled-sized}
 use Rattle.collected.specs.Run.{State, fromNew, step, run, Accepts, forms}
 use Rattle.collected.specs.Given.{valueFrom, sizeFrom, scalesFrom}
-use Rattle.collected.specs.Holds.{HoldsItem, HoldsPart, InRange}
+use Rattle.collected.specs.Holds.{HoldsItem, HoldsPart, InRange, kindFor, cell}
 use Rattle.collected.proofs.Sound.{Sound, fresh-sound, fresh-empty, line-sound}
 use Rattle.collected.proofs.Marks.{hits, once}
 use Rattle.collected.proofs.Runs.{collected, Found, found}

@@ -19,8 +19,9 @@ use Rattle.items.specs.Item.{itemOf, outside, miscounted}
 use Rattle.items.specs.declared.Item.the-variants.{Problem, Scale, Of, End}
 use Rattle.items.specs.declared.Part.{Part}
 use Rattle.items.specs.declared.Part.the-variants.{Row, Right, Guess, Inverse, Weight}
-use Rattle.lent_lists.specs.Slot.{Slot, partOf, width, kindFor, valuesFor}
+use Rattle.lent_lists.specs.Slot.{Slot, partOf, width, valuesFor}
 use Rattle.lent_lists.proofs.Slot.{slotOf, of-part}
+use Rattle.collected.specs.Holds.{kindFor}
 
 pub data View (n : ℕ) (f : Form) : Type 0 where
   a-problem : (m : ℤ) → itemOf f ≡ Problem m → View n f

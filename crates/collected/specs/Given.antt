@@ -2,6 +2,7 @@
 --   Scales       — s and t
 --   sizeFrom, scalesFrom fs — n, and s and t, that the forms fs give;  sizeBy, scaleBy — that one form gives, or those of the others
 --   isOf p k x   — x is the form of the part p for the number k
+--   absent s     — what stands for a number of the list s that no form gave
 --   valueFrom fs s k j — the number j, from 0, that they give of the list s for the number k
 use mathlib.Core.Bool.{Bool, false, _&&_, cond}
 use mathlib.Core.List.{List, [], _∷_}
@@ -14,7 +15,7 @@ use Rattle.items.specs.Item.{itemOf, partIndex}
 use Rattle.items.specs.declared.Item.{Item}
 use Rattle.items.specs.declared.Item.the-variants.{Problem, Scale, Of, End}
 use Rattle.items.specs.declared.Part.{Part}
-use Rattle.lent_lists.specs.Slot.{Slot, partOf, valuesFor, absent}
+use Rattle.lent_lists.specs.Slot.{Slot, Matrix, Right, Guess, Inverse, Weight, partOf, valuesFor}
 
 pub record Scales : Type 0 where
   pub solution : ℕ
@@ -25,6 +26,13 @@ isOf p k (Problem n) = false
 isOf p k (Scale s t) = false
 isOf p k (Of q i) = eqb (partIndex p) (partIndex q) && eqb k (natAbs i)
 isOf p k End = false
+
+abbrev pub absent : Slot → ℤ
+absent Matrix = pos 0
+absent Right = pos 0
+absent Guess = pos 0
+absent Inverse = pos 0
+absent Weight = pos 0
 
 unfoldable pub valueFrom : List Form → Slot → ℕ → ℕ → ℤ
 valueFrom [] s k j = absent s

@@ -2,29 +2,42 @@
 --   In f fs      — f is one of the forms fs
 --   HoldsForm f u — the state u holds what the form f gives: n; s and t; a part's numbers at their own places, all in their range, the form marked as
 --                  given; the accepted end.  HoldsSize, HoldsScale, HoldsPart, HoldsItem — by the kind of form, vs being its numbers by list
+--   kindFor s    — what the numbers of the list s stand for
+--   cell l n s i j — its number j, from 0, for the number i, from 1, in lists of a system of n equations
 --   InRange u    — every number that a check uses is in its range
 --   ReckoningSays w — w is nothing, 5, 6 or 7
 use mathlib.Core.Bool.{true}
 use mathlib.Core.List.{List, [], _∷_}
 use mathlib.Core.Path.{_≡_}
-use Prim.Native.Nat.{ℕ, _*_, _<_}
+use Prim.Native.Nat.{ℕ, _+_, _*_, _-_, _<_}
 use lib.IntN.{ℤ, pos, natAbs}
 use lib.ListN.{getD}
 use Rattle.rules.specs.Range.{inRange, allInRange}
+use Rattle.rules.specs.declared.Kind.{Kind}
 use Rattle.rules.specs.declared.Kind.the-variants as kind
 use Rattle.form.specs.Form.{Form}
 use Rattle.items.specs.Item.{itemOf, placed}
 use Rattle.items.specs.declared.Item.{Item}
 use Rattle.items.specs.declared.Item.the-variants.{Problem, Scale, Of, End}
 use Rattle.items.specs.declared.Part.{Part}
-use Rattle.lent_lists.specs.Slot.{Slot, partOf, width, kindFor, valuesFor}
-use Rattle.lent_lists.specs.Lists.{cell}
+use Rattle.lent_lists.specs.Slot.{Slot, Matrix, Right, Guess, Inverse, Weight, partOf, width, valuesFor}
+use Rattle.lent_lists.specs.Lists.{Lists, listOf}
 use Rattle.progress.specs.Progress.{given, sized, scaled, ended}
 use Rattle.collected.specs.Run.{State}
 
 pub data In (f : Form) : List Form → Type 0 where
   here : {fs : List Form} → In f (f ∷ fs)
   there : {g : Form} {fs : List Form} → In f fs → In f (g ∷ fs)
+
+abbrev pub kindFor : Slot → Kind
+kindFor Matrix = kind.Matrix
+kindFor Right = kind.Right
+kindFor Guess = kind.Guess
+kindFor Inverse = kind.Inverse
+kindFor Weight = kind.Weight
+
+abbrev pub cell : Lists → ℕ → Slot → ℕ → ℕ → ℤ
+cell l n s i j = getD (listOf s l) ((i - 1) * width s n + j) (pos 0)
 
 pub record HoldsSize (n : ℤ) (u : State) : Type 0 where
   pub stage : sized (u .loader .stage) ≡ true

@@ -1,14 +1,13 @@
 -- The numbers of the lent lists (01: "A lent matrix list has at least 1,024 numbers and a column list at least 32").
 --   Lists, lists — the lists;  listOf s l — one of them
---   cell l n s i j — its number j, from 0, for the number i, from 1, in lists of a system of n equations
 --   tooShort     — a list of one of these lengths is too short;  shortLists l — 8: one of them is
 use mathlib.Core.Bool.{Bool, _||_}
 use mathlib.Core.List.{List}
-use Prim.Native.Nat.{ℕ, _+_, _*_, _-_}
-use lib.IntN.{ℤ, pos}
-use lib.ListN.{length, getD}
+use Prim.Native.Nat.{ℕ}
+use lib.IntN.{ℤ}
+use lib.ListN.{length}
 use Rattle.rules.specs.Range.{shortMatrix, shortColumn}
-use Rattle.lent_lists.specs.Slot.{Slot, Matrix, Right, Guess, Inverse, Weight, width}
+use Rattle.lent_lists.specs.Slot.{Slot, Matrix, Right, Guess, Inverse, Weight}
 
 pub record Lists : Type 0 where
   pub matrix : List ℤ
@@ -26,9 +25,6 @@ listOf Right l = l .right
 listOf Guess l = l .guess
 listOf Inverse l = l .inverse
 listOf Weight l = l .weights
-
-abbrev pub cell : Lists → ℕ → Slot → ℕ → ℕ → ℤ
-cell l n s i j = getD (listOf s l) ((i - 1) * width s n + j) (pos 0)
 
 abbrev pub tooShort : ℕ → ℕ → ℕ → ℕ → ℕ → Bool
 tooShort a b x g w = shortMatrix a || (shortColumn b || (shortColumn x || (shortMatrix g || shortColumn w)))

@@ -2,14 +2,10 @@
 --   Slot          — a list: the matrix A, the right side b, the guess X, the inverse G, the weights w
 --   partOf s      — the part whose forms give the numbers of the list s
 --   width s n     — how many numbers of it a form gives
---   kindFor s     — what these numbers stand for
 --   valuesFor s f — those of the form f, a form of that part
---   absent s      — what stands for a number that no form gave
 use mathlib.Core.List.{List, [], _∷_}
 use Prim.Native.Nat.{ℕ}
-use lib.IntN.{ℤ, pos}
-use Rattle.rules.specs.declared.Kind.{Kind}
-use Rattle.rules.specs.declared.Kind.the-variants as kind
+use lib.IntN.{ℤ}
 use Rattle.form.specs.Form.{Form, problem, scale, row, right, guess, inverse, weight, end}
 use Rattle.items.specs.declared.Part.{Part}
 use Rattle.items.specs.declared.Part.the-variants as part
@@ -35,13 +31,6 @@ width Guess n = 1
 width Inverse n = n
 width Weight n = 1
 
-abbrev pub kindFor : Slot → Kind
-kindFor Matrix = kind.Matrix
-kindFor Right = kind.Right
-kindFor Guess = kind.Guess
-kindFor Inverse = kind.Inverse
-kindFor Weight = kind.Weight
-
 abbrev pub valuesFor : Slot → Form → List ℤ
 valuesFor s (problem n) = []
 valuesFor s (scale u v) = []
@@ -51,10 +40,3 @@ valuesFor s (guess i x) = x ∷ []
 valuesFor s (inverse i g others) = g ∷ others
 valuesFor s (weight i w) = w ∷ []
 valuesFor s end = []
-
-abbrev pub absent : Slot → ℤ
-absent Matrix = pos 0
-absent Right = pos 0
-absent Guess = pos 0
-absent Inverse = pos 0
-absent Weight = pos 0

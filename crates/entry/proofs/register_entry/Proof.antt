@@ -1,3 +1,4 @@
+use native.Mathlib.Omega.{arith}
 use mathlib.Core.Path.{_≡_, sym, _∙_}
 use Rattle.integer.proofs.Machine.{read}
 use Rattle.entry.specs.Register.{canEnter}
@@ -16,7 +17,7 @@ round-scaled-requires : tie.Need-round-scaled-requires
 round-scaled-requires c κs =
     let a = c .before .before in
     let f = entry-fits (a .args .x) (a .args .e) (a .args .s) (sym (tested (c .before)) ∙ c .if1 .taken) in
-    (rw (read (a .args .x) (a .fits .x .sfits)) (f .0), f .1)
+    (rw (read (a .args .x) (a .fits .x .sfits)) (f .0), omega (arith, f .1))
 
 entry-bound-requires : tie.Need-entry-bound-requires
 entry-bound-requires c κs =
