@@ -16,12 +16,12 @@ use Rattle.loader.specs.declared.Loader.{Loader}
 use Rattle.loader.specs.declared.Taken.{Taken}
 use Rattle.loader.specs.Answer.{lineAnswer}
 use Rattle.loader.specs.Taken.{fresh, listsAfter, TakenAs}
-use Rattle.collected.specs.Length.{lineLength}
-use Rattle.collected.specs.Lines.{linesOf}
-use Rattle.collected.specs.Read.{Reading, readFrom, zeros, readingOf}
-use Rattle.collected.specs.Run.{State}
-use Rattle.collected.proofs.Lines.{lines-at, lines-end}
-use Rattle.collected.proofs.Read.{read-none, read-accepted, read-refused}
+use Rattle.line_runs.specs.Length.{lineLength}
+use Rattle.line_runs.specs.Lines.{linesOf}
+use Rattle.line_runs.specs.Read.{Reading, readFrom, zeros, readingOf}
+use Rattle.line_runs.specs.Run.{State}
+use Rattle.line_runs.proofs.Lines.{lines-at, lines-end}
+use Rattle.line_runs.proofs.Read.{read-none, read-accepted, read-refused}
 use Rattle.file.specs.declared.Collected.{Collected}
 use Rattle.file.specs.Read.{ReadAs}
 

@@ -5,8 +5,8 @@ use mathlib.Core.Path.{_≡_}
 use Prim.Native.Nat.{ℕ}
 use Rattle.rules.specs.Refusal.{said}
 use Rattle.lent_lists.specs.Lists.{lists}
-use Rattle.collected.specs.Run.{State}
-use Rattle.collected.specs.Read.{readingOf}
+use Rattle.line_runs.specs.Run.{State}
+use Rattle.line_runs.specs.Read.{readingOf}
 use Rattle.file.specs.declared.Collected.{Collected}
 
 abbrev pub stateOf : Collected → State

@@ -23,7 +23,7 @@ use Rattle.enclosure.specs.Demand.{Encloses, RoundedExact}
 use Rattle.checked.specs.Input.{Input, problem, short, inRanges}
 use Rattle.checked.specs.Order.{answer}
 use Rattle.entry.specs.Entry.{entryValue, entryBound}
-use Rattle.judged.specs.Judged.{reportedOf}
+use Rattle.file_check.specs.Judged.{reportedOf}
 use Rattle.entry.specs.Register as entry
 use Rattle.listing.specs.Listing.{problemIn, Complete, answerOf}
 use Rattle.listing.proofs.Demand.{file-reported, file-encloses, exact-accepted}

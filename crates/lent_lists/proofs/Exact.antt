@@ -19,12 +19,12 @@ use Rattle.numeral.proofs.Cap.{cap-in}
 use Rattle.form.specs.Form.{Form, problem, scale, row, right, guess, inverse, weight, end}
 use Rattle.form.specs.List.{noNumbers, numbersOf, allInside, firstValues}
 use Rattle.line.specs.Line.{cappedForm, numbersIn}
-use Rattle.items.specs.Item.{itemOf, partIndex, outside, miscounted}
-use Rattle.items.specs.Capped.{valuesIn}
-use Rattle.items.specs.declared.Item.the-variants.{Problem, Scale, Of, End}
-use Rattle.items.specs.declared.Part.{Part}
-use Rattle.items.specs.declared.Part.the-variants as part
-use Rattle.items.proofs.Capped.{part-same}
+use Rattle.form_values.specs.Item.{itemOf, partIndex, outside, miscounted}
+use Rattle.form_values.specs.Capped.{valuesIn}
+use Rattle.form_values.specs.declared.Item.the-variants.{Problem, Scale, Of, End}
+use Rattle.form_values.specs.declared.Part.{Part}
+use Rattle.form_values.specs.declared.Part.the-variants as part
+use Rattle.form_values.proofs.Capped.{part-same}
 use Rattle.lent_lists.specs.Slot.{Slot, Matrix, Right, Guess, Inverse, Weight, partOf, width, valuesFor}
 use Rattle.lent_lists.specs.Lists.{Lists, shortLists}
 use Rattle.lent_lists.specs.Put.{putItem, put, putAll}

@@ -14,8 +14,8 @@ use lib.Seq.{paste-zero}
 use Rattle.rules.specs.Range.{shortMatrix, shortColumn}
 use Rattle.rules.proofs.Ranges.{neither-left, neither-right}
 use Rattle.lent_lists.specs.Pasted.{Narrow, Rooms, nowhere, pastedAt}
-use Rattle.items.specs.declared.Item.{Item}
-use Rattle.items.specs.declared.Item.the-variants.{Problem, Scale, Of, End}
+use Rattle.form_values.specs.declared.Item.{Item}
+use Rattle.form_values.specs.declared.Item.the-variants.{Problem, Scale, Of, End}
 use Rattle.lent_lists.specs.Lists.{Lists, lists, shortLists}
 
 pub record Long (l : Lists) : Type 0 where

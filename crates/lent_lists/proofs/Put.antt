@@ -11,11 +11,11 @@ use borrow.Author.Tests.{eq-eqb, ne-eqb}
 use lib.Dec.{eqb}
 use lib.IntN.{ℤ, pos, natAbs}
 use lib.Signed.{leZ}
-use Rattle.items.specs.Item.{partIndex}
-use Rattle.items.specs.declared.Item.{Item}
-use Rattle.items.specs.declared.Item.the-variants.{Problem, Scale, Of, End}
-use Rattle.items.specs.declared.Part.{Part}
-use Rattle.items.proofs.Between.{between}
+use Rattle.form_values.specs.Item.{partIndex}
+use Rattle.form_values.specs.declared.Item.{Item}
+use Rattle.form_values.specs.declared.Item.the-variants.{Problem, Scale, Of, End}
+use Rattle.form_values.specs.declared.Part.{Part}
+use Rattle.form_values.proofs.Between.{between}
 use Rattle.lent_lists.specs.declared.Span.{Span}
 use Rattle.lent_lists.specs.Pasted.{Narrow, Room, nowhere, spanOf}
 

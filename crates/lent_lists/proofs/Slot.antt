@@ -1,8 +1,8 @@
 -- A list and the part whose forms give its numbers.
 --   slotOf p — the list of a part;  of-part — a list of the part p is that list
 use mathlib.Core.Path.{_≡_, refl, sym, ap, _∙_}
-use Rattle.items.specs.declared.Part.{Part}
-use Rattle.items.specs.declared.Part.the-variants as part
+use Rattle.form_values.specs.declared.Part.{Part}
+use Rattle.form_values.specs.declared.Part.the-variants as part
 use Rattle.lent_lists.specs.Slot.{Slot, Matrix, Right, Guess, Inverse, Weight, partOf}
 
 abbrev pub slotOf : Part → Slot

@@ -9,9 +9,9 @@ use lib.Dec.{eqb}
 use lib.IntN.{ℤ, natAbs}
 use lib.Seq.{sets}
 use Rattle.form.specs.Form.{Form}
-use Rattle.items.specs.Item.{itemOf, partIndex}
-use Rattle.items.specs.declared.Item.{Item}
-use Rattle.items.specs.declared.Item.the-variants.{Problem, Scale, Of, End}
+use Rattle.form_values.specs.Item.{itemOf, partIndex}
+use Rattle.form_values.specs.declared.Item.{Item}
+use Rattle.form_values.specs.declared.Item.the-variants.{Problem, Scale, Of, End}
 use Rattle.lent_lists.specs.Slot.{Slot, Matrix, Right, Guess, Inverse, Weight, partOf, width, valuesFor}
 use Rattle.lent_lists.specs.Lists.{Lists}
 

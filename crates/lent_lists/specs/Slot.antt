@@ -7,8 +7,8 @@ use mathlib.Core.List.{List, [], _∷_}
 use Prim.Native.Nat.{ℕ}
 use lib.IntN.{ℤ}
 use Rattle.form.specs.Form.{Form, problem, scale, row, right, guess, inverse, weight, end}
-use Rattle.items.specs.declared.Part.{Part}
-use Rattle.items.specs.declared.Part.the-variants as part
+use Rattle.form_values.specs.declared.Part.{Part}
+use Rattle.form_values.specs.declared.Part.the-variants as part
 
 pub data Slot : Type 0 where
   Matrix : Slot

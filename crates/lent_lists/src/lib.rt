@@ -5,8 +5,8 @@ ghost use lib.ListN.{length};
 ghost use lib.Seq.{paste};
 ghost use Rattle.lent_lists.specs.Lists.{lists, tooShort};
 ghost use Rattle.lent_lists.specs.Pasted.{Narrow, Room, Rooms, spanOf, pastedAt, pastedAll};
-use items::Item;
-use items::Part;
+use form_values::Item;
+use form_values::Part;
 
 // 8: whether a list of one of these lengths is too short.
 pub fn is_short(matrix: usize, right: usize, guess: usize, inverse: usize, weights: usize) -> bool
@@ -30,8 +30,8 @@ fn span_of(part: Part, item: Item, width: usize) -> Span
         Item::Problem(_) => Span { at: 0, count: 0 },
         Item::Scale(_, _) => Span { at: 0, count: 0 },
         Item::Of(of, i) => {
-            if items::part_index(part) == items::part_index(of) {
-                let k = items::place_of(i) as usize;
+            if form_values::part_index(part) == form_values::part_index(of) {
+                let k = form_values::place_of(i) as usize;
                 return Span {
                     at: (k - 1) * width,
                     count: width,

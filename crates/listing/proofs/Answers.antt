@@ -15,12 +15,12 @@ use Rattle.lent_lists.specs.Lists.{shortLists}
 use Rattle.loader.specs.declared.Loader.{Loader}
 use Rattle.loader_order.specs.Order.{LineCase, lineOrder}
 use Rattle.loader.specs.Answer.{caseOf, lineAnswer}
-use Rattle.collected.specs.Run.{State, fromNew, step}
-use Rattle.collected.proofs.Passing.{step-long}
-use Rattle.progress.specs.Progress.{ended}
+use Rattle.line_runs.specs.Run.{State, fromNew, step}
+use Rattle.line_runs.proofs.Passing.{step-long}
+use Rattle.given_forms.specs.Progress.{ended}
 use Rattle.refusal.specs.Refused.{printed}
-use Rattle.collected.specs.Lines.{linesOf}
-use Rattle.collected.specs.Read.{Reading, readFrom, zeros, readingOf}
+use Rattle.line_runs.specs.Lines.{linesOf}
+use Rattle.line_runs.specs.Read.{Reading, readFrom, zeros, readingOf}
 use Rattle.listing.specs.Answers.{Alone, too-long, no-form, out-of-range, wrong-count, too-early, repeated, after-end, Answers, of-line, margin, residual, inverse-residual, missing, not-ended}
 use Rattle.listing.specs.Answers as answers
 use Rattle.listing.specs.Listing.{problemIn, orElse, answerOf}

@@ -15,13 +15,13 @@ use Rattle.enclosure.proofs.Acceptance.{rounded-sound}
 use Rattle.enclosure.proofs.Demands.{encloses}
 use Rattle.checked.specs.Order.{checkedOf}
 use Rattle.checked.proofs.Contract.{sound-said, said-sound}
-use Rattle.collected.specs.Run.{forms}
-use Rattle.progress.specs.Progress.{ended}
+use Rattle.line_runs.specs.Run.{forms}
+use Rattle.given_forms.specs.Progress.{ended}
 use Rattle.refusal.specs.Refused.{printed}
-use Rattle.collected.specs.Lines.{linesOf}
-use Rattle.collected.specs.Read.{readingOf}
-use Rattle.judged.specs.Judged.{reportedOf}
-use Rattle.judged.proofs.Forms.{some, fine, heavy}
+use Rattle.line_runs.specs.Lines.{linesOf}
+use Rattle.line_runs.specs.Read.{readingOf}
+use Rattle.file_check.specs.Judged.{reportedOf}
+use Rattle.file_check.proofs.Forms.{some, fine, heavy}
 use Rattle.listing.specs.Listing.{problemIn, orElse, Complete, answerOf, listingOf}
 use Rattle.listing.proofs.Entire.{answer-judged, listing-from, from, inside}
 

@@ -17,27 +17,27 @@ use Rattle.rules.specs.declared.Refusal.{Refusal}
 use Rattle.checked.specs.Order.{checkedOf}
 use Rattle.checked.specs.Input.{Input, short}
 use Rattle.lent_lists.specs.Lists.{shortLists}
-use Rattle.progress.specs.Progress.{ended}
+use Rattle.given_forms.specs.Progress.{ended}
 use Rattle.loader_order.specs.Through.{answerThrough}
 use Rattle.loader_order.proofs.Through.{answer-ended}
-use Rattle.collected.specs.Run.{State, fromNew, run, Accepts, forms}
-use Rattle.collected.specs.Holds.{InRange}
-use Rattle.collected.proofs.Check.{run-long, enough}
-use Rattle.collected.proofs.End.{FromForms, from-forms, in-range}
+use Rattle.line_runs.specs.Run.{State, fromNew, run, Accepts, forms}
+use Rattle.line_runs.specs.Holds.{InRange}
+use Rattle.line_runs.proofs.Check.{run-long, enough}
+use Rattle.line_runs.proofs.End.{FromForms, from-forms, in-range}
 use Rattle.text.specs.Wrote.{Wrote}
 use Rattle.refusal.specs.Refused.{printed, refusedOf}
 use Rattle.refusal.specs.Reply.{Answered}
 use Rattle.refusal.specs.declared.FileAnswer.{FileAnswer}
 use Rattle.refusal.proofs.Refused.{same-answer}
 use Rattle.file.specs.declared.Collected.{Collected}
-use Rattle.collected.specs.Lines.{linesOf}
-use Rattle.collected.specs.Read.{Reading, zeros, readingOf}
+use Rattle.line_runs.specs.Lines.{linesOf}
+use Rattle.line_runs.specs.Read.{Reading, zeros, readingOf}
 use Rattle.file.specs.Read.{stateOf, ReadAs}
-use Rattle.collected.proofs.Whole.{all-accepted, all-run}
-use Rattle.judged.specs.Judged.{reportedOf, lineOr}
+use Rattle.line_runs.proofs.Whole.{all-accepted, all-run}
+use Rattle.file_check.specs.Judged.{reportedOf, lineOr}
 use Rattle.listing.specs.Listing.{problemIn, answerOf, listingOf, ListedAs, AnsweredAs}
-use Rattle.judged.specs.Shown.{inputAt, saidOf, shownOf}
-use Rattle.judged.proofs.Forms.{reported-forms, answer-forms}
+use Rattle.file_check.specs.Shown.{inputAt, saidOf, shownOf}
+use Rattle.file_check.proofs.Forms.{reported-forms, answer-forms}
 
 pub zeros-long : shortLists zeros ≡ false
 unfolding zeros

@@ -4,11 +4,11 @@ use mathlib.Core.Path.{_≡_, refl, sym, ap, _∙_}
 use mathlib.Core.List.{List, [], _∷_}
 use Prim.Native.Nat.{ℕ}
 use lib.ListN.{take}
-use Rattle.collected.specs.Outstanding.{bytesMost}
-use Rattle.collected.specs.Run.{fromNew}
-use Rattle.collected.specs.Read.{Reading, zeros, readingOf}
-use Rattle.collected.proofs.FirstBytes.{Cut, whole, stopped}
-use Rattle.collected.proofs.FirstBytes as file
+use Rattle.line_runs.specs.Outstanding.{bytesMost}
+use Rattle.line_runs.specs.Run.{fromNew}
+use Rattle.line_runs.specs.Read.{Reading, zeros, readingOf}
+use Rattle.line_runs.proofs.FirstBytes.{Cut, whole, stopped}
+use Rattle.line_runs.proofs.FirstBytes as file
 use Rattle.refusal.specs.Refused.{printed, refusedOf}
 use Rattle.listing.specs.Listing.{listingOf}
 use Rattle.listing.proofs.Entire.{answer-refused, listing-from}

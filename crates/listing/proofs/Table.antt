@@ -18,20 +18,20 @@ use Rattle.checked.specs.Order.{checkedOf}
 use Rattle.numeral.specs.Decimal.{digits, decimal, numeral}
 use Rattle.form.specs.List.{allInside}
 use Rattle.form.specs.Form.{Form, problem, scale, row, right, guess, inverse, weight, end, numerals, spell}
-use Rattle.places.specs.Places.{withPlace, lacking}
-use Rattle.progress.specs.Progress.{missing, misplaced}
+use Rattle.bit_set.specs.Places.{withPlace, lacking}
+use Rattle.given_forms.specs.Progress.{missing, misplaced}
 use Rattle.loader.specs.Taken.{fresh}
 use Rattle.loader.proofs.Exact.{formSaid}
-use Rattle.collected.specs.Given.{valueFrom, sizeFrom, scalesFrom}
-use Rattle.collected.specs.Run.{fromNew, forms}
-use Rattle.collected.proofs.Passing.{spelled, forms-spelled, passes, pass-all}
+use Rattle.line_runs.specs.Given.{valueFrom, sizeFrom, scalesFrom}
+use Rattle.line_runs.specs.Run.{fromNew, forms}
+use Rattle.line_runs.proofs.Passing.{spelled, forms-spelled, passes, pass-all}
 use Rattle.text.specs.Line.{each}
 use Rattle.report.specs.Report.{reportOf}
 use Rattle.refusal.specs.Refused.{printed}
-use Rattle.judged.specs.Judged.{reportedOf}
-use Rattle.judged.specs.Problem.{problemFrom}
-use Rattle.collected.specs.Lines.{linesOf}
-use Rattle.collected.specs.Read.{zeros}
+use Rattle.file_check.specs.Judged.{reportedOf}
+use Rattle.file_check.specs.Problem.{problemFrom}
+use Rattle.line_runs.specs.Lines.{linesOf}
+use Rattle.line_runs.specs.Read.{zeros}
 use Rattle.listing.specs.Cases.{table, tableHolds, wholeFile, wholeListing}
 use Rattle.listing.specs.Listing.{problemIn, listingOf}
 use Rattle.listing.proofs.Entire.{zeros-long, listing-from, answer-judged}

@@ -14,15 +14,15 @@ use lib.ListN.{length, take, drop}
 use Rattle.enclosure.specs.Problem.{Problem}
 use Rattle.checked.specs.Order.{checkedOf}
 use Rattle.rules.specs.Order.{accepted}
-use Rattle.progress.specs.Progress.{ended}
-use Rattle.collected.specs.Run.{forms}
+use Rattle.given_forms.specs.Progress.{ended}
+use Rattle.line_runs.specs.Run.{forms}
 use Rattle.refusal.specs.Refused.{printed}
 use Rattle.refusal.specs.Reply.{replyOf}
 use Rattle.refusal.specs.declared.FileAnswer.{FileAnswer}
-use Rattle.judged.specs.Judged.{reportedOf, lineOr}
-use Rattle.collected.specs.Lines.{linesOf}
-use Rattle.collected.specs.Read.{Reading, readingOf}
-use Rattle.judged.specs.Problem.{problemFrom}
+use Rattle.file_check.specs.Judged.{reportedOf, lineOr}
+use Rattle.line_runs.specs.Lines.{linesOf}
+use Rattle.line_runs.specs.Read.{Reading, readingOf}
+use Rattle.file_check.specs.Problem.{problemFrom}
 
 abbrev pub problemIn : List ℕ → Problem
 problemIn file = problemFrom (forms (linesOf file))

@@ -5,7 +5,7 @@ ghost use lib.ListN.{length};
 ghost use Rattle.refusal.specs.Reply.{Answered};
 ghost use Rattle.listing.specs.Listing.{answerOf, listingOf, ListedAs, AnsweredAs};
 use file::read_file;
-use judged::put_checked;
+use file_check::put_checked;
 use refusal::FileAnswer;
 use refusal::put_refusal;
 use rules::Outcome;

@@ -18,13 +18,13 @@ use Rattle.numeral.proofs.Cap.{cap-small}
 use Rattle.form.specs.Form.{Form, problem, scale, row, right, guess, inverse, weight, end}
 use Rattle.form.specs.Reading.{reading}
 use Rattle.line.specs.Line.{cappedForm, numbersIn}
-use Rattle.items.specs.Item.{itemOf, placed, outside, miscounted}
-use Rattle.items.specs.Capped.{itemIn, valuesIn}
-use Rattle.items.specs.declared.Item.the-variants.{Of}
-use Rattle.items.specs.declared.Part.{Part}
-use Rattle.items.specs.declared.Part.the-variants.{Row, Right, Guess, Inverse, Weight}
-use Rattle.items.proofs.Capped.{placed-capped, outside-capped, miscounted-capped, item-exact}
-use Rattle.items.proofs.Between.{between}
+use Rattle.form_values.specs.Item.{itemOf, placed, outside, miscounted}
+use Rattle.form_values.specs.Capped.{itemIn, valuesIn}
+use Rattle.form_values.specs.declared.Item.the-variants.{Of}
+use Rattle.form_values.specs.declared.Part.{Part}
+use Rattle.form_values.specs.declared.Part.the-variants.{Row, Right, Guess, Inverse, Weight}
+use Rattle.form_values.proofs.Capped.{placed-capped, outside-capped, miscounted-capped, item-exact}
+use Rattle.form_values.proofs.Between.{between}
 use Rattle.lent_lists.specs.Lists.{Lists, shortLists}
 use Rattle.lent_lists.specs.Put.{putAll}
 use Rattle.lent_lists.specs.Pasted.{Narrow, Rooms, pastedAll}
@@ -33,12 +33,12 @@ use Rattle.lent_lists.proofs.Exact.{all-exact}
 use Rattle.loader_order.specs.Order.{LineCase, lineOrder}
 use Rattle.loader_order.proofs.Said.{Passed, passed}
 use Rattle.loader.specs.declared.Loader.{Loader}
-use Rattle.progress.specs.declared.Stage.{Stage}
-use Rattle.progress.specs.Progress.{ended, early, misplaced, repeated, incomplete, missing}
+use Rattle.given_forms.specs.declared.Stage.{Stage}
+use Rattle.given_forms.specs.Progress.{ended, early, misplaced, repeated, incomplete, missing}
 use Rattle.loader.specs.Answer.{lineAnswer}
 use Rattle.loader.specs.Taken.{after}
 use Rattle.loader.specs.Decided.{saidIn}
-use Rattle.progress.proofs.Progress.{placed-of}
+use Rattle.given_forms.proofs.Progress.{placed-of}
 use Rattle.loader.proofs.Form.{narrow-by}
 
 abbrev pub formCase : Loader → Form → LineCase

@@ -14,17 +14,17 @@ use Rattle.rules.specs.declared.Refusal.{Refusal}
 use Rattle.line.specs.declared.CappedForm.{CappedForm}
 use Rattle.line.specs.declared.CappedForm.the-variants as form
 use Rattle.form.specs.declared.Numbers.{Numbers}
-use Rattle.items.specs.Item.{placed}
-use Rattle.items.specs.Capped.{itemIn, outsideIn, valuesIn}
-use Rattle.items.specs.declared.Item.{Item}
-use Rattle.items.specs.declared.Item.the-variants.{Problem, Scale, Of, End}
+use Rattle.form_values.specs.Item.{placed}
+use Rattle.form_values.specs.Capped.{itemIn, outsideIn, valuesIn}
+use Rattle.form_values.specs.declared.Item.{Item}
+use Rattle.form_values.specs.declared.Item.the-variants.{Problem, Scale, Of, End}
 use Rattle.loader.specs.declared.Loader.{Loader}
 use Rattle.lent_lists.specs.Pasted.{Narrow}
-use Rattle.progress.specs.Progress.{early, misplaced}
+use Rattle.given_forms.specs.Progress.{early, misplaced}
 use Rattle.loader_order.proofs.Said.{Passed, passed}
 use Rattle.loader.specs.Taken.{after}
 use Rattle.loader.specs.Decided.{caseIn, saidIn, fits, DecidedIn}
-use Rattle.progress.proofs.Progress.{placed-32, size-of, late}
+use Rattle.given_forms.proofs.Progress.{placed-32, size-of, late}
 
 -- ---- a form of which nothing is said
 fits-by : (m : CappedForm) (inside : Bool) → placed 32 (itemIn m) ≡ true → outsideIn m inside ≡ false → fits (itemIn m) ≡ true

@@ -21,11 +21,11 @@ use Rattle.line.specs.declared.Answer.the-variants as answer
 use Rattle.line.specs.declared.CappedForm.{CappedForm}
 use Rattle.line.specs.declared.Line.{Line}
 use Rattle.form.specs.declared.Numbers.{Numbers}
-use Rattle.items.specs.Capped.{itemIn}
-use Rattle.items.specs.declared.Item.the-variants.{End}
+use Rattle.form_values.specs.Capped.{itemIn}
+use Rattle.form_values.specs.declared.Item.the-variants.{End}
 use Rattle.lent_lists.specs.Lists.{Lists, shortLists}
 use Rattle.lent_lists.proofs.Lists.{nothing-pasted}
-use Rattle.progress.specs.Progress.{ended}
+use Rattle.given_forms.specs.Progress.{ended}
 use Rattle.loader.specs.declared.Decided.{Decided}
 use Rattle.loader.specs.declared.Loader.{Loader}
 use Rattle.loader.specs.Answer.{lineAnswer}

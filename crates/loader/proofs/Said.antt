@@ -13,10 +13,10 @@ use Rattle.rules.specs.declared.Kind.the-variants.{Size}
 use Rattle.rules.proofs.Tests.{None}
 use Rattle.form.specs.Form.{Form}
 use Rattle.form.specs.Reading.{reading}
-use Rattle.items.specs.Item.{itemOf}
+use Rattle.form_values.specs.Item.{itemOf}
 use Rattle.lent_lists.specs.Lists.{Lists}
-use Rattle.progress.specs.Progress.{sized}
-use Rattle.progress.proofs.Progress.{misplaced-own}
+use Rattle.given_forms.specs.Progress.{sized}
+use Rattle.given_forms.proofs.Progress.{misplaced-own}
 use Rattle.loader_order.specs.Order.{lineOrder}
 use Rattle.loader_order.proofs.Said.{said-3}
 use Rattle.loader.specs.declared.Loader.{Loader}

@@ -21,13 +21,13 @@ use Rattle.rules.specs.declared.Outcome.the-variants.{Refused}
 use Rattle.rules.specs.declared.Refusal.{Refusal}
 use Rattle.line.specs.declared.CappedForm.{CappedForm}
 use Rattle.form.specs.declared.Numbers.{Numbers}
-use Rattle.items.specs.Item.{placed}
-use Rattle.items.specs.Capped.{itemIn, outsideIn, miscountedIn, valuesIn}
-use Rattle.items.specs.declared.Item.{Item}
-use Rattle.items.specs.declared.Item.the-variants.{Problem, Scale, Of, End}
+use Rattle.form_values.specs.Item.{placed}
+use Rattle.form_values.specs.Capped.{itemIn, outsideIn, miscountedIn, valuesIn}
+use Rattle.form_values.specs.declared.Item.{Item}
+use Rattle.form_values.specs.declared.Item.the-variants.{Problem, Scale, Of, End}
 use Rattle.lent_lists.specs.Lists.{Lists, shortLists}
 use Rattle.lent_lists.specs.Pasted.{Rooms, pastedAll}
-use Rattle.progress.specs.Progress.{missing, early, misplaced, repeated, incomplete}
+use Rattle.given_forms.specs.Progress.{missing, early, misplaced, repeated, incomplete}
 use Rattle.loader_order.specs.Order.{LineCase, lineOrder}
 use Rattle.loader.specs.declared.Decided.{Decided}
 use Rattle.loader.specs.declared.Loader.{Loader}

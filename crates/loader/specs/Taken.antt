@@ -13,13 +13,13 @@ use Rattle.rules.specs.Order.{accepted}
 use Rattle.rules.specs.Refusal.{said}
 use Rattle.form.specs.Form.{Form}
 use Rattle.form.specs.Reading.{reading}
-use Rattle.items.specs.Item.{itemOf}
-use Rattle.items.specs.declared.Item.{Item}
-use Rattle.items.specs.declared.Item.the-variants.{Problem, Scale, Of, End}
+use Rattle.form_values.specs.Item.{itemOf}
+use Rattle.form_values.specs.declared.Item.{Item}
+use Rattle.form_values.specs.declared.Item.the-variants.{Problem, Scale, Of, End}
 use Rattle.lent_lists.specs.Lists.{Lists}
 use Rattle.lent_lists.specs.Put.{putAll}
-use Rattle.progress.specs.Progress.{marked}
-use Rattle.progress.specs.declared.Stage.the-variants.{Start, Sized, Scaled, Ended}
+use Rattle.given_forms.specs.Progress.{marked}
+use Rattle.given_forms.specs.declared.Stage.the-variants.{Start, Sized, Scaled, Ended}
 use Rattle.loader.specs.declared.Loader.{Loader}
 use Rattle.loader.specs.declared.Taken.{Taken}
 use Rattle.loader.specs.Answer.{lineAnswer, ofForm}

@@ -9,10 +9,10 @@ ghost use Rattle.loader_order.specs.Through.{CheckedThrough};
 ghost use Rattle.loader.specs.Taken.{fresh, after, TakenAs};
 ghost use Rattle.loader.specs.Decided.{saidIn, fits, refusedBy, DecidedIn, DecidedAs};
 use form::Numbers;
-use items::Item;
+use form_values::Item;
+use given_forms::Stage;
 use line::Answer;
 use line::CappedForm;
-use progress::Stage;
 use rules::Outcome;
 use rules::Refusal;
 
@@ -73,23 +73,23 @@ impl Loader {
         let n = self.n;
         let stage = self.stage;
         let sets = self.sets;
-        let item = items::item_of(form);
-        if progress::is_early(stage, item) {
+        let item = form_values::item_of(form);
+        if given_forms::is_early(stage, item) {
             return Outcome::Refused(Refusal::TooEarly);
         }
-        if progress::is_misplaced(stage, n, item) {
+        if given_forms::is_misplaced(stage, n, item) {
             return Outcome::Refused(Refusal::OutOfRange);
         }
-        if items::is_outside(form, inside) {
+        if form_values::is_outside(form, inside) {
             return Outcome::Refused(Refusal::OutOfRange);
         }
-        if items::is_miscounted(form, count, n as usize) {
+        if form_values::is_miscounted(form, count, n as usize) {
             return Outcome::Refused(Refusal::WrongCount);
         }
-        if progress::is_repeated(stage, sets, item) {
+        if given_forms::is_repeated(stage, sets, item) {
             return Outcome::Refused(Refusal::Repeated);
         }
-        progress::judge_end(stage, n, sets, item)
+        given_forms::judge_end(stage, n, sets, item)
     }
 
     // The loader after an accepted form.
@@ -101,7 +101,7 @@ impl Loader {
         let stage = self.stage;
         match item {
             Item::Problem(n) => Loader {
-                n: items::natural(n),
+                n: form_values::natural(n),
                 s: self.s,
                 t: self.t,
                 stage: Stage::Sized,
@@ -109,8 +109,8 @@ impl Loader {
             },
             Item::Scale(s, t) => Loader {
                 n: self.n,
-                s: items::natural(s),
-                t: items::natural(t),
+                s: form_values::natural(s),
+                t: form_values::natural(t),
                 stage: Stage::Scaled,
                 sets: sets,
             },
@@ -119,7 +119,7 @@ impl Loader {
                 s: self.s,
                 t: self.t,
                 stage: stage,
-                sets: progress::with(sets, part, items::place_of(i)),
+                sets: given_forms::with(sets, part, form_values::place_of(i)),
             },
             Item::End => Loader {
                 n: self.n,
@@ -152,8 +152,8 @@ impl Loader {
         let count = numbers.count;
         let inside = numbers.inside;
         let listed = numbers.values;
-        let item = items::item_of(form);
-        let values = items::values_of(form, listed);
+        let item = form_values::item_of(form);
+        let values = form_values::values_of(form, listed);
         let outcome = self.judge_form(form, count, inside);
         match outcome {
             Outcome::Refused(refusal) => Decided {
@@ -183,7 +183,7 @@ impl Loader {
             return self.refused(Refusal::TooShort);
         }
         let stage = self.stage;
-        if progress::is_ended(stage) {
+        if given_forms::is_ended(stage) {
             return self.refused(Refusal::AfterEnd);
         }
         let read = line::read_line(line);
@@ -253,7 +253,7 @@ impl Loader {
             inverse_bounds.len(),
         );
         let stage = self.stage;
-        if progress::is_ended(stage) {
+        if given_forms::is_ended(stage) {
             return checker::check(
                 self.n,
                 self.s,

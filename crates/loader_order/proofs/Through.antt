@@ -17,8 +17,8 @@ use Rattle.rules.proofs.Tests.{None, said-exactly}
 use Rattle.checked.specs.Input.{Input, short, inRanges}
 use Rattle.checked.specs.Order.{answer}
 use Rattle.checked.specs.Checked.{Checked, solutionBoundsAfter, inverseBoundsAfter}
-use Rattle.progress.specs.Progress.{ended}
-use Rattle.progress.specs.declared.Stage.{Stage}
+use Rattle.given_forms.specs.Progress.{ended}
+use Rattle.given_forms.specs.declared.Stage.{Stage}
 use Rattle.loader_order.specs.Through.{orderThrough, answerThrough, solutionBoundsThrough, inverseBoundsThrough, CheckedThrough}
 
 module _ (s : Stage) (I : Input) where

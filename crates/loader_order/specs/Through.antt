@@ -15,8 +15,8 @@ use Rattle.enclosure.specs.Demand.{Encloses, RoundedExact}
 use Rattle.checked.specs.Input.{Input, problem, short, inRanges}
 use Rattle.checked.specs.Order.{reckonedOf}
 use Rattle.checked.specs.Checked.{solutionAfter, inverseAfter}
-use Rattle.progress.specs.Progress.{ended}
-use Rattle.progress.specs.declared.Stage.{Stage}
+use Rattle.given_forms.specs.Progress.{ended}
+use Rattle.given_forms.specs.declared.Stage.{Stage}
 
 abbrev pub orderThrough : Stage → Input → List Test
 orderThrough s I =

@@ -4,7 +4,7 @@ use Prim.Native.Nat.{_<_}
 use native.Mathlib.Omega.{arith}
 use Rattle.numeral.specs.Numeral.{capAt}
 use Rattle.lent_lists.specs.Lists.{Lists}
-use Rattle.progress.specs.Progress.{ended}
+use Rattle.given_forms.specs.Progress.{ended}
 use Rattle.loader.specs.declared.Decided.{Decided}
 use Rattle.loader.specs.Decided.{DecidedFor}
 use Rattle.loader.proofs.Line.{decided-short, decided-ended, decided-unread, decided-form}
