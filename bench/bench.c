@@ -29,27 +29,26 @@ enum { COUNT = sizeof VERSIONS / sizeof *VERSIONS };
 extern const char library_place[];
 
 static struct net nets[MOST_NETS];
-static struct outcome answers[COUNT];
+static struct outcome expected[MOST_NETS], answers[COUNT];
 
 static uint32_t read_all(const char *path) {
-    struct outcome expected;
     uint32_t count = 0;
     FILE *file = fopen(path, "r");
     if (!file) {
         perror(path);
         exit(2);
     }
-    while (count < MOST_NETS && read_net(file, &nets[count], &expected)) count++;
+    while (count < MOST_NETS && read_net(file, &nets[count], &expected[count])) count++;
     fclose(file);
     return count;
 }
 
-/* Whether all versions give the same outcome on every net. */
+/* Whether all versions give the outcome that stands beside every net. */
 static bool agree(uint32_t count) {
     for (uint32_t k = 0; k < count; k++) {
         for (uint32_t v = 0; v < COUNT; v++) {
             run_check(VERSIONS[v].check, &nets[k], &answers[v]);
-            if (!same_outcome(&answers[v], &answers[0])) {
+            if (!same_outcome(&answers[v], &expected[k])) {
                 printf("net %u: '%s' differs\n", k, VERSIONS[v].name);
                 return false;
             }

@@ -4,14 +4,8 @@
 #include <stdlib.h>
 #include <string.h>
 
-void clear_net(struct net *net) {
-    for (uint32_t i = 0; i < MATRIX; i++) net->matrix[i] = net->inverse[i] = UNREAD;
-    for (uint32_t i = 0; i < COLUMN; i++) net->right[i] = net->guess[i] = net->weights[i] = UNREAD;
-    net->matrix_len = net->inverse_len = net->bounds_len = MATRIX;
-    net->right_len = net->guess_len = net->weights_len = net->solution_len = COLUMN;
-}
-
-void clear_outcome(struct outcome *outcome) {
+/* Places of 0 and limits that are all UNWRITTEN. */
+static void clear_outcome(struct outcome *outcome) {
     outcome->number = 0;
     outcome->places[0] = outcome->places[1] = 0;
     for (uint32_t i = 0; i < COLUMN; i++) outcome->solution[i] = UNWRITTEN;
@@ -27,8 +21,9 @@ static int64_t next_number(FILE *file) {
     return number;
 }
 
-static void read_numbers(FILE *file, int64_t *numbers, uint32_t count) {
-    for (uint32_t i = 0; i < count; i++) numbers[i] = next_number(file);
+/* A list that begins with so many numbers and goes on with UNREAD. */
+static void read_numbers(FILE *file, int64_t *numbers, uint32_t count, uint32_t length) {
+    for (uint32_t i = 0; i < length; i++) numbers[i] = i < count ? next_number(file) : UNREAD;
 }
 
 static void read_bounds(FILE *file, uint64_t *limits, uint32_t count) {
@@ -36,23 +31,24 @@ static void read_bounds(FILE *file, uint64_t *limits, uint32_t count) {
 }
 
 bool read_net(FILE *file, struct net *net, struct outcome *expected) {
-    if (fscanf(file, "%" SCNu32, &net->n) != 1) return false;
-    const uint32_t n = net->n;
-    clear_net(net);
-    net->s = (uint32_t)next_number(file);
-    net->t = (uint32_t)next_number(file);
-    read_numbers(file, net->matrix, n * n);
-    read_numbers(file, net->right, n);
-    read_numbers(file, net->guess, n);
-    read_numbers(file, net->inverse, n * n);
-    read_numbers(file, net->weights, n);
+    uint32_t count;
+    if (fscanf(file, "%" SCNu32, &count) != 1) return false;
+    uint32_t *const sizes[] = {&net->n, &net->s, &net->t};
+    size_t *const lengths[] = {&net->matrix_len, &net->right_len, &net->guess_len, &net->inverse_len, &net->weights_len, &net->solution_len, &net->bounds_len};
+    for (uint32_t i = 0; i < 3; i++) *sizes[i] = (uint32_t)next_number(file);
+    for (uint32_t i = 0; i < 7; i++) *lengths[i] = (size_t)next_number(file);
+    read_numbers(file, net->matrix, count * count, MATRIX);
+    read_numbers(file, net->right, count, COLUMN);
+    read_numbers(file, net->guess, count, COLUMN);
+    read_numbers(file, net->inverse, count * count, MATRIX);
+    read_numbers(file, net->weights, count, COLUMN);
     clear_outcome(expected);
     expected->number = (uint32_t)next_number(file);
     expected->places[0] = (uint64_t)next_number(file);
     expected->places[1] = (uint64_t)next_number(file);
     if (expected->number == 0) {
-        read_bounds(file, expected->solution, n);
-        read_bounds(file, expected->inverse, n * n);
+        read_bounds(file, expected->solution, net->n);
+        read_bounds(file, expected->inverse, net->n * net->n);
     }
     return true;
 }

@@ -1,4 +1,4 @@
-/* Systems as tests/emit.py writes them. */
+/* Calls of the check on lists as tests/emit.py writes them. */
 #ifndef NETS_H
 #define NETS_H
 
@@ -27,14 +27,8 @@ struct outcome {
 #define UNREAD INT64_MIN
 #define UNWRITTEN UINT64_C(0xdeadbeefdeadbeef)
 
-/* Reads a system and the outcome that stands after it; false at the end of the file. */
+/* Reads a call and the outcome that stands after it; false at the end of the file. */
 bool read_net(FILE *file, struct net *net, struct outcome *expected);
-
-/* Lists of full length whose numbers are all UNREAD. */
-void clear_net(struct net *net);
-
-/* Places of 0 and limits that are all UNWRITTEN. */
-void clear_outcome(struct outcome *outcome);
 
 /* The outcome of a check on cleared limits; the places hold other numbers before. */
 void run_check(check_on_lists *check, const struct net *net, struct outcome *outcome);

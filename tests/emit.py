@@ -1,49 +1,50 @@
-"""Writes systems as lists of numbers, with the outcome of the second implementation, for programs in other languages.
+"""Writes calls of the check on lists, with what the second implementation answers, for programs in other languages.
 
-  python3 tests/emit.py --nets 1000 [--seed 1]      systems of every family
+  python3 tests/emit.py --nets 1000 [--seed 1]      systems of every family, as they are and damaged
   python3 tests/emit.py --sizes 8 16 32 --each 50   accepted levelling nets of these sizes
 
-Each system is: n s t, then the n × n matrix, the right side, the guess, the n × n inverse and the weights; then the refusal's number (0 where
-accepted) with its two places (0 where it names none), and where accepted n solution limits and n × n inverse limits."""
+Each call is: a count k, n s t, and the seven lengths that the call is told; then the numbers of the lists, k × k of the matrix, k of the right side,
+k of the guess, k × k of the inverse and k weights, after which each list is filled with UNREAD; then the refusal's number (0 where accepted) with its
+two places (0 where it names none), and where accepted n solution limits and n × n inverse limits."""
 
 import argparse
 import random
 import sys
 
 import cases_01
+from damage.lists import call_of, damaged
 from generate import WHOLE
 from net import joined
-from second.reckoning import Problem, Reckoning
-from second.refusal import Refusal
+from second.lists import check
+from second.reckoning import Bounds, Reckoning
 from systems import usual
 
-
-def flat(matrix):
-    return [value for row in matrix for value in row]
-
-
-def outcome(net):
-    """Number, two places and the limits."""
-    problem = Problem(net.n, net.s, net.t, flat(net.matrix), net.right, net.guess, flat(net.inverse), net.weights)
-    checked = Reckoning().check(problem)
-    if isinstance(checked, Refusal):
-        return [[checked.number, *checked.values, 0, 0][:3]]
-    return [[0, 0, 0], checked.solution, flat(checked.inverse)]
+# A damaged system that may be reckoned has at most so many equations: reckoning takes its time.
+MOST_DAMAGED = 10
+DAMAGES = 6
 
 
-def emit(net):
-    lists = [[net.n, net.s, net.t], flat(net.matrix), net.right, net.guess, flat(net.inverse), net.weights, *outcome(net)]
+def emit(call):
+    outcome = check(call.problem(), call.lengths)
+    lists = [[call.count, call.n, call.s, call.t, *call.lengths], *call.lists]
+    if isinstance(outcome, Bounds):
+        lists += [[0, 0, 0], outcome.solution, [limit for row in outcome.inverse for limit in row]]
+    else:
+        lists += [[outcome.number, *outcome.values, 0, 0][:3]]
     sys.stdout.write("".join(joined(numbers) + "\n" for numbers in lists))
 
 
 def mixed(seed, count):
-    """Document 01's cases, then systems of every family in its share."""
-    yield from (case.net for case in cases_01.CASES)
+    """Document 01's cases, then systems of every family in its share, each with its damaged ones after it."""
     table = [(make, size) for share, make, size in WHOLE for _ in range(share)]
-    for index in range(count):
+    systems = [case.net for case in cases_01.CASES]
+    for index in range(count + len(systems)):
         rng = random.Random(f"lists {seed}/{index}")
         make, size = table[index * 7 % len(table)]
-        yield make(rng, size(rng))
+        call = call_of(systems[index] if index < len(systems) else make(rng, size(rng)))
+        yield call
+        if call.n <= MOST_DAMAGED:
+            yield from (damaged(rng, call) for _ in range(DAMAGES))
 
 
 def accepted(seed, sizes, each):
@@ -53,7 +54,7 @@ def accepted(seed, sizes, each):
         found = 0
         while found < each:
             net = usual.levelling(rng, n)
-            if outcome(net)[0][0] == 0:
+            if isinstance(Reckoning().check(call_of(net).problem()), Bounds):
                 found += 1
                 yield net
 
@@ -65,13 +66,14 @@ def options(counted):
     parser.add_argument(f"--{counted}", dest="count", type=int)
     parser.add_argument("--sizes", type=int, nargs="*", default=())
     parser.add_argument("--each", type=int, default=50)
-    return parser.parse_args()
+    return parser
 
 
 def main():
-    given = options("nets")
-    for net in mixed(given.seed, given.count) if given.count is not None else accepted(given.seed, given.sizes, given.each):
-        emit(net)
+    given = options("nets").parse_args()
+    calls = mixed(given.seed, given.count) if given.count is not None else map(call_of, accepted(given.seed, given.sizes, given.each))
+    for call in calls:
+        emit(call)
 
 
 if __name__ == "__main__":

@@ -1,113 +1,117 @@
-"""Writes the stored files and their listings from the second implementation.
+"""The stored script of the program `samples` and its stored output (crates/samples/stdin and stdout), from the second implementation.
 
-  python3 tests/store.py FOLDER           writes FOLDER/data/NAME, FOLDER/args (a name a line) and FOLDER/stdout (each name, then its listing)
-  python3 tests/store.py FOLDER --check   compares them instead; the last line is 'N passed, M failed'"""
+  python3 tests/store.py               writes both
+  python3 tests/store.py --check       compares them kind by kind, and runs the program on a script that fills its buffer: it prints nothing
+  python3 tests/store.py --self-test   the output tells each wrong way of printing, meets every refusal, and a stored file changed in any kind is told
 
-import argparse
-import random
+The last line of the last two is 'N passed, M failed'."""
+
+import re
+import subprocess
 import sys
 from pathlib import Path
 
-import given
-from generate import arranged
-from net import file_of, lines_of
-from second.program import Program
-from systems import edge, ends, usual
+from samples import files, lines, loader
+from samples.printing import WRONG, Printing
 
-# Files of given.py by the names under which they are stored.
-GIVEN = {
-    **{f"case-{letter}": f"01 case {letter}" for letter in "abcdefghijkl"},
-    "example-002-1": "002 example 1, guess 11, steps 20 20, displacement_inverse, bounds",
-    "example-002-2": "002 example 2, guess 12, steps 20 12, displacement_inverse, bounds",
-    "long-list": "lengths: list of 320 bytes at 12",
-    "too-long-list": "lengths: list of 321 bytes at 12",
-    "too-long-start": "lengths: no form of 321 bytes at 0",
-    "too-long-after-end": "lengths: no form of 321 bytes at 13",
-    "line-feed-alone": "by_bytes: one line feed",
-    "carriage-returns": "by_bytes: carriage returns",
-    "empty": "by_bytes: empty file",
-    "no-last-line-feed": "by_bytes: no last line feed",
-    "empty-line-after-end": "by_bytes: two last line feeds",
-    "minus-zero": "spellings: '(right 1 -0)'",
-    "range-guess-highest": "at_ends_of_ranges: guess number 1 is 68719476736",
-    "range-guess-beyond": "at_ends_of_ranges: guess number 1 is 68719476737",
-    "range-weight-zero": "at_ends_of_ranges: weight number 1 is 0",
-    "place-above-n": "places: right place 3",
-    "place-wraps": "places: guess place 18446744073709551617",
-    "list-short": "lists: inverse with 1",
-    "list-past-n-beyond": "lists: row with 1 2 1048577",
-    "again-beyond": "lists: row again with 1048577",
-    "again-long": "lists: row again with 1 2 3",
-    "scale-first": "orders: line 1 first",
-    "row-before-scale": "orders: line 2 second",
-    "second-problem": "orders: '(problem 3)' at 1",
-    "second-problem-beyond": "orders: '(problem 33)' at 1",
-    "right-again": "orders: line 4 again",
-    "weight-missing": "orders: line 11 missing",
-    "end-early": "orders: end after line 5",
-    "end-before-scale": "orders: '(end)' at 1",
-    "form-after-end": "orders: line 3 after the end",
-    "stops-early": "orders: nothing from line 12",
-    "half-below-zero": "entries: entry of -40",
-    "widest": "widest: sign -1, steps 20 20",
-}
-
-# Systems made by chance, with their number of equations.
-MADE = (
-    (usual.levelling, 1), (usual.levelling, 5), (usual.levelling, 32), (usual.general, 9), (usual.general, 16), (usual.small, 3), (usual.singular, 3),
-    (edge.at_edge, 1), (edge.at_edge, 12), (edge.with_halves, 6), (ends.at_bounds, 10), (ends.largest_bounds, 8), (ends.near_margins, 6),
-    (ends.near_residuals, 7), (ends.near_inverse_residuals, 6), (ends.several, 9),
-)
+ROOT = Path(__file__).resolve().parent.parent
+FOLDER = ROOT / "crates" / "samples"
+PROGRAM = ROOT / "target" / "bin" / "samples"
+# The program reads so many bytes, and runs no script that fills them.
+BUFFER = 131072
+KINDS = {"lines": lines, "loader": loader, "files": files}
+REFUSALS = {*range(1, 9), *range(11, 16)}
 
 
-def stored():
-    """(name, file) of every stored file."""
-    files = {case.name: case.file for case in given.cases()}
-    for name, known in GIVEN.items():
-        yield name, files[known]
-    for make, n in MADE:
-        name = f"{make.__name__.replace('_', '-')}-{n}"
-        rng = random.Random(name)
-        yield name, file_of(arranged(rng, lines_of(make(rng, n))))
+def script_of(entries):
+    assert not any(b"\xff" in entry for entry, _ in entries), "a byte of 255 ends an entry"
+    return b"".join(entry + b"\xff" for entry, _ in entries)
 
 
-def contents():
-    """The paths within the folder, each with its bytes."""
-    second, names, listings = Program(), [], []
-    for name, file in stored():
-        yield f"data/{name}", file
-        names.append(name.encode() + b"\n")
-        listings.append(name.encode() + b"\n" + second.listing(file))
-    yield "args", b"".join(names)
-    yield "stdout", b"".join(listings)
+def output_of(entries):
+    return "".join(text for _, text in entries).encode()
 
 
-def write(folder):
-    for path, data in contents():
-        (folder / path).parent.mkdir(parents=True, exist_ok=True)
-        (folder / path).write_bytes(data)
-        print(f"{folder / path}: {len(data)} bytes")
+def parts(printing=Printing()):
+    """Script and output of each kind."""
+    for name, kind in KINDS.items():
+        entries = list(kind.entries(printing))
+        yield name, script_of(entries), output_of(entries)
+
+
+def faults(expected, script, output):
+    """What is wrong with a script and an output, a sentence each; every kind stands at its own place."""
+    if len(script) >= BUFFER:
+        yield f"the script has {len(script)} bytes and fills the program's buffer"
+    at = printed = 0
+    for name, own_script, own_output in expected:
+        if script[at : at + len(own_script)] != own_script:
+            yield f"the stored script of the {name} differs"
+        if output[printed : printed + len(own_output)] != own_output:
+            yield f"the stored output of the {name} differs"
+        at, printed = at + len(own_script), printed + len(own_output)
+    if (len(script), len(output)) != (at, printed):
+        yield "there is more, or less, than the kinds give"
+
+
+def whole(expected):
+    return b"".join(script for _, script, _ in expected), b"".join(output for _, _, output in expected)
+
+
+def closed(failed, count):
+    for text in failed:
+        print("FAILED", text)
+    print(f"{max(0, count - len(failed))} passed, {len(failed)} failed")
+    return int(bool(failed))
+
+
+def cut_faults(script):
+    """What is wrong with the program's run on a script that fills its buffer, and beside it on one that just does not."""
+    if not PROGRAM.is_file():
+        return ["there is no target/bin/samples: run the gate first"]
+    fills, fits = (script + b"\xfet" + b"x" * (length - len(script) - 3) + b"\xff" for length in (BUFFER, BUFFER - 1))
+    run = lambda text: subprocess.run([str(PROGRAM)], input=text, capture_output=True, timeout=60)
+    filled, fitted = run(fills), run(fits)
+    wrong = [] if filled.stdout == b"" and filled.stderr else ["a script that fills the buffer is run, or refused in silence"]
+    return wrong + ([] if fitted.stdout.endswith(b"x") else ["a script that does not fill the buffer is not run to its end"])
+
+
+def check():
+    stored = [(FOLDER / name).read_bytes() if (FOLDER / name).is_file() else b"" for name in ("stdin", "stdout")]
+    failed = list(faults(list(parts()), *stored)) + cut_faults(stored[0])
+    return closed(failed, 2 * len(KINDS) + 4)
+
+
+def self_test():
+    expected = list(parts())
+    script, output = whole(expected)
+    failed = list(faults(expected, script, output))
+    failed += [f"'{name}' is not told" for name, printing in WRONG.items() if whole(parts(printing))[1] == output]
+    met = {int(number) for number in re.findall(rb"^(?:refused |[A-Za-z]: )?(\d+)\b", output, re.MULTILINE)}
+    failed += [f"refusal {number} is not met" for number in sorted(REFUSALS - met)]
+    changed = {
+        "a script without its end": (script[:-1], output),
+        "an output without its end": (script, output[:-1]),
+        "a script that fills the buffer": (script + b"\xfet" + b"x" * BUFFER, output),
+        **{f"a byte of the {name}": (script, output.replace(own, own[:-2] + b"?\n")) for name, _, own in expected},
+    }
+    failed += [f"'{name}' is not told" for name, stored in changed.items() if not list(faults(expected, *stored))]
+    return closed(failed, 1 + len(WRONG) + len(REFUSALS) + len(changed))
+
+
+def write():
+    for name, text in zip(("stdin", "stdout"), whole(list(parts()))):
+        (FOLDER / name).write_bytes(text)
+        print(f"crates/samples/{name}: {len(text)} bytes")
     return 0
 
 
-def check(folder):
-    passed = failed = 0
-    for path, data in contents():
-        if (folder / path).is_file() and (folder / path).read_bytes() == data:
-            passed += 1
-        else:
-            failed += 1
-            print(f"FAILED {folder / path} is missing or differs")
-    print(f"{passed} passed, {failed} failed")
-    return 0 if failed == 0 else 1
-
-
 def main():
-    parser = argparse.ArgumentParser()
-    parser.add_argument("folder", type=Path)
-    parser.add_argument("--check", action="store_true")
-    options = parser.parse_args()
-    return (check if options.check else write)(options.folder)
+    ways = {(): write, ("--check",): check, ("--self-test",): self_test}
+    if tuple(sys.argv[1:]) in ways:
+        return ways[tuple(sys.argv[1:])]()
+    print(__doc__)
+    return 2
 
 
 if __name__ == "__main__":

@@ -45,7 +45,7 @@ fn shorten(lengths: &mut Lengths, chance: &mut Chance) {
         5 => &mut lengths.solution,
         _ => &mut lengths.bounds,
     };
-    *length = chance.pick(&[*length - 1, *length / 2, 0]);
+    *length = chance.pick(&[length.saturating_sub(1), *length / 2, 0]);
 }
 
 /// One number of one list, among those in use or past them.

@@ -1,6 +1,6 @@
-/* The library linked from C, each of its calls beside a version in C and beside what the second implementation says.
+/* The library linked from C, each of its calls beside what the second implementation says.
  *
- *   link NETS FILES [--first]   files of tests/emit.py and tests/emit_files.py; with --first it stops at the first test that fails
+ *   link FOLDER [--first]   what the emitters wrote: FOLDER/nets.txt, files.bin and entries.txt; with --first it stops at the first test that fails
  *
  * The last line is 'N passed, M failed'. */
 #include "tests.h"
@@ -33,27 +33,27 @@ void test_reach(const char *what, const unsigned met[16], const unsigned *number
     for (unsigned k = 0; k < count; k++) test(what, numbers[k], met[numbers[k]] >= 20);
 }
 
-static FILE *opened(const char *path) {
-    FILE *file = fopen(path, "rb");
+/* Runs a part of the test on a file of the folder. */
+static void run(void part(FILE *), const char *folder, const char *name) {
+    char path[4096];
+    snprintf(path, sizeof path, "%s/%s", folder, name);
+    FILE *const file = fopen(path, "rb");
     if (!file) {
         perror(path);
         exit(2);
     }
-    return file;
+    part(file);
+    fclose(file);
 }
 
 int main(int argc, char **argv) {
-    stops = argc == 4 && strcmp(argv[3], "--first") == 0;
-    if (argc != 3 && !stops) {
-        fprintf(stderr, "usage: link NETS FILES [--first]\n");
+    stops = argc == 3 && strcmp(argv[2], "--first") == 0;
+    if (argc != 2 && !stops) {
+        fprintf(stderr, "usage: link FOLDER [--first]\n");
         return 2;
     }
-    FILE *const nets = opened(argv[1]), *const files = opened(argv[2]);
-    test_cases();
-    test_entries();
-    test_files(files);
-    test_lists(nets);
-    fclose(files);
-    fclose(nets);
+    run(test_entries, argv[1], "entries.txt");
+    run(test_files, argv[1], "files.bin");
+    run(test_lists, argv[1], "nets.txt");
     return close_count();
 }

@@ -1,4 +1,4 @@
-//! What a check on lists is handed and leaves; the library's check; the systems of tests/emit.py.
+//! What a check on lists is handed and leaves; the library's check; the calls of tests/emit.py.
 
 #[link(name = "kodarfi", kind = "static")]
 extern "C" {
@@ -47,8 +47,6 @@ pub struct Lengths {
     pub bounds: usize,
 }
 
-pub const FULL: Lengths = Lengths { matrix: MATRIX, right: COLUMN, guess: COLUMN, inverse: MATRIX, weights: COLUMN, solution: COLUMN, bounds: MATRIX };
-
 /// What a check leaves: the number (0 where accepted), its places, and both lists of limits.
 #[derive(PartialEq, Debug)]
 pub struct Outcome {
@@ -84,39 +82,46 @@ pub fn library_check(net: &Net) -> Outcome {
     out
 }
 
-/// Lists of full length that begin with these numbers.
-pub fn net_of(n: u32, s: u32, t: u32, a: &[i64], b: &[i64], x: &[i64], g: &[i64], w: &[i64]) -> Net {
-    let padded = |numbers: &[i64], length: usize| {
-        let mut list = numbers.to_vec();
-        list.resize(length, UNREAD);
-        list
-    };
-    Net {
-        n, s, t,
-        matrix: padded(a, MATRIX),
-        right: padded(b, COLUMN),
-        guess: padded(x, COLUMN),
-        inverse: padded(g, MATRIX),
-        weights: padded(w, COLUMN),
-        lengths: FULL,
-    }
-}
-
-/// The systems of the file with their outcomes.
+/// The calls of the file with their outcomes. Each list begins with the numbers given and is filled up to its full length.
 pub fn read_nets(text: &str) -> Vec<(Net, Outcome)> {
     let mut numbers = text.split_ascii_whitespace().map(|word| word.parse::<i64>().expect("a number"));
     let mut nets = Vec::new();
-    while let Some(n) = numbers.next() {
+    while let Some(count) = numbers.next() {
+        let count = count as usize;
         let mut take = |count: usize| numbers.by_ref().take(count).collect::<Vec<i64>>();
-        let (size, scales) = (n as usize, take(2));
-        let (a, b, x, g, w) = (take(size * size), take(size), take(size), take(size * size), take(size));
-        let net = net_of(n as u32, scales[0] as u32, scales[1] as u32, &a, &b, &x, &g, &w);
+        let (sizes, lengths) = (take(3), take(7));
+        let [matrix, right, guess, inverse, weights, solution, bounds] = lengths[..] else { panic!("seven lengths") };
+        let mut list = |count: usize, length: usize| {
+            let mut list = take(count);
+            list.resize(length, UNREAD);
+            list
+        };
+        let net = Net {
+            n: sizes[0] as u32,
+            s: sizes[1] as u32,
+            t: sizes[2] as u32,
+            matrix: list(count * count, MATRIX),
+            right: list(count, COLUMN),
+            guess: list(count, COLUMN),
+            inverse: list(count * count, MATRIX),
+            weights: list(count, COLUMN),
+            lengths: Lengths {
+                matrix: matrix as usize,
+                right: right as usize,
+                guess: guess as usize,
+                inverse: inverse as usize,
+                weights: weights as usize,
+                solution: solution as usize,
+                bounds: bounds as usize,
+            },
+        };
         let said = take(3);
         let mut out = Outcome::untouched(said[0] as u32, [said[1] as u64, said[2] as u64]);
         if out.number == 0 {
-            let bounds = |list: Vec<i64>| list.into_iter().map(|bound| bound as u64).collect::<Vec<u64>>();
-            out.solution[..size].copy_from_slice(&bounds(take(size)));
-            out.inverse[..size * size].copy_from_slice(&bounds(take(size * size)));
+            let size = net.n as usize;
+            let limits = |list: Vec<i64>| list.into_iter().map(|limit| limit as u64).collect::<Vec<u64>>();
+            out.solution[..size].copy_from_slice(&limits(take(size)));
+            out.inverse[..size * size].copy_from_slice(&limits(take(size * size)));
         }
         nets.push((net, out));
     }

@@ -1,4 +1,4 @@
-/* The parts of the test in C, and how they count. */
+/* The parts of the test in C, each on what an emitter wrote, and how they count. */
 #ifndef TESTS_H
 #define TESTS_H
 
@@ -11,16 +11,13 @@ void test(const char *what, unsigned index, bool holds);
 /* Counts as tests that each of these numbers, up to 15, was met often enough, and prints how often. */
 void test_reach(const char *what, const unsigned met[16], const unsigned *numbers, unsigned count);
 
-/* kodarfi_check: cases a to k of document 01. */
-void test_cases(void);
-
-/* kodarfi_check: the systems of tests/emit.py, as they are and damaged. */
+/* kodarfi_check on the calls of tests/emit.py. */
 void test_lists(FILE *nets);
 
-/* kodarfi_listing: case e as a whole file, then the files of tests/emit_files.py, as they are and damaged. */
+/* kodarfi_listing on the files of tests/emit_files.py. */
 void test_files(FILE *files);
 
-/* kodarfi_entry: case l, the edges of its ranges, halves, and numbers by chance. */
-void test_entries(void);
+/* kodarfi_entry on the lines of tests/emit_entries.py. */
+void test_entries(FILE *entries);
 
 #endif

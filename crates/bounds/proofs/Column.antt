@@ -1,54 +1,89 @@
 -- The limits of a column.
---   sized-columns — the sizes of p are at most 2^50
---   bounds-of-sizes, line-sizes, column-more — the steps of the loop over all columns
+--   image-size   — the code's sizes are at most 2^55 whatever is raised
+--   plain-sizes, slack-sizes — the code's sizes are the definition's, without slack and with it
+--   sized        — they are at most 2^50
+--   slack-near, near-reach, columns-near — slacks and residuals that are near are small; residuals of columns are near
+--   slack-sum — a sum of slacks is at most 2^50 a term;  no-slack — where no row has one it is 0
+--   bounds-of-sizes, column-more — limits from an array of sizes, and one column more of the loop over all
 use mathlib.Core.Path.{_≡_, refl, sym, ap, _∙_}
 use mathlib.Core.List.{List}
 use Prim.Native.Nat.{ℕ, _+_, _*_, _≤_, _<_, _^_}
 use native.Mathlib.Omega.{arith}
-use native.Mathlib.Nat.{mul-le-mul-right}
+use native.Mathlib.Nat.{mul-le-mul, mul-le-mul-right}
 use lib.IntN.{ℤ, natAbs}
-use lib.ListN.{getD}
-use Rattle.linear.specs.Slice.{at, Reach}
-use Rattle.linear.proofs.Places.{dot-size}
-use Rattle.raised.specs.Raised.{lineDot, Lines}
-use Rattle.raised.proofs.Lowering.{line-dot-shows}
-use Rattle.enclosure.specs.Reckoning.{boundFrom}
+use lib.ListN.{getD, length}
+use Rattle.integer.specs.Finite.{sumℕ}
+use Rattle.integer.proofs.Sum.{sumℕ-ext, sumℕ-*, sumℕ-zero, sumℕ-at, sumℕ≤}
+use Rattle.linear.specs.Matrix.{Vec, apply}
+use Rattle.linear.specs.Slice.{at}
+use Rattle.linear.specs.Reach.{Reach, ColumnList}
+use Rattle.linear.proofs.Places.{place, list-reach}
+use Rattle.linear.proofs.Slack.{joint}
+use Rattle.raised_rows.specs.Raised.{raisedBy, lowered, RaisedRow, RaisedRows, loweredRows, rowDot, RowOf}
+use Rattle.raised_rows.proofs.Lowering.{lowered-size, row-dot-size, row-dot-shows, rows-themselves}
+use Rattle.enclosure.specs.Reckoning.{allowedResidual, sizesWith, boundFrom}
 use Rattle.enclosure.proofs.Bounds.{bound-ext}
-use Rattle.reckoning.specs.Arrays.{Holds, Square, stored, storedColumns}
-use Rattle.reckoning.specs.Part.{columnSizes}
-use Rattle.reckoning.proofs.Filled.{holds-as, stored-ext, columns-next}
-use Rattle.reckoning.proofs.Numbers.{sizes-is}
-use Rattle.reckoning.proofs.Sizes.{square-row}
-use Rattle.bounds.specs.Ratio.{Sized}
+use Rattle.reckoning.specs.Arrays.{Begins, stored, storedColumns}
+use Rattle.reckoning.specs.Rows.{InverseRows}
+use Rattle.reckoning.proofs.Filled.{begins-as, stored-ext, columns-next}
+use Rattle.ratios.specs.Ratio.{Sized}
+use Rattle.bounds.specs.Limits.{inversePart, Near}
 
-pub sized-columns : (n : ℕ) (inverse residuals : List ℤ) (start : ℕ) {out : List ℕ} → Holds 0 out n (columnSizes n inverse residuals start) →
-    n ≤ 32 → Square inverse n → Reach residuals start 1 n (2 ^ 25) → Sized out n
-sized-columns n inverse residuals start h few q r = record {
-  most = λ m l. rw (h .each m l)
-      (omega (
-        arith,
-        ap natAbs (sizes-is n inverse residuals start m),
-        dot-size _ _ _ _ _ _ _ _ _ (square-row q m l) r,
-        mul-le-mul-right (2 ^ 20 * 2 ^ 25) few,
-      ));
+module _ (n : ℕ) {rows residuals : List ℕ} {place : ℕ} {r : Vec} (h : RaisedRows rows n) (s : RowOf residuals place n r) where
+  image-is : (m : ℕ) → m < n → natAbs (rowDot rows (m * (n + 1)) residuals place n) ≡ natAbs (apply n (loweredRows rows n) r m)
+  unfolding apply
+  image-is m l = ap natAbs (row-dot-shows n (rows-themselves h .each m l) s)
+
+  pub image-size : {sizes : List ℕ} → n ≤ 32 → Begins 0 sizes n (λ (m : ℕ). natAbs (rowDot rows (m * (n + 1)) residuals place n)) →
+      (m : ℕ) → m < n → getD sizes m 0 ≤ 2 ^ 55
+  image-size few b m l = rw (b .each m l) (row-dot-size few (h .each m l .small) (s .row .small))
+
+  pub plain-sizes : {sizes : List ℕ} → Begins 0 sizes n (λ (m : ℕ). natAbs (rowDot rows (m * (n + 1)) residuals place n)) →
+      Begins 0 sizes n (sizesWith (inversePart n rows) r (λ (k : ℕ). 0))
+  unfolding sizesWith
+  plain-sizes b =
+      begins-as 0 _ _ (λ m l. omega (arith, image-is m l, sumℕ-* n 0 (λ (j : ℕ). natAbs (loweredRows rows n m j)))) b
+
+  pub slack-sizes : {sizes out : List ℕ} (σ : ℕ → ℕ) → Begins 0 sizes n (λ (m : ℕ). natAbs (rowDot rows (m * (n + 1)) residuals place n)) →
+      Begins 0 out n (λ (m : ℕ). getD sizes m 0 + sumℕ n (λ (j : ℕ). natAbs (loweredRows rows n m j) * σ j)) → Begins 0 out n (sizesWith (inversePart n rows) r σ)
+  unfolding sizesWith
+  slack-sizes σ a b = begins-as 0 _ _ (λ m l. rw (a .each m l, image-is m l)) b
+
+pub sized : {n : ℕ} {rows : List ℕ} {r : Vec} {σ : ℕ → ℕ} {out : List ℕ} → n ≤ 32 → InverseRows rows n → Near r σ n →
+    Begins 0 out n (sizesWith (inversePart n rows) r σ) → Sized out n
+unfolding sizesWith
+sized {n} {rows} {r} {σ} few h near b = record {
+  most = λ m l. rw (b .each m l)
+      (omega (arith, joint n (2 ^ 20) (2 ^ 25) (loweredRows rows n) r σ m (λ j lj. h .size m j l lj) (near .each), mul-le-mul-right (2 ^ 45) few));
 }
 
--- limits from an array of sizes are those of the sizes that it holds
-pub bounds-of-sizes : (n : ℕ) (sizes : List ℕ) (f margins w : ℕ → ℕ) {out : List ℕ} → Holds 0 sizes n f →
-    Holds 0 out n (boundFrom n (λ (m : ℕ). getD sizes m 0) margins w) → Holds 0 out n (boundFrom n f margins w)
-bounds-of-sizes n sizes f margins w h k =
-    holds-as 0 _ _ (λ i l. bound-ext n (λ (m : ℕ). getD sizes m 0) margins f margins w i (h .each) (λ m lm. refl)) k
+pub slack-near : {n : ℕ} {r : Vec} {σ : ℕ → ℕ} → Near r σ n → (k : ℕ) → k < n → σ k ≤ allowedResidual
+slack-near near k l = omega (arith, near .each k l)
 
--- the sizes of column j from raised lines
-pub line-sizes : (n : ℕ) (inverse residuals : List ℤ) {rows lines sizes : List ℕ} (line j : ℕ) → line ≡ j * (n + 1) → j < n →
-    Lines rows n n (λ (i k : ℕ). at inverse (i * n + k * 1)) → Lines lines n n (λ (i k : ℕ). at residuals (i * n + k * 1)) →
-    Holds 0 sizes n (λ (m : ℕ). natAbs (lineDot rows (m * (n + 1)) lines line n)) → Holds 0 sizes n (columnSizes n inverse residuals (j * n))
-line-sizes n inverse residuals {rows} {lines} line j e l r s h =
-    holds-as 0 _ _
-    (λ m lm. ap natAbs (ap (λ (x : ℕ). lineDot rows (m * (n + 1)) lines x n) e ∙ line-dot-shows n (r .each m lm) (s .each j l) ∙ sizes-is n inverse residuals (j * n) m)) h
+pub near-reach : {n : ℕ} {residuals : List ℤ} {σ : ℕ → ℕ} → Near (at residuals) σ n → n ≤ length residuals → Reach residuals 0 1 n raisedBy
+near-reach near long =
+    list-reach (record { long = long; within = record { size = λ k l. omega (arith, near .each k l) } })
+
+pub columns-near : {n : ℕ} {residuals : List ℤ} (j : ℕ) → j < n → ColumnList residuals (n * n) allowedResidual →
+    Near (λ (k : ℕ). at residuals (j * n + k)) (λ (k : ℕ). 0) n
+columns-near j l h = record { each = λ k lk. omega (arith, h .within .size _ (place l lk)) }
+
+pub slack-sum : {rows : List ℕ} (slacks : List ℕ) {row n : ℕ} (j : ℕ) → j ≤ n → RaisedRow rows row n → ((k : ℕ) → k < n → getD slacks k 0 ≤ allowedResidual) →
+    sumℕ j (λ (k : ℕ). natAbs (lowered (getD rows (row + k) 0)) * getD slacks k 0) ≤ j * 2 ^ 50
+slack-sum slacks j l h s = sumℕ≤ j (2 ^ 50) _ (λ k m. mul-le-mul (lowered-size _ (h .small .each k (omega arith))) (s k (omega arith)))
+
+-- where no row has a slack there is none
+pub no-slack : (n : ℕ) (a σ : ℕ → ℕ) → sumℕ n σ ≡ 0 → sumℕ n (λ (j : ℕ). a j * σ j) ≡ 0
+no-slack n a σ e = sumℕ-ext n (λ (j : ℕ). a j * σ j) (λ (j : ℕ). 0) (λ j l. let z : σ j ≡ 0 = omega (arith, e, sumℕ-at n σ j l) in rw z (omega arith)) ∙ sumℕ-zero n
+
+-- limits from an array of sizes are those of the sizes that it begins with
+pub bounds-of-sizes : (n : ℕ) (sizes : List ℕ) (f margins w : ℕ → ℕ) {out : List ℕ} → Begins 0 sizes n f →
+    Begins 0 out n (boundFrom n (λ (m : ℕ). getD sizes m 0) margins w) → Begins 0 out n (boundFrom n f margins w)
+bounds-of-sizes n sizes f margins w h k =
+    begins-as 0 _ _ (λ i l. bound-ext n (λ (m : ℕ). getD sizes m 0) margins f margins w i (h .each) (λ m lm. refl)) k
 
 -- one column more
 pub column-more : (xs : List ℕ) (n : ℕ) (f : ℕ → ℕ → ℕ) (j : ℕ) {now after column : List ℕ} → now ≡ storedColumns xs n f j →
-    Holds 0 column n (λ (i : ℕ). f i j) → after ≡ stored now j n (λ (i : ℕ). getD column i 0) n → after ≡ storedColumns xs n f (j + 1)
+    Begins 0 column n (λ (i : ℕ). f i j) → after ≡ stored now j n (λ (i : ℕ). getD column i 0) n → after ≡ storedColumns xs n f (j + 1)
 column-more xs n f j {now} {after} {column} e h a =
     a ∙ stored-ext now j n (λ (i : ℕ). getD column i 0) (λ (i : ℕ). f i j) n (h .each) ∙ rw e (sym (columns-next xs n f j))

@@ -1,132 +1,120 @@
-// The limits of a column, from the sizes of p, the margins and the weights, and the writer of a column (01: "The limits of one column
-// are worked out whole before any of them is written").
+// The limits of a column from the raised rows of the inverse, and the writer of a column (01: "The limits of one column are worked out
+// whole before any of them is written").
 ghost use mathlib.Core.Path.{_≡_};
 ghost use Prim.Native.Nat.{ℕ, _+_, _*_, _≤_, _<_, _^_};
 ghost use lib.IntN.{natAbs};
 ghost use lib.ListN.{getD, length};
-ghost use Rattle.integer.specs.Finite.{Steepest};
-ghost use Rattle.integer.specs.Quotient.{ceilDiv};
-ghost use Rattle.linear.specs.Slice.{at, Reach};
-ghost use Rattle.raised.specs.Raised.{Line, Lined, lineDot};
-ghost use Rattle.enclosure.specs.Reckoning.{boundFrom};
-ghost use Rattle.reckoning.specs.Arrays.{Holds, stored, storedColumns, Square, Numbers};
-ghost use Rattle.reckoning.specs.Part.{columnSizes};
-ghost use Rattle.bounds.specs.Ratio.{ratioOf, steeperOf, Narrow, Sized, Positive};
-use integer::ceil_div;
+ghost use Rattle.integer.specs.Finite.{sumℕ};
+ghost use Rattle.linear.specs.Slice.{at};
+ghost use Rattle.linear.specs.Reach.{ColumnList};
+ghost use Rattle.raised_rows.specs.Raised.{raisedBy, lowered, RaisedRow, RaisedRows, loweredRows, rowDot};
+ghost use Rattle.enclosure.specs.Reckoning.{allowedResidual};
+ghost use Rattle.reckoning.specs.Arrays.{Begins, stored, storedColumns};
+ghost use Rattle.reckoning.specs.Rows.{InverseRows};
+ghost use Rattle.ratios.specs.Ratio.{Positive};
+ghost use Rattle.bounds.specs.Limits.{Near, limitsOf};
 use integer::magnitude;
-use linear::dot;
-use raised::line_dot;
-use raised::raise_lines;
+use raised_rows::ROWS_LENGTH;
+use raised_rows::add_low;
+use raised_rows::lowered_size;
+use raised_rows::raise_row;
+use raised_rows::raise_rows;
+use raised_rows::row_dot;
+use ratios::bounds_of;
 
-// A row with the quotient and the remainder of |p_m| by its margin g_m.
-pub struct Ratio {
-    pub row: usize,
-    pub quotient: u64,
-    pub remainder: u64,
-    pub margin: u64,
-}
-
-fn ratio_of(row: usize, p: u64, g: u64) -> Ratio
-    requires { ⌜ 0 < g ⌝ }
-    ensures { λ r. ⌜ r ≡ ratioOf row p g ⌝ }
-{
-    Ratio {
-        row,
-        quotient: p / g,
-        remainder: p % g,
-        margin: g,
-    }
-}
-
-// The row with the larger ratio; a where they are equal.
-fn steeper(a: Ratio, b: Ratio) -> Ratio
-    requires { ⌜ Narrow a × Narrow b ⌝ }
-    ensures { λ r. ⌜ r ≡ steeperOf a b ⌝ }
-{
-    if a.quotient < b.quotient {
-        return b;
-    }
-    if b.quotient < a.quotient {
-        return a;
-    }
-    if a.remainder * b.margin < b.remainder * a.margin {
-        return b;
-    }
-    a
-}
-
-// A row where sizes / margins is largest.
-fn steepest_of(sizes: &[u64; 32], margins: &[u64; 32], n: usize) -> usize
-    requires { ⌜ (0 < n) × (n ≤ 32) ⌝ }
-    requires { ⌜ Positive (now margins) n ⌝ }
-    ensures { λ r. ⌜ Steepest n (λ (m : ℕ). getD (now (sizes .entry)) m 0) (λ (m : ℕ). getD (now (margins .entry)) m 0) r ⌝ }
-{
-    let mut best = ratio_of(0, sizes[0], margins[0]);
-    for m in 1..n {
-        best = steeper(best, ratio_of(m, sizes[m], margins[m]));
-    }
-    best.row
-}
-
-// w·p / g rounded up, for the weight w.
-fn bound_of(w: i64, p: u64, g: u64) -> u64
-    requires { ⌜ (natAbs w ≤ 1024) × ((p ≤ 2 ^ 50) × ((0 < g) × (g ≤ 2 ^ 30))) ⌝ }
-    ensures { λ r. ⌜ r ≡ ceilDiv (natAbs w * p) g ⌝ }
-{
-    ceil_div(magnitude(w) * p, g)
-}
-
-// The limits of a column: each is that of the row where |p_m| / g_m is largest.
-fn bounds_of(sizes: &[u64; 32], margins: &[u64; 32], weights: &[i64], n: usize) -> [u64; 32]
-    requires { ⌜ (0 < n) × (n ≤ 32) ⌝ }
-    requires { ⌜ Sized (now sizes) n ⌝ }
-    requires { ⌜ Positive (now margins) n ⌝ }
-    requires { ⌜ Numbers (now weights) n 1024 ⌝ }
-    ensures { λ r. ⌜ Holds 0 r n (boundFrom n (λ (m : ℕ). getD (now (sizes .entry)) m 0) (λ (m : ℕ). getD (now (margins .entry)) m 0) (λ (i : ℕ). natAbs (at (now (weights .entry)) i))) ⌝ }
-{
-    let k = steepest_of(sizes, margins, n);
-    let p = sizes[k];
-    let g = margins[k];
-    let mut out = [0u64; 32];
-    for i in 0..n {
-        out[i] = bound_of(weights[i], p, g);
-    }
-    out
-}
-
-// The sizes of p = G·r, for residuals r that stand from a place on.
-fn sizes_of(inverse: &[i64], residuals: &[i64], start: usize, n: usize) -> [u64; 32]
-    requires { ⌜ (n ≤ 32) × (start + n * 1 < 2 ^ 63) ⌝ }
-    requires { ⌜ Square (now inverse) n ⌝ }
-    requires { ⌜ Reach (now residuals) start 1 n (2 ^ 25) ⌝ }
-    ensures { λ r. ⌜ Holds 0 r n (columnSizes n (now (inverse .entry)) (now (residuals .entry)) start) × Sized r n ⌝ }
+// The sizes of p = G·r, from the raised rows of G and the raised row of r that starts at a place.
+fn sizes_of(rows: &[u64], residuals: &[u64], place: usize, n: usize) -> [u64; 32]
+    requires { ⌜ n ≤ 32 ⌝ }
+    requires { ⌜ RaisedRows (now rows) n × RaisedRow (now residuals) place n ⌝ }
+    ensures { λ r. ⌜ Begins 0 r n (λ (m : ℕ). natAbs (rowDot (now (rows .entry)) (m * (n + 1)) (now (residuals .entry)) place n)) ⌝ }
 {
     let mut out = [0u64; 32];
     let mut row = 0;
     for m in 0..n {
-        out[m] = magnitude(dot(inverse, row, 1, residuals, start, 1, n));
-        row += n;
+        out[m] = magnitude(row_dot(rows, row, residuals, place, n));
+        row += n + 1;
     }
     out
 }
 
-// The limits of the column whose residuals stand from a place on.
+// One term of a slack: sum + |x|·slack, for a raised number x.
+fn add_slack(sum: u64, x: u64, slack: u64) -> u64
+    requires { ⌜ (sum ≤ 2 ^ 62) × ((x ≤ 2 * raisedBy) × (slack ≤ allowedResidual)) ⌝ }
+    ensures { λ r. ⌜ r ≡ sum + natAbs (lowered x) * slack ⌝ }
+{
+    add_low(sum, lowered_size(x), slack)
+}
+
+// The sum over j of |G_mj|·σ_j, for the raised row m of G that starts at a place.
+fn slack_of(rows: &[u64], row: usize, slacks: &[u64; 32], n: usize) -> u64
+    requires { ⌜ n ≤ 32 ⌝ }
+    requires { ⌜ RaisedRow (now rows) row n ⌝ }
+    requires { ⌜ ((k : ℕ) → k < n → getD (now slacks) k 0 ≤ allowedResidual) ⌝ }
+    ensures { λ r. ⌜ r ≡ sumℕ n (λ (j : ℕ). natAbs (lowered (getD (now (rows .entry)) (row + j) 0)) * getD (now (slacks .entry)) j 0) ⌝ }
+{
+    let mut sum: u64 = 0;
+    let mut place = row;
+    for j in 0..n {
+        sum = add_slack(sum, rows[place], slacks[j]);
+        place += 1;
+    }
+    sum
+}
+
+// The sum of n slacks.
+fn sum_of(slacks: &[u64; 32], n: usize) -> u64
+    requires { ⌜ n ≤ 32 ⌝ }
+    requires { ⌜ ((k : ℕ) → k < n → getD (now slacks) k 0 ≤ allowedResidual) ⌝ }
+    ensures { λ r. ⌜ r ≡ sumℕ n (λ (k : ℕ). getD (now (slacks .entry)) k 0) ⌝ }
+{
+    let mut sum: u64 = 0;
+    for k in 0..n {
+        sum += slacks[k];
+    }
+    sum
+}
+
+// Sizes, each with its slack; where no row has one, n·n products are saved.
+fn add_slacks(sizes: [u64; 32], rows: &[u64], slacks: &[u64; 32], n: usize) -> [u64; 32]
+    requires { ⌜ n ≤ 32 ⌝ }
+    requires { ⌜ RaisedRows (now rows) n ⌝ }
+    requires { ⌜ ((k : ℕ) → k < n → getD (now slacks) k 0 ≤ allowedResidual) ⌝ }
+    requires { ⌜ ((m : ℕ) → m < n → getD sizes m 0 ≤ 2 ^ 55) ⌝ }
+    ensures { λ r. ⌜ Begins 0 r n (λ (m : ℕ). getD sizes m 0
+        + sumℕ n (λ (j : ℕ). natAbs (loweredRows (now (rows .entry)) n m j) * getD (now (slacks .entry)) j 0)) ⌝ }
+{
+    if sum_of(slacks, n) == 0 {
+        return sizes;
+    }
+    let mut out = [0u64; 32];
+    let mut row = 0;
+    for m in 0..n {
+        out[m] = sizes[m] + slack_of(rows, row, slacks, n);
+        row += n + 1;
+    }
+    out
+}
+
+// The limits of the column with these residuals and slacks, from the raised rows of G.
 pub fn column_bounds(
-    inverse: &[i64],
-    residuals: &[i64],
-    start: usize,
+    rows: &[u64; ROWS_LENGTH],
+    residuals: [i64; 32],
+    slacks: [u64; 32],
     margins: [u64; 32],
     weights: &[i64],
     n: usize,
 ) -> [u64; 32]
-    requires { ⌜ (0 < n) × ((n ≤ 32) × (start + n * 1 < 2 ^ 63)) ⌝ }
-    requires { ⌜ Square (now inverse) n ⌝ }
-    requires { ⌜ Reach (now residuals) start 1 n (2 ^ 25) ⌝ }
+    requires { ⌜ (0 < n) × (n ≤ 32) ⌝ }
+    requires { ⌜ InverseRows (now rows) n ⌝ }
+    requires { ⌜ Near (at residuals) (λ (k : ℕ). getD slacks k 0) n ⌝ }
     requires { ⌜ Positive margins n ⌝ }
-    requires { ⌜ Numbers (now weights) n 1024 ⌝ }
-    ensures { λ r. ⌜ Holds 0 r n (boundFrom n (columnSizes n (now (inverse .entry)) (now (residuals .entry)) start) (λ (m : ℕ). getD margins m 0) (λ (i : ℕ). natAbs (at (now (weights .entry)) i))) ⌝ }
+    requires { ⌜ ColumnList (now weights) n 1024 ⌝ }
+    ensures { λ r. ⌜ Begins 0 r n
+        (limitsOf n (now (rows .entry)) (at residuals) (λ (k : ℕ). getD slacks k 0) margins (now (weights .entry))) ⌝ }
 {
-    let sizes = sizes_of(inverse, residuals, start, n);
+    let mut raised = [0u64; 33];
+    raise_row(&mut raised, 0, &residuals, 0, 1, n);
+    let sizes = add_slacks(sizes_of(rows, &raised, 0, n), rows, &slacks, n);
     bounds_of(&sizes, &margins, weights, n)
 }
 
@@ -143,46 +131,31 @@ pub fn store(dst: &mut [u64], start: usize, stride: usize, column: [u64; 32], n:
     }
 }
 
-// The sizes of p = G·r, from the raised rows of G and the raised line of r.
-fn line_sizes_of(rows: &[u64], lines: &[u64], line: usize, n: usize) -> [u64; 32]
-    requires { ⌜ n ≤ 32 ⌝ }
-    requires { ⌜ Lined (now rows) n × Line (now lines) line n ⌝ }
-    ensures { λ r. ⌜ Holds 0 r n (λ (m : ℕ). natAbs (lineDot (now (rows .entry)) (m * (n + 1)) (now (lines .entry)) line n)) ⌝ }
-{
-    let mut out = [0u64; 32];
-    let mut row = 0;
-    for m in 0..n {
-        out[m] = magnitude(line_dot(rows, row, lines, line, n));
-        row += n + 1;
-    }
-    out
-}
-
-// Writes the limits of all columns of the inverse, row after row, from their residuals, column after column.
+// Writes the limits of all columns of the inverse, row after row, from their residuals, column after column, and the raised rows of G.
 pub fn store_columns(
     dst: &mut [u64],
-    inverse: &[i64],
-    residuals: &[i64],
+    rows: &[u64; ROWS_LENGTH],
+    residuals: &[i64; 1024],
     margins: [u64; 32],
     weights: &[i64],
     n: usize,
 )
     requires { ⌜ (0 < n) × ((n ≤ 32) × (n * n ≤ length (now dst))) ⌝ }
-    requires { ⌜ Square (now inverse) n ⌝ }
-    requires { ⌜ Numbers (now residuals) (n * n) (2 ^ 25) ⌝ }
+    requires { ⌜ InverseRows (now rows) n ⌝ }
+    requires { ⌜ ColumnList (now residuals) (n * n) allowedResidual ⌝ }
     requires { ⌜ Positive margins n ⌝ }
-    requires { ⌜ Numbers (now weights) n 1024 ⌝ }
-    ensures { λ _. ⌜ now (dst .exit) ≡ storedColumns (now (dst .entry)) n (λ (i j : ℕ). boundFrom n (columnSizes n (now (inverse .entry)) (now (residuals .entry)) (j * n)) (λ (m : ℕ). getD margins m 0) (λ (k : ℕ). natAbs (at (now (weights .entry)) k)) i) n ⌝ }
+    requires { ⌜ ColumnList (now weights) n 1024 ⌝ }
+    ensures { λ _. ⌜ now (dst .exit) ≡ storedColumns (now (dst .entry)) n
+        (λ (i j : ℕ). limitsOf n (now (rows .entry)) (λ (k : ℕ). at (now (residuals .entry)) (j * n + k)) (λ (k : ℕ). 0) margins
+        (now (weights .entry)) i) n ⌝ }
 {
-    let mut rows = [0u64; 1056];
-    let mut lines = [0u64; 1056];
-    raise_lines(&mut rows, inverse, n, 1, n);
-    raise_lines(&mut lines, residuals, n, 1, n);
-    let mut line = 0;
+    let mut raised = [0u64; ROWS_LENGTH];
+    raise_rows(&mut raised, residuals, n, 1, n);
+    let mut place = 0;
     for j in 0..n {
-        let sizes = line_sizes_of(&rows, &lines, line, n);
+        let sizes = sizes_of(rows, &raised, place, n);
         let column = bounds_of(&sizes, &margins, weights, n);
         store(dst, j, n, column, n);
-        line += n + 1;
+        place += n + 1;
     }
 }

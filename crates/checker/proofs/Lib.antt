@@ -1,9 +1,6 @@
 pub mod Written
+pub mod Rows
 pub mod Places
-pub mod Bounded
+pub mod Limits
 pub mod Outcome
-pub mod Lengths
-pub mod Contract
-pub mod Statements
-pub mod Agreement
-pub mod Table
+pub mod Ready

@@ -1,32 +1,33 @@
 -- The first rows that are refused, from what the arrays hold, and what holds where none is.
 --   first-margin, first-residual, first-column — the code's searches are the definition's
---   accepted-places — nothing is said only where there is no such row
---   positive, near — then every margin is above 0, every residual at most 2^25 in size
-use mathlib.Core.Path.{_≡_, refl, sym, _∙_}
+--   positive, near, near-columns — where none is found: every margin is above 0, every residual with its slack at most 2^25 in size, and every residual of a column
+use mathlib.Core.Path.{_≡_, refl, sym, ap, _∙_}
 use mathlib.Core.Bool.{Bool, true, false}
-use mathlib.Core.List.{List, []}
-use Prim.Native.Nat.{ℕ, zero, suc, _*_, _-_, _/_, _%_, _≤_, _<_, _^_}
+use mathlib.Core.List.{List}
+use Prim.Native.Nat.{ℕ, zero, suc, _+_, _*_, _-_, _/_, _%_, _≤_, _<_}
 use native.Mathlib.Omega.{arith}
-use native.Mathlib.Nat.{mul-le-mul}
+use native.Mathlib.Nat.{mul-le-mul, mod-lt}
 use borrow.Author.Tests.{leb-true, leb-false, eq-eqb, ne-eqb, eqb-false, ltb-false}
-use lib.Dec.{eqb, leb, ltb}
+use lib.Dec.{eqb, leb}
 use lib.IntN.{ℤ, pos, natAbs}
 use lib.ListN.{getD, length}
 use Rattle.integer.specs.Finite.{first}
 use Rattle.integer.proofs.Search.{first-ext, first-past}
 use Rattle.linear.specs.Slice.{at}
-use Rattle.rules.specs.Order.{verdict}
-use Rattle.rules.proofs.Verdicts.{nothing-is-not}
+use Rattle.linear.specs.Reach.{ColumnList}
+use Rattle.raised_rows.specs.Raised.{RowsOf}
 use Rattle.enclosure.specs.Problem.{T, columnOf}
-use Rattle.enclosure.specs.Reckoning.{defect, load, margin, marginFails, residual, tooLarge, exceeds}
+use Rattle.enclosure.specs.Reckoning.{load, marginFails, residual, allowedResidual, exceeds}
+use Rattle.enclosure.proofs.Before.{exceeds-before}
 use Rattle.enclosure.proofs.Margin.{margin-test}
-use Rattle.reckoning.specs.Arrays.{Holds, Numbers}
-use Rattle.reckoning.specs.Part.{marginPart, residualPart, columnResidual, cutMargin}
+use Rattle.reckoning.specs.Arrays.{Begins}
+use Rattle.reckoning.specs.Parts.{rowsPart, columnResidual, cutMargin, aboveAllowed}
 use Rattle.reckoning.proofs.Sizes.{power-size}
-use Rattle.bounds.specs.Ratio.{Positive}
-use Rattle.checker.specs.Input.{Input, problem}
-use Rattle.checker.specs.Order.{firstMargin, firstResidual, firstInversePlace, reckoned}
-use Rattle.checker.specs.Ready.{Ready}
+use Rattle.bounds.specs.Limits.{Near}
+use Rattle.ratios.specs.Ratio.{Positive}
+use Rattle.checked.specs.Order.{firstMargin, firstInversePlace}
+use Rattle.checker.specs.Work.{Work, workProblem, workResidual, workSlack, Workable}
+use Rattle.checker.proofs.Rows.{margin-is}
 
 cut-test : (a b : ℕ) → eqb (a - b) 0 ≡ leb a b
 cut-test a b = go (leb a b) refl
@@ -35,67 +36,60 @@ cut-test a b = go (leb a b) refl
     go true e = eq-eqb (a - b) 0 (omega (arith, leb-true a b e))
     go false e = ne-eqb (a - b) 0 (λ z. omega (arith, leb-false a b e))
 
-module _ (I : Input) where
-  -- the parts of the problem are the problem's
-  pub margin-is : (m : ℕ) → cutMargin (marginPart (I .n) (I .t) (I .matrix) (I .inverse) (I .weights)) m ≡ cutMargin (problem I) m
-  unfolding load defect
-  margin-is m = refl
-
-  pub residual-is : (k : ℕ) → residual (residualPart (I .n) (I .s) (I .matrix) (I .right) (I .guess)) k ≡ residual (problem I) k
-  unfolding residual
-  residual-is k = refl
-
-  pub column-is : (j k : ℕ) → columnResidual (I .n) (I .t) (I .matrix) (I .inverse) j k ≡ residual (columnOf (problem I) j) k
-  unfolding residual
-  column-is j k = refl
-
-  module _ (margins : List ℕ) (h : Holds 0 margins (I .n) (cutMargin (marginPart (I .n) (I .t) (I .matrix) (I .inverse) (I .weights)))) where
-    pub first-margin : first (I .n) (λ (m : ℕ). eqb (getD margins m 0) 0) ≡ firstMargin (problem I)
+module _ (W : Work) (ready : Workable W) where
+  -- ---- margins
+  module _ {rows : List ℕ} (raised : RowsOf rows (W .n) (W .n) (λ (i k : ℕ). at (W .inverse) (i * W .n + k * 1))) (margins : List ℕ)
+      (h : Begins 0 margins (W .n) (cutMargin (rowsPart (W .n) (W .t) (W .matrix) rows (W .weights)))) where
+    pub first-margin : first (W .n) (λ (m : ℕ). eqb (getD margins m 0) 0) ≡ firstMargin (workProblem W)
     first-margin =
-        first-ext (I .n) (λ (m : ℕ). eqb (getD margins m 0) 0) (marginFails (problem I))
-        (λ m l. rw (h .each m l, margin-is m) (cut-test (T (problem I) * problem I .w m) (load (problem I) m) ∙ sym (margin-test (problem I) m)))
+        first-ext (W .n) (λ (m : ℕ). eqb (getD margins m 0) 0) (marginFails (workProblem W))
+        (λ m l. rw (h .each m l, margin-is W raised m l) (cut-test (T (workProblem W) * workProblem W .w m) (load (workProblem W) m) ∙ sym (margin-test (workProblem W) m)))
 
-    pub positive : Ready I → I .n ≤ first (I .n) (λ (m : ℕ). eqb (getD margins m 0) 0) → Positive margins (I .n)
-    positive r past = record {
-      above = λ m l. above (getD margins m 0) (first-past (I .n) (λ (m : ℕ). eqb (getD margins m 0) 0) past m l);
-      most = λ m l. rw (h .each m l, margin-is m)
-          (omega (arith, mul-le-mul (power-size (I .t) (r .inverse-scale)) (r .weights .within .size m l)));
+    pub positive : W .n ≤ first (W .n) (λ (m : ℕ). eqb (getD margins m 0) 0) → Positive margins (W .n)
+    positive past = record {
+      above = λ m l. above (getD margins m 0) (first-past (W .n) (λ (m : ℕ). eqb (getD margins m 0) 0) past m l);
+      most = λ m l. rw (h .each m l, margin-is W raised m l)
+          (omega (arith, mul-le-mul (power-size (W .t) (ready .inverse-scale)) (ready .weights .within .size m l)));
     }
       where
         above : (x : ℕ) → eqb x 0 ≡ false → 0 < x
         above zero e = absurd (eqb-false 0 0 e refl)
         above (suc x) e = omega arith
 
-  module _ (residuals : List ℤ) (h : Holds (pos 0) residuals (I .n) (residual (residualPart (I .n) (I .s) (I .matrix) (I .right) (I .guess)))) where
-    pub first-residual : first (I .n) (λ (k : ℕ). tooLarge (at residuals k)) ≡ firstResidual (problem I)
-    first-residual =
-        first-ext (I .n) (λ (k : ℕ). tooLarge (at residuals k)) (λ (k : ℕ). exceeds (problem I) k (residual (problem I) k))
-        (λ k l. rw (h .each k l, residual-is k))
+  -- ---- residuals of the guess
+  module _ (residuals : List ℤ) (h : Begins (pos 0) residuals (W .n) (workResidual W)) where
+    abbrev refused : ℕ → Bool
+    refused i = aboveAllowed (at (W .allowed) i) (at residuals (0 + i))
 
-  module _ (columns : List ℤ) (h : Holds (pos 0) columns (I .n * I .n) (λ (i : ℕ). columnResidual (I .n) (I .t) (I .matrix) (I .inverse) (i / I .n) (i % I .n))) where
-    pub first-column : first (I .n * I .n) (λ (k : ℕ). tooLarge (at columns k)) ≡ firstInversePlace (problem I)
+    row-is : (i : ℕ) → i < W .n → refused i ≡ aboveAllowed (at (W .allowed) i) (workResidual W i)
+    row-is i l = let e : 0 + i ≡ i = omega arith in rw (e, h .each i l)
+
+    pub first-residual : first (W .n) refused ≡ first (W .n) (λ (k : ℕ). aboveAllowed (at (W .allowed) k) (workResidual W k))
+    first-residual = first-ext (W .n) refused (λ (k : ℕ). aboveAllowed (at (W .allowed) k) (workResidual W k)) row-is
+
+    pub near : W .n ≤ first (W .n) refused → Near (at residuals) (workSlack W) (W .n)
+    near past = record {
+      each = λ k l. rw (h .each k l) (ready .room k l (workResidual W k) (sym (row-is k l) ∙ first-past (W .n) refused past k l));
+    }
+
+  -- ---- residuals of the columns, of which 2^25 is allowed in every row
+  module _ (columns limits : List ℤ) (h : Begins (pos 0) columns (W .n * W .n) (λ (i : ℕ). columnResidual (W .n) (W .t) (W .matrix) (W .inverse) (i / W .n) (i % W .n)))
+      (all : (k : ℕ) → k < 32 → at limits k ≡ pos allowedResidual) where
+    abbrev column-refused : ℕ → Bool
+    column-refused i = aboveAllowed (at limits (i % W .n)) (at columns i)
+
+    here : (i : ℕ) → at limits (i % W .n) ≡ pos allowedResidual
+    here i = all (i % W .n) (omega (arith, mod-lt i (ready .some), ready .few))
+
+    place-is : (i : ℕ) → i < W .n * W .n → column-refused i ≡ exceeds (columnOf (workProblem W) (i / W .n)) (i % W .n)
+    place-is i l = rw (here i, h .each i l) (sym (exceeds-before (columnOf (workProblem W) (i / W .n)) (i % W .n) ∙ unfold residual in refl))
+
+    pub first-column : first (W .n * W .n) column-refused ≡ firstInversePlace (workProblem W)
     first-column =
-        first-ext (I .n * I .n) (λ (k : ℕ). tooLarge (at columns k))
-        (λ (i : ℕ). exceeds (problem I) (i % I .n) (residual (columnOf (problem I) (i / I .n)) (i % I .n)))
-        (λ i l. rw (h .each i l, column-is (i / I .n) (i % I .n)))
+        first-ext (W .n * W .n) column-refused (λ (i : ℕ). exceeds (columnOf (workProblem W) (i / W .n)) (i % W .n)) place-is
 
--- residuals of which none is too large
-pub near : (residuals : List ℤ) (n : ℕ) → n ≤ length residuals → n ≤ first n (λ (k : ℕ). tooLarge (at residuals k)) → Numbers residuals n (2 ^ 25)
-near residuals n long past = record {
-  long = long;
-  within = record { size = λ k l. ltb-false (2 ^ 25) (natAbs (at residuals k)) (first-past n (λ (k : ℕ). tooLarge (at residuals k)) past k l) };
-}
-
-pub record NoPlace (n m k i : ℕ) : Type 0 where
-  pub margin : n ≤ m
-  pub residual : n ≤ k
-  pub column : n * n ≤ i
-
-pub accepted-places : (n m k i : ℕ) → verdict (reckoned n m k i) ≡ [] → NoPlace n m k i
-accepted-places n m k i e = go (ltb m n) refl (ltb k n) refl (ltb i (n * n)) refl
-  where
-    go : (x : Bool) → ltb m n ≡ x → (y : Bool) → ltb k n ≡ y → (z : Bool) → ltb i (n * n) ≡ z → NoPlace n m k i
-    go true p y q z r = absurd (nothing-is-not (rw p at e))
-    go false p true q z r = absurd (nothing-is-not (rw (p, q) at e))
-    go false p false q true r = absurd (nothing-is-not (rw (p, q, r) at e))
-    go false p false q false r = record { margin = ltb-false m n p; residual = ltb-false k n q; column = ltb-false i (n * n) r }
+    pub near-columns : W .n * W .n ≤ length columns → W .n * W .n ≤ first (W .n * W .n) column-refused → ColumnList columns (W .n * W .n) allowedResidual
+    near-columns long past = record {
+      long = long;
+      within = record { size = λ k l. ltb-false allowedResidual (natAbs (at columns k)) (rw (here k) at (first-past (W .n * W .n) column-refused past k l)) };
+    }

@@ -5,7 +5,7 @@
 --   rounded-sound — the half itself
 use mathlib.Core.Path.{_≡_, sym, ap, _∙_}
 use mathlib.Core.Bool.{false}
-use Prim.Native.Nat.{ℕ, _*_, _^_, _≤_, _<_}
+use Prim.Native.Nat.{ℕ, _+_, _*_, _^_, _≤_, _<_}
 use native.Mathlib.Omega.{arith}
 use native.Mathlib.Nat.{mul-le-mul-right, le-of-mul-le-mul-left, pow-le-pow-right}
 use borrow.Author.Tests.{lt-leb, le-ltb}
@@ -17,8 +17,8 @@ use Rattle.integer.proofs.Sum.{abs-sum, sumℕ-mono, sumℕ-*, sumℕ-at, sum�
 use Rattle.linear.specs.Matrix.{Vec, Mat, column, apply, product, identity}
 use Rattle.linear.proofs.Product.{apply-matrices}
 use Rattle.enclosure.specs.Problem.{Problem, S, T, columnOf}
-use Rattle.enclosure.specs.Reckoning.{defect, load, residual, exceeds}
-use Rattle.enclosure.specs.Demand.{total, RoundedExact, Sound}
+use Rattle.enclosure.specs.Reckoning.{defect, load, residual, slack, allowedResidual, exceeds}
+use Rattle.enclosure.specs.Demand.{sumOfSizes, RoundedExact, Sound}
 use Rattle.enclosure.proofs.Demands.{error-solves}
 use Rattle.enclosure.proofs.Margin.{margin-test}
 
@@ -48,21 +48,21 @@ defect-half P H q o inv near m j lm lj =
     (sym (apply-matrices (P .n) (pos (T P)) (pos q) H (P .G) (column (P .A) j) m ∙ rw (inv m j lm lj) (simp ring)))
 
 -- a residual at most half of the total is small
-fits : (P : Problem) (z : ℤ) (k : ℕ) → P .t ≤ 20 → k < P .n → 2 * natAbs z ≤ 1 * sumℕ (P .n) (λ (j : ℕ). natAbs (P .A k j)) → total P < 2 * T P →
-    exceeds P k z ≡ false
-unfolding total
-fits P z k ht l h small =
-    le-ltb (2 ^ 25) (natAbs z)
+fits : (P : Problem) (k : ℕ) → P .t ≤ 20 → k < P .n → 2 * natAbs (residual P k) ≤ 1 * sumℕ (P .n) (λ (j : ℕ). natAbs (P .A k j)) → sumOfSizes P < 2 * T P →
+    exceeds P k ≡ false
+unfolding sumOfSizes exceeds
+fits P k ht l h small =
+    le-ltb allowedResidual (natAbs (residual P k) + slack P k)
     (omega (arith, sumℕ-at (P .n) (λ (i : ℕ). sumℕ (P .n) (λ (j : ℕ). natAbs (P .A i j))) k l, pow-le-pow-right {n = 2} (omega arith) {i = P .t} {j = 20} ht))
 
 pub rounded-sound : (P : Problem) (N : Vec) (q : ℕ) (H : Mat) (q′ : ℕ) → P .t ≤ 20 → RoundedExact P N q H q′ → Sound P
 rounded-sound P N q H q′ ht x = record {
   margins = λ m l. margin-test P m ∙ lt-leb (T P * P .w m) (load P m) (light m l);
-  residuals = λ k l. fits P (residual P k) k ht l
+  residuals = λ k l. fits P k ht l
       (residual-half P N q 1 (x .solution .positive) (x .solution .solves) (λ j lj. omega (arith, x .near-solution j lj)) k l) (x .small);
-  columns = λ j lj k l. fits P (residual (columnOf P j) k) k ht l
+  columns = λ j lj k l. fits (columnOf P j) k ht l
       (residual-half (columnOf P j) (column H j) q′ 1 (x .inverse .inverse .positive) (unfold product in λ k lk. x .inverse .inverse .right k j lk lj)
-      (λ i li. omega (arith, x .near-inverse i j li lj)) k l) (x .small);
+      (λ i li. omega (arith, x .near-inverse i j li lj)) k l) (unfold sumOfSizes in x .small);
 }
   where
     light : (m : ℕ) → m < P .n → load P m < T P * P .w m
@@ -70,4 +70,4 @@ rounded-sound P N q H q′ ht x = record {
         let d : ℕ → ℕ = λ j. natAbs (defect P m j) * P .w j in
         let s = sumℕ-mono (P .n) (λ (j : ℕ). d j * 2) (λ (j : ℕ). sumℕ (P .n) (λ (k : ℕ). natAbs (P .A k j)))
         (λ j l. rw (x .weights j l) (omega (arith, defect-half P H q′ (x .inverse .inverse .positive) (x .inverse .left) (x .near-inverse) m j lm l))) in
-        rw (x .weights m lm) (unfold load total in omega (arith, s, sumℕ-* (P .n) 2 d, sumℕ-swap (P .n) (P .n) (λ (k j : ℕ). natAbs (P .A k j)), x .small))
+        rw (x .weights m lm) (unfold load sumOfSizes in omega (arith, s, sumℕ-* (P .n) 2 d, sumℕ-swap (P .n) (P .n) (λ (k j : ℕ). natAbs (P .A k j)), x .small))

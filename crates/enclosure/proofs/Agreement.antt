@@ -1,14 +1,16 @@
 -- The reckoning uses only the first n numbers of each list: problems that agree on them have the same margins, residuals and limits.
---   margin-same, residual-same, bound-same — of row m, k and i; for a column of the inverse they are used with its problem
-use mathlib.Core.Path.{_≡_, ap, ap₂}
-use Prim.Native.Nat.{ℕ, _*_, _^_, _<_}
+--   load-same, margin-same, residual-same, exceeds-same, bound-same — of row m, m, k, k and i; for a column of the inverse they are used with its problem
+use mathlib.Core.Path.{_≡_, refl, ap, ap₂}
+use Prim.Native.Nat.{ℕ, _+_, _*_, _^_, _<_}
+use lib.Dec.{ltb}
 use lib.IntN.{ℤ, pos, natAbs, _-ℤ_, _*ℤ_}
 use Rattle.integer.specs.Quotient.{ceilDiv}
 use Rattle.integer.proofs.Search.{largest-ext}
 use Rattle.integer.proofs.Sum.{sum-ext, sumℕ-ext}
 use Rattle.linear.specs.Matrix.{Vec, Mat, column, apply, product, identity}
+use Rattle.linear.proofs.Slack.{slack-ext}
 use Rattle.enclosure.specs.Problem.{Problem}
-use Rattle.enclosure.specs.Reckoning.{defect, load, margin, residual, image, sizes, boundFrom, bound}
+use Rattle.enclosure.specs.Reckoning.{defect, load, margin, residual, slack, allowedResidual, exceeds, sizesWith, boundFrom, boundWith, bound}
 
 apply-same : (n : ℕ) (A B : Mat) (u v : Vec) (k : ℕ) → ((j : ℕ) → j < n → A k j ≡ B k j) → ((j : ℕ) → j < n → u j ≡ v j) → apply n A u k ≡ apply n B v k
 unfolding apply
@@ -27,19 +29,30 @@ module _ (n s t : ℕ) (A A′ : Mat) (b b′ X X′ : Vec) (G G′ : Mat) (w w�
   defect-same m j lm lj =
       ap (λ (z : ℤ). pos (2 ^ t) *ℤ identity m j -ℤ z) (apply-same n G G′ (column A j) (column A′ j) m (λ k l. hG m k lm l) (λ k l. hA k j l lj))
 
+  pub load-same : (m : ℕ) → m < n → load P m ≡ load Q m
+  unfolding load
+  load-same m l =
+      sumℕ-ext n (λ (j : ℕ). natAbs (defect P m j) * w j) (λ (j : ℕ). natAbs (defect Q m j) * w′ j) (λ j lj. rw (defect-same m j l lj, hw j lj))
+
   pub margin-same : (m : ℕ) → m < n → margin P m ≡ margin Q m
-  unfolding margin load
-  margin-same m l =
-      ap₂ (λ (x y : ℕ). pos (2 ^ t * x) -ℤ pos y) (hw m l)
-      (sumℕ-ext n (λ (j : ℕ). natAbs (defect P m j) * w j) (λ (j : ℕ). natAbs (defect Q m j) * w′ j) (λ j lj. rw (defect-same m j l lj, hw j lj)))
+  unfolding margin
+  margin-same m l = ap₂ (λ (x y : ℕ). pos (2 ^ t * x) -ℤ pos y) (hw m l) (load-same m l)
 
   pub residual-same : (k : ℕ) → k < n → residual P k ≡ residual Q k
   unfolding residual
   residual-same k l = ap₂ (λ (x y : ℤ). pos (2 ^ s) *ℤ x -ℤ y) (hb k l) (apply-same n A A′ X X′ k (λ j lj. hA k j l lj) hX)
 
+  pub exceeds-same : (k : ℕ) → k < n → exceeds P k ≡ exceeds Q k
+  unfolding exceeds
+  exceeds-same k l = ap (λ (z : ℤ). ltb allowedResidual (natAbs z + slack P k)) (residual-same k l)
+
+  sizes-same : (m : ℕ) → m < n → sizesWith P (residual P) (slack P) m ≡ sizesWith Q (residual Q) (slack Q) m
+  unfolding sizesWith
+  sizes-same m l = slack-ext n G G′ (residual P) (residual Q) (slack P) (slack Q) m (λ k lk. hG m k l lk) residual-same (λ k lk. refl)
+
   pub bound-same : (i : ℕ) → i < n → bound P i ≡ bound Q i
-  unfolding bound boundFrom sizes image
+  unfolding bound boundWith boundFrom
   bound-same i l =
-      largest-ext n (λ (m : ℕ). ceilDiv (w i * natAbs (apply n G (residual P) m)) (natAbs (margin P m)))
-      (λ (m : ℕ). ceilDiv (w′ i * natAbs (apply n G′ (residual Q) m)) (natAbs (margin Q m)))
-      (λ m lm. rw (hw i l, apply-same n G G′ (residual P) (residual Q) m (λ k lk. hG m k lm lk) residual-same, margin-same m lm))
+      largest-ext n (λ (m : ℕ). ceilDiv (w i * sizesWith P (residual P) (slack P) m) (natAbs (margin P m)))
+      (λ (m : ℕ). ceilDiv (w′ i * sizesWith Q (residual Q) (slack Q) m) (natAbs (margin Q m)))
+      (λ m lm. rw (hw i l, sizes-same m lm, margin-same m lm))

@@ -6,7 +6,7 @@ use mathlib.Core.Path.{_≡_}
 use Prim.Native.Nat.{ℕ, _*_, _≤_, _<_}
 use native.Mathlib.Omega.{arith}
 use native.Mathlib.Nat.{le-trans, le-antisymm, mul-le-mul-left, mul-le-mul-right, le-of-mul-le-mul-right}
-use Rattle.integer.specs.Finite.{Steepest}
+use Rattle.integer.specs.Steepest.{Steepest}
 use Rattle.integer.specs.Quotient.{ceilDiv}
 use Rattle.integer.proofs.Rounding.{ceil-covers, ceil-least}
 use Rattle.integer.proofs.Search.{largest-at, largest-≤, largest-ext}
@@ -15,13 +15,12 @@ use Rattle.enclosure.specs.Reckoning.{boundFrom}
 module _ (n : ℕ) (sizes margins w : ℕ → ℕ) (i : ℕ) where
   pub bound-least : (E : ℕ) → ((m : ℕ) → m < n → 0 < margins m) → ((m : ℕ) → m < n → w i * sizes m ≤ E * margins m) → boundFrom n sizes margins w i ≤ E
   unfolding boundFrom
-  bound-least E h c = largest-≤ n (λ (k : ℕ). ceilDiv (w i * sizes k) (margins k)) E (λ m l. ceil-least (w i * sizes m) (margins m) E (h m l) (c m l))
+  bound-least E h c = largest-≤ n _ E (λ m l. ceil-least _ _ E (h m l) (omega (arith, c m l)))
 
   pub bound-covers : (m : ℕ) → m < n → 0 < margins m → w i * sizes m ≤ boundFrom n sizes margins w i * margins m
   unfolding boundFrom
   bound-covers m l h =
-      le-trans (ceil-covers (w i * sizes m) (margins m) h)
-      (mul-le-mul-right (margins m) (largest-at n (λ (k : ℕ). ceilDiv (w i * sizes k) (margins k)) m l))
+      le-trans (ceil-covers (w i * sizes m) (margins m) h) (mul-le-mul-right (margins m) (largest-at n _ m l))
 
 ratio : (w p g P G C : ℕ) → p * G ≤ P * g → w * P ≤ C * G → 0 < G → w * p ≤ C * g
 ratio w p g P G C h k o =

@@ -16,9 +16,11 @@ use Rattle.integer.proofs.Sum.{sumℕ-ext, sumℕ-*}
 use Rattle.linear.specs.Matrix.{apply}
 use Rattle.linear.proofs.Product.{apply-sub, apply-scale}
 use Rattle.enclosure.specs.Problem.{Problem, S, T}
-use Rattle.enclosure.specs.Reckoning.{defect, load, margin, residual, image, sizes, bound}
+use Rattle.enclosure.specs.Reckoning.{defect, load, margin, residual, bound}
 use Rattle.enclosure.specs.Demand.{Margins}
-use Rattle.enclosure.specs.Schroeder.{start, next, Condition29, Steep}
+use Rattle.enclosure.specs.Schroeder.{image, u0, u1, Condition29, Steep}
+use Rattle.enclosure.specs.Before.{sizes01}
+use Rattle.enclosure.proofs.Before.{bound-before}
 use Rattle.enclosure.proofs.Bounds.{bound-at}
 use Rattle.enclosure.proofs.Enclosure.{apply-defect}
 use Rattle.enclosure.proofs.Margin.{margin-sum, margin-above}
@@ -26,8 +28,8 @@ use Rattle.enclosure.proofs.Margin.{margin-sum, margin-above}
 swap : (d x y : ℤ) → d +ℤ x -ℤ (d +ℤ y) ≡ negℤ (y -ℤ x)
 swap d x y = by-zero (simp ring (simp moves (simp ring₀)))
 
-pub start-next : (P : Problem) (i : ℕ) → i < P .n → natAbs (start P i -ℤ next P i) ≡ natAbs (image P i)
-unfolding start next image residual
+pub start-next : (P : Problem) (i : ℕ) → i < P .n → natAbs (u0 P i -ℤ u1 P i) ≡ natAbs (image P i)
+unfolding u0 u1 image residual
 start-next P i l =
     let d : ℤ = apply (P .n) (defect P) (P .X) i in
     let x : ℤ = apply (P .n) (P .G) (apply (P .n) (P .A) (P .X)) i in
@@ -44,7 +46,7 @@ module _ (P : Problem) (hm : Margins P) where
   condition k x = record { holds = at-row }
     where
       at-row : (i : ℕ) → i < P .n →
-          natAbs (margin P k) * natAbs (start P i -ℤ next P i) + sumℕ (P .n) (λ (j : ℕ). natAbs (defect P i j) * (P .w j * natAbs (image P k)))
+          natAbs (margin P k) * natAbs (u0 P i -ℤ u1 P i) + sumℕ (P .n) (λ (j : ℕ). natAbs (defect P i j) * (P .w j * natAbs (image P k)))
           ≤ T P * (P .w i * natAbs (image P k))
       at-row i l =
           let p : ℕ = natAbs (image P k) in
@@ -54,5 +56,5 @@ module _ (P : Problem) (hm : Margins P) where
           rw (start-next P i l, e) (unfold load in omega (arith, x .most i l, ap (λ (y : ℕ). y * p) (margin-sum P i (hm i l))))
 
   pub bound-is-v : (k : ℕ) → Steep P k → (i : ℕ) → bound P i ≡ ceilDiv (P .w i * natAbs (image P k)) (natAbs (margin P k))
-  unfolding bound sizes
-  bound-is-v k x i = bound-at (P .n) (sizes P) (λ (m : ℕ). natAbs (margin P m)) (P .w) i k (λ m l. margin-above P m (hm m l)) x
+  bound-is-v k x i =
+      bound-before P i ∙ bound-at (P .n) (sizes01 P) (λ (m : ℕ). natAbs (margin P m)) (P .w) i k (λ m l. margin-above P m (hm m l)) x

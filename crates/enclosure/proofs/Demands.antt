@@ -1,6 +1,7 @@
 -- The first half of demand 3: where every margin is above 0 and every weight at least 1, the limits enclose.
 --   error-solves — A·(S·N − q·X) = q·r for an exact solution N / q
---   solution, inverse, kernel — the three parts
+--   within — an error e whose A·e is within a slack of q·r is within q times the limits of that residual and slack
+--   solution, kernel — two of the three parts
 --   encloses — together, for the limits of the reckoning;  encloses-as — limits that agree on the first n places enclose alike
 use mathlib.Core.Path.{_≡_, refl, _∙_}
 use Prim.Native.Nat.{ℕ, _*_, _≤_, _<_}
@@ -13,7 +14,7 @@ use Rattle.integer.proofs.Sum.{sumℕ-*}
 use Rattle.linear.specs.Matrix.{Vec, column, apply, product}
 use Rattle.linear.proofs.Product.{apply-vectors, apply-scale}
 use Rattle.enclosure.specs.Problem.{Problem, S, columnOf}
-use Rattle.enclosure.specs.Reckoning.{load, margin, residual, image, sizes, bound, inverseBound, defect}
+use Rattle.enclosure.specs.Reckoning.{load, margin, residual, slack, sizesWith, boundWith, bound, inverseBound, defect}
 use Rattle.enclosure.specs.Demand.{Encloses, Margins}
 use Rattle.enclosure.proofs.Margin.{margin-above}
 use Rattle.enclosure.proofs.Bounds.{bound-covers}
@@ -32,20 +33,25 @@ none : (n : ℕ) (f : ℕ → ℕ) → sumℕ n (λ (j : ℕ). f j * 0) ≡ 0
 none n f = sumℕ-* n 0 f ∙ omega arith
 
 module _ (P : Problem) (hw : (i : ℕ) → i < P .n → 1 ≤ P .w i) (hm : Margins P) where
+  -- with any residual and slack that the error meets
+  pub within : (q : ℕ) (e r : Vec) (σ : ℕ → ℕ) → ((k : ℕ) → k < P .n → natAbs (apply (P .n) (P .A) e k -ℤ pos q *ℤ r k) ≤ q * σ k) →
+      (i : ℕ) → i < P .n → natAbs (e i) ≤ q * boundWith P r σ i
+  unfolding boundWith
+  within q e r σ h =
+      enclosed P q e r σ h hw hm (boundWith P r σ)
+      (λ i m li lm. bound-covers (P .n) (sizesWith P r σ) (λ (m : ℕ). natAbs (margin P m)) (P .w) i m lm (margin-above P m (hm m lm)))
+
   pub solution : (N : Vec) (q : ℕ) → ((k : ℕ) → k < P .n → apply (P .n) (P .A) N k ≡ pos q *ℤ P .b k) →
       (i : ℕ) → i < P .n → natAbs (pos (S P) *ℤ N i -ℤ pos q *ℤ P .X i) ≤ q * bound P i
-  unfolding bound sizes image
+  unfolding bound
   solution N q h =
-      enclosed P q (λ i. pos (S P) *ℤ N i -ℤ pos q *ℤ P .X i) (residual P) (λ k. 0)
-      (λ k l. exact _ _ q (error-solves P q N h k l)) hw hm (bound P)
-      (λ i m li lm. rw (none (P .n) (λ (j : ℕ). natAbs (P .G m j)))
-      (omega (arith, bound-covers (P .n) (sizes P) (λ (m : ℕ). natAbs (margin P m)) (P .w) i m lm (margin-above P m (hm m lm)))))
+      within q (λ i. pos (S P) *ℤ N i -ℤ pos q *ℤ P .X i) (residual P) (slack P) (λ k l. exact _ _ q (error-solves P q N h k l))
 
   pub kernel : (N : Vec) → ((k : ℕ) → k < P .n → apply (P .n) (P .A) N k ≡ pos 0) → (i : ℕ) → i < P .n → N i ≡ pos 0
   kernel N h i l =
       abs-zero (N i)
       (enclosed P 1 N (λ k. pos 0) (λ k. 0) (λ k lk. exact _ _ 1 (h k lk)) hw hm (λ i. 0)
-      (λ i m li lm. rw (zero-image m, none (P .n) (λ (j : ℕ). natAbs (P .G m j))) (omega arith)) i l)
+      (λ i m li lm. unfold sizesWith in rw (zero-image m, none (P .n) (λ (j : ℕ). natAbs (P .G m j))) (omega arith)) i l)
     where
       zero-image : (m : ℕ) → apply (P .n) (P .G) (λ (k : ℕ). pos 0) m ≡ pos 0
       zero-image m = apply-scale (P .n) (P .G) (pos 0) (λ (k : ℕ). pos 0) m ∙ zero-* (apply (P .n) (P .G) (λ (k : ℕ). pos 0) m)

@@ -6,7 +6,7 @@ use native.Mathlib.Omega.{arith}
 use lib.Dec.{lit<, lit≤}
 use Rattle.integer.specs.Finite.{sum, sumℕ}
 use Rattle.linear.specs.Matrix.{apply, product, identity}
-use Rattle.enclosure.specs.Demand.{RoundedExact, Sound, Encloses, total}
+use Rattle.enclosure.specs.Demand.{RoundedExact, Sound, Encloses, sumOfSizes}
 use Rattle.enclosure.specs.Example.{file, exact, exactInverse}
 use Rattle.enclosure.specs.Reckoning.{bound, inverseBound}
 use Rattle.enclosure.proofs.Acceptance.{rounded-sound}
@@ -24,7 +24,7 @@ each₂ Q a b c d (suc zero) j l = each (Q 1) c d j
 each₂ Q a b c d (suc (suc i)) j l = absurd (omega arith)
 
 pub file-rounded : RoundedExact file exact 11 exactInverse 11
-unfolding apply product identity sum sumℕ total
+unfolding apply product identity sum sumℕ sumOfSizes
 file-rounded = record {
   solution = record { positive = lit≤ tt; solves = each _ refl refl };
   inverse = record {

@@ -1,8 +1,10 @@
 pub mod Margin
 pub mod Bounds
+pub mod Before
 pub mod Enclosure
 pub mod Demands
 pub mod Acceptance
 pub mod Condition
 pub mod Instance
 pub mod Agreement
+pub mod Largest

@@ -1,6 +1,6 @@
 -- The system and its steps (document 01), as index functions of which only the first n numbers count.
---   Problem — n equations A·x = b, the guess X (the approximate solution) in steps of 1/S, the inverse G (the approximate inverse) in steps of 1/T,
---     and a weight w for each row
+--   Problem — n equations A·x = b, the guess X (the approximate solution) in steps of 1/S, the inverse G (the approximate inverse) in
+--     steps of 1/T, and a weight w for each row
 --   S, T    — the steps in one unit, 2^s and 2^t
 --   columnOf P j — the problem of column j of the inverse: column j of G as guess, T for S, unit column j as right side
 --   problemOf    — the problem that lists hold, row after row

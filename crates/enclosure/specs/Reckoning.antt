@@ -4,14 +4,18 @@
 --   margin P m  — g_m = T·w_m − load, a whole number with its sign
 --   marginFails P m — that margin is 0 or less (refusal 5)
 --   residual P  — r = S·b − A·X;  residual (columnOf P j) is that of the inverse's column j
---   tooLarge z  — a residual above 2^25 = 33,554,432 in size;  exceeds P k z — the residual z of row k is refused (6 and 7)
---   image P     — p = G·r
---   sizes P m   — what w_i is multiplied by in the limits: |p_m|
+--   slack P     — what may be missing in the size of a residual, row by row: nothing in 01
+-- What comes after the residual, for any residual r and any slack σ:
+--   allowedResidual — 2^25 = 33,554,432
+--   exceedsWith r σ k — the residual of row k with its slack is above 2^25 in size (6 and 7)
+--   sizesWith P r σ m — what w_i is multiplied by in the limits: |p_m| for p = G·r, and the sum over j of |G_mj|·σ_j
 --   boundFrom n sizes margins w i — the largest over all rows m of w_i·sizes_m / margins_m, each rounded up to a whole number
---   bound P i   — limit i, in solution steps; the size of a margin is the margin, since every margin is above 0 wherever a limit is written
+--   boundWith P r σ i — limit i; the size of a margin is the margin, since every margin is above 0 wherever a limit is written
+-- and of the problem's own:
+--   exceeds P k, sizes P m, bound P i — the limit in solution steps
 --   inverseBound P i j — the limit of row i, column j of the inverse, in inverse steps
 use mathlib.Core.Bool.{Bool}
-use Prim.Native.Nat.{ℕ, _*_, _^_}
+use Prim.Native.Nat.{ℕ, _+_, _*_, _^_}
 use lib.Dec.{ltb}
 use lib.IntN.{ℤ, pos, natAbs, _-ℤ_, _*ℤ_}
 use lib.Signed.{leZ}
@@ -35,23 +39,34 @@ marginFails P m = leZ (margin P m) (pos 0)
 unfoldable pub residual : Problem → Vec
 residual P k = pos (S P) *ℤ P .b k -ℤ apply (P .n) (P .A) (P .X) k
 
-abbrev pub tooLarge : ℤ → Bool
-tooLarge z = ltb (2 ^ 25) (natAbs z)
+abbrev pub slack : Problem → ℕ → ℕ
+slack P k = 0
 
-abbrev pub exceeds : Problem → ℕ → ℤ → Bool
-exceeds P k z = tooLarge z
+-- ---- from a residual and a slack
+abbrev pub allowedResidual : ℕ
+allowedResidual = 2 ^ 25
 
-unfoldable pub image : Problem → Vec
-image P = apply (P .n) (P .G) (residual P)
+abbrev pub exceedsWith : Vec → (ℕ → ℕ) → ℕ → Bool
+exceedsWith r σ k = ltb allowedResidual (natAbs (r k) + σ k)
 
-unfoldable pub sizes : Problem → ℕ → ℕ
-sizes P m = natAbs (image P m)
+unfoldable pub sizesWith : Problem → Vec → (ℕ → ℕ) → ℕ → ℕ
+sizesWith P r σ m = natAbs (apply (P .n) (P .G) r m) + sumℕ (P .n) (λ (j : ℕ). natAbs (P .G m j) * σ j)
 
 unfoldable pub boundFrom : ℕ → (ℕ → ℕ) → (ℕ → ℕ) → (ℕ → ℕ) → ℕ → ℕ
 boundFrom n sizes margins w i = largest n (λ (m : ℕ). ceilDiv (w i * sizes m) (margins m))
 
+unfoldable pub boundWith : Problem → Vec → (ℕ → ℕ) → ℕ → ℕ
+boundWith P r σ = boundFrom (P .n) (sizesWith P r σ) (λ (m : ℕ). natAbs (margin P m)) (P .w)
+
+-- ---- the problem's own
+unfoldable pub exceeds : Problem → ℕ → Bool
+exceeds P = exceedsWith (residual P) (slack P)
+
+unfoldable pub sizes : Problem → ℕ → ℕ
+sizes P = sizesWith P (residual P) (slack P)
+
 unfoldable pub bound : Problem → ℕ → ℕ
-bound P = boundFrom (P .n) (sizes P) (λ (m : ℕ). natAbs (margin P m)) (P .w)
+bound P = boundWith P (residual P) (slack P)
 
 abbrev pub inverseBound : Problem → ℕ → ℕ → ℕ
 inverseBound P i j = bound (columnOf P j) i

@@ -1,4 +1,1 @@
-pub mod Lines
 pub mod Turns
-pub mod FirstBytes
-pub mod Whole

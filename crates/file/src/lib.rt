@@ -2,8 +2,7 @@
 ghost use mathlib.Core.Path.{_≡_};
 ghost use Prim.Native.Nat.{_+_, _≤_};
 ghost use lib.ListN.{length, drop};
-ghost use Rattle.items.specs.Lists.{lists};
-ghost use Rattle.file.specs.Lines.{lineLength};
+ghost use Rattle.line_runs.specs.Length.{lineLength};
 ghost use Rattle.file.specs.Read.{ReadAs};
 use loader::Loader;
 use rules::Outcome;
@@ -23,38 +22,53 @@ fn line_end(file: &[u8], at: usize) -> usize
     i
 }
 
-// What comes of a file's lines: the first refusal and the number of its line, from 1, or acceptance of all lines; and the loader then.
-pub struct Read {
-    pub loader: Loader,
+// What comes of a file's lines: the first refusal and the number of its line, from 1, or acceptance of all lines; the loader then, and its lists.
+pub struct Collected {
     pub outcome: Outcome,
     pub line: u64,
+    pub loader: Loader,
+    pub matrix: [i64; 1024],
+    pub right: [i64; 32],
+    pub guess: [i64; 32],
+    pub inverse: [i64; 1024],
+    pub weights: [i64; 32],
 }
 
-// Every line up to the first refusal, at a new loader, with the lists that their numbers go into.
-pub fn read_file(
-    file: &[u8],
-    matrix: &mut [i64],
-    right: &mut [i64],
-    guess: &mut [i64],
-    inverse: &mut [i64],
-    weights: &mut [i64],
-) -> Read
-    ensures { λ r. ⌜ ReadAs (now (file .entry)) (lists (now (matrix .entry)) (now (right .entry)) (now (guess .entry)) (now (inverse .entry)) (now (weights .entry))) r (lists (now (matrix .exit)) (now (right .exit)) (now (guess .exit)) (now (inverse .exit)) (now (weights .exit))) ⌝ }
+// Every line up to the first refusal, at a new loader with lists of zeros.
+pub fn read_file(file: &[u8]) -> Collected
+    ensures { λ r. ⌜ ReadAs (now (file .entry)) r ⌝ }
 {
+    let mut matrix = [0i64; 1024];
+    let mut right = [0i64; 32];
+    let mut guess = [0i64; 32];
+    let mut inverse = [0i64; 1024];
+    let mut weights = [0i64; 32];
     let mut loader = Loader::new();
     let mut line: u64 = 0;
     let mut at = 0;
     while at < file.len() {
         let end = line_end(file, at);
-        let taken = loader.take(&file[at..end], matrix, right, guess, inverse, weights);
+        let taken = loader.take(
+            &file[at..end],
+            &mut matrix,
+            &mut right,
+            &mut guess,
+            &mut inverse,
+            &mut weights,
+        );
         line += 1;
         let outcome = taken.outcome;
         match outcome {
             Outcome::Refused(refusal) => {
-                return Read {
-                    loader,
+                return Collected {
                     outcome: Outcome::Refused(refusal),
                     line,
+                    loader,
+                    matrix,
+                    right,
+                    guess,
+                    inverse,
+                    weights,
                 };
             }
             Outcome::Accepted => {}
@@ -63,9 +77,14 @@ pub fn read_file(
         loader = next;
         at = end + 1;
     }
-    Read {
-        loader,
+    Collected {
         outcome: Outcome::Accepted,
         line,
+        loader,
+        matrix,
+        right,
+        guess,
+        inverse,
+        weights,
     }
 }

@@ -8,7 +8,7 @@ use native.Mathlib.Omega.{arith}
 use native.Mathlib.Decide.{decLe}
 use native.Mathlib.Nat.{mul-le-mul-right, le-of-mul-le-mul-right}
 use native.Mathlib.Numerals.{add-one}
-use Rattle.integer.specs.Finite.{Steepest}
+use Rattle.integer.specs.Steepest.{Steepest}
 use Rattle.integer.proofs.Search.{upto}
 
 carry : (a b c x y z : ℕ) → a * y ≤ b * x → b * z ≤ c * y → 0 < y → a * z ≤ c * x

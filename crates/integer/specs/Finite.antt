@@ -1,12 +1,11 @@
--- Finite sums, the largest value, the largest quotient and the first place, over index functions (ℕ → ..), by recursion on the count.
+-- Finite sums, the largest value and the first place, over index functions (ℕ → ..), by recursion on the count.
 --   sum n f     — f 0 + f 1 + .. + f (n − 1), in ℤ
 --   sumℕ n f    — the same in ℕ
 --   largest n f — the largest of f 0, .., f (n − 1); 0 where n is 0
---   Steepest n u v k — k is a place below n where u / v is largest
 --   firstOr     — the first place below n + 1, from the first below n and whether the test holds at n
 --   first n f   — the lowest place below n where f is true; n where there is none
 use mathlib.Core.Bool.{Bool, cond}
-use Prim.Native.Nat.{ℕ, zero, suc, _+_, _*_, _≤_, _<_, max}
+use Prim.Native.Nat.{ℕ, zero, suc, _+_, max}
 use lib.Dec.{ltb}
 use lib.IntN.{ℤ, pos, _+ℤ_}
 
@@ -21,11 +20,6 @@ sumℕ (suc n) f = sumℕ n f + f n
 unfoldable pub largest : ℕ → (ℕ → ℕ) → ℕ
 largest zero f = 0
 largest (suc n) f = max (largest n f) (f n)
-
--- the quotients are compared by products
-pub record Steepest (n : ℕ) (u v : ℕ → ℕ) (k : ℕ) : Type 0 where
-  pub below : k < n
-  pub most : (m : ℕ) → m < n → u m * v k ≤ u k * v m
 
 abbrev pub firstOr : ℕ → ℕ → Bool → ℕ
 firstOr found n here = cond (ltb found n) found (cond here n (n + 1))

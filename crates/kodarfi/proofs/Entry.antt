@@ -6,9 +6,9 @@ use Prim.Native.Nat.{ℕ}
 use lib.IntN.{ℤ}
 use Rattle.rules.specs.Refusal.{numberOf, valuesOf}
 use Rattle.rules.specs.declared.Refusal.{Refusal}
-use Rattle.listing.specs.Register.{said, RegisteredAs}
-use Rattle.listing.specs.declared.Registered.{Registered}
-use Rattle.listing.specs.declared.Registered.the-variants.{Entry, Refused}
+use Rattle.entry.specs.Register.{saidEntry, RegisteredAs}
+use Rattle.entry.specs.declared.Registered.{Registered}
+use Rattle.entry.specs.declared.Registered.the-variants.{Entry, Refused}
 use Rattle.kodarfi.specs.Exported.{EntryExported}
 use Rattle.kodarfi.specs.Told.{Told}
 
@@ -27,8 +27,8 @@ module _ {x : ℤ} {e s : ℕ} {r : Registered} (g : RegisteredAs x e s r) (v₀
     answer = r;
     registered = g;
     told = rw q t;
-    value-is = rw q (p ∙ ap (valueIn v₀) (sym q ∙ g .entry (ap said q)));
-    bound-is = rw q (ap boundIn (sym q ∙ g .entry (ap said q)));
+    value-is = rw q (p ∙ ap (valueIn v₀) (sym q ∙ g .entry (ap saidEntry q)));
+    bound-is = rw q (ap boundIn (sym q ∙ g .entry (ap saidEntry q)));
   }
 
   pub refusal-exported : {f : Refusal} {number : ℕ} {places : List ℕ} → r ≡ Refused f → Told (numberOf f ∷ valuesOf f) number places → EntryExported x e s v₀ b₀ number places v₀ b₀

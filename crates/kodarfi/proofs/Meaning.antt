@@ -20,11 +20,11 @@ use Rattle.rules.specs.declared.Refusal.the-variants.{TooLong, NoForm, OutOfRan
 use Rattle.rules.proofs.Verdicts.{accepted-new, accepted-old}
 use Rattle.enclosure.specs.Reckoning.{bound, inverseBound}
 use Rattle.enclosure.specs.Demand.{Encloses, RoundedExact}
-use Rattle.checker.specs.Input.{Input, problem, short, inRanges}
-use Rattle.checker.specs.Order.{answer}
-use Rattle.report.specs.Entry.{entryValue, entryBound}
-use Rattle.judged.specs.Judged.{reportedOf}
-use Rattle.listing.specs.Register as entry
+use Rattle.checked.specs.Input.{Input, problem, short, inRanges}
+use Rattle.checked.specs.Order.{answer}
+use Rattle.entry.specs.Entry.{entryValue, entryBound}
+use Rattle.file_check.specs.Judged.{reportedOf}
+use Rattle.entry.specs.Register as entry
 use Rattle.listing.specs.Listing.{problemIn, Complete, answerOf}
 use Rattle.listing.proofs.Demand.{file-reported, file-encloses, exact-accepted}
 use Rattle.listing.proofs.Answers.{answer-zero}
@@ -71,12 +71,12 @@ module _ {file old : List ℕ} {number : ℕ} {places new : List ℕ} {written :
   exact-reported c N q H q′ h = x .told .number-is ∙ ap (λ (l : List ℕ). getD l 0 0) (exact-accepted file c N q H q′ h)
 
 module _ {x : ℤ} {e s : ℕ} {v₀ : ℤ} {b₀ number : ℕ} {places : List ℕ} {v : ℤ} {b : ℕ} (y : EntryExported x e s v₀ b₀ number places v b) where
-  pub entry-zero : entry.inRanges x e s ≡ true → (number ≡ 0) × ((v ≡ entryValue s x) × (b ≡ entryBound s e))
+  pub entry-zero : entry.canEnter x e s ≡ true → (number ≡ 0) × ((v ≡ entryValue s x) × (b ≡ entryBound s e))
   entry-zero h =
-      let q : entry.said (y .answer) ≡ [] = y .registered .says ∙ rw h in
+      let q : entry.saidEntry (y .answer) ≡ [] = y .registered .says ∙ rw h in
       (rw q at (y .told .number-is), (y .value-is ∙ accepted-new _ _ q, y .bound-is ∙ accepted-new _ _ q))
 
-  pub entry-three : entry.inRanges x e s ≡ false → (number ≡ 3) × ((v ≡ v₀) × (b ≡ b₀))
+  pub entry-three : entry.canEnter x e s ≡ false → (number ≡ 3) × ((v ≡ v₀) × (b ≡ b₀))
   entry-three h =
-      let q : entry.said (y .answer) ≡ 3 ∷ [] = y .registered .says ∙ rw h in
+      let q : entry.saidEntry (y .answer) ≡ 3 ∷ [] = y .registered .says ∙ rw h in
       (rw q at (y .told .number-is), (y .value-is ∙ accepted-old _ _ q, y .bound-is ∙ accepted-old _ _ q))

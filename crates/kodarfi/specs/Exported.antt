@@ -2,8 +2,8 @@
 --   CheckExported   — the contract of `kodarfi_check`: its result and its places are the number and the values of an outcome that `Checked`,
 --                     the contract of `checker::check`, holds of, with the two limit lists as there
 --   ListingExported — the contract of `kodarfi_listing`: the number and the values of the line of the refusal, 0 where the file is accepted; the listing and
---                     its length as `Listed`, the contract of `listing::listing`, has them
---   EntryExported   — the contract of `kodarfi_entry`: the number of an answer that `RegisteredAs`, the contract of `listing::register_entry`, holds of;
+--                     its length as `ListedAs`, the contract of `listing::listing`, has them
+--   EntryExported   — the contract of `kodarfi_entry`: the number of an answer that `RegisteredAs`, the contract of `entry::register_entry`, holds of;
 --                     V and its limit where it is an entry, and both as before where it is refused
 use mathlib.Core.List.{List}
 use mathlib.Core.Path.{_≡_}
@@ -12,13 +12,13 @@ use lib.IntN.{ℤ}
 use Rattle.rules.specs.Order.{accepted}
 use Rattle.rules.specs.Refusal.{said}
 use Rattle.rules.specs.declared.Outcome.{Outcome}
-use Rattle.checker.specs.Input.{Input}
-use Rattle.checker.specs.Checked.{Checked}
-use Rattle.report.specs.Entry.{entryValue, entryBound}
-use Rattle.listing.specs.Listing.{answerOf, Listed}
-use Rattle.listing.specs.Register.{RegisteredAs}
-use Rattle.listing.specs.Register as entry
-use Rattle.listing.specs.declared.Registered.{Registered}
+use Rattle.checked.specs.Input.{Input}
+use Rattle.checked.specs.Checked.{Checked}
+use Rattle.entry.specs.Entry.{entryValue, entryBound}
+use Rattle.listing.specs.Listing.{answerOf, ListedAs}
+use Rattle.entry.specs.Register.{RegisteredAs}
+use Rattle.entry.specs.Register as entry
+use Rattle.entry.specs.declared.Registered.{Registered}
 use Rattle.kodarfi.specs.Told.{Told}
 
 pub record CheckExported (I : Input) (number : ℕ) (places E L : List ℕ) : Type 0 where
@@ -28,11 +28,11 @@ pub record CheckExported (I : Input) (number : ℕ) (places E L : List ℕ) : Ty
 
 pub record ListingExported (file old : List ℕ) (number : ℕ) (places new : List ℕ) (written : ℕ) : Type 0 where
   pub told : Told (answerOf file) number places
-  pub listed : Listed file old new written
+  pub listed : ListedAs file old new written
 
 pub record EntryExported (x : ℤ) (e s : ℕ) (oldValue : ℤ) (oldBound number : ℕ) (places : List ℕ) (value : ℤ) (bound : ℕ) : Type 0 where
   pub answer : Registered
   pub registered : RegisteredAs x e s answer
-  pub told : Told (entry.said answer) number places
-  pub value-is : value ≡ accepted (entry.said answer) (entryValue s x) oldValue
-  pub bound-is : bound ≡ accepted (entry.said answer) (entryBound s e) oldBound
+  pub told : Told (entry.saidEntry answer) number places
+  pub value-is : value ≡ accepted (entry.saidEntry answer) (entryValue s x) oldValue
+  pub bound-is : bound ≡ accepted (entry.saidEntry answer) (entryBound s e) oldBound

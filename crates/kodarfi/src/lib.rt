@@ -2,14 +2,14 @@
 ghost use mathlib.Core.Path.{_≡_};
 ghost use mathlib.Core.List.{[], _∷_};
 ghost use Rattle.rules.specs.Refusal.{said};
-ghost use Rattle.checker.specs.Input.{input};
+ghost use Rattle.checked.specs.Input.{input};
 ghost use Rattle.refusal.specs.Refused.{printed};
 ghost use Rattle.refusal.specs.Reply.{replyOf};
 ghost use Rattle.kodarfi.specs.Exported.{CheckExported, ListingExported, EntryExported};
 use checker::check;
-use listing::Registered;
+use entry::Registered;
+use entry::register_entry;
 use listing::answer_file;
-use listing::register_entry;
 use refusal::Reply;
 use refusal::no_refusal;
 use refusal::reply_of;
@@ -80,7 +80,7 @@ pub extern "C" fn kodarfi_listing(
     tell(answer.reply, places)
 }
 
-// The register entry of a guess and its limit: `listing::register_entry`.
+// The register entry of a guess and its limit: `entry::register_entry`.
 #[no_mangle]
 pub extern "C" fn kodarfi_entry(
     guess: i64,

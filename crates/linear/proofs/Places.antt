@@ -1,19 +1,21 @@
 -- Places in slices: where the numbers of a row, of a column and of a list stand, and that a dot product of them is the product's number.
 --   place, square — the place of row i and column j is below n · n, at most 1,024 where n is at most 32
---   row-reach, column-reach, list-reach — a row, a column, a list of n numbers, as `dot` asks for them
+--   place-column, place-row — column after column: place j·n + k stands for column j and row k
+--   row-reach, column-reach, list-reach — a row and a column of n·n numbers, a list of n numbers, as `dot` asks for them;  square-list — a matrix list as such a list
+--   wider         — a larger bound
 --   dot-row       — row k of A times a list is (A·v) k;  dot-column — row m of G times column j of A is (G·A) m j
 --   dot-term, dot-fits, dot-size — a term is at most 2 ^ 56 in size, a partial sum with its next term fits an i64, the size of a whole sum
-use mathlib.Core.Path.{_≡_}
+use mathlib.Core.Path.{_≡_, _∙_}
 use mathlib.Core.List.{List}
-use Prim.Native.Nat.{ℕ, _+_, _*_, _<_, _≤_, _^_}
+use Prim.Native.Nat.{ℕ, _+_, _*_, _/_, _%_, _<_, _≤_, _^_}
 use native.Mathlib.Omega.{arith}
-use native.Mathlib.Nat.{mul-le-mul, le-refl}
+use native.Mathlib.Nat.{mul-le-mul, le-refl, le-trans, div-eq-of-lt-le, mul-add-mod-self-right, mod-eq-of-lt}
 use lib.IntN.{ℤ, natAbs, _*ℤ_}
-use lib.ListN.{length}
 use Rattle.integer.proofs.Absolute.{abs-*}
 use Rattle.integer.proofs.Sum.{sum-ext, abs-sum≤}
 use Rattle.linear.specs.Matrix.{apply, product}
-use Rattle.linear.specs.Slice.{at, vectorOf, matrixOf, dotOf, Within, Reach}
+use Rattle.linear.specs.Slice.{at, vectorOf, matrixOf}
+use Rattle.linear.specs.Reach.{dotOf, Reach, ColumnList, MatrixList}
 
 pub place : {i j n : ℕ} → i < n → j < n → i * n + j < n * n
 place {i} {j} {n} p q = omega (arith, mul-le-mul p (le-refl n))
@@ -21,25 +23,38 @@ place {i} {j} {n} p q = omega (arith, mul-le-mul p (le-refl n))
 pub square : {n : ℕ} → n ≤ 32 → n * n ≤ 1024
 square p = mul-le-mul p p
 
+pub place-column : (j k n : ℕ) → k < n → (j * n + k) / n ≡ j
+place-column j k n l = div-eq-of-lt-le n (omega arith) (omega arith)
+
+pub place-row : (j k n : ℕ) → k < n → (j * n + k) % n ≡ k
+place-row j k n l = mul-add-mod-self-right j n k ∙ mod-eq-of-lt l
+
 -- ---- rows, columns, lists
-module _ (xs : List ℤ) (n b : ℕ) (long : n * n ≤ length xs) (w : Within xs (n * n) b) where
+module _ {xs : List ℤ} {n b : ℕ} (q : ColumnList xs (n * n) b) where
   pub row-reach : (i : ℕ) → i < n → Reach xs (i * n) 1 n b
   row-reach i l = record {
-    inside = λ j h. omega (arith, place l h);
-    size = λ j h. let e : i * n + j * 1 ≡ i * n + j = omega arith in rw e (w .size (i * n + j) (place l h));
+    inside = λ j h. omega (arith, place l h, q .long);
+    size = λ j h. let e : i * n + j * 1 ≡ i * n + j = omega arith in rw e (q .within .size (i * n + j) (place l h));
   }
 
   pub column-reach : (j : ℕ) → j < n → Reach xs j n n b
   column-reach j l = record {
-    inside = λ i h. omega (arith, place h l);
-    size = λ i h. let e : j + i * n ≡ i * n + j = omega arith in rw e (w .size (i * n + j) (place h l));
+    inside = λ i h. omega (arith, place h l, q .long);
+    size = λ i h. let e : j + i * n ≡ i * n + j = omega arith in rw e (q .within .size (i * n + j) (place h l));
   }
 
-pub list-reach : (xs : List ℤ) (n b : ℕ) → n ≤ length xs → Within xs n b → Reach xs 0 1 n b
-list-reach xs n b long w = record {
-  inside = λ j h. omega arith;
-  size = λ j h. let e : 0 + j * 1 ≡ j = omega arith in rw e (w .size j h);
+pub square-list : {xs : List ℤ} {n : ℕ} → MatrixList xs n → ColumnList xs (n * n) (2 ^ 20)
+square-list q = record { long = q .long; within = q .within }
+
+pub list-reach : {xs : List ℤ} {n b : ℕ} → ColumnList xs n b → Reach xs 0 1 n b
+list-reach q = record {
+  inside = λ j h. omega (arith, q .long);
+  size = λ j h. let e : 0 + j * 1 ≡ j = omega arith in rw e (q .within .size j h);
 }
+
+-- a wider bound
+pub wider : {xs : List ℤ} {p s n a : ℕ} (b : ℕ) → a ≤ b → Reach xs p s n a → Reach xs p s n b
+wider b l h = record { inside = h .inside; size = λ j q. le-trans (h .size j q) l }
 
 -- ---- the dot products of the reckoning
 module _ (n : ℕ) where

@@ -3,7 +3,8 @@ ghost use mathlib.Core.Path.{_≡_};
 ghost use Prim.Native.Nat.{_+_, _*_, _<_, _≤_, _^_};
 ghost use lib.IntN.{natAbs, _+ℤ_, _*ℤ_};
 ghost use lib.ListN.{length};
-ghost use Rattle.linear.specs.Slice.{at, dotOf, Reach};
+ghost use Rattle.linear.specs.Slice.{at};
+ghost use Rattle.linear.specs.Reach.{dotOf, Reach};
 use integer::add_product;
 
 // One term: sum + a[p] * x[q].

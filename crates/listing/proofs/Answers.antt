@@ -10,19 +10,21 @@ use lib.Dec.{ltb}
 use lib.ListN.{getD}
 use Rattle.rules.specs.Order.{verdict, accepted}
 use Rattle.enclosure.specs.Problem.{Problem}
-use Rattle.checker.specs.Order.{firstMargin, firstResidual, firstInversePlace, reckoned, checkedOf}
-use Rattle.items.specs.Lists.{Lists, short}
+use Rattle.checked.specs.Order.{firstMargin, firstResidual, firstInversePlace, reckoned, checkedOf}
+use Rattle.lent_lists.specs.Lists.{shortLists}
 use Rattle.loader.specs.declared.Loader.{Loader}
-use Rattle.loader.specs.Order.{Case, order, caseOf, answer}
-use Rattle.collected.specs.Run.{State, start, step, run}
-use Rattle.collected.proofs.Check.{run-long}
-use Rattle.progress.specs.Progress.{ended}
+use Rattle.loader_order.specs.Order.{LineCase, lineOrder}
+use Rattle.loader.specs.Answer.{caseOf, lineAnswer}
+use Rattle.line_runs.specs.Run.{State, fromNew, step}
+use Rattle.line_runs.proofs.Passing.{step-long}
+use Rattle.given_forms.specs.Progress.{ended}
 use Rattle.refusal.specs.Refused.{printed}
-use Rattle.file.specs.Lines.{linesOf}
-use Rattle.file.specs.Read.{Reading, readFrom, readingOf}
+use Rattle.line_runs.specs.Lines.{linesOf}
+use Rattle.line_runs.specs.Read.{Reading, readFrom, zeros, readingOf}
 use Rattle.listing.specs.Answers.{Alone, too-long, no-form, out-of-range, wrong-count, too-early, repeated, after-end, Answers, of-line, margin, residual, inverse-residual, missing, not-ended}
 use Rattle.listing.specs.Answers as answers
-use Rattle.listing.specs.Listing.{zeros, problemIn, orElse, answerOf}
+use Rattle.listing.specs.Listing.{problemIn, orElse, answerOf}
+use Rattle.listing.proofs.Entire.{zeros-long}
 
 -- ---- a line
 data LineSaid : List ℕ → Type 0 where
@@ -30,7 +32,7 @@ data LineSaid : List ℕ → Type 0 where
   alone : {k : ℕ} → Alone k → LineSaid (k ∷ [])
   lacking : (count : ℕ) → LineSaid (13 ∷ count ∷ [])
 
-line-said : (c : Case) → c .short ≡ false → LineSaid (verdict (order c))
+line-said : (c : LineCase) → c .short ≡ false → LineSaid (verdict (lineOrder c))
 line-said c h = rw h (go (c .ended) (c .long) (c .unspelled) (c .early) (c .misplaced) (c .outside) (c .miscounted) (c .repeated) (c .incomplete))
   where
     go : (b14 b1 b2 b11 b3 b3′ b4 b12 b13 : Bool) →
@@ -55,15 +57,11 @@ first-answers k u rest quiet h = h refl
 first-answers k u rest (alone a) h = of-line a (k + 1) (omega arith)
 first-answers k u rest (lacking count) h = missing count
 
-step-long : (u : State) (line : List ℕ) → answer (u .loader) (u .lists) line ≡ [] → short (u .lists) ≡ false → short (step u line .lists) ≡ false
-unfolding run
-step-long u line e h = run-long u (line ∷ []) (e, tt) h
-
-lines-answer : (k : ℕ) (u : State) (lines : List (List ℕ)) → short (u .lists) ≡ false → Answers (printedOf (readFrom k u lines))
-unfolding readFrom answer
+lines-answer : (k : ℕ) (u : State) (lines : List (List ℕ)) → shortLists (u .lists) ≡ false → Answers (printedOf (readFrom k u lines))
+unfolding readFrom lineAnswer
 lines-answer k u [] h = answers.accepted
 lines-answer k u (line ∷ lines) h =
-    first-answers {l = answer (u .loader) (u .lists) line} k u (readFrom (k + 1) (step u line) lines) (line-said (caseOf (u .loader) (u .lists) line) h)
+    first-answers {l = lineAnswer (u .loader) (u .lists) line} k u (readFrom (k + 1) (step u line) lines) (line-said (caseOf (u .loader) (u .lists) line) h)
     (λ e. lines-answer (k + 1) (step u line) lines (step-long u line e h))
 
 -- ---- the check
@@ -88,15 +86,11 @@ else-answers : (l m : List ℕ) → Answers l → Answers m → Answers (orElse 
 else-answers [] m x y = y
 else-answers (k ∷ vs) m x y = x
 
-zeros-long : short zeros ≡ false
-unfolding zeros
-zeros-long = refl
-
 pub file-answers : (file : List ℕ) → Answers (answerOf file)
 unfolding answerOf
 file-answers file =
-    else-answers (printedOf (readingOf file zeros)) _ (lines-answer 0 (start zeros) (linesOf file) zeros-long)
-    (later-answers (ended (readingOf file zeros .state .loader .stage)) (checkedOf (problemIn file)) (checked-answers (problemIn file)))
+    else-answers (printedOf (readingOf file)) _ (lines-answer 0 (fromNew zeros) (linesOf file) zeros-long)
+    (later-answers (ended (readingOf file .state .loader .stage)) (checkedOf (problemIn file)) (checked-answers (problemIn file)))
 
 alone-not-zero : {k : ℕ} → Alone k → k ≡ 0 → ⊥
 alone-not-zero too-long e = absurd (omega (arith, e))

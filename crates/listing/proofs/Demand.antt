@@ -13,16 +13,16 @@ use Rattle.enclosure.specs.Reckoning.{bound, inverseBound}
 use Rattle.enclosure.specs.Demand.{Encloses, RoundedExact}
 use Rattle.enclosure.proofs.Acceptance.{rounded-sound}
 use Rattle.enclosure.proofs.Demands.{encloses}
-use Rattle.checker.specs.Order.{checkedOf}
-use Rattle.checker.proofs.Contract.{sound-said, said-sound}
-use Rattle.collected.specs.Run.{forms}
-use Rattle.progress.specs.Progress.{ended}
+use Rattle.checked.specs.Order.{checkedOf}
+use Rattle.checked.proofs.Contract.{sound-said, said-sound}
+use Rattle.line_runs.specs.Run.{forms}
+use Rattle.given_forms.specs.Progress.{ended}
 use Rattle.refusal.specs.Refused.{printed}
-use Rattle.file.specs.Lines.{linesOf}
-use Rattle.file.specs.Read.{readingOf}
-use Rattle.judged.specs.Judged.{reportedOf}
-use Rattle.judged.proofs.Forms.{some, fine, heavy}
-use Rattle.listing.specs.Listing.{zeros, problemIn, orElse, Complete, answerOf, listingOf}
+use Rattle.line_runs.specs.Lines.{linesOf}
+use Rattle.line_runs.specs.Read.{readingOf}
+use Rattle.file_check.specs.Judged.{reportedOf}
+use Rattle.file_check.proofs.Forms.{some, fine, heavy}
+use Rattle.listing.specs.Listing.{problemIn, orElse, Complete, answerOf, listingOf}
 use Rattle.listing.proofs.Entire.{answer-judged, listing-from, from, inside}
 
 -- ---- nothing said, part by part
@@ -50,7 +50,7 @@ module _ (file : List ℕ) where
   pub accepted-parts : answerOf file ≡ [] → Accepted
   unfolding answerOf
   accepted-parts e =
-      let R = readingOf file zeros in
+      let R = readingOf file in
       let later = cond (ended (R .state .loader .stage)) (checkedOf (problemIn file)) (15 ∷ []) in
       let l = nothing-printed (R .line) (R .said) (nothing-first (printed (R .line) (R .said)) (printed 0 later) e) in
       let c = nothing-open (ended (R .state .loader .stage)) (checkedOf (problemIn file)) (nothing-printed 0 later (nothing-second (printed (R .line) (R .said)) (printed 0 later) e)) in
@@ -63,13 +63,13 @@ module _ (file : List ℕ) where
   file-encloses e =
       let a = accepted-parts e in
       let c = a .complete in
-      encloses (problemIn file) (heavy (readingOf file zeros .state) (forms (linesOf file)) (from file (c .lines) (c .end)) (inside file (c .lines) (c .end)))
+      encloses (problemIn file) (heavy (readingOf file .state) (forms (linesOf file)) (from file (c .lines) (c .end)) (inside file (c .lines) (c .end)))
       (said-sound (problemIn file) (a .quiet) .margins)
 
   pub exact-accepted : Complete file → (N : Vec) (q : ℕ) (H : Mat) (q′ : ℕ) → RoundedExact (problemIn file) N q H q′ → answerOf file ≡ []
   exact-accepted c N q H q′ x =
       let f = from file (c .lines) (c .end) in
       let r = inside file (c .lines) (c .end) in
-      let u = readingOf file zeros .state in
+      let u = readingOf file .state in
       let s = sound-said (problemIn file) (some u (forms (linesOf file)) f r) (rounded-sound (problemIn file) N q H q′ (fine u (forms (linesOf file)) f r) x) in
       answer-judged file (c .lines) (c .end) ∙ ap (printed 0) s

@@ -1,4 +1,3 @@
-pub mod Register
 pub mod Entire
 pub mod FirstBytes
 pub mod Answers

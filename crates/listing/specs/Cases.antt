@@ -1,19 +1,19 @@
 -- Cases a to l of document 01 ("Marked for proof"), one table; and its whole file with its listing.
---   Case  — cases a to k are rows of the check on lists; case l is a register entry
---   cases — the table;  holds — a case is what the definitions of the contracts give
+--   TableRow  — cases a to k are rows of the check on lists; case l is a register entry
+--   table — the table;  tableRowHolds — a case is what the definitions of the contracts give
 --   wholeFile, wholeListing — 01, "A whole file"
 use mathlib.Core.Bool.{Bool, true, _&&_}
 use mathlib.Core.List.{List, [], _∷_, _++_, map}
 use Prim.Native.Nat.{ℕ}
 use lib.Dec.{eqb}
 use lib.IntN.{ℤ, pos, negsuc}
-use Rattle.checker.specs.Cases as check
+use Rattle.checked.specs.Cases as check
 use Rattle.form.specs.Form.{bytes}
-use Rattle.report.specs.Entry.{entryValue}
+use Rattle.entry.specs.Entry.{entryValue}
 
-pub data Case : Type 0 where
-  checked : check.Row → Case
-  entry : (x : ℤ) (s : ℕ) (v : ℤ) → Case
+pub data TableRow : Type 0 where
+  checked : check.Row → TableRow
+  entry : (x : ℤ) (s : ℕ) (v : ℤ) → TableRow
 
 abbrev pub sameInteger : ℤ → ℤ → Bool
 sameInteger (pos a) (pos b) = eqb a b
@@ -21,20 +21,20 @@ sameInteger (pos a) (negsuc b) = eqb 0 1
 sameInteger (negsuc a) (pos b) = eqb 0 1
 sameInteger (negsuc a) (negsuc b) = eqb a b
 
-abbrev pub holds : Case → Bool
-holds (checked r) = check.holds r
-holds (entry x s v) = sameInteger (entryValue s x) v
+abbrev pub tableRowHolds : TableRow → Bool
+tableRowHolds (checked r) = check.rowHolds r
+tableRowHolds (entry x s v) = sameInteger (entryValue s x) v
 
 -- X = −24, s = 4: entry −2
-abbrev pub l : Case
+abbrev pub l : TableRow
 l = entry (negsuc 23) 4 (negsuc 1)
 
-abbrev pub cases : List Case
-cases = map (λ (r : check.Row). checked r) check.cases ++ (l ∷ [])
+abbrev pub table : List TableRow
+table = map (λ (r : check.Row). checked r) check.rows ++ (l ∷ [])
 
-abbrev pub allHold : List Case → Bool
-allHold [] = true
-allHold (c ∷ cs) = holds c && allHold cs
+abbrev pub tableHolds : List TableRow → Bool
+tableHolds [] = true
+tableHolds (c ∷ cs) = tableRowHolds c && tableHolds cs
 
 abbrev pub wholeFile : List ℕ
 wholeFile =

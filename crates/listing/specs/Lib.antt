@@ -1,4 +1,3 @@
-pub mod Register
 pub mod Listing
 pub mod Answers
 pub mod Cases

@@ -1,34 +1,28 @@
 -- The listing of a file (01: "A whole file" and the program): one line for the first refusal, or the report of the problem that its forms give.
---   zeros          — the program's own lists, long enough
 --   problemIn file — the problem that the file's forms give
 --   Complete file  — every line is accepted, and the last is an end
 --   answerOf file  — what is said of the file, in the numbers of the refusal's line: the first refusal of a line; 15, with 0, where the file stops before an end;
 --     else what is said of its problem. None where it is accepted. No complete file gives 3: its forms were tested
 --   listingOf file — that line, or the report
---   Listed         — the contract of `listing`: the bytes written are the listing, the others as before
+--   ListedAs         — the contract of `listing`: the bytes written are the listing, the others as before
 --   AnsweredAs     — the contract of `answer_file`: what is said, with the listing
 use mathlib.Core.Bool.{true, cond}
 use mathlib.Core.List.{List, [], _∷_}
 use mathlib.Core.Path.{_≡_}
 use Prim.Native.Nat.{ℕ, _≤_}
-use lib.IntN.{pos}
-use lib.ListN.{length, take, drop, replicate}
+use lib.ListN.{length, take, drop}
 use Rattle.enclosure.specs.Problem.{Problem}
-use Rattle.checker.specs.Order.{checkedOf}
-use Rattle.items.specs.Lists.{Lists, lists}
+use Rattle.checked.specs.Order.{checkedOf}
 use Rattle.rules.specs.Order.{accepted}
-use Rattle.progress.specs.Progress.{ended}
-use Rattle.collected.specs.Run.{forms}
+use Rattle.given_forms.specs.Progress.{ended}
+use Rattle.line_runs.specs.Run.{forms}
 use Rattle.refusal.specs.Refused.{printed}
 use Rattle.refusal.specs.Reply.{replyOf}
-use Rattle.refusal.specs.declared.Answer.{Answer}
-use Rattle.judged.specs.Judged.{reportedOf, lineOr}
-use Rattle.file.specs.Lines.{linesOf}
-use Rattle.file.specs.Read.{Reading, readingOf}
-use Rattle.judged.specs.Problem.{problemFrom}
-
-unfoldable pub zeros : Lists
-zeros = lists (replicate 1024 (pos 0)) (replicate 32 (pos 0)) (replicate 32 (pos 0)) (replicate 1024 (pos 0)) (replicate 32 (pos 0))
+use Rattle.refusal.specs.declared.FileAnswer.{FileAnswer}
+use Rattle.file_check.specs.Judged.{reportedOf, lineOr}
+use Rattle.line_runs.specs.Lines.{linesOf}
+use Rattle.line_runs.specs.Read.{Reading, readingOf}
+use Rattle.file_check.specs.Problem.{problemFrom}
 
 abbrev pub problemIn : List ℕ → Problem
 problemIn file = problemFrom (forms (linesOf file))
@@ -38,23 +32,23 @@ abbrev pub orElse : List ℕ → List ℕ → List ℕ
 orElse said rest = accepted said rest said
 
 pub record Complete (file : List ℕ) : Type 0 where
-  pub lines : readingOf file zeros .said ≡ []
-  pub end : ended (readingOf file zeros .state .loader .stage) ≡ true
+  pub lines : readingOf file .said ≡ []
+  pub end : ended (readingOf file .state .loader .stage) ≡ true
 
 unfoldable pub answerOf : List ℕ → List ℕ
 answerOf file =
-    let r = readingOf file zeros in
+    let r = readingOf file in
     orElse (printed (r .line) (r .said)) (printed 0 (cond (ended (r .state .loader .stage)) (checkedOf (problemIn file)) (15 ∷ [])))
 
 unfoldable pub listingOf : List ℕ → List ℕ
 listingOf file = lineOr (answerOf file) (reportedOf (problemIn file))
 
-pub record Listed (file old new : List ℕ) (count : ℕ) : Type 0 where
+pub record ListedAs (file old new : List ℕ) (count : ℕ) : Type 0 where
   pub size : count ≡ length (listingOf file)
   pub bytes : take count new ≡ listingOf file
   pub others : drop count new ≡ drop count old
   pub fits : count ≤ 32768
 
-pub record AnsweredAs (file old new : List ℕ) (r : Answer) : Type 0 where
+pub record AnsweredAs (file old new : List ℕ) (r : FileAnswer) : Type 0 where
   pub reply : r .reply ≡ replyOf (answerOf file)
-  pub listed : Listed file old new (r .length)
+  pub listed : ListedAs file old new (r .length)

@@ -8,25 +8,26 @@ use Prim.Native.Nat.{ℕ}
 use lib.Dec.{T}
 use Rattle.form.specs.Form.{Form}
 use Rattle.form.specs.Reading.{reading}
-use Rattle.items.specs.Item.{itemOf}
-use Rattle.items.specs.Lists.{Lists, short, putAll}
-use Rattle.progress.specs.Progress.{ended}
+use Rattle.form_values.specs.Item.{itemOf}
+use Rattle.lent_lists.specs.Lists.{Lists, shortLists}
+use Rattle.lent_lists.specs.Put.{putAll}
+use Rattle.given_forms.specs.Progress.{ended}
 use Rattle.loader.specs.declared.Loader.{Loader}
-use Rattle.loader.specs.Order.{caseOf, answer, ofForm}
+use Rattle.loader.specs.Answer.{caseOf, lineAnswer, ofForm}
 use Rattle.loader.specs.Taken.{after, loaderAfter, listsAfter}
-use Rattle.loader.proofs.Form.{Passed, passed}
+use Rattle.loader_order.proofs.Said.{Passed, passed}
 use Rattle.loader.proofs.Exact.{formCase, formSaid, answer-form}
 
 pub record Accepted (d : Loader) (l : Lists) (line : List ℕ) (f : Form) : Type 0 where
   pub reads : reading line ≡ some f
-  pub long : short l ≡ false
+  pub long : shortLists l ≡ false
   pub going : ended (d .stage) ≡ false
   pub fine : Passed (formCase d f)
   pub loader : loaderAfter d l line ≡ after d (itemOf f)
   pub lists : listsAfter d l line ≡ putAll (d .n) f l
 
-pub accepted-form : (d : Loader) (l : Lists) (line : List ℕ) → answer d l line ≡ [] → (f : Form) × Accepted d l line f
-unfolding answer loaderAfter listsAfter formSaid
+pub accepted-form : (d : Loader) (l : Lists) (line : List ℕ) → lineAnswer d l line ≡ [] → (f : Form) × Accepted d l line f
+unfolding lineAnswer loaderAfter listsAfter formSaid
 accepted-form d l line e = go (reading line) refl (h .unspelled)
   where
     h : Passed (caseOf d l line)

@@ -13,14 +13,14 @@ use Rattle.rules.specs.Range.{inRange, rangeOf, ranges}
 use Rattle.rules.specs.declared.Kind.{Kind}
 use Rattle.rules.specs.declared.Kind.the-variants.{Size, SolutionScale, InverseScale}
 use Rattle.rules.proofs.Ranges.{both, both-left, both-right, range-size, range-natural, sizeOf}
-use Rattle.items.specs.declared.Item.{Item}
-use Rattle.items.specs.declared.Item.the-variants.{Problem, Scale, Of, End}
-use Rattle.items.specs.declared.Part.{Part}
-use Rattle.progress.specs.Progress.{marked}
-use Rattle.progress.specs.declared.Stage.the-variants.{Sized, Scaled, Ended}
+use Rattle.form_values.specs.declared.Item.{Item}
+use Rattle.form_values.specs.declared.Item.the-variants.{Problem, Scale, Of, End}
+use Rattle.form_values.specs.declared.Part.{Part}
+use Rattle.given_forms.specs.Progress.{marked}
+use Rattle.given_forms.specs.declared.Stage.the-variants.{Sized, Scaled, Ended}
 use Rattle.loader.specs.declared.Loader.{Loader}
 use Rattle.loader.specs.Taken.{after}
-use Rattle.loader.specs.Capped.{fits}
+use Rattle.loader.specs.Decided.{fits}
 
 within : (z : ℤ) → z ≡ pos (natAbs z) → natAbs z ≤ 32 → leZ (pos 0) z && leZ z (pos 32) ≡ true
 within z e l = subst (λ (y : ℤ). leZ (pos 0) y && leZ y (pos 32) ≡ true) (sym e) (both (le-leb 0 (natAbs z) (omega arith)) (le-leb (natAbs z) 32 l))

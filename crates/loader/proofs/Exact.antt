@@ -2,7 +2,7 @@
 --   formCase, formSaid — the cases of a form that is read at a loader that has not ended, and what is said
 --   answer-form  — what is said of a line that is a form is what is said of the form
 --   said-capped  — and of its capped form
---   exact-loader, exact-lists — where nothing is said, both leave the same
+--   exact-loader, exact-lists — where nothing is said, both leave the same;  exact-room — and there is room for the form
 use mathlib.Core.Path.{_≡_, refl, ap, _∙_}
 use mathlib.Core.Bool.{Bool, true, false}
 use mathlib.Core.List.{List, []}
@@ -18,26 +18,30 @@ use Rattle.numeral.proofs.Cap.{cap-small}
 use Rattle.form.specs.Form.{Form, problem, scale, row, right, guess, inverse, weight, end}
 use Rattle.form.specs.Reading.{reading}
 use Rattle.line.specs.Line.{cappedForm, numbersIn}
-use Rattle.items.specs.Item.{itemOf, placed, outside, miscounted}
-use Rattle.items.specs.Lists.{Lists, short, putAll, putIn}
-use Rattle.items.specs.Capped.{itemIn, valuesIn, putWide, putAllIn}
-use Rattle.items.specs.declared.Item.{Item}
-use Rattle.items.specs.declared.Item.the-variants.{Of}
-use Rattle.items.specs.declared.Part.{Part}
-use Rattle.items.specs.declared.Part.the-variants.{Row, Right, Guess, Inverse, Weight}
-use Rattle.items.proofs.Capped.{placed-capped, outside-capped, miscounted-capped, item-exact, put-exact}
+use Rattle.form_values.specs.Item.{itemOf, placed, outside, miscounted}
+use Rattle.form_values.specs.Capped.{itemIn, valuesIn}
+use Rattle.form_values.specs.declared.Item.the-variants.{Of}
+use Rattle.form_values.specs.declared.Part.{Part}
+use Rattle.form_values.specs.declared.Part.the-variants.{Row, Right, Guess, Inverse, Weight}
+use Rattle.form_values.proofs.Capped.{placed-capped, outside-capped, miscounted-capped, item-exact}
+use Rattle.form_values.proofs.Between.{between}
+use Rattle.lent_lists.specs.Lists.{Lists, shortLists}
+use Rattle.lent_lists.specs.Put.{putAll}
+use Rattle.lent_lists.specs.Pasted.{Narrow, Rooms, pastedAll}
+use Rattle.lent_lists.proofs.Lists.{rooms}
+use Rattle.lent_lists.proofs.Exact.{all-exact}
+use Rattle.loader_order.specs.Order.{LineCase, lineOrder}
+use Rattle.loader_order.proofs.Said.{Passed, passed}
 use Rattle.loader.specs.declared.Loader.{Loader}
-use Rattle.progress.specs.declared.Stage.{Stage}
-use Rattle.progress.specs.Progress.{ended, early, misplaced, repeated, incomplete, missing}
-use Rattle.loader.specs.Order.{Case, order, answer}
+use Rattle.given_forms.specs.declared.Stage.{Stage}
+use Rattle.given_forms.specs.Progress.{ended, early, misplaced, repeated, incomplete, missing}
+use Rattle.loader.specs.Answer.{lineAnswer}
 use Rattle.loader.specs.Taken.{after}
-use Rattle.loader.specs.Capped.{saidIn}
-use Rattle.progress.proofs.Progress.{placed-of}
-use Rattle.items.proofs.Lists.{lists-≡}
-use Rattle.items.proofs.Put.{between}
-use Rattle.loader.proofs.Form.{Passed, passed, room-by}
+use Rattle.loader.specs.Decided.{saidIn}
+use Rattle.given_forms.proofs.Progress.{placed-of}
+use Rattle.loader.proofs.Form.{narrow-by}
 
-abbrev pub formCase : Loader → Form → Case
+abbrev pub formCase : Loader → Form → LineCase
 formCase d f = record {
   short = false;
   ended = false;
@@ -53,11 +57,11 @@ formCase d f = record {
 }
 
 unfoldable pub formSaid : Loader → Form → List ℕ
-formSaid d f = verdict (order (formCase d f))
+formSaid d f = verdict (lineOrder (formCase d f))
 
-pub answer-form : (d : Loader) (l : Lists) (line : List ℕ) (f : Form) → short l ≡ false → ended (d .stage) ≡ false → ltb 320 (length line) ≡ false → reading line ≡ some f
-    → answer d l line ≡ formSaid d f
-unfolding answer formSaid
+pub answer-form : (d : Loader) (l : Lists) (line : List ℕ) (f : Form) → shortLists l ≡ false → ended (d .stage) ≡ false → ltb 320 (length line) ≡ false → reading line ≡ some f
+    → lineAnswer d l line ≡ formSaid d f
+unfolding lineAnswer formSaid
 answer-form d l line f a b c e = rw (a, b, c, e)
 
 -- ---- the tests of the capped form
@@ -121,10 +125,12 @@ module _ (d : Loader) (f : Form) (small : d .n < capAt) (none : formSaid d f ≡
   pub exact-loader : after d (itemIn (cappedForm f)) ≡ after d (itemOf f)
   exact-loader = ap (after d) exact
 
-  exact-list : (p : Part) (k : List ℤ) → putWide p (d .n) (itemIn (cappedForm f)) (valuesIn (cappedForm f) (numbersIn f .values)) k ≡ putIn p (d .n) f k
-  exact-list p k =
-      ap (λ (x : Item). putWide p (d .n) x (valuesIn (cappedForm f) (numbersIn f .values)) k) exact
-      ∙ put-exact (d .n) 1024 f (room-by d (itemOf f) (holds .early) (holds .misplaced)) (holds .outside) (holds .miscounted) p k
+  narrow : Narrow (d .n) (itemOf f)
+  narrow = narrow-by d (itemOf f) (holds .early) (holds .misplaced)
 
-  pub exact-lists : (l : Lists) → putAllIn (d .n) (itemIn (cappedForm f)) (valuesIn (cappedForm f) (numbersIn f .values)) l ≡ putAll (d .n) f l
-  exact-lists l = lists-≡ (exact-list Row (l .matrix)) (exact-list Right (l .right)) (exact-list Guess (l .guess)) (exact-list Inverse (l .inverse)) (exact-list Weight (l .weights))
+  module _ (l : Lists) (enough : shortLists l ≡ false) where
+    pub exact-room : Rooms (d .n) (itemIn (cappedForm f)) l
+    exact-room = rw exact (rooms (d .n) (itemOf f) l enough narrow)
+
+    pub exact-lists : pastedAll (d .n) (itemIn (cappedForm f)) (valuesIn (cappedForm f) (numbersIn f .values)) l ≡ putAll (d .n) f l
+    exact-lists = rw exact (all-exact (d .n) f l enough narrow (holds .outside) (holds .miscounted))

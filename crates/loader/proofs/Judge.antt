@@ -5,11 +5,11 @@ use mathlib.Core.Bool.{Bool, true, false, cond}
 use mathlib.Core.List.{List, [], _∷_}
 use Prim.Native.Nat.{ℕ}
 use Rattle.line.specs.declared.CappedForm.{CappedForm}
-use Rattle.items.specs.Capped.{itemIn, outsideIn, miscountedIn}
-use Rattle.items.specs.declared.Item.{Item}
-use Rattle.progress.specs.Progress.{early, misplaced, repeated, incomplete, missing}
+use Rattle.form_values.specs.Capped.{itemIn, outsideIn, miscountedIn}
+use Rattle.form_values.specs.declared.Item.{Item}
+use Rattle.given_forms.specs.Progress.{early, misplaced, repeated, incomplete, missing}
 use Rattle.loader.specs.declared.Loader.{Loader}
-use Rattle.loader.specs.Capped.{saidIn}
+use Rattle.loader.specs.Decided.{saidIn}
 
 module _ (d : Loader) (m : CappedForm) (count : ℕ) (inside : Bool) {x : Item} (e : x ≡ itemIn m) where
   abbrev told : List ℕ

@@ -5,4 +5,3 @@ pub mod Exact
 pub mod Line
 pub mod Said
 pub mod Accepted
-pub mod Through

@@ -1,4 +1,3 @@
-pub mod Order
+pub mod Answer
 pub mod Taken
-pub mod Through
-pub mod Capped
+pub mod Decided

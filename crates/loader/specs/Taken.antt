@@ -13,15 +13,16 @@ use Rattle.rules.specs.Order.{accepted}
 use Rattle.rules.specs.Refusal.{said}
 use Rattle.form.specs.Form.{Form}
 use Rattle.form.specs.Reading.{reading}
-use Rattle.items.specs.Item.{itemOf}
-use Rattle.items.specs.Lists.{Lists, putAll}
-use Rattle.items.specs.declared.Item.{Item}
-use Rattle.items.specs.declared.Item.the-variants.{Problem, Scale, Of, End}
-use Rattle.progress.specs.Progress.{marked}
-use Rattle.progress.specs.declared.Stage.the-variants.{Start, Sized, Scaled, Ended}
+use Rattle.form_values.specs.Item.{itemOf}
+use Rattle.form_values.specs.declared.Item.{Item}
+use Rattle.form_values.specs.declared.Item.the-variants.{Problem, Scale, Of, End}
+use Rattle.lent_lists.specs.Lists.{Lists}
+use Rattle.lent_lists.specs.Put.{putAll}
+use Rattle.given_forms.specs.Progress.{marked}
+use Rattle.given_forms.specs.declared.Stage.the-variants.{Start, Sized, Scaled, Ended}
 use Rattle.loader.specs.declared.Loader.{Loader}
 use Rattle.loader.specs.declared.Taken.{Taken}
-use Rattle.loader.specs.Order.{answer, ofForm}
+use Rattle.loader.specs.Answer.{lineAnswer, ofForm}
 
 abbrev pub fresh : Loader
 fresh = record { n = 0; s = 0; t = 0; stage = Start; sets = replicate 5 0 }
@@ -33,12 +34,12 @@ after d (Of p i) = record { n = d .n; s = d .s; t = d .t; stage = d .stage; sets
 after d End = record { n = d .n; s = d .s; t = d .t; stage = Ended; sets = d .sets }
 
 unfoldable pub loaderAfter : Loader → Lists → List ℕ → Loader
-loaderAfter d l line = accepted (answer d l line) (ofForm (reading line) d (λ (f : Form). after d (itemOf f))) d
+loaderAfter d l line = accepted (lineAnswer d l line) (ofForm (reading line) d (λ (f : Form). after d (itemOf f))) d
 
 unfoldable pub listsAfter : Loader → Lists → List ℕ → Lists
-listsAfter d l line = accepted (answer d l line) (ofForm (reading line) l (λ (f : Form). putAll (d .n) f l)) l
+listsAfter d l line = accepted (lineAnswer d l line) (ofForm (reading line) l (λ (f : Form). putAll (d .n) f l)) l
 
 pub record TakenAs (d : Loader) (line : List ℕ) (l : Lists) (r : Taken) (l′ : Lists) : Type 0 where
-  pub says : said (r .outcome) ≡ answer d l line
+  pub says : said (r .outcome) ≡ lineAnswer d l line
   pub loader : r .loader ≡ loaderAfter d l line
   pub lists : l′ ≡ listsAfter d l line

@@ -1,18 +1,18 @@
 // The loader (01: desk): it collects the forms of a file, line by line.
 ghost use mathlib.Core.Path.{_≡_};
-ghost use mathlib.Core.Bool.{true, false};
-ghost use lib.ListN.{length};
+ghost use mathlib.Core.Bool.{true, cond};
+ghost use mathlib.Core.List.{[], _∷_};
 ghost use Rattle.rules.specs.Refusal.{said};
-ghost use Rattle.checker.specs.Input.{input};
-ghost use Rattle.items.specs.Lists.{lists, tooShort};
+ghost use Rattle.checked.specs.Input.{input};
+ghost use Rattle.lent_lists.specs.Lists.{lists};
+ghost use Rattle.loader_order.specs.Through.{CheckedThrough};
 ghost use Rattle.loader.specs.Taken.{fresh, after, TakenAs};
-ghost use Rattle.loader.specs.Through.{CheckedThrough};
-ghost use Rattle.loader.specs.Capped.{saidIn, fits, TakenIn};
+ghost use Rattle.loader.specs.Decided.{saidIn, fits, refusedBy, DecidedIn, DecidedAs};
 use form::Numbers;
-use items::Item;
+use form_values::Item;
+use given_forms::Stage;
 use line::Answer;
 use line::CappedForm;
-use progress::Stage;
 use rules::Outcome;
 use rules::Refusal;
 
@@ -29,6 +29,13 @@ pub struct Loader {
 pub struct Taken {
     pub loader: Loader,
     pub outcome: Outcome,
+}
+
+// What is decided of a line before anything is written: what is given back, and the form to write, which is one of no part where nothing is.
+pub struct Decided {
+    taken: Taken,
+    item: Item,
+    values: [i64; 32],
 }
 
 impl Loader {
@@ -60,29 +67,29 @@ impl Loader {
     }
 
     // What is said of a form: 11, 3, 4, 12 and 13, in this order.
-    fn judge(self, form: CappedForm, count: usize, inside: bool) -> Outcome
+    fn judge_form(self, form: CappedForm, count: usize, inside: bool) -> Outcome
         ensures { λ r. ⌜ said r ≡ saidIn self form count inside ⌝ }
     {
         let n = self.n;
         let stage = self.stage;
         let sets = self.sets;
-        let item = items::item_of(form);
-        if progress::is_early(stage, item) {
+        let item = form_values::item_of(form);
+        if given_forms::is_early(stage, item) {
             return Outcome::Refused(Refusal::TooEarly);
         }
-        if progress::is_misplaced(stage, n, item) {
+        if given_forms::is_misplaced(stage, n, item) {
             return Outcome::Refused(Refusal::OutOfRange);
         }
-        if items::is_outside(form, inside) {
+        if form_values::is_outside(form, inside) {
             return Outcome::Refused(Refusal::OutOfRange);
         }
-        if items::is_miscounted(form, count, n as usize) {
+        if form_values::is_miscounted(form, count, n as usize) {
             return Outcome::Refused(Refusal::WrongCount);
         }
-        if progress::is_repeated(stage, sets, item) {
+        if given_forms::is_repeated(stage, sets, item) {
             return Outcome::Refused(Refusal::Repeated);
         }
-        progress::judge_end(stage, n, sets, item)
+        given_forms::judge_end(stage, n, sets, item)
     }
 
     // The loader after an accepted form.
@@ -94,7 +101,7 @@ impl Loader {
         let stage = self.stage;
         match item {
             Item::Problem(n) => Loader {
-                n: items::natural(n),
+                n: form_values::natural(n),
                 s: self.s,
                 t: self.t,
                 stage: Stage::Sized,
@@ -102,8 +109,8 @@ impl Loader {
             },
             Item::Scale(s, t) => Loader {
                 n: self.n,
-                s: items::natural(s),
-                t: items::natural(t),
+                s: form_values::natural(s),
+                t: form_values::natural(t),
                 stage: Stage::Scaled,
                 sets: sets,
             },
@@ -112,7 +119,7 @@ impl Loader {
                 s: self.s,
                 t: self.t,
                 stage: stage,
-                sets: progress::with(sets, part, items::place_of(i)),
+                sets: given_forms::with(sets, part, form_values::place_of(i)),
             },
             Item::End => Loader {
                 n: self.n,
@@ -124,38 +131,68 @@ impl Loader {
         }
     }
 
-    // What a form leaves, the lists being long enough.
-    fn take_form(
-        self,
-        form: CappedForm,
-        numbers: Numbers,
-        matrix: &mut [i64],
-        right: &mut [i64],
-        guess: &mut [i64],
-        inverse: &mut [i64],
-        weights: &mut [i64],
-    ) -> Taken
-        requires { ⌜ tooShort (length (now matrix)) (length (now right)) (length (now guess)) (length (now inverse)) (length (now weights)) ≡ false ⌝ }
-        ensures { λ r. ⌜ TakenIn self form numbers (lists (now (matrix .entry)) (now (right .entry)) (now (guess .entry)) (now (inverse .entry)) (now (weights .entry))) r (lists (now (matrix .exit)) (now (right .exit)) (now (guess .exit)) (now (inverse .exit)) (now (weights .exit))) ⌝ }
+    // A refused line: the loader as it is, and nothing to write.
+    fn refused(self, refusal: Refusal) -> Decided
+        ensures { λ r. ⌜ r ≡ refusedBy self refusal ⌝ }
+    {
+        Decided {
+            taken: Taken {
+                loader: self,
+                outcome: Outcome::Refused(refusal),
+            },
+            item: Item::End,
+            values: [0; 32],
+        }
+    }
+
+    // What is decided of a form.
+    fn decide_form(self, form: CappedForm, numbers: Numbers) -> Decided
+        ensures { λ r. ⌜ DecidedIn self form numbers r ⌝ }
     {
         let count = numbers.count;
         let inside = numbers.inside;
         let listed = numbers.values;
-        let n = self.n as usize;
-        let outcome = self.judge(form, count, inside);
+        let item = form_values::item_of(form);
+        let values = form_values::values_of(form, listed);
+        let outcome = self.judge_form(form, count, inside);
         match outcome {
-            Outcome::Refused(refusal) => Taken {
-                loader: self,
-                outcome: Outcome::Refused(refusal),
+            Outcome::Refused(refusal) => Decided {
+                taken: Taken {
+                    loader: self,
+                    outcome: Outcome::Refused(refusal),
+                },
+                item: Item::End,
+                values,
             },
-            Outcome::Accepted => {
-                let item = items::item_of(form);
-                let values = items::values_of(form, listed);
-                items::write_all(item, values, n, matrix, right, guess, inverse, weights);
-                Taken {
+            Outcome::Accepted => Decided {
+                taken: Taken {
                     loader: self.advance(item),
                     outcome: Outcome::Accepted,
-                }
+                },
+                item,
+                values,
+            },
+        }
+    }
+
+    // What is decided of a line; short tells whether a lent list is too short.
+    fn decide(self, short: bool, line: &[u8]) -> Decided
+        ensures { λ r. ⌜ DecidedAs self short (now (line .entry)) r ⌝ }
+    {
+        if short {
+            return self.refused(Refusal::TooShort);
+        }
+        let stage = self.stage;
+        if given_forms::is_ended(stage) {
+            return self.refused(Refusal::AfterEnd);
+        }
+        let read = line::read_line(line);
+        let answer = read.answer;
+        match answer {
+            Answer::Refused(refusal) => self.refused(refusal),
+            Answer::Form(form) => {
+                let numbers = read.numbers;
+                self.decide_form(form, numbers)
             }
         }
     }
@@ -170,39 +207,27 @@ impl Loader {
         inverse: &mut [i64],
         weights: &mut [i64],
     ) -> Taken
-        ensures { λ r. ⌜ TakenAs self (now (line .entry)) (lists (now (matrix .entry)) (now (right .entry)) (now (guess .entry)) (now (inverse .entry)) (now (weights .entry))) r (lists (now (matrix .exit)) (now (right .exit)) (now (guess .exit)) (now (inverse .exit)) (now (weights .exit))) ⌝ }
+        ensures { λ r. ⌜
+            TakenAs self (now (line .entry))
+            (lists (now (matrix .entry)) (now (right .entry)) (now (guess .entry)) (now (inverse .entry)) (now (weights .entry)))
+            r
+            (lists (now (matrix .exit)) (now (right .exit)) (now (guess .exit)) (now (inverse .exit)) (now (weights .exit)))
+            ⌝ }
     {
-        if items::is_short(
+        let short = lent_lists::is_short(
             matrix.len(),
             right.len(),
             guess.len(),
             inverse.len(),
             weights.len(),
-        ) {
-            return Taken {
-                loader: self,
-                outcome: Outcome::Refused(Refusal::TooShort),
-            };
-        }
-        let stage = self.stage;
-        if progress::is_ended(stage) {
-            return Taken {
-                loader: self,
-                outcome: Outcome::Refused(Refusal::AfterEnd),
-            };
-        }
-        let read = line::read_line(line);
-        let answer = read.answer;
-        match answer {
-            Answer::Refused(refusal) => Taken {
-                loader: self,
-                outcome: Outcome::Refused(refusal),
-            },
-            Answer::Form(form) => {
-                let numbers = read.numbers;
-                self.take_form(form, numbers, matrix, right, guess, inverse, weights)
-            }
-        }
+        );
+        let decided = self.decide(short, line);
+        let item = decided.item;
+        let values = decided.values;
+        let n = self.n as usize;
+        lent_lists::write_all(item, values, n, matrix, right, guess, inverse, weights);
+        let taken = decided.taken;
+        taken
     }
 
     // The check of what was collected, on the lists as they are now. After an accepted end it is the check on lists.
@@ -218,8 +243,17 @@ impl Loader {
     ) -> Outcome
         ensures { λ r. ⌜ CheckedThrough (self .stage) (input (self .n) (self .s) (self .t) (now (matrix .entry)) (now (right .entry)) (now (guess .entry)) (now (inverse .entry)) (now (weights .entry)) (now («solution_bounds» .entry)) (now («inverse_bounds» .entry))) r (now («solution_bounds» .exit)) (now («inverse_bounds» .exit)) ⌝ }
     {
+        let short = admission::is_short(
+            matrix.len(),
+            right.len(),
+            guess.len(),
+            inverse.len(),
+            weights.len(),
+            solution_bounds.len(),
+            inverse_bounds.len(),
+        );
         let stage = self.stage;
-        if progress::is_ended(stage) {
+        if given_forms::is_ended(stage) {
             return checker::check(
                 self.n,
                 self.s,
@@ -233,17 +267,16 @@ impl Loader {
                 inverse_bounds,
             );
         }
-        if checker::is_short(
-            matrix.len(),
-            right.len(),
-            guess.len(),
-            inverse.len(),
-            weights.len(),
-            solution_bounds.len(),
-            inverse_bounds.len(),
-        ) {
-            return Outcome::Refused(Refusal::TooShort);
-        }
-        Outcome::Refused(Refusal::NotEnded)
+        not_ended(short)
     }
+}
+
+// What is said of a check before an accepted end; short tells whether a lent list is too short.
+fn not_ended(short: bool) -> Outcome
+    ensures { λ r. ⌜ said r ≡ cond short (8 ∷ []) (15 ∷ []) ⌝ }
+{
+    if short {
+        return Outcome::Refused(Refusal::TooShort);
+    }
+    Outcome::Refused(Refusal::NotEnded)
 }

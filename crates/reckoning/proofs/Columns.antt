@@ -1,27 +1,24 @@
 -- Column after column: place i stands for column i / n and row i mod n.
---   place-column, place-row — of place j·n + k
 --   columns-more — with one column more stored, the array holds that many more numbers
+--   first-after — the first place of two parts;  first-no-column, first-column — of no column, and of one column more;  first-most — it is at most n
 --   columns-at, columns-else — what a matrix stored column by column, row after row, holds at its places and past them
-use mathlib.Core.Path.{_≡_, refl, sym, ap, ap₂, _∙_}
+use mathlib.Core.Path.{_≡_, refl, sym, ap, ap₂, subst, _∙_}
+use mathlib.Core.Bool.{Bool, true, false}
 use mathlib.Core.List.{List}
 use Prim.Native.Nat.{ℕ, zero, suc, _+_, _*_, _-_, _/_, _%_, _≤_, _<_}
 use native.Mathlib.Omega.{arith}
 use native.Mathlib.Decide.{decLe, ℕ-discrete}
-use native.Mathlib.Nat.{div-eq-of-lt-le, mul-add-mod-self-right, mod-eq-of-lt}
+use borrow.Author.Tests.{lt-ltb, le-ltb}
 use lib.ListN.{length, getD}
-use Rattle.linear.proofs.Places.{place}
-use Rattle.reckoning.specs.Arrays.{Holds, stored, storedColumns}
+use Rattle.integer.specs.Finite.{first}
+use Rattle.integer.proofs.Search.{Searched, found, nowhere, searched, first-none, first-is, first-never, first-ext}
+use Rattle.linear.proofs.Places.{place, place-column, place-row}
+use Rattle.reckoning.specs.Arrays.{Begins, firstFrom, stored, storedColumns}
 use Rattle.reckoning.proofs.Filled.{stored-at, stored-else, columns-length}
 
-pub place-column : (j k n : ℕ) → k < n → (j * n + k) / n ≡ j
-place-column j k n l = div-eq-of-lt-le n (omega arith) (omega arith)
-
-pub place-row : (j k n : ℕ) → k < n → (j * n + k) % n ≡ k
-place-row j k n l = mul-add-mod-self-right j n k ∙ mod-eq-of-lt l
-
 module _ {A : Type 0} (d : A) (n : ℕ) (f : ℕ → ℕ → A) where
-  pub columns-more : {xs ys : List A} (j : ℕ) → Holds d xs (j * n) (λ (i : ℕ). f (i / n) (i % n)) → (j + 1) * n ≤ length xs →
-      ys ≡ stored xs (j * n) 1 (f j) n → Holds d ys ((j + 1) * n) (λ (i : ℕ). f (i / n) (i % n))
+  pub columns-more : {xs ys : List A} (j : ℕ) → Begins d xs (j * n) (λ (i : ℕ). f (i / n) (i % n)) → (j + 1) * n ≤ length xs →
+      ys ≡ stored xs (j * n) 1 (f j) n → Begins d ys ((j + 1) * n) (λ (i : ℕ). f (i / n) (i % n))
   columns-more {xs} {ys} j h long e = record { each = λ i l. rw e (go i l (decLe (j * n) i)) }
     where
       go : (i : ℕ) → i < (j + 1) * n → Dec (j * n ≤ i) → getD (stored xs (j * n) 1 (f j) n) i d ≡ f (i / n) (i % n)
@@ -66,3 +63,36 @@ module _ {A : Type 0} (d : A) (xs : List A) (n : ℕ) (f : ℕ → ℕ → A) wh
       go (no e) ih =
           stored-else (storedColumns xs n f k) k n (λ (i : ℕ). f i k) d n (j + i * n) (λ x lx q. e (same-column n i j x k (omega arith) (omega arith) q))
           ∙ ih (omega arith)
+
+-- ---- a search column by column
+pub first-after : (m n : ℕ) (f : ℕ → Bool) → first (m + n) f ≡ firstFrom (first m f) m (first n (λ (k : ℕ). f (m + k)))
+first-after m n f = go (searched m f) (searched n (λ (k : ℕ). f (m + k)))
+  where
+    before : ((k : ℕ) → k < m → f k ≡ false) → (b : ℕ) → ((k : ℕ) → k < b → f (m + k) ≡ false) → (x : ℕ) → x < m + b → f x ≡ false
+    before h b g x l = at-place (decLe m x)
+      where
+        at-place : Dec (m ≤ x) → f x ≡ false
+        at-place (no p) = h x (omega arith)
+        at-place (yes p) = let e : m + (x - m) ≡ x = omega arith in subst (λ (y : ℕ). f y ≡ false) e (g (x - m) (omega arith))
+
+    go : Searched m f → Searched n (λ (k : ℕ). f (m + k)) → first (m + n) f ≡ firstFrom (first m f) m (first n (λ (k : ℕ). f (m + k)))
+    go (found i l e p h) s = rw (lt-ltb (first m f) m (omega arith)) (first-is (m + n) f i (omega arith) p h ∙ sym e)
+    go (nowhere e h) (found k l g p r) = rw (le-ltb (first m f) m (omega arith), g) (first-is (m + n) f (m + k) (omega arith) p (before h k r))
+    go (nowhere e h) (nowhere g r) = rw (le-ltb (first m f) m (omega arith), g) (first-never (m + n) f (before h n r))
+
+pub first-column : (n : ℕ) (f : ℕ → ℕ → Bool) (j : ℕ) →
+    first ((j + 1) * n) (λ (i : ℕ). f (i % n) i) ≡ firstFrom (first (j * n) (λ (i : ℕ). f (i % n) i)) (j * n) (first n (λ (k : ℕ). f k (j * n + k)))
+first-column n f j =
+    ap (λ (x : ℕ). first x (λ (i : ℕ). f (i % n) i)) (omega arith)
+    ∙ first-after (j * n) n (λ (i : ℕ). f (i % n) i)
+    ∙ ap (firstFrom (first (j * n) (λ (i : ℕ). f (i % n) i)) (j * n)) (first-ext n (λ (k : ℕ). f ((j * n + k) % n) (j * n + k)) (λ (k : ℕ). f k (j * n + k)) (λ k l. rw (place-row j k n l)))
+
+pub first-no-column : (n : ℕ) (f : ℕ → Bool) → first (0 * n) f ≡ 0
+first-no-column n f = ap (λ (x : ℕ). first x f) (omega arith) ∙ first-none f
+
+pub first-most : {x : ℕ} (n : ℕ) (f : ℕ → Bool) → x ≡ first n f → x ≤ n
+first-most {x} n f e = go (searched n f)
+  where
+    go : Searched n f → x ≤ n
+    go (found i l p q h) = omega arith
+    go (nowhere p h) = omega arith

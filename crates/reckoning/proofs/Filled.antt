@@ -1,6 +1,5 @@
 -- Laws of what arrays hold, and of what is stored in them.
---   holds-none, holds-more, holds-end — at none, one element more, and at the end, for loops
---   holds-as   — of equal functions
+--   begins-none, begins-more, begins-end — at none, one element more, and at the end, for loops;  begins-as — of equal functions
 --   stored-none, stored-next, stored-more, stored-end, stored-length — at none, one more, at the end, and the length, for loops; columns-.. likewise
 --   stored-at, stored-else — the places p + i·s hold f i, every other place is as before;  stored-ext — of equal functions
 use mathlib.Core.Path.{_≡_, refl, sym, ap, _∙_, subst}
@@ -13,22 +12,22 @@ use native.Mathlib.Numerals.{add-one}
 use lib.ListN.{length, getD, set, length-set}
 use lib.Seq.{getD-set-same, getD-set-other}
 use borrow.Author.Count.{below-more}
-use Rattle.reckoning.specs.Arrays.{Holds, stored, storedColumns}
+use Rattle.reckoning.specs.Arrays.{Begins, stored, storedColumns}
 
 module _ {A : Type 0} (d : A) where
-  pub holds-none : (xs : List A) (f : ℕ → A) → Holds d xs 0 f
-  holds-none xs f = record { each = λ i l. absurd (omega arith) }
+  pub begins-none : (xs : List A) (f : ℕ → A) → Begins d xs 0 f
+  begins-none xs f = record { each = λ i l. absurd (omega arith) }
 
-  pub holds-more : (xs : List A) (n : ℕ) (f : ℕ → A) (v : A) → Holds d xs n f → n < length xs → v ≡ f n → Holds d (set xs n v) (n + 1) f
-  holds-more xs n f v h l e = record {
+  pub begins-more : (xs : List A) (n : ℕ) (f : ℕ → A) (v : A) → Begins d xs n f → n < length xs → v ≡ f n → Begins d (set xs n v) (n + 1) f
+  begins-more xs n f v h l e = record {
     each = below-more (λ i. getD (set xs n v) i d ≡ f i) n (λ k p. getD-set-other xs n k v d (omega arith) ∙ h .each k p) (getD-set-same xs n v d l ∙ e);
   }
 
-  pub holds-end : {xs : List A} {i n : ℕ} {f : ℕ → A} → i ≤ n → n ≤ i → Holds d xs i f → Holds d xs n f
-  holds-end {xs} {i} {n} {f} p q h = subst (λ (k : ℕ). Holds d xs k f) (le-antisymm p q) h
+  pub begins-end : {xs : List A} {i n : ℕ} {f : ℕ → A} → i ≤ n → n ≤ i → Begins d xs i f → Begins d xs n f
+  begins-end {xs} {i} {n} {f} p q h = subst (λ (k : ℕ). Begins d xs k f) (le-antisymm p q) h
 
-  pub holds-as : {xs : List A} {n : ℕ} (f g : ℕ → A) → ((i : ℕ) → i < n → f i ≡ g i) → Holds d xs n f → Holds d xs n g
-  holds-as f g e h = record { each = λ i l. h .each i l ∙ e i l }
+  pub begins-as : {xs : List A} {n : ℕ} (f g : ℕ → A) → ((i : ℕ) → i < n → f i ≡ g i) → Begins d xs n f → Begins d xs n g
+  begins-as f g e h = record { each = λ i l. h .each i l ∙ e i l }
 
 module _ {A : Type 0} (xs : List A) (p s : ℕ) (f : ℕ → A) where
   pub stored-none : stored xs p s f 0 ≡ xs

@@ -2,4 +2,3 @@ pub mod Filled
 pub mod Sizes
 pub mod Numbers
 pub mod Columns
-pub mod Raised

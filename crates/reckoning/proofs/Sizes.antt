@@ -1,26 +1,30 @@
 -- Sizes of the reckoning's numbers, all within an i64.
 --   power-size, unit-same, unit-other, unit-size, scaled-size — of 2^t, of the numbers of T·I and of S·b
---   wider, square-row, square-column, numbers-reach — rows, columns and lists as `dot` asks for them
+--   square-row, row-reaches, column-reaches — rows and columns of a matrix list, as `dot` and `raise_rows` ask for them
 --   defect-size — |D_mj| ≤ 2^46
---   row-ends, column-ends — places of rows and columns;  large-below, large-above — the code's test of a residual
+--   row-ends, column-ends — places of rows and columns;  above-below, above-above — the code's test of a residual
 use mathlib.Core.Path.{_≡_, refl, sym, ap, subst}
 use mathlib.Core.Bool.{Bool, true, false, cond}
 use mathlib.Core.List.{List}
-use Prim.Native.Nat.{ℕ, suc, _+_, _*_, _<_, _≤_, _^_}
+use Prim.Native.Nat.{ℕ, zero, suc, _+_, _*_, _<_, _≤_, _^_}
 use native.Mathlib.Omega.{arith}
 use native.Mathlib.Nat.{mul-le-mul, mul-le-mul-right, pow-le-pow-right, le-trans}
 use borrow.Author.Tests.{ltb-true, ltb-false, lt-ltb, le-ltb}
 use lib.Dec.{T, eqb, lit≤}
-use lib.IntN.{ℤ, pos, negsuc, natAbs, _*ℤ_}
+use lib.IntN.{ℤ, pos, negsuc, negℤ, natAbs, _-ℤ_, _*ℤ_, +ℤ-idl}
 use lib.Signed.{ltZ}
+use Rattle.integer.specs.Finite.{sum}
 use Rattle.integer.proofs.Absolute.{abs-sub, abs-*}
-use Rattle.linear.specs.Matrix.{identity, product}
-use Rattle.linear.specs.Slice.{matrixOf, Reach}
+use Rattle.integer.proofs.Sum.{abs-sum≤}
+use Rattle.linear.specs.Matrix.{identity, apply, product}
+use Rattle.linear.specs.Slice.{matrixOf}
+use Rattle.linear.specs.Reach.{Reach, MatrixList}
 use Rattle.linear.proofs.Product.{identity-same, identity-other}
-use Rattle.linear.proofs.Places.{square, row-reach, column-reach, list-reach, dot-column, dot-size}
-use Rattle.enclosure.specs.Reckoning.{defect, tooLarge}
-use Rattle.reckoning.specs.Arrays.{Square, Numbers}
-use Rattle.reckoning.specs.Part.{marginPart}
+use Rattle.linear.proofs.Places.{place, square, row-reach, column-reach, square-list, wider}
+use Rattle.raised_rows.specs.Raised.{raisedBy, loweredRows}
+use Rattle.enclosure.specs.Reckoning.{defect}
+use Rattle.reckoning.specs.Parts.{rowsPart, aboveAllowed}
+use Rattle.reckoning.specs.Rows.{InverseRows}
 
 pub power-size : (t : ℕ) → t ≤ 20 → 2 ^ t ≤ 2 ^ 20
 power-size t h = pow-le-pow-right {n = 2} (omega arith) {i = t} {j = 20} h
@@ -45,31 +49,29 @@ unit-other x i j e = rw (identity-other i j e) (ap pos (omega arith))
 pub scaled-size : (s : ℕ) (b : ℤ) → s ≤ 20 → natAbs b ≤ 2 ^ 30 → natAbs (pos (2 ^ s) *ℤ b) ≤ 2 ^ 50
 scaled-size s b h k = rw (abs-* (pos (2 ^ s)) b) (le-trans (mul-le-mul (power-size s h) k) (lit≤ tt))
 
--- a wider bound
-pub wider : {xs : List ℤ} {p s n a : ℕ} (b : ℕ) → a ≤ b → Reach xs p s n a → Reach xs p s n b
-wider b l h = record { inside = h .inside; size = λ j q. le-trans (h .size j q) l }
-
-module _ {xs : List ℤ} {n : ℕ} (q : Square xs n) where
+-- a row and a column of a matrix list
+module _ {xs : List ℤ} {n : ℕ} (q : MatrixList xs n) where
   pub square-row : (i : ℕ) → i < n → Reach xs (i * n) 1 n (2 ^ 20)
-  square-row = row-reach xs n (2 ^ 20) (q .long) (q .within)
+  square-row = row-reach (square-list q)
 
-  pub square-column : (j : ℕ) → j < n → Reach xs j n n (2 ^ 20)
-  square-column = column-reach xs n (2 ^ 20) (q .long) (q .within)
+  pub row-reaches : (i : ℕ) → i < n → Reach xs (i * n) 1 n raisedBy
+  row-reaches i l = wider _ (lit≤ tt) (square-row i l)
 
-pub numbers-reach : {xs : List ℤ} {n b : ℕ} → Numbers xs n b → Reach xs 0 1 n b
-numbers-reach {xs} {n} {b} q = list-reach xs n b (q .long) (q .within)
+  pub column-reaches : (i : ℕ) → i < n → Reach xs (i * 1) n n raisedBy
+  column-reaches i l = let e : i * 1 ≡ i = omega arith in rw e (wider _ (lit≤ tt) (column-reach (square-list q) i l))
 
-module _ (n t : ℕ) (matrix inverse weights : List ℤ) (ht : t ≤ 20) (few : n ≤ 32) (hm : Square matrix n) (hi : Square inverse n) (hw : Numbers weights n 1024) where
-  pub defect-size : (m j : ℕ) → m < n → j < n → natAbs (defect (marginPart n t matrix inverse weights) m j) ≤ 2 ^ 46
-  unfolding defect
-  defect-size m j lm lj =
-      omega (
-        arith,
-        abs-sub (pos (2 ^ t) *ℤ identity m j) (product n (matrixOf inverse n) (matrixOf matrix n) m j),
-        unit-size t m j ht,
-        ap natAbs (dot-column n inverse matrix m j),
-        dot-size inverse (m * n) 1 matrix j n n (2 ^ 20) (2 ^ 20) (square-row hi m lm) (square-column hm j lj),
-      )
+pub defect-size : (n t : ℕ) (matrix : List ℤ) (rows : List ℕ) (weights : List ℤ) → t ≤ 20 → n ≤ 32 → MatrixList matrix n → InverseRows rows n →
+    (m j : ℕ) → m < n → j < n → natAbs (defect (rowsPart n t matrix rows weights) m j) ≤ 2 ^ 46
+unfolding defect product apply
+defect-size n t matrix rows weights ht few hm hr m j lm lj =
+    omega (
+      arith,
+      abs-sub (pos (2 ^ t) *ℤ identity m j) (sum n (λ (k : ℕ). loweredRows rows n m k *ℤ matrixOf matrix n k j)),
+      unit-size t m j ht,
+      abs-sum≤ n (2 ^ 40) (λ (k : ℕ). loweredRows rows n m k *ℤ matrixOf matrix n k j)
+          (λ k lk. rw (abs-* (loweredRows rows n m k) (matrixOf matrix n k j)) (mul-le-mul (hr .size m k lm lk) (hm .within .size (k * n + j) (place lk lj)))),
+      mul-le-mul-right (2 ^ 40) few,
+    )
 
 -- places of a row and of a column stay small
 pub row-ends : {m n : ℕ} → m < n → n ≤ 32 → m * n + n ≤ 1024
@@ -79,10 +81,21 @@ pub column-ends : {j n : ℕ} → j < n → n ≤ 32 → j + n * n < 2048
 column-ends l few = omega (arith, square few)
 
 -- the code's test of a residual
-pub large-below : (z : ℤ) → ltZ z (negsuc 33554431) ≡ true → true ≡ tooLarge z
-large-below (pos n) e = absurd (subst T (sym e) tt)
-large-below (negsuc n) e = sym (lt-ltb (2 ^ 25) (suc n) (omega (arith, ltb-true 33554431 n e)))
+pub above-below : (a z : ℤ) → ltZ z (pos 0 -ℤ a) ≡ true → true ≡ aboveAllowed a z
+above-below a z e = go a z (rw (+ℤ-idl (negℤ a)) at e)
+  where
+    go : (a z : ℤ) → ltZ z (negℤ a) ≡ true → true ≡ aboveAllowed a z
+    go (pos zero) (pos z) e = absurd (omega (arith, ltb-true z 0 e))
+    go (pos (suc a)) (pos z) e = absurd (subst T (sym e) tt)
+    go (pos zero) (negsuc z) e = sym (lt-ltb 0 (suc z) (omega arith))
+    go (pos (suc a)) (negsuc z) e = sym (lt-ltb (suc a) (suc z) (omega (arith, ltb-true a z e)))
+    go (negsuc a) z e = refl
 
-pub large-above : (z : ℤ) → ltZ z (negsuc 33554431) ≡ false → ltZ (pos 33554432) z ≡ tooLarge z
-large-above (pos n) e = refl
-large-above (negsuc n) e = sym (le-ltb (2 ^ 25) (suc n) (omega (arith, ltb-false 33554431 n e)))
+pub above-above : (a z : ℤ) → ltZ z (pos 0 -ℤ a) ≡ false → ltZ a z ≡ aboveAllowed a z
+above-above a z e = go a z (rw (+ℤ-idl (negℤ a)) at e)
+  where
+    go : (a z : ℤ) → ltZ z (negℤ a) ≡ false → ltZ a z ≡ aboveAllowed a z
+    go a (pos z) e = refl
+    go (pos zero) (negsuc z) e = absurd (subst T e tt)
+    go (pos (suc a)) (negsuc z) e = sym (le-ltb (suc a) (suc z) (omega (arith, ltb-false a z e)))
+    go (negsuc a) (negsuc z) e = absurd (subst T e tt)

@@ -1,3 +1,3 @@
 pub mod Arrays
-pub mod Part
-pub mod Lines
+pub mod Rows
+pub mod Parts

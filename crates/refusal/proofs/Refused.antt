@@ -16,7 +16,7 @@ use Rattle.text.specs.Wrote.{Wrote}
 use Rattle.text.proofs.Wrote.{wider, called}
 use Rattle.text.specs.Line.{each, listLine}
 use Rattle.refusal.specs.declared.Reply.{Reply}
-use Rattle.refusal.specs.declared.Answer.{Answer}
+use Rattle.refusal.specs.declared.FileAnswer.{FileAnswer}
 use Rattle.refusal.specs.Refused.{shown, printed, refusedOf}
 use Rattle.refusal.specs.Reply.{replyOf, Answered}
 
@@ -71,5 +71,5 @@ pub answered : (line : ℕ) (r : Refusal) {a : Reply} {o p : List ℕ} {end : �
     Answered (numbers line r) (refusedOf (numbers line r)) o p (record { reply = a; length = end })
 answered line r e x = record { reply = e; wrote = wider 32768 (omega arith) (called (refused-line line r) (rw e at x)) }
 
-pub same-answer : {m n t u o p : List ℕ} {a : Answer} → m ≡ n → t ≡ u → Answered m t o p a → Answered n u o p a
+pub same-answer : {m n t u o p : List ℕ} {a : FileAnswer} → m ≡ n → t ≡ u → Answered m t o p a → Answered n u o p a
 same-answer e f x = record { reply = x .reply ∙ ap replyOf e; wrote = called f (x .wrote) }

@@ -6,13 +6,13 @@ use mathlib.Core.Path.{_≡_}
 use Prim.Native.Nat.{ℕ}
 use lib.ListN.{length, getD}
 use Rattle.text.specs.Wrote.{Wrote}
-use Rattle.refusal.specs.declared.Answer.{Answer}
+use Rattle.refusal.specs.declared.FileAnswer.{FileAnswer}
 use Rattle.refusal.specs.declared.Reply.{Reply}
 
 abbrev pub replyOf : List ℕ → Reply
 replyOf [] = record { number = 0; count = 0; first = 0; second = 0 }
 replyOf (k ∷ vs) = record { number = k; count = length vs; first = getD vs 0 0; second = getD vs 1 0 }
 
-pub record Answered (numbers text old new : List ℕ) (r : Answer) : Type 0 where
+pub record Answered (numbers text old new : List ℕ) (r : FileAnswer) : Type 0 where
   pub reply : r .reply ≡ replyOf numbers
   pub wrote : Wrote 32768 old 0 text new (r .length)

@@ -18,7 +18,7 @@ pub struct Reply {
 }
 
 // What is said, and the bytes written of it.
-pub struct Answer {
+pub struct FileAnswer {
     pub reply: Reply,
     pub length: usize,
 }
@@ -131,7 +131,7 @@ pub fn no_refusal() -> Reply
 }
 
 // The line of a refusal, from the start of the buffer on.
-pub fn put_refusal(out: &mut [u8], refusal: Refusal, line: u64) -> Answer
+pub fn put_refusal(out: &mut [u8], refusal: Refusal, line: u64) -> FileAnswer
     requires { ⌜ 32768 ≤ length (now out) ⌝ }
     ensures { λ r. ⌜ Answered (printed line (numberOf refusal ∷ valuesOf refusal)) (refusedOf (printed line (numberOf refusal ∷ valuesOf refusal))) (now (out .entry)) (now (out .exit)) r ⌝ }
 {
@@ -146,5 +146,5 @@ pub fn put_refusal(out: &mut [u8], refusal: Refusal, line: u64) -> Answer
         0,
         reply.count,
     );
-    Answer { reply, length }
+    FileAnswer { reply, length }
 }

@@ -16,9 +16,9 @@ use Rattle.integer.proofs.Machine.{small, read}
 use Rattle.linear.specs.Slice.{at}
 use Rattle.text.specs.Wrote.{Wrote}
 use Rattle.report.specs.declared.Block.{Block}
-use Rattle.report.specs.Ready.{Ready, blockLine, mostOf}
+use Rattle.report.specs.Ready.{Reportable, blockLine, mostOf}
 
-module _ {n s : ℕ} {X : List ℤ} {E L : List ℕ} (ready : Ready n s X E L) where
+module _ {n s : ℕ} {X : List ℤ} {E L : List ℕ} (ready : Reportable n s X E L) where
   pub guess-small : {i : ℕ} → i < n → natAbs (at X i) < 2 ^ 63
   guess-small {i} l = omega (arith, ready .guess i l)
 

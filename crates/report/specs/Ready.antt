@@ -1,5 +1,5 @@
 -- What the report's code asks and writes in its steps; cited by the contracts inside.
---   Ready n s X E L — n and s are in their ranges, the lists long enough, the guesses at most 2^36 in size and the solution limits at most 2^60
+--   Reportable n s X E L — n and s are in their ranges, the lists long enough, the guesses at most 2^36 in size and the solution limits at most 2^60
 --   reportIn        — the report of numbers that stand in lists
 --   blockLine       — the line of row i in one of the report's three blocks;  mostOf — how long it is at most
 use mathlib.Core.List.{List}
@@ -11,7 +11,7 @@ use Rattle.report.specs.declared.Block.{Block}
 use Rattle.report.specs.declared.Block.the-variants.{Solution, Entry, Inverse}
 use Rattle.report.specs.Report.{solutionLine, entryLine, inverseLine, reportOf}
 
-pub record Ready (n s : ℕ) (X : List ℤ) (E L : List ℕ) : Type 0 where
+pub record Reportable (n s : ℕ) (X : List ℤ) (E L : List ℕ) : Type 0 where
   pub few : n ≤ 32
   pub scale : s ≤ 20
   pub guess-long : n ≤ length X

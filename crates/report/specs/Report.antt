@@ -10,7 +10,7 @@ use Prim.Native.Nat.{ℕ, _+_}
 use lib.IntN.{ℤ}
 use Rattle.numeral.specs.Decimal.{decimal}
 use Rattle.form.specs.Form.{bytes}
-use Rattle.report.specs.Entry.{entryValue, entryBound}
+use Rattle.entry.specs.Entry.{entryValue, entryBound}
 use Rattle.text.specs.Line.{each, pairLine, listLine}
 
 abbrev pub boundsLine : ℕ → List ℕ

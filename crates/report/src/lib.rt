@@ -5,30 +5,22 @@ ghost use lib.IntN.{natAbs};
 ghost use lib.ListN.{length};
 ghost use Rattle.form.specs.Form.{bytes};
 ghost use Rattle.text.specs.Wrote.{Wrote};
-ghost use Rattle.report.specs.Entry.{entryValue, entryBound};
+ghost use Rattle.entry.specs.Entry.{entryValue, entryBound, boundMost};
 ghost use Rattle.text.specs.Line.{each, pairLine};
 ghost use Rattle.report.specs.Report.{boundsLine};
-ghost use Rattle.report.specs.Ready.{Ready, reportIn, blockLine, mostOf};
+ghost use Rattle.report.specs.Ready.{Reportable, reportIn, blockLine, mostOf};
 use text::put_bytes;
 use text::put_list;
 use text::put_natural;
 use text::put_pair;
 
-// The limit of a register entry (01: E/S rounded up).
-pub fn entry_bound(e: u64, s: u32) -> u64
-    requires { ⌜ (e ≤ 2 ^ 60) × (s ≤ 20) ⌝ }
-    ensures { λ r. ⌜ r ≡ entryBound s e ⌝ }
-{
-    integer::ceil_div(e, integer::power(s))
-}
-
 // (entry i (V limit))
 fn put_entry(out: &mut [u8], at: usize, i: u64, x: i64, e: u64, s: u32) -> usize
-    requires { ⌜ (natAbs x ≤ 2 ^ 36) × ((e ≤ 2 ^ 60) × ((s ≤ 20) × (at + 76 ≤ length (now out)))) ⌝ }
+    requires { ⌜ (natAbs x ≤ 2 ^ 36) × ((e ≤ boundMost) × ((s ≤ 20) × (at + 76 ≤ length (now out)))) ⌝ }
     ensures { λ r. ⌜ Wrote 76 (now (out .entry)) at (pairLine (bytes "(entry ") i (entryValue s x) (entryBound s e)) (now (out .exit)) r ⌝ }
 {
     let value = integer::round_scaled(x, s);
-    let bound = entry_bound(e, s);
+    let bound = entry::entry_bound(e, s);
     put_pair(out, at, b"(entry ", i, value, bound)
 }
 
@@ -51,7 +43,7 @@ fn put_line(
     solution_bounds: &[u64],
     inverse_bounds: &[u64],
 ) -> usize
-    requires { ⌜ Ready n s (now guess) (now «solution_bounds») (now «inverse_bounds») ⌝ }
+    requires { ⌜ Reportable n s (now guess) (now «solution_bounds») (now «inverse_bounds») ⌝ }
     requires { ⌜ (i < n) × (at + mostOf block ≤ length (now out)) ⌝ }
     ensures { λ r. ⌜ Wrote (mostOf block) (now (out .entry)) at (blockLine block n s (now (guess .entry)) (now («solution_bounds» .entry)) (now («inverse_bounds» .entry)) i) (now (out .exit)) r ⌝ }
 {
@@ -74,7 +66,7 @@ fn put_lines(
     solution_bounds: &[u64],
     inverse_bounds: &[u64],
 ) -> usize
-    requires { ⌜ Ready n s (now guess) (now «solution_bounds») (now «inverse_bounds») ⌝ }
+    requires { ⌜ Reportable n s (now guess) (now «solution_bounds») (now «inverse_bounds») ⌝ }
     requires { ⌜ at + n * mostOf block ≤ length (now out) ⌝ }
     ensures { λ r. ⌜ Wrote (n * mostOf block) (now (out .entry)) at (each n (blockLine block n s (now (guess .entry)) (now («solution_bounds» .entry)) (now («inverse_bounds» .entry)))) (now (out .exit)) r ⌝ }
 {
@@ -114,7 +106,7 @@ pub fn put_report(
     solution_bounds: &[u64],
     inverse_bounds: &[u64],
 ) -> usize
-    requires { ⌜ Ready n s (now guess) (now «solution_bounds») (now «inverse_bounds») ⌝ }
+    requires { ⌜ Reportable n s (now guess) (now «solution_bounds») (now «inverse_bounds») ⌝ }
     requires { ⌜ 32768 ≤ length (now out) ⌝ }
     ensures { λ r. ⌜ Wrote 32768 (now (out .entry)) 0 (reportIn n s (now (guess .entry)) (now («solution_bounds» .entry)) (now («inverse_bounds» .entry))) (now (out .exit)) r ⌝ }
 {

@@ -4,7 +4,7 @@ ghost use Prim.Native.Nat.{ℕ, _+_, _*_, _≤_, _<_, _^_};
 ghost use lib.IntN.{natAbs};
 ghost use lib.ListN.{length, getD};
 ghost use Rattle.numeral.specs.Decimal.{decimal, numeral};
-ghost use Rattle.text.specs.Line.{gap, numbers, opening, pairLine, listLine};
+ghost use Rattle.text.specs.Line.{gap, numbers, lineOpening, pairLine, listLine};
 ghost use Rattle.text.specs.Wrote.{Wrote};
 
 pub fn put_bytes(out: &mut [u8], at: usize, src: &[u8]) -> usize
@@ -55,7 +55,7 @@ pub fn put_integer(out: &mut [u8], at: usize, z: i64) -> usize
 // A line's start: its word, a number and the inner bracket.
 fn put_opening(out: &mut [u8], at: usize, word: &[u8], i: u64) -> usize
     requires { ⌜ (length (now word) ≤ 10) × (at + 32 ≤ length (now out)) ⌝ }
-    ensures { λ r. ⌜ Wrote 32 (now (out .entry)) at (opening (now (word .entry)) i) (now (out .exit)) r ⌝ }
+    ensures { λ r. ⌜ Wrote 32 (now (out .entry)) at (lineOpening (now (word .entry)) i) (now (out .exit)) r ⌝ }
 {
     let a = put_bytes(out, at, word);
     let b = put_natural(out, a, i);

@@ -1,9 +1,14 @@
-use mathlib.Core.Path.{_≡_, sym, _∙_}
+use mathlib.Core.Path.{_≡_, refl, sym, _∙_}
 use mathlib.Core.Bool.{true, false}
+use lib.IntN.{pos}
+use lib.ListN.{replicate, getD-replicate}
 use Rattle.rules.proofs.Ranges.{both, both-left, not-both, not-first, size-range}
-use Rattle.checker.specs.Input.{Input, input, short, sizesInRange, inRanges}
-use Rattle.checker.proofs.Lengths.{long-of}
-use Rattle.checker.proofs.Contract.{ready-of, checked-short, checked-range, checked-ready}
+use Rattle.enclosure.specs.Reckoning.{allowedResidual}
+use Rattle.checked.specs.Input.{Input, input, short, sizesInRange, inRanges}
+use Rattle.checked.proofs.Contract.{checked-short, checked-range}
+use Rattle.checked.proofs.Fit.{Fit, fit-of}
+use Rattle.checked.proofs.Lengths.{long-of}
+use Rattle.checker.proofs.Ready.{everywhere, Handed, workable, reckoned-checked}
 use borrow.Author.Needs.{needs}
 use Rattle.checker.proofs.check.Statement.{statement}
 use Rattle.checker.proofs.check.Tie as tie
@@ -20,8 +25,24 @@ long c = sym (c .before .is-short .ensures) ∙ c .if1 .left
 sizes : (c : tie.Then2) → sizesInRange (I (c .before .before .before .before .before .before) .n) (I (c .before .before .before .before .before .before) .s) (I (c .before .before .before .before .before .before) .t) ≡ true
 sizes c = sym (c .before .are-sizes-in-range .ensures) ∙ c .if2 .taken
 
+abbrev start : tie.Then3 → tie.Start
+start c = c .before .before .before .before .before .before .before .before
+
 within : (c : tie.Then3) → inRanges (I (c .before .before .before .before .before .before .before .before)) ≡ true
 within c = both (sizes (c .before .before)) (sym (c .before .are-lists-in-range .ensures) ∙ c .if3 .taken)
+
+fit : (c : tie.Then3) → Fit (I (start c))
+fit c = fit-of (I (start c)) (long (c .before .before .before .before)) (within c)
+
+-- what is handed to the reckoning
+handed : (c : tie.After-scaled-right) → Handed (I (start (c .before))) (c .scaled-right .result) everywhere (replicate 32 0)
+handed c = record {
+  base-long = search needs;
+  base = c .scaled-right .ensures;
+  allowed-long = refl;
+  allowed = λ k l. getD-replicate 32 k (pos allowedResidual) (pos 0) l;
+  slacks = λ k l. getD-replicate 32 k 0 0 l;
+}
 
 is-short-requires : tie.Need-is-short-requires
 is-short-requires c κs = search needs
@@ -37,10 +58,13 @@ are-lists-in-range-requires c κs =
     let l = long-of (I (c .before .before .before .before .before .before)) (long (c .before .before)) in
     (size-range _ (both-left _ _ (sizes c)) .1, (l .matrix, (l .right, (l .guess, (l .inverse, l .weights)))))
 
-check-ready-requires : tie.Need-check-ready-requires
-check-ready-requires c κs =
-    let t = c .before .before in
-    ready-of (I (t .before .before .before .before .before .before .before .before)) (long (t .before .before .before .before)) (within t)
+scaled-right-requires : tie.Need-scaled-right-requires
+scaled-right-requires c κs =
+    let x = fit c in ((x .solution-scale, x .few), x .right)
+
+reckon-requires : tie.Need-reckon-requires
+reckon-requires c κs =
+    let t = c .before .before .before in workable (I (start t)) (long (t .before .before .before .before)) (within t) (handed (c .before .before))
 
 same-length : tie.Need-same-length
 same-length c = search needs
@@ -50,8 +74,9 @@ same-length-2 c = search needs
 
 returns-2 : tie.Need-returns-2
 returns-2 c =
-    let t = c .before .before .before .before .before .before .before in
-    checked-ready (I (t .before .before .before .before .before .before .before .before)) (long (t .before .before .before .before)) (within t) (c .before .before .before .before .check-ready .ensures)
+    let r = c .before .before .before .before in
+    let z = r .before .before .before in
+    let t = z .before in reckoned-checked (I (start t)) (long (t .before .before .before .before)) (within t) (handed z) (r .reckon .ensures)
 
 returns-3 : tie.Need-returns-3
 returns-3 c =
@@ -71,7 +96,8 @@ check-spec =
     returns
     are-sizes-in-range-requires
     are-lists-in-range-requires
-    check-ready-requires
+    scaled-right-requires
+    reckon-requires
     same-length
     same-length-2
     returns-2

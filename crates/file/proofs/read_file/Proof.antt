@@ -1,7 +1,8 @@
 use mathlib.Core.Path.{_≡_, refl, _∙_}
 use Prim.Native.Nat.{_-_}
 use lib.ListN.{length}
-use Rattle.items.specs.Lists.{lists}
+use Rattle.lent_lists.specs.Lists.{lists}
+use Rattle.line_runs.specs.Read.{zeros}
 use Rattle.file.proofs.Turns.{Reached, at-start, at-end, read-on, read-refusal}
 use borrow.Author.Needs.{needs}
 use Rattle.file.proofs.read_file.Statement.{statement}
@@ -9,9 +10,8 @@ use Rattle.file.proofs.read_file.Tie as tie
 
 abbrev Inv-loop : tie.InvT-loop
 Inv-loop file matrix₀ right₀ guess₀ inverse₀ weights₀ loader₀ line₀ at₀ matrix right guess inverse weights loader line at =
-    (length matrix ≡ length matrix₀) × (length right ≡ length right₀) × (length guess ≡ length guess₀) × (length inverse ≡ length inverse₀)
-    × (length weights ≡ length weights₀)
-    × Reached file (lists matrix₀ right₀ guess₀ inverse₀ weights₀) line at loader (lists matrix right guess inverse weights)
+    (length matrix ≡ 1024) × (length right ≡ 32) × (length guess ≡ 32) × (length inverse ≡ 1024) × (length weights ≡ 32)
+    × Reached file line at loader (lists matrix right guess inverse weights)
 
 abbrev μ-loop : tie.MeasureT-loop
 μ-loop file matrix₀ right₀ guess₀ inverse₀ weights₀ loader₀ line₀ at₀ matrix right guess inverse weights loader line at = length file - at
@@ -20,7 +20,7 @@ new-requires : tie.Need-new-requires Inv-loop μ-loop
 new-requires c κs = search needs
 
 loop-holds : tie.Need-loop-holds Inv-loop μ-loop
-loop-holds c = (refl, refl, refl, refl, refl, at-start (c .before .before .args .file .now) _ (c .new .ensures))
+loop-holds c = (refl, refl, refl, refl, refl, at-start (c .before .before .args .file .now) (c .new .ensures) (unfold zeros in refl))
 
 line-end-requires : tie.Need-line-end-requires Inv-loop μ-loop
 line-end-requires c κs = search needs
@@ -34,6 +34,21 @@ part-take-start c = search needs
 part-take-end : tie.Need-part-take-end Inv-loop μ-loop
 part-take-end c = search needs
 
+slice-aggregate-take : tie.Need-slice-aggregate-take Inv-loop μ-loop
+slice-aggregate-take c = search needs
+
+slice-aggregate-take-2 : tie.Need-slice-aggregate-take-2 Inv-loop μ-loop
+slice-aggregate-take-2 c = search needs
+
+slice-aggregate-take-3 : tie.Need-slice-aggregate-take-3 Inv-loop μ-loop
+slice-aggregate-take-3 c = search needs
+
+slice-aggregate-take-4 : tie.Need-slice-aggregate-take-4 Inv-loop μ-loop
+slice-aggregate-take-4 c = search needs
+
+slice-aggregate-take-5 : tie.Need-slice-aggregate-take-5 Inv-loop μ-loop
+slice-aggregate-take-5 c = search needs
+
 take-requires : tie.Need-take-requires Inv-loop μ-loop
 take-requires c κs = search needs
 
@@ -42,21 +57,6 @@ add-line c = search needs
 
 enum-known-outcome : tie.Need-enum-known-outcome Inv-loop μ-loop
 enum-known-outcome c = search needs
-
-same-length : tie.Need-same-length Inv-loop μ-loop
-same-length c = search needs
-
-same-length-2 : tie.Need-same-length-2 Inv-loop μ-loop
-same-length-2 c = search needs
-
-same-length-3 : tie.Need-same-length-3 Inv-loop μ-loop
-same-length-3 c = search needs
-
-same-length-4 : tie.Need-same-length-4 Inv-loop μ-loop
-same-length-4 c = search needs
-
-same-length-5 : tie.Need-same-length-5 Inv-loop μ-loop
-same-length-5 c = search needs
 
 returns : tie.Need-returns Inv-loop μ-loop
 returns c =
@@ -87,21 +87,6 @@ loop-again c =
       read-on (e .before .before .before .before .before .args .file .now) (l .inv .5) (e .before .loop-test .taken) (e .line-end .ensures) (t .take .ensures) (c .before .enum-told .given .1),
     )
 
-same-length-6 : tie.Need-same-length-6 Inv-loop μ-loop
-same-length-6 c = search needs
-
-same-length-7 : tie.Need-same-length-7 Inv-loop μ-loop
-same-length-7 c = search needs
-
-same-length-8 : tie.Need-same-length-8 Inv-loop μ-loop
-same-length-8 c = search needs
-
-same-length-9 : tie.Need-same-length-9 Inv-loop μ-loop
-same-length-9 c = search needs
-
-same-length-10 : tie.Need-same-length-10 Inv-loop μ-loop
-same-length-10 c = search needs
-
 returns-2 : tie.Need-returns-2 Inv-loop μ-loop
 returns-2 c = at-end (c .before .before .before .before .args .file .now) (c .before .loop .inv .5) (c .loop-test .left)
 
@@ -117,22 +102,17 @@ read-file-spec =
     sub-take
     part-take-start
     part-take-end
+    slice-aggregate-take
+    slice-aggregate-take-2
+    slice-aggregate-take-3
+    slice-aggregate-take-4
+    slice-aggregate-take-5
     take-requires
     add-line
     enum-known-outcome
-    same-length
-    same-length-2
-    same-length-3
-    same-length-4
-    same-length-5
     returns
     enum-told
     add-at
     loop-less
     loop-again
-    same-length-6
-    same-length-7
-    same-length-8
-    same-length-9
-    same-length-10
     returns-2)

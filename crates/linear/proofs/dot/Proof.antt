@@ -1,19 +1,16 @@
 use mathlib.Core.Path.{_≡_, sym, _∙_}
-use Prim.Native.Nat.{_+_, _*_, _≤_, _-_}
+use Prim.Native.Nat.{_+_, _*_, _≤_, _<_, _-_, _^_}
 use native.Mathlib.Omega.{arith}
 use native.Mathlib.Nat.{mul-le-mul-right}
 use mir.Syntax.{w64}
 use mir.Val.{toZ}
 use Rattle.integer.proofs.Machine.{read}
 use Rattle.integer.proofs.Sum.{sum-none, sum-next, sum-end}
-use Rattle.linear.specs.Slice.{dotOf}
+use Rattle.linear.specs.Reach.{dotOf}
 use Rattle.linear.proofs.Places.{dot-fits}
 use borrow.Author.Needs.{needs}
 use Rattle.linear.proofs.dot.Statement.{statement}
 use Rattle.linear.proofs.dot.Tie as tie
-use Rattle.linear.proofs.dot.Reads as reads
-use Rattle.linear.proofs.dot.Lts as lts
-use Rattle.linear.proofs.add_term.Reads as add-term-reads
 
 abbrev Inv-loop : tie.InvT-loop
 Inv-loop a p s x q u n sum₀ at-a₀ at-x₀ j₀ sum at-a at-x j =
@@ -22,11 +19,17 @@ Inv-loop a p s x q u n sum₀ at-a₀ at-x₀ j₀ sum at-a at-x j =
 abbrev μ-loop : tie.MeasureT-loop
 μ-loop a p s x q u n sum₀ at-a₀ at-x₀ j₀ sum at-a at-x j = n - j
 
--- src/lib.rt:28:5
+-- both places stay small with one stride more
+ends : (t : tie.In-loop Inv-loop μ-loop) →
+    (t .before .loop .at-a + t .before .before .args .s < 2 ^ 63) × (t .before .loop .at-x + t .before .before .args .u < 2 ^ 63)
+ends t = (
+  omega (arith, mul-le-mul-right (t .before .before .args .s) (t .loop-test .taken)),
+  omega (arith, mul-le-mul-right (t .before .before .args .u) (t .loop-test .taken)),
+)
+
 loop-holds : tie.Need-loop-holds Inv-loop μ-loop
 loop-holds c = (omega arith, (omega arith, (omega arith, rw (sum-none _))))
 
--- src/lib.rt:29:9
 add-term-requires : tie.Need-add-term-requires Inv-loop μ-loop
 add-term-requires c κs =
     let s = c .before .before in
@@ -36,23 +39,18 @@ add-term-requires c κs =
       dot-fits _ _ _ _ _ _ _ (s .pre .1 .0) (s .pre .1 .1) (t .j) (s .pre .0 .0) (c .loop-test .taken),
     )
 
--- src/lib.rt:30:9
 add-at-a : tie.Need-add-at-a Inv-loop μ-loop
-add-at-a c = omega (arith, mul-le-mul-right (c .before .before .before .args .s) (c .before .loop-test .taken))
+add-at-a c = omega (arith, ends (c .before))
 
--- src/lib.rt:31:9
 add-at-x : tie.Need-add-at-x Inv-loop μ-loop
-add-at-x c = omega (arith, mul-le-mul-right (c .before .before .before .args .u) (c .before .loop-test .taken))
+add-at-x c = omega (arith, ends (c .before))
 
--- src/lib.rt:28:9
 add-j : tie.Need-add-j Inv-loop μ-loop
 add-j c = search needs
 
--- src/lib.rt:28:5
 loop-less : tie.Need-loop-less Inv-loop μ-loop
 loop-less c = search needs
 
--- src/lib.rt:28:5
 loop-again : tie.Need-loop-again Inv-loop μ-loop
 loop-again c =
     let t = c .before .before .loop in (
@@ -66,7 +64,6 @@ loop-again c =
       ),
     )
 
--- src/lib.rt:19:1
 returns : tie.Need-returns Inv-loop μ-loop
 returns c = c .before .loop .inv .1 .1 .1 ∙ sum-end _ (c .before .loop .inv .0) (c .loop-test .left)
 

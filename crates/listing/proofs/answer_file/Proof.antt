@@ -1,39 +1,45 @@
-use mathlib.Core.Path.{refl}
-use Rattle.listing.specs.Listing.{zeros}
-use Rattle.listing.proofs.Entire.{as-answered}
+use Rattle.listing.proofs.Entire.{refusal-answered, check-answered, as-answered}
 use borrow.Author.Needs.{needs}
 use Rattle.listing.proofs.answer_file.Statement.{statement}
 use Rattle.listing.proofs.answer_file.Tie as tie
 
-slice-aggregate-put-listing : tie.Need-slice-aggregate-put-listing
-slice-aggregate-put-listing c = search needs
+read-file-requires : tie.Need-read-file-requires
+read-file-requires c κs = search needs
 
-slice-aggregate-put-listing-2 : tie.Need-slice-aggregate-put-listing-2
-slice-aggregate-put-listing-2 c = search needs
+enum-known-outcome : tie.Need-enum-known-outcome
+enum-known-outcome c = search needs
 
-slice-aggregate-put-listing-3 : tie.Need-slice-aggregate-put-listing-3
-slice-aggregate-put-listing-3 c = search needs
+put-refusal-requires : tie.Need-put-refusal-requires
+put-refusal-requires c κs = search needs
 
-slice-aggregate-put-listing-4 : tie.Need-slice-aggregate-put-listing-4
-slice-aggregate-put-listing-4 c = search needs
+enum-told : tie.Need-enum-told
+enum-told c = search needs
 
-slice-aggregate-put-listing-5 : tie.Need-slice-aggregate-put-listing-5
-slice-aggregate-put-listing-5 c = search needs
-
-put-listing-requires : tie.Need-put-listing-requires
-put-listing-requires c κs = (unfold zeros in refl, search needs)
+put-checked-requires : tie.Need-put-checked-requires
+put-checked-requires c κs = search needs
 
 returns : tie.Need-returns
-returns c = as-answered _ (search needs) (c .before .before .before .before .before .put-listing .ensures)
+returns c =
+    let m = c .before .before .before in
+    let k = m .before .before in
+    let file = k .before .before .args .file .now in
+    as-answered file (search needs) (refusal-answered file (k .read-file .ensures) _ (m .outcome .given .1) (c .put-refusal .ensures))
+
+returns-2 : tie.Need-returns-2
+returns-2 c =
+    let m = c .before .before in
+    let k = m .before .before in
+    let file = k .before .before .args .file .now in
+    as-answered file (search needs) (check-answered file (k .read-file .ensures) (m .enum-told .given .1) (c .put-checked .ensures))
 
 pub answer-file-spec : {M : Type 1} → statement M
 answer-file-spec =
     tie.close
     (tie.spec
-    slice-aggregate-put-listing
-    slice-aggregate-put-listing-2
-    slice-aggregate-put-listing-3
-    slice-aggregate-put-listing-4
-    slice-aggregate-put-listing-5
-    put-listing-requires
-    returns)
+    read-file-requires
+    enum-known-outcome
+    put-refusal-requires
+    enum-told
+    put-checked-requires
+    returns
+    returns-2)

@@ -1,0 +1,38 @@
+-- Every limit of an accepted check is at most 2^60, so a register entry can be made of it.
+--   solution-size, inverse-size — the limits of an accepted check
+use mathlib.Core.Path.{_≡_}
+use mathlib.Core.List.{[]}
+use Prim.Native.Nat.{ℕ, _+_, _*_, _≤_, _<_}
+use borrow.Author.Tests.{ltb-false}
+use lib.IntN.{natAbs}
+use Rattle.linear.proofs.Places.{place}
+use Rattle.enclosure.specs.Largest.{largestBound}
+use Rattle.enclosure.specs.Problem.{columnOf}
+use Rattle.enclosure.specs.Reckoning.{margin, load, defect, residual, slack, allowedResidual, exceeds, bound, inverseBound}
+use Rattle.enclosure.proofs.Largest.{bound-size}
+use Rattle.enclosure.proofs.Margin.{margin-above}
+use Rattle.checked.specs.Order.{checkedOf}
+use Rattle.checked.specs.Input.{Input, problem}
+use Rattle.checked.proofs.Contract.{said-sound}
+use Rattle.checked.proofs.Fit.{Fit}
+
+module _ (I : Input) (fit : Fit I) (e : checkedOf (problem I) ≡ []) where
+  pub solution-size : (i : ℕ) → i < I .n → bound (problem I) i ≤ largestBound
+  unfolding bound exceeds
+  solution-size = bound-size (problem I) (residual (problem I)) (slack (problem I)) (record {
+    few = fit .few;
+    inverse = λ i j li lj. fit .inverse .within .size (i * I .n + j) (place li lj);
+    weights = fit .weights .within .size;
+    residuals = λ k l. ltb-false allowedResidual (natAbs (residual (problem I) k) + slack (problem I) k) (said-sound (problem I) e .residuals k l);
+    margins = λ m l. margin-above (problem I) m (said-sound (problem I) e .margins m l);
+  })
+
+  pub inverse-size : (i j : ℕ) → i < I .n → j < I .n → inverseBound (problem I) i j ≤ largestBound
+  unfolding bound exceeds margin load defect
+  inverse-size i j li lj = bound-size (columnOf (problem I) j) (residual (columnOf (problem I) j)) (slack (columnOf (problem I) j)) (record {
+    few = fit .few;
+    inverse = λ i j li lj. fit .inverse .within .size (i * I .n + j) (place li lj);
+    weights = fit .weights .within .size;
+    residuals = λ k l. ltb-false allowedResidual (natAbs (residual (columnOf (problem I) j) k) + slack (columnOf (problem I) j) k) (said-sound (problem I) e .columns j lj k l);
+    margins = λ m l. margin-above (problem I) m (said-sound (problem I) e .margins m l);
+  }) i li

@@ -1,0 +1,10 @@
+pub mod Places
+pub mod Written
+pub mod Lengths
+pub mod Fit
+pub mod Contract
+pub mod Statements
+pub mod Agreement
+pub mod Before
+pub mod Largest
+pub mod Table

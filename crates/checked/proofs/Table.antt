@@ -1,0 +1,38 @@
+-- Cases a to k of document 01 follow from the definitions that the contract of `check` cites; and its whole file meets both halves of demand 3 on `check` itself.
+--   cases-hold    — one theorem for all rows of the table, computed
+--   file-usable, file-rounded-here, file-accepted — the whole file passes 8 and 3, is a rounded exact proposal, and is accepted
+use mathlib.Core.Path.{_≡_, refl, _∙_}
+use mathlib.Core.Bool.{true}
+use mathlib.Core.List.{[]}
+use lib.Dec.{lit<}
+use Rattle.integer.specs.Finite.{sum, sumℕ, largest, first}
+use Rattle.integer.specs.Quotient.{ceilDiv}
+use Rattle.linear.specs.Matrix.{apply, product, identity}
+use Rattle.rules.specs.Range.{ranges, rangeOf, inRange, allInRange}
+use Rattle.enclosure.specs.Demand.{RoundedExact}
+use Rattle.enclosure.specs.Example as example
+use Rattle.enclosure.specs.Reckoning.{defect, load, margin, residual, exceeds, sizesWith, boundFrom, boundWith, bound}
+use Rattle.enclosure.proofs.Instance.{file-rounded, file-sound}
+use Rattle.checked.specs.Cases.{rows, allRowsHold, inputOf, e}
+use Rattle.checked.specs.Checked.{written, solutionBoundsAfter, inverseBoundsAfter}
+use Rattle.checked.specs.Input.{Input, problem}
+use Rattle.checked.specs.Order.{answer}
+use Rattle.checked.specs.Stated.{Usable}
+use Rattle.checked.proofs.Contract.{answer-ready, sound-said}
+
+pub cases-hold : allRowsHold rows ≡ true
+unfolding answer solutionBoundsAfter inverseBoundsAfter written bound boundWith boundFrom sizesWith exceeds residual margin load defect product apply identity sum sumℕ largest first ceilDiv allInRange inRange rangeOf ranges
+cases-hold = refl
+
+abbrev pub fileInput : Input
+fileInput = inputOf e
+
+pub file-usable : Usable fileInput
+unfolding allInRange inRange rangeOf ranges
+file-usable = record { long = refl; inside = refl }
+
+pub file-rounded-here : RoundedExact (problem fileInput) example.exact 11 example.exactInverse 11
+file-rounded-here = file-rounded
+
+pub file-accepted : answer fileInput ≡ []
+file-accepted = answer-ready fileInput (file-usable .long) (file-usable .inside) ∙ sound-said (problem fileInput) (lit< tt) file-sound

@@ -1,0 +1,108 @@
+-- A check on lists that passes 8 and 3, as work for the reckoning: its base is S·b, 2^25 is allowed in every row, and there is no slack.
+--   workOf I base allowed slacks — the work
+--   Handed   — what the three arrays hold;  workable — the reckoning may start on it
+--   reckoned-checked — what the reckoning makes of it is the contract of the check
+use mathlib.Core.Path.{_≡_, refl, sym, ap, _∙_}
+use mathlib.Core.Bool.{true, false}
+use mathlib.Core.List.{List}
+use Prim.Native.Nat.{ℕ, _+_, _*_, _≤_, _<_, _^_}
+use native.Mathlib.Omega.{arith}
+use borrow.Author.Tests.{ltb-false}
+use lib.Dec.{lit≤}
+use lib.IntN.{ℤ, pos, natAbs, _*ℤ_}
+use lib.ListN.{getD, length, replicate, getD-replicate}
+use Rattle.integer.proofs.Search.{first-ext}
+use Rattle.linear.specs.Slice.{at}
+use Rattle.linear.specs.Reach.{ColumnList}
+use Rattle.linear.proofs.Slack.{slack-ext}
+use Rattle.rules.specs.declared.Outcome.{Outcome}
+use Rattle.enclosure.specs.Reckoning.{margin, load, defect, residual, slack, allowedResidual, exceeds, sizesWith, boundWith, bound}
+use Rattle.enclosure.proofs.Before.{exceeds-before}
+use Rattle.enclosure.proofs.Bounds.{bound-ext}
+use Rattle.reckoning.specs.Arrays.{Begins}
+use Rattle.reckoning.specs.Parts.{aboveAllowed}
+use Rattle.reckoning.proofs.Sizes.{scaled-size}
+use Rattle.checked.specs.Checked.{Checked, written}
+use Rattle.checked.specs.Input.{Input, problem, short, inRanges}
+use Rattle.checked.specs.Order.{checkedOf}
+use Rattle.checked.proofs.Contract.{checked-ready}
+use Rattle.checked.proofs.Fit.{Fit, fit-of}
+use Rattle.checker.specs.Work.{Work, work, workProblem, workResidual, workSlack, workAnswer, Workable, ReckonedAs}
+use Rattle.checker.proofs.Written.{written-ext}
+
+-- 2^25 in every row
+abbrev pub everywhere : List ℤ
+everywhere = replicate 32 (pos allowedResidual)
+
+pub everywhere-within : {n : ℕ} → n ≤ 32 → ColumnList everywhere n allowedResidual
+everywhere-within few = record {
+  long = few;
+  within = record { size = λ k l. rw (getD-replicate 32 k (pos allowedResidual) (pos 0) (omega arith)) (lit≤ tt) };
+}
+
+abbrev pub workOf : Input → List ℤ → List ℤ → List ℕ → Work
+workOf I base allowed slacks =
+    work (I .n) (I .t) (I .matrix) base allowed slacks (I .guess) (I .inverse) (I .weights) (I .solutionBounds) (I .inverseBounds)
+
+pub record Handed (I : Input) (b a : List ℤ) (σ : List ℕ) : Type 0 where
+  pub base-long : length b ≡ 32
+  pub base : Begins (pos 0) b (I .n) (λ (k : ℕ). pos (2 ^ I .s) *ℤ at (I .right) k)
+  pub allowed-long : length a ≡ 32
+  pub allowed : (k : ℕ) → k < 32 → at a k ≡ pos allowedResidual
+  pub slacks : (k : ℕ) → k < 32 → getD σ k 0 ≡ 0
+
+module _ (I : Input) {base allowed : List ℤ} {slacks : List ℕ} (e : short I ≡ false) (f : inRanges I ≡ true) (h : Handed I base allowed slacks) where
+  abbrev W : Work
+  W = workOf I base allowed slacks
+
+  fit : Fit I
+  fit = fit-of I e f
+
+  below : {k : ℕ} → k < I .n → k < 32
+  below l = omega (arith, fit .few)
+
+  pub workable : Workable W
+  workable = record {
+    some = fit .some;
+    few = fit .few;
+    inverse-scale = fit .inverse-scale;
+    matrix = fit .matrix;
+    base = record {
+      long = omega (arith, h .base-long, fit .few);
+      within = record { size = λ k l. rw (h .base .each k l) (omega (arith, scaled-size (I .s) (at (I .right) k) (fit .solution-scale) (fit .right .within .size k l))) };
+    };
+    allowed = record { long = omega (arith, h .allowed-long, fit .few); within = record { size = λ k l. rw (h .allowed k (below l)) (lit≤ tt) } };
+    room = λ k l z p. rw (h .slacks k (below l)) (omega (arith, ltb-false allowedResidual (natAbs z) (rw (h .allowed k (below l)) at p)));
+    guess = fit .guess;
+    inverse = fit .inverse;
+    weights = fit .weights;
+    solution-long = fit .solution-long;
+    inverse-long = fit .inverse-long;
+  }
+
+  -- the residuals and the slacks are the problem's
+  residual-is : (k : ℕ) → k < I .n → workResidual W k ≡ residual (problem I) k
+  unfolding residual
+  residual-is k l = rw (h .base .each k l)
+
+  exceeds-is : (k : ℕ) → k < I .n → aboveAllowed (at allowed k) (workResidual W k) ≡ exceeds (problem I) k
+  exceeds-is k l = rw (h .allowed k (below l), residual-is k l) (sym (exceeds-before (problem I) k))
+
+  answer-is : workAnswer W ≡ checkedOf (problem I)
+  unfolding margin load defect exceeds residual
+  answer-is = rw (first-ext (I .n) (λ (k : ℕ). aboveAllowed (at allowed k) (workResidual W k)) (exceeds (problem I)) exceeds-is)
+
+  bound-is : (i : ℕ) → boundWith (workProblem W) (workResidual W) (workSlack W) i ≡ bound (problem I) i
+  unfolding bound boundWith sizesWith margin load defect
+  bound-is i =
+      bound-ext (I .n) _ _ _ _ _ i
+      (λ m l. slack-ext (I .n) (problem I .G) (problem I .G) (workResidual W) (residual (problem I)) (workSlack W) (slack (problem I)) m (λ j lj. refl) residual-is (λ j lj. h .slacks j (below lj)))
+      (λ m l. refl)
+
+  solution-is : written (I .n) (boundWith (workProblem W) (workResidual W) (workSlack W)) (I .solutionBounds) ≡ written (I .n) (bound (problem I)) (I .solutionBounds)
+  solution-is = written-ext (I .n) (boundWith (workProblem W) (workResidual W) (workSlack W)) (bound (problem I)) (I .solutionBounds) (λ i l. bound-is i)
+
+  pub reckoned-checked : {r : Outcome} {E L : List ℕ} → ReckonedAs W r E L → Checked I r E L
+  reckoned-checked {r} {E} {L} x =
+      checked-ready I e f (x .says ∙ answer-is) (rw (answer-is, solution-is) at (x .solution-bounds))
+      (unfold bound boundWith sizesWith residual margin load defect in rw answer-is at (x .inverse-bounds))

@@ -1,0 +1,32 @@
+-- Document 01's own text of the definitions that now take a residual and a slack, or cite one that does; proofs/Before says that they are
+-- equal.
+--   exceeds01 P k z  — the residual z of row k is above 2^25 in size
+--   sizes01 P m      — |p_m|
+--   bound01 P i      — limit i: the largest over all rows m of w_i·|p_m| / g_m, each rounded up;  inverseBound01 P i j — of the inverse
+--   Sound01 P        — every margin is above 0, no residual of the guess or of a column of the inverse above 2^25 in size
+use mathlib.Core.Bool.{Bool, false}
+use mathlib.Core.Path.{_≡_}
+use Prim.Native.Nat.{ℕ, _<_, _^_}
+use lib.Dec.{ltb}
+use lib.IntN.{ℤ, natAbs}
+use Rattle.enclosure.specs.Problem.{Problem, columnOf}
+use Rattle.enclosure.specs.Reckoning.{margin, residual, boundFrom}
+use Rattle.enclosure.specs.Demand.{Margins}
+use Rattle.enclosure.specs.Schroeder.{image}
+
+abbrev pub exceeds01 : Problem → ℕ → ℤ → Bool
+exceeds01 P k z = ltb (2 ^ 25) (natAbs z)
+
+abbrev pub sizes01 : Problem → ℕ → ℕ
+sizes01 P m = natAbs (image P m)
+
+abbrev pub bound01 : Problem → ℕ → ℕ
+bound01 P = boundFrom (P .n) (sizes01 P) (λ (m : ℕ). natAbs (margin P m)) (P .w)
+
+abbrev pub inverseBound01 : Problem → ℕ → ℕ → ℕ
+inverseBound01 P i j = bound01 (columnOf P j) i
+
+pub record Sound01 (P : Problem) : Type 0 where
+  pub margins : Margins P
+  pub residuals : (k : ℕ) → k < P .n → exceeds01 P k (residual P k) ≡ false
+  pub columns : (j : ℕ) → j < P .n → (k : ℕ) → k < P .n → exceeds01 P k (residual (columnOf P j) k) ≡ false

@@ -1,0 +1,45 @@
+-- Problems that agree on the first n numbers of each list have the same report.
+--   report-same, reported-same — a report from equal numbers, and that of such problems
+use mathlib.Core.Path.{_≡_, ap}
+use mathlib.Core.List.{List, _++_}
+use Prim.Native.Nat.{ℕ, _+_, _<_}
+use lib.IntN.{ℤ}
+use Rattle.linear.specs.Matrix.{Vec, Mat}
+use Rattle.enclosure.specs.Problem.{Problem}
+use Rattle.enclosure.specs.Reckoning.{bound, inverseBound}
+use Rattle.enclosure.proofs.Agreement.{bound-same}
+use Rattle.numeral.specs.Decimal.{decimal}
+use Rattle.text.specs.Line.{gap, numbers, lineOpening, lineClosing}
+use Rattle.text.proofs.Each.{each-ext}
+use Rattle.report.specs.Report.{solutionLine, entryLine, inverseLine, reportOf}
+use Rattle.form.specs.Form.{bytes}
+use Rattle.checked.proofs.Agreement.{inverse-same}
+use Rattle.file_check.specs.Judged.{reportedOf}
+
+-- ---- a report has only the first n numbers
+module _ (n s : ℕ) (X X′ : ℕ → ℤ) (E E′ : ℕ → ℕ) (L L′ : ℕ → ℕ → ℕ) (hX : (i : ℕ) → i < n → X i ≡ X′ i) (hE : (i : ℕ) → i < n → E i ≡ E′ i)
+    (hL : (i j : ℕ) → i < n → j < n → L i j ≡ L′ i j) where
+  row-same : (i : ℕ) → i < n → numbers n (L i) ≡ numbers n (L′ i)
+  row-same i l = each-ext n (λ (j : ℕ). gap j ++ decimal (L i j)) (λ (j : ℕ). gap j ++ decimal (L′ i j)) (λ j lj. rw (hL i j l lj))
+
+  pub report-same : reportOf n s X E L ≡ reportOf n s X′ E′ L′
+  unfolding reportOf
+  report-same =
+      rw (
+        each-ext n (solutionLine X E) (solutionLine X′ E′) (λ i l. rw (hX i l, hE i l)),
+        each-ext n (entryLine s X E) (entryLine s X′ E′) (λ i l. rw (hX i l, hE i l)),
+        each-ext n (inverseLine n L) (inverseLine n L′) (λ i l. ap (λ (t : List ℕ). lineOpening (bytes "(inverse ") (i + 1) ++ t ++ lineClosing) (row-same i l)),
+      )
+
+module _ (n s t : ℕ) (A A′ : Mat) (b b′ X X′ : Vec) (G G′ : Mat) (w w′ : ℕ → ℕ) (hA : (i j : ℕ) → i < n → j < n → A i j ≡ A′ i j)
+    (hb : (i : ℕ) → i < n → b i ≡ b′ i) (hX : (i : ℕ) → i < n → X i ≡ X′ i) (hG : (i j : ℕ) → i < n → j < n → G i j ≡ G′ i j) (hw : (i : ℕ) → i < n → w i ≡ w′ i) where
+  abbrev P : Problem
+  P = record { n = n; s = s; t = t; A = A; b = b; X = X; G = G; w = w }
+
+  abbrev Q : Problem
+  Q = record { n = n; s = s; t = t; A = A′; b = b′; X = X′; G = G′; w = w′ }
+
+  pub reported-same : reportedOf P ≡ reportedOf Q
+  reported-same =
+      report-same n s X X′ (bound P) (bound Q) (inverseBound P) (inverseBound Q) hX (bound-same n s t A A′ b b′ X X′ G G′ w w′ hA hb hX hG hw)
+      (inverse-same n s t A A′ b b′ X X′ G G′ w w′ hA hb hX hG hw)

@@ -1,0 +1,96 @@
+-- A file that has come to its end: what the check says of the lists, and what is reported, is what the file's forms give.
+--   checked-forms, reported-forms — what the reckoning says of the lists, and the report, are those of the problem that the forms give
+--   some, fine, heavy — n is above 0, t at most 20, every weight at least 1
+--   ranges-hold, answer-forms — no complete file gives 3, and its check says what the reckoning says
+use mathlib.Core.Path.{_≡_, refl, sym, ap, _∙_, subst}
+use mathlib.Core.Bool.{true, false}
+use mathlib.Core.List.{List}
+use Prim.Native.Nat.{ℕ, suc, _+_, _*_, _-_, _≤_, _<_}
+use native.Mathlib.Omega.{arith}
+use lib.IntN.{pos, natAbs}
+use lib.ListN.{getD}
+use Rattle.rules.specs.declared.Kind.the-variants as kind
+use Rattle.rules.proofs.AllInRange.{all-at}
+use Rattle.rules.proofs.Ranges.{both, size-range, inverse-scale-range, weight-range}
+use Rattle.linear.specs.Slice.{at, vectorOf, matrixOf}
+use Rattle.enclosure.specs.Problem.{Problem}
+use Rattle.checked.specs.Input.{problem, short, inRanges}
+use Rattle.checked.specs.Order.{answer, checkedOf}
+use Rattle.checked.proofs.Contract.{answer-ready}
+use Rattle.form.specs.Form.{Form}
+use Rattle.lent_lists.specs.Slot.{Slot, Matrix, Right, Guess, Inverse, Weight, width}
+use Rattle.lent_lists.specs.Lists.{listOf}
+use Rattle.line_runs.specs.Run.{State}
+use Rattle.line_runs.specs.Given.{valueFrom}
+use Rattle.line_runs.specs.Holds.{InRange}
+use Rattle.line_runs.proofs.End.{FromForms}
+use Rattle.file_check.specs.Problem.{problemFrom}
+use Rattle.file_check.specs.Judged.{reportedOf}
+use Rattle.file_check.specs.Shown.{inputAt}
+use Rattle.checked.proofs.Agreement.{checked-same}
+use Rattle.file_check.proofs.Agreed.{reported-same}
+
+module _ (u : State) (fs : List Form) (from : FromForms fs u) where
+  abbrev n : ℕ
+  n = u .loader .n
+
+  wide : (s : Slot) → width s n ≡ n → (i j : ℕ) → i < n → j < n → getD (listOf s (u .lists)) (i * n + j) (pos 0) ≡ valueFrom fs s (suc i) j
+  wide s w i j li lj =
+      let place : (suc i - 1) * width s n + j ≡ i * n + j = let f : suc i - 1 ≡ i = omega arith in rw (w, f) in
+      subst (λ (k : ℕ). getD (listOf s (u .lists)) k (pos 0) ≡ valueFrom fs s (suc i) j) place (from .values s (suc i) j (omega arith) (omega arith) (rw w lj))
+
+  narrow : (s : Slot) → width s n ≡ 1 → (i : ℕ) → i < n → getD (listOf s (u .lists)) i (pos 0) ≡ valueFrom fs s (suc i) 0
+  narrow s w i li =
+      let place : (suc i - 1) * width s n + 0 ≡ i = rw w (omega arith) in
+      subst (λ (k : ℕ). getD (listOf s (u .lists)) k (pos 0) ≡ valueFrom fs s (suc i) 0) place (from .values s (suc i) 0 (omega arith) (omega arith) (rw w (omega arith)))
+
+  -- the problem that the forms give, with the loader's n, s and t
+  abbrev given : Problem
+  given = record {
+    n = n;
+    s = u .loader .s;
+    t = u .loader .t;
+    A = λ (i j : ℕ). valueFrom fs Matrix (suc i) j;
+    b = λ (i : ℕ). valueFrom fs Right (suc i) 0;
+    X = λ (i : ℕ). valueFrom fs Guess (suc i) 0;
+    G = λ (i j : ℕ). valueFrom fs Inverse (suc i) j;
+    w = λ (i : ℕ). natAbs (valueFrom fs Weight (suc i) 0);
+  }
+
+  given-is : given ≡ problemFrom fs
+  given-is = rw (from .size, from .scales .0, from .scales .1)
+
+  -- what the theorems of the enclosure ask of the problem
+  module _ (h : InRange u) where
+    pub some : 0 < problemFrom fs .n
+    some = rw (sym (from .size)) (size-range n (h .size) .0)
+
+    pub fine : problemFrom fs .t ≤ 20
+    fine = rw (sym (from .scales .1)) (inverse-scale-range (u .loader .t) (h .inverse-scale))
+
+    pub heavy : (i : ℕ) → i < problemFrom fs .n → 1 ≤ problemFrom fs .w i
+    heavy i l =
+        let k : i < n = rw (from .size) l in
+        rw (sym (narrow Weight refl i k)) (weight-range (at (u .lists .weights) i) (all-at kind.Weight n (at (u .lists .weights)) (h .weights) i k) .0)
+
+  pub checked-forms : checkedOf (problem (inputAt u)) ≡ checkedOf (problemFrom fs)
+  checked-forms =
+      checked-same n (u .loader .s) (u .loader .t) (matrixOf (u .lists .matrix) n) (given .A) (vectorOf (u .lists .right)) (given .b) (vectorOf (u .lists .guess)) (given .X)
+      (matrixOf (u .lists .inverse) n) (given .G) (λ i. natAbs (at (u .lists .weights) i)) (given .w)
+      (wide Matrix refl) (narrow Right refl) (narrow Guess refl) (wide Inverse refl) (λ i l. ap natAbs (narrow Weight refl i l))
+      ∙ ap checkedOf given-is
+
+  pub reported-forms : reportedOf (problem (inputAt u)) ≡ reportedOf (problemFrom fs)
+  reported-forms =
+      reported-same n (u .loader .s) (u .loader .t) (matrixOf (u .lists .matrix) n) (given .A) (vectorOf (u .lists .right)) (given .b) (vectorOf (u .lists .guess)) (given .X)
+      (matrixOf (u .lists .inverse) n) (given .G) (λ i. natAbs (at (u .lists .weights) i)) (given .w)
+      (wide Matrix refl) (narrow Right refl) (narrow Guess refl) (wide Inverse refl) (λ i l. ap natAbs (narrow Weight refl i l))
+      ∙ ap reportedOf given-is
+
+  module _ (h : InRange u) (long : short (inputAt u) ≡ false) where
+    pub ranges-hold : inRanges (inputAt u) ≡ true
+    ranges-hold =
+        both (both (h .size) (both (h .solution) (h .inverse-scale))) (both (h .matrix) (both (h .right) (both (h .guess) (both (h .inverse) (h .weights)))))
+
+    pub answer-forms : answer (inputAt u) ≡ checkedOf (problemFrom fs)
+    answer-forms = answer-ready (inputAt u) long ranges-hold ∙ checked-forms

@@ -1,0 +1,3 @@
+pub mod Agreed
+pub mod Forms
+pub mod Shown

@@ -1,0 +1,146 @@
+// How far a loader has come (01: desk): the stage it is at and, for each part, the set of the forms it was given.
+ghost use mathlib.Core.Path.{_≡_};
+ghost use mathlib.Core.Bool.{true, false, cond};
+ghost use mathlib.Core.List.{[], _∷_};
+ghost use Prim.Native.Nat.{_≤_};
+ghost use Rattle.rules.specs.Refusal.{said};
+ghost use Rattle.form_values.specs.Item.{placed};
+ghost use Rattle.given_forms.specs.Progress.{given, marked, missing, sized, scaled, ended, early, misplaced, repeated, incomplete};
+use form_values::Item;
+use form_values::Part;
+use rules::Kind;
+use rules::Outcome;
+use rules::Refusal;
+
+// Nothing given yet, problem given, scale given, end accepted.
+pub enum Stage {
+    Start,
+    Sized,
+    Scaled,
+    Ended,
+}
+
+fn is_sized(stage: Stage) -> bool
+    ensures { λ r. ⌜ r ≡ sized stage ⌝ }
+{
+    match stage {
+        Stage::Start => false,
+        Stage::Sized => true,
+        Stage::Scaled => true,
+        Stage::Ended => true,
+    }
+}
+
+fn is_scaled(stage: Stage) -> bool
+    ensures { λ r. ⌜ r ≡ scaled stage ⌝ }
+{
+    match stage {
+        Stage::Start => false,
+        Stage::Sized => false,
+        Stage::Scaled => true,
+        Stage::Ended => true,
+    }
+}
+
+// 14: whether the end was accepted.
+pub fn is_ended(stage: Stage) -> bool
+    ensures { λ r. ⌜ r ≡ ended stage ⌝ }
+{
+    match stage {
+        Stage::Start => false,
+        Stage::Sized => false,
+        Stage::Scaled => false,
+        Stage::Ended => true,
+    }
+}
+
+// 11: whether a form comes before problem, or before scale.
+pub fn is_early(stage: Stage, item: Item) -> bool
+    ensures { λ r. ⌜ r ≡ early stage item ⌝ }
+{
+    match item {
+        Item::Problem(_) => false,
+        Item::Scale(_, _) => !is_sized(stage),
+        Item::Of(_, _) => !is_scaled(stage),
+        Item::End => !is_scaled(stage),
+    }
+}
+
+// 3 for the place: whether i is not 1 to n, or n itself is out of range.
+pub fn is_misplaced(stage: Stage, n: u32, item: Item) -> bool
+    ensures { λ r. ⌜ r ≡ misplaced stage n item ⌝ }
+{
+    if is_sized(stage) {
+        if rules::is_in_range(Kind::Size, n as i64) {
+            !form_values::is_placed(item, n)
+        } else {
+            true
+        }
+    } else {
+        !form_values::is_placed(item, n)
+    }
+}
+
+// Whether the form of a part for the number i, from 1, was given.
+fn has(sets: [u32; 5], part: Part, i: u32) -> bool
+    requires { ⌜ (1 ≤ i) × (i ≤ 32) ⌝ }
+    ensures { λ r. ⌜ r ≡ given sets part i ⌝ }
+{
+    let j = form_values::part_index(part);
+    bit_set::has_place(sets[j], i - 1)
+}
+
+// The sets with that form.
+pub fn with(mut sets: [u32; 5], part: Part, i: u32) -> [u32; 5]
+    requires { ⌜ (1 ≤ i) × (i ≤ 32) ⌝ }
+    ensures { λ r. ⌜ r ≡ marked sets part i ⌝ }
+{
+    let j = form_values::part_index(part);
+    sets[j] = bit_set::with_place(sets[j], i - 1);
+    sets
+}
+
+// 12: whether a form was given already.
+pub fn is_repeated(stage: Stage, sets: [u32; 5], item: Item) -> bool
+    requires { ⌜ placed 32 item ≡ true ⌝ }
+    ensures { λ r. ⌜ r ≡ repeated stage sets item ⌝ }
+{
+    match item {
+        Item::Problem(_) => is_sized(stage),
+        Item::Scale(_, _) => is_scaled(stage),
+        Item::Of(part, i) => has(sets, part, form_values::place_of(i)),
+        Item::End => false,
+    }
+}
+
+// How many forms are still missing out of 5n.
+fn count_missing(sets: [u32; 5], n: u32) -> u32
+    requires { ⌜ (1 ≤ n) × (n ≤ 32) ⌝ }
+    ensures { λ r. ⌜ r ≡ missing n sets ⌝ }
+{
+    bit_set::count_lacking(sets[0], n)
+        + bit_set::count_lacking(sets[1], n)
+        + bit_set::count_lacking(sets[2], n)
+        + bit_set::count_lacking(sets[3], n)
+        + bit_set::count_lacking(sets[4], n)
+}
+
+// 13: end with forms outstanding, and their count. Any other form is accepted here.
+pub fn judge_end(stage: Stage, n: u32, sets: [u32; 5], item: Item) -> Outcome
+    requires { ⌜ (early stage item ≡ false) × (misplaced stage n item ≡ false) ⌝ }
+    ensures { λ r. ⌜ said r ≡ cond (incomplete n sets item) (13 ∷ missing n sets ∷ []) [] ⌝ }
+{
+    match item {
+        Item::Problem(_) => Outcome::Accepted,
+        Item::Scale(_, _) => Outcome::Accepted,
+        Item::Of(_, _) => Outcome::Accepted,
+        Item::End => {
+            let count = count_missing(sets, n);
+            if 0 < count {
+                Outcome::Refused(Refusal::Missing(count))
+            } else {
+                Outcome::Accepted
+            }
+        }
+    }
+}

@@ -1,4 +1,0 @@
-pub mod Item
-pub mod Put
-pub mod Lists
-pub mod Capped

@@ -1,4 +1,0 @@
-pub mod Agreed
-pub mod Forms
-pub mod Largest
-pub mod Shown

@@ -1,0 +1,4 @@
+pub mod Slot
+pub mod Put
+pub mod Lists
+pub mod Exact

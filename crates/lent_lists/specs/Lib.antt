@@ -1,0 +1,4 @@
+pub mod Slot
+pub mod Lists
+pub mod Put
+pub mod Pasted

@@ -1,0 +1,60 @@
+-- What the code writes of a form, its numbers capped; cited by the contracts inside. proofs/Exact.antt ties it to `put`.
+--   Narrow w x    — the item x, if it is of a part, has i in 1 to 32 and at most 32 numbers, w
+--   Room w k x    — the same, in a list of length k that has room for 32 · w;  Rooms n x l — in every list
+--   nowhere       — no place;  spanOf p x w — the places of the item x in a list of the part p, of w numbers a form: none where it is of another part
+--   pastedAt       — a list after the first of 32 numbers were written there;  pastedAll n x vs l — all lists after the item x
+use mathlib.Core.Bool.{true, cond}
+use mathlib.Core.List.{List}
+use mathlib.Core.Path.{_≡_}
+use Prim.Native.Nat.{ℕ, _*_, _-_, _≤_}
+use lib.Dec.{eqb}
+use lib.IntN.{ℤ, natAbs}
+use lib.ListN.{length}
+use lib.Seq.{paste}
+use Rattle.form_values.specs.Item.{partIndex, placed}
+use Rattle.form_values.specs.declared.Item.{Item}
+use Rattle.form_values.specs.declared.Item.the-variants.{Problem, Scale, Of, End}
+use Rattle.form_values.specs.declared.Part.{Part}
+use Rattle.form_values.specs.declared.Part.the-variants.{Row, Right, Guess, Inverse, Weight}
+use Rattle.lent_lists.specs.declared.Span.{Span}
+use Rattle.lent_lists.specs.Lists.{Lists}
+
+abbrev pub Narrow : ℕ → Item → Type 0
+Narrow w (Problem n) = Unit
+Narrow w (Scale s t) = Unit
+Narrow w (Of p i) = (w ≤ 32) × (placed 32 (Of p i) ≡ true)
+Narrow w End = Unit
+
+abbrev pub Room : ℕ → ℕ → Item → Type 0
+Room w k (Problem n) = Unit
+Room w k (Scale s t) = Unit
+Room w k (Of p i) = (w ≤ 32) × (32 * w ≤ k) × (placed 32 (Of p i) ≡ true)
+Room w k End = Unit
+
+pub record Rooms (n : ℕ) (x : Item) (l : Lists) : Type 0 where
+  pub matrix : Room n (length (l .matrix)) x
+  pub right : Room 1 (length (l .right)) x
+  pub guess : Room 1 (length (l .guess)) x
+  pub inverse : Room n (length (l .inverse)) x
+  pub weights : Room 1 (length (l .weights)) x
+
+abbrev pub nowhere : Span
+nowhere = record { at = 0; count = 0 }
+
+abbrev pub spanOf : Part → Item → ℕ → Span
+spanOf p (Problem n) w = nowhere
+spanOf p (Scale s t) w = nowhere
+spanOf p (Of q i) w = cond (eqb (partIndex p) (partIndex q)) (record { at = (natAbs i - 1) * w; count = w }) nowhere
+spanOf p End w = nowhere
+
+abbrev pub pastedAt : Span → List ℤ → List ℤ → List ℤ
+pastedAt s vs l = paste l (s .at) vs (s .count)
+
+abbrev pub pastedAll : ℕ → Item → List ℤ → Lists → Lists
+pastedAll n x vs l = record {
+  matrix = pastedAt (spanOf Row x n) vs (l .matrix);
+  right = pastedAt (spanOf Right x 1) vs (l .right);
+  guess = pastedAt (spanOf Guess x 1) vs (l .guess);
+  inverse = pastedAt (spanOf Inverse x n) vs (l .inverse);
+  weights = pastedAt (spanOf Weight x 1) vs (l .weights);
+}

@@ -1,0 +1,34 @@
+-- Where the numbers of a form go (01: "its form's other numbers at their own places in the lent lists, and changes no other number in those
+-- lists"). Row i of an n-wide matrix starts at (i − 1)·n.
+--   putItem s n x vs l — the list l of the slot s after the item x with the values vs; `sets l k vs` is l with vs from the place k on
+--   put s n f l  — that list after the form f, at a loader of size n;  putAll n f l — all lists
+use mathlib.Core.Bool.{cond}
+use mathlib.Core.List.{List}
+use Prim.Native.Nat.{ℕ, _*_, _-_}
+use lib.Dec.{eqb}
+use lib.IntN.{ℤ, natAbs}
+use lib.Seq.{sets}
+use Rattle.form.specs.Form.{Form}
+use Rattle.form_values.specs.Item.{itemOf, partIndex}
+use Rattle.form_values.specs.declared.Item.{Item}
+use Rattle.form_values.specs.declared.Item.the-variants.{Problem, Scale, Of, End}
+use Rattle.lent_lists.specs.Slot.{Slot, Matrix, Right, Guess, Inverse, Weight, partOf, width, valuesFor}
+use Rattle.lent_lists.specs.Lists.{Lists}
+
+abbrev pub putItem : Slot → ℕ → Item → List ℤ → List ℤ → List ℤ
+putItem s n (Problem m) vs l = l
+putItem s n (Scale u v) vs l = l
+putItem s n (Of p i) vs l = cond (eqb (partIndex (partOf s)) (partIndex p)) (sets l ((natAbs i - 1) * width s n) vs) l
+putItem s n End vs l = l
+
+abbrev pub put : Slot → ℕ → Form → List ℤ → List ℤ
+put s n f l = putItem s n (itemOf f) (valuesFor s f) l
+
+abbrev pub putAll : ℕ → Form → Lists → Lists
+putAll n f l = record {
+  matrix = put Matrix n f (l .matrix);
+  right = put Right n f (l .right);
+  guess = put Guess n f (l .guess);
+  inverse = put Inverse n f (l .inverse);
+  weights = put Weight n f (l .weights);
+}

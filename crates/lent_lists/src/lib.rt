@@ -1,0 +1,89 @@
+// The five lent lists: whether one is too short, and where the numbers of a form are written.
+ghost use mathlib.Core.Path.{_≡_};
+ghost use Prim.Native.Nat.{_+_, _≤_};
+ghost use lib.ListN.{length};
+ghost use lib.Seq.{paste};
+ghost use Rattle.lent_lists.specs.Lists.{lists, tooShort};
+ghost use Rattle.lent_lists.specs.Pasted.{Narrow, Room, Rooms, spanOf, pastedAt, pastedAll};
+use form_values::Item;
+use form_values::Part;
+
+// 8: whether a list of one of these lengths is too short.
+pub fn is_short(matrix: usize, right: usize, guess: usize, inverse: usize, weights: usize) -> bool
+    ensures { λ r. ⌜ r ≡ tooShort matrix right guess inverse weights ⌝ }
+{
+    (matrix < 1024) | ((right < 32) | ((guess < 32) | ((inverse < 1024) | (weights < 32))))
+}
+
+// Places of a list, one after another.
+pub struct Span {
+    at: usize,
+    count: usize,
+}
+
+// The places of a form in the list of a part, of width numbers a form: (i − 1)·width and those after it, where the form is of that part; else none.
+fn span_of(part: Part, item: Item, width: usize) -> Span
+    requires { ⌜ Narrow width item ⌝ }
+    ensures { λ r. ⌜ r ≡ spanOf part item width ⌝ }
+{
+    match item {
+        Item::Problem(_) => Span { at: 0, count: 0 },
+        Item::Scale(_, _) => Span { at: 0, count: 0 },
+        Item::Of(of, i) => {
+            if form_values::part_index(part) == form_values::part_index(of) {
+                let k = form_values::place_of(i) as usize;
+                return Span {
+                    at: (k - 1) * width,
+                    count: width,
+                };
+            }
+            Span { at: 0, count: 0 }
+        }
+        Item::End => Span { at: 0, count: 0 },
+    }
+}
+
+// Writes the first count of 32 numbers into a list from a place on.
+fn write_values(values: [i64; 32], count: usize, l: &mut [i64], at: usize)
+    requires { ⌜ (count ≤ 32) × (at + count ≤ length (now l)) ⌝ }
+    ensures { λ _. ⌜ now (l .exit) ≡ paste (now (l .entry)) at values count ⌝ }
+{
+    let mut j = 0;
+    while j < count {
+        l[at + j] = values[j];
+        j += 1;
+    }
+}
+
+// Writes the first numbers of a form at its places in the list of a part.
+fn write_part(part: Part, item: Item, values: [i64; 32], width: usize, l: &mut [i64])
+    requires { ⌜ Room width (length (now l)) item ⌝ }
+    ensures { λ _. ⌜ now (l .exit) ≡ pastedAt (spanOf part item width) values (now (l .entry)) ⌝ }
+{
+    let span = span_of(part, item, width);
+    write_values(values, span.count, l, span.at);
+}
+
+// Writes the numbers of an accepted form at their own places: they come first among the values, n of them in a row, else one.
+pub fn write_all(
+    item: Item,
+    values: [i64; 32],
+    n: usize,
+    matrix: &mut [i64],
+    right: &mut [i64],
+    guess: &mut [i64],
+    inverse: &mut [i64],
+    weights: &mut [i64],
+)
+    requires { ⌜ Rooms n item (lists (now matrix) (now right) (now guess) (now inverse) (now weights)) ⌝ }
+    ensures { λ _. ⌜
+        lists (now (matrix .exit)) (now (right .exit)) (now (guess .exit)) (now (inverse .exit)) (now (weights .exit))
+        ≡ pastedAll n item values (lists (now (matrix .entry)) (now (right .entry)) (now (guess .entry)) (now (inverse .entry)) (now (weights .entry)))
+        ⌝ }
+{
+    write_part(Part::Row, item, values, n, matrix);
+    write_part(Part::Right, item, values, 1, right);
+    write_part(Part::Guess, item, values, 1, guess);
+    write_part(Part::Inverse, item, values, n, inverse);
+    write_part(Part::Weight, item, values, 1, weights);
+}

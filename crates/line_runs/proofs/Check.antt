@@ -1,0 +1,97 @@
+-- A check through a loader after an accepted end of lines taken from `new`, on those lists, with limit lists that are long enough.
+--   length-put  — a line leaves the lengths of the lists
+--   run-long, lists-long — lists that are long enough stay so, and at an accepted end they are
+--   enough      — with limit lists that are long enough too, a check does not say 8
+--   end-answers — the check answers accepted, 5, 6 or 7 only
+use mathlib.Core.Path.{_≡_, refl, _∙_}
+use mathlib.Core.Bool.{Bool, true, false, cond}
+use mathlib.Core.List.{List, [], _∷_}
+use Prim.Native.Nat.{ℕ, _+_, _*_, _-_, _/_, _%_, _≤_}
+use borrow.Author.Tests.{le-ltb}
+use lib.Dec.{eqb, ltb}
+use lib.IntN.{ℤ, natAbs}
+use lib.ListN.{length}
+use lib.Seq.{sets, length-sets}
+use Rattle.integer.proofs.Search.{clash}
+use Rattle.rules.specs.Order.{verdict}
+use Rattle.rules.proofs.Ranges.{both}
+use Rattle.form.specs.Form.{Form}
+use Rattle.form_values.specs.Item.{itemOf, partIndex}
+use Rattle.form_values.specs.declared.Item.{Item}
+use Rattle.form_values.specs.declared.Item.the-variants.{Problem, Scale, Of, End}
+use Rattle.lent_lists.specs.Slot.{Slot, Matrix, Right, Guess, Inverse, Weight, partOf, width, valuesFor}
+use Rattle.lent_lists.specs.Lists.{Lists, shortLists}
+use Rattle.lent_lists.specs.Put.{putItem, put, putAll}
+use Rattle.lent_lists.proofs.Lists.{Long, long}
+use Rattle.given_forms.specs.Progress.{ended}
+use Rattle.checked.specs.Input.{Input, input, problem, inRanges}
+use Rattle.checked.specs.Input as checker
+use Rattle.checked.specs.Order.{reckoned, firstMargin, firstResidual, firstInversePlace}
+use Rattle.checked.proofs.Contract.{answer-ready}
+use Rattle.loader_order.specs.Through.{answerThrough}
+use Rattle.loader.proofs.Accepted.{accepted-form}
+use Rattle.loader_order.proofs.Through.{answer-ended}
+use Rattle.line_runs.specs.Run.{State, fromNew, step, run, Accepts}
+use Rattle.line_runs.specs.Holds.{InRange, ReckoningSays, accepted, margin, residual, inverseResidual}
+use Rattle.line_runs.proofs.End.{in-range}
+
+-- ---- lengths
+length-put : (s : Slot) (n : ℕ) (x : Item) (vs l : List ℤ) → length (putItem s n x vs l) ≡ length l
+length-put s n (Problem m) vs l = refl
+length-put s n (Scale u v) vs l = refl
+length-put s n (Of q i) vs l = go (eqb (partIndex (partOf s)) (partIndex q))
+  where
+    go : (b : Bool) → length (cond b (sets l ((natAbs i - 1) * width s n) vs) l) ≡ length l
+    go true = length-sets l ((natAbs i - 1) * width s n) vs
+    go false = refl
+length-put s n End vs l = refl
+
+long-kept : (n : ℕ) (f : Form) (l : Lists) → shortLists (putAll n f l) ≡ shortLists l
+long-kept n f l =
+    let same : (s : Slot) (k : List ℤ) → length (put s n f k) ≡ length k = λ s k. length-put s n (itemOf f) (valuesFor s f) k in
+    rw (same Matrix (l .matrix), same Right (l .right), same Guess (l .guess), same Inverse (l .inverse), same Weight (l .weights))
+
+pub run-long : (u : State) (lines : List (List ℕ)) → Accepts u lines → shortLists (u .lists) ≡ false → shortLists (run u lines .lists) ≡ false
+unfolding run
+run-long u [] a h = h
+run-long u (line ∷ lines) a h =
+    let r = accepted-form (u .loader) (u .lists) line (a .0) in
+    run-long (step u line) lines (a .1) (rw (r .1 .lists) (long-kept (u .loader .n) (r .0) (u .lists) ∙ h))
+
+-- a run that ends has a line, which was accepted, so its lists were long enough
+pub lists-long : (l : Lists) (lines : List (List ℕ)) → Accepts (fromNew l) lines → ended (run (fromNew l) lines .loader .stage) ≡ true → shortLists (run (fromNew l) lines .lists) ≡ false
+lists-long l [] a e = clash false (unfold run in e) refl
+lists-long l (line ∷ lines) a e =
+    let r = accepted-form (fromNew l .loader) l line (a .0) in
+    run-long (fromNew l) (line ∷ lines) a (r .1 .long)
+
+-- ---- the check
+reckons : (n m k i : ℕ) → ReckoningSays (verdict (reckoned n m k i))
+reckons n m k i = go (ltb m n) (ltb k n) (ltb i (n * n))
+  where
+    go : (a b c : Bool) → ReckoningSays (cond a (5 ∷ (m + 1) ∷ []) (cond b (6 ∷ (k + 1) ∷ []) (cond c (7 ∷ (i / n + 1) ∷ (i % n + 1) ∷ []) [])))
+    go true b c = margin (m + 1)
+    go false true c = residual (k + 1)
+    go false false true = inverseResidual (i / n + 1) (i % n + 1)
+    go false false false = accepted
+
+abbrev pub inputOf : State → List ℕ → List ℕ → Input
+inputOf u E L =
+    input (u .loader .n) (u .loader .s) (u .loader .t) (u .lists .matrix) (u .lists .right) (u .lists .guess) (u .lists .inverse) (u .lists .weights) E L
+
+pub enough : (u : State) (E L : List ℕ) → shortLists (u .lists) ≡ false → 32 ≤ length E → 1024 ≤ length L → checker.short (inputOf u E L) ≡ false
+enough u E L s e l =
+    let h : Long (u .lists) = long (u .lists) s in
+    rw (le-ltb _ 1024 (h .matrix), le-ltb _ 32 (h .right), le-ltb _ 32 (h .guess), le-ltb _ 1024 (h .inverse), le-ltb _ 32 (h .weights), le-ltb _ 32 e, le-ltb _ 1024 l)
+
+inside : (u : State) (E L : List ℕ) → InRange u → inRanges (inputOf u E L) ≡ true
+inside u E L h = both (both (h .size) (both (h .solution) (h .inverse-scale))) (both (h .matrix) (both (h .right) (both (h .guess) (both (h .inverse) (h .weights)))))
+
+module _ (l : Lists) (lines : List (List ℕ)) (a : Accepts (fromNew l) lines) (e : ended (run (fromNew l) lines .loader .stage) ≡ true) (E L : List ℕ) (few : 32 ≤ length E) (many : 1024 ≤ length L) where
+  abbrev last : State
+  last = run (fromNew l) lines
+
+  pub end-answers : ReckoningSays (answerThrough (last .loader .stage) (inputOf last E L))
+  end-answers =
+      rw (answer-ended (last .loader .stage) (inputOf last E L) e, answer-ready (inputOf last E L) (enough last E L (lists-long l lines a e) few many) (inside last E L (in-range l lines a e)))
+      (reckons (last .loader .n) (firstMargin (problem (inputOf last E L))) (firstResidual (problem (inputOf last E L))) (firstInversePlace (problem (inputOf last E L))))

@@ -1,0 +1,141 @@
+-- After an accepted end of lines taken from `new` the loader and the lists are what the lines' forms give, and every used number is in its range.
+--   all-given   — where nothing is missing every part's form was given for every i from 1 to n
+--   from-line   — each of them by its own line
+--   FromForms, from-forms — n, s, t and every used number of the lists are those of the forms
+--   in-range    — every used number is in its range
+use mathlib.Core.Path.{_≡_, refl, sym, subst, _∙_}
+use mathlib.Core.Bool.{Bool, true, false, cond}
+use mathlib.Core.List.{List, [], _∷_}
+use Prim.Native.Nat.{ℕ, suc, _+_, _*_, _-_, _/_, _%_, _≤_, _<_}
+use native.Mathlib.Nat.{mod-lt, div-add-mod', div-lt-iff-lt-mul}
+use native.Mathlib.Omega.{arith}
+use borrow.Author.Tests.{eqb-true}
+use lib.Dec.{eqb}
+use lib.IntN.{pos, natAbs}
+use lib.ListN.{getD}
+use Rattle.rules.specs.Range.{inRange, allInRange}
+use Rattle.rules.proofs.AllInRange.{all-in}
+use Rattle.rules.proofs.Ranges.{size-range}
+use Rattle.form.specs.Form.{Form}
+use Rattle.form_values.specs.Item.{partIndex}
+use Rattle.form_values.specs.declared.Item.{Item}
+use Rattle.form_values.specs.declared.Part.{Part}
+use Rattle.lent_lists.specs.Slot.{Slot, Matrix, Right, Guess, Inverse, Weight, partOf, width, valuesFor}
+use Rattle.lent_lists.specs.Lists.{Lists, listOf}
+use Rattle.form_values.proofs.Capped.{part-same}
+use Rattle.bit_set.specs.Places.{lacking}
+use Rattle.bit_set.proofs.Places.{lacking-none}
+use Rattle.given_forms.specs.Progress.{setOf, counted, totalOver, given, missing, scaled, ended}
+use Rattle.given_forms.specs.declared.Stage.{Stage}
+use Rattle.given_forms.specs.declared.Stage.the-variants.{Start, Sized, Scaled, Ended}
+use Rattle.given_forms.proofs.Progress.{scaled-sized}
+use Rattle.line_runs.specs.Run.{State, fromNew, step, run, Accepts, forms}
+use Rattle.line_runs.specs.Given.{valueFrom, sizeFrom, scalesFrom}
+use Rattle.line_runs.specs.Holds.{HoldsItem, HoldsPart, InRange, kindFor, cell}
+use Rattle.line_runs.proofs.Sound.{Sound, fresh-sound, fresh-empty, line-sound}
+use Rattle.line_runs.proofs.Marks.{hits, once}
+use Rattle.line_runs.proofs.Runs.{collected, Found, found}
+use Rattle.line_runs.proofs.Sizes.{HasScales, size-from, scales-from}
+
+-- ---- nothing is missing
+-- a part that is counted has no form missing
+none-at : (p : Part) (ps : List Part) (f : Part → ℕ) → totalOver ps f ≡ 0 → 1 ≤ totalOver ps (hits p) → f p ≡ 0
+none-at p [] f e h = absurd (omega arith)
+none-at p (q ∷ ps) f e h = go (eqb (partIndex p) (partIndex q)) refl h (none-at p ps f (omega arith))
+  where
+    go : (b : Bool) → eqb (partIndex p) (partIndex q) ≡ b → 1 ≤ cond b 1 0 + totalOver ps (hits p) → (1 ≤ totalOver ps (hits p) → f p ≡ 0) → f p ≡ 0
+    go true t l rest = subst (λ (r : Part). f r ≡ 0) (sym (part-same p q (eqb-true (partIndex p) (partIndex q) t))) (omega arith)
+    go false t l rest = rest (omega arith)
+
+pub all-given : (n : ℕ) (z : List ℕ) → missing n z ≡ 0 → (p : Part) (k : ℕ) → 1 ≤ k → k ≤ n → given z p k ≡ true
+unfolding missing
+all-given n z e p k l h =
+    lacking-none (setOf z p) n (none-at p counted (λ (q : Part). lacking (setOf z q) n) e (omega (arith, once p))) (k - 1) (omega arith)
+
+run-sound : (u : State) → Sound (u .loader) → (lines : List (List ℕ)) → Sound (run u lines .loader)
+unfolding run
+run-sound u s [] = s
+run-sound u s (line ∷ lines) = run-sound (step u line) (line-sound (u .loader) (u .lists) line s) lines
+
+ended-scaled : (s : Stage) → ended s ≡ true → scaled s ≡ true
+ended-scaled Start e = e
+ended-scaled Sized e = e
+ended-scaled Scaled e = refl
+ended-scaled Ended e = refl
+
+-- the state holds what the forms fs give
+pub record FromForms (fs : List Form) (u : State) : Type 0 where
+  pub size : u .loader .n ≡ sizeFrom fs
+  pub scales : HasScales u (scalesFrom fs)
+  pub values : (s : Slot) (k j : ℕ) → 1 ≤ k → k ≤ u .loader .n → j < width s (u .loader .n) → cell (u .lists) (u .loader .n) s k j ≡ valueFrom fs s k j
+
+-- ---- the end of lines taken from `new`
+module _ (l : Lists) (lines : List (List ℕ)) (a : Accepts (fromNew l) lines) (e : ended (run (fromNew l) lines .loader .stage) ≡ true) where
+  abbrev last : State
+  last = run (fromNew l) lines
+
+  sound : Sound (last .loader)
+  sound = run-sound (fromNew l) fresh-sound lines
+
+  pub is-scaled : scaled (last .loader .stage) ≡ true
+  is-scaled = ended-scaled (last .loader .stage) e
+
+  -- the line that gave a number
+  pub from-line : (p : Part) (k : ℕ) → 1 ≤ k → k ≤ last .loader .n → Found p k (forms lines)
+  from-line p k f h = found p k f (fromNew l) fresh-sound lines a (fresh-empty p k) (all-given (last .loader .n) (last .loader .sets) (sound .whole e) p k f h)
+
+  held : (p : Part) (k : ℕ) (f : 1 ≤ k) (h : k ≤ last .loader .n) → let r = from-line p k f h in HoldsPart p (r .place) (λ (s : Slot). valuesFor s (r .form)) last
+  held p k f h =
+      let r = from-line p k f h in
+      subst (λ (x : Item). HoldsItem x (λ (s : Slot). valuesFor s (r .form)) last) (r .item) (collected (fromNew l) fresh-sound lines a (r .form) (r .among))
+
+  pub from-forms : FromForms (forms lines) last
+  from-forms = record {
+    size = size-from (fromNew l) fresh-sound lines a refl (scaled-sized (last .loader .stage) is-scaled);
+    scales = scales-from (fromNew l) fresh-sound lines a refl is-scaled;
+    values = λ s k j f h m.
+        let r = from-line (partOf s) k f h in
+        let c : cell (last .lists) (last .loader .n) s (natAbs (r .place)) j ≡ getD (valuesFor s (r .form)) j (pos 0) = held (partOf s) k f h .cells s refl j m in
+        rw (← r .number) at c ∙ sym (r .values s refl j);
+  }
+
+  -- every number that was given is in its range
+  inside : (s : Slot) (k j : ℕ) → 1 ≤ k → k ≤ last .loader .n → j < width s (last .loader .n) → inRange (kindFor s) (cell (last .lists) (last .loader .n) s k j) ≡ true
+  inside s k j f h m =
+      let r = from-line (partOf s) k f h in
+      let v = held (partOf s) k f h .inside s refl j m in
+      rw (from-forms .values s k j f h m, r .values s refl j) v
+
+  column : (s : Slot) → width s (last .loader .n) ≡ 1 → allInRange (kindFor s) (last .loader .n) (λ (k : ℕ). getD (listOf s (last .lists)) k (pos 0)) ≡ true
+  column s w = all-in (kindFor s) (last .loader .n) (λ (k : ℕ). getD (listOf s (last .lists)) k (pos 0)) (λ k h. one k h)
+    where
+      one : (k : ℕ) → k < last .loader .n → inRange (kindFor s) (getD (listOf s (last .lists)) k (pos 0)) ≡ true
+      one k h =
+          let place : (suc k - 1) * width s (last .loader .n) + 0 ≡ k = rw w (omega arith) in
+          subst (λ (m : ℕ). inRange (kindFor s) (getD (listOf s (last .lists)) m (pos 0)) ≡ true) place (inside s (suc k) 0 (omega arith) (omega arith) (rw w (omega arith)))
+
+  square : (s : Slot) → width s (last .loader .n) ≡ last .loader .n → allInRange (kindFor s) (last .loader .n * last .loader .n) (λ (k : ℕ). getD (listOf s (last .lists)) k (pos 0)) ≡ true
+  square s w = all-in (kindFor s) (last .loader .n * last .loader .n) (λ (k : ℕ). getD (listOf s (last .lists)) k (pos 0)) (λ k h. one k h)
+    where
+      one : (k : ℕ) → k < last .loader .n * last .loader .n → inRange (kindFor s) (getD (listOf s (last .lists)) k (pos 0)) ≡ true
+      one k h =
+          let size = size-range (last .loader .n) (sound .size (scaled-sized (last .loader .stage) is-scaled)) in
+          let i = k / last .loader .n in
+          let first : suc i - 1 ≡ i = omega arith in
+          let place : (suc i - 1) * width s (last .loader .n) + k % last .loader .n ≡ k = rw (w, first) (div-add-mod' k (last .loader .n)) in
+          let above : 0 < last .loader .n = size .0 in
+          let below : i < last .loader .n = div-lt-iff-lt-mul above .1 h in
+          subst (λ (m : ℕ). inRange (kindFor s) (getD (listOf s (last .lists)) m (pos 0)) ≡ true) place
+          (inside s (suc i) (k % last .loader .n) (omega arith) (omega arith) (rw w (mod-lt k above)))
+
+  pub in-range : InRange last
+  in-range = record {
+    size = sound .size (scaled-sized (last .loader .stage) is-scaled);
+    solution = sound .solution is-scaled;
+    inverse-scale = sound .inverse is-scaled;
+    matrix = square Matrix refl;
+    right = column Right refl;
+    guess = column Guess refl;
+    inverse = square Inverse refl;
+    weights = column Weight refl;
+  }

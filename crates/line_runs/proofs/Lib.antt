@@ -1,0 +1,16 @@
+pub mod Cells
+pub mod Marks
+pub mod View
+pub mod Sound
+pub mod Collected
+pub mod Runs
+pub mod Sizes
+pub mod End
+pub mod AnyOrder
+pub mod Outstanding
+pub mod Check
+pub mod Lines
+pub mod Read
+pub mod Whole
+pub mod FirstBytes
+pub mod Passing

@@ -1,0 +1,77 @@
+-- The check through a loader, case by case.
+--   answer-ended — after an accepted end it says what the check on lists says
+--   through-ended, through-open — the contract where the check on lists decides, and where 8 or 15 is said
+--   check-8, check-15, check-3 — each said exactly in its case
+use mathlib.Core.Path.{_≡_, refl, sym, _∙_}
+use mathlib.Core.Bool.{Bool, true, false, not, cond}
+use mathlib.Core.List.{List, [], _∷_}
+use mathlib.Core.Logic.{_↔_}
+use Prim.Native.Nat.{ℕ}
+use lib.ListN.{take, drop}
+use Rattle.integer.proofs.Search.{clash}
+use Rattle.rules.specs.Order.{Test, number}
+use Rattle.rules.specs.Refusal.{said}
+use Rattle.rules.specs.declared.Outcome.{Outcome}
+use Rattle.rules.proofs.Verdicts.{nothing-is-not}
+use Rattle.rules.proofs.Tests.{None, said-exactly}
+use Rattle.checked.specs.Input.{Input, short, inRanges}
+use Rattle.checked.specs.Order.{answer}
+use Rattle.checked.specs.Checked.{Checked, solutionBoundsAfter, inverseBoundsAfter}
+use Rattle.given_forms.specs.Progress.{ended}
+use Rattle.given_forms.specs.declared.Stage.{Stage}
+use Rattle.loader_order.specs.Through.{orderThrough, answerThrough, solutionBoundsThrough, inverseBoundsThrough, CheckedThrough}
+
+module _ (s : Stage) (I : Input) where
+  pub answer-ended : ended s ≡ true → answerThrough s I ≡ answer I
+  unfolding answerThrough answer
+  answer-ended e = rw e
+
+  pub through-ended : ended s ≡ true → {r : Outcome} {E L : List ℕ} → Checked I r E L → CheckedThrough s I r E L
+  unfolding solutionBoundsThrough inverseBoundsThrough solutionBoundsAfter inverseBoundsAfter
+  through-ended e h = record {
+    says = h .says ∙ sym (answer-ended e);
+    solution-bounds = rw (answer-ended e) (h .solution-bounds);
+    inverse-bounds = rw (answer-ended e) (h .inverse-bounds);
+    encloses = h .encloses;
+    accepts = λ N q H q′ long _ inside rounded. h .accepts N q H q′ long inside rounded;
+  }
+
+  -- before an accepted end 8 or 15 is said, and both limit lists are left
+  module _ (open-still : ended s ≡ false) {r : Outcome} where
+    refused : {k : ℕ} → said r ≡ k ∷ [] → answerThrough s I ≡ k ∷ [] → CheckedThrough s I r (I .solutionBounds) (I .inverseBounds)
+    unfolding solutionBoundsThrough inverseBoundsThrough
+    refused t a = record {
+      says = t ∙ sym a;
+      solution-bounds = rw a;
+      inverse-bounds = rw a;
+      encloses = λ e. absurd (nothing-is-not (sym t ∙ e));
+      accepts = λ N q H q′ long end inside rounded. clash (ended s) end open-still;
+    }
+
+    pub through-open : {b : Bool} → b ≡ short I → said r ≡ cond b (8 ∷ []) (15 ∷ []) → CheckedThrough s I r (I .solutionBounds) (I .inverseBounds)
+    unfolding answerThrough
+    through-open {b} e t = go b e t
+      where
+        go : (b : Bool) → b ≡ short I → said r ≡ cond b (8 ∷ []) (15 ∷ []) → CheckedThrough s I r (I .solutionBounds) (I .inverseBounds)
+        go true e t = refused t (rw (← e))
+        go false e t = refused t (rw (← e, open-still))
+
+-- each said exactly where no case earlier in the order holds and its own does; after an accepted end 5, 6 and 7 are those of the check on lists
+module _ (s : Stage) (I : Input) where
+  abbrev first : ℕ → List Test
+  first k = take k (orderThrough s I)
+
+  abbrev rest : ℕ → List Test
+  rest k = drop k (orderThrough s I)
+
+  pub check-8 : (answerThrough s I ≡ 8 ∷ []) ↔ (None (first 0) × (short I ≡ true))
+  unfolding answerThrough
+  check-8 = said-exactly (first 0) (number 8 (short I)) (rest 1) refl refl
+
+  pub check-15 : (answerThrough s I ≡ 15 ∷ []) ↔ (None (first 1) × (not (ended s) ≡ true))
+  unfolding answerThrough
+  check-15 = said-exactly (first 1) (number 15 (not (ended s))) (rest 2) refl refl
+
+  pub check-3 : (answerThrough s I ≡ 3 ∷ []) ↔ (None (first 2) × (not (inRanges I) ≡ true))
+  unfolding answerThrough
+  check-3 = said-exactly (first 2) (number 3 (not (inRanges I))) (rest 3) refl refl

@@ -1,0 +1,34 @@
+-- The refusals of a line in 01's order: 8, 14, 1, 2, 11, 3, 4, 12, 13, where 3 is two tests, of the place i and then of the values.
+--   LineCase  — for each refusal whether its stated case holds, and the count of missing forms, which 13 gives
+--   lineOrder — the tests in 01's order
+use mathlib.Core.Bool.{Bool}
+use mathlib.Core.List.{List, [], _∷_}
+use Prim.Native.Nat.{ℕ}
+use Rattle.rules.specs.Order.{Test, number}
+
+pub record LineCase : Type 0 where
+  pub short : Bool  -- 8
+  pub ended : Bool  -- 14
+  pub long : Bool  -- 1
+  pub unspelled : Bool  -- 2
+  pub early : Bool  -- 11
+  pub misplaced : Bool  -- 3, of i
+  pub outside : Bool  -- 3, of the values
+  pub miscounted : Bool  -- 4
+  pub repeated : Bool  -- 12
+  pub incomplete : Bool  -- 13
+  pub missing : ℕ
+
+abbrev pub lineOrder : LineCase → List Test
+lineOrder c =
+    number 8 (c .short)
+    ∷ number 14 (c .ended)
+    ∷ number 1 (c .long)
+    ∷ number 2 (c .unspelled)
+    ∷ number 11 (c .early)
+    ∷ number 3 (c .misplaced)
+    ∷ number 3 (c .outside)
+    ∷ number 4 (c .miscounted)
+    ∷ number 12 (c .repeated)
+    ∷ record { says = 13 ∷ c .missing ∷ []; holds = c .incomplete }
+    ∷ []

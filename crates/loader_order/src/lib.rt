@@ -1,0 +1,1 @@
+// The refusals at a loader in their order: definitions and theorems, no code.

@@ -1,0 +1,159 @@
+// The residuals of the guess and of all columns of the inverse, and the first that is above what is allowed.
+ghost use mathlib.Core.Path.{_≡_};
+ghost use Prim.Native.Nat.{ℕ, _+_, _*_, _/_, _%_, _≤_, _<_, _^_};
+ghost use lib.IntN.{pos, natAbs, _-ℤ_, _*ℤ_};
+ghost use lib.ListN.{length};
+ghost use Rattle.integer.specs.Finite.{first};
+ghost use Rattle.linear.specs.Slice.{at};
+ghost use Rattle.linear.specs.Reach.{dotOf, Reach, ColumnList, MatrixList};
+ghost use Rattle.raised_rows.specs.Raised.{RaisedRows};
+ghost use Rattle.enclosure.specs.Reckoning.{allowedResidual};
+ghost use Rattle.reckoning.specs.Arrays.{Begins, firstFrom, stored};
+ghost use Rattle.reckoning.specs.Parts.{residualFrom, columnResidual, aboveAllowed};
+ghost use Rattle.reckoning.specs.Rows.{rowDifference};
+use integer::first_or;
+use integer::power;
+use linear::dot;
+use raised_rows::ROWS_LENGTH;
+use raised_rows::raise_rows;
+use reckoning::unit_difference;
+
+// 2^s·b
+fn scaled(s: u32, b: i64) -> i64
+    requires { ⌜ (s ≤ 20) × (natAbs b ≤ 2 ^ 30) ⌝ }
+    ensures { λ r. ⌜ r ≡ pos (2 ^ s) *ℤ b ⌝ }
+{
+    (power(s) as i64) * b
+}
+
+// 2^s·b for the right side b.
+pub fn scaled_right(s: u32, right: &[i64], n: usize) -> [i64; 32]
+    requires { ⌜ (s ≤ 20) × (n ≤ 32) ⌝ }
+    requires { ⌜ ColumnList (now right) n (2 ^ 30) ⌝ }
+    ensures { λ r. ⌜ Begins (pos 0) r n (λ (k : ℕ). pos (2 ^ s) *ℤ at (now (right .entry)) k) ⌝ }
+{
+    let mut out = [0i64; 32];
+    for k in 0..n {
+        out[k] = scaled(s, right[k]);
+    }
+    out
+}
+
+// base less a row of a, from place p, times numbers of x, from place q and u places apart.
+fn difference(base: i64, a: &[i64], p: usize, x: &[i64], q: usize, u: usize, n: usize) -> i64
+    requires { ⌜ (n ≤ 32) × ((natAbs base ≤ 2 ^ 62) × ((p + n * 1 < 2 ^ 63) × (q + n * u < 2 ^ 63))) ⌝ }
+    requires { ⌜ Reach (now a) p 1 n (2 ^ 20) ⌝ }
+    requires { ⌜ Reach (now x) q u n (2 ^ 36) ⌝ }
+    ensures { λ r. ⌜ r ≡ base -ℤ dotOf (now (a .entry)) p 1 (now (x .entry)) q u n ⌝ }
+{
+    base - dot(a, p, 1, x, q, u, n)
+}
+
+// The residuals of a guess: a base less A·X.
+pub fn residuals_of(base: [i64; 32], matrix: &[i64], guess: &[i64], n: usize) -> [i64; 32]
+    requires { ⌜ n ≤ 32 ⌝ }
+    requires { ⌜ ColumnList base n (2 ^ 62) ⌝ }
+    requires { ⌜ MatrixList (now matrix) n ⌝ }
+    requires { ⌜ ColumnList (now guess) n (2 ^ 36) ⌝ }
+    ensures { λ r. ⌜ Begins (pos 0) r n (residualFrom n base (now (matrix .entry)) (now (guess .entry))) ⌝ }
+{
+    let mut out = [0i64; 32];
+    let mut row = 0;
+    for k in 0..n {
+        out[k] = difference(base[k], matrix, row, guess, 0, 1, n);
+        row += n;
+    }
+    out
+}
+
+// The residuals of column j of the inverse, stored from place j·n on, from the raised rows of A and columns of G.
+fn column_residuals(
+    out: &mut [i64; 1024],
+    t: u32,
+    rows: &[u64],
+    columns: &[u64],
+    n: usize,
+    j: usize,
+)
+    requires { ⌜ (t ≤ 20) × ((n ≤ 32) × (j < n)) ⌝ }
+    requires { ⌜ RaisedRows (now rows) n × RaisedRows (now columns) n ⌝ }
+    ensures { λ _. ⌜ now (out .exit)
+        ≡ stored (now (out .entry)) (j * n) 1 (λ (k : ℕ). rowDifference n t (now (rows .entry)) (now (columns .entry)) k j) n ⌝ }
+{
+    let column = j * (n + 1);
+    let mut place = j * n;
+    let mut row = 0;
+    for k in 0..n {
+        out[place] = unit_difference(t, k, j, rows, row, columns, column, n);
+        place += 1;
+        row += n + 1;
+    }
+}
+
+// The residuals of all columns of the inverse, column after column.
+pub fn inverse_residuals_of(t: u32, matrix: &[i64], inverse: &[i64], n: usize) -> [i64; 1024]
+    requires { ⌜ (t ≤ 20) × (n ≤ 32) ⌝ }
+    requires { ⌜ MatrixList (now matrix) n ⌝ }
+    requires { ⌜ MatrixList (now inverse) n ⌝ }
+    ensures { λ r. ⌜ Begins (pos 0) r (n * n)
+        (λ (i : ℕ). columnResidual n t (now (matrix .entry)) (now (inverse .entry)) (i / n) (i % n)) ⌝ }
+{
+    let mut rows = [0u64; ROWS_LENGTH];
+    let mut columns = [0u64; ROWS_LENGTH];
+    raise_rows(&mut rows, matrix, n, 1, n);
+    raise_rows(&mut columns, inverse, 1, n, n);
+    let mut out = [0i64; 1024];
+    for j in 0..n {
+        column_residuals(&mut out, t, &rows, &columns, n, j);
+    }
+    out
+}
+
+// Whether a residual is above what is allowed, in size; compared on both sides, so that no residual is too large for it.
+fn is_above(allowed: i64, z: i64) -> bool
+    requires { ⌜ natAbs allowed ≤ allowedResidual ⌝ }
+    ensures { λ r. ⌜ r ≡ aboveAllowed allowed z ⌝ }
+{
+    if z < -allowed {
+        return true;
+    }
+    allowed < z
+}
+
+// The first of n residuals from a place on that is above what its row allows; n where there is none.
+pub fn first_above(residuals: &[i64], start: usize, allowed: &[i64; 32], n: usize) -> usize
+    requires { ⌜ (n ≤ 32) × ((start + n ≤ length (now residuals)) × (start ≤ 1024)) ⌝ }
+    requires { ⌜ ColumnList (now allowed) n allowedResidual ⌝ }
+    ensures { λ r. ⌜ r ≡ first n (λ (k : ℕ). aboveAllowed (at (now (allowed .entry)) k) (at (now (residuals .entry)) (start + k))) ⌝ }
+{
+    let mut found = 0;
+    let mut place = start;
+    for k in 0..n {
+        found = first_or(found, k, is_above(allowed[k], residuals[place]));
+        place += 1;
+    }
+    found
+}
+
+// One step of a search part by part: found, the first below start; next, the first of those from start on.
+fn first_from(found: usize, start: usize, next: usize) -> usize
+    requires { ⌜ (start ≤ 1024) × (next ≤ 1024) ⌝ }
+    ensures { λ r. ⌜ r ≡ firstFrom found start next ⌝ }
+{
+    if found < start { found } else { start + next }
+}
+
+// The first residual, column after column, that is above what its row allows; n·n where there is none.
+pub fn first_above_in_columns(columns: &[i64; 1024], allowed: &[i64; 32], n: usize) -> usize
+    requires { ⌜ n ≤ 32 ⌝ }
+    requires { ⌜ ColumnList (now allowed) n allowedResidual ⌝ }
+    ensures { λ r. ⌜ r ≡ first (n * n) (λ (i : ℕ). aboveAllowed (at (now (allowed .entry)) (i % n)) (at (now (columns .entry)) i)) ⌝ }
+{
+    let mut found = 0;
+    let mut start = 0;
+    for j in 0..n {
+        found = first_from(found, start, first_above(columns, start, allowed, n));
+        start += n;
+    }
+    found
+}

@@ -1,0 +1,41 @@
+/* Stands in for the proved check: by a version in C, right or wrong in one of the ways. */
+#include "native.h"
+#include "ways.h"
+
+#include <string.h>
+
+static uint64_t scratch[1024];
+
+uint32_t kodarfi_check(uint32_t n, uint32_t s, uint32_t t, const int64_t *matrix, size_t matrix_len, const int64_t *right, size_t right_len,
+                       const int64_t *guess, size_t guess_len, const int64_t *inverse, size_t inverse_len, const int64_t *weights,
+                       size_t weights_len, uint64_t *solution_bounds, size_t solution_bounds_len, uint64_t *inverse_bounds,
+                       size_t inverse_bounds_len, uint64_t places[2]) {
+    int64_t ones[32];
+    const uint64_t before[2] = {places[0], places[1]};
+    if (is_wrong(short_bounds_taken)) solution_bounds_len = 32, inverse_bounds_len = 1024;
+    if (is_wrong(ranges_first) && (n < 1 || n > 32)) return places[0] = places[1] = 0, 3;
+    if (is_wrong(no_ranges_of_weights) && n <= 32 && weights_len >= 32) {
+        for (uint32_t i = 0; i < n; i++) ones[i] = weights[i] < 1 ? 1 : weights[i];
+        weights = memcpy(scratch, ones, sizeof ones);
+    }
+    const uint32_t number = native_check_quick(n, s, t, matrix, matrix_len, right, right_len, guess, guess_len, inverse, inverse_len, weights,
+                                               weights_len, solution_bounds, solution_bounds_len, inverse_bounds, inverse_bounds_len, places);
+    if (is_wrong(writes_on_refusal) && number == 7) solution_bounds[0] = 0;
+    if (is_wrong(reads_past_n) && number == 0 && n < 32 && (matrix[n * n] > 1 << 20 || matrix[n * n] < -(1 << 20))) return 3;
+    if (is_wrong(row_before_column) && number == 7) {
+        const uint64_t column = places[0];
+        places[0] = places[1];
+        places[1] = column;
+    }
+    if (is_wrong(places_left) && number != 7) places[1] = before[1];
+    if (is_wrong(places_of_32_bits)) places[0] = (before[0] & ~(uint64_t)UINT32_MAX) | (uint32_t)places[0];
+    if (number != 0) return number;
+    if (is_wrong(writes_past_n) && n < 32) solution_bounds[n] = 0;
+    if (is_wrong(stride_32) || is_wrong(by_columns)) {
+        memcpy(scratch, inverse_bounds, n * n * sizeof *scratch);
+        for (uint32_t i = 0; i < n; i++) {
+            for (uint32_t j = 0; j < n; j++) inverse_bounds[is_wrong(stride_32) ? i * 32 + j : j * n + i] = scratch[i * n + j];
+        }
+    }
+    return 0;
+}

@@ -1,0 +1,73 @@
+"""Sample files by name, and their listings by the second implementation."""
+
+import random
+
+import given
+from generate import arranged
+from net import file_of, lines_of
+from second.program import Program
+from systems import edge, ends, usual
+
+# Files of given.py by the names under which they are stored.
+GIVEN = {
+    **{f"case-{letter}": f"01 case {letter}" for letter in "abcdefghijkl"},
+    "example-002-1": "002 example 1, guess 11, steps 20 20, displacement_inverse, bounds",
+    "example-002-2": "002 example 2, guess 12, steps 20 12, displacement_inverse, bounds",
+    "long-list": "lengths: list of 320 bytes at 12",
+    "too-long-list": "lengths: list of 321 bytes at 12",
+    "too-long-start": "lengths: no form of 321 bytes at 0",
+    "too-long-after-end": "lengths: no form of 321 bytes at 13",
+    "line-feed-alone": "by_bytes: one line feed",
+    "carriage-returns": "by_bytes: carriage returns",
+    "empty": "by_bytes: empty file",
+    "no-last-line-feed": "by_bytes: no last line feed",
+    "empty-line-after-end": "by_bytes: two last line feeds",
+    "minus-zero": "spellings: '(right 1 -0)'",
+    "range-guess-highest": "at_ends_of_ranges: guess number 1 is 68719476736",
+    "range-guess-beyond": "at_ends_of_ranges: guess number 1 is 68719476737",
+    "range-weight-zero": "at_ends_of_ranges: weight number 1 is 0",
+    "place-above-n": "places: right place 3",
+    "place-wraps": "places: guess place 18446744073709551617",
+    "list-short": "lists: inverse with 1",
+    "list-past-n-beyond": "lists: row with 1 2 1048577",
+    "again-beyond": "lists: row again with 1048577",
+    "again-long": "lists: row again with 1 2 3",
+    "scale-first": "orders: line 1 first",
+    "row-before-scale": "orders: line 2 second",
+    "second-problem": "orders: '(problem 3)' at 1",
+    "second-problem-beyond": "orders: '(problem 33)' at 1",
+    "right-again": "orders: line 4 again",
+    "weight-missing": "orders: line 11 missing",
+    "end-early": "orders: end after line 5",
+    "end-before-scale": "orders: '(end)' at 1",
+    "form-after-end": "orders: line 3 after the end",
+    "stops-early": "orders: nothing from line 12",
+    "half-below-zero": "entries: entry of -40",
+    "widest": "widest: sign -1, steps 20 20",
+}
+
+# Systems made by chance, with their number of equations.
+MADE = (
+    (usual.levelling, 1), (usual.levelling, 5), (usual.levelling, 32), (usual.general, 9), (usual.general, 16), (usual.small, 3), (usual.singular, 3),
+    (edge.at_edge, 1), (edge.at_edge, 12), (edge.with_halves, 6), (ends.at_bounds, 10), (ends.largest_bounds, 8), (ends.near_margins, 6),
+    (ends.near_residuals, 7), (ends.near_inverse_residuals, 6), (ends.several, 9),
+)
+
+
+def stored():
+    """(name, file) of every stored file."""
+    files = {case.name: case.file for case in given.cases()}
+    for name, known in GIVEN.items():
+        yield name, files[known]
+    for make, n in MADE:
+        name = f"{make.__name__.replace('_', '-')}-{n}"
+        rng = random.Random(name)
+        yield name, file_of(arranged(rng, lines_of(make(rng, n))))
+
+
+def entries(printing):
+    """Each name and its file as two commands of the script, with what the program prints of them."""
+    second = Program()
+    for name, file in stored():
+        yield b"\xfet" + name.encode() + b"\n", name + "\n"
+        yield b"\xfef" + file, second.listing(file).decode()

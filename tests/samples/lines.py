@@ -1,0 +1,139 @@
+"""Sample lines of the file (document 01, "The file") and what each is.
+
+A second reading that shares no text with the first: one regular expression for each form, and numbers of any size."""
+
+import re
+
+CAP = 2**40
+NUMBER = rb"(0|-?[1-9][0-9]*)"
+NUMBERS = rb"((?:0|-?[1-9][0-9]*)(?: (?:0|-?[1-9][0-9]*))*)"
+# The word of each form with a pattern of what follows it, and the largest size of a number in its list.
+FORMS = (
+    ("problem", rb" " + NUMBER, None),
+    ("scale", rb" " + NUMBER + rb" " + NUMBER, None),
+    ("row", rb" " + NUMBER + rb" \(" + NUMBERS + rb"\)", 2**20),
+    ("right", rb" " + NUMBER + rb" " + NUMBER, None),
+    ("guess", rb" " + NUMBER + rb" " + NUMBER, None),
+    ("inverse", rb" " + NUMBER + rb" \(" + NUMBERS + rb"\)", 2**20),
+    ("weight", rb" " + NUMBER + rb" " + NUMBER, None),
+    ("end", rb"", None),
+)
+
+
+def capped(number):
+    return max(-CAP, min(CAP, number))
+
+
+def told(line, printing):
+    """What a line is, as the program prints it."""
+    if len(line) > 320:
+        return f"refused {printing.refused(1)}"
+    for word, rest, largest in FORMS:
+        found = re.fullmatch(rb"\(" + word.encode() + rest + rb"\)", line)
+        if not found:
+            continue
+        groups = [[int(numeral) for numeral in group.split(b" ")] for group in found.groups()]
+        numbers = groups.pop() if largest else []
+        parts = [word, *(str(capped(group[0])) for group in groups)]
+        if numbers:
+            within = all(-largest <= number <= largest for number in numbers)
+            parts += ["of", str(len(numbers)), "in range:" if within else "not in range:", *(str(capped(number)) for number in numbers[:32])]
+        return " ".join(parts)
+    return f"refused {printing.refused(2)}"
+
+
+def heads():
+    """The forms with a slot for one number each, and for a list."""
+    yield from (b"(problem %s)", b"(scale %s 4)", b"(scale 4 %s)")
+    for word in (b"right", b"guess", b"weight"):
+        yield b"(" + word + b" %s 1)"
+        yield b"(" + word + b" 1 %s)"
+    for word in (b"row", b"inverse"):
+        yield b"(" + word + b" %s (1 2))"
+        yield b"(" + word + b" 1 (%s))"
+        yield b"(" + word + b" 1 (%s 2))"
+        yield b"(" + word + b" 1 (1 %s 3))"
+        yield b"(" + word + b" 1 (1 %s))"
+
+
+# Numbers at the ends of the ranges, at the cap, at the machine's word, and longer.
+EDGES = (1, 20, 21, 32, 33, 1024, 1025, 2**20, 2**20 + 1, 2**30, 2**30 + 1, 2**36, 2**36 + 1, 2**40 - 1, 2**40, 2**40 + 1, 2**63, 2**64, 2**64 + 1)
+# What is no number.
+NO_NUMBERS = (b"", b"-", b"--1", b"-0", b"00", b"01", b"-01", b"+1", b"1.", b"1e3", b"0x1", b"1_0", b"a", b"1-", b"0-", b"0 0", b"1 ", b" 1", "−1".encode())
+
+
+def numbers():
+    for edge in EDGES:
+        yield b"(guess 1 %d)" % edge
+        yield b"(guess 1 %d)" % -edge
+    for edge in (0, 2**64 + 1, -(2**64) - 1):
+        yield from (head % (b"%d" % edge) for head in heads())
+    for length in (13, 19, 20, 21, 300):
+        for digit in b"19":
+            yield b"(guess 1 %s)" % (bytes([digit]) * length)
+            yield b"(guess 1 -%s)" % (bytes([digit]) * length)
+    for word in (b"row", b"inverse"):
+        yield b"(" + word + b" " + b"7" * 300 + b" (1))"
+        yield b"(" + word + b" 1 (" + b"8" * 300 + b"))"
+        yield b"(" + word + b" 1 (0 -" + b"9" * 298 + b"))"
+    for no_number in NO_NUMBERS:
+        yield from (head % no_number for head in (b"(problem %s)", b"(scale %s 0)", b"(right 1 %s)", b"(row %s (1))", b"(inverse 1 (%s))", b"(row 1 (2 %s))"))
+
+
+def lists():
+    for word in (b"row", b"inverse"):
+        for count in (1, 2, 31, 32, 33, 40, 100, 151):
+            yield b"(" + word + b" 1 (" + b" ".join([b"7"] * count) + b"))"
+        for count in (31, 32, 33, 39):
+            yield b"(" + word + b" 1 (" + b" ".join(b"%d" % (1 - at) for at in range(count)) + b" 1048577))"
+            yield b"(" + word + b" 1 (" + b" ".join(b"%d" % at for at in range(count)) + b" -1048576))"
+        yield from (b"(" + word + tail for tail in (b" 1 ())", b" 1 ( ))", b" 1 (1)", b" 1 (1)) ", b" 1 (1)))", b" 1 1))", b" 1 (1 (2)))", b" 1(1))", b" (1))", b" 1 2 (1))", b" 1 (1,2))"))
+
+
+# A line of each form, with a list of the most numbers that 320 bytes hold: 155 and 153.
+WHOLE = (
+    b"(problem 2)", b"(scale 4 4)", b"(row 1 (4 -1))", b"(right 1 5)", b"(guess 1 23)", b"(inverse 1 (4 1))", b"(weight 1 1)", b"(end)",
+    b"(row 1 (" + b"0 " * 154 + b"0))", b"(inverse 1 (" + b"0 " * 152 + b"0))",
+)
+
+
+def damaged(line):
+    """A line with a byte less, a byte more or another byte, at its ends and at some places between."""
+    places = sorted({0, 1, line.find(b" ") + 1, len(line) // 2, len(line) - 2, len(line) - 1})
+    for at in places:
+        yield line[:at] + line[at + 1:]
+        yield line[:at] + b" " + line[at:]
+    yield from (line + tail for tail in (b" ", b")", b"\n", b"\r", b"\t", b"\0", b"(end)", bytes([128])))
+    yield from (first + line for first in (b" ", b"(", b"\n", b"\0"))
+    space = line.find(b" ")
+    if space > 0:
+        yield from (line[:space] + byte + line[space + 1:] for byte in (b"\t", b"\0", b"\n", b"\r", b"  ", bytes([160]), bytes([254])))
+    yield line.upper()
+    yield line[:1] + line[1:2].upper() + line[2:]
+
+
+def lengths():
+    """Lines of 319 to 322 bytes: forms and no forms."""
+    for length in (319, 320, 321, 322):
+        yield b"(guess 1 " + b"5" * (length - 10) + b")"
+        yield b"(guess 1 -" + b"5" * (length - 11) + b")"
+        yield b"(right 1 0" + b"5" * (length - 11) + b")"
+        yield b" " * length
+        yield bytes(length)
+    yield b"(row 1 (" + b"0 " * 155 + b"0))"
+    yield b"(row 10 (" + b"0 " * 154 + b"0))"
+
+
+def lines():
+    """All lines, each once, in a fixed order."""
+    words = (b"", b" ", b"(", b")", b"()", b"(end", b"end", b"end)", b"(ends)", b"(en)", b"(problem)", b"(problem  2)", b"(problem 2 )", b"(problem 2 3)", b"(scale 4)", b"(scale 4 4 4)", b"(scale 44)", b"(weights 1 1)", b"(r 1 1)", b"(row)", b"(end )", b"( end)", b"(end) (end)", b"(end)(end)", b"(matrix 1 1)", b"(right 1 (5))", b"(guess 1 5 6)")
+    every = [*WHOLE, *words, *numbers(), *lists(), *lengths()]
+    for line in WHOLE[:8]:
+        every += damaged(line)
+    return list(dict.fromkeys(every))
+
+
+def entries(printing):
+    """Each line as a command of the script, with what the program prints of it."""
+    for line in lines():
+        yield b"\xfel" + line, told(line, printing) + "\n"

@@ -1,0 +1,29 @@
+"""How the program `samples` prints an answer; and the wrong ways that its stored output must tell, by name."""
+
+
+class Printing:
+    def said(self, refusal):
+        """An answer: accepted where nothing is refused."""
+        return "accepted" if refusal is None else self.refused(refusal.number, refusal.values)
+
+    def refused(self, number, values=()):
+        return " ".join(map(str, (number, *values)))
+
+    def limits(self, limits, count):
+        """The first places of a limit list: the limits, then a dash where none was written."""
+        places = [str(limit) for limit in limits] + ["-"] * count
+        return "".join(" " + place for place in places[:count])
+
+
+def wrong(**parts):
+    return type("WrongPrinting", (Printing,), parts)()
+
+
+WRONG = {
+    "3 for a refusal that has no name": wrong(refused=lambda self, number, values=(): Printing.refused(self, number if number in (5, 6, 7, 8) else 3, values)),
+    "0 for a refusal that is no line's": wrong(refused=lambda self, number, values=(): Printing.refused(self, number if number in (1, 2) else 0, values)),
+    "numbers alone": wrong(refused=lambda self, number, values=(): str(number)),
+    "row before column": wrong(refused=lambda self, number, values=(): Printing.refused(self, number, values[::-1])),
+    "all accepted": wrong(said=lambda self, refusal: "accepted"),
+    "limits of a refused check": wrong(limits=lambda self, limits, count: Printing.limits(self, list(limits) + [0] * count, count)),
+}
