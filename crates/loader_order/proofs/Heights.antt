@@ -8,7 +8,7 @@ use Rattle.rules.specs.declared.Outcome.{Outcome}
 use Rattle.enclosure.specs.Demand.{OneHeight}
 use Rattle.enclosure.proofs.Demands.{one-height}
 use Rattle.checked.specs.Input.{Input, problem}
-use Rattle.progress.specs.declared.Stage.{Stage}
+use Rattle.given_forms.specs.declared.Stage.{Stage}
 use Rattle.loader_order.specs.Through.{CheckedThrough}
 
 pub through-height : (s : Stage) (I : Input) (r : Outcome) (E L : List ℕ) → CheckedThrough s I r E L → said r ≡ [] →
