@@ -43,7 +43,7 @@ WRONG = {
     "an example less": ("docs/refusals.tsv", "; `15-empty-file.txt`: `(refused 15 (0))`", "", words.every_example_is_told),
     "another status in the manual": ("docs/register.1", "\naccepted\n", "\ngood\n", words.manual_has_the_help),
     "another status in README": ("README.md", "      1   refused", "      3   refused", words.readme_has_the_help),
-    "a line less in README": ("README.md", "| 35 | `sum`", "| 34 | `sum`", words.readme_counts_lines),
+    "a digit more in README": ("README.md", "| together | ", "| together | 1", words.readme_counts_lines),
     "another kit in README": ("README.md", "kit `", "kit `a", words.readme_names_the_kit),
     "listings of equal names": (BATCH, "to=$listings/$1", "to=$listings/${1##*/}", batches.keeps_folders),
     "a name's end is lost": (BATCH, "xargs -0 -n 1", "tr '\\0' '\\n' | xargs -n 1", batches.keeps_folders),

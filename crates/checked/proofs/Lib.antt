@@ -8,3 +8,4 @@ pub mod Agreement
 pub mod Before
 pub mod Largest
 pub mod Table
+pub mod Heights

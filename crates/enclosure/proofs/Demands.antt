@@ -3,6 +3,7 @@
 --   within — an error e whose A·e is within a slack of q·r is within q times the limits of that residual and slack
 --   solution, kernel — two of the three parts
 --   encloses — together, for the limits of the reckoning;  encloses-as — limits that agree on the first n places enclose alike
+--   one-height — there is exactly one height, as a fraction, and it lies within its limit
 use mathlib.Core.Path.{_≡_, refl, _∙_}
 use Prim.Native.Nat.{ℕ, _*_, _≤_, _<_}
 use native.Mathlib.Omega.{arith}
@@ -13,9 +14,11 @@ use Rattle.integer.proofs.Ring.{ring, zero-*}
 use Rattle.integer.proofs.Sum.{sumℕ-*}
 use Rattle.linear.specs.Matrix.{Vec, column, apply, product}
 use Rattle.linear.proofs.Product.{apply-vectors, apply-scale}
+use Rattle.exact_solution.specs.Determined.{ZeroKernel}
+use Rattle.exact_solution.proofs.Existence.{determined}
 use Rattle.enclosure.specs.Problem.{Problem, S, columnOf}
 use Rattle.enclosure.specs.Reckoning.{load, margin, residual, slack, sizesWith, boundWith, bound, inverseBound, defect}
-use Rattle.enclosure.specs.Demand.{Encloses, Margins}
+use Rattle.enclosure.specs.Demand.{Encloses, OneHeight, Margins}
 use Rattle.enclosure.proofs.Margin.{margin-above}
 use Rattle.enclosure.proofs.Bounds.{bound-covers}
 use Rattle.enclosure.proofs.Enclosure.{enclosed}
@@ -47,7 +50,7 @@ module _ (P : Problem) (hw : (i : ℕ) → i < P .n → 1 ≤ P .w i) (hm : Marg
   solution N q h =
       within q (λ i. pos (S P) *ℤ N i -ℤ pos q *ℤ P .X i) (residual P) (slack P) (λ k l. exact _ _ q (error-solves P q N h k l))
 
-  pub kernel : (N : Vec) → ((k : ℕ) → k < P .n → apply (P .n) (P .A) N k ≡ pos 0) → (i : ℕ) → i < P .n → N i ≡ pos 0
+  pub kernel : ZeroKernel (P .n) (P .A)
   kernel N h i l =
       abs-zero (N i)
       (enclosed P 1 N (λ k. pos 0) (λ k. 0) (λ k lk. exact _ _ 1 (h k lk)) hw hm (λ i. 0)
@@ -67,6 +70,7 @@ encloses P hw hm = record {
   solution = λ N q x. solution P hw hm N q (x .solves);
   inverse = λ H q x i j li lj. solution (columnOf P j) hw (λ m l. rw (column-margin P j m) (hm m l)) (column H j) q (λ k l. x .right k j l lj) i li;
   kernel = kernel P hw hm;
+  determined = determined (P .n) (P .A) (kernel P hw hm);
 }
 
 pub encloses-as : (P : Problem) (E E′ : ℕ → ℕ) (L L′ : ℕ → ℕ → ℕ) → ((i : ℕ) → i < P .n → E′ i ≡ E i) → ((i j : ℕ) → i < P .n → j < P .n → L′ i j ≡ L i j) →
@@ -75,4 +79,16 @@ encloses-as P E E′ L L′ e f x = record {
   solution = λ N q h i l. rw (e i l) (x .solution N q h i l);
   inverse = λ H q h i j li lj. rw (f i j li lj) (x .inverse H q h i j li lj);
   kernel = x .kernel;
+  determined = x .determined;
 }
+
+pub one-height : (P : Problem) (E : ℕ → ℕ) (L : ℕ → ℕ → ℕ) → Encloses P E L → OneHeight P E
+one-height P E L x =
+    let s = x .determined .exists (P .b) in
+    record {
+      N = s .N;
+      q = s .q;
+      exact = s .holds;
+      only = λ N′ q′ h. x .determined .unique (P .b) (s .N) N′ (s .q) q′ (s .holds) h;
+      within = x .solution (s .N) (s .q) (s .holds);
+    }

@@ -1,12 +1,14 @@
 -- Neither half of demand 3 is empty: the whole file of document 01 meets the hypotheses of both.
 --   file-rounded — it is a rounded exact proposal;  file-sound — so it is sound;  file-encloses — and its limits enclose
+--   file-heights — any exact solution of it is (16/11, 9/11)
 use mathlib.Core.Path.{refl}
 use Prim.Native.Nat.{ℕ, zero, suc, _<_}
 use native.Mathlib.Omega.{arith}
 use lib.Dec.{lit<, lit≤}
 use Rattle.integer.specs.Finite.{sum, sumℕ}
-use Rattle.linear.specs.Matrix.{apply, product, identity}
-use Rattle.enclosure.specs.Demand.{RoundedExact, Sound, Encloses, sumOfSizes}
+use Rattle.linear.specs.Matrix.{Vec, apply, product, identity}
+use Rattle.exact_solution.specs.Determined.{Same}
+use Rattle.enclosure.specs.Demand.{ExactSolution, RoundedExact, Sound, Encloses, sumOfSizes}
 use Rattle.enclosure.specs.Example.{file, exact, exactInverse}
 use Rattle.enclosure.specs.Reckoning.{bound, inverseBound}
 use Rattle.enclosure.proofs.Acceptance.{rounded-sound}
@@ -42,3 +44,7 @@ file-sound = rounded-sound file exact 11 exactInverse 11 (lit≤ tt) file-rounde
 
 pub file-encloses : Encloses file (bound file) (inverseBound file)
 file-encloses = encloses file (each _ (lit≤ tt) (lit≤ tt)) (file-sound .margins)
+
+-- its only heights are 16/11 and 9/11
+pub file-heights : (N : Vec) (q : ℕ) → ExactSolution file N q → Same 2 exact 11 N q
+file-heights N q h = file-encloses .determined .unique (file .b) exact N 11 q (file-rounded .solution) h

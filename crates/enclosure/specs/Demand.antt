@@ -1,7 +1,9 @@
 -- Demand 3 in the words of document 01. q, N and H are whole numbers of any size, and H has its own q.
 --   ExactSolution P N q — q ≥ 1 and A·N = q·b
 --   ExactInverse P H q  — q ≥ 1 and A·H = q·I;  TwoSided — H·A = q·I as well
---   Encloses P E L      — the first half: every exact solution lies within the limits E, every exact inverse within L, the kernel is zero
+--   Encloses P E L      — the first half: every exact solution lies within the limits E, every exact inverse within L, and the kernel is zero;
+--     and (02, Paper 12) every right side has an exact solution, any two are the same fractions, and there is an inverse on both sides
+--   OneHeight P E       — for the clerk: there are heights N_i / q that solve the equations, they are the only ones, and each lies within its limit
 --   sumOfSizes P        — the sum of |A_ij| over all i and j
 --   RoundedExact P N q H q′ — the second half's hypotheses: exact N and two-sided H, guess and inverse rounded to nearest steps, weights 1,
 --     that sum below 2T
@@ -12,27 +14,33 @@ use mathlib.Core.Bool.{false}
 use Prim.Native.Nat.{ℕ, _*_, _≤_, _<_}
 use lib.IntN.{pos, natAbs, _-ℤ_, _*ℤ_}
 use Rattle.integer.specs.Finite.{sumℕ}
-use Rattle.linear.specs.Matrix.{Vec, Mat, apply, product, identity}
+use Rattle.linear.specs.Matrix.{Vec, Mat}
+use Rattle.exact_solution.specs.Determined.{ZeroKernel, Solves, RightInverse, Inverse, Same, Determined}
 use Rattle.enclosure.specs.Problem.{Problem, S, T, columnOf}
 use Rattle.enclosure.specs.Reckoning.{marginFails, exceeds}
 
-pub record ExactSolution (P : Problem) (N : Vec) (q : ℕ) : Type 0 where
-  pub positive : 1 ≤ q
-  pub solves : (k : ℕ) → k < P .n → apply (P .n) (P .A) N k ≡ pos q *ℤ P .b k
+abbrev pub ExactSolution : Problem → Vec → ℕ → Type 0
+ExactSolution P N q = Solves (P .n) (P .A) (P .b) N q
 
-pub record ExactInverse (P : Problem) (H : Mat) (q : ℕ) : Type 0 where
-  pub positive : 1 ≤ q
-  pub right : (k j : ℕ) → k < P .n → j < P .n → product (P .n) (P .A) H k j ≡ pos q *ℤ identity k j
+abbrev pub ExactInverse : Problem → Mat → ℕ → Type 0
+ExactInverse P H q = RightInverse (P .n) (P .A) H q
 
-pub record TwoSided (P : Problem) (H : Mat) (q : ℕ) : Type 0 where
-  pub inverse : ExactInverse P H q
-  pub left : (k j : ℕ) → k < P .n → j < P .n → product (P .n) H (P .A) k j ≡ pos q *ℤ identity k j
+abbrev pub TwoSided : Problem → Mat → ℕ → Type 0
+TwoSided P H q = Inverse (P .n) (P .A) H q
 
 pub record Encloses (P : Problem) (E : ℕ → ℕ) (L : ℕ → ℕ → ℕ) : Type 0 where
   pub solution : (N : Vec) (q : ℕ) → ExactSolution P N q → (i : ℕ) → i < P .n → natAbs (pos (S P) *ℤ N i -ℤ pos q *ℤ P .X i) ≤ q * E i
   pub inverse : (H : Mat) (q : ℕ) → ExactInverse P H q →
       (i j : ℕ) → i < P .n → j < P .n → natAbs (pos (T P) *ℤ H i j -ℤ pos q *ℤ P .G i j) ≤ q * L i j
-  pub kernel : (N : Vec) → ((k : ℕ) → k < P .n → apply (P .n) (P .A) N k ≡ pos 0) → (i : ℕ) → i < P .n → N i ≡ pos 0
+  pub kernel : ZeroKernel (P .n) (P .A)
+  pub determined : Determined (P .n) (P .A)
+
+pub record OneHeight (P : Problem) (E : ℕ → ℕ) : Type 0 where
+  pub N : Vec
+  pub q : ℕ
+  pub exact : ExactSolution P N q
+  pub only : (N′ : Vec) (q′ : ℕ) → ExactSolution P N′ q′ → Same (P .n) N q N′ q′
+  pub within : (i : ℕ) → i < P .n → natAbs (pos (S P) *ℤ N i -ℤ pos q *ℤ P .X i) ≤ q * E i
 
 unfoldable pub sumOfSizes : Problem → ℕ
 sumOfSizes P = sumℕ (P .n) (λ (i : ℕ). sumℕ (P .n) (λ (j : ℕ). natAbs (P .A i j)))

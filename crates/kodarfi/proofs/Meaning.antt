@@ -4,6 +4,7 @@
 --   zero-answer, zero-reported — of a listing the number 0 is said of an accepted file alone, and then the report stands there
 --   zero-encloses, exact-zero — both halves of demand 3: 0 gives limits that enclose; a rounded exact proposal gets 0
 --   reported-encloses, exact-reported — the same of a file
+--   zero-height, reported-height — there is exactly one height, as a fraction, and it lies within its limit (02, Paper 12)
 --   entry-zero, entry-three — the register entry where its numbers are in range, and where one is not
 use mathlib.Core.Bool.{true, false}
 use mathlib.Core.List.{List, [], _∷_}
@@ -19,14 +20,15 @@ use Rattle.rules.specs.declared.Outcome.the-variants.{Accepted, Refused}
 use Rattle.rules.specs.declared.Refusal.the-variants.{TooLong, NoForm, OutOfRange, WrongCount, Margin, Residual, InverseResidual, TooShort, TooEarly, Repeated, Missing, AfterEnd, NotEnded}
 use Rattle.rules.proofs.Verdicts.{accepted-new, accepted-old}
 use Rattle.enclosure.specs.Reckoning.{bound, inverseBound}
-use Rattle.enclosure.specs.Demand.{Encloses, RoundedExact}
+use Rattle.enclosure.specs.Demand.{Encloses, OneHeight, RoundedExact}
+use Rattle.enclosure.proofs.Demands.{one-height}
 use Rattle.checked.specs.Input.{Input, problem, short, inRanges}
 use Rattle.checked.specs.Order.{answer}
 use Rattle.entry.specs.Entry.{entryValue, entryBound}
 use Rattle.file_check.specs.Judged.{reportedOf}
 use Rattle.entry.specs.Register as entry
 use Rattle.listing.specs.Listing.{problemIn, Complete, answerOf}
-use Rattle.listing.proofs.Demand.{file-reported, file-encloses, exact-accepted}
+use Rattle.listing.proofs.Demand.{file-reported, file-encloses, file-height, exact-accepted}
 use Rattle.listing.proofs.Answers.{answer-zero}
 use Rattle.kodarfi.specs.Told.{Told}
 use Rattle.kodarfi.specs.Exported.{CheckExported, ListingExported, EntryExported}
@@ -54,6 +56,9 @@ module _ {I : Input} {number : ℕ} {places E L : List ℕ} (x : CheckExported I
   pub zero-encloses : number ≡ 0 → Encloses (problem I) (λ (i : ℕ). getD E i 0) (λ (i j : ℕ). getD L (i * I .n + j) 0)
   zero-encloses e = x .checked .encloses (zero-said (x .outcome) (sym (x .told .number-is) ∙ e))
 
+  pub zero-height : number ≡ 0 → OneHeight (problem I) (λ (i : ℕ). getD E i 0)
+  zero-height e = one-height (problem I) (λ i. getD E i 0) (λ i j. getD L (i * I .n + j) 0) (zero-encloses e)
+
   pub exact-zero : (N : Vec) (q : ℕ) (H : Mat) (q′ : ℕ) → short I ≡ false → inRanges I ≡ true → RoundedExact (problem I) N q H q′ → number ≡ 0
   exact-zero N q H q′ s r h = x .told .number-is ∙ ap (λ (l : List ℕ). getD l 0 0) (x .checked .accepts N q H q′ s r h)
 
@@ -66,6 +71,9 @@ module _ {file old : List ℕ} {number : ℕ} {places new : List ℕ} {written :
 
   pub reported-encloses : number ≡ 0 → Encloses (problemIn file) (bound (problemIn file)) (inverseBound (problemIn file))
   reported-encloses e = file-encloses file (zero-answer e)
+
+  pub reported-height : number ≡ 0 → OneHeight (problemIn file) (bound (problemIn file))
+  reported-height e = file-height file (zero-answer e)
 
   pub exact-reported : Complete file → (N : Vec) (q : ℕ) (H : Mat) (q′ : ℕ) → RoundedExact (problemIn file) N q H q′ → number ≡ 0
   exact-reported c N q H q′ h = x .told .number-is ∙ ap (λ (l : List ℕ). getD l 0 0) (exact-accepted file c N q H q′ h)

@@ -1,6 +1,7 @@
 -- Demand 3 of a whole file.
 --   Accepted, accepted-parts — of an accepted file every line is accepted, the last is an end, and the reckoning says nothing of its problem
 --   file-reported, file-encloses — its listing is the report, and the limits in it enclose every exact solution and inverse
+--   file-height — there is exactly one height, as a fraction, and it lies within its limit (02, Paper 12)
 --   exact-accepted — a complete file with a rounded exact proposal is accepted
 use mathlib.Core.Path.{_≡_, refl, ap, _∙_}
 use mathlib.Core.Bool.{Bool, true, false, cond}
@@ -10,9 +11,9 @@ use Rattle.linear.specs.Matrix.{Vec, Mat}
 use Rattle.rules.proofs.Verdicts.{nothing-is-not}
 use Rattle.enclosure.specs.Problem.{Problem}
 use Rattle.enclosure.specs.Reckoning.{bound, inverseBound}
-use Rattle.enclosure.specs.Demand.{Encloses, RoundedExact}
+use Rattle.enclosure.specs.Demand.{Encloses, OneHeight, RoundedExact}
 use Rattle.enclosure.proofs.Acceptance.{rounded-sound}
-use Rattle.enclosure.proofs.Demands.{encloses}
+use Rattle.enclosure.proofs.Demands.{encloses, one-height}
 use Rattle.checked.specs.Order.{checkedOf}
 use Rattle.checked.proofs.Contract.{sound-said, said-sound}
 use Rattle.line_runs.specs.Run.{forms}
@@ -65,6 +66,9 @@ module _ (file : List ℕ) where
       let c = a .complete in
       encloses (problemIn file) (heavy (readingOf file .state) (forms (linesOf file)) (from file (c .lines) (c .end)) (inside file (c .lines) (c .end)))
       (said-sound (problemIn file) (a .quiet) .margins)
+
+  pub file-height : answerOf file ≡ [] → OneHeight (problemIn file) (bound (problemIn file))
+  file-height e = one-height (problemIn file) (bound (problemIn file)) (inverseBound (problemIn file)) (file-encloses e)
 
   pub exact-accepted : Complete file → (N : Vec) (q : ℕ) (H : Mat) (q′ : ℕ) → RoundedExact (problemIn file) N q H q′ → answerOf file ≡ []
   exact-accepted c N q H q′ x =

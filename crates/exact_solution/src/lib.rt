@@ -1,0 +1,1 @@
+// Definitions and theorems only: exact solutions in fractions.
