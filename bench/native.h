@@ -21,7 +21,7 @@ check_on_lists native_check_naive;
 /* The same with 2 * n divisions: the row with the largest |p_m| / g_m is found first. */
 check_on_lists native_check_quick;
 
-/* The same with sums of products by way of raised numbers, as in crates/raised. */
+/* The same with sums of products by way of raised numbers, as in crates/raised_rows. */
 check_on_lists native_check_raised;
 
 #endif

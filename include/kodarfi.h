@@ -2,7 +2,7 @@
  *
  * Each answers every input: numbers, bytes and lengths may be anything. What C's types cannot say is the caller's part: no pointer is null; a pointer
  * with a length after it leads to as many numbers or bytes as that length says, and any other to as many as its comment says; nothing that is written
- * (a pointer without const) overlaps anything else of the same call. Calls keep no state, take about 64 kilobytes of
+ * (a pointer without const) overlaps anything else of the same call. Calls keep no state, take at most 96 kilobytes of
  * stack and no other memory, and may run at the same time.
  *
  * Each gives document 01's number of the first refusal, 0 where nothing is refused, and writes `places` in any case: the row, column, count or

@@ -1,9 +1,9 @@
 -- Each refusal is said exactly where its stated case holds and nothing earlier does (specs/Stated).
 --   stated — what is said has its stated case;  said-of — what has its stated case is said;  accepted-usable — what is accepted passes 8 and 3
-use mathlib.Core.Path.{_≡_, refl, sym, ap, _∙_, subst}
+use mathlib.Core.Path.{_≡_, refl, sym, _∙_, subst}
 use mathlib.Core.Bool.{Bool, true, false}
 use mathlib.Core.List.{List, [], _∷_}
-use Prim.Native.Nat.{ℕ, _+_, _*_, _/_, _%_, _≤_, _<_}
+use Prim.Native.Nat.{ℕ, _+_, _*_, _/_, _%_, _<_}
 use native.Mathlib.Omega.{arith}
 use native.Mathlib.Nat.{mod-lt, div-lt-iff-lt-mul, div-add-mod', mul-le-mul-right}
 use borrow.Author.Tests.{lt-ltb, le-ltb}

@@ -1,6 +1,6 @@
 -- Cases a to k of document 01 ("Marked for proof"), as rows of a table. Rows and columns count from 1, as there.
 --   Claim   — a limit that 01 states: of the solution, or of a number of the inverse
---   Row     — a proposal, what is said of it (nothing: accepted), and the limits that 01 states
+--   Row, row — a proposal, what is said of it (nothing: accepted), and the limits that 01 states
 --   single, variant, twice — rows of a common shape;  a to k, rows — the rows of the table
 --   unwritten — what stands in the limit lists before the check
 --   inputOf — the row's numbers in lists that are long enough
@@ -33,50 +33,35 @@ pub record Row : Type 0 where
   pub says : List ℕ
   pub bounds : List Claim
 
--- n = 1, b = 0, w = 1
-abbrev pub single : ℤ → ℕ → ℕ → ℤ → ℤ → List ℕ → List Claim → Row
-single a s t x g says bounds = record {
-  n = 1;
+abbrev pub row : ℕ → ℕ → ℕ → List ℤ → List ℤ → List ℤ → List ℤ → List ℤ → List ℕ → List Claim → Row
+row n s t A b X G w says bounds = record {
+  n = n;
   s = s;
   t = t;
-  A = a ∷ [];
-  b = pos 0 ∷ [];
-  X = x ∷ [];
-  G = g ∷ [];
-  w = pos 1 ∷ [];
+  A = A;
+  b = b;
+  X = X;
+  G = G;
+  w = w;
   says = says;
   bounds = bounds;
 }
+
+-- n = 1, b = 0, w = 1
+abbrev pub single : ℤ → ℕ → ℕ → ℤ → ℤ → List ℕ → List Claim → Row
+single a s t x g = row 1 s t (a ∷ []) (pos 0 ∷ []) (x ∷ []) (g ∷ []) (pos 1 ∷ [])
 
 -- the whole file, with another guess and other weights
 abbrev pub variant : ℤ → ℤ → ℤ → ℤ → List Claim → Row
-variant x y v w bounds = record {
-  n = 2;
-  s = 4;
-  t = 4;
-  A = pos 4 ∷ negsuc 0 ∷ negsuc 0 ∷ pos 3 ∷ [];
-  b = pos 5 ∷ pos 1 ∷ [];
-  X = x ∷ y ∷ [];
-  G = pos 4 ∷ pos 1 ∷ pos 1 ∷ pos 6 ∷ [];
-  w = v ∷ w ∷ [];
-  says = [];
-  bounds = bounds;
-}
+variant x y v w =
+    row 2 4 4 (pos 4 ∷ negsuc 0 ∷ negsuc 0 ∷ pos 3 ∷ []) (pos 5 ∷ pos 1 ∷ []) (x ∷ y ∷ []) (pos 4 ∷ pos 1 ∷ pos 1 ∷ pos 6 ∷ [])
+    (v ∷ w ∷ []) []
 
 -- A = (1,048,576 0 / 0 1), b = X = 0
 abbrev pub twice : ℤ → List ℕ → List Claim → Row
-twice g says bounds = record {
-  n = 2;
-  s = 0;
-  t = 20;
-  A = pos 1048576 ∷ pos 0 ∷ pos 0 ∷ pos 1 ∷ [];
-  b = pos 0 ∷ pos 0 ∷ [];
-  X = pos 0 ∷ pos 0 ∷ [];
-  G = pos 1 ∷ g ∷ pos 0 ∷ pos 1048576 ∷ [];
-  w = pos 1 ∷ pos 1 ∷ [];
-  says = says;
-  bounds = bounds;
-}
+twice g =
+    row 2 0 20 (pos 1048576 ∷ pos 0 ∷ pos 0 ∷ pos 1 ∷ []) (pos 0 ∷ pos 0 ∷ []) (pos 0 ∷ pos 0 ∷ []) (pos 1 ∷ g ∷ pos 0 ∷ pos 1048576 ∷ [])
+    (pos 1 ∷ pos 1 ∷ [])
 
 abbrev pub a : Row
 a = single (pos 4) 0 4 (pos 0) (pos 1) [] (solution 1 0 ∷ inverse 1 1 3 ∷ [])

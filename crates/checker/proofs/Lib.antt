@@ -3,4 +3,4 @@ pub mod Rows
 pub mod Places
 pub mod Limits
 pub mod Outcome
-pub mod Ready
+pub mod Handed

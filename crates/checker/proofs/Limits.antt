@@ -1,6 +1,6 @@
 -- The limits that the code works out are the reckoning's.
 --   solution-limit — from the residuals of the guess and the slacks;  inverse-limit — from the residuals of a column of the inverse
-use mathlib.Core.Path.{_≡_, refl, sym, ap, _∙_}
+use mathlib.Core.Path.{_≡_, refl, sym, _∙_}
 use mathlib.Core.List.{List}
 use Prim.Native.Nat.{ℕ, _+_, _*_, _-_, _/_, _%_, _<_}
 use native.Mathlib.Omega.{arith}

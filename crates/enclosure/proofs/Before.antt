@@ -2,11 +2,10 @@
 --   exceeds-before, column-exceeds-before, sizes-before, bound-before, inverse-bound-before — the same numbers
 --   sound-before, before-sound — the same problems are sound
 use mathlib.Core.Path.{_≡_, refl, sym, ap, _∙_}
-use Prim.Native.Nat.{ℕ, _+_, _*_, _<_}
+use Prim.Native.Nat.{ℕ, _+_}
 use native.Mathlib.Omega.{arith}
 use lib.Dec.{ltb}
 use lib.IntN.{natAbs}
-use Rattle.integer.specs.Finite.{sumℕ}
 use Rattle.integer.proofs.Sum.{sumℕ-*}
 use Rattle.enclosure.specs.Problem.{Problem, columnOf}
 use Rattle.enclosure.specs.Reckoning.{margin, residual, slack, allowedResidual, exceeds, sizesWith, sizes, boundWith, bound, inverseBound}

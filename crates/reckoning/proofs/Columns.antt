@@ -3,7 +3,7 @@
 --   first-after — the first place of two parts;  first-no-column, first-column — of no column, and of one column more;  first-most — it is at most n
 --   columns-at, columns-else — what a matrix stored column by column, row after row, holds at its places and past them
 use mathlib.Core.Path.{_≡_, refl, sym, ap, ap₂, subst, _∙_}
-use mathlib.Core.Bool.{Bool, true, false}
+use mathlib.Core.Bool.{Bool, false}
 use mathlib.Core.List.{List}
 use Prim.Native.Nat.{ℕ, zero, suc, _+_, _*_, _-_, _/_, _%_, _≤_, _<_}
 use native.Mathlib.Omega.{arith}

@@ -8,7 +8,7 @@ use Rattle.checked.specs.Input.{Input, input, short, sizesInRange, inRanges}
 use Rattle.checked.proofs.Contract.{checked-short, checked-range}
 use Rattle.checked.proofs.Fit.{Fit, fit-of}
 use Rattle.checked.proofs.Lengths.{long-of}
-use Rattle.checker.proofs.Ready.{everywhere, Handed, workable, reckoned-checked}
+use Rattle.checker.proofs.Handed.{everywhere, Handed, workable, reckoned-checked}
 use borrow.Author.Needs.{needs}
 use Rattle.checker.proofs.check.Statement.{statement}
 use Rattle.checker.proofs.check.Tie as tie

@@ -1,19 +1,16 @@
 use mathlib.Core.Path.{_≡_}
-use mathlib.Core.List.{List}
-use Prim.Native.Nat.{ℕ, _+_, _*_, _<_}
 use native.Mathlib.Omega.{arith}
 use lib.Dec.{lit≤}
-use lib.IntN.{ℤ, pos}
-use lib.ListN.{length, replicate, getD-replicate}
+use lib.IntN.{pos}
+use lib.ListN.{length, getD-replicate}
 use Rattle.linear.proofs.Places.{square}
-use Rattle.linear.specs.Reach.{ColumnList}
 use Rattle.enclosure.specs.Reckoning.{allowedResidual}
 use Rattle.reckoning.specs.Rows.{InverseRows}
 use Rattle.reckoning.proofs.Sizes.{row-reaches}
 use Rattle.checker.specs.Work.{Work, work}
 use Rattle.checker.proofs.Outcome.{Worked, refused, positive-here, near-here, columns-here, accepted-here}
 use Rattle.checker.proofs.Rows.{inverse-rows}
-use Rattle.checker.proofs.Ready.{everywhere, everywhere-within}
+use Rattle.checker.proofs.Handed.{everywhere, everywhere-within}
 use borrow.Author.Needs.{needs}
 use Rattle.checker.proofs.reckon.Statement.{statement}
 use Rattle.checker.proofs.reckon.Tie as tie

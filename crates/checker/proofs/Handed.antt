@@ -1,11 +1,12 @@
 -- A check on lists that passes 8 and 3, as work for the reckoning: its base is S·b, 2^25 is allowed in every row, and there is no slack.
+--   everywhere — 2^25 in every row
 --   workOf I base allowed slacks — the work
 --   Handed   — what the three arrays hold;  workable — the reckoning may start on it
 --   reckoned-checked — what the reckoning makes of it is the contract of the check
-use mathlib.Core.Path.{_≡_, refl, sym, ap, _∙_}
+use mathlib.Core.Path.{_≡_, refl, sym, _∙_}
 use mathlib.Core.Bool.{true, false}
 use mathlib.Core.List.{List}
-use Prim.Native.Nat.{ℕ, _+_, _*_, _≤_, _<_, _^_}
+use Prim.Native.Nat.{ℕ, _≤_, _<_, _^_}
 use native.Mathlib.Omega.{arith}
 use borrow.Author.Tests.{ltb-false}
 use lib.Dec.{lit≤}
