@@ -59,10 +59,11 @@ uint32_t kodarfi_listing(const uint8_t *file, size_t file_len,
                          uint8_t listing[32768], size_t *written,
                          uint64_t places[2]);
 
-/* The register entry of a guess, in solution steps, and of its limit, for 2^s solution steps a unit.
+/* The register entry of a guess, in solution steps, and of its limit, for S = 2^s solution steps a unit.
  *
- * The answer is 0 where guess is -2^36 to 2^36, bound at most 2^60 and s at most 20: then *value is guess / 2^s rounded to a whole unit, halves away
- * from zero, and *value_bound is bound / 2^s rounded up. Else it is 3, and both are as before. places: always 0, 0. */
+ * The answer is 0 where guess is -2^36 to 2^36 and s at most 20; bound may be any number. Then *value is guess / S rounded to a whole unit, halves away
+ * from zero, and *value_bound is (bound + |guess - S * value|) / S rounded up: every height within bound steps of the guess lies within *value_bound
+ * units of *value, and no smaller whole number would do. Else it is 3, and both are as before. places: always 0, 0. */
 uint32_t kodarfi_entry(int64_t guess, uint64_t bound, uint32_t s,
                        int64_t *value, uint64_t *value_bound,
                        uint64_t places[2]);

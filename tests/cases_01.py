@@ -1,4 +1,4 @@
-"""Document 01's cases a to l, with the lines of the listing that it gives for each."""
+"""Document 01's cases a to l and the one that 02 gives, with the lines of the listing for each."""
 
 from typing import NamedTuple
 
@@ -45,8 +45,11 @@ CASES = (
     Expected("i", one(0, 20, 1048576, 0, 33, 1), ("(refused 6 (1))",), True),
     Expected("j", pair(32), ("(inverse 1 (0 33))", "(inverse 2 (0 33))"), False),
     Expected("k", pair(33), ("(refused 7 (2 1))",), True),
-    Expected("l", one(4, 4, 2, -3, -24, 8), accepted_one(-24, 0, -2, 0, 0), True),
+    Expected("l", one(4, 4, 2, -3, -24, 8), accepted_one(-24, 0, -2, 1, 0), True),
 )
+
+# 02, Paper 2: "With X = 24, s = 4 and E = 10 the entry is 2 and its limit goes from 1 to 2."
+PAPERS = (Expected("paper 2", one(4, 4, 1, 1, 24, 17), accepted_one(24, 10, 2, 2, 2), True),)
 
 
 def agrees(case, listing):

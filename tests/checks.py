@@ -1,6 +1,8 @@
-"""What must hold of a printed listing whatever the second implementation says: document 01's exact solution and inverse, in whole numbers."""
+"""What must hold of a printed listing whatever the second implementation says: document 01's exact solution and inverse, in whole numbers; the exact
+height and the entry, in fractions."""
 
 import re
+from fractions import Fraction
 
 from exact import inverse_of, inverse_within, is_exact_inverse, is_rounded_exact, product, solution_within
 from net import net_of
@@ -34,24 +36,41 @@ def faults(net, listing):
     return [text for text, holds in statements(net, q, H, listing) if not holds]
 
 
+def limits_in(listing):
+    """The solution limits of a report."""
+    return [int(limit) for _, limit in SOLUTION.findall(listing)]
+
+
+def entries_in(listing):
+    """Each entry of a report with its limit."""
+    return [(int(V), int(limit)) for V, limit in ENTRY.findall(listing)]
+
+
 def statements(net, q, H, listing):
     """Sentences that say what is wrong, each with whether all is well."""
-    E = [int(limit) for _, limit in SOLUTION.findall(listing)]
+    E, entries = limits_in(listing), entries_in(listing)
     L = [[int(limit) for limit in row.split()] for row in INVERSE.findall(listing)]
     yield "the elimination is wrong", net.n > 8 or is_exact_inverse(net.matrix, q, H)
     yield "not n limits and n × n limits", len(E) == net.n and [len(row) for row in L] == [net.n] * net.n
     yield "the exact solution lies outside its limits", solution_within(net, q, product(H, net.right), E)
     yield "the exact inverse lies outside its limits", inverse_within(net, q, H, L)
-    yield "an entry is not the guess rounded", entries_hold(net, E, listing)
+    yield "not n entries", len(entries) == net.n
+    yield "an entry is not the guess rounded", all(is_rounded(X, 2**net.s, V) for X, (V, _) in zip(net.guess, entries))
+    yield "an exact height lies outside the limit of its entry", entries_cover(q, product(H, net.right), entries)
+    yield "the limit of an entry is not the least", all(is_least(X, bound, 2**net.s, *entry) for X, bound, entry in zip(net.guess, E, entries))
 
 
-def entries_hold(net, E, listing):
-    """01: V is X/S rounded to a whole unit, halves away from zero, and its limit is E/S rounded up."""
-    S = 2**net.s
-    entries = [(int(V), int(limit)) for V, limit in ENTRY.findall(listing)]
-    return len(entries) == net.n and all(
-        2 * abs(X - S * V) <= S
-        and (2 * abs(X - S * V) < S or abs(S * V) > abs(X))
-        and S * limit >= bound > S * (limit - 1)
-        for X, bound, (V, limit) in zip(net.guess, E, entries)
-    )
+def is_rounded(X, S, V):
+    """01: V is X/S rounded to a whole unit, halves away from zero."""
+    return 2 * abs(X - S * V) < S or (2 * abs(X - S * V) == S and abs(S * V) > abs(X))
+
+
+def entries_cover(q, N, entries):
+    """02, Paper 2: "The exact height is to be shown within the entry limit of the entry"."""
+    return all(abs(Fraction(N_i, q) - V) <= limit for N_i, (V, limit) in zip(N, entries))
+
+
+def is_least(X, bound, S, V, limit):
+    """Some fraction within `bound` steps of the guess lies (bound + |X − S·V|)/S from V: the limit covers that and no smaller one does."""
+    farthest = max(abs(Fraction(end, S) - V) for end in (X - bound, X + bound))
+    return limit - 1 < farthest <= limit

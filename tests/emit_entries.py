@@ -1,6 +1,6 @@
 """Writes register entries with what the second implementation answers, for programs in other languages.
 
-  python3 tests/emit_entries.py [--seed 1]   document 01's case l, the ends of every range, halves of units, and numbers by chance
+  python3 tests/emit_entries.py [--seed 1]   document 01's case l, 02's case of Paper 2, the ends of every range, halves of units, and numbers by chance
 
 Each is a line of six numbers: guess, limit and s; the refusal's number (0 where accepted), the entry and its limit (0 and 0 where refused)."""
 
@@ -10,13 +10,13 @@ import random
 
 from second.program import Program
 
-LARGEST_GUESS, LARGEST_BOUND, LARGEST_SCALE = 2**36, 2**60, 20
+LARGEST_GUESS, LARGEST_SCALE = 2**36, 20
 BY_CHANCE = 20000
 
 
 def answer(guess, bound, s):
-    """3 where a number is out of range: docs/DECISIONS.md, "Answers that 01 leaves free"."""
-    if abs(guess) > LARGEST_GUESS or bound > LARGEST_BOUND or s > LARGEST_SCALE:
+    """3 where the guess or the scale is out of range: docs/DECISIONS.md, "Answers that 01 leaves free"."""
+    if abs(guess) > LARGEST_GUESS or s > LARGEST_SCALE:
         return 3, 0, 0
     second = Program()
     return 0, second.entry(guess, 2**s), second.entry_bound(guess, bound, 2**s)
@@ -43,14 +43,14 @@ def by_chance(seed):
     for _ in range(BY_CHANCE):
         s, size = rng.randrange(22), rng.randrange(2 ** rng.randrange(38))
         guess = size if rng.randrange(4) else size // 2**s * 2**s + 2**s // 2
-        yield rng.choice((guess, -guess)), rng.randrange(2 ** rng.randrange(62)), s
+        yield rng.choice((guess, -guess)), rng.randrange(2 ** rng.randrange(65)), s
 
 
 def main():
     parser = argparse.ArgumentParser()
     parser.add_argument("--seed", default="1")
     seed = parser.parse_args().seed
-    for call in itertools.chain([(-24, 0, 4)], ends(), halves(), by_chance(seed)):
+    for call in itertools.chain([(-24, 0, 4), (24, 10, 4)], ends(), halves(), by_chance(seed)):
         print(*call, *answer(*call))
 
 

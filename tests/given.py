@@ -115,6 +115,8 @@ def by_bytes():
 def cases():
     for case in cases_01.CASES:
         yield Case(f"01 case {case.name}", cases_01.file(case))
+    for case in cases_01.PAPERS:
+        yield Case(f"02 {case.name}", cases_01.file(case))
     for group in (at_ends_of_ranges, places, lists, spellings, lengths, orders, entries, widest):
         for name, lines in group():
             yield Case(f"{group.__name__}: {name}", file_of(lines))

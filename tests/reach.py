@@ -2,8 +2,8 @@
 
 from collections import Counter
 
-from checks import is_accepted
-from exact import is_rounded_exact, size_sum
+from checks import entries_in, is_accepted, limits_in
+from exact import inverse_of, is_rounded_exact, product, size_sum
 from second.reckoning import Reckoning
 
 ENOUGH_FILES = 2000
@@ -23,6 +23,7 @@ class Reach:
         self.files += 1
         if is_accepted(listing):
             self.sizes[problem.n] += 1
+            self.add_entries(net, listing)
         else:
             self.refusals[int(listing.split()[1])] += 1
         if net is not None:
@@ -45,6 +46,15 @@ class Reach:
             self.edges[f"residual 2^25 + {beyond}"] += 2**25 + beyond in guess
             self.edges[f"inverse residual 2^25 + {beyond}"] += 2**25 + beyond in inverse
 
+    def add_entries(self, net, listing):
+        """Entries whose limit is larger than E/S rounded up, of guesses above and below 0, and those whose exact height lies beyond that."""
+        (q, H), S = inverse_of(net.matrix), 2**net.s
+        for X, E, (V, limit), N in zip(net.guess, limits_in(listing), entries_in(listing), product(H, net.right)):
+            before = -(-E // S)
+            if limit > before:
+                self.edges["limit with rounding above 0" if X > 0 else "limit with rounding below 0"] += 1
+                self.edges["height beyond E/S"] += abs(N - q * V) > q * before
+
     def needs(self):
         """(what, how often met, how often wanted)."""
         accepted = sum(self.sizes.values())
@@ -56,6 +66,8 @@ class Reach:
             yield f"accepted with n = {n}", self.sizes[n], 5
         for value in (-1, 0, 1):
             yield f"margin {value}", self.edges[f"margin {value}"], 10
+        for kind in ("limit with rounding above 0", "limit with rounding below 0", "height beyond E/S"):
+            yield kind, self.edges[kind], 50
         for kind in ("residual", "inverse residual"):
             for beyond in (0, 1):
                 yield f"{kind} 2^25 + {beyond}", self.edges[f"{kind} 2^25 + {beyond}"], 10

@@ -60,11 +60,11 @@ class Telling:
 
 
 def test_given(count):
-    """Document 01's cases give the lines it says; the errors that source 002 prints lie within the limits."""
+    """Document 01's cases and 02's give the lines they say; the errors that source 002 prints lie within the limits."""
     second = Program()
-    for case in cases_01.CASES:
+    for case in cases_01.CASES + cases_01.PAPERS:
         listing = second.listing(cases_01.file(case))
-        count.test(f"01 case {case.name}", [] if cases_01.agrees(case, listing) else [repr(listing)])
+        count.test(f"case {case.name}", [] if cases_01.agrees(case, listing) else [repr(listing)])
     for example in examples_002.EXAMPLES:
         differences = examples_002.table_differences(example)
         count.test(f"002 example {example.name}", [f"printed error {place}" for place in differences])
@@ -87,9 +87,10 @@ def printed_errors_outside(second, net, errors):
 
 
 def test_checks(count):
-    """The statements of checks.py tell by themselves a version that writes no limits, and one that refuses all."""
-    for name in ("no limits written", "all proposals refused"):
-        problem = Program().load(file_of(lines_of(cases_01.whole_file())))
+    """The statements of checks.py tell by themselves a version that writes no limits, one that refuses all, and one whose entry does not cover its rounding."""
+    half = cases_01.one(4, 4, 2, 1, 8, 8)
+    for name, net in (("no limits written", cases_01.whole_file()), ("all proposals refused", cases_01.whole_file()), ("entry limit without the rounding", half)):
+        problem = Program().load(file_of(lines_of(net)))
         told = faults(net_from(problem), PRINTING[name].printed(problem))
         count.test(f"checks on '{name}'", [] if told else ["not told"])
 

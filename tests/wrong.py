@@ -105,15 +105,26 @@ def toward_zero(self, X, S):
     return -size if X < 0 else size
 
 
+def limited(rule):
+    """Program whose entry limit is rule(E, |X − S·V|, X, S)."""
+    return program(entry_bound=lambda self, X, E, S: rule(E, abs(X - S * self.entry(X, S)), X, S))
+
+
 ENTERED = {
     "halves toward zero": program(entry=toward_zero),
     "halves up": program(entry=lambda self, X, S: half_up(Fraction(X, S))),
     "halves to even": program(entry=lambda self, X, S: round(Fraction(X, S))),
     "entry rounded down": program(entry=lambda self, X, S: X // S),
-    "entry limit to nearest": program(entry_bound=lambda self, X, E, S: half_up(Fraction(E, S))),
-    "entry limit rounded down": program(entry_bound=lambda self, X, E, S: E // S),
-    "entry limit in steps": program(entry_bound=lambda self, X, E, S: E),
-    "entry limit from the entry": program(entry_bound=lambda self, X, E, S: ceil(Fraction(E + abs(X - S * self.entry(X, S)), S))),
+    "entry limit to nearest": limited(lambda E, away, X, S: half_up(Fraction(E + away, S))),
+    "entry limit rounded down": limited(lambda E, away, X, S: (E + away) // S),
+    "entry limit in steps": limited(lambda E, away, X, S: E + away),
+    "entry limit without the rounding": limited(lambda E, away, X, S: ceil(Fraction(E, S))),
+    "entry limit one above": limited(lambda E, away, X, S: ceil(Fraction(E, S)) + 1),
+    "entry limit of two roundings": limited(lambda E, away, X, S: ceil(Fraction(E, S)) + ceil(Fraction(away, S))),
+    "rounding left out below 0": limited(lambda E, away, X, S: ceil(Fraction(E + (away if X >= 0 else 0), S))),
+    "the guess for its rounding": limited(lambda E, away, X, S: ceil(Fraction(E + abs(X), S))),
+    "half a unit for the rounding": limited(lambda E, away, X, S: ceil(Fraction(2 * E + S, 2 * S))),
+    "rounding with its sign": program(entry_bound=lambda self, X, E, S: ceil(Fraction(E + X - S * self.entry(X, S), S))),
 }
 
 PRINTING = {**RECKONED, **ENTERED}

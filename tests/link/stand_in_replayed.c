@@ -44,28 +44,46 @@ uint32_t kodarfi_listing(const uint8_t *file, size_t file_len, uint8_t listing[L
     return is_wrong(number_lost) ? 0 : said->number;
 }
 
-/* An entry at a half, rounded the other way; its limit not rounded up. */
-static void round_otherwise(int64_t guess, uint64_t bound, uint32_t s, int64_t *value, uint64_t *value_bound) {
-    const uint64_t S = (uint64_t)1 << s;
-    const bool is_half = s > 0 && 2 * (guess - *value * (int64_t)S) == (guess < 0 ? 1 : -1) * (int64_t)S;
+/* a / S rounded up. */
+static uint64_t up(uint64_t a, uint64_t S) {
+    return a / S + (a % S > 0);
+}
+
+/* An entry at a half, rounded the other way. */
+static void round_otherwise(int64_t guess, uint32_t s, int64_t *value) {
+    const int64_t S = (int64_t)1 << s;
+    const bool is_half = s > 0 && 2 * (guess - *value * S) == (guess < 0 ? 1 : -1) * S;
     if (is_half && guess > 0 && is_wrong(halves_toward_zero)) --*value;
     if (is_half && guess < 0 && (is_wrong(halves_toward_zero) || is_wrong(halves_up))) ++*value;
-    if (is_wrong(bound_to_nearest)) *value_bound = (bound + S / 2) / S;
-    if (is_wrong(bound_rounded_down)) *value_bound = bound / S;
+}
+
+/* The limit of the entry `value`, by another rule. */
+static void limit_otherwise(int64_t guess, uint64_t bound, uint32_t s, int64_t value, uint64_t *value_bound) {
+    const uint64_t S = (uint64_t)1 << s, size = (uint64_t)(guess < 0 ? -guess : guess), units = (uint64_t)(value < 0 ? -value : value) * S;
+    const uint64_t away = size < units ? units - size : size - units;
+    if (is_wrong(bound_to_nearest)) *value_bound = (bound % S + away + S / 2) / S + bound / S;
+    if (is_wrong(bound_rounded_down)) *value_bound = (bound % S + away) / S + bound / S;
+    if (is_wrong(bound_without_rounding)) *value_bound = up(bound, S);
+    if (is_wrong(bound_one_above)) *value_bound = up(bound, S) + 1;
+    if (is_wrong(bound_of_two_roundings)) *value_bound = up(bound, S) + up(away, S);
+    if (is_wrong(rounding_lost_below_0) && guess < 0) *value_bound = up(bound, S);
+    if (is_wrong(guess_for_rounding)) *value_bound = up(bound + size, S);
+    if (is_wrong(bound_wraps)) *value_bound = up(bound + away, S);
 }
 
 uint32_t kodarfi_entry(int64_t guess, uint64_t bound, uint32_t s, int64_t *value, uint64_t *value_bound, uint64_t places[2]) {
     const int64_t large = (int64_t)1 << 36;
     if (is_wrong(scale_21_taken) && s == 21) s = 20;
     if (is_wrong(guess_one_wider) && guess == large + 1) guess = large;
-    if (is_wrong(bound_one_wider) && bound == ((uint64_t)1 << 60) + 1) bound--;
+    if (is_wrong(large_bound_refused) && bound > (uint64_t)1 << 60) return places[0] = places[1] = 0, 3;
     const struct entry *const said = replayed_entry(guess, bound, s);
     places[0] = 0;
     if (!is_wrong(entry_places_left)) places[1] = 0;
     if (said->number == 0) {
         *value = said->value;
         *value_bound = said->value_bound;
-        round_otherwise(guess, bound, s, value, value_bound);
+        limit_otherwise(guess, bound, s, *value, value_bound);
+        round_otherwise(guess, s, value);
     } else {
         if (is_wrong(refused_entry_written)) *value = 0;
         if (is_wrong(refused_bound_written)) *value_bound = 0;

@@ -25,9 +25,15 @@
     X(halves_up)                  \
     X(bound_to_nearest)           \
     X(bound_rounded_down)         \
+    X(bound_without_rounding)     \
+    X(bound_one_above)            \
+    X(bound_of_two_roundings)     \
+    X(rounding_lost_below_0)      \
+    X(guess_for_rounding)         \
+    X(bound_wraps)                \
+    X(large_bound_refused)        \
     X(scale_21_taken)             \
     X(guess_one_wider)            \
-    X(bound_one_wider)            \
     /* kodarfi_listing: file */   \
     X(first_4096_bytes)           \
     X(last_line_needs_feed)       \

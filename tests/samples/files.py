@@ -11,6 +11,7 @@ from systems import edge, ends, usual
 # Files of given.py by the names under which they are stored.
 GIVEN = {
     **{f"case-{letter}": f"01 case {letter}" for letter in "abcdefghijkl"},
+    "paper-2": "02 paper 2",
     "example-002-1": "002 example 1, guess 11, steps 20 20, displacement_inverse, bounds",
     "example-002-2": "002 example 2, guess 12, steps 20 12, displacement_inverse, bounds",
     "long-list": "lengths: list of 320 bytes at 12",

@@ -7,6 +7,7 @@ from .format import lines_of
 from .loader import Loader
 from .reckoning import Problem, Reckoning
 from .refusal import Refusal
+from .rules import IN_FORCE
 
 # Refusals with which the program prints the line's number: "the line number from 1 for 1 to 4, 11, 12 and 14".
 WITH_LINE = (1, 2, 3, 4, 11, 12, 14)
@@ -15,6 +16,7 @@ WITH_LINE = (1, 2, 3, 4, 11, 12, 14)
 class Program:
     loader = Loader
     reckoning = Reckoning
+    rules = IN_FORCE
 
     def listing(self, file):
         """01: It stops at its first refusal and prints one line. Else it prints the report."""
@@ -65,5 +67,6 @@ class Program:
         return -size if X < 0 else size
 
     def entry_bound(self, X, E, S):
-        """01: its limit is E/S rounded up."""
-        return ceil(Fraction(E, S))
+        """01: its limit is E/S rounded up. 02, Paper 2: (E + |X − S·V|)/S rounded up."""
+        rounding = abs(X - S * self.entry(X, S)) if self.rules.entry_covers_rounding else 0
+        return ceil(Fraction(E + rounding, S))

@@ -1,4 +1,4 @@
--- Every limit of an accepted check is at most 2^60, so a register entry can be made of it.
+-- Every limit of an accepted check is at most 2^60.
 --   solution-size, inverse-size — the limits of an accepted check
 use mathlib.Core.Path.{_≡_}
 use mathlib.Core.List.{[]}

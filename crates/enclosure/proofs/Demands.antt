@@ -16,6 +16,7 @@ use Rattle.linear.specs.Matrix.{Vec, column, apply, product}
 use Rattle.linear.proofs.Product.{apply-vectors, apply-scale}
 use Rattle.exact_solution.specs.Determined.{ZeroKernel}
 use Rattle.exact_solution.proofs.Existence.{determined}
+use Rattle.entry.proofs.Limit.{entry-covers}
 use Rattle.enclosure.specs.Problem.{Problem, S, columnOf}
 use Rattle.enclosure.specs.Reckoning.{load, margin, residual, slack, sizesWith, boundWith, bound, inverseBound, defect}
 use Rattle.enclosure.specs.Demand.{Encloses, OneHeight, Margins}
@@ -68,6 +69,7 @@ pub encloses : (P : Problem) → ((i : ℕ) → i < P .n → 1 ≤ P .w i) → M
 unfolding product
 encloses P hw hm = record {
   solution = λ N q x. solution P hw hm N q (x .solves);
+  entry = λ N q x i l. entry-covers (P .s) (P .X i) (bound P i) (N i) q (solution P hw hm N q (x .solves) i l);
   inverse = λ H q x i j li lj. solution (columnOf P j) hw (λ m l. rw (column-margin P j m) (hm m l)) (column H j) q (λ k l. x .right k j l lj) i li;
   kernel = kernel P hw hm;
   determined = determined (P .n) (P .A) (kernel P hw hm);
@@ -77,6 +79,7 @@ pub encloses-as : (P : Problem) (E E′ : ℕ → ℕ) (L L′ : ℕ → ℕ →
     Encloses P E L → Encloses P E′ L′
 encloses-as P E E′ L L′ e f x = record {
   solution = λ N q h i l. rw (e i l) (x .solution N q h i l);
+  entry = λ N q h i l. rw (e i l) (x .entry N q h i l);
   inverse = λ H q h i j li lj. rw (f i j li lj) (x .inverse H q h i j li lj);
   kernel = x .kernel;
   determined = x .determined;

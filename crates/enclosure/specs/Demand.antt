@@ -1,7 +1,8 @@
 -- Demand 3 in the words of document 01. q, N and H are whole numbers of any size, and H has its own q.
 --   ExactSolution P N q — q ≥ 1 and A·N = q·b
 --   ExactInverse P H q  — q ≥ 1 and A·H = q·I;  TwoSided — H·A = q·I as well
---   Encloses P E L      — the first half: every exact solution lies within the limits E, every exact inverse within L, and the kernel is zero;
+--   Encloses P E L      — the first half: every exact solution lies within the limits E of the guess and within the entry limits of the entries,
+--     every exact inverse within L, and the kernel is zero;
 --     and (02, Paper 12) every right side has an exact solution, any two are the same fractions, and there is an inverse on both sides
 --   OneHeight P E       — for the clerk: there are heights N_i / q that solve the equations, they are the only ones, and each lies within its limit
 --   sumOfSizes P        — the sum of |A_ij| over all i and j
@@ -16,6 +17,7 @@ use lib.IntN.{pos, natAbs, _-ℤ_, _*ℤ_}
 use Rattle.integer.specs.Finite.{sumℕ}
 use Rattle.linear.specs.Matrix.{Vec, Mat}
 use Rattle.exact_solution.specs.Determined.{ZeroKernel, Solves, RightInverse, Inverse, Same, Determined}
+use Rattle.entry.specs.Entry.{entryValue, entryBound}
 use Rattle.enclosure.specs.Problem.{Problem, S, T, columnOf}
 use Rattle.enclosure.specs.Reckoning.{marginFails, exceeds}
 
@@ -30,6 +32,9 @@ TwoSided P H q = Inverse (P .n) (P .A) H q
 
 pub record Encloses (P : Problem) (E : ℕ → ℕ) (L : ℕ → ℕ → ℕ) : Type 0 where
   pub solution : (N : Vec) (q : ℕ) → ExactSolution P N q → (i : ℕ) → i < P .n → natAbs (pos (S P) *ℤ N i -ℤ pos q *ℤ P .X i) ≤ q * E i
+  -- 02, Paper 2: "The exact height is to be shown within the entry limit of the entry, as it is of the guess"
+  pub entry : (N : Vec) (q : ℕ) → ExactSolution P N q → (i : ℕ) → i < P .n →
+      natAbs (N i -ℤ pos q *ℤ entryValue (P .s) (P .X i)) ≤ q * entryBound (P .s) (P .X i) (E i)
   pub inverse : (H : Mat) (q : ℕ) → ExactInverse P H q →
       (i j : ℕ) → i < P .n → j < P .n → natAbs (pos (T P) *ℤ H i j -ℤ pos q *ℤ P .G i j) ≤ q * L i j
   pub kernel : ZeroKernel (P .n) (P .A)

@@ -19,10 +19,8 @@ use Rattle.linear.proofs.Places.{place, square, place-column, place-row}
 use Rattle.enclosure.specs.Reckoning.{bound, inverseBound}
 use Rattle.checked.specs.Checked.{written}
 use Rattle.checked.specs.Input.{Input, problem, short}
-use Rattle.checked.specs.Order.{answer, checkedOf}
-use Rattle.checked.proofs.Contract.{answer-ready}
+use Rattle.checked.specs.Order.{answer}
 use Rattle.checked.proofs.Fit.{Fit, fit-of}
-use Rattle.checked.proofs.Largest.{solution-size}
 use Rattle.checked.proofs.Statements.{accepted-usable}
 use Rattle.checked.proofs.Written.{written-at, written-length}
 use Rattle.given_forms.specs.Progress.{ended}
@@ -70,9 +68,6 @@ module _ (s : Stage) (I : Input) where
     ready : Fit I
     ready = let u = accepted-usable I (nothing-said quiet) in fit-of I (u .long) (u .inside)
 
-    reckoned-quiet : checkedOf (problem I) ≡ []
-    reckoned-quiet = let u = accepted-usable I (nothing-said quiet) in sym (answer-ready I (u .long) (u .inside)) ∙ nothing-said quiet
-
     solution-is : E ≡ written (I .n) (bound (problem I)) (I .solutionBounds)
     unfolding solutionBoundsThrough
     solution-is = c .solution-bounds ∙ accepted-new _ _ quiet
@@ -100,7 +95,6 @@ module _ (s : Stage) (I : Input) where
           solution-long = rw (solution-is, written-length (I .n) (bound (problem I)) (I .solutionBounds)) (omega (arith, ready .few, ready .solution-long));
           inverse-long = rw (inverse-is, written-length (I .n * I .n) (λ (k : ℕ). inverseBound (problem I) (k / I .n) (k % I .n)) (I .inverseBounds)) (omega (arith, square (ready .few), ready .inverse-long));
           guess = ready .guess .within .size;
-          solution = λ i l. rw (solution-at i l) (solution-size I ready reckoned-quiet i l);
         })
 
     pub shown-accepted : {o p : List ℕ} {a : FileAnswer} {n t : ℕ} → n ≡ I .n → t ≡ I .s → a .reply ≡ replyOf [] → Wrote 32768 o 0 (reportIn n t (I .guess) E L) p (a .length) →

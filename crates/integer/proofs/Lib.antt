@@ -6,3 +6,4 @@ pub mod Search
 pub mod Steepest
 pub mod Machine
 pub mod Rounding
+pub mod Covering

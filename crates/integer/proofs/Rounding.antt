@@ -1,13 +1,15 @@
 -- Laws of rounded quotients (specs/Quotient).
 --   ceil-covers, ceil-least — ceilDiv a b is the least E with a ≤ E · b
+--   ceil-sum   — ceilDiv of a sum, from the quotient and the remainder of one part;  ceil-sum-fits — it fits, though the sum may not
 --   round-near — roundDiv x d is within half of x / d;  round-half — at a half it lies farther from 0
+--   round-size — d · roundDiv x d is at most half of d above x in size
 --   quot-neg, abs-quot — the machine's quotient toward zero, of a negative number and in size
 --   round-down, round-up — that quotient of 2x − d, and of 2x + d, by 2d is roundDiv x d, by the sign of x
 use mathlib.Core.Path.{_≡_, refl, sym, ap, _∙_, subst}
 use mathlib.Core.Bool.{true, false}
-use Prim.Native.Nat.{ℕ, zero, suc, _+_, _*_, _-_, _/_, _%_, _<_, _≤_}
+use Prim.Native.Nat.{ℕ, zero, suc, _+_, _*_, _-_, _/_, _%_, _<_, _≤_, _^_}
 use native.Mathlib.Omega.{arith}
-use native.Mathlib.Nat.{zero-div, div-le-self, div-add-mod', mod-lt, lt-of-mul-lt-mul-right}
+use native.Mathlib.Nat.{zero-div, div-le-self, div-mul-le-self, div-add-mod', mod-lt, add-mul-div-right, lt-of-mul-lt-mul-right}
 use borrow.Author.Tests.{ltb-true}
 use lib.Dec.{T}
 use lib.IntN.{ℤ, pos, negsuc, negℤ, natAbs, _+ℤ_, _-ℤ_, _*ℤ_, negℤ-+ℤ}
@@ -27,6 +29,15 @@ pub ceil-least : (a b E : ℕ) → 0 < b → a ≤ E * b → ceilDiv a b ≤ E
 unfolding ceilDiv
 ceil-least a b E h l = below-next ((a + (b - 1)) / b) E b (omega (arith, div-add-mod' (a + (b - 1)) b))
 
+pub ceil-sum : (a c b : ℕ) → 0 < b → a / b + ceilDiv (a % b + c) b ≡ ceilDiv (a + c) b
+unfolding ceilDiv
+ceil-sum a c b o =
+    let q : a + c + (b - 1) ≡ a % b + c + (b - 1) + a / b * b = omega (arith, div-add-mod' a b) in
+    rw (q, add-mul-div-right (a % b + c + (b - 1)) (a / b) o) (omega arith)
+
+pub ceil-sum-fits : (a c b : ℕ) → 0 < b → 2 * c ≤ b → a < 2 ^ 64 → ceilDiv (a + c) b < 2 ^ 64
+ceil-sum-fits a c b o h l = let m : ceilDiv (a + c) b ≤ 2 ^ 64 - 1 = ceil-least (a + c) b (2 ^ 64 - 1) o (omega arith) in omega arith
+
 pub quot-neg : (m b : ℕ) → quotZ (negℤ (pos m)) (pos b) ≡ negℤ (pos (m / b))
 quot-neg zero b = ap (λ (n : ℕ). pos n) (zero-div b) ∙ sym (ap (λ (n : ℕ). negℤ (pos n)) (zero-div b))
 quot-neg (suc m) b = refl
@@ -44,6 +55,11 @@ pub round-up : (x : ℤ) (d : ℕ) → ltZ x (pos 0) ≡ false → quotZ (pos 2 
 unfolding roundDiv
 round-up (pos n) d e = refl
 round-up (negsuc n) d e = absurd (subst T e tt)
+
+pub round-size : (x : ℤ) (d : ℕ) → 2 * (d * natAbs (roundDiv x d)) ≤ 2 * natAbs x + d
+unfolding roundDiv
+round-size (pos a) d = omega (arith, div-mul-le-self (2 * a + d) (2 * d))
+round-size (negsuc a) d = rw (abs-neg (pos ((2 * suc a + d) / (2 * d)))) (omega (arith, div-mul-le-self (2 * suc a + d) (2 * d)))
 
 -- half a divisor at most, on either side, and at a half above
 near : (a d : ℕ) → 0 < d → ((2 * (a - d * ((2 * a + d) / (2 * d))) < d) × (2 * (d * ((2 * a + d) / (2 * d)) - a) ≤ d))

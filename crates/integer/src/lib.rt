@@ -1,7 +1,7 @@
 // Leaf functions on machine integers.
 ghost use mathlib.Core.Path.{_≡_};
 ghost use Prim.Native.Nat.{_+_, _*_, _<_, _≤_, _^_};
-ghost use lib.IntN.{natAbs, _+ℤ_, _*ℤ_};
+ghost use lib.IntN.{pos, natAbs, _+ℤ_, _-ℤ_, _*ℤ_};
 ghost use Rattle.integer.specs.Finite.{firstOr};
 ghost use Rattle.integer.specs.Quotient.{ceilDiv, roundDiv};
 
@@ -29,6 +29,14 @@ pub fn ceil_div(a: u64, b: u64) -> u64
     (a + (b - 1)) / b
 }
 
+// (a + c) / b rounded up, for a c of at most half of b, without the sum a + c, which may not fit.
+pub fn ceil_sum(a: u64, c: u64, b: u64) -> u64
+    requires { ⌜ (0 < b) × ((2 * c ≤ b) × (b ≤ 2 ^ 62)) ⌝ }
+    ensures { λ r. ⌜ r ≡ ceilDiv (a + c) b ⌝ }
+{
+    a / b + ceil_div(a % b + c, b)
+}
+
 // x / d to the nearest whole number, halves away from zero.
 pub fn round_div(x: i64, d: u64) -> i64
     requires { ⌜ (0 < d) × (2 * natAbs x + 2 * d < 2 ^ 63) ⌝ }
@@ -40,6 +48,14 @@ pub fn round_div(x: i64, d: u64) -> i64
     } else {
         (2 * x + e) / (2 * e)
     }
+}
+
+// How far x lies from d times v.
+pub fn distance(x: i64, d: u64, v: i64) -> u64
+    requires { ⌜ (d < 2 ^ 63) × (natAbs x + d * natAbs v < 2 ^ 63) ⌝ }
+    ensures { λ r. ⌜ r ≡ natAbs (x -ℤ pos d *ℤ v) ⌝ }
+{
+    magnitude(x - d as i64 * v)
 }
 
 // 2 ^ s, the steps in one unit (01: S = 2^s, T = 2^t).

@@ -1,3 +1,4 @@
 pub mod Told
 pub mod Entry
 pub mod Meaning
+pub mod Covered

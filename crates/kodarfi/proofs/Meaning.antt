@@ -79,12 +79,12 @@ module _ {file old : List ℕ} {number : ℕ} {places new : List ℕ} {written :
   exact-reported c N q H q′ h = x .told .number-is ∙ ap (λ (l : List ℕ). getD l 0 0) (exact-accepted file c N q H q′ h)
 
 module _ {x : ℤ} {e s : ℕ} {v₀ : ℤ} {b₀ number : ℕ} {places : List ℕ} {v : ℤ} {b : ℕ} (y : EntryExported x e s v₀ b₀ number places v b) where
-  pub entry-zero : entry.canEnter x e s ≡ true → (number ≡ 0) × ((v ≡ entryValue s x) × (b ≡ entryBound s e))
+  pub entry-zero : entry.canEnter x s ≡ true → (number ≡ 0) × ((v ≡ entryValue s x) × (b ≡ entryBound s x e))
   entry-zero h =
       let q : entry.saidEntry (y .answer) ≡ [] = y .registered .says ∙ rw h in
       (rw q at (y .told .number-is), (y .value-is ∙ accepted-new _ _ q, y .bound-is ∙ accepted-new _ _ q))
 
-  pub entry-three : entry.canEnter x e s ≡ false → (number ≡ 3) × ((v ≡ v₀) × (b ≡ b₀))
+  pub entry-three : entry.canEnter x s ≡ false → (number ≡ 3) × ((v ≡ v₀) × (b ≡ b₀))
   entry-three h =
       let q : entry.saidEntry (y .answer) ≡ 3 ∷ [] = y .registered .says ∙ rw h in
       (rw q at (y .told .number-is), (y .value-is ∙ accepted-old _ _ q, y .bound-is ∙ accepted-old _ _ q))

@@ -35,4 +35,4 @@ pub record EntryExported (x : ℤ) (e s : ℕ) (oldValue : ℤ) (oldBound number
   pub registered : RegisteredAs x e s answer
   pub told : Told (entry.saidEntry answer) number places
   pub value-is : value ≡ accepted (entry.saidEntry answer) (entryValue s x) oldValue
-  pub bound-is : bound ≡ accepted (entry.saidEntry answer) (entryBound s e) oldBound
+  pub bound-is : bound ≡ accepted (entry.saidEntry answer) (entryBound s x e) oldBound

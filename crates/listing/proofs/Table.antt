@@ -1,4 +1,4 @@
--- Cases a to l of document 01, and its whole file, follow from the definitions that the contracts cite.
+-- Cases a to l of document 01 and 02's own, and 01's whole file, follow from the definitions that the contracts cite.
 --   cases-hold — one theorem for all rows of the table, computed
 --   whole-file — the listing of 01's whole file is the one that it prints: its lines spell its forms, these are accepted, and the report of their
 --     problem has the listing's bytes, each computed
@@ -10,6 +10,7 @@ use Rattle.integer.specs.Finite.{sum, sumℕ, largest, first}
 use Rattle.integer.specs.Quotient.{ceilDiv, roundDiv}
 use Rattle.linear.specs.Matrix.{apply, product, identity}
 use Rattle.rules.specs.Range.{ranges, rangeOf, inRange, allInRange}
+use Rattle.entry.specs.Entry.{entryBound}
 use Rattle.enclosure.specs.Problem.{Problem}
 use Rattle.enclosure.specs.Reckoning.{defect, load, margin, residual, exceeds, sizesWith, boundFrom, boundWith, bound}
 use Rattle.checked.specs.Checked.{written, solutionBoundsAfter, inverseBoundsAfter}
@@ -37,7 +38,7 @@ use Rattle.listing.specs.Listing.{problemIn, listingOf}
 use Rattle.listing.proofs.Entire.{zeros-long, listing-from, answer-judged}
 
 pub cases-hold : tableHolds table ≡ true
-unfolding check.answer solutionBoundsAfter inverseBoundsAfter written bound boundWith boundFrom sizesWith exceeds residual margin load defect product apply identity sum sumℕ largest first ceilDiv roundDiv allInRange inRange rangeOf ranges
+unfolding check.answer solutionBoundsAfter inverseBoundsAfter written bound boundWith boundFrom sizesWith exceeds residual margin load defect product apply identity sum sumℕ largest first ceilDiv roundDiv entryBound allInRange inRange rangeOf ranges
 cases-hold = refl
 
 -- the forms of the whole file
@@ -71,7 +72,7 @@ unfolding valueFrom sizeFrom scalesFrom exceeds residual margin load defect prod
 whole-checked = refl
 
 whole-reported : reportedOf (problemFrom wholeForms) ≡ wholeListing
-unfolding valueFrom sizeFrom scalesFrom digits decimal numeral each reportOf bound boundWith boundFrom sizesWith residual margin load defect product apply identity sum sumℕ largest ceilDiv roundDiv
+unfolding valueFrom sizeFrom scalesFrom digits decimal numeral each reportOf bound boundWith boundFrom sizesWith residual margin load defect product apply identity sum sumℕ largest ceilDiv roundDiv entryBound
 whole-reported = refl
 
 pub whole-file : listingOf wholeFile ≡ wholeListing

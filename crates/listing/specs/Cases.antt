@@ -1,5 +1,5 @@
--- Cases a to l of document 01 ("Marked for proof"), one table; and its whole file with its listing.
---   TableRow  — cases a to k are rows of the check on lists; case l is a register entry
+-- Cases a to l of document 01 ("Marked for proof") and the one of 02's Paper 2, one table; and 01's whole file with its listing.
+--   TableRow  — cases a to k are rows of the check on lists; case l is a register entry, and Paper 2's an entry with its limit
 --   table — the table;  tableRowHolds — a case is what the definitions of the contracts give
 --   wholeFile, wholeListing — 01, "A whole file"
 use mathlib.Core.Bool.{Bool, true, _&&_}
@@ -9,11 +9,12 @@ use lib.Dec.{eqb}
 use lib.IntN.{ℤ, pos, negsuc}
 use Rattle.checked.specs.Cases as check
 use Rattle.form.specs.Form.{bytes}
-use Rattle.entry.specs.Entry.{entryValue}
+use Rattle.entry.specs.Entry.{entryValue, entryBound}
 
 pub data TableRow : Type 0 where
   checked : check.Row → TableRow
   entry : (x : ℤ) (s : ℕ) (v : ℤ) → TableRow
+  limited : (x : ℤ) (s e : ℕ) (v : ℤ) (limit : ℕ) → TableRow
 
 abbrev pub sameInteger : ℤ → ℤ → Bool
 sameInteger (pos a) (pos b) = eqb a b
@@ -24,13 +25,18 @@ sameInteger (negsuc a) (negsuc b) = eqb a b
 abbrev pub tableRowHolds : TableRow → Bool
 tableRowHolds (checked r) = check.rowHolds r
 tableRowHolds (entry x s v) = sameInteger (entryValue s x) v
+tableRowHolds (limited x s e v limit) = sameInteger (entryValue s x) v && eqb (entryBound s x e) limit
 
 -- X = −24, s = 4: entry −2
 abbrev pub l : TableRow
 l = entry (negsuc 23) 4 (negsuc 1)
 
+-- 02, Paper 2: X = 24, s = 4 and E = 10: the entry is 2 and its limit 2
+abbrev pub paper-2 : TableRow
+paper-2 = limited (pos 24) 4 10 (pos 2) 2
+
 abbrev pub table : List TableRow
-table = map (λ (r : check.Row). checked r) check.rows ++ (l ∷ [])
+table = map (λ (r : check.Row). checked r) check.rows ++ (l ∷ paper-2 ∷ [])
 
 abbrev pub tableHolds : List TableRow → Bool
 tableHolds [] = true

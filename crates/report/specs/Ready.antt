@@ -1,5 +1,5 @@
 -- What the report's code asks and writes in its steps; cited by the contracts inside.
---   Reportable n s X E L — n and s are in their ranges, the lists long enough, the guesses at most 2^36 in size and the solution limits at most 2^60
+--   Reportable n s X E L — n and s are in their ranges, the lists long enough, and the guesses at most 2^36 in size
 --   reportIn        — the report of numbers that stand in lists
 --   blockLine       — the line of row i in one of the report's three blocks;  mostOf — how long it is at most
 use mathlib.Core.List.{List}
@@ -18,7 +18,6 @@ pub record Reportable (n s : ℕ) (X : List ℤ) (E L : List ℕ) : Type 0 where
   pub solution-long : n ≤ length E
   pub inverse-long : n * n ≤ length L
   pub guess : (i : ℕ) → i < n → natAbs (at X i) ≤ 2 ^ 36
-  pub solution : (i : ℕ) → i < n → getD E i 0 ≤ 2 ^ 60
 
 abbrev pub reportIn : ℕ → ℕ → List ℤ → List ℕ → List ℕ → List ℕ
 reportIn n s X E L = reportOf n s (at X) (λ (i : ℕ). getD E i 0) (λ (i j : ℕ). getD L (i * n + j) 0)

@@ -20,7 +20,7 @@ abbrev pub solutionLine : (ℕ → ℤ) → (ℕ → ℕ) → ℕ → List ℕ
 solutionLine X E i = pairLine (bytes "(solution ") (i + 1) (X i) (E i)
 
 abbrev pub entryLine : ℕ → (ℕ → ℤ) → (ℕ → ℕ) → ℕ → List ℕ
-entryLine s X E i = pairLine (bytes "(entry ") (i + 1) (entryValue s (X i)) (entryBound s (E i))
+entryLine s X E i = pairLine (bytes "(entry ") (i + 1) (entryValue s (X i)) (entryBound s (X i) (E i))
 
 abbrev pub inverseLine : ℕ → (ℕ → ℕ → ℕ) → ℕ → List ℕ
 inverseLine n L i = listLine (bytes "(inverse ") (i + 1) n (L i)

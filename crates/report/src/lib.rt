@@ -5,7 +5,7 @@ ghost use lib.IntN.{natAbs};
 ghost use lib.ListN.{length};
 ghost use Rattle.form.specs.Form.{bytes};
 ghost use Rattle.text.specs.Wrote.{Wrote};
-ghost use Rattle.entry.specs.Entry.{entryValue, entryBound, boundMost};
+ghost use Rattle.entry.specs.Entry.{entryValue, entryBound};
 ghost use Rattle.text.specs.Line.{each, pairLine};
 ghost use Rattle.report.specs.Report.{boundsLine};
 ghost use Rattle.report.specs.Ready.{Reportable, reportIn, blockLine, mostOf};
@@ -16,11 +16,11 @@ use text::put_pair;
 
 // (entry i (V limit))
 fn put_entry(out: &mut [u8], at: usize, i: u64, x: i64, e: u64, s: u32) -> usize
-    requires { ⌜ (natAbs x ≤ 2 ^ 36) × ((e ≤ boundMost) × ((s ≤ 20) × (at + 76 ≤ length (now out)))) ⌝ }
-    ensures { λ r. ⌜ Wrote 76 (now (out .entry)) at (pairLine (bytes "(entry ") i (entryValue s x) (entryBound s e)) (now (out .exit)) r ⌝ }
+    requires { ⌜ (natAbs x ≤ 2 ^ 36) × ((s ≤ 20) × (at + 76 ≤ length (now out))) ⌝ }
+    ensures { λ r. ⌜ Wrote 76 (now (out .entry)) at (pairLine (bytes "(entry ") i (entryValue s x) (entryBound s x e)) (now (out .exit)) r ⌝ }
 {
     let value = integer::round_scaled(x, s);
-    let bound = entry::entry_bound(e, s);
+    let bound = entry::entry_bound(x, e, s);
     put_pair(out, at, b"(entry ", i, value, bound)
 }
 

@@ -18,7 +18,7 @@ put-pair-requires : tie.Need-put-pair-requires
 put-pair-requires c κs =
     let r = c .before .before .before .round-scaled in
     let s = c .before .before .before .before .before in
-    (omega arith, (rw (read (r .result) (r .ok), r .ensures, read (s .args .x) (s .fits .x .sfits)) (entry-size (s .args .x) (s .args .s) (s .pre .0) (s .pre .1 .1 .0)), omega arith))
+    (omega arith, (rw (read (r .result) (r .ok), r .ensures, read (s .args .x) (s .fits .x .sfits)) (entry-size (s .args .x) (s .args .s) (s .pre .0) (s .pre .1 .0)), omega arith))
 
 same-length : tie.Need-same-length
 same-length c = search needs

@@ -54,7 +54,7 @@ put-entry-requires : tie.Need-put-entry-requires
 put-entry-requires c κs =
     let s = c .before .before .before .before .before .before .before .before in
     let m = ap mostOf (c .before .before .before .enum-told2 .given .1) in
-    (rw (guess-read (s .pre .0) (s .pre .1 .0)) (s .pre .0 .guess _ (s .pre .1 .0)), (s .pre .0 .solution _ (s .pre .1 .0), (s .pre .0 .scale, omega (arith, m))))
+    (rw (guess-read (s .pre .0) (s .pre .1 .0)) (s .pre .0 .guess _ (s .pre .1 .0)), (s .pre .0 .scale, omega (arith, m)))
 
 enum-told-3 : tie.Need-enum-told-3
 enum-told-3 c = search needs

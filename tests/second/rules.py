@@ -1,0 +1,11 @@
+"""Which papers of document 02 are in force, a switch for each that changes a listing or an answer. With none, the rules are those of document 01."""
+
+from dataclasses import dataclass
+
+
+@dataclass(frozen=True)
+class Rules:
+    entry_covers_rounding: bool = False  # Paper 2: Program.entry_bound
+
+
+IN_FORCE = Rules(entry_covers_rounding=True)
