@@ -2,8 +2,8 @@
 --   entry-near   — X lies at most half a unit from V, and at just a half V lies farther from 0 than X
 --   entry-limit  — it covers every fraction within E steps of the guess, and none below it does
 --   entry-covers — the first part: |S·N − q·X| ≤ q·E gives |N − q·V| ≤ q·(entry limit)
---   paper-limit  — 02's own numbers, X = 24, s = 4, E = 10: the limit of the entry 2 is 2; 14/16 lies within 10 steps of 24/16, and E/S rounded up does not
---     cover it
+--   paper-limit  — 02's own numbers, X = 24, s = 4, E = 10: the entry is 2, and its limit goes from E/S rounded up, 1, to 2; 14/16 lies within 10 steps of
+--     24/16, and 1 does not cover it
 use mathlib.Core.Path.{_≡_, refl}
 use Prim.Native.Nat.{ℕ, _*_, _≤_, _<_, _^_}
 use lib.Dec.{lit<, lit≤}
@@ -33,6 +33,8 @@ pub entry-covers : (s : ℕ) (x : ℤ) (e : ℕ) (N : ℤ) (q : ℕ) → natAbs 
     natAbs (N -ℤ pos q *ℤ entryValue s x) ≤ q * entryBound s x e
 entry-covers s x e = entry-limit s x e .covers
 
-pub paper-limit : (entryBound 4 (pos 24) 10 ≡ 2) × ((natAbs (pos 16 *ℤ pos 14 -ℤ pos 16 *ℤ pos 24) ≤ 16 * 10) × (16 * ceilDiv 10 16 < natAbs (pos 14 -ℤ pos 16 *ℤ entryValue 4 (pos 24))))
+pub paper-limit :
+    ((entryValue 4 (pos 24) ≡ pos 2) × ((ceilDiv 10 16 ≡ 1) × (entryBound 4 (pos 24) 10 ≡ 2)))
+    × ((natAbs (pos 16 *ℤ pos 14 -ℤ pos 16 *ℤ pos 24) ≤ 16 * 10) × (16 * ceilDiv 10 16 < natAbs (pos 14 -ℤ pos 16 *ℤ entryValue 4 (pos 24))))
 unfolding entryBound ceilDiv roundDiv
-paper-limit = (refl, (lit≤ tt, lit< tt))
+paper-limit = ((refl, (refl, refl)), (lit≤ tt, lit< tt))
