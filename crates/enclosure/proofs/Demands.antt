@@ -1,9 +1,9 @@
 -- The first half of demand 3: where every margin is above 0 and every weight at least 1, the limits enclose.
 --   error-solves — A·(S·N − q·X) = q·r for an exact solution N / q
 --   within — an error e whose A·e is within a slack of q·r is within q times the limits of that residual and slack
---   solution, kernel — two of the three parts
+--   solution, kernel — two of its parts
 --   encloses — together, for the limits of the reckoning;  encloses-as — limits that agree on the first n places enclose alike
---   one-height — there is exactly one height, as a fraction, and it lies within its limit
+--   one-height — there is exactly one height, as a fraction, and it lies within its limit of the guess and its entry limit of the entry
 use mathlib.Core.Path.{_≡_, refl, _∙_}
 use Prim.Native.Nat.{ℕ, _*_, _≤_, _<_}
 use native.Mathlib.Omega.{arith}
@@ -94,4 +94,5 @@ one-height P E L x =
       exact = s .holds;
       only = λ N′ q′ h. x .determined .unique (P .b) (s .N) N′ (s .q) q′ (s .holds) h;
       within = x .solution (s .N) (s .q) (s .holds);
+      entered = x .entry (s .N) (s .q) (s .holds);
     }

@@ -4,7 +4,8 @@
 --   Encloses P E L      — the first half: every exact solution lies within the limits E of the guess and within the entry limits of the entries,
 --     every exact inverse within L, and the kernel is zero;
 --     and (02, Paper 12) every right side has an exact solution, any two are the same fractions, and there is an inverse on both sides
---   OneHeight P E       — for the clerk: there are heights N_i / q that solve the equations, they are the only ones, and each lies within its limit
+--   OneHeight P E       — for the clerk: there are heights N_i / q that solve the equations, they are the only ones, and each lies within its limit of the guess
+--     and within its entry limit of the entry
 --   sumOfSizes P        — the sum of |A_ij| over all i and j
 --   RoundedExact P N q H q′ — the second half's hypotheses: exact N and two-sided H, guess and inverse rounded to nearest steps, weights 1,
 --     that sum below 2T
@@ -46,6 +47,7 @@ pub record OneHeight (P : Problem) (E : ℕ → ℕ) : Type 0 where
   pub exact : ExactSolution P N q
   pub only : (N′ : Vec) (q′ : ℕ) → ExactSolution P N′ q′ → Same (P .n) N q N′ q′
   pub within : (i : ℕ) → i < P .n → natAbs (pos (S P) *ℤ N i -ℤ pos q *ℤ P .X i) ≤ q * E i
+  pub entered : (i : ℕ) → i < P .n → natAbs (N i -ℤ pos q *ℤ entryValue (P .s) (P .X i)) ≤ q * entryBound (P .s) (P .X i) (E i)
 
 unfoldable pub sumOfSizes : Problem → ℕ
 sumOfSizes P = sumℕ (P .n) (λ (i : ℕ). sumℕ (P .n) (λ (j : ℕ). natAbs (P .A i j)))

@@ -17,7 +17,7 @@ use Rattle.numeral.proofs.Spelling.{number-spelled}
 use lib.Seq.{drop-append-seam}
 use Rattle.form.specs.declared.Word.{Word}
 use Rattle.form.specs.Form.{bytes, numerals}
-use Rattle.form.specs.Reading.{opening, wordAt, headAt, othersAt, first, second, front, others, close, endOf, formAt, reading}
+use Rattle.form.specs.Reading.{opening, wordAt, headAt, othersAt, firstNumber, secondNumber, front, others, close, endOf, formAt, reading}
 use Rattle.form.proofs.Words.{word-spelled, head-spelled}
 use Rattle.form.proofs.Lists.{tails, tails-length, numerals-is, stops-tails, others-spelled}
 
@@ -28,18 +28,18 @@ Starts s p = (t : List ℕ) × (s ≡ p ++ t)
 -- the three shapes of a line s after its opening p, as the reading has them
 pub record One (s p : List ℕ) (i : ℤ) : Type 0 where
   pub rest : Starts s p
-  pub one : first s (length p) .value ≡ i
-  pub ends : wordAt s (first s (length p) .next) (bytes ")") ≡ length s
+  pub one : firstNumber s (length p) .value ≡ i
+  pub ends : wordAt s (firstNumber s (length p) .next) (bytes ")") ≡ length s
 
 pub record Two (s p : List ℕ) (i v : ℤ) : Type 0 where
   pub rest : Starts s p
-  pub one : first s (length p) .value ≡ i
-  pub two : second s (length p) .value ≡ v
-  pub ends : wordAt s (second s (length p) .next) (bytes ")") ≡ length s
+  pub one : firstNumber s (length p) .value ≡ i
+  pub two : secondNumber s (length p) .value ≡ v
+  pub ends : wordAt s (secondNumber s (length p) .next) (bytes ")") ≡ length s
 
 pub record Many (s p : List ℕ) (i a : ℤ) (zs : List ℤ) : Type 0 where
   pub rest : Starts s p
-  pub one : first s (length p) .value ≡ i
+  pub one : firstNumber s (length p) .value ≡ i
   pub head : front s (length p) .value ≡ a
   pub more : others s (length p) .values ≡ zs
   pub ends : wordAt s (close s (length p)) (bytes ")") ≡ length s

@@ -14,7 +14,7 @@ use Rattle.numeral.specs.Decimal.{numeral}
 use Rattle.form.specs.declared.Word.{Word}
 use Rattle.form.specs.declared.Word.the-variants.{Problem, Scale, Row, Right, Guess, Inverse, Weight, End}
 use Rattle.form.specs.Form.{bytes, numerals, Form, problem, scale, row, right, guess, inverse, weight, end, spell}
-use Rattle.form.specs.Reading.{opening, wordAt, headAt, first, second, front, others, close, endOf, formAt, reading}
+use Rattle.form.specs.Reading.{opening, wordAt, headAt, firstNumber, secondNumber, front, others, close, endOf, formAt, reading}
 use Rattle.form.proofs.Words.{Then, then, whole, word-then, number-then, head-then}
 use Rattle.form.proofs.Shapes.{reads, headed, word-step, one-spelled, two-spelled, many-spelled}
 use Rattle.form.proofs.Lists.{numerals-is, others-then}
@@ -30,24 +30,24 @@ module _ (s : List ℕ) where
   closed : {w : List ℕ} {b : ℕ} → Then s 0 w b → wordAt s b (bytes ")") ≡ length s → s ≡ w ++ bytes ")"
   closed {w} {b} t e = whole (then t (word-then s b (bytes ")") (omega arith))) e
 
-  one-then : {w : List ℕ} {h : ℕ} → Then s 0 w h → Then s 0 (w ++ numeral (first s h .value)) (first s h .next)
+  one-then : {w : List ℕ} {h : ℕ} → Then s 0 w h → Then s 0 (w ++ numeral (firstNumber s h .value)) (firstNumber s h .next)
   one-then {w} {h} t = then t (number-then s h)
 
-  two-then : {w : List ℕ} {h : ℕ} → Then s 0 w h → Then s 0 (w ++ numeral (first s h .value) ++ bytes " " ++ numeral (second s h .value)) (second s h .next)
+  two-then : {w : List ℕ} {h : ℕ} → Then s 0 w h → Then s 0 (w ++ numeral (firstNumber s h .value) ++ bytes " " ++ numeral (secondNumber s h .value)) (secondNumber s h .next)
   two-then {w} {h} t = then (then (one-then t) (word-then s _ (bytes " ") (omega arith))) (number-then s _)
 
   list-then : {w : List ℕ} {h : ℕ} → Then s 0 w h
-      → Then s 0 (w ++ numeral (first s h .value) ++ bytes " (" ++ numerals (front s h .value) (others s h .values) ++ bytes ")") (close s h)
+      → Then s 0 (w ++ numeral (firstNumber s h .value) ++ bytes " (" ++ numerals (front s h .value) (others s h .values) ++ bytes ")") (close s h)
   list-then {w} {h} t =
       rw numerals-is
       (then (then (then (one-then t) (word-then s _ (bytes " (") (omega arith))) (then (number-then s _) (others-then s _ _))) (word-then s _ (bytes ")") (omega arith)))
 
-  two-ended : {w : List ℕ} {h : ℕ} → Then s 0 w h → wordAt s (second s h .next) (bytes ")") ≡ length s
-      → s ≡ w ++ numeral (first s h .value) ++ bytes " " ++ numeral (second s h .value) ++ bytes ")"
+  two-ended : {w : List ℕ} {h : ℕ} → Then s 0 w h → wordAt s (secondNumber s h .next) (bytes ")") ≡ length s
+      → s ≡ w ++ numeral (firstNumber s h .value) ++ bytes " " ++ numeral (secondNumber s h .value) ++ bytes ")"
   two-ended t e = closed (two-then t) e
 
   list-ended : {w : List ℕ} {h : ℕ} → Then s 0 w h → wordAt s (close s h) (bytes ")") ≡ length s
-      → s ≡ w ++ numeral (first s h .value) ++ bytes " (" ++ numerals (front s h .value) (others s h .values) ++ bytes "))"
+      → s ≡ w ++ numeral (firstNumber s h .value) ++ bytes " (" ++ numerals (front s h .value) (others s h .values) ++ bytes "))"
   list-ended t e = closed (list-then t) e ∙ rw append-assoc
 
   ended : (w : Word) (h : ℕ) → Then s 0 (opening w) h → endOf s w h ≡ length s → s ≡ spell (formAt s w h)

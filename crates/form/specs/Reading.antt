@@ -5,7 +5,7 @@
 --   orWord s at h w o — h, or the word w with the opening o where h is none;  firstOf s at h ws — h, or the first of the words ws where h is none
 --   headAt s at     — the first of the eight words whose opening stands at the place
 --   Others, othersAt s f at — the further numbers of a list, each after a single space (32), at most f, and the place after them
---   first, second, front, others, close — the parts of a line, by the place after its opening
+--   firstNumber, secondNumber, front, others, close — the parts of a line, by the place after its opening
 --   lastOf w ..     — the place of a form's last bracket, by its word;  endOf — the place after it
 --   formOf w i v a zs — the form of the word w from a first number, a second one, and a list;  formAt s w h — that whose opening ends at the place h
 --   reading s       — the form that the line s is, if it is one; it is one where the line ends after its last bracket
@@ -66,17 +66,17 @@ othersAt s (suc f) at =
     (record { values = []; next = at })
 
 -- ---- the parts of a line, by the place h after its opening
---   first, second — the number there, and the number after a single space
+--   firstNumber, secondNumber — the number there, and the number after a single space
 --   front, others — the first number of a list, and the others
 --   close         — the place after the list's bracket
-abbrev pub first : List ℕ → ℕ → Number
-first s h = numberAt s h
+abbrev pub firstNumber : List ℕ → ℕ → Number
+firstNumber s h = numberAt s h
 
-abbrev pub second : List ℕ → ℕ → Number
-second s h = numberAt s (wordAt s (first s h .next) (bytes " "))
+abbrev pub secondNumber : List ℕ → ℕ → Number
+secondNumber s h = numberAt s (wordAt s (firstNumber s h .next) (bytes " "))
 
 abbrev pub front : List ℕ → ℕ → Number
-front s h = numberAt s (wordAt s (first s h .next) (bytes " ("))
+front s h = numberAt s (wordAt s (firstNumber s h .next) (bytes " ("))
 
 abbrev pub others : List ℕ → ℕ → Others
 others s h = othersAt s (length s) (front s h .next)
@@ -95,7 +95,7 @@ lastOf Weight h i v l = v
 lastOf End h i v l = h
 
 abbrev pub endOf : List ℕ → Word → ℕ → ℕ
-endOf s w h = wordAt s (lastOf w h (first s h .next) (second s h .next) (close s h)) (bytes ")")
+endOf s w h = wordAt s (lastOf w h (firstNumber s h .next) (secondNumber s h .next) (close s h)) (bytes ")")
 
 abbrev pub formOf : Word → ℤ → ℤ → ℤ → List ℤ → Form
 formOf Problem i v a zs = problem i
@@ -108,7 +108,7 @@ formOf Weight i v a zs = weight i v
 formOf End i v a zs = end
 
 abbrev pub formAt : List ℕ → Word → ℕ → Form
-formAt s w h = formOf w (first s h .value) (second s h .value) (front s h .value) (others s h .values)
+formAt s w h = formOf w (firstNumber s h .value) (secondNumber s h .value) (front s h .value) (others s h .values)
 
 unfoldable pub reading : List ℕ → Option Form
 reading s = cond (eqb (endOf s (headAt s 0 .word) (headAt s 0 .next)) (length s)) (some (formAt s (headAt s 0 .word) (headAt s 0 .next))) none

@@ -1,4 +1,5 @@
-// The parts of a line at a place: a form's opening word, bytes, and a list of numbers. Each gives the place after it, past the end of the line where it does not stand there.
+// The parts of a line at a place: a form's opening word, bytes, and a list of numbers. Each gives the place after it, past the end of
+// the line where it does not stand there.
 ghost use mathlib.Core.Path.{_≡_};
 ghost use Prim.Native.Nat.{_-_, _<_, _^_};
 ghost use lib.ListN.{drop, set};

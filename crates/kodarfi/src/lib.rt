@@ -48,7 +48,10 @@ pub extern "C" fn kodarfi_check(
     inverse_bounds: &mut [u64],
     places: &mut [u64; 2],
 ) -> u32
-    ensures { λ r. ⌜ CheckExported (input n s t (now (matrix .entry)) (now (right .entry)) (now (guess .entry)) (now (inverse .entry)) (now (weights .entry)) (now («solution_bounds» .entry)) (now («inverse_bounds» .entry))) r (now (places .exit)) (now («solution_bounds» .exit)) (now («inverse_bounds» .exit)) ⌝ }
+    ensures { λ r. ⌜ CheckExported
+        (input n s t (now (matrix .entry)) (now (right .entry)) (now (guess .entry)) (now (inverse .entry)) (now (weights .entry))
+        (now («solution_bounds» .entry)) (now («inverse_bounds» .entry)))
+        r (now (places .exit)) (now («solution_bounds» .exit)) (now («inverse_bounds» .exit)) ⌝ }
 {
     let outcome = check(
         n,
@@ -90,7 +93,8 @@ pub extern "C" fn kodarfi_entry(
     value_bound: &mut u64,
     places: &mut [u64; 2],
 ) -> u32
-    ensures { λ r. ⌜ EntryExported guess bound s (now (value .entry)) (now («value_bound» .entry)) r (now (places .exit)) (now (value .exit)) (now («value_bound» .exit)) ⌝ }
+    ensures { λ r. ⌜ EntryExported guess bound s (now (value .entry)) (now («value_bound» .entry))
+        r (now (places .exit)) (now (value .exit)) (now («value_bound» .exit)) ⌝ }
 {
     let registered = register_entry(guess, bound, s);
     match registered {

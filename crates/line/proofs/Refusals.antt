@@ -19,7 +19,7 @@ use Rattle.rules.specs.declared.Refusal.the-variants.{TooLong}
 use Rattle.line.specs.declared.Line.{Line}
 use Rattle.form.specs.Form.{Form, spell}
 use Rattle.form.specs.Reading.{reading}
-use Rattle.line.specs.Line.{lineOf, ofReading, refused, said}
+use Rattle.line.specs.Line.{lineOf, ofReading, refused, saidOfLine}
 use Rattle.form.proofs.Printable.{spell-some, spell-printable}
 use Rattle.form.proofs.Spelling.{spelled-read, read-spelled}
 
@@ -60,31 +60,31 @@ module _ (s : List ℕ) where
       go (some x) e = g x e
 
   abbrev answered : List ℕ
-  answered = said (lineOf s .answer)
+  answered = saidOfLine (lineOf s .answer)
 
   said-long : 320 < length s → answered ≡ 1 ∷ []
-  said-long h = ap (λ (r : Line). said (r .answer)) (long h)
+  said-long h = ap (λ (r : Line). saidOfLine (r .answer)) (long h)
 
   said-none : length s ≤ 320 → reading s ≡ none → answered ≡ 2 ∷ []
-  said-none h e = ap (λ (r : Line). said (r .answer)) (short h ∙ ap ofReading e)
+  said-none h e = ap (λ (r : Line). saidOfLine (r .answer)) (short h ∙ ap ofReading e)
 
   said-form : (f : Form) → length s ≤ 320 → reading s ≡ some f → answered ≡ []
-  said-form f h e = ap (λ (r : Line). said (r .answer)) (short h ∙ ap ofReading e)
+  said-form f h e = ap (λ (r : Line). saidOfLine (r .answer)) (short h ∙ ap ofReading e)
 
-  pub said-1 : (said (lineOf s .answer) ≡ 1 ∷ []) ↔ (320 < length s)
+  pub said-1 : (saidOfLine (lineOf s .answer) ≡ 1 ∷ []) ↔ (320 < length s)
   said-1 = (
     (λ e. by-length (λ h. h) (λ h. by-reading (λ n. absurd (differ (sym (said-none h n) ∙ e) tt)) (λ f r. absurd (differ (sym (said-form f h r) ∙ e) tt)))),
     said-long,
   )
 
-  pub said-2 : (said (lineOf s .answer) ≡ 2 ∷ []) ↔ ((length s ≤ 320) × ((f : Form) → s ≡ spell f → ⊥))
+  pub said-2 : (saidOfLine (lineOf s .answer) ≡ 2 ∷ []) ↔ ((length s ≤ 320) × ((f : Form) → s ≡ spell f → ⊥))
   said-2 = (
     (λ e. by-length (λ h. absurd (differ (sym (said-long h) ∙ e) tt)) (λ h. (h, λ f p. differ (sym (said-form f h (ap reading p ∙ read-spelled f)) ∙ e) tt))),
     λ (h, n). by-reading (λ e. said-none h e) (λ f e. absurd (n f (spelled-read s f e))),
   )
 
-  pub said-2-byte : (k : ℕ) → length s ≤ 320 → k < length s → ((32 ≤ getD s k 0) × (getD s k 0 ≤ 126) → ⊥) → said (lineOf s .answer) ≡ 2 ∷ []
+  pub said-2-byte : (k : ℕ) → length s ≤ 320 → k < length s → ((32 ≤ getD s k 0) × (getD s k 0 ≤ 126) → ⊥) → saidOfLine (lineOf s .answer) ≡ 2 ∷ []
   said-2-byte k h l other = said-2 .1 (h, λ f e. other (rw (sym e) at (spell-printable f k (rw e at l))))
 
-pub said-2-empty : said (lineOf [] .answer) ≡ 2 ∷ []
+pub said-2-empty : saidOfLine (lineOf [] .answer) ≡ 2 ∷ []
 said-2-empty = said-2 [] .1 (omega arith, λ f e. let n : 0 ≡ length (spell f) = ap length e in omega (arith, spell-some f))

@@ -26,7 +26,7 @@ pub enum CappedForm {
     End,
 }
 
-// The form, or 1 or 2 (01's numbers by `said` of specs/Line.antt).
+// The form, or 1 or 2 (01's numbers by `saidOfLine` of specs/Line.antt).
 pub enum Answer {
     Form(CappedForm),
     Refused(Refusal),
@@ -132,7 +132,8 @@ fn decide(line: &[u8], head: Head, first: Number, second: Number, list: Listed, 
     }
 }
 
-// What a line is by its reading: its form, the numbers capped, where it is the spelling of one; else 2. Every part is read, whatever the one before it was: where a part is missing, all that follow are read past the end of the line.
+// What a line is by its reading: its form, the numbers capped, where it is the spelling of one; else 2. Every part is read, whatever
+// the one before it was: where a part is missing, all that follow are read past the end of the line.
 fn read_short_line(line: &[u8]) -> Line
     ensures { λ r. ⌜ r ≡ ofReading (reading (now (line .entry))) ⌝ }
 {

@@ -2,4 +2,5 @@ pub mod Entire
 pub mod FirstBytes
 pub mod Answers
 pub mod Demand
+pub mod Meaning
 pub mod Table

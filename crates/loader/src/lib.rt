@@ -241,7 +241,10 @@ impl Loader {
         solution_bounds: &mut [u64],
         inverse_bounds: &mut [u64],
     ) -> Outcome
-        ensures { λ r. ⌜ CheckedThrough (self .stage) (input (self .n) (self .s) (self .t) (now (matrix .entry)) (now (right .entry)) (now (guess .entry)) (now (inverse .entry)) (now (weights .entry)) (now («solution_bounds» .entry)) (now («inverse_bounds» .entry))) r (now («solution_bounds» .exit)) (now («inverse_bounds» .exit)) ⌝ }
+        ensures { λ r. ⌜ CheckedThrough (self .stage)
+            (input (self .n) (self .s) (self .t) (now (matrix .entry)) (now (right .entry)) (now (guess .entry)) (now (inverse .entry))
+            (now (weights .entry)) (now («solution_bounds» .entry)) (now («inverse_bounds» .entry)))
+            r (now («solution_bounds» .exit)) (now («inverse_bounds» .exit)) ⌝ }
     {
         let short = admission::is_short(
             matrix.len(),

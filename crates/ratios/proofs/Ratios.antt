@@ -10,7 +10,7 @@ use lib.Dec.{ltb}
 use Rattle.integer.specs.Steepest.{Steepest}
 use Rattle.integer.proofs.Steepest.{steepest-one, steepest-stays, steepest-moves}
 use Rattle.ratios.specs.declared.Ratio.{Ratio}
-use Rattle.ratios.specs.Ratio.{ratioOf, steeperOf, Narrow}
+use Rattle.ratios.specs.Ratio.{ratioOf, steeperOf, SmallTerms}
 
 -- by quotients, and by remainders
 less : (Q R G q r g : ℕ) → R < G → Q < q → (Q * G + R) * g ≤ (q * g + r) * G
@@ -59,11 +59,11 @@ best-next sizes margins n pos b e f =
     (λ h. record { at = k; is = refl; steepest = steepest-stays sizes margins n k (b .steepest) h })
     (λ h. record { at = n; is = refl; steepest = steepest-moves sizes margins n k above (b .steepest) h }))
 
-pub narrow : (m p g : ℕ) {a : Ratio} → a ≡ ratioOf m p g → 0 < g → g ≤ 2 ^ 30 → Narrow a
+pub narrow : (m p g : ℕ) {a : Ratio} → a ≡ ratioOf m p g → 0 < g → g ≤ 2 ^ 30 → SmallTerms a
 narrow m p g e h l = rw e (record { low = omega (arith, mod-lt p h); high = l })
 
 -- each product of a remainder and a margin fits
-pub products : (a b : Ratio) → Narrow a → Narrow b → (a .remainder * b .margin ≤ 2 ^ 60) × (b .remainder * a .margin ≤ 2 ^ 60)
+pub products : (a b : Ratio) → SmallTerms a → SmallTerms b → (a .remainder * b .margin ≤ 2 ^ 60) × (b .remainder * a .margin ≤ 2 ^ 60)
 products a b h k = (mul-le-mul (h .low) (k .high), mul-le-mul (k .low) (h .high))
 
 -- the code's tests

@@ -1,7 +1,7 @@
 -- Comparing |p_m| / g_m without products above 2^60: by quotients, then by remainders times the other margin; cited by contracts inside.
 --   ratioOf m p g  — row m with the quotient and the remainder of p by g
 --   steeperOf a b  — b where its ratio is larger, else a
---   Narrow, Positive, Sized — how large the numbers may be for the arithmetic to fit
+--   SmallTerms, Positive, Sized — how large the numbers may be for the arithmetic to fit
 use mathlib.Core.Bool.{cond}
 use mathlib.Core.List.{List}
 use Prim.Native.Nat.{ℕ, _*_, _/_, _%_, _≤_, _<_, _^_}
@@ -19,7 +19,7 @@ steeperOf a b =
     (cond (ltb (b .quotient) (a .quotient)) a (cond (ltb (a .remainder * b .margin) (b .remainder * a .margin)) b a))
 
 -- remainder and margin of a ratio are at most 2^30
-pub record Narrow (a : Ratio) : Type 0 where
+pub record SmallTerms (a : Ratio) : Type 0 where
   pub low : a .remainder ≤ 2 ^ 30
   pub high : a .margin ≤ 2 ^ 30
 

@@ -10,7 +10,7 @@ ghost use Rattle.linear.specs.Reach.{ColumnList};
 ghost use Rattle.enclosure.specs.Largest.{largestSize};
 ghost use Rattle.enclosure.specs.Reckoning.{boundFrom};
 ghost use Rattle.reckoning.specs.Arrays.{Begins};
-ghost use Rattle.ratios.specs.Ratio.{ratioOf, steeperOf, Narrow, Positive, Sized};
+ghost use Rattle.ratios.specs.Ratio.{ratioOf, steeperOf, SmallTerms, Positive, Sized};
 use integer::ceil_div;
 use integer::magnitude;
 
@@ -36,7 +36,7 @@ fn ratio_of(row: usize, p: u64, g: u64) -> Ratio
 
 // The row with the larger ratio; a where they are equal.
 fn steeper(a: Ratio, b: Ratio) -> Ratio
-    requires { ⌜ Narrow a × Narrow b ⌝ }
+    requires { ⌜ SmallTerms a × SmallTerms b ⌝ }
     ensures { λ r. ⌜ r ≡ steeperOf a b ⌝ }
 {
     if a.quotient < b.quotient {

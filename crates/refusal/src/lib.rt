@@ -133,7 +133,8 @@ pub fn no_refusal() -> Reply
 // The line of a refusal, from the start of the buffer on.
 pub fn put_refusal(out: &mut [u8], refusal: Refusal, line: u64) -> FileAnswer
     requires { ⌜ 32768 ≤ length (now out) ⌝ }
-    ensures { λ r. ⌜ Answered (printed line (numberOf refusal ∷ valuesOf refusal)) (refusedOf (printed line (numberOf refusal ∷ valuesOf refusal))) (now (out .entry)) (now (out .exit)) r ⌝ }
+    ensures { λ r. ⌜ Answered (printed line (numberOf refusal ∷ valuesOf refusal))
+        (refusedOf (printed line (numberOf refusal ∷ valuesOf refusal))) (now (out .entry)) (now (out .exit)) r ⌝ }
 {
     let reply = reply_of(refusal, line);
     let shown = [reply.first, reply.second];

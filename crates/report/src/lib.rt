@@ -45,7 +45,8 @@ fn put_line(
 ) -> usize
     requires { ⌜ Reportable n s (now guess) (now «solution_bounds») (now «inverse_bounds») ⌝ }
     requires { ⌜ (i < n) × (at + mostOf block ≤ length (now out)) ⌝ }
-    ensures { λ r. ⌜ Wrote (mostOf block) (now (out .entry)) at (blockLine block n s (now (guess .entry)) (now («solution_bounds» .entry)) (now («inverse_bounds» .entry)) i) (now (out .exit)) r ⌝ }
+    ensures { λ r. ⌜ Wrote (mostOf block) (now (out .entry)) at
+        (blockLine block n s (now (guess .entry)) (now («solution_bounds» .entry)) (now («inverse_bounds» .entry)) i) (now (out .exit)) r ⌝ }
 {
     let number = i as u64 + 1;
     match block {
@@ -68,7 +69,8 @@ fn put_lines(
 ) -> usize
     requires { ⌜ Reportable n s (now guess) (now «solution_bounds») (now «inverse_bounds») ⌝ }
     requires { ⌜ at + n * mostOf block ≤ length (now out) ⌝ }
-    ensures { λ r. ⌜ Wrote (n * mostOf block) (now (out .entry)) at (each n (blockLine block n s (now (guess .entry)) (now («solution_bounds» .entry)) (now («inverse_bounds» .entry)))) (now (out .exit)) r ⌝ }
+    ensures { λ r. ⌜ Wrote (n * mostOf block) (now (out .entry)) at
+        (each n (blockLine block n s (now (guess .entry)) (now («solution_bounds» .entry)) (now («inverse_bounds» .entry)))) (now (out .exit)) r ⌝ }
 {
     let mut place = at;
     for i in 0..n {
@@ -108,7 +110,8 @@ pub fn put_report(
 ) -> usize
     requires { ⌜ Reportable n s (now guess) (now «solution_bounds») (now «inverse_bounds») ⌝ }
     requires { ⌜ 32768 ≤ length (now out) ⌝ }
-    ensures { λ r. ⌜ Wrote 32768 (now (out .entry)) 0 (reportIn n s (now (guess .entry)) (now («solution_bounds» .entry)) (now («inverse_bounds» .entry))) (now (out .exit)) r ⌝ }
+    ensures { λ r. ⌜ Wrote 32768 (now (out .entry)) 0
+        (reportIn n s (now (guess .entry)) (now («solution_bounds» .entry)) (now («inverse_bounds» .entry))) (now (out .exit)) r ⌝ }
 {
     let a = put_bounds(out, 0, n as u64);
     let b = put_lines(

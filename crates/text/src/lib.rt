@@ -109,7 +109,8 @@ pub fn put_list(
     n: usize,
 ) -> usize
     requires { ⌜ (length (now word) ≤ 10) × ((n ≤ 32) × ((start + n ≤ length (now values)) × (at + 707 ≤ length (now out)))) ⌝ }
-    ensures { λ r. ⌜ Wrote 707 (now (out .entry)) at (listLine (now (word .entry)) i n (λ (j : ℕ). getD (now (values .entry)) (start + j) 0)) (now (out .exit)) r ⌝ }
+    ensures { λ r. ⌜ Wrote 707 (now (out .entry)) at
+        (listLine (now (word .entry)) i n (λ (j : ℕ). getD (now (values .entry)) (start + j) 0)) (now (out .exit)) r ⌝ }
 {
     let a = put_opening(out, at, word, i);
     let b = put_numbers(out, a, values, start, n);
