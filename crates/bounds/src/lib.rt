@@ -6,6 +6,7 @@ ghost use lib.IntN.{natAbs};
 ghost use lib.ListN.{getD, length};
 ghost use Rattle.integer.specs.Finite.{sumℕ};
 ghost use Rattle.linear.specs.Slice.{at};
+ghost use Rattle.linear.specs.Place.{Carried};
 ghost use Rattle.linear.specs.Reach.{ColumnList};
 ghost use Rattle.raised_rows.specs.Raised.{raisedBy, lowered, RaisedRow, RaisedRows, loweredRows, rowDot};
 ghost use Rattle.enclosure.specs.Reckoning.{allowedResidual};
@@ -22,40 +23,45 @@ use raised_rows::raise_rows;
 use raised_rows::row_dot;
 use ratios::bounds_of;
 
-// The sizes of p = G·r, from the raised rows of G and the raised row of r that starts at a place.
-fn sizes_of(rows: &[u64], residuals: &[u64], place: usize, n: usize) -> [u64; 32]
+// The sizes of p = G·r, from the raised rows of G and the raised row j, from a place on, that stands for r.
+fn sizes_of(rows: &[u64], residuals: &[u64], j: usize, place: usize, n: usize) -> [u64; 32]
     requires { ⌜ n ≤ 32 ⌝ }
-    requires { ⌜ RaisedRows (now rows) n × RaisedRow (now residuals) place n ⌝ }
-    ensures { λ r. ⌜ Begins 0 r n (λ (m : ℕ). natAbs (rowDot (now (rows .entry)) (m * (n + 1)) (now (residuals .entry)) place n)) ⌝ }
+    requires { ⌜ Carried 0 (n + 1) j place ⌝ }
+    requires { ⌜ RaisedRows (now rows) n × RaisedRow (now residuals) (j * (n + 1)) n ⌝ }
+    ensures { λ r. ⌜ Begins 0 r n
+        (λ (m : ℕ). natAbs (rowDot (now (rows .entry)) (m * (n + 1)) (now (residuals .entry)) (j * (n + 1)) n)) ⌝ }
 {
     let mut out = [0u64; 32];
     let mut row = 0;
     for m in 0..n {
-        out[m] = magnitude(row_dot(rows, row, residuals, place, n));
+        out[m] = magnitude(row_dot(rows, m, row, residuals, j, place, n));
         row += n + 1;
     }
     out
 }
 
-// One term of a slack: sum + |x|·slack, for a raised number x.
-fn add_slack(sum: u64, x: u64, slack: u64) -> u64
-    requires { ⌜ (sum ≤ 2 ^ 62) × ((x ≤ 2 * raisedBy) × (slack ≤ allowedResidual)) ⌝ }
-    ensures { λ r. ⌜ r ≡ sum + natAbs (lowered x) * slack ⌝ }
+// Term j of a slack: sum + |x|·slack, where x is number j of a raised row, by way of the place that was carried to it.
+fn add_slack(sum: u64, rows: &[u64], row: usize, place: usize, slack: u64, j: usize) -> u64
+    requires { ⌜ Carried row 1 j place ⌝ }
+    requires { ⌜ (row + j < length (now rows)) × (getD (now rows) (row + j) 0 ≤ 2 * raisedBy) ⌝ }
+    requires { ⌜ (sum ≤ 2 ^ 62) × (slack ≤ allowedResidual) ⌝ }
+    ensures { λ r. ⌜ r ≡ sum + natAbs (lowered (getD (now (rows .entry)) (row + j) 0)) * slack ⌝ }
 {
-    add_low(sum, lowered_size(x), slack)
+    add_low(sum, lowered_size(rows[place]), slack)
 }
 
-// The sum over j of |G_mj|·σ_j, for the raised row m of G that starts at a place.
-fn slack_of(rows: &[u64], row: usize, slacks: &[u64; 32], n: usize) -> u64
+// The sum over j of |G_mj|·σ_j, for the raised row m of G that starts at place row.
+fn slack_of(rows: &[u64], m: usize, row: usize, slacks: &[u64; 32], n: usize) -> u64
     requires { ⌜ n ≤ 32 ⌝ }
-    requires { ⌜ RaisedRow (now rows) row n ⌝ }
+    requires { ⌜ Carried 0 (n + 1) m row ⌝ }
+    requires { ⌜ RaisedRow (now rows) (m * (n + 1)) n ⌝ }
     requires { ⌜ ((k : ℕ) → k < n → getD (now slacks) k 0 ≤ allowedResidual) ⌝ }
-    ensures { λ r. ⌜ r ≡ sumℕ n (λ (j : ℕ). natAbs (lowered (getD (now (rows .entry)) (row + j) 0)) * getD (now (slacks .entry)) j 0) ⌝ }
+    ensures { λ r. ⌜ r ≡ sumℕ n (λ (j : ℕ). natAbs (loweredRows (now (rows .entry)) n m j) * getD (now (slacks .entry)) j 0) ⌝ }
 {
     let mut sum: u64 = 0;
     let mut place = row;
     for j in 0..n {
-        sum = add_slack(sum, rows[place], slacks[j]);
+        sum = add_slack(sum, rows, row, place, slacks[j], j);
         place += 1;
     }
     sum
@@ -89,7 +95,7 @@ fn add_slacks(sizes: [u64; 32], rows: &[u64], slacks: &[u64; 32], n: usize) -> [
     let mut out = [0u64; 32];
     let mut row = 0;
     for m in 0..n {
-        out[m] = sizes[m] + slack_of(rows, row, slacks, n);
+        out[m] = sizes[m] + slack_of(rows, m, row, slacks, n);
         row += n + 1;
     }
     out
@@ -114,7 +120,7 @@ pub fn column_bounds(
 {
     let mut raised = [0u64; 33];
     raise_row(&mut raised, 0, &residuals, 0, 1, n);
-    let sizes = add_slacks(sizes_of(rows, &raised, 0, n), rows, &slacks, n);
+    let sizes = add_slacks(sizes_of(rows, &raised, 0, 0, n), rows, &slacks, n);
     bounds_of(&sizes, &margins, weights, n)
 }
 
@@ -150,10 +156,10 @@ pub fn store_columns(
         (now (weights .entry)) i) n ⌝ }
 {
     let mut raised = [0u64; ROWS_LENGTH];
-    raise_rows(&mut raised, residuals, n, 1, n);
+    raise_rows(&mut raised, residuals, n);
     let mut place = 0;
     for j in 0..n {
-        let sizes = sizes_of(rows, &raised, place, n);
+        let sizes = sizes_of(rows, &raised, j, place, n);
         let column = bounds_of(&sizes, &margins, weights, n);
         store(dst, j, n, column, n);
         place += n + 1;

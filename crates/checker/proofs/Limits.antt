@@ -8,7 +8,7 @@ use lib.IntN.{ℤ, pos, natAbs}
 use lib.ListN.{getD}
 use Rattle.linear.specs.Slice.{at}
 use Rattle.linear.proofs.Places.{place, place-column, place-row}
-use Rattle.raised_rows.specs.Raised.{RowsOf}
+use Rattle.raised_rows.specs.Place.{RowsOfMatrix}
 use Rattle.enclosure.specs.Problem.{T, columnOf}
 use Rattle.enclosure.specs.Reckoning.{defect, load, margin, residual, slack, sizesWith, boundWith, bound, inverseBound}
 use Rattle.enclosure.proofs.Bounds.{bound-ext}
@@ -20,7 +20,7 @@ use Rattle.ratios.specs.Ratio.{Positive}
 use Rattle.checker.specs.Work.{Work, workProblem, workResidual, workSlack}
 use Rattle.checker.proofs.Rows.{margin-is, sizes-are}
 
-module _ (W : Work) {rows : List ℕ} (raised : RowsOf rows (W .n) (W .n) (λ (i k : ℕ). at (W .inverse) (i * W .n + k * 1))) (margins : List ℕ)
+module _ (W : Work) {rows : List ℕ} (raised : RowsOfMatrix rows (W .n) (W .inverse)) (margins : List ℕ)
     (hm : Begins 0 margins (W .n) (cutMargin (rowsPart (W .n) (W .t) (W .matrix) rows (W .weights)))) (pm : Positive margins (W .n)) where
   -- a margin that is above 0 is the signed margin's size
   margin-here : (m : ℕ) → m < W .n → getD margins m 0 ≡ natAbs (margin (workProblem W) m)

@@ -14,7 +14,7 @@ use Rattle.integer.specs.Finite.{first}
 use Rattle.linear.specs.Slice.{at}
 use Rattle.linear.specs.Reach.{ColumnList}
 use Rattle.linear.proofs.Places.{square}
-use Rattle.raised_rows.specs.Raised.{RowsOf}
+use Rattle.raised_rows.specs.Place.{RowsOfMatrix}
 use Rattle.rules.specs.Order.{verdict}
 use Rattle.rules.specs.Refusal.{said}
 use Rattle.rules.specs.declared.Outcome.{Outcome}
@@ -35,7 +35,7 @@ use Rattle.checker.proofs.Written.{written-stored, written-columns}
 
 -- the arrays of the reckoning, the first refused row of each, and what is judged of them
 pub record Worked (W : Work) (rows margins : List ℕ) (residuals columns limits : List ℤ) (r : Outcome) : Type 0 where
-  pub raised : RowsOf rows (W .n) (W .n) (λ (i k : ℕ). at (W .inverse) (i * W .n + k * 1))
+  pub raised : RowsOfMatrix rows (W .n) (W .inverse)
   pub hm : Begins 0 margins (W .n) (cutMargin (rowsPart (W .n) (W .t) (W .matrix) rows (W .weights)))
   pub hr : Begins (pos 0) residuals (W .n) (workResidual W)
   pub hc : Begins (pos 0) columns (W .n * W .n) (λ (i : ℕ). columnResidual (W .n) (W .t) (W .matrix) (W .inverse) (i / W .n) (i % W .n))

@@ -15,7 +15,7 @@ use Rattle.integer.specs.Finite.{first}
 use Rattle.integer.proofs.Search.{first-ext, first-past}
 use Rattle.linear.specs.Slice.{at}
 use Rattle.linear.specs.Reach.{ColumnList}
-use Rattle.raised_rows.specs.Raised.{RowsOf}
+use Rattle.raised_rows.specs.Place.{RowsOfMatrix}
 use Rattle.enclosure.specs.Problem.{T, columnOf}
 use Rattle.enclosure.specs.Reckoning.{load, marginFails, residual, allowedResidual, exceeds}
 use Rattle.enclosure.proofs.Before.{exceeds-before}
@@ -38,7 +38,7 @@ cut-test a b = go (leb a b) refl
 
 module _ (W : Work) (ready : Workable W) where
   -- ---- margins
-  module _ {rows : List ℕ} (raised : RowsOf rows (W .n) (W .n) (λ (i k : ℕ). at (W .inverse) (i * W .n + k * 1))) (margins : List ℕ)
+  module _ {rows : List ℕ} (raised : RowsOfMatrix rows (W .n) (W .inverse)) (margins : List ℕ)
       (h : Begins 0 margins (W .n) (cutMargin (rowsPart (W .n) (W .t) (W .matrix) rows (W .weights)))) where
     pub first-margin : first (W .n) (λ (m : ℕ). eqb (getD margins m 0) 0) ≡ firstMargin (workProblem W)
     first-margin =

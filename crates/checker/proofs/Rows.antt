@@ -5,15 +5,14 @@
 use mathlib.Core.Path.{_≡_, refl, ap, _∙_}
 use mathlib.Core.List.{List}
 use Prim.Native.Nat.{ℕ, _+_, _*_, _-_, _<_, _^_}
-use native.Mathlib.Omega.{arith}
 use lib.IntN.{ℤ, pos, natAbs}
 use Rattle.linear.specs.Matrix.{Vec}
 use Rattle.linear.specs.Slice.{at, matrixOf}
 use Rattle.linear.specs.Reach.{MatrixList}
 use Rattle.linear.proofs.Places.{place}
 use Rattle.linear.proofs.Slack.{slack-ext}
-use Rattle.raised_rows.specs.Raised.{loweredRows, RowsOf}
-use Rattle.raised_rows.proofs.Lowering.{rows-raised}
+use Rattle.raised_rows.specs.Raised.{loweredRows}
+use Rattle.raised_rows.specs.Place.{RowsOfMatrix}
 use Rattle.enclosure.specs.Reckoning.{defect, load, sizesWith}
 use Rattle.enclosure.proofs.Agreement.{load-same}
 use Rattle.reckoning.specs.Parts.{rowsPart, cutMargin}
@@ -21,17 +20,17 @@ use Rattle.reckoning.specs.Rows.{InverseRows}
 use Rattle.bounds.specs.Limits.{inversePart}
 use Rattle.checker.specs.Work.{Work, workProblem}
 
-module _ (n : ℕ) (inverse : List ℤ) {rows : List ℕ} (h : RowsOf rows n n (λ (i k : ℕ). at inverse (i * n + k * 1))) where
+module _ (n : ℕ) (inverse : List ℤ) {rows : List ℕ} (h : RowsOfMatrix rows n inverse) where
   pub stands-for : (i k : ℕ) → i < n → k < n → loweredRows rows n i k ≡ matrixOf inverse n i k
-  stands-for i k li lk = h .each i li .each k lk ∙ ap (at inverse) (omega arith)
+  stands-for = h .stands
 
   pub inverse-rows : MatrixList inverse n → InverseRows rows n
   inverse-rows q = record {
-    rows = rows-raised h;
+    rows = h .rows;
     size = λ i k li lk. rw (stands-for i k li lk) (q .within .size (i * n + k) (place li lk));
   }
 
-module _ (W : Work) {rows : List ℕ} (h : RowsOf rows (W .n) (W .n) (λ (i k : ℕ). at (W .inverse) (i * W .n + k * 1))) where
+module _ (W : Work) {rows : List ℕ} (h : RowsOfMatrix rows (W .n) (W .inverse)) where
   load-is : (m : ℕ) → m < W .n → load (rowsPart (W .n) (W .t) (W .matrix) rows (W .weights)) m ≡ load (workProblem W) m
   load-is m l =
       load-same (W .n) 0 (W .t) (matrixOf (W .matrix) (W .n)) (matrixOf (W .matrix) (W .n)) (λ i. pos 0) (λ i. pos 0) (λ i. pos 0) (λ i. pos 0)

@@ -10,6 +10,7 @@ use native.Mathlib.Decide.{decLe}
 use native.Mathlib.Nat.{div-add-mod', mod-lt, div-lt-iff-lt-mul}
 use lib.ListN.{length, getD}
 use lib.Seq.{ext-getD}
+use Rattle.linear.specs.Place.{placeOf}
 use Rattle.reckoning.specs.Arrays.{stored, storedColumns}
 use Rattle.reckoning.proofs.Columns.{columns-at, columns-else}
 use Rattle.reckoning.proofs.Filled.{columns-length}
@@ -36,7 +37,7 @@ written-columns n f g l some long h =
         let j : ℕ = k % n in
         let li : i < n = div-lt-iff-lt-mul some .1 (omega arith) in
         let lj : j < n = mod-lt k some in
-        let e : k ≡ j + i * n = omega (arith, div-add-mod' k n) in
+        let e : k ≡ placeOf n i j = omega (arith, div-add-mod' k n) in
         ap (λ (x : ℕ). getD (storedColumns l n f n) x 0) e
         ∙ columns-at 0 l n f n i j li lj (omega arith) long
         ∙ h i j li lj

@@ -46,7 +46,7 @@ fn reckon(
         r (now («solution_bounds» .exit)) (now («inverse_bounds» .exit)) ⌝ }
 {
     let mut rows = [0u64; ROWS_LENGTH];
-    raise_rows(&mut rows, inverse, n, 1, n);
+    raise_rows(&mut rows, inverse, n);
     let margins = margins_of(t, &rows, matrix, weights, n);
     let residuals = residuals_of(base, matrix, guess, n);
     let columns = inverse_residuals_of(t, matrix, inverse, n);

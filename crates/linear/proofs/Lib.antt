@@ -1,3 +1,4 @@
 pub mod Product
+pub mod Carried
 pub mod Places
 pub mod Slack

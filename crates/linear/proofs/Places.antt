@@ -2,20 +2,21 @@
 --   place, square — the place of row i and column j is below n · n, at most 1,024 where n is at most 32
 --   place-column, place-row — column after column: place j·n + k stands for column j and row k
 --   row-reach, column-reach, list-reach — a row and a column of n·n numbers, a list of n numbers, as `dot` asks for them;  square-list — a matrix list as such a list
---   wider         — a larger bound
---   dot-row       — row k of A times a list is (A·v) k;  dot-column — row m of G times column j of A is (G·A) m j
+--   dot-row       — row k of A times a list is (A·v) k
 --   dot-term, dot-fits, dot-size — a term is at most 2 ^ 56 in size, a partial sum with its next term fits an i64, the size of a whole sum
 use mathlib.Core.Path.{_≡_, _∙_}
 use mathlib.Core.List.{List}
 use Prim.Native.Nat.{ℕ, _+_, _*_, _/_, _%_, _<_, _≤_, _^_}
 use native.Mathlib.Omega.{arith}
-use native.Mathlib.Nat.{mul-le-mul, le-refl, le-trans, div-eq-of-lt-le, mul-add-mod-self-right, mod-eq-of-lt}
+use native.Mathlib.Nat.{mul-le-mul, le-refl, div-eq-of-lt-le, mul-add-mod-self-right, mod-eq-of-lt}
 use lib.IntN.{ℤ, natAbs, _*ℤ_}
 use Rattle.integer.proofs.Absolute.{abs-*}
 use Rattle.integer.proofs.Sum.{sum-ext, abs-sum≤}
-use Rattle.linear.specs.Matrix.{apply, product}
+use Rattle.linear.specs.Matrix.{apply}
 use Rattle.linear.specs.Slice.{at, vectorOf, matrixOf}
+use Rattle.linear.specs.Place.{placeOf}
 use Rattle.linear.specs.Reach.{dotOf, Reach, ColumnList, MatrixList}
+use Rattle.linear.proofs.Carried.{row-place, column-place, carried}
 
 pub place : {i j n : ℕ} → i < n → j < n → i * n + j < n * n
 place {i} {j} {n} p q = omega (arith, mul-le-mul p (le-refl n))
@@ -34,13 +35,13 @@ module _ {xs : List ℤ} {n b : ℕ} (q : ColumnList xs (n * n) b) where
   pub row-reach : (i : ℕ) → i < n → Reach xs (i * n) 1 n b
   row-reach i l = record {
     inside = λ j h. omega (arith, place l h, q .long);
-    size = λ j h. let e : i * n + j * 1 ≡ i * n + j = omega arith in rw e (q .within .size (i * n + j) (place l h));
+    size = λ j h. rw (row-place n i (carried (i * n) 1 j)) (q .within .size (placeOf n i j) (place l h));
   }
 
   pub column-reach : (j : ℕ) → j < n → Reach xs j n n b
   column-reach j l = record {
     inside = λ i h. omega (arith, place h l, q .long);
-    size = λ i h. let e : j + i * n ≡ i * n + j = omega arith in rw e (q .within .size (i * n + j) (place h l));
+    size = λ i h. rw (column-place (carried j n i)) (q .within .size (placeOf n i j) (place h l));
   }
 
 pub square-list : {xs : List ℤ} {n : ℕ} → MatrixList xs n → ColumnList xs (n * n) (2 ^ 20)
@@ -52,23 +53,13 @@ list-reach q = record {
   size = λ j h. let e : 0 + j * 1 ≡ j = omega arith in rw e (q .within .size j h);
 }
 
--- a wider bound
-pub wider : {xs : List ℤ} {p s n a : ℕ} (b : ℕ) → a ≤ b → Reach xs p s n a → Reach xs p s n b
-wider b l h = record { inside = h .inside; size = λ j q. le-trans (h .size j q) l }
-
 -- ---- the dot products of the reckoning
 module _ (n : ℕ) where
   pub dot-row : (a x : List ℤ) (k : ℕ) → dotOf a (k * n) 1 x 0 1 n ≡ apply n (matrixOf a n) (vectorOf x) k
   unfolding apply
   dot-row a x k =
       sum-ext n (λ (j : ℕ). at a (k * n + j * 1) *ℤ at x (0 + j * 1)) (λ (j : ℕ). at a (k * n + j) *ℤ at x j)
-      (λ j l. let e : k * n + j * 1 ≡ k * n + j = omega arith in let f : 0 + j * 1 ≡ j = omega arith in rw (e, f))
-
-  pub dot-column : (g a : List ℤ) (m j : ℕ) → dotOf g (m * n) 1 a j n n ≡ product n (matrixOf g n) (matrixOf a n) m j
-  unfolding apply product
-  dot-column g a m j =
-      sum-ext n (λ (k : ℕ). at g (m * n + k * 1) *ℤ at a (j + k * n)) (λ (k : ℕ). at g (m * n + k) *ℤ at a (k * n + j))
-      (λ k l. let e : m * n + k * 1 ≡ m * n + k = omega arith in let f : j + k * n ≡ k * n + j = omega arith in rw (e, f))
+      (λ j l. let f : 0 + j * 1 ≡ j = omega arith in rw (row-place n k (carried (k * n) 1 j), f))
 
 -- ---- sizes
 module _ (a : List ℤ) (p s : ℕ) (x : List ℤ) (q u n : ℕ) (ha : Reach a p s n (2 ^ 20)) (hx : Reach x q u n (2 ^ 36)) where

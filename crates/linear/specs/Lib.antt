@@ -1,3 +1,4 @@
 pub mod Matrix
 pub mod Slice
+pub mod Place
 pub mod Reach

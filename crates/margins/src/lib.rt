@@ -6,6 +6,7 @@ ghost use lib.IntN.{natAbs};
 ghost use lib.ListN.{getD};
 ghost use Rattle.integer.specs.Finite.{first};
 ghost use Rattle.linear.specs.Slice.{at};
+ghost use Rattle.linear.specs.Place.{Carried};
 ghost use Rattle.linear.specs.Reach.{ColumnList, MatrixList};
 ghost use Rattle.raised_rows.specs.Raised.{RaisedRows};
 ghost use Rattle.reckoning.specs.Arrays.{Begins};
@@ -15,7 +16,7 @@ use integer::first_or;
 use integer::magnitude;
 use integer::power;
 use raised_rows::ROWS_LENGTH;
-use raised_rows::raise_rows;
+use raised_rows::raise_columns;
 use reckoning::unit_difference;
 
 // One term of a load: sum + |d|·|w|.
@@ -26,7 +27,7 @@ fn weigh(sum: u64, d: i64, w: i64) -> u64
     sum + magnitude(d) * magnitude(w)
 }
 
-// The sum over j of |D_mj|·w_j, for the row m that starts at place row; D from the raised rows of G and columns of A.
+// The sum over j of |D_mj|·w_j; D from the raised rows of G, of which row m starts at place row, and the raised columns of A.
 fn load_of(
     t: u32,
     rows: &[u64],
@@ -36,7 +37,7 @@ fn load_of(
     m: usize,
     row: usize,
 ) -> u64
-    requires { ⌜ (t ≤ 20) × ((n ≤ 32) × ((m < n) × (row ≡ m * (n + 1)))) ⌝ }
+    requires { ⌜ (t ≤ 20) × ((n ≤ 32) × ((m < n) × Carried 0 (n + 1) m row)) ⌝ }
     requires { ⌜ RaisedRows (now rows) n × RaisedRows (now columns) n ⌝ }
     requires { ⌜ ((j : ℕ) → j < n → natAbs (rowDifference n t (now rows) (now columns) m j) ≤ 2 ^ 46) ⌝ }
     requires { ⌜ ColumnList (now weights) n 1024 ⌝ }
@@ -62,7 +63,7 @@ fn margin_of(
     m: usize,
     row: usize,
 ) -> u64
-    requires { ⌜ (t ≤ 20) × ((n ≤ 32) × ((m < n) × (row ≡ m * (n + 1)))) ⌝ }
+    requires { ⌜ (t ≤ 20) × ((n ≤ 32) × ((m < n) × Carried 0 (n + 1) m row)) ⌝ }
     requires { ⌜ RaisedRows (now rows) n × RaisedRows (now columns) n ⌝ }
     requires { ⌜ ((j : ℕ) → j < n → natAbs (rowDifference n t (now rows) (now columns) m j) ≤ 2 ^ 46) ⌝ }
     requires { ⌜ ColumnList (now weights) n 1024 ⌝ }
@@ -89,7 +90,7 @@ pub fn margins_of(
     ensures { λ r. ⌜ Begins 0 r n (cutMargin (rowsPart n t (now (matrix .entry)) (now (rows .entry)) (now (weights .entry)))) ⌝ }
 {
     let mut columns = [0u64; ROWS_LENGTH];
-    raise_rows(&mut columns, matrix, 1, n, n);
+    raise_columns(&mut columns, matrix, n);
     let mut out = [0u64; 32];
     let mut row = 0;
     for m in 0..n {

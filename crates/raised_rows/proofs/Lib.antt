@@ -1,2 +1,3 @@
 pub mod Lowering
 pub mod Filling
+pub mod Standing

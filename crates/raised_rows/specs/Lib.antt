@@ -1,1 +1,2 @@
 pub mod Raised
+pub mod Place

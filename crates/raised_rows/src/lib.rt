@@ -6,8 +6,10 @@ ghost use lib.IntN.{pos, natAbs, _-ℤ_};
 ghost use lib.ListN.{getD, length};
 ghost use Rattle.integer.specs.Finite.{sumℕ};
 ghost use Rattle.linear.specs.Slice.{at};
-ghost use Rattle.linear.specs.Reach.{Reach};
+ghost use Rattle.linear.specs.Place.{Carried};
+ghost use Rattle.linear.specs.Reach.{Reach, ColumnList};
 ghost use Rattle.raised_rows.specs.Raised.{raisedBy, rowsLength, lowered, Small, RaisedRow, rowDot, RowOf, RowsOf, Kept};
+ghost use Rattle.raised_rows.specs.Place.{RowsOfMatrix, ColumnsOfMatrix};
 
 // What is added to a number to raise it, 2^25, and its square.
 const RAISED_BY: u64 = 33554432;
@@ -46,6 +48,25 @@ pub fn add_low(sum: u64, a: u64, b: u64) -> u64
     sum + (a & LOW) * (b & LOW)
 }
 
+// Term k of the sum of the products of two rows as they stand, by way of the two places that were carried to it.
+fn add_term(
+    sum: u64,
+    a: &[u64],
+    p: usize,
+    at_a: usize,
+    b: &[u64],
+    q: usize,
+    at_b: usize,
+    k: usize,
+) -> u64
+    requires { ⌜ Carried p 1 k «at_a» × Carried q 1 k «at_b» ⌝ }
+    requires { ⌜ (p + k < length (now a)) × (q + k < length (now b)) ⌝ }
+    requires { ⌜ (sum ≤ 2 ^ 62) × ((getD (now a) (p + k) 0 ≤ 2 * raisedBy) × (getD (now b) (q + k) 0 ≤ 2 * raisedBy)) ⌝ }
+    ensures { λ r. ⌜ r ≡ sum + getD (now (a .entry)) (p + k) 0 * getD (now (b .entry)) (q + k) 0 ⌝ }
+{
+    add_low(sum, a[at_a], b[at_b])
+}
+
 // The sum of the products of two rows as they stand; the places are carried from term to term.
 fn low_dot(a: &[u64], p: usize, b: &[u64], q: usize, n: usize) -> u64
     requires { ⌜ (n ≤ 32) × ((p + n < length (now a)) × (q + n < length (now b))) ⌝ }
@@ -56,7 +77,7 @@ fn low_dot(a: &[u64], p: usize, b: &[u64], q: usize, n: usize) -> u64
     let mut at_a = p;
     let mut at_b = q;
     for k in 0..n {
-        sum = add_low(sum, a[at_a], b[at_b]);
+        sum = add_term(sum, a, p, at_a, b, q, at_b, k);
         at_a += 1;
         at_b += 1;
     }
@@ -70,15 +91,25 @@ fn less(up: u64, down: u64) -> i64
     up as i64 - down as i64
 }
 
-// The sum of the products of the numbers that two rows stand for.
-pub fn row_dot(a: &[u64], p: usize, b: &[u64], q: usize, n: usize) -> i64
+// The sum of the products of the numbers that raised row i of a, from place p on, and raised row j of b, from place q on, stand for.
+pub fn row_dot(a: &[u64], i: usize, p: usize, b: &[u64], j: usize, q: usize, n: usize) -> i64
     requires { ⌜ n ≤ 32 ⌝ }
-    requires { ⌜ RaisedRow (now a) p n × RaisedRow (now b) q n ⌝ }
-    ensures { λ r. ⌜ r ≡ rowDot (now (a .entry)) p (now (b .entry)) q n ⌝ }
+    requires { ⌜ Carried 0 (n + 1) i p × Carried 0 (n + 1) j q ⌝ }
+    requires { ⌜ RaisedRow (now a) (i * (n + 1)) n × RaisedRow (now b) (j * (n + 1)) n ⌝ }
+    ensures { λ r. ⌜ r ≡ rowDot (now (a .entry)) (i * (n + 1)) (now (b .entry)) (j * (n + 1)) n ⌝ }
 {
     let up = low_dot(a, p, b, q, n) + n as u64 * RAISED_BY_SQUARED;
     let down = RAISED_BY * (a[p + n] + b[q + n]);
     less(up, down)
+}
+
+// Number k of a list from a start on, some places apart, raised, by way of the place that was carried to it.
+fn raise_at(xs: &[i64], start: usize, stride: usize, from: usize, k: usize) -> u64
+    requires { ⌜ Carried start stride k from ⌝ }
+    requires { ⌜ (start + k * stride < length (now xs)) × (natAbs (at (now xs) (start + k * stride)) ≤ raisedBy) ⌝ }
+    ensures { λ r. ⌜ (lowered r ≡ at (now (xs .entry)) (start + k * stride)) × (r ≤ 2 * raisedBy) ⌝ }
+{
+    raise(xs[from])
 }
 
 // Raises n numbers of a list, some places apart, and puts their sum after them.
@@ -92,7 +123,7 @@ pub fn raise_row(out: &mut [u64], place: usize, xs: &[i64], start: usize, stride
     let mut from = start;
     let mut to = place;
     for k in 0..n {
-        let x = raise(xs[from]);
+        let x = raise_at(xs, start, stride, from, k);
         out[to] = x;
         sum += x;
         from += stride;
@@ -101,8 +132,8 @@ pub fn raise_row(out: &mut [u64], place: usize, xs: &[i64], start: usize, stride
     out[to] = sum;
 }
 
-// Raises n rows of n numbers one after another, each a step after the one before: rows of a matrix (n, 1) or columns (1, n).
-pub fn raise_rows(out: &mut [u64], xs: &[i64], step: usize, stride: usize, n: usize)
+// Raises n rows of n numbers one after another, each a step after the one before.
+fn raise_all(out: &mut [u64], xs: &[i64], step: usize, stride: usize, n: usize)
     requires { ⌜ (n ≤ 32) × ((step ≤ 32) × ((stride ≤ 32) × (rowsLength ≤ length (now out)))) ⌝ }
     requires { ⌜ ((i : ℕ) → i < n → Reach (now xs) (i * step) stride n raisedBy) ⌝ }
     ensures { λ _. ⌜ RowsOf (now (out .exit)) n n (λ (i k : ℕ). at (now (xs .entry)) (i * step + k * stride)) ⌝ }
@@ -114,4 +145,22 @@ pub fn raise_rows(out: &mut [u64], xs: &[i64], step: usize, stride: usize, n: us
         place += n + 1;
         start += step;
     }
+}
+
+// Raises the rows of a matrix: row i starts at i·n and has stride 1.
+pub fn raise_rows(out: &mut [u64], xs: &[i64], n: usize)
+    requires { ⌜ (n ≤ 32) × (rowsLength ≤ length (now out)) ⌝ }
+    requires { ⌜ ColumnList (now xs) (n * n) raisedBy ⌝ }
+    ensures { λ _. ⌜ RowsOfMatrix (now (out .exit)) n (now (xs .entry)) ⌝ }
+{
+    raise_all(out, xs, n, 1, n);
+}
+
+// Raises the columns of a matrix: column j starts at j and has stride n.
+pub fn raise_columns(out: &mut [u64], xs: &[i64], n: usize)
+    requires { ⌜ (n ≤ 32) × (rowsLength ≤ length (now out)) ⌝ }
+    requires { ⌜ ColumnList (now xs) (n * n) raisedBy ⌝ }
+    ensures { λ _. ⌜ ColumnsOfMatrix (now (out .exit)) n (now (xs .entry)) ⌝ }
+{
+    raise_all(out, xs, 1, n, n);
 }

@@ -12,6 +12,8 @@ use borrow.Author.Tests.{lt-ltb, le-ltb}
 use lib.ListN.{length, getD}
 use Rattle.integer.specs.Finite.{first}
 use Rattle.integer.proofs.Search.{Searched, found, nowhere, searched, first-none, first-is, first-never, first-ext}
+use Rattle.linear.specs.Place.{placeOf}
+use Rattle.linear.proofs.Carried.{column-place, carried}
 use Rattle.linear.proofs.Places.{place, place-column, place-row}
 use Rattle.reckoning.specs.Arrays.{Begins, firstFrom, stored, storedColumns}
 use Rattle.reckoning.proofs.Filled.{stored-at, stored-else, columns-length}
@@ -51,10 +53,10 @@ module _ {A : Type 0} (d : A) (xs : List A) (n : ℕ) (f : ℕ → ℕ → A) wh
       suc-below : (k n : ℕ) → suc k ≤ n → k < n
       suc-below k n l = omega arith
 
-  pub columns-at : (k i j : ℕ) → i < n → j < k → k ≤ n → n * n ≤ length xs → getD (storedColumns xs n f k) (j + i * n) d ≡ f i j
+  pub columns-at : (k i j : ℕ) → i < n → j < k → k ≤ n → n * n ≤ length xs → getD (storedColumns xs n f k) (placeOf n i j) d ≡ f i j
   unfolding storedColumns
   columns-at zero i j li lj l h = absurd (omega arith)
-  columns-at (suc k) i j li lj l h = go (ℕ-discrete j k) (λ m. columns-at k i j li m (omega arith) h)
+  columns-at (suc k) i j li lj l h = rw (← column-place (carried j n i)) (go (ℕ-discrete j k) (λ m. rw (column-place (carried j n i)) (columns-at k i j li m (omega arith) h)))
     where
       go : Dec (j ≡ k) → (j < k → getD (storedColumns xs n f k) (j + i * n) d ≡ f i j) → getD (stored (storedColumns xs n f k) k n (λ (i : ℕ). f i k) n) (j + i * n) d ≡ f i j
       go (yes e) ih =

@@ -1,6 +1,6 @@
 -- Sizes of the reckoning's numbers, all within an i64.
 --   power-size, unit-same, unit-other, unit-size, scaled-size — of 2^t, of the numbers of T·I and of S·b
---   square-row, row-reaches, column-reaches — rows and columns of a matrix list, as `dot` and `raise_rows` ask for them
+--   raisable — a matrix list, as `raise_rows` and `raise_columns` ask for it
 --   defect-size — |D_mj| ≤ 2^46
 --   row-ends, column-ends — places of rows and columns;  above-below, above-above — the code's test of a residual
 use mathlib.Core.Path.{_≡_, refl, sym, ap, subst}
@@ -18,9 +18,9 @@ use Rattle.integer.proofs.Absolute.{abs-sub, abs-*}
 use Rattle.integer.proofs.Sum.{abs-sum≤}
 use Rattle.linear.specs.Matrix.{identity, apply, product}
 use Rattle.linear.specs.Slice.{matrixOf}
-use Rattle.linear.specs.Reach.{Reach, MatrixList}
+use Rattle.linear.specs.Reach.{ColumnList, MatrixList}
 use Rattle.linear.proofs.Product.{identity-same, identity-other}
-use Rattle.linear.proofs.Places.{place, square, row-reach, column-reach, square-list, wider}
+use Rattle.linear.proofs.Places.{place, square}
 use Rattle.raised_rows.specs.Raised.{raisedBy, loweredRows}
 use Rattle.enclosure.specs.Reckoning.{defect}
 use Rattle.reckoning.specs.Parts.{rowsPart, aboveAllowed}
@@ -49,16 +49,9 @@ unit-other x i j e = rw (identity-other i j e) (ap pos (omega arith))
 pub scaled-size : (s : ℕ) (b : ℤ) → s ≤ 20 → natAbs b ≤ 2 ^ 30 → natAbs (pos (2 ^ s) *ℤ b) ≤ 2 ^ 50
 scaled-size s b h k = rw (abs-* (pos (2 ^ s)) b) (le-trans (mul-le-mul (power-size s h) k) (lit≤ tt))
 
--- a row and a column of a matrix list
-module _ {xs : List ℤ} {n : ℕ} (q : MatrixList xs n) where
-  pub square-row : (i : ℕ) → i < n → Reach xs (i * n) 1 n (2 ^ 20)
-  square-row = row-reach (square-list q)
-
-  pub row-reaches : (i : ℕ) → i < n → Reach xs (i * n) 1 n raisedBy
-  row-reaches i l = wider _ (lit≤ tt) (square-row i l)
-
-  pub column-reaches : (i : ℕ) → i < n → Reach xs (i * 1) n n raisedBy
-  column-reaches i l = let e : i * 1 ≡ i = omega arith in rw e (wider _ (lit≤ tt) (column-reach (square-list q) i l))
+-- a matrix list, as `raise_rows` and `raise_columns` ask for it
+pub raisable : {xs : List ℤ} {n : ℕ} → MatrixList xs n → ColumnList xs (n * n) raisedBy
+raisable q = record { long = q .long; within = record { size = λ k l. le-trans (q .within .size k l) (lit≤ tt) } }
 
 pub defect-size : (n t : ℕ) (matrix : List ℤ) (rows : List ℕ) (weights : List ℤ) → t ≤ 20 → n ≤ 32 → MatrixList matrix n → InverseRows rows n →
     (m j : ℕ) → m < n → j < n → natAbs (defect (rowsPart n t matrix rows weights) m j) ≤ 2 ^ 46

@@ -1,9 +1,11 @@
 // What margins, residuals and limits share: definitions on slices and raised rows with their laws, and a number of 2^t·I less a product.
 ghost use mathlib.Core.Path.{_≡_};
-ghost use Prim.Native.Nat.{_≤_, _^_};
-ghost use lib.IntN.{pos, _-ℤ_, _*ℤ_};
+ghost use Prim.Native.Nat.{_+_, _*_, _≤_, _^_};
+ghost use lib.IntN.{pos, _*ℤ_};
 ghost use Rattle.linear.specs.Matrix.{identity};
-ghost use Rattle.raised_rows.specs.Raised.{RaisedRow, rowDot};
+ghost use Rattle.linear.specs.Place.{Carried};
+ghost use Rattle.raised_rows.specs.Raised.{RaisedRow};
+ghost use Rattle.reckoning.specs.Rows.{rowDifference};
 use integer::power;
 use raised_rows::row_dot;
 
@@ -15,7 +17,7 @@ fn unit_at(t: u32, i: usize, j: usize) -> i64
     if i == j { power(t) as i64 } else { 0 }
 }
 
-// Number a, b of 2^t·I less the products of two raised rows.
+// Number a, b of 2^t·I less the products of raised row a of xs, from place p on, and raised row b of ys, from place q on.
 pub fn unit_difference(
     t: u32,
     a: usize,
@@ -27,8 +29,9 @@ pub fn unit_difference(
     n: usize,
 ) -> i64
     requires { ⌜ (t ≤ 20) × (n ≤ 32) ⌝ }
-    requires { ⌜ RaisedRow (now xs) p n × RaisedRow (now ys) q n ⌝ }
-    ensures { λ r. ⌜ r ≡ pos (2 ^ t) *ℤ identity a b -ℤ rowDot (now (xs .entry)) p (now (ys .entry)) q n ⌝ }
+    requires { ⌜ Carried 0 (n + 1) a p × Carried 0 (n + 1) b q ⌝ }
+    requires { ⌜ RaisedRow (now xs) (a * (n + 1)) n × RaisedRow (now ys) (b * (n + 1)) n ⌝ }
+    ensures { λ r. ⌜ r ≡ rowDifference n t (now (xs .entry)) (now (ys .entry)) a b ⌝ }
 {
-    unit_at(t, a, b) - row_dot(xs, p, ys, q, n)
+    unit_at(t, a, b) - row_dot(xs, a, p, ys, b, q, n)
 }

@@ -4,8 +4,10 @@ ghost use Prim.Native.Nat.{ℕ, _+_, _*_, _/_, _%_, _≤_, _<_, _^_};
 ghost use lib.IntN.{pos, natAbs, _-ℤ_, _*ℤ_};
 ghost use lib.ListN.{length};
 ghost use Rattle.integer.specs.Finite.{first};
-ghost use Rattle.linear.specs.Slice.{at};
-ghost use Rattle.linear.specs.Reach.{dotOf, Reach, ColumnList, MatrixList};
+ghost use Rattle.linear.specs.Matrix.{apply};
+ghost use Rattle.linear.specs.Slice.{at, vectorOf, matrixOf};
+ghost use Rattle.linear.specs.Place.{Carried};
+ghost use Rattle.linear.specs.Reach.{ColumnList, MatrixList};
 ghost use Rattle.raised_rows.specs.Raised.{RaisedRows};
 ghost use Rattle.enclosure.specs.Reckoning.{allowedResidual};
 ghost use Rattle.reckoning.specs.Arrays.{Begins, firstFrom, stored};
@@ -15,6 +17,7 @@ use integer::first_or;
 use integer::power;
 use linear::dot;
 use raised_rows::ROWS_LENGTH;
+use raised_rows::raise_columns;
 use raised_rows::raise_rows;
 use reckoning::unit_difference;
 
@@ -39,14 +42,15 @@ pub fn scaled_right(s: u32, right: &[i64], n: usize) -> [i64; 32]
     out
 }
 
-// base less a row of a, from place p, times numbers of x, from place q and u places apart.
-fn difference(base: i64, a: &[i64], p: usize, x: &[i64], q: usize, u: usize, n: usize) -> i64
-    requires { ⌜ (n ≤ 32) × ((natAbs base ≤ 2 ^ 62) × ((p + n * 1 < 2 ^ 63) × (q + n * u < 2 ^ 63))) ⌝ }
-    requires { ⌜ Reach (now a) p 1 n (2 ^ 20) ⌝ }
-    requires { ⌜ Reach (now x) q u n (2 ^ 36) ⌝ }
-    ensures { λ r. ⌜ r ≡ base -ℤ dotOf (now (a .entry)) p 1 (now (x .entry)) q u n ⌝ }
+// base less row k of a, which starts at place p, times x.
+fn difference(base: i64, a: &[i64], k: usize, p: usize, x: &[i64], n: usize) -> i64
+    requires { ⌜ (n ≤ 32) × ((k < n) × (natAbs base ≤ 2 ^ 62)) ⌝ }
+    requires { ⌜ Carried 0 n k p ⌝ }
+    requires { ⌜ MatrixList (now a) n ⌝ }
+    requires { ⌜ ColumnList (now x) n (2 ^ 36) ⌝ }
+    ensures { λ r. ⌜ r ≡ base -ℤ apply n (matrixOf (now (a .entry)) n) (vectorOf (now (x .entry))) k ⌝ }
 {
-    base - dot(a, p, 1, x, q, u, n)
+    base - dot(a, p, 1, x, 0, 1, n)
 }
 
 // The residuals of a guess: a base less A·X.
@@ -60,13 +64,14 @@ pub fn residuals_of(base: [i64; 32], matrix: &[i64], guess: &[i64], n: usize) ->
     let mut out = [0i64; 32];
     let mut row = 0;
     for k in 0..n {
-        out[k] = difference(base[k], matrix, row, guess, 0, 1, n);
+        out[k] = difference(base[k], matrix, k, row, guess, n);
         row += n;
     }
     out
 }
 
-// The residuals of column j of the inverse, stored from place j·n on, from the raised rows of A and columns of G.
+// The residuals of column j of the inverse, stored from place start on, from the raised rows of A and columns of G, of which column j starts at
+// place column.
 fn column_residuals(
     out: &mut [i64; 1024],
     t: u32,
@@ -74,14 +79,16 @@ fn column_residuals(
     columns: &[u64],
     n: usize,
     j: usize,
+    start: usize,
+    column: usize,
 )
     requires { ⌜ (t ≤ 20) × ((n ≤ 32) × (j < n)) ⌝ }
+    requires { ⌜ Carried 0 n j start × Carried 0 (n + 1) j column ⌝ }
     requires { ⌜ RaisedRows (now rows) n × RaisedRows (now columns) n ⌝ }
     ensures { λ _. ⌜ now (out .exit)
         ≡ stored (now (out .entry)) (j * n) 1 (λ (k : ℕ). rowDifference n t (now (rows .entry)) (now (columns .entry)) k j) n ⌝ }
 {
-    let column = j * (n + 1);
-    let mut place = j * n;
+    let mut place = start;
     let mut row = 0;
     for k in 0..n {
         out[place] = unit_difference(t, k, j, rows, row, columns, column, n);
@@ -100,11 +107,15 @@ pub fn inverse_residuals_of(t: u32, matrix: &[i64], inverse: &[i64], n: usize) -
 {
     let mut rows = [0u64; ROWS_LENGTH];
     let mut columns = [0u64; ROWS_LENGTH];
-    raise_rows(&mut rows, matrix, n, 1, n);
-    raise_rows(&mut columns, inverse, 1, n, n);
+    raise_rows(&mut rows, matrix, n);
+    raise_columns(&mut columns, inverse, n);
     let mut out = [0i64; 1024];
+    let mut start = 0;
+    let mut column = 0;
     for j in 0..n {
-        column_residuals(&mut out, t, &rows, &columns, n, j);
+        column_residuals(&mut out, t, &rows, &columns, n, j, start, column);
+        start += n;
+        column += n + 1;
     }
     out
 }

@@ -5,7 +5,9 @@ use native.Mathlib.Nat.{mul-le-mul-right}
 use lib.IntN.{natAbs}
 use lib.ListN.{length, length-set, getD}
 use Rattle.integer.specs.Finite.{sumℕ}
-use Rattle.raised_rows.specs.Raised.{RaisedRow, loweredRows}
+use Rattle.linear.specs.Place.{Carried}
+use Rattle.linear.proofs.Carried.{carried-first, carried-next}
+use Rattle.raised_rows.specs.Raised.{loweredRows}
 use Rattle.raised_rows.proofs.Filling.{rows-room}
 use Rattle.reckoning.specs.Arrays.{Begins}
 use Rattle.reckoning.proofs.Filled.{begins-none, begins-more, begins-end}
@@ -16,16 +18,13 @@ use Rattle.bounds.proofs.add_slacks.Tie as tie
 
 abbrev Inv-loop : tie.InvT-loop
 Inv-loop rows slacks n sizes out₀ row₀ m₀ out row m =
-    (m ≤ n) × ((row ≡ m * (n + 1)) × ((length out ≡ 32) × Begins 0 out m (λ (i : ℕ). getD sizes i 0 + sumℕ n (λ (j : ℕ). natAbs (loweredRows rows n i j) * getD slacks j 0))))
+    (m ≤ n) × (Carried 0 (n + 1) m row × ((length out ≡ 32) × Begins 0 out m (λ (i : ℕ). getD sizes i 0 + sumℕ n (λ (j : ℕ). natAbs (loweredRows rows n i j) * getD slacks j 0))))
 
 abbrev μ-loop : tie.MeasureT-loop
 μ-loop rows slacks n sizes out₀ row₀ m₀ out row m = n - m
 
 abbrev start : tie.In-loop Inv-loop μ-loop → tie.Start Inv-loop μ-loop
 start t = t .before .before .before .before .before
-
-row-here : (c : tie.In-loop Inv-loop μ-loop) → RaisedRow (c .before .before .before .before .before .args .rows .now) (c .before .loop .row) (c .before .before .before .before .before .args .n)
-row-here c = rw (c .before .loop .inv .1 .0) (c .before .before .before .before .before .pre .1 .0 .each (c .before .loop .m) (c .loop-test .taken))
 
 sum-of-requires : tie.Need-sum-of-requires Inv-loop μ-loop
 sum-of-requires c κs = search needs
@@ -36,7 +35,7 @@ returns c =
     record { each = λ m l. omega (arith, no-slack (s .args .n) (λ (j : ℕ). natAbs (loweredRows (s .args .rows .now) (s .args .n) m j)) (λ (j : ℕ). getD (s .args .slacks .now) j 0) (sym (c .before .sum-of .ensures) ∙ c .if1 .taken)) }
 
 loop-holds : tie.Need-loop-holds Inv-loop μ-loop
-loop-holds c = (omega arith, (omega arith, (refl, begins-none _ _ _)))
+loop-holds c = (omega arith, (carried-first _ _, (refl, begins-none _ _ _)))
 
 mul-out : tie.Need-mul-out Inv-loop μ-loop
 mul-out c = search needs
@@ -45,7 +44,9 @@ array-read-out : tie.Need-array-read-out Inv-loop μ-loop
 array-read-out c = search needs
 
 slack-of-requires : tie.Need-slack-of-requires Inv-loop μ-loop
-slack-of-requires c κs = let s = start c in (s .pre .0, (row-here c, s .pre .1 .1 .0))
+slack-of-requires c κs =
+    let s = start c in
+    let l = c .before .loop in (s .pre .0, (l .inv .1 .0, (s .pre .1 .0 .each (l .m) (c .loop-test .taken), s .pre .1 .1 .0)))
 
 add-out : tie.Need-add-out Inv-loop μ-loop
 add-out c =
@@ -55,7 +56,7 @@ add-out c =
     (omega (
       arith,
       s .pre .1 .1 .1 (t .before .loop .m) (t .loop-test .taken),
-      slack-sum (s .args .slacks .now) (s .args .n) (omega arith) (row-here t) (s .pre .1 .1 .0),
+      slack-sum (s .args .slacks .now) (s .args .n) (omega arith) (s .pre .1 .0 .each (t .before .loop .m) (t .loop-test .taken)) (s .pre .1 .1 .0),
       mul-le-mul-right (2 ^ 50) (s .pre .0),
     ))
 
@@ -69,7 +70,7 @@ add-row : tie.Need-add-row Inv-loop μ-loop
 add-row c = search needs
 
 add-row-2 : tie.Need-add-row-2 Inv-loop μ-loop
-add-row-2 c = let t = c .before in omega (arith, t .before .loop .inv .1 .0, rows-room (t .loop-test .taken) (start t .pre .0))
+add-row-2 c = let t = c .before in omega (arith, t .before .loop .inv .1 .0 .is, rows-room (t .loop-test .taken) (start t .pre .0))
 
 add-m : tie.Need-add-m Inv-loop μ-loop
 add-m c = search needs
@@ -83,10 +84,10 @@ loop-again c =
     let l = t .before .loop in (
       omega arith,
       (
-        omega arith,
+        carried-next (l .inv .1 .0),
         (
           simp length-set (l .inv .1 .1 .0),
-          begins-more _ _ _ _ _ (l .inv .1 .1 .1) (omega arith) (ap (λ (x : ℕ). getD (start t .args .t1) (l .m) 0 + x) (rw (l .inv .1 .0) at (c .slack-of .ensures))),
+          begins-more _ _ _ _ _ (l .inv .1 .1 .1) (omega arith) (ap (λ (x : ℕ). getD (start t .args .t1) (l .m) 0 + x) (c .slack-of .ensures)),
         ),
       ),
     )

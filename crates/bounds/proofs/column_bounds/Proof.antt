@@ -3,6 +3,7 @@ use Prim.Native.Nat.{ℕ, _+_, _*_}
 use native.Mathlib.Omega.{arith}
 use lib.ListN.{getD, length}
 use Rattle.linear.specs.Slice.{at}
+use Rattle.linear.proofs.Carried.{carried-first}
 use Rattle.raised_rows.specs.Raised.{RowOf}
 use Rattle.raised_rows.proofs.Lowering.{row-as}
 use Rattle.enclosure.specs.Reckoning.{sizesWith}
@@ -19,8 +20,10 @@ long s = search needs
 abbrev start : tie.After-sizes-of → tie.Start
 start c = c .before .before .before .before .before .before .before
 
-row-is : (c : tie.After-sizes-of) → RowOf (c .before .before .before .before .raise-row .last .0) 0 (start c .args .n) (at (start c .args .t2))
-row-is c = row-as _ (λ k l. let e : 0 + k * 1 ≡ k = omega arith in rw e) (c .before .before .before .before .raise-row .ensures .0)
+row-is : (c : tie.After-sizes-of) → RowOf (c .before .before .before .before .raise-row .last .0) (0 * (start c .args .n + 1)) (start c .args .n) (at (start c .args .t2))
+row-is c =
+    let first : 0 * (start c .args .n + 1) ≡ 0 = omega arith in
+    rw first (row-as _ (λ k l. let e : 0 + k * 1 ≡ k = omega arith in rw e) (c .before .before .before .before .raise-row .ensures .0))
 
 sizes-are : (c : tie.After-add-slacks) →
     Begins 0 (c .add-slacks .result) (start (c .before .before .before) .args .n) (sizesWith (inversePart (start (c .before .before .before) .args .n) (start (c .before .before .before) .args .rows .now)) (at (start (c .before .before .before) .args .t2)) (λ (k : ℕ). getD (start (c .before .before .before) .args .t3) k 0))
@@ -45,7 +48,8 @@ slice-aggregate-sizes-of c = search needs
 sizes-of-requires : tie.Need-sizes-of-requires
 sizes-of-requires c κs =
     let r = c .before .before .before in
-    let s = r .before .before .before in (s .pre .0 .1, (s .pre .1 .0 .rows, r .raise-row .ensures .0 .row))
+    let s = r .before .before .before in
+    let first : 0 * (s .args .n + 1) ≡ 0 = omega arith in (s .pre .0 .1, (carried-first _ _, (s .pre .1 .0 .rows, rw first (r .raise-row .ensures .0 .row))))
 
 add-slacks-requires : tie.Need-add-slacks-requires
 add-slacks-requires c κs =

@@ -4,7 +4,9 @@ use native.Mathlib.Omega.{arith}
 use lib.IntN.{natAbs}
 use lib.ListN.{length, length-set}
 use Rattle.integer.proofs.Machine.{read}
-use Rattle.raised_rows.specs.Raised.{RaisedRow, rowDot}
+use Rattle.linear.specs.Place.{Carried}
+use Rattle.linear.proofs.Carried.{carried-first, carried-next}
+use Rattle.raised_rows.specs.Raised.{rowDot}
 use Rattle.raised_rows.proofs.Filling.{rows-room}
 use Rattle.raised_rows.proofs.Lowering.{row-dot-size}
 use Rattle.reckoning.specs.Arrays.{Begins}
@@ -14,26 +16,25 @@ use Rattle.bounds.proofs.sizes_of.Statement.{statement}
 use Rattle.bounds.proofs.sizes_of.Tie as tie
 
 abbrev Inv-loop : tie.InvT-loop
-Inv-loop rows residuals place n out₀ row₀ m₀ out row m =
-    (m ≤ n) × ((row ≡ m * (n + 1)) × ((length out ≡ 32) × (Begins 0 out m (λ (i : ℕ). natAbs (rowDot rows (i * (n + 1)) residuals place n)))))
+Inv-loop rows residuals j place n out₀ row₀ m₀ out row m =
+    (m ≤ n) × (Carried 0 (n + 1) m row × ((length out ≡ 32) × (Begins 0 out m (λ (i : ℕ). natAbs (rowDot rows (i * (n + 1)) residuals (j * (n + 1)) n)))))
 
 abbrev μ-loop : tie.MeasureT-loop
-μ-loop rows residuals place n out₀ row₀ m₀ out row m = n - m
-
-row-here : (c : tie.In-loop Inv-loop μ-loop) → RaisedRow (c .before .before .before .before .args .rows .now) (c .before .loop .row) (c .before .before .before .before .args .n)
-row-here c = rw (c .before .loop .inv .1 .0) (c .before .before .before .before .pre .1 .0 .each (c .before .loop .m) (c .loop-test .taken))
+μ-loop rows residuals j place n out₀ row₀ m₀ out row m = n - m
 
 loop-holds : tie.Need-loop-holds Inv-loop μ-loop
-loop-holds c = (omega arith, (omega arith, (refl, begins-none _ _ _)))
+loop-holds c = (omega arith, (carried-first _ _, (refl, begins-none _ _ _)))
 
 row-dot-requires : tie.Need-row-dot-requires Inv-loop μ-loop
 row-dot-requires c κs =
-    let s = c .before .before .before .before in (s .pre .0, (row-here c, s .pre .1 .1))
+    let s = c .before .before .before .before in
+    let l = c .before .loop in (s .pre .0, ((l .inv .1 .0, s .pre .1 .0), (s .pre .1 .1 .0 .each (l .m) (c .loop-test .taken), s .pre .1 .1 .1)))
 
 magnitude-requires : tie.Need-magnitude-requires Inv-loop μ-loop
 magnitude-requires c κs =
-    let s = c .before .before .before .before .before in
-    rw (read _ (c .row-dot .ok), c .row-dot .ensures) (omega (arith, row-dot-size (s .pre .0) (row-here (c .before) .small) (s .pre .1 .1 .small)))
+    let t = c .before in
+    let s = t .before .before .before .before in
+    rw (read _ (c .row-dot .ok), c .row-dot .ensures) (omega (arith, row-dot-size (s .pre .0) (s .pre .1 .1 .0 .each (t .before .loop .m) (t .loop-test .taken) .small) (s .pre .1 .1 .1 .small)))
 
 mul-out : tie.Need-mul-out Inv-loop μ-loop
 mul-out c = search needs
@@ -47,7 +48,7 @@ add-row c = search needs
 add-row-2 : tie.Need-add-row-2 Inv-loop μ-loop
 add-row-2 c =
     let l = c .before .before .before .loop in
-    omega (arith, l .inv .1 .0, rows-room (c .before .before .loop-test .taken) (c .before .before .before .before .before .before .pre .0))
+    omega (arith, l .inv .1 .0 .is, rows-room (c .before .before .loop-test .taken) (c .before .before .before .before .before .before .pre .0))
 
 add-m : tie.Need-add-m Inv-loop μ-loop
 add-m c = search needs
@@ -60,10 +61,10 @@ loop-again c =
     let l = c .before .before .before .loop in (
       omega arith,
       (
-        omega arith,
+        carried-next (l .inv .1 .0),
         (
           simp length-set (l .inv .1 .1 .0),
-          begins-more _ _ _ _ _ (l .inv .1 .1 .1) (omega arith) (rw (read _ (c .before .row-dot .ok), c .before .row-dot .ensures, l .inv .1 .0) at (c .magnitude .ensures)),
+          begins-more _ _ _ _ _ (l .inv .1 .1 .1) (omega arith) (rw (read _ (c .before .row-dot .ok), c .before .row-dot .ensures) at (c .magnitude .ensures)),
         ),
       ),
     )

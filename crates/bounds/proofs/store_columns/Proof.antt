@@ -4,10 +4,12 @@ use native.Mathlib.Omega.{arith}
 use lib.Dec.{lit≤}
 use lib.ListN.{length}
 use Rattle.linear.specs.Slice.{at}
-use Rattle.linear.proofs.Places.{place, row-reach}
+use Rattle.linear.specs.Place.{Carried}
+use Rattle.linear.proofs.Carried.{carried-first, carried-next}
+use Rattle.linear.proofs.Places.{place}
 use Rattle.raised_rows.specs.Raised.{RowOf}
 use Rattle.raised_rows.proofs.Filling.{rows-room}
-use Rattle.raised_rows.proofs.Lowering.{row-as}
+use Rattle.raised_rows.proofs.Standing.{rows-stand}
 use Rattle.enclosure.specs.Reckoning.{sizesWith}
 use Rattle.reckoning.specs.Arrays.{Begins, storedColumns}
 use Rattle.reckoning.proofs.Filled.{columns-none, columns-end, columns-length}
@@ -20,7 +22,7 @@ use Rattle.bounds.proofs.store_columns.Tie as tie
 
 abbrev Inv-loop : tie.InvT-loop
 Inv-loop dst₀ rows residuals weights n margins raised place₀ j₀ dst place j =
-    (j ≤ n) × ((place ≡ j * (n + 1)) × (dst ≡ storedColumns dst₀ n (λ (i k : ℕ). limitsOf n rows (λ (a : ℕ). at residuals (k * n + a)) (λ (a : ℕ). 0) margins weights i) j))
+    (j ≤ n) × (Carried 0 (n + 1) j place × (dst ≡ storedColumns dst₀ n (λ (i k : ℕ). limitsOf n rows (λ (a : ℕ). at residuals (k * n + a)) (λ (a : ℕ). 0) margins weights i) j))
 
 abbrev μ-loop : tie.MeasureT-loop
 μ-loop dst₀ rows residuals weights n margins raised place₀ j₀ dst place j = n - j
@@ -34,8 +36,7 @@ F s i k = limitsOf (s .args .n) (s .args .rows .now) (λ (a : ℕ). at (s .args 
 -- the raised residuals of the column
 row-is : (t : tie.In-loop Inv-loop μ-loop) →
     RowOf (t .before .before .before .raise-rows .last .0) (t .before .loop .j * (start t .args .n + 1)) (start t .args .n) (λ (k : ℕ). at (start t .args .residuals .now) (t .before .loop .j * start t .args .n + k))
-row-is t =
-    row-as _ (λ k l. ap (at (start t .args .residuals .now)) (omega arith)) (t .before .before .before .raise-rows .ensures .each (t .before .loop .j) (t .loop-test .taken))
+row-is t = rows-stand (t .before .before .before .raise-rows .ensures) .each (t .before .loop .j) (t .loop-test .taken)
 
 -- what the sizes hold
 abbrev turn : tie.After-sizes-of Inv-loop μ-loop → tie.In-loop Inv-loop μ-loop
@@ -45,7 +46,7 @@ sizes-here : (c : tie.After-sizes-of Inv-loop μ-loop) →
     Begins 0 (c .sizes-of .result) (start (turn c) .args .n) (sizesWith (inversePart (start (turn c) .args .n) (start (turn c) .args .rows .now)) (λ (k : ℕ). at (start (turn c) .args .residuals .now) (turn c .before .loop .j * start (turn c) .args .n + k)) (λ (k : ℕ). 0))
 sizes-here c =
     let t = turn c in
-    plain-sizes (start t .args .n) (start t .pre .1 .0 .rows) (row-is t) (rw (t .before .loop .inv .1 .0) at (c .sizes-of .ensures))
+    plain-sizes (start t .args .n) (start t .pre .1 .0 .rows) (row-is t) (c .sizes-of .ensures)
 
 slice-aggregate-raise-rows : tie.Need-slice-aggregate-raise-rows Inv-loop μ-loop
 slice-aggregate-raise-rows c = search needs
@@ -53,10 +54,10 @@ slice-aggregate-raise-rows c = search needs
 raise-rows-requires : tie.Need-raise-rows-requires Inv-loop μ-loop
 raise-rows-requires c κs =
     let p = c .before .before .before .pre in
-    ((p .0 .1 .0, (p .0 .1 .0, (lit≤ tt, lit≤ tt))), row-reach (p .1 .1 .0))
+    ((p .0 .1 .0, lit≤ tt), p .1 .1 .0)
 
 loop-holds : tie.Need-loop-holds Inv-loop μ-loop
-loop-holds c = (omega arith, (omega arith, sym (columns-none _ _ _)))
+loop-holds c = (omega arith, (carried-first _ _, sym (columns-none _ _ _)))
 
 slice-aggregate-sizes-of : tie.Need-slice-aggregate-sizes-of Inv-loop μ-loop
 slice-aggregate-sizes-of c = search needs
@@ -64,7 +65,7 @@ slice-aggregate-sizes-of c = search needs
 sizes-of-requires : tie.Need-sizes-of-requires Inv-loop μ-loop
 sizes-of-requires c κs =
     let t = c .before .before in
-    let s = start t in (s .pre .0 .1 .0, (s .pre .1 .0 .rows, rw (t .before .loop .inv .1 .0) (row-is t .row)))
+    let s = start t in (s .pre .0 .1 .0, (t .before .loop .inv .1 .0, (s .pre .1 .0 .rows, row-is t .row)))
 
 bounds-of-requires : tie.Need-bounds-of-requires Inv-loop μ-loop
 bounds-of-requires c κs =
@@ -90,7 +91,7 @@ add-place c = omega (arith, start (turn (c .before .before .before .before .befo
 add-place-2 : tie.Need-add-place-2 Inv-loop μ-loop
 add-place-2 c =
     let t = turn (c .before .before .before .before .before .before .before) in
-    omega (arith, t .before .loop .inv .1 .0, rows-room (t .loop-test .taken) (start t .pre .0 .1 .0))
+    omega (arith, t .before .loop .inv .1 .0 .is, rows-room (t .loop-test .taken) (start t .pre .0 .1 .0))
 
 add-j : tie.Need-add-j Inv-loop μ-loop
 add-j c = search needs
@@ -105,7 +106,7 @@ loop-again c =
     let s = start (turn z) in (
       omega arith,
       (
-        omega arith,
+        carried-next (l .inv .1 .0),
         column-more (s .args .dst .now) (s .args .n) (F s) (l .j) (l .inv .1 .1) (bounds-of-sizes _ _ _ _ _ (sizes-here z) (c .before .before .before .before .bounds-of .ensures)) (c .before .before .store .ensures),
       ),
     )

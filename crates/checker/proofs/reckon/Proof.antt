@@ -6,7 +6,7 @@ use lib.ListN.{length, getD-replicate}
 use Rattle.linear.proofs.Places.{square}
 use Rattle.enclosure.specs.Reckoning.{allowedResidual}
 use Rattle.reckoning.specs.Rows.{InverseRows}
-use Rattle.reckoning.proofs.Sizes.{row-reaches}
+use Rattle.reckoning.proofs.Sizes.{raisable}
 use Rattle.checker.specs.Work.{Work, work}
 use Rattle.checker.proofs.Outcome.{Worked, refused, positive-here, near-here, columns-here, accepted-here}
 use Rattle.checker.proofs.Rows.{inverse-rows}
@@ -59,7 +59,7 @@ slice-aggregate-raise-rows : tie.Need-slice-aggregate-raise-rows
 slice-aggregate-raise-rows c = search needs
 
 raise-rows-requires : tie.Need-raise-rows-requires
-raise-rows-requires c κs = let p = c .before .before .before .pre in ((p .few, (p .few, (lit≤ tt, lit≤ tt))), row-reaches (search (p .matrix, p .inverse)))
+raise-rows-requires c κs = let p = c .before .before .before .pre in ((p .few, lit≤ tt), raisable (search (p .matrix, p .inverse)))
 
 margins-of-requires : tie.Need-margins-of-requires
 margins-of-requires c κs =

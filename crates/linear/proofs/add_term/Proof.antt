@@ -17,11 +17,15 @@ shared-slice-copy-out-add-product-2 : tie.Need-shared-slice-copy-out-add-product
 shared-slice-copy-out-add-product-2 c = search needs
 
 add-product-requires : tie.Need-add-product-requires
-add-product-requires c κs = search needs
+add-product-requires c κs =
+    let s = c .before .before in
+    simp (read, s .fits .sum .sfits, c .before .add-product-arg .given, c .add-product-arg2 .given) (rw (s .pre .0 .0 .is, s .pre .0 .1 .is) (s .pre .1 .1))
 
 returns : tie.Need-returns
 returns c =
-    read _ (c .add-product .ok) ∙ (simp (read, c .before .before .add-product-arg .given, c .before .add-product-arg2 .given, c .before .before .before .fits .sum .sfits) at (c .add-product .ensures))
+    let s = c .before .before .before in
+    read _ (c .add-product .ok)
+    ∙ (rw (s .pre .0 .0 .is, s .pre .0 .1 .is) at (simp (read, c .before .before .add-product-arg .given, c .before .add-product-arg2 .given, s .fits .sum .sfits) at (c .add-product .ensures)))
 
 pub add-term-spec : {M : Type 1} → statement M
 add-term-spec =

@@ -9,6 +9,8 @@ use Rattle.integer.specs.Finite.{sumℕ}
 use Rattle.integer.proofs.Machine.{read}
 use Rattle.integer.proofs.Sum.{sumℕ-none, sumℕ-next, sumℕ-end, sumℕ≤}
 use Rattle.linear.specs.Slice.{at}
+use Rattle.linear.specs.Place.{Carried}
+use Rattle.linear.proofs.Carried.{carried-first, carried-next}
 use Rattle.raised_rows.proofs.Filling.{rows-room}
 use Rattle.reckoning.specs.Rows.{rowDifference}
 use borrow.Author.Needs.{needs}
@@ -17,7 +19,7 @@ use Rattle.margins.proofs.load_of.Tie as tie
 
 abbrev Inv-loop : tie.InvT-loop
 Inv-loop t rows columns weights n m row sum₀ column₀ j₀ sum column j =
-    (j ≤ n) × ((column ≡ j * (n + 1)) × (sum ≡ sumℕ j (λ (k : ℕ). natAbs (rowDifference n t rows columns m k) * natAbs (at weights k))))
+    (j ≤ n) × (Carried 0 (n + 1) j column × (sum ≡ sumℕ j (λ (k : ℕ). natAbs (rowDifference n t rows columns m k) * natAbs (at weights k))))
 
 abbrev μ-loop : tie.MeasureT-loop
 μ-loop t rows columns weights n m row sum₀ column₀ j₀ sum column j = n - j
@@ -30,18 +32,17 @@ sized s j l = mul-le-mul (s .pre .1 .1 .0 j l) (s .pre .1 .1 .1 .within .size j 
 difference-here : (c : tie.After-unit-difference Inv-loop μ-loop) → toZ w64 (ofZ w64 (c .unit-difference .result)) ≡
     rowDifference (c .before .before .before .before .before .args .n) (c .before .before .before .before .before .args .t) (c .before .before .before .before .before .args .rows .now) (c .before .before .before .before .before .args .columns .now) (c .before .before .before .before .before .args .m) (c .before .before .loop .j)
 difference-here c =
-    let s = c .before .before .before .before .before in
-    read _ (c .unit-difference .ok) ∙ (rw (s .pre .0 .1 .1 .1, c .before .before .loop .inv .1 .0) at (c .unit-difference .ensures))
+    read _ (c .unit-difference .ok) ∙ c .unit-difference .ensures
 
 loop-holds : tie.Need-loop-holds Inv-loop μ-loop
-loop-holds c = (omega arith, (omega arith, sym (sumℕ-none _)))
+loop-holds c = (omega arith, (carried-first _ _, sym (sumℕ-none _)))
 
 unit-difference-requires : tie.Need-unit-difference-requires Inv-loop μ-loop
 unit-difference-requires c κs =
     let s = c .before .before .before .before in
     let l = c .before .loop in (
       (s .pre .0 .0, s .pre .0 .1 .0),
-      (rw (s .pre .0 .1 .1 .1) (s .pre .1 .0 .0 .each (s .args .m) (s .pre .0 .1 .1 .0)), rw (l .inv .1 .0) (s .pre .1 .0 .1 .each (l .j) (c .loop-test .taken))),
+      ((s .pre .0 .1 .1 .1, l .inv .1 .0), (s .pre .1 .0 .0 .each (s .args .m) (s .pre .0 .1 .1 .0), s .pre .1 .0 .1 .each (l .j) (c .loop-test .taken))),
     )
 
 mul-weigh : tie.Need-mul-weigh Inv-loop μ-loop
@@ -65,7 +66,7 @@ add-column c = search needs
 add-column-2 : tie.Need-add-column-2 Inv-loop μ-loop
 add-column-2 c =
     let t = c .before .before .before in
-    omega (arith, t .before .loop .inv .1 .0, rows-room (t .loop-test .taken) (t .before .before .before .before .pre .0 .1 .0))
+    omega (arith, t .before .loop .inv .1 .0 .is, rows-room (t .loop-test .taken) (t .before .before .before .before .pre .0 .1 .0))
 
 add-j : tie.Need-add-j Inv-loop μ-loop
 add-j c = search needs
@@ -77,7 +78,7 @@ loop-again : tie.Need-loop-again Inv-loop μ-loop
 loop-again c = (
   omega arith,
   (
-    omega arith,
+    carried-next (c .before .before .before .before .loop .inv .1 .0),
     (rw (difference-here (c .before .before), read _ (c .before .weigh-arg .given), c .before .before .before .before .loop .inv .1 .1) at (c .weigh .ensures)) ∙ sym (sumℕ-next _ _),
   ),
 )

@@ -5,13 +5,15 @@ use native.Mathlib.Nat.{mul-le-mul}
 use lib.ListN.{getD}
 use Rattle.integer.specs.Finite.{sumℕ}
 use Rattle.integer.proofs.Sum.{sumℕ-none, sumℕ-next, sumℕ-end, sumℕ≤}
+use Rattle.linear.specs.Place.{Carried}
+use Rattle.linear.proofs.Carried.{carried-first, carried-next}
 use borrow.Author.Needs.{needs}
 use Rattle.raised_rows.proofs.low_dot.Statement.{statement}
 use Rattle.raised_rows.proofs.low_dot.Tie as tie
 
 abbrev Inv-loop : tie.InvT-loop
 Inv-loop a p b q n sum₀ at-a₀ at-b₀ k₀ sum at-a at-b k =
-    (k ≤ n) × ((at-a ≡ p + k) × ((at-b ≡ q + k) × (sum ≡ sumℕ k (λ (j : ℕ). getD a (p + j) 0 * getD b (q + j) 0))))
+    (k ≤ n) × ((Carried p 1 k at-a × Carried q 1 k at-b) × (sum ≡ sumℕ k (λ (j : ℕ). getD a (p + j) 0 * getD b (q + j) 0)))
 
 abbrev μ-loop : tie.MeasureT-loop
 μ-loop a p b q n sum₀ at-a₀ at-b₀ k₀ sum at-a at-b k = n - k
@@ -22,26 +24,19 @@ partial : (s : tie.Start Inv-loop μ-loop) (k : ℕ) → k ≤ s .args .n →
 partial s k l = sumℕ≤ k (2 ^ 52) _ (λ j h. mul-le-mul (s .pre .1 .0 .each j (omega arith)) (s .pre .1 .1 .each j (omega arith)))
 
 loop-holds : tie.Need-loop-holds Inv-loop μ-loop
-loop-holds c = (omega arith, (omega arith, (omega arith, sym (sumℕ-none _))))
+loop-holds c = (omega arith, ((carried-first _ _, carried-first _ _), sym (sumℕ-none _)))
 
-mul-add-low : tie.Need-mul-add-low Inv-loop μ-loop
-mul-add-low c = search needs
-
-shared-slice-read-add-low : tie.Need-shared-slice-read-add-low Inv-loop μ-loop
-shared-slice-read-add-low c = search needs
-
-mul-add-low-2 : tie.Need-mul-add-low-2 Inv-loop μ-loop
-mul-add-low-2 c = search needs
-
-shared-slice-read-add-low-2 : tie.Need-shared-slice-read-add-low-2 Inv-loop μ-loop
-shared-slice-read-add-low-2 c = search needs
-
-add-low-requires : tie.Need-add-low-requires Inv-loop μ-loop
-add-low-requires c κs =
-    let l = c .before .before .before .loop in
-    let s = c .before .before .before .before .before .before in
-    let t = c .before .before .loop-test .taken in
-    (omega (arith, l .inv .1 .1 .1, partial s (l .k) (l .inv .0)), (rw (l .inv .1 .0) (s .pre .1 .0 .each (l .k) t), rw (l .inv .1 .1 .0) (s .pre .1 .1 .each (l .k) t)))
+add-term-requires : tie.Need-add-term-requires Inv-loop μ-loop
+add-term-requires c κs =
+    let l = c .before .loop in
+    let s = c .before .before .before .before in
+    let t = c .loop-test .taken in (
+      l .inv .1 .0,
+      (
+        (omega (arith, s .pre .0 .1 .0, t), omega (arith, s .pre .0 .1 .1, t)),
+        (omega (arith, l .inv .1 .1, partial s (l .k) (l .inv .0)), (s .pre .1 .0 .each (l .k) t, s .pre .1 .1 .each (l .k) t)),
+      ),
+    )
 
 add-at-a : tie.Need-add-at-a Inv-loop μ-loop
 add-at-a c = search needs
@@ -57,11 +52,11 @@ loop-less c = search needs
 
 loop-again : tie.Need-loop-again Inv-loop μ-loop
 loop-again c =
-    let l = c .before .before .before .before .loop in
-    (omega arith, (omega arith, (omega arith, (rw (l .inv .1 .1 .1, l .inv .1 .0, l .inv .1 .1 .0) at (c .add-low .ensures)) ∙ sym (sumℕ-next _ _))))
+    let l = c .before .before .loop in
+    (omega arith, ((carried-next (l .inv .1 .0 .0), carried-next (l .inv .1 .0 .1)), (rw (l .inv .1 .1) at (c .add-term .ensures)) ∙ sym (sumℕ-next _ _)))
 
 returns : tie.Need-returns Inv-loop μ-loop
-returns c = c .before .loop .inv .1 .1 .1 ∙ sumℕ-end _ (c .before .loop .inv .0) (c .loop-test .left)
+returns c = c .before .loop .inv .1 .1 ∙ sumℕ-end _ (c .before .loop .inv .0) (c .loop-test .left)
 
 pub low-dot-spec : {M : Type 1} → statement M
 low-dot-spec =
@@ -70,11 +65,7 @@ low-dot-spec =
     Inv-loop
     μ-loop
     loop-holds
-    mul-add-low
-    shared-slice-read-add-low
-    mul-add-low-2
-    shared-slice-read-add-low-2
-    add-low-requires
+    add-term-requires
     add-at-a
     add-at-b
     add-k

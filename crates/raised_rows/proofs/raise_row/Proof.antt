@@ -1,11 +1,11 @@
 use mathlib.Core.Path.{_≡_}
-use Prim.Native.Nat.{ℕ, _+_, _*_, _≤_, _<_, _-_, _^_}
+use Prim.Native.Nat.{ℕ, _+_, _*_, _≤_, _-_}
 use native.Mathlib.Omega.{arith}
 use native.Mathlib.Nat.{mul-le-mul-right}
-use lib.IntN.{natAbs}
 use lib.ListN.{length}
-use Rattle.integer.proofs.Machine.{read}
 use Rattle.linear.specs.Slice.{at}
+use Rattle.linear.specs.Place.{Carried}
+use Rattle.linear.proofs.Carried.{unit-place, carried-first, carried-next}
 use Rattle.raised_rows.proofs.Filling.{RowPart, part-none, part-more, part-whole, part-end, part-sum}
 use borrow.Author.Needs.{needs}
 use Rattle.raised_rows.proofs.raise_row.Statement.{statement}
@@ -13,32 +13,22 @@ use Rattle.raised_rows.proofs.raise_row.Tie as tie
 
 abbrev Inv-loop : tie.InvT-loop
 Inv-loop out₀ place xs start stride n sum₀ from₀ to₀ k₀ out sum from to k =
-    (k ≤ n) × ((from ≡ start + k * stride) × ((to ≡ place + k) × RowPart out₀ out place k (λ (j : ℕ). at xs (start + j * stride)) sum))
+    (k ≤ n) × (Carried start stride k from × (Carried place 1 k to × RowPart out₀ out place k (λ (j : ℕ). at xs (start + j * stride)) sum))
 
 abbrev μ-loop : tie.MeasureT-loop
 μ-loop out₀ place xs start stride n sum₀ from₀ to₀ k₀ out sum from to k = n - k
-
-module _ (c : tie.In-loop Inv-loop μ-loop) where
-  read-here : natAbs (at (c .before .before .before .args .xs .now) (c .before .loop .from)) ≤ 2 ^ 25
-  read-here = rw (c .before .loop .inv .1 .0) (c .before .before .before .pre .1 .size (c .before .loop .k) (c .loop-test .taken))
-
-  inside-here : c .before .loop .from < length (c .before .before .before .args .xs .now)
-  inside-here = rw (c .before .loop .inv .1 .0) (c .before .before .before .pre .1 .inside (c .before .loop .k) (c .loop-test .taken))
 
 length-here : (c : tie.At-loop Inv-loop μ-loop) → length (c .loop .out) ≡ length (c .before .before .args .out .now)
 length-here c = c .loop .inv .1 .1 .1 .kept .long
 
 loop-holds : tie.Need-loop-holds Inv-loop μ-loop
-loop-holds c = (omega arith, (omega arith, (omega arith, part-none _ _ _)))
+loop-holds c = (omega arith, (carried-first _ _, (carried-first _ _, part-none _ _ _)))
 
-mul-raise : tie.Need-mul-raise Inv-loop μ-loop
-mul-raise c = let l = inside-here c in search needs
-
-shared-slice-copy-out-raise : tie.Need-shared-slice-copy-out-raise Inv-loop μ-loop
-shared-slice-copy-out-raise c = inside-here c
-
-raise-requires : tie.Need-raise-requires Inv-loop μ-loop
-raise-requires c κs = rw (read _ (c .raise-arg .given)) (read-here (c .before))
+raise-at-requires : tie.Need-raise-at-requires Inv-loop μ-loop
+raise-at-requires c κs =
+    let l = c .before .loop in
+    let s = c .before .before .before in
+    (l .inv .1 .0, (s .pre .1 .inside (l .k) (c .loop-test .taken), s .pre .1 .size (l .k) (c .loop-test .taken)))
 
 mul-out : tie.Need-mul-out Inv-loop μ-loop
 mul-out c = search needs
@@ -48,14 +38,14 @@ slice-write-out c = search needs
 
 add-sum : tie.Need-add-sum Inv-loop μ-loop
 add-sum c =
-    let l = c .before .before .before .loop in
-    let s = c .before .before .before .before .before in
-    omega (arith, c .raise .ensures .1, part-sum (omega (arith, l .inv .0, s .pre .0 .0)) (l .inv .1 .1 .1))
+    let l = c .before .before .loop in
+    let s = c .before .before .before .before in
+    omega (arith, c .raise-at .ensures .1, part-sum (omega (arith, l .inv .0, s .pre .0 .0)) (l .inv .1 .1 .1))
 
 add-from : tie.Need-add-from Inv-loop μ-loop
 add-from c =
-    let s = c .before .before .before .before .before in
-    omega (arith, mul-le-mul-right (s .args .stride) (c .before .before .loop-test .taken))
+    let s = c .before .before .before .before in
+    omega (arith, c .before .before .loop .inv .1 .0 .is, mul-le-mul-right (s .args .stride) (c .before .loop-test .taken))
 
 add-to : tie.Need-add-to Inv-loop μ-loop
 add-to c = search needs
@@ -68,15 +58,14 @@ loop-less c = search needs
 
 loop-again : tie.Need-loop-again Inv-loop μ-loop
 loop-again c =
-    let h = c .before .before .before in
+    let h = c .before .before in
     let l = h .loop in (
       omega arith,
       (
-        omega arith,
+        carried-next (l .inv .1 .0),
         (
-          omega arith,
-          part-more (l .inv .1 .1 .1) (omega (arith, length-here h, c .before .before .loop-test .taken)) (l .inv .1 .1 .0) (c .raise .result)
-              (rw (read _ (c .before .raise-arg .given), l .inv .1 .0) at (c .raise .ensures .0)) (c .raise .ensures .1),
+          carried-next (l .inv .1 .1 .0),
+          part-more (l .inv .1 .1 .1) (omega (arith, length-here h, c .before .loop-test .taken)) (unit-place (l .inv .1 .1 .0)) (c .raise-at .result) (c .raise-at .ensures .0) (c .raise-at .ensures .1),
         ),
       ),
     )
@@ -94,7 +83,7 @@ returns : tie.Need-returns Inv-loop μ-loop
 returns c =
     let h = c .before in
     let l = h .loop in
-    part-end (part-whole (l .inv .0) (c .loop-test .left) (l .inv .1 .1 .1)) (omega (arith, length-here h, h .before .before .pre .0 .1 .1)) (omega (arith, l .inv .1 .1 .0, l .inv .0, c .loop-test .left))
+    part-end (part-whole (l .inv .0) (c .loop-test .left) (l .inv .1 .1 .1)) (omega (arith, length-here h, h .before .before .pre .0 .1 .1)) (omega (arith, l .inv .1 .1 .0 .is, l .inv .0, c .loop-test .left))
 
 pub raise-row-spec : {M : Type 1} → statement M
 raise-row-spec =
@@ -103,9 +92,7 @@ raise-row-spec =
     Inv-loop
     μ-loop
     loop-holds
-    mul-raise
-    shared-slice-copy-out-raise
-    raise-requires
+    raise-at-requires
     mul-out
     slice-write-out
     add-sum

@@ -22,7 +22,7 @@ fits c =
       ap natAbs (c .before .unit-at .ensures),
       unit-size (s .args .t) (s .args .a) (s .args .b) (s .pre .0 .0),
       ap natAbs (c .row-dot .ensures),
-      row-dot-size (s .pre .0 .1) (s .pre .1 .0 .small) (s .pre .1 .1 .small),
+      row-dot-size (s .pre .0 .1) (s .pre .1 .1 .0 .small) (s .pre .1 .1 .1 .small),
     ))
 
 unit-at-requires : tie.Need-unit-at-requires

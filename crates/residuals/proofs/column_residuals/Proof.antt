@@ -2,6 +2,8 @@ use mathlib.Core.Path.{_≡_, sym, _∙_}
 use Prim.Native.Nat.{ℕ, _+_, _*_, _≤_, _-_}
 use native.Mathlib.Omega.{arith}
 use Rattle.integer.proofs.Machine.{read}
+use Rattle.linear.specs.Place.{Carried}
+use Rattle.linear.proofs.Carried.{carried-first, carried-next}
 use Rattle.raised_rows.proofs.Filling.{rows-room}
 use Rattle.reckoning.specs.Arrays.{stored}
 use Rattle.reckoning.specs.Rows.{rowDifference}
@@ -12,30 +14,21 @@ use Rattle.residuals.proofs.column_residuals.Statement.{statement}
 use Rattle.residuals.proofs.column_residuals.Tie as tie
 
 abbrev Inv-loop : tie.InvT-loop
-Inv-loop out₀ t rows columns n j column place₀ row₀ k₀ out place row k =
-    (k ≤ n) × ((place ≡ j * n + k) × ((row ≡ k * (n + 1)) × (out ≡ stored out₀ (j * n) 1 (λ (i : ℕ). rowDifference n t rows columns i j) k)))
+Inv-loop out₀ t rows columns n j start column place₀ row₀ k₀ out place row k =
+    (k ≤ n) × ((place ≡ j * n + k) × (Carried 0 (n + 1) k row × (out ≡ stored out₀ (j * n) 1 (λ (i : ℕ). rowDifference n t rows columns i j) k)))
 
 abbrev μ-loop : tie.MeasureT-loop
-μ-loop out₀ t rows columns n j column place₀ row₀ k₀ out place row k = n - k
-
-add-column : tie.Need-add-column Inv-loop μ-loop
-add-column c = search needs
-
-mul-column : tie.Need-mul-column Inv-loop μ-loop
-mul-column c = let p = c .before .before .pre .0 in omega (arith, rows-room (p .1 .1) (p .1 .0))
-
-mul-place : tie.Need-mul-place Inv-loop μ-loop
-mul-place c = let p = c .before .before .pre .0 in omega (arith, row-ends (p .1 .1) (p .1 .0))
+μ-loop out₀ t rows columns n j start column place₀ row₀ k₀ out place row k = n - k
 
 loop-holds : tie.Need-loop-holds Inv-loop μ-loop
-loop-holds c = (omega arith, (omega arith, (omega arith, sym (stored-none _ _ _ _))))
+loop-holds c = (omega arith, (omega (arith, c .before .before .pre .1 .0 .0 .is), (carried-first _ _, sym (stored-none _ _ _ _))))
 
 unit-difference-requires : tie.Need-unit-difference-requires Inv-loop μ-loop
 unit-difference-requires c κs =
     let s = c .before .before .before .before in
     let l = c .before .loop in (
       (s .pre .0 .0, s .pre .0 .1 .0),
-      (rw (l .inv .1 .1 .0) (s .pre .1 .0 .each (l .k) (c .loop-test .taken)), s .pre .1 .1 .each (s .args .j) (s .pre .0 .1 .1)),
+      ((l .inv .1 .1 .0, s .pre .1 .0 .1), (s .pre .1 .1 .0 .each (l .k) (c .loop-test .taken), s .pre .1 .1 .1 .each (s .args .j) (s .pre .0 .1 .1))),
     )
 
 mul-t14 : tie.Need-mul-t14 Inv-loop μ-loop
@@ -53,7 +46,7 @@ add-row c = search needs
 add-row-2 : tie.Need-add-row-2 Inv-loop μ-loop
 add-row-2 c =
     let t = c .before in
-    omega (arith, t .before .loop .inv .1 .1 .0, rows-room (t .loop-test .taken) (t .before .before .before .before .pre .0 .1 .0))
+    omega (arith, t .before .loop .inv .1 .1 .0 .is, rows-room (t .loop-test .taken) (t .before .before .before .before .pre .0 .1 .0))
 
 add-k : tie.Need-add-k Inv-loop μ-loop
 add-k c = search needs
@@ -68,9 +61,8 @@ loop-again c =
       (
         omega arith,
         (
-          omega arith,
-          stored-more _ _ _ _ (l .k) (l .inv .1 .1 .1) (omega arith)
-              (read _ (c .unit-difference .ok) ∙ (rw (l .inv .1 .1 .0) at (c .unit-difference .ensures))),
+          carried-next (l .inv .1 .1 .0),
+          stored-more _ _ _ _ (l .k) (l .inv .1 .1 .1) (omega arith) (read _ (c .unit-difference .ok) ∙ c .unit-difference .ensures),
         ),
       ),
     )
@@ -84,9 +76,6 @@ column-residuals-spec =
     (tie.spec
     Inv-loop
     μ-loop
-    add-column
-    mul-column
-    mul-place
     loop-holds
     unit-difference-requires
     mul-t14

@@ -1,28 +1,28 @@
 use mathlib.Core.Path.{_≡_, refl, _∙_}
-use Prim.Native.Nat.{_*_, _≤_, _-_}
+use Prim.Native.Nat.{_≤_, _-_}
 use native.Mathlib.Omega.{arith}
 use lib.IntN.{pos}
 use lib.ListN.{length, length-set}
 use Rattle.integer.proofs.Machine.{read}
-use Rattle.linear.proofs.Places.{list-reach}
+use Rattle.linear.specs.Place.{Carried}
+use Rattle.linear.proofs.Carried.{carried-first, carried-next}
 use Rattle.reckoning.specs.Arrays.{Begins}
 use Rattle.reckoning.specs.Parts.{residualFrom}
 use Rattle.reckoning.proofs.Filled.{begins-none, begins-more, begins-end}
-use Rattle.reckoning.proofs.Numbers.{residual-is}
-use Rattle.reckoning.proofs.Sizes.{row-ends, square-row}
+use Rattle.reckoning.proofs.Sizes.{row-ends}
 use borrow.Author.Needs.{needs}
 use Rattle.residuals.proofs.residuals_of.Statement.{statement}
 use Rattle.residuals.proofs.residuals_of.Tie as tie
 
 abbrev Inv-loop : tie.InvT-loop
 Inv-loop matrix guess n base out₀ row₀ k₀ out row k =
-    (k ≤ n) × ((row ≡ k * n) × ((length out ≡ 32) × Begins (pos 0) out k (residualFrom n base matrix guess)))
+    (k ≤ n) × (Carried 0 n k row × ((length out ≡ 32) × Begins (pos 0) out k (residualFrom n base matrix guess)))
 
 abbrev μ-loop : tie.MeasureT-loop
 μ-loop matrix guess n base out₀ row₀ k₀ out row k = n - k
 
 loop-holds : tie.Need-loop-holds Inv-loop μ-loop
-loop-holds c = (omega arith, (omega arith, (refl, begins-none _ _ _)))
+loop-holds c = (omega arith, (carried-first _ _, (refl, begins-none _ _ _)))
 
 mul-difference : tie.Need-mul-difference Inv-loop μ-loop
 mul-difference c = search needs
@@ -35,8 +35,8 @@ difference-requires c κs =
     let t = c .before in
     let s = t .before .before in
     let l = t .before .loop in (
-      (s .pre .0, (rw (read _ (c .difference-arg .given)) (s .pre .1 .0 .within .size (l .k) (t .loop-test .taken)), (omega (arith, row-ends (t .loop-test .taken) (s .pre .0)), omega arith))),
-      (rw (l .inv .1 .0) (square-row (s .pre .1 .1 .0) (l .k) (t .loop-test .taken)), list-reach (s .pre .1 .1 .1)),
+      (s .pre .0, (t .loop-test .taken, rw (read _ (c .difference-arg .given)) (s .pre .1 .0 .within .size (l .k) (t .loop-test .taken)))),
+      (l .inv .1 .0, s .pre .1 .1),
     )
 
 mul-out : tie.Need-mul-out Inv-loop μ-loop
@@ -46,7 +46,7 @@ array-set-from-out : tie.Need-array-set-from-out Inv-loop μ-loop
 array-set-from-out c = search needs
 
 add-row : tie.Need-add-row Inv-loop μ-loop
-add-row c = omega (arith, row-ends (c .before .before .loop-test .taken) (c .before .before .before .before .pre .0))
+add-row c = omega (arith, c .before .before .before .loop .inv .1 .0 .is, row-ends (c .before .before .loop-test .taken) (c .before .before .before .before .pre .0))
 
 add-k : tie.Need-add-k Inv-loop μ-loop
 add-k c = search needs
@@ -56,16 +56,14 @@ loop-less c = search needs
 
 loop-again : tie.Need-loop-again Inv-loop μ-loop
 loop-again c =
-    let s = c .before .before .before .before in
     let l = c .before .before .before .loop in (
       omega arith,
       (
-        omega arith,
+        carried-next (l .inv .1 .0),
         (
           simp length-set (l .inv .1 .1 .0),
           begins-more _ _ _ _ _ (l .inv .1 .1 .1) (omega arith)
-              (read _ (c .difference .ok) ∙ (rw (read _ (c .before .difference-arg .given), l .inv .1 .0) at (c .difference .ensures))
-              ∙ residual-is (s .args .n) (s .args .t1) (s .args .matrix .now) (s .args .guess .now) (l .k)),
+              (read _ (c .difference .ok) ∙ (rw (read _ (c .before .difference-arg .given)) at (c .difference .ensures))),
         ),
       ),
     )

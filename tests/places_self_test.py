@@ -1,0 +1,63 @@
+"""The test of places.py: right functions, wrong ones by name, and the project's own sources with one place multiplied out."""
+
+from places import Reader, sources
+
+RIGHT = {
+    "a product of numbers": "fn f(a: u64, b: u64) -> u64 { a * b }",
+    "elements": "fn f(xs: &[i64], i: usize, j: usize) -> i64 { let x = xs[i] * xs[j]; x }",
+    "a count made a number": "fn f(n: usize) -> u64 { n as u64 * SQUARE }",
+    "results that are numbers": "fn size(x: i64) -> u64 { 0 } fn f(xs: &[i64], i: usize) -> u64 { size(xs[i]) * size(xs[0]) }",
+    "a carried place": "fn f(xs: &[i64], n: usize) -> i64 { let mut sum = 0; let mut place = 0; for j in 0..n { sum += xs[place]; place += n + 1; } sum }",
+    "in a contract": "fn f(i: usize, n: usize) -> usize\n requires { ⌜ i * n < 1024 ⌝ }\n ensures { λ r. ⌜ r ≡ i * n ⌝ }\n{ i }",
+    "in a comment": "// i * n\nfn f(i: usize) -> usize { i }",
+    "behind a reference": "fn f(x: &u64, i: usize) -> u64 { return *x; }",
+}
+
+WRONG = {
+    "in brackets": "fn f(xs: &[i64], i: usize, n: usize) -> i64 { xs[i * n] }",
+    "in brackets, beside a sum": "fn f(xs: &[i64], i: u64, n: u64) -> i64 { xs[3 + i * n] }",
+    "in a name that stands in brackets": "fn f(xs: &[i64], a: u64, b: u64) -> i64 { let place = a * b; xs[place] }",
+    "in a name that is given to one": "fn f(xs: &[i64], i: usize) -> i64 { let start = ROW * SIZE; let mut place = start; place += i; xs[place] }",
+    "a start": "fn f(j: usize, n: usize) -> usize { let column = j * (n + 1); column }",
+    "handed to a call": "fn f(xs: &[u64], m: usize, n: usize) -> i64 { row(xs, m, m * (n + 1)) }",
+    "handed back": "fn f(i: usize, n: usize) -> usize { i * n }",
+    "a loop's variable": "fn f(k: u64) -> u64 { let mut sum = 0; for i in 0..k { sum += i * 3; } sum }",
+    "a place multiplied": "fn f(xs: &[i64], place: usize) -> i64 { let mut at = place; at *= 2; xs[at] }",
+    "a stride that grows": "fn f(xs: &[i64], n: usize) -> i64 { let mut at = 0; for j in 0..n { at += 2 * 3; } xs[at] }",
+    "through numbers": "fn f(xs: &[i64], j: u32, n: u32) -> i64 { get(xs, (j * n) as usize) }",
+    "of casts": "fn f(xs: &[i64], j: u32, n: u32) -> i64 { get(xs, j as usize * n as usize) }",
+    "a length": "fn f(xs: &[i64]) -> usize { xs.len() * 2 }",
+    "a field": "struct Row { start: usize } fn f(row: Row) -> u64 { get(row.start * 3) }",
+    "a result": "fn next(i: u32) -> usize { 0 } fn f(i: u32) -> u64 { get(next(i) * 3) }",
+}
+
+# The project's own sources: a file, its text and the text with a place multiplied out.
+WRONG_HERE = {
+    "a term of the guess's residual": ("linear/src/lib.rt", "add_product(sum, a[at_a], x[at_x])", "add_product(sum, a[p + j * s], x[at_x])"),
+    "a term of raised rows": ("raised_rows/src/lib.rt", "        at_b += 1;", "        at_b = q + (k + 1) * 1;"),
+    "the start of a raised row": ("raised_rows/src/lib.rt", "        place += n + 1;", "        place = (i + 1) * (n + 1);"),
+    "a row of the defect": ("margins/src/lib.rt", "margin_of(t, rows, &columns, weights, n, m, row)", "margin_of(t, rows, &columns, weights, n, m, m * (n + 1))"),
+    "where a column's residuals begin": ("residuals/src/lib.rt", "&columns, n, j, start, column)", "&columns, n, j, j * n, column)"),
+    "a raised column of the inverse": ("residuals/src/lib.rt", "        column += n + 1;", "        column = (j + 1) * (n + 1);"),
+    "a row of p": ("bounds/src/lib.rt", "row_dot(rows, m, row, residuals, j, place, n)", "row_dot(rows, m, m * (n + 1), residuals, j, place, n)"),
+    "where a limit is written": ("bounds/src/lib.rt", "        dst[place] = column[i];", "        dst[start + i * stride] = column[i];"),
+}
+
+
+def faults(text):
+    return Reader({"made up": text}).all_faults()
+
+
+def self_test():
+    failed = [f"at fault, and should not be: {name}" for name, text in RIGHT.items() if faults(text)]
+    failed += [f"not told: {name}" for name, text in WRONG.items() if not faults(text)]
+    here = sources()
+    for name, (path, old, new) in WRONG_HERE.items():
+        if here[path].count(old) != 1:
+            failed.append(f"{path} does not have once what is to be made wrong: {name}")
+        elif not Reader({**here, path: here[path].replace(old, new)}).all_faults():
+            failed.append(f"not told: {name}")
+    for fault in failed:
+        print("FAILED", fault)
+    print(f"{len(RIGHT) + len(WRONG) + len(WRONG_HERE) - len(failed)} passed, {len(failed)} failed")
+    return int(bool(failed))
