@@ -66,6 +66,7 @@ def compare(run, seed, files, count, watch=None):
         problems, loaded, expected, net = examined(second, run, case)
         count.test(case.name, problems)
         reach.add(expected, loaded, net)
+        reach.add_changed(case.file, loaded)
         if watch:
             watch(case, loaded, expected)
     print(reach.summary())

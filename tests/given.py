@@ -6,6 +6,7 @@ from damage.numbers import ENDS, with_number
 from damage.spelling import MISSPELT, WAYS
 from generate import Case
 from net import file_of, lines_of, net_of
+from second.format import PLACED
 
 WHOLE = tuple(lines_of(cases_01.whole_file()))
 
@@ -80,6 +81,24 @@ def orders():
             yield f"'{text[:12]}' at {at}", inserted(at, text)
 
 
+def pasted():
+    """02, Paper 6: the two lines of a kind pasted again, at once and before the end, and the copy's first line damaged in every way."""
+    for word, at in FIRST.items():
+        if word not in PLACED:
+            continue
+        line, (low, high) = WHOLE[at], ENDS[word]
+        copies = {"as it is": line, "another number": with_number(line, 1, 7)}
+        copies |= {f"number {value}": with_number(line, 1, value) for value in (low - 1, high + 1, 2**64 + 1)}
+        copies |= {f"place {i}": with_number(line, 0, i) for i in (-1, 0, 3, 33, 2**32 + 1, 2**64 + 1)}
+        copies |= {f"place {i}, number {high + 1}": with_number(with_number(line, 1, high + 1), 0, i) for i in (0, 3)}
+        if word in ("row", "inverse"):
+            copies |= {f"with {numbers}": f"({word} 1 ({numbers}))" for numbers in ("1", "1 2 3", "1 2 1048577", "1048577")}
+            copies |= {f"place {i}, with {numbers}": f"({word} {i} ({numbers}))" for i in (0, 3) for numbers in ("1", "1 2 3", "1048577")}
+        for name, copy in copies.items():
+            for where in (at + 2, 12):
+                yield f"{word} pasted at {where}, {name}", inserted(where, copy, WHOLE[at + 1])
+
+
 def entries():
     """Guesses at halves of a unit and beside them, on both sides of 0."""
     for X in (-41, -40, -39, -25, -24, -23, -9, -8, -7, 0, 7, 8, 9, 23, 24, 25, 39, 40, 41):
@@ -117,7 +136,7 @@ def cases():
         yield Case(f"01 case {case.name}", cases_01.file(case))
     for case in cases_01.PAPERS:
         yield Case(f"02 {case.name}", cases_01.file(case))
-    for group in (at_ends_of_ranges, places, lists, spellings, lengths, orders, entries, widest):
+    for group in (at_ends_of_ranges, places, lists, spellings, lengths, orders, pasted, entries, widest):
         for name, lines in group():
             yield Case(f"{group.__name__}: {name}", file_of(lines))
     for name, file in by_bytes():

@@ -1,14 +1,28 @@
 """What a run of files has met, and whether that is enough."""
 
 from collections import Counter
+from dataclasses import replace
 
 from checks import entries_in, is_accepted, limits_in
 from exact import inverse_of, is_rounded_exact, product, size_sum
+from second.format import lines_of
+from second.program import Program
 from second.reckoning import Reckoning
+from second.refusal import Refusal
+from second.rules import IN_FORCE
 
 ENOUGH_FILES = 2000
 REFUSALS = (1, 2, 3, 4, 5, 6, 7, 11, 12, 13, 14, 15)
 NEAR = 12
+
+# 02, Paper 6: the answers to a line of each word that become 12.
+BECOMES_12 = (("problem", 3), ("scale", 3), ("row", 3), ("row", 4), ("right", 3), ("guess", 3), ("inverse", 3), ("inverse", 4), ("weight", 3))
+
+
+class Before(Program):
+    """The program before Paper 6."""
+
+    rules = replace(IN_FORCE, repetition_before_values=False)
 
 
 class Reach:
@@ -17,6 +31,7 @@ class Reach:
         self.refusals = Counter()
         self.sizes = Counter()
         self.edges = Counter()
+        self.changed = Counter()
 
     def add(self, listing, problem, net):
         """Counts a listing; `net` is None where the file was not read to its end, and `problem` is then its refusal."""
@@ -55,6 +70,17 @@ class Reach:
                 self.edges["limit with rounding above 0" if X > 0 else "limit with rounding below 0"] += 1
                 self.edges["height beyond E/S"] += abs(N - q * V) > q * before
 
+    def add_changed(self, file, loaded):
+        """Files of which something else is said than in 01's order, by the word of the refused line and the number before; no line but that may be told of."""
+        before = Before().load(file)
+        if before == loaded:
+            return
+        if isinstance(before, Refusal) and loaded == before._replace(number=12):
+            word = lines_of(file)[before.values[0] - 1][1:-1].split(b" ")[0].decode("latin-1")
+            self.changed[word, before.number] += 1
+        else:
+            self.changed["otherwise"] += 1
+
     def needs(self):
         """(what, how often met, how often wanted)."""
         accepted = sum(self.sizes.values())
@@ -68,13 +94,16 @@ class Reach:
             yield f"margin {value}", self.edges[f"margin {value}"], 10
         for kind in ("limit with rounding above 0", "limit with rounding below 0", "height beyond E/S"):
             yield kind, self.edges[kind], 50
+        for word, number in BECOMES_12:
+            yield f"{number} for a {word} becomes 12", self.changed[word, number], 5
         for kind in ("residual", "inverse residual"):
             for beyond in (0, 1):
                 yield f"{kind} 2^25 + {beyond}", self.edges[f"{kind} 2^25 + {beyond}"], 10
 
     def shortfalls(self):
-        return [f"{what}: {met} met, {wanted} wanted" for what, met, wanted in self.needs() if met < wanted]
+        short = [f"{what}: {met} met, {wanted} wanted" for what, met, wanted in self.needs() if met < wanted]
+        return short + [f"answer changed otherwise: {change}" for change in self.changed if change not in BECOMES_12]
 
     def summary(self):
         refusals = ", ".join(f"{number}: {self.refusals[number]}" for number in REFUSALS)
-        return f"{self.files} files, {sum(self.sizes.values())} accepted; refusals {refusals}; {dict(self.edges)}"
+        return f"{self.files} files, {sum(self.sizes.values())} accepted; refusals {refusals}; {dict(self.edges)}; changed {dict(self.changed)}"

@@ -1,9 +1,11 @@
-"""Wrong versions of the second implementation that read a file otherwise, by name; each breaks one rule of document 01."""
+"""Wrong versions of the second implementation that read a file otherwise, by name; each breaks one rule of document 01 or 02."""
 
 import re
+from dataclasses import replace
 
 from second.format import RANGES, Form, lines_of, read_form
 from second.loader import Loader
+from second.rules import IN_FORCE
 from wrong import program
 
 
@@ -16,23 +18,15 @@ def any_kind_missing(self):
     return sum(any((kind, i) not in self.given for kind in self.COUNTED) for i in range(1, self.n + 1))
 
 
-def first_n_tested(self, line):
-    form = line.form
-    return Loader.refusal_3(self, type(line)(None, lambda text: form._replace(values=form.values[: self.n or 2])))
+def with_form(test, change):
+    """A test that sees another form; change(loader, form) gives it."""
+    return lambda self, line: getattr(Loader, test)(self, type(line)(None, lambda text: change(self, line.form)))
 
 
 def up_to_32(self, line):
     """i above n taken where it is at most 32."""
-    form = line.form
-    if form.place is not None and self.n < form.place <= 32:
-        form = form._replace(place=1)
-    return Loader.refusal_3(self, type(line)(None, lambda text: form))
-
-
-def place_anywhere(self, line):
-    """The place taken by its size alone, a minus dropped."""
-    form = line.form
-    return Loader.refusal_3(self, type(line)(None, lambda text: form._replace(place=form.place and abs(form.place))))
+    place = line.form.place
+    return None if place is not None and self.n < place <= 32 else Loader.refusal_3_for_i(self, line)
 
 
 def by_place(self, line):
@@ -54,20 +48,53 @@ def end_early(self, line):
     return None if early else Loader.refusal_11(self, line)
 
 
-def before(first, second):
+def moved(first, second):
     """The order of a line with the test `first` moved to just before `second`."""
-    order = [number for number in Loader.ORDER if number != first]
+    order = [test for test in Loader.REPETITION_FIRST if test != first]
     order.insert(order.index(second), first)
-    return loader(ORDER=tuple(order))
+    return tuple(order)
+
+
+def before(first, second):
+    return loader(REPETITION_FIRST=moved(first, second))
+
+
+def before_place(place):
+    """12 before 3 for i, with i made into a place in range before it is looked up."""
+    looked_up = lambda form: (form.kind, None if form.place is None else place(form.place))
+    return loader(REPETITION_FIRST=moved("12", "3_for_i"), refusal_12=lambda self, line: () if looked_up(line.form) in self.given else None)
+
+
+def only_in_range(self, line):
+    """A second problem or scale is a repetition only where its numbers are in their ranges."""
+    form = line.form
+    return None if form.place is None and Loader.refusal_3_for_values(self, line) is not None else Loader.refusal_12(self, line)
+
+
+def only_of(*kinds):
+    """Repetition first for these kinds; for the others as it was, after 3 and 4."""
+
+    def refusal_12(self, line):
+        late = line.form.kind not in kinds and any(test(self, line) is not None for test in (Loader.refusal_3_for_values, Loader.refusal_4))
+        return None if late else Loader.refusal_12(self, line)
+
+    return loader(refusal_12=refusal_12)
 
 
 LOADED = {
-    "3 after 4": before(4, 3),
-    "3 after 12": before(12, 3),
-    "4 after 12": before(12, 4),
-    "14 after 1": before(1, 14),
-    "14 after 2": loader(ORDER=(1, 2, 14, 11, 3, 4, 12, 13)),
-    "2 before 1": before(2, 1),
+    "01's order": program(rules=replace(IN_FORCE, repetition_before_values=False)),
+    "12 before 3 for i, i by its size": before_place(abs),
+    "12 before 3 for i, i by its last five bits": before_place(lambda i: (i - 1) % 32 + 1),
+    "12 after 3 for values": before("3_for_values", "12"),
+    "12 after 4 alone": before("4", "12"),
+    "a second problem or scale out of range still 3": loader(refusal_12=only_in_range),
+    "repetition first for rows alone": only_of("row", "problem", "scale"),
+    "repetition first for lists alone": only_of("row", "inverse", "problem", "scale"),
+    "repetition first for parts alone": only_of("row", "right", "guess", "inverse", "weight"),
+    "3 for values after 4": before("4", "3_for_values"),
+    "14 after 1": before("1", "14"),
+    "14 after 2": loader(REPETITION_FIRST=("1", "2", "14", *Loader.REPETITION_FIRST[3:])),
+    "2 before 1": before("2", "1"),
     "place i counted once for all kinds": loader(missing=any_kind_missing),
     "missing out of 4n": loader(COUNTED=("row", "right", "guess", "inverse")),
     "missing of the inverse forgotten": loader(COUNTED=("row", "right", "guess", "weight")),
@@ -77,9 +104,9 @@ LOADED = {
     "repetition overwrites": loader(refusal_12=lambda self, line: None),
     "320 bytes too long": loader(refusal_1=lambda self, line: () if len(line.text) > 319 else None),
     "321 bytes good": loader(refusal_1=lambda self, line: () if len(line.text) > 321 else None),
-    "i up to 32": loader(refusal_3=up_to_32),
-    "i by its size": loader(refusal_3=place_anywhere),
-    "only n numbers in range": loader(refusal_3=first_n_tested),
+    "i up to 32": loader(refusal_3_for_i=up_to_32),
+    "i by its size": loader(refusal_3_for_i=with_form("refusal_3_for_i", lambda self, form: form._replace(place=form.place and abs(form.place)))),
+    "only n numbers in range": loader(refusal_3_for_values=with_form("refusal_3_for_values", lambda self, form: form._replace(values=form.values[: self.n or 2]))),
     "second problem is 11": loader(refusal_11=only_scale),
     "end before the scale": loader(refusal_11=end_early, missing=lambda self: 5 * self.n - len(self.given) + 1),
     "the end is not kept": loader(accept=lambda self, form: None if form.kind == "end" else Loader.accept(self, form)),
@@ -146,14 +173,13 @@ READ = {
 def narrowed(kind, lowest, highest):
     """The range of one kind otherwise."""
 
-    def refusal_3(self, line):
+    def refusal_3_for_values(self, line):
         form = line.form
-        if form.kind == kind and not all(lowest <= value <= highest for value in form.values):
-            return ()
-        inside = tuple(min(max(value, RANGES[kind][0]), RANGES[kind][1]) for value in form.values)
-        return Loader.refusal_3(self, type(line)(None, lambda text: form._replace(values=inside) if form.kind == kind else form))
+        if form.kind != kind:
+            return Loader.refusal_3_for_values(self, line)
+        return None if all(lowest <= value <= highest for value in form.values) else ()
 
-    return loader(refusal_3=refusal_3)
+    return loader(refusal_3_for_values=refusal_3_for_values)
 
 
 def range_versions():

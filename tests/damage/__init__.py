@@ -5,14 +5,14 @@ SHARES says how many files of a hundred get each damage."""
 from . import lines, numbers, spelling
 
 SHARES = (
-    (5, spelling.by_bytes),
+    (4, spelling.by_bytes),
     (2, spelling.misspelt),
     (3, spelling.respelt),
     (3, spelling.at_length),
     (1, spelling.large),
     (2, lines.dropped),
-    (2, lines.doubled),
-    (2, lines.doubled_and_damaged),
+    (1, lines.doubled),
+    (4, lines.pasted),
     (2, lines.early),
     (1, lines.early_end),
     (2, lines.stopped),

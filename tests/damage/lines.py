@@ -2,7 +2,7 @@
 
 from net import file_of
 
-from .numbers import changed_length, changed_range
+from .numbers import ENDS, changed_length, changed_number, changed_place, changed_range, place_of
 from .spelling import MISSPELT
 
 
@@ -21,12 +21,24 @@ def doubled(rng, net, lines):
     return file_of(lines[:again] + [lines[at]] + lines[again:])
 
 
-def doubled_and_damaged(rng, net, lines):
-    """A form given again with other numbers: a bad one, or a list of another length."""
-    line = lines[rng.randrange(len(lines) - 1)]
-    is_list = line.startswith(("(row", "(inverse"))
-    change = rng.choice((changed_range, changed_length)) if is_list else changed_range
-    return file_of(lines[:-1] + [change(rng, line)] + lines[-1:])
+def pasted(rng, net, lines):
+    """A block of lines pasted again, at once or later, and one line of the copy damaged in one or two ways, more often than not its first."""
+    start = place_of(rng, lines, (rng.choice(tuple(ENDS)),))
+    block = lines[start:-1][: rng.choice((1, 2, 3, len(lines)))]
+    at = 0 if rng.random() < 0.7 else rng.randrange(len(block))
+    line = block[at]
+    for _ in range(rng.choice((1, 1, 2))):
+        line = rng.choice(ways_for(line))(rng, line)
+    again = rng.choice((start + len(block), rng.randint(start + len(block), len(lines) - 1)))
+    return file_of(lines[:again] + block[:at] + [line] + block[at + 1 :] + lines[again:])
+
+
+def ways_for(line):
+    """Other numbers, a number out of its range, another i, and for a list another count."""
+    if line.startswith(("(problem", "(scale")):
+        return (changed_number, changed_range)
+    others = (changed_number, changed_range, changed_place)
+    return others + (changed_length,) if line.startswith(("(row", "(inverse")) else others
 
 
 def second_start(rng, net, lines):

@@ -47,6 +47,19 @@ def changed_range(rng, line):
     return with_number(line, rng.randrange(first, len(NUMBER.findall(line))), value)
 
 
+def changed_number(rng, line):
+    """The line with one number other than i replaced by another in its range."""
+    low, high = ENDS[word_of(line)]
+    first = 0 if word_of(line) in ("problem", "scale") else 1
+    return with_number(line, rng.randrange(first, len(NUMBER.findall(line))), rng.randint(low, high))
+
+
+def changed_place(rng, line):
+    """The line with another i: 0, below 0, beside it, above 32, or one that wraps to it."""
+    i = int(NUMBER.search(line).group())
+    return with_number(line, 0, rng.choice((0, -1, -i, i + 1, i + 1, i + 32, 33, 2**32 + i, 2**64 + i)))
+
+
 def changed_length(rng, line):
     """A list with one number more or fewer, or many more."""
     head, numbers = line[:-2].split(" (")

@@ -17,7 +17,7 @@ QUOTED = {
     "5-inverse-of-0": "row 1 of the inverse is \"(inverse 1 (0))\"", "5-coarse-steps": "row 1 of the inverse is \"(inverse 1 (0))\"",
     "6-poor-guess": "equation 1 is \"(row 1 (1048576))\" and \"(right 1 0)\"",
     "7-poor-inverse": "column 2 of the inverse does not fit equation 1, which is \"(row 1 (1048576 0))\"",
-    "11-row-before-scale": "line 2 is \"(row 1 (4 -1))\"", "12-right-side-twice": "line 6 is \"(right 1 5)\"", "13-two-missing": "guess 2, weight 1 are missing",
+    "11-row-before-scale": "line 2 is \"(row 1 (4 -1))\"", "12-right-side-twice": "line 6 is \"(right 1 5)\"", "12-damaged-copy": "line 5 is \"(row 1 (4))\"", "13-two-missing": "guess 2, weight 1 are missing",
     "14-line-after-end": "line 14 is \"\"", "15-no-end": "the last line is \"(weight 2 1)\"", "15-empty-file": "the file is empty",
 }
 

@@ -2,6 +2,7 @@
 
 from .format import LONGEST_LINE, PLACED, RANGES, read_form
 from .refusal import Refusal
+from .rules import IN_FORCE
 
 
 class Line:
@@ -19,13 +20,16 @@ class Line:
 
 
 class Loader:
-    # "Order for a line: 8, 14, 1, 2, 11, 3, 4, 12, 13." The lists here are never too short.
-    ORDER = (14, 1, 2, 11, 3, 4, 12, 13)
+    # 01: "Order for a line: 8, 14, 1, 2, 11, 3, 4, 12, 13." The lists here are never too short.
+    VALUES_FIRST = ("14", "1", "2", "11", "3_for_i", "3_for_values", "4", "12", "13")
+    # 02, Paper 6: "8, 14, 1, 2, 11, 3 for i, 12, 3 for values, 4, 13."
+    REPETITION_FIRST = ("14", "1", "2", "11", "3_for_i", "12", "3_for_values", "4", "13")
 
     # The kinds of which the count of forms still missing is made: "out of 5n".
     COUNTED = PLACED
 
-    def __init__(self):
+    def __init__(self, rules=IN_FORCE):
+        self.rules = rules
         self.n = self.s = self.t = None
         self.given = set()
         self.ended = False
@@ -34,12 +38,15 @@ class Loader:
     def take(self, text):
         """Takes a line in; gives its refusal, or None where it is accepted."""
         line = Line(text, self.read)
-        for number in self.ORDER:
-            values = getattr(self, f"refusal_{number}")(line)
+        for test in self.order():
+            values = getattr(self, f"refusal_{test}")(line)
             if values is not None:
-                return Refusal(number, values)
+                return Refusal(int(test.split("_")[0]), values)
         self.accept(line.form)
         return None
+
+    def order(self):
+        return self.REPETITION_FIRST if self.rules.repetition_before_values else self.VALUES_FIRST
 
     def read(self, text):
         return read_form(text)
@@ -66,16 +73,18 @@ class Loader:
             return None
         return None if line.form.kind in allowed else ()
 
-    def refusal_3(self, line):
-        """01: A number outside its range, i above n included."""
+    def refusal_3_for_i(self, line):
+        """01: A number outside its range, i above n included: i."""
+        place = line.form.place
+        return None if place is None or 1 <= place <= self.n else ()
+
+    def refusal_3_for_values(self, line):
+        """01: A number outside its range: the others."""
         form = line.form
-        if form.place is not None and not 1 <= form.place <= self.n:
-            return ()
-        if form.kind in RANGES:
-            lowest, highest = RANGES[form.kind]
-            if not all(lowest <= value <= highest for value in form.values):
-                return ()
-        return None
+        if form.kind not in RANGES:
+            return None
+        lowest, highest = RANGES[form.kind]
+        return None if all(lowest <= value <= highest for value in form.values) else ()
 
     def refusal_4(self, line):
         """01: A row or inverse list with other than n numbers."""

@@ -30,7 +30,7 @@ class Program:
 
     def load(self, file):
         """The problem of a file, or its first refusal. 01: The program reads to the end of the file before it checks."""
-        loader = self.loader()
+        loader = self.loader(self.rules)
         for number, line in enumerate(self.lines(file), 1):
             refusal = loader.take(line)
             if refusal is not None:

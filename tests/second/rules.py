@@ -6,6 +6,7 @@ from dataclasses import dataclass
 @dataclass(frozen=True)
 class Rules:
     entry_covers_rounding: bool = False  # Paper 2: Program.entry_bound
+    repetition_before_values: bool = False  # Paper 6: Loader.order
 
 
-IN_FORCE = Rules(entry_covers_rounding=True)
+IN_FORCE = Rules(entry_covers_rounding=True, repetition_before_values=True)

@@ -12,5 +12,8 @@ pub mod Check
 pub mod Lines
 pub mod Read
 pub mod Whole
+pub mod Changed
+pub mod ChangedFile
+pub mod Pasted
 pub mod FirstBytes
 pub mod Passing

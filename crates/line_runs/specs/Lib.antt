@@ -5,3 +5,4 @@ pub mod Given
 pub mod Read
 pub mod Holds
 pub mod Outstanding
+pub mod Before

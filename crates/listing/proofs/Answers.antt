@@ -33,18 +33,18 @@ data LineSaid : List ℕ → Type 0 where
   lacking : (count : ℕ) → LineSaid (13 ∷ count ∷ [])
 
 line-said : (c : LineCase) → c .short ≡ false → LineSaid (verdict (lineOrder c))
-line-said c h = rw h (go (c .ended) (c .long) (c .unspelled) (c .early) (c .misplaced) (c .outside) (c .miscounted) (c .repeated) (c .incomplete))
+line-said c h = rw h (go (c .ended) (c .long) (c .unspelled) (c .early) (c .misplaced) (c .repeated) (c .outside) (c .miscounted) (c .incomplete))
   where
-    go : (b14 b1 b2 b11 b3 b3′ b4 b12 b13 : Bool) →
-        LineSaid (cond b14 (14 ∷ []) (cond b1 (1 ∷ []) (cond b2 (2 ∷ []) (cond b11 (11 ∷ []) (cond b3 (3 ∷ []) (cond b3′ (3 ∷ []) (cond b4 (4 ∷ []) (cond b12 (12 ∷ []) (cond b13 (13 ∷ c .missing ∷ []) [])))))))))
-    go true b1 b2 b11 b3 b3′ b4 b12 b13 = alone after-end
-    go false true b2 b11 b3 b3′ b4 b12 b13 = alone too-long
-    go false false true b11 b3 b3′ b4 b12 b13 = alone no-form
-    go false false false true b3 b3′ b4 b12 b13 = alone too-early
-    go false false false false true b3′ b4 b12 b13 = alone out-of-range
-    go false false false false false true b4 b12 b13 = alone out-of-range
-    go false false false false false false true b12 b13 = alone wrong-count
-    go false false false false false false false true b13 = alone repeated
+    go : (b14 b1 b2 b11 b3 b12 b3′ b4 b13 : Bool) →
+        LineSaid (cond b14 (14 ∷ []) (cond b1 (1 ∷ []) (cond b2 (2 ∷ []) (cond b11 (11 ∷ []) (cond b3 (3 ∷ []) (cond b12 (12 ∷ []) (cond b3′ (3 ∷ []) (cond b4 (4 ∷ []) (cond b13 (13 ∷ c .missing ∷ []) [])))))))))
+    go true b1 b2 b11 b3 b12 b3′ b4 b13 = alone after-end
+    go false true b2 b11 b3 b12 b3′ b4 b13 = alone too-long
+    go false false true b11 b3 b12 b3′ b4 b13 = alone no-form
+    go false false false true b3 b12 b3′ b4 b13 = alone too-early
+    go false false false false true b12 b3′ b4 b13 = alone out-of-range
+    go false false false false false true b3′ b4 b13 = alone repeated
+    go false false false false false false true b4 b13 = alone out-of-range
+    go false false false false false false false true b13 = alone wrong-count
     go false false false false false false false false true = lacking (c .missing)
     go false false false false false false false false false = quiet
 

@@ -49,9 +49,9 @@ formCase d f = record {
   unspelled = false;
   early = early (d .stage) (itemOf f);
   misplaced = misplaced (d .stage) (d .n) (itemOf f);
+  repeated = repeated (d .stage) (d .sets) (itemOf f);
   outside = outside f;
   miscounted = miscounted (d .n) f;
-  repeated = repeated (d .stage) (d .sets) (itemOf f);
   incomplete = incomplete (d .n) (d .sets) (itemOf f);
   missing = missing (d .n) (d .sets);
 }

@@ -28,35 +28,37 @@ module _ (d : Loader) (m : CappedForm) (count : ℕ) (inside : Bool) {x : Item} 
         rw (a1, b1)
 
     module _ (b : misplaced (d .stage) (d .n) x ≡ false) where
-      pub says-3-values : outsideIn m inside ≡ true → 3 ∷ [] ≡ told
+      pub says-12 : repeated (d .stage) (d .sets) x ≡ true → 12 ∷ [] ≡ told
       unfolding saidIn
-      says-3-values c =
+      says-12 c =
           let a1 = rw e at a in
           let b1 = rw e at b in
-          rw (a1, b1, c)
+          let c1 = rw e at c in
+          rw (a1, b1, c1)
 
-      module _ (c : outsideIn m inside ≡ false) where
-        pub says-4 : miscountedIn (d .n) m count ≡ true → 4 ∷ [] ≡ told
+      module _ (c : repeated (d .stage) (d .sets) x ≡ false) where
+        pub says-3-values : outsideIn m inside ≡ true → 3 ∷ [] ≡ told
         unfolding saidIn
-        says-4 f =
+        says-3-values f =
             let a1 = rw e at a in
             let b1 = rw e at b in
-            rw (a1, b1, c, f)
+            let c1 = rw e at c in
+            rw (a1, b1, c1, f)
 
-        module _ (f : miscountedIn (d .n) m count ≡ false) where
-          pub says-12 : repeated (d .stage) (d .sets) x ≡ true → 12 ∷ [] ≡ told
+        module _ (f : outsideIn m inside ≡ false) where
+          pub says-4 : miscountedIn (d .n) m count ≡ true → 4 ∷ [] ≡ told
           unfolding saidIn
-          says-12 g =
+          says-4 g =
               let a1 = rw e at a in
               let b1 = rw e at b in
-              let g1 = rw e at g in
-              rw (a1, b1, c, f, g1)
+              let c1 = rw e at c in
+              rw (a1, b1, c1, f, g)
 
-          pub says-rest : {r : List ℕ} → repeated (d .stage) (d .sets) x ≡ false → r ≡ cond (incomplete (d .n) (d .sets) x) (13 ∷ missing (d .n) (d .sets) ∷ []) [] → r ≡ told
+          pub says-rest : {r : List ℕ} → miscountedIn (d .n) m count ≡ false → r ≡ cond (incomplete (d .n) (d .sets) x) (13 ∷ missing (d .n) (d .sets) ∷ []) [] → r ≡ told
           unfolding saidIn
           says-rest {r} g h =
               let a1 = rw e at a in
               let b1 = rw e at b in
-              let g1 = rw e at g in
+              let c1 = rw e at c in
               let h1 = rw e at h in
-              rw (a1, b1, c, f, g1) h1
+              rw (a1, b1, c1, f, g) h1

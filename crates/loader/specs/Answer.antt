@@ -29,9 +29,9 @@ caseOf d l line = record {
   unspelled = ofForm (reading line) true (λ (f : Form). false);
   early = ofForm (reading line) false (λ (f : Form). early (d .stage) (itemOf f));
   misplaced = ofForm (reading line) false (λ (f : Form). misplaced (d .stage) (d .n) (itemOf f));
+  repeated = ofForm (reading line) false (λ (f : Form). repeated (d .stage) (d .sets) (itemOf f));
   outside = ofForm (reading line) false (λ (f : Form). outside f);
   miscounted = ofForm (reading line) false (λ (f : Form). miscounted (d .n) f);
-  repeated = ofForm (reading line) false (λ (f : Form). repeated (d .stage) (d .sets) (itemOf f));
   incomplete = ofForm (reading line) false (λ (f : Form). incomplete (d .n) (d .sets) (itemOf f));
   missing = missing (d .n) (d .sets);
 }

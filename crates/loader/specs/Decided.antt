@@ -42,9 +42,9 @@ caseIn d m count inside = record {
   unspelled = false;
   early = early (d .stage) (itemIn m);
   misplaced = misplaced (d .stage) (d .n) (itemIn m);
+  repeated = repeated (d .stage) (d .sets) (itemIn m);
   outside = outsideIn m inside;
   miscounted = miscountedIn (d .n) m count;
-  repeated = repeated (d .stage) (d .sets) (itemIn m);
   incomplete = incomplete (d .n) (d .sets) (itemIn m);
   missing = missing (d .n) (d .sets);
 }

@@ -66,7 +66,7 @@ impl Loader {
         self.s
     }
 
-    // What is said of a form: 11, 3, 4, 12 and 13, in this order.
+    // What is said of a form: 11, 3 for i, 12, 3 for values, 4 and 13, in this order.
     fn judge_form(self, form: CappedForm, count: usize, inside: bool) -> Outcome
         ensures { λ r. ⌜ said r ≡ saidIn self form count inside ⌝ }
     {
@@ -80,14 +80,14 @@ impl Loader {
         if given_forms::is_misplaced(stage, n, item) {
             return Outcome::Refused(Refusal::OutOfRange);
         }
+        if given_forms::is_repeated(stage, sets, item) {
+            return Outcome::Refused(Refusal::Repeated);
+        }
         if form_values::is_outside(form, inside) {
             return Outcome::Refused(Refusal::OutOfRange);
         }
         if form_values::is_miscounted(form, count, n as usize) {
             return Outcome::Refused(Refusal::WrongCount);
-        }
-        if given_forms::is_repeated(stage, sets, item) {
-            return Outcome::Refused(Refusal::Repeated);
         }
         given_forms::judge_end(stage, n, sets, item)
     }

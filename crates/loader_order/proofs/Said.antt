@@ -1,15 +1,15 @@
--- 01's refusals of a line, each said exactly where no case earlier in the order holds and its own does.
---   said-8, said-14, said-1, said-2, said-11, said-3, said-4, said-12, said-13, said-none;  count-13 — the count that 13 gives
+-- The refusals of a line, each said exactly where no case earlier in the order holds and its own does.
+--   said-8, said-14, said-1, said-2, said-11, said-3, said-12, said-4, said-13, said-none;  count-13 — the count that 13 gives
 --   Passed, passed — where nothing is said, no stated case holds
 use mathlib.Core.Path.{_≡_, refl}
-use mathlib.Core.Bool.{Bool, true, false, _||_, cond}
+use mathlib.Core.Bool.{Bool, true, false, not, _&&_, _||_, cond}
 use mathlib.Core.List.{List, [], _∷_}
 use mathlib.Core.Logic.{_↔_}
 use Prim.Native.Nat.{ℕ}
 use native.Mathlib.Omega.{arith}
 use lib.ListN.{take, drop}
 use Rattle.rules.specs.Order.{Test, number, verdict}
-use Rattle.rules.proofs.Tests.{None, none-said, silent, skipped, said-exactly, said-either}
+use Rattle.rules.proofs.Tests.{None, none-said, silent, skipped, said-exactly, said-around}
 use Rattle.loader_order.specs.Order.{LineCase, lineOrder}
 
 module _ (c : LineCase) where
@@ -38,14 +38,15 @@ module _ (c : LineCase) where
   pub said-11 : (says ≡ 11 ∷ []) ↔ (None (first 4) × (c .early ≡ true))
   said-11 = said-exactly (first 4) (number 11 (c .early)) (rest 5) refl refl
 
-  pub said-3 : (says ≡ 3 ∷ []) ↔ (None (first 5) × (c .misplaced || c .outside ≡ true))
-  said-3 = said-either (first 5) (3 ∷ []) (c .misplaced) (c .outside) (rest 7) refl refl
+  -- for i; or, where it is no repetition, for the values
+  pub said-3 : (says ≡ 3 ∷ []) ↔ (None (first 5) × (c .misplaced || not (c .repeated) && c .outside ≡ true))
+  said-3 = said-around (first 5) (3 ∷ []) (c .misplaced) (number 12 (c .repeated)) (c .outside) (rest 8) refl refl
 
-  pub said-4 : (says ≡ 4 ∷ []) ↔ (None (first 7) × (c .miscounted ≡ true))
-  said-4 = said-exactly (first 7) (number 4 (c .miscounted)) (rest 8) refl refl
+  pub said-12 : (says ≡ 12 ∷ []) ↔ (None (first 6) × (c .repeated ≡ true))
+  said-12 = said-exactly (first 6) (number 12 (c .repeated)) (rest 7) refl refl
 
-  pub said-12 : (says ≡ 12 ∷ []) ↔ (None (first 8) × (c .repeated ≡ true))
-  said-12 = said-exactly (first 8) (number 12 (c .repeated)) (rest 9) refl refl
+  pub said-4 : (says ≡ 4 ∷ []) ↔ (None (first 8) × (c .miscounted ≡ true))
+  said-4 = said-exactly (first 8) (number 4 (c .miscounted)) (rest 9) refl refl
 
   pub said-13 : (says ≡ 13 ∷ c .missing ∷ []) ↔ (None (first 9) × (c .incomplete ≡ true))
   said-13 = said-exactly (first 9) (record { says = 13 ∷ c .missing ∷ []; holds = c .incomplete }) [] refl refl
@@ -68,9 +69,9 @@ module _ (c : LineCase) where
     pub unspelled : c .unspelled ≡ false
     pub early : c .early ≡ false
     pub misplaced : c .misplaced ≡ false
+    pub repeated : c .repeated ≡ false
     pub outside : c .outside ≡ false
     pub miscounted : c .miscounted ≡ false
-    pub repeated : c .repeated ≡ false
     pub incomplete : c .incomplete ≡ false
 
   pub passed : says ≡ [] → Passed
@@ -83,8 +84,8 @@ module _ (c : LineCase) where
         unspelled = cc;
         early = cc;
         misplaced = cc;
+        repeated = cc;
         outside = cc;
         miscounted = cc;
-        repeated = cc;
         incomplete = cc;
       }

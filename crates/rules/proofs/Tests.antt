@@ -4,7 +4,9 @@
 --   without k ts  — no test of ts has the number k
 --   none-said     — where a number is said that no test has, or nothing, no test holds;  silent — and the converse: nothing is said
 --   skip, skipped — tests that do not hold before others are passed over, and tests without the number that is said do not hold
---   said-exactly  — what starts with a test's number, which no other test has, is said exactly then;  said-either — the same of two neighbours with one number
+--   said-exactly  — what starts with a test's number, which no other test has, is said exactly then;  said-around — the same of two tests with one number around another
+--   someOf ts     — some test of ts holds;  some-said — one of them is told then
+--   Moved, moved  — a test moved up over others: the same is said, or no test before holds, it does, and so does one of the others
 use mathlib.Core.Path.{_≡_, refl, sym, ap, subst, _∙_}
 use mathlib.Core.Bool.{Bool, true, false, not, _&&_, _||_, cond}
 use mathlib.Core.List.{List, [], _∷_, _++_}
@@ -13,7 +15,7 @@ use Prim.Native.Nat.{ℕ}
 use borrow.Author.Tests.{eq-eqb}
 use lib.Dec.{T, eqb}
 use Rattle.rules.specs.Order.{Test, verdict}
-use Rattle.rules.proofs.Ranges.{both-left, both-right}
+use Rattle.rules.proofs.Ranges.{both-left, both-right, neither-left, neither-right}
 
 abbrev pub None : List Test → Type 0
 None [] = Unit
@@ -74,25 +76,78 @@ module _ (before : List Test) (t : Test) (after : List Test) (own : without (hea
       here true e = refl
       here false e = absurd (not-after after (t .says) (both-right (without (head (t .says)) before) (without (head (t .says)) after) own) heard e)
 
--- the same of two neighbours that say the same
-module _ (before : List Test) (w : List ℕ) (a b : Bool) (after : List Test) (own : without (head w) before && without (head w) after ≡ true) (heard : eqb (head w) 0 ≡ false) where
-  abbrev both-tests : List Test
-  both-tests = record { says = w; holds = a } ∷ record { says = w; holds = b } ∷ after
+-- the same of two tests that say the same, with one that says something else between them
+module _ (before : List Test) (w : List ℕ) (a : Bool) (t : Test) (b : Bool) (after : List Test) (own : without (head w) before && without (head w) (t ∷ after) ≡ true) (heard : eqb (head w) 0 ≡ false) where
+  abbrev around : List Test
+  around = record { says = w; holds = a } ∷ t ∷ record { says = w; holds = b } ∷ after
 
-  pub said-either : (verdict (before ++ both-tests) ≡ w) ↔ (None before × (a || b ≡ true))
-  said-either = (
+  own-after : without (head w) (t ∷ after) ≡ true
+  own-after = both-right (without (head w) before) (without (head w) (t ∷ after)) own
+
+  pub said-around : (verdict (before ++ around) ≡ w) ↔ (None before × (a || not (t .holds) && b ≡ true))
+  said-around = (
     λ e.
-        let s = skipped before both-tests w (both-left (without (head w) before) (without (head w) after) own) e in
-        (s .0, here a b (s .1)),
-    λ h. skip before both-tests (h .0) ∙ back a b (h .1),
+        let s = skipped before around w (both-left (without (head w) before) (without (head w) (t ∷ after)) own) e in
+        (s .0, here a (t .holds) b (s .1)),
+    λ h. skip before around (h .0) ∙ back a (t .holds) b (h .1),
   )
     where
-      here : (a b : Bool) → cond a w (cond b w (verdict after)) ≡ w → a || b ≡ true
-      here true b e = refl
-      here false true e = refl
-      here false false e = absurd (not-after after w (both-right (without (head w) before) (without (head w) after) own) heard e)
+      here : (a h b : Bool) → cond a w (cond h (t .says) (cond b w (verdict after))) ≡ w → a || not h && b ≡ true
+      here true h b e = refl
+      here false true b e = absurd (clash (eq-eqb (head (t .says)) (head w) (ap head e)) (both-left (not (eqb (head (t .says)) (head w))) (without (head w) after) own-after))
+      here false false true e = refl
+      here false false false e = absurd (not-after after w (both-right (not (eqb (head (t .says)) (head w))) (without (head w) after) own-after) heard e)
 
-      back : (a b : Bool) → a || b ≡ true → cond a w (cond b w (verdict after)) ≡ w
-      back true b e = refl
-      back false true e = refl
-      back false false e = absurd (subst T (sym e) tt)
+      back : (a h b : Bool) → a || not h && b ≡ true → cond a w (cond h (t .says) (cond b w (verdict after))) ≡ w
+      back true h b e = refl
+      back false true b e = absurd (subst T (sym e) tt)
+      back false false true e = refl
+      back false false false e = absurd (subst T (sym e) tt)
+
+-- ---- a test moved up over others
+abbrev pub someOf : List Test → Bool
+someOf [] = false
+someOf (t ∷ ts) = t .holds || someOf ts
+
+pub some-said : (ts after : List Test) → someOf ts ≡ true → verdict (ts ++ after) ≡ verdict ts
+some-said [] after e = absurd (subst T (sym e) tt)
+some-said (t ∷ ts) after e = go (t .holds) e (some-said ts after)
+  where
+    go : (b : Bool) → b || someOf ts ≡ true → (someOf ts ≡ true → verdict (ts ++ after) ≡ verdict ts) → cond b (t .says) (verdict (ts ++ after)) ≡ cond b (t .says) (verdict ts)
+    go true h rest = refl
+    go false h rest = rest h
+
+none-of : (ts : List Test) → someOf ts ≡ false → None ts
+none-of [] e = tt
+none-of (t ∷ ts) e = (neither-left (t .holds) (someOf ts) e, none-of ts (neither-right (t .holds) (someOf ts) e))
+
+module _ (t : Test) where
+  told : (rest : List Test) → t .holds ≡ true → verdict (t ∷ rest) ≡ t .says
+  told rest e = rw e
+
+  passed-over : t .holds ≡ false → (ts rest : List Test) → verdict (ts ++ rest) ≡ verdict (ts ++ t ∷ rest)
+  passed-over e [] rest = sym (skip (t ∷ []) rest (e, tt))
+  passed-over e (u ∷ us) rest = rw (passed-over e us rest)
+
+module _ (before : List Test) (t : Test) (over after : List Test) where
+  abbrev pub movedUp : List Test
+  movedUp = t ∷ (over ++ after)
+
+  abbrev pub notMoved : List Test
+  notMoved = over ++ t ∷ after
+
+  pub data Moved : Type 0 where
+    same : verdict (before ++ movedUp) ≡ verdict (before ++ notMoved) → Moved
+    other : None before → t .holds ≡ true → someOf over ≡ true → Moved
+
+  pub moved : Moved
+  moved = go (someOf before) refl (t .holds) refl (someOf over) refl
+    where
+      past : None before → verdict movedUp ≡ verdict notMoved → Moved
+      past n e = same (skip before movedUp n ∙ e ∙ sym (skip before notMoved n))
+
+      go : (a : Bool) → someOf before ≡ a → (b : Bool) → t .holds ≡ b → (c : Bool) → someOf over ≡ c → Moved
+      go true p b q c r = same (some-said before movedUp p ∙ sym (some-said before notMoved p))
+      go false p false q c r = past (none-of before p) (skip (t ∷ []) (over ++ after) (q, tt) ∙ passed-over t q over after)
+      go false p true q false r = past (none-of before p) (told t (over ++ after) q ∙ sym (skip over (t ∷ after) (none-of over r) ∙ told t after q))
+      go false p true q true r = other (none-of before p) q r

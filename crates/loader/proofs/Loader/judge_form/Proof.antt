@@ -1,9 +1,9 @@
 use mathlib.Core.Path.{_≡_, sym, _∙_}
 use mathlib.Core.Bool.{false}
-use Rattle.form_values.specs.Capped.{outsideIn, miscountedIn}
-use Rattle.given_forms.specs.Progress.{early, misplaced}
+use Rattle.form_values.specs.Capped.{outsideIn}
+use Rattle.given_forms.specs.Progress.{early, misplaced, repeated}
 use Rattle.given_forms.proofs.Progress.{placed-32}
-use Rattle.loader.proofs.Judge.{says-11, says-3-place, says-3-values, says-4, says-12, says-rest}
+use Rattle.loader.proofs.Judge.{says-11, says-3-place, says-12, says-3-values, says-4, says-rest}
 use borrow.Author.Needs.{needs}
 use Rattle.loader.proofs.Loader.judge_form.Statement.{statement}
 use Rattle.loader.proofs.Loader.judge_form.Tie as tie
@@ -15,11 +15,11 @@ not-early c = sym (c .before .is-early .ensures) ∙ c .if1 .left
 not-misplaced : (c : tie.Else2) → misplaced (c .before .before .before .before .before .before .args .self .stage) (c .before .before .before .before .before .before .args .self .n) (c .before .before .before .before .item-of .result) ≡ false
 not-misplaced c = sym (c .before .is-misplaced .ensures) ∙ c .if2 .left
 
-not-outside : (c : tie.Else3) → let a = c .before .before .before .before .before .before .before .before .args in outsideIn (a .form) (a .inside) ≡ false
-not-outside c = sym (c .before .is-outside .ensures) ∙ c .if3 .left
+not-repeated : (c : tie.Else3) → let m = c .before .before .before .before .before .before in repeated (m .before .before .args .self .stage) (m .before .before .args .self .sets) (m .item-of .result) ≡ false
+not-repeated c = sym (c .before .is-repeated .ensures) ∙ c .if3 .left
 
-not-miscounted : (c : tie.Else4) → let a = c .before .before .before .before .before .before .before .before .before .before .args in miscountedIn (a .self .n) (a .form) (a .count) ≡ false
-not-miscounted c = sym (c .before .is-miscounted .ensures) ∙ c .if4 .left
+not-outside : (c : tie.Else4) → let a = c .before .before .before .before .before .before .before .before .before .before .args in outsideIn (a .form) (a .inside) ≡ false
+not-outside c = sym (c .before .is-outside .ensures) ∙ c .if4 .left
 
 item-of-requires : tie.Need-item-of-requires
 item-of-requires c κs = search needs
@@ -43,8 +43,11 @@ returns-2 c =
     let a = m .before .before .args in
     says-3-place (a .self) (a .form) (a .count) (a .inside) (m .item-of .ensures) (not-early e) (sym (c .before .is-misplaced .ensures) ∙ c .if2 .taken)
 
-is-outside-requires : tie.Need-is-outside-requires
-is-outside-requires c κs = search needs
+is-repeated-requires : tie.Need-is-repeated-requires
+is-repeated-requires c κs =
+    let p = c in
+    let e = p .before .before in
+    placed-32 (e .before .before .before .before .args .self .stage) (e .before .before .before .before .args .self .n) (e .before .before .item-of .result) (not-early e) (not-misplaced p)
 
 returns-3 : tie.Need-returns-3
 returns-3 c =
@@ -52,13 +55,10 @@ returns-3 c =
     let e = p .before .before in
     let m = e .before .before in
     let a = m .before .before .args in
-    says-3-values (a .self) (a .form) (a .count) (a .inside) (m .item-of .ensures) (not-early e) (not-misplaced p) (sym (c .before .is-outside .ensures) ∙ c .if3 .taken)
+    says-12 (a .self) (a .form) (a .count) (a .inside) (m .item-of .ensures) (not-early e) (not-misplaced p) (sym (c .before .is-repeated .ensures) ∙ c .if3 .taken)
 
-cast-is-miscounted : tie.Need-cast-is-miscounted
-cast-is-miscounted c = search needs
-
-is-miscounted-requires : tie.Need-is-miscounted-requires
-is-miscounted-requires c κs = search needs
+is-outside-requires : tie.Need-is-outside-requires
+is-outside-requires c κs = search needs
 
 returns-4 : tie.Need-returns-4
 returns-4 c =
@@ -67,13 +67,13 @@ returns-4 c =
     let e = p .before .before in
     let m = e .before .before in
     let a = m .before .before .args in
-    says-4 (a .self) (a .form) (a .count) (a .inside) (m .item-of .ensures) (not-early e) (not-misplaced p) (not-outside o) (sym (c .before .is-miscounted .ensures) ∙ c .if4 .taken)
+    says-3-values (a .self) (a .form) (a .count) (a .inside) (m .item-of .ensures) (not-early e) (not-misplaced p) (not-repeated o) (sym (c .before .is-outside .ensures) ∙ c .if4 .taken)
 
-is-repeated-requires : tie.Need-is-repeated-requires
-is-repeated-requires c κs =
-    let p = c .before .before .before .before in
-    let e = p .before .before in
-    placed-32 (e .before .before .before .before .args .self .stage) (e .before .before .before .before .args .self .n) (e .before .before .item-of .result) (not-early e) (not-misplaced p)
+cast-is-miscounted : tie.Need-cast-is-miscounted
+cast-is-miscounted c = search needs
+
+is-miscounted-requires : tie.Need-is-miscounted-requires
+is-miscounted-requires c κs = search needs
 
 returns-5 : tie.Need-returns-5
 returns-5 c =
@@ -83,7 +83,7 @@ returns-5 c =
     let e = p .before .before in
     let m = e .before .before in
     let a = m .before .before .args in
-    says-12 (a .self) (a .form) (a .count) (a .inside) (m .item-of .ensures) (not-early e) (not-misplaced p) (not-outside o) (not-miscounted k) (sym (c .before .is-repeated .ensures) ∙ c .if5 .taken)
+    says-4 (a .self) (a .form) (a .count) (a .inside) (m .item-of .ensures) (not-early e) (not-misplaced p) (not-repeated o) (not-outside k) (sym (c .before .is-miscounted .ensures) ∙ c .if5 .taken)
 
 judge-end-requires : tie.Need-judge-end-requires
 judge-end-requires c κs =
@@ -99,7 +99,7 @@ returns-6 c =
     let e = p .before .before in
     let m = e .before .before in
     let a = m .before .before .args in
-    says-rest (a .self) (a .form) (a .count) (a .inside) (m .item-of .ensures) (not-early e) (not-misplaced p) (not-outside o) (not-miscounted k) (sym (g .before .is-repeated .ensures) ∙ g .if5 .left) (c .judge-end .ensures)
+    says-rest (a .self) (a .form) (a .count) (a .inside) (m .item-of .ensures) (not-early e) (not-misplaced p) (not-repeated o) (not-outside k) (sym (g .before .is-miscounted .ensures) ∙ g .if5 .left) (c .judge-end .ensures)
 
 pub judge-form-spec : {M : Type 1} → statement M
 judge-form-spec =
@@ -110,12 +110,12 @@ judge-form-spec =
     returns
     is-misplaced-requires
     returns-2
-    is-outside-requires
+    is-repeated-requires
     returns-3
+    is-outside-requires
+    returns-4
     cast-is-miscounted
     is-miscounted-requires
-    returns-4
-    is-repeated-requires
     returns-5
     judge-end-requires
     returns-6)
