@@ -84,6 +84,8 @@ class Documents:
             elif told[name] != self.row(name):
                 yield f"docs/EDITS.md says {told[name]}, the edit and its log say {self.row(name)}"
         yield from (f"docs/EDITS.md tells {name}, which is no edit" for name in told if name not in self.edits)
+        others = set(self.table_path.read_text().split("\n")) - set(self.table().split("\n")) - set(told.values())
+        yield from (f"docs/EDITS.md has a line that is no row: {line}" for line in sorted(others))
         yield from (f"docs/PROMISES.md does not name {name}" for name in self.edits if name not in named)
         yield from (f"docs/PROMISES.md names {name}, which is no edit" for name in sorted(named - self.edits.keys()))
 

@@ -39,6 +39,7 @@ EXCHANGED = {
     "a side condition for the promise": ("EDITS.md", "`Law.antt`, `total-even`; first at", "only at"),
     "another purpose": ("EDITS.md", "what too_large breaks", "what it breaks"),
     "a row left out": ("EDITS.md", "| other_sign |", "| other |"),
+    "a line that is no row": ("EDITS.md", "## text", "=======\n## text"),
     "an edit not promised": ("PROMISES.md", ", too_large", ""),
     "a promise of no edit": ("PROMISES.md", "too_large", "too_large, too_small"),
 }

@@ -4,18 +4,20 @@
   python3 tests/places.py --self-test   the same reader on right sources, and on wrong ones by name (places_self_test.py)
 
 An index is a usize: a parameter, a field, a result or a length of that type, a loop's variable, a name that stands in the brackets of an element, and what these are given to.
-A product is at fault where it stands in such brackets, is given to an index, is cast to one, or has an index as a factor. Contracts and comments are not code."""
+A product is at fault where it stands in such brackets, is given to an index, or has an index as a factor; a shift to the left counts as one, and so does a method that multiplies.
+A number becomes an index only as a parameter by its name: no other cast to usize, so that no product of numbers, a call's or a local's, becomes a place. Contracts and comments are not code."""
 
 import re
 import sys
 from pathlib import Path
 from typing import NamedTuple
 
-CRATES = ["linear", "raised_rows", "reckoning", "margins", "residuals", "ratios", "bounds", "checker"]
+CRATES = ["integer", "linear", "raised_rows", "reckoning", "margins", "residuals", "ratios", "bounds", "checker"]
 
-TOKEN = re.compile(r"[A-Za-z_]\w*|\d\w*|::|=>|->|\.\.=|\.\.|[-+*/%&|^]=|[-+*/%&|^<>=!]=?|[()\[\]{};:,.@#'\"«»]")
+TOKEN = re.compile(r"[A-Za-z_]\w*|\d\w*|::|=>|->|\.\.=|\.\.|<<=?|[-+*/%&|^]=|[-+*/%&|^<>=!]=?|[()\[\]{};:,.@#'\"«»]")
 OPEN, CLOSE = "([{", ")]}"
 NAME = re.compile(r"[A-Za-z_]\w*")
+METHOD = re.compile(r"(\w+_)?(mul|pow|shl)")
 KEYWORDS = {"return", "if", "else", "while", "match", "in", "let", "mut", "as", "for", "loop", "break"}
 
 
@@ -76,7 +78,7 @@ def is_binary(tokens, at):
 
 
 def products(tokens):
-    return [at for at, token in enumerate(tokens) if token == "*" and is_binary(tokens, at)]
+    return [at for at, token in enumerate(tokens) if token in ("*", "<<") and is_binary(tokens, at)]
 
 
 def left_of(tokens, at):
@@ -149,7 +151,7 @@ class Reader:
     def given(self, body):
         """What is given to a name: the name, the operator and the expression."""
         for at, token in enumerate(body):
-            if token in ("=", "+=", "-=", "*=") and NAME.fullmatch(body[at - 1]):
+            if token in ("=", "+=", "-=", "*=", "<<=") and NAME.fullmatch(body[at - 1]):
                 name = body[at - 3] if body[at - 2] == ":" else body[at - 1]
                 end = at + 1
                 while body[end] != ";":
@@ -181,24 +183,36 @@ class Reader:
             if products(inside):
                 yield "in brackets: " + " ".join(inside)
         for name, sign, value in self.given(body):
-            if name in names and (sign == "*=" or products(value)):
+            if name in names and (sign in ("*=", "<<=") or products(value)):
                 yield f"given to an index: {name} {sign} {' '.join(value)}"
         for at in products(body):
             left, right = left_of(body, at), right_of(body, at + 1)
             if self.is_index(left, names) or self.is_index(right, names):
                 yield f"a factor is an index: {' '.join(left)} * {' '.join(right)}"
+        parameters = {function.parameters[at - 1] for at, token in enumerate(function.parameters) if token == ":"}
         for at, token in enumerate(body):
-            if token == "as" and body[at + 1] == "usize" and body[at - 1] == ")" and products(body[start_of(body, at - 1) : at]):
-                yield "cast to an index: " + " ".join(body[start_of(body, at - 1) : at + 2])
+            if token == "as" and body[at + 1] == "usize" and (body[at - 1] not in parameters or body[at - 2] == "."):
+                yield "cast to an index: " + " ".join([*left_of(body, at), "as usize"])
+            if METHOD.fullmatch(token) and body[at - 1] == ".":
+                yield "a method that multiplies: " + token
 
     def all_faults(self):
         return [f"{name}, {function.name}: {fault}" for name in self.sources for function in self.functions[name] for fault in self.faults(function)]
 
 
-def sources():
+ROOT = Path(__file__).resolve().parent.parent
+
+
+def sources(crates=CRATES):
     """The text of every source of the crates, by its path."""
-    root = Path(__file__).resolve().parent.parent / "crates"
-    return {f"{crate}/src/{path.name}": path.read_text() for crate in CRATES for path in sorted((root / crate / "src").glob("*.rt"))}
+    return {f"{crate}/src/{path.name}": path.read_text() for crate in crates for path in sorted((ROOT / "crates" / crate / "src").glob("*.rt"))}
+
+
+def not_read():
+    """The crates with code that a crate with sums can call and that are not read. The checker has no sum of its own."""
+    lines = [line.split(":") for line in (ROOT / "crates.txt").read_text().splitlines() if ":" in line]
+    beneath = {used for name, deps in lines if name in CRATES and name != "checker" for used in deps.split() if used not in CRATES}
+    return sorted(name for name in beneath if any(any(functions(code(text))) for text in sources([name]).values()))
 
 
 def main():
@@ -212,6 +226,7 @@ def main():
     reader = Reader(sources())
     faults = reader.all_faults()
     faults += [f"crates/{crate}/src has no function" for crate in CRATES if not any(reader.functions[name] for name in reader.functions if name.startswith(crate + "/"))]
+    faults += [f"crates/{crate}/src has functions that the sums can call, and is not read" for crate in not_read()]
     for fault in faults:
         print("FAILED", fault)
     print(f"{max(0, sum(map(len, reader.functions.values())) - len(faults))} passed, {len(faults)} failed")
