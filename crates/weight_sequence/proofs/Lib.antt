@@ -1,0 +1,10 @@
+pub mod Table
+pub mod Bits
+pub mod Lists
+pub mod Sizes
+pub mod First
+pub mod Listed
+pub mod Contract
+pub mod Promises
+pub mod Agreement
+pub mod Checks
