@@ -1,6 +1,7 @@
 -- What the contract of `find_weights` promises (specs/Promised).
 --   Case, case-of  — what is said, and where
 --   found-usable   — a list is found of a usable request alone
+--   zero-found, number-none — by the number alone: 0 is said where a list is found, and 18 where none is
 --   count-first    — the tried count is the place of the first good list, at most the allowance
 --   none-exactly   — 18 is said exactly where neither 8 nor 3 is and none of the allowed lists is good
 --   sums-fit       — of a usable request every sum |D|·w of every list of the sequence is at most 2^60 + 2^35
@@ -14,6 +15,7 @@ use native.Mathlib.Omega.{arith}
 use borrow.Author.Tests.{ltb-true, ltb-false}
 use lib.Dec.{T, ltb}
 use lib.IntN.{ℤ, pos}
+use lib.ListN.{getD}
 use Rattle.linear.proofs.Places.{place}
 use Rattle.rules.specs.Range.{inRange}
 use Rattle.rules.specs.declared.Kind.the-variants as kind
@@ -63,6 +65,18 @@ none-case Q (is-0 u l) z = absurd (nothing-is-not (sym z))
 
 pub found-usable : (Q : Request) → searchAnswer Q ≡ [] → UsableRequest Q
 found-usable Q z = found-case Q (case-of Q) z .0
+
+by-number : (Q : Request) {w : List ℕ} → Case Q w → ((getD w 0 0 ≡ 0 → w ≡ []) × (getD w 0 0 ≡ 18 → w ≡ 18 ∷ []))
+by-number Q (is-8 e) = (λ z. absurd (omega arith), λ z. absurd (omega arith))
+by-number Q (is-3 e f) = (λ z. absurd (omega arith), λ z. absurd (omega arith))
+by-number Q (is-18 u l) = (λ z. absurd (omega arith), λ z. refl)
+by-number Q (is-0 u l) = (λ z. refl, λ z. absurd (omega arith))
+
+pub zero-found : (Q : Request) → getD (searchAnswer Q) 0 0 ≡ 0 → searchAnswer Q ≡ []
+zero-found Q = by-number Q (case-of Q) .0
+
+pub number-none : (Q : Request) → getD (searchAnswer Q) 0 0 ≡ 18 → searchAnswer Q ≡ 18 ∷ []
+number-none Q = by-number Q (case-of Q) .1
 
 -- ---- the count
 module _ (Q : Request) (r : Found) (weights : List ℤ) (x : FoundAs Q r weights) where
