@@ -1,7 +1,7 @@
 -- What the ranges say of a number.
 --   range-size — a number in range is at most `sizeOf k` in size
 --   range-natural — where the lowest value is a natural number, a number in range is one, and at least that
---   size-range, solution-scale-range, .., weight-range, in-allowance-range — what the range of each kind is
+--   size-range, solution-scale-range, .., weight-range, allowance-range, in-allowance-range — what the range of each kind is
 --   both, both-left, both-right, not-both, not-first, neither-left, neither-right — of two tests
 --   range-test — what the code tests is inRange
 use mathlib.Core.Path.{_≡_, refl, sym, subst}
@@ -86,6 +86,10 @@ module _ (n : ℕ) where
   pub inverse-scale-range : inRange InverseScale (pos n) ≡ true → n ≤ 20
   unfolding rangeOf ranges
   inverse-scale-range e = range-size InverseScale (pos n) e
+
+  pub allowance-range : inRange Allowance (pos n) ≡ true → (1 ≤ n) × (n ≤ 64)
+  unfolding rangeOf ranges
+  allowance-range e = (range-natural Allowance 1 (pos n) refl e .1, range-size Allowance (pos n) e)
 
   pub in-allowance-range : 1 ≤ n → n ≤ 64 → inRange Allowance (pos n) ≡ true
   unfolding inRange rangeOf ranges

@@ -1,6 +1,7 @@
 -- The contract of a search for weights, case by case.
 --   LongRequest, long-of — lists that are not too short are long enough
---   FitRequest, fit-of — a request that passes 8 and 3: n and t in their ranges, the numbers used in theirs, the weight list long enough
+--   FitRequest, fit-of — a request that passes 8 and 3: n, t and the allowance in their ranges, the numbers used in theirs, the weight
+--     list long enough
 --   answer-short, answer-range, answer-found, answer-none — what is said
 --   found-short, found-range, found-none, found-list — the contract where 8 is said, where 3 is, where 18 is, and where a list is found
 use mathlib.Core.Path.{_≡_, refl, sym, ap, _∙_}
@@ -17,7 +18,7 @@ use Rattle.linear.proofs.Places.{square}
 use Rattle.rules.specs.Range.{inRange, allInRange, shortMatrix}
 use Rattle.rules.specs.declared.Kind.the-variants as kind
 use Rattle.rules.specs.declared.Refusal.the-variants.{TooShort, OutOfRange}
-use Rattle.rules.proofs.Ranges.{both-left, both-right, neither-left, neither-right, size-range, inverse-scale-range, matrix-range, inverse-range}
+use Rattle.rules.proofs.Ranges.{both-left, both-right, neither-left, neither-right, size-range, inverse-scale-range, allowance-range, matrix-range, inverse-range}
 use Rattle.rules.proofs.Verdicts.{accepted-new, accepted-old, nothing-is-not}
 use Rattle.reckoning.specs.Arrays.{Begins, stored}
 use Rattle.reckoning.proofs.Filled.{stored-ext}
@@ -47,6 +48,7 @@ long-of Q h =
 pub record FitRequest (Q : Request) : Type 0 where
   pub few : Q .n ≤ 32
   pub scale : Q .t ≤ 20
+  pub allowed : Q .allowance ≤ 64
   pub matrix : MatrixList (Q .matrix) (Q .n)
   pub inverse : MatrixList (Q .inverse) (Q .n)
   pub long : Q .n ≤ length (Q .weights)
@@ -61,6 +63,7 @@ fit-of Q e f =
     record {
       few = few;
       scale = inverse-scale-range (Q .t) (both-left _ _ rest);
+      allowed = allowance-range (Q .allowance) (both-right (inRange kind.InverseScale (pos (Q .t))) _ rest) .1;
       matrix = squared kind.Matrix (Q .matrix) (Q .n) matrix-range (both-left _ _ lists) (omega (arith, square few, long .matrix));
       inverse = squared kind.Inverse (Q .inverse) (Q .n) inverse-range (both-right (allInRange kind.Matrix (Q .n * Q .n) (at (Q .matrix))) _ lists)
           (omega (arith, square few, long .inverse));

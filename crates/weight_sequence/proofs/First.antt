@@ -1,5 +1,6 @@
 -- The first good list.
 --   good-margins, margins-good — a list is good exactly where every margin is above 0
+--   first-most — the first good place is at most a
 --   past-none, none-past — no list of the first a is good exactly where the first good place is a
 --   found-good, found-margins — the list at the first good place is good: every margin is above 0;  found-first — no list before it is
 --   larger-allowance — a larger allowance finds the same list at the same place
@@ -13,6 +14,7 @@ use Rattle.integer.proofs.Search.{Searched, found, nowhere, searched, first-pas
 use Rattle.enclosure.specs.Problem.{Problem}
 use Rattle.enclosure.specs.Reckoning.{marginFails}
 use Rattle.enclosure.specs.Demand.{Margins}
+use Rattle.reckoning.proofs.Columns as columns
 use Rattle.weight_sequence.specs.Sequence.{weighted, tried, good, firstGood}
 
 module _ (P : Problem) (w : ℕ → ℕ) where
@@ -27,6 +29,9 @@ module _ (P : Problem) (w : ℕ → ℕ) where
 module _ (P : Problem) (a : ℕ) where
   abbrev goodAt : ℕ → Bool
   goodAt k = good P (tried P k)
+
+  pub first-most : {x : ℕ} → x ≡ firstGood P a → x ≤ a
+  first-most = columns.first-most a goodAt
 
   pub past-none : a ≤ firstGood P a → (k : ℕ) → k < a → good P (tried P k) ≡ false
   past-none = first-past a goodAt

@@ -1,4 +1,4 @@
-pub mod Table
+pub mod Cases
 pub mod Bits
 pub mod Lists
 pub mod Sizes
@@ -6,5 +6,5 @@ pub mod First
 pub mod Listed
 pub mod Contract
 pub mod Promises
-pub mod Agreement
+pub mod Unread
 pub mod Checks

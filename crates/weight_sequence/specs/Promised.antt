@@ -1,4 +1,4 @@
--- What Paper 7 promises of an answer, in its own words; theorems in proofs/Promises and proofs/Agreement show each from the contract alone.
+-- What Paper 7 promises of an answer, in its own words; theorems in proofs/Promises and proofs/Unread show each from the contract alone.
 --   UsableRequest Q — no lent list is too short, and n, t, the allowance and every number used are in their ranges: neither 8 nor 3
 --   FirstPlace Q c — list c of the sequence, counted from 1, is the first good one, and c is at most the allowance
 --   NoGood Q       — none of the allowed lists is good

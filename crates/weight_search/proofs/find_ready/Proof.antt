@@ -2,6 +2,7 @@ use mathlib.Core.Path.{_≡_}
 use native.Mathlib.Omega.{arith}
 use Rattle.weight_sequence.specs.Request.{Request, request, searchProblem}
 use Rattle.weight_sequence.proofs.Contract.{FitRequest, fit-of, found-list, found-none}
+use Rattle.weight_sequence.proofs.First.{first-most}
 use Rattle.weight_steps.proofs.Stored.{below-of}
 use borrow.Author.Needs.{needs}
 use Rattle.weight_search.proofs.find_ready.Statement.{statement}
@@ -23,7 +24,10 @@ write-weights-requires c κs =
     ((f .few, f .long), below-of (searchProblem (Q (r .before))) _ (r .search .ensures .list))
 
 add-t14 : tie.Need-add-t14
-add-t14 c = search needs
+add-t14 c =
+    let r = c .before .before .before .before .before in
+    let s = r .before in
+    omega (arith, fit s .allowed, first-most (searchProblem (Q s)) (s .args .allowance) (r .search .ensures .place))
 
 same-length : tie.Need-same-length
 same-length c = search needs
