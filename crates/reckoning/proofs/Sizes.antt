@@ -17,11 +17,10 @@ use Rattle.integer.specs.Finite.{sum}
 use Rattle.integer.proofs.Absolute.{abs-sub, abs-*}
 use Rattle.integer.proofs.Sum.{abs-sum≤}
 use Rattle.linear.specs.Matrix.{identity, apply, product}
-use Rattle.linear.specs.Slice.{matrixOf}
 use Rattle.linear.specs.Reach.{ColumnList, MatrixList}
 use Rattle.linear.proofs.Product.{identity-same, identity-other}
 use Rattle.linear.proofs.Places.{place, square}
-use Rattle.raised_rows.specs.Raised.{raisedBy, loweredRows}
+use Rattle.raised_rows.specs.Raised.{raisedBy}
 use Rattle.enclosure.specs.Problem.{Problem}
 use Rattle.enclosure.specs.Reckoning.{defect}
 use Rattle.reckoning.specs.Parts.{rowsPart, aboveAllowed}
