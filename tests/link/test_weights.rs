@@ -29,7 +29,8 @@ fn change(search: &mut Search, chance: &mut Chance) {
         which => {
             let list = if which == 2 { &mut search.matrix } else { &mut search.inverse };
             let used = (search.n.min(32) * search.n.min(32)) as usize;
-            let at = chance.below(if chance.below(4) == 0 || used == 0 { MATRIX } else { used } as u64) as usize;
+            let range = if chance.below(4) == 0 || used == 0 { MATRIX } else { used };
+            let at = chance.below(range as u64) as usize;
             list[at] = list[at].wrapping_add(chance.pick(&[-1, 1, 7, -100, 1 << 19]));
         }
     }
