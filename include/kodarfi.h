@@ -5,7 +5,7 @@
  * (a pointer without const) overlaps anything else of the same call. Calls keep no state, take at most 96 kilobytes of
  * stack and no other memory, and may run at the same time.
  *
- * Each gives document 01's number of the first refusal, 0 where nothing is refused, and writes `places` in any case: the row, column, count or
+ * Each gives the papers' number of the first refusal, 0 where nothing is refused, and writes `places` in any case: the row, column, count or
  * line that goes with the refusal, 0 where there is none. Rows, columns and lines count from 1. */
 #ifndef KODARFI_H
 #define KODARFI_H
@@ -67,6 +67,29 @@ uint32_t kodarfi_listing(const uint8_t *file, size_t file_len,
 uint32_t kodarfi_entry(int64_t guess, uint64_t bound, uint32_t s,
                        int64_t *value, uint64_t *value_bound,
                        uint64_t places[2]);
+
+/* Weights found by the program (document 02, Paper 7), for a solver that supplies none of use.
+ *
+ * n and t as in kodarfi_check; matrix and inverse have at least 1,024 numbers, of which the first n * n are used, row after row, and weights at least 32.
+ * At most `allowance` lists of weights are tried, 1 to 64: first 1 everywhere, then each from the one before it, up to the first with which every margin is
+ * above 0.
+ *
+ * The answer is 0 where such a list is found: it then stands in the first n weights, each 1 to 1,024, the rest is as before, and *tried is how many lists were
+ * tried. A check of the same n, t, matrix and inverse with these weights is never refused with 5. A larger allowance finds the same list. Else the answer is
+ * the number of the first refusal in this order, and the weights and *tried are as before:
+ *
+ *   8    a list is too short
+ *   3    n, t, the allowance or a number that is used is outside its range
+ *   18   none of the allowed lists is good
+ *
+ * places: always 0, 0. */
+uint32_t kodarfi_find_weights(uint32_t n, uint32_t t,
+                              const int64_t *matrix, size_t matrix_len,
+                              const int64_t *inverse, size_t inverse_len,
+                              uint32_t allowance,
+                              int64_t *weights, size_t weights_len,
+                              uint32_t *tried,
+                              uint64_t places[2]);
 
 #ifdef __cplusplus
 }

@@ -1,6 +1,6 @@
 /* The library linked from C, each of its calls beside what the second implementation says.
  *
- *   link FOLDER [--first]   what the emitters wrote: FOLDER/nets.txt, files.bin and entries.txt; with --first it stops at the first test that fails
+ *   link FOLDER [--first]   what the emitters wrote: FOLDER/nets.txt, files.bin, entries.txt and weights.txt; with --first it stops at the first test that fails
  *
  * The last line is 'N passed, M failed'. */
 #include "tests.h"
@@ -53,6 +53,7 @@ int main(int argc, char **argv) {
         return 2;
     }
     run(test_entries, argv[1], "entries.txt");
+    run(test_weights, argv[1], "weights.txt");
     run(test_files, argv[1], "files.bin");
     run(test_lists, argv[1], "nets.txt");
     return close_count();

@@ -1,6 +1,7 @@
-//! The library linked from Rust, each of its calls beside what the second implementation says, and the check on lists beside a version in Rust.
+//! The library linked from Rust, each of its calls beside what the second implementation says, and the check on lists and the search for weights beside
+//! versions in Rust.
 //!
-//!   link FOLDER [--first]   what the emitters wrote: FOLDER/nets.txt, files.bin and entries.txt; with --first it stops at the first test that fails
+//!   link FOLDER [--first]   what the emitters wrote: FOLDER/nets.txt, files.bin, entries.txt and weights.txt; with --first it stops at the first test that fails
 //!
 //! The last line is 'N passed, M failed'.
 
@@ -11,6 +12,8 @@ mod files;
 mod lists;
 mod reckoning;
 mod test_lists;
+mod test_weights;
+mod weights;
 
 use count::Count;
 use std::process::exit;
@@ -35,6 +38,7 @@ fn main() {
     };
     let mut count = Count::new(rest == ["--first"]);
     entries::test_entries(&mut count, &text_of(folder, "entries.txt"));
+    test_weights::test_weights(&mut count, &weights::read_searches(&text_of(folder, "weights.txt")));
     files::test_files(&mut count, &bytes_of(folder, "files.bin"));
     test_lists::test_lists(&mut count, &lists::read_nets(&text_of(folder, "nets.txt")));
     count.close()

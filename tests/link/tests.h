@@ -20,4 +20,7 @@ void test_files(FILE *files);
 /* kodarfi_entry on the lines of tests/emit_entries.py. */
 void test_entries(FILE *entries);
 
+/* kodarfi_find_weights on the searches of tests/emit_weights.py. */
+void test_weights(FILE *searches);
+
 #endif

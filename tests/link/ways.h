@@ -34,6 +34,27 @@
     X(large_bound_refused)        \
     X(scale_21_taken)             \
     X(guess_one_wider)            \
+    /* kodarfi_find_weights */    \
+    X(shift_of_each_row)          \
+    X(one_bit_more)               \
+    X(largest_to_1024)            \
+    X(no_plus_one)                \
+    X(tried_from_0)               \
+    X(last_for_first)             \
+    X(ones_unseen)                \
+    X(first_margin_alone)         \
+    X(margin_0_good)              \
+    X(written_with_18)            \
+    X(refused_search_counts)      \
+    X(said_5_for_18)              \
+    X(signed_defect)              \
+    X(search_by_a_g)              \
+    X(allowance_0_taken)          \
+    X(allowance_65_taken)         \
+    X(short_weights_taken)        \
+    X(search_reads_past_n)        \
+    X(writes_all_weights)         \
+    X(search_places_left)         \
     /* kodarfi_listing: file */   \
     X(first_4096_bytes)           \
     X(last_line_needs_feed)       \

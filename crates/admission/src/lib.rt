@@ -1,9 +1,7 @@
 // The tests of a check on lists: 8, 3, and the order of 5, 6 and 7.
 ghost use mathlib.Core.Path.{_≡_};
 ghost use Prim.Native.Nat.{_≤_, _<_};
-ghost use lib.IntN.{pos};
 ghost use lib.ListN.{length};
-ghost use Rattle.rules.specs.Range.{inRange};
 ghost use Rattle.rules.specs.Order.{verdict};
 ghost use Rattle.rules.specs.Refusal.{said};
 ghost use Rattle.checked.specs.Input.{anyShort, sizesInRange, listsInRange};
@@ -12,7 +10,7 @@ use rules::Kind;
 use rules::Outcome;
 use rules::Refusal;
 use rules::all_in_range;
-use rules::is_in_range;
+use rules::is_natural_in_range;
 
 // 8: whether a list of one of these lengths is too short.
 pub fn is_short(a: usize, b: usize, x: usize, g: usize, w: usize, e: usize, l: usize) -> bool
@@ -37,12 +35,6 @@ pub fn is_short(a: usize, b: usize, x: usize, g: usize, w: usize, e: usize, l: u
         return true;
     }
     l < 1024
-}
-
-fn is_natural_in_range(kind: Kind, x: u32) -> bool
-    ensures { λ r. ⌜ r ≡ inRange kind (pos x) ⌝ }
-{
-    is_in_range(kind, x as i64)
 }
 
 // 3 for n, s and t.

@@ -1,4 +1,5 @@
 -- What holds of input that passes 8 and 3.
+--   squared — a matrix list whose numbers are in range
 --   Fit, fit-of — n, s, t in their ranges, the lists long enough, every number used in its range
 use mathlib.Core.Path.{_≡_}
 use mathlib.Core.Bool.{true, false}
@@ -35,7 +36,7 @@ pub record Fit (I : Input) : Type 0 where
 listed : (k : Kind) (xs : List ℤ) (n b : ℕ) → ((z : ℤ) → inRange k z ≡ true → natAbs z ≤ b) → allInRange k n (at xs) ≡ true → n ≤ length xs → ColumnList xs n b
 listed k xs n b h e long = record { long = long; within = record { size = λ i l. h (at xs i) (all-at k n (at xs) e i l) } }
 
-squared : (k : Kind) (xs : List ℤ) (n : ℕ) → ((z : ℤ) → inRange k z ≡ true → natAbs z ≤ 2 ^ 20) → allInRange k (n * n) (at xs) ≡ true → n * n ≤ length xs → MatrixList xs n
+pub squared : (k : Kind) (xs : List ℤ) (n : ℕ) → ((z : ℤ) → inRange k z ≡ true → natAbs z ≤ 2 ^ 20) → allInRange k (n * n) (at xs) ≡ true → n * n ≤ length xs → MatrixList xs n
 squared k xs n h e long = record { long = long; within = record { size = λ i l. h (at xs i) (all-at k (n * n) (at xs) e i l) } }
 
 pub fit-of : (I : Input) → short I ≡ false → inRanges I ≡ true → Fit I

@@ -7,8 +7,8 @@ use mathlib.Core.List.{List}
 use Prim.Native.Nat.{ℕ, zero, suc, _+_, _*_, _-_, _/_, _%_, _≤_, _<_}
 use native.Mathlib.Omega.{arith}
 use native.Mathlib.Nat.{mul-le-mul, mod-lt}
-use borrow.Author.Tests.{leb-true, leb-false, eq-eqb, ne-eqb, eqb-false, ltb-false}
-use lib.Dec.{eqb, leb}
+use borrow.Author.Tests.{eqb-false, ltb-false}
+use lib.Dec.{eqb}
 use lib.IntN.{ℤ, pos, natAbs}
 use lib.ListN.{getD, length}
 use Rattle.integer.specs.Finite.{first}
@@ -19,7 +19,7 @@ use Rattle.raised_rows.specs.Place.{RowsOfMatrix}
 use Rattle.enclosure.specs.Problem.{T, columnOf}
 use Rattle.enclosure.specs.Reckoning.{load, marginFails, residual, allowedResidual, exceeds}
 use Rattle.enclosure.proofs.Before.{exceeds-before}
-use Rattle.enclosure.proofs.Margin.{margin-test}
+use Rattle.enclosure.proofs.Margin.{cut-test, margin-test}
 use Rattle.reckoning.specs.Arrays.{Begins}
 use Rattle.reckoning.specs.Parts.{rowsPart, columnResidual, cutMargin, aboveAllowed}
 use Rattle.reckoning.proofs.Sizes.{power-size}
@@ -28,13 +28,6 @@ use Rattle.ratios.specs.Ratio.{Positive}
 use Rattle.checked.specs.Order.{firstMargin, firstInversePlace}
 use Rattle.checker.specs.Work.{Work, workProblem, workResidual, workSlack, Workable}
 use Rattle.checker.proofs.Rows.{margin-is}
-
-cut-test : (a b : ℕ) → eqb (a - b) 0 ≡ leb a b
-cut-test a b = go (leb a b) refl
-  where
-    go : (t : Bool) → leb a b ≡ t → eqb (a - b) 0 ≡ t
-    go true e = eq-eqb (a - b) 0 (omega (arith, leb-true a b e))
-    go false e = ne-eqb (a - b) 0 (λ z. omega (arith, leb-false a b e))
 
 module _ (W : Work) (ready : Workable W) where
   -- ---- margins

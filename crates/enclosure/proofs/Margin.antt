@@ -1,4 +1,5 @@
 -- The margin in ℕ: g_m = T·w_m − load where it is above 0.
+--   cut-test     — a difference in ℕ is 0 exactly where nothing is left
 --   margin-test  — it is 0 or less exactly where T·w_m ≤ load
 --   margin-sum   — where it is above 0, g_m + load = T·w_m;  margin-above — and its size is above 0
 --   margin-cut   — its size is then ℕ's difference
@@ -6,8 +7,8 @@ use mathlib.Core.Path.{_≡_, refl, sym, _∙_}
 use mathlib.Core.Bool.{Bool, true, false}
 use Prim.Native.Nat.{ℕ, zero, suc, _+_, _*_, _-_, _≤_, _<_}
 use native.Mathlib.Omega.{arith}
-use borrow.Author.Tests.{leb-true, leb-false, lt-leb}
-use lib.Dec.{leb}
+use borrow.Author.Tests.{leb-true, leb-false, lt-leb, eq-eqb, ne-eqb}
+use lib.Dec.{eqb, leb}
 use lib.IntN.{pos, negℤ, natAbs, _-ℤ_}
 use lib.Signed.{leZ}
 use Rattle.integer.proofs.Difference.{zz}
@@ -23,6 +24,13 @@ less a b h = simp zz (omega arith)
 
 more : (a b : ℕ) → b ≤ a → pos a -ℤ pos b ≡ pos (a - b)
 more a b h = simp zz (omega arith)
+
+pub cut-test : (a b : ℕ) → eqb (a - b) 0 ≡ leb a b
+cut-test a b = go (leb a b) refl
+  where
+    go : (t : Bool) → leb a b ≡ t → eqb (a - b) 0 ≡ t
+    go true e = eq-eqb (a - b) 0 (omega (arith, leb-true a b e))
+    go false e = ne-eqb (a - b) 0 (λ z. omega (arith, leb-false a b e))
 
 pub difference-test : (a b : ℕ) → leZ (pos a -ℤ pos b) (pos 0) ≡ leb a b
 difference-test a b = go (leb a b) refl

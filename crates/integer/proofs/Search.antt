@@ -1,5 +1,6 @@
 -- Laws of the largest value and of the first place (specs/Finite).
 --   first-none, first-next, first-end — at none, at n + 1 and at the end, for loops
+--   largest-none, largest-next, largest-end — the same of the largest value
 --   largest-at, largest-≤, largest-ext — a value is at most the largest; the largest is at most what all values are; equal values have the same largest
 --   upto      — what holds of all below n, and of n, holds of all below n + 1
 --   Searched, searched — the test holds at the first place and nowhere before it, or nowhere;  first-past — at n it holds nowhere
@@ -23,6 +24,17 @@ upto P n j l f p = go (ℕ-discrete j n)
     go : Dec (j ≡ n) → P j
     go (yes e) = rw e p
     go (no e) = f j (omega arith)
+
+pub largest-none : (f : ℕ → ℕ) → largest 0 f ≡ 0
+unfolding largest
+largest-none f = refl
+
+pub largest-next : (n : ℕ) (f : ℕ → ℕ) → largest (n + 1) f ≡ max (largest n f) (f n)
+unfolding largest
+largest-next n f = ap (λ (k : ℕ). largest k f) (add-one n)
+
+pub largest-end : {i n : ℕ} (f : ℕ → ℕ) → i ≤ n → n ≤ i → largest i f ≡ largest n f
+largest-end f p q = ap (λ (m : ℕ). largest m f) (le-antisymm p q)
 
 pub largest-at : (n : ℕ) (f : ℕ → ℕ) (i : ℕ) → i < n → f i ≤ largest n f
 unfolding largest

@@ -2,3 +2,4 @@ pub mod Told
 pub mod Entry
 pub mod Meaning
 pub mod Covered
+pub mod Weights

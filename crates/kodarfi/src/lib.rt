@@ -5,7 +5,9 @@ ghost use Rattle.rules.specs.Refusal.{said};
 ghost use Rattle.checked.specs.Input.{input};
 ghost use Rattle.refusal.specs.Refused.{printed};
 ghost use Rattle.refusal.specs.Reply.{replyOf};
+ghost use Rattle.weight_sequence.specs.Request.{request};
 ghost use Rattle.kodarfi.specs.Exported.{CheckExported, ListingExported, EntryExported};
+ghost use Rattle.kodarfi.specs.Weights.{SearchExported};
 use checker::check;
 use entry::Registered;
 use entry::register_entry;
@@ -14,6 +16,9 @@ use refusal::Reply;
 use refusal::no_refusal;
 use refusal::reply_of;
 use rules::Outcome;
+use weight_reply::found_reply;
+use weight_reply::tried_or;
+use weight_search::find_weights;
 
 // What a check says; a refusal that gives its number alone leaves both places 0.
 fn outcome_reply(outcome: Outcome) -> Reply
@@ -105,4 +110,23 @@ pub extern "C" fn kodarfi_entry(
         }
         Registered::Refused(refusal) => tell(reply_of(refusal, 0), places),
     }
+}
+
+// Weights found by the program: `weight_search::find_weights`.
+#[no_mangle]
+pub extern "C" fn kodarfi_find_weights(
+    n: u32,
+    t: u32,
+    matrix: &[i64],
+    inverse: &[i64],
+    allowance: u32,
+    weights: &mut [i64],
+    tried: &mut u32,
+    places: &mut [u64; 2],
+) -> u32
+    ensures { λ r. ⌜ SearchExported (request n t (now (matrix .entry)) (now (inverse .entry)) allowance (now (weights .entry))) (now (tried .entry)) r (now (places .exit)) (now (tried .exit)) (now (weights .exit)) ⌝ }
+{
+    let found = find_weights(n, t, matrix, inverse, allowance, weights);
+    *tried = tried_or(found, *tried);
+    tell(found_reply(found), places)
 }

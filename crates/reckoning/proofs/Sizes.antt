@@ -1,7 +1,7 @@
 -- Sizes of the reckoning's numbers, all within an i64.
 --   power-size, unit-same, unit-other, unit-size, scaled-size — of 2^t, of the numbers of T·I and of S·b
 --   raisable — a matrix list, as `raise_rows` and `raise_columns` ask for it
---   defect-size — |D_mj| ≤ 2^46
+--   Ranged P, defect-most — n at most 32, t at most 20, A and G at most 2^20 in size: then |D_mj| ≤ 2^45 + 2^20;  defect-size — from raised rows
 --   row-ends, column-ends — places of rows and columns;  above-below, above-above — the code's test of a residual
 use mathlib.Core.Path.{_≡_, refl, sym, ap, subst}
 use mathlib.Core.Bool.{Bool, true, false, cond}
@@ -17,11 +17,11 @@ use Rattle.integer.specs.Finite.{sum}
 use Rattle.integer.proofs.Absolute.{abs-sub, abs-*}
 use Rattle.integer.proofs.Sum.{abs-sum≤}
 use Rattle.linear.specs.Matrix.{identity, apply, product}
-use Rattle.linear.specs.Slice.{matrixOf}
 use Rattle.linear.specs.Reach.{ColumnList, MatrixList}
 use Rattle.linear.proofs.Product.{identity-same, identity-other}
 use Rattle.linear.proofs.Places.{place, square}
-use Rattle.raised_rows.specs.Raised.{raisedBy, loweredRows}
+use Rattle.raised_rows.specs.Raised.{raisedBy}
+use Rattle.enclosure.specs.Problem.{Problem}
 use Rattle.enclosure.specs.Reckoning.{defect}
 use Rattle.reckoning.specs.Parts.{rowsPart, aboveAllowed}
 use Rattle.reckoning.specs.Rows.{InverseRows}
@@ -53,17 +53,32 @@ scaled-size s b h k = rw (abs-* (pos (2 ^ s)) b) (le-trans (mul-le-mul (power-si
 pub raisable : {xs : List ℤ} {n : ℕ} → MatrixList xs n → ColumnList xs (n * n) raisedBy
 raisable q = record { long = q .long; within = record { size = λ k l. le-trans (q .within .size k l) (lit≤ tt) } }
 
+-- the numbers of D, for a problem in 01's ranges
+pub record Ranged (P : Problem) : Type 0 where
+  pub few : P .n ≤ 32
+  pub scale : P .t ≤ 20
+  pub matrix : (i j : ℕ) → i < P .n → j < P .n → natAbs (P .A i j) ≤ 2 ^ 20
+  pub inverse : (i j : ℕ) → i < P .n → j < P .n → natAbs (P .G i j) ≤ 2 ^ 20
+
+pub defect-most : (P : Problem) → Ranged P → (m j : ℕ) → m < P .n → j < P .n → natAbs (defect P m j) ≤ 2 ^ 45 + 2 ^ 20
+unfolding defect product apply
+defect-most P r m j lm lj =
+    omega (
+      arith,
+      abs-sub (pos (2 ^ P .t) *ℤ identity m j) (sum (P .n) (λ (k : ℕ). P .G m k *ℤ P .A k j)),
+      unit-size (P .t) m j (r .scale),
+      abs-sum≤ (P .n) (2 ^ 40) (λ (k : ℕ). P .G m k *ℤ P .A k j)
+          (λ k lk. rw (abs-* (P .G m k) (P .A k j)) (mul-le-mul (r .inverse m k lm lk) (r .matrix k j lk lj))),
+      mul-le-mul-right (2 ^ 40) (r .few),
+    )
+
 pub defect-size : (n t : ℕ) (matrix : List ℤ) (rows : List ℕ) (weights : List ℤ) → t ≤ 20 → n ≤ 32 → MatrixList matrix n → InverseRows rows n →
     (m j : ℕ) → m < n → j < n → natAbs (defect (rowsPart n t matrix rows weights) m j) ≤ 2 ^ 46
-unfolding defect product apply
 defect-size n t matrix rows weights ht few hm hr m j lm lj =
     omega (
       arith,
-      abs-sub (pos (2 ^ t) *ℤ identity m j) (sum n (λ (k : ℕ). loweredRows rows n m k *ℤ matrixOf matrix n k j)),
-      unit-size t m j ht,
-      abs-sum≤ n (2 ^ 40) (λ (k : ℕ). loweredRows rows n m k *ℤ matrixOf matrix n k j)
-          (λ k lk. rw (abs-* (loweredRows rows n m k) (matrixOf matrix n k j)) (mul-le-mul (hr .size m k lm lk) (hm .within .size (k * n + j) (place lk lj)))),
-      mul-le-mul-right (2 ^ 40) few,
+      defect-most (rowsPart n t matrix rows weights)
+          (record { few = few; scale = ht; matrix = λ i k li lk. hm .within .size (i * n + k) (place li lk); inverse = hr .size }) m j lm lj,
     )
 
 -- places of a row and of a column stay small

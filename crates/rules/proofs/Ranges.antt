@@ -1,19 +1,19 @@
 -- What the ranges say of a number.
 --   range-size — a number in range is at most `sizeOf k` in size
 --   range-natural — where the lowest value is a natural number, a number in range is one, and at least that
---   size-range, solution-scale-range, .., weight-range — what the range of each kind is
+--   size-range, solution-scale-range, .., weight-range, allowance-range, in-allowance-range — what the range of each kind is
 --   both, both-left, both-right, not-both, not-first, neither-left, neither-right — of two tests
 --   range-test — what the code tests is inRange
 use mathlib.Core.Path.{_≡_, refl, sym, subst}
 use mathlib.Core.Bool.{Bool, true, false, _&&_, _||_}
 use Prim.Native.Nat.{ℕ, _<_, _≤_, _^_, max}
 use native.Mathlib.Omega.{arith}
-use borrow.Author.Tests.{leb-true}
+use borrow.Author.Tests.{leb-true, le-leb}
 use lib.Dec.{T}
 use lib.IntN.{ℤ, pos, negsuc, natAbs}
 use lib.Signed.{leZ}
 use Rattle.rules.specs.declared.Kind.{Kind}
-use Rattle.rules.specs.declared.Kind.the-variants.{Size, SolutionScale, InverseScale, Matrix, Right, Guess, Inverse, Weight}
+use Rattle.rules.specs.declared.Kind.the-variants.{Size, SolutionScale, InverseScale, Matrix, Right, Guess, Inverse, Weight, Allowance}
 use Rattle.rules.specs.declared.Range.{Range}
 use Rattle.rules.specs.Range.{ranges, rangeOf, inRange}
 
@@ -86,6 +86,14 @@ module _ (n : ℕ) where
   pub inverse-scale-range : inRange InverseScale (pos n) ≡ true → n ≤ 20
   unfolding rangeOf ranges
   inverse-scale-range e = range-size InverseScale (pos n) e
+
+  pub allowance-range : inRange Allowance (pos n) ≡ true → (1 ≤ n) × (n ≤ 64)
+  unfolding rangeOf ranges
+  allowance-range e = (range-natural Allowance 1 (pos n) refl e .1, range-size Allowance (pos n) e)
+
+  pub in-allowance-range : 1 ≤ n → n ≤ 64 → inRange Allowance (pos n) ≡ true
+  unfolding inRange rangeOf ranges
+  in-allowance-range a b = both (le-leb 1 n a) (le-leb n 64 b)
 
 module _ (z : ℤ) where
   pub matrix-range : inRange Matrix z ≡ true → natAbs z ≤ 2 ^ 20

@@ -1,4 +1,5 @@
--- The ranges of document 01 ("The system and its steps"), one line of a table for each kind of number, and the lengths of lent lists.
+-- The ranges of document 01 ("The system and its steps") and, last, of document 02's Paper 7, one line of a table for each kind of number, and the
+-- lengths of lent lists.
 --   fromTo a b  — the range from a to b
 --   ranges      — the table: lowest and highest value, in the order of `Kind`
 --   indexOf k   — the line of the kind k
@@ -14,7 +15,7 @@ use lib.IntN.{ℤ, pos, negsuc}
 use lib.ListN.{getD}
 use lib.Signed.{leZ}
 use Rattle.rules.specs.declared.Kind.{Kind}
-use Rattle.rules.specs.declared.Kind.the-variants.{Size, SolutionScale, InverseScale, Matrix, Right, Guess, Inverse, Weight}
+use Rattle.rules.specs.declared.Kind.the-variants.{Size, SolutionScale, InverseScale, Matrix, Right, Guess, Inverse, Weight, Allowance}
 use Rattle.rules.specs.declared.Range.{Range}
 
 abbrev pub fromTo : ℤ → ℤ → Range
@@ -30,6 +31,7 @@ ranges =
     ∷ fromTo (negsuc 68719476735) (pos 68719476736)  -- guess X
     ∷ fromTo (negsuc 1048575) (pos 1048576)  -- inverse G
     ∷ fromTo (pos 1) (pos 1024)  -- weight w
+    ∷ fromTo (pos 1) (pos 64)  -- 02, Paper 7: "The caller states how many lists may be tried, 1 to 64."
     ∷ []
 
 abbrev pub indexOf : Kind → ℕ
@@ -41,6 +43,7 @@ indexOf Right = 4
 indexOf Guess = 5
 indexOf Inverse = 6
 indexOf Weight = 7
+indexOf Allowance = 8
 
 unfoldable pub rangeOf : Kind → Range
 rangeOf k = getD ranges (indexOf k) (fromTo (pos 0) (pos 0))

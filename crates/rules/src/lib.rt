@@ -1,4 +1,4 @@
-// The ranges of document 01, and its refusals.
+// The ranges of document 01 and of 02's Paper 7, and 01's refusals.
 ghost use mathlib.Core.Path.{_≡_};
 ghost use mathlib.Core.Bool.{_&&_};
 ghost use Prim.Native.Nat.{ℕ, _<_, _≤_};
@@ -17,6 +17,8 @@ pub enum Kind {
     Guess,
     Inverse,
     Weight,
+    // how many lists of weights may be tried
+    Allowance,
 }
 
 pub struct Range {
@@ -24,7 +26,7 @@ pub struct Range {
     pub highest: i64,
 }
 
-const RANGES: [Range; 8] = [
+const RANGES: [Range; 9] = [
     Range {
         lowest: 1,
         highest: 32,
@@ -56,6 +58,10 @@ const RANGES: [Range; 8] = [
     Range {
         lowest: 1,
         highest: 1024,
+    },
+    Range {
+        lowest: 1,
+        highest: 64,
     },
 ];
 
@@ -95,7 +101,7 @@ pub enum Outcome {
 }
 
 fn index_of(kind: Kind) -> usize
-    ensures { λ r. ⌜ (r ≡ indexOf kind) × (r < 8) ⌝ }
+    ensures { λ r. ⌜ (r ≡ indexOf kind) × (r < 9) ⌝ }
 {
     match kind {
         Kind::Size => 0,
@@ -106,6 +112,7 @@ fn index_of(kind: Kind) -> usize
         Kind::Guess => 5,
         Kind::Inverse => 6,
         Kind::Weight => 7,
+        Kind::Allowance => 8,
     }
 }
 
@@ -132,6 +139,13 @@ pub fn is_in_range(kind: Kind, x: i64) -> bool
 {
     let range = range_of(kind);
     is_between(x, range.lowest, range.highest)
+}
+
+// The same of a natural number.
+pub fn is_natural_in_range(kind: Kind, x: u32) -> bool
+    ensures { λ r. ⌜ r ≡ inRange kind (pos x) ⌝ }
+{
+    is_in_range(kind, x as i64)
 }
 
 // Whether the first n numbers of a list all are.

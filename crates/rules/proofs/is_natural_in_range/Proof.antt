@@ -3,8 +3,8 @@ use native.Mathlib.Omega.{arith}
 use mir.Syntax.{w64}
 use mir.ValLaws.{toZ-pos}
 use borrow.Author.Needs.{needs}
-use Rattle.admission.proofs.is_natural_in_range.Statement.{statement}
-use Rattle.admission.proofs.is_natural_in_range.Tie as tie
+use Rattle.rules.proofs.is_natural_in_range.Statement.{statement}
+use Rattle.rules.proofs.is_natural_in_range.Tie as tie
 
 small : (c : tie.After-is-in-range) → c .before .args .x < 2 ^ 63
 small c = omega (arith, c .before .fits .x .fits)

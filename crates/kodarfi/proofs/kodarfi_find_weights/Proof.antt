@@ -1,0 +1,43 @@
+use Rattle.weight_sequence.specs.Search.{saidFound}
+use Rattle.kodarfi.proofs.Told.{told-alone}
+use borrow.Author.Needs.{needs}
+use Rattle.kodarfi.proofs.kodarfi_find_weights.Statement.{statement}
+use Rattle.kodarfi.proofs.kodarfi_find_weights.Tie as tie
+
+find-weights-requires : tie.Need-find-weights-requires
+find-weights-requires c κs = search needs
+
+tried-or-requires : tie.Need-tried-or-requires
+tried-or-requires c κs = search needs
+
+found-reply-requires : tie.Need-found-reply-requires
+found-reply-requires c κs = search needs
+
+tell-requires : tie.Need-tell-requires
+tell-requires c κs = search needs
+
+same-length : tie.Need-same-length
+same-length c = search needs
+
+returns : tie.Need-returns
+returns c =
+    let r = c .before .before in
+    let o = r .before in
+    let k = o .before .before .before in
+    record {
+      answer = k .find-weights .result;
+      found = k .find-weights .ensures;
+      told = told-alone (saidFound (k .find-weights .result)) (c .tell .ensures) (r .found-reply .ensures);
+      tried-is = o .tried-or .ensures;
+    }
+
+pub kodarfi-find-weights-spec : {M : Type 1} → statement M
+kodarfi-find-weights-spec =
+    tie.close
+    (tie.spec
+    find-weights-requires
+    tried-or-requires
+    found-reply-requires
+    tell-requires
+    same-length
+    returns)

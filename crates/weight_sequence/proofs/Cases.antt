@@ -1,0 +1,12 @@
+-- The table of worked sequences holds (specs/Cases), by computing.
+use mathlib.Core.Path.{_≡_, refl}
+use mathlib.Core.Bool.{true}
+use Rattle.integer.specs.Finite.{sum, sumℕ, largest, first}
+use Rattle.linear.specs.Matrix.{apply, product, identity}
+use Rattle.enclosure.specs.Reckoning.{defect, load, margin}
+use Rattle.weight_sequence.specs.Sequence.{bits, tried, good}
+use Rattle.weight_sequence.specs.Cases.{workedRows, allWorkedHold}
+
+pub worked-hold : allWorkedHold workedRows ≡ true
+unfolding sum sumℕ largest first apply product identity defect load margin bits tried good
+worked-hold = refl

@@ -1,0 +1,164 @@
+-- What the contract of `find_weights` promises (specs/Promised).
+--   Case, case-of  — what is said, and where
+--   found-usable   — a list is found of a usable request alone
+--   zero-found, number-none — by the number alone: 0 is said where a list is found, and 18 where none is
+--   count-first    — the tried count is the place of the first good list, at most the allowance
+--   none-exactly   — 18 is said exactly where neither 8 nor 3 is and none of the allowed lists is good
+--   sums-fit       — of a usable request every sum |D|·w of every list of the sequence is at most 2^60 + 2^35
+--   larger-allowance — a larger allowance, up to 64, changes neither the list found nor its count
+use mathlib.Core.Path.{_≡_, refl, sym, ap, _∙_, subst}
+use mathlib.Core.Bool.{Bool, true, false, _&&_}
+use mathlib.Core.List.{List, [], _∷_}
+use mathlib.Core.Logic.{_↔_}
+use Prim.Native.Nat.{ℕ, _+_, _*_, _^_, _≤_, _<_}
+use native.Mathlib.Omega.{arith}
+use borrow.Author.Tests.{ltb-true, ltb-false}
+use lib.Dec.{T, ltb}
+use lib.IntN.{ℤ, pos}
+use lib.ListN.{getD}
+use Rattle.linear.proofs.Places.{place}
+use Rattle.rules.specs.Range.{inRange}
+use Rattle.rules.specs.declared.Kind.the-variants as kind
+use Rattle.rules.proofs.Ranges.{in-allowance-range}
+use Rattle.rules.proofs.Verdicts.{nothing-is-not, accepted-new}
+use Rattle.reckoning.specs.Arrays.{stored}
+use Rattle.weight_sequence.specs.Sequence.{loads, tried}
+use Rattle.weight_sequence.specs.declared.Found.{Found}
+use Rattle.weight_sequence.specs.Request.{Request, searchProblem, searchShort, searchInRanges, searchLists}
+use Rattle.weight_sequence.specs.Search.{saidFound, countOf, passed, searchAnswer, countAfter, weightsAfter, FoundAs}
+use Rattle.weight_sequence.specs.Promised.{UsableRequest, FirstPlace, NoGood, allowing}
+use Rattle.weight_sequence.proofs.Contract.{fit-of, answer-short, answer-range, answer-found, answer-none}
+use Rattle.weight_sequence.proofs.First as first
+use Rattle.weight_sequence.proofs.Sizes.{tried-load}
+
+-- ---- what was said tells which case it was
+data Case (Q : Request) : List ℕ → Type 0 where
+  is-8 : searchShort Q ≡ true → Case Q (8 ∷ [])
+  is-3 : searchShort Q ≡ false → searchInRanges Q ≡ false → Case Q (3 ∷ [])
+  is-18 : UsableRequest Q → Q .allowance ≤ passed Q → Case Q (18 ∷ [])
+  is-0 : UsableRequest Q → passed Q < Q .allowance → Case Q []
+
+case-of : (Q : Request) → Case Q (searchAnswer Q)
+case-of Q = go (searchShort Q) refl (searchInRanges Q) refl (ltb (passed Q) (Q .allowance)) refl
+  where
+    go : (x : Bool) → searchShort Q ≡ x → (y : Bool) → searchInRanges Q ≡ y → (z : Bool) → ltb (passed Q) (Q .allowance) ≡ z → Case Q (searchAnswer Q)
+    go true e y f z g = subst (Case Q) (sym (answer-short Q e)) (is-8 e)
+    go false e false f z g = subst (Case Q) (sym (answer-range Q e f)) (is-3 e f)
+    go false e true f true g =
+        let l = ltb-true (passed Q) (Q .allowance) g in
+        subst (Case Q) (sym (answer-found Q e f l)) (is-0 (record { long = e; inside = f }) l)
+    go false e true f false g =
+        let l = ltb-false (passed Q) (Q .allowance) g in
+        subst (Case Q) (sym (answer-none Q e f l)) (is-18 (record { long = e; inside = f }) l)
+
+found-case : (Q : Request) {w : List ℕ} → Case Q w → w ≡ [] → UsableRequest Q × (passed Q < Q .allowance)
+found-case Q (is-8 e) z = absurd (nothing-is-not z)
+found-case Q (is-3 e f) z = absurd (nothing-is-not z)
+found-case Q (is-18 u l) z = absurd (nothing-is-not z)
+found-case Q (is-0 u l) z = (u, l)
+
+none-case : (Q : Request) {w : List ℕ} → Case Q w → w ≡ 18 ∷ [] → UsableRequest Q × (Q .allowance ≤ passed Q)
+none-case Q (is-8 e) z = let y : _≡_ {A = ℕ} 8 18 = cc in absurd (omega arith)
+none-case Q (is-3 e f) z = let y : _≡_ {A = ℕ} 3 18 = cc in absurd (omega arith)
+none-case Q (is-18 u l) z = (u, l)
+none-case Q (is-0 u l) z = absurd (nothing-is-not (sym z))
+
+pub found-usable : (Q : Request) → searchAnswer Q ≡ [] → UsableRequest Q
+found-usable Q z = found-case Q (case-of Q) z .0
+
+by-number : (Q : Request) {w : List ℕ} → Case Q w → ((getD w 0 0 ≡ 0 → w ≡ []) × (getD w 0 0 ≡ 18 → w ≡ 18 ∷ []))
+by-number Q (is-8 e) = (λ z. absurd (omega arith), λ z. absurd (omega arith))
+by-number Q (is-3 e f) = (λ z. absurd (omega arith), λ z. absurd (omega arith))
+by-number Q (is-18 u l) = (λ z. absurd (omega arith), λ z. refl)
+by-number Q (is-0 u l) = (λ z. refl, λ z. absurd (omega arith))
+
+pub zero-found : (Q : Request) → getD (searchAnswer Q) 0 0 ≡ 0 → searchAnswer Q ≡ []
+zero-found Q = by-number Q (case-of Q) .0
+
+pub number-none : (Q : Request) → getD (searchAnswer Q) 0 0 ≡ 18 → searchAnswer Q ≡ 18 ∷ []
+number-none Q = by-number Q (case-of Q) .1
+
+-- ---- the count
+module _ (Q : Request) (r : Found) (weights : List ℤ) (x : FoundAs Q r weights) where
+  found-here : saidFound r ≡ [] → UsableRequest Q × (passed Q < Q .allowance)
+  found-here z = found-case Q (case-of Q) (sym (x .says) ∙ z)
+
+  pub count-first : saidFound r ≡ [] → FirstPlace Q (countOf r)
+  unfolding countAfter
+  count-first z =
+      let l : passed Q < Q .allowance = found-here z .1 in
+      let c : countOf r ≡ passed Q + 1 = x .count ∙ accepted-new _ _ (sym (x .says) ∙ z) in
+      record {
+        before = passed Q;
+        place = c;
+        allowed = omega arith;
+        here = first.found-good (searchProblem Q) (Q .allowance) l;
+        none-before = first.found-first (searchProblem Q) (Q .allowance) l;
+      }
+
+  pub none-exactly : (saidFound r ≡ 18 ∷ []) ↔ (UsableRequest Q × NoGood Q)
+  none-exactly = (
+    λ z.
+        let n = none-case Q (case-of Q) (sym (x .says) ∙ z) in
+        (n .0, record { none = first.past-none (searchProblem Q) (Q .allowance) (n .1) }),
+    λ h. x .says ∙ answer-none Q (h .0 .long) (h .0 .inside) (first.none-past (searchProblem Q) (Q .allowance) (h .1 .none)),
+  )
+
+-- ---- sizes
+pub sums-fit : (Q : Request) → UsableRequest Q → (k m : ℕ) → m < Q .n → loads (searchProblem Q) (tried (searchProblem Q) k) m ≤ 2 ^ 60 + 2 ^ 35
+sums-fit Q u =
+    let f = fit-of Q (u .long) (u .inside) in
+    tried-load (searchProblem Q)
+    (record {
+      few = f .few;
+      scale = f .scale;
+      matrix = λ i j li lj. f .matrix .within .size (i * Q .n + j) (place li lj);
+      inverse = λ i j li lj. f .inverse .within .size (i * Q .n + j) (place li lj);
+    })
+
+-- ---- a larger allowance
+other : (x y z z′ l : Bool) → (x && (y && z)) && l ≡ true → z′ ≡ true → (x && (y && z′)) && l ≡ true
+other false y z z′ l e f = e
+other true false z z′ l e f = e
+other true true false z′ l e f = absurd (subst T (sym e) tt)
+other true true true z′ l e f = rw f e
+
+module _ (Q : Request) (b : ℕ) (more : Q .allowance ≤ b) (most : b ≤ 64) (z : searchAnswer Q ≡ []) where
+  usable : UsableRequest Q
+  usable = found-usable Q z
+
+  below : passed Q < Q .allowance
+  below = found-case Q (case-of Q) z .1
+
+  same : passed (allowing Q b) ≡ passed Q
+  same = first.larger-allowance (searchProblem Q) (Q .allowance) below b more
+
+  ranges : searchInRanges (allowing Q b) ≡ true
+  ranges =
+      other (inRange kind.Size (pos (Q .n))) (inRange kind.InverseScale (pos (Q .t))) (inRange kind.Allowance (pos (Q .allowance))) (inRange kind.Allowance (pos b))
+      (searchLists (Q .n) (Q .matrix) (Q .inverse)) (usable .inside) (in-allowance-range b (omega (arith, below)) most)
+
+  said-too : searchAnswer (allowing Q b) ≡ []
+  said-too = answer-found (allowing Q b) (usable .long) ranges (omega (arith, same, below))
+
+  pub same-count : countAfter (allowing Q b) ≡ countAfter Q
+  unfolding countAfter
+  same-count = accepted-new _ _ said-too ∙ ap (λ (k : ℕ). k + 1) same ∙ sym (accepted-new _ _ z)
+
+  pub same-weights : weightsAfter (allowing Q b) ≡ weightsAfter Q
+  unfolding weightsAfter
+  same-weights =
+      accepted-new _ _ said-too
+      ∙ ap (λ (k : ℕ). stored (Q .weights) 0 1 (λ (i : ℕ). pos (tried (searchProblem Q) k i)) (Q .n)) same
+      ∙ sym (accepted-new _ _ z)
+
+pub larger-allowance : (Q : Request) (b : ℕ) (r r′ : Found) (weights weights′ : List ℤ) → FoundAs Q r weights → FoundAs (allowing Q b) r′ weights′ →
+    Q .allowance ≤ b → b ≤ 64 → saidFound r ≡ [] → (saidFound r′ ≡ []) × ((countOf r′ ≡ countOf r) × (weights′ ≡ weights))
+larger-allowance Q b r r′ weights weights′ x y more most z =
+    let a : searchAnswer Q ≡ [] = sym (x .says) ∙ z in (
+      y .says ∙ said-too Q b more most a,
+      (
+        y .count ∙ same-count Q b more most a ∙ sym (x .count),
+        y .weights-are ∙ same-weights Q b more most a ∙ sym (x .weights-are),
+      ),
+    )

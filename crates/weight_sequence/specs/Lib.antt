@@ -1,0 +1,5 @@
+pub mod Sequence
+pub mod Cases
+pub mod Request
+pub mod Search
+pub mod Promised
