@@ -22,7 +22,6 @@ use Rattle.line.specs.declared.CappedForm.{CappedForm}
 use Rattle.line.specs.declared.Line.{Line}
 use Rattle.form.specs.declared.Numbers.{Numbers}
 use Rattle.form_values.specs.Capped.{itemIn}
-use Rattle.form_values.specs.declared.Item.the-variants.{End}
 use Rattle.lent_lists.specs.Lists.{Lists, shortLists}
 use Rattle.lent_lists.proofs.Lists.{nothing-pasted}
 use Rattle.given_forms.specs.Progress.{ended}
@@ -30,7 +29,7 @@ use Rattle.loader.specs.declared.Decided.{Decided}
 use Rattle.loader.specs.declared.Loader.{Loader}
 use Rattle.loader.specs.Answer.{lineAnswer}
 use Rattle.loader.specs.Taken.{loaderAfter, listsAfter}
-use Rattle.loader.specs.Decided.{saidIn, refusedBy, DecidedIn, DecidedFor}
+use Rattle.loader.specs.Decided.{saidIn, nothing, refusedBy, DecidedIn, DecidedFor}
 use Rattle.loader.proofs.Exact.{formSaid, answer-form, said-capped, exact-loader, exact-room, exact-lists}
 
 module _ (d : Loader) (l : Lists) (line : List ℕ) where
@@ -40,7 +39,7 @@ module _ (d : Loader) (l : Lists) (line : List ℕ) where
   kept t = record {
     says = t;
     loader = rw (← t);
-    room = record { matrix = tt; right = tt; guess = tt; inverse = tt; weights = tt };
+    room = record { matrix = tt; right = tt; guess = tt; inverse = tt; weights = tt; filled = tt };
     lists = rw (← t) (nothing-pasted (replicate 32 (pos 0)) l);
   }
 
@@ -88,11 +87,11 @@ module _ (d : Loader) (l : Lists) (line : List ℕ) where
         by-said (k ∷ ks) s =
             let z : saidIn d (cappedForm f) (numbersIn f .count) (numbersIn f .inside) ≡ k ∷ ks = so ∙ s in
             let y : lineAnswer d l line ≡ k ∷ ks = sym whole ∙ s in
-            let x : t .item ≡ End = rw z at (h .item) in
+            let x : t .item ≡ nothing = rw z at (h .item) in
             record {
               says = h .says ∙ so ∙ whole;
               loader = rw y (rw z at (h .loader));
-              room = rw x (record { matrix = tt; right = tt; guess = tt; inverse = tt; weights = tt });
+              room = rw x (record { matrix = tt; right = tt; guess = tt; inverse = tt; weights = tt; filled = tt });
               lists = rw (y, x) (nothing-pasted (t .values) l);
             }
 

@@ -21,8 +21,11 @@ decide-requires c κs = search needs
 cast-n : tie.Need-cast-n
 cast-n c = search needs
 
+set-of-requires : tie.Need-set-of-requires
+set-of-requires c κs = search needs
+
 write-all-requires : tie.Need-write-all-requires
-write-all-requires c κs = decided (c .before .before .before .before .before .before .before) .room
+write-all-requires c κs = decided (c .before .before .before .before .before .before .before .before .before) .room
 
 same-length : tie.Need-same-length
 same-length c = search needs
@@ -42,8 +45,10 @@ same-length-5 c = search needs
 returns : tie.Need-returns
 returns c =
     let w = c .before .before .before .before .before .before in
-    let d = decided (w .before .before .before .before .before .before .before .before) in
-    record { says = d .says; loader = d .loader; lists = w .write-all .ensures ∙ d .lists }
+    let g = w .before .before .before .before .before .before in
+    let d = decided (g .before .before .before .before) in
+    let z = g .set-of .ensures in
+    record { says = d .says; loader = d .loader; lists = rw z at (w .write-all .ensures) ∙ d .lists }
 
 pub take-spec : {M : Type 1} → statement M
 take-spec =
@@ -52,6 +57,7 @@ take-spec =
     is-short-requires
     decide-requires
     cast-n
+    set-of-requires
     write-all-requires
     same-length
     same-length-2
