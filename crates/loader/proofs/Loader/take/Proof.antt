@@ -1,6 +1,7 @@
-use mathlib.Core.Path.{_≡_, sym, _∙_}
+use mathlib.Core.Path.{sym}
 use Rattle.lent_lists.specs.Lists.{Lists, lists}
 use Rattle.loader.specs.Decided.{DecidedFor}
+use Rattle.loader.proofs.Line.{taken-so}
 use borrow.Author.Needs.{needs}
 use Rattle.loader.proofs.Loader.take.Statement.{statement}
 use Rattle.loader.proofs.Loader.take.Tie as tie
@@ -46,9 +47,9 @@ returns : tie.Need-returns
 returns c =
     let w = c .before .before .before .before .before .before in
     let g = w .before .before .before .before .before .before in
-    let d = decided (g .before .before .before .before) in
-    let z = g .set-of .ensures in
-    record { says = d .says; loader = d .loader; lists = rw z at (w .write-all .ensures) ∙ d .lists }
+    let d = g .before .before .before .before in
+    let s = d .before .before .before in
+    taken-so (s .args .self) (lent s) (s .args .line .now) (d .decide .result) (decided d) (g .set-of .ensures) (w .write-all .ensures)
 
 pub take-spec : {M : Type 1} → statement M
 take-spec =
