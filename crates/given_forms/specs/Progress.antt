@@ -24,7 +24,7 @@ use Rattle.form_values.specs.Item.{partIndex, placed}
 use Rattle.form_values.specs.declared.Item.{Item}
 use Rattle.form_values.specs.declared.Item.the-variants.{Problem, Scale, Of, End}
 use Rattle.form_values.specs.declared.Part.{Part}
-use Rattle.form_values.specs.declared.Part.the-variants.{Row, Right, Guess, Inverse, Weight}
+use Rattle.form_values.specs.declared.Part.the-variants.{Row, Right, Guess, Inverse}
 use Rattle.given_forms.specs.declared.Stage.{Stage}
 use Rattle.given_forms.specs.declared.Stage.the-variants.{Start, Sized, Scaled, Ended}
 

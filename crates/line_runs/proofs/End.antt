@@ -62,7 +62,7 @@ only-weight n z e k l h Guess g = clash (given z part.Guess k) (all-given n z e 
 only-weight n z e k l h Inverse g = clash (given z part.Inverse k) (all-given n z e part.Inverse (omega arith) k l h) g
 only-weight n z e k l h Weight g = refl
 
-run-sound : (u : State) → Sound (u .loader) → (lines : List (List ℕ)) → Sound (run u lines .loader)
+pub run-sound : (u : State) → Sound (u .loader) → (lines : List (List ℕ)) → Sound (run u lines .loader)
 unfolding run
 run-sound u s [] = s
 run-sound u s (line ∷ lines) = run-sound (step u line) (line-sound (u .loader) (u .lists) line s) lines

@@ -1,32 +1,37 @@
 -- A weight that no line gives is 1 after an accepted end.
 --   Filled, run-filled — at a loader that has ended every weight that was not given is 1; so it is after a run of accepted lines
+--   waits         — before that a weight that was not given is what it was: no line but the end writes it
 --   not-given, value-absent — what was not given in the end no form of the lines gives, and `absent` stands for it
 use mathlib.Core.Path.{_≡_, refl, sym, subst}
 use mathlib.Core.Bool.{Bool, true, false}
 use mathlib.Core.List.{List, [], _∷_}
 use Prim.Native.Nat.{ℕ, _≤_}
 use native.Mathlib.Omega.{arith}
-use lib.IntN.{pos}
+use lib.IntN.{pos, natAbs}
 use Rattle.integer.proofs.Search.{clash}
 use Rattle.rules.proofs.Ranges.{size-range}
 use Rattle.form.specs.Form.{Form}
 use Rattle.form_values.specs.Item.{itemOf}
 use Rattle.form_values.specs.declared.Item.{Item}
+use Rattle.form_values.specs.declared.Item.the-variants.{Of}
+use Rattle.form_values.proofs.Between.{between}
+use Rattle.form_values.proofs.Capped.{part-same}
 use Rattle.form_values.specs.declared.Part.{Part}
 use Rattle.form_values.specs.declared.Part.the-variants as part
 use Rattle.lent_lists.specs.Slot.{Slot, Weight, partOf, valuesFor}
 use Rattle.lent_lists.specs.Put.{putAll}
 use Rattle.lent_lists.specs.Filled.{closed}
 use Rattle.lent_lists.proofs.Lists.{long}
-use Rattle.given_forms.specs.Progress.{setOf, given, ended}
-use Rattle.given_forms.proofs.Progress.{late}
+use Rattle.given_forms.specs.Progress.{setOf, given, marked, ended}
+use Rattle.given_forms.proofs.Progress.{late, placed-of}
 use Rattle.loader.specs.Taken.{after}
 use Rattle.loader.proofs.Accepted.{Accepted, accepted-form}
 use Rattle.line_runs.specs.Run.{State, step, run, Accepts, forms}
 use Rattle.line_runs.specs.Given.{isOf, absent, valueFrom}
 use Rattle.line_runs.specs.Holds.{In, here, there, HoldsItem, cell}
 use Rattle.line_runs.proofs.Sound.{Sound, line-sound}
-use Rattle.line_runs.proofs.Cells.{cell-one}
+use Rattle.line_runs.proofs.Cells.{cell-problem, cell-scale, cell-else, cell-one}
+use Rattle.line_runs.proofs.Marks.{given-own}
 use Rattle.line_runs.proofs.Collected.{next}
 use Rattle.line_runs.proofs.View.{View, view, a-problem, a-scale, a-part, an-end}
 use Rattle.line_runs.proofs.Runs.{step-next, is-of, collected}
@@ -59,6 +64,32 @@ unfolding run
 run-filled u s [] a h = h
 run-filled u s (line ∷ lines) a h =
     run-filled (step u line) (line-sound (u .loader) (u .lists) line s) lines (a .1) (step-filled u s (accepted-form (u .loader) (u .lists) line (a .0) .1))
+
+-- ---- before the end
+module _ (u : State) (sound : Sound (u .loader)) {line : List ℕ} {g : Form} (a : Accepted (u .loader) (u .lists) line g) where
+  abbrev Waits : State → Type 0
+  Waits v = ended (v .loader .stage) ≡ false → (k : ℕ) → 1 ≤ k → given (v .loader .sets) part.Weight k ≡ false → cell (v .lists) (v .loader .n) Weight k 0 ≡ cell (u .lists) (u .loader .n) Weight k 0
+
+  waits-item : {y : Item} → itemOf g ≡ y → Waits (by u sound a y) → Waits (next u g)
+  waits-item e h = subst (λ (y : Item). Waits (by u sound a y)) (sym e) h
+
+  own : (p : Part) (i : ℕ) {q : Part} {k : ℕ} → q ≡ p → k ≡ i → given (marked (u .loader .sets) p i) q k ≡ true
+  own p i {q} {k} x y =
+      subst (λ (m : ℕ). given (marked (u .loader .sets) p i) q m ≡ true) (sym y)
+      (subst (λ (r : Part). given (marked (u .loader .sets) p i) r i ≡ true) (sym x) (given-own (u .loader .sets) (sound .five) p i))
+
+  waits-view : View (u .loader .n) g → Waits (next u g)
+  waits-view (a-problem m e) = waits-item e (λ q k f h. cell-problem (u .loader .n) g (u .lists) e Weight k 0)
+  waits-view (a-scale s t e) = waits-item e (λ q k f h. cell-scale (u .loader .n) g (u .lists) e Weight k 0)
+  waits-view (a-part p i e count inside) =
+      let b = between 1 (u .loader .n) i (placed-of (u .loader .stage) (u .loader .n) (Of p i) (rw e at (a .fine .misplaced))) in
+      waits-item e
+      (λ q k f h. cell-else (u .loader .n) g (u .lists) e count (b .from) Weight k 0 f (omega arith)
+      (λ x y. clash (given (marked (u .loader .sets) p (natAbs i)) part.Weight k) (own p (natAbs i) (part-same part.Weight p x) y) h))
+  waits-view (an-end e) = waits-item e (λ q. clash true refl q)
+
+  pub waits : Waits (step u line)
+  waits = subst (λ (v : State). Waits v) (sym (step-next u a)) (waits-view (view (u .loader .n) g (a .fine .outside) (a .fine .miscounted)))
 
 -- ---- what no line gives
 pub not-given : (u : State) → Sound (u .loader) → (lines : List (List ℕ)) → Accepts u lines → (p : Part) (k : ℕ) → given (run u lines .loader .sets) p k ≡ false
