@@ -50,7 +50,7 @@ forms-both (x ∷ xs) ys = go (reading x) (forms-both xs ys)
     go none e = e
     go (some f) e = ap (λ (fs : List Form). f ∷ fs) e
 
-not-in-none : {f : Form} {P : Type 0} → In f [] → P
+pub not-in-none : {f : Form} {P : Type 0} → In f [] → P
 not-in-none i = go i refl
   where
     go : {fs : List Form} {P : Type 0} {f : Form} → In f fs → fs ≡ [] → P
