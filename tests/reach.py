@@ -99,13 +99,16 @@ class Reach:
         if not isinstance(loaded, Refusal):
             self.weights[weights_given(file, loaded.n), "accepted" if is_accepted(listing) else "refused"] += 1
         before = WeightsAsked().load(file)
-        if isinstance(before, Refusal) and before.number == 13 and not isinstance(loaded, Refusal):
-            self.weights["13", "accepted"] += 1
-        elif before == loaded or not isinstance(before, Refusal):
+        asked, now = (found if isinstance(found, Refusal) else None for found in (before, loaded))
+        if asked == now:
             return
-        elif before.number == 13 and isinstance(loaded, Refusal) and loaded.number == 13 and loaded.values < before.values:
+        if asked is None or asked.number != 13:
+            self.weights["otherwise", "changed"] += 1
+        elif now is None:
+            self.weights["13", "accepted"] += 1
+        elif now.number == 13 and now.values < asked.values:
             self.weights["13", "fewer"] += 1
-        elif before.number == 13:
+        elif now.number == 14:
             self.weights["13", "a later line"] += 1
         else:
             self.weights["otherwise", "changed"] += 1
