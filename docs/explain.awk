@@ -7,7 +7,7 @@ BEGIN {
   number = ENVIRON["NUMBER"]
   first = ENVIRON["FIRST"]
   second = ENVIRON["SECOND"]
-  kinds = split("row right guess inverse weight", kind, " ")
+  kinds = split("row right guess inverse", kind, " ")
 }
 
 # The table comes first.

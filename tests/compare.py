@@ -67,6 +67,7 @@ def compare(run, seed, files, count, watch=None):
         count.test(case.name, problems)
         reach.add(expected, loaded, net)
         reach.add_changed(case.file, loaded)
+        reach.add_weights(case.file, loaded, expected)
         if watch:
             watch(case, loaded, expected)
     print(reach.summary())

@@ -57,6 +57,16 @@ def arranged(rng, lines):
     return start + middle + end
 
 
+def thinned(rng, lines):
+    """02, Paper 1: weights may be left out. Mostly such as are 1, all of them or some; now and then any."""
+    way = rng.randrange(12)
+    if way < 4:
+        return lines
+    every, any_number = way in (4, 5, 6, 10), way > 9
+    gone = lambda line: line.startswith("(weight ") and (any_number or line.endswith(" 1)")) and (every or rng.random() < 0.5)
+    return [line for line in lines if not gone(line)]
+
+
 def is_damaged(index):
     """Whether file number `index` of any sequence is a damaged one."""
     return TABLE[ORDER[index % 100]][2] is not None
@@ -72,5 +82,5 @@ def case(seed, index):
     lines = arranged(rng, lines_of(net))
     if spoil:
         return Case(f"{seed}/{index} {spoil.__name__}", spoil(rng, net, lines))
-    file = file_of(lines)
+    file = file_of(thinned(rng, lines))
     return Case(f"{seed}/{index} {make.__name__}", file[:-1] if rng.random() < 0.2 else file)

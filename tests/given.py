@@ -99,6 +99,16 @@ def pasted():
                 yield f"{word} pasted at {where}, {name}", inserted(where, copy, WHOLE[at + 1])
 
 
+def left_out():
+    """02, Paper 1: the whole file without weights, with one, and with one twice; weights of 1 and others."""
+    others = [line for line in WHOLE[:-1] if not line.startswith("(weight")]
+    for weights in ((), ("(weight 1 1)",), ("(weight 2 1)",), ("(weight 1 3)",), ("(weight 2 3)",), ("(weight 2 0)",), ("(weight 3 1)",), ("(weight 2 1)", "(weight 2 1)")):
+        yield f"weights {' '.join(weights)}", [*others, *weights, WHOLE[-1]]
+        yield f"weights {' '.join(weights)} first", [*WHOLE[:2], *weights, *others[2:], WHOLE[-1]]
+    for at in range(2, len(others)):
+        yield f"no weights and no line {at}", [*others[:at], *others[at + 1 :], WHOLE[-1]]
+
+
 def entries():
     """Guesses at halves of a unit and beside them, on both sides of 0."""
     for X in (-41, -40, -39, -25, -24, -23, -9, -8, -7, 0, 7, 8, 9, 23, 24, 25, 39, 40, 41):
@@ -136,7 +146,7 @@ def cases():
         yield Case(f"01 case {case.name}", cases_01.file(case))
     for case in cases_01.PAPERS:
         yield Case(f"02 {case.name}", cases_01.file(case))
-    for group in (at_ends_of_ranges, places, lists, spellings, lengths, orders, pasted, entries, widest):
+    for group in (at_ends_of_ranges, places, lists, spellings, lengths, orders, pasted, left_out, entries, widest):
         for name, lines in group():
             yield Case(f"{group.__name__}: {name}", file_of(lines))
     for name, file in by_bytes():

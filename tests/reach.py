@@ -19,10 +19,22 @@ NEAR = 12
 BECOMES_12 = (("problem", 3), ("scale", 3), ("row", 3), ("row", 4), ("right", 3), ("guess", 3), ("inverse", 3), ("inverse", 4), ("weight", 3))
 
 
-class Before(Program):
+class ValuesFirst(Program):
     """The program before Paper 6."""
 
     rules = replace(IN_FORCE, repetition_before_values=False)
+
+
+class WeightsAsked(Program):
+    """The program before Paper 1."""
+
+    rules = replace(IN_FORCE, weights_may_be_left_out=False)
+
+
+def weights_given(file, n):
+    """How many of n weights a file gives whose every line is accepted: none, some or all."""
+    count = sum(line.startswith(b"(weight ") for line in lines_of(file))
+    return "no" if count == 0 else "all" if count == n else "some"
 
 
 class Reach:
@@ -32,6 +44,7 @@ class Reach:
         self.sizes = Counter()
         self.edges = Counter()
         self.changed = Counter()
+        self.weights = Counter()
 
     def add(self, listing, problem, net):
         """Counts a listing; `net` is None where the file was not read to its end, and `problem` is then its refusal."""
@@ -72,7 +85,7 @@ class Reach:
 
     def add_changed(self, file, loaded):
         """Files of which something else is said than in 01's order, by the word of the refused line and the number before; no line but that may be told of."""
-        before = Before().load(file)
+        before = ValuesFirst().load(file)
         if before == loaded:
             return
         if isinstance(before, Refusal) and loaded == before._replace(number=12):
@@ -80,6 +93,25 @@ class Reach:
             self.changed[word, before.number] += 1
         else:
             self.changed["otherwise"] += 1
+
+    def add_weights(self, file, loaded, listing):
+        """Files by the weights they give, accepted or refused by their check; and those of which something else is said than in 01's count."""
+        if not isinstance(loaded, Refusal):
+            self.weights[weights_given(file, loaded.n), "accepted" if is_accepted(listing) else "refused"] += 1
+        before = WeightsAsked().load(file)
+        asked, now = (found if isinstance(found, Refusal) else None for found in (before, loaded))
+        if asked == now:
+            return
+        if asked is None or asked.number != 13:
+            self.weights["otherwise", "changed"] += 1
+        elif now is None:
+            self.weights["13", "accepted"] += 1
+        elif now.number == 13 and now.values < asked.values:
+            self.weights["13", "fewer"] += 1
+        elif now.number == 14:
+            self.weights["13", "a later line"] += 1
+        else:
+            self.weights["otherwise", "changed"] += 1
 
     def needs(self):
         """(what, how often met, how often wanted)."""
@@ -94,6 +126,12 @@ class Reach:
             yield f"margin {value}", self.edges[f"margin {value}"], 10
         for kind in ("limit with rounding above 0", "limit with rounding below 0", "height beyond E/S"):
             yield kind, self.edges[kind], 50
+        for given in ("no", "some", "all"):
+            for said in ("accepted", "refused"):
+                yield f"{given} weights given, {said}", self.weights[given, said], 20
+        for said in ("accepted", "fewer"):
+            yield f"13 of 01's count, now {said}", self.weights["13", said], 20
+        yield "nothing else changed by the count", 1 - self.weights["otherwise", "changed"], 1
         for word, number in BECOMES_12:
             yield f"{number} for a {word} becomes 12", self.changed[word, number], 5
         for kind in ("residual", "inverse residual"):
@@ -106,4 +144,4 @@ class Reach:
 
     def summary(self):
         refusals = ", ".join(f"{number}: {self.refusals[number]}" for number in REFUSALS)
-        return f"{self.files} files, {sum(self.sizes.values())} accepted; refusals {refusals}; {dict(self.edges)}; changed {dict(self.changed)}"
+        return f"{self.files} files, {sum(self.sizes.values())} accepted; refusals {refusals}; {dict(self.edges)}; changed {dict(self.changed)}; weights {dict(self.weights)}"

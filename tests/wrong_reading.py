@@ -81,6 +81,17 @@ def only_of(*kinds):
     return loader(refusal_12=refusal_12)
 
 
+def ones_where(test):
+    """An end that writes 1 at the places i of which the test holds."""
+
+    def close(self):
+        for i in range(1, self.n + 1):
+            if test(self, i):
+                self.lists["weight"][i - 1] = 1
+
+    return close
+
+
 LOADED = {
     "01's order": program(rules=replace(IN_FORCE, repetition_before_values=False)),
     "12 before 3 for i, i by its size": before_place(abs),
@@ -96,8 +107,15 @@ LOADED = {
     "14 after 2": loader(REPETITION_FIRST=("1", "2", "14", *Loader.REPETITION_FIRST[3:])),
     "2 before 1": before("2", "1"),
     "place i counted once for all kinds": loader(missing=any_kind_missing),
-    "missing out of 4n": loader(COUNTED=("row", "right", "guess", "inverse")),
-    "missing of the inverse forgotten": loader(COUNTED=("row", "right", "guess", "weight")),
+    "missing out of 5n": program(rules=replace(IN_FORCE, weights_may_be_left_out=False)),
+    "weights left out and counted": loader(COUNTED=Loader.ALL_COUNTED),
+    "missing of the inverse forgotten": loader(COUNTED=("row", "right", "guess")),
+    "ones over given weights": loader(close=ones_where(lambda self, i: True)),
+    "weights left as they were": loader(close=ones_where(lambda self, i: False)),
+    "ones only where no weight is given": loader(close=ones_where(lambda self, i: not any(kind == "weight" for kind, _ in self.given))),
+    "no one at the last place": loader(close=ones_where(lambda self, i: i < self.n and ("weight", i) not in self.given)),
+    "a second weight accepted": loader(refusal_12=lambda self, line: None if line.form.kind == "weight" else Loader.refusal_12(self, line)),
+    "a weight of 0 left out": loader(refusal_3_for_values=lambda self, line: None if line.form.kind == "weight" and line.form.values == (0,) else Loader.refusal_3_for_values(self, line)),
     "an invented missing count": loader(missing=lambda self: Loader.missing(self) or 1),
     "missing count one too high": loader(missing=lambda self: Loader.missing(self) and Loader.missing(self) + 1),
     "place repeated in any kind": loader(refusal_12=by_place),

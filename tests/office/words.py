@@ -17,7 +17,7 @@ QUOTED = {
     "5-inverse-of-0": "row 1 of the inverse is \"(inverse 1 (0))\"", "5-coarse-steps": "row 1 of the inverse is \"(inverse 1 (0))\"",
     "6-poor-guess": "equation 1 is \"(row 1 (1048576))\" and \"(right 1 0)\"",
     "7-poor-inverse": "column 2 of the inverse does not fit equation 1, which is \"(row 1 (1048576 0))\"",
-    "11-row-before-scale": "line 2 is \"(row 1 (4 -1))\"", "12-right-side-twice": "line 6 is \"(right 1 5)\"", "12-damaged-copy": "line 5 is \"(row 1 (4))\"", "13-two-missing": "guess 2, weight 1 are missing",
+    "11-row-before-scale": "line 2 is \"(row 1 (4 -1))\"", "12-right-side-twice": "line 6 is \"(right 1 5)\"", "12-damaged-copy": "line 5 is \"(row 1 (4))\"", "13-two-missing": "guess 2, inverse 1 are missing",
     "14-line-after-end": "line 14 is \"\"", "15-no-end": "the last line is \"(weight 2 1)\"", "15-empty-file": "the file is empty",
 }
 
@@ -100,7 +100,7 @@ def quotes_a_long_line_in_part(room):
 
 def names_many_missing_forms_in_part(room):
     _, _, err = room.run("--explain", text=b"(problem 32)\n(scale 4 4)\n(right 2 1)\n(end)\n(row 1 (1))\n")
-    return b"row 1, row 2, row 3, row 4, row 5, row 6, row 7, row 8 and 151 more are missing" in err
+    return b"row 1, row 2, row 3, row 4, row 5, row 6, row 7, row 8 and 119 more are missing" in err
 
 
 def help_text(room):

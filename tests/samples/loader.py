@@ -135,6 +135,7 @@ def completed(session, rng, n):
         forms += [b"(row %d (%s))" % (i, b" ".join(b"%d" % x for x in row)), b"(inverse %d (%s))" % (i, b" ".join(b"%d" % x for x in column))]
         forms += [b"(right %d %d)" % (i, rng.randint(-99, 99)), b"(guess %d %d)" % (i, rng.randint(-99, 99)), b"(weight %d %d)" % (i, rng.randint(1, 9))]
     rng.shuffle(forms)
+    forms.sort(key=lambda form: form.startswith(b"(right 1 "))
     for place, form in enumerate(forms):
         if place % 16 == 0 or len(forms) - place < 4:
             session.lines(b"(end)")
@@ -142,6 +143,19 @@ def completed(session, rng, n):
         if place % 9 == 0:
             session.lines(form)
     session.lines(b"(end)", b"(end)")
+    session.show()
+    session.check()
+
+
+def left_out(session, given):
+    """02, Paper 1: weights left out. A refused end writes none, and an accepted one 1 at each place of 1 to n that was not given, whatever stood there."""
+    session.new()
+    session.lines(b"(problem 3)", b"(scale 4 6)", *(b"(weight %d %d)" % (i, i + 1) for i in given))
+    for i, row in enumerate((b"4 -1 0", b"-1 3 -1", b"0 -1 5"), 1):
+        session.lines(b"(row %d (%s))" % (i, row), b"(right %d %d)" % (i, i), b"(guess %d %d)" % (i, 8 * i))
+    session.lines(b"(inverse 1 (17 6 1))", b"(inverse 2 (6 25 5))", b"(end)")
+    session.show()
+    session.lines(b"(inverse 3 (1 5 14))", b"(end)", b"(weight 1 1)")
     session.show()
     session.check()
 
@@ -154,4 +168,6 @@ def entries(printing):
     rng = random.Random(1)
     for n in (1, 2, 3, 7, 32):
         completed(session, rng, n)
+    for given in ((), (2,), (3, 1), (1, 2, 3)):
+        left_out(session, given)
     return session.entries

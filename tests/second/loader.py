@@ -25,8 +25,9 @@ class Loader:
     # 02, Paper 6: "8, 14, 1, 2, 11, 3 for i, 12, 3 for values, 4, 13."
     REPETITION_FIRST = ("14", "1", "2", "11", "3_for_i", "12", "3_for_values", "4", "13")
 
-    # The kinds of which the count of forms still missing is made: "out of 5n".
-    COUNTED = PLACED
+    # The kinds of which the count of forms still missing is made. 01: "out of 5n". 02, Paper 1: "The count of forms still missing is now out of 4n."
+    ALL_COUNTED = PLACED
+    COUNTED = ("row", "right", "guess", "inverse")
 
     def __init__(self, rules=IN_FORCE):
         self.rules = rules
@@ -96,13 +97,16 @@ class Loader:
         return () if (line.form.kind, line.form.place) in self.given else None
 
     def refusal_13(self, line):
-        """01: End with forms outstanding; gives the count of forms still missing out of 5n."""
+        """01: End with forms outstanding; gives the count of forms still missing."""
         missing = self.missing() if line.form.kind == "end" else 0
         return (missing,) if missing else None
 
     def missing(self):
         """Counted once for each kind and place."""
-        return sum((kind, i) not in self.given for kind in self.COUNTED for i in range(1, self.n + 1))
+        return sum((kind, i) not in self.given for kind in self.counted() for i in range(1, self.n + 1))
+
+    def counted(self):
+        return self.COUNTED if self.rules.weights_may_be_left_out else self.ALL_COUNTED
 
     def accept(self, form):
         """01: An accepted line puts n, or s and t, into the desk, or its form's other numbers at their own places."""
@@ -113,6 +117,14 @@ class Loader:
             self.s, self.t = form.values
         elif form.kind == "end":
             self.ended = True
+            if self.rules.weights_may_be_left_out:
+                self.close()
         else:
             at = (form.place - 1) * len(form.values)
             self.lists[form.kind][at : at + len(form.values)] = form.values
+
+    def close(self):
+        """02, Paper 1: "A weight not given stands for 1, and an accepted end writes 1 into every such place of the lent list."."""
+        for i in range(1, self.n + 1):
+            if ("weight", i) not in self.given:
+                self.lists["weight"][i - 1] = 1

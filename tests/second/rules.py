@@ -5,8 +5,9 @@ from dataclasses import dataclass
 
 @dataclass(frozen=True)
 class Rules:
+    weights_may_be_left_out: bool = False  # Paper 1: Loader.counted, Loader.close
     entry_covers_rounding: bool = False  # Paper 2: Program.entry_bound
     repetition_before_values: bool = False  # Paper 6: Loader.order
 
 
-IN_FORCE = Rules(entry_covers_rounding=True, repetition_before_values=True)
+IN_FORCE = Rules(weights_may_be_left_out=True, entry_covers_rounding=True, repetition_before_values=True)

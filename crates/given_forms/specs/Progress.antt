@@ -2,9 +2,10 @@
 --   setOf z p     — the set of a part; the number i, from 1, is its place i − 1
 --   given z p i   — the form of the part p for the number i was given
 --   marked z p i  — the sets with that form
---   counted       — the parts whose forms count as missing
+--   counted       — the parts whose forms count as missing (02, Paper 1: "makes the weight form optional"): all but the weights
 --   totalOver ps f — the sum of f over the parts ps
---   missing n z   — how many forms are still missing out of 5n: each i from 1 to n not given, once for each part
+--   missing n z   — how many forms are still missing (02, Paper 1: "The count of forms still missing is now out of 4n"): each i from 1 to n not given, once
+--                   for each counted part
 --   sized, scaled, ended — whether problem, whether scale was given; 14: whether the end was accepted
 --   early s x     — 11: a form other than problem first, or other than problem or scale before the scale
 --   misplaced s n x — 3 for the place: i is not 1 to n; or n itself is out of range, which it is at no loader made by `new` and `take`
@@ -23,7 +24,7 @@ use Rattle.form_values.specs.Item.{partIndex, placed}
 use Rattle.form_values.specs.declared.Item.{Item}
 use Rattle.form_values.specs.declared.Item.the-variants.{Problem, Scale, Of, End}
 use Rattle.form_values.specs.declared.Part.{Part}
-use Rattle.form_values.specs.declared.Part.the-variants.{Row, Right, Guess, Inverse, Weight}
+use Rattle.form_values.specs.declared.Part.the-variants.{Row, Right, Guess, Inverse}
 use Rattle.given_forms.specs.declared.Stage.{Stage}
 use Rattle.given_forms.specs.declared.Stage.the-variants.{Start, Sized, Scaled, Ended}
 
@@ -37,7 +38,7 @@ abbrev pub marked : List ℕ → Part → ℕ → List ℕ
 marked z p i = set z (partIndex p) (withPlace (setOf z p) (i - 1))
 
 abbrev pub counted : List Part
-counted = Row ∷ Right ∷ Guess ∷ Inverse ∷ Weight ∷ []
+counted = Row ∷ Right ∷ Guess ∷ Inverse ∷ []
 
 abbrev pub totalOver : List Part → (Part → ℕ) → ℕ
 totalOver [] f = 0

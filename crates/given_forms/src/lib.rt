@@ -5,7 +5,7 @@ ghost use mathlib.Core.List.{[], _∷_};
 ghost use Prim.Native.Nat.{_≤_};
 ghost use Rattle.rules.specs.Refusal.{said};
 ghost use Rattle.form_values.specs.Item.{placed};
-ghost use Rattle.given_forms.specs.Progress.{given, marked, missing, sized, scaled, ended, early, misplaced, repeated, incomplete};
+ghost use Rattle.given_forms.specs.Progress.{setOf, given, marked, missing, sized, scaled, ended, early, misplaced, repeated, incomplete};
 use form_values::Item;
 use form_values::Part;
 use rules::Kind;
@@ -81,13 +81,20 @@ pub fn is_misplaced(stage: Stage, n: u32, item: Item) -> bool
     }
 }
 
+// The set of a part.
+pub fn set_of(sets: [u32; 5], part: Part) -> u32
+    ensures { λ r. ⌜ r ≡ setOf sets part ⌝ }
+{
+    let j = form_values::part_index(part);
+    sets[j]
+}
+
 // Whether the form of a part for the number i, from 1, was given.
 fn has(sets: [u32; 5], part: Part, i: u32) -> bool
     requires { ⌜ (1 ≤ i) × (i ≤ 32) ⌝ }
     ensures { λ r. ⌜ r ≡ given sets part i ⌝ }
 {
-    let j = form_values::part_index(part);
-    bit_set::has_place(sets[j], i - 1)
+    bit_set::has_place(set_of(sets, part), i - 1)
 }
 
 // The sets with that form.
@@ -113,7 +120,7 @@ pub fn is_repeated(stage: Stage, sets: [u32; 5], item: Item) -> bool
     }
 }
 
-// How many forms are still missing out of 5n.
+// How many forms are still missing out of 4n: rows, right sides, guesses and inverse rows.
 fn count_missing(sets: [u32; 5], n: u32) -> u32
     requires { ⌜ (1 ≤ n) × (n ≤ 32) ⌝ }
     ensures { λ r. ⌜ r ≡ missing n sets ⌝ }
@@ -122,7 +129,6 @@ fn count_missing(sets: [u32; 5], n: u32) -> u32
         + bit_set::count_lacking(sets[1], n)
         + bit_set::count_lacking(sets[2], n)
         + bit_set::count_lacking(sets[3], n)
-        + bit_set::count_lacking(sets[4], n)
 }
 
 // 13: end with forms outstanding, and their count. Any other form is accepted here.

@@ -1,4 +1,5 @@
 pub mod Slot
 pub mod Put
+pub mod Filled
 pub mod Lists
 pub mod Exact

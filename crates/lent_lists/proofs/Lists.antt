@@ -42,8 +42,8 @@ pub lists-≡ : {a b x g w a′ b′ x′ g′ w′ : List ℤ} → a ≡ a′ �
 lists-≡ p q r s t = λ i. lists (p i) (q i) (r i) (s i) (t i)
 
 pub rooms : (n : ℕ) (x : Item) (l : Lists) → shortLists l ≡ false → Narrow n x → Rooms n x l
-rooms n (Problem m) l e h = record { matrix = h; right = h; guess = h; inverse = h; weights = h }
-rooms n (Scale s t) l e h = record { matrix = h; right = h; guess = h; inverse = h; weights = h }
+rooms n (Problem m) l e h = record { matrix = h; right = h; guess = h; inverse = h; weights = h; filled = h }
+rooms n (Scale s t) l e h = record { matrix = h; right = h; guess = h; inverse = h; weights = h; filled = h }
 rooms n (Of p i) l e h =
     let k = long l e in
     record {
@@ -52,8 +52,9 @@ rooms n (Of p i) l e h =
       guess = (omega arith, omega (arith, k .guess), h .1);
       inverse = (h .0, omega (arith, k .inverse, h .0), h .1);
       weights = (omega arith, omega (arith, k .weights), h .1);
+      filled = tt;
     }
-rooms n End l e h = record { matrix = h; right = h; guess = h; inverse = h; weights = h }
+rooms n End l e h = record { matrix = h; right = omega arith; guess = omega arith; inverse = h; weights = omega arith; filled = (h, omega (arith, long l e .weights, h)) }
 
 -- an item of no part is written nowhere
 pub nothing-pasted : (vs : List ℤ) (l : Lists) → lists (pastedAt nowhere vs (l .matrix)) (pastedAt nowhere vs (l .right)) (pastedAt nowhere vs (l .guess)) (pastedAt nowhere vs (l .inverse)) (pastedAt nowhere vs (l .weights)) ≡ l

@@ -1,6 +1,7 @@
 -- What the code writes of a form, its numbers capped; cited by the contracts inside. proofs/Exact.antt ties it to `put`.
---   Narrow w x    — the item x, if it is of a part, has i in 1 to 32 and at most 32 numbers, w
---   Room w k x    — the same, in a list of length k that has room for 32 · w;  Rooms n x l — in every list
+--   Narrow w x    — the item x, if it is of a part, has i in 1 to 32 and at most 32 numbers, w; at an end w is at most 32
+--   Room w k x    — the same, in a list of length k that has room for 32 · w
+--   FillRoom n k x — an end's first n places, at most 32, are in a list of length k;  Rooms n x l — all this in every list
 --   nowhere       — no place;  spanOf p x w — the places of the item x in a list of the part p, of w numbers a form: none where it is of another part
 --   pastedAt       — a list after the first of 32 numbers were written there;  pastedAll n x vs l — all lists after the item x
 use mathlib.Core.Bool.{true, cond}
@@ -23,13 +24,19 @@ abbrev pub Narrow : ℕ → Item → Type 0
 Narrow w (Problem n) = Unit
 Narrow w (Scale s t) = Unit
 Narrow w (Of p i) = (w ≤ 32) × (placed 32 (Of p i) ≡ true)
-Narrow w End = Unit
+Narrow w End = w ≤ 32
 
 abbrev pub Room : ℕ → ℕ → Item → Type 0
 Room w k (Problem n) = Unit
 Room w k (Scale s t) = Unit
 Room w k (Of p i) = (w ≤ 32) × (32 * w ≤ k) × (placed 32 (Of p i) ≡ true)
-Room w k End = Unit
+Room w k End = w ≤ 32
+
+abbrev pub FillRoom : ℕ → ℕ → Item → Type 0
+FillRoom n k (Problem m) = Unit
+FillRoom n k (Scale s t) = Unit
+FillRoom n k (Of p i) = Unit
+FillRoom n k End = (n ≤ 32) × (n ≤ k)
 
 pub record Rooms (n : ℕ) (x : Item) (l : Lists) : Type 0 where
   pub matrix : Room n (length (l .matrix)) x
@@ -37,6 +44,7 @@ pub record Rooms (n : ℕ) (x : Item) (l : Lists) : Type 0 where
   pub guess : Room 1 (length (l .guess)) x
   pub inverse : Room n (length (l .inverse)) x
   pub weights : Room 1 (length (l .weights)) x
+  pub filled : FillRoom n (length (l .weights)) x
 
 abbrev pub nowhere : Span
 nowhere = record { at = 0; count = 0 }

@@ -1,10 +1,11 @@
-// The five lent lists: whether one is too short, and where the numbers of a form are written.
+// The five lent lists: whether one is too short, where the numbers of a form are written, and what an end fills in.
 ghost use mathlib.Core.Path.{_≡_};
-ghost use Prim.Native.Nat.{_+_, _≤_};
+ghost use Prim.Native.Nat.{_+_, _≤_, _<_};
 ghost use lib.ListN.{length};
 ghost use lib.Seq.{paste};
 ghost use Rattle.lent_lists.specs.Lists.{lists, tooShort};
-ghost use Rattle.lent_lists.specs.Pasted.{Narrow, Room, Rooms, spanOf, pastedAt, pastedAll};
+ghost use Rattle.lent_lists.specs.Filled.{filledAt, filled, weightsAfter, closed};
+ghost use Rattle.lent_lists.specs.Pasted.{Narrow, Room, FillRoom, Rooms, spanOf, pastedAt, pastedAll};
 use form_values::Item;
 use form_values::Part;
 
@@ -64,10 +65,47 @@ fn write_part(part: Part, item: Item, values: [i64; 32], width: usize, l: &mut [
     write_values(values, span.count, l, span.at);
 }
 
-// Writes the numbers of an accepted form at their own places: they come first among the values, n of them in a row, else one.
+// Writes 1 at the place i of a list, where it is not in the set.
+fn fill_place(set: u32, i: usize, l: &mut [i64])
+    requires { ⌜ (i < 32) × (i < length (now l)) ⌝ }
+    ensures { λ _. ⌜ now (l .exit) ≡ filledAt set i (now (l .entry)) ⌝ }
+{
+    if !bit_set::has_place(set, i as u32) {
+        l[i] = 1;
+    }
+}
+
+// Writes 1 at each of the first n places of a list that are not in the set.
+fn fill_places(set: u32, n: usize, l: &mut [i64])
+    requires { ⌜ (n ≤ 32) × (n ≤ length (now l)) ⌝ }
+    ensures { λ _. ⌜ now (l .exit) ≡ filled n set (now (l .entry)) ⌝ }
+{
+    let mut i = 0;
+    while i < n {
+        fill_place(set, i, l);
+        i += 1;
+    }
+}
+
+// Fills in the weights that were not given, where the form is an end.
+fn fill_weights(item: Item, given: u32, n: usize, weights: &mut [i64])
+    requires { ⌜ FillRoom n (length (now weights)) item ⌝ }
+    ensures { λ _. ⌜ now (weights .exit) ≡ weightsAfter n given item (now (weights .entry)) ⌝ }
+{
+    match item {
+        Item::Problem(_) => {}
+        Item::Scale(_, _) => {}
+        Item::Of(_, _) => {}
+        Item::End => fill_places(given, n, weights),
+    }
+}
+
+// Writes the numbers of an accepted form at their own places: they come first among the values, n of them in a row, else one. An end fills in the
+// weights whose places are not in the set of those given.
 pub fn write_all(
     item: Item,
     values: [i64; 32],
+    given: u32,
     n: usize,
     matrix: &mut [i64],
     right: &mut [i64],
@@ -78,7 +116,7 @@ pub fn write_all(
     requires { ⌜ Rooms n item (lists (now matrix) (now right) (now guess) (now inverse) (now weights)) ⌝ }
     ensures { λ _. ⌜
         lists (now (matrix .exit)) (now (right .exit)) (now (guess .exit)) (now (inverse .exit)) (now (weights .exit))
-        ≡ pastedAll n item values (lists (now (matrix .entry)) (now (right .entry)) (now (guess .entry)) (now (inverse .entry)) (now (weights .entry)))
+        ≡ closed n given item (pastedAll n item values (lists (now (matrix .entry)) (now (right .entry)) (now (guess .entry)) (now (inverse .entry)) (now (weights .entry))))
         ⌝ }
 {
     write_part(Part::Row, item, values, n, matrix);
@@ -86,4 +124,5 @@ pub fn write_all(
     write_part(Part::Guess, item, values, 1, guess);
     write_part(Part::Inverse, item, values, n, inverse);
     write_part(Part::Weight, item, values, 1, weights);
+    fill_weights(item, given, n, weights);
 }

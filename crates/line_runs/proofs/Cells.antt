@@ -2,6 +2,7 @@
 --   sets-before, sets-inside, sets-after — a number of a list after a run of stores
 --   rows-apart — the numbers for different i stand apart
 --   cell-own   — a form's own cells hold its numbers;  cell-else — every other cell is as before
+--   cell-end, cell-one — at an end, too, but for the weights that were not given, which are 1
 use mathlib.Core.Path.{_≡_, refl, sym, ap, _∙_}
 use mathlib.Core.Bool.{Bool, true, false, cond}
 use mathlib.Core.List.{List, [], _∷_}
@@ -22,6 +23,9 @@ use Rattle.form_values.proofs.Capped.{part-same}
 use Rattle.lent_lists.specs.Slot.{Slot, Matrix, Right, Guess, Inverse, Weight, partOf, width, valuesFor}
 use Rattle.lent_lists.specs.Lists.{Lists, listOf}
 use Rattle.lent_lists.specs.Put.{put, putAll}
+use Rattle.lent_lists.specs.Filled.{closed}
+use Rattle.lent_lists.proofs.Filled.{filled-given, filled-one}
+use Rattle.bit_set.specs.Places.{hasPlace}
 use Rattle.line_runs.specs.Holds.{cell}
 
 -- ---- a run of stores
@@ -80,8 +84,25 @@ module _ (n : ℕ) (f : Form) (l : Lists) where
   pub cell-scale : {u v : ℤ} → itemOf f ≡ Scale u v → (s : Slot) (k j : ℕ) → cell (putAll n f l) n s k j ≡ cell l n s k j
   cell-scale e s k j = cell-put s k j ∙ rw e
 
-  pub cell-end : itemOf f ≡ End → (s : Slot) (k j : ℕ) → cell (putAll n f l) n s k j ≡ cell l n s k j
-  cell-end e s k j = cell-put s k j ∙ rw e
+  -- an end: a weight that was not given is 1, and every other number is as before
+  module _ (z : ℕ) (e : itemOf f ≡ End) where
+    abbrev after : Lists
+    after = closed n z End (putAll n f l)
+
+    pub cell-end : (s : Slot) (k j : ℕ) → 1 ≤ k → j < width s n → (s ≡ Weight → hasPlace z (k - 1) ≡ true) → cell after n s k j ≡ cell l n s k j
+    cell-end Matrix k j h r g = cell-put Matrix k j ∙ rw e
+    cell-end Right k j h r g = cell-put Right k j ∙ rw e
+    cell-end Guess k j h r g = cell-put Guess k j ∙ rw e
+    cell-end Inverse k j h r g = cell-put Inverse k j ∙ rw e
+    cell-end Weight k j h r g =
+        let p : (k - 1) * 1 + j ≡ k - 1 = omega arith in
+        filled-given n z (putAll n f l .weights) ((k - 1) * 1 + j) (rw p (g refl)) ∙ cell-put Weight k j ∙ rw e
+
+    pub cell-one : (k : ℕ) → 1 ≤ k → k ≤ n → n ≤ length (l .weights) → hasPlace z (k - 1) ≡ false → cell after n Weight k 0 ≡ pos 1
+    cell-one k h t long g =
+        let p : (k - 1) * 1 + 0 ≡ k - 1 = omega arith in
+        let same : put Weight n f (l .weights) ≡ l .weights = rw e in
+        rw (p, same) (filled-one n z (l .weights) (k - 1) g (omega arith) long)
 
   module _ {q : Part} {i : ℤ} (e : itemOf f ≡ Of q i) (count : (s : Slot) → partOf s ≡ q → length (valuesFor s f) ≡ width s n) (from : 1 ≤ natAbs i) where
     pub cell-own : (s : Slot) → partOf s ≡ q → (j : ℕ) → j < width s n → natAbs i ≤ 32 → 32 * width s n ≤ length (listOf s l) → cell (putAll n f l) n s (natAbs i) j ≡ getD (valuesFor s f) j (pos 0)

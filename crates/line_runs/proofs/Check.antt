@@ -19,16 +19,21 @@ use Rattle.form.specs.Form.{Form}
 use Rattle.form_values.specs.Item.{itemOf, partIndex}
 use Rattle.form_values.specs.declared.Item.{Item}
 use Rattle.form_values.specs.declared.Item.the-variants.{Problem, Scale, Of, End}
+use Rattle.form_values.specs.declared.Part.the-variants as part
 use Rattle.lent_lists.specs.Slot.{Slot, Matrix, Right, Guess, Inverse, Weight, partOf, width, valuesFor}
 use Rattle.lent_lists.specs.Lists.{Lists, shortLists}
-use Rattle.lent_lists.specs.Put.{putItem, put, putAll}
+use Rattle.lent_lists.specs.Put.{putItem, put}
+use Rattle.lent_lists.specs.Filled.{weightsAfter}
+use Rattle.lent_lists.proofs.Filled.{length-filled}
 use Rattle.lent_lists.proofs.Lists.{Long, long}
-use Rattle.given_forms.specs.Progress.{ended}
+use Rattle.given_forms.specs.Progress.{setOf, ended}
 use Rattle.checked.specs.Input.{Input, input, problem, inRanges}
 use Rattle.checked.specs.Input as checker
 use Rattle.checked.specs.Order.{reckoned, firstMargin, firstResidual, firstInversePlace}
 use Rattle.checked.proofs.Contract.{answer-ready}
 use Rattle.loader_order.specs.Through.{answerThrough}
+use Rattle.loader.specs.declared.Loader.{Loader}
+use Rattle.loader.specs.Taken.{listsWith}
 use Rattle.loader.proofs.Accepted.{accepted-form}
 use Rattle.loader_order.proofs.Through.{answer-ended}
 use Rattle.line_runs.specs.Run.{State, fromNew, step, run, Accepts}
@@ -46,17 +51,24 @@ length-put s n (Of q i) vs l = go (eqb (partIndex (partOf s)) (partIndex q))
     go false = refl
 length-put s n End vs l = refl
 
-long-kept : (n : ℕ) (f : Form) (l : Lists) → shortLists (putAll n f l) ≡ shortLists l
-long-kept n f l =
+length-weights : (n z : ℕ) (x : Item) (l : List ℤ) → length (weightsAfter n z x l) ≡ length l
+length-weights n z (Problem m) l = refl
+length-weights n z (Scale u v) l = refl
+length-weights n z (Of q i) l = refl
+length-weights n z End l = length-filled n z l
+
+long-kept : (d : Loader) (f : Form) (l : Lists) → shortLists (listsWith d f l) ≡ shortLists l
+long-kept d f l =
+    let n = d .n in
     let same : (s : Slot) (k : List ℤ) → length (put s n f k) ≡ length k = λ s k. length-put s n (itemOf f) (valuesFor s f) k in
-    rw (same Matrix (l .matrix), same Right (l .right), same Guess (l .guess), same Inverse (l .inverse), same Weight (l .weights))
+    rw (length-weights n (setOf (d .sets) part.Weight) (itemOf f) (put Weight n f (l .weights)), same Matrix (l .matrix), same Right (l .right), same Guess (l .guess), same Inverse (l .inverse), same Weight (l .weights))
 
 pub run-long : (u : State) (lines : List (List ℕ)) → Accepts u lines → shortLists (u .lists) ≡ false → shortLists (run u lines .lists) ≡ false
 unfolding run
 run-long u [] a h = h
 run-long u (line ∷ lines) a h =
     let r = accepted-form (u .loader) (u .lists) line (a .0) in
-    run-long (step u line) lines (a .1) (rw (r .1 .lists) (long-kept (u .loader .n) (r .0) (u .lists) ∙ h))
+    run-long (step u line) lines (a .1) (rw (r .1 .lists) (long-kept (u .loader) (r .0) (u .lists) ∙ h))
 
 -- a run that ends has a line, which was accepted, so its lists were long enough
 pub lists-long : (l : Lists) (lines : List (List ℕ)) → Accepts (fromNew l) lines → ended (run (fromNew l) lines .loader .stage) ≡ true → shortLists (run (fromNew l) lines .lists) ≡ false

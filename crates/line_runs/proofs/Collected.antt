@@ -1,7 +1,7 @@
 -- An accepted form: the state holds what it gives, and what was given before.
 --   next u g     — the state after the form g
 --   holds-own    — a form that is accepted is held;  holds-kept — a form that is held stays so when another is accepted
-use mathlib.Core.Path.{_≡_, refl, sym, subst, _∙_}
+use mathlib.Core.Path.{_≡_, refl, sym, ap, subst, _∙_}
 use mathlib.Core.Bool.{true, false, not}
 use mathlib.Core.List.{List}
 use Prim.Native.Nat.{ℕ, _*_, _-_, _≤_, _<_}
@@ -16,15 +16,17 @@ use Rattle.form_values.specs.Item.{itemOf, partIndex, placed, outside, miscount
 use Rattle.form_values.specs.declared.Item.{Item}
 use Rattle.form_values.specs.declared.Item.the-variants.{Problem, Scale, Of, End}
 use Rattle.form_values.specs.declared.Part.{Part}
+use Rattle.form_values.specs.declared.Part.the-variants as part
 use Rattle.form_values.proofs.Capped.{part-same}
 use Rattle.lent_lists.specs.Slot.{Slot, Matrix, Right, Guess, Inverse, Weight, partOf, width, valuesFor}
 use Rattle.lent_lists.specs.Lists.{Lists, listOf, shortLists}
 use Rattle.lent_lists.specs.Put.{putAll}
+use Rattle.lent_lists.specs.Filled.{closed}
 use Rattle.lent_lists.proofs.Lists.{long}
 use Rattle.form_values.proofs.Between.{between}
-use Rattle.given_forms.specs.Progress.{given, sized, scaled, ended}
+use Rattle.given_forms.specs.Progress.{setOf, given, sized, scaled, ended}
 use Rattle.given_forms.proofs.Progress.{scaled-sized, placed-of, size-of, late}
-use Rattle.loader.specs.Taken.{after}
+use Rattle.loader.specs.Taken.{after, listsWith}
 use Rattle.loader_order.proofs.Said.{Passed}
 use Rattle.loader.proofs.Exact.{formCase}
 use Rattle.line_runs.specs.Run.{State}
@@ -35,7 +37,7 @@ use Rattle.line_runs.proofs.View.{View, view, a-problem, a-scale, a-par
 use Rattle.line_runs.proofs.Cells.{cell-own, cell-else, cell-end}
 
 abbrev pub next : State → Form → State
-next u g = record { loader = after (u .loader) (itemOf g); lists = putAll (u .loader .n) g (u .lists) }
+next u g = record { loader = after (u .loader) (itemOf g); lists = listsWith (u .loader) g (u .lists) }
 
 room : (l : Lists) (n : ℕ) → n ≤ 32 → shortLists l ≡ false → (s : Slot) → 32 * width s n ≤ length (listOf s l)
 room l n h e Matrix = omega (arith, long l e .matrix)
@@ -50,7 +52,7 @@ module _ (u : State) (sound : Sound (u .loader)) (g : Form) (fine : Passed (form
   values s = valuesFor s g
 
   abbrev by : Item → State
-  by y = record { loader = after (u .loader) y; lists = putAll (u .loader .n) g (u .lists) }
+  by y = record { loader = after (u .loader) y; lists = closed (u .loader .n) (setOf (u .loader .sets) part.Weight) y (putAll (u .loader .n) g (u .lists)) }
 
   sized-part : {q : Part} {i : ℤ} → itemOf g ≡ Of q i → (1 ≤ u .loader .n) × (u .loader .n ≤ 32)
   sized-part {q} {i} e =
@@ -135,7 +137,16 @@ module _ (u : State) (sound : Sound (u .loader)) (g : Form) (fine : Passed (form
     kept-view (Of p i) vs h (a-part q k e count inside) = kept-at (Of p i) vs e (part-kept e count h)
     kept-view (Of p i) vs h (an-end e) =
         kept-at (Of p i) vs e
-        (record { stage = refl; place = h .place; mark = h .mark; cells = λ s o j l. cell-end (u .loader .n) g (u .lists) e s (natAbs i) j ∙ h .cells s o j l; inside = h .inside })
+        (record {
+          stage = refl;
+          place = h .place;
+          mark = h .mark;
+          cells = λ s o j l.
+              cell-end (u .loader .n) g (u .lists) (setOf (u .loader .sets) part.Weight) e s (natAbs i) j (between 1 (u .loader .n) i (h .place) .from) l
+              (λ q. subst (λ (r : Part). given (u .loader .sets) r (natAbs i) ≡ true) (sym o ∙ ap partOf q) (h .mark))
+              ∙ h .cells s o j l;
+          inside = h .inside;
+        })
     kept-view End vs h v = clash (ended (u .loader .stage)) h going
 
     pub holds-kept : (f : Form) → HoldsForm f u → HoldsForm f (next u g)

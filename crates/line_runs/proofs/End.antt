@@ -1,9 +1,9 @@
 -- After an accepted end of lines taken from `new` the loader and the lists are what the lines' forms give, and every used number is in its range.
---   all-given   — where nothing is missing every part's form was given for every i from 1 to n
---   from-line   — each of them by its own line
+--   all-given   — where nothing is missing every counted part's form was given for every i from 1 to n
+--   from-line   — what was given, by its own line;  only-weight, left-out — what was not is a weight, and is 1
 --   FromForms, from-forms — n, s, t and every used number of the lists are those of the forms
 --   in-range    — every used number is in its range
-use mathlib.Core.Path.{_≡_, refl, sym, subst, _∙_}
+use mathlib.Core.Path.{_≡_, refl, sym, ap, subst, _∙_}
 use mathlib.Core.Bool.{Bool, true, false, cond}
 use mathlib.Core.List.{List, [], _∷_}
 use Prim.Native.Nat.{ℕ, suc, _+_, _*_, _-_, _/_, _%_, _≤_, _<_}
@@ -13,13 +13,16 @@ use borrow.Author.Tests.{eqb-true}
 use lib.Dec.{eqb}
 use lib.IntN.{pos, natAbs}
 use lib.ListN.{getD}
-use Rattle.rules.specs.Range.{inRange, allInRange}
+use Rattle.integer.proofs.Search.{clash}
+use Rattle.rules.specs.Range.{inRange, allInRange, rangeOf, ranges}
+use Rattle.rules.specs.declared.Kind.the-variants as kind
 use Rattle.rules.proofs.AllInRange.{all-in}
 use Rattle.rules.proofs.Ranges.{size-range}
 use Rattle.form.specs.Form.{Form}
 use Rattle.form_values.specs.Item.{partIndex}
 use Rattle.form_values.specs.declared.Item.{Item}
 use Rattle.form_values.specs.declared.Part.{Part}
+use Rattle.form_values.specs.declared.Part.the-variants as part
 use Rattle.lent_lists.specs.Slot.{Slot, Matrix, Right, Guess, Inverse, Weight, partOf, width, valuesFor}
 use Rattle.lent_lists.specs.Lists.{Lists, listOf}
 use Rattle.form_values.proofs.Capped.{part-same}
@@ -30,11 +33,12 @@ use Rattle.given_forms.specs.declared.Stage.{Stage}
 use Rattle.given_forms.specs.declared.Stage.the-variants.{Start, Sized, Scaled, Ended}
 use Rattle.given_forms.proofs.Progress.{scaled-sized}
 use Rattle.line_runs.specs.Run.{State, fromNew, step, run, Accepts, forms}
-use Rattle.line_runs.specs.Given.{valueFrom, sizeFrom, scalesFrom}
+use Rattle.line_runs.specs.Given.{absent, valueFrom, sizeFrom, scalesFrom}
 use Rattle.line_runs.specs.Holds.{HoldsItem, HoldsPart, InRange, kindFor, cell}
 use Rattle.line_runs.proofs.Sound.{Sound, fresh-sound, fresh-empty, line-sound}
-use Rattle.line_runs.proofs.Marks.{hits, once}
+use Rattle.line_runs.proofs.Marks.{hits}
 use Rattle.line_runs.proofs.Runs.{collected, Found, found}
+use Rattle.line_runs.proofs.LeftOut.{run-filled, not-given, value-absent}
 use Rattle.line_runs.proofs.Sizes.{HasScales, size-from, scales-from}
 
 -- ---- nothing is missing
@@ -47,12 +51,18 @@ none-at p (q ∷ ps) f e h = go (eqb (partIndex p) (partIndex q)) refl h (none-a
     go true t l rest = subst (λ (r : Part). f r ≡ 0) (sym (part-same p q (eqb-true (partIndex p) (partIndex q) t))) (omega arith)
     go false t l rest = rest (omega arith)
 
-pub all-given : (n : ℕ) (z : List ℕ) → missing n z ≡ 0 → (p : Part) (k : ℕ) → 1 ≤ k → k ≤ n → given z p k ≡ true
+pub all-given : (n : ℕ) (z : List ℕ) → missing n z ≡ 0 → (p : Part) → 1 ≤ totalOver counted (hits p) → (k : ℕ) → 1 ≤ k → k ≤ n → given z p k ≡ true
 unfolding missing
-all-given n z e p k l h =
-    lacking-none (setOf z p) n (none-at p counted (λ (q : Part). lacking (setOf z q) n) e (omega (arith, once p))) (k - 1) (omega arith)
+all-given n z e p c k l h = lacking-none (setOf z p) n (none-at p counted (λ (q : Part). lacking (setOf z q) n) e c) (k - 1) (omega arith)
 
-run-sound : (u : State) → Sound (u .loader) → (lines : List (List ℕ)) → Sound (run u lines .loader)
+only-weight : (n : ℕ) (z : List ℕ) → missing n z ≡ 0 → (k : ℕ) → 1 ≤ k → k ≤ n → (s : Slot) → given z (partOf s) k ≡ false → s ≡ Weight
+only-weight n z e k l h Matrix g = clash (given z part.Row k) (all-given n z e part.Row (omega arith) k l h) g
+only-weight n z e k l h Right g = clash (given z part.Right k) (all-given n z e part.Right (omega arith) k l h) g
+only-weight n z e k l h Guess g = clash (given z part.Guess k) (all-given n z e part.Guess (omega arith) k l h) g
+only-weight n z e k l h Inverse g = clash (given z part.Inverse k) (all-given n z e part.Inverse (omega arith) k l h) g
+only-weight n z e k l h Weight g = refl
+
+pub run-sound : (u : State) → Sound (u .loader) → (lines : List (List ℕ)) → Sound (run u lines .loader)
 unfolding run
 run-sound u s [] = s
 run-sound u s (line ∷ lines) = run-sound (step u line) (line-sound (u .loader) (u .lists) line s) lines
@@ -62,6 +72,10 @@ ended-scaled Start e = e
 ended-scaled Sized e = e
 ended-scaled Scaled e = refl
 ended-scaled Ended e = refl
+
+one-weight : inRange kind.Weight (pos 1) ≡ true
+unfolding inRange rangeOf ranges
+one-weight = refl
 
 -- the state holds what the forms fs give
 pub record FromForms (fs : List Form) (u : State) : Type 0 where
@@ -81,10 +95,17 @@ module _ (l : Lists) (lines : List (List ℕ)) (a : Accepts (fromNew l) lines) (
   is-scaled = ended-scaled (last .loader .stage) e
 
   -- the line that gave a number
-  pub from-line : (p : Part) (k : ℕ) → 1 ≤ k → k ≤ last .loader .n → Found p k (forms lines)
-  from-line p k f h = found p k f (fromNew l) fresh-sound lines a (fresh-empty p k) (all-given (last .loader .n) (last .loader .sets) (sound .whole e) p k f h)
+  pub from-line : (p : Part) (k : ℕ) → 1 ≤ k → given (last .loader .sets) p k ≡ true → Found p k (forms lines)
+  from-line p k f h = found p k f (fromNew l) fresh-sound lines a (fresh-empty p k) h
 
-  held : (p : Part) (k : ℕ) (f : 1 ≤ k) (h : k ≤ last .loader .n) → let r = from-line p k f h in HoldsPart p (r .place) (λ (s : Slot). valuesFor s (r .form)) last
+  -- what no line gave: a weight, which is 1
+  pub left-out : (s : Slot) (k j : ℕ) → 1 ≤ k → k ≤ last .loader .n → j < width s (last .loader .n) → given (last .loader .sets) (partOf s) k ≡ false → (s ≡ Weight) × (cell (last .lists) (last .loader .n) s k j ≡ pos 1)
+  left-out s k j f h m g =
+      let w : s ≡ Weight = only-weight (last .loader .n) (last .loader .sets) (sound .whole e) k f h s g in
+      let first : j ≡ 0 = omega (arith, subst (λ (t : Slot). j < width t (last .loader .n)) w m) in
+      (w, rw (w, first) (run-filled (fromNew l) fresh-sound lines a (λ q. clash false q refl) e k f h (rw w at g)))
+
+  held : (p : Part) (k : ℕ) (f : 1 ≤ k) (h : given (last .loader .sets) p k ≡ true) → let r = from-line p k f h in HoldsPart p (r .place) (λ (s : Slot). valuesFor s (r .form)) last
   held p k f h =
       let r = from-line p k f h in
       subst (λ (x : Item). HoldsItem x (λ (s : Slot). valuesFor s (r .form)) last) (r .item) (collected (fromNew l) fresh-sound lines a (r .form) (r .among))
@@ -93,18 +114,29 @@ module _ (l : Lists) (lines : List (List ℕ)) (a : Accepts (fromNew l) lines) (
   from-forms = record {
     size = size-from (fromNew l) fresh-sound lines a refl (scaled-sized (last .loader .stage) is-scaled);
     scales = scales-from (fromNew l) fresh-sound lines a refl is-scaled;
-    values = λ s k j f h m.
-        let r = from-line (partOf s) k f h in
-        let c : cell (last .lists) (last .loader .n) s (natAbs (r .place)) j ≡ getD (valuesFor s (r .form)) j (pos 0) = held (partOf s) k f h .cells s refl j m in
-        rw (← r .number) at c ∙ sym (r .values s refl j);
+    values = λ s k j f h m. value s k j f h m (given (last .loader .sets) (partOf s) k) refl;
   }
+    where
+      value : (s : Slot) (k j : ℕ) → 1 ≤ k → k ≤ last .loader .n → j < width s (last .loader .n) → (b : Bool) → given (last .loader .sets) (partOf s) k ≡ b
+          → cell (last .lists) (last .loader .n) s k j ≡ valueFrom (forms lines) s k j
+      value s k j f h m true g =
+          let r = from-line (partOf s) k f g in
+          let c : cell (last .lists) (last .loader .n) s (natAbs (r .place)) j ≡ getD (valuesFor s (r .form)) j (pos 0) = held (partOf s) k f g .cells s refl j m in
+          rw (← r .number) at c ∙ sym (r .values s refl j)
+      value s k j f h m false g =
+          let o = left-out s k j f h m g in
+          o .1 ∙ sym (value-absent s k j (forms lines) (not-given (fromNew l) fresh-sound lines a (partOf s) k g) ∙ ap absent (o .0))
 
-  -- every number that was given is in its range
+  -- every used number is in its range: those that were given, and 1
   inside : (s : Slot) (k j : ℕ) → 1 ≤ k → k ≤ last .loader .n → j < width s (last .loader .n) → inRange (kindFor s) (cell (last .lists) (last .loader .n) s k j) ≡ true
-  inside s k j f h m =
-      let r = from-line (partOf s) k f h in
-      let v = held (partOf s) k f h .inside s refl j m in
-      rw (from-forms .values s k j f h m, r .values s refl j) v
+  inside s k j f h m = go (given (last .loader .sets) (partOf s) k) refl
+    where
+      go : (b : Bool) → given (last .loader .sets) (partOf s) k ≡ b → inRange (kindFor s) (cell (last .lists) (last .loader .n) s k j) ≡ true
+      go true g =
+          let r = from-line (partOf s) k f g in
+          let v = held (partOf s) k f g .inside s refl j m in
+          rw (from-forms .values s k j f h m, r .values s refl j) v
+      go false g = let o = left-out s k j f h m g in rw (o .1, o .0) one-weight
 
   column : (s : Slot) → width s (last .loader .n) ≡ 1 → allInRange (kindFor s) (last .loader .n) (λ (k : ℕ). getD (listOf s (last .lists)) k (pos 0)) ≡ true
   column s w = all-in (kindFor s) (last .loader .n) (λ (k : ℕ). getD (listOf s (last .lists)) k (pos 0)) (λ k h. one k h)

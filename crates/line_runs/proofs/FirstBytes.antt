@@ -1,7 +1,7 @@
 -- The first 65,536 bytes of a file decide what comes of its lines: at most 163 lines are accepted, each of at most 320 bytes and its line feed.
 --   length-cut, drop-take — the first line of a file's first N bytes, and what follows it
 --   long-line  — lines above 320 bytes are refused alike
---   Cut, cut   — a file's first N bytes are the whole file, or both are refused alike, where N is large enough for the forms outstanding
+--   Cut, cut   — a file's first N bytes are the whole file, or both are refused alike, where N is large enough for the lines that may still be accepted
 --   first-bytes — so it is with the first 65,536 bytes, from the start
 use mathlib.Core.Path.{_≡_, refl, sym, ap, _∙_}
 use mathlib.Core.Bool.{Bool, true, false, cond}
@@ -17,10 +17,10 @@ use Rattle.lent_lists.specs.Lists.{Lists, shortLists}
 use Rattle.loader.specs.declared.Loader.{Loader}
 use Rattle.loader.specs.Answer.{lineAnswer}
 use Rattle.given_forms.specs.Progress.{ended}
-use Rattle.line_runs.specs.Outstanding.{lineMost, bytesMost, linesMost, outstanding}
+use Rattle.line_runs.specs.Acceptable.{lineMost, bytesMost, linesMost, acceptable}
 use Rattle.line_runs.specs.Run.{State, fromNew, step}
 use Rattle.line_runs.proofs.Sound.{Sound, fresh-sound, line-sound}
-use Rattle.line_runs.proofs.Outstanding.{falls}
+use Rattle.line_runs.proofs.Acceptable.{falls}
 use Rattle.line_runs.specs.Length.{lineLength}
 use Rattle.line_runs.specs.Lines.{linesOf}
 use Rattle.line_runs.specs.Read.{Reading, readFrom}
@@ -66,9 +66,9 @@ pub data Cut (N k : ℕ) (u : State) (s : List ℕ) : Type 0 where
   whole : take N s ≡ s → Cut N k u s
   stopped : readFrom k u (linesOf (take N s)) ≡ readFrom k u (linesOf s) → (readFrom k u (linesOf s) .said ≡ [] → ⊥) → Cut N k u s
 
--- what is to be shown of a state with fewer forms outstanding
+-- what is to be shown of a state at which fewer lines may be accepted
 abbrev Shown : State → Type 0
-Shown u = (N k : ℕ) → outstanding (u .loader) * lineMost + lineMost ≤ N → (s : List ℕ) → Cut N k u s
+Shown u = (N k : ℕ) → acceptable (u .loader) * lineMost + lineMost ≤ N → (s : List ℕ) → Cut N k u s
 
 -- ---- one line: the first m bytes of a file that has some
 module _ (N k : ℕ) (u : State) (b : ℕ) (bs : List ℕ) where
@@ -139,7 +139,7 @@ module _ (N k : ℕ) (u : State) (b : ℕ) (bs : List ℕ) where
           stopped (rw (lines-cut, lines-next b bs) (y ∙ sym x)) (rw (lines-next b bs) (λ q. nothing-is-not (sym (ap (λ (R : Reading). R .said) x) ∙ q)))
 
 -- ---- all lines
-one : (u : State) → Sound (u .loader) → ((v : State) → Sound (v .loader) → outstanding (v .loader) < outstanding (u .loader) → Shown v) → Shown u
+one : (u : State) → Sound (u .loader) → ((v : State) → Sound (v .loader) → acceptable (v .loader) < acceptable (u .loader) → Shown v) → Shown u
 one u h ih N k r [] = whole (take-nil N)
 one u h ih zero k r (b ∷ bs) = absurd (omega arith)
 one u h ih (suc N) k r (b ∷ bs) = go (ltb (lineLength (b ∷ bs)) 321) refl
@@ -154,7 +154,7 @@ one u h ih (suc N) k r (b ∷ bs) = go (ltb (lineLength (b ∷ bs)) 321) refl
         ih (step u line) (line-sound (u .loader) (u .lists) line h) f (suc N - suc (lineLength (b ∷ bs))) (k + 1)
         (omega (arith, f)) (drop (suc (lineLength (b ∷ bs))) (b ∷ bs)))
 
-cut-by : (o : ℕ) (u : State) → Sound (u .loader) → outstanding (u .loader) < o → Shown u
+cut-by : (o : ℕ) (u : State) → Sound (u .loader) → acceptable (u .loader) < o → Shown u
 cut-by zero u h l = absurd (omega arith)
 cut-by (suc o) u h l = one u h (λ v g f. cut-by o v g (omega arith))
 

@@ -5,9 +5,10 @@ pub mod Sound
 pub mod Collected
 pub mod Runs
 pub mod Sizes
+pub mod LeftOut
 pub mod End
 pub mod AnyOrder
-pub mod Outstanding
+pub mod Acceptable
 pub mod Check
 pub mod Lines
 pub mod Read

@@ -1,8 +1,9 @@
 -- The sets of given forms after a form, and how many forms are missing then.
---   hits p q, once — 1 for the part p itself; it is counted once
+--   hits p q, once — 1 for the part p itself; it is one of the parts, once
 --   marked-own, marked-other — the sets after a form: its own part's set with its place, the others as before
 --   given-own, given-else — the form was given then, and every other form as before
---   missing-marked — with a form that was not given one form fewer is missing;  missing-most — at most 5n are
+--   ungiven-marked — with a form that was not given one form fewer is left to give;  ungiven-most — at most 5n are
+--   ungiven-is     — they are the missing forms and the weights not given;  missing-most — at most 4n are missing;  missing-kept — a weight leaves their count
 use mathlib.Core.Path.{_≡_, refl, sym, subst}
 use mathlib.Core.Bool.{Bool, true, false, cond}
 use mathlib.Core.List.{List, [], _∷_}
@@ -21,6 +22,7 @@ use Rattle.form_values.proofs.Capped.{part-same}
 use Rattle.bit_set.specs.Places.{withPlace, lacking}
 use Rattle.bit_set.proofs.Places.{has-same, has-other, lacking-with, lacking-≤}
 use Rattle.given_forms.specs.Progress.{setOf, counted, totalOver, given, marked, missing}
+use Rattle.line_runs.specs.Acceptable.{parts, ungiven}
 
 abbrev pub hits : Part → Part → ℕ
 hits p q = cond (eqb (partIndex p) (partIndex q)) 1 0
@@ -29,7 +31,7 @@ totalOver-more : (p : Part) (ps : List Part) (f g : Part → ℕ) → ((q : Part
 totalOver-more p [] f g h = refl
 totalOver-more p (q ∷ ps) f g h = omega (arith, h q, totalOver-more p ps f g h)
 
-pub once : (p : Part) → totalOver counted (hits p) ≡ 1
+pub once : (p : Part) → totalOver parts (hits p) ≡ 1
 once Row = refl
 once Right = refl
 once Guess = refl
@@ -60,10 +62,10 @@ module _ (z : List ℕ) (five : length z ≡ 5) (p : Part) (i : ℕ) where
           (rw marked-own (omega (arith, lacking-with (setOf z p) n (i - 1) (omega arith) e)))
       go false s = rw (marked-other q (λ r. eqb-false (partIndex p) (partIndex q) s (sym r))) (omega arith)
 
-  pub missing-marked : (n : ℕ) → 1 ≤ i → i ≤ n → given z p i ≡ false → missing n z ≡ suc (missing n (marked z p i))
-  unfolding missing
-  missing-marked n l h e =
-      omega (arith, once p, totalOver-more p counted (λ (q : Part). lacking (setOf z q) n) (λ (q : Part). lacking (setOf (marked z p i) q) n) (fewer n l h e))
+  pub ungiven-marked : (n : ℕ) → 1 ≤ i → i ≤ n → given z p i ≡ false → ungiven n z ≡ suc (ungiven n (marked z p i))
+  unfolding ungiven
+  ungiven-marked n l h e =
+      omega (arith, once p, totalOver-more p parts (λ (q : Part). lacking (setOf z q) n) (λ (q : Part). lacking (setOf (marked z p i) q) n) (fewer n l h e))
 
 module _ (z : List ℕ) (five : length z ≡ 5) (q : Part) (k : ℕ) where
   pub given-own : given (marked z q k) q k ≡ true
@@ -78,11 +80,25 @@ module _ (z : List ℕ) (five : length z ≡ 5) (q : Part) (k : ℕ) where
           subst (λ (r : Part). given (marked z q k) r i ≡ given z r i) (sym (part-same p q e))
           (rw (marked-own z five q k) (has-other (setOf z q) (k - 1) (i - 1) (λ s. other e (omega arith))))
 
--- ---- at most 5n are missing
+-- ---- how many are left to give, and how many of these are missing
 totalOver-most : (ps : List Part) (f : Part → ℕ) (n : ℕ) → ((q : Part) → f q ≤ n) → totalOver ps f ≤ length ps * n
 totalOver-most [] f n h = omega arith
 totalOver-most (q ∷ ps) f n h = omega (arith, h q, totalOver-most ps f n h, suc-mul (length ps) n)
 
-pub missing-most : (n : ℕ) (z : List ℕ) → missing n z ≤ 5 * n
+pub ungiven-most : (n : ℕ) (z : List ℕ) → ungiven n z ≤ 5 * n
+unfolding ungiven
+ungiven-most n z = totalOver-most parts (λ (q : Part). lacking (setOf z q) n) n (λ q. lacking-≤ (setOf z q) n)
+
+pub missing-most : (n : ℕ) (z : List ℕ) → missing n z ≤ 4 * n
 unfolding missing
 missing-most n z = totalOver-most counted (λ (q : Part). lacking (setOf z q) n) n (λ q. lacking-≤ (setOf z q) n)
+
+pub ungiven-is : (n : ℕ) (z : List ℕ) → ungiven n z ≡ missing n z + lacking (setOf z Weight) n
+unfolding ungiven missing
+ungiven-is n z = omega arith
+
+pub missing-kept : (n : ℕ) (z : List ℕ) → length z ≡ 5 → (i : ℕ) → missing n (marked z Weight i) ≡ missing n z
+unfolding missing
+missing-kept n z five i =
+    let same : (q : Part) → (partIndex q ≡ 4 → ⊥) → setOf (marked z Weight i) q ≡ setOf z q = marked-other z five Weight i in
+    rw (same Row (λ e. omega arith), same Right (λ e. omega arith), same Guess (λ e. omega arith), same Inverse (λ e. omega arith))

@@ -85,7 +85,7 @@ collected u s (line ∷ lines) a f i =
     (collected (step u line) s′ lines (a .1) f)
 
 -- ---- what is given was given by a line
-is-of : (p : Part) (k : ℕ) (x : Item) → isOf p k x ≡ true → (i : ℤ) × (x ≡ Of p i) × (k ≡ natAbs i)
+pub is-of : (p : Part) (k : ℕ) (x : Item) → isOf p k x ≡ true → (i : ℤ) × (x ≡ Of p i) × (k ≡ natAbs i)
 is-of p k (Problem n) e = clash false e refl
 is-of p k (Scale s t) e = clash false e refl
 is-of p k (Of q i) e =

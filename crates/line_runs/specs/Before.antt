@@ -20,12 +20,11 @@ use Rattle.form_values.specs.declared.Item.{Item}
 use Rattle.form_values.specs.declared.Item.the-variants.{Problem, Scale, Of}
 use Rattle.form_values.specs.declared.Part.{Part}
 use Rattle.lent_lists.specs.Lists.{Lists}
-use Rattle.lent_lists.specs.Put.{putAll}
 use Rattle.given_forms.specs.Progress.{given, sized, scaled}
 use Rattle.loader_order.specs.Order.{LineCase}
 use Rattle.loader.specs.declared.Loader.{Loader}
 use Rattle.loader.specs.Answer.{caseOf, ofForm}
-use Rattle.loader.specs.Taken.{after}
+use Rattle.loader.specs.Taken.{after, listsWith}
 use Rattle.line_runs.specs.Run.{State}
 use Rattle.line_runs.specs.Read.{Reading}
 
@@ -50,7 +49,7 @@ unfoldable pub loaderBefore : Loader → Lists → List ℕ → Loader
 loaderBefore d l line = accepted (answerBefore d l line) (ofForm (reading line) d (λ (f : Form). after d (itemOf f))) d
 
 unfoldable pub listsBefore : Loader → Lists → List ℕ → Lists
-listsBefore d l line = accepted (answerBefore d l line) (ofForm (reading line) l (λ (f : Form). putAll (d .n) f l)) l
+listsBefore d l line = accepted (answerBefore d l line) (ofForm (reading line) l (λ (f : Form). listsWith d f l)) l
 
 abbrev pub stepBefore : State → List ℕ → State
 stepBefore u line = record { loader = loaderBefore (u .loader) (u .lists) line; lists = listsBefore (u .loader) (u .lists) line }

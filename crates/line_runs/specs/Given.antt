@@ -2,7 +2,7 @@
 --   Scales       — s and t
 --   sizeFrom, scalesFrom fs — n, and s and t, that the forms fs give;  sizeBy, scaleBy — that one form gives, or those of the others
 --   isOf p k x   — x is the form of the part p for the number k
---   absent s     — what stands for a number of the list s that no form gave
+--   absent s     — what stands for a number of the list s that no form gave (02, Paper 1: "A weight not given stands for 1"); the other lists are given whole
 --   valueFrom fs s k j — the number j, from 0, that they give of the list s for the number k
 use mathlib.Core.Bool.{Bool, false, _&&_, cond}
 use mathlib.Core.List.{List, [], _∷_}
@@ -32,7 +32,7 @@ absent Matrix = pos 0
 absent Right = pos 0
 absent Guess = pos 0
 absent Inverse = pos 0
-absent Weight = pos 0
+absent Weight = pos 1
 
 unfoldable pub valueFrom : List Form → Slot → ℕ → ℕ → ℤ
 valueFrom [] s k j = absent s

@@ -4,5 +4,5 @@ pub mod Run
 pub mod Given
 pub mod Read
 pub mod Holds
-pub mod Outstanding
 pub mod Before
+pub mod Acceptable

@@ -67,18 +67,21 @@ module _ (file : List ℕ) where
     unfolding answerOf
     answer-judged e = rw (quiet, e)
 
-    accepts : Accepts (fromNew zeros) lines
+    pub accepts : Accepts (fromNew zeros) lines
     accepts = all-accepted 0 (fromNew zeros) lines quiet
 
     state-is : R .state ≡ run (fromNew zeros) lines
     state-is = all-run 0 (fromNew zeros) lines quiet
 
     module _ (end : ended (R .state .loader .stage) ≡ true) where
-      ended-run : ended (run (fromNew zeros) lines .loader .stage) ≡ true
+      pub ended-run : ended (run (fromNew zeros) lines .loader .stage) ≡ true
       ended-run = rw state-is at end
 
+      pub run-from : FromForms (forms lines) (run (fromNew zeros) lines)
+      run-from = from-forms zeros lines accepts ended-run
+
       pub from : FromForms (forms lines) (R .state)
-      from = rw state-is (from-forms zeros lines accepts ended-run)
+      from = rw state-is run-from
 
       pub inside : InRange (R .state)
       inside = rw state-is (in-range zeros lines accepts ended-run)

@@ -4,7 +4,7 @@ use mathlib.Core.Path.{_≡_, refl, sym, ap, _∙_}
 use mathlib.Core.List.{List, [], _∷_}
 use Prim.Native.Nat.{ℕ}
 use lib.ListN.{take}
-use Rattle.line_runs.specs.Outstanding.{bytesMost}
+use Rattle.line_runs.specs.Acceptable.{bytesMost}
 use Rattle.line_runs.specs.Run.{fromNew}
 use Rattle.line_runs.specs.Read.{Reading, zeros, readingOf}
 use Rattle.line_runs.proofs.FirstBytes.{Cut, whole, stopped}

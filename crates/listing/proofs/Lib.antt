@@ -4,3 +4,5 @@ pub mod Answers
 pub mod Demand
 pub mod Meaning
 pub mod Table
+pub mod LeftOut
+pub mod WithOnes

@@ -2,13 +2,16 @@
 --   cases-hold — one theorem for all rows of the table, computed
 --   whole-file — the listing of 01's whole file is the one that it prints: its lines spell its forms, these are accepted, and the report of their
 --     problem has the listing's bytes, each computed
-use mathlib.Core.Path.{_≡_, refl, ap, _∙_}
-use mathlib.Core.Bool.{true}
+use mathlib.Core.Path.{_≡_, refl, sym, ap, subst, _∙_}
+use mathlib.Core.Bool.{Bool, true, false, _&&_}
 use mathlib.Core.List.{List, [], _∷_}
+use Prim.Native.Nat.{ℕ}
 use lib.IntN.{pos, negsuc}
 use Rattle.integer.specs.Finite.{sum, sumℕ, largest, first}
 use Rattle.integer.specs.Quotient.{ceilDiv, roundDiv}
 use Rattle.linear.specs.Matrix.{apply, product, identity}
+use Rattle.integer.proofs.Search.{clash}
+use Rattle.rules.proofs.Ranges.{both-left, both-right}
 use Rattle.rules.specs.Range.{ranges, rangeOf, inRange, allInRange}
 use Rattle.entry.specs.Entry.{entryBound}
 use Rattle.enclosure.specs.Problem.{Problem}
@@ -33,13 +36,31 @@ use Rattle.file_check.specs.Judged.{reportedOf}
 use Rattle.file_check.specs.Problem.{problemFrom}
 use Rattle.line_runs.specs.Lines.{linesOf}
 use Rattle.line_runs.specs.Read.{zeros}
-use Rattle.listing.specs.Cases.{table, tableHolds, wholeFile, wholeListing}
-use Rattle.listing.specs.Listing.{problemIn, listingOf}
+use Rattle.line_runs.specs.Holds.{here, there}
+use Rattle.listing.specs.Cases.{table, tableHolds, wholeFile, unweightedFile, wholeListing}
+use Rattle.listing.specs.Listing.{problemIn, Complete, listingOf}
+use Rattle.listing.specs.LeftOut.{NoWeights}
 use Rattle.listing.proofs.Entire.{zeros-long, listing-from, answer-judged}
+use Rattle.listing.proofs.WithOnes.{not-in-none}
 
 pub cases-hold : tableHolds table ≡ true
 unfolding check.answer solutionBoundsAfter inverseBoundsAfter written bound boundWith boundFrom sizesWith exceeds residual margin load defect product apply identity sum sumℕ largest first ceilDiv roundDiv entryBound allInRange inRange rangeOf ranges
 cases-hold = refl
+
+-- a file whose lines spell forms that are accepted, an end last
+module _ (file : List ℕ) (fs : List Form) (lines : linesOf file ≡ spelled fs) (passed : passes fresh fs ≡ true) where
+  problem-is : problemIn file ≡ problemFrom fs
+  problem-is = ap problemFrom (ap forms lines ∙ forms-spelled fs)
+
+  complete-is : Complete file
+  complete-is =
+      let w = pass-all 0 (fromNew zeros) fs zeros-long passed in
+      let r = rw (← lines) at w in
+      record { lines = r .0; end = r .1 }
+
+  listing-is : {report : List ℕ} → checkedOf (problemFrom fs) ≡ [] → reportedOf (problemFrom fs) ≡ report → listingOf file ≡ report
+  listing-is c r =
+      listing-from file (answer-judged file (complete-is .lines) (complete-is .end) ∙ ap (λ (Q : Problem). printed 0 (checkedOf Q)) problem-is ∙ ap (printed 0) c) ∙ ap reportedOf problem-is ∙ r
 
 -- the forms of the whole file
 abbrev wholeForms : List Form
@@ -76,8 +97,65 @@ unfolding valueFrom sizeFrom scalesFrom digits decimal numeral each reportOf bou
 whole-reported = refl
 
 pub whole-file : listingOf wholeFile ≡ wholeListing
-whole-file =
-    let w = pass-all 0 (fromNew zeros) wholeForms zeros-long whole-passes in
-    let P : problemIn wholeFile ≡ problemFrom wholeForms = ap problemFrom (ap forms whole-spelled ∙ forms-spelled wholeForms) in
-    let lines = rw (← whole-spelled) at w in
-    listing-from wholeFile (answer-judged wholeFile (lines .0) (lines .1) ∙ ap (λ (Q : Problem). printed 0 (checkedOf Q)) P ∙ ap (printed 0) whole-checked) ∙ ap reportedOf P ∙ whole-reported
+whole-file = listing-is wholeFile wholeForms whole-spelled whole-passes whole-checked whole-reported
+
+-- ---- the same without its weights
+abbrev unweightedForms : List Form
+unweightedForms =
+    problem (pos 2)
+    ∷ scale (pos 4) (pos 4)
+    ∷ row (pos 1) (pos 4) (negsuc 0 ∷ [])
+    ∷ row (pos 2) (negsuc 0) (pos 3 ∷ [])
+    ∷ right (pos 1) (pos 5)
+    ∷ right (pos 2) (pos 1)
+    ∷ guess (pos 1) (pos 23)
+    ∷ guess (pos 2) (pos 13)
+    ∷ inverse (pos 1) (pos 4) (pos 1 ∷ [])
+    ∷ inverse (pos 2) (pos 1) (pos 6 ∷ [])
+    ∷ end
+    ∷ []
+
+unweighted-spelled : linesOf unweightedFile ≡ spelled unweightedForms
+unfolding linesOf spell numerals numeral decimal digits
+unweighted-spelled = refl
+
+unweighted-passes : passes fresh unweightedForms ≡ true
+unfolding passes formSaid spell numerals numeral decimal digits missing misplaced withPlace lacking allInside sumℕ inRange rangeOf ranges
+unweighted-passes = refl
+
+unweighted-checked : checkedOf (problemFrom unweightedForms) ≡ []
+unfolding valueFrom sizeFrom scalesFrom exceeds residual margin load defect product apply identity sum sumℕ first
+unweighted-checked = refl
+
+unweighted-reported : reportedOf (problemFrom unweightedForms) ≡ wholeListing
+unfolding valueFrom sizeFrom scalesFrom digits decimal numeral each reportOf bound boundWith boundFrom sizesWith residual margin load defect product apply identity sum sumℕ largest ceilDiv roundDiv entryBound
+unweighted-reported = refl
+
+pub unweighted-complete : Complete unweightedFile
+unweighted-complete = complete-is unweightedFile unweightedForms unweighted-spelled unweighted-passes
+
+pub unweighted-file : listingOf unweightedFile ≡ wholeListing
+unweighted-file = listing-is unweightedFile unweightedForms unweighted-spelled unweighted-passes unweighted-checked unweighted-reported
+
+-- no form of it is a weight
+abbrev plain : Form → Bool
+plain (problem n) = true
+plain (scale s t) = true
+plain (row i a others) = true
+plain (right i b) = true
+plain (guess i x) = true
+plain (inverse i g others) = true
+plain (weight i w) = false
+plain end = true
+
+abbrev allPlain : List Form → Bool
+allPlain [] = true
+allPlain (f ∷ fs) = plain f && allPlain fs
+
+no-weights : (fs : List Form) → allPlain fs ≡ true → NoWeights fs
+no-weights [] e i w m = not-in-none m
+no-weights (f ∷ fs) e i w here = clash false (both-left (plain f) (allPlain fs) e) refl
+no-weights (f ∷ fs) e i w (there m) = no-weights fs (both-right (plain f) (allPlain fs) e) i w m
+
+pub unweighted-none : NoWeights (forms (linesOf unweightedFile))
+unweighted-none = subst (λ (fs : List Form). NoWeights fs) (sym (ap forms unweighted-spelled ∙ forms-spelled unweightedForms)) (no-weights unweightedForms refl)

@@ -1,7 +1,7 @@
 -- Cases a to l of document 01 ("Marked for proof") and the one of 02's Paper 2, one table; and 01's whole file with its listing.
 --   TableRow  — cases a to k are rows of the check on lists; case l is a register entry, and Paper 2's an entry with its limit
 --   table — the table;  tableRowHolds — a case is what the definitions of the contracts give
---   wholeFile, wholeListing — 01, "A whole file"
+--   wholeFile, wholeListing — 01, "A whole file";  unweightedFile — that file without its weights (02, Paper 1)
 use mathlib.Core.Bool.{Bool, true, _&&_}
 use mathlib.Core.List.{List, [], _∷_, _++_, map}
 use Prim.Native.Nat.{ℕ}
@@ -46,6 +46,11 @@ abbrev pub wholeFile : List ℕ
 wholeFile =
     bytes "(problem 2)\n(scale 4 4)\n(row 1 (4 -1))\n(row 2 (-1 3))\n(right 1 5)\n(right 2 1)\n"
     ++ bytes "(guess 1 23)\n(guess 2 13)\n(inverse 1 (4 1))\n(inverse 2 (1 6))\n(weight 1 1)\n(weight 2 1)\n(end)\n"
+
+abbrev pub unweightedFile : List ℕ
+unweightedFile =
+    bytes "(problem 2)\n(scale 4 4)\n(row 1 (4 -1))\n(row 2 (-1 3))\n(right 1 5)\n(right 2 1)\n"
+    ++ bytes "(guess 1 23)\n(guess 2 13)\n(inverse 1 (4 1))\n(inverse 2 (1 6))\n(end)\n"
 
 abbrev pub wholeListing : List ℕ
 wholeListing =

@@ -10,11 +10,10 @@ use Rattle.form.specs.Form.{Form}
 use Rattle.form.specs.Reading.{reading}
 use Rattle.form_values.specs.Item.{itemOf}
 use Rattle.lent_lists.specs.Lists.{Lists, shortLists}
-use Rattle.lent_lists.specs.Put.{putAll}
 use Rattle.given_forms.specs.Progress.{ended}
 use Rattle.loader.specs.declared.Loader.{Loader}
 use Rattle.loader.specs.Answer.{caseOf, lineAnswer, ofForm}
-use Rattle.loader.specs.Taken.{after, loaderAfter, listsAfter}
+use Rattle.loader.specs.Taken.{after, listsWith, loaderAfter, listsAfter}
 use Rattle.loader_order.proofs.Said.{Passed, passed}
 use Rattle.loader.proofs.Exact.{formCase, formSaid, answer-form}
 
@@ -24,7 +23,7 @@ pub record Accepted (d : Loader) (l : Lists) (line : List ℕ) (f : Form) : Type
   pub going : ended (d .stage) ≡ false
   pub fine : Passed (formCase d f)
   pub loader : loaderAfter d l line ≡ after d (itemOf f)
-  pub lists : listsAfter d l line ≡ putAll (d .n) f l
+  pub lists : listsAfter d l line ≡ listsWith d f l
 
 pub accepted-form : (d : Loader) (l : Lists) (line : List ℕ) → lineAnswer d l line ≡ [] → (f : Form) × Accepted d l line f
 unfolding lineAnswer loaderAfter listsAfter formSaid

@@ -26,7 +26,7 @@ use Rattle.form_values.specs.declared.Part.the-variants.{Row, Right, Guess, Inv
 use Rattle.form_values.proofs.Capped.{placed-capped, outside-capped, miscounted-capped, item-exact}
 use Rattle.form_values.proofs.Between.{between}
 use Rattle.lent_lists.specs.Lists.{Lists, shortLists}
-use Rattle.lent_lists.specs.Put.{putAll}
+use Rattle.lent_lists.specs.Filled.{closed}
 use Rattle.lent_lists.specs.Pasted.{Narrow, Rooms, pastedAll}
 use Rattle.lent_lists.proofs.Lists.{rooms}
 use Rattle.lent_lists.proofs.Exact.{all-exact}
@@ -34,9 +34,9 @@ use Rattle.loader_order.specs.Order.{LineCase, lineOrder}
 use Rattle.loader_order.proofs.Said.{Passed, passed}
 use Rattle.loader.specs.declared.Loader.{Loader}
 use Rattle.given_forms.specs.declared.Stage.{Stage}
-use Rattle.given_forms.specs.Progress.{ended, early, misplaced, repeated, incomplete, missing}
+use Rattle.given_forms.specs.Progress.{setOf, ended, early, misplaced, repeated, incomplete, missing}
 use Rattle.loader.specs.Answer.{lineAnswer}
-use Rattle.loader.specs.Taken.{after}
+use Rattle.loader.specs.Taken.{after, listsWith}
 use Rattle.loader.specs.Decided.{saidIn}
 use Rattle.given_forms.proofs.Progress.{placed-of}
 use Rattle.loader.proofs.Form.{narrow-by}
@@ -132,5 +132,5 @@ module _ (d : Loader) (f : Form) (small : d .n < capAt) (none : formSaid d f ≡
     pub exact-room : Rooms (d .n) (itemIn (cappedForm f)) l
     exact-room = rw exact (rooms (d .n) (itemOf f) l enough narrow)
 
-    pub exact-lists : pastedAll (d .n) (itemIn (cappedForm f)) (valuesIn (cappedForm f) (numbersIn f .values)) l ≡ putAll (d .n) f l
-    exact-lists = rw exact (all-exact (d .n) f l enough narrow (holds .outside) (holds .miscounted))
+    pub exact-lists : closed (d .n) (setOf (d .sets) Weight) (itemIn (cappedForm f)) (pastedAll (d .n) (itemIn (cappedForm f)) (valuesIn (cappedForm f) (numbersIn f .values)) l) ≡ listsWith d f l
+    exact-lists = rw exact (ap (closed (d .n) (setOf (d .sets) Weight) (itemOf f)) (all-exact (d .n) f l enough narrow (holds .outside) (holds .miscounted)))

@@ -23,7 +23,7 @@ use Rattle.lent_lists.specs.Pasted.{Narrow}
 use Rattle.given_forms.specs.Progress.{early, misplaced}
 use Rattle.loader_order.proofs.Said.{Passed, passed}
 use Rattle.loader.specs.Taken.{after}
-use Rattle.loader.specs.Decided.{caseIn, saidIn, fits, DecidedIn}
+use Rattle.loader.specs.Decided.{caseIn, saidIn, fits, nothing, DecidedIn}
 use Rattle.given_forms.proofs.Progress.{placed-32, size-of, late}
 
 -- ---- a form of which nothing is said
@@ -41,7 +41,7 @@ pub narrow-by : (d : Loader) (x : Item) → early (d .stage) x ≡ false → mis
 narrow-by d (Problem n) a b = tt
 narrow-by d (Scale s t) a b = tt
 narrow-by d (Of p i) a b = (size-of (d .stage) (d .n) (Of p i) (late (d .stage) a) b .1, placed-32 (d .stage) (d .n) (Of p i) a b)
-narrow-by d End a b = tt
+narrow-by d End a b = size-of (d .stage) (d .n) End (late (d .stage) a) b .1
 
 module _ (d : Loader) (m : CappedForm) (count : ℕ) (inside : Bool) {x : Item} (e : x ≡ itemIn m) {o : Outcome} (s : said o ≡ saidIn d m count inside) (a : o ≡ Accepted) where
   holds : Passed (caseIn d m count inside)
@@ -53,7 +53,7 @@ module _ (d : Loader) (m : CappedForm) (count : ℕ) (inside : Bool) {x : Item} 
 
 -- ---- what the code decides
 module _ (d : Loader) (m : CappedForm) (z : Numbers) {o : Outcome} {x : Item} {vs : List ℤ} (s : said o ≡ saidIn d m (z .count) (z .inside)) (p : x ≡ itemIn m) (q : vs ≡ valuesIn m (z .values)) where
-  pub decided-refused : {r : Refusal} → o ≡ Refused r → DecidedIn d m z (record { taken = record { loader = d; outcome = Refused r }; item = End; values = vs })
+  pub decided-refused : {r : Refusal} → o ≡ Refused r → DecidedIn d m z (record { taken = record { loader = d; outcome = Refused r }; item = nothing; values = vs })
   decided-refused {r} e =
       let t : numberOf r ∷ valuesOf r ≡ saidIn d m (z .count) (z .inside) = ap said (sym e) ∙ s in
       record { says = t; loader = rw (← t); item = rw (← t); values = q }

@@ -5,3 +5,5 @@ pub mod Exact
 pub mod Line
 pub mod Said
 pub mod Accepted
+pub mod Count
+pub mod Ended

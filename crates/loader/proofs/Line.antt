@@ -1,6 +1,7 @@
 -- What is decided of a line, in the shape in which the code meets it.
 --   decided-short, decided-ended — 8 and 14
 --   decided-unread — 1 and 2;  decided-form — what is decided of its form, capped, is right for the line
+--   taken-so       — once it is written, the line is taken
 use mathlib.Core.Path.{_≡_, refl, sym, ap, _∙_}
 use mathlib.Core.Bool.{Bool, true, false, cond}
 use mathlib.Core.List.{List, [], _∷_}
@@ -22,25 +23,33 @@ use Rattle.line.specs.declared.CappedForm.{CappedForm}
 use Rattle.line.specs.declared.Line.{Line}
 use Rattle.form.specs.declared.Numbers.{Numbers}
 use Rattle.form_values.specs.Capped.{itemIn}
-use Rattle.form_values.specs.declared.Item.the-variants.{End}
+use Rattle.form_values.specs.declared.Part.the-variants.{Weight}
 use Rattle.lent_lists.specs.Lists.{Lists, shortLists}
+use Rattle.lent_lists.specs.Filled.{closed}
+use Rattle.lent_lists.specs.Pasted.{pastedAll}
 use Rattle.lent_lists.proofs.Lists.{nothing-pasted}
-use Rattle.given_forms.specs.Progress.{ended}
+use Rattle.given_forms.specs.Progress.{setOf, ended}
 use Rattle.loader.specs.declared.Decided.{Decided}
 use Rattle.loader.specs.declared.Loader.{Loader}
 use Rattle.loader.specs.Answer.{lineAnswer}
-use Rattle.loader.specs.Taken.{loaderAfter, listsAfter}
-use Rattle.loader.specs.Decided.{saidIn, refusedBy, DecidedIn, DecidedFor}
+use Rattle.loader.specs.Taken.{loaderAfter, listsAfter, TakenAs}
+use Rattle.loader.specs.Decided.{saidIn, nothing, refusedBy, DecidedIn, DecidedFor}
 use Rattle.loader.proofs.Exact.{formSaid, answer-form, said-capped, exact-loader, exact-room, exact-lists}
 
 module _ (d : Loader) (l : Lists) (line : List ℕ) where
+  pub taken-so : (r : Decided) {z : ℕ} {l′ : Lists} → DecidedFor d l line r → z ≡ setOf (d .sets) Weight → l′ ≡ closed (d .n) z (r .item) (pastedAll (d .n) (r .item) (r .values) l) → TakenAs d line l (r .taken) l′
+  taken-so r h e w =
+      let same : closed (d .n) _ (r .item) (pastedAll (d .n) (r .item) (r .values) l) ≡ closed (d .n) (setOf (d .sets) Weight) (r .item) (pastedAll (d .n) (r .item) (r .values) l) =
+      ap (λ (y : ℕ). closed (d .n) y (r .item) (pastedAll (d .n) (r .item) (r .values) l)) e in
+      record { says = h .says; loader = h .loader; lists = w ∙ same ∙ h .lists }
+
   -- a refusal leaves everything
   kept : {r : Refusal} → numberOf r ∷ valuesOf r ≡ lineAnswer d l line → DecidedFor d l line (refusedBy d r)
   unfolding loaderAfter listsAfter
   kept t = record {
     says = t;
     loader = rw (← t);
-    room = record { matrix = tt; right = tt; guess = tt; inverse = tt; weights = tt };
+    room = record { matrix = tt; right = tt; guess = tt; inverse = tt; weights = tt; filled = tt };
     lists = rw (← t) (nothing-pasted (replicate 32 (pos 0)) l);
   }
 
@@ -88,11 +97,11 @@ module _ (d : Loader) (l : Lists) (line : List ℕ) where
         by-said (k ∷ ks) s =
             let z : saidIn d (cappedForm f) (numbersIn f .count) (numbersIn f .inside) ≡ k ∷ ks = so ∙ s in
             let y : lineAnswer d l line ≡ k ∷ ks = sym whole ∙ s in
-            let x : t .item ≡ End = rw z at (h .item) in
+            let x : t .item ≡ nothing = rw z at (h .item) in
             record {
               says = h .says ∙ so ∙ whole;
               loader = rw y (rw z at (h .loader));
-              room = rw x (record { matrix = tt; right = tt; guess = tt; inverse = tt; weights = tt });
+              room = rw x (record { matrix = tt; right = tt; guess = tt; inverse = tt; weights = tt; filled = tt });
               lists = rw (y, x) (nothing-pasted (t .values) l);
             }
 

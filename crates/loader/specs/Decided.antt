@@ -3,7 +3,7 @@
 --   caseIn d m c b — the cases from 11 on; c is the count of its list, b tells whether the numbers of its list are in their range
 --   saidIn         — what is said of it
 --   fits x         — its numbers are in their ranges, i in 1 to 32
---   refusedBy d x  — what is decided of a line that is refused with x
+--   nothing        — an item that leaves the lists;  refusedBy d x — what is decided of a line that is refused with x
 --   DecidedIn      — what is decided of a form: what is said, the loader then, and the form to write
 --   DecidedFor     — what is decided of a line, with the lists l: what is said, the loader then, that there is room for the form to write, and what it leaves
 --   DecidedAs      — that, with any lists of which one is too short or none is
@@ -25,9 +25,11 @@ use Rattle.form_values.specs.Item.{placed}
 use Rattle.form_values.specs.Capped.{itemIn, outsideIn, miscountedIn, valuesIn}
 use Rattle.form_values.specs.declared.Item.{Item}
 use Rattle.form_values.specs.declared.Item.the-variants.{Problem, Scale, Of, End}
+use Rattle.form_values.specs.declared.Part.the-variants.{Weight}
 use Rattle.lent_lists.specs.Lists.{Lists, shortLists}
+use Rattle.lent_lists.specs.Filled.{closed}
 use Rattle.lent_lists.specs.Pasted.{Rooms, pastedAll}
-use Rattle.given_forms.specs.Progress.{missing, early, misplaced, repeated, incomplete}
+use Rattle.given_forms.specs.Progress.{setOf, missing, early, misplaced, repeated, incomplete}
 use Rattle.loader_order.specs.Order.{LineCase, lineOrder}
 use Rattle.loader.specs.declared.Decided.{Decided}
 use Rattle.loader.specs.declared.Loader.{Loader}
@@ -58,20 +60,23 @@ fits (Scale s t) = inRange kind.SolutionScale s && inRange kind.InverseScale t
 fits (Of p i) = placed 32 (Of p i)
 fits End = true
 
+abbrev pub nothing : Item
+nothing = Problem (pos 0)
+
 abbrev pub refusedBy : Loader → Refusal → Decided
-refusedBy d x = record { taken = record { loader = d; outcome = Refused x }; item = End; values = replicate 32 (pos 0) }
+refusedBy d x = record { taken = record { loader = d; outcome = Refused x }; item = nothing; values = replicate 32 (pos 0) }
 
 pub record DecidedIn (d : Loader) (m : CappedForm) (z : Numbers) (r : Decided) : Type 0 where
   pub says : said (r .taken .outcome) ≡ saidIn d m (z .count) (z .inside)
   pub loader : r .taken .loader ≡ accepted (saidIn d m (z .count) (z .inside)) (after d (itemIn m)) d
-  pub item : r .item ≡ accepted (saidIn d m (z .count) (z .inside)) (itemIn m) End
+  pub item : r .item ≡ accepted (saidIn d m (z .count) (z .inside)) (itemIn m) nothing
   pub values : r .values ≡ valuesIn m (z .values)
 
 pub record DecidedFor (d : Loader) (l : Lists) (line : List ℕ) (r : Decided) : Type 0 where
   pub says : said (r .taken .outcome) ≡ lineAnswer d l line
   pub loader : r .taken .loader ≡ loaderAfter d l line
   pub room : Rooms (d .n) (r .item) l
-  pub lists : pastedAll (d .n) (r .item) (r .values) l ≡ listsAfter d l line
+  pub lists : closed (d .n) (setOf (d .sets) Weight) (r .item) (pastedAll (d .n) (r .item) (r .values) l) ≡ listsAfter d l line
 
 abbrev pub DecidedAs : Loader → Bool → List ℕ → Decided → Type 0
 DecidedAs d short line r = (l : Lists) → shortLists l ≡ short → DecidedFor d l line r

@@ -1,3 +1,4 @@
 pub mod Answer
 pub mod Taken
 pub mod Decided
+pub mod Before

@@ -1,7 +1,8 @@
 -- What a line leaves (01: "An accepted line puts n, or s and t, into the desk, or its form's other numbers at their own places in the lent
--- lists, and changes no other number in those lists. A refused line leaves the desk as before the call, and its lists").
+-- lists, and changes no other number in those lists. A refused line leaves the desk as before the call, and its lists"; 02, Paper 1: "an accepted end
+-- writes 1 into every such place of the lent list", which is `closed`).
 --   fresh        — the loader that was given nothing
---   after d x    — the loader after a form; the lists after it are `putAll`
+--   after d x    — the loader after a form;  listsWith d f l — the lists after it: its numbers put there, and the weights filled in where it is an end
 --   loaderAfter, listsAfter — what is left of a line, accepted or refused
 --   TakenAs      — the contract of `take`
 use mathlib.Core.List.{List}
@@ -16,9 +17,11 @@ use Rattle.form.specs.Reading.{reading}
 use Rattle.form_values.specs.Item.{itemOf}
 use Rattle.form_values.specs.declared.Item.{Item}
 use Rattle.form_values.specs.declared.Item.the-variants.{Problem, Scale, Of, End}
+use Rattle.form_values.specs.declared.Part.the-variants.{Weight}
 use Rattle.lent_lists.specs.Lists.{Lists}
 use Rattle.lent_lists.specs.Put.{putAll}
-use Rattle.given_forms.specs.Progress.{marked}
+use Rattle.lent_lists.specs.Filled.{closed}
+use Rattle.given_forms.specs.Progress.{setOf, marked}
 use Rattle.given_forms.specs.declared.Stage.the-variants.{Start, Sized, Scaled, Ended}
 use Rattle.loader.specs.declared.Loader.{Loader}
 use Rattle.loader.specs.declared.Taken.{Taken}
@@ -33,11 +36,14 @@ after d (Scale s t) = record { n = d .n; s = natAbs s; t = natAbs t; stage = Sca
 after d (Of p i) = record { n = d .n; s = d .s; t = d .t; stage = d .stage; sets = marked (d .sets) p (natAbs i) }
 after d End = record { n = d .n; s = d .s; t = d .t; stage = Ended; sets = d .sets }
 
+abbrev pub listsWith : Loader → Form → Lists → Lists
+listsWith d f l = closed (d .n) (setOf (d .sets) Weight) (itemOf f) (putAll (d .n) f l)
+
 unfoldable pub loaderAfter : Loader → Lists → List ℕ → Loader
 loaderAfter d l line = accepted (lineAnswer d l line) (ofForm (reading line) d (λ (f : Form). after d (itemOf f))) d
 
 unfoldable pub listsAfter : Loader → Lists → List ℕ → Lists
-listsAfter d l line = accepted (lineAnswer d l line) (ofForm (reading line) l (λ (f : Form). putAll (d .n) f l)) l
+listsAfter d l line = accepted (lineAnswer d l line) (ofForm (reading line) l (λ (f : Form). listsWith d f l)) l
 
 pub record TakenAs (d : Loader) (line : List ℕ) (l : Lists) (r : Taken) (l′ : Lists) : Type 0 where
   pub says : said (r .outcome) ≡ lineAnswer d l line

@@ -10,6 +10,7 @@ ghost use Rattle.loader.specs.Taken.{fresh, after, TakenAs};
 ghost use Rattle.loader.specs.Decided.{saidIn, fits, refusedBy, DecidedIn, DecidedAs};
 use form::Numbers;
 use form_values::Item;
+use form_values::Part;
 use given_forms::Stage;
 use line::Answer;
 use line::CappedForm;
@@ -31,7 +32,8 @@ pub struct Taken {
     pub outcome: Outcome,
 }
 
-// What is decided of a line before anything is written: what is given back, and the form to write, which is one of no part where nothing is.
+// What is decided of a line before anything is written: what is given back, and the form to write. A problem form writes nothing, and stands where nothing
+// is to be written.
 pub struct Decided {
     taken: Taken,
     item: Item,
@@ -140,7 +142,7 @@ impl Loader {
                 loader: self,
                 outcome: Outcome::Refused(refusal),
             },
-            item: Item::End,
+            item: Item::Problem(0),
             values: [0; 32],
         }
     }
@@ -161,7 +163,7 @@ impl Loader {
                     loader: self,
                     outcome: Outcome::Refused(refusal),
                 },
-                item: Item::End,
+                item: Item::Problem(0),
                 values,
             },
             Outcome::Accepted => Decided {
@@ -225,7 +227,19 @@ impl Loader {
         let item = decided.item;
         let values = decided.values;
         let n = self.n as usize;
-        lent_lists::write_all(item, values, n, matrix, right, guess, inverse, weights);
+        let sets = self.sets;
+        let given = given_forms::set_of(sets, Part::Weight);
+        lent_lists::write_all(
+            item,
+            values,
+            given,
+            n,
+            matrix,
+            right,
+            guess,
+            inverse,
+            weights,
+        );
         let taken = decided.taken;
         taken
     }

@@ -36,15 +36,6 @@ count-lacking-requires-4 c κs = search needs
 add-result-3 : tie.Need-add-result-3
 add-result-3 c = search needs
 
-array-read-count-lacking-5 : tie.Need-array-read-count-lacking-5
-array-read-count-lacking-5 c = search needs
-
-count-lacking-requires-5 : tie.Need-count-lacking-requires-5
-count-lacking-requires-5 c κs = search needs
-
-add-result-4 : tie.Need-add-result-4
-add-result-4 c = search needs
-
 returns : tie.Need-returns
 returns c = unfold missing in search needs
 
@@ -63,7 +54,4 @@ count-missing-spec =
     array-read-count-lacking-4
     count-lacking-requires-4
     add-result-3
-    array-read-count-lacking-5
-    count-lacking-requires-5
-    add-result-4
     returns)

@@ -1,6 +1,7 @@
-use mathlib.Core.Path.{_≡_, sym, _∙_}
+use mathlib.Core.Path.{sym}
 use Rattle.lent_lists.specs.Lists.{Lists, lists}
 use Rattle.loader.specs.Decided.{DecidedFor}
+use Rattle.loader.proofs.Line.{taken-so}
 use borrow.Author.Needs.{needs}
 use Rattle.loader.proofs.Loader.take.Statement.{statement}
 use Rattle.loader.proofs.Loader.take.Tie as tie
@@ -21,8 +22,11 @@ decide-requires c κs = search needs
 cast-n : tie.Need-cast-n
 cast-n c = search needs
 
+set-of-requires : tie.Need-set-of-requires
+set-of-requires c κs = search needs
+
 write-all-requires : tie.Need-write-all-requires
-write-all-requires c κs = decided (c .before .before .before .before .before .before .before) .room
+write-all-requires c κs = decided (c .before .before .before .before .before .before .before .before .before) .room
 
 same-length : tie.Need-same-length
 same-length c = search needs
@@ -42,8 +46,10 @@ same-length-5 c = search needs
 returns : tie.Need-returns
 returns c =
     let w = c .before .before .before .before .before .before in
-    let d = decided (w .before .before .before .before .before .before .before .before) in
-    record { says = d .says; loader = d .loader; lists = w .write-all .ensures ∙ d .lists }
+    let g = w .before .before .before .before .before .before in
+    let d = g .before .before .before .before in
+    let s = d .before .before .before in
+    taken-so (s .args .self) (lent s) (s .args .line .now) (d .decide .result) (decided d) (g .set-of .ensures) (w .write-all .ensures)
 
 pub take-spec : {M : Type 1} → statement M
 take-spec =
@@ -52,6 +58,7 @@ take-spec =
     is-short-requires
     decide-requires
     cast-n
+    set-of-requires
     write-all-requires
     same-length
     same-length-2

@@ -1,0 +1,92 @@
+-- What Paper 1 of 02 changes in what is said of a line, exactly: 13's count falls by the weights not given, and 13 becomes acceptance where only weights are
+-- missing.
+--   missing01-is — 01's count is that of the missing forms and of the weights not given
+--   recounted    — so of every line the same is said as with 01's count, but for 13
+use mathlib.Core.Path.{_≡_}
+use mathlib.Core.Bool.{Bool, true, false, cond}
+use mathlib.Core.List.{List, [], _∷_}
+use mathlib.Core.Option.{Option, none, some}
+use Prim.Native.Nat.{ℕ, _+_, _<_}
+use native.Mathlib.Decide.{decLt}
+use native.Mathlib.Omega.{arith}
+use borrow.Author.Tests.{lt-ltb, le-ltb}
+use lib.Dec.{ltb}
+use Rattle.form.specs.Form.{Form, problem, scale, row, right, guess, inverse, weight, end}
+use Rattle.form.specs.Reading.{reading}
+use Rattle.bit_set.specs.Places.{lacking}
+use Rattle.form_values.specs.Item.{itemOf}
+use Rattle.form_values.specs.declared.Part.the-variants.{Weight}
+use Rattle.lent_lists.specs.Lists.{Lists}
+use Rattle.given_forms.specs.Progress.{setOf, missing, incomplete}
+use Rattle.given_forms.specs.Before.{missing01, incomplete01}
+use Rattle.loader_order.specs.Order.{LineCase}
+use Rattle.loader.specs.declared.Loader.{Loader}
+use Rattle.loader.specs.Answer.{ofForm, caseOf, lineAnswer}
+use Rattle.loader.specs.Before.{answer01, leftOut, Recounted, same, fewer, accepted}
+
+pub missing01-is : (n : ℕ) (z : List ℕ) → missing01 n z ≡ missing n z + lacking (setOf z Weight) n
+unfolding missing01 missing
+missing01-is n z = omega arith
+
+-- a number alone is not 13 with a count
+alone : {n : ℕ} → (n ≡ 13 → ⊥) → (k : ℕ) → n ∷ [] ≡ 13 ∷ k ∷ [] → ⊥
+alone {n} f k e = let z : n ≡ 13 = cc in f z
+
+nothing : (k : ℕ) → [] ≡ 13 ∷ k ∷ [] → ⊥
+nothing k e = let z : _≡_ {A = ℕ} 0 1 = cc in omega arith
+
+module _ (d : Loader) where
+  abbrev m : ℕ
+  m = missing (d .n) (d .sets)
+
+  abbrev now : Bool → List ℕ
+  now b = cond b (13 ∷ missing (d .n) (d .sets) ∷ []) []
+
+  abbrev then : Bool → List ℕ
+  then b = cond b (13 ∷ missing01 (d .n) (d .sets) ∷ []) []
+
+  at-end : Recounted d (then (ltb 0 (missing01 (d .n) (d .sets)))) (now (ltb 0 (missing (d .n) (d .sets))))
+  at-end = rw (missing01-is (d .n) (d .sets)) (go (decLt 0 (missing (d .n) (d .sets))) (decLt 0 (leftOut d)))
+    where
+      go : Dec (0 < m) → Dec (0 < leftOut d) → Recounted d (cond (ltb 0 (m + leftOut d)) (13 ∷ (m + leftOut d) ∷ []) []) (now (ltb 0 m))
+      go (yes a) b = rw (lt-ltb 0 m a, lt-ltb 0 (m + leftOut d) (omega arith)) (fewer a)
+      go (no a) (yes b) = rw (le-ltb 0 m (omega arith), lt-ltb 0 (m + leftOut d) (omega arith)) (accepted (omega arith) b)
+      go (no a) (no b) = rw (le-ltb 0 m (omega arith), le-ltb 0 (m + leftOut d) (omega arith)) (same [] nothing)
+
+  of-form : (f : Form) → Recounted d (then (incomplete01 (d .n) (d .sets) (itemOf f))) (now (incomplete (d .n) (d .sets) (itemOf f)))
+  of-form (problem n) = same [] nothing
+  of-form (scale s t) = same [] nothing
+  of-form (row i a others) = same [] nothing
+  of-form (right i b) = same [] nothing
+  of-form (guess i x) = same [] nothing
+  of-form (inverse i g others) = same [] nothing
+  of-form (weight i w) = same [] nothing
+  of-form end = at-end
+
+  of-reading : (o : Option Form)
+      → Recounted d (then (ofForm o false (λ (f : Form). incomplete01 (d .n) (d .sets) (itemOf f)))) (now (ofForm o false (λ (f : Form). incomplete (d .n) (d .sets) (itemOf f))))
+  of-reading none = same [] nothing
+  of-reading (some f) = of-form f
+
+  -- the tests before 13
+  abbrev first : Bool → Bool → Bool → Bool → Bool → Bool → Bool → Bool → Bool → List ℕ → List ℕ
+  first b8 b14 b1 b2 b11 b3 b12 b3′ b4 w =
+      cond b8 (8 ∷ []) (cond b14 (14 ∷ []) (cond b1 (1 ∷ []) (cond b2 (2 ∷ []) (cond b11 (11 ∷ []) (cond b3 (3 ∷ []) (cond b12 (12 ∷ []) (cond b3′ (3 ∷ []) (cond b4 (4 ∷ []) w))))))))
+
+  by-tests : {w v : List ℕ} (b8 b14 b1 b2 b11 b3 b12 b3′ b4 : Bool) → Recounted d w v → Recounted d (first b8 b14 b1 b2 b11 b3 b12 b3′ b4 w) (first b8 b14 b1 b2 b11 b3 b12 b3′ b4 v)
+  by-tests true b14 b1 b2 b11 b3 b12 b3′ b4 h = same (8 ∷ []) (alone (λ e. omega arith))
+  by-tests false true b1 b2 b11 b3 b12 b3′ b4 h = same (14 ∷ []) (alone (λ e. omega arith))
+  by-tests false false true b2 b11 b3 b12 b3′ b4 h = same (1 ∷ []) (alone (λ e. omega arith))
+  by-tests false false false true b11 b3 b12 b3′ b4 h = same (2 ∷ []) (alone (λ e. omega arith))
+  by-tests false false false false true b3 b12 b3′ b4 h = same (11 ∷ []) (alone (λ e. omega arith))
+  by-tests false false false false false true b12 b3′ b4 h = same (3 ∷ []) (alone (λ e. omega arith))
+  by-tests false false false false false false true b3′ b4 h = same (12 ∷ []) (alone (λ e. omega arith))
+  by-tests false false false false false false false true b4 h = same (3 ∷ []) (alone (λ e. omega arith))
+  by-tests false false false false false false false false true h = same (4 ∷ []) (alone (λ e. omega arith))
+  by-tests false false false false false false false false false h = h
+
+pub recounted : (d : Loader) (l : Lists) (line : List ℕ) → Recounted d (answer01 d l line) (lineAnswer d l line)
+unfolding lineAnswer answer01
+recounted d l line =
+    let c : LineCase = caseOf d l line in
+    by-tests d (c .short) (c .ended) (c .long) (c .unspelled) (c .early) (c .misplaced) (c .repeated) (c .outside) (c .miscounted) (of-reading d (reading line))
