@@ -1,5 +1,5 @@
 -- What the contract of `find_weights` promises (specs/Promised).
---   Case, case-of  — what is said, and where
+--   search-stated, said-search — each of 8, 3 and 18 is said exactly where its stated case holds, and nothing exactly where a list is found
 --   found-usable   — a list is found of a usable request alone
 --   zero-found, number-none — by the number alone: 0 is said where a list is found, and 18 where none is
 --   count-first    — the tried count is the place of the first good list, at most the allowance
@@ -26,62 +26,62 @@ use Rattle.weight_sequence.specs.Sequence.{loads, tried}
 use Rattle.weight_sequence.specs.declared.Found.{Found}
 use Rattle.weight_sequence.specs.Request.{Request, searchProblem, searchShort, searchInRanges, searchLists}
 use Rattle.weight_sequence.specs.Search.{saidFound, countOf, passed, searchAnswer, countAfter, weightsAfter, FoundAs}
-use Rattle.weight_sequence.specs.Promised.{UsableRequest, FirstPlace, NoGood, allowing}
+use Rattle.weight_sequence.specs.Promised.{UsableRequest, SearchStated, is-8, is-3, is-18, is-0, FirstPlace, NoGood, allowing}
 use Rattle.weight_sequence.proofs.Contract.{fit-of, answer-short, answer-range, answer-found, answer-none}
 use Rattle.weight_sequence.proofs.First as first
 use Rattle.weight_sequence.proofs.Sizes.{tried-load}
 
 -- ---- what was said tells which case it was
-data Case (Q : Request) : List ℕ → Type 0 where
-  is-8 : searchShort Q ≡ true → Case Q (8 ∷ [])
-  is-3 : searchShort Q ≡ false → searchInRanges Q ≡ false → Case Q (3 ∷ [])
-  is-18 : UsableRequest Q → Q .allowance ≤ passed Q → Case Q (18 ∷ [])
-  is-0 : UsableRequest Q → passed Q < Q .allowance → Case Q []
-
-case-of : (Q : Request) → Case Q (searchAnswer Q)
-case-of Q = go (searchShort Q) refl (searchInRanges Q) refl (ltb (passed Q) (Q .allowance)) refl
+pub search-stated : (Q : Request) → SearchStated Q (searchAnswer Q)
+search-stated Q = go (searchShort Q) refl (searchInRanges Q) refl (ltb (passed Q) (Q .allowance)) refl
   where
-    go : (x : Bool) → searchShort Q ≡ x → (y : Bool) → searchInRanges Q ≡ y → (z : Bool) → ltb (passed Q) (Q .allowance) ≡ z → Case Q (searchAnswer Q)
-    go true e y f z g = subst (Case Q) (sym (answer-short Q e)) (is-8 e)
-    go false e false f z g = subst (Case Q) (sym (answer-range Q e f)) (is-3 e f)
+    go : (x : Bool) → searchShort Q ≡ x → (y : Bool) → searchInRanges Q ≡ y → (z : Bool) → ltb (passed Q) (Q .allowance) ≡ z → SearchStated Q (searchAnswer Q)
+    go true e y f z g = subst (SearchStated Q) (sym (answer-short Q e)) (is-8 e)
+    go false e false f z g = subst (SearchStated Q) (sym (answer-range Q e f)) (is-3 e f)
     go false e true f true g =
         let l = ltb-true (passed Q) (Q .allowance) g in
-        subst (Case Q) (sym (answer-found Q e f l)) (is-0 (record { long = e; inside = f }) l)
+        subst (SearchStated Q) (sym (answer-found Q e f l)) (is-0 (record { long = e; inside = f }) l)
     go false e true f false g =
         let l = ltb-false (passed Q) (Q .allowance) g in
-        subst (Case Q) (sym (answer-none Q e f l)) (is-18 (record { long = e; inside = f }) l)
+        subst (SearchStated Q) (sym (answer-none Q e f l)) (is-18 (record { long = e; inside = f }) l)
 
-found-case : (Q : Request) {w : List ℕ} → Case Q w → w ≡ [] → UsableRequest Q × (passed Q < Q .allowance)
+pub said-search : (Q : Request) {w : List ℕ} → SearchStated Q w → searchAnswer Q ≡ w
+said-search Q (is-8 e) = answer-short Q e
+said-search Q (is-3 e f) = answer-range Q e f
+said-search Q (is-18 u l) = answer-none Q (u .long) (u .inside) l
+said-search Q (is-0 u l) = answer-found Q (u .long) (u .inside) l
+
+found-case : (Q : Request) {w : List ℕ} → SearchStated Q w → w ≡ [] → UsableRequest Q × (passed Q < Q .allowance)
 found-case Q (is-8 e) z = absurd (nothing-is-not z)
 found-case Q (is-3 e f) z = absurd (nothing-is-not z)
 found-case Q (is-18 u l) z = absurd (nothing-is-not z)
 found-case Q (is-0 u l) z = (u, l)
 
-none-case : (Q : Request) {w : List ℕ} → Case Q w → w ≡ 18 ∷ [] → UsableRequest Q × (Q .allowance ≤ passed Q)
+none-case : (Q : Request) {w : List ℕ} → SearchStated Q w → w ≡ 18 ∷ [] → UsableRequest Q × (Q .allowance ≤ passed Q)
 none-case Q (is-8 e) z = let y : _≡_ {A = ℕ} 8 18 = cc in absurd (omega arith)
 none-case Q (is-3 e f) z = let y : _≡_ {A = ℕ} 3 18 = cc in absurd (omega arith)
 none-case Q (is-18 u l) z = (u, l)
 none-case Q (is-0 u l) z = absurd (nothing-is-not (sym z))
 
 pub found-usable : (Q : Request) → searchAnswer Q ≡ [] → UsableRequest Q
-found-usable Q z = found-case Q (case-of Q) z .0
+found-usable Q z = found-case Q (search-stated Q) z .0
 
-by-number : (Q : Request) {w : List ℕ} → Case Q w → ((getD w 0 0 ≡ 0 → w ≡ []) × (getD w 0 0 ≡ 18 → w ≡ 18 ∷ []))
+by-number : (Q : Request) {w : List ℕ} → SearchStated Q w → ((getD w 0 0 ≡ 0 → w ≡ []) × (getD w 0 0 ≡ 18 → w ≡ 18 ∷ []))
 by-number Q (is-8 e) = (λ z. absurd (omega arith), λ z. absurd (omega arith))
 by-number Q (is-3 e f) = (λ z. absurd (omega arith), λ z. absurd (omega arith))
 by-number Q (is-18 u l) = (λ z. absurd (omega arith), λ z. refl)
 by-number Q (is-0 u l) = (λ z. refl, λ z. absurd (omega arith))
 
 pub zero-found : (Q : Request) → getD (searchAnswer Q) 0 0 ≡ 0 → searchAnswer Q ≡ []
-zero-found Q = by-number Q (case-of Q) .0
+zero-found Q = by-number Q (search-stated Q) .0
 
 pub number-none : (Q : Request) → getD (searchAnswer Q) 0 0 ≡ 18 → searchAnswer Q ≡ 18 ∷ []
-number-none Q = by-number Q (case-of Q) .1
+number-none Q = by-number Q (search-stated Q) .1
 
 -- ---- the count
 module _ (Q : Request) (r : Found) (weights : List ℤ) (x : FoundAs Q r weights) where
   found-here : saidFound r ≡ [] → UsableRequest Q × (passed Q < Q .allowance)
-  found-here z = found-case Q (case-of Q) (sym (x .says) ∙ z)
+  found-here z = found-case Q (search-stated Q) (sym (x .says) ∙ z)
 
   pub count-first : saidFound r ≡ [] → FirstPlace Q (countOf r)
   unfolding countAfter
@@ -99,7 +99,7 @@ module _ (Q : Request) (r : Found) (weights : List ℤ) (x : FoundAs Q r weights
   pub none-exactly : (saidFound r ≡ 18 ∷ []) ↔ (UsableRequest Q × NoGood Q)
   none-exactly = (
     λ z.
-        let n = none-case Q (case-of Q) (sym (x .says) ∙ z) in
+        let n = none-case Q (search-stated Q) (sym (x .says) ∙ z) in
         (n .0, record { none = first.past-none (searchProblem Q) (Q .allowance) (n .1) }),
     λ h. x .says ∙ answer-none Q (h .0 .long) (h .0 .inside) (first.none-past (searchProblem Q) (Q .allowance) (h .1 .none)),
   )
@@ -128,7 +128,7 @@ module _ (Q : Request) (b : ℕ) (more : Q .allowance ≤ b) (most : b ≤ 64) (
   usable = found-usable Q z
 
   below : passed Q < Q .allowance
-  below = found-case Q (case-of Q) z .1
+  below = found-case Q (search-stated Q) z .1
 
   same : passed (allowing Q b) ≡ passed Q
   same = first.larger-allowance (searchProblem Q) (Q .allowance) below b more
