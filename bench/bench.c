@@ -66,8 +66,8 @@ static double round_of(uint32_t v, uint32_t count, uint32_t n) {
         const struct net *x = &nets[k];
         if (x->n != n) continue;
         used++;
-        refused += VERSIONS[v].check(x->n, x->s, x->t, x->matrix, MATRIX, x->right, COLUMN, x->guess, COLUMN, x->inverse, MATRIX, x->weights,
-                                     COLUMN, out->solution, COLUMN, out->inverse, MATRIX, out->places) != 0;
+        refused += VERSIONS[v].check(x->n, x->s, x->t, x->matrix, MATRIX, x->right, COLUMN, x->tolerance, COLUMN, x->guess, COLUMN, x->inverse,
+                                     MATRIX, x->weights, COLUMN, out->solution, COLUMN, out->inverse, MATRIX, out->places) != 0;
     }
     const double spent = processor_time() - start;
     if (refused) printf("%u nets refused\n", refused);

@@ -1,4 +1,5 @@
-/* Every number here fits 64 bits: |D| <= 2^20 + 2^45, the sum of |D| * w <= 2^60 + 2^35, |S * b - A * X| <= 2^61 + 2^50, |p| <= 2^50. */
+/* Every number here fits 64 bits: |D| <= 2^20 + 2^45, the sum of |D| * w <= 2^60 + 2^35, |S * b - A * X| + S * d <= 2^61 + 2^50 + 2^40, and where that
+ * is at most 2^25 in every row, |p| and the slack with it <= 2^50. */
 #include "native.h"
 
 #include <stdbool.h>
@@ -12,7 +13,7 @@ enum { MOST = 32, PLACES = MOST * MOST, RAISED = MOST * (MOST + 1) };
 struct system {
     uint32_t n;
     int64_t S, T;
-    const int64_t *A, *b, *X, *G, *w;
+    const int64_t *A, *b, *d, *X, *G, *w;
 };
 
 /* out = diagonal * I - left * right, row after row. */
@@ -36,8 +37,8 @@ static bool all_within(const int64_t *numbers, uint32_t count, int64_t lowest, i
 static bool is_in_range(uint32_t n, uint32_t s, uint32_t t, const struct system *y) {
     const int64_t small = (int64_t)1 << 20, whole = (int64_t)1 << 30, large = (int64_t)1 << 36;
     if (n < 1 || n > MOST || s > 20 || t > 20) return false;
-    return all_within(y->A, n * n, -small, small) && all_within(y->b, n, -whole, whole) && all_within(y->X, n, -large, large) &&
-           all_within(y->G, n * n, -small, small) && all_within(y->w, n, 1, 1024);
+    return all_within(y->A, n * n, -small, small) && all_within(y->b, n, -whole, whole) && all_within(y->d, n, 0, small) &&
+           all_within(y->X, n, -large, large) && all_within(y->G, n * n, -small, small) && all_within(y->w, n, 1, 1024);
 }
 
 /* The sum over n terms of a number of a times one of x, which stand a stride apart. */
@@ -91,14 +92,22 @@ static uint32_t failing_margin(const struct system *y, defect_of *defect, int64_
     return failing;
 }
 
-/* r = S * b - A * X. Gives the lowest row with a size above 2^25, from 1, or 0. */
+/* r = S * b - A * X. Gives the lowest row whose size of residual plus slack S * d is above 2^25, from 1, or 0. */
 static uint32_t failing_residual(const struct system *y, int64_t *r) {
     uint32_t failing = 0;
     for (uint32_t k = y->n; k-- > 0;) {
         r[k] = y->S * y->b[k] - dot(y->n, y->A + k * y->n, y->X, 1);
-        if (size_of(r[k]) > LARGEST_RESIDUAL) failing = k + 1;
+        if (size_of(r[k]) + y->S * y->d[k] > LARGEST_RESIDUAL) failing = k + 1;
     }
     return failing;
+}
+
+/* Adds to each size |p_m| the sum over j of |G_mj| * S * d_j, where some d_j is above 0. */
+static void add_slacks(const struct system *y, int64_t *p) {
+    if (all_within(y->d, y->n, 0, 0)) return;
+    for (uint32_t m = 0; m < y->n; m++) {
+        for (uint32_t j = 0; j < y->n; j++) p[m] += size_of(y->G[m * y->n + j]) * y->S * y->d[j];
+    }
 }
 
 /* R = T * I - A * G, column j in column j. Gives the lowest column, then its lowest row, with a size above 2^25. */
@@ -163,6 +172,7 @@ static uint32_t reckon(const struct system *y, defect_of *defect, bounds_of_colu
     if ((places[0] = failing_residual(y, r)) != 0) return 6;
     if (failing_inverse(y, defect, R, places)) return 7;
     for (uint32_t m = 0; m < y->n; m++) p[m] = size_of(dot(y->n, y->G + m * y->n, r, 1));
+    add_slacks(y, p);
     bounds_of(y->n, y->w, p, g, column);
     memcpy(solution_bounds, column, y->n * sizeof *column);
     write_inverse(y, R, g, defect, bounds_of, inverse_bounds);
@@ -170,18 +180,18 @@ static uint32_t reckon(const struct system *y, defect_of *defect, bounds_of_colu
 }
 
 /* The checks differ in `defect` and `bounds_of` alone. */
-#define CHECK(name, defect, bounds_of)                                                                                                  \
-    uint32_t name(uint32_t n, uint32_t s, uint32_t t, const int64_t *matrix, size_t matrix_len, const int64_t *right, size_t right_len, \
-                  const int64_t *guess, size_t guess_len, const int64_t *inverse, size_t inverse_len, const int64_t *weights,           \
-                  size_t weights_len, uint64_t *solution_bounds, size_t solution_bounds_len, uint64_t *inverse_bounds,                  \
-                  size_t inverse_bounds_len, uint64_t places[2]) {                                                                      \
-        const struct system y = {n, (int64_t)1 << (s & 31), (int64_t)1 << (t & 31), matrix, right, guess, inverse, weights};            \
-        places[0] = places[1] = 0;                                                                                                      \
-        if (matrix_len < PLACES || inverse_len < PLACES || inverse_bounds_len < PLACES || right_len < MOST || guess_len < MOST ||       \
-            weights_len < MOST || solution_bounds_len < MOST)                                                                           \
-            return 8;                                                                                                                   \
-        if (!is_in_range(n, s, t, &y)) return 3;                                                                                        \
-        return reckon(&y, defect, bounds_of, solution_bounds, inverse_bounds, places);                                                  \
+#define CHECK(name, defect, bounds_of)                                                                                                   \
+    uint32_t name(uint32_t n, uint32_t s, uint32_t t, const int64_t *matrix, size_t matrix_len, const int64_t *right, size_t right_len,  \
+                  const int64_t *tolerance, size_t tolerance_len, const int64_t *guess, size_t guess_len, const int64_t *inverse,        \
+                  size_t inverse_len, const int64_t *weights, size_t weights_len, uint64_t *solution_bounds, size_t solution_bounds_len, \
+                  uint64_t *inverse_bounds, size_t inverse_bounds_len, uint64_t places[2]) {                                             \
+        const struct system y = {n, (int64_t)1 << (s & 31), (int64_t)1 << (t & 31), matrix, right, tolerance, guess, inverse, weights};  \
+        places[0] = places[1] = 0;                                                                                                       \
+        if (matrix_len < PLACES || inverse_len < PLACES || inverse_bounds_len < PLACES || right_len < MOST || tolerance_len < MOST ||    \
+            guess_len < MOST || weights_len < MOST || solution_bounds_len < MOST)                                                        \
+            return 8;                                                                                                                    \
+        if (!is_in_range(n, s, t, &y)) return 3;                                                                                         \
+        return reckon(&y, defect, bounds_of, solution_bounds, inverse_bounds, places);                                                   \
     }
 
 CHECK(native_check_naive, signed_defect, naive_bounds)

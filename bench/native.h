@@ -1,4 +1,4 @@
-/* The check on lists of document 01 in C, written apart from the proved one: to compare answers and speed. */
+/* The check on lists of document 01, with the tolerances of 02, in C, written apart from the proved one: to compare answers and speed. */
 #ifndef NATIVE_H
 #define NATIVE_H
 
@@ -8,6 +8,7 @@
 typedef uint32_t check_on_lists(uint32_t n, uint32_t s, uint32_t t,
                                 const int64_t *matrix, size_t matrix_len,
                                 const int64_t *right, size_t right_len,
+                                const int64_t *tolerance, size_t tolerance_len,
                                 const int64_t *guess, size_t guess_len,
                                 const int64_t *inverse, size_t inverse_len,
                                 const int64_t *weights, size_t weights_len,

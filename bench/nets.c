@@ -34,11 +34,12 @@ bool read_net(FILE *file, struct net *net, struct outcome *expected) {
     uint32_t count;
     if (fscanf(file, "%" SCNu32, &count) != 1) return false;
     uint32_t *const sizes[] = {&net->n, &net->s, &net->t};
-    size_t *const lengths[] = {&net->matrix_len, &net->right_len, &net->guess_len, &net->inverse_len, &net->weights_len, &net->solution_len, &net->bounds_len};
+    size_t *const lengths[] = {&net->matrix_len, &net->right_len, &net->tolerance_len, &net->guess_len, &net->inverse_len, &net->weights_len, &net->solution_len, &net->bounds_len};
     for (uint32_t i = 0; i < 3; i++) *sizes[i] = (uint32_t)next_number(file);
-    for (uint32_t i = 0; i < 7; i++) *lengths[i] = (size_t)next_number(file);
+    for (uint32_t i = 0; i < 8; i++) *lengths[i] = (size_t)next_number(file);
     read_numbers(file, net->matrix, count * count, MATRIX);
     read_numbers(file, net->right, count, COLUMN);
+    read_numbers(file, net->tolerance, count, COLUMN);
     read_numbers(file, net->guess, count, COLUMN);
     read_numbers(file, net->inverse, count * count, MATRIX);
     read_numbers(file, net->weights, count, COLUMN);
@@ -56,9 +57,9 @@ bool read_net(FILE *file, struct net *net, struct outcome *expected) {
 void run_check(check_on_lists *check, const struct net *net, struct outcome *outcome) {
     clear_outcome(outcome);
     outcome->places[0] = outcome->places[1] = UINT64_MAX;
-    outcome->number = check(net->n, net->s, net->t, net->matrix, net->matrix_len, net->right, net->right_len, net->guess, net->guess_len,
-                            net->inverse, net->inverse_len, net->weights, net->weights_len, outcome->solution, net->solution_len,
-                            outcome->inverse, net->bounds_len, outcome->places);
+    outcome->number = check(net->n, net->s, net->t, net->matrix, net->matrix_len, net->right, net->right_len, net->tolerance, net->tolerance_len,
+                            net->guess, net->guess_len, net->inverse, net->inverse_len, net->weights, net->weights_len, outcome->solution,
+                            net->solution_len, outcome->inverse, net->bounds_len, outcome->places);
 }
 
 bool same_outcome(const struct outcome *a, const struct outcome *b) {

@@ -12,8 +12,8 @@ enum { MATRIX = 1024, COLUMN = 32 };
 /* What a call on lists is handed, the lengths included. */
 struct net {
     uint32_t n, s, t;
-    int64_t matrix[MATRIX], right[COLUMN], guess[COLUMN], inverse[MATRIX], weights[COLUMN];
-    size_t matrix_len, right_len, guess_len, inverse_len, weights_len, solution_len, bounds_len;
+    int64_t matrix[MATRIX], right[COLUMN], tolerance[COLUMN], guess[COLUMN], inverse[MATRIX], weights[COLUMN];
+    size_t matrix_len, right_len, tolerance_len, guess_len, inverse_len, weights_len, solution_len, bounds_len;
 };
 
 /* What a call on lists leaves. */

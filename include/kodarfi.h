@@ -22,19 +22,24 @@ extern "C" {
  * n equations (1 to 32); 2^s solution steps and 2^t inverse steps make one unit (0 to 20). A matrix list has at least 1,024 numbers and a column
  * list at least 32; the first n * n are used, row after row, or the first n. The rest is neither read nor written.
  *
+ * tolerance (a column list, 0 to 2^20 each) says how far each right side may lie from the true one, in the same whole units; 0 everywhere where the
+ * right sides are exact (document 02, Paper 5). Row m then has the slack 2^s * tolerance[m] beside its residual.
+ *
  * The answer is 0 where the proposal is accepted: then the first n solution_bounds are the limits of the guess, in solution steps, and the first
- * n * n inverse_bounds those of the inverse, row after row, in inverse steps. Else it is the number of the first refusal in this order, and both
+ * n * n inverse_bounds those of the inverse, row after row, in inverse steps. The exact solution of every right side, in fractions, that differs from
+ * `right` by at most `tolerance` in each place lies within the solution_bounds. Else it is the number of the first refusal in this order, and both
  * lists of limits are as before:
  *
  *   8   a list is too short                                 places: 0, 0
  *   3   n, s, t or a number that is used is outside its range       0, 0
  *   5   a margin is 0 or less                                       row, 0
- *   6   a residual of the guess is above 2^25 in size               row, 0
+ *   6   size of a residual of the guess plus its slack above 2^25  row, 0
  *   7   a residual of the inverse is above 2^25 in size             column, row
  */
 uint32_t kodarfi_check(uint32_t n, uint32_t s, uint32_t t,
                        const int64_t *matrix, size_t matrix_len,
                        const int64_t *right, size_t right_len,
+                       const int64_t *tolerance, size_t tolerance_len,
                        const int64_t *guess, size_t guess_len,
                        const int64_t *inverse, size_t inverse_len,
                        const int64_t *weights, size_t weights_len,

@@ -1,4 +1,4 @@
-"""Document 01's cases a to l and the one that 02 gives, with the lines of the listing for each."""
+"""Document 01's cases a to l, the one that 02 gives and two with tolerances, with the lines of the listing for each."""
 
 from typing import NamedTuple
 
@@ -49,7 +49,12 @@ CASES = (
 )
 
 # 02, Paper 2: "With X = 24, s = 4 and E = 10 the entry is 2 and its limit goes from 1 to 2."
-PAPERS = (Expected("paper 2", one(4, 4, 1, 1, 24, 17), accepted_one(24, 10, 2, 2, 2), True),)
+# 02, Paper 5: x = b with a tolerance of 3 has a limit of 3·S; with 1 for the first right side of the whole file the sizes are 4 + 4·16 and 1 + 16.
+PAPERS = (
+    Expected("paper 2", one(4, 4, 1, 1, 24, 17), accepted_one(24, 10, 2, 2, 2), True),
+    Expected("paper 5", one(4, 4, 1, 0, 0, 16).with_(tolerance=[3]), accepted_one(0, 48, 0, 3, 0), True),
+    Expected("paper 5 e", whole_file().with_(tolerance=[1, 0]), ("(solution 1 (23 5))", "(solution 2 (13 5))", "(entry 1 (1 1))", "(inverse 1 (1 1))"), False),
+)
 
 
 def agrees(case, listing):

@@ -1,10 +1,11 @@
-"""What must hold of a printed listing whatever the second implementation says: document 01's exact solution and inverse, in whole numbers; the exact
-height and the entry, in fractions."""
+"""What must hold of a printed listing whatever the second implementation says: document 01's exact solution and inverse, the exact height and the entry,
+for every right side within the tolerances (02, Paper 5), in whole numbers over q."""
 
+import random
 import re
 from fractions import Fraction
 
-from exact import inverse_of, inverse_within, is_exact_inverse, is_rounded_exact, product, solution_within
+from exact import inverse_of, inverse_within, is_exact_inverse, is_rounded_exact, product, solution_over, solution_within, within_tolerances
 from net import net_of
 
 SOLUTION = re.compile(rb"\(solution \d+ \((-?\d+) (\d+)\)\)")
@@ -16,9 +17,8 @@ def net_from(problem):
     """A loaded problem as a net."""
     n = problem.n
     rows = lambda numbers: [numbers[i * n : i * n + n] for i in range(n)]
-    return net_of(
-        problem.s, problem.t, rows(problem.matrix), problem.right[:n], problem.guess[:n], rows(problem.inverse), problem.weights[:n]
-    )
+    lists = rows(problem.matrix), problem.right[:n], problem.guess[:n], rows(problem.inverse), problem.weights[:n]
+    return net_of(problem.s, problem.t, *lists).with_(tolerance=problem.tolerance[:n])
 
 
 def is_accepted(listing):
@@ -58,6 +58,29 @@ def statements(net, q, H, listing):
     yield "an entry is not the guess rounded", all(is_rounded(X, 2**net.s, V) for X, (V, _) in zip(net.guess, entries))
     yield "an exact height lies outside the limit of its entry", entries_cover(q, product(H, net.right), entries)
     yield "the limit of an entry is not the least", all(is_least(X, bound, 2**net.s, *entry) for X, bound, entry in zip(net.guess, E, entries))
+    rights = list(right_sides(net, H))
+    others = [solution_over(q, H, *right) for right in rights]
+    yield "a right side is not within the tolerances", all(within_tolerances(net, *right) for right in rights)
+    yield "the exact solution of a right side within the tolerances lies outside its limits", all(solution_within(net, *other, E) for other in others)
+    yield "the exact height of a right side within the tolerances lies outside the limit of its entry", all(entries_cover(*other, entries) for other in others)
+
+
+# So many right sides inside the box of tolerances, and at corners of it by chance.
+INSIDE = CORNERS = 3
+
+
+def right_sides(net, H):
+    """Right sides β over ρ within the tolerances, in fractions: for each height the two corners of the box that move it the farthest, corners by
+    chance, and right sides inside the box. None where no right side has a tolerance."""
+    if not any(net.tolerance):
+        return
+    rng = random.Random(str(net.right + net.tolerance))
+    farthest = [[(h > 0) - (h < 0) for h in row] for row in H] + [[(h < 0) - (h > 0) for h in row] for row in H]
+    for signs in farthest + [[rng.choice((1, -1)) for _ in net.right] for _ in range(CORNERS)]:
+        yield [b + sign * d for b, sign, d in zip(net.right, signs, net.tolerance)], 1
+    for _ in range(INSIDE):
+        over = rng.randint(2, 999)
+        yield [over * b + rng.randint(-over * d, over * d) for b, d in zip(net.right, net.tolerance)], over
 
 
 def is_rounded(X, S, V):
@@ -67,7 +90,7 @@ def is_rounded(X, S, V):
 
 def entries_cover(q, N, entries):
     """02, Paper 2: "The exact height is to be shown within the entry limit of the entry"."""
-    return all(abs(Fraction(N_i, q) - V) <= limit for N_i, (V, limit) in zip(N, entries))
+    return all(abs(N_i - q * V) <= q * limit for N_i, (V, limit) in zip(N, entries))
 
 
 def is_least(X, bound, S, V, limit):

@@ -68,6 +68,7 @@ def compare(run, seed, files, count, watch=None):
         reach.add(expected, loaded, net)
         reach.add_changed(case.file, loaded)
         reach.add_weights(case.file, loaded, expected)
+        reach.tolerances.add(case.file, loaded, expected)
         if watch:
             watch(case, loaded, expected)
     print(reach.summary())

@@ -3,9 +3,9 @@
   python3 tests/emit.py --nets 1000 [--seed 1]      systems of every family, as they are and damaged
   python3 tests/emit.py --sizes 8 16 32 --each 50   accepted levelling nets of these sizes
 
-Each call is: a count k, n s t, and the seven lengths that the call is told; then the numbers of the lists, k × k of the matrix, k of the right side,
-k of the guess, k × k of the inverse and k weights, after which each list is filled with UNREAD; then the refusal's number (0 where accepted) with its
-two places (0 where it names none), and where accepted n solution limits and n × n inverse limits."""
+Each call is: a count k, n s t, and the eight lengths that the call is told; then the numbers of the lists, k × k of the matrix, k of the right side,
+k tolerances, k of the guess, k × k of the inverse and k weights, after which each list is filled with UNREAD; then the refusal's number (0 where accepted)
+with its two places (0 where it names none), and where accepted n solution limits and n × n inverse limits."""
 
 import argparse
 import random
@@ -13,7 +13,7 @@ import sys
 
 import cases_01
 from damage.lists import call_of, damaged
-from generate import WHOLE
+from generate import WHOLE, made
 from net import joined
 from second.lists import check
 from second.reckoning import Bounds, Reckoning
@@ -35,13 +35,13 @@ def emit(call):
 
 
 def mixed(seed, count):
-    """Document 01's cases, then systems of every family in its share, each with its damaged ones after it."""
+    """Document 01's cases and the papers', then systems of every family in its share, each with its damaged ones after it."""
     table = [(make, size) for share, make, size in WHOLE for _ in range(share)]
-    systems = [case.net for case in cases_01.CASES]
+    systems = [case.net for case in cases_01.CASES + cases_01.PAPERS]
     for index in range(count + len(systems)):
         rng = random.Random(f"lists {seed}/{index}")
         make, size = table[index * 7 % len(table)]
-        call = call_of(systems[index] if index < len(systems) else make(rng, size(rng)))
+        call = call_of(systems[index] if index < len(systems) else made(rng, make, size(rng)))
         yield call
         if call.n <= MOST_DAMAGED:
             yield from (damaged(rng, call) for _ in range(DAMAGES))

@@ -53,6 +53,16 @@ def solution_within(net, q, N, bounds):
     return all(abs(S * N_i - q * X) <= q * E for N_i, X, E in zip(N, net.guess, bounds))
 
 
+def within_tolerances(net, right, over):
+    """02, Paper 5: "every right side, in fractions, that differs from b by at most d in each place": |β_k − ρ·b_k| is at most ρ·d_k."""
+    return over >= 1 and all(abs(beta - over * b) <= over * d for beta, b, d in zip(right, net.right, net.tolerance))
+
+
+def solution_over(q, H, right, over):
+    """(ρ·q, N) with ρ·A·N = ρ·q·β, for the right side β over ρ."""
+    return over * q, product(H, right)
+
+
 def inverse_within(net, q, H, bounds):
     """01: Its number H_ij lies within the limit L of its place if |T·H_ij − q·G_ij| is at most q·L."""
     T = 2**net.t
@@ -64,8 +74,9 @@ def inverse_within(net, q, H, bounds):
 
 
 def is_rounded_exact(net):
-    """The second half of demand 3: weights 1, the sizes |A_ij| with a sum below 2T, guess and inverse rounded to nearest steps."""
-    if any(w != 1 for w in net.weights) or size_sum(net) >= 2 * 2**net.t:
+    """The second half of demand 3: weights 1, the sizes |A_ij| with a sum below 2T, guess and inverse rounded to nearest steps; 02, Paper 5: it "now
+    presumes that all d are 0"."""
+    if any(w != 1 for w in net.weights) or any(net.tolerance) or size_sum(net) >= 2 * 2**net.t:
         return False
     exact = inverse_of(net.matrix)
     if exact is None:

@@ -6,6 +6,7 @@ from typing import NamedTuple
 import damage
 from net import file_of, lines_of
 from systems import edge, ends, usual
+from systems.tolerant import respelt, tolerated
 
 
 class Case(NamedTuple):
@@ -23,7 +24,7 @@ def few(rng):
 
 # How many files of a hundred, which system, and how many equations it has.
 WHOLE = (
-    (14, usual.levelling, any_n),
+    (12, usual.levelling, any_n),
     (7, usual.general, any_n),
     (8, edge.at_edge, any_n),
     (2, edge.with_halves, lambda rng: rng.randint(4, 10)),
@@ -31,7 +32,8 @@ WHOLE = (
     (5, usual.small, lambda rng: rng.randint(1, 4)),
     (1, ends.largest_bounds, lambda rng: rng.randint(2, 32)),
     (4, ends.near_margins, lambda rng: rng.randint(2, 12)),
-    (4, ends.near_residuals, lambda rng: rng.randint(1, 12)),
+    (3, ends.near_residuals, lambda rng: rng.randint(1, 12)),
+    (3, ends.near_slacks, lambda rng: rng.randint(1, 12)),
     (5, ends.near_inverse_residuals, lambda rng: rng.randint(2, 12)),
     (4, ends.several, lambda rng: rng.randint(1, 12)),
     (1, usual.singular, lambda rng: rng.randint(1, 6)),
@@ -67,6 +69,16 @@ def thinned(rng, lines):
     return [line for line in lines if not gone(line)]
 
 
+# Systems that keep their right sides as they are, at the edge of what presumes that all d are 0, or at slacks of their own.
+AS_MADE = (edge.at_edge, edge.with_halves, ends.near_residuals, ends.near_slacks)
+
+
+def made(rng, make, n):
+    """A system of a family, mostly with tolerances."""
+    net = make(rng, n)
+    return net if make in AS_MADE else tolerated(rng, net)
+
+
 def is_damaged(index):
     """Whether file number `index` of any sequence is a damaged one."""
     return TABLE[ORDER[index % 100]][2] is not None
@@ -78,8 +90,8 @@ def case(seed, index):
     make, size, spoil = TABLE[ORDER[index % 100]]
     if spoil and rng.random() < 0.1:
         size = any_n
-    net = make(rng, size(rng))
-    lines = arranged(rng, lines_of(net))
+    net = made(rng, make, size(rng))
+    lines = arranged(rng, respelt(rng, lines_of(net)))
     if spoil:
         return Case(f"{seed}/{index} {spoil.__name__}", spoil(rng, net, lines))
     file = file_of(thinned(rng, lines))

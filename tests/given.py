@@ -2,7 +2,7 @@
 
 import cases_01
 import examples_002
-from damage.numbers import ENDS, with_number
+from damage.numbers import ENDS, WORDS, with_number
 from damage.spelling import MISSPELT, WAYS
 from generate import Case
 from net import file_of, lines_of, net_of
@@ -24,8 +24,8 @@ def inserted(at, *lines):
 
 def at_ends_of_ranges():
     """Every number of every kind at the ends of its range and one beyond."""
-    for word, (low, high) in ENDS.items():
-        line = WHOLE[FIRST[word]]
+    for word in WORDS:
+        line, (low, high) = WHOLE[FIRST[word]], ENDS[word]
         for which in {"problem": (0,), "scale": (0, 1), "row": (1, 2), "inverse": (1, 2)}.get(word, (1,)):
             for value in (low - 1, low, high, high + 1):
                 yield f"{word} number {which} is {value}", replaced(FIRST[word], with_number(line, which, value))
@@ -109,6 +109,48 @@ def left_out():
         yield f"no weights and no line {at}", [*others[:at], *others[at + 1 :], WHOLE[-1]]
 
 
+def tolerances():
+    """02, Paper 5: the whole file's right sides written with a tolerance, one of them or both; numbers at the ends of their ranges; other places; given again."""
+    low, high = ENDS["tolerance"]
+    for d in (low - 1, low, 1, 7, high, high + 1, 2**64, 2**64 + 1, -(2**64), 10**290):
+        yield f"first {d}", replaced(FIRST["right"], f"(right 1 (5 {d}))")
+        yield f"second {d}", replaced(FIRST["right"] + 1, f"(right 2 (1 {d}))")
+    for b in (-(2**30) - 1, -(2**30), 2**30, 2**30 + 1, 2**64 + 5):
+        for d in (0, high, high + 1):
+            yield f"right side {b} with {d}", replaced(FIRST["right"], f"(right 1 ({b} {d}))")
+    for d in (0, 3):
+        yield f"both {d}", [line.replace("(right 1 5)", f"(right 1 (5 {d}))").replace("(right 2 1)", f"(right 2 (1 {d}))") for line in WHOLE]
+    for i in (-1, 0, 3, 32, 33, 2**32 + 1, 2**64 + 1):
+        yield f"place {i}", replaced(FIRST["right"], f"(right {i} (5 3))")
+        yield f"place {i}, beyond", replaced(FIRST["right"], f"(right {i} (5 {high + 1}))")
+    for first in ("(right 1 5)", "(right 1 (5 0))", "(right 1 (5 3))"):
+        for again in ("(right 1 5)", "(right 1 (5 0))", "(right 1 (5 3))", "(right 1 (6 1))", f"(right 1 (5 {high + 1}))", "(right 1 (1073741825 0))", "(right 1 (5))", "(right 1 (5 3 0))"):
+            yield f"{first} and {again}", [first if line == "(right 1 5)" else line for line in inserted(12, again)]
+    for at in (0, 1, 13):
+        yield f"at {at}", inserted(at, "(right 1 (5 3))")
+        yield f"three numbers at {at}", inserted(at, "(right 1 (5 3 3))")
+
+
+def right_lists():
+    """02, Paper 5: right sides with a list of any count, their numbers in range or the last not."""
+    for count in (1, 2, 3, 4, 31, 32, 33, 34, 100):
+        for last in (0, 2**20 + 1):
+            numbers = " ".join(["5", *["1"] * (count - 2), str(last)][-count:])
+            yield f"{count} numbers, the last {last}", replaced(FIRST["right"], f"(right 1 ({numbers}))")
+            yield f"again {count} numbers, the last {last}", inserted(12, f"(right 1 ({numbers}))")
+
+
+def slacks():
+    """02, Paper 5: size of residual and slack at 2^25 and beside it; slacks under an inverse with numbers of both signs."""
+    for d in (0, 1, 31, 32, 33, 2**20):
+        for X in (-1, 0, 1):
+            yield f"tolerance {d}, guess {X}", lines_of(cases_01.one(20, 20, 1, 0, X, 2**20).with_(tolerance=[d]))
+    for tolerance in ((1, 0), (0, 1), (1, 1), (3, 2), (2**20, 2**20)):
+        yield f"tolerances {tolerance}", lines_of(cases_01.whole_file().with_(tolerance=tolerance))
+        signed = net_of(4, 4, [[1, 1], [0, 1]], [5, 1], [64, 16], [[16, -16], [0, 16]], [1, 1])
+        yield f"tolerances {tolerance}, signs", lines_of(signed.with_(tolerance=tolerance))
+
+
 def entries():
     """Guesses at halves of a unit and beside them, on both sides of 0."""
     for X in (-41, -40, -39, -25, -24, -23, -9, -8, -7, 0, 7, 8, 9, 23, 24, 25, 39, 40, 41):
@@ -146,7 +188,7 @@ def cases():
         yield Case(f"01 case {case.name}", cases_01.file(case))
     for case in cases_01.PAPERS:
         yield Case(f"02 {case.name}", cases_01.file(case))
-    for group in (at_ends_of_ranges, places, lists, spellings, lengths, orders, pasted, left_out, entries, widest):
+    for group in (at_ends_of_ranges, places, lists, spellings, lengths, orders, pasted, left_out, entries, widest, tolerances, right_lists, slacks):
         for name, lines in group():
             yield Case(f"{group.__name__}: {name}", file_of(lines))
     for name, file in by_bytes():

@@ -7,12 +7,13 @@ SIZE, WHOLE, LARGE = 2**20, 2**30, 2**36
 
 @dataclass(frozen=True)
 class Net:
-    """n equations: matrix and inverse as tuples of rows, right side, guess and weights as tuples."""
+    """n equations: matrix and inverse as tuples of rows, right side, tolerances, guess and weights as tuples."""
 
     s: int
     t: int
     matrix: tuple
     right: tuple
+    tolerance: tuple
     guess: tuple
     inverse: tuple
     weights: tuple
@@ -29,6 +30,7 @@ class Net:
         return (
             all(abs(value) <= SIZE for row in self.matrix + self.inverse for value in row)
             and all(abs(value) <= WHOLE for value in self.right)
+            and all(0 <= value <= SIZE for value in self.tolerance)
             and all(abs(value) <= LARGE for value in self.guess)
             and all(1 <= value <= 1024 for value in self.weights)
         )
@@ -40,7 +42,13 @@ def frozen(value):
 
 
 def net_of(s, t, matrix, right, guess, inverse, weights):
-    return Net(s, t, *(frozen(part) for part in (matrix, right, guess, inverse, weights)))
+    """A net whose right sides have no tolerance."""
+    return Net(s, t, *(frozen(part) for part in (matrix, right, [0] * len(right), guess, inverse, weights)))
+
+
+def right_line(i, b, d):
+    """02, Paper 5: "(right i b) means d = 0"."""
+    return f"(right {i} ({b} {d}))" if d else f"(right {i} {b})"
 
 
 def lines_of(net):
@@ -50,7 +58,7 @@ def lines_of(net):
         f"(problem {net.n})",
         f"(scale {net.s} {net.t})",
         *(f"(row {i} ({joined(row)}))" for i, row in zip(places, net.matrix)),
-        *(f"(right {i} {b})" for i, b in zip(places, net.right)),
+        *map(right_line, places, net.right, net.tolerance),
         *(f"(guess {i} {X})" for i, X in zip(places, net.guess)),
         *(f"(inverse {i} ({joined(row)}))" for i, row in zip(places, net.inverse)),
         *(f"(weight {i} {w})" for i, w in zip(places, net.weights)),
@@ -76,9 +84,9 @@ def direct_sum(nets):
         matrix += [pad(row) for row in net.matrix]
         inverse += [pad(row) for row in net.inverse]
         at += net.n
-    lists = (sum((getattr(net, name) for net in nets), ()) for name in ("right", "guess", "weights"))
-    right, guess, weights = lists
-    return net_of(nets[0].s, nets[0].t, matrix, right, guess, inverse, weights)
+    lists = (sum((getattr(net, name) for net in nets), ()) for name in ("right", "guess", "weights", "tolerance"))
+    right, guess, weights, tolerance = lists
+    return net_of(nets[0].s, nets[0].t, matrix, right, guess, inverse, weights).with_(tolerance=tolerance)
 
 
 def relabelled(net, rows, columns):
@@ -87,6 +95,7 @@ def relabelled(net, rows, columns):
     return net.with_(
         matrix=[pick(net.matrix[i], columns) for i in rows],
         right=pick(net.right, rows),
+        tolerance=pick(net.tolerance, rows),
         guess=pick(net.guess, columns),
         inverse=[pick(net.inverse[i], rows) for i in columns],
         weights=pick(net.weights, columns),

@@ -5,6 +5,7 @@ from dataclasses import replace
 
 from checks import entries_in, is_accepted, limits_in
 from exact import inverse_of, is_rounded_exact, product, size_sum
+from reach_tolerances import ToleranceReach
 from second.format import lines_of
 from second.program import Program
 from second.reckoning import Reckoning
@@ -45,6 +46,7 @@ class Reach:
         self.edges = Counter()
         self.changed = Counter()
         self.weights = Counter()
+        self.tolerances = ToleranceReach()
 
     def add(self, listing, problem, net):
         """Counts a listing; `net` is None where the file was not read to its end, and `problem` is then its refusal."""
@@ -68,7 +70,7 @@ class Reach:
         margins = reckoning.margins(system)
         for value in (-1, 0, 1):
             self.edges[f"margin {value}"] += value in margins
-        guess = list(map(abs, reckoning.guess_residual(system)))
+        guess = [abs(r) + slack for r, slack in zip(reckoning.guess_residual(system), reckoning.slacks(system))]
         inverse = [abs(r) for j in range(net.n) for r in reckoning.inverse_residual(system, j)]
         for beyond in (0, 1):
             self.edges[f"residual 2^25 + {beyond}"] += 2**25 + beyond in guess
@@ -132,6 +134,7 @@ class Reach:
         for said in ("accepted", "fewer"):
             yield f"13 of 01's count, now {said}", self.weights["13", said], 20
         yield "nothing else changed by the count", 1 - self.weights["otherwise", "changed"], 1
+        yield from self.tolerances.needs()
         for word, number in BECOMES_12:
             yield f"{number} for a {word} becomes 12", self.changed[word, number], 5
         for kind in ("residual", "inverse residual"):
@@ -144,4 +147,4 @@ class Reach:
 
     def summary(self):
         refusals = ", ".join(f"{number}: {self.refusals[number]}" for number in REFUSALS)
-        return f"{self.files} files, {sum(self.sizes.values())} accepted; refusals {refusals}; {dict(self.edges)}; changed {dict(self.changed)}; weights {dict(self.weights)}"
+        return f"{self.files} files, {sum(self.sizes.values())} accepted; refusals {refusals}; {dict(self.edges)}; changed {dict(self.changed)}; weights {dict(self.weights)}; tolerances {dict(self.tolerances.met)}"

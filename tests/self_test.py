@@ -8,13 +8,14 @@ import cases_01
 import examples_002
 from checks import faults, is_accepted, net_from
 from generate import Case
-from net import file_of, lines_of
+from net import file_of, lines_of, net_of
 from outside import outside
 from second.program import Program
 from second.refusal import Refusal
 from wrong import PRINTING
 from wrong_programs import BESIDE_THE_LISTING
 from wrong_reading import READING
+from wrong_tolerances import SLACKENED, TOLERATED
 
 # A wrong version is dropped from the run once so many files have told it.
 TOLD = 3
@@ -34,8 +35,8 @@ def prints_otherwise(program, file, loaded, expected):
 class Telling:
     """Which files tell which wrong version from the right one."""
 
-    VERSIONS = [(name, wrong, reads_otherwise) for name, wrong in READING.items()]
-    VERSIONS += [(name, wrong, prints_otherwise) for name, wrong in PRINTING.items()]
+    VERSIONS = [(name, wrong, reads_otherwise) for name, wrong in (READING | TOLERATED).items()]
+    VERSIONS += [(name, wrong, prints_otherwise) for name, wrong in (PRINTING | SLACKENED).items()]
 
     def __init__(self):
         self.told = {name: [] for name, _, _ in self.VERSIONS}
@@ -87,12 +88,18 @@ def printed_errors_outside(second, net, errors):
 
 
 def test_checks(count):
-    """The statements of checks.py tell by themselves a version that writes no limits, one that refuses all, and one whose entry does not cover its rounding."""
-    half = cases_01.one(4, 4, 2, 1, 8, 8)
-    for name, net in (("no limits written", cases_01.whole_file()), ("all proposals refused", cases_01.whole_file()), ("entry limit without the rounding", half)):
+    """The statements of checks.py tell by themselves a version that writes no limits, one that refuses all, one whose entry does not cover its rounding, and
+    those whose limits leave out tolerances."""
+    whole, half = cases_01.whole_file(), cases_01.one(4, 4, 2, 1, 8, 8)
+    signs = net_of(4, 4, [[1, 1], [0, 1]], [5, 1], [64, 16], [[16, -16], [0, 16]], [1, 1])
+    told_by = {"no limits written": whole, "all proposals refused": whole, "entry limit without the rounding": half}
+    told_by |= {name: whole.with_(tolerance=[3, 2]) for name in ("slack without S", "slack only in the test of 6", "slack not carried by G")}
+    told_by |= {"slack of the row before": net_of(4, 4, [[1, 0], [0, 8]], [5, 8], [80, 16], [[16, 0], [0, 2]], [1, 1]).with_(tolerance=[3, 0])}
+    told_by |= {name: signs.with_(tolerance=[1, 1]) for name in ("slacks with the signs of G", "slack of its own row alone")}
+    for name, net in told_by.items():
         problem = Program().load(file_of(lines_of(net)))
-        told = faults(net_from(problem), PRINTING[name].printed(problem))
-        count.test(f"checks on '{name}'", [] if told else ["not told"])
+        right, told = (faults(net_from(problem), version.printed(problem)) for version in (Program(), (PRINTING | SLACKENED)[name]))
+        count.test(f"checks on '{name}'", right if told else ["not told"])
 
 
 def wrong_program(name):

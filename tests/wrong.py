@@ -1,6 +1,6 @@
 """Wrong versions of the second implementation that read a file right and print another listing, by name.
 
-Each breaks one rule of document 01. The files must tell every one of them."""
+Each breaks one rule of document 01 or 02. The files must tell every one of them."""
 
 from fractions import Fraction
 from math import ceil, floor
@@ -39,6 +39,11 @@ def margins_by(rule):
     )
 
 
+def residuals_by(rule):
+    """Reckoning that takes a residual with its slack where rule(residual, slack) holds."""
+    return reckoning(is_residual_good=lambda self, system, row, residual, slack: rule(residual, slack))
+
+
 def changed_system(method, **changes):
     """Reckoning whose `method` sees another system; each change is a function of the system."""
     original = getattr(Reckoning, method)
@@ -51,7 +56,7 @@ def row_first(self, system, columns):
         (k + 1, j + 1)
         for j, column in enumerate(columns)
         for k, residual in enumerate(column)
-        if not self.is_residual_good(system, k, residual)
+        if not self.is_residual_good(system, k, residual, 0)
     ]
     return min(places)[::-1] if places else None
 
@@ -78,9 +83,9 @@ RECKONED = {
     "smallest row": bound_by(lambda w, i, sizes, margins: min(ceil(Fraction(w[i] * p, g)) for p, g in zip(sizes, margins))),
     "limits of 2^60": bound_by(lambda w, i, sizes, margins: 2**60),
     "no limits written": bound_by(lambda w, i, sizes, margins: 0),
-    "2^25 refused": reckoning(is_residual_good=lambda self, system, row, r: abs(r) < LARGEST_RESIDUAL),
-    "2^25 + 1 accepted": reckoning(is_residual_good=lambda self, system, row, r: abs(r) <= LARGEST_RESIDUAL + 1),
-    "residual without its size": reckoning(is_residual_good=lambda self, system, row, r: r <= LARGEST_RESIDUAL),
+    "2^25 refused": residuals_by(lambda r, slack: abs(r) + slack < LARGEST_RESIDUAL),
+    "2^25 + 1 accepted": residuals_by(lambda r, slack: abs(r) + slack <= LARGEST_RESIDUAL + 1),
+    "residual without its size": residuals_by(lambda r, slack: r + slack <= LARGEST_RESIDUAL),
     "7 by row first": reckoning(failing_column=row_first),
     "7 never": reckoning(failing_column=lambda self, system, columns: None),
     "7 before 6": reckoning(ORDER=(5, 7, 6)),
@@ -90,7 +95,7 @@ RECKONED = {
     "A transposed in the residual": changed_system("guess_residual", A=lambda system: transposed(system.A)),
     "G transposed in p": changed_system("sizes", G=lambda system: transposed(system.G)),
     "column 1 for all columns": reckoning(
-        bounds_of_columns=lambda self, system, columns, margins: [self.bounds(system, columns[0], margins)] * system.n
+        bounds_of_columns=lambda self, system, columns, margins: [self.bounds(system, columns[0], self.column_slacks(system), margins)] * system.n
     ),
     "inverse limits by columns": reckoning(
         bounds_of_columns=lambda self, *rest: transposed(Reckoning.bounds_of_columns(self, *rest))

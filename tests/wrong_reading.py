@@ -3,7 +3,7 @@
 import re
 from dataclasses import replace
 
-from second.format import RANGES, Form, lines_of, read_form
+from second.format import RANGES, Form, is_in_range, lines_of, read_form
 from second.loader import Loader
 from second.rules import IN_FORCE
 from wrong import program
@@ -188,16 +188,14 @@ READ = {
 }
 
 
+def ranged(test):
+    """A loader whose test of a number in a form is test(kind, number)."""
+    return loader(refusal_3_for_values=lambda self, line: None if all(map(test, line.form.kinds(), line.form.values)) else ())
+
+
 def narrowed(kind, lowest, highest):
     """The range of one kind otherwise."""
-
-    def refusal_3_for_values(self, line):
-        form = line.form
-        if form.kind != kind:
-            return Loader.refusal_3_for_values(self, line)
-        return None if all(lowest <= value <= highest for value in form.values) else ()
-
-    return loader(refusal_3_for_values=refusal_3_for_values)
+    return ranged(lambda of, number: lowest <= number <= highest if of == kind else is_in_range(of, number))
 
 
 def range_versions():

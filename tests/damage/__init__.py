@@ -5,7 +5,7 @@ SHARES says how many files of a hundred get each damage."""
 from . import lines, numbers, spelling
 
 SHARES = (
-    (4, spelling.by_bytes),
+    (3, spelling.by_bytes),
     (2, spelling.misspelt),
     (3, spelling.respelt),
     (3, spelling.at_length),
@@ -22,6 +22,7 @@ SHARES = (
     (5, numbers.beyond_range),
     (2, numbers.other_length),
     (2, numbers.bad_place),
+    (1, numbers.other_pair),
     (1, numbers.wrapping),
     (1, numbers.bad_past_count),
 )

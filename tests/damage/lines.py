@@ -2,7 +2,7 @@
 
 from net import file_of
 
-from .numbers import ENDS, changed_length, changed_number, changed_place, changed_range, place_of
+from .numbers import WORDS, changed_length, changed_number, changed_place, changed_range, place_of, with_list
 from .spelling import MISSPELT
 
 
@@ -23,7 +23,7 @@ def doubled(rng, net, lines):
 
 def pasted(rng, net, lines):
     """A block of lines pasted again, at once or later, and one line of the copy damaged in one or two ways, more often than not its first."""
-    start = place_of(rng, lines, (rng.choice(tuple(ENDS)),))
+    start = place_of(rng, lines, (rng.choice(WORDS),))
     block = lines[start:-1][: rng.choice((1, 2, 3, len(lines)))]
     at = 0 if rng.random() < 0.7 else rng.randrange(len(block))
     line = block[at]
@@ -34,10 +34,12 @@ def pasted(rng, net, lines):
 
 
 def ways_for(line):
-    """Other numbers, a number out of its range, another i, and for a list another count."""
+    """Other numbers, a number out of its range, another i, and for a list another count; for a right side a list, or another one."""
     if line.startswith(("(problem", "(scale")):
         return (changed_number, changed_range)
     others = (changed_number, changed_range, changed_place)
+    if line.startswith("(right"):
+        return others + (with_list,)
     return others + (changed_length,) if line.startswith(("(row", "(inverse")) else others
 
 

@@ -1,4 +1,4 @@
-"""Calls of the check on lists, damaged: lengths, n, s and t, numbers at the ends of ranges, other guesses and weights."""
+"""Calls of the check on lists, damaged: lengths, n, s and t, numbers at the ends of ranges, other guesses, tolerances and weights."""
 
 from typing import NamedTuple
 
@@ -7,6 +7,9 @@ from second.reckoning import Problem
 
 # Stands in the lists past the numbers given.
 UNREAD = -(2**63)
+
+# Lists by their place in a call.
+TOLERANCE, GUESS, WEIGHTS = (FULL._fields.index(name) for name in ("tolerance", "guess", "weights"))
 
 
 class Call(NamedTuple):
@@ -31,7 +34,8 @@ class Call(NamedTuple):
 
 def call_of(net):
     flat = lambda rows: [value for row in rows for value in row]
-    return Call(net.n, net.n, net.s, net.t, FULL, (flat(net.matrix), list(net.right), list(net.guess), flat(net.inverse), list(net.weights)))
+    lists = flat(net.matrix), list(net.right), list(net.tolerance), list(net.guess), flat(net.inverse), list(net.weights)
+    return Call(net.n, net.n, net.s, net.t, FULL, lists)
 
 
 def shortened(rng, call):
@@ -62,15 +66,21 @@ def renumbered(rng, call):
 def shifted(rng, call):
     """A guess a few steps further."""
     at = rng.randrange(call.count)
-    return call.with_number(2, at, call.lists[2][at] + rng.choice((-3, -2, -1, 1, 2, 3)))
+    return call.with_number(GUESS, at, call.lists[GUESS][at] + rng.choice((-3, -2, -1, 1, 2, 3)))
+
+
+def tolerated(rng, call):
+    """A tolerance another, good, at the ends of its range or one beyond."""
+    value = rng.choice((-1, 0, 1, 2, 31, 32, 33, 2**20, 2**20 + 1, rng.randint(0, 2 ** rng.randint(0, 20))))
+    return call.with_number(TOLERANCE, rng.randrange(call.count), value)
 
 
 def reweighed(rng, call):
-    return call.with_number(4, rng.randrange(call.count), rng.randint(1, 1024))
+    return call.with_number(WEIGHTS, rng.randrange(call.count), rng.randint(1, 1024))
 
 
 def damaged(rng, call):
     """One or two damages."""
     for _ in range(rng.choice((1, 2))):
-        call = rng.choice((shortened, resized, renumbered, renumbered, shifted, reweighed))(rng, call)
+        call = rng.choice((shortened, resized, renumbered, renumbered, shifted, tolerated, reweighed))(rng, call)
     return call

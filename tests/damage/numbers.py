@@ -2,16 +2,17 @@
 
 import re
 
-from net import file_of
+from net import SIZE, file_of
 
 NUMBER = re.compile(r"-?[0-9]+")
 
-# Lowest and highest numbers beside the place i, by word.
+# Lowest and highest numbers beside the place i, by word; those of a tolerance, which stands after a right side, by a word of its own.
 ENDS = {
     "problem": (1, 32),
     "scale": (0, 20),
     "row": (-(2**20), 2**20),
     "right": (-(2**30), 2**30),
+    "tolerance": (0, 2**20),
     "guess": (-(2**36), 2**36),
     "inverse": (-(2**20), 2**20),
     "weight": (1, 1024),
@@ -37,21 +38,25 @@ def place_of(rng, lines, words):
     return rng.choice([at for at, line in enumerate(lines) if word_of(line) in words])
 
 
+def one_of(rng, line):
+    """Which number of a line, other than i, and the ends of its range."""
+    word = word_of(line)
+    which = rng.randrange(0 if word in ("problem", "scale") else 1, len(NUMBER.findall(line)))
+    return which, *ENDS["tolerance" if word == "right" and which == 2 else word]
+
+
 def changed_range(rng, line):
     """The line with one number just outside its range, or far outside, or at an end of it."""
-    word = word_of(line)
-    low, high = ENDS[word]
+    which, low, high = one_of(rng, line)
     huge = 10 ** rng.randint(12, 200)
     value = rng.choice((low - 1, high + 1, low - 1, high + 1, low - 1, high + 1, low, high, huge, -huge))
-    first = 0 if word in ("problem", "scale") else 1
-    return with_number(line, rng.randrange(first, len(NUMBER.findall(line))), value)
+    return with_number(line, which, value)
 
 
 def changed_number(rng, line):
     """The line with one number other than i replaced by another in its range."""
-    low, high = ENDS[word_of(line)]
-    first = 0 if word_of(line) in ("problem", "scale") else 1
-    return with_number(line, rng.randrange(first, len(NUMBER.findall(line))), rng.randint(low, high))
+    which, low, high = one_of(rng, line)
+    return with_number(line, which, rng.randint(low, high))
 
 
 def changed_place(rng, line):
@@ -69,8 +74,25 @@ def changed_length(rng, line):
     return f"{head} ({' '.join(rng.choice((shorter, longer)))}))"
 
 
+# The words of the lines with numbers.
+WORDS = tuple(word for word in ENDS if word != "tolerance")
+
+
+def with_list(rng, line):
+    """02, Paper 5: a right side with a list of other than two numbers, one of them now and then out of range; or with two, the second out of range or not."""
+    i, b = NUMBER.findall(line)[:2]
+    count = rng.choice((1, 1, 2, 3, 3, 4, 32, 33, 34, 100))
+    numbers = [b, *(str(rng.choice((0, 1, 7, SIZE, SIZE + 1, -1))) for _ in range(count - 1))]
+    return f"(right {i} ({' '.join(numbers)}))"
+
+
+def other_pair(rng, net, lines):
+    at = place_of(rng, lines, ("right",))
+    return with_line(lines, at, with_list(rng, lines[at]))
+
+
 def beyond_range(rng, net, lines):
-    at = place_of(rng, lines, (rng.choice(tuple(ENDS)),))
+    at = place_of(rng, lines, (rng.choice((*WORDS, "right")),))
     return with_line(lines, at, changed_range(rng, lines[at]))
 
 

@@ -30,19 +30,21 @@ fn list_of<'a>(net: &'a mut Net, which: u64) -> &'a mut Vec<i64> {
         0 => &mut net.matrix,
         1 => &mut net.inverse,
         2 => &mut net.right,
-        3 => &mut net.guess,
+        3 => &mut net.tolerance,
+        4 => &mut net.guess,
         _ => &mut net.weights,
     }
 }
 
 fn shorten(lengths: &mut Lengths, chance: &mut Chance) {
-    let length = match chance.below(7) {
+    let length = match chance.below(8) {
         0 => &mut lengths.matrix,
         1 => &mut lengths.right,
-        2 => &mut lengths.guess,
-        3 => &mut lengths.inverse,
-        4 => &mut lengths.weights,
-        5 => &mut lengths.solution,
+        2 => &mut lengths.tolerance,
+        3 => &mut lengths.guess,
+        4 => &mut lengths.inverse,
+        5 => &mut lengths.weights,
+        6 => &mut lengths.solution,
         _ => &mut lengths.bounds,
     };
     *length = chance.pick(&[length.saturating_sub(1), *length / 2, 0]);
@@ -51,7 +53,7 @@ fn shorten(lengths: &mut Lengths, chance: &mut Chance) {
 /// One number of one list, among those in use or past them.
 fn change_number(net: &mut Net, chance: &mut Chance, value: i64) {
     let n = (net.n as usize).min(COLUMN);
-    let which = chance.below(5);
+    let which = chance.below(6);
     let list = list_of(net, which);
     let used = if which < 2 { n * n } else { n };
     let range = if chance.below(4) == 0 { list.len() } else { used };
@@ -62,7 +64,7 @@ fn change_number(net: &mut Net, chance: &mut Chance, value: i64) {
 }
 
 pub fn damage(net: &mut Net, chance: &mut Chance) {
-    match chance.below(8) {
+    match chance.below(9) {
         0 => shorten(&mut net.lengths, chance),
         1 => net.n = chance.pick(&[0, 1, 2, 31, 32, 33, u32::MAX]),
         2 => net.s = chance.pick(&[0, 1, 19, 20, 21, 63, 64, u32::MAX]),
@@ -76,6 +78,7 @@ pub fn damage(net: &mut Net, chance: &mut Chance) {
             change_number(net, chance, value);
         }
         6 => net.weights[0] = 1 + chance.below(1024) as i64,
+        7 => net.tolerance[0] = chance.pick(&[-1, 0, 1, 2, 31, 32, 33, 1 << 10, 1 << 20, (1 << 20) + 1]),
         _ => net.guess[0] = net.guess[0].saturating_add(chance.pick(&[-2, -1, 1, 2])),
     }
 }

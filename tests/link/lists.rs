@@ -6,6 +6,7 @@ extern "C" {
         n: u32, s: u32, t: u32,
         matrix: *const i64, matrix_len: usize,
         right: *const i64, right_len: usize,
+        tolerance: *const i64, tolerance_len: usize,
         guess: *const i64, guess_len: usize,
         inverse: *const i64, inverse_len: usize,
         weights: *const i64, weights_len: usize,
@@ -30,6 +31,7 @@ pub struct Net {
     pub t: u32,
     pub matrix: Vec<i64>,
     pub right: Vec<i64>,
+    pub tolerance: Vec<i64>,
     pub guess: Vec<i64>,
     pub inverse: Vec<i64>,
     pub weights: Vec<i64>,
@@ -40,6 +42,7 @@ pub struct Net {
 pub struct Lengths {
     pub matrix: usize,
     pub right: usize,
+    pub tolerance: usize,
     pub guess: usize,
     pub inverse: usize,
     pub weights: usize,
@@ -71,6 +74,7 @@ pub fn library_check(net: &Net) -> Outcome {
             net.n, net.s, net.t,
             net.matrix.as_ptr(), lengths.matrix,
             net.right.as_ptr(), lengths.right,
+            net.tolerance.as_ptr(), lengths.tolerance,
             net.guess.as_ptr(), lengths.guess,
             net.inverse.as_ptr(), lengths.inverse,
             net.weights.as_ptr(), lengths.weights,
@@ -89,8 +93,8 @@ pub fn read_nets(text: &str) -> Vec<(Net, Outcome)> {
     while let Some(count) = numbers.next() {
         let count = count as usize;
         let mut take = |count: usize| numbers.by_ref().take(count).collect::<Vec<i64>>();
-        let (sizes, lengths) = (take(3), take(7));
-        let [matrix, right, guess, inverse, weights, solution, bounds] = lengths[..] else { panic!("seven lengths") };
+        let (sizes, lengths) = (take(3), take(8));
+        let [matrix, right, tolerance, guess, inverse, weights, solution, bounds] = lengths[..] else { panic!("eight lengths") };
         let mut list = |count: usize, length: usize| {
             let mut list = take(count);
             list.resize(length, UNREAD);
@@ -102,12 +106,14 @@ pub fn read_nets(text: &str) -> Vec<(Net, Outcome)> {
             t: sizes[2] as u32,
             matrix: list(count * count, MATRIX),
             right: list(count, COLUMN),
+            tolerance: list(count, COLUMN),
             guess: list(count, COLUMN),
             inverse: list(count * count, MATRIX),
             weights: list(count, COLUMN),
             lengths: Lengths {
                 matrix: matrix as usize,
                 right: right as usize,
+                tolerance: tolerance as usize,
                 guess: guess as usize,
                 inverse: inverse as usize,
                 weights: weights as usize,

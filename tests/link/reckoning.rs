@@ -1,4 +1,4 @@
-//! Document 01's check on lists, in 128-bit numbers.
+//! Document 01's check on lists, with the tolerances of 02's Paper 5, in 128-bit numbers.
 use crate::lists::{Net, Outcome, COLUMN, MATRIX};
 
 struct System {
@@ -7,6 +7,7 @@ struct System {
     inverse_steps: i128,
     a: Vec<Vec<i128>>,
     b: Vec<i128>,
+    d: Vec<i128>,
     x: Vec<i128>,
     g: Vec<Vec<i128>>,
     w: Vec<i128>,
@@ -28,7 +29,7 @@ fn all_within(list: &[i64], size: i64) -> bool {
 fn too_short(net: &Net) -> bool {
     let told = &net.lengths;
     let matrices = [told.matrix, told.inverse, told.bounds];
-    let columns = [told.right, told.guess, told.weights, told.solution];
+    let columns = [told.right, told.tolerance, told.guess, told.weights, told.solution];
     matrices.iter().any(|&l| l < MATRIX) || columns.iter().any(|&l| l < COLUMN)
 }
 
@@ -40,6 +41,7 @@ fn out_of_range(net: &Net) -> bool {
     let n = net.n as usize;
     !(all_within(&net.matrix[..n * n], 1 << 20)
         && all_within(&net.right[..n], 1 << 30)
+        && net.tolerance[..n].iter().all(|d| (0..=1 << 20).contains(d))
         && all_within(&net.guess[..n], 1 << 36)
         && all_within(&net.inverse[..n * n], 1 << 20)
         && net.weights[..n].iter().all(|w| (1..=1024).contains(w)))
@@ -62,6 +64,7 @@ impl System {
             inverse_steps: 1 << net.t,
             a: rows(&net.matrix, n),
             b: wide(&net.right[..n]),
+            d: wide(&net.tolerance[..n]),
             x: wide(&net.guess[..n]),
             g: rows(&net.inverse, n),
             w: wide(&net.weights[..n]),
@@ -84,21 +87,27 @@ impl System {
         (0..self.n).map(|k| scale * right[k] - dot(&self.a[k], guess)).collect()
     }
 
+    /// S·d_k for each row.
+    fn slacks(&self) -> Vec<i128> {
+        self.d.iter().map(|d| self.steps * d).collect()
+    }
+
     fn inverse_residual(&self, j: usize) -> Vec<i128> {
         let unit: Vec<i128> = (0..self.n).map(|k| (k == j) as i128).collect();
         self.residual(self.inverse_steps, &unit, &column(&self.g, j))
     }
 
-    /// The largest over all rows m of w_i·|p_m| / g_m, each rounded up.
-    fn bounds(&self, residual: &[i128], margins: &[i128]) -> Vec<u64> {
-        let p: Vec<i128> = self.g.iter().map(|row| dot(row, residual).abs()).collect();
+    /// The largest over all rows m of w_i·(|p_m| + the sum over j of |G_mj|·slack_j) / g_m, each rounded up.
+    fn bounds(&self, residual: &[i128], slacks: &[i128], margins: &[i128]) -> Vec<u64> {
+        let carried = |row: &[i128]| row.iter().zip(slacks).map(|(g, slack)| g.abs() * slack).sum::<i128>();
+        let p: Vec<i128> = self.g.iter().map(|row| dot(row, residual).abs() + carried(row)).collect();
         let up = |w: i128, m: usize| (w * p[m] + margins[m] - 1).div_euclid(margins[m]);
         self.w.iter().map(|&w| (0..self.n).map(|m| up(w, m)).max().unwrap() as u64).collect()
     }
 }
 
-fn above(residual: &[i128]) -> Option<usize> {
-    residual.iter().position(|r| r.abs() > 1 << 25)
+fn above(residual: &[i128], slacks: &[i128]) -> Option<usize> {
+    residual.iter().zip(slacks).position(|(r, slack)| r.abs() + slack > 1 << 25)
 }
 
 pub fn check(net: &Net) -> Outcome {
@@ -115,18 +124,18 @@ pub fn check(net: &Net) -> Outcome {
     if let Some(m) = margins.iter().position(|&g| g <= 0) {
         return refused(5, [m as u64 + 1, 0]);
     }
-    let residual = system.residual(system.steps, &system.b, &system.x);
-    if let Some(k) = above(&residual) {
+    let (residual, slacks, none) = (system.residual(system.steps, &system.b, &system.x), system.slacks(), vec![0; n]);
+    if let Some(k) = above(&residual, &slacks) {
         return refused(6, [k as u64 + 1, 0]);
     }
     let columns: Vec<Vec<i128>> = (0..n).map(|j| system.inverse_residual(j)).collect();
-    if let Some(j) = columns.iter().position(|r| above(r).is_some()) {
-        return refused(7, [j as u64 + 1, above(&columns[j]).unwrap() as u64 + 1]);
+    if let Some(j) = columns.iter().position(|r| above(r, &none).is_some()) {
+        return refused(7, [j as u64 + 1, above(&columns[j], &none).unwrap() as u64 + 1]);
     }
     let mut out = refused(0, [0, 0]);
-    out.solution[..n].copy_from_slice(&system.bounds(&residual, &margins));
+    out.solution[..n].copy_from_slice(&system.bounds(&residual, &slacks, &margins));
     for (j, residual) in columns.iter().enumerate() {
-        for (i, bound) in system.bounds(residual, &margins).into_iter().enumerate() {
+        for (i, bound) in system.bounds(residual, &none, &margins).into_iter().enumerate() {
             out.inverse[i * n + j] = bound;
         }
     }

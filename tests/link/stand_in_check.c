@@ -6,20 +6,37 @@
 
 static uint64_t scratch[1024];
 
+/* The tolerances as a wrong version reads them: below 0 as 0, S times as small, none, or of the row before. */
+static const int64_t *read_tolerances(uint32_t n, uint32_t s, const int64_t *tolerance) {
+    static int64_t seen[32];
+    for (uint32_t i = 0; i < n; i++) {
+        const int64_t d = tolerance[i];
+        seen[i] = d;
+        if (is_wrong(tolerance_below_0_taken) && d < 0) seen[i] = 0;
+        if (is_wrong(slack_in_steps) && d >= 0 && d <= 1 << 20) seen[i] = d >> s;
+        if (is_wrong(tolerance_unread)) seen[i] = 0;
+        if (is_wrong(tolerance_of_row_before)) seen[i] = tolerance[i > 0 ? i - 1 : n - 1];
+    }
+    return seen;
+}
+
 uint32_t kodarfi_check(uint32_t n, uint32_t s, uint32_t t, const int64_t *matrix, size_t matrix_len, const int64_t *right, size_t right_len,
-                       const int64_t *guess, size_t guess_len, const int64_t *inverse, size_t inverse_len, const int64_t *weights,
-                       size_t weights_len, uint64_t *solution_bounds, size_t solution_bounds_len, uint64_t *inverse_bounds,
-                       size_t inverse_bounds_len, uint64_t places[2]) {
+                       const int64_t *tolerance, size_t tolerance_len, const int64_t *guess, size_t guess_len, const int64_t *inverse,
+                       size_t inverse_len, const int64_t *weights, size_t weights_len, uint64_t *solution_bounds, size_t solution_bounds_len,
+                       uint64_t *inverse_bounds, size_t inverse_bounds_len, uint64_t places[2]) {
     int64_t ones[32];
     const uint64_t before[2] = {places[0], places[1]};
+    if (is_wrong(short_tolerances_taken)) tolerance_len = 32;
+    if (n <= 32 && s <= 20 && tolerance_len >= 32) tolerance = read_tolerances(n, s, tolerance);
     if (is_wrong(short_bounds_taken)) solution_bounds_len = 32, inverse_bounds_len = 1024;
     if (is_wrong(ranges_first) && (n < 1 || n > 32)) return places[0] = places[1] = 0, 3;
     if (is_wrong(no_ranges_of_weights) && n <= 32 && weights_len >= 32) {
         for (uint32_t i = 0; i < n; i++) ones[i] = weights[i] < 1 ? 1 : weights[i];
         weights = memcpy(scratch, ones, sizeof ones);
     }
-    const uint32_t number = native_check_quick(n, s, t, matrix, matrix_len, right, right_len, guess, guess_len, inverse, inverse_len, weights,
-                                               weights_len, solution_bounds, solution_bounds_len, inverse_bounds, inverse_bounds_len, places);
+    const uint32_t number = native_check_quick(n, s, t, matrix, matrix_len, right, right_len, tolerance, tolerance_len, guess, guess_len, inverse,
+                                               inverse_len, weights, weights_len, solution_bounds, solution_bounds_len, inverse_bounds,
+                                               inverse_bounds_len, places);
     if (is_wrong(writes_on_refusal) && number == 7) solution_bounds[0] = 0;
     if (is_wrong(reads_past_n) && number == 0 && n < 32 && (matrix[n * n] > 1 << 20 || matrix[n * n] < -(1 << 20))) return 3;
     if (is_wrong(row_before_column) && number == 7) {

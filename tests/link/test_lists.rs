@@ -2,14 +2,19 @@
 
 use crate::count::Count;
 use crate::damage::{damage, Chance};
-use crate::lists::{library_check, Net, Outcome};
+use crate::lists::{library_check, Net, Outcome, COLUMN};
 use crate::reckoning::check;
 
 const DAMAGES: usize = 2;
 
+/// Whether a right side in use has a tolerance above 0.
+fn is_tolerant(net: &Net) -> bool {
+    net.tolerance[..(net.n as usize).min(COLUMN)].iter().any(|&d| d > 0)
+}
+
 pub fn test_lists(count: &mut Count, nets: &[(Net, Outcome)]) {
     let mut chance = Chance(1);
-    let mut met = [0; 16];
+    let (mut met, mut met_tolerant) = ([0; 16], [0; 16]);
     for (index, (net, expected)) in nets.iter().enumerate() {
         let out = library_check(net);
         count.test(|| format!("call {index}"), out == *expected && out == check(net));
@@ -21,7 +26,9 @@ pub fn test_lists(count: &mut Count, nets: &[(Net, Outcome)]) {
             let out = library_check(&damaged);
             count.test(|| format!("call {index} damaged"), out == check(&damaged));
             met[out.number as usize % 16] += 1;
+            met_tolerant[out.number as usize % 16] += usize::from(is_tolerant(&damaged));
         }
     }
     count.test_reach("damaged calls by number", &met, &[0, 3, 5, 6, 7, 8]);
+    count.test_reach("damaged calls with tolerances by number", &met_tolerant, &[0, 3, 5, 6, 7, 8]);
 }

@@ -17,6 +17,11 @@
     X(ranges_first)               \
     X(no_ranges_of_weights)       \
     X(writes_past_n)              \
+    X(short_tolerances_taken)     \
+    X(tolerance_below_0_taken)    \
+    X(slack_in_steps)             \
+    X(tolerance_unread)           \
+    X(tolerance_of_row_before)    \
     /* kodarfi_entry */           \
     X(refused_entry_written)      \
     X(refused_bound_written)      \

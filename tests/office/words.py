@@ -12,6 +12,8 @@ EXAMPLE = re.compile(r"`([^`]+)`: `([^`]+)`")
 QUOTED = {
     "1-long-row-twice": "line 3 is \"(row 1 (1000000 ", "2-two-spaces": "line 5 is \"(right 1  5)\"", "2-leading-zero": "line 5 is \"(right 1 05)\"",
     "2-minus-zero": "line 5 is \"(right 1 -0)\"", "2-empty-list": "line 3 is \"(row 1 ())\"", "2-row-twice": "line 3 is \"(row 1 (4 -1))(row 1 (4 -1))\"",
+    "2-right-list-of-three": "line 5 is \"(right 1 (5 3 1))\"", "3-large-tolerance": "line 5 is \"(right 1 (5 1048577))\"",
+    "6-tolerance-for-fine-steps": "equation 1 is \"(row 1 (1))\" and \"(right 1 (0 33))\"", "12-tolerance-added": "line 7 is \"(right 1 (5 1))\"",
     "2-empty-line": "line 3 is \"\"", "2-carriage-returns": "line 1 is \"(problem 2)^M\"", "3-weight-of-0": "line 11 is \"(weight 1 0)\"",
     "3-place-above-n": "line 6 is \"(right 3 1)\"", "3-more-than-32-marks": "line 1 is \"(problem 33)\"", "4-short-row": "line 3 is \"(row 1 (4))\"",
     "5-inverse-of-0": "row 1 of the inverse is \"(inverse 1 (0))\"", "5-coarse-steps": "row 1 of the inverse is \"(inverse 1 (0))\"",

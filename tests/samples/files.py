@@ -6,7 +6,7 @@ import given
 from generate import arranged
 from net import file_of, lines_of
 from second.program import Program
-from systems import edge, ends, usual
+from systems import edge, ends, tolerant, usual
 
 # Files of given.py by the names under which they are stored.
 GIVEN = {
@@ -48,13 +48,36 @@ GIVEN = {
     "stops-early": "orders: nothing from line 12",
     "half-below-zero": "entries: entry of -40",
     "widest": "widest: sign -1, steps 20 20",
+    "paper-5": "02 paper 5",
+    "whole-file-tolerated": "02 paper 5 e",
+    "tolerance-0": "tolerances: both 0",
+    "tolerance-3": "tolerances: both 3",
+    "tolerance-highest": "tolerances: first 1048576",
+    "tolerance-beyond": "tolerances: first 1048577",
+    "tolerance-below-0": "tolerances: second -1",
+    "tolerance-wraps": "tolerances: second 18446744073709551617",
+    "right-side-beyond-with-tolerance": "tolerances: right side 1073741825 with 0",
+    "right-again-with-tolerance": "tolerances: (right 1 5) and (right 1 (5 3))",
+    "right-again-without-tolerance": "tolerances: (right 1 (5 3)) and (right 1 5)",
+    "right-list-of-one": "right_lists: 1 numbers, the last 0",
+    "right-list-of-three": "right_lists: 3 numbers, the last 1048577",
+    "right-list-of-33": "right_lists: 33 numbers, the last 0",
+    "slack-at-2-25": "slacks: tolerance 32, guess 0",
+    "slack-above-2-25": "slacks: tolerance 32, guess 1",
+    "slacks-with-signs": "slacks: tolerances (3, 2), signs",
 }
+
+def tolerated_net(rng, n):
+    """A levelling net with tolerances for which there is room."""
+    net = usual.levelling(rng, n)
+    return net.with_(tolerance=tolerant.small(rng, net))
+
 
 # Systems made by chance, with their number of equations.
 MADE = (
     (usual.levelling, 1), (usual.levelling, 5), (usual.levelling, 32), (usual.general, 9), (usual.general, 16), (usual.small, 3), (usual.singular, 3),
     (edge.at_edge, 1), (edge.at_edge, 12), (edge.with_halves, 6), (ends.at_bounds, 10), (ends.largest_bounds, 8), (ends.near_margins, 6),
-    (ends.near_residuals, 7), (ends.near_inverse_residuals, 6), (ends.several, 9),
+    (ends.near_residuals, 7), (ends.near_inverse_residuals, 6), (ends.several, 9), (ends.near_slacks, 6), (tolerated_net, 5), (tolerated_net, 12),
 )
 
 

@@ -13,6 +13,7 @@ FORMS = (
     ("scale", rb" " + NUMBER + rb" " + NUMBER, None),
     ("row", rb" " + NUMBER + rb" \(" + NUMBERS + rb"\)", 2**20),
     ("right", rb" " + NUMBER + rb" " + NUMBER, None),
+    ("right", rb" " + NUMBER + rb" \(" + NUMBER + rb" " + NUMBER + rb"\)", None),
     ("guess", rb" " + NUMBER + rb" " + NUMBER, None),
     ("inverse", rb" " + NUMBER + rb" \(" + NUMBERS + rb"\)", 2**20),
     ("weight", rb" " + NUMBER + rb" " + NUMBER, None),
@@ -25,7 +26,7 @@ def capped(number):
 
 
 def told(line, printing):
-    """What a line is, as the program prints it."""
+    """What a line is, as the program prints it. A tolerance of 0 is not printed, given or not."""
     if len(line) > 320:
         return f"refused {printing.refused(1)}"
     for word, rest, largest in FORMS:
@@ -34,6 +35,8 @@ def told(line, printing):
             continue
         groups = [[int(numeral) for numeral in group.split(b" ")] for group in found.groups()]
         numbers = groups.pop() if largest else []
+        if word == "right" and groups[2:] == [[0]]:
+            groups.pop()
         parts = [word, *(str(capped(group[0])) for group in groups)]
         if numbers:
             within = all(-largest <= number <= largest for number in numbers)
@@ -97,6 +100,24 @@ WHOLE = (
 )
 
 
+def rights():
+    """02, Paper 5: right sides with a tolerance, and what looks like one."""
+    slots = (b"(right %s (5 3))", b"(right 1 (%s 3))", b"(right 1 (5 %s))")
+    for edge in (0, -1, 1, 2**20, 2**20 + 1, 2**30, 2**30 + 1, 2**40, -(2**40) - 1, 2**64, 2**64 + 1, -(2**64) - 1):
+        yield from (slot % (b"%d" % edge) for slot in slots)
+    yield from (slot % (digit * 300) for slot in slots for digit in (b"1", b"9"))
+    yield from (slot % no_number for slot in slots for no_number in NO_NUMBERS)
+    for count in (1, 2, 3, 4, 31, 32, 33, 34, 100, 154):
+        yield b"(right 1 (" + b" ".join([b"7"] * count) + b"))"
+        yield b"(right 1 (" + b" ".join([b"1048577"] * min(count, 38)) + b"))"
+    yield from (b"(right" + tail for tail in (b" 1 ())", b" 1 ( ))", b" 1 (5 3)", b" 1 (5 3)) ", b" 1 (5 3)))", b" 1 5 3))", b" 1 (5 3) 3)", b" 1 5 (3))", b" 1 ((5 3)))"))
+    yield from (b"(right" + tail for tail in (b" 1(5 3))", b" (5 3))", b" (1 5 3))", b" 1 2 (5 3))", b" 1 (5,3))", b" 1 (5 3)(5 3))", b" 1 [5 3])"))
+    yield from (b"(guess 1 (5 3))", b"(weight 1 (5 3))", b"(rights 1 (5 3))", b"(righ 1 (5 3))")
+    for length in (319, 320, 321, 322):
+        yield b"(right 1 (5 " + b"5" * (length - 14) + b"))"
+        yield b"(right 1 (" + b"5 " * ((length - 13) // 2) + b"5" * (1 + (length - 13) % 2) + b"))"
+
+
 def damaged(line):
     """A line with a byte less, a byte more or another byte, at its ends and at some places between."""
     places = sorted({0, 1, line.find(b" ") + 1, len(line) // 2, len(line) - 2, len(line) - 1})
@@ -130,6 +151,7 @@ def lines():
     every = [*WHOLE, *words, *numbers(), *lists(), *lengths()]
     for line in WHOLE[:8]:
         every += damaged(line)
+    every += [*rights(), *damaged(b"(right 1 (5 3))")]
     return list(dict.fromkeys(every))
 
 

@@ -7,13 +7,12 @@ import random
 from cases_01 import CASES, whole_file
 from net import lines_of
 from second.lists import KINDS, check
-from second.loader import Loader
 from second.reckoning import Bounds, Problem
 from second.refusal import Refusal
 
 MARK = -7
 SHOWN = 10
-NAMES = ("matrix", "right", "guess", "inverse", "weights")
+NAMES = ("matrix", "right", "tolerance", "guess", "inverse", "weights")
 
 
 class Session:
@@ -24,7 +23,7 @@ class Session:
         self.entries = []
 
     def new(self):
-        self.loader = Loader()
+        self.loader = self.printing.loader()
         for numbers in self.loader.lists.values():
             numbers[:] = [MARK] * len(numbers)
         self.command(b"n", "")
@@ -39,9 +38,9 @@ class Session:
             self.entries.append((line, self.printing.said(self.loader.take(line)) + "\n"))
 
     def short(self, *lines):
-        """Each line with each of the five lists one number too short."""
+        """Each line with each of the six lists one number too short."""
         for line in lines:
-            for which in b"01234":
+            for which in b"012345":
                 self.command(bytes([which]) + line, self.printing.refused(8))
 
     def text(self, text):
@@ -160,6 +159,31 @@ def left_out(session, given):
     session.check()
 
 
+def tolerances(session, first, second):
+    """02, Paper 5: right sides with and without a tolerance, in lists that held others. A refused line leaves both lists, and the other spelling is a repetition."""
+    session.new()
+    session.lines(b"(problem 2)", b"(scale 4 4)", b"(row 1 (4 -1))", b"(row 2 (-1 3))")
+    session.lines(b"(right 1 (5))", b"(right 1 (5 3 1))", b"(right 1 (5 -1))", b"(right 1 (5 1048577))", b"(right 1 (1073741825 3))", b"(right 3 (5 3))", b"(right 0 (5 3 1))")
+    session.show()
+    session.lines(b"(right 1 %s)" % first, b"(right 2 %s)" % second)
+    session.show()
+    session.lines(b"(right 1 5)", b"(right 1 (5 0))", b"(right 1 (5 7))", b"(right 1 (5 1048577))", b"(right 2 (5 7))", b"(right 1 (5 7 7))", b"(end)")
+    session.lines(b"(guess 1 23)", b"(guess 2 13)", b"(inverse 1 (4 1))", b"(inverse 2 (1 6))", b"(end)", b"(right 1 (5 3))")
+    session.short(b"(right 1 (5 3))")
+    session.show()
+    session.check()
+    session.check_on_lists("P", 2, 4, 4)
+    session.check_on_lists("Q", 2, 20, 4)
+
+
+def slack(session, tolerance, guess):
+    """6 through slack alone: S·d is 2^25 at a tolerance of 32."""
+    session.new()
+    session.lines(b"(problem 1)", b"(scale 20 20)", b"(row 1 (1))", b"(right 1 (0 %d))" % tolerance, b"(guess 1 %d)" % guess, b"(inverse 1 (1048576))", b"(end)")
+    session.check()
+    session.check_on_lists("R", 1, 20, 20)
+
+
 def entries(printing):
     session = Session(printing)
     cases(session)
@@ -170,4 +194,8 @@ def entries(printing):
         completed(session, rng, n)
     for given in ((), (2,), (3, 1), (1, 2, 3)):
         left_out(session, given)
+    for first, second in ((b"5", b"1"), (b"5", b"(1 0)"), (b"(5 1)", b"1"), (b"(5 3)", b"(1 1048576)"), (b"(5 0)", b"(1 2)")):
+        tolerances(session, first, second)
+    for tolerance, guess in ((32, 0), (32, 1), (31, -1048576), (31, -1048577), (33, 0), (1048576, 0)):
+        slack(session, tolerance, guess)
     return session.entries

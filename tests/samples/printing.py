@@ -1,7 +1,11 @@
-"""How the program `samples` prints an answer; and the wrong ways that its stored output must tell, by name."""
+"""How the program `samples` prints an answer, and the loader that it has; and the wrong ways that its stored output must tell, by name."""
+
+from second.loader import Loader
 
 
 class Printing:
+    loader = Loader
+
     def said(self, refusal):
         """An answer: accepted where nothing is refused."""
         return "accepted" if refusal is None else self.refused(refusal.number, refusal.values)
@@ -19,7 +23,19 @@ def wrong(**parts):
     return type("WrongPrinting", (Printing,), parts)()
 
 
+class Leaving(Loader):
+    def accept_right(self, at, right, tolerance=None):
+        Loader.accept_right(self, at, right, self.lists["tolerance"][at] if tolerance is None else tolerance)
+
+
+class Keeping(Loader):
+    def accept_right(self, at, right, tolerance=0):
+        Loader.accept_right(self, at, right, tolerance or self.lists["tolerance"][at])
+
+
 WRONG = {
+    "(right i b) leaves the tolerance": wrong(loader=Leaving),
+    "a tolerance of 0 is not written": wrong(loader=Keeping),
     "3 for a refusal that has no name": wrong(refused=lambda self, number, values=(): Printing.refused(self, number if number in (5, 6, 7, 8) else 3, values)),
     "0 for a refusal that is no line's": wrong(refused=lambda self, number, values=(): Printing.refused(self, number if number in (1, 2) else 0, values)),
     "numbers alone": wrong(refused=lambda self, number, values=(): str(number)),

@@ -19,16 +19,19 @@ PATTERNS = tuple(
         rb"\((scale) (" + NUMBER + rb" " + NUMBER + rb")\)",
         rb"\((row|inverse) (" + NUMBER + rb") \((" + LIST + rb")\)\)",
         rb"\((right|guess|weight) (" + NUMBER + rb") (" + NUMBER + rb")\)",
+        # 02, Paper 5: "The form (right i (b d)) gives a tolerance d [..] and a list of other than two numbers there is 2."
+        rb"\((right) (" + NUMBER + rb") \((" + NUMBER + rb" " + NUMBER + rb")\)\)",
         rb"\((end)\)",
     )
 )
 
-# "Every form has its own range": lowest and highest of the numbers a form carries beside its place.
+# "Every form has its own range": lowest and highest of the numbers a form carries beside its place, by their kind.
 RANGES = {
     "problem": (1, 32),
     "scale": (0, 20),
     "row": (-(2**20), 2**20),
     "right": (-(2**30), 2**30),
+    "tolerance": (0, 2**20),
     "guess": (-(2**36), 2**36),
     "inverse": (-(2**20), 2**20),
     "weight": (1, 1024),
@@ -39,11 +42,20 @@ PLACED = ("row", "right", "guess", "inverse", "weight")
 
 
 class Form(NamedTuple):
-    """One form: its word, its place i where it has one, and its other numbers."""
+    """One form: its word, its place i where it has one, and its other numbers. A right side has one of these, or a tolerance after it."""
 
     kind: str
     place: Optional[int]
     values: tuple
+
+    def kinds(self):
+        """The kind of each of the other numbers."""
+        return ("right", "tolerance")[: len(self.values)] if self.kind == "right" else (self.kind,) * len(self.values)
+
+
+def is_in_range(kind, number):
+    lowest, highest = RANGES[kind]
+    return lowest <= number <= highest
 
 
 def lines_of(file):

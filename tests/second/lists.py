@@ -2,21 +2,22 @@
 
 from typing import NamedTuple
 
-from .format import RANGES
+from . import format
 from .reckoning import Problem, Reckoning
 from .refusal import Refusal
 
 MATRIX, COLUMN = 1024, 32
 
-# The lists handed in, in the order of the call, with the form that carries their numbers.
-KINDS = ("row", "right", "guess", "inverse", "weight")
+# The lists handed in, in the order of the call, by the kind of their numbers.
+KINDS = ("row", "right", "tolerance", "guess", "inverse", "weight")
 
 
 class Lengths(NamedTuple):
-    """The lengths that a call is told: of the five lists, then of both lists of limits."""
+    """The lengths that a call is told: of the six lists, then of both lists of limits."""
 
     matrix: int = MATRIX
     right: int = COLUMN
+    tolerance: int = COLUMN
     guess: int = COLUMN
     inverse: int = MATRIX
     weights: int = COLUMN
@@ -35,8 +36,7 @@ def check(problem, lengths=FULL):
 
 
 def is_within(kind, numbers):
-    lowest, highest = RANGES[kind]
-    return all(lowest <= number <= highest for number in numbers)
+    return all(format.is_in_range(kind, number) for number in numbers)
 
 
 def is_in_range(problem):

@@ -1,6 +1,7 @@
 """Document 01's desk: it collects forms line by line and fills the lists."""
 
-from .format import LONGEST_LINE, PLACED, RANGES, read_form
+from .format import LONGEST_LINE, PLACED, is_in_range, read_form
+from .lists import COLUMN, KINDS, MATRIX
 from .refusal import Refusal
 from .rules import IN_FORCE
 
@@ -34,7 +35,7 @@ class Loader:
         self.n = self.s = self.t = None
         self.given = set()
         self.ended = False
-        self.lists = {kind: [0] * (1024 if kind in ("row", "inverse") else 32) for kind in PLACED}
+        self.lists = {kind: [0] * (MATRIX if kind in ("row", "inverse") else COLUMN) for kind in KINDS}
 
     def take(self, text):
         """Takes a line in; gives its refusal, or None where it is accepted."""
@@ -50,7 +51,10 @@ class Loader:
         return self.REPETITION_FIRST if self.rules.repetition_before_values else self.VALUES_FIRST
 
     def read(self, text):
-        return read_form(text)
+        """The form of a line. Before Paper 5 a right side has no tolerance: 2."""
+        form = read_form(text)
+        is_older = form is None or len(form.values) == 1 or form.kind != "right"
+        return form if is_older or self.rules.right_sides_have_tolerances else None
 
     def refusal_14(self, line):
         """01: Any line after an accepted end."""
@@ -82,10 +86,7 @@ class Loader:
     def refusal_3_for_values(self, line):
         """01: A number outside its range: the others."""
         form = line.form
-        if form.kind not in RANGES:
-            return None
-        lowest, highest = RANGES[form.kind]
-        return None if all(lowest <= value <= highest for value in form.values) else ()
+        return None if all(map(is_in_range, form.kinds(), form.values)) else ()
 
     def refusal_4(self, line):
         """01: A row or inverse list with other than n numbers."""
@@ -119,9 +120,16 @@ class Loader:
             self.ended = True
             if self.rules.weights_may_be_left_out:
                 self.close()
+        elif form.kind == "right":
+            self.accept_right(form.place - 1, *form.values)
         else:
             at = (form.place - 1) * len(form.values)
             self.lists[form.kind][at : at + len(form.values)] = form.values
+
+    def accept_right(self, at, right, tolerance=0):
+        """02, Paper 5: "(right i b) means d = 0, written like a given one"."""
+        self.lists["right"][at] = right
+        self.lists["tolerance"][at] = tolerance
 
     def close(self):
         """02, Paper 1: "A weight not given stands for 1, and an accepted end writes 1 into every such place of the lent list."."""

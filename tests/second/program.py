@@ -4,6 +4,7 @@ from fractions import Fraction
 from math import ceil, floor
 
 from .format import lines_of
+from .lists import KINDS
 from .loader import Loader
 from .reckoning import Problem, Reckoning
 from .refusal import Refusal
@@ -41,8 +42,7 @@ class Program:
         return lines_of(file)
 
     def problem(self, loader):
-        lists = (loader.lists[kind] for kind in ("row", "right", "guess", "inverse", "weight"))
-        return Problem(loader.n, loader.s, loader.t, *lists)
+        return Problem(loader.n, loader.s, loader.t, *(loader.lists[kind] for kind in KINDS))
 
     def refused(self, refusal):
         values = " ".join(map(str, refusal.values))

@@ -1,4 +1,4 @@
-"""Document 01, "The reckoning": margins, residuals and the bounds of a column (01: limits), in exact fractions."""
+"""Document 01, "The reckoning", with the slacks of document 02, Paper 5: margins, residuals and the bounds of a column (01: limits), in exact fractions."""
 
 from fractions import Fraction
 from math import ceil
@@ -11,13 +11,14 @@ LARGEST_RESIDUAL = 2**25
 
 
 class Problem(NamedTuple):
-    """n, s, t and the five lists, the matrices row after row in lists of at least n × n numbers."""
+    """n, s, t and the six lists, the matrices row after row in lists of at least n × n numbers."""
 
     n: int
     s: int
     t: int
     matrix: list
     right: list
+    tolerance: list
     guess: list
     inverse: list
     weights: list
@@ -38,6 +39,7 @@ class System(NamedTuple):
     T: int
     A: list
     b: list
+    d: list
     X: list
     G: list
     w: list
@@ -63,17 +65,17 @@ class Reckoning:
         """The bounds of an accepted problem, or the refusal of another."""
         system = self.system(problem)
         margins = self.margins(system)
-        residuals = self.guess_residual(system)
+        residuals, slacks = self.guess_residual(system), self.slacks(system)
         columns = [self.inverse_residual(system, j) for j in range(system.n)]
         failing = {
             5: self.failing_margin(margins),
-            6: self.failing_row(system, residuals),
+            6: self.failing_row(system, residuals, slacks),
             7: self.failing_column(system, columns),
         }
         for number in self.ORDER:
             if failing[number] is not None:
                 return Refusal(number, failing[number])
-        solution = self.bounds(system, residuals, margins)
+        solution = self.bounds(system, residuals, slacks, margins)
         return Bounds(solution, transposed(self.bounds_of_columns(system, columns, margins)))
 
     def system(self, problem):
@@ -84,6 +86,7 @@ class Reckoning:
             2**problem.t,
             self.rows(problem.matrix, n),
             problem.right[:n],
+            problem.tolerance[:n],
             problem.guess[:n],
             self.rows(problem.inverse, n),
             problem.weights[:n],
@@ -123,37 +126,49 @@ class Reckoning:
         """r = S·b − A·X."""
         return [system.S * b - ax for b, ax in zip(system.b, times(system.A, system.X))]
 
+    def slacks(self, system):
+        """02, Paper 5: "The residual of row m now comes with a slack S·d_m"."""
+        return [system.S * d for d in system.d]
+
+    def column_slacks(self, system):
+        """02, Paper 5: "Inverse columns have no slack."."""
+        return [0] * system.n
+
     def inverse_residual(self, system, j):
         """01: the same with column j of G as guess, T for S, and unit column j as right side."""
         column = [row[j] for row in system.G]
         return [system.T * (k == j) - ag for k, ag in enumerate(times(system.A, column))]
 
-    def is_residual_good(self, system, row, residual):
-        """01: each size at most 2^25."""
-        return abs(residual) <= LARGEST_RESIDUAL
+    def is_residual_good(self, system, row, residual, slack):
+        """01: each size at most 2^25. 02, Paper 5: "6 is now given where size of residual plus slack is above 2^25"."""
+        return abs(residual) + slack <= LARGEST_RESIDUAL
 
-    def failing_row(self, system, residuals):
+    def failing_row(self, system, residuals, slacks):
         """6 "gives the lowest row"."""
-        for k, residual in enumerate(residuals):
-            if not self.is_residual_good(system, k, residual):
+        for k, (residual, slack) in enumerate(zip(residuals, slacks)):
+            if not self.is_residual_good(system, k, residual, slack):
                 return (k + 1,)
         return None
 
     def failing_column(self, system, columns):
         """7 "gives the lowest column, then its lowest row"."""
         for j, residuals in enumerate(columns):
-            row = self.failing_row(system, residuals)
+            row = self.failing_row(system, residuals, self.column_slacks(system))
             if row is not None:
                 return (j + 1, *row)
         return None
 
-    def sizes(self, system, residuals):
-        """|p_m| for p = G·r."""
-        return [abs(p) for p in times(system.G, residuals)]
+    def sizes(self, system, residuals, slacks):
+        """01: |p_m| for p = G·r. 02, Paper 5: "In the limits |p_m| becomes |p_m| plus the sum over j of |G_mj|·S·d_j."."""
+        return [abs(p) + slack for p, slack in zip(times(system.G, residuals), self.carried(system, slacks))]
 
-    def bounds(self, system, residuals, margins):
-        """The limits of one column, from its residuals."""
-        sizes = self.sizes(system, residuals)
+    def carried(self, system, slacks):
+        """The sum over j of |G_mj| times the slack of row j, for each m."""
+        return [sum(abs(g) * slack for g, slack in zip(row, slacks)) for row in system.G] if any(slacks) else slacks
+
+    def bounds(self, system, residuals, slacks, margins):
+        """The limits of one column, from its residuals and slacks."""
+        sizes = self.sizes(system, residuals, slacks)
         return [self.bound(system, i, sizes, margins) for i in range(system.n)]
 
     def bound(self, system, i, sizes, margins):
@@ -163,4 +178,4 @@ class Reckoning:
 
     def bounds_of_columns(self, system, columns, margins):
         """For column j of the inverse the same."""
-        return [self.bounds(system, residuals, margins) for residuals in columns]
+        return [self.bounds(system, residuals, self.column_slacks(system), margins) for residuals in columns]

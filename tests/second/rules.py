@@ -7,7 +7,8 @@ from dataclasses import dataclass
 class Rules:
     weights_may_be_left_out: bool = False  # Paper 1: Loader.counted, Loader.close
     entry_covers_rounding: bool = False  # Paper 2: Program.entry_bound
+    right_sides_have_tolerances: bool = False  # Paper 5: Loader.read; a tolerance of 0 everywhere is no slack in Reckoning
     repetition_before_values: bool = False  # Paper 6: Loader.order
 
 
-IN_FORCE = Rules(weights_may_be_left_out=True, entry_covers_rounding=True, repetition_before_values=True)
+IN_FORCE = Rules(weights_may_be_left_out=True, entry_covers_rounding=True, right_sides_have_tolerances=True, repetition_before_values=True)

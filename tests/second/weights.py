@@ -2,7 +2,6 @@
 
 from typing import NamedTuple
 
-from .format import RANGES
 from .lists import COLUMN, MATRIX, is_within
 from .reckoning import Problem, Reckoning
 from .refusal import Refusal
@@ -65,7 +64,7 @@ class WeightSearch:
     def lists(self, request):
         """The sequence without end, each list with its margins: "Begin with 1 everywhere [..] and try those"."""
         n = request.n
-        problem = Problem(n, 0, request.t, request.matrix, [0] * n, [0] * n, request.inverse, [1] * n)
+        problem = Problem(n, 0, request.t, request.matrix, [0] * n, [0] * n, [0] * n, request.inverse, [1] * n)
         system = self.reckoning().system(problem)
         sizes = [list(map(abs, row)) for row in self.reckoning().defect(system)]
         weights = self.first(n)

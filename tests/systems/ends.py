@@ -66,6 +66,14 @@ def residual_one(rng, s, t, target):
     return net_of(s, t, [[a]], [right], [guess], [[2**t * a]], [rng.randint(1, 1024)])
 
 
+def slack_one(rng, s, t, beyond):
+    """One equation with size of residual and slack 2^25 + beyond together, the slack above 0."""
+    tolerance = rng.randint(1, min(SIZE, RESIDUAL >> s))
+    rest = RESIDUAL + beyond - (tolerance << s)
+    side = sign(rng) if rest > 0 else 1
+    return residual_one(rng, s, t, side * max(rest, 0)).with_(tolerance=[tolerance])
+
+
 def inverse_pair(rng, s, t, beyond):
     """Two equations whose residual in column 2, row 1 has the size 2^25 + beyond, for beyond −1, 0 or 1; t at least 13."""
     k = rng.randint(max(13, 26 - t), t)
@@ -129,6 +137,14 @@ def near_residuals(rng, n):
     s, t = rng.randint(0, 20), rng.randint(0, 20)
     beyond = lambda: rng.choice((0, 0, 0, 1, -1))
     blocks = [residual_one(rng, s, t, sign(rng) * (RESIDUAL + beyond())) for _ in range(rng.randint(1, min(n, 3)))]
+    return assembled(rng, n, blocks, s, t)
+
+
+def near_slacks(rng, n):
+    """02, Paper 5: one to three rows in which size of residual and slack are 2^25 together, or one beside it."""
+    s, t = rng.randint(0, 20), rng.randint(0, 20)
+    beyond = lambda: rng.choice((0, 0, 0, 1, -1))
+    blocks = [slack_one(rng, s, t, beyond()) for _ in range(rng.randint(1, min(n, 3)))]
     return assembled(rng, n, blocks, s, t)
 
 

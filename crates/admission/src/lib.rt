@@ -13,13 +13,25 @@ use rules::all_in_range;
 use rules::is_natural_in_range;
 
 // 8: whether a list of one of these lengths is too short.
-pub fn is_short(a: usize, b: usize, x: usize, g: usize, w: usize, e: usize, l: usize) -> bool
-    ensures { λ r. ⌜ r ≡ anyShort a b x g w e l ⌝ }
+pub fn is_short(
+    a: usize,
+    b: usize,
+    d: usize,
+    x: usize,
+    g: usize,
+    w: usize,
+    e: usize,
+    l: usize,
+) -> bool
+    ensures { λ r. ⌜ r ≡ anyShort a b d x g w e l ⌝ }
 {
     if a < 1024 {
         return true;
     }
     if b < 32 {
+        return true;
+    }
+    if d < 32 {
         return true;
     }
     if x < 32 {
@@ -54,21 +66,24 @@ pub fn are_lists_in_range(
     n: usize,
     matrix: &[i64],
     right: &[i64],
+    tolerance: &[i64],
     guess: &[i64],
     inverse: &[i64],
     weights: &[i64],
 ) -> bool
     requires { ⌜ n ≤ 32 ⌝ }
-    requires { ⌜ (1024 ≤ length (now matrix)) × ((32 ≤ length (now right)) × ((32 ≤ length (now guess))
-        × ((1024 ≤ length (now inverse)) × (32 ≤ length (now weights))))) ⌝ }
-    ensures { λ r. ⌜ r
-        ≡ listsInRange n (now (matrix .entry)) (now (right .entry)) (now (guess .entry)) (now (inverse .entry)) (now (weights .entry)) ⌝ }
+    requires { ⌜ (1024 ≤ length (now matrix)) × ((32 ≤ length (now right)) × ((32 ≤ length (now tolerance)) × ((32 ≤ length (now guess))
+        × ((1024 ≤ length (now inverse)) × (32 ≤ length (now weights)))))) ⌝ }
+    ensures { λ r. ⌜ r ≡ listsInRange n (now (matrix .entry)) (now (right .entry)) (now (tolerance .entry)) (now (guess .entry))
+        (now (inverse .entry)) (now (weights .entry)) ⌝ }
 {
     if all_in_range(Kind::Matrix, matrix, n * n) {
         if all_in_range(Kind::Right, right, n) {
-            if all_in_range(Kind::Guess, guess, n) {
-                if all_in_range(Kind::Inverse, inverse, n * n) {
-                    return all_in_range(Kind::Weight, weights, n);
+            if all_in_range(Kind::Tolerance, tolerance, n) {
+                if all_in_range(Kind::Guess, guess, n) {
+                    if all_in_range(Kind::Inverse, inverse, n * n) {
+                        return all_in_range(Kind::Weight, weights, n);
+                    }
                 }
             }
         }

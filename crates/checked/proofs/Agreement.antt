@@ -30,16 +30,16 @@ use Rattle.checked.proofs.Statements.{accepted-usable}
 use Rattle.checked.proofs.Written.{written-at, solution-written, inverse-written}
 
 -- ---- problems of the same n, s and t
-module _ (n s t : ℕ) (A A′ : Mat) (b b′ X X′ : Vec) (G G′ : Mat) (w w′ : ℕ → ℕ) (hA : (i j : ℕ) → i < n → j < n → A i j ≡ A′ i j)
-    (hb : (i : ℕ) → i < n → b i ≡ b′ i) (hX : (i : ℕ) → i < n → X i ≡ X′ i) (hG : (i j : ℕ) → i < n → j < n → G i j ≡ G′ i j) (hw : (i : ℕ) → i < n → w i ≡ w′ i) where
+module _ (n s t : ℕ) (A A′ : Mat) (b b′ : Vec) (d d′ : ℕ → ℕ) (X X′ : Vec) (G G′ : Mat) (w w′ : ℕ → ℕ) (hA : (i j : ℕ) → i < n → j < n → A i j ≡ A′ i j)
+    (hb : (i : ℕ) → i < n → b i ≡ b′ i) (hd : (i : ℕ) → i < n → d i ≡ d′ i) (hX : (i : ℕ) → i < n → X i ≡ X′ i) (hG : (i j : ℕ) → i < n → j < n → G i j ≡ G′ i j) (hw : (i : ℕ) → i < n → w i ≡ w′ i) where
   abbrev P : Problem
-  P = record { n = n; s = s; t = t; A = A; b = b; X = X; G = G; w = w }
+  P = record { n = n; s = s; t = t; A = A; b = b; d = d; X = X; G = G; w = w }
 
   abbrev Q : Problem
-  Q = record { n = n; s = s; t = t; A = A′; b = b′; X = X′; G = G′; w = w′ }
+  Q = record { n = n; s = s; t = t; A = A′; b = b′; d = d′; X = X′; G = G′; w = w′ }
 
   fails-same : (m : ℕ) → m < n → marginFails P m ≡ marginFails Q m
-  fails-same m l = ap (λ (z : ℤ). leZ z (pos 0)) (margin-same n s t A A′ b b′ X X′ G G′ w w′ hA hb hX hG hw m l)
+  fails-same m l = ap (λ (z : ℤ). leZ z (pos 0)) (margin-same n s t A A′ b b′ d d′ X X′ G G′ w w′ hA hb hd hX hG hw m l)
 
   some-of : (i : ℕ) → i < n * n → 0 < n
   some-of i l = go n l
@@ -52,25 +52,25 @@ module _ (n s t : ℕ) (A A′ : Mat) (b b′ X X′ : Vec) (G G′ : Mat) (w w�
   columns-same i l =
       let j = i / n in
       let lj : i / n < n = div-lt-iff-lt-mul (some-of i l) .1 l in
-      exceeds-same n t t A A′ (column identity j) (column identity j) (column G j) (column G′ j) G G′ w w′ hA (λ k lk. refl) (λ k lk. hG k j lk lj) hG hw (i % n) (mod-lt i (some-of i l))
+      exceeds-same n t t A A′ (column identity j) (column identity j) (λ k. 0) (λ k. 0) (column G j) (column G′ j) G G′ w w′ hA (λ k lk. refl) (λ k lk. refl) (λ k lk. hG k j lk lj) hG hw (i % n) (mod-lt i (some-of i l))
 
   pub checked-same : checkedOf P ≡ checkedOf Q
   checked-same =
       rw (
         first-ext n (marginFails P) (marginFails Q) fails-same,
-        first-ext n (exceeds P) (exceeds Q) (exceeds-same n s t A A′ b b′ X X′ G G′ w w′ hA hb hX hG hw),
+        first-ext n (exceeds P) (exceeds Q) (exceeds-same n s t A A′ b b′ d d′ X X′ G G′ w w′ hA hb hd hX hG hw),
         first-ext (n * n) (λ (i : ℕ). exceeds (columnOf P (i / n)) (i % n)) (λ (i : ℕ). exceeds (columnOf Q (i / n)) (i % n)) columns-same,
       )
 
   pub inverse-same : (i j : ℕ) → i < n → j < n → inverseBound P i j ≡ inverseBound Q i j
   inverse-same i j li lj =
-      bound-same n t t A A′ (column identity j) (column identity j) (column G j) (column G′ j) G G′ w w′ hA (λ k lk. refl) (λ k lk. hG k j lk lj) hG hw i li
+      bound-same n t t A A′ (column identity j) (column identity j) (λ k. 0) (λ k. 0) (column G j) (column G′ j) G G′ w w′ hA (λ k lk. refl) (λ k lk. refl) (λ k lk. hG k j lk lj) hG hw i li
 
 -- ---- inputs of the same n, s and t
-module _ (I : Input) (B b′ x′ H w′ : List ℤ) (E L : List ℕ) (hA : (k : ℕ) → k < I .n * I .n → at (I .matrix) k ≡ at B k) (hb : (k : ℕ) → k < I .n → at (I .right) k ≡ at b′ k)
-    (hx : (k : ℕ) → k < I .n → at (I .guess) k ≡ at x′ k) (hG : (k : ℕ) → k < I .n * I .n → at (I .inverse) k ≡ at H k) (hw : (k : ℕ) → k < I .n → at (I .weights) k ≡ at w′ k) where
+module _ (I : Input) (B b′ d′ x′ H w′ : List ℤ) (E L : List ℕ) (hA : (k : ℕ) → k < I .n * I .n → at (I .matrix) k ≡ at B k) (hb : (k : ℕ) → k < I .n → at (I .right) k ≡ at b′ k)
+    (hd : (k : ℕ) → k < I .n → at (I .tolerance) k ≡ at d′ k) (hx : (k : ℕ) → k < I .n → at (I .guess) k ≡ at x′ k) (hG : (k : ℕ) → k < I .n * I .n → at (I .inverse) k ≡ at H k) (hw : (k : ℕ) → k < I .n → at (I .weights) k ≡ at w′ k) where
   abbrev J : Input
-  J = input (I .n) (I .s) (I .t) B b′ x′ H w′ E L
+  J = input (I .n) (I .s) (I .t) B b′ d′ x′ H w′ E L
 
   matrices : (i j : ℕ) → i < I .n → j < I .n → matrixOf (I .matrix) (I .n) i j ≡ matrixOf B (I .n) i j
   matrices i j li lj = hA (i * I .n + j) (place li lj)
@@ -81,11 +81,15 @@ module _ (I : Input) (B b′ x′ H w′ : List ℤ) (E L : List ℕ) (hA : (k :
   weighted : (i : ℕ) → i < I .n → natAbs (at (I .weights) i) ≡ natAbs (at w′ i)
   weighted i l = ap natAbs (hw i l)
 
+  tolerances : (i : ℕ) → i < I .n → natAbs (at (I .tolerance) i) ≡ natAbs (at d′ i)
+  tolerances i l = ap natAbs (hd i l)
+
   ranges-same : inRanges I ≡ inRanges J
   ranges-same =
       rw (
         all-ext kind.Matrix (I .n * I .n) (at (I .matrix)) (at B) hA,
         all-ext kind.Right (I .n) (at (I .right)) (at b′) hb,
+        all-ext kind.Tolerance (I .n) (at (I .tolerance)) (at d′) hd,
         all-ext kind.Guess (I .n) (at (I .guess)) (at x′) hx,
         all-ext kind.Inverse (I .n * I .n) (at (I .inverse)) (at H) hG,
         all-ext kind.Weight (I .n) (at (I .weights)) (at w′) hw,
@@ -93,18 +97,21 @@ module _ (I : Input) (B b′ x′ H w′ : List ℤ) (E L : List ℕ) (hA : (k :
 
   solution-here : (i : ℕ) → i < I .n → bound (problem I) i ≡ bound (problem J) i
   solution-here =
-      bound-same (I .n) (I .s) (I .t) (matrixOf (I .matrix) (I .n)) (matrixOf B (I .n)) (vectorOf (I .right)) (vectorOf b′) (vectorOf (I .guess)) (vectorOf x′)
-      (matrixOf (I .inverse) (I .n)) (matrixOf H (I .n)) (λ i. natAbs (at (I .weights) i)) (λ i. natAbs (at w′ i)) matrices hb hx inverses weighted
+      bound-same (I .n) (I .s) (I .t) (matrixOf (I .matrix) (I .n)) (matrixOf B (I .n)) (vectorOf (I .right)) (vectorOf b′)
+      (λ i. natAbs (at (I .tolerance) i)) (λ i. natAbs (at d′ i)) (vectorOf (I .guess)) (vectorOf x′)
+      (matrixOf (I .inverse) (I .n)) (matrixOf H (I .n)) (λ i. natAbs (at (I .weights) i)) (λ i. natAbs (at w′ i)) matrices hb tolerances hx inverses weighted
 
   inverse-here : (i j : ℕ) → i < I .n → j < I .n → inverseBound (problem I) i j ≡ inverseBound (problem J) i j
   inverse-here =
-      inverse-same (I .n) (I .s) (I .t) (matrixOf (I .matrix) (I .n)) (matrixOf B (I .n)) (vectorOf (I .right)) (vectorOf b′) (vectorOf (I .guess)) (vectorOf x′)
-      (matrixOf (I .inverse) (I .n)) (matrixOf H (I .n)) (λ i. natAbs (at (I .weights) i)) (λ i. natAbs (at w′ i)) matrices hb hx inverses weighted
+      inverse-same (I .n) (I .s) (I .t) (matrixOf (I .matrix) (I .n)) (matrixOf B (I .n)) (vectorOf (I .right)) (vectorOf b′)
+      (λ i. natAbs (at (I .tolerance) i)) (λ i. natAbs (at d′ i)) (vectorOf (I .guess)) (vectorOf x′)
+      (matrixOf (I .inverse) (I .n)) (matrixOf H (I .n)) (λ i. natAbs (at (I .weights) i)) (λ i. natAbs (at w′ i)) matrices hb tolerances hx inverses weighted
 
   checked-here : checkedOf (problem I) ≡ checkedOf (problem J)
   checked-here =
-      checked-same (I .n) (I .s) (I .t) (matrixOf (I .matrix) (I .n)) (matrixOf B (I .n)) (vectorOf (I .right)) (vectorOf b′) (vectorOf (I .guess)) (vectorOf x′)
-      (matrixOf (I .inverse) (I .n)) (matrixOf H (I .n)) (λ i. natAbs (at (I .weights) i)) (λ i. natAbs (at w′ i)) matrices hb hx inverses weighted
+      checked-same (I .n) (I .s) (I .t) (matrixOf (I .matrix) (I .n)) (matrixOf B (I .n)) (vectorOf (I .right)) (vectorOf b′)
+      (λ i. natAbs (at (I .tolerance) i)) (λ i. natAbs (at d′ i)) (vectorOf (I .guess)) (vectorOf x′)
+      (matrixOf (I .inverse) (I .n)) (matrixOf H (I .n)) (λ i. natAbs (at (I .weights) i)) (λ i. natAbs (at w′ i)) matrices hb tolerances hx inverses weighted
 
   answer-same : short I ≡ false → short J ≡ false → answer I ≡ answer J
   answer-same e f = go (inRanges I) refl
@@ -116,14 +123,14 @@ module _ (I : Input) (B b′ x′ H w′ : List ℤ) (E L : List ℕ) (hA : (k :
 -- ---- any two inputs that agree
 module _ (I J : Input) (a : Agree I J) where
   abbrev K : Input
-  K = input (I .n) (I .s) (I .t) (J .matrix) (J .right) (J .guess) (J .inverse) (J .weights) (J .solutionBounds) (J .inverseBounds)
+  K = input (I .n) (I .s) (I .t) (J .matrix) (J .right) (J .tolerance) (J .guess) (J .inverse) (J .weights) (J .solutionBounds) (J .inverseBounds)
 
   K-is : K ≡ J
   K-is = rw (a .n, a .s, a .t)
 
   pub same-answer : answer I ≡ answer J
   same-answer =
-      answer-same I (J .matrix) (J .right) (J .guess) (J .inverse) (J .weights) (J .solutionBounds) (J .inverseBounds) (a .matrix) (a .right) (a .guess) (a .inverse) (a .weights)
+      answer-same I (J .matrix) (J .right) (J .tolerance) (J .guess) (J .inverse) (J .weights) (J .solutionBounds) (J .inverseBounds) (a .matrix) (a .right) (a .tolerance) (a .guess) (a .inverse) (a .weights)
       (a .long) (a .long′) ∙ ap answer K-is
 
   module _ (e : answer I ≡ []) where
@@ -143,7 +150,7 @@ module _ (I J : Input) (a : Agree I J) where
         here =
             rw (solution-written I e, solution-written K (ap answer K-is ∙ sym same-answer ∙ e))
             (written-at (I .n) (bound (problem I)) (I .solutionBounds) i l (omega (arith, few, long-of I (a .long) .solution))
-            ∙ solution-here I (J .matrix) (J .right) (J .guess) (J .inverse) (J .weights) (J .solutionBounds) (J .inverseBounds) (a .matrix) (a .right) (a .guess) (a .inverse) (a .weights) i l
+            ∙ solution-here I (J .matrix) (J .right) (J .tolerance) (J .guess) (J .inverse) (J .weights) (J .solutionBounds) (J .inverseBounds) (a .matrix) (a .right) (a .tolerance) (a .guess) (a .inverse) (a .weights) i l
             ∙ sym (written-at (I .n) (bound (problem K)) (J .solutionBounds) i l (omega (arith, few, long .solution))))
 
     pub same-inverse : (k : ℕ) → k < I .n * I .n → getD (inverseBoundsAfter I) k 0 ≡ getD (inverseBoundsAfter J) k 0
@@ -153,6 +160,6 @@ module _ (I J : Input) (a : Agree I J) where
         here =
             rw (inverse-written I e, inverse-written K (ap answer K-is ∙ sym same-answer ∙ e))
             (written-at (I .n * I .n) (λ (x : ℕ). inverseBound (problem I) (x / I .n) (x % I .n)) (I .inverseBounds) k l (omega (arith, square few, long-of I (a .long) .inverses))
-            ∙ inverse-here I (J .matrix) (J .right) (J .guess) (J .inverse) (J .weights) (J .solutionBounds) (J .inverseBounds) (a .matrix) (a .right) (a .guess) (a .inverse) (a .weights)
+            ∙ inverse-here I (J .matrix) (J .right) (J .tolerance) (J .guess) (J .inverse) (J .weights) (J .solutionBounds) (J .inverseBounds) (a .matrix) (a .right) (a .tolerance) (a .guess) (a .inverse) (a .weights)
             (k / I .n) (k % I .n) (div-lt-iff-lt-mul some .1 l) (mod-lt k some)
             ∙ sym (written-at (I .n * I .n) (λ (x : ℕ). inverseBound (problem K) (x / I .n) (x % I .n)) (J .inverseBounds) k l (omega (arith, square few, long .inverses))))

@@ -1,58 +1,70 @@
--- What is said, and what is stated, is what document 01's own text says (specs/Before).
---   checked-before, answer-before — of a problem, and of a check on lists
---   stated-before, before-stated — the stated cases are the same
-use mathlib.Core.Path.{_≡_, sym, _∙_}
-use mathlib.Core.List.{List}
-use Prim.Native.Nat.{ℕ, _*_, _/_, _%_}
+-- Nothing moves where all tolerances are 0 and their list is long enough: what is said, and both limit lists, are document 01's (specs/Before).
+--   checked-before — what is said of a problem
+--   no-tolerance   — of a check on lists
+use mathlib.Core.Path.{_≡_, refl}
+use mathlib.Core.Bool.{true}
+use Prim.Native.Nat.{ℕ, _+_, _*_, _/_, _%_, _≤_}
+use native.Mathlib.Omega.{arith}
+use borrow.Author.Tests.{le-ltb}
+use lib.IntN.{pos}
+use lib.ListN.{length}
+use Rattle.integer.proofs.Absolute.{abs-zero}
 use Rattle.integer.proofs.Search.{first-ext}
-use Rattle.enclosure.specs.Before.{exceeds01}
+use Rattle.linear.specs.Slice.{at}
+use Rattle.rules.specs.Range.{inRange, allInRange, rangeOf, ranges}
+use Rattle.rules.specs.declared.Kind.the-variants as kind
+use Rattle.rules.proofs.AllInRange.{all-in}
+use Rattle.enclosure.specs.Before.{exceeds01, bound01, inverseBound01}
+use Rattle.enclosure.specs.Demand.{NoTolerance}
 use Rattle.enclosure.specs.Problem.{Problem, columnOf}
-use Rattle.enclosure.specs.Reckoning.{residual, exceeds}
-use Rattle.enclosure.proofs.Before.{exceeds-before, column-exceeds-before, sound-before, before-sound}
-use Rattle.checked.specs.Input.{Input, problem}
+use Rattle.enclosure.specs.Reckoning.{residual, exceeds, bound, inverseBound}
+use Rattle.enclosure.proofs.Before.{exceeds-before, column-exceeds-before, bound-before, inverse-bound-before}
+use Rattle.checked.specs.Before.{short01, inRanges01, firstResidual01, firstInversePlace01, checkedOf01, answer01, solutionAfter01, inverseAfter01, Unmoved}
+use Rattle.checked.specs.Checked.{solutionBoundsAfter, inverseBoundsAfter}
+use Rattle.checked.specs.Input.{Input, problem, short, inRanges}
 use Rattle.checked.specs.Order.{firstResidual, firstInversePlace, checkedOf, answer}
-use Rattle.checked.specs.Stated.{Stated, too-short, out-of-range, margin-low, residual-large, inverse-large, accepted}
-use Rattle.checked.specs.Before.{firstResidual01, firstInversePlace01, checkedOf01, answer01, Stated01}
-use Rattle.checked.specs.Before as before
+use Rattle.checked.proofs.Written.{written-ext}
 
 module _ (P : Problem) where
-  residual-before : firstResidual P ≡ firstResidual01 P
-  residual-before = first-ext (P .n) (exceeds P) (λ (k : ℕ). exceeds01 P k (residual P k)) (λ k l. exceeds-before P k)
-
   place-before : firstInversePlace P ≡ firstInversePlace01 P
   place-before =
       first-ext (P .n * P .n) (λ (i : ℕ). exceeds (columnOf P (i / P .n)) (i % P .n))
       (λ (i : ℕ). exceeds01 P (i % P .n) (residual (columnOf P (i / P .n)) (i % P .n))) (λ i l. column-exceeds-before P (i / P .n) (i % P .n))
 
-  pub checked-before : checkedOf P ≡ checkedOf01 P
-  checked-before = rw (residual-before, place-before)
+  module _ (none : NoTolerance P) where
+    residual-before : firstResidual P ≡ firstResidual01 P
+    residual-before = first-ext (P .n) (exceeds P) (λ (k : ℕ). exceeds01 P k (residual P k)) (λ k l. exceeds-before P k (none k l))
 
-pub answer-before : (I : Input) → answer I ≡ answer01 I
-unfolding answer answer01
-answer-before I = rw (residual-before (problem I), place-before (problem I))
+    pub checked-before : checkedOf P ≡ checkedOf01 P
+    checked-before = rw (residual-before, place-before)
 
-module _ (I : Input) where
-  at-row : (k : ℕ) → exceeds (problem I) k ≡ exceeds01 (problem I) k (residual (problem I) k)
-  at-row k = exceeds-before (problem I) k
+-- a tolerance of 0 is in its range
+zero-in : inRange kind.Tolerance (pos 0) ≡ true
+unfolding inRange rangeOf ranges
+zero-in = refl
 
-  at-place : (j k : ℕ) → exceeds (columnOf (problem I) j) k ≡ exceeds01 (problem I) k (residual (columnOf (problem I) j) k)
-  at-place j k = column-exceeds-before (problem I) j k
+module _ (I : Input) (long : 32 ≤ length (I .tolerance)) (none : NoTolerance (problem I)) where
+  short-before : short I ≡ short01 I
+  short-before = rw (le-ltb (length (I .tolerance)) 32 long)
 
-  pub stated-before : {l : List ℕ} → Stated I l → Stated01 I l
-  stated-before (too-short e) = before.too-short e
-  stated-before (out-of-range e f) = before.out-of-range e f
-  stated-before (margin-low m u l p h) = before.margin-low m u l p h
-  stated-before (residual-large k u m l p h) = before.residual-large k u m l (sym (at-row k) ∙ p) (λ i li. sym (at-row i) ∙ h i li)
-  stated-before (inverse-large j k u m r lj lk p q h) =
-      before.inverse-large j k u m (λ i li. sym (at-row i) ∙ r i li) lj lk (sym (at-place j k) ∙ p) (λ c x lc lx. sym (at-place c x) ∙ q c lc x lx)
-      (λ x lx. sym (at-place j x) ∙ h x lx)
-  stated-before (accepted u x) = before.accepted u (sound-before (problem I) x)
+  within : allInRange kind.Tolerance (I .n) (at (I .tolerance)) ≡ true
+  within = all-in kind.Tolerance (I .n) (at (I .tolerance)) (λ k l. rw (abs-zero (at (I .tolerance) k) (omega (arith, none k l))) zero-in)
 
-  pub before-stated : {l : List ℕ} → Stated01 I l → Stated I l
-  before-stated (before.too-short e) = too-short e
-  before-stated (before.out-of-range e f) = out-of-range e f
-  before-stated (before.margin-low m u l p h) = margin-low m u l p h
-  before-stated (before.residual-large k u m l p h) = residual-large k u m l (at-row k ∙ p) (λ i li. at-row i ∙ h i li)
-  before-stated (before.inverse-large j k u m r lj lk p q h) =
-      inverse-large j k u m (λ i li. at-row i ∙ r i li) lj lk (at-place j k ∙ p) (λ c lc x lx. at-place c x ∙ q c x lc lx) (λ x lx. at-place j x ∙ h x lx)
-  before-stated (before.accepted u x) = accepted u (before-sound (problem I) x)
+  ranges-before : inRanges I ≡ inRanges01 I
+  ranges-before = rw within
+
+  answer-before : answer I ≡ answer01 I
+  unfolding answer answer01
+  answer-before = rw (short-before, ranges-before, residual-before (problem I) none, place-before (problem I))
+
+  pub no-tolerance : Unmoved I
+  unfolding solutionBoundsAfter solutionAfter01 inverseBoundsAfter inverseAfter01
+  no-tolerance = record {
+    says = answer-before;
+    solution = rw (answer-before, written-ext (I .n) (bound (problem I)) (bound01 (problem I)) (I .solutionBounds) (λ k l. bound-before (problem I) none k));
+    inverse = rw (
+      answer-before,
+      written-ext (I .n * I .n) (λ (k : ℕ). inverseBound (problem I) (k / I .n) (k % I .n)) (λ (k : ℕ). inverseBound01 (problem I) (k / I .n) (k % I .n)) (I .inverseBounds)
+          (λ k l. inverse-bound-before (problem I) (k / I .n) (k % I .n)),
+    );
+  }

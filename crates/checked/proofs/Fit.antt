@@ -15,7 +15,7 @@ use Rattle.rules.specs.Range.{inRange, allInRange}
 use Rattle.rules.specs.declared.Kind.{Kind}
 use Rattle.rules.specs.declared.Kind.the-variants as kind
 use Rattle.rules.proofs.AllInRange.{all-at}
-use Rattle.rules.proofs.Ranges.{both-left, both-right, size-range, solution-scale-range, inverse-scale-range, matrix-range, right-range, guess-range, inverse-range, weight-range}
+use Rattle.rules.proofs.Ranges.{both-left, both-right, size-range, solution-scale-range, inverse-scale-range, matrix-range, right-range, tolerance-range, guess-range, inverse-range, weight-range}
 use Rattle.checked.specs.Input.{Input, short, inRanges, sizesInRange, listsInRange}
 use Rattle.checked.proofs.Lengths.{long-of}
 
@@ -26,6 +26,7 @@ pub record Fit (I : Input) : Type 0 where
   pub inverse-scale : I .t ≤ 20
   pub matrix : MatrixList (I .matrix) (I .n)
   pub right : ColumnList (I .right) (I .n) (2 ^ 30)
+  pub tolerance : ColumnList (I .tolerance) (I .n) (2 ^ 20)
   pub guess : ColumnList (I .guess) (I .n) (2 ^ 36)
   pub inverse : MatrixList (I .inverse) (I .n)
   pub weights : ColumnList (I .weights) (I .n) 1024
@@ -43,14 +44,15 @@ pub fit-of : (I : Input) → short I ≡ false → inRanges I ≡ true → Fit I
 fit-of I e f =
     let long = long-of I e in
     let sizes : sizesInRange (I .n) (I .s) (I .t) ≡ true = both-left _ _ f in
-    let l1 : listsInRange (I .n) (I .matrix) (I .right) (I .guess) (I .inverse) (I .weights) ≡ true = both-right (sizesInRange (I .n) (I .s) (I .t)) _ f in
+    let l1 : listsInRange (I .n) (I .matrix) (I .right) (I .tolerance) (I .guess) (I .inverse) (I .weights) ≡ true = both-right (sizesInRange (I .n) (I .s) (I .t)) _ f in
     let size = size-range (I .n) (both-left _ _ sizes) in
     let scales = both-right (inRange kind.Size (pos (I .n))) _ sizes in
     let few : I .n ≤ 32 = size .1 in
     let l2 = both-right (allInRange kind.Matrix (I .n * I .n) (at (I .matrix))) _ l1 in
     let l3 = both-right (allInRange kind.Right (I .n) (at (I .right))) _ l2 in
-    let l4 = both-right (allInRange kind.Guess (I .n) (at (I .guess))) _ l3 in
-    let l5 : allInRange kind.Weight (I .n) (at (I .weights)) ≡ true = both-right (allInRange kind.Inverse (I .n * I .n) (at (I .inverse))) _ l4 in
+    let l4 = both-right (allInRange kind.Tolerance (I .n) (at (I .tolerance))) _ l3 in
+    let l5 = both-right (allInRange kind.Guess (I .n) (at (I .guess))) _ l4 in
+    let l6 : allInRange kind.Weight (I .n) (at (I .weights)) ≡ true = both-right (allInRange kind.Inverse (I .n * I .n) (at (I .inverse))) _ l5 in
     record {
       some = size .0;
       few = few;
@@ -58,10 +60,11 @@ fit-of I e f =
       inverse-scale = inverse-scale-range (I .t) (both-right (inRange kind.SolutionScale (pos (I .s))) _ scales);
       matrix = squared kind.Matrix (I .matrix) (I .n) matrix-range (both-left _ _ l1) (omega (arith, square few, long .matrix));
       right = listed kind.Right (I .right) (I .n) (2 ^ 30) right-range (both-left _ _ l2) (omega (arith, long .right));
-      guess = listed kind.Guess (I .guess) (I .n) (2 ^ 36) guess-range (both-left _ _ l3) (omega (arith, long .guess));
-      inverse = squared kind.Inverse (I .inverse) (I .n) inverse-range (both-left _ _ l4) (omega (arith, square few, long .inverse));
-      weights = listed kind.Weight (I .weights) (I .n) 1024 (λ z h. weight-range z h .1) l5 (omega (arith, long .weights));
-      heavy = λ i l. weight-range (at (I .weights) i) (all-at kind.Weight (I .n) (at (I .weights)) l5 i l) .0;
+      tolerance = listed kind.Tolerance (I .tolerance) (I .n) (2 ^ 20) (λ z h. tolerance-range z h .1) (both-left _ _ l3) (omega (arith, long .tolerance));
+      guess = listed kind.Guess (I .guess) (I .n) (2 ^ 36) guess-range (both-left _ _ l4) (omega (arith, long .guess));
+      inverse = squared kind.Inverse (I .inverse) (I .n) inverse-range (both-left _ _ l5) (omega (arith, square few, long .inverse));
+      weights = listed kind.Weight (I .weights) (I .n) 1024 (λ z h. weight-range z h .1) l6 (omega (arith, long .weights));
+      heavy = λ i l. weight-range (at (I .weights) i) (all-at kind.Weight (I .n) (at (I .weights)) l6 i l) .0;
       solution-long = long .solution;
       inverse-long = long .inverses;
     }

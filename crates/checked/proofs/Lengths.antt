@@ -12,6 +12,7 @@ use Rattle.checked.specs.Input.{Input, short}
 pub record Long (I : Input) : Type 0 where
   pub matrix : 1024 ≤ length (I .matrix)
   pub right : 32 ≤ length (I .right)
+  pub tolerance : 32 ≤ length (I .tolerance)
   pub guess : 32 ≤ length (I .guess)
   pub inverse : 1024 ≤ length (I .inverse)
   pub weights : 32 ≤ length (I .weights)
@@ -22,15 +23,17 @@ pub long-of : (I : Input) → short I ≡ false → Long I
 long-of I h1 =
     let h2 = neither-right (shortMatrix (length (I .matrix))) _ h1 in
     let h3 = neither-right (shortColumn (length (I .right))) _ h2 in
-    let h4 = neither-right (shortColumn (length (I .guess))) _ h3 in
-    let h5 = neither-right (shortMatrix (length (I .inverse))) _ h4 in
-    let h6 = neither-right (shortColumn (length (I .weights))) _ h5 in
+    let h4 = neither-right (shortColumn (length (I .tolerance))) _ h3 in
+    let h5 = neither-right (shortColumn (length (I .guess))) _ h4 in
+    let h6 = neither-right (shortMatrix (length (I .inverse))) _ h5 in
+    let h7 = neither-right (shortColumn (length (I .weights))) _ h6 in
     record {
       matrix = ltb-false _ 1024 (neither-left _ _ h1);
       right = ltb-false _ 32 (neither-left _ _ h2);
-      guess = ltb-false _ 32 (neither-left _ _ h3);
-      inverse = ltb-false _ 1024 (neither-left _ _ h4);
-      weights = ltb-false _ 32 (neither-left _ _ h5);
-      solution = ltb-false _ 32 (neither-left _ _ h6);
-      inverses = ltb-false _ 1024 (neither-right (shortColumn (length (I .solutionBounds))) _ h6);
+      tolerance = ltb-false _ 32 (neither-left _ _ h3);
+      guess = ltb-false _ 32 (neither-left _ _ h4);
+      inverse = ltb-false _ 1024 (neither-left _ _ h5);
+      weights = ltb-false _ 32 (neither-left _ _ h6);
+      solution = ltb-false _ 32 (neither-left _ _ h7);
+      inverses = ltb-false _ 1024 (neither-right (shortColumn (length (I .solutionBounds))) _ h7);
     }

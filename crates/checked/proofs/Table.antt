@@ -1,5 +1,5 @@
 -- Cases a to k of document 01 follow from the definitions that the contract of `check` cites; and its whole file meets both halves of demand 3 on `check` itself.
---   cases-hold    — one theorem for all rows of the table, computed
+--   cases-hold    — one theorem for all rows of the table, computed;  tolerances-hold — one for the rows with tolerances
 --   file-usable, file-rounded-here, file-accepted — the whole file passes 8 and 3, is a rounded exact proposal, and is accepted
 use mathlib.Core.Path.{_≡_, refl, _∙_}
 use mathlib.Core.Bool.{true}
@@ -13,7 +13,7 @@ use Rattle.enclosure.specs.Demand.{RoundedExact}
 use Rattle.enclosure.specs.Example as example
 use Rattle.enclosure.specs.Reckoning.{defect, load, margin, residual, exceeds, sizesWith, boundFrom, boundWith, bound}
 use Rattle.enclosure.proofs.Instance.{file-rounded, file-sound}
-use Rattle.checked.specs.Cases.{rows, allRowsHold, inputOf, e}
+use Rattle.checked.specs.Cases.{rows, toleranceRows, allRowsHold, inputOf, e}
 use Rattle.checked.specs.Checked.{written, solutionBoundsAfter, inverseBoundsAfter}
 use Rattle.checked.specs.Input.{Input, problem}
 use Rattle.checked.specs.Order.{answer}
@@ -23,6 +23,10 @@ use Rattle.checked.proofs.Contract.{answer-ready, sound-said}
 pub cases-hold : allRowsHold rows ≡ true
 unfolding answer solutionBoundsAfter inverseBoundsAfter written bound boundWith boundFrom sizesWith exceeds residual margin load defect product apply identity sum sumℕ largest first ceilDiv allInRange inRange rangeOf ranges
 cases-hold = refl
+
+pub tolerances-hold : allRowsHold toleranceRows ≡ true
+unfolding answer solutionBoundsAfter inverseBoundsAfter written bound boundWith boundFrom sizesWith exceeds residual margin load defect product apply identity sum sumℕ largest first ceilDiv allInRange inRange rangeOf ranges
+tolerances-hold = refl
 
 abbrev pub fileInput : Input
 fileInput = inputOf e

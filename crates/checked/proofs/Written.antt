@@ -1,5 +1,5 @@
 -- Laws of the limit lists.
---   written-at, written-else, written-length — the first n places hold f, the rest is as before
+--   written-at, written-else, written-length — the first n places hold f, the rest is as before;  written-ext — of equal functions
 --   solution-written, inverse-written — the lists of an accepted check
 use mathlib.Core.Path.{_≡_, refl, _∙_}
 use mathlib.Core.List.{List, []}
@@ -32,6 +32,11 @@ written-at (suc n) f l k h m = go (ℕ-discrete k n) (λ p. written-at n f l k p
     go : Dec (k ≡ n) → (k < n → getD (written n f l) k 0 ≡ f k) → getD (set (written n f l) n (f n)) k 0 ≡ f k
     go (yes e) ih = rw e (getD-set-same (written n f l) n (f n) 0 (omega (arith, written-length n f l)))
     go (no e) ih = getD-set-other (written n f l) n k (f n) 0 e ∙ ih (omega arith)
+
+pub written-ext : (n : ℕ) (f g : ℕ → ℕ) (l : List ℕ) → ((i : ℕ) → i < n → f i ≡ g i) → written n f l ≡ written n g l
+unfolding written
+written-ext zero f g l h = refl
+written-ext (suc n) f g l h = rw (h n (omega arith), written-ext n f g l (λ i p. h i (omega arith)))
 
 -- ---- the lists of an accepted check
 module _ (I : Input) (e : answer I ≡ []) where

@@ -14,6 +14,7 @@ pub record Agree (I J : Input) : Type 0 where
   pub long′ : short J ≡ false
   pub matrix : (k : ℕ) → k < I .n * I .n → at (I .matrix) k ≡ at (J .matrix) k
   pub right : (k : ℕ) → k < I .n → at (I .right) k ≡ at (J .right) k
+  pub tolerance : (k : ℕ) → k < I .n → at (I .tolerance) k ≡ at (J .tolerance) k
   pub guess : (k : ℕ) → k < I .n → at (I .guess) k ≡ at (J .guess) k
   pub inverse : (k : ℕ) → k < I .n * I .n → at (I .inverse) k ≡ at (J .inverse) k
   pub weights : (k : ℕ) → k < I .n → at (I .weights) k ≡ at (J .weights) k

@@ -1,21 +1,42 @@
--- Document 01's own text of the places of 6 and 7 and of what is stated, by its own residual test (enclosure/specs/Before); proofs/Before
--- says that they are equal.
+-- The check on lists as document 01 has it, without tolerances and without slack, by its own residual test (enclosure/specs/Before). proofs/Before says that
+-- nothing moves where all tolerances are 0 and their list is long enough.
+--   short01, inRanges01 — 8 and 3 of five lists of numbers
 --   firstResidual01, firstInversePlace01 — the lowest row, the lowest column and its lowest row, of a residual above 2^25 in size
 --   reckonedOf01 P, checkedOf01 P, answer01 I — the tests, and what is said
---   Stated01 I said — the case that is stated for what is said
-use mathlib.Core.Bool.{true, false, not}
-use mathlib.Core.List.{List, [], _∷_}
+--   solutionAfter01 I, inverseAfter01 I — the two limit lists after a check
+--   Unmoved I — what is said of an input and the two lists afterwards are 01's
+use mathlib.Core.Bool.{Bool, not, _&&_, _||_}
+use mathlib.Core.List.{List, _∷_}
 use mathlib.Core.Path.{_≡_}
-use Prim.Native.Nat.{ℕ, _+_, _*_, _/_, _%_, _<_}
+use Prim.Native.Nat.{ℕ, _*_, _/_, _%_}
+use lib.ListN.{length}
 use Rattle.integer.specs.Finite.{first}
-use Rattle.rules.specs.Order.{Test, number, verdict}
-use Rattle.enclosure.specs.Before.{exceeds01, Sound01}
-use Rattle.enclosure.specs.Demand.{Margins}
+use Rattle.linear.specs.Slice.{at}
+use Rattle.rules.specs.Order.{Test, number, verdict, accepted}
+use Rattle.rules.specs.Range.{allInRange, shortMatrix, shortColumn}
+use Rattle.rules.specs.declared.Kind.the-variants as kind
+use Rattle.enclosure.specs.Before.{exceeds01, bound01, inverseBound01}
 use Rattle.enclosure.specs.Problem.{Problem, columnOf}
-use Rattle.enclosure.specs.Reckoning.{marginFails, residual}
-use Rattle.checked.specs.Input.{Input, problem, short, inRanges}
-use Rattle.checked.specs.Order.{firstMargin, reckoned}
-use Rattle.checked.specs.Stated.{Usable}
+use Rattle.enclosure.specs.Reckoning.{residual}
+use Rattle.checked.specs.Input.{Input, problem, sizesInRange}
+use Rattle.checked.specs.Order.{firstMargin, reckoned, answer}
+use Rattle.checked.specs.Checked.{written, solutionBoundsAfter, inverseBoundsAfter}
+
+abbrev pub short01 : Input → Bool
+short01 I =
+    shortMatrix (length (I .matrix))
+    || (shortColumn (length (I .right))
+    || (shortColumn (length (I .guess))
+    || (shortMatrix (length (I .inverse))
+    || (shortColumn (length (I .weights)) || (shortColumn (length (I .solutionBounds)) || shortMatrix (length (I .inverseBounds)))))))
+
+abbrev pub inRanges01 : Input → Bool
+inRanges01 I =
+    sizesInRange (I .n) (I .s) (I .t)
+    && (allInRange kind.Matrix (I .n * I .n) (at (I .matrix))
+    && (allInRange kind.Right (I .n) (at (I .right))
+    && (allInRange kind.Guess (I .n) (at (I .guess))
+    && (allInRange kind.Inverse (I .n * I .n) (at (I .inverse)) && allInRange kind.Weight (I .n) (at (I .weights))))))
 
 abbrev pub firstResidual01 : Problem → ℕ
 firstResidual01 P = first (P .n) (λ (k : ℕ). exceeds01 P k (residual P k))
@@ -30,18 +51,17 @@ abbrev pub checkedOf01 : Problem → List ℕ
 checkedOf01 P = verdict (reckonedOf01 P)
 
 unfoldable pub answer01 : Input → List ℕ
-answer01 I = verdict (number 8 (short I) ∷ number 3 (not (inRanges I)) ∷ reckonedOf01 (problem I))
+answer01 I = verdict (number 8 (short01 I) ∷ number 3 (not (inRanges01 I)) ∷ reckonedOf01 (problem I))
 
-pub data Stated01 (I : Input) : List ℕ → Type 0 where
-  too-short : short I ≡ true → Stated01 I (8 ∷ [])
-  out-of-range : short I ≡ false → inRanges I ≡ false → Stated01 I (3 ∷ [])
-  margin-low : (m : ℕ) → Usable I → m < I .n → marginFails (problem I) m ≡ true →
-      ((k : ℕ) → k < m → marginFails (problem I) k ≡ false) → Stated01 I (5 ∷ (m + 1) ∷ [])
-  residual-large : (k : ℕ) → Usable I → Margins (problem I) → k < I .n → exceeds01 (problem I) k (residual (problem I) k) ≡ true →
-      ((i : ℕ) → i < k → exceeds01 (problem I) i (residual (problem I) i) ≡ false) → Stated01 I (6 ∷ (k + 1) ∷ [])
-  inverse-large : (j k : ℕ) → Usable I → Margins (problem I) →
-      ((i : ℕ) → i < I .n → exceeds01 (problem I) i (residual (problem I) i) ≡ false) → j < I .n → k < I .n →
-      exceeds01 (problem I) k (residual (columnOf (problem I) j) k) ≡ true →
-      ((c r : ℕ) → c < j → r < I .n → exceeds01 (problem I) r (residual (columnOf (problem I) c) r) ≡ false) →
-      ((r : ℕ) → r < k → exceeds01 (problem I) r (residual (columnOf (problem I) j) r) ≡ false) → Stated01 I (7 ∷ (j + 1) ∷ (k + 1) ∷ [])
-  accepted : Usable I → Sound01 (problem I) → Stated01 I []
+unfoldable pub solutionAfter01 : Input → List ℕ
+solutionAfter01 I = accepted (answer01 I) (written (I .n) (bound01 (problem I)) (I .solutionBounds)) (I .solutionBounds)
+
+unfoldable pub inverseAfter01 : Input → List ℕ
+inverseAfter01 I =
+    accepted (answer01 I) (written (I .n * I .n) (λ (k : ℕ). inverseBound01 (problem I) (k / I .n) (k % I .n)) (I .inverseBounds))
+    (I .inverseBounds)
+
+pub record Unmoved (I : Input) : Type 0 where
+  pub says : answer I ≡ answer01 I
+  pub solution : solutionBoundsAfter I ≡ solutionAfter01 I
+  pub inverse : inverseBoundsAfter I ≡ inverseAfter01 I

@@ -1,7 +1,8 @@
--- Cases a to k of document 01 ("Marked for proof"), as rows of a table. Rows and columns count from 1, as there.
+-- Cases a to k of document 01 ("Marked for proof"), as rows of a table, and rows with tolerances (02, Paper 5). Rows and columns count from 1, as there.
 --   Claim   — a limit that 01 states: of the solution, or of a number of the inverse
 --   Row, row — a proposal, what is said of it (nothing: accepted), and the limits that 01 states
---   single, variant, twice — rows of a common shape;  a to k, rows — the rows of the table
+--   single, variant, twice — rows of a common shape, without tolerance;  a to k, rows — the rows of the table
+--   tolerant d s — A = 1, b = 0 with the tolerance d;  toleranceRows — rows of that shape, worked out by hand: the limit is d·S, and 6 comes of slack alone
 --   unwritten — what stands in the limit lists before the check
 --   inputOf — the row's numbers in lists that are long enough
 --   claimed, allClaimed — a limit, all limits that a row states are what the definitions of the contract give
@@ -27,19 +28,21 @@ pub record Row : Type 0 where
   pub t : ℕ
   pub A : List ℤ
   pub b : List ℤ
+  pub d : List ℤ
   pub X : List ℤ
   pub G : List ℤ
   pub w : List ℤ
   pub says : List ℕ
   pub bounds : List Claim
 
-abbrev pub row : ℕ → ℕ → ℕ → List ℤ → List ℤ → List ℤ → List ℤ → List ℤ → List ℕ → List Claim → Row
-row n s t A b X G w says bounds = record {
+abbrev pub row : ℕ → ℕ → ℕ → List ℤ → List ℤ → List ℤ → List ℤ → List ℤ → List ℤ → List ℕ → List Claim → Row
+row n s t A b d X G w says bounds = record {
   n = n;
   s = s;
   t = t;
   A = A;
   b = b;
+  d = d;
   X = X;
   G = G;
   w = w;
@@ -49,19 +52,19 @@ row n s t A b X G w says bounds = record {
 
 -- n = 1, b = 0, w = 1
 abbrev pub single : ℤ → ℕ → ℕ → ℤ → ℤ → List ℕ → List Claim → Row
-single a s t x g = row 1 s t (a ∷ []) (pos 0 ∷ []) (x ∷ []) (g ∷ []) (pos 1 ∷ [])
+single a s t x g = row 1 s t (a ∷ []) (pos 0 ∷ []) (pos 0 ∷ []) (x ∷ []) (g ∷ []) (pos 1 ∷ [])
 
 -- the whole file, with another guess and other weights
 abbrev pub variant : ℤ → ℤ → ℤ → ℤ → List Claim → Row
 variant x y v w =
-    row 2 4 4 (pos 4 ∷ negsuc 0 ∷ negsuc 0 ∷ pos 3 ∷ []) (pos 5 ∷ pos 1 ∷ []) (x ∷ y ∷ []) (pos 4 ∷ pos 1 ∷ pos 1 ∷ pos 6 ∷ [])
-    (v ∷ w ∷ []) []
+    row 2 4 4 (pos 4 ∷ negsuc 0 ∷ negsuc 0 ∷ pos 3 ∷ []) (pos 5 ∷ pos 1 ∷ []) (pos 0 ∷ pos 0 ∷ []) (x ∷ y ∷ [])
+    (pos 4 ∷ pos 1 ∷ pos 1 ∷ pos 6 ∷ []) (v ∷ w ∷ []) []
 
 -- A = (1,048,576 0 / 0 1), b = X = 0
 abbrev pub twice : ℤ → List ℕ → List Claim → Row
 twice g =
-    row 2 0 20 (pos 1048576 ∷ pos 0 ∷ pos 0 ∷ pos 1 ∷ []) (pos 0 ∷ pos 0 ∷ []) (pos 0 ∷ pos 0 ∷ []) (pos 1 ∷ g ∷ pos 0 ∷ pos 1048576 ∷ [])
-    (pos 1 ∷ pos 1 ∷ [])
+    row 2 0 20 (pos 1048576 ∷ pos 0 ∷ pos 0 ∷ pos 1 ∷ []) (pos 0 ∷ pos 0 ∷ []) (pos 0 ∷ pos 0 ∷ []) (pos 0 ∷ pos 0 ∷ [])
+    (pos 1 ∷ g ∷ pos 0 ∷ pos 1048576 ∷ []) (pos 1 ∷ pos 1 ∷ [])
 
 abbrev pub a : Row
 a = single (pos 4) 0 4 (pos 0) (pos 1) [] (solution 1 0 ∷ inverse 1 1 3 ∷ [])
@@ -101,13 +104,26 @@ k = twice (pos 33) (7 ∷ 2 ∷ 1 ∷ []) []
 abbrev pub rows : List Row
 rows = a ∷ b ∷ c ∷ d ∷ e ∷ f ∷ g ∷ h ∷ i ∷ j ∷ k ∷ []
 
+abbrev pub tolerant : ℤ → ℕ → List ℕ → List Claim → Row
+tolerant d s = row 1 s 4 (pos 1 ∷ []) (pos 0 ∷ []) (d ∷ []) (pos 0 ∷ []) (pos 16 ∷ []) (pos 1 ∷ [])
+
+abbrev pub toleranceRows : List Row
+toleranceRows =
+    tolerant (pos 3) 4 [] (solution 1 48 ∷ inverse 1 1 0 ∷ [])
+    ∷ tolerant (pos 32) 20 [] (solution 1 33554432 ∷ inverse 1 1 0 ∷ [])
+    ∷ tolerant (pos 33) 20 (6 ∷ 1 ∷ []) []
+    ∷ tolerant (pos 1048576) 0 [] (solution 1 1048576 ∷ [])
+    ∷ tolerant (pos 1048577) 0 (3 ∷ []) []
+    ∷ tolerant (negsuc 0) 0 (3 ∷ []) []
+    ∷ []
+
 -- no limit is as large
 abbrev pub unwritten : ℕ
 unwritten = 2 ^ 60 + 1
 
 abbrev pub inputOf : Row → Input
 inputOf r =
-    input (r .n) (r .s) (r .t) (padded (r .A)) (padded (r .b)) (padded (r .X)) (padded (r .G)) (padded (r .w))
+    input (r .n) (r .s) (r .t) (padded (r .A)) (padded (r .b)) (padded (r .d)) (padded (r .X)) (padded (r .G)) (padded (r .w))
     (replicate 32 unwritten) (replicate 1024 unwritten)
 
 abbrev pub claimed : Input → Claim → Bool

@@ -1,12 +1,12 @@
--- A check on lists that passes 8 and 3, as work for the reckoning: its base is S·b, 2^25 is allowed in every row, and there is no slack.
---   everywhere — 2^25 in every row
+-- A check on lists that passes 8 and 3, as work for the reckoning: its base is S·b, its slacks are S·d, and what is allowed is 2^25 less the slack.
+--   everywhere — 2^25 in every row, as it is allowed of the columns
 --   workOf I base allowed slacks — the work
 --   Handed   — what the three arrays hold;  workable — the reckoning may start on it
 --   reckoned-checked — what the reckoning makes of it is the contract of the check
-use mathlib.Core.Path.{_≡_, refl, sym, _∙_}
+use mathlib.Core.Path.{_≡_, refl, sym, ap, _∙_}
 use mathlib.Core.Bool.{true, false}
 use mathlib.Core.List.{List}
-use Prim.Native.Nat.{ℕ, _≤_, _<_, _^_}
+use Prim.Native.Nat.{ℕ, _+_, _≤_, _<_, _^_}
 use native.Mathlib.Omega.{arith}
 use borrow.Author.Tests.{ltb-false}
 use lib.Dec.{lit≤}
@@ -18,18 +18,19 @@ use Rattle.linear.specs.Reach.{ColumnList}
 use Rattle.linear.proofs.Slack.{slack-ext}
 use Rattle.rules.specs.declared.Outcome.{Outcome}
 use Rattle.enclosure.specs.Reckoning.{margin, load, defect, residual, slack, allowedResidual, exceeds, sizesWith, boundWith, bound}
-use Rattle.enclosure.proofs.Before.{exceeds-before}
 use Rattle.enclosure.proofs.Bounds.{bound-ext}
 use Rattle.reckoning.specs.Arrays.{Begins}
 use Rattle.reckoning.specs.Parts.{aboveAllowed}
 use Rattle.reckoning.proofs.Sizes.{scaled-size}
+use Rattle.slacks.specs.Allowed.{slackAt, allowedBeside}
+use Rattle.slacks.proofs.Allowed.{allowed-size, allowed-test}
 use Rattle.checked.specs.Checked.{Checked, written}
 use Rattle.checked.specs.Input.{Input, problem, short, inRanges}
 use Rattle.checked.specs.Order.{checkedOf}
 use Rattle.checked.proofs.Contract.{checked-ready}
 use Rattle.checked.proofs.Fit.{Fit, fit-of}
+use Rattle.checked.proofs.Written.{written-ext}
 use Rattle.checker.specs.Work.{Work, work, workProblem, workResidual, workSlack, workAnswer, Workable, ReckonedAs}
-use Rattle.checker.proofs.Written.{written-ext}
 
 -- 2^25 in every row
 abbrev pub everywhere : List ℤ
@@ -49,8 +50,8 @@ pub record Handed (I : Input) (b a : List ℤ) (σ : List ℕ) : Type 0 where
   pub base-long : length b ≡ 32
   pub base : Begins (pos 0) b (I .n) (λ (k : ℕ). pos (2 ^ I .s) *ℤ at (I .right) k)
   pub allowed-long : length a ≡ 32
-  pub allowed : (k : ℕ) → k < 32 → at a k ≡ pos allowedResidual
-  pub slacks : (k : ℕ) → k < 32 → getD σ k 0 ≡ 0
+  pub allowed : Begins (pos 0) a (I .n) (λ (k : ℕ). allowedBeside (getD σ k 0))
+  pub slacks : Begins 0 σ (I .n) (λ (k : ℕ). slackAt (I .s) (at (I .tolerance) k))
 
 module _ (I : Input) {base allowed : List ℤ} {slacks : List ℕ} (e : short I ≡ false) (f : inRanges I ≡ true) (h : Handed I base allowed slacks) where
   abbrev W : Work
@@ -58,9 +59,6 @@ module _ (I : Input) {base allowed : List ℤ} {slacks : List ℕ} (e : short I 
 
   fit : Fit I
   fit = fit-of I e f
-
-  below : {k : ℕ} → k < I .n → k < 32
-  below l = omega (arith, fit .few)
 
   pub workable : Workable W
   workable = record {
@@ -72,8 +70,8 @@ module _ (I : Input) {base allowed : List ℤ} {slacks : List ℕ} (e : short I 
       long = omega (arith, h .base-long, fit .few);
       within = record { size = λ k l. rw (h .base .each k l) (omega (arith, scaled-size (I .s) (at (I .right) k) (fit .solution-scale) (fit .right .within .size k l))) };
     };
-    allowed = record { long = omega (arith, h .allowed-long, fit .few); within = record { size = λ k l. rw (h .allowed k (below l)) (lit≤ tt) } };
-    room = λ k l z p. rw (h .slacks k (below l)) (omega (arith, ltb-false allowedResidual (natAbs z) (rw (h .allowed k (below l)) at p)));
+    allowed = record { long = omega (arith, h .allowed-long, fit .few); within = record { size = λ k l. rw (h .allowed .each k l) (allowed-size (getD slacks k 0)) } };
+    room = λ k l z p. ltb-false allowedResidual (natAbs z + getD slacks k 0) (sym (allowed-test (getD slacks k 0) z) ∙ (rw (h .allowed .each k l) at p));
     guess = fit .guess;
     inverse = fit .inverse;
     weights = fit .weights;
@@ -87,7 +85,10 @@ module _ (I : Input) {base allowed : List ℤ} {slacks : List ℕ} (e : short I 
   residual-is k l = rw (h .base .each k l)
 
   exceeds-is : (k : ℕ) → k < I .n → aboveAllowed (at allowed k) (workResidual W k) ≡ exceeds (problem I) k
-  exceeds-is k l = rw (h .allowed k (below l), residual-is k l) (sym (exceeds-before (problem I) k))
+  unfolding exceeds
+  exceeds-is k l =
+      ap (λ (a : ℤ). aboveAllowed a (workResidual W k)) (h .allowed .each k l) ∙ allowed-test (getD slacks k 0) (workResidual W k)
+      ∙ rw (residual-is k l, h .slacks .each k l)
 
   answer-is : workAnswer W ≡ checkedOf (problem I)
   unfolding margin load defect exceeds residual
@@ -97,7 +98,7 @@ module _ (I : Input) {base allowed : List ℤ} {slacks : List ℕ} (e : short I 
   unfolding bound boundWith sizesWith margin load defect
   bound-is i =
       bound-ext (I .n) _ _ _ _ _ i
-      (λ m l. slack-ext (I .n) (problem I .G) (problem I .G) (workResidual W) (residual (problem I)) (workSlack W) (slack (problem I)) m (λ j lj. refl) residual-is (λ j lj. h .slacks j (below lj)))
+      (λ m l. slack-ext (I .n) (problem I .G) (problem I .G) (workResidual W) (residual (problem I)) (workSlack W) (slack (problem I)) m (λ j lj. refl) residual-is (h .slacks .each))
       (λ m l. refl)
 
   solution-is : written (I .n) (boundWith (workProblem W) (workResidual W) (workSlack W)) (I .solutionBounds) ≡ written (I .n) (bound (problem I)) (I .solutionBounds)

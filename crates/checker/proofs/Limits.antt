@@ -34,7 +34,7 @@ module _ (W : Work) {rows : List ℕ} (raised : RowsOfMatrix rows (W .n) (W .inv
   solution-limit residuals h i =
       bound-ext (W .n) (sizesWith (inversePart (W .n) rows) (at residuals) (workSlack W)) (λ (m : ℕ). getD margins m 0) (sizesWith (workProblem W) (workResidual W) (workSlack W))
       (λ (m : ℕ). natAbs (margin (workProblem W) m)) (λ (k : ℕ). natAbs (at (W .weights) k)) i
-      (λ m l. sizes-are W raised (at residuals) (workResidual W) (workSlack W) m l (h .each)) margin-here
+      (λ m l. sizes-are W raised (at residuals) (workResidual W) (workSlack W) (workSlack W) m l (h .each) (λ k lk. refl)) margin-here
 
   pub inverse-limit : (columns : List ℤ) → Begins (pos 0) columns (W .n * W .n) (λ (k : ℕ). columnResidual (W .n) (W .t) (W .matrix) (W .inverse) (k / W .n) (k % W .n)) →
       (i j : ℕ) → i < W .n → j < W .n →
@@ -43,5 +43,5 @@ module _ (W : Work) {rows : List ℕ} (raised : RowsOfMatrix rows (W .n) (W .inv
   inverse-limit columns h i j li lj =
       bound-ext (W .n) (sizesWith (inversePart (W .n) rows) (λ (k : ℕ). at columns (j * W .n + k)) (λ (k : ℕ). 0)) (λ (m : ℕ). getD margins m 0)
       (sizesWith (workProblem W) (residual (columnOf (workProblem W) j)) (slack (columnOf (workProblem W) j))) (λ (m : ℕ). natAbs (margin (workProblem W) m)) (λ (k : ℕ). natAbs (at (W .weights) k)) i
-      (λ m l. sizes-are W raised (λ (k : ℕ). at columns (j * W .n + k)) (residual (columnOf (workProblem W) j)) (λ (k : ℕ). 0) m l
-      (λ k lk. h .each (j * W .n + k) (place lj lk) ∙ rw (place-column j k (W .n) lk, place-row j k (W .n) lk) (unfold residual in refl))) margin-here
+      (λ m l. sizes-are W raised (λ (k : ℕ). at columns (j * W .n + k)) (residual (columnOf (workProblem W) j)) (λ (k : ℕ). 0) (slack (columnOf (workProblem W) j)) m l
+      (λ k lk. h .each (j * W .n + k) (place lj lk) ∙ rw (place-column j k (W .n) lk, place-row j k (W .n) lk) (unfold residual in refl)) (λ k lk. omega arith)) margin-here

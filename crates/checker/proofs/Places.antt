@@ -75,7 +75,7 @@ module _ (W : Work) (ready : Workable W) where
     here i = all (i % W .n) (omega (arith, mod-lt i (ready .some), ready .few))
 
     place-is : (i : ℕ) → i < W .n * W .n → column-refused i ≡ exceeds (columnOf (workProblem W) (i / W .n)) (i % W .n)
-    place-is i l = rw (here i, h .each i l) (sym (exceeds-before (columnOf (workProblem W) (i / W .n)) (i % W .n) ∙ unfold residual in refl))
+    place-is i l = rw (here i, h .each i l) (sym (exceeds-before (columnOf (workProblem W) (i / W .n)) (i % W .n) refl ∙ unfold residual in refl))
 
     pub first-column : first (W .n * W .n) column-refused ≡ firstInversePlace (workProblem W)
     first-column =

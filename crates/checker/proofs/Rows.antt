@@ -1,7 +1,7 @@
 -- The raised rows of the inverse stand for it.
 --   inverse-rows — they are what the reckoning asks
 --   margin-is    — margins from the rows are the problem's
---   sizes-are    — sizes from the rows, of residuals that agree on the first n, are the problem's
+--   sizes-are    — sizes from the rows, of residuals and slacks that agree on the first n, are the problem's
 use mathlib.Core.Path.{_≡_, refl, ap, _∙_}
 use mathlib.Core.List.{List}
 use Prim.Native.Nat.{ℕ, _+_, _*_, _-_, _<_, _^_}
@@ -33,14 +33,15 @@ module _ (n : ℕ) (inverse : List ℤ) {rows : List ℕ} (h : RowsOfMatrix rows
 module _ (W : Work) {rows : List ℕ} (h : RowsOfMatrix rows (W .n) (W .inverse)) where
   load-is : (m : ℕ) → m < W .n → load (rowsPart (W .n) (W .t) (W .matrix) rows (W .weights)) m ≡ load (workProblem W) m
   load-is m l =
-      load-same (W .n) 0 (W .t) (matrixOf (W .matrix) (W .n)) (matrixOf (W .matrix) (W .n)) (λ i. pos 0) (λ i. pos 0) (λ i. pos 0) (λ i. pos 0)
+      load-same (W .n) 0 (W .t) (matrixOf (W .matrix) (W .n)) (matrixOf (W .matrix) (W .n)) (λ i. pos 0) (λ i. pos 0) (λ i. 0) (λ i. 0) (λ i. pos 0) (λ i. pos 0)
       (loweredRows rows (W .n)) (matrixOf (W .inverse) (W .n)) (λ i. natAbs (at (W .weights) i)) (λ i. natAbs (at (W .weights) i))
-      (λ i j li lj. refl) (λ i li. refl) (λ i li. refl) (stands-for (W .n) (W .inverse) h) (λ i li. refl) m l
+      (λ i j li lj. refl) (λ i li. refl) (λ i li. refl) (λ i li. refl) (stands-for (W .n) (W .inverse) h) (λ i li. refl) m l
       ∙ unfold load defect in refl
 
   pub margin-is : (m : ℕ) → m < W .n → cutMargin (rowsPart (W .n) (W .t) (W .matrix) rows (W .weights)) m ≡ cutMargin (workProblem W) m
   margin-is m l = ap (λ (x : ℕ). 2 ^ W .t * natAbs (at (W .weights) m) - x) (load-is m l)
 
-  pub sizes-are : (r r′ : Vec) (σ : ℕ → ℕ) (m : ℕ) → m < W .n → ((k : ℕ) → k < W .n → r k ≡ r′ k) → sizesWith (inversePart (W .n) rows) r σ m ≡ sizesWith (workProblem W) r′ σ m
+  pub sizes-are : (r r′ : Vec) (σ σ′ : ℕ → ℕ) (m : ℕ) → m < W .n → ((k : ℕ) → k < W .n → r k ≡ r′ k) → ((k : ℕ) → k < W .n → σ k ≡ σ′ k) →
+      sizesWith (inversePart (W .n) rows) r σ m ≡ sizesWith (workProblem W) r′ σ′ m
   unfolding sizesWith
-  sizes-are r r′ σ m l e = slack-ext (W .n) (loweredRows rows (W .n)) (matrixOf (W .inverse) (W .n)) r r′ σ σ m (λ j lj. stands-for (W .n) (W .inverse) h m j l lj) e (λ j lj. refl)
+  sizes-are r r′ σ σ′ m l e f = slack-ext (W .n) (loweredRows rows (W .n)) (matrixOf (W .inverse) (W .n)) r r′ σ σ′ m (λ j lj. stands-for (W .n) (W .inverse) h m j l lj) e f

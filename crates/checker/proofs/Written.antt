@@ -1,7 +1,6 @@
 -- What the writer stores is what a limit list holds.
 --   written-stored  — n numbers stored from place 0 on
 --   written-columns — the columns of an n-by-n matrix stored row after row
---   written-ext — of equal functions
 use mathlib.Core.Path.{_≡_, refl, sym, ap, _∙_}
 use mathlib.Core.List.{List}
 use Prim.Native.Nat.{ℕ, zero, suc, _+_, _*_, _/_, _%_, _≤_, _<_}
@@ -42,8 +41,3 @@ written-columns n f g l some long h =
         ∙ columns-at 0 l n f n i j li lj (omega arith) long
         ∙ h i j li lj
         ∙ sym (written-at (n * n) (λ (k : ℕ). g (k / n) (k % n)) l k (omega arith) long)
-
-pub written-ext : (n : ℕ) (f g : ℕ → ℕ) (l : List ℕ) → ((i : ℕ) → i < n → f i ≡ g i) → written n f l ≡ written n g l
-unfolding written
-written-ext zero f g l h = refl
-written-ext (suc n) f g l h = rw (h n (omega arith), written-ext n f g l (λ i p. h i (omega arith)))

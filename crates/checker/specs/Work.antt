@@ -1,7 +1,7 @@
 -- What is handed to the reckoning once 8 and 3 are passed, and what it makes of it; cited by the contract of `reckon` alone.
 --   Work     — n, t and the lists of a problem; `base`, from which A·X is taken to give the residuals of the guess; `allowed`, how large
 --     they may be, row by row; `slacks`, what may be missing in their sizes; and the two limit lists as they come in
---   work     — from its parts;  workProblem W — its problem, in which s and b don't count
+--   work     — from its parts;  workProblem W — its problem, in which s, b and d don't count
 --   workResidual W, workSlack W — the residuals and the slacks that it is handed
 --   workAnswer W — 5, 6 or 7, or nothing
 --   Workable W — what the reckoning asks: n and t in their ranges, the lists long enough, every number used in its range, and room for
@@ -56,7 +56,7 @@ work n t matrix base allowed slacks guess inverse weights solution inverseBounds
 }
 
 abbrev pub workProblem : Work → Problem
-workProblem W = problemOf (W .n) 0 (W .t) (W .matrix) [] (W .guess) (W .inverse) (W .weights)
+workProblem W = problemOf (W .n) 0 (W .t) (W .matrix) [] [] (W .guess) (W .inverse) (W .weights)
 
 abbrev pub workResidual : Work → Vec
 workResidual W = residualFrom (W .n) (W .base) (W .matrix) (W .guess)

@@ -20,8 +20,10 @@ use residuals::residuals_of;
 use residuals::scaled_right;
 use rules::Outcome;
 use rules::Refusal;
+use slacks::allowed_of;
+use slacks::slacks_of;
 
-// How large a residual may be (01: "each size at most 2^25 = 33,554,432").
+// How large a residual of the inverse may be, in every row (01: "each size at most 2^25 = 33,554,432").
 const ALLOWED_RESIDUAL: i64 = 33554432;
 
 // The reckoning of what passes 8 and 3, from a base of the residuals, what is allowed of them and their slacks: all refusals are decided
@@ -72,19 +74,21 @@ pub fn check(
     t: u32,
     matrix: &[i64],
     right: &[i64],
+    tolerance: &[i64],
     guess: &[i64],
     inverse: &[i64],
     weights: &[i64],
     solution_bounds: &mut [u64],
     inverse_bounds: &mut [u64],
 ) -> Outcome
-    ensures { λ r. ⌜ Checked (input n s t (now (matrix .entry)) (now (right .entry)) (now (guess .entry)) (now (inverse .entry))
-        (now (weights .entry)) (now («solution_bounds» .entry)) (now («inverse_bounds» .entry)))
+    ensures { λ r. ⌜ Checked (input n s t (now (matrix .entry)) (now (right .entry)) (now (tolerance .entry)) (now (guess .entry))
+        (now (inverse .entry)) (now (weights .entry)) (now («solution_bounds» .entry)) (now («inverse_bounds» .entry)))
         r (now («solution_bounds» .exit)) (now («inverse_bounds» .exit)) ⌝ }
 {
     if is_short(
         matrix.len(),
         right.len(),
+        tolerance.len(),
         guess.len(),
         inverse.len(),
         weights.len(),
@@ -95,14 +99,15 @@ pub fn check(
     }
     if are_sizes_in_range(n, s, t) {
         let size = n as usize;
-        if are_lists_in_range(size, matrix, right, guess, inverse, weights) {
+        if are_lists_in_range(size, matrix, right, tolerance, guess, inverse, weights) {
+            let slacks = slacks_of(s, tolerance, size);
             return reckon(
                 size,
                 t,
                 matrix,
                 scaled_right(s, right, size),
-                [ALLOWED_RESIDUAL; 32],
-                [0u64; 32],
+                allowed_of(slacks, size),
+                slacks,
                 guess,
                 inverse,
                 weights,

@@ -21,6 +21,7 @@ use Rattle.enclosure.specs.Reckoning.{defect, load, residual, slack, all
 use Rattle.enclosure.specs.Demand.{sumOfSizes, RoundedExact, Sound}
 use Rattle.enclosure.proofs.Demands.{error-solves}
 use Rattle.enclosure.proofs.Margin.{margin-test}
+use Rattle.enclosure.proofs.Tolerance.{column-exact}
 
 pub half : (n q c : ℕ) (d a : Vec) (y : ℤ) → 1 ≤ q → ((j : ℕ) → j < n → 2 * natAbs (d j) ≤ c * q) → pos q *ℤ y ≡ sum n (λ (j : ℕ). d j *ℤ a j) →
     2 * natAbs y ≤ c * sumℕ n (λ (j : ℕ). natAbs (a j))
@@ -47,20 +48,20 @@ defect-half P H q o inv near m j lm lj =
     o (λ k l. omega (arith, near m k lm l))
     (sym (apply-matrices (P .n) (pos (T P)) (pos q) H (P .G) (column (P .A) j) m ∙ rw (inv m j lm lj) (simp ring)))
 
--- a residual at most half of the total is small
-fits : (P : Problem) (k : ℕ) → P .t ≤ 20 → k < P .n → 2 * natAbs (residual P k) ≤ 1 * sumℕ (P .n) (λ (j : ℕ). natAbs (P .A k j)) → sumOfSizes P < 2 * T P →
+-- a residual at most half of the total is small, where its row has no tolerance
+fits : (P : Problem) (k : ℕ) → P .t ≤ 20 → P .d k ≡ 0 → k < P .n → 2 * natAbs (residual P k) ≤ 1 * sumℕ (P .n) (λ (j : ℕ). natAbs (P .A k j)) → sumOfSizes P < 2 * T P →
     exceeds P k ≡ false
 unfolding sumOfSizes exceeds
-fits P k ht l h small =
+fits P k ht e l h small =
     le-ltb allowedResidual (natAbs (residual P k) + slack P k)
-    (omega (arith, sumℕ-at (P .n) (λ (i : ℕ). sumℕ (P .n) (λ (j : ℕ). natAbs (P .A i j))) k l, pow-le-pow-right {n = 2} (omega arith) {i = P .t} {j = 20} ht))
+    (rw e (omega (arith, sumℕ-at (P .n) (λ (i : ℕ). sumℕ (P .n) (λ (j : ℕ). natAbs (P .A i j))) k l, pow-le-pow-right {n = 2} (omega arith) {i = P .t} {j = 20} ht)))
 
 pub rounded-sound : (P : Problem) (N : Vec) (q : ℕ) (H : Mat) (q′ : ℕ) → P .t ≤ 20 → RoundedExact P N q H q′ → Sound P
 rounded-sound P N q H q′ ht x = record {
   margins = λ m l. margin-test P m ∙ lt-leb (T P * P .w m) (load P m) (light m l);
-  residuals = λ k l. fits P k ht l
+  residuals = λ k l. fits P k ht (x .exact-right k l) l
       (residual-half P N q 1 (x .solution .positive) (x .solution .solves) (λ j lj. omega (arith, x .near-solution j lj)) k l) (x .small);
-  columns = λ j lj k l. fits (columnOf P j) k ht l
+  columns = λ j lj k l. fits (columnOf P j) k ht (column-exact P j k) l
       (residual-half (columnOf P j) (column H j) q′ 1 (x .inverse .inverse .positive) (unfold product in λ k lk. x .inverse .inverse .right k j lk lj)
       (λ i li. omega (arith, x .near-inverse i j li lj)) k l) (unfold sumOfSizes in x .small);
 }

@@ -1,6 +1,6 @@
 -- The reckoning uses only the first n numbers of each list: problems that agree on them have the same margins, residuals and limits.
 --   load-same, margin-same, residual-same, exceeds-same, bound-same — of row m, m, k, k and i; for a column of the inverse they are used with its problem
-use mathlib.Core.Path.{_≡_, refl, ap, ap₂}
+use mathlib.Core.Path.{_≡_, ap, ap₂}
 use Prim.Native.Nat.{ℕ, _+_, _*_, _^_, _<_}
 use lib.Dec.{ltb}
 use lib.IntN.{ℤ, pos, natAbs, _-ℤ_, _*ℤ_}
@@ -16,13 +16,13 @@ apply-same : (n : ℕ) (A B : Mat) (u v : Vec) (k : ℕ) → ((j : ℕ) → j < 
 unfolding apply
 apply-same n A B u v k p q = sum-ext n (λ (j : ℕ). A k j *ℤ u j) (λ (j : ℕ). B k j *ℤ v j) (λ j l. rw (p j l, q j l))
 
-module _ (n s t : ℕ) (A A′ : Mat) (b b′ X X′ : Vec) (G G′ : Mat) (w w′ : ℕ → ℕ) (hA : (i j : ℕ) → i < n → j < n → A i j ≡ A′ i j)
-    (hb : (i : ℕ) → i < n → b i ≡ b′ i) (hX : (i : ℕ) → i < n → X i ≡ X′ i) (hG : (i j : ℕ) → i < n → j < n → G i j ≡ G′ i j) (hw : (i : ℕ) → i < n → w i ≡ w′ i) where
+module _ (n s t : ℕ) (A A′ : Mat) (b b′ : Vec) (d d′ : ℕ → ℕ) (X X′ : Vec) (G G′ : Mat) (w w′ : ℕ → ℕ) (hA : (i j : ℕ) → i < n → j < n → A i j ≡ A′ i j)
+    (hb : (i : ℕ) → i < n → b i ≡ b′ i) (hd : (i : ℕ) → i < n → d i ≡ d′ i) (hX : (i : ℕ) → i < n → X i ≡ X′ i) (hG : (i j : ℕ) → i < n → j < n → G i j ≡ G′ i j) (hw : (i : ℕ) → i < n → w i ≡ w′ i) where
   abbrev P : Problem
-  P = record { n = n; s = s; t = t; A = A; b = b; X = X; G = G; w = w }
+  P = record { n = n; s = s; t = t; A = A; b = b; d = d; X = X; G = G; w = w }
 
   abbrev Q : Problem
-  Q = record { n = n; s = s; t = t; A = A′; b = b′; X = X′; G = G′; w = w′ }
+  Q = record { n = n; s = s; t = t; A = A′; b = b′; d = d′; X = X′; G = G′; w = w′ }
 
   defect-same : (m j : ℕ) → m < n → j < n → defect P m j ≡ defect Q m j
   unfolding defect product
@@ -42,13 +42,16 @@ module _ (n s t : ℕ) (A A′ : Mat) (b b′ X X′ : Vec) (G G′ : Mat) (w w�
   unfolding residual
   residual-same k l = ap₂ (λ (x y : ℤ). pos (2 ^ s) *ℤ x -ℤ y) (hb k l) (apply-same n A A′ X X′ k (λ j lj. hA k j l lj) hX)
 
+  slack-same : (k : ℕ) → k < n → slack P k ≡ slack Q k
+  slack-same k l = rw (hd k l)
+
   pub exceeds-same : (k : ℕ) → k < n → exceeds P k ≡ exceeds Q k
   unfolding exceeds
-  exceeds-same k l = ap (λ (z : ℤ). ltb allowedResidual (natAbs z + slack P k)) (residual-same k l)
+  exceeds-same k l = ap₂ (λ (z : ℤ) (x : ℕ). ltb allowedResidual (natAbs z + x)) (residual-same k l) (slack-same k l)
 
   sizes-same : (m : ℕ) → m < n → sizesWith P (residual P) (slack P) m ≡ sizesWith Q (residual Q) (slack Q) m
   unfolding sizesWith
-  sizes-same m l = slack-ext n G G′ (residual P) (residual Q) (slack P) (slack Q) m (λ k lk. hG m k l lk) residual-same (λ k lk. refl)
+  sizes-same m l = slack-ext n G G′ (residual P) (residual Q) (slack P) (slack Q) m (λ k lk. hG m k l lk) residual-same slack-same
 
   pub bound-same : (i : ℕ) → i < n → bound P i ≡ bound Q i
   unfolding bound boundWith boundFrom

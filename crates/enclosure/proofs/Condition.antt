@@ -2,7 +2,7 @@
 --   start-next   — u_0 − u_1 is p in steps of 1/(S·T), up to its sign
 --   steepest     — there is a row where |p_k| / g_k is largest
 --   condition    — v_i = w_i·|p_k| / (g_k·S) meets (2.9) for such a row k
---   bound-is-v   — limit i is S·v_i rounded up
+--   bound-is-v   — limit i is S·v_i rounded up, where there is no tolerance, as in 002
 use mathlib.Core.Path.{_≡_, sym, ap, _∙_}
 use Prim.Native.Nat.{ℕ, _+_, _*_, _≤_, _<_}
 use native.Mathlib.Omega.{arith}
@@ -17,7 +17,7 @@ use Rattle.linear.specs.Matrix.{apply}
 use Rattle.linear.proofs.Product.{apply-sub, apply-scale}
 use Rattle.enclosure.specs.Problem.{Problem, S, T}
 use Rattle.enclosure.specs.Reckoning.{defect, load, margin, residual, bound}
-use Rattle.enclosure.specs.Demand.{Margins}
+use Rattle.enclosure.specs.Demand.{Margins, NoTolerance}
 use Rattle.enclosure.specs.Schroeder.{image, u0, u1, Condition29, Steep}
 use Rattle.enclosure.specs.Before.{sizes01}
 use Rattle.enclosure.proofs.Before.{bound-before}
@@ -55,6 +55,6 @@ module _ (P : Problem) (hm : Margins P) where
           sumℕ-ext (P .n) (λ (j : ℕ). natAbs (defect P i j) * (P .w j * p)) (λ (j : ℕ). f j * p) (λ j lj. omega arith) ∙ sumℕ-* (P .n) p f in
           rw (start-next P i l, e) (unfold load in omega (arith, x .most i l, ap (λ (y : ℕ). y * p) (margin-sum P i (hm i l))))
 
-  pub bound-is-v : (k : ℕ) → Steep P k → (i : ℕ) → bound P i ≡ ceilDiv (P .w i * natAbs (image P k)) (natAbs (margin P k))
-  bound-is-v k x i =
-      bound-before P i ∙ bound-at (P .n) (sizes01 P) (λ (m : ℕ). natAbs (margin P m)) (P .w) i k (λ m l. margin-above P m (hm m l)) x
+  pub bound-is-v : NoTolerance P → (k : ℕ) → Steep P k → (i : ℕ) → bound P i ≡ ceilDiv (P .w i * natAbs (image P k)) (natAbs (margin P k))
+  bound-is-v h k x i =
+      bound-before P h i ∙ bound-at (P .n) (sizes01 P) (λ (m : ℕ). natAbs (margin P m)) (P .w) i k (λ m l. margin-above P m (hm m l)) x

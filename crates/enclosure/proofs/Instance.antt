@@ -1,16 +1,22 @@
--- Neither half of demand 3 is empty: the whole file of document 01 meets the hypotheses of both.
+-- Neither half of demand 3 is empty: the whole file of document 01 meets the hypotheses of both, and a problem with a tolerance those of the first.
 --   file-rounded — it is a rounded exact proposal;  file-sound — so it is sound;  file-encloses — and its limits enclose
 --   file-heights — any exact solution of it is (16/11, 9/11)
-use mathlib.Core.Path.{refl}
-use Prim.Native.Nat.{ℕ, zero, suc, _<_}
+--   loose-right, loose-exact — 9/3 is a right side of `loose`, at the corner of its tolerance, and 3 its exact solution
+--   loose-sound, loose-encloses — that problem is sound, and its limits enclose;  loose-bound — its limit is 3·S;  loose-reached — that height lies just so far
+--     from the guess, so that no smaller limit holds for all right sides within tolerance
+use mathlib.Core.Path.{_≡_, refl}
+use Prim.Native.Nat.{ℕ, zero, suc, _*_, _<_}
 use native.Mathlib.Omega.{arith}
 use lib.Dec.{lit<, lit≤}
-use Rattle.integer.specs.Finite.{sum, sumℕ}
+use lib.IntN.{pos, natAbs, _-ℤ_, _*ℤ_}
+use Rattle.integer.specs.Finite.{sum, sumℕ, largest}
+use Rattle.integer.specs.Quotient.{ceilDiv}
 use Rattle.linear.specs.Matrix.{Vec, apply, product, identity}
 use Rattle.exact_solution.specs.Determined.{Same}
-use Rattle.enclosure.specs.Demand.{ExactSolution, RoundedExact, Sound, Encloses, sumOfSizes}
-use Rattle.enclosure.specs.Example.{file, exact, exactInverse}
-use Rattle.enclosure.specs.Reckoning.{bound, inverseBound}
+use Rattle.enclosure.specs.Demand.{ExactSolution, ExactSolutionOf, RightSide, RoundedExact, Sound, Encloses, sumOfSizes}
+use Rattle.enclosure.specs.Example.{file, exact, exactInverse, loose, farRight, farHeight}
+use Rattle.enclosure.specs.Problem.{S}
+use Rattle.enclosure.specs.Reckoning.{defect, load, margin, residual, exceeds, sizesWith, boundFrom, boundWith, bound, inverseBound}
 use Rattle.enclosure.proofs.Acceptance.{rounded-sound}
 use Rattle.enclosure.proofs.Demands.{encloses}
 
@@ -28,6 +34,7 @@ each₂ Q a b c d (suc (suc i)) j l = absurd (omega arith)
 pub file-rounded : RoundedExact file exact 11 exactInverse 11
 unfolding apply product identity sum sumℕ sumOfSizes
 file-rounded = record {
+  exact-right = each _ refl refl;
   solution = record { positive = lit≤ tt; solves = each _ refl refl };
   inverse = record {
     inverse = record { positive = lit≤ tt; right = each₂ _ refl refl refl refl };
@@ -48,3 +55,29 @@ file-encloses = encloses file (each _ (lit≤ tt) (lit≤ tt)) (file-sound .marg
 -- its only heights are 16/11 and 9/11
 pub file-heights : (N : Vec) (q : ℕ) → ExactSolution file N q → Same 2 exact 11 N q
 file-heights N q h = file-encloses .determined .unique (file .b) exact N 11 q (file-rounded .solution) h
+
+-- ---- a problem with a tolerance
+only : (Q : ℕ → Type 0) → Q 0 → (i : ℕ) → i < 1 → Q i
+only Q a zero l = a
+only Q a (suc i) l = absurd (omega arith)
+
+pub loose-right : RightSide loose farRight 3
+loose-right = record { positive = lit≤ tt; near = only _ (lit≤ tt) }
+
+pub loose-exact : ExactSolutionOf loose farRight 3 farHeight 1
+unfolding apply sum
+loose-exact = record { positive = lit≤ tt; solves = only _ refl }
+
+pub loose-sound : Sound loose
+unfolding apply product identity sum sumℕ defect load margin residual exceeds
+loose-sound = record { margins = only _ refl; residuals = only _ refl; columns = only _ (only _ refl) }
+
+pub loose-encloses : Encloses loose (bound loose) (inverseBound loose)
+loose-encloses = encloses loose (only _ (lit≤ tt)) (loose-sound .margins)
+
+pub loose-bound : bound loose 0 ≡ 3 * S loose
+unfolding apply product identity sum sumℕ defect load margin residual sizesWith boundFrom boundWith bound largest ceilDiv
+loose-bound = refl
+
+pub loose-reached : natAbs (pos (S loose) *ℤ farHeight 0 -ℤ pos 1 *ℤ loose .X 0) ≡ 1 * (3 * S loose)
+loose-reached = refl

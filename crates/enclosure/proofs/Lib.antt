@@ -2,6 +2,7 @@ pub mod Margin
 pub mod Bounds
 pub mod Before
 pub mod Enclosure
+pub mod Tolerance
 pub mod Demands
 pub mod Acceptance
 pub mod Condition

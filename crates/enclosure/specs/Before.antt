@@ -1,5 +1,4 @@
--- Document 01's own text of the definitions that now take a residual and a slack, or cite one that does; proofs/Before says that they are
--- equal.
+-- The definitions without slack, in document 01's own text; proofs/Before says that those with slack are equal to them where all tolerances are 0.
 --   exceeds01 P k z  — the residual z of row k is above 2^25 in size
 --   sizes01 P m      — |p_m|
 --   bound01 P i      — limit i: the largest over all rows m of w_i·|p_m| / g_m, each rounded up;  inverseBound01 P i j — of the inverse

@@ -1,15 +1,23 @@
--- Demand 3 in the words of document 01. q, N and H are whole numbers of any size, and H has its own q.
+-- Demand 3 in the words of document 01, widened by 02's Paper 5 to right sides within a tolerance. q, N, ρ, β and H are whole numbers of any size, and H has
+-- its own q.
 --   ExactSolution P N q — q ≥ 1 and A·N = q·b
+--   RightSide P β ρ     — the right side β_k / ρ, in fractions, "differs from b by at most d in each place" (Paper 5): ρ ≥ 1 and |β_k − ρ·b_k| ≤ ρ·d_k.
+--     b itself is one, with ρ = 1
+--   ExactSolutionOf P β ρ N q — q ≥ 1 and ρ·(A·N) = q·β: the fractions N_i / q solve the equations with that right side
 --   ExactInverse P H q  — q ≥ 1 and A·H = q·I;  TwoSided — H·A = q·I as well
---   Encloses P E L      — the first half: every exact solution lies within the limits E of the guess and within the entry limits of the entries,
---     every exact inverse within L, and the kernel is zero;
+--   InLimits P E N q    — every N_i / q lies within its limit of the guess;  InEntryLimits P E N q — and within its entry limit of the entry
+--   Encloses P E L      — the first half: every exact solution of every right side within tolerance lies within the limits E of the guess and within the
+--     entry limits of the entries, and so, said by itself, does every exact solution of b, which is 01's sentence; every exact inverse lies within L, and the
+--     kernel is zero;
 --     and (02, Paper 12) every right side has an exact solution, any two are the same fractions, and there is an inverse on both sides
---   OneHeight P E       — for the clerk: there are heights N_i / q that solve the equations, they are the only ones, and each lies within its limit of the guess
---     and within its entry limit of the entry
+--   HeightOf P E exact  — there are heights N_i / q that are exact, they are the only ones, and each lies within its limit of the guess and within its entry
+--     limit of the entry
+--   OneHeight P E       — for the clerk: there are such heights for every right side within tolerance; and for b itself
+--   NoTolerance P       — all d are 0
 --   sumOfSizes P        — the sum of |A_ij| over all i and j
---   RoundedExact P N q H q′ — the second half's hypotheses: exact N and two-sided H, guess and inverse rounded to nearest steps, weights 1,
---     that sum below 2T
---   Margins P, Residuals P — every margin is above 0; no residual of the guess is above 2^25 in size
+--   RoundedExact P N q H q′ — the second half's hypotheses: no tolerance (02, Paper 5: "The second half of demand 3 now presumes that all d are 0"), exact N
+--     and two-sided H, guess and inverse rounded to nearest steps, weights 1, that sum below 2T
+--   Margins P, Residuals P — every margin is above 0; no residual of the guess is above 2^25 in size, its slack added
 --   Sound P             — both, and the same of every column of the inverse
 use mathlib.Core.Path.{_≡_}
 use mathlib.Core.Bool.{false}
@@ -17,7 +25,7 @@ use Prim.Native.Nat.{ℕ, _*_, _≤_, _<_}
 use lib.IntN.{pos, natAbs, _-ℤ_, _*ℤ_}
 use Rattle.integer.specs.Finite.{sumℕ}
 use Rattle.linear.specs.Matrix.{Vec, Mat}
-use Rattle.exact_solution.specs.Determined.{ZeroKernel, Solves, RightInverse, Inverse, Same, Determined}
+use Rattle.exact_solution.specs.Determined.{ZeroKernel, Solves, SolvesOver, RightInverse, Inverse, Same, Determined}
 use Rattle.entry.specs.Entry.{entryValue, entryBound}
 use Rattle.enclosure.specs.Problem.{Problem, S, T, columnOf}
 use Rattle.enclosure.specs.Reckoning.{marginFails, exceeds}
@@ -25,34 +33,58 @@ use Rattle.enclosure.specs.Reckoning.{marginFails, exceeds}
 abbrev pub ExactSolution : Problem → Vec → ℕ → Type 0
 ExactSolution P N q = Solves (P .n) (P .A) (P .b) N q
 
+pub record RightSide (P : Problem) (β : Vec) (ρ : ℕ) : Type 0 where
+  pub positive : 1 ≤ ρ
+  pub near : (k : ℕ) → k < P .n → natAbs (β k -ℤ pos ρ *ℤ P .b k) ≤ ρ * P .d k
+
+abbrev pub ExactSolutionOf : Problem → Vec → ℕ → Vec → ℕ → Type 0
+ExactSolutionOf P β ρ N q = SolvesOver (P .n) (P .A) β ρ N q
+
 abbrev pub ExactInverse : Problem → Mat → ℕ → Type 0
 ExactInverse P H q = RightInverse (P .n) (P .A) H q
 
 abbrev pub TwoSided : Problem → Mat → ℕ → Type 0
 TwoSided P H q = Inverse (P .n) (P .A) H q
 
+abbrev pub InLimits : Problem → (ℕ → ℕ) → Vec → ℕ → Type 0
+InLimits P E N q = (i : ℕ) → i < P .n → natAbs (pos (S P) *ℤ N i -ℤ pos q *ℤ P .X i) ≤ q * E i
+
+abbrev pub InEntryLimits : Problem → (ℕ → ℕ) → Vec → ℕ → Type 0
+InEntryLimits P E N q = (i : ℕ) → i < P .n → natAbs (N i -ℤ pos q *ℤ entryValue (P .s) (P .X i)) ≤ q * entryBound (P .s) (P .X i) (E i)
+
 pub record Encloses (P : Problem) (E : ℕ → ℕ) (L : ℕ → ℕ → ℕ) : Type 0 where
-  pub solution : (N : Vec) (q : ℕ) → ExactSolution P N q → (i : ℕ) → i < P .n → natAbs (pos (S P) *ℤ N i -ℤ pos q *ℤ P .X i) ≤ q * E i
+  -- 02, Paper 5: "An accepted limit then holds for the exact solution of every right side, in fractions, that differs from b by at most d in each place"
+  pub solution : (β : Vec) (ρ : ℕ) → RightSide P β ρ → (N : Vec) (q : ℕ) → ExactSolutionOf P β ρ N q → InLimits P E N q
+  -- of b itself (01: "whole numbers N and q, q at least 1, with A·N = q·b")
+  pub solution-at-b : (N : Vec) (q : ℕ) → ExactSolution P N q → InLimits P E N q
   -- 02, Paper 2: "The exact height is to be shown within the entry limit of the entry, as it is of the guess"
-  pub entry : (N : Vec) (q : ℕ) → ExactSolution P N q → (i : ℕ) → i < P .n →
-      natAbs (N i -ℤ pos q *ℤ entryValue (P .s) (P .X i)) ≤ q * entryBound (P .s) (P .X i) (E i)
+  pub entry : (β : Vec) (ρ : ℕ) → RightSide P β ρ → (N : Vec) (q : ℕ) → ExactSolutionOf P β ρ N q → InEntryLimits P E N q
+  pub entry-at-b : (N : Vec) (q : ℕ) → ExactSolution P N q → InEntryLimits P E N q
   pub inverse : (H : Mat) (q : ℕ) → ExactInverse P H q →
       (i j : ℕ) → i < P .n → j < P .n → natAbs (pos (T P) *ℤ H i j -ℤ pos q *ℤ P .G i j) ≤ q * L i j
   pub kernel : ZeroKernel (P .n) (P .A)
   pub determined : Determined (P .n) (P .A)
 
-pub record OneHeight (P : Problem) (E : ℕ → ℕ) : Type 0 where
+pub record HeightOf (P : Problem) (E : ℕ → ℕ) (exact : Vec → ℕ → Type 0) : Type 0 where
   pub N : Vec
   pub q : ℕ
-  pub exact : ExactSolution P N q
-  pub only : (N′ : Vec) (q′ : ℕ) → ExactSolution P N′ q′ → Same (P .n) N q N′ q′
-  pub within : (i : ℕ) → i < P .n → natAbs (pos (S P) *ℤ N i -ℤ pos q *ℤ P .X i) ≤ q * E i
-  pub entered : (i : ℕ) → i < P .n → natAbs (N i -ℤ pos q *ℤ entryValue (P .s) (P .X i)) ≤ q * entryBound (P .s) (P .X i) (E i)
+  pub holds : exact N q
+  pub only : (N′ : Vec) (q′ : ℕ) → exact N′ q′ → Same (P .n) N q N′ q′
+  pub within : InLimits P E N q
+  pub entered : InEntryLimits P E N q
+
+pub record OneHeight (P : Problem) (E : ℕ → ℕ) : Type 0 where
+  pub each : (β : Vec) (ρ : ℕ) → RightSide P β ρ → HeightOf P E (ExactSolutionOf P β ρ)
+  pub at-b : HeightOf P E (ExactSolution P)
+
+abbrev pub NoTolerance : Problem → Type 0
+NoTolerance P = (i : ℕ) → i < P .n → P .d i ≡ 0
 
 unfoldable pub sumOfSizes : Problem → ℕ
 sumOfSizes P = sumℕ (P .n) (λ (i : ℕ). sumℕ (P .n) (λ (j : ℕ). natAbs (P .A i j)))
 
 pub record RoundedExact (P : Problem) (N : Vec) (q : ℕ) (H : Mat) (q′ : ℕ) : Type 0 where
+  pub exact-right : NoTolerance P
   pub solution : ExactSolution P N q
   pub inverse : TwoSided P H q′
   pub near-solution : (i : ℕ) → i < P .n → 2 * natAbs (pos (S P) *ℤ N i -ℤ pos q *ℤ P .X i) ≤ q

@@ -1,7 +1,10 @@
--- The whole file of document 01, as numbers in lists that are long enough, and its exact solution (16/11, 9/11) and inverse (3 1 / 1 4)/11.
+-- The whole file of document 01, as numbers in lists that are long enough, and its exact solution (16/11, 9/11) and inverse (3 1 / 1 4)/11; and a problem
+-- with a tolerance.
 --   padded — a list made long enough by zeros
---   matrix, right, guess, inverse, weights — its lists
+--   matrix, right, tolerance, guess, inverse, weights — its lists; it has no tolerance
 --   file   — its problem;  exact, exactInverse — N and H, both with q = 11
+--   loose  — 1·x = 0 with the tolerance 3, both steps 1/16, guess 0, inverse 16/16;  farRight, farHeight — 9, over 3, at the corner of that tolerance, and
+--     3, over 1, its solution
 use mathlib.Core.List.{List, [], _∷_, _++_}
 use lib.IntN.{ℤ, pos, negsuc}
 use lib.ListN.{replicate}
@@ -18,6 +21,9 @@ matrix = padded (pos 4 ∷ negsuc 0 ∷ negsuc 0 ∷ pos 3 ∷ [])
 abbrev pub right : List ℤ
 right = padded (pos 5 ∷ pos 1 ∷ [])
 
+abbrev pub tolerance : List ℤ
+tolerance = padded (pos 0 ∷ pos 0 ∷ [])
+
 abbrev pub guess : List ℤ
 guess = padded (pos 23 ∷ pos 13 ∷ [])
 
@@ -28,10 +34,21 @@ abbrev pub weights : List ℤ
 weights = padded (pos 1 ∷ pos 1 ∷ [])
 
 abbrev pub file : Problem
-file = problemOf 2 4 4 matrix right guess inverse weights
+file = problemOf 2 4 4 matrix right tolerance guess inverse weights
 
 abbrev pub exact : Vec
 exact = vectorOf (pos 16 ∷ pos 9 ∷ [])
 
 abbrev pub exactInverse : Mat
 exactInverse = matrixOf (pos 3 ∷ pos 1 ∷ pos 1 ∷ pos 4 ∷ []) 2
+
+abbrev pub loose : Problem
+loose =
+    problemOf 1 4 4 (padded (pos 1 ∷ [])) (padded (pos 0 ∷ [])) (padded (pos 3 ∷ [])) (padded (pos 0 ∷ [])) (padded (pos 16 ∷ []))
+    (padded (pos 1 ∷ []))
+
+abbrev pub farRight : Vec
+farRight = vectorOf (pos 9 ∷ [])
+
+abbrev pub farHeight : Vec
+farHeight = vectorOf (pos 3 ∷ [])

@@ -4,11 +4,13 @@
 --   margin P m  — g_m = T·w_m − load, a whole number with its sign
 --   marginFails P m — that margin is 0 or less (refusal 5)
 --   residual P  — r = S·b − A·X;  residual (columnOf P j) is that of the inverse's column j
---   slack P     — what may be missing in the size of a residual, row by row: nothing in 01
+--   slack P     — what may be missing in the size of a residual, row by row (02, Paper 5: "The residual of row m now comes with a slack S·d_m"); of a column
+--     of the inverse it is 0
 -- What comes after the residual, for any residual r and any slack σ:
 --   allowedResidual — 2^25 = 33,554,432
---   exceedsWith r σ k — the residual of row k with its slack is above 2^25 in size (6 and 7)
---   sizesWith P r σ m — what w_i is multiplied by in the limits: |p_m| for p = G·r, and the sum over j of |G_mj|·σ_j
+--   exceedsWith r σ k — the size of the residual of row k, and its slack, are above 2^25 together (6 and 7; 02, Paper 5: "6 is now given where size of
+--     residual plus slack is above 2^25")
+--   sizesWith P r σ m — what w_i is multiplied by in the limits (02, Paper 5: "|p_m| becomes |p_m| plus the sum over j of |G_mj|·S·d_j"), for p = G·r
 --   boundFrom n sizes margins w i — the largest over all rows m of w_i·sizes_m / margins_m, each rounded up to a whole number
 --   boundWith P r σ i — limit i; the size of a margin is the margin, since every margin is above 0 wherever a limit is written
 -- and of the problem's own:
@@ -40,7 +42,7 @@ unfoldable pub residual : Problem → Vec
 residual P k = pos (S P) *ℤ P .b k -ℤ apply (P .n) (P .A) (P .X) k
 
 abbrev pub slack : Problem → ℕ → ℕ
-slack P k = 0
+slack P k = S P * P .d k
 
 -- ---- from a residual and a slack
 abbrev pub allowedResidual : ℕ

@@ -40,7 +40,7 @@ at-start file e z = record { so = rw (e, z); few = omega arith; inside = omega a
 -- what is collected where the lines end, or one is refused
 abbrev collectedAs : Outcome → ℕ → Loader → Lists → Collected
 collectedAs o k d l =
-    record { outcome = o; line = k; loader = d; matrix = l .matrix; right = l .right; guess = l .guess; inverse = l .inverse; weights = l .weights }
+    record { outcome = o; line = k; loader = d; matrix = l .matrix; right = l .right; tolerance = l .tolerance; guess = l .guess; inverse = l .inverse; weights = l .weights }
 
 read-as : (file : List ℕ) {l : Lists} {k : ℕ} {d : Loader} (o : Outcome) → record { said = said o; line = k; state = state d l } ≡ readingOf file → ReadAs file (collectedAs o k d l)
 read-as file o e = record { says = ap (λ (R : Reading). R .said) e; line = ap (λ (R : Reading). R .line) e; state = ap (λ (R : Reading). R .state) e }

@@ -10,7 +10,7 @@ use Rattle.line_runs.specs.Read.{readingOf}
 use Rattle.file.specs.declared.Collected.{Collected}
 
 abbrev pub stateOf : Collected → State
-stateOf r = record { loader = r .loader; lists = lists (r .matrix) (r .right) (r .guess) (r .inverse) (r .weights) }
+stateOf r = record { loader = r .loader; lists = lists (r .matrix) (r .right) (r .tolerance) (r .guess) (r .inverse) (r .weights) }
 
 pub record ReadAs (file : List ℕ) (r : Collected) : Type 0 where
   pub says : said (r .outcome) ≡ readingOf file .said

@@ -29,6 +29,7 @@ pub struct Collected {
     pub loader: Loader,
     pub matrix: [i64; 1024],
     pub right: [i64; 32],
+    pub tolerance: [i64; 32],
     pub guess: [i64; 32],
     pub inverse: [i64; 1024],
     pub weights: [i64; 32],
@@ -40,6 +41,7 @@ pub fn read_file(file: &[u8]) -> Collected
 {
     let mut matrix = [0i64; 1024];
     let mut right = [0i64; 32];
+    let mut tolerance = [0i64; 32];
     let mut guess = [0i64; 32];
     let mut inverse = [0i64; 1024];
     let mut weights = [0i64; 32];
@@ -52,6 +54,7 @@ pub fn read_file(file: &[u8]) -> Collected
             &file[at..end],
             &mut matrix,
             &mut right,
+            &mut tolerance,
             &mut guess,
             &mut inverse,
             &mut weights,
@@ -66,6 +69,7 @@ pub fn read_file(file: &[u8]) -> Collected
                     loader,
                     matrix,
                     right,
+                    tolerance,
                     guess,
                     inverse,
                     weights,
@@ -83,6 +87,7 @@ pub fn read_file(file: &[u8]) -> Collected
         loader,
         matrix,
         right,
+        tolerance,
         guess,
         inverse,
         weights,

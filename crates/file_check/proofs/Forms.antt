@@ -18,7 +18,7 @@ use Rattle.checked.specs.Input.{problem, short, inRanges}
 use Rattle.checked.specs.Order.{answer, checkedOf}
 use Rattle.checked.proofs.Contract.{answer-ready}
 use Rattle.form.specs.Form.{Form}
-use Rattle.lent_lists.specs.Slot.{Slot, Matrix, Right, Guess, Inverse, Weight, width}
+use Rattle.lent_lists.specs.Slot.{Slot, Matrix, Right, Tolerance, Guess, Inverse, Weight, width}
 use Rattle.lent_lists.specs.Lists.{listOf}
 use Rattle.line_runs.specs.Run.{State}
 use Rattle.line_runs.specs.Given.{valueFrom}
@@ -52,6 +52,7 @@ module _ (u : State) (fs : List Form) (from : FromForms fs u) where
     t = u .loader .t;
     A = λ (i j : ℕ). valueFrom fs Matrix (suc i) j;
     b = λ (i : ℕ). valueFrom fs Right (suc i) 0;
+    d = λ (i : ℕ). natAbs (valueFrom fs Tolerance (suc i) 0);
     X = λ (i : ℕ). valueFrom fs Guess (suc i) 0;
     G = λ (i j : ℕ). valueFrom fs Inverse (suc i) j;
     w = λ (i : ℕ). natAbs (valueFrom fs Weight (suc i) 0);
@@ -75,22 +76,22 @@ module _ (u : State) (fs : List Form) (from : FromForms fs u) where
 
   pub checked-forms : checkedOf (problem (inputAt u)) ≡ checkedOf (problemFrom fs)
   checked-forms =
-      checked-same n (u .loader .s) (u .loader .t) (matrixOf (u .lists .matrix) n) (given .A) (vectorOf (u .lists .right)) (given .b) (vectorOf (u .lists .guess)) (given .X)
+      checked-same n (u .loader .s) (u .loader .t) (matrixOf (u .lists .matrix) n) (given .A) (vectorOf (u .lists .right)) (given .b) (λ i. natAbs (at (u .lists .tolerance) i)) (given .d) (vectorOf (u .lists .guess)) (given .X)
       (matrixOf (u .lists .inverse) n) (given .G) (λ i. natAbs (at (u .lists .weights) i)) (given .w)
-      (wide Matrix refl) (narrow Right refl) (narrow Guess refl) (wide Inverse refl) (λ i l. ap natAbs (narrow Weight refl i l))
+      (wide Matrix refl) (narrow Right refl) (λ i l. ap natAbs (narrow Tolerance refl i l)) (narrow Guess refl) (wide Inverse refl) (λ i l. ap natAbs (narrow Weight refl i l))
       ∙ ap checkedOf given-is
 
   pub reported-forms : reportedOf (problem (inputAt u)) ≡ reportedOf (problemFrom fs)
   reported-forms =
-      reported-same n (u .loader .s) (u .loader .t) (matrixOf (u .lists .matrix) n) (given .A) (vectorOf (u .lists .right)) (given .b) (vectorOf (u .lists .guess)) (given .X)
+      reported-same n (u .loader .s) (u .loader .t) (matrixOf (u .lists .matrix) n) (given .A) (vectorOf (u .lists .right)) (given .b) (λ i. natAbs (at (u .lists .tolerance) i)) (given .d) (vectorOf (u .lists .guess)) (given .X)
       (matrixOf (u .lists .inverse) n) (given .G) (λ i. natAbs (at (u .lists .weights) i)) (given .w)
-      (wide Matrix refl) (narrow Right refl) (narrow Guess refl) (wide Inverse refl) (λ i l. ap natAbs (narrow Weight refl i l))
+      (wide Matrix refl) (narrow Right refl) (λ i l. ap natAbs (narrow Tolerance refl i l)) (narrow Guess refl) (wide Inverse refl) (λ i l. ap natAbs (narrow Weight refl i l))
       ∙ ap reportedOf given-is
 
   module _ (h : InRange u) (long : short (inputAt u) ≡ false) where
     pub ranges-hold : inRanges (inputAt u) ≡ true
     ranges-hold =
-        both (both (h .size) (both (h .solution) (h .inverse-scale))) (both (h .matrix) (both (h .right) (both (h .guess) (both (h .inverse) (h .weights)))))
+        both (both (h .size) (both (h .solution) (h .inverse-scale))) (both (h .matrix) (both (h .right) (both (h .tolerance) (both (h .guess) (both (h .inverse) (h .weights))))))
 
     pub answer-forms : answer (inputAt u) ≡ checkedOf (problemFrom fs)
     answer-forms = answer-ready (inputAt u) long ranges-hold ∙ checked-forms

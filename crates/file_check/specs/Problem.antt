@@ -5,7 +5,7 @@ use Prim.Native.Nat.{ℕ, suc}
 use lib.IntN.{natAbs}
 use Rattle.enclosure.specs.Problem.{Problem}
 use Rattle.form.specs.Form.{Form}
-use Rattle.lent_lists.specs.Slot.{Matrix, Right, Guess, Inverse, Weight}
+use Rattle.lent_lists.specs.Slot.{Matrix, Right, Tolerance, Guess, Inverse, Weight}
 use Rattle.line_runs.specs.Given.{valueFrom, sizeFrom, scalesFrom}
 
 abbrev pub problemFrom : List Form → Problem
@@ -15,6 +15,7 @@ problemFrom fs = record {
   t = scalesFrom fs .inverse;
   A = λ (i j : ℕ). valueFrom fs Matrix (suc i) j;
   b = λ (i : ℕ). valueFrom fs Right (suc i) 0;
+  d = λ (i : ℕ). natAbs (valueFrom fs Tolerance (suc i) 0);
   X = λ (i : ℕ). valueFrom fs Guess (suc i) 0;
   G = λ (i j : ℕ). valueFrom fs Inverse (suc i) j;
   w = λ (i : ℕ). natAbs (valueFrom fs Weight (suc i) 0);

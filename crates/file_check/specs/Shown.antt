@@ -15,7 +15,7 @@ use Rattle.file_check.specs.Judged.{reportedOf, lineOr}
 
 abbrev pub inputAt : State → Input
 inputAt u =
-    input (u .loader .n) (u .loader .s) (u .loader .t) (u .lists .matrix) (u .lists .right) (u .lists .guess) (u .lists .inverse) (u .lists .weights) (replicate 32 0) (replicate 1024 0)
+    input (u .loader .n) (u .loader .s) (u .loader .t) (u .lists .matrix) (u .lists .right) (u .lists .tolerance) (u .lists .guess) (u .lists .inverse) (u .lists .weights) (replicate 32 0) (replicate 1024 0)
 
 abbrev pub CheckedAs : State → CheckedFile → Type 0
 CheckedAs u r = CheckedThrough (u .loader .stage) (inputAt u) (r .outcome) (r .solution) (r .inverse)

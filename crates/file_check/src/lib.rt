@@ -24,6 +24,7 @@ fn check_file(collected: Collected) -> CheckedFile
 {
     let matrix = collected.matrix;
     let right = collected.right;
+    let tolerance = collected.tolerance;
     let guess = collected.guess;
     let inverse = collected.inverse;
     let weights = collected.weights;
@@ -33,6 +34,7 @@ fn check_file(collected: Collected) -> CheckedFile
     let outcome = loader.check(
         &matrix,
         &right,
+        &tolerance,
         &guess,
         &inverse,
         &weights,

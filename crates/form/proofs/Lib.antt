@@ -6,3 +6,4 @@ pub mod Steps
 pub mod Values
 pub mod Turns
 pub mod Printable
+pub mod Rights

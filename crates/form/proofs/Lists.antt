@@ -3,22 +3,25 @@
 --   numerals-is    — the spelling of a list is that of its first number, and that of the others
 --   others-then    — the others that are read, as a part of the line
 --   others-spelled — the others that are spelled, before the two closing brackets, are read
+--   others-none    — where a number stands after the space, and no bracket, there are none
 use mathlib.Core.Path.{_≡_, refl, sym, _∙_}
+use mathlib.Core.Bool.{false}
 use mathlib.Core.List.{List, [], _∷_, _++_, append-nil, append-assoc}
 use Prim.Native.Nat.{ℕ, zero, suc, _+_, _≤_}
 use native.Mathlib.Nat.{add-zero}
 use native.Mathlib.Omega.{arith}
-use borrow.Author.Tests.{eq-eqb, eqb-true}
+use borrow.Author.Tests.{eq-eqb, ne-eqb, eqb-true}
 use lib.Dec.{eqb}
-use lib.IntN.{ℤ}
-use lib.ListN.{length, drop, getD, length-append}
+use lib.IntN.{ℤ, pos, negsuc}
+use lib.ListN.{length, drop, getD, length-append, List·getD-eq-default}
 use Rattle.numeral.specs.Decimal.{numeral}
-use Rattle.numeral.specs.Numeral.{numberAt}
+use Rattle.numeral.specs.Numeral.{lost, sizeAt, numberAt}
 use Rattle.numeral.proofs.Places.{by-test, head-at, from, inside, rest-at}
-use Rattle.numeral.proofs.Digits.{Stops}
+use Rattle.numeral.proofs.Decimal.{decimal-small}
+use Rattle.numeral.proofs.Digits.{Stops, first-digit}
 use Rattle.numeral.proofs.Spelling.{number-spelled}
 use Rattle.form.specs.Form.{bytes, numerals}
-use Rattle.form.specs.Reading.{Others, othersAt}
+use Rattle.form.specs.Reading.{starts, wordAt, Others, othersAt}
 use Rattle.form.proofs.Words.{Then, then, part, number-then}
 
 unfoldable pub tails : List ℤ → List ℕ
@@ -68,3 +71,29 @@ module _ (s : List ℕ) where
       let o = others-spelled f (at + 1 + length (numeral z)) zs (omega arith) (rest-at s (at + 1) (numeral z) r) in
       let b : at + 1 + length (numeral z) + length (tails zs) ≡ at + suc (length (numeral z ++ tails zs)) = simp length-append (omega arith) in
       rw (eq-eqb (getD s at 0) 32 (head-at s at ∙ rw e), n, o, b)
+
+-- ---- no list
+numeral-first : (z : ℤ) (t : List ℕ) → getD (numeral z ++ t) 0 0 ≡ 40 → ⊥
+unfolding numeral
+numeral-first (pos zero) t e = absurd (omega (arith, rw (decimal-small 0 (omega arith)) at e))
+numeral-first (pos (suc n)) t e = omega (arith, first-digit (suc n) t (omega arith))
+numeral-first (negsuc n) t e = omega arith
+
+other-start : (l : List ℕ) (b : ℕ) → (getD l 0 0 ≡ b → ⊥) → starts (b ∷ []) l ≡ false
+unfolding starts
+other-start [] b n = refl
+other-start (c ∷ l) b n = rw (ne-eqb c b n)
+
+module _ (s : List ℕ) where
+  number-lost : numberAt s (lost s) .next ≡ lost s
+  unfolding numberAt sizeAt
+  number-lost = rw (List·getD-eq-default s 0 {n = lost s} (omega arith))
+
+  others-lost : (f : ℕ) → othersAt s f (lost s) .values ≡ []
+  unfolding othersAt
+  others-lost zero = refl
+  others-lost (suc f) = rw (List·getD-eq-default s 0 {n = lost s} (omega arith))
+
+  pub others-none : (at : ℕ) (z : ℤ) (t : List ℕ) → drop at s ≡ bytes " " ++ (numeral z ++ t) → othersAt s (length s) (numberAt s (wordAt s at (bytes " (")) .next) .values ≡ []
+  unfolding wordAt starts
+  others-none at z t e = rw (e, other-start (numeral z ++ t) 40 (numeral-first z t), number-lost, others-lost (length s))

@@ -16,7 +16,7 @@ use Rattle.numeral.specs.Decimal.{decimal, numeral}
 use Rattle.numeral.proofs.Decimal.{decimal-induction}
 use Rattle.form.specs.declared.Word.{Word}
 use Rattle.form.specs.declared.Word.the-variants.{Problem, Scale, Row, Right, Guess, Inverse, Weight, End}
-use Rattle.form.specs.Form.{bytes, Form, problem, scale, row, right, guess, inverse, weight, end, numerals, spell}
+use Rattle.form.specs.Form.{bytes, Form, problem, scale, row, right, rightWithin, guess, inverse, weight, end, numerals, spell}
 use Rattle.form.specs.Reading.{opening}
 
 printable : ℕ → Bool
@@ -96,6 +96,7 @@ spelled (problem n) = join (join (opens Problem) (number n)) close-one
 spelled (scale s t) = two (opens Scale) s t
 spelled (row i a others) = many (opens Row) i a others
 spelled (right i b) = two (opens Right) i b
+spelled (rightWithin i b d) = many (opens Right) i b (d ∷ [])
 spelled (guess i x) = two (opens Guess) i x
 spelled (inverse i g others) = many (opens Inverse) i g others
 spelled (weight i w) = two (opens Weight) i w
@@ -107,6 +108,7 @@ spell-some (problem n) = omega arith
 spell-some (scale s t) = omega arith
 spell-some (row i a others) = omega arith
 spell-some (right i b) = omega arith
+spell-some (rightWithin i b d) = omega arith
 spell-some (guess i x) = omega arith
 spell-some (inverse i g others) = omega arith
 spell-some (weight i w) = omega arith

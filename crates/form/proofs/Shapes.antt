@@ -19,7 +19,7 @@ use Rattle.form.specs.declared.Word.{Word}
 use Rattle.form.specs.Form.{bytes, numerals}
 use Rattle.form.specs.Reading.{opening, wordAt, headAt, othersAt, firstNumber, secondNumber, front, others, close, endOf, formAt, reading}
 use Rattle.form.proofs.Words.{word-spelled, head-spelled}
-use Rattle.form.proofs.Lists.{tails, tails-length, numerals-is, stops-tails, others-spelled}
+use Rattle.form.proofs.Lists.{tails, tails-length, numerals-is, stops-tails, others-spelled, others-none}
 
 -- s starts with p
 abbrev pub Starts : List ℕ → List ℕ → Type 0
@@ -35,6 +35,7 @@ pub record Two (s p : List ℕ) (i v : ℤ) : Type 0 where
   pub rest : Starts s p
   pub one : firstNumber s (length p) .value ≡ i
   pub two : secondNumber s (length p) .value ≡ v
+  pub none : others s (length p) .values ≡ []
   pub ends : wordAt s (secondNumber s (length p) .next) (bytes ")") ≡ length s
 
 pub record Many (s p : List ℕ) (i a : ℤ) (zs : List ℤ) : Type 0 where
@@ -53,10 +54,10 @@ module _ (s : List ℕ) where
   headed w r = rw (r .1) (head-spelled w (r .0))
 
   -- each part after the bytes p, with the bytes t after it
-  after : (p w t : List ℕ) → s ≡ p ++ w ++ t → drop (length p) s ≡ w ++ t
+  pub after : (p w t : List ℕ) → s ≡ p ++ w ++ t → drop (length p) s ≡ w ++ t
   after p w t e = rw (e, append-assoc) (drop-append-seam p (w ++ t))
 
-  number-step : (p : List ℕ) (z : ℤ) (t : List ℕ) → Stops t → s ≡ p ++ numeral z ++ t → numberAt s (length p) ≡ record { value = z; next = length (p ++ numeral z) }
+  pub number-step : (p : List ℕ) (z : ℤ) (t : List ℕ) → Stops t → s ≡ p ++ numeral z ++ t → numberAt s (length p) ≡ record { value = z; next = length (p ++ numeral z) }
   number-step p z t h e = rw length-append (number-spelled s t h (length p) z (after p (numeral z) t e))
 
   pub word-step : (p w t : List ℕ) → s ≡ p ++ w ++ t → wordAt s (length p) w ≡ length (p ++ w)
@@ -77,7 +78,7 @@ module _ (s : List ℕ) where
       let g = word-step (p ++ numeral i) (bytes " ") (numeral v ++ bytes ")") (e ∙ simp append-assoc) in
       let m = number-step (p ++ numeral i ++ bytes " ") v (bytes ")") (omega arith) e in
       let c = word-step (p ++ numeral i ++ bytes " " ++ numeral v) (bytes ")") [] (e ∙ simp append-nil) in
-      record { rest = (numeral i ++ (bytes " " ++ (numeral v ++ bytes ")")), e ∙ simp append-assoc); one = rw n; two = rw (n, g, m); ends = rw (n, g, m) (c ∙ ap length (sym e)) }
+      record { rest = (numeral i ++ (bytes " " ++ (numeral v ++ bytes ")")), e ∙ simp append-assoc); one = rw n; two = rw (n, g, m); none = rw n (others-none s (length (p ++ numeral i)) v (bytes ")") (after (p ++ numeral i) (bytes " ") (numeral v ++ bytes ")") (e ∙ simp append-assoc))); ends = rw (n, g, m) (c ∙ ap length (sym e)) }
 
   pub many-spelled : (p : List ℕ) (i a : ℤ) (zs : List ℤ) → s ≡ p ++ numeral i ++ bytes " (" ++ numerals a zs ++ bytes "))" → Many s p i a zs
   many-spelled p i a zs d =

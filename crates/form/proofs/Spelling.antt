@@ -4,18 +4,20 @@
 -- So a line is refused with 2 exactly where it is the spelling of no form (`said-2` of crate line).
 use mathlib.Core.Path.{_≡_, refl, sym, ap, _∙_}
 use mathlib.Core.Bool.{Bool, true, false, cond}
-use mathlib.Core.List.{List, [], _++_, append-assoc}
+use mathlib.Core.List.{List, [], _∷_, _++_, append-assoc}
 use mathlib.Core.Option.{none, some}
-use Prim.Native.Nat.{ℕ}
+use Prim.Native.Nat.{ℕ, suc}
 use native.Mathlib.Omega.{arith}
-use borrow.Author.Tests.{eqb-true}
+use borrow.Author.Tests.{eqb-true, ne-eqb}
+use lib.IntN.{ℤ}
 use lib.ListN.{length}
 use Rattle.numeral.specs.Decimal.{numeral}
+use Rattle.numeral.specs.Numeral.{lost}
 use Rattle.form.specs.declared.Word.{Word}
 use Rattle.form.specs.declared.Word.the-variants.{Problem, Scale, Row, Right, Guess, Inverse, Weight, End}
-use Rattle.form.specs.Form.{bytes, numerals, Form, problem, scale, row, right, guess, inverse, weight, end, spell}
-use Rattle.form.specs.Reading.{opening, wordAt, headAt, firstNumber, secondNumber, front, others, close, endOf, formAt, reading}
-use Rattle.form.proofs.Words.{Then, then, whole, word-then, number-then, head-then}
+use Rattle.form.specs.Form.{bytes, numerals, Form, problem, scale, row, right, rightWithin, guess, inverse, weight, end, spell}
+use Rattle.form.specs.Reading.{opening, wordAt, headAt, firstNumber, secondNumber, front, others, close, endOf, formOf, formAt, reading}
+use Rattle.form.proofs.Words.{Then, then, whole, word-then, word-lost, number-then, head-then}
 use Rattle.form.proofs.Shapes.{reads, headed, word-step, one-spelled, two-spelled, many-spelled}
 use Rattle.form.proofs.Lists.{numerals-is, others-then}
 
@@ -50,12 +52,22 @@ module _ (s : List ℕ) where
       → s ≡ w ++ numeral (firstNumber s h .value) ++ bytes " (" ++ numerals (front s h .value) (others s h .values) ++ bytes "))"
   list-ended t e = closed (list-then t) e ∙ rw append-assoc
 
+  -- by the list that stands there
+  right-ended : (h : ℕ) → Then s 0 (opening Right) h → (zs : List ℤ) → others s h .values ≡ zs → endOf s Right h ≡ length s
+      → s ≡ spell (formOf Right (firstNumber s h .value) (secondNumber s h .value) (front s h .value) zs)
+  unfolding spell
+  right-ended h t [] z e = two-ended t (rw z at e)
+  right-ended h t (d ∷ []) z e = list-ended t (rw z at e) ∙ rw z
+  right-ended h t (d ∷ c ∷ zs) z e =
+      let x : wordAt s (lost s) (bytes ")") ≡ length s = rw (z, ne-eqb (suc (length (d ∷ c ∷ zs))) 1 (λ n. omega arith), ne-eqb (suc (length (d ∷ c ∷ zs))) 2 (λ n. omega arith)) at e in
+      absurd (omega (arith, word-lost s (bytes ")") (omega arith)))
+
   ended : (w : Word) (h : ℕ) → Then s 0 (opening w) h → endOf s w h ≡ length s → s ≡ spell (formAt s w h)
   unfolding spell
   ended Problem h t e = closed (one-then t) e
   ended Scale h t e = two-ended t e
   ended Row h t e = list-ended t e
-  ended Right h t e = two-ended t e
+  ended Right h t e = right-ended h t (others s h .values) refl e
   ended Guess h t e = two-ended t e
   ended Inverse h t e = list-ended t e
   ended Weight h t e = two-ended t e
@@ -81,7 +93,10 @@ spelled s (row i a zs) e =
     reads s Row _ (headed s Row (o .rest)) (o .ends) ∙ rw (o .one, o .head, o .more)
 spelled s (right i b) e =
     let o = two-spelled s (opening Right) i b e in
-    reads s Right _ (headed s Right (o .rest)) (o .ends) ∙ rw (o .one, o .two)
+    reads s Right _ (headed s Right (o .rest)) (rw (o .none) (o .ends)) ∙ rw (o .none, o .one, o .two)
+spelled s (rightWithin i b d) e =
+    let o = many-spelled s (opening Right) i b (d ∷ []) e in
+    reads s Right _ (headed s Right (o .rest)) (rw (o .more) (o .ends)) ∙ rw (o .more, o .one, o .head)
 spelled s (guess i x) e =
     let o = two-spelled s (opening Guess) i x e in
     reads s Guess _ (headed s Guess (o .rest)) (o .ends) ∙ rw (o .one, o .two)

@@ -9,7 +9,7 @@ use Prim.Native.Nat.{ℕ, _+_, _-_, _≤_}
 use native.Mathlib.Omega.{arith}
 use borrow.Author.Tests.{eq-eqb, eqb-true, le-leb, lt-leb}
 use lib.Dec.{T, eqb, leb}
-use lib.ListN.{length, drop, length-append, length-drop}
+use lib.ListN.{length, drop, length-append, length-drop, drop-of-length-le}
 use lib.Seq.{drop-drop, drop-length}
 use Rattle.numeral.specs.Decimal.{numeral}
 use Rattle.numeral.specs.Numeral.{lost, numberAt}
@@ -72,6 +72,12 @@ module _ (s : List ℕ) (at : ℕ) where
 
   pub number-then : Then s at (numeral (numberAt s at .value)) (numberAt s at .next)
   number-then = part (numeral (numberAt s at .value)) (numeral-length (numberAt s at .value)) (number-read s at)
+
+-- past the end of the line no word stands
+pub word-lost : (s w : List ℕ) → 1 ≤ length w → wordAt s (lost s) w ≡ lost s
+unfolding wordAt starts
+word-lost s [] l = absurd (omega arith)
+word-lost s (b ∷ w) l = rw (drop-of-length-le s {i = lost s} (omega arith))
 
 -- ---- the head
 module _ (s : List ℕ) (at : ℕ) where

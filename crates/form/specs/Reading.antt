@@ -6,6 +6,7 @@
 --   headAt s at     — the first of the eight words whose opening stands at the place
 --   Others, othersAt s f at — the further numbers of a list, each after a single space (32), at most f, and the place after them
 --   firstNumber, secondNumber, front, others, close — the parts of a line, by the place after its opening
+--   rightLast c ..  — the place of the last bracket of a form of the word right, by the count c of the numbers in the list that stands there
 --   lastOf w ..     — the place of a form's last bracket, by its word;  endOf — the place after it
 --   formOf w i v a zs — the form of the word w from a first number, a second one, and a list;  formAt s w h — that whose opening ends at the place h
 --   reading s       — the form that the line s is, if it is one; it is one where the line ends after its last bracket
@@ -21,7 +22,7 @@ use Rattle.numeral.specs.declared.Number.{Number}
 use Rattle.form.specs.declared.Head.{Head}
 use Rattle.form.specs.declared.Word.{Word}
 use Rattle.form.specs.declared.Word.the-variants.{Problem, Scale, Row, Right, Guess, Inverse, Weight, End}
-use Rattle.form.specs.Form.{bytes, Form, problem, scale, row, right, guess, inverse, weight, end}
+use Rattle.form.specs.Form.{bytes, Form, problem, scale, row, right, rightWithin, guess, inverse, weight, end}
 
 abbrev pub opening : Word → List ℕ
 opening Problem = bytes "(problem "
@@ -84,24 +85,31 @@ others s h = othersAt s (length s) (front s h .next)
 abbrev pub close : List ℕ → ℕ → ℕ
 close s h = wordAt s (others s h .next) (bytes ")")
 
-abbrev pub lastOf : Word → ℕ → ℕ → ℕ → ℕ → ℕ
-lastOf Problem h i v l = i
-lastOf Scale h i v l = v
-lastOf Row h i v l = l
-lastOf Right h i v l = v
-lastOf Guess h i v l = v
-lastOf Inverse h i v l = l
-lastOf Weight h i v l = v
-lastOf End h i v l = h
+-- 02, Paper 5: "a list of other than two numbers there is 2". Where no list stands there, or one of a single number, it is the place after the
+-- second number, which is lost where there is none; after a list of two numbers it is the place after the list; after more it is lost.
+abbrev pub rightLast : ℕ → ℕ → ℕ → ℕ → ℕ
+rightLast c v l other = cond (eqb c 1) v (cond (eqb c 2) l other)
+
+abbrev pub lastOf : Word → ℕ → ℕ → ℕ → ℕ → ℕ → ℕ
+lastOf Problem h i v l r = i
+lastOf Scale h i v l r = v
+lastOf Row h i v l r = l
+lastOf Right h i v l r = r
+lastOf Guess h i v l r = v
+lastOf Inverse h i v l r = l
+lastOf Weight h i v l r = v
+lastOf End h i v l r = h
 
 abbrev pub endOf : List ℕ → Word → ℕ → ℕ
-endOf s w h = wordAt s (lastOf w h (firstNumber s h .next) (secondNumber s h .next) (close s h)) (bytes ")")
+endOf s w h =
+    wordAt s (lastOf w h (firstNumber s h .next) (secondNumber s h .next) (close s h) (rightLast (suc (length (others s h .values))) (secondNumber s h .next) (close s h) (lost s))) (bytes ")")
 
 abbrev pub formOf : Word → ℤ → ℤ → ℤ → List ℤ → Form
 formOf Problem i v a zs = problem i
 formOf Scale i v a zs = scale i v
 formOf Row i v a zs = row i a zs
-formOf Right i v a zs = right i v
+formOf Right i v a [] = right i v
+formOf Right i v a (d ∷ zs) = rightWithin i a d
 formOf Guess i v a zs = guess i v
 formOf Inverse i v a zs = inverse i a zs
 formOf Weight i v a zs = weight i v

@@ -1,20 +1,21 @@
 -- The capped form and the exact one.
 --   placed-capped, outside-capped, miscounted-capped — the tests say the same of both
+--   no-tolerance — 0 is a tolerance in range;  within-alone — so 3 is said alike of (right i (b 0)) and (right i b)
 --   item-exact — a form of which they do not hold is its capped form
 --   part-same  — parts at the same place are the same
 use mathlib.Core.Path.{_≡_, refl, sym, ap, ap₂, _∙_}
-use mathlib.Core.Bool.{true, false, _&&_}
+use mathlib.Core.Bool.{Bool, true, false, _&&_}
 use Prim.Native.Nat.{ℕ, zero, suc, _<_}
 use native.Mathlib.Omega.{arith}
 use borrow.Author.Tests.{not-false}
 use lib.IntN.{ℤ, pos}
 use lib.Signed.{leZ}
-use Rattle.rules.specs.Range.{inRange}
+use Rattle.rules.specs.Range.{inRange, rangeOf, ranges}
 use Rattle.rules.specs.declared.Kind.the-variants as kind
 use Rattle.rules.proofs.Ranges.{both-left, both-right}
 use Rattle.numeral.specs.Numeral.{cap, capAt}
 use Rattle.numeral.proofs.Cap.{cap-between, cap-range, cap-small, cap-in}
-use Rattle.form.specs.Form.{Form, problem, scale, row, right, guess, inverse, weight, end}
+use Rattle.form.specs.Form.{Form, problem, scale, row, right, rightWithin, guess, inverse, weight, end}
 use Rattle.form.specs.List.{numbersOf}
 use Rattle.line.specs.Line.{cappedForm, numbersIn}
 use Rattle.form_values.specs.declared.Item.the-variants.{Problem, Scale, Of}
@@ -33,17 +34,31 @@ placed-capped n (problem m) l = refl
 placed-capped n (scale s t) l = refl
 placed-capped n (row i a others) l = placed-cap n i l
 placed-capped n (right i b) l = placed-cap n i l
+placed-capped n (rightWithin i b d) l = placed-cap n i l
 placed-capped n (guess i x) l = placed-cap n i l
 placed-capped n (inverse i g others) l = placed-cap n i l
 placed-capped n (weight i w) l = placed-cap n i l
 placed-capped n end l = refl
+
+-- where no tolerance is given it is 0, which is in range
+pub no-tolerance : inRange kind.Tolerance (pos 0) ≡ true
+unfolding inRange rangeOf ranges
+no-tolerance = refl
+
+both-true : (a : Bool) → a && true ≡ a
+both-true true = refl
+both-true false = refl
+
+pub within-alone : (i b : ℤ) → outside (rightWithin i b (pos 0)) ≡ outside (right i b)
+within-alone i b = rw (no-tolerance, both-true (inRange kind.Right b))
 
 pub outside-capped : (f : Form) → outsideIn (cappedForm f) (numbersIn f .inside) ≡ outside f
 unfolding numbersOf
 outside-capped (problem n) = rw (cap-range kind.Size n)
 outside-capped (scale s t) = rw (cap-range kind.SolutionScale s, cap-range kind.InverseScale t)
 outside-capped (row i a others) = refl
-outside-capped (right i b) = rw (cap-range kind.Right b)
+outside-capped (right i b) = rw (cap-range kind.Right b) (within-alone i b)
+outside-capped (rightWithin i b d) = rw (cap-range kind.Right b, cap-range kind.Tolerance d)
 outside-capped (guess i x) = rw (cap-range kind.Guess x)
 outside-capped (inverse i g others) = refl
 outside-capped (weight i w) = rw (cap-range kind.Weight w)
@@ -55,6 +70,7 @@ miscounted-capped n (problem m) = refl
 miscounted-capped n (scale s t) = refl
 miscounted-capped n (row i a others) = refl
 miscounted-capped n (right i b) = refl
+miscounted-capped n (rightWithin i b d) = refl
 miscounted-capped n (guess i x) = refl
 miscounted-capped n (inverse i g others) = refl
 miscounted-capped n (weight i w) = refl
@@ -73,6 +89,7 @@ item-exact n (problem m) l h o = ap Problem (cap-in kind.Size m (not-false _ o))
 item-exact n (scale s t) l h o = scale-exact s t (not-false _ o)
 item-exact n (row i a others) l h o = of-exact Row n i l h
 item-exact n (right i b) l h o = of-exact Right n i l h
+item-exact n (rightWithin i b d) l h o = of-exact Right n i l h
 item-exact n (guess i x) l h o = of-exact Guess n i l h
 item-exact n (inverse i g others) l h o = of-exact Inverse n i l h
 item-exact n (weight i w) l h o = of-exact Weight n i l h

@@ -3,7 +3,7 @@
 --   itemIn m      — itemOf
 --   outsideIn m b — outside, b telling whether the numbers of a list are in their range
 --   miscountedIn n m c — miscounted, c being the count of a list
---   valuesIn m vs — 32 numbers, of which the first are those that it gives for a list
+--   valuesIn m vs — 32 numbers, of which the first are those that it gives for a list; of a right side the second is its tolerance
 use mathlib.Core.Bool.{Bool, false, not, _&&_}
 use mathlib.Core.List.{List}
 use Prim.Native.Nat.{ℕ}
@@ -22,7 +22,7 @@ abbrev pub itemIn : CappedForm → Item
 itemIn (form.Problem n) = Problem n
 itemIn (form.Scale s t) = Scale s t
 itemIn (form.Row i) = Of Row i
-itemIn (form.Right i b) = Of Right i
+itemIn (form.Right i b d) = Of Right i
 itemIn (form.Guess i x) = Of Guess i
 itemIn (form.Inverse i) = Of Inverse i
 itemIn (form.Weight i w) = Of Weight i
@@ -32,7 +32,7 @@ abbrev pub outsideIn : CappedForm → Bool → Bool
 outsideIn (form.Problem n) inside = not (inRange kind.Size n)
 outsideIn (form.Scale s t) inside = not (inRange kind.SolutionScale s && inRange kind.InverseScale t)
 outsideIn (form.Row i) inside = not inside
-outsideIn (form.Right i b) inside = not (inRange kind.Right b)
+outsideIn (form.Right i b d) inside = not (inRange kind.Right b && inRange kind.Tolerance d)
 outsideIn (form.Guess i x) inside = not (inRange kind.Guess x)
 outsideIn (form.Inverse i) inside = not inside
 outsideIn (form.Weight i w) inside = not (inRange kind.Weight w)
@@ -42,7 +42,7 @@ abbrev pub miscountedIn : ℕ → CappedForm → ℕ → Bool
 miscountedIn n (form.Problem m) c = false
 miscountedIn n (form.Scale s t) c = false
 miscountedIn n (form.Row i) c = not (eqb c n)
-miscountedIn n (form.Right i b) c = false
+miscountedIn n (form.Right i b d) c = false
 miscountedIn n (form.Guess i x) c = false
 miscountedIn n (form.Inverse i) c = not (eqb c n)
 miscountedIn n (form.Weight i w) c = false
@@ -52,7 +52,7 @@ abbrev pub valuesIn : CappedForm → List ℤ → List ℤ
 valuesIn (form.Problem n) vs = vs
 valuesIn (form.Scale s t) vs = vs
 valuesIn (form.Row i) vs = vs
-valuesIn (form.Right i b) vs = set vs 0 b
+valuesIn (form.Right i b d) vs = set (set vs 0 b) 1 d
 valuesIn (form.Guess i x) vs = set vs 0 x
 valuesIn (form.Inverse i) vs = vs
 valuesIn (form.Weight i w) vs = set vs 0 w

@@ -45,7 +45,7 @@ pub fn item_of(form: CappedForm) -> Item
         CappedForm::Problem(n) => Item::Problem(n),
         CappedForm::Scale(s, t) => Item::Scale(s, t),
         CappedForm::Row(i) => Item::Of(Part::Row, i),
-        CappedForm::Right(i, _) => Item::Of(Part::Right, i),
+        CappedForm::Right(i, _, _) => Item::Of(Part::Right, i),
         CappedForm::Guess(i, _) => Item::Of(Part::Guess, i),
         CappedForm::Inverse(i) => Item::Of(Part::Inverse, i),
         CappedForm::Weight(i, _) => Item::Of(Part::Weight, i),
@@ -79,7 +79,13 @@ pub fn is_outside(form: CappedForm, inside: bool) -> bool
             }
         }
         CappedForm::Row(_) => !inside,
-        CappedForm::Right(_, b) => !rules::is_in_range(Kind::Right, b),
+        CappedForm::Right(_, b, d) => {
+            if rules::is_in_range(Kind::Right, b) {
+                !rules::is_in_range(Kind::Tolerance, d)
+            } else {
+                true
+            }
+        }
         CappedForm::Guess(_, x) => !rules::is_in_range(Kind::Guess, x),
         CappedForm::Inverse(_) => !inside,
         CappedForm::Weight(_, w) => !rules::is_in_range(Kind::Weight, w),
@@ -95,7 +101,7 @@ pub fn is_miscounted(form: CappedForm, count: usize, n: usize) -> bool
         CappedForm::Problem(_) => false,
         CappedForm::Scale(_, _) => false,
         CappedForm::Row(_) => !(count == n),
-        CappedForm::Right(_, _) => false,
+        CappedForm::Right(_, _, _) => false,
         CappedForm::Guess(_, _) => false,
         CappedForm::Inverse(_) => !(count == n),
         CappedForm::Weight(_, _) => false,
@@ -103,7 +109,7 @@ pub fn is_miscounted(form: CappedForm, count: usize, n: usize) -> bool
     }
 }
 
-// The numbers that a form puts into a list come first; those of a row or of an inverse row are the numbers beside it.
+// The numbers that a form puts into a list come first, the tolerance after the right side; those of a row or of an inverse row are the numbers beside it.
 pub fn values_of(form: CappedForm, listed: [i64; 32]) -> [i64; 32]
     ensures { λ r. ⌜ r ≡ valuesIn form listed ⌝ }
 {
@@ -112,8 +118,9 @@ pub fn values_of(form: CappedForm, listed: [i64; 32]) -> [i64; 32]
         CappedForm::Problem(_) => {}
         CappedForm::Scale(_, _) => {}
         CappedForm::Row(_) => {}
-        CappedForm::Right(_, b) => {
+        CappedForm::Right(_, b, d) => {
             values[0] = b;
+            values[1] = d;
         }
         CappedForm::Guess(_, x) => {
             values[0] = x;

@@ -4,7 +4,8 @@
 --   zero-answer, zero-reported — of a listing the number 0 is said of an accepted file alone, and then the report stands there
 --   zero-encloses, exact-zero — both halves of demand 3: 0 gives limits that enclose; a rounded exact proposal gets 0
 --   reported-encloses, exact-reported — the same of a file
---   zero-height, reported-height — there is exactly one height, as a fraction, and it lies within its limit (02, Paper 12)
+--   zero-height, reported-height — for each right side within tolerance there is exactly one height, as a fraction, and it lies within its limit (02, Papers 5
+--     and 12)
 --   entry-zero, entry-three — the register entry where its numbers are in range, and where one is not
 use mathlib.Core.Bool.{true, false}
 use mathlib.Core.List.{List, [], _∷_}

@@ -2,7 +2,7 @@
 --   search-told — the number and the values are those of the order of tests, 8, 3, 18
 --   found-first — 0 is said of a good list alone, and *tried is its place, at most the allowance
 --   none-good   — 18 is said exactly where neither 8 nor 3 is and none of the allowed lists is good
---   check-not-five — a check with the weights that stand there after 0 is never refused with 5, whatever its scale, right side and guess
+--   check-not-five — a check with the weights that stand there after 0 is never refused with 5, whatever its scale, right side, tolerances and guess
 use mathlib.Core.List.{List, [], _∷_}
 use mathlib.Core.Logic.{_↔_}
 use mathlib.Core.Path.{_≡_, sym, ap, subst, _∙_}
@@ -37,6 +37,6 @@ module _ {Q : Request} {old number : ℕ} {places : List ℕ} {tried : ℕ} {wei
     λ h. x .told .number-is ∙ ap (λ (l : List ℕ). getD l 0 0) (none-exactly Q (x .answer) weights (x .found) .1 h),
   )
 
-  pub check-not-five : number ≡ 0 → (s : ℕ) (right guess : List ℤ) (E L l : List ℕ) →
-      answer (input (Q .n) s (Q .t) (Q .matrix) right guess (Q .inverse) weights E L) ≡ 5 ∷ l → ⊥
+  pub check-not-five : number ≡ 0 → (s : ℕ) (right tolerance guess : List ℤ) (E L l : List ℕ) →
+      answer (input (Q .n) s (Q .t) (Q .matrix) right tolerance guess (Q .inverse) weights E L) ≡ 5 ∷ l → ⊥
   check-not-five e = never-five Q (x .answer) weights (x .found) (said-zero e)

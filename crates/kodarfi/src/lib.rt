@@ -46,6 +46,7 @@ pub extern "C" fn kodarfi_check(
     t: u32,
     matrix: &[i64],
     right: &[i64],
+    tolerance: &[i64],
     guess: &[i64],
     inverse: &[i64],
     weights: &[i64],
@@ -54,8 +55,8 @@ pub extern "C" fn kodarfi_check(
     places: &mut [u64; 2],
 ) -> u32
     ensures { λ r. ⌜ CheckExported
-        (input n s t (now (matrix .entry)) (now (right .entry)) (now (guess .entry)) (now (inverse .entry)) (now (weights .entry))
-        (now («solution_bounds» .entry)) (now («inverse_bounds» .entry)))
+        (input n s t (now (matrix .entry)) (now (right .entry)) (now (tolerance .entry)) (now (guess .entry)) (now (inverse .entry))
+        (now (weights .entry)) (now («solution_bounds» .entry)) (now («inverse_bounds» .entry)))
         r (now (places .exit)) (now («solution_bounds» .exit)) (now («inverse_bounds» .exit)) ⌝ }
 {
     let outcome = check(
@@ -64,6 +65,7 @@ pub extern "C" fn kodarfi_check(
         t,
         matrix,
         right,
+        tolerance,
         guess,
         inverse,
         weights,

@@ -1,7 +1,7 @@
 -- What the code writes of a form that no test refuses is what the exact form leaves.
 --   all-exact — in all lists
 use mathlib.Core.Path.{_≡_, refl, sym, ap, ap₂, subst, _∙_}
-use mathlib.Core.Bool.{Bool, true, false, not, cond}
+use mathlib.Core.Bool.{Bool, true, false, not, _&&_, cond}
 use mathlib.Core.List.{List, [], _∷_, _++_}
 use Prim.Native.Nat.{ℕ, zero, suc, _+_, _*_, _-_, _≤_}
 use native.Mathlib.Omega.{arith}
@@ -16,7 +16,7 @@ use Rattle.rules.specs.declared.Kind.the-variants as kind
 use Rattle.rules.proofs.Ranges.{both-left, both-right}
 use Rattle.numeral.specs.Numeral.{cap}
 use Rattle.numeral.proofs.Cap.{cap-in}
-use Rattle.form.specs.Form.{Form, problem, scale, row, right, guess, inverse, weight, end}
+use Rattle.form.specs.Form.{Form, problem, scale, row, right, rightWithin, guess, inverse, weight, end}
 use Rattle.form.specs.List.{noNumbers, numbersOf, allInside, firstValues}
 use Rattle.line.specs.Line.{cappedForm, numbersIn}
 use Rattle.form_values.specs.Item.{itemOf, partIndex, outside, miscounted}
@@ -24,14 +24,14 @@ use Rattle.form_values.specs.Capped.{valuesIn}
 use Rattle.form_values.specs.declared.Item.the-variants.{Problem, Scale, Of, End}
 use Rattle.form_values.specs.declared.Part.{Part}
 use Rattle.form_values.specs.declared.Part.the-variants as part
-use Rattle.form_values.proofs.Capped.{part-same}
-use Rattle.lent_lists.specs.Slot.{Slot, Matrix, Right, Guess, Inverse, Weight, partOf, width, valuesFor}
+use Rattle.form_values.proofs.Capped.{no-tolerance, part-same}
+use Rattle.lent_lists.specs.Slot.{Slot, Matrix, Right, Tolerance, Guess, Inverse, Weight, partOf, width, rightValue}
 use Rattle.lent_lists.specs.Lists.{Lists, shortLists}
 use Rattle.lent_lists.specs.Put.{putItem, put, putAll}
-use Rattle.lent_lists.specs.Pasted.{Narrow, Room, nowhere, spanOf, pastedAt, pastedAll}
+use Rattle.lent_lists.specs.Pasted.{Narrow, Room, nowhere, spanOf, pastedAt, writtenTo, pastedAll}
 use Rattle.lent_lists.proofs.Lists.{lists-≡, rooms}
 use Rattle.lent_lists.proofs.Put.{Inside, span-fits}
-use Rattle.lent_lists.proofs.Slot.{slotOf, of-part}
+use Rattle.lent_lists.proofs.Slot.{slotOf, of-part, of-right, other-part}
 
 -- ---- the numbers of a form
 values-exact : (k : Kind) (m : ℕ) (zs : List ℤ) → length zs ≤ m → allInside k zs ≡ true → take (length zs) (firstValues m zs) ≡ zs
@@ -71,26 +71,54 @@ module _ (s : Slot) (n : ℕ) (us vs l : List ℤ) (many : length us ≡ 32) whe
           ∙ ap (sets l k) (e (part-same (partOf s) q (eqb-true (partIndex (partOf s)) (partIndex q) t)))
       go false t h = sym (paste-zero l 0 us)
 
--- a list of a part is as wide as its forms
-wide : (s : Slot) (n : ℕ) {p : Part} (us vs : List ℤ) → take (width (slotOf p) n) us ≡ vs → partOf s ≡ p → take (width s n) us ≡ vs
-wide s n us vs h e = ap (λ (t : Slot). take (width t n) us) (of-part s e) ∙ h
+-- what is written to a list of a part other than right
+written-same : (us : List ℤ) (s : Slot) → (partOf s ≡ part.Right → ⊥) → writtenTo s us ≡ us
+written-same us Matrix o = refl
+written-same us Right o = refl
+written-same us Tolerance o = absurd (o refl)
+written-same us Guess o = refl
+written-same us Inverse o = refl
+written-same us Weight o = refl
 
-put-exact : (s : Slot) (n : ℕ) (f : Form) (l : List ℤ) → Narrow n (itemOf f) → length (valuesIn (cappedForm f) (numbersIn f .values)) ≡ 32 → Room (width s n) (length l) (itemOf f)
-    → outside f ≡ false → miscounted n f ≡ false → pastedAt (spanOf (partOf s) (itemOf f) (width s n)) (valuesIn (cappedForm f) (numbersIn f .values)) l ≡ put s n f l
-unfolding numbersOf
-put-exact s n (problem m) l few many r o c = sym (paste-zero l 0 (noNumbers .values))
-put-exact s n (scale u v) l few many r o c = sym (paste-zero l 0 (noNumbers .values))
+wide : (s : Slot) (n : ℕ) {p : Part} (us vs : List ℤ) → (p ≡ part.Right → ⊥) → take (width (slotOf p) n) us ≡ vs → partOf s ≡ p → take (width s n) (writtenTo s us) ≡ vs
+wide s n us vs o h e = rw (written-same us s (λ x. o (sym e ∙ x))) (ap (λ (t : Slot). take (width t n) us) (of-part s e o) ∙ h)
+
+-- a right side and its tolerance
+right-exact : (n : ℕ) (b d : ℤ) → inRange kind.Right b ≡ true → inRange kind.Tolerance d ≡ true
+    → (s : Slot) → partOf s ≡ part.Right → take (width s n) (writtenTo s (set (set (replicate 32 (pos 0)) 0 (cap b)) 1 (cap d))) ≡ rightValue s b d ∷ []
+right-exact n b d h k =
+    of-right (λ s. take (width s n) (writtenTo s (set (set (replicate 32 (pos 0)) 0 (cap b)) 1 (cap d))) ≡ rightValue s b d ∷ [])
+    (ap (λ (y : ℤ). y ∷ []) (cap-in kind.Right b h))
+    (ap (λ (y : ℤ). y ∷ []) (cap-in kind.Tolerance d k))
+
+length-written : (s : Slot) (us : List ℤ) → length us ≡ 32 → length (writtenTo s us) ≡ 32
+length-written Matrix us h = h
+length-written Right us h = h
+length-written Tolerance us h = refl
+length-written Guess us h = h
+length-written Inverse us h = h
+length-written Weight us h = h
+
+put-exact : (s : Slot) (n : ℕ) (f : Form) (l : List ℤ) → Narrow n (itemOf f) → length (writtenTo s (valuesIn (cappedForm f) (numbersIn f .values))) ≡ 32 → Room (width s n) (length l) (itemOf f)
+    → outside f ≡ false → miscounted n f ≡ false → pastedAt (spanOf (partOf s) (itemOf f) (width s n)) (writtenTo s (valuesIn (cappedForm f) (numbersIn f .values))) l ≡ put s n f l
+unfolding numbersOf cap
+put-exact s n (problem m) l few many r o c = sym (paste-zero l 0 (writtenTo s (noNumbers .values)))
+put-exact s n (scale u v) l few many r o c = sym (paste-zero l 0 (writtenTo s (noNumbers .values)))
 put-exact s n (row i a others) l few many r o c =
-    put-by s n (firstValues 32 (a ∷ others)) (a ∷ others) l many part.Row i r (wide s n (firstValues 32 (a ∷ others)) (a ∷ others) (list-exact kind.Matrix n (a ∷ others) (few .0) o c))
+    put-by s n (writtenTo s (firstValues 32 (a ∷ others))) (a ∷ others) l many part.Row i r (wide s n (firstValues 32 (a ∷ others)) (a ∷ others) (λ e. other-part e tt) (list-exact kind.Matrix n (a ∷ others) (few .0) o c))
 put-exact s n (right i b) l few many r o c =
-    put-by s n (set (replicate 32 (pos 0)) 0 (cap b)) (b ∷ []) l many part.Right i r (wide s n (set (replicate 32 (pos 0)) 0 (cap b)) (b ∷ []) (one-exact kind.Right b o))
+    put-by s n (writtenTo s (set (set (replicate 32 (pos 0)) 0 (cap b)) 1 (pos 0))) (rightValue s b (pos 0) ∷ []) l many part.Right i r (right-exact n b (pos 0) (not-false _ o) no-tolerance s)
+put-exact s n (rightWithin i b d) l few many r o c =
+    let h : inRange kind.Right b && inRange kind.Tolerance d ≡ true = not-false _ o in
+    put-by s n (writtenTo s (set (set (replicate 32 (pos 0)) 0 (cap b)) 1 (cap d))) (rightValue s b d ∷ []) l many part.Right i r
+    (right-exact n b d (both-left (inRange kind.Right b) (inRange kind.Tolerance d) h) (both-right (inRange kind.Right b) (inRange kind.Tolerance d) h) s)
 put-exact s n (guess i x) l few many r o c =
-    put-by s n (set (replicate 32 (pos 0)) 0 (cap x)) (x ∷ []) l many part.Guess i r (wide s n (set (replicate 32 (pos 0)) 0 (cap x)) (x ∷ []) (one-exact kind.Guess x o))
+    put-by s n (writtenTo s (set (replicate 32 (pos 0)) 0 (cap x))) (x ∷ []) l many part.Guess i r (wide s n (set (replicate 32 (pos 0)) 0 (cap x)) (x ∷ []) (λ e. other-part e tt) (one-exact kind.Guess x o))
 put-exact s n (inverse i g others) l few many r o c =
-    put-by s n (firstValues 32 (g ∷ others)) (g ∷ others) l many part.Inverse i r (wide s n (firstValues 32 (g ∷ others)) (g ∷ others) (list-exact kind.Inverse n (g ∷ others) (few .0) o c))
+    put-by s n (writtenTo s (firstValues 32 (g ∷ others))) (g ∷ others) l many part.Inverse i r (wide s n (firstValues 32 (g ∷ others)) (g ∷ others) (λ e. other-part e tt) (list-exact kind.Inverse n (g ∷ others) (few .0) o c))
 put-exact s n (weight i w) l few many r o c =
-    put-by s n (set (replicate 32 (pos 0)) 0 (cap w)) (w ∷ []) l many part.Weight i r (wide s n (set (replicate 32 (pos 0)) 0 (cap w)) (w ∷ []) (one-exact kind.Weight w o))
-put-exact s n end l few many r o c = sym (paste-zero l 0 (noNumbers .values))
+    put-by s n (writtenTo s (set (replicate 32 (pos 0)) 0 (cap w))) (w ∷ []) l many part.Weight i r (wide s n (set (replicate 32 (pos 0)) 0 (cap w)) (w ∷ []) (λ e. other-part e tt) (one-exact kind.Weight w o))
+put-exact s n end l few many r o c = sym (paste-zero l 0 (writtenTo s (noNumbers .values)))
 
 -- ---- all lists
 first-length : (m : ℕ) (zs : List ℤ) → length (firstValues m zs) ≡ m
@@ -106,16 +134,17 @@ values-length (problem n) = refl
 values-length (scale s t) = refl
 values-length (row i a others) = first-length 32 (a ∷ others)
 values-length (right i b) = refl
+values-length (rightWithin i b d) = refl
 values-length (guess i x) = refl
 values-length (inverse i g others) = first-length 32 (g ∷ others)
 values-length (weight i w) = refl
 values-length end = refl
 
 module _ (n : ℕ) (f : Form) (l : Lists) (enough : shortLists l ≡ false) (few : Narrow n (itemOf f)) (o : outside f ≡ false) (c : miscounted n f ≡ false) where
-  one : (s : Slot) (k : List ℤ) → Room (width s n) (length k) (itemOf f) → pastedAt (spanOf (partOf s) (itemOf f) (width s n)) (valuesIn (cappedForm f) (numbersIn f .values)) k ≡ put s n f k
-  one s k r = put-exact s n f k few (values-length f) r o c
+  one : (s : Slot) (k : List ℤ) → Room (width s n) (length k) (itemOf f) → pastedAt (spanOf (partOf s) (itemOf f) (width s n)) (writtenTo s (valuesIn (cappedForm f) (numbersIn f .values))) k ≡ put s n f k
+  one s k r = put-exact s n f k few (length-written s _ (values-length f)) r o c
 
   pub all-exact : pastedAll n (itemOf f) (valuesIn (cappedForm f) (numbersIn f .values)) l ≡ putAll n f l
   all-exact =
       let r = rooms n (itemOf f) l enough few in
-      lists-≡ (one Matrix (l .matrix) (r .matrix)) (one Right (l .right) (r .right)) (one Guess (l .guess) (r .guess)) (one Inverse (l .inverse) (r .inverse)) (one Weight (l .weights) (r .weights))
+      lists-≡ (one Matrix (l .matrix) (r .matrix)) (one Right (l .right) (r .right)) (one Tolerance (l .tolerance) (r .tolerance)) (one Guess (l .guess) (r .guess)) (one Inverse (l .inverse) (r .inverse)) (one Weight (l .weights) (r .weights))

@@ -1,7 +1,7 @@
 -- Laws of the lent lists.
 --   Long, long — lists that are not too short are long enough
 --   rooms    — they have room for every item of a part
---   lists-≡  — five equal lists;  nothing-pasted — an item of no part leaves them
+--   lists-≡  — six equal lists;  nothing-pasted — an item of no part leaves them
 use mathlib.Core.Path.{_≡_, sym}
 use mathlib.Core.Bool.{false}
 use mathlib.Core.List.{List}
@@ -13,7 +13,7 @@ use lib.ListN.{length}
 use lib.Seq.{paste-zero}
 use Rattle.rules.specs.Range.{shortMatrix, shortColumn}
 use Rattle.rules.proofs.Ranges.{neither-left, neither-right}
-use Rattle.lent_lists.specs.Pasted.{Narrow, Rooms, nowhere, pastedAt}
+use Rattle.lent_lists.specs.Pasted.{Narrow, Rooms, nowhere, pastedAt, secondOf}
 use Rattle.form_values.specs.declared.Item.{Item}
 use Rattle.form_values.specs.declared.Item.the-variants.{Problem, Scale, Of, End}
 use Rattle.lent_lists.specs.Lists.{Lists, lists, shortLists}
@@ -21,6 +21,7 @@ use Rattle.lent_lists.specs.Lists.{Lists, lists, shortLists}
 pub record Long (l : Lists) : Type 0 where
   pub matrix : 1024 ≤ length (l .matrix)
   pub right : 32 ≤ length (l .right)
+  pub tolerance : 32 ≤ length (l .tolerance)
   pub guess : 32 ≤ length (l .guess)
   pub inverse : 1024 ≤ length (l .inverse)
   pub weights : 32 ≤ length (l .weights)
@@ -29,34 +30,37 @@ pub long : (l : Lists) → shortLists l ≡ false → Long l
 long l e =
     let s₂ = neither-right (shortMatrix (length (l .matrix))) _ e in
     let s₃ = neither-right (shortColumn (length (l .right))) _ s₂ in
-    let s₄ = neither-right (shortColumn (length (l .guess))) _ s₃ in
+    let s₄ = neither-right (shortColumn (length (l .tolerance))) _ s₃ in
+    let s₅ = neither-right (shortColumn (length (l .guess))) _ s₄ in
     record {
       matrix = ltb-false (length (l .matrix)) 1024 (neither-left _ _ e);
       right = ltb-false (length (l .right)) 32 (neither-left _ _ s₂);
-      guess = ltb-false (length (l .guess)) 32 (neither-left _ _ s₃);
-      inverse = ltb-false (length (l .inverse)) 1024 (neither-left _ _ s₄);
-      weights = ltb-false (length (l .weights)) 32 (neither-right (shortMatrix (length (l .inverse))) _ s₄);
+      tolerance = ltb-false (length (l .tolerance)) 32 (neither-left _ _ s₃);
+      guess = ltb-false (length (l .guess)) 32 (neither-left _ _ s₄);
+      inverse = ltb-false (length (l .inverse)) 1024 (neither-left _ _ s₅);
+      weights = ltb-false (length (l .weights)) 32 (neither-right (shortMatrix (length (l .inverse))) _ s₅);
     }
 
-pub lists-≡ : {a b x g w a′ b′ x′ g′ w′ : List ℤ} → a ≡ a′ → b ≡ b′ → x ≡ x′ → g ≡ g′ → w ≡ w′ → lists a b x g w ≡ lists a′ b′ x′ g′ w′
-lists-≡ p q r s t = λ i. lists (p i) (q i) (r i) (s i) (t i)
+pub lists-≡ : {a b d x g w a′ b′ d′ x′ g′ w′ : List ℤ} → a ≡ a′ → b ≡ b′ → d ≡ d′ → x ≡ x′ → g ≡ g′ → w ≡ w′ → lists a b d x g w ≡ lists a′ b′ d′ x′ g′ w′
+lists-≡ p q u r s t = λ i. lists (p i) (q i) (u i) (r i) (s i) (t i)
 
 pub rooms : (n : ℕ) (x : Item) (l : Lists) → shortLists l ≡ false → Narrow n x → Rooms n x l
-rooms n (Problem m) l e h = record { matrix = h; right = h; guess = h; inverse = h; weights = h; filled = h }
-rooms n (Scale s t) l e h = record { matrix = h; right = h; guess = h; inverse = h; weights = h; filled = h }
+rooms n (Problem m) l e h = record { matrix = h; right = h; tolerance = h; guess = h; inverse = h; weights = h; filled = h }
+rooms n (Scale s t) l e h = record { matrix = h; right = h; tolerance = h; guess = h; inverse = h; weights = h; filled = h }
 rooms n (Of p i) l e h =
     let k = long l e in
     record {
       matrix = (h .0, omega (arith, k .matrix, h .0), h .1);
       right = (omega arith, omega (arith, k .right), h .1);
+      tolerance = (omega arith, omega (arith, k .tolerance), h .1);
       guess = (omega arith, omega (arith, k .guess), h .1);
       inverse = (h .0, omega (arith, k .inverse, h .0), h .1);
       weights = (omega arith, omega (arith, k .weights), h .1);
       filled = tt;
     }
-rooms n End l e h = record { matrix = h; right = omega arith; guess = omega arith; inverse = h; weights = omega arith; filled = (h, omega (arith, long l e .weights, h)) }
+rooms n End l e h = record { matrix = h; right = omega arith; tolerance = omega arith; guess = omega arith; inverse = h; weights = omega arith; filled = (h, omega (arith, long l e .weights, h)) }
 
 -- an item of no part is written nowhere
-pub nothing-pasted : (vs : List ℤ) (l : Lists) → lists (pastedAt nowhere vs (l .matrix)) (pastedAt nowhere vs (l .right)) (pastedAt nowhere vs (l .guess)) (pastedAt nowhere vs (l .inverse)) (pastedAt nowhere vs (l .weights)) ≡ l
+pub nothing-pasted : (vs : List ℤ) (l : Lists) → lists (pastedAt nowhere vs (l .matrix)) (pastedAt nowhere vs (l .right)) (pastedAt nowhere (secondOf vs) (l .tolerance)) (pastedAt nowhere vs (l .guess)) (pastedAt nowhere vs (l .inverse)) (pastedAt nowhere vs (l .weights)) ≡ l
 nothing-pasted vs l =
-    lists-≡ (sym (paste-zero (l .matrix) 0 vs)) (sym (paste-zero (l .right) 0 vs)) (sym (paste-zero (l .guess) 0 vs)) (sym (paste-zero (l .inverse) 0 vs)) (sym (paste-zero (l .weights) 0 vs))
+    lists-≡ (sym (paste-zero (l .matrix) 0 vs)) (sym (paste-zero (l .right) 0 vs)) (sym (paste-zero (l .tolerance) 0 (secondOf vs))) (sym (paste-zero (l .guess) 0 vs)) (sym (paste-zero (l .inverse) 0 vs)) (sym (paste-zero (l .weights) 0 vs))

@@ -3,7 +3,7 @@
 --   filledAt z k l — the list l with 1 at the place k, where that place is not in the set z
 --   filled n z l   — the same at every place below n
 --   weightsAfter n z x l — the weight list l after the item x: an end fills it in, any other item leaves it
---   closed n z x l — all lists after the item x: the four others stay as they are
+--   closed n z x l — all lists after the item x: the others stay as they are
 use mathlib.Core.Bool.{cond}
 use mathlib.Core.List.{List}
 use Prim.Native.Nat.{ℕ, zero, suc}
@@ -28,4 +28,4 @@ weightsAfter n z (Of p i) l = l
 weightsAfter n z End l = filled n z l
 
 abbrev pub closed : ℕ → ℕ → Item → Lists → Lists
-closed n z x l = lists (l .matrix) (l .right) (l .guess) (l .inverse) (weightsAfter n z x (l .weights))
+closed n z x l = lists (l .matrix) (l .right) (l .tolerance) (l .guess) (l .inverse) (weightsAfter n z x (l .weights))

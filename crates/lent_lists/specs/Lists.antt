@@ -7,27 +7,29 @@ use Prim.Native.Nat.{ℕ}
 use lib.IntN.{ℤ}
 use lib.ListN.{length}
 use Rattle.rules.specs.Range.{shortMatrix, shortColumn}
-use Rattle.lent_lists.specs.Slot.{Slot, Matrix, Right, Guess, Inverse, Weight}
+use Rattle.lent_lists.specs.Slot.{Slot, Matrix, Right, Tolerance, Guess, Inverse, Weight}
 
 pub record Lists : Type 0 where
   pub matrix : List ℤ
   pub right : List ℤ
+  pub tolerance : List ℤ
   pub guess : List ℤ
   pub inverse : List ℤ
   pub weights : List ℤ
 
-abbrev pub lists : List ℤ → List ℤ → List ℤ → List ℤ → List ℤ → Lists
-lists a b x g w = record { matrix = a; right = b; guess = x; inverse = g; weights = w }
+abbrev pub lists : List ℤ → List ℤ → List ℤ → List ℤ → List ℤ → List ℤ → Lists
+lists a b d x g w = record { matrix = a; right = b; tolerance = d; guess = x; inverse = g; weights = w }
 
 abbrev pub listOf : Slot → Lists → List ℤ
 listOf Matrix l = l .matrix
 listOf Right l = l .right
+listOf Tolerance l = l .tolerance
 listOf Guess l = l .guess
 listOf Inverse l = l .inverse
 listOf Weight l = l .weights
 
-abbrev pub tooShort : ℕ → ℕ → ℕ → ℕ → ℕ → Bool
-tooShort a b x g w = shortMatrix a || (shortColumn b || (shortColumn x || (shortMatrix g || shortColumn w)))
+abbrev pub tooShort : ℕ → ℕ → ℕ → ℕ → ℕ → ℕ → Bool
+tooShort a b d x g w = shortMatrix a || (shortColumn b || (shortColumn d || (shortColumn x || (shortMatrix g || shortColumn w))))
 
 abbrev pub shortLists : Lists → Bool
-shortLists l = tooShort (length (l .matrix)) (length (l .right)) (length (l .guess)) (length (l .inverse)) (length (l .weights))
+shortLists l = tooShort (length (l .matrix)) (length (l .right)) (length (l .tolerance)) (length (l .guess)) (length (l .inverse)) (length (l .weights))

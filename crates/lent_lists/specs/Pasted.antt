@@ -3,14 +3,16 @@
 --   Room w k x    — the same, in a list of length k that has room for 32 · w
 --   FillRoom n k x — an end's first n places, at most 32, are in a list of length k;  Rooms n x l — all this in every list
 --   nowhere       — no place;  spanOf p x w — the places of the item x in a list of the part p, of w numbers a form: none where it is of another part
---   pastedAt       — a list after the first of 32 numbers were written there;  pastedAll n x vs l — all lists after the item x
+--   pastedAt       — a list after the first of 32 numbers were written there
+--   secondOf vs    — 32 times the second of 32 numbers, which is a right side's tolerance;  writtenTo s vs — the numbers whose first are for the list s
+--   pastedAll n x vs l — all lists after the item x
 use mathlib.Core.Bool.{true, cond}
 use mathlib.Core.List.{List}
 use mathlib.Core.Path.{_≡_}
 use Prim.Native.Nat.{ℕ, _*_, _-_, _≤_}
 use lib.Dec.{eqb}
-use lib.IntN.{ℤ, natAbs}
-use lib.ListN.{length}
+use lib.IntN.{ℤ, pos, natAbs}
+use lib.ListN.{length, getD, replicate}
 use lib.Seq.{paste}
 use Rattle.form_values.specs.Item.{partIndex, placed}
 use Rattle.form_values.specs.declared.Item.{Item}
@@ -18,6 +20,8 @@ use Rattle.form_values.specs.declared.Item.the-variants.{Problem, Scale, Of, En
 use Rattle.form_values.specs.declared.Part.{Part}
 use Rattle.form_values.specs.declared.Part.the-variants.{Row, Right, Guess, Inverse, Weight}
 use Rattle.lent_lists.specs.declared.Span.{Span}
+use Rattle.lent_lists.specs.Slot as slot
+use Rattle.lent_lists.specs.Slot.{Slot}
 use Rattle.lent_lists.specs.Lists.{Lists}
 
 abbrev pub Narrow : ℕ → Item → Type 0
@@ -41,6 +45,7 @@ FillRoom n k End = (n ≤ 32) × (n ≤ k)
 pub record Rooms (n : ℕ) (x : Item) (l : Lists) : Type 0 where
   pub matrix : Room n (length (l .matrix)) x
   pub right : Room 1 (length (l .right)) x
+  pub tolerance : Room 1 (length (l .tolerance)) x
   pub guess : Room 1 (length (l .guess)) x
   pub inverse : Room n (length (l .inverse)) x
   pub weights : Room 1 (length (l .weights)) x
@@ -58,10 +63,22 @@ spanOf p End w = nowhere
 abbrev pub pastedAt : Span → List ℤ → List ℤ → List ℤ
 pastedAt s vs l = paste l (s .at) vs (s .count)
 
+abbrev pub secondOf : List ℤ → List ℤ
+secondOf vs = replicate 32 (getD vs 1 (pos 0))
+
+abbrev pub writtenTo : Slot → List ℤ → List ℤ
+writtenTo slot.Matrix vs = vs
+writtenTo slot.Right vs = vs
+writtenTo slot.Tolerance vs = secondOf vs
+writtenTo slot.Guess vs = vs
+writtenTo slot.Inverse vs = vs
+writtenTo slot.Weight vs = vs
+
 abbrev pub pastedAll : ℕ → Item → List ℤ → Lists → Lists
 pastedAll n x vs l = record {
   matrix = pastedAt (spanOf Row x n) vs (l .matrix);
   right = pastedAt (spanOf Right x 1) vs (l .right);
+  tolerance = pastedAt (spanOf Right x 1) (secondOf vs) (l .tolerance);
   guess = pastedAt (spanOf Guess x 1) vs (l .guess);
   inverse = pastedAt (spanOf Inverse x n) vs (l .inverse);
   weights = pastedAt (spanOf Weight x 1) vs (l .weights);

@@ -12,7 +12,7 @@ use Rattle.form.specs.Form.{Form}
 use Rattle.form_values.specs.Item.{itemOf, partIndex}
 use Rattle.form_values.specs.declared.Item.{Item}
 use Rattle.form_values.specs.declared.Item.the-variants.{Problem, Scale, Of, End}
-use Rattle.lent_lists.specs.Slot.{Slot, Matrix, Right, Guess, Inverse, Weight, partOf, width, valuesFor}
+use Rattle.lent_lists.specs.Slot.{Slot, Matrix, Right, Tolerance, Guess, Inverse, Weight, partOf, width, valuesFor}
 use Rattle.lent_lists.specs.Lists.{Lists}
 
 abbrev pub putItem : Slot → ℕ → Item → List ℤ → List ℤ → List ℤ
@@ -28,6 +28,7 @@ abbrev pub putAll : ℕ → Form → Lists → Lists
 putAll n f l = record {
   matrix = put Matrix n f (l .matrix);
   right = put Right n f (l .right);
+  tolerance = put Tolerance n f (l .tolerance);
   guess = put Guess n f (l .guess);
   inverse = put Inverse n f (l .inverse);
   weights = put Weight n f (l .weights);

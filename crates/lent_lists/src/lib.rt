@@ -1,19 +1,27 @@
-// The five lent lists: whether one is too short, where the numbers of a form are written, and what an end fills in.
+// The six lent lists: whether one is too short, where the numbers of a form are written, and what an end fills in.
 ghost use mathlib.Core.Path.{_≡_};
 ghost use Prim.Native.Nat.{_+_, _≤_, _<_};
 ghost use lib.ListN.{length};
 ghost use lib.Seq.{paste};
 ghost use Rattle.lent_lists.specs.Lists.{lists, tooShort};
 ghost use Rattle.lent_lists.specs.Filled.{filledAt, filled, weightsAfter, closed};
-ghost use Rattle.lent_lists.specs.Pasted.{Narrow, Room, FillRoom, Rooms, spanOf, pastedAt, pastedAll};
+ghost use Rattle.lent_lists.specs.Pasted.{Narrow, Room, FillRoom, Rooms, spanOf, pastedAt, secondOf, pastedAll};
 use form_values::Item;
 use form_values::Part;
 
 // 8: whether a list of one of these lengths is too short.
-pub fn is_short(matrix: usize, right: usize, guess: usize, inverse: usize, weights: usize) -> bool
-    ensures { λ r. ⌜ r ≡ tooShort matrix right guess inverse weights ⌝ }
+pub fn is_short(
+    matrix: usize,
+    right: usize,
+    tolerance: usize,
+    guess: usize,
+    inverse: usize,
+    weights: usize,
+) -> bool
+    ensures { λ r. ⌜ r ≡ tooShort matrix right tolerance guess inverse weights ⌝ }
 {
-    (matrix < 1024) | ((right < 32) | ((guess < 32) | ((inverse < 1024) | (weights < 32))))
+    (matrix < 1024)
+        | ((right < 32) | ((tolerance < 32) | ((guess < 32) | ((inverse < 1024) | (weights < 32)))))
 }
 
 // Places of a list, one after another.
@@ -65,6 +73,14 @@ fn write_part(part: Part, item: Item, values: [i64; 32], width: usize, l: &mut [
     write_values(values, span.count, l, span.at);
 }
 
+// The second of 32 numbers, 32 times.
+fn second_of(values: [i64; 32]) -> [i64; 32]
+    ensures { λ r. ⌜ r ≡ secondOf values ⌝ }
+{
+    let second = values[1];
+    [second; 32]
+}
+
 // Writes 1 at the place i of a list, where it is not in the set.
 fn fill_place(set: u32, i: usize, l: &mut [i64])
     requires { ⌜ (i < 32) × (i < length (now l)) ⌝ }
@@ -100,7 +116,8 @@ fn fill_weights(item: Item, given: u32, n: usize, weights: &mut [i64])
     }
 }
 
-// Writes the numbers of an accepted form at their own places: they come first among the values, n of them in a row, else one. An end fills in the
+// Writes the numbers of an accepted form at their own places: they come first among the values, n of them in a row, else one, and a right side's tolerance is
+// the second, which goes into a list of its own. An end fills in the
 // weights whose places are not in the set of those given.
 pub fn write_all(
     item: Item,
@@ -109,18 +126,20 @@ pub fn write_all(
     n: usize,
     matrix: &mut [i64],
     right: &mut [i64],
+    tolerance: &mut [i64],
     guess: &mut [i64],
     inverse: &mut [i64],
     weights: &mut [i64],
 )
-    requires { ⌜ Rooms n item (lists (now matrix) (now right) (now guess) (now inverse) (now weights)) ⌝ }
+    requires { ⌜ Rooms n item (lists (now matrix) (now right) (now tolerance) (now guess) (now inverse) (now weights)) ⌝ }
     ensures { λ _. ⌜
-        lists (now (matrix .exit)) (now (right .exit)) (now (guess .exit)) (now (inverse .exit)) (now (weights .exit))
-        ≡ closed n given item (pastedAll n item values (lists (now (matrix .entry)) (now (right .entry)) (now (guess .entry)) (now (inverse .entry)) (now (weights .entry))))
+        lists (now (matrix .exit)) (now (right .exit)) (now (tolerance .exit)) (now (guess .exit)) (now (inverse .exit)) (now (weights .exit))
+        ≡ closed n given item (pastedAll n item values (lists (now (matrix .entry)) (now (right .entry)) (now (tolerance .entry)) (now (guess .entry)) (now (inverse .entry)) (now (weights .entry))))
         ⌝ }
 {
     write_part(Part::Row, item, values, n, matrix);
     write_part(Part::Right, item, values, 1, right);
+    write_part(Part::Right, item, second_of(values), 1, tolerance);
     write_part(Part::Guess, item, values, 1, guess);
     write_part(Part::Inverse, item, values, n, inverse);
     write_part(Part::Weight, item, values, 1, weights);

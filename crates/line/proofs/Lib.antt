@@ -4,4 +4,5 @@ pub mod Refusals
 pub mod Steps
 pub mod Thin
 pub mod Walks
+pub mod Right
 pub mod Whole

@@ -3,30 +3,40 @@
 --   said-1 — 1 is said exactly where the line is above 320 bytes
 --   said-2 — 2 is said exactly where it is not, and is the spelling of no form
 --   said-2-empty, said-2-byte — so 2 is said of an empty line, and of one with a byte other than 32 to 126 in it, as a line feed
+--   said-2-right — and of a right side with a list of other than two numbers (02, Paper 5), whatever their count
 --   read-as — a line of at most 320 bytes that is the spelling of f is read as f
---   spell-one — a line is the spelling of one form only
+--   spell-one — a line is the spelling of one form only;  two-spellings — so (right i b) and (right i (b 0)) are spelled differently
 use mathlib.Core.Path.{_≡_, refl, sym, ap, _∙_, subst}
 use mathlib.Core.Bool.{Bool, true, false, not}
-use mathlib.Core.List.{List, [], _∷_}
+use mathlib.Core.List.{List, [], _∷_, _++_}
 use mathlib.Core.Logic.{_↔_}
 use mathlib.Core.Option.{Option, none, some}
 use Prim.Native.Nat.{ℕ, _≤_, _<_}
 use native.Mathlib.Omega.{arith}
 use borrow.Author.Tests.{ltb-true, ltb-false, lt-ltb, le-ltb, eq-eqb}
 use lib.Dec.{T, ltb, eqb}
+use lib.IntN.{ℤ, pos}
 use lib.ListN.{length, getD}
+use Rattle.numeral.specs.Decimal.{numeral}
 use Rattle.rules.specs.declared.Refusal.the-variants.{TooLong}
 use Rattle.line.specs.declared.Line.{Line}
-use Rattle.form.specs.Form.{Form, spell}
+use Rattle.form.specs.Form.{bytes, numerals, Form, right, rightWithin, spell}
 use Rattle.form.specs.Reading.{reading}
 use Rattle.line.specs.Line.{lineOf, ofReading, refused, saidOfLine}
 use Rattle.form.proofs.Printable.{spell-some, spell-printable}
+use Rattle.form.proofs.Rights.{right-unread}
 use Rattle.form.proofs.Spelling.{spelled-read, read-spelled}
 
 pub spell-one : (f g : Form) → spell f ≡ spell g → f ≡ g
 spell-one f g e =
     let r : some f ≡ some g = sym (read-spelled f) ∙ ap reading e ∙ read-spelled g in
     cc
+
+pub two-spellings : (i b : ℤ) → spell (right i b) ≡ spell (rightWithin i b (pos 0)) → ⊥
+two-spellings i b e =
+    let f : right i b ≡ rightWithin i b (pos 0) = spell-one _ _ e in
+    let z : _≡_ {A = ℕ} 0 1 = cc in
+    absurd (omega arith)
 
 -- two numbers of 01 that differ
 differ : {a b : List ℕ} → a ≡ b → T (not (eqb (getD a 0 0) (getD b 0 0))) → ⊥
@@ -82,6 +92,9 @@ module _ (s : List ℕ) where
     (λ e. by-length (λ h. absurd (differ (sym (said-long h) ∙ e) tt)) (λ h. (h, λ f p. differ (sym (said-form f h (ap reading p ∙ read-spelled f)) ∙ e) tt))),
     λ (h, n). by-reading (λ e. said-none h e) (λ f e. absurd (n f (spelled-read s f e))),
   )
+
+  pub said-2-right : (i a : ℤ) (zs : List ℤ) → s ≡ bytes "(right " ++ numeral i ++ bytes " (" ++ numerals a zs ++ bytes "))" → (length zs ≡ 1 → ⊥) → length s ≤ 320 → saidOfLine (lineOf s .answer) ≡ 2 ∷ []
+  said-2-right i a zs e other h = said-none h (right-unread s i a zs e other)
 
   pub said-2-byte : (k : ℕ) → length s ≤ 320 → k < length s → ((32 ≤ getD s k 0) × (getD s k 0 ≤ 126) → ⊥) → saidOfLine (lineOf s .answer) ≡ 2 ∷ []
   said-2-byte k h l other = said-2 .1 (h, λ f e. other (rw (sym e) at (spell-printable f k (rw e at l))))

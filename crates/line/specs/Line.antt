@@ -1,5 +1,5 @@
 -- What a line is, as the code has it: the exact reading, its numbers capped; or 01's refusals 1 and 2.
---   cappedForm f — the form with its numbers capped
+--   cappedForm f — the form with its numbers capped; 02, Paper 5: "(right i b) means d = 0"
 --   numbersIn f  — the numbers of its list, beside it
 --   refused r    — the line that is refused with r;  ofReading o — what a line is by its reading: 2 where it is no form
 --   lineOf s     — what the line s is: 1 above 320 bytes, else by its reading
@@ -9,6 +9,7 @@ use mathlib.Core.List.{List, [], _∷_}
 use mathlib.Core.Option.{Option, none, some}
 use Prim.Native.Nat.{ℕ}
 use lib.Dec.{ltb}
+use lib.IntN.{pos}
 use lib.ListN.{length}
 use Rattle.numeral.specs.Numeral.{cap}
 use Rattle.rules.specs.Refusal.{said}
@@ -22,7 +23,7 @@ use Rattle.line.specs.declared.CappedForm.{CappedForm}
 use Rattle.line.specs.declared.CappedForm.the-variants.{Problem, Scale, Row, Right, Guess, Inverse, Weight, End}
 use Rattle.line.specs.declared.Line.{Line}
 use Rattle.form.specs.declared.Numbers.{Numbers}
-use Rattle.form.specs.Form.{Form, problem, scale, row, right, guess, inverse, weight, end}
+use Rattle.form.specs.Form.{Form, problem, scale, row, right, rightWithin, guess, inverse, weight, end}
 use Rattle.form.specs.Reading.{reading}
 use Rattle.form.specs.List.{noNumbers, numbersOf}
 
@@ -30,7 +31,8 @@ abbrev pub cappedForm : Form → CappedForm
 cappedForm (problem n) = Problem (cap n)
 cappedForm (scale s t) = Scale (cap s) (cap t)
 cappedForm (row i a others) = Row (cap i)
-cappedForm (right i b) = Right (cap i) (cap b)
+cappedForm (right i b) = Right (cap i) (cap b) (pos 0)
+cappedForm (rightWithin i b d) = Right (cap i) (cap b) (cap d)
 cappedForm (guess i x) = Guess (cap i) (cap x)
 cappedForm (inverse i g others) = Inverse (cap i)
 cappedForm (weight i w) = Weight (cap i) (cap w)
@@ -41,6 +43,7 @@ numbersIn (problem n) = noNumbers
 numbersIn (scale s t) = noNumbers
 numbersIn (row i a others) = numbersOf kind.Matrix (a ∷ others)
 numbersIn (right i b) = noNumbers
+numbersIn (rightWithin i b d) = noNumbers
 numbersIn (guess i x) = noNumbers
 numbersIn (inverse i g others) = numbersOf kind.Inverse (g ∷ others)
 numbersIn (weight i w) = noNumbers

@@ -1,9 +1,9 @@
-// A line of the file: one of eight forms, spelled exactly, or 01's refusal 1 or 2.
+// A line of the file: one of the forms, spelled exactly, or 01's refusal 1 or 2.
 ghost use mathlib.Core.Path.{_≡_};
 ghost use Rattle.form.specs.Form.{bytes};
-ghost use Rattle.form.specs.Reading.{wordAt, lastOf, reading};
+ghost use Rattle.form.specs.Reading.{wordAt, rightLast, lastOf, reading};
 ghost use Rattle.line.specs.Line.{refused, ofReading, lineOf};
-ghost use Rattle.line.specs.Parts.{cappedOf, besideOf, decided};
+ghost use Rattle.line.specs.Parts.{lastIn, cappedRight, cappedOf, besideOf, decided};
 use form::Head;
 use form::Listed;
 use form::Numbers;
@@ -14,12 +14,13 @@ use rules::Refusal;
 
 mod reader;
 
-// A form's numbers, ±2^40 where they are larger in size; i comes first and is kept apart. The numbers of a list stand beside it.
+// A form's numbers, ±2^40 where they are larger in size; i comes first and is kept apart. The numbers of a row stand beside it. The third of a right side is
+// its tolerance, 0 where it has none.
 pub enum CappedForm {
     Problem(i64),
     Scale(i64, i64),
     Row(i64),
-    Right(i64, i64),
+    Right(i64, i64, i64),
     Guess(i64, i64),
     Inverse(i64),
     Weight(i64, i64),
@@ -52,15 +53,29 @@ fn after_bracket(line: &[u8], at: usize) -> usize
     form::word_at(line, at, b" (")
 }
 
-// The place of a form's last bracket, from the places after its opening, its first number, a second number, and a list with its bracket.
-fn last_of(word: Word, head: usize, first: usize, second: usize, list: usize) -> usize
-    ensures { λ r. ⌜ r ≡ lastOf word head first second list ⌝ }
+// The place of the last bracket of a right form, by the count of the numbers in the list that stands there: after the second number, after a list of two
+// numbers, or none.
+fn right_last(count: usize, second: usize, list: usize, other: usize) -> usize
+    ensures { λ r. ⌜ r ≡ rightLast count second list other ⌝ }
+{
+    if count == 1 {
+        return second;
+    }
+    if count == 2 {
+        return list;
+    }
+    other
+}
+
+// The place of a form's last bracket, from the places after its opening, its first number, a second number, a list with its bracket, and that of a right form.
+fn last_of(word: Word, head: usize, first: usize, second: usize, list: usize, right: usize) -> usize
+    ensures { λ r. ⌜ r ≡ lastOf word head first second list right ⌝ }
 {
     match word {
         Word::Problem => first,
         Word::Scale => second,
         Word::Row => list,
-        Word::Right => second,
+        Word::Right => right,
         Word::Guess => second,
         Word::Inverse => list,
         Word::Weight => second,
@@ -70,21 +85,35 @@ fn last_of(word: Word, head: usize, first: usize, second: usize, list: usize) ->
 
 // The same, from the parts themselves.
 fn last_at(line: &[u8], head: Head, first: Number, second: Number, list: Listed) -> usize
-    ensures { λ r. ⌜ r ≡ lastOf (head .word) (head .next) (first .next) (second .next) (wordAt (now (line .entry)) (list .next) (bytes ")")) ⌝ }
+    ensures { λ r. ⌜ r ≡ lastIn (now (line .entry)) head first second list ⌝ }
 {
     let word = head.word;
     let close = reader::close_at(line, list.next);
-    last_of(word, head.next, first.next, second.next, close)
+    let right = right_last(list.numbers.count, second.next, close, line.len() + 1);
+    last_of(word, head.next, first.next, second.next, close, right)
 }
 
-fn form_of(word: Word, first: i64, second: i64) -> CappedForm
-    ensures { λ r. ⌜ r ≡ cappedOf word first second ⌝ }
+// A right form: b alone, or b and its tolerance in a list.
+fn right_of(first: i64, second: i64, list: Numbers) -> CappedForm
+    ensures { λ r. ⌜ r ≡ cappedRight first second list ⌝ }
+{
+    if list.count == 1 {
+        return CappedForm::Right(first, second, 0);
+    }
+    let values = list.values;
+    let b = values[0];
+    let d = values[1];
+    CappedForm::Right(first, b, d)
+}
+
+fn form_of(word: Word, first: i64, second: i64, list: Numbers) -> CappedForm
+    ensures { λ r. ⌜ r ≡ cappedOf word first second list ⌝ }
 {
     match word {
         Word::Problem => CappedForm::Problem(first),
         Word::Scale => CappedForm::Scale(first, second),
         Word::Row => CappedForm::Row(first),
-        Word::Right => CappedForm::Right(first, second),
+        Word::Right => right_of(first, second, list),
         Word::Guess => CappedForm::Guess(first, second),
         Word::Inverse => CappedForm::Inverse(first),
         Word::Weight => CappedForm::Weight(first, second),
@@ -127,7 +156,7 @@ fn decide(line: &[u8], head: Head, first: Number, second: Number, list: Listed, 
     let word = head.word;
     let numbers = list.numbers;
     Line {
-        answer: Answer::Form(form_of(word, first.value, second.value)),
+        answer: Answer::Form(form_of(word, first.value, second.value, numbers)),
         numbers: numbers_of(word, numbers),
     }
 }

@@ -13,7 +13,7 @@ use lib.IntN.{ℤ, natAbs}
 use lib.ListN.{length}
 use Rattle.integer.proofs.Search.{clash}
 use Rattle.rules.proofs.Ranges.{size-range}
-use Rattle.form.specs.Form.{Form, problem, scale, row, right, guess, inverse, weight, end}
+use Rattle.form.specs.Form.{Form, problem, scale, row, right, rightWithin, guess, inverse, weight, end}
 use Rattle.form_values.specs.Item.{itemOf}
 use Rattle.lent_lists.specs.Lists.{Lists}
 use Rattle.form_values.specs.declared.Item.the-variants.{Of}
@@ -66,6 +66,7 @@ module _ (d : Loader) (h : Sound d) (going : ended (d .stage) ≡ false) where
   form-falls (scale s t) p q r = rw (is-sized (d .stage) (not-false _ (p .early)) (p .repeated)) (omega arith)
   form-falls (row i a others) p q r = part-falls Row i (p .early) (p .misplaced) (p .repeated)
   form-falls (right i b) p q r = part-falls Right i (p .early) (p .misplaced) (p .repeated)
+  form-falls (rightWithin i b c) p q r = part-falls Right i (p .early) (p .misplaced) (p .repeated)
   form-falls (guess i x) p q r = part-falls Guess i (p .early) (p .misplaced) (p .repeated)
   form-falls (inverse i g others) p q r = part-falls Inverse i (p .early) (p .misplaced) (p .repeated)
   form-falls (weight i w) p q r = part-falls Weight i (p .early) (p .misplaced) (p .repeated)
@@ -76,6 +77,7 @@ module _ (d : Loader) (h : Sound d) (going : ended (d .stage) ≡ false) where
   end-falls (scale s t) p r = clash false r refl
   end-falls (row i a others) p r = clash (ended (d .stage)) r going
   end-falls (right i b) p r = clash (ended (d .stage)) r going
+  end-falls (rightWithin i b c) p r = clash (ended (d .stage)) r going
   end-falls (guess i x) p r = clash (ended (d .stage)) r going
   end-falls (inverse i g others) p r = clash (ended (d .stage)) r going
   end-falls (weight i w) p r = clash (ended (d .stage)) r going
@@ -89,6 +91,7 @@ module _ (d : Loader) (h : Sound d) (going : ended (d .stage) ≡ false) where
   first-falls (scale s t) p q = clash (sized (d .stage)) (not-false _ (p .early)) q
   first-falls (row i a others) p q = clash (sized (d .stage)) (late (d .stage) (p .early)) q
   first-falls (right i b) p q = clash (sized (d .stage)) (late (d .stage) (p .early)) q
+  first-falls (rightWithin i b c) p q = clash (sized (d .stage)) (late (d .stage) (p .early)) q
   first-falls (guess i x) p q = clash (sized (d .stage)) (late (d .stage) (p .early)) q
   first-falls (inverse i g others) p q = clash (sized (d .stage)) (late (d .stage) (p .early)) q
   first-falls (weight i w) p q = clash (sized (d .stage)) (late (d .stage) (p .early)) q

@@ -17,7 +17,7 @@ use Rattle.form_values.specs.declared.Item.the-variants.{Problem, Scale, Of}
 use Rattle.form_values.specs.declared.Part.{Part}
 use Rattle.form_values.specs.declared.Part.the-variants as part
 use Rattle.lent_lists.specs.Slot.{Slot, Weight, partOf, width, valuesFor}
-use Rattle.lent_lists.proofs.Slot.{of-part}
+use Rattle.lent_lists.proofs.Slot.{of-part, other-part}
 use Rattle.lent_lists.specs.Lists.{Lists}
 use Rattle.given_forms.specs.Progress.{given, ended}
 use Rattle.given_forms.proofs.Progress.{scaled-sized}
@@ -50,7 +50,7 @@ not-of : (f : Form) (s : Slot) → (s ≡ Weight → ⊥) → {k : ℤ} → item
 not-of f s n e i w q =
     let z : Of part.Weight i ≡ Of (partOf s) _ = ap itemOf (sym q) ∙ e in
     let p : part.Weight ≡ partOf s = cc in
-    n (of-part s (sym p))
+    n (of-part s (sym p) (λ x. other-part x tt))
 
 module _ (l l′ : Lists) (lines lines′ : List (List ℕ)) (a : Accepts (fromNew l) lines) (a′ : Accepts (fromNew l′) lines′)
     (e : ended (run (fromNew l) lines .loader .stage) ≡ true) (same : (f : Form) → NotWeight f → In f (forms lines) → In f (forms lines′)) where

@@ -20,7 +20,7 @@ use Rattle.form_values.specs.Item.{itemOf, partIndex}
 use Rattle.form_values.specs.declared.Item.the-variants.{Problem, Scale, Of, End}
 use Rattle.form_values.specs.declared.Part.{Part}
 use Rattle.form_values.proofs.Capped.{part-same}
-use Rattle.lent_lists.specs.Slot.{Slot, Matrix, Right, Guess, Inverse, Weight, partOf, width, valuesFor}
+use Rattle.lent_lists.specs.Slot.{Slot, Matrix, Right, Tolerance, Guess, Inverse, Weight, partOf, width, valuesFor}
 use Rattle.lent_lists.specs.Lists.{Lists, listOf}
 use Rattle.lent_lists.specs.Put.{put, putAll}
 use Rattle.lent_lists.specs.Filled.{closed}
@@ -70,6 +70,7 @@ module _ (w : ℕ) (vs l : List ℤ) (i : ℕ) (from : 1 ≤ i) (count : length 
 list-put : (s : Slot) (n : ℕ) (f : Form) (l : Lists) → listOf s (putAll n f l) ≡ put s n f (listOf s l)
 list-put Matrix n f l = refl
 list-put Right n f l = refl
+list-put Tolerance n f l = refl
 list-put Guess n f l = refl
 list-put Inverse n f l = refl
 list-put Weight n f l = refl
@@ -92,6 +93,7 @@ module _ (n : ℕ) (f : Form) (l : Lists) where
     pub cell-end : (s : Slot) (k j : ℕ) → 1 ≤ k → j < width s n → (s ≡ Weight → hasPlace z (k - 1) ≡ true) → cell after n s k j ≡ cell l n s k j
     cell-end Matrix k j h r g = cell-put Matrix k j ∙ rw e
     cell-end Right k j h r g = cell-put Right k j ∙ rw e
+    cell-end Tolerance k j h r g = cell-put Tolerance k j ∙ rw e
     cell-end Guess k j h r g = cell-put Guess k j ∙ rw e
     cell-end Inverse k j h r g = cell-put Inverse k j ∙ rw e
     cell-end Weight k j h r g =

@@ -19,7 +19,7 @@ use Rattle.rules.specs.Range.{inRange}
 use Rattle.rules.specs.declared.Kind.the-variants.{Size}
 use Rattle.rules.proofs.Tests.{None, skip, skipped, someOf, some-said, Moved, moved, same, other}
 use Rattle.rules.proofs.Verdicts.{nothing-is-not}
-use Rattle.form.specs.Form.{Form, problem, scale, row, right, guess, inverse, weight, end}
+use Rattle.form.specs.Form.{Form, problem, scale, row, right, rightWithin, guess, inverse, weight, end}
 use Rattle.form.specs.Reading.{reading}
 use Rattle.form_values.specs.Item.{itemOf, placed, outside, miscounted}
 use Rattle.form_values.specs.declared.Item.{Item}
@@ -76,6 +76,7 @@ module _ (d : Loader) where
   form-becomes (scale s t) r p e = whole-becomes (outside (scale s t)) (second-scale r) e
   form-becomes (row i a others) r p e = part-becomes Row i (outside (row i a others)) (miscounted (d .n) (row i a others)) r p e
   form-becomes (right i b) r p e = part-becomes Right i (outside (right i b)) false r p e
+  form-becomes (rightWithin i b c) r p e = part-becomes Right i (outside (rightWithin i b c)) false r p e
   form-becomes (guess i x) r p e = part-becomes Guess i (outside (guess i x)) false r p e
   form-becomes (inverse i g others) r p e = part-becomes Inverse i (outside (inverse i g others)) (miscounted (d .n) (inverse i g others)) r p e
   form-becomes (weight i w) r p e = part-becomes Weight i (outside (weight i w)) false r p e

@@ -20,7 +20,7 @@ use Rattle.form_values.specs.Item.{itemOf, partIndex}
 use Rattle.form_values.specs.declared.Item.{Item}
 use Rattle.form_values.specs.declared.Item.the-variants.{Problem, Scale, Of, End}
 use Rattle.form_values.specs.declared.Part.the-variants as part
-use Rattle.lent_lists.specs.Slot.{Slot, Matrix, Right, Guess, Inverse, Weight, partOf, width, valuesFor}
+use Rattle.lent_lists.specs.Slot.{Slot, Matrix, Right, Tolerance, Guess, Inverse, Weight, partOf, width, valuesFor}
 use Rattle.lent_lists.specs.Lists.{Lists, shortLists}
 use Rattle.lent_lists.specs.Put.{putItem, put}
 use Rattle.lent_lists.specs.Filled.{weightsAfter}
@@ -61,7 +61,7 @@ long-kept : (d : Loader) (f : Form) (l : Lists) → shortLists (listsWith d f l)
 long-kept d f l =
     let n = d .n in
     let same : (s : Slot) (k : List ℤ) → length (put s n f k) ≡ length k = λ s k. length-put s n (itemOf f) (valuesFor s f) k in
-    rw (length-weights n (setOf (d .sets) part.Weight) (itemOf f) (put Weight n f (l .weights)), same Matrix (l .matrix), same Right (l .right), same Guess (l .guess), same Inverse (l .inverse), same Weight (l .weights))
+    rw (length-weights n (setOf (d .sets) part.Weight) (itemOf f) (put Weight n f (l .weights)), same Matrix (l .matrix), same Right (l .right), same Tolerance (l .tolerance), same Guess (l .guess), same Inverse (l .inverse), same Weight (l .weights))
 
 pub run-long : (u : State) (lines : List (List ℕ)) → Accepts u lines → shortLists (u .lists) ≡ false → shortLists (run u lines .lists) ≡ false
 unfolding run
@@ -89,15 +89,15 @@ reckons n m k i = go (ltb m n) (ltb k n) (ltb i (n * n))
 
 abbrev pub inputOf : State → List ℕ → List ℕ → Input
 inputOf u E L =
-    input (u .loader .n) (u .loader .s) (u .loader .t) (u .lists .matrix) (u .lists .right) (u .lists .guess) (u .lists .inverse) (u .lists .weights) E L
+    input (u .loader .n) (u .loader .s) (u .loader .t) (u .lists .matrix) (u .lists .right) (u .lists .tolerance) (u .lists .guess) (u .lists .inverse) (u .lists .weights) E L
 
 pub enough : (u : State) (E L : List ℕ) → shortLists (u .lists) ≡ false → 32 ≤ length E → 1024 ≤ length L → checker.short (inputOf u E L) ≡ false
 enough u E L s e l =
     let h : Long (u .lists) = long (u .lists) s in
-    rw (le-ltb _ 1024 (h .matrix), le-ltb _ 32 (h .right), le-ltb _ 32 (h .guess), le-ltb _ 1024 (h .inverse), le-ltb _ 32 (h .weights), le-ltb _ 32 e, le-ltb _ 1024 l)
+    rw (le-ltb _ 1024 (h .matrix), le-ltb _ 32 (h .right), le-ltb _ 32 (h .tolerance), le-ltb _ 32 (h .guess), le-ltb _ 1024 (h .inverse), le-ltb _ 32 (h .weights), le-ltb _ 32 e, le-ltb _ 1024 l)
 
 inside : (u : State) (E L : List ℕ) → InRange u → inRanges (inputOf u E L) ≡ true
-inside u E L h = both (both (h .size) (both (h .solution) (h .inverse-scale))) (both (h .matrix) (both (h .right) (both (h .guess) (both (h .inverse) (h .weights)))))
+inside u E L h = both (both (h .size) (both (h .solution) (h .inverse-scale))) (both (h .matrix) (both (h .right) (both (h .tolerance) (both (h .guess) (both (h .inverse) (h .weights))))))
 
 module _ (l : Lists) (lines : List (List ℕ)) (a : Accepts (fromNew l) lines) (e : ended (run (fromNew l) lines .loader .stage) ≡ true) (E L : List ℕ) (few : 32 ≤ length E) (many : 1024 ≤ length L) where
   abbrev last : State

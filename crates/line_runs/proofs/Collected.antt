@@ -18,7 +18,7 @@ use Rattle.form_values.specs.declared.Item.the-variants.{Problem, Scale, Of, En
 use Rattle.form_values.specs.declared.Part.{Part}
 use Rattle.form_values.specs.declared.Part.the-variants as part
 use Rattle.form_values.proofs.Capped.{part-same}
-use Rattle.lent_lists.specs.Slot.{Slot, Matrix, Right, Guess, Inverse, Weight, partOf, width, valuesFor}
+use Rattle.lent_lists.specs.Slot.{Slot, Matrix, Right, Tolerance, Guess, Inverse, Weight, partOf, width, valuesFor}
 use Rattle.lent_lists.specs.Lists.{Lists, listOf, shortLists}
 use Rattle.lent_lists.specs.Put.{putAll}
 use Rattle.lent_lists.specs.Filled.{closed}
@@ -42,6 +42,7 @@ next u g = record { loader = after (u .loader) (itemOf g); lists = listsWith (u 
 room : (l : Lists) (n : ℕ) → n ≤ 32 → shortLists l ≡ false → (s : Slot) → 32 * width s n ≤ length (listOf s l)
 room l n h e Matrix = omega (arith, long l e .matrix)
 room l n h e Right = omega (arith, long l e .right)
+room l n h e Tolerance = omega (arith, long l e .tolerance)
 room l n h e Guess = omega (arith, long l e .guess)
 room l n h e Inverse = omega (arith, long l e .inverse)
 room l n h e Weight = omega (arith, long l e .weights)

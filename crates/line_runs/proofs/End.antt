@@ -23,7 +23,7 @@ use Rattle.form_values.specs.Item.{partIndex}
 use Rattle.form_values.specs.declared.Item.{Item}
 use Rattle.form_values.specs.declared.Part.{Part}
 use Rattle.form_values.specs.declared.Part.the-variants as part
-use Rattle.lent_lists.specs.Slot.{Slot, Matrix, Right, Guess, Inverse, Weight, partOf, width, valuesFor}
+use Rattle.lent_lists.specs.Slot.{Slot, Matrix, Right, Tolerance, Guess, Inverse, Weight, partOf, width, valuesFor}
 use Rattle.lent_lists.specs.Lists.{Lists, listOf}
 use Rattle.form_values.proofs.Capped.{part-same}
 use Rattle.bit_set.specs.Places.{lacking}
@@ -58,6 +58,7 @@ all-given n z e p c k l h = lacking-none (setOf z p) n (none-at p counted (λ (q
 only-weight : (n : ℕ) (z : List ℕ) → missing n z ≡ 0 → (k : ℕ) → 1 ≤ k → k ≤ n → (s : Slot) → given z (partOf s) k ≡ false → s ≡ Weight
 only-weight n z e k l h Matrix g = clash (given z part.Row k) (all-given n z e part.Row (omega arith) k l h) g
 only-weight n z e k l h Right g = clash (given z part.Right k) (all-given n z e part.Right (omega arith) k l h) g
+only-weight n z e k l h Tolerance g = clash (given z part.Right k) (all-given n z e part.Right (omega arith) k l h) g
 only-weight n z e k l h Guess g = clash (given z part.Guess k) (all-given n z e part.Guess (omega arith) k l h) g
 only-weight n z e k l h Inverse g = clash (given z part.Inverse k) (all-given n z e part.Inverse (omega arith) k l h) g
 only-weight n z e k l h Weight g = refl
@@ -167,6 +168,7 @@ module _ (l : Lists) (lines : List (List ℕ)) (a : Accepts (fromNew l) lines) (
     inverse-scale = sound .inverse is-scaled;
     matrix = square Matrix refl;
     right = column Right refl;
+    tolerance = column Tolerance refl;
     guess = column Guess refl;
     inverse = square Inverse refl;
     weights = column Weight refl;

@@ -18,3 +18,5 @@ pub mod ChangedFile
 pub mod Pasted
 pub mod FirstBytes
 pub mod Passing
+pub mod Respelled
+pub mod Cleared

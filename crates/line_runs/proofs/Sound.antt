@@ -15,7 +15,7 @@ use Rattle.rules.specs.Range.{inRange, rangeOf, ranges}
 use Rattle.rules.specs.declared.Kind.{Kind}
 use Rattle.rules.specs.declared.Kind.the-variants as kind
 use Rattle.rules.proofs.Ranges.{both-left, both-right, range-natural}
-use Rattle.form.specs.Form.{Form, problem, scale, row, right, guess, inverse, weight, end}
+use Rattle.form.specs.Form.{Form, problem, scale, row, right, rightWithin, guess, inverse, weight, end}
 use Rattle.form_values.specs.Item.{itemOf}
 use Rattle.lent_lists.specs.Lists.{Lists}
 use Rattle.form_values.specs.declared.Item.the-variants.{Of}
@@ -114,6 +114,7 @@ module _ (d : Loader) (h : Sound d) (going : ended (d .stage) ≡ false) where
   }
   form-sound (row i a others) p = part-sound Row i (p .early)
   form-sound (right i b) p = part-sound Right i (p .early)
+  form-sound (rightWithin i b c) p = part-sound Right i (p .early)
   form-sound (guess i x) p = part-sound Guess i (p .early)
   form-sound (inverse i g others) p = part-sound Inverse i (p .early)
   form-sound (weight i w) p = part-sound Weight i (p .early)

@@ -15,7 +15,7 @@ use Rattle.form_values.specs.Item.{itemOf, partIndex}
 use Rattle.form_values.specs.declared.Item.{Item}
 use Rattle.form_values.specs.declared.Item.the-variants.{Problem, Scale, Of, End}
 use Rattle.form_values.specs.declared.Part.{Part}
-use Rattle.lent_lists.specs.Slot.{Slot, Matrix, Right, Guess, Inverse, Weight, partOf, valuesFor}
+use Rattle.lent_lists.specs.Slot.{Slot, Matrix, Right, Tolerance, Guess, Inverse, Weight, partOf, valuesFor}
 
 pub record Scales : Type 0 where
   pub solution : ℕ
@@ -30,6 +30,7 @@ isOf p k End = false
 abbrev pub absent : Slot → ℤ
 absent Matrix = pos 0
 absent Right = pos 0
+absent Tolerance = pos 0
 absent Guess = pos 0
 absent Inverse = pos 0
 absent Weight = pos 1

@@ -20,7 +20,7 @@ use Rattle.form_values.specs.Item.{itemOf, placed}
 use Rattle.form_values.specs.declared.Item.{Item}
 use Rattle.form_values.specs.declared.Item.the-variants.{Problem, Scale, Of, End}
 use Rattle.form_values.specs.declared.Part.{Part}
-use Rattle.lent_lists.specs.Slot.{Slot, Matrix, Right, Guess, Inverse, Weight, partOf, width, valuesFor}
+use Rattle.lent_lists.specs.Slot.{Slot, Matrix, Right, Tolerance, Guess, Inverse, Weight, partOf, width, valuesFor}
 use Rattle.lent_lists.specs.Lists.{Lists, listOf}
 use Rattle.given_forms.specs.Progress.{given, sized, scaled, ended}
 use Rattle.line_runs.specs.Run.{State}
@@ -32,6 +32,7 @@ pub data In (f : Form) : List Form → Type 0 where
 abbrev pub kindFor : Slot → Kind
 kindFor Matrix = kind.Matrix
 kindFor Right = kind.Right
+kindFor Tolerance = kind.Tolerance
 kindFor Guess = kind.Guess
 kindFor Inverse = kind.Inverse
 kindFor Weight = kind.Weight
@@ -70,6 +71,7 @@ pub record InRange (u : State) : Type 0 where
   pub inverse-scale : inRange kind.InverseScale (pos (u .loader .t)) ≡ true
   pub matrix : allInRange kind.Matrix (u .loader .n * u .loader .n) (λ (k : ℕ). getD (u .lists .matrix) k (pos 0)) ≡ true
   pub right : allInRange kind.Right (u .loader .n) (λ (k : ℕ). getD (u .lists .right) k (pos 0)) ≡ true
+  pub tolerance : allInRange kind.Tolerance (u .loader .n) (λ (k : ℕ). getD (u .lists .tolerance) k (pos 0)) ≡ true
   pub guess : allInRange kind.Guess (u .loader .n) (λ (k : ℕ). getD (u .lists .guess) k (pos 0)) ≡ true
   pub inverse : allInRange kind.Inverse (u .loader .n * u .loader .n) (λ (k : ℕ). getD (u .lists .inverse) k (pos 0)) ≡ true
   pub weights : allInRange kind.Weight (u .loader .n) (λ (k : ℕ). getD (u .lists .weights) k (pos 0)) ≡ true

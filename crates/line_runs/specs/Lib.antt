@@ -6,3 +6,4 @@ pub mod Read
 pub mod Holds
 pub mod Before
 pub mod Acceptable
+pub mod Respelled

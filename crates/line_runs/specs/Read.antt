@@ -25,7 +25,7 @@ readFrom k u (line ∷ lines) =
     accepted said (readFrom (k + 1) (step u line) lines) (record { said = said; line = k + 1; state = u })
 
 unfoldable pub zeros : Lists
-zeros = lists (replicate 1024 (pos 0)) (replicate 32 (pos 0)) (replicate 32 (pos 0)) (replicate 1024 (pos 0)) (replicate 32 (pos 0))
+zeros = lists (replicate 1024 (pos 0)) (replicate 32 (pos 0)) (replicate 32 (pos 0)) (replicate 32 (pos 0)) (replicate 1024 (pos 0)) (replicate 32 (pos 0))
 
 abbrev pub readingOf : List ℕ → Reading
 readingOf file = readFrom 0 (fromNew zeros) (linesOf file)

@@ -1,8 +1,9 @@
 -- Demand 3 of a whole file.
 --   Accepted, accepted-parts — of an accepted file every line is accepted, the last is an end, and the reckoning says nothing of its problem
---   file-reported, file-encloses — its listing is the report, and the limits in it enclose every exact solution and inverse
---   file-height — there is exactly one height, as a fraction, and it lies within its limit (02, Paper 12)
---   exact-accepted — a complete file with a rounded exact proposal is accepted
+--   file-reported, file-encloses — its listing is the report, and the limits in it enclose every exact solution of every right side within the tolerances
+--     (02, Paper 5), and every exact inverse
+--   file-height — for each such right side there is exactly one height, as a fraction, and it lies within its limit (02, Paper 12)
+--   exact-accepted — a complete file without tolerances, with a rounded exact proposal, is accepted
 use mathlib.Core.Path.{_≡_, refl, ap, _∙_}
 use mathlib.Core.Bool.{Bool, true, false, cond}
 use mathlib.Core.List.{List, [], _∷_}

@@ -13,8 +13,8 @@ use lib.IntN.{pos, natAbs}
 use Rattle.enclosure.specs.Problem.{Problem}
 use Rattle.checked.specs.Order.{checkedOf}
 use Rattle.checked.proofs.Agreement.{checked-same}
-use Rattle.form.specs.Form.{Form, problem, scale, row, right, guess, inverse, weight, end}
-use Rattle.lent_lists.specs.Slot.{Slot, Matrix, Right, Guess, Inverse, Weight, width}
+use Rattle.form.specs.Form.{Form, problem, scale, row, right, rightWithin, guess, inverse, weight, end}
+use Rattle.lent_lists.specs.Slot.{Slot, Matrix, Right, Tolerance, Guess, Inverse, Weight, width}
 use Rattle.line_runs.specs.Run.{forms}
 use Rattle.line_runs.specs.Lines.{linesOf}
 use Rattle.line_runs.specs.Read.{zeros}
@@ -39,6 +39,7 @@ weights-one (problem n ∷ fs) h k = weights-one fs (rest h) k
 weights-one (scale s t ∷ fs) h k = weights-one fs (rest h) k
 weights-one (row i a others ∷ fs) h k = weights-one fs (rest h) k
 weights-one (right i b ∷ fs) h k = weights-one fs (rest h) k
+weights-one (rightWithin i b d ∷ fs) h k = weights-one fs (rest h) k
 weights-one (guess i x ∷ fs) h k = weights-one fs (rest h) k
 weights-one (inverse i g others ∷ fs) h k = weights-one fs (rest h) k
 weights-one (weight i w ∷ fs) h k = go (eqb k (natAbs i)) (weights-one fs (rest h) k)
@@ -48,13 +49,14 @@ weights-one (weight i w ∷ fs) h k = go (eqb k (natAbs i)) (weights-one fs (res
     go false e = e
 weights-one (end ∷ fs) h k = weights-one fs (rest h) k
 
--- the four other lists
+-- the other lists
 index : Slot → ℕ
 index Matrix = 0
 index Right = 1
-index Guess = 2
-index Inverse = 3
-index Weight = 4
+index Tolerance = 2
+index Guess = 3
+index Inverse = 4
+index Weight = 5
 
 not-matrix : Matrix ≡ Weight → ⊥
 unfolding index
@@ -63,6 +65,10 @@ not-matrix e = omega (arith, ap index e)
 not-right : Right ≡ Weight → ⊥
 unfolding index
 not-right e = omega (arith, ap index e)
+
+not-tolerance : Tolerance ≡ Weight → ⊥
+unfolding index
+not-tolerance e = omega (arith, ap index e)
 
 not-guess : Guess ≡ Weight → ⊥
 unfolding index
@@ -89,7 +95,7 @@ module _ (file file′ : List ℕ) (c : Complete file) (c′ : Complete file′)
   module _ (equal : EqualNumbers fs gs) (ones : OnlyOnes fs) (ones′ : OnlyOnes gs) where
     -- the second problem, with n, s and t of the first
     abbrev same : Problem
-    same = record { n = P .n; s = P .s; t = P .t; A = Q .A; b = Q .b; X = Q .X; G = Q .G; w = Q .w }
+    same = record { n = P .n; s = P .s; t = P .t; A = Q .A; b = Q .b; d = Q .d; X = Q .X; G = Q .G; w = Q .w }
 
     same-is : same ≡ Q
     same-is = rw (equal .size, equal .solution, equal .inverse)
@@ -105,14 +111,14 @@ module _ (file file′ : List ℕ) (c : Complete file) (c′ : Complete file′)
 
     checked-equal : checkedOf P ≡ checkedOf Q
     checked-equal =
-        checked-same (P .n) (P .s) (P .t) (P .A) (Q .A) (P .b) (Q .b) (P .X) (Q .X) (P .G) (Q .G) (P .w) (Q .w)
-        (wide Matrix not-matrix refl) (narrow Right not-right refl) (narrow Guess not-guess refl) (wide Inverse not-inverse refl) weigh
+        checked-same (P .n) (P .s) (P .t) (P .A) (Q .A) (P .b) (Q .b) (P .d) (Q .d) (P .X) (Q .X) (P .G) (Q .G) (P .w) (Q .w)
+        (wide Matrix not-matrix refl) (narrow Right not-right refl) (λ i l. ap natAbs (narrow Tolerance not-tolerance refl i l)) (narrow Guess not-guess refl) (wide Inverse not-inverse refl) weigh
         ∙ ap checkedOf same-is
 
     reported-equal : reportedOf P ≡ reportedOf Q
     reported-equal =
-        reported-same (P .n) (P .s) (P .t) (P .A) (Q .A) (P .b) (Q .b) (P .X) (Q .X) (P .G) (Q .G) (P .w) (Q .w)
-        (wide Matrix not-matrix refl) (narrow Right not-right refl) (narrow Guess not-guess refl) (wide Inverse not-inverse refl) weigh
+        reported-same (P .n) (P .s) (P .t) (P .A) (Q .A) (P .b) (Q .b) (P .d) (Q .d) (P .X) (Q .X) (P .G) (Q .G) (P .w) (Q .w)
+        (wide Matrix not-matrix refl) (narrow Right not-right refl) (λ i l. ap natAbs (narrow Tolerance not-tolerance refl i l)) (narrow Guess not-guess refl) (wide Inverse not-inverse refl) weigh
         ∙ ap reportedOf same-is
 
     pub equal-answer : answerOf file ≡ answerOf file′

@@ -6,3 +6,5 @@ pub mod Meaning
 pub mod Table
 pub mod LeftOut
 pub mod WithOnes
+pub mod Respelled
+pub mod Tolerant

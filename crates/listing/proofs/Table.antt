@@ -1,5 +1,6 @@
 -- Cases a to l of document 01 and 02's own, and 01's whole file, follow from the definitions that the contracts cite.
 --   cases-hold — one theorem for all rows of the table, computed
+--   problem-is, complete-is, answer-is, listing-is — a file whose lines spell forms that are accepted, an end last, from those forms
 --   whole-file — the listing of 01's whole file is the one that it prints: its lines spell its forms, these are accepted, and the report of their
 --     problem has the listing's bytes, each computed
 use mathlib.Core.Path.{_≡_, refl, sym, ap, subst, _∙_}
@@ -21,7 +22,7 @@ use Rattle.checked.specs.Order as check
 use Rattle.checked.specs.Order.{checkedOf}
 use Rattle.numeral.specs.Decimal.{digits, decimal, numeral}
 use Rattle.form.specs.List.{allInside}
-use Rattle.form.specs.Form.{Form, problem, scale, row, right, guess, inverse, weight, end, numerals, spell}
+use Rattle.form.specs.Form.{Form, problem, scale, row, right, rightWithin, guess, inverse, weight, end, numerals, spell}
 use Rattle.bit_set.specs.Places.{withPlace, lacking}
 use Rattle.given_forms.specs.Progress.{missing, misplaced}
 use Rattle.loader.specs.Taken.{fresh}
@@ -38,7 +39,7 @@ use Rattle.line_runs.specs.Lines.{linesOf}
 use Rattle.line_runs.specs.Read.{zeros}
 use Rattle.line_runs.specs.Holds.{here, there}
 use Rattle.listing.specs.Cases.{table, tableHolds, wholeFile, unweightedFile, wholeListing}
-use Rattle.listing.specs.Listing.{problemIn, Complete, listingOf}
+use Rattle.listing.specs.Listing.{problemIn, Complete, answerOf, listingOf}
 use Rattle.listing.specs.LeftOut.{NoWeights}
 use Rattle.listing.proofs.Entire.{zeros-long, listing-from, answer-judged}
 use Rattle.listing.proofs.WithOnes.{not-in-none}
@@ -49,21 +50,23 @@ cases-hold = refl
 
 -- a file whose lines spell forms that are accepted, an end last
 module _ (file : List ℕ) (fs : List Form) (lines : linesOf file ≡ spelled fs) (passed : passes fresh fs ≡ true) where
-  problem-is : problemIn file ≡ problemFrom fs
+  pub problem-is : problemIn file ≡ problemFrom fs
   problem-is = ap problemFrom (ap forms lines ∙ forms-spelled fs)
 
-  complete-is : Complete file
+  pub complete-is : Complete file
   complete-is =
       let w = pass-all 0 (fromNew zeros) fs zeros-long passed in
       let r = rw (← lines) at w in
       record { lines = r .0; end = r .1 }
 
-  listing-is : {report : List ℕ} → checkedOf (problemFrom fs) ≡ [] → reportedOf (problemFrom fs) ≡ report → listingOf file ≡ report
-  listing-is c r =
-      listing-from file (answer-judged file (complete-is .lines) (complete-is .end) ∙ ap (λ (Q : Problem). printed 0 (checkedOf Q)) problem-is ∙ ap (printed 0) c) ∙ ap reportedOf problem-is ∙ r
+  pub answer-is : checkedOf (problemFrom fs) ≡ [] → answerOf file ≡ []
+  answer-is c = answer-judged file (complete-is .lines) (complete-is .end) ∙ ap (λ (Q : Problem). printed 0 (checkedOf Q)) problem-is ∙ ap (printed 0) c
+
+  pub listing-is : {report : List ℕ} → checkedOf (problemFrom fs) ≡ [] → reportedOf (problemFrom fs) ≡ report → listingOf file ≡ report
+  listing-is c r = listing-from file (answer-is c) ∙ ap reportedOf problem-is ∙ r
 
 -- the forms of the whole file
-abbrev wholeForms : List Form
+abbrev pub wholeForms : List Form
 wholeForms =
     problem (pos 2)
     ∷ scale (pos 4) (pos 4)
@@ -80,7 +83,7 @@ wholeForms =
     ∷ end
     ∷ []
 
-whole-spelled : linesOf wholeFile ≡ spelled wholeForms
+pub whole-spelled : linesOf wholeFile ≡ spelled wholeForms
 unfolding linesOf spell numerals numeral decimal digits
 whole-spelled = refl
 
@@ -143,6 +146,7 @@ plain (problem n) = true
 plain (scale s t) = true
 plain (row i a others) = true
 plain (right i b) = true
+plain (rightWithin i b d) = true
 plain (guess i x) = true
 plain (inverse i g others) = true
 plain (weight i w) = false

@@ -2,6 +2,8 @@
 --   TableRow  — cases a to k are rows of the check on lists; case l is a register entry, and Paper 2's an entry with its limit
 --   table — the table;  tableRowHolds — a case is what the definitions of the contracts give
 --   wholeFile, wholeListing — 01, "A whole file";  unweightedFile — that file without its weights (02, Paper 1)
+--   spelledOutFile — the whole file with (right 1 (5 0)) for (right 1 5) (02, Paper 5)
+--   tolerantFile, tolerantListing — a file with a tolerance: 1·x = 0 with d = 3, whose limit is 3·S
 use mathlib.Core.Bool.{Bool, true, _&&_}
 use mathlib.Core.List.{List, [], _∷_, _++_, map}
 use Prim.Native.Nat.{ℕ}
@@ -51,6 +53,17 @@ abbrev pub unweightedFile : List ℕ
 unweightedFile =
     bytes "(problem 2)\n(scale 4 4)\n(row 1 (4 -1))\n(row 2 (-1 3))\n(right 1 5)\n(right 2 1)\n"
     ++ bytes "(guess 1 23)\n(guess 2 13)\n(inverse 1 (4 1))\n(inverse 2 (1 6))\n(end)\n"
+
+abbrev pub spelledOutFile : List ℕ
+spelledOutFile =
+    bytes "(problem 2)\n(scale 4 4)\n(row 1 (4 -1))\n(row 2 (-1 3))\n(right 1 (5 0))\n(right 2 1)\n"
+    ++ bytes "(guess 1 23)\n(guess 2 13)\n(inverse 1 (4 1))\n(inverse 2 (1 6))\n(weight 1 1)\n(weight 2 1)\n(end)\n"
+
+abbrev pub tolerantFile : List ℕ
+tolerantFile = bytes "(problem 1)\n(scale 4 4)\n(row 1 (1))\n(right 1 (0 3))\n(guess 1 0)\n(inverse 1 (16))\n(end)\n"
+
+abbrev pub tolerantListing : List ℕ
+tolerantListing = bytes "(bounds 1)\n(solution 1 (0 48))\n(entry 1 (0 3))\n(inverse 1 (0))\n(end)\n"
 
 abbrev pub wholeListing : List ℕ
 wholeListing =

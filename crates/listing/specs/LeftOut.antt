@@ -1,6 +1,6 @@
 -- 02, Paper 1: "A file without weights whose every line the desk accepts, end among them, and the same file with 1 everywhere, get equal listings". What its
 -- theorem (proofs/LeftOut) asks of two files, through the forms fs and gs that they give.
---   EqualNumbers fs gs — n, s and t are equal, and every number of the four lists other than the weights
+--   EqualNumbers fs gs — n, s and t are equal, and every number of the lists other than the weights
 --   OnlyOnes fs   — every weight that is given is 1;  NoWeights fs — none is given
 --   SameOthers fs gs — both have the same forms other than weights, in whatever order
 use mathlib.Core.List.{List}

@@ -11,7 +11,7 @@ use native.Mathlib.Decide.{decLt}
 use native.Mathlib.Omega.{arith}
 use borrow.Author.Tests.{lt-ltb, le-ltb}
 use lib.Dec.{ltb}
-use Rattle.form.specs.Form.{Form, problem, scale, row, right, guess, inverse, weight, end}
+use Rattle.form.specs.Form.{Form, problem, scale, row, right, rightWithin, guess, inverse, weight, end}
 use Rattle.form.specs.Reading.{reading}
 use Rattle.bit_set.specs.Places.{lacking}
 use Rattle.form_values.specs.Item.{itemOf}
@@ -58,6 +58,7 @@ module _ (d : Loader) where
   of-form (scale s t) = same [] nothing
   of-form (row i a others) = same [] nothing
   of-form (right i b) = same [] nothing
+  of-form (rightWithin i b e) = same [] nothing
   of-form (guess i x) = same [] nothing
   of-form (inverse i g others) = same [] nothing
   of-form (weight i w) = same [] nothing

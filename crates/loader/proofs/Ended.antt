@@ -29,6 +29,7 @@ pub record EndFills (d : Loader) (l l′ : Lists) : Type 0 where
   pub size : length (l′ .weights) ≡ length (l .weights)
   pub matrix : l′ .matrix ≡ l .matrix
   pub right : l′ .right ≡ l .right
+  pub tolerance : l′ .tolerance ≡ l .tolerance
   pub guess : l′ .guess ≡ l .guess
   pub inverse : l′ .inverse ≡ l .inverse
 
@@ -43,6 +44,7 @@ module _ (d : Loader) (l : Lists) (few : d .n ≤ length (l .weights)) where
         size = length-filled (d .n) z (l .weights);
         matrix = refl;
         right = refl;
+        tolerance = refl;
         guess = refl;
         inverse = refl;
       }

@@ -15,7 +15,7 @@ use lib.ListN.{length}
 use Rattle.rules.specs.Order.{verdict}
 use Rattle.numeral.specs.Numeral.{cap, capAt}
 use Rattle.numeral.proofs.Cap.{cap-small}
-use Rattle.form.specs.Form.{Form, problem, scale, row, right, guess, inverse, weight, end}
+use Rattle.form.specs.Form.{Form, problem, scale, row, right, rightWithin, guess, inverse, weight, end}
 use Rattle.form.specs.Reading.{reading}
 use Rattle.line.specs.Line.{cappedForm, numbersIn}
 use Rattle.form_values.specs.Item.{itemOf, placed, outside, miscounted}
@@ -70,6 +70,7 @@ early-capped s (problem n) = refl
 early-capped s (scale u v) = refl
 early-capped s (row i a others) = refl
 early-capped s (right i b) = refl
+early-capped s (rightWithin i b d) = refl
 early-capped s (guess i x) = refl
 early-capped s (inverse i g others) = refl
 early-capped s (weight i w) = refl
@@ -80,6 +81,7 @@ incomplete-capped n z (problem m) = refl
 incomplete-capped n z (scale u v) = refl
 incomplete-capped n z (row i a others) = refl
 incomplete-capped n z (right i b) = refl
+incomplete-capped n z (rightWithin i b d) = refl
 incomplete-capped n z (guess i x) = refl
 incomplete-capped n z (inverse i g others) = refl
 incomplete-capped n z (weight i w) = refl
@@ -98,6 +100,7 @@ module _ (d : Loader) (f : Form) (small : d .n < capAt) where
   repeated-capped (scale u v) h = refl
   repeated-capped (row i a others) h = repeated-by Row i h
   repeated-capped (right i b) h = repeated-by Right i h
+  repeated-capped (rightWithin i b e) h = repeated-by Right i h
   repeated-capped (guess i x) h = repeated-by Guess i h
   repeated-capped (inverse i g others) h = repeated-by Inverse i h
   repeated-capped (weight i w) h = repeated-by Weight i h

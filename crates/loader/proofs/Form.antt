@@ -31,7 +31,7 @@ fits-by : (m : CappedForm) (inside : Bool) → placed 32 (itemIn m) ≡ true →
 fits-by (form.Problem n) b p e = not-false _ e
 fits-by (form.Scale s t) b p e = not-false _ e
 fits-by (form.Row i) b p e = p
-fits-by (form.Right i v) b p e = p
+fits-by (form.Right i v w) b p e = p
 fits-by (form.Guess i v) b p e = p
 fits-by (form.Inverse i) b p e = p
 fits-by (form.Weight i v) b p e = p

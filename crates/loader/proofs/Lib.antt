@@ -5,5 +5,6 @@ pub mod Exact
 pub mod Line
 pub mod Said
 pub mod Accepted
+pub mod Alike
 pub mod Count
 pub mod Ended

@@ -49,7 +49,7 @@ module _ (d : Loader) (l : Lists) (line : List ℕ) where
   kept t = record {
     says = t;
     loader = rw (← t);
-    room = record { matrix = tt; right = tt; guess = tt; inverse = tt; weights = tt; filled = tt };
+    room = record { matrix = tt; right = tt; tolerance = tt; guess = tt; inverse = tt; weights = tt; filled = tt };
     lists = rw (← t) (nothing-pasted (replicate 32 (pos 0)) l);
   }
 
@@ -101,7 +101,7 @@ module _ (d : Loader) (l : Lists) (line : List ℕ) where
             record {
               says = h .says ∙ so ∙ whole;
               loader = rw y (rw z at (h .loader));
-              room = rw x (record { matrix = tt; right = tt; guess = tt; inverse = tt; weights = tt; filled = tt });
+              room = rw x (record { matrix = tt; right = tt; tolerance = tt; guess = tt; inverse = tt; weights = tt; filled = tt });
               lists = rw (y, x) (nothing-pasted (t .values) l);
             }
 

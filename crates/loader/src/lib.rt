@@ -205,20 +205,24 @@ impl Loader {
         line: &[u8],
         matrix: &mut [i64],
         right: &mut [i64],
+        tolerance: &mut [i64],
         guess: &mut [i64],
         inverse: &mut [i64],
         weights: &mut [i64],
     ) -> Taken
         ensures { λ r. ⌜
             TakenAs self (now (line .entry))
-            (lists (now (matrix .entry)) (now (right .entry)) (now (guess .entry)) (now (inverse .entry)) (now (weights .entry)))
+            (lists (now (matrix .entry)) (now (right .entry)) (now (tolerance .entry)) (now (guess .entry)) (now (inverse .entry))
+            (now (weights .entry)))
             r
-            (lists (now (matrix .exit)) (now (right .exit)) (now (guess .exit)) (now (inverse .exit)) (now (weights .exit)))
+            (lists (now (matrix .exit)) (now (right .exit)) (now (tolerance .exit)) (now (guess .exit)) (now (inverse .exit))
+            (now (weights .exit)))
             ⌝ }
     {
         let short = lent_lists::is_short(
             matrix.len(),
             right.len(),
+            tolerance.len(),
             guess.len(),
             inverse.len(),
             weights.len(),
@@ -236,6 +240,7 @@ impl Loader {
             n,
             matrix,
             right,
+            tolerance,
             guess,
             inverse,
             weights,
@@ -249,6 +254,7 @@ impl Loader {
         self,
         matrix: &[i64],
         right: &[i64],
+        tolerance: &[i64],
         guess: &[i64],
         inverse: &[i64],
         weights: &[i64],
@@ -256,13 +262,14 @@ impl Loader {
         inverse_bounds: &mut [u64],
     ) -> Outcome
         ensures { λ r. ⌜ CheckedThrough (self .stage)
-            (input (self .n) (self .s) (self .t) (now (matrix .entry)) (now (right .entry)) (now (guess .entry)) (now (inverse .entry))
-            (now (weights .entry)) (now («solution_bounds» .entry)) (now («inverse_bounds» .entry)))
+            (input (self .n) (self .s) (self .t) (now (matrix .entry)) (now (right .entry)) (now (tolerance .entry)) (now (guess .entry))
+            (now (inverse .entry)) (now (weights .entry)) (now («solution_bounds» .entry)) (now («inverse_bounds» .entry)))
             r (now («solution_bounds» .exit)) (now («inverse_bounds» .exit)) ⌝ }
     {
         let short = admission::is_short(
             matrix.len(),
             right.len(),
+            tolerance.len(),
             guess.len(),
             inverse.len(),
             weights.len(),
@@ -277,6 +284,7 @@ impl Loader {
                 self.t,
                 matrix,
                 right,
+                tolerance,
                 guess,
                 inverse,
                 weights,

@@ -1,4 +1,5 @@
--- An accepted check through a loader: there is exactly one height, as a fraction, and it lies within the limit that the call wrote (02, Paper 12).
+-- An accepted check through a loader: for every right side within the tolerances there is exactly one height, as a fraction, and it lies within the limit that
+-- the call wrote (02, Papers 5 and 12).
 use mathlib.Core.List.{List, []}
 use mathlib.Core.Path.{_≡_}
 use Prim.Native.Nat.{ℕ, _+_, _*_}

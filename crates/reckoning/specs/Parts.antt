@@ -1,5 +1,5 @@
 -- The parts of a problem that a step of the reckoning works on, and what it makes of them; cited by contracts inside.
---   rowsPart      — the problem whose inverse stands in raised rows, as far as margins and limits need it; b and X are left out
+--   rowsPart      — the problem whose inverse stands in raised rows, as far as margins and limits need it; b, d and X are left out
 --   cutMargin     — the margin in ℕ: 0 where it is 0 or less
 --   residualFrom  — a base less A·X;  columnResidual — the residual of row k of the inverse's column j
 --   aboveAllowed a z — the size of the residual z is above a; of any size where a is below 0
@@ -21,6 +21,7 @@ rowsPart n t matrix rows weights = record {
   t = t;
   A = matrixOf matrix n;
   b = λ (i : ℕ). pos 0;
+  d = λ (i : ℕ). 0;
   X = λ (i : ℕ). pos 0;
   G = loweredRows rows n;
   w = λ (i : ℕ). natAbs (at weights i);
@@ -33,7 +34,7 @@ abbrev pub residualFrom : ℕ → List ℤ → List ℤ → List ℤ → ℕ →
 residualFrom n base matrix guess k = at base k -ℤ apply n (matrixOf matrix n) (vectorOf guess) k
 
 abbrev pub columnResidual : ℕ → ℕ → List ℤ → List ℤ → ℕ → ℕ → ℤ
-columnResidual n t matrix inverse j = residual (columnOf (problemOf n 0 t matrix [] [] inverse []) j)
+columnResidual n t matrix inverse j = residual (columnOf (problemOf n 0 t matrix [] [] [] inverse []) j)
 
 abbrev pub aboveAllowed : ℤ → ℤ → Bool
 aboveAllowed a z = ltZ a (pos (natAbs z))

@@ -13,7 +13,7 @@ use lib.Dec.{T}
 use lib.IntN.{ℤ, pos, negsuc, natAbs}
 use lib.Signed.{leZ}
 use Rattle.rules.specs.declared.Kind.{Kind}
-use Rattle.rules.specs.declared.Kind.the-variants.{Size, SolutionScale, InverseScale, Matrix, Right, Guess, Inverse, Weight, Allowance}
+use Rattle.rules.specs.declared.Kind.the-variants.{Size, SolutionScale, InverseScale, Matrix, Right, Guess, Inverse, Weight, Allowance, Tolerance}
 use Rattle.rules.specs.declared.Range.{Range}
 use Rattle.rules.specs.Range.{ranges, rangeOf, inRange}
 
@@ -103,6 +103,10 @@ module _ (z : ℤ) where
   pub right-range : inRange Right z ≡ true → natAbs z ≤ 2 ^ 30
   unfolding rangeOf ranges
   right-range e = range-size Right z e
+
+  pub tolerance-range : inRange Tolerance z ≡ true → (z ≡ pos (natAbs z)) × (natAbs z ≤ 2 ^ 20)
+  unfolding rangeOf ranges
+  tolerance-range e = (range-natural Tolerance 0 z refl e .0, range-size Tolerance z e)
 
   pub guess-range : inRange Guess z ≡ true → natAbs z ≤ 2 ^ 36
   unfolding rangeOf ranges

@@ -1,4 +1,4 @@
--- The ranges of document 01 ("The system and its steps") and, last, of document 02's Paper 7, one line of a table for each kind of number, and the
+-- The ranges of document 01 ("The system and its steps") and, last, of document 02's Papers 7 and 5, one line of a table for each kind of number, and the
 -- lengths of lent lists.
 --   fromTo a b  — the range from a to b
 --   ranges      — the table: lowest and highest value, in the order of `Kind`
@@ -15,7 +15,7 @@ use lib.IntN.{ℤ, pos, negsuc}
 use lib.ListN.{getD}
 use lib.Signed.{leZ}
 use Rattle.rules.specs.declared.Kind.{Kind}
-use Rattle.rules.specs.declared.Kind.the-variants.{Size, SolutionScale, InverseScale, Matrix, Right, Guess, Inverse, Weight, Allowance}
+use Rattle.rules.specs.declared.Kind.the-variants.{Size, SolutionScale, InverseScale, Matrix, Right, Guess, Inverse, Weight, Allowance, Tolerance}
 use Rattle.rules.specs.declared.Range.{Range}
 
 abbrev pub fromTo : ℤ → ℤ → Range
@@ -32,6 +32,7 @@ ranges =
     ∷ fromTo (negsuc 1048575) (pos 1048576)  -- inverse G
     ∷ fromTo (pos 1) (pos 1024)  -- weight w
     ∷ fromTo (pos 1) (pos 64)  -- 02, Paper 7: "The caller states how many lists may be tried, 1 to 64."
+    ∷ fromTo (pos 0) (pos 1048576)  -- 02, Paper 5: "a tolerance d of 0 to 2^20"
     ∷ []
 
 abbrev pub indexOf : Kind → ℕ
@@ -44,6 +45,7 @@ indexOf Guess = 5
 indexOf Inverse = 6
 indexOf Weight = 7
 indexOf Allowance = 8
+indexOf Tolerance = 9
 
 unfoldable pub rangeOf : Kind → Range
 rangeOf k = getD ranges (indexOf k) (fromTo (pos 0) (pos 0))

@@ -1,4 +1,4 @@
-// The ranges of document 01 and of 02's Paper 7, and 01's refusals.
+// The ranges of document 01 and of 02's Papers 7 and 5, and 01's refusals.
 ghost use mathlib.Core.Path.{_≡_};
 ghost use mathlib.Core.Bool.{_&&_};
 ghost use Prim.Native.Nat.{ℕ, _<_, _≤_};
@@ -19,6 +19,8 @@ pub enum Kind {
     Weight,
     // how many lists of weights may be tried
     Allowance,
+    // how far a right side may lie from the one that is given
+    Tolerance,
 }
 
 pub struct Range {
@@ -26,7 +28,7 @@ pub struct Range {
     pub highest: i64,
 }
 
-const RANGES: [Range; 9] = [
+const RANGES: [Range; 10] = [
     Range {
         lowest: 1,
         highest: 32,
@@ -62,6 +64,10 @@ const RANGES: [Range; 9] = [
     Range {
         lowest: 1,
         highest: 64,
+    },
+    Range {
+        lowest: 0,
+        highest: 1048576,
     },
 ];
 
@@ -101,7 +107,7 @@ pub enum Outcome {
 }
 
 fn index_of(kind: Kind) -> usize
-    ensures { λ r. ⌜ (r ≡ indexOf kind) × (r < 9) ⌝ }
+    ensures { λ r. ⌜ (r ≡ indexOf kind) × (r < 10) ⌝ }
 {
     match kind {
         Kind::Size => 0,
@@ -113,6 +119,7 @@ fn index_of(kind: Kind) -> usize
         Kind::Inverse => 6,
         Kind::Weight => 7,
         Kind::Allowance => 8,
+        Kind::Tolerance => 9,
     }
 }
 

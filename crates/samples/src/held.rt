@@ -13,6 +13,7 @@ pub struct Held {
     pub loader: Loader,
     pub matrix: [i64; 1024],
     pub right: [i64; 32],
+    pub tolerance: [i64; 32],
     pub guess: [i64; 32],
     pub inverse: [i64; 1024],
     pub weights: [i64; 32],
@@ -41,6 +42,7 @@ pub fn fresh() -> Held {
         loader: Loader::new(),
         matrix,
         right: list,
+        tolerance: list,
         guess: list,
         inverse: matrix,
         weights: list,
@@ -79,28 +81,32 @@ fn less_where(n: usize, short: bool) -> usize
     if short { n - 1 } else { n }
 }
 
-// Takes a line; of the lists 0 to 4 the one named is too short.
+// Takes a line; of the lists 0 to 5 the one named is too short.
 pub fn taken(held: Held, line: &[u8], short: u8) -> Held {
     let loader = held.loader;
     let held_matrix = held.matrix;
     let held_right = held.right;
+    let held_tolerance = held.tolerance;
     let held_guess = held.guess;
     let held_inverse = held.inverse;
     let held_weights = held.weights;
     let mut matrix = wide(held_matrix);
     let mut right = narrow(held_right);
+    let mut tolerance = narrow(held_tolerance);
     let mut guess = narrow(held_guess);
     let mut inverse = wide(held_inverse);
     let mut weights = narrow(held_weights);
     let a = less_where(1024, short == b'0');
     let b = less_where(32, short == b'1');
-    let x = less_where(32, short == b'2');
-    let g = less_where(1024, short == b'3');
-    let w = less_where(32, short == b'4');
+    let d = less_where(32, short == b'2');
+    let x = less_where(32, short == b'3');
+    let g = less_where(1024, short == b'4');
+    let w = less_where(32, short == b'5');
     let taken = loader.take(
         line,
         &mut matrix[..a],
         &mut right[..b],
+        &mut tolerance[..d],
         &mut guess[..x],
         &mut inverse[..g],
         &mut weights[..w],
@@ -111,6 +117,7 @@ pub fn taken(held: Held, line: &[u8], short: u8) -> Held {
         loader: next,
         matrix,
         right,
+        tolerance,
         guess,
         inverse,
         weights,
@@ -123,6 +130,7 @@ pub fn checked_through(held: Held, short: bool) -> Checked {
     let loader = held.loader;
     let matrix = held.matrix;
     let right = held.right;
+    let tolerance = held.tolerance;
     let guess = held.guess;
     let inverse = held.inverse;
     let weights = held.weights;
@@ -132,6 +140,7 @@ pub fn checked_through(held: Held, short: bool) -> Checked {
     let outcome = loader.check(
         &matrix,
         &right,
+        &tolerance,
         &guess,
         &inverse,
         &weights,
@@ -149,6 +158,7 @@ pub fn checked_through(held: Held, short: bool) -> Checked {
 pub fn checked_on_lists(held: Held, n: u32, s: u32, t: u32) -> Checked {
     let matrix = held.matrix;
     let right = held.right;
+    let tolerance = held.tolerance;
     let guess = held.guess;
     let inverse = held.inverse;
     let weights = held.weights;
@@ -160,6 +170,7 @@ pub fn checked_on_lists(held: Held, n: u32, s: u32, t: u32) -> Checked {
         t,
         &matrix,
         &right,
+        &tolerance,
         &guess,
         &inverse,
         &weights,

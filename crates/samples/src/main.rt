@@ -4,8 +4,8 @@
 //   l  what the rest is as a line
 //   f  the listing of the rest as a file
 //   n  a new loader, and lists that hold -7 everywhere
-//   0 to 4  take the rest as a line, with that list one number too short
-//   p  print the first ten numbers of a list, 0 to 4, and no line feed
+//   0 to 5  take the rest as a line, with that list one number too short
+//   p  print the first ten numbers of a list, 0 to 5, and no line feed
 //   c  check through the loader;  d  the same, with a solution limit list that is too short
 //   k  check on lists: the rest is n, s and t, a byte each
 // Any other entry is a line for the loader. A script that fills the buffer may have been cut, so it is not run at all.
@@ -76,7 +76,7 @@ fn command(held: Held, name: u8, rest: &[u8]) -> Held {
     if name == b'n' {
         return fresh();
     }
-    if name < b'5' {
+    if name < b'6' {
         return print_taken(held, rest, name);
     }
     print_given(name, rest);

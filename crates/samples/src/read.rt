@@ -28,13 +28,14 @@ fn print_read(answer: Answer) {
     }
 }
 
-// How a form is printed: a word, and so many numbers.
+// How a form is printed: a word, and so many numbers; a tolerance of 0 is not printed, given or not.
 struct Words {
     from: usize,
     to: usize,
     count: usize,
     first: i64,
     second: i64,
+    tolerance: i64,
 }
 
 fn shown(from: usize, to: usize, count: usize, first: i64, second: i64) -> Words {
@@ -44,6 +45,18 @@ fn shown(from: usize, to: usize, count: usize, first: i64, second: i64) -> Words
         count,
         first,
         second,
+        tolerance: 0,
+    }
+}
+
+fn shown_right(i: i64, b: i64, d: i64) -> Words {
+    Words {
+        from: 15,
+        to: 20,
+        count: 2,
+        first: i,
+        second: b,
+        tolerance: d,
     }
 }
 
@@ -53,7 +66,7 @@ fn shown_form(form: CappedForm) -> Words {
         CappedForm::Problem(n) => shown(0, 7, 1, n, 0),
         CappedForm::Scale(s, t) => shown(7, 12, 2, s, t),
         CappedForm::Row(i) => shown(12, 15, 1, i, 0),
-        CappedForm::Right(i, b) => shown(15, 20, 2, i, b),
+        CappedForm::Right(i, b, d) => shown_right(i, b, d),
         CappedForm::Guess(i, x) => shown(20, 25, 2, i, x),
         CappedForm::Inverse(i) => shown(25, 32, 1, i, 0),
         CappedForm::Weight(i, w) => shown(32, 38, 2, i, w),
@@ -69,6 +82,7 @@ fn print_form(form: CappedForm) {
         shown.to,
     );
     print_pair(shown.count, shown.first, shown.second);
+    print_tolerance(shown.tolerance);
 }
 
 fn print_part(words: &[u8], from: usize, to: usize) {
@@ -85,6 +99,12 @@ fn print_pair(count: usize, first: i64, second: i64) {
     }
     if 1 < count {
         print_signed(second);
+    }
+}
+
+fn print_tolerance(d: i64) {
+    if d != 0 {
+        print_signed(d);
     }
 }
 

@@ -40,10 +40,14 @@ fn print_list_of(held: Held, which: u32) {
             print_column(right, 10);
         }
         2 => {
+            let tolerance = held.tolerance;
+            print_column(tolerance, 10);
+        }
+        3 => {
             let guess = held.guess;
             print_column(guess, 10);
         }
-        3 => {
+        4 => {
             let inverse = held.inverse;
             print_matrix(inverse);
         }

@@ -19,7 +19,7 @@ use Rattle.rules.specs.declared.Kind.{Kind}
 use Rattle.rules.specs.declared.Kind.the-variants as kind
 use Rattle.rules.proofs.Ranges.{both-left, both-right}
 use Rattle.numeral.specs.Decimal.{numeral}
-use Rattle.form.specs.Form.{Form, problem, scale, row, right, guess, inverse, weight, end, spell, numerals}
+use Rattle.form.specs.Form.{Form, problem, scale, row, right, rightWithin, guess, inverse, weight, end, spell, numerals}
 use Rattle.form.specs.List.{allInside}
 use Rattle.form.proofs.Spelling.{spelled-read, read-spelled}
 use Rattle.lent_lists.specs.Lists.{Lists, shortLists}
@@ -35,7 +35,7 @@ use Rattle.loader.specs.Taken.{loaderAfter, listsAfter}
 use Rattle.loader_order.proofs.Said.{Passed}
 use Rattle.loader.proofs.Exact.{formCase, formSaid, answer-form}
 use Rattle.loader.proofs.Accepted.{Accepted, accepted-form}
-use Rattle.spelled_lines.proofs.Length.{bytesOf, kind-most, numerals-most, place-most, problem-length, scale-length, row-length, right-length, guess-length, inverse-length, weight-length, end-length}
+use Rattle.spelled_lines.proofs.Length.{bytesOf, kind-most, numerals-most, place-most, problem-length, scale-length, row-length, right-length, within-length, guess-length, inverse-length, weight-length, end-length}
 
 -- ---- the length
 -- a form of a part that is neither early nor misplaced: i has two bytes at most, and n is at most 32
@@ -61,6 +61,9 @@ module _ (d : Loader) where
   spelled-length (row i a zs) h =
       omega (arith, row-length i a zs, place-bytes Row i (h .early) (h .misplaced), list-bytes Row i kind.Matrix a zs (h .early) (h .misplaced) (h .outside) (h .miscounted))
   spelled-length (right i b) h = omega (arith, right-length i b, place-bytes Right i (h .early) (h .misplaced), kind-most kind.Right b (not-false _ (h .outside)))
+  spelled-length (rightWithin i b e) h =
+      let r = not-false _ (h .outside) in
+      omega (arith, within-length i b e, place-bytes Right i (h .early) (h .misplaced), kind-most kind.Right b (both-left _ (inRange kind.Tolerance e) r), kind-most kind.Tolerance e (both-right (inRange kind.Right b) _ r))
   spelled-length (guess i x) h = omega (arith, guess-length i x, place-bytes Guess i (h .early) (h .misplaced), kind-most kind.Guess x (not-false _ (h .outside)))
   spelled-length (inverse i g zs) h =
       omega (arith, inverse-length i g zs, place-bytes Inverse i (h .early) (h .misplaced), list-bytes Inverse i kind.Inverse g zs (h .early) (h .misplaced) (h .outside) (h .miscounted))

@@ -18,7 +18,7 @@ use Rattle.integer.proofs.Search.{clash}
 use Rattle.rules.specs.Range.{inRange, rangeOf, ranges}
 use Rattle.rules.specs.declared.Kind.the-variants as kind
 use Rattle.rules.proofs.Ranges.{both}
-use Rattle.form.specs.Form.{Form, problem, scale, row, right, guess, inverse, weight, end, spell}
+use Rattle.form.specs.Form.{Form, problem, scale, row, right, rightWithin, guess, inverse, weight, end, spell}
 use Rattle.form.specs.Reading.{reading}
 use Rattle.form_values.specs.Item.{itemOf, placed, partIndex}
 use Rattle.form_values.specs.declared.Item.the-variants.{Of}
@@ -55,6 +55,7 @@ weight-form (problem n) e = let z : _≡_ {A = ℕ} 0 1 = cc in absurd (omega ar
 weight-form (scale s t) e = let z : _≡_ {A = ℕ} 0 1 = cc in absurd (omega arith)
 weight-form (row i a others) e = apart part.Row part.Weight e (λ z. omega arith)
 weight-form (right i b) e = apart part.Right part.Weight e (λ z. omega arith)
+weight-form (rightWithin i b c) e = apart part.Right part.Weight e (λ z. omega arith)
 weight-form (guess i x) e = apart part.Guess part.Weight e (λ z. omega arith)
 weight-form (inverse i g others) e = apart part.Inverse part.Weight e (λ z. omega arith)
 weight-form (weight i w) e = (i, w, refl)
@@ -120,6 +121,7 @@ end-item d (problem n) g e = clash false e refl
 end-item d (scale s t) g e = clash false e refl
 end-item d (row i a others) g e = clash (ended (d .stage)) e g
 end-item d (right i b) g e = clash (ended (d .stage)) e g
+end-item d (rightWithin i b c) g e = clash (ended (d .stage)) e g
 end-item d (guess i x) g e = clash (ended (d .stage)) e g
 end-item d (inverse i x others) g e = clash (ended (d .stage)) e g
 end-item d (weight i w) g e = clash (ended (d .stage)) e g

@@ -34,7 +34,7 @@ pub struct Last {
 fn search(t: u32, matrix: &[i64], inverse: &[i64], n: usize, allowance: u32) -> Last
     requires { ⌜ (t ≤ 20) × (n ≤ 32) ⌝ }
     requires { ⌜ MatrixList (now matrix) n × MatrixList (now inverse) n ⌝ }
-    ensures { λ r. ⌜ Reached (problemOf n 0 t (now (matrix .entry)) [] [] (now (inverse .entry)) []) allowance r ⌝ }
+    ensures { λ r. ⌜ Reached (problemOf n 0 t (now (matrix .entry)) [] [] [] (now (inverse .entry)) []) allowance r ⌝ }
 {
     let sizes = defect_sizes(t, matrix, inverse, n);
     let mut weights = [1u64; 32];

@@ -1,6 +1,6 @@
 -- A check with the weights that a search for weights hands back is never refused with 5.
 --   no-five    — a check whose margins are all above 0 is never refused with 5
---   never-five — nor is one with these weights, whatever its scale, right side and guess
+--   never-five — nor is one with these weights, whatever its scale, right side, tolerances and guess
 use mathlib.Core.Path.{_≡_, sym}
 use mathlib.Core.List.{List, [], _∷_}
 use Prim.Native.Nat.{ℕ}
@@ -30,7 +30,7 @@ pub no-five : (I : check.Input) → Margins (check.problem I) → (l : List ℕ)
 no-five I = five I (stated I)
 
 pub never-five : (Q : Request) (r : Found) (weights : List ℤ) → FoundAs Q r weights → saidFound r ≡ [] →
-    (s : ℕ) (right guess : List ℤ) (E L l : List ℕ) →
-    checking.answer (check.input (Q .n) s (Q .t) (Q .matrix) right guess (Q .inverse) weights E L) ≡ 5 ∷ l → ⊥
-never-five Q r weights x z s right guess E L =
-    no-five (check.input (Q .n) s (Q .t) (Q .matrix) right guess (Q .inverse) weights E L) (x .margins z s right guess)
+    (s : ℕ) (right tolerance guess : List ℤ) (E L l : List ℕ) →
+    checking.answer (check.input (Q .n) s (Q .t) (Q .matrix) right tolerance guess (Q .inverse) weights E L) ≡ 5 ∷ l → ⊥
+never-five Q r weights x z s right tolerance guess E L =
+    no-five (check.input (Q .n) s (Q .t) (Q .matrix) right tolerance guess (Q .inverse) weights E L) (x .margins z s right tolerance guess)

@@ -1,6 +1,6 @@
 -- The weight list that holds a list of the sequence.
 --   listed-at — what it holds;  listed-inside — every weight is in its range
---   margins-same, listed-margins — the margins of a check with it, whatever the scale, the right side and the guess, are those of the sequence
+--   margins-same, listed-margins — the margins of a check with it, whatever the scale, the right side, the tolerances and the guess, are those of the sequence
 use mathlib.Core.Path.{_≡_, ap, ap₂, _∙_}
 use mathlib.Core.Bool.{true}
 use mathlib.Core.List.{List, []}
@@ -23,17 +23,17 @@ use Rattle.weight_sequence.specs.Sequence.{weighted, tried, firstGood}
 use Rattle.weight_sequence.proofs.First.{found-margins}
 use Rattle.weight_sequence.proofs.Lists.{tried-range}
 
-module _ (n s t : ℕ) (matrix right guess inverse weights : List ℤ) (w : ℕ → ℕ) (h : (i : ℕ) → i < n → natAbs (at weights i) ≡ w i) where
-  pub margins-same : (m : ℕ) → m < n → marginFails (problemOf n s t matrix right guess inverse weights) m ≡ marginFails (weighted (problemOf n 0 t matrix [] [] inverse []) w) m
+module _ (n s t : ℕ) (matrix right tolerance guess inverse weights : List ℤ) (w : ℕ → ℕ) (h : (i : ℕ) → i < n → natAbs (at weights i) ≡ w i) where
+  pub margins-same : (m : ℕ) → m < n → marginFails (problemOf n s t matrix right tolerance guess inverse weights) m ≡ marginFails (weighted (problemOf n 0 t matrix [] [] [] inverse []) w) m
   unfolding margin load defect
   margins-same m l =
       ap (λ (z : ℤ). leZ z (pos 0))
       (ap₂ (λ (x y : ℕ). pos (2 ^ t * x) -ℤ pos y) (h m l)
-      (sumℕ-ext n _ _ (λ j lj. ap (λ (x : ℕ). natAbs (defect (problemOf n 0 t matrix [] [] inverse []) m j) * x) (h j lj))))
+      (sumℕ-ext n _ _ (λ j lj. ap (λ (x : ℕ). natAbs (defect (problemOf n 0 t matrix [] [] [] inverse []) m j) * x) (h j lj))))
 
 module _ (n t : ℕ) (matrix inverse weights : List ℤ) (k : ℕ) (long : n ≤ length weights) where
   abbrev P : Problem
-  P = problemOf n 0 t matrix [] [] inverse []
+  P = problemOf n 0 t matrix [] [] [] inverse []
 
   abbrev listed : List ℤ
   listed = stored weights 0 1 (λ (i : ℕ). pos (tried P k i)) n
@@ -46,7 +46,7 @@ module _ (n t : ℕ) (matrix inverse weights : List ℤ) (k : ℕ) (long : n ≤
   pub listed-inside : allInRange kind.Weight n (at listed) ≡ true
   listed-inside = all-in kind.Weight n (at listed) (λ i l. rw (listed-at i l) (tried-range P k i l))
 
-  pub listed-margins : (a : ℕ) → k ≡ firstGood P a → k < a → (s : ℕ) (right guess : List ℤ) → Margins (problemOf n s t matrix right guess inverse listed)
-  listed-margins a e l s right guess m lm =
-      margins-same n s t matrix right guess inverse listed (tried P k) (λ i li. ap natAbs (listed-at i li)) m lm
+  pub listed-margins : (a : ℕ) → k ≡ firstGood P a → k < a → (s : ℕ) (right tolerance guess : List ℤ) → Margins (problemOf n s t matrix right tolerance guess inverse listed)
+  listed-margins a e l s right tolerance guess m lm =
+      margins-same n s t matrix right tolerance guess inverse listed (tried P k) (λ i li. ap natAbs (listed-at i li)) m lm
       ∙ rw e (found-margins P a (rw e at l) m lm)

@@ -35,11 +35,11 @@ use Rattle.weight_sequence.proofs.Promises.{found-usable}
 -- ---- problems of the same n and t
 module _ (n t : ℕ) (A A′ G G′ : Mat) (hA : (i j : ℕ) → i < n → j < n → A i j ≡ A′ i j) (hG : (i j : ℕ) → i < n → j < n → G i j ≡ G′ i j) where
   abbrev with : Mat → Mat → Problem
-  with A G = record { n = n; s = 0; t = t; A = A; b = vectorOf []; X = vectorOf []; G = G; w = λ (i : ℕ). natAbs (at [] i) }
+  with A G = record { n = n; s = 0; t = t; A = A; b = vectorOf []; d = λ (i : ℕ). natAbs (at [] i); X = vectorOf []; G = G; w = λ (i : ℕ). natAbs (at [] i) }
 
   module _ (w w′ : ℕ → ℕ) (h : (i : ℕ) → i < n → w i ≡ w′ i) where
     loads-same : (m : ℕ) → m < n → loads (with A G) w m ≡ loads (with A′ G′) w′ m
-    loads-same = load-same n 0 t A A′ (vectorOf []) (vectorOf []) (vectorOf []) (vectorOf []) G G′ w w′ hA (λ i l. refl) (λ i l. refl) hG h
+    loads-same = load-same n 0 t A A′ (vectorOf []) (vectorOf []) (λ i. natAbs (at [] i)) (λ i. natAbs (at [] i)) (vectorOf []) (vectorOf []) G G′ w w′ hA (λ i l. refl) (λ i l. refl) (λ i l. refl) hG h
 
     next-same : (i : ℕ) → i < n → next (with A G) w i ≡ next (with A′ G′) w′ i
     next-same i l = ap₂ (λ (x y : ℕ). x / 2 ^ bits y + 1) (loads-same i l) (largest-ext n (loads (with A G) w) (loads (with A′ G′) w′) loads-same)
@@ -50,7 +50,7 @@ module _ (n t : ℕ) (A A′ G G′ : Mat) (hA : (i j : ℕ) → i < n → j < n
         ap (leb n)
         (first-ext n (marginFails (weighted (with A G) w)) (marginFails (weighted (with A′ G′) w′))
         (λ m l. ap (λ (z : ℤ). leZ z (pos 0))
-        (margin-same n 0 t A A′ (vectorOf []) (vectorOf []) (vectorOf []) (vectorOf []) G G′ w w′ hA (λ i l. refl) (λ i l. refl) hG h m l)))
+        (margin-same n 0 t A A′ (vectorOf []) (vectorOf []) (λ i. natAbs (at [] i)) (λ i. natAbs (at [] i)) (vectorOf []) (vectorOf []) G G′ w w′ hA (λ i l. refl) (λ i l. refl) (λ i l. refl) hG h m l)))
 
   pub tried-same : (k i : ℕ) → i < n → tried (with A G) k i ≡ tried (with A′ G′) k i
   unfolding tried

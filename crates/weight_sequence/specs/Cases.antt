@@ -63,7 +63,7 @@ abbrev pub workedRows : List Worked
 workedRows = at-once ∷ shifted ∷ third ∷ too-few ∷ never ∷ []
 
 abbrev pub workedProblem : Worked → Problem
-workedProblem r = problemOf (r .n) 0 (r .t) (r .A) [] [] (r .G) []
+workedProblem r = problemOf (r .n) 0 (r .t) (r .A) [] [] [] (r .G) []
 
 abbrev pub isList : (ℕ → ℕ) → ℕ → List ℕ → Bool
 isList w i [] = true

@@ -33,7 +33,7 @@ request n t matrix inverse allowance weights = record {
 }
 
 abbrev pub searchProblem : Request → Problem
-searchProblem Q = problemOf (Q .n) 0 (Q .t) (Q .matrix) [] [] (Q .inverse) []
+searchProblem Q = problemOf (Q .n) 0 (Q .t) (Q .matrix) [] [] [] (Q .inverse) []
 
 abbrev pub anySearchShort : ℕ → ℕ → ℕ → Bool
 anySearchShort a g w = shortMatrix a || (shortMatrix g || shortColumn w)

@@ -62,5 +62,5 @@ pub record FoundAs (Q : Request) (r : Found) (weights : List ℤ) : Type 0 where
   pub says : saidFound r ≡ searchAnswer Q
   pub count : countOf r ≡ countAfter Q
   pub weights-are : weights ≡ weightsAfter Q
-  pub margins : saidFound r ≡ [] → (s : ℕ) (right guess : List ℤ) → Margins (problemOf (Q .n) s (Q .t) (Q .matrix) right guess (Q .inverse) weights)
+  pub margins : saidFound r ≡ [] → (s : ℕ) (right tolerance guess : List ℤ) → Margins (problemOf (Q .n) s (Q .t) (Q .matrix) right tolerance guess (Q .inverse) weights)
   pub inside : saidFound r ≡ [] → allInRange kind.Weight (Q .n) (at weights) ≡ true

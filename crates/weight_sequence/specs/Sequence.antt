@@ -23,6 +23,7 @@ weighted P w = record {
   t = P .t;
   A = P .A;
   b = P .b;
+  d = P .d;
   X = P .X;
   G = P .G;
   w = w;

@@ -38,7 +38,7 @@ in-square (suc n) i l = (div-lt-iff-lt-mul {k = suc n} (omega arith) .1 l, mod-l
 -- ---- |D|
 module _ (n t : ℕ) (matrix inverse : List ℤ) where
   abbrev P : Problem
-  P = problemOf n 0 t matrix [] [] inverse []
+  P = problemOf n 0 t matrix [] [] [] inverse []
 
   pub defect-is : (j k : ℕ) → columnResidual n t inverse matrix j k ≡ defect P k j
   unfolding residual defect product

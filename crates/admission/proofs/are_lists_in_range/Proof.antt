@@ -17,29 +17,35 @@ all-in-range-requires-2 c κs = search needs
 all-in-range-requires-3 : tie.Need-all-in-range-requires-3
 all-in-range-requires-3 c κs = search needs
 
-mul-all-in-range-2 : tie.Need-mul-all-in-range-2
-mul-all-in-range-2 c = omega (arith, square (c .before .before .before .before .before .before .pre .0))
-
 all-in-range-requires-4 : tie.Need-all-in-range-requires-4
-all-in-range-requires-4 c κs = omega (arith, square (c .before .before .before .before .before .before .pre .0))
+all-in-range-requires-4 c κs = search needs
+
+mul-all-in-range-2 : tie.Need-mul-all-in-range-2
+mul-all-in-range-2 c = omega (arith, square (c .before .before .before .before .before .before .before .before .pre .0))
 
 all-in-range-requires-5 : tie.Need-all-in-range-requires-5
-all-in-range-requires-5 c κs = search needs
+all-in-range-requires-5 c κs = omega (arith, square (c .before .before .before .before .before .before .before .before .pre .0))
+
+all-in-range-requires-6 : tie.Need-all-in-range-requires-6
+all-in-range-requires-6 c κs = search needs
 
 returns : tie.Need-returns
-returns c = rw (sym (c .before .before .before .before .before .before .before .before .all-in-range .ensures) ∙ c .before .before .before .before .before .before .before .if1 .taken, sym (c .before .before .before .before .before .before .all-in-range2 .ensures) ∙ c .before .before .before .before .before .if2 .taken, sym (c .before .before .before .before .all-in-range3 .ensures) ∙ c .before .before .before .if3 .taken, sym (c .before .before .all-in-range4 .ensures) ∙ c .before .if4 .taken) (c .all-in-range5 .ensures)
+returns c = rw (sym (c .before .before .before .before .before .before .before .before .before .before .all-in-range .ensures) ∙ c .before .before .before .before .before .before .before .before .before .if1 .taken, sym (c .before .before .before .before .before .before .before .before .all-in-range2 .ensures) ∙ c .before .before .before .before .before .before .before .if2 .taken, sym (c .before .before .before .before .before .before .all-in-range3 .ensures) ∙ c .before .before .before .before .before .if3 .taken, sym (c .before .before .before .before .all-in-range4 .ensures) ∙ c .before .before .before .if4 .taken, sym (c .before .before .all-in-range5 .ensures) ∙ c .before .if5 .taken) (c .all-in-range6 .ensures)
 
 returns-2 : tie.Need-returns-2
-returns-2 c = rw (sym (c .before .before .before .before .before .before .before .all-in-range .ensures) ∙ c .before .before .before .before .before .before .if1 .taken, sym (c .before .before .before .before .before .all-in-range2 .ensures) ∙ c .before .before .before .before .if2 .taken, sym (c .before .before .before .all-in-range3 .ensures) ∙ c .before .before .if3 .taken, sym (c .before .all-in-range4 .ensures) ∙ c .if4 .left)
+returns-2 c = rw (sym (c .before .before .before .before .before .before .before .before .before .all-in-range .ensures) ∙ c .before .before .before .before .before .before .before .before .if1 .taken, sym (c .before .before .before .before .before .before .before .all-in-range2 .ensures) ∙ c .before .before .before .before .before .before .if2 .taken, sym (c .before .before .before .before .before .all-in-range3 .ensures) ∙ c .before .before .before .before .if3 .taken, sym (c .before .before .before .all-in-range4 .ensures) ∙ c .before .before .if4 .taken, sym (c .before .all-in-range5 .ensures) ∙ c .if5 .left)
 
 returns-3 : tie.Need-returns-3
-returns-3 c = rw (sym (c .before .before .before .before .before .all-in-range .ensures) ∙ c .before .before .before .before .if1 .taken, sym (c .before .before .before .all-in-range2 .ensures) ∙ c .before .before .if2 .taken, sym (c .before .all-in-range3 .ensures) ∙ c .if3 .left)
+returns-3 c = rw (sym (c .before .before .before .before .before .before .before .all-in-range .ensures) ∙ c .before .before .before .before .before .before .if1 .taken, sym (c .before .before .before .before .before .all-in-range2 .ensures) ∙ c .before .before .before .before .if2 .taken, sym (c .before .before .before .all-in-range3 .ensures) ∙ c .before .before .if3 .taken, sym (c .before .all-in-range4 .ensures) ∙ c .if4 .left)
 
 returns-4 : tie.Need-returns-4
-returns-4 c = rw (sym (c .before .before .before .all-in-range .ensures) ∙ c .before .before .if1 .taken, sym (c .before .all-in-range2 .ensures) ∙ c .if2 .left)
+returns-4 c = rw (sym (c .before .before .before .before .before .all-in-range .ensures) ∙ c .before .before .before .before .if1 .taken, sym (c .before .before .before .all-in-range2 .ensures) ∙ c .before .before .if2 .taken, sym (c .before .all-in-range3 .ensures) ∙ c .if3 .left)
 
 returns-5 : tie.Need-returns-5
-returns-5 c = rw (sym (c .before .all-in-range .ensures) ∙ c .if1 .left)
+returns-5 c = rw (sym (c .before .before .before .all-in-range .ensures) ∙ c .before .before .if1 .taken, sym (c .before .all-in-range2 .ensures) ∙ c .if2 .left)
+
+returns-6 : tie.Need-returns-6
+returns-6 c = rw (sym (c .before .all-in-range .ensures) ∙ c .if1 .left)
 
 pub are-lists-in-range-spec : {M : Type 1} → statement M
 are-lists-in-range-spec =
@@ -49,11 +55,13 @@ are-lists-in-range-spec =
     all-in-range-requires
     all-in-range-requires-2
     all-in-range-requires-3
-    mul-all-in-range-2
     all-in-range-requires-4
+    mul-all-in-range-2
     all-in-range-requires-5
+    all-in-range-requires-6
     returns
     returns-2
     returns-3
     returns-4
-    returns-5)
+    returns-5
+    returns-6)

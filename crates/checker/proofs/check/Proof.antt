@@ -1,14 +1,11 @@
-use mathlib.Core.Path.{_≡_, refl, sym, _∙_}
+use mathlib.Core.Path.{_≡_, sym, _∙_}
 use mathlib.Core.Bool.{true, false}
-use lib.IntN.{pos}
-use lib.ListN.{replicate, getD-replicate}
 use Rattle.rules.proofs.Ranges.{both, both-left, not-both, not-first, size-range}
-use Rattle.enclosure.specs.Reckoning.{allowedResidual}
 use Rattle.checked.specs.Input.{Input, input, short, sizesInRange, inRanges}
 use Rattle.checked.proofs.Contract.{checked-short, checked-range}
 use Rattle.checked.proofs.Fit.{Fit, fit-of}
 use Rattle.checked.proofs.Lengths.{long-of}
-use Rattle.checker.proofs.Handed.{everywhere, Handed, workable, reckoned-checked}
+use Rattle.checker.proofs.Handed.{Handed, workable, reckoned-checked}
 use borrow.Author.Needs.{needs}
 use Rattle.checker.proofs.check.Statement.{statement}
 use Rattle.checker.proofs.check.Tie as tie
@@ -16,7 +13,7 @@ use Rattle.checker.proofs.check.Tie as tie
 abbrev I : tie.Start → Input
 I s =
     let a = s .args in
-    input (a .n) (a .s) (a .t) (a .matrix .now) (a .right .now) (a .guess .now) (a .inverse .now) (a .weights .now) (a .solution-bounds .now) (a .inverse-bounds .now)
+    input (a .n) (a .s) (a .t) (a .matrix .now) (a .right .now) (a .tolerance .now) (a .guess .now) (a .inverse .now) (a .weights .now) (a .solution-bounds .now) (a .inverse-bounds .now)
 
 -- what the tests showed
 long : (c : tie.Else1) → short (I (c .before .before .before .before)) ≡ false
@@ -35,13 +32,13 @@ fit : (c : tie.Then3) → Fit (I (start c))
 fit c = fit-of (I (start c)) (long (c .before .before .before .before)) (within c)
 
 -- what is handed to the reckoning
-handed : (c : tie.After-scaled-right) → Handed (I (start (c .before))) (c .scaled-right .result) everywhere (replicate 32 0)
+handed : (c : tie.After-allowed-of) → Handed (I (start (c .before .before .before))) (c .before .scaled-right .result) (c .allowed-of .result) (c .before .before .slacks-of .result)
 handed c = record {
   base-long = search needs;
-  base = c .scaled-right .ensures;
-  allowed-long = refl;
-  allowed = λ k l. getD-replicate 32 k (pos allowedResidual) (pos 0) l;
-  slacks = λ k l. getD-replicate 32 k 0 0 l;
+  base = c .before .scaled-right .ensures;
+  allowed-long = search needs;
+  allowed = c .allowed-of .ensures;
+  slacks = c .before .before .slacks-of .ensures;
 }
 
 is-short-requires : tie.Need-is-short-requires
@@ -56,15 +53,23 @@ are-sizes-in-range-requires c κs = search needs
 are-lists-in-range-requires : tie.Need-are-lists-in-range-requires
 are-lists-in-range-requires c κs =
     let l = long-of (I (c .before .before .before .before .before .before)) (long (c .before .before)) in
-    (size-range _ (both-left _ _ (sizes c)) .1, (l .matrix, (l .right, (l .guess, (l .inverse, l .weights)))))
+    (size-range _ (both-left _ _ (sizes c)) .1, (l .matrix, (l .right, (l .tolerance, (l .guess, (l .inverse, l .weights))))))
+
+slacks-of-requires : tie.Need-slacks-of-requires
+slacks-of-requires c κs =
+    let x = fit c in ((x .solution-scale, x .few), x .tolerance)
 
 scaled-right-requires : tie.Need-scaled-right-requires
 scaled-right-requires c κs =
-    let x = fit c in ((x .solution-scale, x .few), x .right)
+    let x = fit (c .before) in ((x .solution-scale, x .few), x .right)
+
+allowed-of-requires : tie.Need-allowed-of-requires
+allowed-of-requires c κs = fit (c .before .before) .few
 
 reckon-requires : tie.Need-reckon-requires
 reckon-requires c κs =
-    let t = c .before .before .before in workable (I (start t)) (long (t .before .before .before .before)) (within t) (handed (c .before .before))
+    let z = c .before .before in
+    let t = z .before .before .before in workable (I (start t)) (long (t .before .before .before .before)) (within t) (handed z)
 
 same-length : tie.Need-same-length
 same-length c = search needs
@@ -76,7 +81,7 @@ returns-2 : tie.Need-returns-2
 returns-2 c =
     let r = c .before .before .before .before in
     let z = r .before .before .before in
-    let t = z .before in reckoned-checked (I (start t)) (long (t .before .before .before .before)) (within t) (handed z) (r .reckon .ensures)
+    let t = z .before .before .before in reckoned-checked (I (start t)) (long (t .before .before .before .before)) (within t) (handed z) (r .reckon .ensures)
 
 returns-3 : tie.Need-returns-3
 returns-3 c =
@@ -96,7 +101,9 @@ check-spec =
     returns
     are-sizes-in-range-requires
     are-lists-in-range-requires
+    slacks-of-requires
     scaled-right-requires
+    allowed-of-requires
     reckon-requires
     same-length
     same-length-2

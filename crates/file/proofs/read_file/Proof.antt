@@ -9,18 +9,18 @@ use Rattle.file.proofs.read_file.Statement.{statement}
 use Rattle.file.proofs.read_file.Tie as tie
 
 abbrev Inv-loop : tie.InvT-loop
-Inv-loop file matrix₀ right₀ guess₀ inverse₀ weights₀ loader₀ line₀ at₀ matrix right guess inverse weights loader line at =
-    (length matrix ≡ 1024) × (length right ≡ 32) × (length guess ≡ 32) × (length inverse ≡ 1024) × (length weights ≡ 32)
-    × Reached file line at loader (lists matrix right guess inverse weights)
+Inv-loop file matrix₀ right₀ tolerance₀ guess₀ inverse₀ weights₀ loader₀ line₀ at₀ matrix right tolerance guess inverse weights loader line at =
+    (length matrix ≡ 1024) × (length right ≡ 32) × (length tolerance ≡ 32) × (length guess ≡ 32) × (length inverse ≡ 1024) × (length weights ≡ 32)
+    × Reached file line at loader (lists matrix right tolerance guess inverse weights)
 
 abbrev μ-loop : tie.MeasureT-loop
-μ-loop file matrix₀ right₀ guess₀ inverse₀ weights₀ loader₀ line₀ at₀ matrix right guess inverse weights loader line at = length file - at
+μ-loop file matrix₀ right₀ tolerance₀ guess₀ inverse₀ weights₀ loader₀ line₀ at₀ matrix right tolerance guess inverse weights loader line at = length file - at
 
 new-requires : tie.Need-new-requires Inv-loop μ-loop
 new-requires c κs = search needs
 
 loop-holds : tie.Need-loop-holds Inv-loop μ-loop
-loop-holds c = (refl, refl, refl, refl, refl, at-start (c .before .before .args .file .now) (c .new .ensures) (unfold zeros in refl))
+loop-holds c = (refl, refl, refl, refl, refl, refl, at-start (c .before .before .args .file .now) (c .new .ensures) (unfold zeros in refl))
 
 line-end-requires : tie.Need-line-end-requires Inv-loop μ-loop
 line-end-requires c κs = search needs
@@ -49,6 +49,9 @@ slice-aggregate-take-4 c = search needs
 slice-aggregate-take-5 : tie.Need-slice-aggregate-take-5 Inv-loop μ-loop
 slice-aggregate-take-5 c = search needs
 
+slice-aggregate-take-6 : tie.Need-slice-aggregate-take-6 Inv-loop μ-loop
+slice-aggregate-take-6 c = search needs
+
 take-requires : tie.Need-take-requires Inv-loop μ-loop
 take-requires c κs = search needs
 
@@ -60,9 +63,9 @@ enum-known-outcome c = search needs
 
 returns : tie.Need-returns Inv-loop μ-loop
 returns c =
-    let t = c .before .before .before .before .before .before .before .before in
-    let e = t .before .before .before .before .before .before .before in
-    read-refusal (e .before .before .before .before .before .args .file .now) (e .before .before .loop .inv .5) (e .before .loop-test .taken) (e .line-end .ensures) (t .take .ensures) _ (c .before .outcome .given .1)
+    let t = c .before .before .before .before .before .before .before .before .before in
+    let e = t .before .before .before .before .before .before .before .before in
+    read-refusal (e .before .before .before .before .before .args .file .now) (e .before .before .loop .inv .6) (e .before .loop-test .taken) (e .line-end .ensures) (t .take .ensures) _ (c .before .outcome .given .1)
 
 enum-told : tie.Need-enum-told Inv-loop μ-loop
 enum-told c = search needs
@@ -75,8 +78,8 @@ loop-less c = search needs
 
 loop-again : tie.Need-loop-again Inv-loop μ-loop
 loop-again c =
-    let t = c .before .before .before .before .before .before .before .before in
-    let e = t .before .before .before .before .before .before .before in
+    let t = c .before .before .before .before .before .before .before .before .before in
+    let e = t .before .before .before .before .before .before .before .before in
     let l = e .before .before .loop in
     let k = t .take .kept in (
       k .1 .1 .0 ∙ l .inv .0,
@@ -84,11 +87,12 @@ loop-again c =
       k .1 .1 .1 .1 .0 ∙ l .inv .2,
       k .1 .1 .1 .1 .1 .0 ∙ l .inv .3,
       k .1 .1 .1 .1 .1 .1 .0 ∙ l .inv .4,
-      read-on (e .before .before .before .before .before .args .file .now) (l .inv .5) (e .before .loop-test .taken) (e .line-end .ensures) (t .take .ensures) (c .before .enum-told .given .1),
+      k .1 .1 .1 .1 .1 .1 .1 .0 ∙ l .inv .5,
+      read-on (e .before .before .before .before .before .args .file .now) (l .inv .6) (e .before .loop-test .taken) (e .line-end .ensures) (t .take .ensures) (c .before .enum-told .given .1),
     )
 
 returns-2 : tie.Need-returns-2 Inv-loop μ-loop
-returns-2 c = at-end (c .before .before .before .before .args .file .now) (c .before .loop .inv .5) (c .loop-test .left)
+returns-2 c = at-end (c .before .before .before .before .args .file .now) (c .before .loop .inv .6) (c .loop-test .left)
 
 pub read-file-spec : {M : Type 1} → statement M
 read-file-spec =
@@ -107,6 +111,7 @@ read-file-spec =
     slice-aggregate-take-3
     slice-aggregate-take-4
     slice-aggregate-take-5
+    slice-aggregate-take-6
     take-requires
     add-line
     enum-known-outcome

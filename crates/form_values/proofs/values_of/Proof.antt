@@ -17,11 +17,14 @@ enum-known-form c = search needs
 array-set-from-values : tie.Need-array-set-from-values
 array-set-from-values c = search needs
 
+array-set-from-values-2 : tie.Need-array-set-from-values-2
+array-set-from-values-2 c = search needs
+
 enum-known-form-2 : tie.Need-enum-known-form-2
 enum-known-form-2 c = search needs
 
-array-set-from-values-2 : tie.Need-array-set-from-values-2
-array-set-from-values-2 c = search needs
+array-set-from-values-3 : tie.Need-array-set-from-values-3
+array-set-from-values-3 c = search needs
 
 enum-told-4 : tie.Need-enum-told-4
 enum-told-4 c = search needs
@@ -29,8 +32,8 @@ enum-told-4 c = search needs
 enum-known-form-3 : tie.Need-enum-known-form-3
 enum-known-form-3 c = search needs
 
-array-set-from-values-3 : tie.Need-array-set-from-values-3
-array-set-from-values-3 c = search needs
+array-set-from-values-4 : tie.Need-array-set-from-values-4
+array-set-from-values-4 c = search needs
 
 enum-told-5 : tie.Need-enum-told-5
 enum-told-5 c = search needs
@@ -68,11 +71,12 @@ values-of-spec =
     enum-told-3
     enum-known-form
     array-set-from-values
-    enum-known-form-2
     array-set-from-values-2
+    enum-known-form-2
+    array-set-from-values-3
     enum-told-4
     enum-known-form-3
-    array-set-from-values-3
+    array-set-from-values-4
     enum-told-5
     returns
     returns-2

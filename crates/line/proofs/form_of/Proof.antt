@@ -15,6 +15,9 @@ enum-told-3 c = search needs
 enum-told-4 : tie.Need-enum-told-4
 enum-told-4 c = search needs
 
+right-of-requires : tie.Need-right-of-requires
+right-of-requires c κs = search needs
+
 enum-told-5 : tie.Need-enum-told-5
 enum-told-5 c = search needs
 
@@ -37,7 +40,9 @@ returns-3 : tie.Need-returns-3
 returns-3 c = rw (read _ (c .before .before .fits .first .sfits), c .enum-told3 .given .1)
 
 returns-4 : tie.Need-returns-4
-returns-4 c = rw (read _ (c .before .before .fits .first .sfits), read _ (c .before .before .fits .second .sfits), c .enum-told4 .given .1)
+returns-4 c =
+    let s = c .before .before .before in
+    rw (c .before .enum-told4 .given .1) (rw (read _ (s .fits .first .sfits), read _ (s .fits .second .sfits)) at (c .right-of .ensures))
 
 returns-5 : tie.Need-returns-5
 returns-5 c = rw (read _ (c .before .before .fits .first .sfits), read _ (c .before .before .fits .second .sfits), c .enum-told5 .given .1)
@@ -59,6 +64,7 @@ form-of-spec =
     enum-told-2
     enum-told-3
     enum-told-4
+    right-of-requires
     enum-told-5
     enum-told-6
     enum-told-7

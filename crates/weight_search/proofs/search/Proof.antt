@@ -24,8 +24,8 @@ use Rattle.weight_search.proofs.search.Tie as tie
 abbrev Inv-loop : tie.InvT-loop
 Inv-loop t matrix inverse n allowance sizes weights₀ passed₀ weights passed =
     (passed ≤ allowance)
-    × (Begins 0 weights n (tried (problemOf n 0 t matrix [] [] inverse []) passed)
-    × ((k : ℕ) → k < passed → good (problemOf n 0 t matrix [] [] inverse []) (tried (problemOf n 0 t matrix [] [] inverse []) k) ≡ false))
+    × (Begins 0 weights n (tried (problemOf n 0 t matrix [] [] [] inverse []) passed)
+    × ((k : ℕ) → k < passed → good (problemOf n 0 t matrix [] [] [] inverse []) (tried (problemOf n 0 t matrix [] [] [] inverse []) k) ≡ false))
 
 abbrev μ-loop : tie.MeasureT-loop
 μ-loop t matrix inverse n allowance sizes weights₀ passed₀ weights passed = allowance - passed
@@ -34,7 +34,7 @@ abbrev start : tie.After-loads-of Inv-loop μ-loop → tie.Start Inv-loop μ-loo
 start c = c .before .before .before .before .before .before
 
 abbrev P : tie.Start Inv-loop μ-loop → Problem
-P s = problemOf (s .args .n) 0 (s .args .t) (s .args .matrix .now) [] [] (s .args .inverse .now) []
+P s = problemOf (s .args .n) 0 (s .args .t) (s .args .matrix .now) [] [] [] (s .args .inverse .now) []
 
 module _ (d : tie.After-defect-sizes Inv-loop μ-loop) where
   sizes-here : (m j : ℕ) → m < d .before .args .n → j < d .before .args .n → getD (d .defect-sizes .result) (j * d .before .args .n + m) 0 ≡ natAbs (defect (P (d .before)) m j)

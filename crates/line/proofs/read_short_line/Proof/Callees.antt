@@ -31,14 +31,14 @@ use Rattle.numeral.specs.declared.Number.{Number}
 use Rattle.numeral.proofs.Number.Laws as Number′
 use Rattle.form.specs.Form.{bytes}
 use Rattle.form.specs.List.{listedAt}
-use Rattle.form.specs.Reading.{wordAt, headAt, lastOf}
+use Rattle.form.specs.Reading.{wordAt, headAt}
 use Rattle.form.specs.declared.Head.{Head}
 use Rattle.form.specs.declared.Listed.{Listed}
 use Rattle.form.specs.declared.Word.{Word}
 use Rattle.form.proofs.Head.Laws as Head′
 use Rattle.form.proofs.Listed.Laws as Listed′
 use Rattle.form.proofs.Word.Laws as Word′
-use Rattle.line.specs.Parts.{kindOf, decided}
+use Rattle.line.specs.Parts.{kindOf, lastIn, decided}
 use Rattle.line.specs.declared.reader.LineReader.{LineReader}
 use Rattle.line.proofs.Line.Laws as Line′
 use Rattle.line.proofs.reader.LineReader.Laws as T′
@@ -113,7 +113,7 @@ module _ {M : Type 1} (𝓤 : URA M) (H : Heap 𝓤) (A : Atoms 𝓤) (mem : Mem
       pub bracket : (n : ℕ) → n < 2 ^ 64 → ent 𝓤 Had (C #bracket (sl ∷ vint w64 n ∷ []) (Told 𝓤 H A Had (Is-some (place .lowers) (λ m. m ≡ wordAt (now s) n (bytes " (")))))
       pub last : (h : Head) → Fits Head′.lowers h → (i : Number) → Fits Number′.lowers i → (v : Number) → Fits Number′.lowers v → (l : Listed) → Fits Listed′.lowers l
           → ent 𝓤 Had (C #last (sl ∷ Head′.lowered h ∷ Number′.lowered i ∷ Number′.lowered v ∷ Listed′.lowered l ∷ [])
-          (Told 𝓤 H A Had (Is-some (place .lowers) (λ m. m ≡ lastOf (h .word) (h .next) (i .next) (v .next) (wordAt (now s) (l .next) (bytes ")"))))))
+          (Told 𝓤 H A Had (Is-some (place .lowers) (λ m. m ≡ lastIn (now s) h i v l))))
       pub decide : (h : Head) → Fits Head′.lowers h → (i : Number) → Fits Number′.lowers i → (v : Number) → Fits Number′.lowers v → (l : Listed) → Fits Listed′.lowers l → (e : ℕ) → e < 2 ^ 64
           → ent 𝓤 Had (C #decide (sl ∷ Head′.lowered h ∷ Number′.lowered i ∷ Number′.lowered v ∷ Listed′.lowered l ∷ vint w64 e ∷ [])
           (Told 𝓤 H A Had (Is-some Line′.lowers (λ r. r ≡ decided (now s) h i v l e))))

@@ -8,7 +8,7 @@ use Rattle.loader.proofs.Loader.check.Tie as tie
 abbrev I : tie.Start → Input
 I s =
     let a = s .args in
-    input (a .self .n) (a .self .s) (a .self .t) (a .matrix .now) (a .right .now) (a .guess .now) (a .inverse .now) (a .weights .now) (a .solution-bounds .now) (a .inverse-bounds .now)
+    input (a .self .n) (a .self .s) (a .self .t) (a .matrix .now) (a .right .now) (a .tolerance .now) (a .guess .now) (a .inverse .now) (a .weights .now) (a .solution-bounds .now) (a .inverse-bounds .now)
 
 is-short-requires : tie.Need-is-short-requires
 is-short-requires c κs = search needs

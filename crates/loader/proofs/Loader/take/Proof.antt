@@ -7,7 +7,7 @@ use Rattle.loader.proofs.Loader.take.Statement.{statement}
 use Rattle.loader.proofs.Loader.take.Tie as tie
 
 abbrev lent : tie.Start → Lists
-lent s = lists (s .args .matrix .now) (s .args .right .now) (s .args .guess .now) (s .args .inverse .now) (s .args .weights .now)
+lent s = lists (s .args .matrix .now) (s .args .right .now) (s .args .tolerance .now) (s .args .guess .now) (s .args .inverse .now) (s .args .weights .now)
 
 -- what is decided, with the lists that are lent
 decided : (c : tie.After-decide) → let s = c .before .before .before in DecidedFor (s .args .self) (lent s) (s .args .line .now) (c .decide .result)
@@ -26,7 +26,7 @@ set-of-requires : tie.Need-set-of-requires
 set-of-requires c κs = search needs
 
 write-all-requires : tie.Need-write-all-requires
-write-all-requires c κs = decided (c .before .before .before .before .before .before .before .before .before) .room
+write-all-requires c κs = decided (c .before .before .before .before .before .before .before .before .before .before) .room
 
 same-length : tie.Need-same-length
 same-length c = search needs
@@ -43,10 +43,13 @@ same-length-4 c = search needs
 same-length-5 : tie.Need-same-length-5
 same-length-5 c = search needs
 
+same-length-6 : tie.Need-same-length-6
+same-length-6 c = search needs
+
 returns : tie.Need-returns
 returns c =
-    let w = c .before .before .before .before .before .before in
-    let g = w .before .before .before .before .before .before in
+    let w = c .before .before .before .before .before .before .before in
+    let g = w .before .before .before .before .before .before .before in
     let d = g .before .before .before .before in
     let s = d .before .before .before in
     taken-so (s .args .self) (lent s) (s .args .line .now) (d .decide .result) (decided d) (g .set-of .ensures) (w .write-all .ensures)
@@ -65,4 +68,5 @@ take-spec =
     same-length-3
     same-length-4
     same-length-5
+    same-length-6
     returns)

@@ -29,17 +29,20 @@ slice-aggregate-check-4 c = search needs
 slice-aggregate-check-5 : tie.Need-slice-aggregate-check-5
 slice-aggregate-check-5 c = search needs
 
+slice-aggregate-check-6 : tie.Need-slice-aggregate-check-6
+slice-aggregate-check-6 c = search needs
+
 array-borrow-prefix-solution-bounds : tie.Need-array-borrow-prefix-solution-bounds
 array-borrow-prefix-solution-bounds c = search needs
 
-slice-aggregate-check-6 : tie.Need-slice-aggregate-check-6
-slice-aggregate-check-6 c =
-    let n = c .before .before .before .before .before .before .less-where in
-    let l = c .before .before .before .before .before .before .before .before .unwritten in
+slice-aggregate-check-7 : tie.Need-slice-aggregate-check-7
+slice-aggregate-check-7 c =
+    let n = c .before .before .before .before .before .before .before .less-where in
+    let l = c .before .before .before .before .before .before .before .before .before .unwritten in
     sym (length-take-le (n .result) (l .result) (omega (arith, n .ensures, l .ensures)))
 
-slice-aggregate-check-7 : tie.Need-slice-aggregate-check-7
-slice-aggregate-check-7 c = search needs
+slice-aggregate-check-8 : tie.Need-slice-aggregate-check-8
+slice-aggregate-check-8 c = search needs
 
 check-requires : tie.Need-check-requires
 check-requires c κs = search needs
@@ -59,8 +62,9 @@ checked-through-spec =
     slice-aggregate-check-3
     slice-aggregate-check-4
     slice-aggregate-check-5
-    array-borrow-prefix-solution-bounds
     slice-aggregate-check-6
+    array-borrow-prefix-solution-bounds
     slice-aggregate-check-7
+    slice-aggregate-check-8
     check-requires
     returns)

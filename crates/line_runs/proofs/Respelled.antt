@@ -1,0 +1,31 @@
+-- Lines that differ only in how a right side without tolerance is spelled are read alike, at every state.
+--   respelled-read
+use mathlib.Core.Path.{_≡_, refl}
+use mathlib.Core.List.{List}
+use Prim.Native.Nat.{ℕ, _+_, _≤_}
+use native.Mathlib.Omega.{arith}
+use lib.IntN.{ℤ, pos}
+use lib.ListN.{length, length-append}
+use Rattle.form.specs.Form.{numerals, right, rightWithin, spell}
+use Rattle.form.proofs.Spelling.{read-spelled}
+use Rattle.loader.proofs.Alike.{Alike, alike}
+use Rattle.line_runs.specs.Run.{State, step}
+use Rattle.line_runs.specs.Read.{readFrom}
+use Rattle.line_runs.specs.Respelled.{Respelled, none, same, alone}
+
+-- the shorter spelling is no longer than the other
+shorter : (i b : ℤ) → length (spell (rightWithin i b (pos 0))) ≤ 320 → length (spell (right i b)) ≤ 320
+unfolding spell numerals
+shorter i b h = simp length-append (omega (arith, simp length-append at h))
+
+either : (u : State) (i b : ℤ) → length (spell (rightWithin i b (pos 0))) ≤ 320 → Alike (u .loader) (u .lists) (spell (right i b)) (spell (rightWithin i b (pos 0)))
+either u i b h =
+    alike (u .loader) (u .lists) i b (spell (right i b)) (spell (rightWithin i b (pos 0))) (shorter i b h) h (read-spelled (right i b)) (read-spelled (rightWithin i b (pos 0)))
+
+pub respelled-read : (k : ℕ) (u : State) {lines lines′ : List (List ℕ)} → Respelled lines lines′ → readFrom k u lines ≡ readFrom k u lines′
+unfolding readFrom
+respelled-read k u none = refl
+respelled-read k u (same line h) = rw (respelled-read (k + 1) (step u line) h)
+respelled-read k u (alone i b few h) =
+    let a = either u i b few in
+    rw (a .says, a .loader, a .lists, respelled-read (k + 1) (step u (spell (rightWithin i b (pos 0)))) h)
