@@ -2,7 +2,7 @@
 --   build-told    — the number is that of the order of tests, 8, 3, and of each line 3, 16, 17
 --   build-refused — every other number is said with both lists as before
 --   build-zero    — 0 is said of a list that builds alone, and then the equations stand in the two lists
---   build-checks  — never is it the built matrix or right side that makes a check answer 3: the test of its lists is that of the other three
+--   build-checks  — never is it the built matrix or right side that makes a check answer 3: the test of its lists is that of the other four
 use mathlib.Core.Bool.{_&&_}
 use mathlib.Core.List.{List, [], _∷_}
 use mathlib.Core.Path.{_≡_, refl, sym, ap, _∙_}
@@ -46,6 +46,6 @@ module _ {n : ℕ} {ls : List Observation} {a b : List ℤ} {number : ℕ} {a′
   pub build-zero : number ≡ 0 → Held n ls a b a′ b′
   build-zero e = held n ls a b (x .built) (said-zero e)
 
-  pub build-checks : number ≡ 0 → (guess inverse weights : List ℤ) → listsInRange n a′ b′ guess inverse weights
-      ≡ allInRange kind.Guess n (at guess) && (allInRange kind.Inverse (n * n) (at inverse) && allInRange kind.Weight n (at weights))
-  build-checks e guess inverse weights = let t = in-check-ranges n ls a b (x .built) (said-zero e) in rw (t .0, t .1)
+  pub build-checks : number ≡ 0 → (tolerance guess inverse weights : List ℤ) → listsInRange n a′ b′ tolerance guess inverse weights
+      ≡ allInRange kind.Tolerance n (at tolerance) && (allInRange kind.Guess n (at guess) && (allInRange kind.Inverse (n * n) (at inverse) && allInRange kind.Weight n (at weights)))
+  build-checks e tolerance guess inverse weights = let t = in-check-ranges n ls a b (x .built) (said-zero e) in rw (t .0, t .1)
