@@ -5,8 +5,8 @@
  * (a pointer without const) overlaps anything else of the same call. Calls keep no state, take at most 96 kilobytes of
  * stack and no other memory, and may run at the same time.
  *
- * Each gives the papers' number of the first refusal, 0 where nothing is refused, and writes `places` in any case: the row, column, count or
- * line that goes with the refusal, 0 where there is none. Rows, columns and lines count from 1. */
+ * Each gives the papers' number of the first refusal, 0 where nothing is refused. One that has `places` writes them in any case: the row, column,
+ * count or line that goes with the refusal, 0 where there is none. Rows, columns and lines count from 1. */
 #ifndef KODARFI_H
 #define KODARFI_H
 
@@ -95,6 +95,35 @@ uint32_t kodarfi_find_weights(uint32_t n, uint32_t t,
                               int64_t *weights, size_t weights_len,
                               uint32_t *tried,
                               uint64_t places[2]);
+
+/* A field line (document 02, Paper 3): its key (1 to 65,535), the marks that it leads from and to (0 to n; 0 is the fixed mark of height 0), the difference
+ * of height in whole units (-65,536 to 65,536) and its weight (1 to 64). */
+struct kodarfi_observation {
+    uint32_t key;
+    uint32_t from;
+    uint32_t to;
+    int64_t difference;
+    uint32_t weight;
+};
+
+/* Equations from the field lines.
+ *
+ * n new marks (1 to 32) and at most 256 field lines; matrix has at least 1,024 numbers and right at least 32. A key met again with equal contents
+ * counts once, wherever it stands.
+ *
+ * The answer is 0 where the equations are built: then the first n * n of matrix, row after row, and the first n of right hold them, whatever these lists held
+ * before, and the rest is as before. A check of them never answers 3 for the matrix or the right side. Else it is the number of the first refusal, and both
+ * lists are as before: 8, then 3, then the lines in order, each by 3, 16 and 17, up to the first that is refused:
+ *
+ *   8    a list is too short
+ *   3    n is outside its range, or there are more than 256 lines; or a number of the line is outside its range
+ *   16   the line leads from a mark to the same mark
+ *   17   the line has the key of an earlier one and other contents: from, to, difference and weight are compared as given
+ */
+uint32_t kodarfi_build(uint32_t n,
+                       const struct kodarfi_observation *observations, size_t observations_len,
+                       int64_t *matrix, size_t matrix_len,
+                       int64_t *right, size_t right_len);
 
 #ifdef __cplusplus
 }

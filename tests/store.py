@@ -11,16 +11,16 @@ import subprocess
 import sys
 from pathlib import Path
 
-from samples import files, lines, loader
+from samples import builds, files, lines, loader
 from samples.printing import WRONG, Printing
 
 ROOT = Path(__file__).resolve().parent.parent
 FOLDER = ROOT / "crates" / "samples"
 PROGRAM = ROOT / "target" / "bin" / "samples"
 # The program reads so many bytes, and runs no script that fills them.
-BUFFER = 131072
-KINDS = {"lines": lines, "loader": loader, "files": files}
-REFUSALS = {*range(1, 9), *range(11, 16)}
+BUFFER = 262144
+KINDS = {"lines": lines, "loader": loader, "files": files, "builds": builds}
+REFUSALS = {*range(1, 9), *range(11, 18)}
 
 
 def script_of(entries):

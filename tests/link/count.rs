@@ -29,7 +29,7 @@ impl Count {
     }
 
     /// That each of these numbers was met often enough.
-    pub fn test_reach(&mut self, what: &str, met: &[usize; 16], numbers: &[usize]) {
+    pub fn test_reach(&mut self, what: &str, met: &[usize], numbers: &[usize]) {
         let counts: Vec<String> = numbers.iter().map(|&number| format!("{number}: {}", met[number])).collect();
         println!("{what}: {}", counts.join(" "));
         for &number in numbers {

@@ -1,6 +1,6 @@
 /* The library linked from C, each of its calls beside what the second implementation says.
  *
- *   link FOLDER [--first]   what the emitters wrote: FOLDER/nets.txt, files.bin, entries.txt and weights.txt; with --first it stops at the first test that fails
+ *   link FOLDER [--first]   what the emitters wrote: FOLDER/nets.txt, files.bin, entries.txt, weights.txt and builds.txt; with --first it stops at the first test that fails
  *
  * The last line is 'N passed, M failed'. */
 #include "tests.h"
@@ -26,7 +26,7 @@ void test(const char *what, unsigned index, bool holds) {
     if (stops) exit(close_count());
 }
 
-void test_reach(const char *what, const unsigned met[16], const unsigned *numbers, unsigned count) {
+void test_reach(const char *what, const unsigned *met, const unsigned *numbers, unsigned count) {
     printf("%s:", what);
     for (unsigned k = 0; k < count; k++) printf(" %u: %u", numbers[k], met[numbers[k]]);
     printf("\n");
@@ -54,6 +54,7 @@ int main(int argc, char **argv) {
     }
     run(test_entries, argv[1], "entries.txt");
     run(test_weights, argv[1], "weights.txt");
+    run(test_builds, argv[1], "builds.txt");
     run(test_files, argv[1], "files.bin");
     run(test_lists, argv[1], "nets.txt");
     return close_count();

@@ -8,8 +8,8 @@
 /* Counts a test; the first that fail are named. */
 void test(const char *what, unsigned index, bool holds);
 
-/* Counts as tests that each of these numbers, up to 15, was met often enough, and prints how often. */
-void test_reach(const char *what, const unsigned met[16], const unsigned *numbers, unsigned count);
+/* Counts as tests that each of these numbers was met often enough, and prints how often; met has a place for each. */
+void test_reach(const char *what, const unsigned *met, const unsigned *numbers, unsigned count);
 
 /* kodarfi_check on the calls of tests/emit.py. */
 void test_lists(FILE *nets);
@@ -22,5 +22,8 @@ void test_entries(FILE *entries);
 
 /* kodarfi_find_weights on the searches of tests/emit_weights.py. */
 void test_weights(FILE *searches);
+
+/* kodarfi_build on the lists of tests/emit_builds.py. */
+void test_builds(FILE *builds);
 
 #endif

@@ -60,6 +60,33 @@
     X(search_reads_past_n)        \
     X(writes_all_weights)         \
     X(search_places_left)         \
+    /* kodarfi_build */           \
+    X(repeat_counted_twice)       \
+    X(repeat_refused)             \
+    X(from_not_compared)          \
+    X(to_not_compared)            \
+    X(difference_not_compared)    \
+    X(weight_not_compared)        \
+    X(difference_of_16_bits)      \
+    X(right_side_turned)          \
+    X(plus_beside_the_diagonal)   \
+    X(one_side_only)              \
+    X(fixed_mark_lost)            \
+    X(added_to_what_was_there)    \
+    X(writes_before_all_tests)    \
+    X(clears_all_places)          \
+    X(rows_of_32)                 \
+    X(other_contents_first)       \
+    X(same_mark_first)            \
+    X(no_16_at_0)                 \
+    X(list_of_257_taken)          \
+    X(lines_before_count)         \
+    X(short_right_taken)          \
+    X(mark_above_n_taken)         \
+    X(key_0_taken)                \
+    X(key_65536_taken)            \
+    X(weight_65_taken)            \
+    X(said_17_for_16)             \
     /* kodarfi_listing: file */   \
     X(first_4096_bytes)           \
     X(last_line_needs_feed)       \

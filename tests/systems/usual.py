@@ -2,23 +2,22 @@
 
 from exact import inverse_of, nearest, product
 from net import LARGE, SIZE, WHOLE, frozen, net_of
+from second.field_lines import Build, Builder, FieldLine
 
 
-def levelling_matrix(rng, n, heaviest):
-    """The matrix of a connected net with marks 1 to n and the fixed mark 0: lines of random weight along a random graph."""
-    matrix = [[0] * n for _ in range(n)]
+def levelling_lines(rng, n, heaviest):
+    """A connected net with marks 1 to n and the fixed mark 0: lines of random weight along a random graph, each two marks and a weight."""
     reach = rng.choice((1, 3, n))
     lines = [(rng.randint(max(0, mark - reach), mark - 1), mark) for mark in range(1, n + 1)]
     lines += [tuple(rng.sample(range(n + 1), 2)) for _ in range(rng.choice((0, n // 2, 2 * n)))]
-    for low, high in lines:
-        weight = rng.randint(1, heaviest)
-        for mark in (low, high):
-            if mark:
-                matrix[mark - 1][mark - 1] += weight
-        if low and high:
-            matrix[low - 1][high - 1] -= weight
-            matrix[high - 1][low - 1] -= weight
-    return frozen(matrix)
+    return [(low, high, rng.randint(1, heaviest)) for low, high in lines]
+
+
+def levelling_matrix(rng, n, heaviest):
+    """The matrix of such a net, built from its field lines."""
+    lines = levelling_lines(rng, n, heaviest)
+    built = Builder().build(Build(n, tuple(FieldLine(key, low, high, 0, weight) for key, (low, high, weight) in enumerate(lines, 1))))
+    return frozen([built.matrix[i * n : i * n + n] for i in range(n)])
 
 
 def general_matrix(rng, n):

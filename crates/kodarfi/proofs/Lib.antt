@@ -3,3 +3,4 @@ pub mod Entry
 pub mod Meaning
 pub mod Covered
 pub mod Weights
+pub mod Build

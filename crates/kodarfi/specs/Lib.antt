@@ -1,3 +1,4 @@
 pub mod Told
 pub mod Exported
 pub mod Weights
+pub mod Build

@@ -1,21 +1,28 @@
 // The functions that other languages link: total, over numbers and slices, with document 01's number as their result (include/kodarfi.h).
 ghost use mathlib.Core.Path.{_≡_};
 ghost use mathlib.Core.List.{[], _∷_};
-ghost use Rattle.rules.specs.Refusal.{said};
+ghost use lib.ListN.{getD};
+ghost use Rattle.rules.specs.Refusal.{said, numberOf};
 ghost use Rattle.checked.specs.Input.{input};
 ghost use Rattle.refusal.specs.Refused.{printed};
 ghost use Rattle.refusal.specs.Reply.{replyOf};
 ghost use Rattle.weight_sequence.specs.Request.{request};
+ghost use Rattle.observation.specs.Order.{saidBuilt};
 ghost use Rattle.kodarfi.specs.Exported.{CheckExported, ListingExported, EntryExported};
 ghost use Rattle.kodarfi.specs.Weights.{SearchExported};
+ghost use Rattle.kodarfi.specs.Build.{BuildExported};
+use builder::build;
 use checker::check;
 use entry::Registered;
 use entry::register_entry;
 use listing::answer_file;
+use observation::Built;
+use observation::Observation;
 use refusal::Reply;
 use refusal::no_refusal;
 use refusal::reply_of;
 use rules::Outcome;
+use rules::Refusal;
 use weight_reply::found_reply;
 use weight_reply::tried_or;
 use weight_search::find_weights;
@@ -131,4 +138,37 @@ pub extern "C" fn kodarfi_find_weights(
     let found = find_weights(n, t, matrix, inverse, allowance, weights);
     *tried = tried_or(found, *tried);
     tell(found_reply(found), places)
+}
+
+// The number of a refusal.
+fn refused_number(refusal: Refusal) -> u32
+    ensures { λ r. ⌜ r ≡ numberOf refusal ⌝ }
+{
+    let told = reply_of(refusal, 0);
+    told.number
+}
+
+// The number of what is said of field lines, 0 where the equations are built.
+fn built_number(built: Built) -> u32
+    ensures { λ r. ⌜ r ≡ getD (saidBuilt built) 0 0 ⌝ }
+{
+    match built {
+        Built::Done => 0,
+        Built::Refused(refusal) => refused_number(refusal),
+        Built::SameMark => 16,
+        Built::OtherContents => 17,
+    }
+}
+
+// Equations from the field lines: `builder::build`.
+#[no_mangle]
+pub extern "C" fn kodarfi_build(
+    n: u32,
+    observations: &[Observation],
+    matrix: &mut [i64],
+    right: &mut [i64],
+) -> u32
+    ensures { λ r. ⌜ BuildExported n (now (observations .entry)) (now (matrix .entry)) (now (right .entry)) r (now (matrix .exit)) (now (right .exit)) ⌝ }
+{
+    built_number(build(n, observations, matrix, right))
 }

@@ -1,7 +1,7 @@
 -- Lines that differ only in how a right side without tolerance is spelled are read alike, at every state.
 --   respelled-read
 use mathlib.Core.Path.{_≡_, refl}
-use mathlib.Core.List.{List}
+use mathlib.Core.List.{List, _∷_}
 use Prim.Native.Nat.{ℕ, _+_, _≤_}
 use native.Mathlib.Omega.{arith}
 use lib.IntN.{ℤ, pos}
@@ -22,10 +22,14 @@ either : (u : State) (i b : ℤ) → length (spell (rightWithin i b (pos 0))) �
 either u i b h =
     alike (u .loader) (u .lists) i b (spell (right i b)) (spell (rightWithin i b (pos 0))) (shorter i b h) h (read-spelled (right i b)) (read-spelled (rightWithin i b (pos 0)))
 
+-- two lines that are taken alike, at the front of lines that are read alike
+front : (k : ℕ) (u : State) (line line′ : List ℕ) (lines lines′ : List (List ℕ)) → Alike (u .loader) (u .lists) line line′ →
+    ((j : ℕ) (v : State) → readFrom j v lines ≡ readFrom j v lines′) → readFrom k u (line ∷ lines) ≡ readFrom k u (line′ ∷ lines′)
+unfolding readFrom
+front k u line line′ lines lines′ a h = rw (a .says, a .loader, a .lists, h (k + 1) (step u line′))
+
 pub respelled-read : (k : ℕ) (u : State) {lines lines′ : List (List ℕ)} → Respelled lines lines′ → readFrom k u lines ≡ readFrom k u lines′
 unfolding readFrom
 respelled-read k u none = refl
 respelled-read k u (same line h) = rw (respelled-read (k + 1) (step u line) h)
-respelled-read k u (alone i b few h) =
-    let a = either u i b few in
-    rw (a .says, a .loader, a .lists, respelled-read (k + 1) (step u (spell (rightWithin i b (pos 0)))) h)
+respelled-read k u (alone {lines} {lines′} i b few h) = front k u (spell (right i b)) (spell (rightWithin i b (pos 0))) lines lines′ (either u i b few) (λ j v. respelled-read j v h)

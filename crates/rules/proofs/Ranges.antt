@@ -1,19 +1,20 @@
 -- What the ranges say of a number.
 --   range-size — a number in range is at most `sizeOf k` in size
 --   range-natural — where the lowest value is a natural number, a number in range is one, and at least that
---   size-range, solution-scale-range, .., weight-range, allowance-range, in-allowance-range — what the range of each kind is
+--   size-range, solution-scale-range, .., weight-range, allowance-range, in-allowance-range, line-weight-range, difference-range — what the range of each kind is
+--   in-matrix-range, in-right-range — the converse: a number of that size is in range
 --   both, both-left, both-right, not-both, not-first, neither-left, neither-right — of two tests
 --   range-test — what the code tests is inRange
 use mathlib.Core.Path.{_≡_, refl, sym, subst}
 use mathlib.Core.Bool.{Bool, true, false, _&&_, _||_}
-use Prim.Native.Nat.{ℕ, _<_, _≤_, _^_, max}
+use Prim.Native.Nat.{ℕ, suc, _<_, _≤_, _^_, max}
 use native.Mathlib.Omega.{arith}
 use borrow.Author.Tests.{leb-true, le-leb}
 use lib.Dec.{T}
 use lib.IntN.{ℤ, pos, negsuc, natAbs}
 use lib.Signed.{leZ}
 use Rattle.rules.specs.declared.Kind.{Kind}
-use Rattle.rules.specs.declared.Kind.the-variants.{Size, SolutionScale, InverseScale, Matrix, Right, Guess, Inverse, Weight, Allowance, Tolerance}
+use Rattle.rules.specs.declared.Kind.the-variants.{Size, SolutionScale, InverseScale, Matrix, Right, Guess, Inverse, Weight, Allowance, Tolerance, Key, Mark, Difference, LineWeight}
 use Rattle.rules.specs.declared.Range.{Range}
 use Rattle.rules.specs.Range.{ranges, rangeOf, inRange}
 
@@ -73,7 +74,12 @@ pub range-test : (k : Kind) (z : ℤ) {r : Range} → r ≡ rangeOf k → leZ (r
 unfolding inRange
 range-test k z e = rw e
 
--- ---- the sizes of document 01
+-- a number of at most that size is in a range that is alike on both sides
+sized : (b : ℕ) (z : ℤ) → natAbs z ≤ suc b → leZ (negsuc b) z && leZ z (pos (suc b)) ≡ true
+sized b (pos z) h = le-leb z (suc b) h
+sized b (negsuc z) h = both (le-leb z b (omega arith)) refl
+
+-- ---- the sizes of documents 01 and 02
 module _ (n : ℕ) where
   pub size-range : inRange Size (pos n) ≡ true → (0 < n) × (n ≤ 32)
   unfolding rangeOf ranges
@@ -94,6 +100,10 @@ module _ (n : ℕ) where
   pub in-allowance-range : 1 ≤ n → n ≤ 64 → inRange Allowance (pos n) ≡ true
   unfolding inRange rangeOf ranges
   in-allowance-range a b = both (le-leb 1 n a) (le-leb n 64 b)
+
+  pub line-weight-range : inRange LineWeight (pos n) ≡ true → (1 ≤ n) × (n ≤ 64)
+  unfolding rangeOf ranges
+  line-weight-range e = (range-natural LineWeight 1 (pos n) refl e .1, range-size LineWeight (pos n) e)
 
 module _ (z : ℤ) where
   pub matrix-range : inRange Matrix z ≡ true → natAbs z ≤ 2 ^ 20
@@ -119,3 +129,15 @@ module _ (z : ℤ) where
   pub weight-range : inRange Weight z ≡ true → (1 ≤ natAbs z) × (natAbs z ≤ 1024)
   unfolding rangeOf ranges
   weight-range e = (range-natural Weight 1 z refl e .1, range-size Weight z e)
+
+  pub difference-range : inRange Difference z ≡ true → natAbs z ≤ 2 ^ 16
+  unfolding rangeOf ranges
+  difference-range e = range-size Difference z e
+
+  pub in-matrix-range : natAbs z ≤ 2 ^ 20 → inRange Matrix z ≡ true
+  unfolding inRange rangeOf ranges
+  in-matrix-range h = sized 1048575 z h
+
+  pub in-right-range : natAbs z ≤ 2 ^ 30 → inRange Right z ≡ true
+  unfolding inRange rangeOf ranges
+  in-right-range h = sized 1073741823 z h

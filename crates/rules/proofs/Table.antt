@@ -12,7 +12,7 @@ use lib.IntN.{pos, natAbs}
 use lib.ListN.{getD, length}
 use lib.Signed.{leZ}
 use Rattle.rules.specs.declared.Kind.{Kind}
-use Rattle.rules.specs.declared.Kind.the-variants.{Size, SolutionScale, InverseScale, Matrix, Right, Guess, Inverse, Weight, Allowance, Tolerance}
+use Rattle.rules.specs.declared.Kind.the-variants.{Size, SolutionScale, InverseScale, Matrix, Right, Guess, Inverse, Weight, Allowance, Tolerance, Key, Mark, Difference, LineWeight}
 use Rattle.rules.specs.declared.Range.{Range}
 use Rattle.rules.specs.Range.{ranges, indexOf, rangeOf, fromTo}
 use Rattle.rules.proofs.Ranges.{both-left, both-right}
@@ -34,7 +34,7 @@ table-good : all-good ranges ≡ true
 unfolding all-good good ranges
 table-good = refl
 
-index-below : (k : Kind) → indexOf k < 10
+index-below : (k : Kind) → indexOf k < 14
 index-below Size = omega arith
 index-below SolutionScale = omega arith
 index-below InverseScale = omega arith
@@ -45,6 +45,10 @@ index-below Inverse = omega arith
 index-below Weight = omega arith
 index-below Allowance = omega arith
 index-below Tolerance = omega arith
+index-below Key = omega arith
+index-below Mark = omega arith
+index-below Difference = omega arith
+index-below LineWeight = omega arith
 
 pub record Good (r : Range) : Type 0 where
   pub ordered : leZ (r .lowest) (r .highest) ≡ true

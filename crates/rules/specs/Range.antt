@@ -1,4 +1,4 @@
--- The ranges of document 01 ("The system and its steps") and, last, of document 02's Papers 7 and 5, one line of a table for each kind of number, and the
+-- The ranges of document 01 ("The system and its steps") and, last, of document 02's Papers 7, 5 and 3, one line of a table for each kind of number, and the
 -- lengths of lent lists.
 --   fromTo a b  — the range from a to b
 --   ranges      — the table: lowest and highest value, in the order of `Kind`
@@ -15,7 +15,7 @@ use lib.IntN.{ℤ, pos, negsuc}
 use lib.ListN.{getD}
 use lib.Signed.{leZ}
 use Rattle.rules.specs.declared.Kind.{Kind}
-use Rattle.rules.specs.declared.Kind.the-variants.{Size, SolutionScale, InverseScale, Matrix, Right, Guess, Inverse, Weight, Allowance, Tolerance}
+use Rattle.rules.specs.declared.Kind.the-variants.{Size, SolutionScale, InverseScale, Matrix, Right, Guess, Inverse, Weight, Allowance, Tolerance, Key, Mark, Difference, LineWeight}
 use Rattle.rules.specs.declared.Range.{Range}
 
 abbrev pub fromTo : ℤ → ℤ → Range
@@ -33,6 +33,10 @@ ranges =
     ∷ fromTo (pos 1) (pos 1024)  -- weight w
     ∷ fromTo (pos 1) (pos 64)  -- 02, Paper 7: "The caller states how many lists may be tried, 1 to 64."
     ∷ fromTo (pos 0) (pos 1048576)  -- 02, Paper 5: "a tolerance d of 0 to 2^20"
+    ∷ fromTo (pos 1) (pos 65535)  -- 02, Paper 3: "A field line has a key (1 to 65,535),
+    ∷ fromTo (pos 0) (pos 32)  -- two marks from and to (0 to n, where 0 is the fixed mark of height 0),
+    ∷ fromTo (negsuc 65535) (pos 65536)  -- a difference in whole units (−65,536 to 65,536)
+    ∷ fromTo (pos 1) (pos 64)  -- and a weight (1 to 64)."
     ∷ []
 
 abbrev pub indexOf : Kind → ℕ
@@ -46,6 +50,10 @@ indexOf Inverse = 6
 indexOf Weight = 7
 indexOf Allowance = 8
 indexOf Tolerance = 9
+indexOf Key = 10
+indexOf Mark = 11
+indexOf Difference = 12
+indexOf LineWeight = 13
 
 unfoldable pub rangeOf : Kind → Range
 rangeOf k = getD ranges (indexOf k) (fromTo (pos 0) (pos 0))

@@ -1,4 +1,4 @@
-// The ranges of document 01 and of 02's Papers 7 and 5, and 01's refusals.
+// The ranges of document 01 and of 02's Papers 7, 5 and 3, and 01's refusals.
 ghost use mathlib.Core.Path.{_≡_};
 ghost use mathlib.Core.Bool.{_&&_};
 ghost use Prim.Native.Nat.{ℕ, _<_, _≤_};
@@ -21,6 +21,11 @@ pub enum Kind {
     Allowance,
     // how far a right side may lie from the one that is given
     Tolerance,
+    // of a field line: its key, a mark, its difference, its weight
+    Key,
+    Mark,
+    Difference,
+    LineWeight,
 }
 
 pub struct Range {
@@ -28,7 +33,7 @@ pub struct Range {
     pub highest: i64,
 }
 
-const RANGES: [Range; 10] = [
+const RANGES: [Range; 14] = [
     Range {
         lowest: 1,
         highest: 32,
@@ -69,6 +74,22 @@ const RANGES: [Range; 10] = [
         lowest: 0,
         highest: 1048576,
     },
+    Range {
+        lowest: 1,
+        highest: 65535,
+    },
+    Range {
+        lowest: 0,
+        highest: 32,
+    },
+    Range {
+        lowest: -65536,
+        highest: 65536,
+    },
+    Range {
+        lowest: 1,
+        highest: 64,
+    },
 ];
 
 // Why something is refused: a case for each of 01's numbers, with the places or the count that it gives. Rows and columns count from 1.
@@ -107,7 +128,7 @@ pub enum Outcome {
 }
 
 fn index_of(kind: Kind) -> usize
-    ensures { λ r. ⌜ (r ≡ indexOf kind) × (r < 10) ⌝ }
+    ensures { λ r. ⌜ (r ≡ indexOf kind) × (r < 14) ⌝ }
 {
     match kind {
         Kind::Size => 0,
@@ -120,6 +141,10 @@ fn index_of(kind: Kind) -> usize
         Kind::Weight => 7,
         Kind::Allowance => 8,
         Kind::Tolerance => 9,
+        Kind::Key => 10,
+        Kind::Mark => 11,
+        Kind::Difference => 12,
+        Kind::LineWeight => 13,
     }
 }
 

@@ -27,11 +27,15 @@ pub struct Checked {
     pub inverse: [u64; 1024],
 }
 
-fn marked() -> [i64; 32] {
+pub fn marked() -> [i64; 32]
+    ensures { λ r. ⌜ 32 ≡ length r ⌝ }
+{
     [-7; 32]
 }
 
-fn marked_matrix() -> [i64; 1024] {
+pub fn marked_matrix() -> [i64; 1024]
+    ensures { λ r. ⌜ 1024 ≡ length r ⌝ }
+{
     [-7; 1024]
 }
 
@@ -74,7 +78,7 @@ fn unwritten_matrix() -> [u64; 1024] {
 }
 
 // A length, one less where the list is to be too short.
-fn less_where(n: usize, short: bool) -> usize
+pub fn less_where(n: usize, short: bool) -> usize
     requires { ⌜ 1 ≤ n ⌝ }
     ensures { λ r. ⌜ r ≤ n ⌝ }
 {

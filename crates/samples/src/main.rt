@@ -1,4 +1,4 @@
-// Sample lines, files and checks through the proved calls, and a loader, by a script from standard input; what each answers is printed.
+// Sample lines, files, checks and builds through the proved calls, and a loader, by a script from standard input; what each answers is printed.
 // The script's entries are each followed by a byte of 255. An entry that starts with a byte of 254 is a command, told by the next byte:
 //   t  print the rest of the entry
 //   l  what the rest is as a line
@@ -8,9 +8,12 @@
 //   p  print the first ten numbers of a list, 0 to 5, and no line feed
 //   c  check through the loader;  d  the same, with a solution limit list that is too short
 //   k  check on lists: the rest is n, s and t, a byte each
+//   b  build equations: the rest is n and then field lines, five numbers each, with a space after each number;  a, r  the same, with a matrix list, or a list
+//      of right sides, that is one number too short
 // Any other entry is a line for the loader. A script that fills the buffer may have been cut, so it is not run at all.
 ghost use mathlib.Core.Path.{_≡_};
 ghost use lib.ListN.{length};
+use build::print_build;
 use held::Held;
 use held::fresh;
 use held::taken;
@@ -22,21 +25,23 @@ use read::print_line;
 use read::print_listing;
 use show::print_of;
 
+mod build;
 mod held;
+mod lent;
 mod print;
 mod read;
 mod show;
 
-fn script_buffer() -> [u8; 131072]
-    ensures { λ r. ⌜ 131072 ≡ length r ⌝ }
+fn script_buffer() -> [u8; 262144]
+    ensures { λ r. ⌜ 262144 ≡ length r ⌝ }
 {
-    [0; 131072]
+    [0; 262144]
 }
 
 fn main() {
     let mut text = script_buffer();
     let n = io::read_full(STDIN_FILENO, &mut text);
-    if n < 131072 {
+    if n < 262144 {
         run(&text[..n]);
     } else {
         io::write_all(STDERR_FILENO, b"samples: the script fills the buffer\n");
@@ -90,6 +95,7 @@ fn print_given(name: u8, rest: &[u8]) {
         b't' => print_text(rest),
         b'l' => print_line(rest),
         b'f' => print_listing(rest),
+        b'a' | b'b' | b'r' => print_build(name, rest),
         _ => {}
     }
 }

@@ -51,7 +51,7 @@ pub fn print_signed(x: i64) {
     print_number(size_of(x));
 }
 
-fn size_of(x: i64) -> u64 {
+pub fn size_of(x: i64) -> u64 {
     if x < -9223372036854775807 {
         return 9223372036854775808;
     }
@@ -62,8 +62,8 @@ pub fn print_column(l: [i64; 32], count: usize) {
     print_list(&l, count);
 }
 
-pub fn print_matrix(l: [i64; 1024]) {
-    print_list(&l, 10);
+pub fn print_matrix(l: [i64; 1024], count: usize) {
+    print_list(&l, count);
 }
 
 fn print_list(l: &[i64], count: usize) {

@@ -33,7 +33,7 @@ fn print_list_of(held: Held, which: u32) {
     match which {
         0 => {
             let matrix = held.matrix;
-            print_matrix(matrix);
+            print_matrix(matrix, 10);
         }
         1 => {
             let right = held.right;
@@ -49,7 +49,7 @@ fn print_list_of(held: Held, which: u32) {
         }
         4 => {
             let inverse = held.inverse;
-            print_matrix(inverse);
+            print_matrix(inverse, 10);
         }
         _ => {
             let weights = held.weights;

@@ -1,0 +1,36 @@
+// Equations from the field lines (document 02, Paper 3). Two functions are lent a slice of field lines, `gather` and `build`; each is proved by a walk of
+// its code by hand, and does no more than take the slice apart: tests, sums and writing are in covered functions.
+ghost use mathlib.Core.Path.{_≡_};
+ghost use lib.ListN.{length};
+ghost use Rattle.gathering.specs.Gathered.{gathered, few};
+ghost use Rattle.built.specs.BuiltAs.{BuiltAs};
+use built::finish;
+use gathering::Gathered;
+use gathering::add_observation;
+use gathering::few_of;
+use gathering::open;
+use observation::Built;
+use observation::Observation;
+
+// The lines one after the other; of a list above 256 none is looked at.
+fn gather(observations: &[Observation], start: Gathered) -> Gathered
+    ensures { λ r. ⌜ r ≡ gathered start (now (observations .entry)) (few (length (now (observations .entry)))) ⌝ }
+{
+    let mut g = start;
+    let end = few_of(observations.len());
+    let mut i = 0;
+    while i < end {
+        g = add_observation(g, observations[i]);
+        i += 1;
+    }
+    g
+}
+
+// The equations of the distinct lines, or the first refusal with both lists untouched.
+pub fn build(n: u32, observations: &[Observation], matrix: &mut [i64], right: &mut [i64]) -> Built
+    ensures { λ r. ⌜ BuiltAs n (now (observations .entry)) (now (matrix .entry)) (now (right .entry)) r (now (matrix .exit)) (now (right .exit)) ⌝ }
+{
+    let start = open(n, observations.len());
+    let g = gather(observations, start);
+    finish(g, matrix, right)
+}

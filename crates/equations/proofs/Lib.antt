@@ -1,0 +1,4 @@
+pub mod Terms
+pub mod Rows
+pub mod Places
+pub mod Layouts

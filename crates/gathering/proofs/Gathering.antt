@@ -1,0 +1,99 @@
+-- What is gathered of a whole list of lines.
+--   Outcome — what is said, and where nothing is: the kept lines are ready, and their sums are those of the distinct lines
+--   gathered-folded, gathers — by places and line after line; from lines that follow
+--   done-of, old, still — nothing is said exactly where it is done; after a refusal nothing changes
+use mathlib.Core.Path.{_≡_, refl, sym, ap, _∙_}
+use mathlib.Core.List.{List, [], _∷_}
+use Prim.Native.Nat.{ℕ, zero, suc, _+_, _≤_, _<_}
+use native.Mathlib.Omega.{arith}
+use lib.IntN.{ℤ, _+ℤ_, +ℤ-assoc, +ℤ-idr}
+use lib.ListN.{length, getD}
+use Rattle.rules.proofs.Verdicts.{nothing-is-not}
+use Rattle.observation.specs.declared.Built.{Built}
+use Rattle.observation.specs.declared.Built.the-variants.{Done, Refused, SameMark, OtherContents}
+use Rattle.gathering.specs.declared.Gathered.{Gathered}
+use Rattle.observation.specs.declared.Observation.{Observation}
+use Rattle.observation.specs.Line.{noObservation}
+use Rattle.observation.specs.Order.{saidBuilt, observationsSay}
+use Rattle.observation.specs.Distinct.{distinctAfter, total}
+use Rattle.gathering.specs.Gathered.{refusedAs, taken, added, whenDone, gathered, few, keptAt, keptSum}
+use Rattle.observation.specs.Stated.{Passes}
+use Rattle.observation.proofs.Repeat.{share, first}
+use Rattle.gathering.proofs.Follows.{Follows, Step, refused, passed}
+use Rattle.gathering.proofs.Step.{step}
+
+-- ---- by places, and line after line
+unfoldable pub folded : Gathered → List Observation → Gathered
+folded g [] = g
+folded g (l ∷ ls) = folded (added g l) ls
+
+front : (g : Gathered) (l : Observation) (ls : List Observation) (k : ℕ) → gathered g (l ∷ ls) (suc k) ≡ gathered (added g l) ls k
+unfolding gathered
+front g l ls zero = refl
+front g l ls (suc k) = ap (λ (z : Gathered). added z (getD ls k noObservation)) (front g l ls k)
+
+pub gathered-folded : (g : Gathered) (ls : List Observation) → gathered g ls (length ls) ≡ folded g ls
+unfolding folded
+gathered-folded g [] = unfold gathered in refl
+gathered-folded g (l ∷ ls) = front g l ls (length ls) ∙ gathered-folded (added g l) ls
+
+-- ---- after a refusal nothing changes
+pub done-of : (b : Built) → saidBuilt b ≡ [] → b ≡ Done
+done-of Done e = refl
+done-of (Refused r) e = absurd (nothing-is-not e)
+done-of SameMark e = absurd (nothing-is-not e)
+done-of OtherContents e = absurd (nothing-is-not e)
+
+pub old : (b : Built) {k : ℕ} {ks : List ℕ} (x y : Gathered) → saidBuilt b ≡ k ∷ ks → whenDone b x y ≡ y
+old Done x y e = absurd (nothing-is-not (sym e))
+old (Refused r) x y e = refl
+old SameMark x y e = refl
+old OtherContents x y e = refl
+
+still : (g : Gathered) (ls : List Observation) {k : ℕ} {ks : List ℕ} → saidBuilt (g .told) ≡ k ∷ ks → folded g ls ≡ g
+unfolding folded added
+still g [] e = refl
+still g (l ∷ ls) e = ap (λ (z : Gathered). folded z ls) (old (g .told) (taken g l) g e) ∙ still g ls e
+
+-- ---- the lines that are left
+pub record Outcome (n : ℕ) (es ls : List Observation) (g r : Gathered) : Type 0 where
+  pub says : saidBuilt (r .told) ≡ observationsSay n es ls
+  pub size : r .n ≡ n
+  pub few : saidBuilt (r .told) ≡ [] → r .count ≤ 256
+  pub good : saidBuilt (r .told) ≡ [] → (p : ℕ) → p < r .count → Passes n (keptAt r p)
+  pub sums : saidBuilt (r .told) ≡ [] → (f : Observation → ℤ) → keptSum f r ≡ keptSum f g +ℤ total f (distinctAfter es ls)
+
+pub gathers : (n : ℕ) (es ls : List Observation) (g : Gathered) → Follows n es g → g .count + length ls ≤ 256 → Outcome n es ls g (folded g ls)
+unfolding folded observationsSay
+gathers n es [] g fol room = record {
+  says = ap saidBuilt (fol .done);
+  size = fol .size;
+  few = λ e. fol .few;
+  good = λ e p b. fol .good (keptAt g p) (fol .among p b);
+  sums = λ e f. unfold distinctAfter total in sym (+ℤ-idr (keptSum f g));
+}
+gathers n es (l ∷ ls) g fol room = go (step n es g l fol (omega arith)) (gathers n (l ∷ es) ls (added g l))
+  where
+    go : Step n es g l → (Follows n (l ∷ es) (added g l) → added g l .count + length ls ≤ 256 → Outcome n (l ∷ es) ls (added g l) (folded (added g l) ls)) →
+        Outcome n es (l ∷ ls) g (folded (added g l) ls)
+    go (refused t k ks e a s) ih =
+        let e₁ : saidBuilt (refusedAs g t .told) ≡ k ∷ ks = unfold refusedAs in e in
+        let r : folded (added g l) ls ≡ refusedAs g t = ap (λ (z : Gathered). folded z ls) a ∙ still (refusedAs g t) ls e₁ in
+        rw r (record {
+          says = e₁ ∙ sym (rw (s, e));
+          size = unfold refusedAs in fol .size;
+          few = λ p. absurd (nothing-is-not (sym e₁ ∙ p));
+          good = λ p. absurd (nothing-is-not (sym e₁ ∙ p));
+          sums = λ p. absurd (nothing-is-not (sym e₁ ∙ p));
+        })
+    go (passed s fol′ sum count) ih =
+        let o = ih fol′ (omega (arith, count, room)) in
+        record {
+          says = o .says ∙ sym (rw s);
+          size = o .size;
+          few = o .few;
+          good = o .good;
+          sums = λ e f.
+              o .sums e f ∙ ap (λ (z : ℤ). z +ℤ total f (distinctAfter (l ∷ es) ls)) (sum f) ∙ +ℤ-assoc (keptSum f g) (share f es l) (total f (distinctAfter (l ∷ es) ls))
+              ∙ ap (λ (z : ℤ). keptSum f g +ℤ z) (sym (first f es l ls));
+        }

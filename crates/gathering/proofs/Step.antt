@@ -1,0 +1,60 @@
+-- One line more: which of the steps it is.
+--   step — refused or followed
+use mathlib.Core.Path.{_≡_, refl, sym, ap, _∙_}
+use mathlib.Core.Bool.{Bool, true, false}
+use mathlib.Core.List.{List, []}
+use Prim.Native.Nat.{ℕ, _<_}
+use native.Mathlib.Omega.{arith}
+use borrow.Author.Tests.{eqb-true, eqb-false, eq-eqb, ne-eqb}
+use lib.Dec.{eqb}
+use Rattle.integer.proofs.Search.{Searched, found, nowhere, searched, clash}
+use Rattle.rules.specs.declared.Refusal.the-variants.{OutOfRange}
+use Rattle.observation.specs.declared.Built.the-variants.{Refused, SameMark, OtherContents}
+use Rattle.gathering.specs.declared.Gathered.{Gathered}
+use Rattle.observation.specs.declared.Observation.{Observation}
+use Rattle.observation.specs.Line.{outsideRange, sameMark, sameContents, hasKey}
+use Rattle.gathering.specs.Gathered.{keyAt, isRefused, taken, added, keptAt}
+use Rattle.observation.specs.Stated.{Passes}
+use Rattle.gathering.proofs.Adding.{taken-outside, taken-same, taken-clash, taken-again, taken-new, added-done}
+use Rattle.observation.proofs.Members.{same-line, line-same, has-line, clash-here}
+use Rattle.gathering.proofs.Follows.{Follows, Step, refused, all, kept-as, again, new}
+
+module _ (n : ℕ) (es : List Observation) (g : Gathered) (l : Observation) (fol : Follows n es g) (room : g .count < 256) where
+  -- ---- which of them
+  abbrev test : ℕ → Bool
+  test i = eqb (keyAt (g .seen) i) (l .key)
+
+  pub step : Step n es g l
+  step = at (outsideRange n l) refl (sameMark l) refl
+    where
+      own : {b : Bool} → outsideRange n l ≡ b → outsideRange (g .n) l ≡ b
+      own p = rw (fol .size) p
+
+      taken-is : {r : Gathered} → r ≡ taken g l → added g l ≡ r
+      taken-is e = sym (added-done g l (ap isRefused (fol .done)) e)
+
+      search : Passes n l → Searched (g .count) test → Step n es g l
+      search good (found i b e p h) = contents (sameContents (keptAt g i) l) refl
+        where
+          key : keptAt g i .key ≡ l .key
+          key = eqb-true (keyAt (g .seen) i) (l .key) p
+
+          contents : (c : Bool) → sameContents (keptAt g i) l ≡ c → Step n es g l
+          contents true c = again n es g l fol room i b (same-line (keptAt g i) l key c) good (taken-is (taken-again g l (own (good .inside)) (good .apart) (all n es g l fol room) (sym e) b c refl))
+          contents false c =
+              refused OtherContents 17 [] refl (taken-is (taken-clash g l (own (good .inside)) (good .apart) (all n es g l fol room) (sym e) b c refl))
+              (rw (good .inside, ne-eqb (l .«from») (l .to) (good .apart), clash-here es l (keptAt g i) (fol .among i b) key (λ q. clash (sameContents l l) (line-same l) (rw q at c))))
+      search good (nowhere e h) =
+          new n es g l fol room good (none (hasKey es (l .key)) refl) (taken-is (sym (kept-as n es g l fol room) ∙ taken-new g l (own (good .inside)) (good .apart) (all n es g l fol room) refl (omega arith) refl))
+        where
+          none : (c : Bool) → hasKey es (l .key) ≡ c → c ≡ false
+          none false c = refl
+          none true c =
+              let x = has-line es (l .key) c in
+              let m = fol .met (x .line) (x .among) in
+              absurd (clash (test (m .place)) (eq-eqb (keyAt (g .seen) (m .place)) (l .key) (ap (λ (z : Observation). z .key) (m .is) ∙ x .key)) (h (m .place) (m .below)))
+
+      at : (o : Bool) → outsideRange n l ≡ o → (s : Bool) → sameMark l ≡ s → Step n es g l
+      at true o s p = refused (Refused OutOfRange) 3 [] refl (taken-is (taken-outside g l (own o) refl)) (rw o)
+      at false o true p = refused SameMark 16 [] refl (taken-is (taken-same g l (own o) (eqb-true (l .«from») (l .to) p) refl)) (rw (o, p))
+      at false o false p = search (record { inside = o; apart = eqb-false (l .«from») (l .to) p }) (searched (g .count) test)

@@ -1,0 +1,138 @@
+-- What is gathered of a whole list, from `opened`, over the lines that are looked at.
+--   gatheredOf n ls — the lines ls gathered;  Whole, whole — what is said, and where nothing is, that the kept lines are sound and their sums those of the distinct lines
+--   gathered-none, gathered-next, gathered-end, few-below — for the loop over the lines
+use mathlib.Core.Path.{_≡_, refl, sym, ap, subst, _∙_}
+use mathlib.Core.Bool.{Bool, true, false, cond, _&&_}
+use mathlib.Core.List.{List, [], _∷_}
+use Prim.Native.Nat.{ℕ, zero, suc, _+_, _≤_, _<_}
+use native.Mathlib.Nat.{le-antisymm}
+use native.Mathlib.Numerals.{add-one}
+use native.Mathlib.Omega.{arith}
+use borrow.Author.Tests.{leb-true, le-leb}
+use lib.Dec.{leb}
+use lib.IntN.{ℤ, pos, _+ℤ_, +ℤ-idl}
+use lib.ListN.{length, getD, length-replicate}
+use Rattle.integer.proofs.Sum.{sum-none}
+use Rattle.rules.specs.Range.{inRange}
+use Rattle.rules.specs.declared.Kind.the-variants as kind
+use Rattle.rules.specs.declared.Refusal.the-variants.{OutOfRange}
+use Rattle.rules.proofs.Ranges.{both-left, both-right, size-range}
+use Rattle.rules.proofs.Verdicts.{nothing-is-not}
+use Rattle.observation.specs.declared.Built.the-variants.{Done, Refused}
+use Rattle.gathering.specs.declared.Gathered.{Gathered}
+use Rattle.observation.specs.declared.Observation.{Observation}
+use Rattle.observation.specs.Line.{noObservation}
+use Rattle.observation.specs.Order.{saidBuilt, andThen, observationsSay}
+use Rattle.observation.specs.Distinct.{distinct, total}
+use Rattle.gathering.specs.Gathered.{taken, added, gathered, few, opened, keptAt, keptSum, Proper, ReadyWhenDone}
+use Rattle.observation.specs.Stated.{Passes}
+use Rattle.observation.proofs.Marks.{inside}
+use Rattle.observation.proofs.Members.{nobody}
+use Rattle.gathering.proofs.Follows.{Follows}
+use Rattle.gathering.proofs.Gathering.{folded, gathered-folded, old, Outcome, gathers}
+
+-- ---- the whole list
+still-at : (g : Gathered) (ls : List Observation) (k : ℕ) {j : ℕ} {js : List ℕ} → saidBuilt (g .told) ≡ j ∷ js → gathered g ls k ≡ g
+unfolding gathered added
+still-at g ls zero e = refl
+still-at g ls (suc k) e = ap (λ (z : Gathered). added z (getD ls k noObservation)) (still-at g ls k e) ∙ old (g .told) (taken g (getD ls k noObservation)) g e
+
+few-all : (k : ℕ) → k ≤ 256 → few k ≡ k
+unfolding few
+few-all k h = rw (le-leb k 256 h)
+
+none-yet : (n k : ℕ) → k ≤ 256 → opened n k .count + k ≤ 256
+unfolding opened
+none-yet n k h = omega arith
+
+begun : (n k : ℕ) → opened n k .told ≡ Done → Follows n [] (opened n k)
+unfolding opened
+begun n k d = record {
+  size = refl;
+  done = d;
+  long = length-replicate 256 noObservation;
+  few = omega arith;
+  among = λ p b. absurd (omega arith);
+  met = λ e i. nobody i;
+  one = λ x y i j k. nobody i;
+  good = λ e i. nobody i;
+}
+
+properOf : (n : ℕ) (l : Observation) → n ≤ 32 → Passes n l → Proper l
+properOf n l few good =
+    let i = inside n l (good .inside) in
+    record { start = omega (arith, i .start, few); end = omega (arith, i .end, few); apart = good .apart; weight = i .weight; difference = i .difference }
+
+module _ (n : ℕ) (ls : List Observation) where
+  abbrev pub gatheredOf : Gathered
+  gatheredOf = gathered (opened n (length ls)) ls (few (length ls))
+
+  pub record Whole : Type 0 where
+    pub says : saidBuilt (gatheredOf .told) ≡ andThen (cond (inRange kind.Size (pos n) && leb (length ls) 256) [] (3 ∷ [])) (observationsSay n [] ls)
+    pub size : gatheredOf .n ≡ n
+    pub sound : ReadyWhenDone gatheredOf
+    pub sums : saidBuilt (gatheredOf .told) ≡ [] → (f : Observation → ℤ) → keptSum f gatheredOf ≡ total f (distinct ls)
+
+  pub whole : Whole
+  whole = go (inRange kind.Size (pos n) && leb (length ls) 256) refl
+    where
+      refusal : (c : Bool) → inRange kind.Size (pos n) && leb (length ls) 256 ≡ c → opened n (length ls) .told ≡ cond c Done (Refused OutOfRange)
+      refusal c e = unfold opened in rw e
+
+      go : (c : Bool) → inRange kind.Size (pos n) && leb (length ls) 256 ≡ c → Whole
+      go false e =
+          let t = refusal false e in
+          let r : gatheredOf ≡ opened n (length ls) = still-at (opened n (length ls)) ls (few (length ls)) (ap saidBuilt t) in
+          let s : saidBuilt (gatheredOf .told) ≡ 3 ∷ [] = ap (λ (z : Gathered). saidBuilt (z .told)) r ∙ ap saidBuilt t in
+          record {
+            says = s ∙ sym (rw e);
+            size = ap (λ (z : Gathered). z .n) r ∙ (unfold opened in refl);
+            sound = record { ready = λ d. absurd (nothing-is-not (sym s ∙ ap saidBuilt d)) };
+            sums = λ d. absurd (nothing-is-not (sym s ∙ d));
+          }
+      go true e =
+          let t = refusal true e in
+          let k = leb-true (length ls) 256 (both-right (inRange kind.Size (pos n)) (leb (length ls) 256) e) in
+          let z = size-range n (both-left (inRange kind.Size (pos n)) (leb (length ls) 256) e) in
+          let r : gatheredOf ≡ folded (opened n (length ls)) ls = ap (gathered (opened n (length ls)) ls) (few-all (length ls) k) ∙ gathered-folded (opened n (length ls)) ls in
+          let o = gathers n [] ls (opened n (length ls)) (begun n (length ls) t) (none-yet n (length ls) k) in
+          let w : Outcome n [] ls (opened n (length ls)) gatheredOf = subst (Outcome n [] ls (opened n (length ls))) (sym r) o in
+          record {
+            says = w .says ∙ sym (rw e);
+            size = w .size;
+            sound = record {
+              ready = λ d.
+                  let q = ap saidBuilt d in
+                  record {
+                    some = rw (w .size) (z .0);
+                    size = rw (w .size) (z .1);
+                    few = w .few q;
+                    proper = λ p b. properOf n (keptAt gatheredOf p) (z .1) (w .good q p b);
+                  };
+            };
+            sums = λ d f. w .sums d f ∙ ap (λ (x : ℤ). x +ℤ total f (distinct ls)) (none f) ∙ +ℤ-idl (total f (distinct ls));
+          }
+        where
+          none : (f : Observation → ℤ) → keptSum f (opened n (length ls)) ≡ pos 0
+          none f = unfold opened in sum-none (λ (p : ℕ). f (keptAt (opened n (length ls)) p))
+
+-- ---- for the loop over the lines
+module _ (g : Gathered) (ls : List Observation) where
+  pub gathered-none : g ≡ gathered g ls 0
+  unfolding gathered
+  gathered-none = refl
+
+  pub gathered-next : (k : ℕ) → gathered g ls (k + 1) ≡ added (gathered g ls k) (getD ls k noObservation)
+  unfolding gathered
+  gathered-next k = ap (gathered g ls) (add-one k)
+
+  pub gathered-end : {i n : ℕ} → i ≤ n → n ≤ i → gathered g ls i ≡ gathered g ls n
+  gathered-end p q = ap (gathered g ls) (le-antisymm p q)
+
+pub few-below : (n : ℕ) {i : ℕ} → i < few n → i < n
+unfolding few
+few-below n h = go (leb n 256) h
+  where
+    go : {i : ℕ} (b : Bool) → i < cond b n 0 → i < n
+    go true h = h
+    go false h = absurd (omega arith)

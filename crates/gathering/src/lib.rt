@@ -1,0 +1,119 @@
+// The adder (document 02, Paper 3): field lines are taken one after the other, and those whose key is new are kept.
+ghost use mathlib.Core.Path.{_≡_};
+ghost use Rattle.gathering.specs.Gathered.{places, refusedAs, isRefused, added, opened, few};
+use integer::first_or;
+use observation::Built;
+use observation::Observation;
+use observation::has_contents;
+use observation::is_outside_range;
+use rules::Kind;
+use rules::Refusal;
+use rules::is_natural_in_range;
+
+// The lines taken so far: those whose key no earlier line has come first in `seen`, `count` of them.
+pub struct Gathered {
+    pub n: u32,
+    pub count: usize,
+    pub seen: [Observation; 256],
+    pub told: Built,
+}
+
+// How many lines are kept; never above 256, whatever the number says.
+fn places_of(count: usize) -> usize
+    ensures { λ r. ⌜ r ≡ places count ⌝ }
+{
+    if count < 256 { count } else { 256 }
+}
+
+fn refuse(g: Gathered, told: Built) -> Gathered
+    ensures { λ r. ⌜ r ≡ refusedAs g told ⌝ }
+{
+    let seen = g.seen;
+    Gathered {
+        n: g.n,
+        count: g.count,
+        seen,
+        told,
+    }
+}
+
+// Whether something is said already.
+fn is_refused(told: Built) -> bool
+    ensures { λ r. ⌜ r ≡ isRefused told ⌝ }
+{
+    match told {
+        Built::Done => false,
+        Built::Refused(_) => true,
+        Built::SameMark => true,
+        Built::OtherContents => true,
+    }
+}
+
+// The adder: a line more, by the tests in their order, where no line before it is refused; after a refusal no line is looked at. A line whose key is new is kept.
+// All in one function, for handing the state on to another copies it whole.
+pub fn add_observation(mut g: Gathered, l: Observation) -> Gathered
+    ensures { λ r. ⌜ r ≡ added g l ⌝ }
+{
+    let told = g.told;
+    if is_refused(told) {
+        return g;
+    }
+    if is_outside_range(l, g.n) {
+        return refuse(g, Built::Refused(Refusal::OutOfRange));
+    }
+    if l.from == l.to {
+        return refuse(g, Built::SameMark);
+    }
+    let end = places_of(g.count);
+    let mut at = 0;
+    for i in 0..end {
+        let kept = g.seen[i];
+        at = first_or(at, i, kept.key == l.key);
+    }
+    if at < end {
+        let met = g.seen[at];
+        if has_contents(met, l) {
+            return g;
+        }
+        return refuse(g, Built::OtherContents);
+    }
+    if end < 256 {
+        g.seen[end] = l;
+        g.count = end + 1;
+    }
+    g
+}
+
+// How many of so many lines are looked at: none of a list above 256.
+pub fn few_of(lines: usize) -> usize
+    ensures { λ r. ⌜ r ≡ few lines ⌝ }
+{
+    if lines <= 256 { lines } else { 0 }
+}
+
+// Before any line: 3 for n, and for a list above 256.
+pub fn open(n: u32, lines: usize) -> Gathered
+    ensures { λ r. ⌜ r ≡ opened n lines ⌝ }
+{
+    let seen = [Observation {
+        key: 0,
+        from: 0,
+        to: 0,
+        difference: 0,
+        weight: 0,
+    }; 256];
+    if is_natural_in_range(Kind::Size, n) & (lines <= 256) {
+        return Gathered {
+            n,
+            count: 0,
+            seen,
+            told: Built::Done,
+        };
+    }
+    Gathered {
+        n,
+        count: 0,
+        seen,
+        told: Built::Refused(Refusal::OutOfRange),
+    }
+}

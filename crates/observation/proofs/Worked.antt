@@ -1,0 +1,34 @@
+-- The small net of specs/Example, computed: what is said, A and b; and the ends of the ranges: 3 one past each of them.
+use mathlib.Core.Path.{_≡_, refl}
+use mathlib.Core.List.{[], _∷_, _++_}
+use lib.IntN.{pos, negsuc}
+use Rattle.rules.specs.Range as R
+use Rattle.observation.specs.Line as L
+use Rattle.observation.specs.Order as O
+use Rattle.observation.specs.Order.{buildAnswer}
+use Rattle.observation.specs.Distinct as D
+use Rattle.observation.specs.Distinct.{builtMatrix, builtRight}
+use Rattle.observation.specs.Example.{line, net, other, loop, heavy, ends}
+
+builds : buildAnswer 2 net 1024 32 ≡ []
+unfolding O.buildAnswer O.observationsSay L.outsideRange L.clashes L.sameContents R.inRange R.rangeOf R.ranges
+builds = refl
+
+-- 8 and 3 before any line, 3, 16 and 17 of a line, in this order
+refusals : (buildAnswer 33 net 1023 32 ≡ 8 ∷ []) × (buildAnswer 0 net 1024 32 ≡ 3 ∷ []) × (buildAnswer 1 net 1024 32 ≡ 3 ∷ []) × (buildAnswer 2 (net ++ heavy ∷ []) 1024 32 ≡ 3 ∷ [])
+    × (buildAnswer 2 (net ++ loop ∷ other ∷ []) 1024 32 ≡ 16 ∷ []) × (buildAnswer 2 (net ++ other ∷ loop ∷ []) 1024 32 ≡ 17 ∷ [])
+unfolding O.buildAnswer O.observationsSay L.outsideRange L.clashes L.sameContents R.inRange R.rangeOf R.ranges
+refusals = (refl, refl, refl, refl, refl, refl)
+
+equations : (builtMatrix net 0 0 ≡ pos 7) × (builtMatrix net 0 1 ≡ negsuc 4) × (builtMatrix net 1 0 ≡ negsuc 4) × (builtMatrix net 1 1 ≡ pos 6) × (builtRight net 0 ≡ pos 35) × (builtRight net 1 ≡ negsuc 18)
+unfolding D.distinctAfter D.total D.weightAt D.gain L.hasKey
+equations = (refl, refl, refl, refl, refl, refl)
+
+ends-build : buildAnswer 32 ends 1024 32 ≡ []
+unfolding O.buildAnswer O.observationsSay L.outsideRange L.clashes L.sameContents R.inRange R.rangeOf R.ranges
+ends-build = refl
+
+past-ends : (buildAnswer 32 (line 0 0 1 (pos 0) 1 ∷ []) 1024 32 ≡ 3 ∷ []) × (buildAnswer 32 (line 65536 0 1 (pos 0) 1 ∷ []) 1024 32 ≡ 3 ∷ []) × (buildAnswer 32 (line 1 0 33 (pos 0) 1 ∷ []) 1024 32 ≡ 3 ∷ [])
+    × (buildAnswer 32 (line 1 0 1 (negsuc 65536) 1 ∷ []) 1024 32 ≡ 3 ∷ []) × (buildAnswer 32 (line 1 0 1 (pos 65537) 1 ∷ []) 1024 32 ≡ 3 ∷ []) × (buildAnswer 32 (line 1 0 1 (pos 0) 0 ∷ []) 1024 32 ≡ 3 ∷ [])
+unfolding O.buildAnswer O.observationsSay L.outsideRange L.clashes L.sameContents R.inRange R.rangeOf R.ranges
+past-ends = (refl, refl, refl, refl, refl, refl)
