@@ -1,5 +1,5 @@
-/* Every number here fits 64 bits: |D| <= 2^20 + 2^45, the sum of |D| * w <= 2^60 + 2^35, |S * b - A * X| + S * d <= 2^61 + 2^50 + 2^40, and where that
- * is at most 2^25 in every row, |p| and the slack with it <= 2^50. */
+/* Every number here fits 64 bits: |D| <= 2^20 + 2^45, the sum of |D| * w <= 2^60 + 2^35, the sum of |a| along a row <= 2^25,
+ * |S * b - A * X| + S * d <= 2^61 + 2^50 + 2^40, and where that is at most 2^25 in every row, |p| and the slack with it <= 2^50. */
 #include "native.h"
 
 #include <stdbool.h>
@@ -18,6 +18,9 @@ struct system {
 
 /* out = diagonal * I - left * right, row after row. */
 typedef void defect_of(size_t n, int64_t diagonal, const int64_t *left, const int64_t *right, int64_t *out);
+
+/* Whether a residual of row k, of the guess or of a column of the inverse, is refused, by its size, its slack and the sum of |a| along its row. */
+typedef bool is_refused(const struct system *y, uint32_t k, bool of_guess, int64_t size, int64_t slack, int64_t sum);
 
 /* The limits of one column from its sizes |p_m|, the margins and the weights. */
 typedef void bounds_of_column(uint32_t n, const int64_t *w, const int64_t *p, const int64_t *g, uint64_t *bounds);
@@ -92,12 +95,26 @@ static uint32_t failing_margin(const struct system *y, defect_of *defect, int64_
     return failing;
 }
 
-/* r = S * b - A * X. Gives the lowest row whose size of residual plus slack S * d is above 2^25, from 1, or 0. */
-static uint32_t failing_residual(const struct system *y, int64_t *r) {
+/* 02, Paper 5: "size of residual plus slack is above 2^25"; Paper 9: "the residual of row m, without slack, may be at most the sum of |a| along that row". */
+static bool is_above(const struct system *y, uint32_t k, bool of_guess, int64_t size, int64_t slack, int64_t sum) {
+    (void)y, (void)k, (void)of_guess;
+    return size + slack > LARGEST_RESIDUAL || size > sum;
+}
+
+/* The sums of |a| along the rows. */
+static void sum_rows(const struct system *y, int64_t *sums) {
+    for (uint32_t k = 0; k < y->n; k++) {
+        sums[k] = 0;
+        for (uint32_t j = 0; j < y->n; j++) sums[k] += size_of(y->A[k * y->n + j]);
+    }
+}
+
+/* r = S * b - A * X, with the slack S * d. Gives the lowest row whose residual is refused, from 1, or 0. */
+static uint32_t failing_residual(const struct system *y, is_refused *refused, const int64_t *sums, int64_t *r) {
     uint32_t failing = 0;
     for (uint32_t k = y->n; k-- > 0;) {
         r[k] = y->S * y->b[k] - dot(y->n, y->A + k * y->n, y->X, 1);
-        if (size_of(r[k]) + y->S * y->d[k] > LARGEST_RESIDUAL) failing = k + 1;
+        if (refused(y, k, true, size_of(r[k]), y->S * y->d[k], sums[k])) failing = k + 1;
     }
     return failing;
 }
@@ -110,12 +127,12 @@ static void add_slacks(const struct system *y, int64_t *p) {
     }
 }
 
-/* R = T * I - A * G, column j in column j. Gives the lowest column, then its lowest row, with a size above 2^25. */
-static bool failing_inverse(const struct system *y, defect_of *defect, int64_t *R, uint64_t places[2]) {
+/* R = T * I - A * G, column j in column j. Gives the lowest column, then its lowest row, whose residual is refused. */
+static bool failing_inverse(const struct system *y, defect_of *defect, is_refused *refused, const int64_t *sums, int64_t *R, uint64_t places[2]) {
     defect(y->n, y->T, y->A, y->G, R);
     for (uint32_t j = 0; j < y->n; j++) {
         for (uint32_t k = 0; k < y->n; k++) {
-            if (size_of(R[k * y->n + j]) > LARGEST_RESIDUAL) {
+            if (refused(y, k, false, size_of(R[k * y->n + j]), 0, sums[k])) {
                 places[0] = j + 1;
                 places[1] = k + 1;
                 return true;
@@ -164,13 +181,14 @@ static void write_inverse(const struct system *y, const int64_t *R, const int64_
 }
 
 /* "Order for a check: .. 5, 6, 7." */
-static uint32_t reckon(const struct system *y, defect_of *defect, bounds_of_column *bounds_of, uint64_t *solution_bounds, uint64_t *inverse_bounds,
-                       uint64_t places[2]) {
-    int64_t g[MOST], r[MOST], p[MOST], R[PLACES];
+static uint32_t reckon(const struct system *y, defect_of *defect, is_refused *refused, bounds_of_column *bounds_of, uint64_t *solution_bounds,
+                       uint64_t *inverse_bounds, uint64_t places[2]) {
+    int64_t g[MOST], r[MOST], p[MOST], sums[MOST], R[PLACES];
     uint64_t column[MOST];
+    sum_rows(y, sums);
     if ((places[0] = failing_margin(y, defect, g)) != 0) return 5;
-    if ((places[0] = failing_residual(y, r)) != 0) return 6;
-    if (failing_inverse(y, defect, R, places)) return 7;
+    if ((places[0] = failing_residual(y, refused, sums, r)) != 0) return 6;
+    if (failing_inverse(y, defect, refused, sums, R, places)) return 7;
     for (uint32_t m = 0; m < y->n; m++) p[m] = size_of(dot(y->n, y->G + m * y->n, r, 1));
     add_slacks(y, p);
     bounds_of(y->n, y->w, p, g, column);
@@ -179,8 +197,8 @@ static uint32_t reckon(const struct system *y, defect_of *defect, bounds_of_colu
     return 0;
 }
 
-/* The checks differ in `defect` and `bounds_of` alone. */
-#define CHECK(name, defect, bounds_of)                                                                                                   \
+/* The checks differ in `defect`, `refused` and `bounds_of` alone. */
+#define CHECK(name, defect, refused, bounds_of)                                                                                                   \
     uint32_t name(uint32_t n, uint32_t s, uint32_t t, const int64_t *matrix, size_t matrix_len, const int64_t *right, size_t right_len,  \
                   const int64_t *tolerance, size_t tolerance_len, const int64_t *guess, size_t guess_len, const int64_t *inverse,        \
                   size_t inverse_len, const int64_t *weights, size_t weights_len, uint64_t *solution_bounds, size_t solution_bounds_len, \
@@ -191,9 +209,14 @@ static uint32_t reckon(const struct system *y, defect_of *defect, bounds_of_colu
             guess_len < MOST || weights_len < MOST || solution_bounds_len < MOST)                                                        \
             return 8;                                                                                                                    \
         if (!is_in_range(n, s, t, &y)) return 3;                                                                                         \
-        return reckon(&y, defect, bounds_of, solution_bounds, inverse_bounds, places);                                                   \
+        return reckon(&y, defect, refused, bounds_of, solution_bounds, inverse_bounds, places);                                                   \
     }
 
-CHECK(native_check_naive, signed_defect, naive_bounds)
-CHECK(native_check_quick, signed_defect, quick_bounds)
-CHECK(native_check_raised, raised_defect, quick_bounds)
+/* tests/link/stand_in_check.c, which has another test of residuals, includes this file under other names. */
+#ifndef NATIVE
+#define NATIVE(version) native_check_##version
+#endif
+
+CHECK(NATIVE(naive), signed_defect, is_above, naive_bounds)
+CHECK(NATIVE(quick), signed_defect, is_above, quick_bounds)
+CHECK(NATIVE(raised), raised_defect, is_above, quick_bounds)

@@ -1,4 +1,4 @@
-/* The check on lists of document 01, with the tolerances of 02, in C, written apart from the proved one: to compare answers and speed. */
+/* The check on lists of document 01, with the tolerances and row sums of 02, in C, written apart from the proved one: to compare answers and speed. */
 #ifndef NATIVE_H
 #define NATIVE_H
 

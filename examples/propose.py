@@ -2,8 +2,9 @@
 
   python3 examples/propose.py [FIELD] | ./register
 
-Not proved, and it need not be: the checker takes nothing on trust from whoever proposes. A poor guess or inverse gets wide limits
-or a refusal, never a wrong limit. What the checker cannot see is whether the equations are those of the field; that is `equations` below.
+Not proved, and it need not be: the checker takes nothing on trust from whoever proposes. A poor guess or inverse gets a refusal, never a wrong
+limit; solution and inverse, rounded to steps, are good enough. What the checker cannot see is whether the equations are those of the field; that
+is `equations` below.
 
 A field line is five whole numbers: its key, the marks from and to (0 is the fixed mark of height 0), the difference of height in units, and a
 weight. Lines that begin with # are passed over. A key met again with equal contents counts once."""

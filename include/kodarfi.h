@@ -33,8 +33,12 @@ extern "C" {
  *   8   a list is too short                                 places: 0, 0
  *   3   n, s, t or a number that is used is outside its range       0, 0
  *   5   a margin is 0 or less                                       row, 0
- *   6   size of a residual of the guess plus its slack above 2^25  row, 0
- *   7   a residual of the inverse is above 2^25 in size             column, row
+ *   6   a residual of the guess is above its row's sum, or above
+ *       2^25 together with its slack, in size                       row, 0
+ *   7   a residual of the inverse is above its row's sum in size    column, row
+ *
+ * The row's sum is that of the sizes of the matrix's numbers in that row (document 02, Paper 9). A guess within one step of the exact solution
+ * everywhere never has a residual above it, nor has an inverse within one step of the exact one.
  */
 uint32_t kodarfi_check(uint32_t n, uint32_t s, uint32_t t,
                        const int64_t *matrix, size_t matrix_len,

@@ -1,5 +1,5 @@
 """What must hold of a printed listing whatever the second implementation says: document 01's exact solution and inverse, the exact height and the entry,
-for every right side within the tolerances (02, Paper 5), in whole numbers over q."""
+for every right side within the tolerances (02, Paper 5), in whole numbers over q; residuals within the sums along their rows (Paper 9)."""
 
 import random
 import re
@@ -11,6 +11,7 @@ from net import net_of
 SOLUTION = re.compile(rb"\(solution \d+ \((-?\d+) (\d+)\)\)")
 ENTRY = re.compile(rb"\(entry \d+ \((-?\d+) (\d+)\)\)")
 INVERSE = re.compile(rb"\(inverse \d+ \(([\d ]+)\)\)")
+PLACES = re.compile(rb"\(refused ([67]) \((\d+)")
 
 
 def net_from(problem):
@@ -28,12 +29,26 @@ def is_accepted(listing):
 def faults(net, listing):
     """What a listing says wrongly of a problem."""
     if not is_accepted(listing):
-        return ["refused, though rounded to nearest steps"] if is_rounded_exact(net) else []
+        refused = ["refused, though rounded to nearest steps"] if is_rounded_exact(net) else []
+        return refused + near_faults(net, PLACES.match(listing))
     exact = inverse_of(net.matrix)
     if exact is None:
         return ["accepted, though the matrix has no inverse"]
     q, H = exact
     return [text for text, holds in statements(net, q, H, listing) if not holds]
+
+
+def near_faults(net, told):
+    """02, Paper 9: "a guess within one step of the exact solution everywhere always meets this": no 6 for a row without tolerance, nor 7 for such a column."""
+    exact = inverse_of(net.matrix) if told else None
+    if exact is None:
+        return []
+    (q, H), place = exact, int(told.group(2)) - 1
+    if told.group(1) == b"6":
+        near = net.tolerance[place] == 0 and solution_within(net, q, product(H, net.right), [1] * net.n)
+        return ["refused with 6, though the guess is within a step"] if near else []
+    near = all(abs(2**net.t * h[place] - q * g[place]) <= q for h, g in zip(H, net.inverse))
+    return ["refused with 7, though the column is within a step"] if near else []
 
 
 def limits_in(listing):
@@ -54,6 +69,7 @@ def statements(net, q, H, listing):
     yield "not n limits and n × n limits", len(E) == net.n and [len(row) for row in L] == [net.n] * net.n
     yield "the exact solution lies outside its limits", solution_within(net, q, product(H, net.right), E)
     yield "the exact inverse lies outside its limits", inverse_within(net, q, H, L)
+    yield "a residual is above the sum along its row", residuals_within_rows(net)
     yield "not n entries", len(entries) == net.n
     yield "an entry is not the guess rounded", all(is_rounded(X, 2**net.s, V) for X, (V, _) in zip(net.guess, entries))
     yield "an exact height lies outside the limit of its entry", entries_cover(q, product(H, net.right), entries)
@@ -63,6 +79,14 @@ def statements(net, q, H, listing):
     yield "a right side is not within the tolerances", all(within_tolerances(net, *right) for right in rights)
     yield "the exact solution of a right side within the tolerances lies outside its limits", all(solution_within(net, *other, E) for other in others)
     yield "the exact height of a right side within the tolerances lies outside the limit of its entry", all(entries_cover(*other, entries) for other in others)
+
+
+def residuals_within_rows(net):
+    """02, Paper 9: "the residual of row m, without slack, may be at most the sum of |a| along that row, for the guess and for inverse columns"."""
+    sums = [sum(map(abs, row)) for row in net.matrix]
+    unit = lambda j: [2**net.t * (i == j) for i in range(net.n)]
+    pairs = [([2**net.s * b for b in net.right], net.guess)] + [(unit(j), column) for j, column in enumerate(zip(*net.inverse))]
+    return all(abs(b - ax) <= most for right, guess in pairs for b, ax, most in zip(right, product(net.matrix, guess), sums))
 
 
 # So many right sides inside the box of tolerances, and at corners of it by chance.

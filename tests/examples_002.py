@@ -131,8 +131,19 @@ def guesses_of(example):
     return {count: u for count, u in iterates(example).items() if count == 0 or count in example.errors}
 
 
+# The step counts whose guesses are no longer taken (02, Paper 9), by example and s: their residual is above the sum along row 1.
+POOR = {("1", 20): (0, 3, 11), ("1", 10): (0,), ("2", 20): (0, 2, 12), ("2", 10): (0, 2)}
+
+
+def first_line(example, count, s, way):
+    """What the listing of a net begins with: of the inverses only the exact one, rounded, has residuals within the sums along the rows."""
+    if count in POOR.get((example.name, s), ()):
+        return "(refused 6 (1))"
+    return f"(bounds {len(example.matrix)})" if way is exact_inverse else "(refused 7 (1 1))"
+
+
 def nets():
-    """(name, net, printed errors) for each example, guess, inverse, weights and steps."""
+    """(name, net, printed errors, first line) for each example, guess, inverse, weights and steps."""
     for example in EXAMPLES:
         for count, u in guesses_of(example).items():
             for s, t in ((20, 20), (20, 12), (10, 16), (0, 20)):
@@ -142,4 +153,4 @@ def nets():
                     for label, weights in weights_of(example).items():
                         name = f"002 example {example.name}, guess {count}, steps {s} {t}, {way.__name__}, {label}"
                         net = net_of(s, t, example.matrix, example.right, guess, way(example, T), weights)
-                        yield name, net, example.errors.get(count)
+                        yield name, net, example.errors.get(count), first_line(example, count, s, way)

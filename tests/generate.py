@@ -5,7 +5,7 @@ from typing import NamedTuple
 
 import damage
 from net import file_of, lines_of
-from systems import edge, ends, usual
+from systems import edge, ends, rows, usual
 from systems.tolerant import respelt, tolerated
 
 
@@ -32,10 +32,10 @@ WHOLE = (
     (5, usual.small, lambda rng: rng.randint(1, 4)),
     (1, ends.largest_bounds, lambda rng: rng.randint(2, 32)),
     (4, ends.near_margins, lambda rng: rng.randint(2, 12)),
-    (3, ends.near_residuals, lambda rng: rng.randint(1, 12)),
     (3, ends.near_slacks, lambda rng: rng.randint(1, 12)),
-    (5, ends.near_inverse_residuals, lambda rng: rng.randint(2, 12)),
-    (4, ends.several, lambda rng: rng.randint(1, 12)),
+    (5, ends.several, lambda rng: rng.randint(1, 12)),
+    (4, rows.near_row_sums, lambda rng: rng.randint(1, 12)),
+    (3, rows.near_column_sums, lambda rng: rng.randint(2, 12)),
     (1, usual.singular, lambda rng: rng.randint(1, 6)),
 )
 
@@ -70,7 +70,7 @@ def thinned(rng, lines):
 
 
 # Systems that keep their right sides as they are, at the edge of what presumes that all d are 0, or at slacks of their own.
-AS_MADE = (edge.at_edge, edge.with_halves, ends.near_residuals, ends.near_slacks)
+AS_MADE = (edge.at_edge, edge.with_halves, ends.near_slacks, ends.largest_bounds)
 
 
 def made(rng, make, n):

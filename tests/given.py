@@ -152,10 +152,50 @@ def slacks():
 
 
 def entries():
-    """Guesses at halves of a unit and beside them, on both sides of 0."""
+    """Guesses at halves of a unit and beside them, on both sides of 0: exact, a step away, and with a tolerance."""
     for X in (-41, -40, -39, -25, -24, -23, -9, -8, -7, 0, 7, 8, 9, 23, 24, 25, 39, 40, 41):
-        net = cases_01.one(4, 4, 1, X // 16, X, 16)
-        yield f"entry of {X}", lines_of(net)
+        for away, d in ((0, 0), (1, 0), (0, 9)):
+            name = f"entry of {X}" + f", {away} away" * away + f", tolerance {d}" * (d > 0)
+            yield name, lines_of(cases_01.one(4, 4, 16, X + away, X, 1).with_(tolerance=[d]))
+
+
+def row_sums():
+    """02, Paper 9: residuals at the sums along their rows and on both sides of them, of the guess and of the inverse; rows and columns of unequal sums; slacks."""
+    for X in (-3, -2, -1, 1, 2, 3):
+        yield f"guess {X}", lines_of(cases_01.one(0, 4, 4, 0, X, 4))
+    for G in range(1, 8):
+        yield f"inverse {G}", lines_of(cases_01.one(0, 4, 4, 0, 0, G))
+    for x in range(19, 28):
+        yield f"whole file, guess {x} 13", lines_of(cases_01.whole_file((x, 13)))
+        yield f"whole file, guess 23 {x - 10}", lines_of(cases_01.whole_file((23, x - 10)))
+    for at, g in ((at, g) for at in range(4) for g in range(-2, 10)):
+        inverse = [4, 1, 1, 6]
+        inverse[at] = g
+        yield f"whole file, number {at} of the inverse {g}", lines_of(cases_01.whole_file().with_(inverse=[inverse[:2], inverse[2:]]))
+    uneven = net_of(0, 6, [[8, 5], [0, 1]], [13, 1], [1, 1], [[8, -40], [0, 64]], [1, 1])
+    for b in range(-1, 28, 2):
+        yield f"uneven, right side {b}", lines_of(uneven.with_(right=[b, 1]))
+        yield f"uneven, right side {b}, tolerance 7", lines_of(uneven.with_(right=[b, 1], tolerance=[7, 0]))
+    for b in (-1, 0, 1, 2, 3):
+        yield f"uneven, second right side {b}", lines_of(uneven.with_(right=[13, b]))
+    for a in (2**19 - 1, 2**19, 2**19 + 1):
+        for d in (62, 63, 64):
+            yield f"row of {a}, tolerance {d}", lines_of(cases_01.one(19, 19, a, 0, -1, 1).with_(tolerance=[d]))
+
+
+def row_sum_orders():
+    """02, Paper 9: both tests of a residual in several rows and columns: the lowest that fails either is told, and 6 before 7."""
+    unit = lambda guess, tolerance: net_of(20, 20, [[1, 0], [0, 1]], [0, 0], guess, [[2**20, 0], [0, 2**20]], [1, 1]).with_(tolerance=tolerance)
+    for sign in (1, -1):
+        for guess, tolerance in (((2, 0), (0, 33)), ((0, 2), (33, 0)), ((2, 2**25 + 1), (0, 0)), ((2**25 + 1, 2), (0, 0)), ((1, 2), (33, 0)), ((0, 2), (0, 33))):
+            yield f"guess {guess} times {sign}, tolerances {tolerance}", lines_of(unit([sign * X for X in guess], tolerance))
+    twice = net_of(0, 4, [[4, 0], [0, 4]], [0, 0], [0, 0], [[4, 2], [2, 4]], [1, 1])
+    yield "both columns above their sums", lines_of(twice)
+    yield "both columns and the second row", lines_of(twice.with_(guess=[0, 2]))
+    for below in (0, 1, 2, -2):
+        for X in (0, 1, 2):
+            poor = cases_01.pair(33).with_(weights=[1, 1024], inverse=[[1, 33], [below, 1048576]], guess=[0, X])
+            yield f"inverse above 2^25, {below} below it, guess {X}", lines_of(poor)
 
 
 def widest():
@@ -188,10 +228,10 @@ def cases():
         yield Case(f"01 case {case.name}", cases_01.file(case))
     for case in cases_01.PAPERS:
         yield Case(f"02 {case.name}", cases_01.file(case))
-    for group in (at_ends_of_ranges, places, lists, spellings, lengths, orders, pasted, left_out, entries, widest, tolerances, right_lists, slacks):
+    for group in (at_ends_of_ranges, places, lists, spellings, lengths, orders, pasted, left_out, entries, widest, tolerances, right_lists, slacks, row_sums, row_sum_orders):
         for name, lines in group():
             yield Case(f"{group.__name__}: {name}", file_of(lines))
     for name, file in by_bytes():
         yield Case(f"by_bytes: {name}", file)
-    for name, net, _ in examples_002.nets():
+    for name, net, *_ in examples_002.nets():
         yield Case(name, file_of(lines_of(net)))

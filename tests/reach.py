@@ -5,6 +5,7 @@ from dataclasses import replace
 
 from checks import entries_in, is_accepted, limits_in
 from exact import inverse_of, is_rounded_exact, product, size_sum
+from reach_row_sums import RowSumReach
 from reach_tolerances import ToleranceReach
 from second.format import lines_of
 from second.program import Program
@@ -47,6 +48,7 @@ class Reach:
         self.changed = Counter()
         self.weights = Counter()
         self.tolerances = ToleranceReach()
+        self.row_sums = RowSumReach()
 
     def add(self, listing, problem, net):
         """Counts a listing; `net` is None where the file was not read to its end, and `problem` is then its refusal."""
@@ -58,9 +60,10 @@ class Reach:
             self.refusals[int(listing.split()[1])] += 1
         if net is not None:
             self.add_edges(problem, net)
+            self.row_sums.add(problem, listing)
 
     def add_edges(self, problem, net):
-        """Files at the edge of demand 3's second half; margins at 0 and 1; residuals at 2^25 and 2^25 + 1."""
+        """Files at the edge of demand 3's second half; margins at 0 and 1; size of residual and slack together at 2^25 and 2^25 + 1."""
         if 2 * 2**net.t - size_sum(net) in (1, 2) and is_rounded_exact(net):
             self.edges["second half of demand 3"] += 1
         if net.n > NEAR:
@@ -71,10 +74,8 @@ class Reach:
         for value in (-1, 0, 1):
             self.edges[f"margin {value}"] += value in margins
         guess = [abs(r) + slack for r, slack in zip(reckoning.guess_residual(system), reckoning.slacks(system))]
-        inverse = [abs(r) for j in range(net.n) for r in reckoning.inverse_residual(system, j)]
         for beyond in (0, 1):
             self.edges[f"residual 2^25 + {beyond}"] += 2**25 + beyond in guess
-            self.edges[f"inverse residual 2^25 + {beyond}"] += 2**25 + beyond in inverse
 
     def add_entries(self, net, listing):
         """Entries whose limit is larger than E/S rounded up, of guesses above and below 0, and those whose exact height lies beyond that."""
@@ -137,9 +138,9 @@ class Reach:
         yield from self.tolerances.needs()
         for word, number in BECOMES_12:
             yield f"{number} for a {word} becomes 12", self.changed[word, number], 5
-        for kind in ("residual", "inverse residual"):
-            for beyond in (0, 1):
-                yield f"{kind} 2^25 + {beyond}", self.edges[f"{kind} 2^25 + {beyond}"], 10
+        for beyond in (0, 1):
+            yield f"residual and slack 2^25 + {beyond}", self.edges[f"residual 2^25 + {beyond}"], 10
+        yield from self.row_sums.needs()
 
     def shortfalls(self):
         short = [f"{what}: {met} met, {wanted} wanted" for what, met, wanted in self.needs() if met < wanted]
@@ -147,4 +148,4 @@ class Reach:
 
     def summary(self):
         refusals = ", ".join(f"{number}: {self.refusals[number]}" for number in REFUSALS)
-        return f"{self.files} files, {sum(self.sizes.values())} accepted; refusals {refusals}; {dict(self.edges)}; changed {dict(self.changed)}; weights {dict(self.weights)}; tolerances {dict(self.tolerances.met)}"
+        return f"{self.files} files, {sum(self.sizes.values())} accepted; refusals {refusals}; {dict(self.edges)}; changed {dict(self.changed)}; weights {dict(self.weights)}; tolerances {dict(self.tolerances.met)}; row sums {dict(+self.row_sums.met)}"

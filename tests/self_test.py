@@ -10,11 +10,13 @@ from checks import faults, is_accepted, net_from
 from generate import Case
 from net import file_of, lines_of, net_of
 from outside import outside
+from reach_row_sums import RowSumsUnknown
 from second.program import Program
 from second.refusal import Refusal
 from wrong import PRINTING
 from wrong_programs import BESIDE_THE_LISTING
 from wrong_reading import READING
+from wrong_row_sums import HELD
 from wrong_tolerances import SLACKENED, TOLERATED
 
 # A wrong version is dropped from the run once so many files have told it.
@@ -36,7 +38,7 @@ class Telling:
     """Which files tell which wrong version from the right one."""
 
     VERSIONS = [(name, wrong, reads_otherwise) for name, wrong in (READING | TOLERATED).items()]
-    VERSIONS += [(name, wrong, prints_otherwise) for name, wrong in (PRINTING | SLACKENED).items()]
+    VERSIONS += [(name, wrong, prints_otherwise) for name, wrong in (PRINTING | SLACKENED | HELD).items()]
 
     def __init__(self):
         self.told = {name: [] for name, _, _ in self.VERSIONS}
@@ -61,21 +63,25 @@ class Telling:
 
 
 def test_given(count):
-    """Document 01's cases and 02's give the lines they say; the errors that source 002 prints lie within the limits."""
-    second = Program()
-    for case in cases_01.CASES + cases_01.PAPERS:
-        listing = second.listing(cases_01.file(case))
-        count.test(f"case {case.name}", [] if cases_01.agrees(case, listing) else [repr(listing)])
+    """Document 01's cases and 02's give the lines they say, and by the rules before Paper 9 those that 01 states; of the examples of source 002 the listing
+    begins as it should, and the errors that it prints lie within the limits, which don't know of a refusal for a poor guess or inverse."""
+    second, before = Program(), RowSumsUnknown()
+    for program, cases in ((second, cases_01.CASES + cases_01.PAPERS), (before, cases_01.CASES_01)):
+        for case in cases:
+            listing = program.listing(cases_01.file(case))
+            count.test(f"case {case.name}", [] if cases_01.agrees(case, listing) else [repr(listing)])
     for example in examples_002.EXAMPLES:
         differences = examples_002.table_differences(example)
         count.test(f"002 example {example.name}", [f"printed error {place}" for place in differences])
-    for name, net, errors in examples_002.nets():
-        count.test(name, printed_errors_outside(second, net, errors))
+    for name, net, errors, first_line in examples_002.nets():
+        file = file_of(lines_of(net))
+        listing = second.listing(file)
+        begins = [] if listing.startswith(f"{first_line}\n".encode()) else [repr(listing)]
+        count.test(name, begins + printed_errors_outside(before.listing(file), net, errors))
 
 
-def printed_errors_outside(second, net, errors):
+def printed_errors_outside(listing, net, errors):
     """Printed errors beyond their limits, a step allowed for the rounding of guess and table."""
-    listing = second.listing(file_of(lines_of(net)))
     if not is_accepted(listing):
         return [repr(listing)]
     limits = [int(line.split()[3].rstrip(b")")) for line in listing.split(b"\n") if line.startswith(b"(solution")]
@@ -88,17 +94,20 @@ def printed_errors_outside(second, net, errors):
 
 
 def test_checks(count):
-    """The statements of checks.py tell by themselves a version that writes no limits, one that refuses all, one whose entry does not cover its rounding, and
-    those whose limits leave out tolerances."""
+    """The statements of checks.py tell by themselves a version that writes no limits, one that refuses all, one whose entry does not cover its rounding,
+    those whose limits leave out tolerances, and those that hold residuals to no sum or to a smaller one."""
     whole, half = cases_01.whole_file(), cases_01.one(4, 4, 2, 1, 8, 8)
     signs = net_of(4, 4, [[1, 1], [0, 1]], [5, 1], [64, 16], [[16, -16], [0, 16]], [1, 1])
     told_by = {"no limits written": whole, "all proposals refused": whole, "entry limit without the rounding": half}
     told_by |= {name: whole.with_(tolerance=[3, 2]) for name in ("slack without S", "slack only in the test of 6", "slack not carried by G")}
     told_by |= {"slack of the row before": net_of(4, 4, [[1, 0], [0, 8]], [5, 8], [80, 16], [[16, 0], [0, 2]], [1, 1]).with_(tolerance=[3, 0])}
     told_by |= {name: signs.with_(tolerance=[1, 1]) for name in ("slacks with the signs of G", "slack of its own row alone")}
+    told_by |= {"no row sums": cases_01.whole_file((20, 13)), "row sums for the columns alone": cases_01.whole_file((20, 13))}
+    told_by |= {"row sums for the guess alone": cases_01.one(0, 4, 4, 0, 0, 7), "half the row's sum": cases_01.one(0, 4, 4, 0, 0, 3)}
+    told_by |= {"size below the row's sum": cases_01.one(0, 4, 4, 0, 1, 4)}
     for name, net in told_by.items():
         problem = Program().load(file_of(lines_of(net)))
-        right, told = (faults(net_from(problem), version.printed(problem)) for version in (Program(), (PRINTING | SLACKENED)[name]))
+        right, told = (faults(net_from(problem), version.printed(problem)) for version in (Program(), (PRINTING | SLACKENED | HELD)[name]))
         count.test(f"checks on '{name}'", right if told else ["not told"])
 
 

@@ -40,8 +40,8 @@ def margins_by(rule):
 
 
 def residuals_by(rule):
-    """Reckoning that takes a residual with its slack where rule(residual, slack) holds."""
-    return reckoning(is_residual_good=lambda self, system, row, residual, slack: rule(residual, slack))
+    """Reckoning that takes a residual with its slack for small enough where rule(residual, slack) holds; the sum along its row stays beside it."""
+    return reckoning(is_small=lambda self, residual, slack: rule(residual, slack))
 
 
 def changed_system(method, **changes):
@@ -55,8 +55,8 @@ def row_first(self, system, columns):
     places = [
         (k + 1, j + 1)
         for j, column in enumerate(columns)
-        for k, residual in enumerate(column)
-        if not self.is_residual_good(system, k, residual, 0)
+        for k, (residual, row_sum) in enumerate(zip(column, self.column_sums(system)))
+        if not self.is_residual_good(residual, 0, row_sum)
     ]
     return min(places)[::-1] if places else None
 

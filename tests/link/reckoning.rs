@@ -1,4 +1,4 @@
-//! Document 01's check on lists, with the tolerances of 02's Paper 5, in 128-bit numbers.
+//! Document 01's check on lists, with the tolerances of 02's Paper 5 and the row sums of its Paper 9, in 128-bit numbers.
 use crate::lists::{Net, Outcome, COLUMN, MATRIX};
 
 struct System {
@@ -97,6 +97,17 @@ impl System {
         self.residual(self.inverse_steps, &unit, &column(&self.g, j))
     }
 
+    /// The sum of |a| along each row.
+    fn row_sums(&self) -> Vec<i128> {
+        self.a.iter().map(|row| row.iter().map(|a| a.abs()).sum()).collect()
+    }
+
+    /// The first row whose residual and slack are above 2^25 together in size, or whose residual is above the sum along it.
+    fn above(&self, residual: &[i128], slacks: &[i128]) -> Option<usize> {
+        let sums = self.row_sums();
+        (0..self.n).find(|&k| residual[k].abs() + slacks[k] > 1 << 25 || residual[k].abs() > sums[k])
+    }
+
     /// The largest over all rows m of w_i·(|p_m| + the sum over j of |G_mj|·slack_j) / g_m, each rounded up.
     fn bounds(&self, residual: &[i128], slacks: &[i128], margins: &[i128]) -> Vec<u64> {
         let carried = |row: &[i128]| row.iter().zip(slacks).map(|(g, slack)| g.abs() * slack).sum::<i128>();
@@ -104,10 +115,6 @@ impl System {
         let up = |w: i128, m: usize| (w * p[m] + margins[m] - 1).div_euclid(margins[m]);
         self.w.iter().map(|&w| (0..self.n).map(|m| up(w, m)).max().unwrap() as u64).collect()
     }
-}
-
-fn above(residual: &[i128], slacks: &[i128]) -> Option<usize> {
-    residual.iter().zip(slacks).position(|(r, slack)| r.abs() + slack > 1 << 25)
 }
 
 pub fn check(net: &Net) -> Outcome {
@@ -125,12 +132,12 @@ pub fn check(net: &Net) -> Outcome {
         return refused(5, [m as u64 + 1, 0]);
     }
     let (residual, slacks, none) = (system.residual(system.steps, &system.b, &system.x), system.slacks(), vec![0; n]);
-    if let Some(k) = above(&residual, &slacks) {
+    if let Some(k) = system.above(&residual, &slacks) {
         return refused(6, [k as u64 + 1, 0]);
     }
     let columns: Vec<Vec<i128>> = (0..n).map(|j| system.inverse_residual(j)).collect();
-    if let Some(j) = columns.iter().position(|r| above(r, &none).is_some()) {
-        return refused(7, [j as u64 + 1, above(&columns[j], &none).unwrap() as u64 + 1]);
+    if let Some((j, k)) = columns.iter().enumerate().find_map(|(j, r)| Some((j, system.above(r, &none)?))) {
+        return refused(7, [j as u64 + 1, k as u64 + 1]);
     }
     let mut out = refused(0, [0, 0]);
     out.solution[..n].copy_from_slice(&system.bounds(&residual, &slacks, &margins));

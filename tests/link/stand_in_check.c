@@ -1,8 +1,7 @@
 /* Stands in for the proved check: by a version in C, right or wrong in one of the ways. */
-#include "native.h"
+#define NATIVE(version) stand_in_##version
+#include "../../bench/native.c"
 #include "ways.h"
-
-#include <string.h>
 
 static uint64_t scratch[1024];
 
@@ -20,6 +19,27 @@ static const int64_t *read_tolerances(uint32_t n, uint32_t s, const int64_t *tol
     return seen;
 }
 
+/* The sum of |a| down column k. */
+static int64_t sum_down(const struct system *y, uint32_t k) {
+    int64_t sum = 0;
+    for (uint32_t i = 0; i < y->n; i++) sum += size_of(y->A[i * y->n + k]);
+    return sum;
+}
+
+/* The tests of a residual, right or as a wrong version has them. */
+static bool is_above_somehow(const struct system *y, uint32_t k, bool of_guess, int64_t size, int64_t slack, int64_t sum) {
+    if (is_wrong(sum_down_column)) sum = sum_down(y, k);
+    if (is_wrong(sum_times_inverse_scale)) sum *= y->T;
+    if (is_wrong(sum_not_reached)) sum -= 1;
+    if (is_wrong(slack_within_sum)) sum -= slack;
+    if (is_wrong(old_test_dropped)) slack = 0;
+    if (is_wrong(sum_for_guess_alone) && !of_guess) sum = size;
+    if (is_wrong(sum_for_columns_alone) && of_guess) sum = size;
+    return is_above(y, k, of_guess, size, slack, sum);
+}
+
+CHECK(check_somehow, signed_defect, is_above_somehow, quick_bounds)
+
 uint32_t kodarfi_check(uint32_t n, uint32_t s, uint32_t t, const int64_t *matrix, size_t matrix_len, const int64_t *right, size_t right_len,
                        const int64_t *tolerance, size_t tolerance_len, const int64_t *guess, size_t guess_len, const int64_t *inverse,
                        size_t inverse_len, const int64_t *weights, size_t weights_len, uint64_t *solution_bounds, size_t solution_bounds_len,
@@ -34,9 +54,9 @@ uint32_t kodarfi_check(uint32_t n, uint32_t s, uint32_t t, const int64_t *matrix
         for (uint32_t i = 0; i < n; i++) ones[i] = weights[i] < 1 ? 1 : weights[i];
         weights = memcpy(scratch, ones, sizeof ones);
     }
-    const uint32_t number = native_check_quick(n, s, t, matrix, matrix_len, right, right_len, tolerance, tolerance_len, guess, guess_len, inverse,
-                                               inverse_len, weights, weights_len, solution_bounds, solution_bounds_len, inverse_bounds,
-                                               inverse_bounds_len, places);
+    const uint32_t number = check_somehow(n, s, t, matrix, matrix_len, right, right_len, tolerance, tolerance_len, guess, guess_len, inverse,
+                                          inverse_len, weights, weights_len, solution_bounds, solution_bounds_len, inverse_bounds,
+                                          inverse_bounds_len, places);
     if (is_wrong(writes_on_refusal) && number == 7) solution_bounds[0] = 0;
     if (is_wrong(reads_past_n) && number == 0 && n < 32 && (matrix[n * n] > 1 << 20 || matrix[n * n] < -(1 << 20))) return 3;
     if (is_wrong(row_before_column) && number == 7) {

@@ -29,7 +29,7 @@ static void set_sizes(struct tried *x, const int64_t *A, const int64_t *G) {
         for (uint32_t j = 0; j < x->n; j++) {
             int64_t d = m == j ? x->T : 0;
             for (uint32_t k = 0; k < x->n; k++) d -= left[m * x->n + k] * right[k * x->n + j];
-            x->sizes[m][j] = d < 0 && !is_wrong(signed_defect) ? -d : d;
+            x->sizes[m][j] = d < 0 && !is_wrong(defect_with_sign) ? -d : d;
         }
     }
 }

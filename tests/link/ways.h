@@ -22,6 +22,13 @@
     X(slack_in_steps)             \
     X(tolerance_unread)           \
     X(tolerance_of_row_before)    \
+    X(sum_down_column)            \
+    X(sum_times_inverse_scale)    \
+    X(sum_not_reached)            \
+    X(slack_within_sum)           \
+    X(old_test_dropped)           \
+    X(sum_for_guess_alone)        \
+    X(sum_for_columns_alone)      \
     /* kodarfi_entry */           \
     X(refused_entry_written)      \
     X(refused_bound_written)      \
@@ -52,7 +59,7 @@
     X(written_with_18)            \
     X(refused_search_counts)      \
     X(said_5_for_18)              \
-    X(signed_defect)              \
+    X(defect_with_sign)           \
     X(search_by_a_g)              \
     X(allowance_0_taken)          \
     X(allowance_65_taken)         \

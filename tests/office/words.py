@@ -17,8 +17,8 @@ QUOTED = {
     "2-empty-line": "line 3 is \"\"", "2-carriage-returns": "line 1 is \"(problem 2)^M\"", "3-weight-of-0": "line 11 is \"(weight 1 0)\"",
     "3-place-above-n": "line 6 is \"(right 3 1)\"", "3-more-than-32-marks": "line 1 is \"(problem 33)\"", "4-short-row": "line 3 is \"(row 1 (4))\"",
     "5-inverse-of-0": "row 1 of the inverse is \"(inverse 1 (0))\"", "5-coarse-steps": "row 1 of the inverse is \"(inverse 1 (0))\"",
-    "6-poor-guess": "equation 1 is \"(row 1 (1048576))\" and \"(right 1 0)\"",
-    "7-poor-inverse": "column 2 of the inverse does not fit equation 1, which is \"(row 1 (1048576 0))\"",
+    "6-poor-guess": "equation 1 is \"(row 1 (4 -1))\" and \"(right 1 5)\"",
+    "7-poor-inverse": "column 2 of the inverse does not fit equation 1, which is \"(row 1 (4 -1))\"",
     "11-row-before-scale": "line 2 is \"(row 1 (4 -1))\"", "12-right-side-twice": "line 6 is \"(right 1 5)\"", "12-damaged-copy": "line 5 is \"(row 1 (4))\"", "13-two-missing": "guess 2, inverse 1 are missing",
     "14-line-after-end": "line 14 is \"\"", "15-no-end": "the last line is \"(weight 2 1)\"", "15-empty-file": "the file is empty",
 }

@@ -38,7 +38,7 @@ WRONG = {
     "control bytes as they are": (REGISTER, 'cat -vT <"$kept"', 'cat <"$kept"', words.quotes_no_control_bytes),
     "judged by 16 bytes": (REGISTER, "head -c 65536", "head -c 16", words.explains_what_is_read_once),
     "the pipe is not read to its end": (REGISTER, "&& cat >/dev/null;", ";", words.explains_what_is_read_once),
-    "another cure in FORMAT": ("docs/FORMAT.md", "a better guess, smaller tolerances, or a smaller s", "a better guess, smaller tolerances, or a larger s", words.format_has_the_table),
+    "another cure in FORMAT": ("docs/FORMAT.md", "smaller tolerances or a smaller s |", "smaller tolerances or a larger s |", words.format_has_the_table),
     "another line in the table": ("docs/refusals.tsv", "`(refused 4 (3))`", "`(refused 4 (4))`", words.examples_give_their_lines),
     "an example less": ("docs/refusals.tsv", "; `15-empty-file.txt`: `(refused 15 (0))`", "", words.every_example_is_told),
     "another status in the manual": ("docs/register.1", "\naccepted\n", "\ngood\n", words.manual_has_the_help),

@@ -6,14 +6,16 @@ import given
 from generate import arranged
 from net import file_of, lines_of
 from second.program import Program
-from systems import edge, ends, tolerant, usual
+from systems import edge, ends, rows, tolerant, usual
 
 # Files of given.py by the names under which they are stored.
 GIVEN = {
     **{f"case-{letter}": f"01 case {letter}" for letter in "abcdefghijkl"},
     "paper-2": "02 paper 2",
-    "example-002-1": "002 example 1, guess 11, steps 20 20, displacement_inverse, bounds",
-    "example-002-2": "002 example 2, guess 12, steps 20 12, displacement_inverse, bounds",
+    "example-002-1": "002 example 1, guess 16, steps 20 20, exact_inverse, bounds",
+    "example-002-2": "002 example 2, guess 27, steps 20 12, exact_inverse, bounds",
+    "example-002-1-poor-guess": "002 example 1, guess 11, steps 20 20, displacement_inverse, bounds",
+    "example-002-2-poor-inverse": "002 example 2, guess 12, steps 10 16, displacement_inverse, bounds",
     "long-list": "lengths: list of 320 bytes at 12",
     "too-long-list": "lengths: list of 321 bytes at 12",
     "too-long-start": "lengths: no form of 321 bytes at 0",
@@ -65,6 +67,17 @@ GIVEN = {
     "slack-at-2-25": "slacks: tolerance 32, guess 0",
     "slack-above-2-25": "slacks: tolerance 32, guess 1",
     "slacks-with-signs": "slacks: tolerances (3, 2), signs",
+    "weighted": "02 paper 9 weighted",
+    "guess-at-row-sum": "02 paper 9 guess at the sum",
+    "guess-above-row-sum": "02 paper 9 guess above the sum",
+    "guess-below-0-at-row-sum": "row_sums: guess 1",
+    "inverse-at-row-sum": "02 paper 9 inverse at the sum",
+    "inverse-above-row-sum": "02 paper 9 inverse above the sum",
+    "uneven-at-row-sum": "row_sums: uneven, right side 25, tolerance 7",
+    "uneven-above-row-sum": "row_sums: uneven, right side 27",
+    "uneven-second-row": "row_sums: uneven, second right side 3",
+    "row-sum-and-2-25": "row_sums: row of 524288, tolerance 63",
+    "row-sum-above-2-25": "row_sums: row of 524289, tolerance 63",
 }
 
 def tolerated_net(rng, n):
@@ -77,7 +90,7 @@ def tolerated_net(rng, n):
 MADE = (
     (usual.levelling, 1), (usual.levelling, 5), (usual.levelling, 32), (usual.general, 9), (usual.general, 16), (usual.small, 3), (usual.singular, 3),
     (edge.at_edge, 1), (edge.at_edge, 12), (edge.with_halves, 6), (ends.at_bounds, 10), (ends.largest_bounds, 8), (ends.near_margins, 6),
-    (ends.near_residuals, 7), (ends.near_inverse_residuals, 6), (ends.several, 9), (ends.near_slacks, 6), (tolerated_net, 5), (tolerated_net, 12),
+    (ends.several, 9), (ends.near_slacks, 6), (tolerated_net, 5), (tolerated_net, 12), (rows.near_row_sums, 7), (rows.near_column_sums, 6),
 )
 
 

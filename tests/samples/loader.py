@@ -4,7 +4,7 @@ Every refusal of document 01 is met: 1 to 8 and 11 to 15; its cases a to k are c
 
 import random
 
-from cases_01 import CASES, whole_file
+from cases_01 import CASES, PAPERS, whole_file
 from net import lines_of
 from second.lists import KINDS, check
 from second.reckoning import Bounds, Problem
@@ -151,7 +151,7 @@ def left_out(session, given):
     session.new()
     session.lines(b"(problem 3)", b"(scale 4 6)", *(b"(weight %d %d)" % (i, i + 1) for i in given))
     for i, row in enumerate((b"4 -1 0", b"-1 3 -1", b"0 -1 5"), 1):
-        session.lines(b"(row %d (%s))" % (i, row), b"(right %d %d)" % (i, i), b"(guess %d %d)" % (i, 8 * i))
+        session.lines(b"(row %d (%s))" % (i, row), b"(right %d %d)" % (i, i), b"(guess %d %d)" % (i, (8, 18, 13)[i - 1]))
     session.lines(b"(inverse 1 (17 6 1))", b"(inverse 2 (6 25 5))", b"(end)")
     session.show()
     session.lines(b"(inverse 3 (1 5 14))", b"(end)", b"(weight 1 1)")
@@ -176,12 +176,21 @@ def tolerances(session, first, second):
     session.check_on_lists("Q", 2, 20, 4)
 
 
-def slack(session, tolerance, guess):
-    """6 through slack alone: S·d is 2^25 at a tolerance of 32."""
+def slack(session, s, a, tolerance, guess):
+    """6 through slack alone, size of residual and slack together at 2^25 and beside it: the residual is −a·X and at most a."""
     session.new()
-    session.lines(b"(problem 1)", b"(scale 20 20)", b"(row 1 (1))", b"(right 1 (0 %d))" % tolerance, b"(guess 1 %d)" % guess, b"(inverse 1 (1048576))", b"(end)")
+    session.lines(b"(problem 1)", b"(scale %d 20)" % s, b"(row 1 (%d))" % a, b"(right 1 (0 %d))" % tolerance, b"(guess 1 %d)" % guess)
+    session.lines(b"(inverse 1 (%d))" % (1048576 // a), b"(end)")
     session.check()
-    session.check_on_lists("R", 1, 20, 20)
+    session.check_on_lists("R", 1, s, 20)
+
+
+def row_sums(session):
+    """02, Paper 9: the cases of residuals at the sums along their rows and above them, through a loader and on lists."""
+    for case in PAPERS:
+        if case.name.startswith("paper 9"):
+            whole(session, case.net)
+            session.check_on_lists("V", case.net.n, case.net.s, case.net.t)
 
 
 def entries(printing):
@@ -196,6 +205,9 @@ def entries(printing):
         left_out(session, given)
     for first, second in ((b"5", b"1"), (b"5", b"(1 0)"), (b"(5 1)", b"1"), (b"(5 3)", b"(1 1048576)"), (b"(5 0)", b"(1 2)")):
         tolerances(session, first, second)
-    for tolerance, guess in ((32, 0), (32, 1), (31, -1048576), (31, -1048577), (33, 0), (1048576, 0)):
-        slack(session, tolerance, guess)
+    for tolerance, guess in ((32, 0), (32, 1), (31, -1), (33, 0), (1048576, 0)):
+        slack(session, 20, 1, tolerance, guess)
+    for a, tolerance in ((524287, 63), (524288, 63), (524289, 63), (524289, 62)):
+        slack(session, 19, a, tolerance, -1)
+    row_sums(session)
     return session.entries

@@ -25,7 +25,7 @@ class Program:
 
     def printed(self, loaded):
         """The listing of a problem, or of the refusal met while its file was read."""
-        checked = loaded if isinstance(loaded, Refusal) else self.reckoning().check(loaded)
+        checked = loaded if isinstance(loaded, Refusal) else self.reckoning(self.rules).check(loaded)
         lines = self.refused(checked) if isinstance(checked, Refusal) else self.report(loaded, checked)
         return "".join(line + "\n" for line in lines).encode()
 

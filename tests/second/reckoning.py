@@ -1,11 +1,13 @@
-"""Document 01, "The reckoning", with the slacks of document 02, Paper 5: margins, residuals and the bounds of a column (01: limits), in exact fractions."""
+"""Document 01, "The reckoning", with the slacks of document 02, Paper 5, and the row sums of its Paper 9: margins, residuals and the bounds of a column (01:
+limits), in exact fractions."""
 
 from fractions import Fraction
-from math import ceil
+from math import ceil, inf
 from operator import mul
 from typing import NamedTuple
 
 from .refusal import Refusal
+from .rules import IN_FORCE
 
 LARGEST_RESIDUAL = 2**25
 
@@ -61,6 +63,9 @@ class Reckoning:
     # "Order for a check: .. 5, 6, 7."
     ORDER = (5, 6, 7)
 
+    def __init__(self, rules=IN_FORCE):
+        self.rules = rules
+
     def check(self, problem):
         """The bounds of an accepted problem, or the refusal of another."""
         system = self.system(problem)
@@ -69,7 +74,7 @@ class Reckoning:
         columns = [self.inverse_residual(system, j) for j in range(system.n)]
         failing = {
             5: self.failing_margin(margins),
-            6: self.failing_row(system, residuals, slacks),
+            6: self.failing_row(residuals, slacks, self.guess_sums(system)),
             7: self.failing_column(system, columns),
         }
         for number in self.ORDER:
@@ -139,21 +144,42 @@ class Reckoning:
         column = [row[j] for row in system.G]
         return [system.T * (k == j) - ag for k, ag in enumerate(times(system.A, column))]
 
-    def is_residual_good(self, system, row, residual, slack):
+    def row_sums(self, system):
+        """02, Paper 9: "the sum of |a| along that row"; before it nothing was asked of a row by itself."""
+        return [sum(map(abs, row)) for row in system.A] if self.rules.residuals_within_row_sums else [inf] * system.n
+
+    def guess_sums(self, system):
+        """What the residuals of the guess are held to, row by row; 02, Paper 9: "for the guess and for inverse columns"."""
+        return self.row_sums(system)
+
+    def column_sums(self, system):
+        """The same of the inverse's columns."""
+        return self.row_sums(system)
+
+    def is_small(self, residual, slack):
         """01: each size at most 2^25. 02, Paper 5: "6 is now given where size of residual plus slack is above 2^25"."""
         return abs(residual) + slack <= LARGEST_RESIDUAL
 
-    def failing_row(self, system, residuals, slacks):
+    def is_within_row(self, residual, slack, row_sum):
+        """02, Paper 9: "the residual of row m, without slack, may be at most the sum of |a| along that row"."""
+        return abs(residual) <= row_sum
+
+    def is_residual_good(self, residual, slack, row_sum):
+        """02, Paper 9: "The 2^25 test with slack also stays."."""
+        return self.is_small(residual, slack) and self.is_within_row(residual, slack, row_sum)
+
+    def failing_row(self, residuals, slacks, row_sums):
         """6 "gives the lowest row"."""
-        for k, (residual, slack) in enumerate(zip(residuals, slacks)):
-            if not self.is_residual_good(system, k, residual, slack):
+        for k, seen in enumerate(zip(residuals, slacks, row_sums)):
+            if not self.is_residual_good(*seen):
                 return (k + 1,)
         return None
 
     def failing_column(self, system, columns):
         """7 "gives the lowest column, then its lowest row"."""
+        slacks, sums = self.column_slacks(system), self.column_sums(system)
         for j, residuals in enumerate(columns):
-            row = self.failing_row(system, residuals, self.column_slacks(system))
+            row = self.failing_row(residuals, slacks, sums)
             if row is not None:
                 return (j + 1, *row)
         return None

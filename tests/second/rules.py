@@ -9,6 +9,13 @@ class Rules:
     entry_covers_rounding: bool = False  # Paper 2: Program.entry_bound
     right_sides_have_tolerances: bool = False  # Paper 5: Loader.read; a tolerance of 0 everywhere is no slack in Reckoning
     repetition_before_values: bool = False  # Paper 6: Loader.order
+    residuals_within_row_sums: bool = False  # Paper 9: Reckoning.row_sums
 
 
-IN_FORCE = Rules(weights_may_be_left_out=True, entry_covers_rounding=True, right_sides_have_tolerances=True, repetition_before_values=True)
+IN_FORCE = Rules(
+    weights_may_be_left_out=True,
+    entry_covers_rounding=True,
+    right_sides_have_tolerances=True,
+    repetition_before_values=True,
+    residuals_within_row_sums=True,
+)

@@ -31,16 +31,26 @@ def general_matrix(rng, n):
     return frozen(matrix)
 
 
-def proposal(rng, matrix, s, t, right, weights):
-    """Guess and inverse rounded to nearest steps, at halves either neighbour; None where they leave their ranges."""
+def to_nearest(rng):
+    """Rounding to a nearest whole number, at halves to either neighbour."""
+    return lambda numerator, denominator: nearest(numerator, denominator, rng.random() < 0.5)
+
+
+def within_a_step(rng):
+    """Rounding to any whole number at most one away."""
+    return lambda numerator, denominator: rng.randint(-(-numerator // denominator) - 1, numerator // denominator + 1)
+
+
+def proposal(rng, matrix, s, t, right, weights, rounding=to_nearest):
+    """Guess and inverse rounded to steps, mostly to nearest ones; None where they leave their ranges."""
     exact = inverse_of(matrix)
     if exact is None:
         return None
     q, H = exact
     S, T = 2**s, 2**t
-    either = lambda: rng.random() < 0.5
-    guess = [nearest(S * N, q, either()) for N in product(H, right)]
-    inverse = [[nearest(T * h, q, either()) for h in row] for row in H]
+    rounded = rounding(rng)
+    guess = [rounded(S * N, q) for N in product(H, right)]
+    inverse = [[rounded(T * h, q) for h in row] for row in H]
     net = net_of(s, t, matrix, right, guess, inverse, weights)
     return net if net.is_in_range() else None
 
@@ -75,23 +85,28 @@ def random_weights(rng, n):
 
 
 def shaken(rng, net):
-    """The proposal moved by some steps: a poorer guess or inverse, or both."""
-    kind = rng.choice(("none", "guess", "inverse", "both"))
+    """Now and then the proposal moved by some steps: a poorer guess, or a poorer inverse, which 02's Paper 9 mostly refuses."""
+    way = rng.randrange(16)
     guess, inverse = net.guess, net.inverse
-    if kind in ("guess", "both"):
+    if way == 0:
         far = 2 ** rng.randint(0, 16)
         guess = [X + rng.randint(-far, far) for X in guess]
-    if kind in ("inverse", "both"):
+    if way == 1:
         inverse = [[g + rng.choice((-1, 0, 0, 0, 1)) for g in row] for row in inverse]
     moved = net.with_(guess=guess, inverse=inverse)
     return moved if moved.is_in_range() else net
 
 
-def made(rng, matrix):
-    """A system on a matrix, with a proposal that is rounded or shaken; None where it does not fit the ranges."""
-    s, t = rng.randint(0, 20), fitting_t(rng, matrix)
-    net = proposal(rng, matrix, s, t, fitting_right(rng, matrix, s), random_weights(rng, len(matrix)))
+def proposed(rng, matrix, s, t, right, weights):
+    """A proposal rounded to nearest steps or, as often, within a step (02, Paper 9), and now and then shaken; None where it leaves its ranges."""
+    net = proposal(rng, matrix, s, t, right, weights, rng.choice((to_nearest, within_a_step)))
     return net and shaken(rng, net)
+
+
+def made(rng, matrix):
+    """A system on a matrix with its proposal; None where it does not fit the ranges."""
+    s, t = rng.randint(0, 20), fitting_t(rng, matrix)
+    return proposed(rng, matrix, s, t, fitting_right(rng, matrix, s), random_weights(rng, len(matrix)))
 
 
 def repeated(attempt):
@@ -118,8 +133,7 @@ def small(rng, n):
         matrix = frozen([[rng.randint(-4, 4) for _ in range(n)] for _ in range(n)])
         s, t = rng.randint(0, 5), rng.randint(0, 4)
         right = [rng.randint(-20, 20) for _ in range(n)]
-        net = proposal(rng, matrix, s, t, right, [rng.randint(1, 3) for _ in range(n)])
-        return net and shaken(rng, net)
+        return proposed(rng, matrix, s, t, right, [rng.randint(1, 3) for _ in range(n)])
 
     return repeated(attempt)
 

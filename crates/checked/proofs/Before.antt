@@ -1,4 +1,4 @@
--- Nothing moves where all tolerances are 0 and their list is long enough: what is said, and both limit lists, are document 01's (specs/Before).
+-- Paper 5 moves nothing where all tolerances are 0 and their list is long enough: what is said, and both limit lists, are document 01's (specs/Before).
 --   checked-before — what is said of a problem
 --   no-tolerance   — of a check on lists
 use mathlib.Core.Path.{_≡_, refl}
@@ -14,28 +14,26 @@ use Rattle.linear.specs.Slice.{at}
 use Rattle.rules.specs.Range.{inRange, allInRange, rangeOf, ranges}
 use Rattle.rules.specs.declared.Kind.the-variants as kind
 use Rattle.rules.proofs.AllInRange.{all-in}
-use Rattle.enclosure.specs.Before.{exceeds01, bound01, inverseBound01}
+use Rattle.enclosure.specs.Before.{exceeds05, exceeds01, bound01, inverseBound01}
 use Rattle.enclosure.specs.Demand.{NoTolerance}
 use Rattle.enclosure.specs.Problem.{Problem, columnOf}
-use Rattle.enclosure.specs.Reckoning.{residual, exceeds, bound, inverseBound}
+use Rattle.enclosure.specs.Reckoning.{residual, bound, inverseBound}
 use Rattle.enclosure.proofs.Before.{exceeds-before, column-exceeds-before, bound-before, inverse-bound-before}
-use Rattle.checked.specs.Before.{short01, inRanges01, firstResidual01, firstInversePlace01, checkedOf01, answer01, solutionAfter01, inverseAfter01, Unmoved}
-use Rattle.checked.specs.Checked.{solutionBoundsAfter, inverseBoundsAfter}
+use Rattle.checked.specs.Before.{firstResidual05, firstInversePlace05, checkedOf05, answer05, solutionAfter05, inverseAfter05, short01, inRanges01, firstResidual01, firstInversePlace01, checkedOf01, answer01, solutionAfter01, inverseAfter01, Unmoved}
 use Rattle.checked.specs.Input.{Input, problem, short, inRanges}
-use Rattle.checked.specs.Order.{firstResidual, firstInversePlace, checkedOf, answer}
 use Rattle.checked.proofs.Written.{written-ext}
 
 module _ (P : Problem) where
-  place-before : firstInversePlace P ≡ firstInversePlace01 P
+  place-before : firstInversePlace05 P ≡ firstInversePlace01 P
   place-before =
-      first-ext (P .n * P .n) (λ (i : ℕ). exceeds (columnOf P (i / P .n)) (i % P .n))
+      first-ext (P .n * P .n) (λ (i : ℕ). exceeds05 (columnOf P (i / P .n)) (i % P .n))
       (λ (i : ℕ). exceeds01 P (i % P .n) (residual (columnOf P (i / P .n)) (i % P .n))) (λ i l. column-exceeds-before P (i / P .n) (i % P .n))
 
   module _ (none : NoTolerance P) where
-    residual-before : firstResidual P ≡ firstResidual01 P
-    residual-before = first-ext (P .n) (exceeds P) (λ (k : ℕ). exceeds01 P k (residual P k)) (λ k l. exceeds-before P k (none k l))
+    residual-before : firstResidual05 P ≡ firstResidual01 P
+    residual-before = first-ext (P .n) (exceeds05 P) (λ (k : ℕ). exceeds01 P k (residual P k)) (λ k l. exceeds-before P k (none k l))
 
-    pub checked-before : checkedOf P ≡ checkedOf01 P
+    pub checked-before : checkedOf05 P ≡ checkedOf01 P
     checked-before = rw (residual-before, place-before)
 
 -- a tolerance of 0 is in its range
@@ -53,12 +51,12 @@ module _ (I : Input) (long : 32 ≤ length (I .tolerance)) (none : NoTolerance (
   ranges-before : inRanges I ≡ inRanges01 I
   ranges-before = rw within
 
-  answer-before : answer I ≡ answer01 I
-  unfolding answer answer01
+  answer-before : answer05 I ≡ answer01 I
+  unfolding answer05 answer01
   answer-before = rw (short-before, ranges-before, residual-before (problem I) none, place-before (problem I))
 
   pub no-tolerance : Unmoved I
-  unfolding solutionBoundsAfter solutionAfter01 inverseBoundsAfter inverseAfter01
+  unfolding solutionAfter05 solutionAfter01 inverseAfter05 inverseAfter01
   no-tolerance = record {
     says = answer-before;
     solution = rw (answer-before, written-ext (I .n) (bound (problem I)) (bound01 (problem I)) (I .solutionBounds) (λ k l. bound-before (problem I) none k));

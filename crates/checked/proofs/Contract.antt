@@ -2,6 +2,7 @@
 --   answer-short, answer-range, answer-ready — what is said, by the tests 8 and 3
 --   accepted-places — nothing is said of 5, 6 and 7 only where none has a place
 --   sound-said, said-sound — the reckoning says nothing exactly where the problem is sound
+--   written-encloses — the limits of a reckoning whose margins are above 0, once written, enclose
 --   checked-short, checked-range, checked-ready — the contract where 8 is said, where 3 is, and where the reckoning decides
 use mathlib.Core.Path.{_≡_, refl, sym, _∙_}
 use mathlib.Core.Bool.{Bool, true, false}
@@ -21,7 +22,7 @@ use Rattle.rules.specs.declared.Refusal.the-variants.{TooShort, OutOfRange}
 use Rattle.rules.proofs.Verdicts.{accepted-new, accepted-old, nothing-is-not}
 use Rattle.enclosure.specs.Problem.{Problem}
 use Rattle.enclosure.specs.Reckoning.{marginFails, exceeds, bound, inverseBound}
-use Rattle.enclosure.specs.Demand.{Sound}
+use Rattle.enclosure.specs.Demand.{Margins, Encloses, Sound}
 use Rattle.enclosure.proofs.Acceptance.{rounded-sound}
 use Rattle.enclosure.proofs.Demands.{encloses, encloses-as}
 use Rattle.checked.specs.Input.{Input, problem, short, inRanges}
@@ -97,6 +98,19 @@ checked-range I e f = record {
 
 -- where the reckoning decides
 module _ (I : Input) (e : short I ≡ false) (f : inRanges I ≡ true) where
+  -- limits that were written where every margin is above 0 enclose
+  pub written-encloses : {E L : List ℕ} → E ≡ written (I .n) (bound (problem I)) (I .solutionBounds) →
+      L ≡ written (I .n * I .n) (λ (k : ℕ). inverseBound (problem I) (k / I .n) (k % I .n)) (I .inverseBounds) → Margins (problem I) →
+      Encloses (problem I) (λ (i : ℕ). getD E i 0) (λ (i j : ℕ). getD L (i * I .n + j) 0)
+  written-encloses {E} {L} eE eL margins =
+      let fit = fit-of I e f in
+      let P : Problem = problem I in
+      encloses-as P (bound P) (λ (i : ℕ). getD E i 0) (inverseBound P) (λ (i j : ℕ). getD L (i * I .n + j) 0)
+      (λ i l. rw eE (written-at (I .n) (bound P) (I .solutionBounds) i l (omega (arith, fit .few, fit .solution-long))))
+      (λ i j li lj. rw eL (written-at (I .n * I .n) (λ (k : ℕ). inverseBound P (k / I .n) (k % I .n)) (I .inverseBounds) (i * I .n + j) (place li lj) (omega (arith, square (fit .few), fit .inverse-long))
+      ∙ rw (place-column i j (I .n) lj, place-row i j (I .n) lj)))
+      (encloses P (fit .heavy) margins)
+
   pub checked-ready : {r : Outcome} {E L : List ℕ} → said r ≡ checkedOf (problem I) → E ≡ solutionAfter (checkedOf (problem I)) I → L ≡ inverseAfter (checkedOf (problem I)) I → Checked I r E L
   unfolding solutionBoundsAfter inverseBoundsAfter
   checked-ready {r} {E} {L} says hE hL =
@@ -108,13 +122,6 @@ module _ (I : Input) (e : short I ≡ false) (f : inRanges I ≡ true) where
         inverse-bounds = rw a hL;
         encloses = λ n.
             let s : checkedOf (problem I) ≡ [] = sym says ∙ n in
-            let P : Problem = problem I in
-            let eE : E ≡ written (I .n) (bound P) (I .solutionBounds) = hE ∙ accepted-new _ _ s in
-            let eL : L ≡ written (I .n * I .n) (λ (k : ℕ). inverseBound P (k / I .n) (k % I .n)) (I .inverseBounds) = hL ∙ accepted-new _ _ s in
-            encloses-as P (bound P) (λ (i : ℕ). getD E i 0) (inverseBound P) (λ (i j : ℕ). getD L (i * I .n + j) 0)
-            (λ i l. rw eE (written-at (I .n) (bound P) (I .solutionBounds) i l (omega (arith, fit .few, fit .solution-long))))
-            (λ i j li lj. rw eL (written-at (I .n * I .n) (λ (k : ℕ). inverseBound P (k / I .n) (k % I .n)) (I .inverseBounds) (i * I .n + j) (place li lj) (omega (arith, square (fit .few), fit .inverse-long))
-            ∙ rw (place-column i j (I .n) lj, place-row i j (I .n) lj)))
-            (encloses P (fit .heavy) (said-sound P s .margins));
+            written-encloses (hE ∙ accepted-new _ _ s) (hL ∙ accepted-new _ _ s) (said-sound (problem I) s .margins);
         accepts = λ N q H q′ s r x. says ∙ sound-said (problem I) (fit .some) (rounded-sound (problem I) N q H q′ (fit .inverse-scale) x);
       }

@@ -8,9 +8,10 @@ use lib.IntN.{natAbs}
 use Rattle.linear.proofs.Places.{place}
 use Rattle.enclosure.specs.Largest.{largestBound}
 use Rattle.enclosure.specs.Problem.{columnOf}
-use Rattle.enclosure.specs.Reckoning.{margin, load, defect, residual, slack, allowedResidual, exceeds, bound, inverseBound}
+use Rattle.enclosure.specs.Reckoning.{margin, load, defect, residual, slack, allowedResidual, bound, inverseBound}
 use Rattle.enclosure.proofs.Largest.{bound-size}
 use Rattle.enclosure.proofs.Margin.{margin-above}
+use Rattle.enclosure.proofs.Before.{exceeds-05}
 use Rattle.checked.specs.Order.{checkedOf}
 use Rattle.checked.specs.Input.{Input, problem}
 use Rattle.checked.proofs.Contract.{said-sound}
@@ -18,21 +19,21 @@ use Rattle.checked.proofs.Fit.{Fit}
 
 module _ (I : Input) (fit : Fit I) (e : checkedOf (problem I) ≡ []) where
   pub solution-size : (i : ℕ) → i < I .n → bound (problem I) i ≤ largestBound
-  unfolding bound exceeds
+  unfolding bound
   solution-size = bound-size (problem I) (residual (problem I)) (slack (problem I)) (record {
     few = fit .few;
     inverse = λ i j li lj. fit .inverse .within .size (i * I .n + j) (place li lj);
     weights = fit .weights .within .size;
-    residuals = λ k l. ltb-false allowedResidual (natAbs (residual (problem I) k) + slack (problem I) k) (said-sound (problem I) e .residuals k l);
+    residuals = λ k l. ltb-false allowedResidual (natAbs (residual (problem I) k) + slack (problem I) k) (exceeds-05 (problem I) k (said-sound (problem I) e .residuals k l));
     margins = λ m l. margin-above (problem I) m (said-sound (problem I) e .margins m l);
   })
 
   pub inverse-size : (i j : ℕ) → i < I .n → j < I .n → inverseBound (problem I) i j ≤ largestBound
-  unfolding bound exceeds margin load defect
+  unfolding bound margin load defect
   inverse-size i j li lj = bound-size (columnOf (problem I) j) (residual (columnOf (problem I) j)) (slack (columnOf (problem I) j)) (record {
     few = fit .few;
     inverse = λ i j li lj. fit .inverse .within .size (i * I .n + j) (place li lj);
     weights = fit .weights .within .size;
-    residuals = λ k l. ltb-false allowedResidual (natAbs (residual (columnOf (problem I) j) k) + slack (columnOf (problem I) j) k) (said-sound (problem I) e .columns j lj k l);
+    residuals = λ k l. ltb-false allowedResidual (natAbs (residual (columnOf (problem I) j) k) + slack (columnOf (problem I) j) k) (exceeds-05 (columnOf (problem I) j) k (said-sound (problem I) e .columns j lj k l));
     margins = λ m l. margin-above (problem I) m (said-sound (problem I) e .margins m l);
   }) i li

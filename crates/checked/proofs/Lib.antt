@@ -6,6 +6,7 @@ pub mod Contract
 pub mod Statements
 pub mod Agreement
 pub mod Before
+pub mod Tightened
 pub mod Largest
 pub mod Table
 pub mod Heights

@@ -1,5 +1,6 @@
 -- Cases a to k of document 01 follow from the definitions that the contract of `check` cites; and its whole file meets both halves of demand 3 on `check` itself.
---   cases-hold    — one theorem for all rows of the table, computed;  tolerances-hold — one for the rows with tolerances
+--   cases-hold    — one theorem for all rows of the table, computed;  limits-hold — one for the limits that 01 states where Paper 9 refuses
+--   row-sums-hold, tolerances-hold — one for the rows at and above the sum along a row, one for the rows with tolerances
 --   file-usable, file-rounded-here, file-accepted — the whole file passes 8 and 3, is a rounded exact proposal, and is accepted
 use mathlib.Core.Path.{_≡_, refl, _∙_}
 use mathlib.Core.Bool.{true}
@@ -11,9 +12,9 @@ use Rattle.linear.specs.Matrix.{apply, product, identity}
 use Rattle.rules.specs.Range.{ranges, rangeOf, inRange, allInRange}
 use Rattle.enclosure.specs.Demand.{RoundedExact}
 use Rattle.enclosure.specs.Example as example
-use Rattle.enclosure.specs.Reckoning.{defect, load, margin, residual, exceeds, sizesWith, boundFrom, boundWith, bound}
+use Rattle.enclosure.specs.Reckoning.{defect, load, margin, residual, rowSum, exceeds, sizesWith, boundFrom, boundWith, bound}
 use Rattle.enclosure.proofs.Instance.{file-rounded, file-sound}
-use Rattle.checked.specs.Cases.{rows, toleranceRows, allRowsHold, inputOf, e}
+use Rattle.checked.specs.Cases.{rows, rowSumRows, limitRows, allLimitsHold, toleranceRows, allRowsHold, inputOf, e}
 use Rattle.checked.specs.Checked.{written, solutionBoundsAfter, inverseBoundsAfter}
 use Rattle.checked.specs.Input.{Input, problem}
 use Rattle.checked.specs.Order.{answer}
@@ -21,11 +22,19 @@ use Rattle.checked.specs.Stated.{Usable}
 use Rattle.checked.proofs.Contract.{answer-ready, sound-said}
 
 pub cases-hold : allRowsHold rows ≡ true
-unfolding answer solutionBoundsAfter inverseBoundsAfter written bound boundWith boundFrom sizesWith exceeds residual margin load defect product apply identity sum sumℕ largest first ceilDiv allInRange inRange rangeOf ranges
+unfolding answer solutionBoundsAfter inverseBoundsAfter written bound boundWith boundFrom sizesWith exceeds rowSum residual margin load defect product apply identity sum sumℕ largest first ceilDiv allInRange inRange rangeOf ranges
 cases-hold = refl
 
+pub limits-hold : allLimitsHold limitRows ≡ true
+unfolding bound boundWith boundFrom sizesWith residual margin load defect product apply identity sum sumℕ largest ceilDiv
+limits-hold = refl
+
+pub row-sums-hold : allRowsHold rowSumRows ≡ true
+unfolding answer solutionBoundsAfter inverseBoundsAfter written bound boundWith boundFrom sizesWith exceeds rowSum residual margin load defect product apply identity sum sumℕ largest first ceilDiv allInRange inRange rangeOf ranges
+row-sums-hold = refl
+
 pub tolerances-hold : allRowsHold toleranceRows ≡ true
-unfolding answer solutionBoundsAfter inverseBoundsAfter written bound boundWith boundFrom sizesWith exceeds residual margin load defect product apply identity sum sumℕ largest first ceilDiv allInRange inRange rangeOf ranges
+unfolding answer solutionBoundsAfter inverseBoundsAfter written bound boundWith boundFrom sizesWith exceeds rowSum residual margin load defect product apply identity sum sumℕ largest first ceilDiv allInRange inRange rangeOf ranges
 tolerances-hold = refl
 
 abbrev pub fileInput : Input

@@ -1,10 +1,14 @@
--- The check on lists as document 01 has it, without tolerances and without slack, by its own residual test (enclosure/specs/Before). proofs/Before says that
--- nothing moves where all tolerances are 0 and their list is long enough.
+-- The check on lists before 02's Paper 9, and before Paper 5, by the residual tests of enclosure/specs/Before. What Paper 9 changes is in specs/Tightened.
+-- The check as Paper 5 has it:
+--   firstResidual05, firstInversePlace05, reckonedOf05 P, checkedOf05 P, answer05 I — the places of 6 and 7, the tests, and what is said
+--   solutionAfter05 I, inverseAfter05 I — the two limit lists after a check
+-- The check as document 01 has it, without tolerances and without slack. proofs/Before says that Paper 5's is the same where all tolerances are 0 and their
+-- list is long enough.
 --   short01, inRanges01 — 8 and 3 of five lists of numbers
 --   firstResidual01, firstInversePlace01 — the lowest row, the lowest column and its lowest row, of a residual above 2^25 in size
 --   reckonedOf01 P, checkedOf01 P, answer01 I — the tests, and what is said
 --   solutionAfter01 I, inverseAfter01 I — the two limit lists after a check
---   Unmoved I — what is said of an input and the two lists afterwards are 01's
+--   Unmoved I — what Paper 5 says of an input and the two lists afterwards are 01's
 use mathlib.Core.Bool.{Bool, not, _&&_, _||_}
 use mathlib.Core.List.{List, _∷_}
 use mathlib.Core.Path.{_≡_}
@@ -15,12 +19,33 @@ use Rattle.linear.specs.Slice.{at}
 use Rattle.rules.specs.Order.{Test, number, verdict, accepted}
 use Rattle.rules.specs.Range.{allInRange, shortMatrix, shortColumn}
 use Rattle.rules.specs.declared.Kind.the-variants as kind
-use Rattle.enclosure.specs.Before.{exceeds01, bound01, inverseBound01}
+use Rattle.enclosure.specs.Before.{exceeds05, exceeds01, bound01, inverseBound01}
 use Rattle.enclosure.specs.Problem.{Problem, columnOf}
 use Rattle.enclosure.specs.Reckoning.{residual}
-use Rattle.checked.specs.Input.{Input, problem, sizesInRange}
-use Rattle.checked.specs.Order.{firstMargin, reckoned, answer}
-use Rattle.checked.specs.Checked.{written, solutionBoundsAfter, inverseBoundsAfter}
+use Rattle.checked.specs.Input.{Input, problem, short, inRanges, sizesInRange}
+use Rattle.checked.specs.Order.{firstMargin, reckoned}
+use Rattle.checked.specs.Checked.{written, solutionAfter, inverseAfter}
+
+abbrev pub firstResidual05 : Problem → ℕ
+firstResidual05 P = first (P .n) (exceeds05 P)
+
+abbrev pub firstInversePlace05 : Problem → ℕ
+firstInversePlace05 P = first (P .n * P .n) (λ (i : ℕ). exceeds05 (columnOf P (i / P .n)) (i % P .n))
+
+abbrev pub reckonedOf05 : Problem → List Test
+reckonedOf05 P = reckoned (P .n) (firstMargin P) (firstResidual05 P) (firstInversePlace05 P)
+
+abbrev pub checkedOf05 : Problem → List ℕ
+checkedOf05 P = verdict (reckonedOf05 P)
+
+unfoldable pub answer05 : Input → List ℕ
+answer05 I = verdict (number 8 (short I) ∷ number 3 (not (inRanges I)) ∷ reckonedOf05 (problem I))
+
+unfoldable pub solutionAfter05 : Input → List ℕ
+solutionAfter05 I = solutionAfter (answer05 I) I
+
+unfoldable pub inverseAfter05 : Input → List ℕ
+inverseAfter05 I = inverseAfter (answer05 I) I
 
 abbrev pub short01 : Input → Bool
 short01 I =
@@ -62,6 +87,6 @@ inverseAfter01 I =
     (I .inverseBounds)
 
 pub record Unmoved (I : Input) : Type 0 where
-  pub says : answer I ≡ answer01 I
-  pub solution : solutionBoundsAfter I ≡ solutionAfter01 I
-  pub inverse : inverseBoundsAfter I ≡ inverseAfter01 I
+  pub says : answer05 I ≡ answer01 I
+  pub solution : solutionAfter05 I ≡ solutionAfter01 I
+  pub inverse : inverseAfter05 I ≡ inverseAfter01 I

@@ -1,11 +1,17 @@
--- Cases a to k of document 01 ("Marked for proof"), as rows of a table, and rows with tolerances (02, Paper 5). Rows and columns count from 1, as there.
+-- Cases a to k of document 01 ("Marked for proof"), as rows of a table, answered as 02's Paper 9 has it ("Of 01's cases, a and b become 7, column 1 row 1; f, g
+-- and h become 6, row 1; j becomes 7, column 2 row 1"), and rows with tolerances (Paper 5). Rows and columns count from 1, as there.
 --   Claim   — a limit that 01 states: of the solution, or of a number of the inverse
---   Row, row — a proposal, what is said of it (nothing: accepted), and the limits that 01 states
+--   Row, row — a proposal, what is said of it (nothing: accepted), and the limits that are written
+--   LimitRow, limitRow — a row and the limits that 01 states for it
 --   single, variant, twice — rows of a common shape, without tolerance;  a to k, rows — the rows of the table
+--   weighted — the whole file with weights 3 and 1: dividing first and multiplying by the weight afterwards would give 3 for 1
+--   rowSumRows — that row, and rows whose residual is at and above the sum along its row (Paper 9), of the guess and of the inverse, worked out by hand
+--   limitRows — what 01 states for those of its cases that Paper 9 refuses: limits that are still true ("Limits already in the register remain true")
 --   tolerant d s — A = 1, b = 0 with the tolerance d;  toleranceRows — rows of that shape, worked out by hand: the limit is d·S, and 6 comes of slack alone
 --   unwritten — what stands in the limit lists before the check
 --   inputOf — the row's numbers in lists that are long enough
---   claimed, allClaimed — a limit, all limits that a row states are what the definitions of the contract give
+--   claimed, allClaimed — a limit, all limits that a row states are what the lists hold after the check
+--   defined, allDefined — the same by the definitions of the limits, which do not know of a refusal;  limitsHold, allLimitsHold — of a row, of all rows
 --   sameNumbers — two lists of numbers are equal;  rowHolds, allRowsHold — a row, all rows of the table hold
 use mathlib.Core.Bool.{Bool, true, false, _&&_}
 use mathlib.Core.List.{List, [], _∷_}
@@ -14,7 +20,9 @@ use lib.Dec.{eqb}
 use lib.IntN.{ℤ, pos, negsuc}
 use lib.ListN.{getD, replicate}
 use Rattle.enclosure.specs.Example.{padded}
-use Rattle.checked.specs.Input.{Input, input}
+use Rattle.enclosure.specs.Problem.{Problem}
+use Rattle.enclosure.specs.Reckoning.{bound, inverseBound}
+use Rattle.checked.specs.Input.{Input, input, problem}
 use Rattle.checked.specs.Order.{answer}
 use Rattle.checked.specs.Checked.{solutionBoundsAfter, inverseBoundsAfter}
 
@@ -50,15 +58,22 @@ row n s t A b d X G w says bounds = record {
   bounds = bounds;
 }
 
+pub record LimitRow : Type 0 where
+  pub of : Row
+  pub bounds : List Claim
+
+abbrev pub limitRow : Row → List Claim → LimitRow
+limitRow r bounds = record { of = r; bounds = bounds }
+
 -- n = 1, b = 0, w = 1
 abbrev pub single : ℤ → ℕ → ℕ → ℤ → ℤ → List ℕ → List Claim → Row
 single a s t x g = row 1 s t (a ∷ []) (pos 0 ∷ []) (pos 0 ∷ []) (x ∷ []) (g ∷ []) (pos 1 ∷ [])
 
 -- the whole file, with another guess and other weights
-abbrev pub variant : ℤ → ℤ → ℤ → ℤ → List Claim → Row
+abbrev pub variant : ℤ → ℤ → ℤ → ℤ → List ℕ → List Claim → Row
 variant x y v w =
     row 2 4 4 (pos 4 ∷ negsuc 0 ∷ negsuc 0 ∷ pos 3 ∷ []) (pos 5 ∷ pos 1 ∷ []) (pos 0 ∷ pos 0 ∷ []) (x ∷ y ∷ [])
-    (pos 4 ∷ pos 1 ∷ pos 1 ∷ pos 6 ∷ []) (v ∷ w ∷ []) []
+    (pos 4 ∷ pos 1 ∷ pos 1 ∷ pos 6 ∷ []) (v ∷ w ∷ [])
 
 -- A = (1,048,576 0 / 0 1), b = X = 0
 abbrev pub twice : ℤ → List ℕ → List Claim → Row
@@ -67,10 +82,10 @@ twice g =
     (pos 1 ∷ g ∷ pos 0 ∷ pos 1048576 ∷ []) (pos 1 ∷ pos 1 ∷ [])
 
 abbrev pub a : Row
-a = single (pos 4) 0 4 (pos 0) (pos 1) [] (solution 1 0 ∷ inverse 1 1 3 ∷ [])
+a = single (pos 4) 0 4 (pos 0) (pos 1) (7 ∷ 1 ∷ 1 ∷ []) []
 
 abbrev pub b : Row
-b = single (pos 4) 0 4 (pos 0) (pos 7) [] (solution 1 0 ∷ inverse 1 1 21 ∷ [])
+b = single (pos 4) 0 4 (pos 0) (pos 7) (7 ∷ 1 ∷ 1 ∷ []) []
 
 abbrev pub c : Row
 c = single (pos 4) 0 4 (pos 0) (pos 0) (5 ∷ 1 ∷ []) []
@@ -80,29 +95,51 @@ d = single (pos 4) 0 4 (pos 0) (pos 8) (5 ∷ 1 ∷ []) []
 
 abbrev pub e : Row
 e =
-    variant (pos 23) (pos 13) (pos 1) (pos 1)
+    variant (pos 23) (pos 13) (pos 1) (pos 1) []
     (solution 1 1 ∷ solution 2 1 ∷ inverse 1 1 1 ∷ inverse 1 2 1 ∷ inverse 2 1 1 ∷ inverse 2 2 1 ∷ [])
 
 abbrev pub f : Row
-f = variant (pos 20) (pos 13) (pos 1) (pos 1) (solution 1 4 ∷ solution 2 4 ∷ [])
+f = variant (pos 20) (pos 13) (pos 1) (pos 1) (6 ∷ 1 ∷ []) []
 
 abbrev pub g : Row
-g = variant (pos 20) (pos 13) (pos 3) (pos 1) (solution 1 4 ∷ solution 2 2 ∷ [])
+g = variant (pos 20) (pos 13) (pos 3) (pos 1) (6 ∷ 1 ∷ []) []
 
 abbrev pub h : Row
-h = single (pos 1048576) 0 20 (pos 32) (pos 1) [] (solution 1 32 ∷ [])
+h = single (pos 1048576) 0 20 (pos 32) (pos 1) (6 ∷ 1 ∷ []) []
 
 abbrev pub i : Row
 i = single (pos 1048576) 0 20 (pos 33) (pos 1) (6 ∷ 1 ∷ []) []
 
 abbrev pub j : Row
-j = twice (pos 32) [] (inverse 1 2 33 ∷ inverse 2 2 33 ∷ [])
+j = twice (pos 32) (7 ∷ 2 ∷ 1 ∷ []) []
 
 abbrev pub k : Row
 k = twice (pos 33) (7 ∷ 2 ∷ 1 ∷ []) []
 
 abbrev pub rows : List Row
 rows = a ∷ b ∷ c ∷ d ∷ e ∷ f ∷ g ∷ h ∷ i ∷ j ∷ k ∷ []
+
+abbrev pub weighted : Row
+weighted = variant (pos 23) (pos 13) (pos 3) (pos 1) [] (solution 1 1 ∷ solution 2 1 ∷ [])
+
+abbrev pub rowSumRows : List Row
+rowSumRows =
+    weighted
+    ∷ single (pos 4) 0 4 (pos 1) (pos 4) [] (solution 1 1 ∷ inverse 1 1 0 ∷ [])
+    ∷ single (pos 4) 0 4 (pos 2) (pos 4) (6 ∷ 1 ∷ []) []
+    ∷ single (pos 4) 0 4 (pos 0) (pos 3) [] (solution 1 0 ∷ inverse 1 1 1 ∷ [])
+    ∷ single (pos 4) 0 4 (pos 0) (pos 2) (7 ∷ 1 ∷ 1 ∷ []) []
+    ∷ []
+
+abbrev pub limitRows : List LimitRow
+limitRows =
+    limitRow a (solution 1 0 ∷ inverse 1 1 3 ∷ [])
+    ∷ limitRow b (solution 1 0 ∷ inverse 1 1 21 ∷ [])
+    ∷ limitRow f (solution 1 4 ∷ solution 2 4 ∷ [])
+    ∷ limitRow g (solution 1 4 ∷ solution 2 2 ∷ [])
+    ∷ limitRow h (solution 1 32 ∷ [])
+    ∷ limitRow j (inverse 1 2 33 ∷ inverse 2 2 33 ∷ [])
+    ∷ []
 
 abbrev pub tolerant : ℤ → ℕ → List ℕ → List Claim → Row
 tolerant d s = row 1 s 4 (pos 1 ∷ []) (pos 0 ∷ []) (d ∷ []) (pos 0 ∷ []) (pos 16 ∷ []) (pos 1 ∷ [])
@@ -133,6 +170,21 @@ claimed I (inverse i j bound) = eqb (getD (inverseBoundsAfter I) ((i - 1) * I .n
 abbrev pub allClaimed : Input → List Claim → Bool
 allClaimed I [] = true
 allClaimed I (x ∷ xs) = claimed I x && allClaimed I xs
+
+abbrev pub defined : Problem → Claim → Bool
+defined P (solution i limit) = eqb (bound P (i - 1)) limit
+defined P (inverse i j limit) = eqb (inverseBound P (i - 1) (j - 1)) limit
+
+abbrev pub allDefined : Problem → List Claim → Bool
+allDefined P [] = true
+allDefined P (x ∷ xs) = defined P x && allDefined P xs
+
+abbrev pub limitsHold : LimitRow → Bool
+limitsHold r = allDefined (problem (inputOf (r .of))) (r .bounds)
+
+abbrev pub allLimitsHold : List LimitRow → Bool
+allLimitsHold [] = true
+allLimitsHold (r ∷ rs) = limitsHold r && allLimitsHold rs
 
 abbrev pub sameNumbers : List ℕ → List ℕ → Bool
 sameNumbers [] [] = true

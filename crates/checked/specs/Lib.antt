@@ -4,4 +4,5 @@ pub mod Checked
 pub mod Stated
 pub mod Cases
 pub mod Before
+pub mod Tightened
 pub mod Agree

@@ -34,28 +34,27 @@ use Rattle.checker.proofs.Places.{first-margin, first-residual, first-c
 use Rattle.checker.proofs.Written.{written-stored, written-columns}
 
 -- the arrays of the reckoning, the first refused row of each, and what is judged of them
-pub record Worked (W : Work) (rows margins : List ℕ) (residuals columns limits : List ℤ) (r : Outcome) : Type 0 where
+pub record Worked (W : Work) (rows margins : List ℕ) (residuals columns : List ℤ) (r : Outcome) : Type 0 where
   pub raised : RowsOfMatrix rows (W .n) (W .inverse)
   pub hm : Begins 0 margins (W .n) (cutMargin (rowsPart (W .n) (W .t) (W .matrix) rows (W .weights)))
   pub hr : Begins (pos 0) residuals (W .n) (workResidual W)
   pub hc : Begins (pos 0) columns (W .n * W .n) (λ (i : ℕ). columnResidual (W .n) (W .t) (W .matrix) (W .inverse) (i / W .n) (i % W .n))
-  pub all : (k : ℕ) → k < 32 → at limits k ≡ pos allowedResidual
   pub m : ℕ
   pub k : ℕ
   pub i : ℕ
   pub em : m ≡ first (W .n) (λ (x : ℕ). eqb (getD margins x 0) 0)
   pub ek : k ≡ first (W .n) (λ (x : ℕ). aboveAllowed (at (W .allowed) x) (at residuals (0 + x)))
-  pub ei : i ≡ first (W .n * W .n) (λ (x : ℕ). aboveAllowed (at limits (x % W .n)) (at columns x))
+  pub ei : i ≡ first (W .n * W .n) (λ (x : ℕ). aboveAllowed (at (W .allowedInColumns) (x % W .n)) (at columns x))
   pub er : said r ≡ verdict (reckoned (W .n) m k i)
 
-module _ (W : Work) (ready : Workable W) {rows margins : List ℕ} {residuals columns limits : List ℤ} {r : Outcome} (a : Worked W rows margins residuals columns limits r) where
+module _ (W : Work) (ready : Workable W) {rows margins : List ℕ} {residuals columns : List ℤ} {r : Outcome} (a : Worked W rows margins residuals columns r) where
   said-is : said r ≡ workAnswer W
   said-is =
       a .er
       ∙ rw (
         a .em ∙ first-margin W ready (a .raised) margins (a .hm),
         a .ek ∙ first-residual W ready residuals (a .hr),
-        a .ei ∙ first-column W ready columns limits (a .hc) (a .all),
+        a .ei ∙ first-column W ready columns (a .hc),
       )
 
   pub refused : (x : Refusal) → r ≡ Refused x → ReckonedAs W (Refused x) (W .solutionBounds) (W .inverseBounds)
@@ -74,7 +73,7 @@ module _ (W : Work) (ready : Workable W) {rows margins : List ℕ} {residuals co
     near-here = near W ready residuals (a .hr) (omega (arith, none .residual, a .ek))
 
     pub columns-here : W .n * W .n ≤ length columns → ColumnList columns (W .n * W .n) allowedResidual
-    columns-here long = near-columns W ready columns limits (a .hc) (a .all) long (omega (arith, none .column, a .ei))
+    columns-here long = near-columns W ready columns (a .hc) long (omega (arith, none .column, a .ei))
 
     pub accepted-here : {column E L : List ℕ} → Begins 0 column (W .n) (limitsOf (W .n) rows (at residuals) (workSlack W) margins (W .weights)) →
         E ≡ stored (W .solutionBounds) 0 1 (λ (x : ℕ). getD column x 0) (W .n) →

@@ -1,14 +1,14 @@
 -- The first rows that are refused, from what the arrays hold, and what holds where none is.
 --   first-margin, first-residual, first-column — the code's searches are the definition's
 --   positive, near, near-columns — where none is found: every margin is above 0, every residual with its slack at most 2^25 in size, and every residual of a column
-use mathlib.Core.Path.{_≡_, refl, sym, _∙_}
-use mathlib.Core.Bool.{Bool, true, false}
+use mathlib.Core.Path.{_≡_, refl, sym, ap, _∙_}
+use mathlib.Core.Bool.{Bool, true, false, _||_}
 use mathlib.Core.List.{List}
 use Prim.Native.Nat.{ℕ, zero, suc, _+_, _*_, _-_, _/_, _%_, _≤_, _<_}
 use native.Mathlib.Omega.{arith}
 use native.Mathlib.Nat.{mul-le-mul, mod-lt}
 use borrow.Author.Tests.{eqb-false, ltb-false}
-use lib.Dec.{eqb}
+use lib.Dec.{eqb, ltb}
 use lib.IntN.{ℤ, pos, natAbs}
 use lib.ListN.{getD, length}
 use Rattle.integer.specs.Finite.{first}
@@ -16,13 +16,15 @@ use Rattle.integer.proofs.Search.{first-ext, first-past}
 use Rattle.linear.specs.Slice.{at}
 use Rattle.linear.specs.Reach.{ColumnList}
 use Rattle.raised_rows.specs.Place.{RowsOfMatrix}
+use Rattle.rules.proofs.Ranges.{neither-left}
 use Rattle.enclosure.specs.Problem.{T, columnOf}
-use Rattle.enclosure.specs.Reckoning.{load, marginFails, residual, allowedResidual, exceeds}
-use Rattle.enclosure.proofs.Before.{exceeds-before}
+use Rattle.enclosure.specs.Reckoning.{load, marginFails, residual, allowedResidual, rowSum, exceeds}
+use Rattle.enclosure.proofs.Before.{no-slack}
 use Rattle.enclosure.proofs.Margin.{cut-test, margin-test}
 use Rattle.reckoning.specs.Arrays.{Begins}
 use Rattle.reckoning.specs.Parts.{rowsPart, columnResidual, cutMargin, aboveAllowed}
 use Rattle.reckoning.proofs.Sizes.{power-size}
+use Rattle.slacks.proofs.Allowed.{allowed-test}
 use Rattle.bounds.specs.Limits.{Near}
 use Rattle.ratios.specs.Ratio.{Positive}
 use Rattle.checked.specs.Order.{firstMargin, firstInversePlace}
@@ -65,17 +67,19 @@ module _ (W : Work) (ready : Workable W) where
       each = λ k l. rw (h .each k l) (ready .room k l (workResidual W k) (sym (row-is k l) ∙ first-past (W .n) refused past k l));
     }
 
-  -- ---- residuals of the columns, of which 2^25 is allowed in every row
-  module _ (columns limits : List ℤ) (h : Begins (pos 0) columns (W .n * W .n) (λ (i : ℕ). columnResidual (W .n) (W .t) (W .matrix) (W .inverse) (i / W .n) (i % W .n)))
-      (all : (k : ℕ) → k < 32 → at limits k ≡ pos allowedResidual) where
+  -- ---- residuals of the columns
+  module _ (columns : List ℤ) (h : Begins (pos 0) columns (W .n * W .n) (λ (i : ℕ). columnResidual (W .n) (W .t) (W .matrix) (W .inverse) (i / W .n) (i % W .n))) where
     abbrev column-refused : ℕ → Bool
-    column-refused i = aboveAllowed (at limits (i % W .n)) (at columns i)
+    column-refused i = aboveAllowed (at (W .allowedInColumns) (i % W .n)) (at columns i)
 
-    here : (i : ℕ) → at limits (i % W .n) ≡ pos allowedResidual
-    here i = all (i % W .n) (omega (arith, mod-lt i (ready .some), ready .few))
+    here : (i : ℕ) → column-refused i ≡ ltb allowedResidual (natAbs (at columns i) + 0) || ltb (rowSum (workProblem W) (i % W .n)) (natAbs (at columns i))
+    here i =
+        ap (λ (a : ℤ). aboveAllowed a (at columns i)) (ready .column-rule (i % W .n) (mod-lt i (ready .some)))
+        ∙ allowed-test 0 (rowSum (workProblem W) (i % W .n)) (at columns i)
 
     place-is : (i : ℕ) → i < W .n * W .n → column-refused i ≡ exceeds (columnOf (workProblem W) (i / W .n)) (i % W .n)
-    place-is i l = rw (here i, h .each i l) (sym (exceeds-before (columnOf (workProblem W) (i / W .n)) (i % W .n) refl ∙ unfold residual in refl))
+    unfolding exceeds rowSum residual
+    place-is i l = here i ∙ rw (h .each i l, no-slack (columnOf (workProblem W) (i / W .n)) (i % W .n) refl)
 
     pub first-column : first (W .n * W .n) column-refused ≡ firstInversePlace (workProblem W)
     first-column =
@@ -84,5 +88,9 @@ module _ (W : Work) (ready : Workable W) where
     pub near-columns : W .n * W .n ≤ length columns → W .n * W .n ≤ first (W .n * W .n) column-refused → ColumnList columns (W .n * W .n) allowedResidual
     near-columns long past = record {
       long = long;
-      within = record { size = λ k l. ltb-false allowedResidual (natAbs (at columns k)) (rw (here k) at (first-past (W .n * W .n) column-refused past k l)) };
+      within = record {
+        size = λ k l.
+            let e = sym (here k) ∙ first-past (W .n * W .n) column-refused past k l in
+            omega (arith, ltb-false allowedResidual (natAbs (at columns k) + 0) (neither-left (ltb allowedResidual (natAbs (at columns k) + 0)) _ e));
+      };
     }

@@ -1,11 +1,12 @@
 -- What is handed to the reckoning once 8 and 3 are passed, and what it makes of it; cited by the contract of `reckon` alone.
 --   Work     — n, t and the lists of a problem; `base`, from which A·X is taken to give the residuals of the guess; `allowed`, how large
---     they may be, row by row; `slacks`, what may be missing in their sizes; and the two limit lists as they come in
+--     they may be, row by row; `allowedInColumns`, the same of the inverse's columns; `slacks`, what may be missing in the sizes of the guess's; and the two
+--     limit lists as they come in
 --   work     — from its parts;  workProblem W — its problem, in which s, b and d don't count
 --   workResidual W, workSlack W — the residuals and the slacks that it is handed
 --   workAnswer W — 5, 6 or 7, or nothing
---   Workable W — what the reckoning asks: n and t in their ranges, the lists long enough, every number used in its range, and room for
---     the slack wherever a residual is allowed
+--   Workable W — what the reckoning asks: n and t in their ranges, the lists long enough, every number used in its range, room for the slack wherever a
+--     residual is allowed, and of the columns just what 02's Paper 9 allows
 --   solutionOf W, inverseOf W — the two limit lists afterwards
 --   ReckonedAs W r E L — what is said, and the two limit lists
 use mathlib.Core.Bool.{false}
@@ -22,8 +23,9 @@ use Rattle.rules.specs.Order.{verdict, accepted}
 use Rattle.rules.specs.Refusal.{said}
 use Rattle.rules.specs.declared.Outcome.{Outcome}
 use Rattle.enclosure.specs.Problem.{Problem, problemOf}
-use Rattle.enclosure.specs.Reckoning.{allowedResidual, boundWith, inverseBound}
+use Rattle.enclosure.specs.Reckoning.{allowedResidual, rowSum, boundWith, inverseBound}
 use Rattle.reckoning.specs.Parts.{residualFrom, aboveAllowed}
+use Rattle.slacks.specs.Allowed.{allowedBeside}
 use Rattle.checked.specs.Checked.{written}
 use Rattle.checked.specs.Order.{firstMargin, firstInversePlace, reckoned}
 
@@ -33,6 +35,7 @@ pub record Work : Type 0 where
   pub matrix : List ℤ
   pub base : List ℤ
   pub allowed : List ℤ
+  pub allowedInColumns : List ℤ
   pub slacks : List ℕ
   pub guess : List ℤ
   pub inverse : List ℤ
@@ -40,13 +43,14 @@ pub record Work : Type 0 where
   pub solutionBounds : List ℕ
   pub inverseBounds : List ℕ
 
-abbrev pub work : ℕ → ℕ → List ℤ → List ℤ → List ℤ → List ℕ → List ℤ → List ℤ → List ℤ → List ℕ → List ℕ → Work
-work n t matrix base allowed slacks guess inverse weights solution inverseBounds = record {
+abbrev pub work : ℕ → ℕ → List ℤ → List ℤ → List ℤ → List ℤ → List ℕ → List ℤ → List ℤ → List ℤ → List ℕ → List ℕ → Work
+work n t matrix base allowed allowedInColumns slacks guess inverse weights solution inverseBounds = record {
   n = n;
   t = t;
   matrix = matrix;
   base = base;
   allowed = allowed;
+  allowedInColumns = allowedInColumns;
   slacks = slacks;
   guess = guess;
   inverse = inverse;
@@ -77,6 +81,8 @@ pub record Workable (W : Work) : Type 0 where
   pub base : ColumnList (W .base) (W .n) (2 ^ 62)
   pub allowed : ColumnList (W .allowed) (W .n) allowedResidual
   pub room : (k : ℕ) → k < W .n → (z : ℤ) → aboveAllowed (at (W .allowed) k) z ≡ false → natAbs z + workSlack W k ≤ allowedResidual
+  pub in-columns : ColumnList (W .allowedInColumns) (W .n) allowedResidual
+  pub column-rule : (k : ℕ) → k < W .n → at (W .allowedInColumns) k ≡ allowedBeside 0 (rowSum (workProblem W) k)
   pub guess : ColumnList (W .guess) (W .n) (2 ^ 36)
   pub inverse : MatrixList (W .inverse) (W .n)
   pub weights : ColumnList (W .weights) (W .n) 1024

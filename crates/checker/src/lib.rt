@@ -18,22 +18,21 @@ use residuals::first_above_in_columns;
 use residuals::inverse_residuals_of;
 use residuals::residuals_of;
 use residuals::scaled_right;
+use row_sums::row_sums_of;
 use rules::Outcome;
 use rules::Refusal;
 use slacks::allowed_of;
 use slacks::slacks_of;
 
-// How large a residual of the inverse may be, in every row (01: "each size at most 2^25 = 33,554,432").
-const ALLOWED_RESIDUAL: i64 = 33554432;
-
-// The reckoning of what passes 8 and 3, from a base of the residuals, what is allowed of them and their slacks: all refusals are decided
-// before the first limit is written.
+// The reckoning of what passes 8 and 3, from a base of the residuals, what is allowed of them and of the inverse's columns, and their slacks: all refusals are
+// decided before the first limit is written.
 fn reckon(
     n: usize,
     t: u32,
     matrix: &[i64],
     base: [i64; 32],
     allowed: [i64; 32],
+    allowed_in_columns: [i64; 32],
     slacks: [u64; 32],
     guess: &[i64],
     inverse: &[i64],
@@ -41,9 +40,9 @@ fn reckon(
     solution_bounds: &mut [u64],
     inverse_bounds: &mut [u64],
 ) -> Outcome
-    requires { ⌜ Workable (work n t (now matrix) base allowed slacks (now guess) (now inverse) (now weights)
+    requires { ⌜ Workable (work n t (now matrix) base allowed «allowed_in_columns» slacks (now guess) (now inverse) (now weights)
         (now «solution_bounds») (now «inverse_bounds»)) ⌝ }
-    ensures { λ r. ⌜ ReckonedAs (work n t (now (matrix .entry)) base allowed slacks (now (guess .entry)) (now (inverse .entry))
+    ensures { λ r. ⌜ ReckonedAs (work n t (now (matrix .entry)) base allowed «allowed_in_columns» slacks (now (guess .entry)) (now (inverse .entry))
         (now (weights .entry)) (now («solution_bounds» .entry)) (now («inverse_bounds» .entry)))
         r (now («solution_bounds» .exit)) (now («inverse_bounds» .exit)) ⌝ }
 {
@@ -54,7 +53,7 @@ fn reckon(
     let columns = inverse_residuals_of(t, matrix, inverse, n);
     let m = first_zero(margins, n);
     let k = first_above(&residuals, 0, &allowed, n);
-    let i = first_above_in_columns(&columns, &[ALLOWED_RESIDUAL; 32], n);
+    let i = first_above_in_columns(&columns, &allowed_in_columns, n);
     let outcome = judge(n, m, k, i);
     match outcome {
         Outcome::Refused(refusal) => Outcome::Refused(refusal),
@@ -101,12 +100,14 @@ pub fn check(
         let size = n as usize;
         if are_lists_in_range(size, matrix, right, tolerance, guess, inverse, weights) {
             let slacks = slacks_of(s, tolerance, size);
+            let sums = row_sums_of(matrix, size);
             return reckon(
                 size,
                 t,
                 matrix,
                 scaled_right(s, right, size),
-                allowed_of(slacks, size),
+                allowed_of(slacks, sums, size),
+                allowed_of([0u64; 32], sums, size),
                 slacks,
                 guess,
                 inverse,

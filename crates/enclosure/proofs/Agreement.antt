@@ -1,6 +1,7 @@
 -- The reckoning uses only the first n numbers of each list: problems that agree on them have the same margins, residuals and limits.
 --   load-same, margin-same, residual-same, exceeds-same, bound-same — of row m, m, k, k and i; for a column of the inverse they are used with its problem
 use mathlib.Core.Path.{_≡_, ap, ap₂}
+use mathlib.Core.Bool.{Bool, _||_}
 use Prim.Native.Nat.{ℕ, _+_, _*_, _^_, _<_}
 use lib.Dec.{ltb}
 use lib.IntN.{ℤ, pos, natAbs, _-ℤ_, _*ℤ_}
@@ -10,7 +11,7 @@ use Rattle.integer.proofs.Sum.{sum-ext, sumℕ-ext}
 use Rattle.linear.specs.Matrix.{Vec, Mat, column, apply, product, identity}
 use Rattle.linear.proofs.Slack.{slack-ext}
 use Rattle.enclosure.specs.Problem.{Problem}
-use Rattle.enclosure.specs.Reckoning.{defect, load, margin, residual, slack, allowedResidual, exceeds, sizesWith, boundFrom, boundWith, bound}
+use Rattle.enclosure.specs.Reckoning.{defect, load, margin, residual, slack, allowedResidual, rowSum, exceedsWith, exceedsRow, exceeds, sizesWith, boundFrom, boundWith, bound}
 
 apply-same : (n : ℕ) (A B : Mat) (u v : Vec) (k : ℕ) → ((j : ℕ) → j < n → A k j ≡ B k j) → ((j : ℕ) → j < n → u j ≡ v j) → apply n A u k ≡ apply n B v k
 unfolding apply
@@ -45,9 +46,19 @@ module _ (n s t : ℕ) (A A′ : Mat) (b b′ : Vec) (d d′ : ℕ → ℕ) (X X
   slack-same : (k : ℕ) → k < n → slack P k ≡ slack Q k
   slack-same k l = rw (hd k l)
 
+  row-sum-same : (k : ℕ) → k < n → rowSum P k ≡ rowSum Q k
+  unfolding rowSum
+  row-sum-same k l = sumℕ-ext n (λ (j : ℕ). natAbs (A k j)) (λ (j : ℕ). natAbs (A′ k j)) (λ j lj. ap natAbs (hA k j l lj))
+
+  with-slack-same : (k : ℕ) → k < n → exceedsWith (residual P) (slack P) k ≡ exceedsWith (residual Q) (slack Q) k
+  with-slack-same k l = ap₂ (λ (z : ℤ) (x : ℕ). ltb allowedResidual (natAbs z + x)) (residual-same k l) (slack-same k l)
+
+  exceeds-row-same : (k : ℕ) → k < n → exceedsRow P k ≡ exceedsRow Q k
+  exceeds-row-same k l = ap₂ (λ (x : ℕ) (z : ℤ). ltb x (natAbs z)) (row-sum-same k l) (residual-same k l)
+
   pub exceeds-same : (k : ℕ) → k < n → exceeds P k ≡ exceeds Q k
   unfolding exceeds
-  exceeds-same k l = ap₂ (λ (z : ℤ) (x : ℕ). ltb allowedResidual (natAbs z + x)) (residual-same k l) (slack-same k l)
+  exceeds-same k l = ap₂ (λ (a b : Bool). a || b) (with-slack-same k l) (exceeds-row-same k l)
 
   sizes-same : (m : ℕ) → m < n → sizesWith P (residual P) (slack P) m ≡ sizesWith Q (residual Q) (slack Q) m
   unfolding sizesWith

@@ -16,7 +16,7 @@ use Rattle.exact_solution.specs.Determined.{Same}
 use Rattle.enclosure.specs.Demand.{ExactSolution, ExactSolutionOf, RightSide, RoundedExact, Sound, Encloses, sumOfSizes}
 use Rattle.enclosure.specs.Example.{file, exact, exactInverse, loose, farRight, farHeight}
 use Rattle.enclosure.specs.Problem.{S}
-use Rattle.enclosure.specs.Reckoning.{defect, load, margin, residual, exceeds, sizesWith, boundFrom, boundWith, bound, inverseBound}
+use Rattle.enclosure.specs.Reckoning.{defect, load, margin, residual, rowSum, exceeds, sizesWith, boundFrom, boundWith, bound, inverseBound}
 use Rattle.enclosure.proofs.Acceptance.{rounded-sound}
 use Rattle.enclosure.proofs.Demands.{encloses}
 
@@ -32,7 +32,7 @@ each₂ Q a b c d (suc zero) j l = each (Q 1) c d j
 each₂ Q a b c d (suc (suc i)) j l = absurd (omega arith)
 
 pub file-rounded : RoundedExact file exact 11 exactInverse 11
-unfolding apply product identity sum sumℕ sumOfSizes
+unfolding apply product identity sum sumℕ rowSum sumOfSizes
 file-rounded = record {
   exact-right = each _ refl refl;
   solution = record { positive = lit≤ tt; solves = each _ refl refl };
@@ -69,7 +69,7 @@ unfolding apply sum
 loose-exact = record { positive = lit≤ tt; solves = only _ refl }
 
 pub loose-sound : Sound loose
-unfolding apply product identity sum sumℕ defect load margin residual exceeds
+unfolding apply product identity sum sumℕ defect load margin residual rowSum exceeds
 loose-sound = record { margins = only _ refl; residuals = only _ refl; columns = only _ (only _ refl) }
 
 pub loose-encloses : Encloses loose (bound loose) (inverseBound loose)

@@ -5,6 +5,7 @@ pub mod Enclosure
 pub mod Tolerance
 pub mod Demands
 pub mod Acceptance
+pub mod Tighter
 pub mod Condition
 pub mod Instance
 pub mod Agreement

@@ -1,4 +1,8 @@
--- The definitions without slack, in document 01's own text; proofs/Before says that those with slack are equal to them where all tolerances are 0.
+-- The residual tests before 02's Paper 9, and before Paper 5. proofs/Tighter says what Paper 9 leaves as it was, and proofs/Before that the definitions with
+-- slack, but for Paper 9's test, are equal to 01's where all tolerances are 0.
+--   exceeds05 P k    — the size of the residual of row k, and its slack, are above 2^25 together: the test of Paper 5 alone
+--   Sound05 P        — every margin is above 0, no residual of the guess or of a column of the inverse fails that test
+-- The definitions without slack, in document 01's own text:
 --   exceeds01 P k z  — the residual z of row k is above 2^25 in size
 --   sizes01 P m      — |p_m|
 --   bound01 P i      — limit i: the largest over all rows m of w_i·|p_m| / g_m, each rounded up;  inverseBound01 P i j — of the inverse
@@ -9,9 +13,17 @@ use Prim.Native.Nat.{ℕ, _<_, _^_}
 use lib.Dec.{ltb}
 use lib.IntN.{ℤ, natAbs}
 use Rattle.enclosure.specs.Problem.{Problem, columnOf}
-use Rattle.enclosure.specs.Reckoning.{margin, residual, boundFrom}
+use Rattle.enclosure.specs.Reckoning.{margin, residual, slack, exceedsWith, boundFrom}
 use Rattle.enclosure.specs.Demand.{Margins}
 use Rattle.enclosure.specs.Schroeder.{image}
+
+abbrev pub exceeds05 : Problem → ℕ → Bool
+exceeds05 P = exceedsWith (residual P) (slack P)
+
+pub record Sound05 (P : Problem) : Type 0 where
+  pub margins : Margins P
+  pub residuals : (k : ℕ) → k < P .n → exceeds05 P k ≡ false
+  pub columns : (j : ℕ) → j < P .n → (k : ℕ) → k < P .n → exceeds05 (columnOf P j) k ≡ false
 
 abbrev pub exceeds01 : Problem → ℕ → ℤ → Bool
 exceeds01 P k z = ltb (2 ^ 25) (natAbs z)

@@ -17,7 +17,7 @@
 --   sumOfSizes P        — the sum of |A_ij| over all i and j
 --   RoundedExact P N q H q′ — the second half's hypotheses: no tolerance (02, Paper 5: "The second half of demand 3 now presumes that all d are 0"), exact N
 --     and two-sided H, guess and inverse rounded to nearest steps, weights 1, that sum below 2T
---   Margins P, Residuals P — every margin is above 0; no residual of the guess is above 2^25 in size, its slack added
+--   Margins P, Residuals P — every margin is above 0; no residual of the guess is above 2^25 in size, its slack added, or above the sum along its row
 --   Sound P             — both, and the same of every column of the inverse
 use mathlib.Core.Path.{_≡_}
 use mathlib.Core.Bool.{false}
@@ -28,7 +28,7 @@ use Rattle.linear.specs.Matrix.{Vec, Mat}
 use Rattle.exact_solution.specs.Determined.{ZeroKernel, Solves, SolvesOver, RightInverse, Inverse, Same, Determined}
 use Rattle.entry.specs.Entry.{entryValue, entryBound}
 use Rattle.enclosure.specs.Problem.{Problem, S, T, columnOf}
-use Rattle.enclosure.specs.Reckoning.{marginFails, exceeds}
+use Rattle.enclosure.specs.Reckoning.{marginFails, rowSum, exceeds}
 
 abbrev pub ExactSolution : Problem → Vec → ℕ → Type 0
 ExactSolution P N q = Solves (P .n) (P .A) (P .b) N q
@@ -81,7 +81,7 @@ abbrev pub NoTolerance : Problem → Type 0
 NoTolerance P = (i : ℕ) → i < P .n → P .d i ≡ 0
 
 unfoldable pub sumOfSizes : Problem → ℕ
-sumOfSizes P = sumℕ (P .n) (λ (i : ℕ). sumℕ (P .n) (λ (j : ℕ). natAbs (P .A i j)))
+sumOfSizes P = sumℕ (P .n) (rowSum P)
 
 pub record RoundedExact (P : Problem) (N : Vec) (q : ℕ) (H : Mat) (q′ : ℕ) : Type 0 where
   pub exact-right : NoTolerance P

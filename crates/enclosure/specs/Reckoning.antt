@@ -8,15 +8,19 @@
 --     of the inverse it is 0
 -- What comes after the residual, for any residual r and any slack σ:
 --   allowedResidual — 2^25 = 33,554,432
---   exceedsWith r σ k — the size of the residual of row k, and its slack, are above 2^25 together (6 and 7; 02, Paper 5: "6 is now given where size of
---     residual plus slack is above 2^25")
+--   exceedsWith r σ k — the size of the residual of row k, and its slack, are above 2^25 together (02, Paper 5: "6 is now given where size of residual plus
+--     slack is above 2^25")
 --   sizesWith P r σ m — what w_i is multiplied by in the limits (02, Paper 5: "|p_m| becomes |p_m| plus the sum over j of |G_mj|·S·d_j"), for p = G·r
 --   boundFrom n sizes margins w i — the largest over all rows m of w_i·sizes_m / margins_m, each rounded up to a whole number
 --   boundWith P r σ i — limit i; the size of a margin is the margin, since every margin is above 0 wherever a limit is written
 -- and of the problem's own:
---   exceeds P k, sizes P m, bound P i — the limit in solution steps
+--   rowSum P k — the sum of |A_kj| along row k
+--   exceedsRow P k — the residual of row k, without slack, is above that sum in size (02, Paper 9: "the residual of row m, without slack, may be at most the
+--     sum of |a| along that row, for the guess and for inverse columns")
+--   exceeds P k — the residual of row k fails one of the two tests (6, and 7 for a column of the inverse; Paper 9: "The 2^25 test with slack also stays")
+--   sizes P m, bound P i — the limit in solution steps
 --   inverseBound P i j — the limit of row i, column j of the inverse, in inverse steps
-use mathlib.Core.Bool.{Bool}
+use mathlib.Core.Bool.{Bool, _||_}
 use Prim.Native.Nat.{ℕ, _+_, _*_, _^_}
 use lib.Dec.{ltb}
 use lib.IntN.{ℤ, pos, natAbs, _-ℤ_, _*ℤ_}
@@ -61,8 +65,14 @@ unfoldable pub boundWith : Problem → Vec → (ℕ → ℕ) → ℕ → ℕ
 boundWith P r σ = boundFrom (P .n) (sizesWith P r σ) (λ (m : ℕ). natAbs (margin P m)) (P .w)
 
 -- ---- the problem's own
+unfoldable pub rowSum : Problem → ℕ → ℕ
+rowSum P k = sumℕ (P .n) (λ (j : ℕ). natAbs (P .A k j))
+
+abbrev pub exceedsRow : Problem → ℕ → Bool
+exceedsRow P k = ltb (rowSum P k) (natAbs (residual P k))
+
 unfoldable pub exceeds : Problem → ℕ → Bool
-exceeds P = exceedsWith (residual P) (slack P)
+exceeds P k = exceedsWith (residual P) (slack P) k || exceedsRow P k
 
 unfoldable pub sizes : Problem → ℕ → ℕ
 sizes P = sizesWith P (residual P) (slack P)

@@ -16,7 +16,7 @@ use Rattle.rules.proofs.Ranges.{both-left, both-right}
 use Rattle.rules.specs.Range.{ranges, rangeOf, inRange, allInRange}
 use Rattle.entry.specs.Entry.{entryBound}
 use Rattle.enclosure.specs.Problem.{Problem}
-use Rattle.enclosure.specs.Reckoning.{defect, load, margin, residual, exceeds, sizesWith, boundFrom, boundWith, bound}
+use Rattle.enclosure.specs.Reckoning.{defect, load, margin, residual, rowSum, exceeds, sizesWith, boundFrom, boundWith, bound}
 use Rattle.checked.specs.Checked.{written, solutionBoundsAfter, inverseBoundsAfter}
 use Rattle.checked.specs.Order as check
 use Rattle.checked.specs.Order.{checkedOf}
@@ -45,7 +45,7 @@ use Rattle.listing.proofs.Entire.{zeros-long, listing-from, answer-judg
 use Rattle.listing.proofs.WithOnes.{not-in-none}
 
 pub cases-hold : tableHolds table ≡ true
-unfolding check.answer solutionBoundsAfter inverseBoundsAfter written bound boundWith boundFrom sizesWith exceeds residual margin load defect product apply identity sum sumℕ largest first ceilDiv roundDiv entryBound allInRange inRange rangeOf ranges
+unfolding check.answer solutionBoundsAfter inverseBoundsAfter written bound boundWith boundFrom sizesWith exceeds rowSum residual margin load defect product apply identity sum sumℕ largest first ceilDiv roundDiv entryBound allInRange inRange rangeOf ranges
 cases-hold = refl
 
 -- a file whose lines spell forms that are accepted, an end last
@@ -92,7 +92,7 @@ unfolding passes formSaid spell numerals numeral decimal digits missing misplace
 whole-passes = refl
 
 whole-checked : checkedOf (problemFrom wholeForms) ≡ []
-unfolding valueFrom sizeFrom scalesFrom exceeds residual margin load defect product apply identity sum sumℕ first
+unfolding valueFrom sizeFrom scalesFrom exceeds rowSum residual margin load defect product apply identity sum sumℕ first
 whole-checked = refl
 
 whole-reported : reportedOf (problemFrom wholeForms) ≡ wholeListing
@@ -127,7 +127,7 @@ unfolding passes formSaid spell numerals numeral decimal digits missing misplace
 unweighted-passes = refl
 
 unweighted-checked : checkedOf (problemFrom unweightedForms) ≡ []
-unfolding valueFrom sizeFrom scalesFrom exceeds residual margin load defect product apply identity sum sumℕ first
+unfolding valueFrom sizeFrom scalesFrom exceeds rowSum residual margin load defect product apply identity sum sumℕ first
 unweighted-checked = refl
 
 unweighted-reported : reportedOf (problemFrom unweightedForms) ≡ wholeListing

@@ -17,7 +17,7 @@ use Rattle.entry.specs.Entry.{entryBound}
 use Rattle.enclosure.specs.Demand.{RightSide, ExactSolutionOf}
 use Rattle.enclosure.specs.Example.{farRight, farHeight}
 use Rattle.enclosure.specs.Problem.{Problem, S}
-use Rattle.enclosure.specs.Reckoning.{defect, load, margin, residual, exceeds, sizesWith, boundFrom, boundWith, bound}
+use Rattle.enclosure.specs.Reckoning.{defect, load, margin, residual, rowSum, exceeds, sizesWith, boundFrom, boundWith, bound}
 use Rattle.checked.specs.Order.{checkedOf}
 use Rattle.numeral.specs.Decimal.{digits, decimal, numeral}
 use Rattle.form.specs.List.{allInside}
@@ -57,7 +57,7 @@ unfolding passes formSaid spell numerals numeral decimal digits missing misplace
 tolerant-passes = refl
 
 tolerant-checked : checkedOf (problemFrom tolerantForms) ≡ []
-unfolding valueFrom sizeFrom scalesFrom exceeds residual margin load defect product apply identity sum sumℕ first
+unfolding valueFrom sizeFrom scalesFrom exceeds rowSum residual margin load defect product apply identity sum sumℕ first
 tolerant-checked = refl
 
 tolerant-reported : reportedOf (problemFrom tolerantForms) ≡ tolerantListing

@@ -3,7 +3,7 @@
 --   range-natural — where the lowest value is a natural number, a number in range is one, and at least that
 --   size-range, solution-scale-range, .., weight-range, allowance-range, in-allowance-range, line-weight-range, difference-range — what the range of each kind is
 --   in-matrix-range, in-right-range — the converse: a number of that size is in range
---   both, both-left, both-right, not-both, not-first, neither-left, neither-right — of two tests
+--   both, both-left, both-right, not-both, not-first, neither, neither-left, neither-right — of two tests
 --   range-test — what the code tests is inRange
 use mathlib.Core.Path.{_≡_, refl, sym, subst}
 use mathlib.Core.Bool.{Bool, true, false, _&&_, _||_}
@@ -35,6 +35,9 @@ not-both p q = rw (p, q)
 
 pub not-first : {a : Bool} (b : Bool) → a ≡ false → a && b ≡ false
 not-first b p = rw p
+
+pub neither : {a b : Bool} → a ≡ false → b ≡ false → a || b ≡ false
+neither p q = rw (p, q)
 
 pub neither-left : (a b : Bool) → a || b ≡ false → a ≡ false
 neither-left true b e = e

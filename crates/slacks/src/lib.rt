@@ -1,6 +1,6 @@
-// The slacks of the guess's residuals (02, Paper 5: "a slack S·d_m"), and how large each residual may be beside its slack.
+// The slacks of the guess's residuals (02, Paper 5: "a slack S·d_m"), and how large each residual may be, beside its slack and by the sum along its row (Paper 9).
 ghost use mathlib.Core.Path.{_≡_};
-ghost use Prim.Native.Nat.{ℕ, _≤_, _^_};
+ghost use Prim.Native.Nat.{ℕ, _≤_, _^_, min};
 ghost use lib.IntN.{pos, natAbs};
 ghost use lib.ListN.{getD};
 ghost use Rattle.linear.specs.Slice.{at};
@@ -34,24 +34,31 @@ pub fn slacks_of(s: u32, tolerance: &[i64], n: usize) -> [u64; 32]
     out
 }
 
-// How large a residual with this slack may be; below 0 where the slack alone is too large.
-fn allowed_at(slack: u64) -> i64
-    ensures { λ r. ⌜ r ≡ allowedBeside slack ⌝ }
+// The smaller of two numbers.
+fn smaller(a: u64, b: u64) -> u64
+    ensures { λ r. ⌜ r ≡ min a b ⌝ }
+{
+    if a < b { a } else { b }
+}
+
+// How large a residual may be, with this slack and this sum along its row; below 0 where the slack alone is too large.
+fn allowed_at(slack: u64, sum: u64) -> i64
+    ensures { λ r. ⌜ r ≡ allowedBeside slack sum ⌝ }
 {
     if ALLOWED_RESIDUAL < slack {
         return -1;
     }
-    (ALLOWED_RESIDUAL - slack) as i64
+    smaller(ALLOWED_RESIDUAL - slack, sum) as i64
 }
 
 // How large each residual may be, row by row.
-pub fn allowed_of(slacks: [u64; 32], n: usize) -> [i64; 32]
+pub fn allowed_of(slacks: [u64; 32], sums: [u64; 32], n: usize) -> [i64; 32]
     requires { ⌜ n ≤ 32 ⌝ }
-    ensures { λ r. ⌜ Begins (pos 0) r n (λ (k : ℕ). allowedBeside (getD slacks k 0)) ⌝ }
+    ensures { λ r. ⌜ Begins (pos 0) r n (λ (k : ℕ). allowedBeside (getD slacks k 0) (getD sums k 0)) ⌝ }
 {
     let mut out = [0i64; 32];
     for k in 0..n {
-        out[k] = allowed_at(slacks[k]);
+        out[k] = allowed_at(slacks[k], sums[k]);
     }
     out
 }

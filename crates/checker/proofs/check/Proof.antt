@@ -32,13 +32,17 @@ fit : (c : tie.Then3) → Fit (I (start c))
 fit c = fit-of (I (start c)) (long (c .before .before .before .before)) (within c)
 
 -- what is handed to the reckoning
-handed : (c : tie.After-allowed-of) → Handed (I (start (c .before .before .before))) (c .before .scaled-right .result) (c .allowed-of .result) (c .before .before .slacks-of .result)
+handed : (c : tie.After-allowed-of2) →
+    Handed (I (start (c .before .before .before .before .before))) (c .before .before .scaled-right .result) (c .before .allowed-of .result) (c .allowed-of2 .result) (c .before .before .before .before .slacks-of .result) (c .before .before .before .row-sums-of .result)
 handed c = record {
   base-long = search needs;
-  base = c .before .scaled-right .ensures;
+  base = c .before .before .scaled-right .ensures;
   allowed-long = search needs;
-  allowed = c .allowed-of .ensures;
-  slacks = c .before .before .slacks-of .ensures;
+  allowed = c .before .allowed-of .ensures;
+  in-columns-long = search needs;
+  in-columns = c .allowed-of2 .ensures;
+  sums = c .before .before .before .row-sums-of .ensures;
+  slacks = c .before .before .before .before .slacks-of .ensures;
 }
 
 is-short-requires : tie.Need-is-short-requires
@@ -59,17 +63,24 @@ slacks-of-requires : tie.Need-slacks-of-requires
 slacks-of-requires c κs =
     let x = fit c in ((x .solution-scale, x .few), x .tolerance)
 
+row-sums-of-requires : tie.Need-row-sums-of-requires
+row-sums-of-requires c κs =
+    let x = fit (c .before) in (x .few, x .matrix)
+
 scaled-right-requires : tie.Need-scaled-right-requires
 scaled-right-requires c κs =
-    let x = fit (c .before) in ((x .solution-scale, x .few), x .right)
+    let x = fit (c .before .before) in ((x .solution-scale, x .few), x .right)
 
 allowed-of-requires : tie.Need-allowed-of-requires
-allowed-of-requires c κs = fit (c .before .before) .few
+allowed-of-requires c κs = fit (c .before .before .before) .few
+
+allowed-of-requires-2 : tie.Need-allowed-of-requires-2
+allowed-of-requires-2 c κs = fit (c .before .before .before .before) .few
 
 reckon-requires : tie.Need-reckon-requires
 reckon-requires c κs =
     let z = c .before .before in
-    let t = z .before .before .before in workable (I (start t)) (long (t .before .before .before .before)) (within t) (handed z)
+    let t = z .before .before .before .before .before in workable (I (start t)) (long (t .before .before .before .before)) (within t) (handed z)
 
 same-length : tie.Need-same-length
 same-length c = search needs
@@ -81,7 +92,7 @@ returns-2 : tie.Need-returns-2
 returns-2 c =
     let r = c .before .before .before .before in
     let z = r .before .before .before in
-    let t = z .before .before .before in reckoned-checked (I (start t)) (long (t .before .before .before .before)) (within t) (handed z) (r .reckon .ensures)
+    let t = z .before .before .before .before .before in reckoned-checked (I (start t)) (long (t .before .before .before .before)) (within t) (handed z) (r .reckon .ensures)
 
 returns-3 : tie.Need-returns-3
 returns-3 c =
@@ -102,8 +113,10 @@ check-spec =
     are-sizes-in-range-requires
     are-lists-in-range-requires
     slacks-of-requires
+    row-sums-of-requires
     scaled-right-requires
     allowed-of-requires
+    allowed-of-requires-2
     reckon-requires
     same-length
     same-length-2

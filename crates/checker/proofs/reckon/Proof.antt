@@ -1,16 +1,13 @@
 use mathlib.Core.Path.{_≡_}
 use native.Mathlib.Omega.{arith}
 use lib.Dec.{lit≤}
-use lib.IntN.{pos}
-use lib.ListN.{length, getD-replicate}
+use lib.ListN.{length}
 use Rattle.linear.proofs.Places.{square}
-use Rattle.enclosure.specs.Reckoning.{allowedResidual}
 use Rattle.reckoning.specs.Rows.{InverseRows}
 use Rattle.reckoning.proofs.Sizes.{raisable}
 use Rattle.checker.specs.Work.{Work, work}
 use Rattle.checker.proofs.Outcome.{Worked, refused, positive-here, near-here, columns-here, accepted-here}
 use Rattle.checker.proofs.Rows.{inverse-rows}
-use Rattle.checker.proofs.Handed.{everywhere, everywhere-within}
 use borrow.Author.Needs.{needs}
 use Rattle.checker.proofs.reckon.Statement.{statement}
 use Rattle.checker.proofs.reckon.Tie as tie
@@ -18,7 +15,7 @@ use Rattle.checker.proofs.reckon.Tie as tie
 abbrev W : tie.Start → Work
 W s =
     let a = s .args in
-    work (a .n) (a .t) (a .matrix .now) (a .base) (a .t5) (a .slacks) (a .guess .now) (a .inverse .now) (a .weights .now) (a .solution-bounds .now) (a .inverse-bounds .now)
+    work (a .n) (a .t) (a .matrix .now) (a .base) (a .t5) (a .t6) (a .slacks) (a .guess .now) (a .inverse .now) (a .weights .now) (a .solution-bounds .now) (a .inverse-bounds .now)
 
 -- the raised rows
 rows-are : (c : tie.After-raise-rows) → InverseRows (c .raise-rows .last .0) (c .before .before .before .before .args .n)
@@ -32,13 +29,12 @@ abbrev start : tie.After-judge → tie.Start
 start j = raised j .before .before .before .before
 
 abbrev worked : (j : tie.After-judge) →
-    Worked (W (start j)) (raised j .raise-rows .last .0) (j .before .before .before .before .before .before .before .before .before .before .margins-of .result) (j .before .before .before .before .before .before .before .before .before .residuals-of .result) (j .before .before .before .before .before .before .before .before .inverse-residuals-of .result) everywhere (j .judge .result)
+    Worked (W (start j)) (raised j .raise-rows .last .0) (j .before .before .before .before .before .before .before .before .before .before .margins-of .result) (j .before .before .before .before .before .before .before .before .before .residuals-of .result) (j .before .before .before .before .before .before .before .before .inverse-residuals-of .result) (j .judge .result)
 worked j = record {
   raised = raised j .raise-rows .ensures;
   hm = j .before .before .before .before .before .before .before .before .before .before .margins-of .ensures;
   hr = j .before .before .before .before .before .before .before .before .before .residuals-of .ensures;
   hc = j .before .before .before .before .before .before .before .before .inverse-residuals-of .ensures;
-  all = λ k l. getD-replicate 32 k (pos allowedResidual) (pos 0) l;
   m = j .before .before .before .before .before .before .before .first-zero .result;
   k = j .before .before .before .before .first-above .result;
   i = j .before .first-above-in-columns .result;
@@ -84,7 +80,7 @@ first-above-requires c κs =
     ((p .few, (omega (arith, p .few, wide (c .before .before .before .before)), lit≤ tt)), p .allowed)
 
 first-above-in-columns-requires : tie.Need-first-above-in-columns-requires
-first-above-in-columns-requires c κs = let p = c .before .before .before .before .before .before .before .before .before .before .before .before .before .before .before .pre in (p .few, everywhere-within (p .few))
+first-above-in-columns-requires c κs = let p = c .before .before .before .before .before .before .before .before .before .before .before .before .before .before .before .pre in (p .few, p .in-columns)
 
 judge-requires : tie.Need-judge-requires
 judge-requires c κs = search needs

@@ -12,10 +12,10 @@ use Rattle.slacks.proofs.allowed_of.Statement.{statement}
 use Rattle.slacks.proofs.allowed_of.Tie as tie
 
 abbrev Inv-loop : tie.InvT-loop
-Inv-loop n slacks out₀ k₀ out k = (k ≤ n) × ((length out ≡ 32) × Begins (pos 0) out k (λ (i : ℕ). allowedBeside (getD slacks i 0)))
+Inv-loop n slacks sums out₀ k₀ out k = (k ≤ n) × ((length out ≡ 32) × Begins (pos 0) out k (λ (i : ℕ). allowedBeside (getD slacks i 0) (getD sums i 0)))
 
 abbrev μ-loop : tie.MeasureT-loop
-μ-loop n slacks out₀ k₀ out k = n - k
+μ-loop n slacks sums out₀ k₀ out k = n - k
 
 loop-holds : tie.Need-loop-holds Inv-loop μ-loop
 loop-holds c = (omega arith, (refl, begins-none _ _ _))
@@ -25,6 +25,12 @@ mul-allowed-at c = search needs
 
 array-read-allowed-at : tie.Need-array-read-allowed-at Inv-loop μ-loop
 array-read-allowed-at c = search needs
+
+mul-allowed-at-2 : tie.Need-mul-allowed-at-2 Inv-loop μ-loop
+mul-allowed-at-2 c = search needs
+
+array-read-allowed-at-2 : tie.Need-array-read-allowed-at-2 Inv-loop μ-loop
+array-read-allowed-at-2 c = search needs
 
 allowed-at-requires : tie.Need-allowed-at-requires Inv-loop μ-loop
 allowed-at-requires c κs = search needs
@@ -58,6 +64,8 @@ allowed-of-spec =
     loop-holds
     mul-allowed-at
     array-read-allowed-at
+    mul-allowed-at-2
+    array-read-allowed-at-2
     allowed-at-requires
     mul-out
     array-set-from-out
