@@ -29,7 +29,7 @@ static double next_double(FILE *file) {
     return x;
 }
 
-void set_before(struct exchange_answer *answer) {
+void set_unwritten(struct exchange_answer *answer) {
     for (unsigned i = 0; i < EXCHANGED; i++) {
         answer->guess[i] = GUESS_BEFORE;
         answer->low[i] = answer->high[i] = END_BEFORE;
@@ -46,7 +46,7 @@ bool read_exchange(FILE *file, struct exchange *x, struct exchange_answer *answe
     for (unsigned i = 0; i < EXCHANGED && !x->is_outward; i++) x->values[i] = next_double(file);
     for (unsigned i = 0; i < EXCHANGED && x->is_outward; i++) x->guess[i] = next_signed(file);
     for (unsigned i = 0; i < EXCHANGED && x->is_outward; i++) x->bounds[i] = next_number(file);
-    set_before(answer);
+    set_unwritten(answer);
     answer->number = (uint32_t)next_number(file);
     answer->places[0] = answer->places[1] = 0;
     if (answer->number != 0) return true;

@@ -28,7 +28,7 @@ struct exchange_answer {
 };
 
 /* An answer that nothing was written into. */
-void set_before(struct exchange_answer *answer);
+void set_unwritten(struct exchange_answer *answer);
 
 /* Reads a call and its answer; false at the end of the file. */
 bool read_exchange(FILE *exchanges, struct exchange *exchange, struct exchange_answer *answer);

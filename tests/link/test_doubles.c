@@ -7,7 +7,7 @@
 enum { INWARD, INWARD_3, INWARD_8, INWARD_19, OUTWARD, OUTWARD_3, OUTWARD_8 };
 
 static void answer_of(const struct exchange *x, struct exchange_answer *answer) {
-    set_before(answer);
+    set_unwritten(answer);
     answer->places[0] = answer->places[1] = UINT64_MAX;
     answer->number = x->is_outward ? kodarfi_intervals(x->n, x->s, x->guess, x->lengths[0], x->bounds, x->lengths[1], answer->low, x->lengths[2],
                                                        answer->high, x->lengths[3], answer->places)

@@ -3,12 +3,13 @@
 --   within-between    — (b) whatever lies within its limit lies between the ends that were written, in units
 --   guess-at          — the guess that was written is the definition's
 --   comes-back        — (c) a double that is a whole number of steps goes in and comes back with the limit 0
+--   exact-at-0        — whatever the guess, with the limit 0 both ends are X/S, exactly, and one double, and X comes back from it
 --   never-narrower    — (d) wider limits never narrow an interval;  ends-ordered — low is not above high
 use mathlib.Core.Path.{_≡_, sym, ap, _∙_}
 use mathlib.Core.List.{List, []}
-use Prim.Native.Nat.{ℕ, _≤_, _<_}
+use Prim.Native.Nat.{ℕ, _≤_, _<_, _^_}
 use native.Mathlib.Omega.{arith}
-use lib.IntN.{ℤ, pos, _+ℤ_, _-ℤ_}
+use lib.IntN.{ℤ, pos, natAbs, _+ℤ_, _-ℤ_}
 use lib.ListN.{getD}
 use lib.Signed.{_≤ℤ_, _<ℤ_}
 use lib.Ieee.{Float}
@@ -18,9 +19,9 @@ use Rattle.rules.specs.declared.Outcome.{Outcome}
 use Rattle.doubles.specs.Guess.{guessFor}
 use Rattle.doubles.specs.Units.{whole, Double}
 use Rattle.doubles.proofs.Steps.{guess-whole}
-use Rattle.interval.specs.Interval.{unitsOf, Between, WithinLimit, Steps, Returned}
+use Rattle.interval.specs.Interval.{unitsOf, Outward, Between, WithinLimit, Steps, Returned}
 use Rattle.interval.proofs.Ends.{nothing-below, nothing-above}
-use Rattle.interval.proofs.Heights.{between, ordered, wider, round-trip}
+use Rattle.interval.proofs.Heights.{between, ordered, wider, meets, again, round-trip}
 use Rattle.exchange.specs.Lists.{doubleAt}
 use Rattle.exchange.specs.Inward.{saidGuessed, Incoming, GuessesOf}
 use Rattle.exchange.specs.Outward.{Outgoing, outgoing, endsIn, IntervalsOf}
@@ -52,6 +53,13 @@ module _ (I : Outgoing) {r : Outcome} {low high : List Float} (c : IntervalsOf I
 
   pub ends-ordered : whole (doubleAt low i) ≤ℤ whole (doubleAt high i)
   ends-ordered = ordered (I .s) X E (endsIn low high i) (c .outward ok i l)
+
+  pub exact-at-0 : E ≡ 0 → (whole (doubleAt low i) ≡ unitsOf (I .s) X) × (doubleAt low i ≡ doubleAt high i) × (guessFor (I .s) (doubleAt low i) ≡ X)
+  exact-at-0 e =
+      let o : Outward (I .s) X 0 (endsIn low high i) = rw e at (c .outward ok i l) in
+      let small : natAbs X < 2 ^ 53 = omega (arith, outward.reckonable I (outward.said-nothing I .0 (sym (c .says) ∙ ok) .1) .guesses i l) in
+      let m = meets (I .s) X small (endsIn low high i) o in
+      (m .0, m .1, again (I .s) X scale small (endsIn low high i) o)
 
 -- ---- there and back
 pub guess-at : (I : Incoming) {r : Guessed} {guess : List ℤ} → GuessesOf I r guess → saidGuessed r ≡ [] → (i : ℕ) → i < I .n →
