@@ -129,6 +129,44 @@ uint32_t kodarfi_build(uint32_t n,
                        int64_t *matrix, size_t matrix_len,
                        int64_t *right, size_t right_len);
 
+/* Doubles in (document 02, Paper 11): a solver's heights as guesses, for S = 2^s solution steps a unit.
+ *
+ * n and s as in kodarfi_check; values and guess have at least 32 numbers each, of which the first n are used. No other number is read or written.
+ *
+ * The answer is 0 where each of the first n values is finite and gives a guess of -2^36 to 2^36: then the first n guesses are the values times S, each exactly
+ * rounded to a nearest whole number, halves away from zero; minus zero gives 0. Else it is the number of the first refusal in this order, and the guess list
+ * is as before:
+ *
+ *   8    a list is too short
+ *   3    n or s is outside its range
+ *   19   one of the first n values is infinite or no number, or its guess leaves -2^36 to 2^36
+ *
+ * places: always 0, 0. */
+uint32_t kodarfi_guesses(uint32_t n, uint32_t s,
+                         const double *values, size_t values_len,
+                         int64_t *guess, size_t guess_len,
+                         uint64_t places[2]);
+
+/* Doubles out: guesses and their limits as pairs of doubles, in units.
+ *
+ * n and s as above; each list has at least 32 numbers, of which the first n are used. No other number is read or written.
+ *
+ * The answer is 0 where the first n guesses are -2^36 to 2^36 and the first n bounds at most 2^60: then low[i] is the largest double not above
+ * (guess[i] - bounds[i]) / S and high[i] the smallest not below (guess[i] + bounds[i]) / S, and a zero is plus zero. Where guess and bounds are those of an
+ * accepted check of the same n and s, no pair is refused, and the exact height lies between low[i] and high[i], whatever the right side within the tolerances
+ * of that check. Else it is the number of the first refusal in this order, and both lists of ends are as before:
+ *
+ *   8   a list is too short
+ *   3   n, s, one of the first n guesses or one of the first n bounds is outside its range
+ *
+ * places: always 0, 0. */
+uint32_t kodarfi_intervals(uint32_t n, uint32_t s,
+                           const int64_t *guess, size_t guess_len,
+                           const uint64_t *bounds, size_t bounds_len,
+                           double *low, size_t low_len,
+                           double *high, size_t high_len,
+                           uint64_t places[2]);
+
 #ifdef __cplusplus
 }
 #endif

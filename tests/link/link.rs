@@ -1,18 +1,20 @@
-//! The library linked from Rust, each of its calls beside what the second implementation says, and the check on lists, the search for weights and the
-//! builder beside versions in Rust.
+//! The library linked from Rust, each of its calls beside what the second implementation says, and the check on lists, the search for weights, the
+//! builder and the calls with doubles beside versions in Rust.
 //!
-//!   link FOLDER [--first]   what the emitters wrote: FOLDER/nets.txt, files.bin, entries.txt, weights.txt and builds.txt; with --first it stops at the first test that fails
+//!   link FOLDER [--first]   what the emitters wrote: FOLDER/nets.txt, files.bin, entries.txt, weights.txt, builds.txt and doubles.txt; with --first it stops at the first test that fails
 //!
 //! The last line is 'N passed, M failed'.
 
 mod builds;
 mod count;
 mod damage;
+mod doubles;
 mod entries;
 mod files;
 mod lists;
 mod reckoning;
 mod test_builds;
+mod test_doubles;
 mod test_lists;
 mod test_weights;
 mod weights;
@@ -42,6 +44,8 @@ fn main() {
     entries::test_entries(&mut count, &text_of(folder, "entries.txt"));
     test_weights::test_weights(&mut count, &weights::read_searches(&text_of(folder, "weights.txt")));
     test_builds::test_builds(&mut count, &builds::read_builds(&text_of(folder, "builds.txt")));
+    let (inward, outward) = doubles::read_exchanges(&text_of(folder, "doubles.txt"));
+    test_doubles::test_doubles(&mut count, &inward, &outward);
     files::test_files(&mut count, &bytes_of(folder, "files.bin"));
     test_lists::test_lists(&mut count, &lists::read_nets(&text_of(folder, "nets.txt")));
     count.close()

@@ -26,4 +26,7 @@ void test_weights(FILE *searches);
 /* kodarfi_build on the lists of tests/emit_builds.py. */
 void test_builds(FILE *builds);
 
+/* kodarfi_guesses and kodarfi_intervals on the calls of tests/emit_doubles.py. */
+void test_doubles(FILE *exchanges);
+
 #endif

@@ -94,6 +94,37 @@
     X(key_65536_taken)            \
     X(weight_65_taken)            \
     X(said_17_for_16)             \
+    /* kodarfi_guesses */         \
+    X(halves_to_even)             \
+    X(halves_down)                \
+    X(doubles_cut)                \
+    X(sign_lost)                  \
+    X(nan_taken)                  \
+    X(infinity_taken)             \
+    X(guess_at_end_refused)       \
+    X(guess_past_end_taken)       \
+    X(said_3_for_19)              \
+    X(scale_21_guessed)           \
+    X(short_values_taken)         \
+    X(doubles_read_past_n)        \
+    X(guessed_before_tested)      \
+    X(guesses_past_n)             \
+    X(guesses_places_left)        \
+    /* kodarfi_intervals */       \
+    X(low_to_nearest)             \
+    X(high_to_nearest)            \
+    X(high_one_too_far)           \
+    X(minus_zero_low)             \
+    X(minus_zero_high)            \
+    X(ends_swapped_below_0)       \
+    X(ends_exchanged)             \
+    X(limit_at_end_refused)       \
+    X(limit_past_end_taken)       \
+    X(scale_21_written)           \
+    X(short_ends_taken)           \
+    X(ends_before_tested)         \
+    X(ends_past_n)                \
+    X(ends_places_left)           \
     /* kodarfi_listing: file */   \
     X(first_4096_bytes)           \
     X(last_line_needs_feed)       \

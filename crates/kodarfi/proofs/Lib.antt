@@ -4,3 +4,4 @@ pub mod Meaning
 pub mod Covered
 pub mod Weights
 pub mod Build
+pub mod Doubles

@@ -2,3 +2,4 @@ pub mod Told
 pub mod Exported
 pub mod Weights
 pub mod Build
+pub mod Doubles

@@ -27,7 +27,9 @@ use weight_reply::found_reply;
 use weight_reply::tried_or;
 use weight_search::find_weights;
 
-// What a check says; a refusal that gives its number alone leaves both places 0.
+mod with_doubles;
+
+// What an outcome says; a refusal that gives its number alone leaves both places 0.
 fn outcome_reply(outcome: Outcome) -> Reply
     ensures { λ r. ⌜ r ≡ replyOf (printed 0 (said outcome)) ⌝ }
 {

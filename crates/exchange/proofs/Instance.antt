@@ -1,0 +1,118 @@
+-- None of Paper 11's theorems is empty.
+--   inward-accepts, outward-accepts — what passes the tests has an accepted call
+--   fileEnds, file-between — 01's whole file: its exact heights 16/11 and 9/11 lie between the ends of its guesses and limits
+--   looseEnds, loose-between — a problem with a tolerance of 3 and the right side 9/3: its exact height, 3, lies between the ends
+--   given, back, goes-and-comes — 2.5, with two steps to one, goes in as 5 and comes back as itself
+use mathlib.Core.Path.{_≡_, refl, sym, ap, ap₂, _∙_, subst}
+use mathlib.Core.List.{List, []}
+use Prim.Native.Nat.{ℕ, zero, suc, _≤_, _<_, _^_}
+use native.Mathlib.Omega.{arith}
+use lib.Dec.{lit<, lit≤}
+use lib.IntN.{pos}
+use lib.ListN.{getD, replicate}
+use lib.Ieee.{Float, binary64, ofBits}
+use lib.Ieee.Bits.{ofBits-fits}
+use Rattle.linear.specs.Slice.{at}
+use Rattle.integer.specs.Quotient.{roundDiv}
+use Rattle.rules.specs.Range.{ranges, rangeOf, inRange}
+use Rattle.rules.specs.declared.Outcome.the-variants as outcome
+use Rattle.enclosure.specs.Example.{exact, loose, farRight, farHeight}
+use Rattle.enclosure.specs.Reckoning.{bound}
+use Rattle.enclosure.proofs.Instance.{loose-right, loose-exact, loose-encloses, loose-bound}
+use Rattle.checked.specs.Input.{Input}
+use Rattle.checked.specs.Order.{answer}
+use Rattle.checked.specs.Stated.{Usable}
+use Rattle.checked.specs.Checked.{Checked, solutionAfter, inverseAfter, solutionBoundsAfter, inverseBoundsAfter}
+use Rattle.checked.proofs.Contract.{checked-ready, answer-ready}
+use Rattle.checked.proofs.Table.{fileInput, file-usable, file-rounded-here, file-accepted}
+use Rattle.doubles.specs.Guess.{guessFor, hasGuess, Nearest}
+use Rattle.doubles.specs.Units.{whole, plusZero}
+use Rattle.doubles.proofs.Steps.{guess-nearest}
+use Rattle.interval.specs.Interval.{Outward, Returned}
+use Rattle.interval.proofs.Heights.{outward}
+use Rattle.exchange.specs.Lists.{doubleAt, every}
+use Rattle.exchange.specs.Inward.{Incoming, incoming, inwardAnswer, guessesAfter, GuessesOf}
+use Rattle.exchange.specs.Outward.{Outgoing, outgoing, outwardAnswer, endsIn, lowsAfter, highsAfter, IntervalsOf}
+use Rattle.exchange.specs.Hands.{Hands, AllBetween}
+use Rattle.exchange.specs.declared.Guessed.the-variants as guessed
+use Rattle.exchange.proofs.Enclosed.{encloses-between, checked-between-at-b}
+use Rattle.exchange.proofs.Inward.{after-at}
+use Rattle.exchange.proofs.Outward.{low-after, high-after, said-nothing, reckonable}
+use Rattle.exchange.proofs.Promises.{comes-back}
+use Rattle.exchange.proofs.Taken.{numbers-taken, checked-taken, guesses-taken}
+
+pub inward-accepts : (I : Incoming) → inwardAnswer I ≡ [] → GuessesOf I guessed.Accepted (guessesAfter I)
+inward-accepts I e = record {
+  says = sym e;
+  guesses = refl;
+  nearest = λ n i l. subst (Nearest (I .s) (doubleAt (I .values) i)) (sym (after-at I e i l)) (guess-nearest (I .s) (doubleAt (I .values) i));
+}
+
+pub outward-accepts : (I : Outgoing) → outwardAnswer I ≡ [] → IntervalsOf I outcome.Accepted (lowsAfter I) (highsAfter I)
+outward-accepts I e = record {
+  says = sym e;
+  lows = refl;
+  highs = refl;
+  outward = λ n i l.
+      let k = reckonable I (said-nothing I .0 e .1) in
+      subst (Outward (I .s) (at (I .guess) i) (getD (I .bounds) i 0)) (ap₂ (λ (x y : Float). record { low = x; high = y }) (sym (low-after I e i l)) (sym (high-after I e i l)))
+      (outward (I .s) (at (I .guess) i) (getD (I .bounds) i 0) (k .guesses i l) (k .limits i l));
+}
+
+only : (Q : ℕ → Type 0) → Q 0 → (i : ℕ) → i < 1 → Q i
+only Q a zero l = a
+only Q a (suc i) l = absurd (omega arith)
+
+abbrev zeros : List Float
+zeros = replicate 32 plusZero
+
+-- ---- 01's whole file
+accepts-checked : (J : Input) → Usable J → answer J ≡ [] → Checked J outcome.Accepted (solutionBoundsAfter J) (inverseBoundsAfter J)
+unfolding solutionBoundsAfter inverseBoundsAfter
+accepts-checked J u e =
+    let a = answer-ready J (u .long) (u .inside) in
+    checked-ready J (u .long) (u .inside) (sym e ∙ a) (ap (λ (w : List ℕ). solutionAfter w J) a) (ap (λ (w : List ℕ). inverseAfter w J) a)
+
+file-checked : Checked fileInput outcome.Accepted (solutionBoundsAfter fileInput) (inverseBoundsAfter fileInput)
+file-checked = accepts-checked fileInput file-usable file-accepted
+
+abbrev pub fileEnds : Outgoing
+fileEnds = outgoing 2 4 (fileInput .guess) (solutionBoundsAfter fileInput) zeros zeros
+
+pub file-between : AllBetween 2 (lowsAfter fileEnds) (highsAfter fileEnds) exact 11
+file-between =
+    checked-between-at-b fileInput file-checked refl (outward-accepts fileEnds (checked-taken fileInput file-checked refl zeros zeros (lit≤ tt) (lit≤ tt))) refl exact 11 (file-rounded-here .solution)
+
+-- ---- a problem with a tolerance
+abbrev pub looseEnds : Outgoing
+looseEnds = outgoing 1 4 (replicate 32 (pos 0)) (replicate 32 48) zeros zeros
+
+loose-handed : Hands loose (bound loose) looseEnds
+loose-handed = record { n = refl; s = refl; guess = only _ refl; bounds = only _ (sym loose-bound) }
+
+pub loose-between : AllBetween 1 (lowsAfter looseEnds) (highsAfter looseEnds) farHeight 1
+loose-between =
+    encloses-between loose (bound loose) looseEnds loose-handed
+    (outward-accepts looseEnds (numbers-taken 1 4 _ _ zeros zeros (lit< tt) (lit≤ tt) (lit≤ tt) (lit≤ tt) (lit≤ tt) (lit≤ tt) (lit≤ tt) (only _ (lit≤ tt)) (only _ (lit≤ tt)))) refl
+    loose-encloses farRight 3 loose-right farHeight 1 loose-exact
+
+-- ---- there and back
+abbrev two-and-a-half : Float
+two-and-a-half = ofBits binary64 4612811918334230528
+
+abbrev pub given : Incoming
+given = incoming 1 1 (replicate 32 two-and-a-half) (replicate 32 (pos 0))
+
+given-accepted : inwardAnswer given ≡ []
+unfolding inwardAnswer every hasGuess guessFor whole ofBits roundDiv inRange rangeOf ranges
+given-accepted = refl
+
+abbrev pub back : Outgoing
+back = outgoing 1 1 (guessesAfter given) (replicate 32 0) zeros zeros
+
+pub goes-and-comes : (at (guessesAfter given) 0 ≡ pos 5) × Returned 1 (pos 5) two-and-a-half (endsIn (lowsAfter back) (highsAfter back) 0)
+unfolding whole ofBits
+goes-and-comes =
+    let g = inward-accepts given given-accepted in
+    comes-back given g refl (outward-accepts back (guesses-taken given g refl (replicate 32 0) zeros zeros (lit≤ tt) (lit≤ tt) (lit≤ tt) (only _ (lit≤ tt)))) refl 0 (lit< tt) refl (pos 5)
+    (record { held = ofBits-fits binary64 4612811918334230528; finite = tt }) refl

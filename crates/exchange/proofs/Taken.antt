@@ -1,0 +1,90 @@
+-- What the other calls hand back is never refused outward.
+--   numbers-taken — numbers in their ranges, in lists long enough, pass 8 and 3
+--   checked-taken — so do the guesses and the limits of an accepted check
+--   guesses-taken — and the guesses of an accepted call inward, with limits of at most 2^60
+use mathlib.Core.Path.{_≡_, refl, sym, ap, _∙_}
+use mathlib.Core.Bool.{true}
+use mathlib.Core.List.{List, []}
+use Prim.Native.Nat.{ℕ, _≤_, _<_, _^_}
+use native.Mathlib.Omega.{arith}
+use borrow.Author.Tests.{le-ltb, le-leb, ltb-false}
+use lib.IntN.{ℤ, pos, negsuc, natAbs}
+use lib.ListN.{length, getD}
+use lib.Ieee.{Float}
+use lib.Ieee.Scale.{finite}
+use Rattle.linear.specs.Slice.{at}
+use Rattle.rules.specs.Range.{inRange, rangeOf, ranges, shortColumn}
+use Rattle.rules.specs.Refusal.{said}
+use Rattle.rules.specs.declared.Kind.the-variants as kind
+use Rattle.rules.specs.declared.Outcome.{Outcome}
+use Rattle.rules.proofs.AllInRange.{all-in}
+use Rattle.rules.proofs.Ranges.{both, both-left, both-right, neither-right, size-range, guess-range}
+use Rattle.enclosure.specs.Reckoning.{bound}
+use Rattle.checked.specs.Input.{Input, problem}
+use Rattle.checked.specs.Order.{answer}
+use Rattle.checked.specs.Checked.{Checked, written}
+use Rattle.checked.proofs.Contract.{answer-ready}
+use Rattle.checked.proofs.Fit.{fit-of}
+use Rattle.checked.proofs.Largest.{solution-size}
+use Rattle.checked.proofs.Lengths.{long-of}
+use Rattle.checked.proofs.Statements.{accepted-usable}
+use Rattle.checked.proofs.Written as limits
+use Rattle.doubles.specs.Guess.{hasGuess, guessFor}
+use Rattle.exchange.specs.Lists.{doubleAt}
+use Rattle.exchange.specs.Inward.{Incoming, saidGuessed, inwardAnswer, GuessesOf}
+use Rattle.exchange.specs.Outward.{outgoing, outwardAnswer}
+use Rattle.exchange.specs.declared.Guessed.{Guessed}
+use Rattle.exchange.proofs.Inward as inward
+use Rattle.exchange.proofs.Lists.{every-in}
+use Rattle.exchange.proofs.Outward as outward
+use Rattle.exchange.proofs.Promises.{guess-at}
+
+in-size : (n : ℕ) → 0 < n → n ≤ 32 → inRange kind.Size (pos n) ≡ true
+unfolding inRange rangeOf ranges
+in-size n a b = both (le-leb 1 n (omega arith)) (le-leb n 32 b)
+
+in-scale : (s : ℕ) → s ≤ 20 → inRange kind.SolutionScale (pos s) ≡ true
+unfolding inRange rangeOf ranges
+in-scale s h = both (le-leb 0 s (omega arith)) (le-leb s 20 h)
+
+in-guess : (x : ℤ) → natAbs x ≤ 2 ^ 36 → inRange kind.Guess x ≡ true
+unfolding inRange rangeOf ranges
+in-guess (pos x) h = le-leb x 68719476736 h
+in-guess (negsuc x) h = both (le-leb x 68719476735 (omega arith)) refl
+
+module _ (n s : ℕ) (guess : List ℤ) (bounds : List ℕ) (low high : List Float) where
+  pub numbers-taken : 0 < n → n ≤ 32 → s ≤ 20 → 32 ≤ length guess → 32 ≤ length bounds → 32 ≤ length low → 32 ≤ length high →
+      ((i : ℕ) → i < n → natAbs (at guess i) ≤ 2 ^ 36) → ((i : ℕ) → i < n → getD bounds i 0 ≤ 2 ^ 60) → outwardAnswer (outgoing n s guess bounds low high) ≡ []
+  numbers-taken some few scale hx he hl hh x e =
+      outward.said-nothing (outgoing n s guess bounds low high) .1 (
+        rw (le-ltb (length guess) 32 hx, le-ltb (length bounds) 32 he, le-ltb (length low) 32 hl, le-ltb (length high) 32 hh),
+        both (both (in-size n some few) (in-scale s scale))
+            (both (all-in kind.Guess n (at guess) (λ i l. in-guess (at guess i) (x i l))) (every-in n _ (λ i l. le-leb (getD bounds i 0) (2 ^ 60) (e i l)))),
+      )
+
+pub checked-taken : (J : Input) {a : Outcome} {E L : List ℕ} → Checked J a E L → said a ≡ [] → (low high : List Float) → 32 ≤ length low → 32 ≤ length high →
+    outwardAnswer (outgoing (J .n) (J .s) (J .guess) E low high) ≡ []
+checked-taken J {a} {E} {L} c ok low high hl hh =
+    let none : answer J ≡ [] = sym (c .says) ∙ ok in
+    let u = accepted-usable J none in
+    let fit = fit-of J (u .long) (u .inside) in
+    let e : E ≡ written (J .n) (bound (problem J)) (J .solutionBounds) = c .solution-bounds ∙ limits.solution-written J none in
+    let long : length E ≡ length (J .solutionBounds) = ap length e ∙ limits.written-length (J .n) (bound (problem J)) (J .solutionBounds) in
+    let at-place : (i : ℕ) → i < J .n → getD E i 0 ≡ bound (problem J) i = λ i l. rw e (limits.written-at (J .n) (bound (problem J)) (J .solutionBounds) i l (omega (arith, fit .few, fit .solution-long))) in
+    let small : (i : ℕ) → i < J .n → getD E i 0 ≤ 2 ^ 60 = λ i l. rw (at-place i l) (solution-size J fit (sym (answer-ready J (u .long) (u .inside)) ∙ none) i l) in
+    numbers-taken (J .n) (J .s) (J .guess) E low high (fit .some) (fit .few) (fit .solution-scale) (long-of J (u .long) .guess) (omega (arith, long, fit .solution-long)) hl hh (fit .guess .within .size) small
+
+pub guesses-taken : (I : Incoming) {a : Guessed} {guess : List ℤ} → GuessesOf I a guess → saidGuessed a ≡ [] →
+    (bounds : List ℕ) (low high : List Float) → 32 ≤ length bounds → 32 ≤ length low → 32 ≤ length high → ((i : ℕ) → i < I .n → getD bounds i 0 ≤ 2 ^ 60) →
+    outwardAnswer (outgoing (I .n) (I .s) guess bounds low high) ≡ []
+guesses-taken I {a} {guess} c ok bounds low high hb hl hh e =
+    let none : inwardAnswer I ≡ [] = sym (c .says) ∙ ok in
+    let n = inward.said-nothing I .0 none in
+    let size = size-range (I .n) (both-left (inRange kind.Size (pos (I .n))) _ (n .1)) in
+    let long : length guess ≡ length (I .guess) = ap length (c .guesses) ∙ inward.after-length I in
+    numbers-taken (I .n) (I .s) guess bounds low high (size .0) (size .1) (inward.ready I (n .0) (n .1) .scale)
+    (omega (arith, long, ltb-false (length (I .guess)) 32 (neither-right (shortColumn (length (I .values))) _ (n .0)))) hb hl hh
+    (λ i l. rw (guess-at I c ok i l) (guess-range (guessFor (I .s) (doubleAt (I .values) i)) (has-range (I .s) (doubleAt (I .values) i) (n .2 i l)))) e
+  where
+    has-range : (s : ℕ) (x : Float) → hasGuess s x ≡ true → inRange kind.Guess (guessFor s x) ≡ true
+    has-range s x h = unfold hasGuess in both-right (finite x) (inRange kind.Guess (guessFor s x)) h

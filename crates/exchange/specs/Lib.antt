@@ -1,0 +1,4 @@
+pub mod Lists
+pub mod Inward
+pub mod Outward
+pub mod Hands

@@ -1,0 +1,30 @@
+use Rattle.exchange.specs.Inward.{saidGuessed}
+use Rattle.kodarfi.proofs.Told.{told-alone}
+use borrow.Author.Needs.{needs}
+use Rattle.kodarfi.proofs.with_doubles.kodarfi_guesses.Statement.{statement}
+use Rattle.kodarfi.proofs.with_doubles.kodarfi_guesses.Tie as tie
+
+guesses-of-requires : tie.Need-guesses-of-requires
+guesses-of-requires c κs = search needs
+
+guessed-reply-requires : tie.Need-guessed-reply-requires
+guessed-reply-requires c κs = search needs
+
+tell-requires : tie.Need-tell-requires
+tell-requires c κs = search needs
+
+same-length : tie.Need-same-length
+same-length c = search needs
+
+returns : tie.Need-returns
+returns c =
+    let r = c .before .before in
+    let k = r .before .before in
+    record {
+      answer = k .guesses-of .result;
+      guessed = k .guesses-of .ensures;
+      told = told-alone (saidGuessed (k .guesses-of .result)) (c .tell .ensures) (r .guessed-reply .ensures);
+    }
+
+pub kodarfi-guesses-spec : {M : Type 1} → statement M
+kodarfi-guesses-spec = tie.close (tie.spec guesses-of-requires guessed-reply-requires tell-requires same-length returns)

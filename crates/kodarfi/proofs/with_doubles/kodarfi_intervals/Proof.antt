@@ -1,0 +1,41 @@
+use Rattle.rules.specs.Refusal.{said}
+use Rattle.kodarfi.proofs.Told.{told-alone}
+use borrow.Author.Needs.{needs}
+use Rattle.kodarfi.proofs.with_doubles.kodarfi_intervals.Statement.{statement}
+use Rattle.kodarfi.proofs.with_doubles.kodarfi_intervals.Tie as tie
+
+intervals-of-requires : tie.Need-intervals-of-requires
+intervals-of-requires c κs = search needs
+
+outcome-reply-requires : tie.Need-outcome-reply-requires
+outcome-reply-requires c κs = search needs
+
+tell-requires : tie.Need-tell-requires
+tell-requires c κs = search needs
+
+same-length : tie.Need-same-length
+same-length c = search needs
+
+same-length-2 : tie.Need-same-length-2
+same-length-2 c = search needs
+
+returns : tie.Need-returns
+returns c =
+    let r = c .before .before in
+    let k = r .before .before .before .before .before in
+    record {
+      outcome = k .intervals-of .result;
+      ends = k .intervals-of .ensures;
+      told = told-alone (said (k .intervals-of .result)) (c .tell .ensures) (r .outcome-reply .ensures);
+    }
+
+pub kodarfi-intervals-spec : {M : Type 1} → statement M
+kodarfi-intervals-spec =
+    tie.close
+    (tie.spec
+    intervals-of-requires
+    outcome-reply-requires
+    tell-requires
+    same-length
+    same-length-2
+    returns)
