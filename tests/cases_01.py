@@ -67,13 +67,17 @@ STATED = {
 CASES_01 = tuple(case._replace(lines=STATED[case.name][0], whole=STATED[case.name][1]) if case.name in STATED else case for case in CASES)
 
 # 02, Paper 2: "With X = 24, s = 4 and E = 10 the entry is 2 and its limit goes from 1 to 2."; the limit of 10 comes of a tolerance of 5.
-# 02, Paper 5: x = b with a tolerance of 3 has a limit of 3·S; with 1 for the first right side of the whole file the sizes are 4 + 4·16 and 1 + 16.
+# 02, Paper 5: x = b with a tolerance of 3 has a limit of 3·S; with 1 for the first right side of the whole file the sizes are 4 + 4·16 and 1 + 16, and with
+# 1 and 2 they are 4 + 4·16 + 1·32 and 1 + 1·16 + 6·32 over margins 14 and 13. A residual of 2^19 with a slack of 63·2^19 is at 2^25, one more is above it.
 # 02, Paper 9: residuals at the sum along their row, 4, and above it, of the guess and of the inverse. The whole file with weights 3 and 1 has margins 44 and
 # 9: dividing first and multiplying by the weight afterwards would give 3 for its first limit.
 PAPERS = (
     Expected("paper 2", one(4, 4, 8, 12, 24, 2).with_(tolerance=[5]), accepted_one(24, 10, 2, 2, 0), True),
     Expected("paper 5", one(4, 4, 1, 0, 0, 16).with_(tolerance=[3]), accepted_one(0, 48, 0, 3, 0), True),
     Expected("paper 5 e", whole_file().with_(tolerance=[1, 0]), ("(solution 1 (23 5))", "(solution 2 (13 5))", "(entry 1 (1 1))", "(inverse 1 (1 1))"), False),
+    Expected("paper 5 e, both", whole_file().with_(tolerance=[1, 2]), ("(solution 1 (23 17))", "(solution 2 (13 17))", "(inverse 1 (1 1))", "(inverse 2 (1 1))"), False),
+    Expected("paper 5 both at 2^25", one(19, 20, 2**19, 0, 1, 2).with_(tolerance=[63]), ("(solution 1 (1 64))", "(inverse 1 (0))"), False),
+    Expected("paper 5 both above 2^25", one(19, 20, 2**19 + 1, 0, 1, 2).with_(tolerance=[63]), refused(6, 1), True),
     Expected("paper 9 weighted", whole_file((23, 13), (3, 1)), ("(solution 1 (23 1))", "(solution 2 (13 1))"), False),
     Expected("paper 9 guess at the sum", one(0, 4, 4, 0, 1, 4), accepted_one(1, 1, 1, 1, 0), True),
     Expected("paper 9 guess above the sum", one(0, 4, 4, 0, 2, 4), refused(6, 1), True),
