@@ -5,6 +5,8 @@
 --   LimitRow, limitRow — a row and the limits that 01 states for it
 --   single, variant, twice — rows of a common shape, without tolerance; fileWith — the whole file's, with tolerances;  a to k, rows — the rows of the table
 --   weightedFile — the whole file with weights 3 and 1: dividing first and multiplying by the weight afterwards would give 3 for 1
+--   skewed d b c g — A = (4 0 / 1 4), whose sums are 4 and 5 along its rows, 5 and 4 down its columns and 9 in all, with the residuals b and c of the guess,
+--     the slack d in the first row, and −4·g and −g for the residuals of the inverse's second column
 --   rowSumRows — that row, and rows whose residual is at and above the sum along its row (Paper 9), of the guess and of the inverse, worked out by hand
 --   limitRows — what 01 states for those of its cases that Paper 9 refuses: limits that are still true ("Limits already in the register remain true")
 --   tolerant d s — A = 1, b = 0 with the tolerance d: the limit is d·S, and 6 comes of slack alone;  summed a — A = a with a residual of a and a slack of
@@ -125,6 +127,10 @@ rows = a ∷ b ∷ c ∷ d ∷ e ∷ f ∷ g ∷ h ∷ i ∷ j ∷ k ∷ []
 abbrev pub weightedFile : Row
 weightedFile = variant (pos 23) (pos 13) (pos 3) (pos 1) [] (solution 1 1 ∷ solution 2 1 ∷ [])
 
+abbrev pub skewed : ℤ → ℤ → ℤ → ℤ → List ℕ → List Claim → Row
+skewed d b c g =
+    row 2 0 4 (pos 4 ∷ pos 0 ∷ pos 1 ∷ pos 4 ∷ []) (b ∷ c ∷ []) (d ∷ pos 0 ∷ []) (pos 0 ∷ pos 0 ∷ []) (pos 4 ∷ g ∷ negsuc 0 ∷ pos 4 ∷ []) (pos 1 ∷ pos 1 ∷ [])
+
 abbrev pub rowSumRows : List Row
 rowSumRows =
     weightedFile
@@ -132,6 +138,12 @@ rowSumRows =
     ∷ single (pos 4) 0 4 (pos 2) (pos 4) (6 ∷ 1 ∷ []) []
     ∷ single (pos 4) 0 4 (pos 0) (pos 3) [] (solution 1 0 ∷ inverse 1 1 1 ∷ [])
     ∷ single (pos 4) 0 4 (pos 0) (pos 2) (7 ∷ 1 ∷ 1 ∷ []) []
+    ∷ skewed (pos 0) (pos 4) (pos 5) (pos 0) [] (solution 1 1 ∷ solution 2 1 ∷ [])
+    ∷ skewed (pos 0) (pos 5) (pos 4) (pos 0) (6 ∷ 1 ∷ []) []
+    ∷ skewed (pos 0) (pos 4) (pos 6) (pos 0) (6 ∷ 2 ∷ []) []
+    ∷ skewed (pos 1) (pos 5) (pos 4) (pos 0) (6 ∷ 1 ∷ []) []
+    ∷ skewed (pos 0) (pos 0) (pos 0) (pos 1) [] (inverse 1 1 0 ∷ inverse 1 2 2 ∷ inverse 2 2 2 ∷ [])
+    ∷ skewed (pos 0) (pos 0) (pos 0) (pos 2) (7 ∷ 2 ∷ 1 ∷ []) []
     ∷ []
 
 abbrev pub limitRows : List LimitRow

@@ -5,7 +5,8 @@
 --   file   — its problem;  exact, exactInverse — N and H, both with q = 11
 --   loose  — 1·x = 0 with the tolerance 3, both steps 1/16, guess 0, inverse 16/16;  farRight, farHeight — 9, over 3, at the corner of that tolerance, and
 --     3, over 1, its solution
---   looseFile — the whole file with the tolerances 1 and 2
+--   looseFile — the whole file with the tolerances 1 and 2;  cornerRight, cornerHeight — the right side (6, −1) at a corner of them, and (17, 2) over 11, its
+--     solution
 use mathlib.Core.List.{List, [], _∷_, _++_}
 use lib.IntN.{ℤ, pos, negsuc}
 use lib.ListN.{replicate}
@@ -56,3 +57,9 @@ farHeight = vectorOf (pos 3 ∷ [])
 
 abbrev pub looseFile : Problem
 looseFile = problemOf 2 4 4 matrix right (padded (pos 1 ∷ pos 2 ∷ [])) guess inverse weights
+
+abbrev pub cornerRight : Vec
+cornerRight = vectorOf (pos 6 ∷ negsuc 0 ∷ [])
+
+abbrev pub cornerHeight : Vec
+cornerHeight = vectorOf (pos 17 ∷ pos 2 ∷ [])
