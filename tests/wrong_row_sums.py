@@ -81,6 +81,7 @@ HELD = {
     "the row's sum times T": sums_by(lambda system, k, row: system.T * along(row)),
     "the row's sum times S": sums_by(lambda system, k, row: system.S * along(row)),
     "size and slack within the row's sum": rows_by(lambda r, slack, row_sum: abs(r) + slack <= row_sum),
+    "size within the row's sum and the slack": rows_by(lambda r, slack, row_sum: abs(r) <= row_sum + slack),
     "size below the row's sum": rows_by(lambda r, slack, row_sum: abs(r) < row_sum),
     "one above the row's sum taken": rows_by(lambda r, slack, row_sum: abs(r) <= row_sum + 1),
     "residuals below 0 within every sum": rows_by(lambda r, slack, row_sum: r <= row_sum),

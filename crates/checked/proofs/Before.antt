@@ -27,11 +27,11 @@ module _ (P : Problem) where
   place-before : firstInversePlace05 P ≡ firstInversePlace01 P
   place-before =
       first-ext (P .n * P .n) (λ (i : ℕ). exceeds05 (columnOf P (i / P .n)) (i % P .n))
-      (λ (i : ℕ). exceeds01 P (i % P .n) (residual (columnOf P (i / P .n)) (i % P .n))) (λ i l. column-exceeds-before P (i / P .n) (i % P .n))
+      (λ (i : ℕ). exceeds01 (residual (columnOf P (i / P .n)) (i % P .n))) (λ i l. column-exceeds-before P (i / P .n) (i % P .n))
 
   module _ (none : NoTolerance P) where
     residual-before : firstResidual05 P ≡ firstResidual01 P
-    residual-before = first-ext (P .n) (exceeds05 P) (λ (k : ℕ). exceeds01 P k (residual P k)) (λ k l. exceeds-before P k (none k l))
+    residual-before = first-ext (P .n) (exceeds05 P) (λ (k : ℕ). exceeds01 (residual P k)) (λ k l. exceeds-before P k (none k l))
 
     pub checked-before : checkedOf05 P ≡ checkedOf01 P
     checked-before = rw (residual-before, place-before)

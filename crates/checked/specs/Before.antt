@@ -64,10 +64,10 @@ inRanges01 I =
     && (allInRange kind.Inverse (I .n * I .n) (at (I .inverse)) && allInRange kind.Weight (I .n) (at (I .weights))))))
 
 abbrev pub firstResidual01 : Problem → ℕ
-firstResidual01 P = first (P .n) (λ (k : ℕ). exceeds01 P k (residual P k))
+firstResidual01 P = first (P .n) (λ (k : ℕ). exceeds01 (residual P k))
 
 abbrev pub firstInversePlace01 : Problem → ℕ
-firstInversePlace01 P = first (P .n * P .n) (λ (i : ℕ). exceeds01 P (i % P .n) (residual (columnOf P (i / P .n)) (i % P .n)))
+firstInversePlace01 P = first (P .n * P .n) (λ (i : ℕ). exceeds01 (residual (columnOf P (i / P .n)) (i % P .n)))
 
 abbrev pub reckonedOf01 : Problem → List Test
 reckonedOf01 P = reckoned (P .n) (firstMargin P) (firstResidual01 P) (firstInversePlace01 P)

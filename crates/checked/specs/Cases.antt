@@ -3,11 +3,14 @@
 --   Claim   — a limit that 01 states: of the solution, or of a number of the inverse
 --   Row, row — a proposal, what is said of it (nothing: accepted), and the limits that are written
 --   LimitRow, limitRow — a row and the limits that 01 states for it
---   single, variant, twice — rows of a common shape, without tolerance;  a to k, rows — the rows of the table
---   weighted — the whole file with weights 3 and 1: dividing first and multiplying by the weight afterwards would give 3 for 1
+--   single, variant, twice — rows of a common shape, without tolerance; fileWith — the whole file's, with tolerances;  a to k, rows — the rows of the table
+--   weightedFile — the whole file with weights 3 and 1: dividing first and multiplying by the weight afterwards would give 3 for 1
+--   skewed d b c g — A = (4 0 / 1 4), whose sums are 4 and 5 along its rows, 5 and 4 down its columns and 9 in all, with the residuals b and c of the guess,
+--     the slack d in the first row, and −4·g and −g for the residuals of the inverse's second column
 --   rowSumRows — that row, and rows whose residual is at and above the sum along its row (Paper 9), of the guess and of the inverse, worked out by hand
 --   limitRows — what 01 states for those of its cases that Paper 9 refuses: limits that are still true ("Limits already in the register remain true")
---   tolerant d s — A = 1, b = 0 with the tolerance d;  toleranceRows — rows of that shape, worked out by hand: the limit is d·S, and 6 comes of slack alone
+--   tolerant d s — A = 1, b = 0 with the tolerance d: the limit is d·S, and 6 comes of slack alone;  summed a — A = a with a residual of a and a slack of
+--     63·2^19: the two are 2^25 together for a = 2^19;  toleranceRows — rows of these shapes, and the whole file with tolerances 1 and 2, worked out by hand
 --   unwritten — what stands in the limit lists before the check
 --   inputOf — the row's numbers in lists that are long enough
 --   claimed, allClaimed — a limit, all limits that a row states are what the lists hold after the check
@@ -69,11 +72,13 @@ limitRow r bounds = record { of = r; bounds = bounds }
 abbrev pub single : ℤ → ℕ → ℕ → ℤ → ℤ → List ℕ → List Claim → Row
 single a s t x g = row 1 s t (a ∷ []) (pos 0 ∷ []) (pos 0 ∷ []) (x ∷ []) (g ∷ []) (pos 1 ∷ [])
 
--- the whole file, with another guess and other weights
+-- the whole file, with tolerances, another guess and other weights
+abbrev pub fileWith : List ℤ → ℤ → ℤ → ℤ → ℤ → List ℕ → List Claim → Row
+fileWith d x y v w =
+    row 2 4 4 (pos 4 ∷ negsuc 0 ∷ negsuc 0 ∷ pos 3 ∷ []) (pos 5 ∷ pos 1 ∷ []) d (x ∷ y ∷ []) (pos 4 ∷ pos 1 ∷ pos 1 ∷ pos 6 ∷ []) (v ∷ w ∷ [])
+
 abbrev pub variant : ℤ → ℤ → ℤ → ℤ → List ℕ → List Claim → Row
-variant x y v w =
-    row 2 4 4 (pos 4 ∷ negsuc 0 ∷ negsuc 0 ∷ pos 3 ∷ []) (pos 5 ∷ pos 1 ∷ []) (pos 0 ∷ pos 0 ∷ []) (x ∷ y ∷ [])
-    (pos 4 ∷ pos 1 ∷ pos 1 ∷ pos 6 ∷ []) (v ∷ w ∷ [])
+variant = fileWith (pos 0 ∷ pos 0 ∷ [])
 
 -- A = (1,048,576 0 / 0 1), b = X = 0
 abbrev pub twice : ℤ → List ℕ → List Claim → Row
@@ -119,16 +124,26 @@ k = twice (pos 33) (7 ∷ 2 ∷ 1 ∷ []) []
 abbrev pub rows : List Row
 rows = a ∷ b ∷ c ∷ d ∷ e ∷ f ∷ g ∷ h ∷ i ∷ j ∷ k ∷ []
 
-abbrev pub weighted : Row
-weighted = variant (pos 23) (pos 13) (pos 3) (pos 1) [] (solution 1 1 ∷ solution 2 1 ∷ [])
+abbrev pub weightedFile : Row
+weightedFile = variant (pos 23) (pos 13) (pos 3) (pos 1) [] (solution 1 1 ∷ solution 2 1 ∷ [])
+
+abbrev pub skewed : ℤ → ℤ → ℤ → ℤ → List ℕ → List Claim → Row
+skewed d b c g =
+    row 2 0 4 (pos 4 ∷ pos 0 ∷ pos 1 ∷ pos 4 ∷ []) (b ∷ c ∷ []) (d ∷ pos 0 ∷ []) (pos 0 ∷ pos 0 ∷ []) (pos 4 ∷ g ∷ negsuc 0 ∷ pos 4 ∷ []) (pos 1 ∷ pos 1 ∷ [])
 
 abbrev pub rowSumRows : List Row
 rowSumRows =
-    weighted
+    weightedFile
     ∷ single (pos 4) 0 4 (pos 1) (pos 4) [] (solution 1 1 ∷ inverse 1 1 0 ∷ [])
     ∷ single (pos 4) 0 4 (pos 2) (pos 4) (6 ∷ 1 ∷ []) []
     ∷ single (pos 4) 0 4 (pos 0) (pos 3) [] (solution 1 0 ∷ inverse 1 1 1 ∷ [])
     ∷ single (pos 4) 0 4 (pos 0) (pos 2) (7 ∷ 1 ∷ 1 ∷ []) []
+    ∷ skewed (pos 0) (pos 4) (pos 5) (pos 0) [] (solution 1 1 ∷ solution 2 1 ∷ [])
+    ∷ skewed (pos 0) (pos 5) (pos 4) (pos 0) (6 ∷ 1 ∷ []) []
+    ∷ skewed (pos 0) (pos 4) (pos 6) (pos 0) (6 ∷ 2 ∷ []) []
+    ∷ skewed (pos 1) (pos 5) (pos 4) (pos 0) (6 ∷ 1 ∷ []) []
+    ∷ skewed (pos 0) (pos 0) (pos 0) (pos 1) [] (inverse 1 1 0 ∷ inverse 1 2 2 ∷ inverse 2 2 2 ∷ [])
+    ∷ skewed (pos 0) (pos 0) (pos 0) (pos 2) (7 ∷ 2 ∷ 1 ∷ []) []
     ∷ []
 
 abbrev pub limitRows : List LimitRow
@@ -144,6 +159,9 @@ limitRows =
 abbrev pub tolerant : ℤ → ℕ → List ℕ → List Claim → Row
 tolerant d s = row 1 s 4 (pos 1 ∷ []) (pos 0 ∷ []) (d ∷ []) (pos 0 ∷ []) (pos 16 ∷ []) (pos 1 ∷ [])
 
+abbrev pub summed : ℤ → List ℕ → List Claim → Row
+summed a = row 1 19 20 (a ∷ []) (pos 0 ∷ []) (pos 63 ∷ []) (pos 1 ∷ []) (pos 2 ∷ []) (pos 1 ∷ [])
+
 abbrev pub toleranceRows : List Row
 toleranceRows =
     tolerant (pos 3) 4 [] (solution 1 48 ∷ inverse 1 1 0 ∷ [])
@@ -152,6 +170,10 @@ toleranceRows =
     ∷ tolerant (pos 1048576) 0 [] (solution 1 1048576 ∷ [])
     ∷ tolerant (pos 1048577) 0 (3 ∷ []) []
     ∷ tolerant (negsuc 0) 0 (3 ∷ []) []
+    ∷ summed (pos 524288) [] (solution 1 64 ∷ [])
+    ∷ summed (pos 524289) (6 ∷ 1 ∷ []) []
+    -- sizes 4 + 4·16 + 1·32 and 1 + 1·16 + 6·32 over margins 14 and 13
+    ∷ fileWith (pos 1 ∷ pos 2 ∷ []) (pos 23) (pos 13) (pos 1) (pos 1) [] (solution 1 17 ∷ solution 2 17 ∷ inverse 1 1 1 ∷ inverse 2 1 1 ∷ [])
     ∷ []
 
 -- no limit is as large

@@ -37,11 +37,11 @@ sound-05 P x = record {
 pub no-slack : (P : Problem) (k : ℕ) → P .d k ≡ 0 → slack P k ≡ 0
 no-slack P k e = rw e (omega arith)
 
-pub exceeds-before : (P : Problem) (k : ℕ) → P .d k ≡ 0 → exceeds05 P k ≡ exceeds01 P k (residual P k)
+pub exceeds-before : (P : Problem) (k : ℕ) → P .d k ≡ 0 → exceeds05 P k ≡ exceeds01 (residual P k)
 exceeds-before P k e =
     let f : natAbs (residual P k) + slack P k ≡ natAbs (residual P k) = omega (arith, no-slack P k e) in ap (ltb allowedResidual) f
 
-pub column-exceeds-before : (P : Problem) (j k : ℕ) → exceeds05 (columnOf P j) k ≡ exceeds01 P k (residual (columnOf P j) k)
+pub column-exceeds-before : (P : Problem) (j k : ℕ) → exceeds05 (columnOf P j) k ≡ exceeds01 (residual (columnOf P j) k)
 column-exceeds-before P j k = exceeds-before (columnOf P j) k (column-exact P j k)
 
 pub sizes-before : (P : Problem) → NoTolerance P → (m : ℕ) → sizes P m ≡ sizes01 P m

@@ -4,6 +4,9 @@
 --   loose-right, loose-exact — 9/3 is a right side of `loose`, at the corner of its tolerance, and 3 its exact solution
 --   loose-sound, loose-encloses — that problem is sound, and its limits enclose;  loose-bound — its limit is 3·S;  loose-reached — that height lies just so far
 --     from the guess, so that no smaller limit holds for all right sides within tolerance
+--   loose-file-bounds — both limits of `looseFile`, which has two rows, unlike tolerances and a residual, are 17: 4 + 4·16 + 1·32 over 14 is less than 8, and
+--     1 + 1·16 + 6·32 over 13 a little above 16
+--   loose-file-right, loose-file-exact — a right side at a corner of these tolerances, and its exact solution
 use mathlib.Core.Path.{_≡_, refl}
 use Prim.Native.Nat.{ℕ, zero, suc, _*_, _<_}
 use native.Mathlib.Omega.{arith}
@@ -14,7 +17,7 @@ use Rattle.integer.specs.Quotient.{ceilDiv}
 use Rattle.linear.specs.Matrix.{Vec, apply, product, identity}
 use Rattle.exact_solution.specs.Determined.{Same}
 use Rattle.enclosure.specs.Demand.{ExactSolution, ExactSolutionOf, RightSide, RoundedExact, Sound, Encloses, sumOfSizes}
-use Rattle.enclosure.specs.Example.{file, exact, exactInverse, loose, farRight, farHeight}
+use Rattle.enclosure.specs.Example.{file, exact, exactInverse, loose, farRight, farHeight, looseFile, cornerRight, cornerHeight}
 use Rattle.enclosure.specs.Problem.{S}
 use Rattle.enclosure.specs.Reckoning.{defect, load, margin, residual, rowSum, exceeds, sizesWith, boundFrom, boundWith, bound, inverseBound}
 use Rattle.enclosure.proofs.Acceptance.{rounded-sound}
@@ -81,3 +84,14 @@ loose-bound = refl
 
 pub loose-reached : natAbs (pos (S loose) *ℤ farHeight 0 -ℤ pos 1 *ℤ loose .X 0) ≡ 1 * (3 * S loose)
 loose-reached = refl
+
+pub loose-file-bounds : (i : ℕ) → i < 2 → bound looseFile i ≡ 17
+unfolding apply product identity sum sumℕ defect load margin residual sizesWith boundFrom boundWith bound largest ceilDiv
+loose-file-bounds = each _ refl refl
+
+pub loose-file-right : RightSide looseFile cornerRight 1
+loose-file-right = record { positive = lit≤ tt; near = each _ (lit≤ tt) (lit≤ tt) }
+
+pub loose-file-exact : ExactSolutionOf looseFile cornerRight 1 cornerHeight 11
+unfolding apply sum
+loose-file-exact = record { positive = lit≤ tt; solves = each _ refl refl }

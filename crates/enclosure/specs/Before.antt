@@ -3,7 +3,7 @@
 --   exceeds05 P k    — the size of the residual of row k, and its slack, are above 2^25 together: the test of Paper 5 alone
 --   Sound05 P        — every margin is above 0, no residual of the guess or of a column of the inverse fails that test
 -- The definitions without slack, in document 01's own text:
---   exceeds01 P k z  — the residual z of row k is above 2^25 in size
+--   exceeds01 z      — the residual z is above 2^25 in size
 --   sizes01 P m      — |p_m|
 --   bound01 P i      — limit i: the largest over all rows m of w_i·|p_m| / g_m, each rounded up;  inverseBound01 P i j — of the inverse
 --   Sound01 P        — every margin is above 0, no residual of the guess or of a column of the inverse above 2^25 in size
@@ -25,8 +25,8 @@ pub record Sound05 (P : Problem) : Type 0 where
   pub residuals : (k : ℕ) → k < P .n → exceeds05 P k ≡ false
   pub columns : (j : ℕ) → j < P .n → (k : ℕ) → k < P .n → exceeds05 (columnOf P j) k ≡ false
 
-abbrev pub exceeds01 : Problem → ℕ → ℤ → Bool
-exceeds01 P k z = ltb (2 ^ 25) (natAbs z)
+abbrev pub exceeds01 : ℤ → Bool
+exceeds01 z = ltb (2 ^ 25) (natAbs z)
 
 abbrev pub sizes01 : Problem → ℕ → ℕ
 sizes01 P m = natAbs (image P m)
@@ -39,5 +39,5 @@ inverseBound01 P i j = bound01 (columnOf P j) i
 
 pub record Sound01 (P : Problem) : Type 0 where
   pub margins : Margins P
-  pub residuals : (k : ℕ) → k < P .n → exceeds01 P k (residual P k) ≡ false
-  pub columns : (j : ℕ) → j < P .n → (k : ℕ) → k < P .n → exceeds01 P k (residual (columnOf P j) k) ≡ false
+  pub residuals : (k : ℕ) → k < P .n → exceeds01 (residual P k) ≡ false
+  pub columns : (j : ℕ) → j < P .n → (k : ℕ) → k < P .n → exceeds01 (residual (columnOf P j) k) ≡ false

@@ -1,10 +1,12 @@
--- The whole file of document 01, as numbers in lists that are long enough, and its exact solution (16/11, 9/11) and inverse (3 1 / 1 4)/11; and a problem
--- with a tolerance.
+-- The whole file of document 01, as numbers in lists that are long enough, and its exact solution (16/11, 9/11) and inverse (3 1 / 1 4)/11; and problems
+-- with tolerances.
 --   padded — a list made long enough by zeros
 --   matrix, right, tolerance, guess, inverse, weights — its lists; it has no tolerance
 --   file   — its problem;  exact, exactInverse — N and H, both with q = 11
 --   loose  — 1·x = 0 with the tolerance 3, both steps 1/16, guess 0, inverse 16/16;  farRight, farHeight — 9, over 3, at the corner of that tolerance, and
 --     3, over 1, its solution
+--   looseFile — the whole file with the tolerances 1 and 2;  cornerRight, cornerHeight — the right side (6, −1) at a corner of them, and (17, 2) over 11, its
+--     solution
 use mathlib.Core.List.{List, [], _∷_, _++_}
 use lib.IntN.{ℤ, pos, negsuc}
 use lib.ListN.{replicate}
@@ -52,3 +54,12 @@ farRight = vectorOf (pos 9 ∷ [])
 
 abbrev pub farHeight : Vec
 farHeight = vectorOf (pos 3 ∷ [])
+
+abbrev pub looseFile : Problem
+looseFile = problemOf 2 4 4 matrix right (padded (pos 1 ∷ pos 2 ∷ [])) guess inverse weights
+
+abbrev pub cornerRight : Vec
+cornerRight = vectorOf (pos 6 ∷ negsuc 0 ∷ [])
+
+abbrev pub cornerHeight : Vec
+cornerHeight = vectorOf (pos 17 ∷ pos 2 ∷ [])

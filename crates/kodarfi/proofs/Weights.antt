@@ -14,7 +14,7 @@ use Rattle.checked.specs.Input.{Input, input}
 use Rattle.checked.specs.Order.{answer}
 use Rattle.weight_sequence.specs.Request.{Request}
 use Rattle.weight_sequence.specs.Search.{saidFound, searchAnswer}
-use Rattle.weight_sequence.specs.Promised.{UsableRequest, FirstPlace, NoGood}
+use Rattle.weight_sequence.specs.Promised.{UsableRequest, PlaceOfFirstGood, NoGood}
 use Rattle.weight_sequence.proofs.Promises.{zero-found, number-none, count-first, none-exactly}
 use Rattle.weight_sequence.proofs.Checks.{never-five}
 use Rattle.kodarfi.specs.Told.{Told}
@@ -28,7 +28,7 @@ module _ {Q : Request} {old number : ℕ} {places : List ℕ} {tried : ℕ} {wei
   said-zero : number ≡ 0 → saidFound (x .answer) ≡ []
   said-zero e = x .found .says ∙ zero-found Q (sym (search-told .number-is) ∙ e)
 
-  pub found-first : number ≡ 0 → FirstPlace Q tried
+  pub found-first : number ≡ 0 → PlaceOfFirstGood Q tried
   found-first e = rw (x .tried-is ∙ accepted-new _ _ (said-zero e)) (count-first Q (x .answer) weights (x .found) (said-zero e))
 
   pub none-good : (number ≡ 18) ↔ (UsableRequest Q × NoGood Q)

@@ -15,7 +15,7 @@ use lib.Seq.{getD-set-same, getD-set-other}
 use Rattle.bit_set.specs.Places.{hasPlace}
 use Rattle.form_values.specs.declared.Item.{Item}
 use Rattle.form_values.specs.declared.Item.the-variants.{End}
-use Rattle.lent_lists.specs.Filled.{filledAt, filled, weightsAfter}
+use Rattle.lent_lists.specs.Filled.{filledAt, filled, closedWeights}
 use Rattle.lent_lists.specs.Pasted.{FillRoom}
 
 is-false : (b : Bool) → not b ≡ true → b ≡ false
@@ -53,7 +53,7 @@ module _ (z k : ℕ) (l : List ℤ) where
 pub end-room : {n k : ℕ} {x : Item} → x ≡ End → FillRoom n k x → (n ≤ 32) × (n ≤ k)
 end-room e h = rw e at h
 
-pub end-filled : (n z : ℕ) (l : List ℤ) {x : Item} {l′ : List ℤ} → x ≡ End → l′ ≡ filled n z l → l′ ≡ weightsAfter n z x l
+pub end-filled : (n z : ℕ) (l : List ℤ) {x : Item} {l′ : List ℤ} → x ≡ End → l′ ≡ filled n z l → l′ ≡ closedWeights n z x l
 end-filled n z l e h = rw e h
 
 pub filled-none : (z : ℕ) (l : List ℤ) → l ≡ filled 0 z l

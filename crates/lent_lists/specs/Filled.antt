@@ -2,7 +2,7 @@
 -- z is the set of the weights that were given, one place for each i from 1 to n: the number i is the place i − 1.
 --   filledAt z k l — the list l with 1 at the place k, where that place is not in the set z
 --   filled n z l   — the same at every place below n
---   weightsAfter n z x l — the weight list l after the item x: an end fills it in, any other item leaves it
+--   closedWeights n z x l — the weight list l after the item x: an end fills it in, any other item leaves it
 --   closed n z x l — all lists after the item x: the others stay as they are
 use mathlib.Core.Bool.{cond}
 use mathlib.Core.List.{List}
@@ -21,11 +21,11 @@ unfoldable pub filled : ℕ → ℕ → List ℤ → List ℤ
 filled zero z l = l
 filled (suc k) z l = filledAt z k (filled k z l)
 
-abbrev pub weightsAfter : ℕ → ℕ → Item → List ℤ → List ℤ
-weightsAfter n z (Problem m) l = l
-weightsAfter n z (Scale s t) l = l
-weightsAfter n z (Of p i) l = l
-weightsAfter n z End l = filled n z l
+abbrev pub closedWeights : ℕ → ℕ → Item → List ℤ → List ℤ
+closedWeights n z (Problem m) l = l
+closedWeights n z (Scale s t) l = l
+closedWeights n z (Of p i) l = l
+closedWeights n z End l = filled n z l
 
 abbrev pub closed : ℕ → ℕ → Item → Lists → Lists
-closed n z x l = lists (l .matrix) (l .right) (l .tolerance) (l .guess) (l .inverse) (weightsAfter n z x (l .weights))
+closed n z x l = lists (l .matrix) (l .right) (l .tolerance) (l .guess) (l .inverse) (closedWeights n z x (l .weights))

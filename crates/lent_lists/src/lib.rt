@@ -4,7 +4,7 @@ ghost use Prim.Native.Nat.{_+_, _≤_, _<_};
 ghost use lib.ListN.{length};
 ghost use lib.Seq.{paste};
 ghost use Rattle.lent_lists.specs.Lists.{lists, tooShort};
-ghost use Rattle.lent_lists.specs.Filled.{filledAt, filled, weightsAfter, closed};
+ghost use Rattle.lent_lists.specs.Filled.{filledAt, filled, closedWeights, closed};
 ghost use Rattle.lent_lists.specs.Pasted.{Narrow, Room, FillRoom, Rooms, spanOf, pastedAt, secondOf, pastedAll};
 use form_values::Item;
 use form_values::Part;
@@ -106,7 +106,7 @@ fn fill_places(set: u32, n: usize, l: &mut [i64])
 // Fills in the weights that were not given, where the form is an end.
 fn fill_weights(item: Item, given: u32, n: usize, weights: &mut [i64])
     requires { ⌜ FillRoom n (length (now weights)) item ⌝ }
-    ensures { λ _. ⌜ now (weights .exit) ≡ weightsAfter n given item (now (weights .entry)) ⌝ }
+    ensures { λ _. ⌜ now (weights .exit) ≡ closedWeights n given item (now (weights .entry)) ⌝ }
 {
     match item {
         Item::Problem(_) => {}

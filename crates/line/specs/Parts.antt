@@ -1,5 +1,6 @@
 -- What the inner functions of the crate answer. `lineOf` is the whole of them, which proofs/ shows; nothing of it rests on this file.
---   kindOf w       — the kind of the numbers in the list of a form
+--   kindOf w       — the kind against whose range the numbers of a list are tested, in a row and in a row of the inverse; any kind for the other words, of
+--     which no such test is kept: besideOf drops it, and the two numbers of a right side are tested with its values
 --   lastIn s ..    — the place of the last bracket of the line s, from its head, a first number, a second one, and a list
 --   cappedRight i v l — the form of the word right: with the second number where the list has one number, else with the first two of the list
 --   cappedOf w i v l — the form of the word w with the number i and a second one, or a list

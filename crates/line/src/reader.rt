@@ -17,7 +17,7 @@ pub struct LineReader<'a> {
     pub at: usize,
 }
 
-// The kind of the numbers in a form's list.
+// The kind against whose range the numbers of a list are tested, in a row and in a row of the inverse; of the other words no such test is kept.
 pub fn kind_of(word: Word) -> Kind
     ensures { λ r. ⌜ r ≡ kindOf word ⌝ }
 {

@@ -23,7 +23,7 @@ use Rattle.form_values.specs.declared.Part.the-variants as part
 use Rattle.lent_lists.specs.Slot.{Slot, Matrix, Right, Tolerance, Guess, Inverse, Weight, partOf, width, valuesFor}
 use Rattle.lent_lists.specs.Lists.{Lists, shortLists}
 use Rattle.lent_lists.specs.Put.{putItem, put}
-use Rattle.lent_lists.specs.Filled.{weightsAfter}
+use Rattle.lent_lists.specs.Filled.{closedWeights}
 use Rattle.lent_lists.proofs.Filled.{length-filled}
 use Rattle.lent_lists.proofs.Lists.{Long, long}
 use Rattle.given_forms.specs.Progress.{setOf, ended}
@@ -51,7 +51,7 @@ length-put s n (Of q i) vs l = go (eqb (partIndex (partOf s)) (partIndex q))
     go false = refl
 length-put s n End vs l = refl
 
-length-weights : (n z : ℕ) (x : Item) (l : List ℤ) → length (weightsAfter n z x l) ≡ length l
+length-weights : (n z : ℕ) (x : Item) (l : List ℤ) → length (closedWeights n z x l) ≡ length l
 length-weights n z (Problem m) l = refl
 length-weights n z (Scale u v) l = refl
 length-weights n z (Of q i) l = refl

@@ -22,7 +22,7 @@ use Rattle.given_forms.specs.Before.{missing01, incomplete01}
 use Rattle.loader_order.specs.Order.{LineCase}
 use Rattle.loader.specs.declared.Loader.{Loader}
 use Rattle.loader.specs.Answer.{ofForm, caseOf, lineAnswer}
-use Rattle.loader.specs.Before.{answer01, leftOut, Recounted, same, fewer, accepted}
+use Rattle.loader.specs.Before.{lineAnswer01, leftOut, Recounted, not-13, fewer, only-weights}
 
 pub missing01-is : (n : ℕ) (z : List ℕ) → missing01 n z ≡ missing n z + lacking (setOf z Weight) n
 unfolding missing01 missing
@@ -50,23 +50,23 @@ module _ (d : Loader) where
     where
       go : Dec (0 < m) → Dec (0 < leftOut d) → Recounted d (cond (ltb 0 (m + leftOut d)) (13 ∷ (m + leftOut d) ∷ []) []) (now (ltb 0 m))
       go (yes a) b = rw (lt-ltb 0 m a, lt-ltb 0 (m + leftOut d) (omega arith)) (fewer a)
-      go (no a) (yes b) = rw (le-ltb 0 m (omega arith), lt-ltb 0 (m + leftOut d) (omega arith)) (accepted (omega arith) b)
-      go (no a) (no b) = rw (le-ltb 0 m (omega arith), le-ltb 0 (m + leftOut d) (omega arith)) (same [] nothing)
+      go (no a) (yes b) = rw (le-ltb 0 m (omega arith), lt-ltb 0 (m + leftOut d) (omega arith)) (only-weights (omega arith) b)
+      go (no a) (no b) = rw (le-ltb 0 m (omega arith), le-ltb 0 (m + leftOut d) (omega arith)) (not-13 [] nothing)
 
   of-form : (f : Form) → Recounted d (then (incomplete01 (d .n) (d .sets) (itemOf f))) (now (incomplete (d .n) (d .sets) (itemOf f)))
-  of-form (problem n) = same [] nothing
-  of-form (scale s t) = same [] nothing
-  of-form (row i a others) = same [] nothing
-  of-form (right i b) = same [] nothing
-  of-form (rightWithin i b e) = same [] nothing
-  of-form (guess i x) = same [] nothing
-  of-form (inverse i g others) = same [] nothing
-  of-form (weight i w) = same [] nothing
+  of-form (problem n) = not-13 [] nothing
+  of-form (scale s t) = not-13 [] nothing
+  of-form (row i a others) = not-13 [] nothing
+  of-form (right i b) = not-13 [] nothing
+  of-form (rightWithin i b e) = not-13 [] nothing
+  of-form (guess i x) = not-13 [] nothing
+  of-form (inverse i g others) = not-13 [] nothing
+  of-form (weight i w) = not-13 [] nothing
   of-form end = at-end
 
   of-reading : (o : Option Form)
       → Recounted d (then (ofForm o false (λ (f : Form). incomplete01 (d .n) (d .sets) (itemOf f)))) (now (ofForm o false (λ (f : Form). incomplete (d .n) (d .sets) (itemOf f))))
-  of-reading none = same [] nothing
+  of-reading none = not-13 [] nothing
   of-reading (some f) = of-form f
 
   -- the tests before 13
@@ -75,19 +75,19 @@ module _ (d : Loader) where
       cond b8 (8 ∷ []) (cond b14 (14 ∷ []) (cond b1 (1 ∷ []) (cond b2 (2 ∷ []) (cond b11 (11 ∷ []) (cond b3 (3 ∷ []) (cond b12 (12 ∷ []) (cond b3′ (3 ∷ []) (cond b4 (4 ∷ []) w))))))))
 
   by-tests : {w v : List ℕ} (b8 b14 b1 b2 b11 b3 b12 b3′ b4 : Bool) → Recounted d w v → Recounted d (first b8 b14 b1 b2 b11 b3 b12 b3′ b4 w) (first b8 b14 b1 b2 b11 b3 b12 b3′ b4 v)
-  by-tests true b14 b1 b2 b11 b3 b12 b3′ b4 h = same (8 ∷ []) (alone (λ e. omega arith))
-  by-tests false true b1 b2 b11 b3 b12 b3′ b4 h = same (14 ∷ []) (alone (λ e. omega arith))
-  by-tests false false true b2 b11 b3 b12 b3′ b4 h = same (1 ∷ []) (alone (λ e. omega arith))
-  by-tests false false false true b11 b3 b12 b3′ b4 h = same (2 ∷ []) (alone (λ e. omega arith))
-  by-tests false false false false true b3 b12 b3′ b4 h = same (11 ∷ []) (alone (λ e. omega arith))
-  by-tests false false false false false true b12 b3′ b4 h = same (3 ∷ []) (alone (λ e. omega arith))
-  by-tests false false false false false false true b3′ b4 h = same (12 ∷ []) (alone (λ e. omega arith))
-  by-tests false false false false false false false true b4 h = same (3 ∷ []) (alone (λ e. omega arith))
-  by-tests false false false false false false false false true h = same (4 ∷ []) (alone (λ e. omega arith))
+  by-tests true b14 b1 b2 b11 b3 b12 b3′ b4 h = not-13 (8 ∷ []) (alone (λ e. omega arith))
+  by-tests false true b1 b2 b11 b3 b12 b3′ b4 h = not-13 (14 ∷ []) (alone (λ e. omega arith))
+  by-tests false false true b2 b11 b3 b12 b3′ b4 h = not-13 (1 ∷ []) (alone (λ e. omega arith))
+  by-tests false false false true b11 b3 b12 b3′ b4 h = not-13 (2 ∷ []) (alone (λ e. omega arith))
+  by-tests false false false false true b3 b12 b3′ b4 h = not-13 (11 ∷ []) (alone (λ e. omega arith))
+  by-tests false false false false false true b12 b3′ b4 h = not-13 (3 ∷ []) (alone (λ e. omega arith))
+  by-tests false false false false false false true b3′ b4 h = not-13 (12 ∷ []) (alone (λ e. omega arith))
+  by-tests false false false false false false false true b4 h = not-13 (3 ∷ []) (alone (λ e. omega arith))
+  by-tests false false false false false false false false true h = not-13 (4 ∷ []) (alone (λ e. omega arith))
   by-tests false false false false false false false false false h = h
 
-pub recounted : (d : Loader) (l : Lists) (line : List ℕ) → Recounted d (answer01 d l line) (lineAnswer d l line)
-unfolding lineAnswer answer01
+pub recounted : (d : Loader) (l : Lists) (line : List ℕ) → Recounted d (lineAnswer01 d l line) (lineAnswer d l line)
+unfolding lineAnswer lineAnswer01
 recounted d l line =
     let c : LineCase = caseOf d l line in
     by-tests d (c .short) (c .ended) (c .long) (c .unspelled) (c .early) (c .misplaced) (c .repeated) (c .outside) (c .miscounted) (of-reading d (reading line))

@@ -1,5 +1,5 @@
 -- What is said of a line with document 01's count of missing forms, before Paper 1 of 02, and what becomes of it (proofs/Count).
---   answer01 d l line — what is said of the line, all else being as it is now
+--   lineAnswer01 d l line — what is said of the line, all else being as it is now
 --   leftOut d         — how many weights were not given
 --   Recounted d w v   — w, said with 01's count, and v, said now: the same, unless w is 13; then 13 with a count that is lower by the weights not given, or
 --     acceptance where only weights are missing
@@ -37,13 +37,13 @@ case01 d l line =
       missing = missing01 (d .n) (d .sets);
     }
 
-unfoldable pub answer01 : Loader → Lists → List ℕ → List ℕ
-answer01 d l line = verdict (lineOrder (case01 d l line))
+unfoldable pub lineAnswer01 : Loader → Lists → List ℕ → List ℕ
+lineAnswer01 d l line = verdict (lineOrder (case01 d l line))
 
 abbrev pub leftOut : Loader → ℕ
 leftOut d = lacking (setOf (d .sets) Weight) (d .n)
 
 pub data Recounted (d : Loader) : List ℕ → List ℕ → Type 0 where
-  same : (w : List ℕ) → ((k : ℕ) → w ≡ 13 ∷ k ∷ [] → ⊥) → Recounted d w w
+  not-13 : (w : List ℕ) → ((k : ℕ) → w ≡ 13 ∷ k ∷ [] → ⊥) → Recounted d w w
   fewer : 0 < missing (d .n) (d .sets) → Recounted d (13 ∷ (missing (d .n) (d .sets) + leftOut d) ∷ []) (13 ∷ missing (d .n) (d .sets) ∷ [])
-  accepted : missing (d .n) (d .sets) ≡ 0 → 0 < leftOut d → Recounted d (13 ∷ (missing (d .n) (d .sets) + leftOut d) ∷ []) []
+  only-weights : missing (d .n) (d .sets) ≡ 0 → 0 < leftOut d → Recounted d (13 ∷ (missing (d .n) (d .sets) + leftOut d) ∷ []) []

@@ -1,14 +1,20 @@
--- The small net of specs/Example, computed: what is said, A and b; and the ends of the ranges: 3 one past each of them.
-use mathlib.Core.Path.{_≡_, refl}
-use mathlib.Core.List.{[], _∷_, _++_}
-use lib.IntN.{pos, negsuc}
+-- The small net of specs/Example, computed: what is said, A and b; the ends of the ranges: 3 one past each of them, and past 256 lines; and heights that fit
+-- every line, so that `heights-solve` is of more than nothing.
+use mathlib.Core.Path.{_≡_, refl, sym, subst}
+use mathlib.Core.List.{List, [], _∷_, _++_}
+use lib.IntN.{pos, negsuc, _-ℤ_, _*ℤ_}
+use lib.ListN.{replicate}
 use Rattle.rules.specs.Range as R
 use Rattle.observation.specs.Line as L
 use Rattle.observation.specs.Order as O
 use Rattle.observation.specs.Order.{buildAnswer}
 use Rattle.observation.specs.Distinct as D
 use Rattle.observation.specs.Distinct.{builtMatrix, builtRight}
-use Rattle.observation.specs.Example.{line, net, other, loop, heavy, ends}
+use Rattle.observation.specs.declared.Observation.{Observation}
+use Rattle.observation.specs.Example.{line, near, net, other, loop, heavy, ends, fitting, fitHeights}
+use Rattle.observation.specs.Heights.{FitAll}
+use Rattle.observation.specs.Stated.{Among}
+use Rattle.observation.proofs.Members.{nobody, either}
 
 builds : buildAnswer 2 net 1024 32 ≡ []
 unfolding O.buildAnswer O.observationsSay L.outsideRange L.clashes L.sameContents R.inRange R.rangeOf R.ranges
@@ -32,3 +38,16 @@ past-ends : (buildAnswer 32 (line 0 0 1 (pos 0) 1 ∷ []) 1024 32 ≡ 3 ∷ []) 
     × (buildAnswer 32 (line 1 0 1 (negsuc 65536) 1 ∷ []) 1024 32 ≡ 3 ∷ []) × (buildAnswer 32 (line 1 0 1 (pos 65537) 1 ∷ []) 1024 32 ≡ 3 ∷ []) × (buildAnswer 32 (line 1 0 1 (pos 0) 0 ∷ []) 1024 32 ≡ 3 ∷ [])
 unfolding O.buildAnswer O.observationsSay L.outsideRange L.clashes L.sameContents R.inRange R.rangeOf R.ranges
 past-ends = (refl, refl, refl, refl, refl, refl)
+
+counts : (buildAnswer 2 (replicate 256 near) 1024 32 ≡ []) × (buildAnswer 2 (replicate 257 near) 1024 32 ≡ 3 ∷ [])
+unfolding O.buildAnswer O.observationsSay L.outsideRange L.clashes L.sameContents R.inRange R.rangeOf R.ranges
+counts = (refl, refl)
+
+abbrev Fit : Observation → Type 0
+Fit l = fitHeights (l .to) -ℤ fitHeights (l .«from») ≡ pos 2 *ℤ l .difference
+
+each : {l x : Observation} {xs : List Observation} → Fit x → (Among l xs → Fit l) → Among l (x ∷ xs) → Fit l
+each f g i = either i (λ e. subst Fit (sym e) f) g
+
+fit-all : FitAll fitting 2 fitHeights
+fit-all = record { fixed = refl; fits = λ l. each refl (each refl (each refl nobody)) }

@@ -3,8 +3,9 @@
 --   near, joining, far — the lines 0 → 1, 1 → 2, 2 → 0;  net — a list of them
 --   other — the key of `joining` with another weight;  loop — a line from a mark to itself;  heavy — a weight of 65
 --   ends — lines at both ends of every range, for n = 32
+--   fitting, fitHeights — lines that heights fit, and these heights, over 2
 use mathlib.Core.List.{List, [], _∷_}
-use Prim.Native.Nat.{ℕ}
+use Prim.Native.Nat.{ℕ, zero, suc}
 use lib.IntN.{ℤ, pos, negsuc}
 use Rattle.observation.specs.declared.Observation.{Observation}
 
@@ -34,3 +35,11 @@ heavy = line 3 0 1 (pos 1) 65
 
 abbrev pub ends : List Observation
 ends = line 1 0 32 (negsuc 65535) 1 ∷ line 65535 32 0 (pos 65536) 64 ∷ []
+
+abbrev pub fitting : List Observation
+fitting = near ∷ joining ∷ near ∷ []
+
+abbrev pub fitHeights : ℕ → ℤ
+fitHeights zero = pos 0
+fitHeights (suc zero) = pos 20
+fitHeights (suc (suc k)) = pos 14

@@ -26,7 +26,7 @@ use Rattle.weight_sequence.specs.Sequence.{loads, tried}
 use Rattle.weight_sequence.specs.declared.Found.{Found}
 use Rattle.weight_sequence.specs.Request.{Request, searchProblem, searchShort, searchInRanges, searchLists}
 use Rattle.weight_sequence.specs.Search.{saidFound, countOf, passed, searchAnswer, countAfter, weightsAfter, FoundAs}
-use Rattle.weight_sequence.specs.Promised.{UsableRequest, SearchStated, is-8, is-3, is-18, is-0, FirstPlace, NoGood, allowing}
+use Rattle.weight_sequence.specs.Promised.{UsableRequest, SearchStated, is-8, is-3, is-18, is-0, PlaceOfFirstGood, NoGood, allowing}
 use Rattle.weight_sequence.proofs.Contract.{fit-of, answer-short, answer-range, answer-found, answer-none}
 use Rattle.weight_sequence.proofs.First as first
 use Rattle.weight_sequence.proofs.Sizes.{tried-load}
@@ -83,7 +83,7 @@ module _ (Q : Request) (r : Found) (weights : List ℤ) (x : FoundAs Q r weights
   found-here : saidFound r ≡ [] → UsableRequest Q × (passed Q < Q .allowance)
   found-here z = found-case Q (search-stated Q) (sym (x .says) ∙ z)
 
-  pub count-first : saidFound r ≡ [] → FirstPlace Q (countOf r)
+  pub count-first : saidFound r ≡ [] → PlaceOfFirstGood Q (countOf r)
   unfolding countAfter
   count-first z =
       let l : passed Q < Q .allowance = found-here z .1 in

@@ -2,7 +2,7 @@
 --   UsableRequest Q — no lent list is too short, and n, t, the allowance and every number used are in their ranges: neither 8 nor 3
 --   SearchStated Q w — w is said, by its stated case: 8 a list is too short, 3 none is and a number is out of its range, 18 neither and none of the allowed
 --     lists is good, nothing where neither and one of them is
---   FirstPlace Q c — list c of the sequence, counted from 1, is the first good one, and c is at most the allowance
+--   PlaceOfFirstGood Q c — list c of the sequence, counted from 1, is the first good one, and c is at most the allowance
 --   NoGood Q       — none of the allowed lists is good
 --   allowing Q b   — the same request with another allowance
 --   AgreeingRequests Q R — their lists are long enough, and they agree on n, t, the allowance and the first n × n numbers of the matrix and the inverse;
@@ -26,7 +26,7 @@ pub data SearchStated (Q : Request) : List ℕ → Type 0 where
   is-18 : UsableRequest Q → Q .allowance ≤ passed Q → SearchStated Q (18 ∷ [])
   is-0 : UsableRequest Q → passed Q < Q .allowance → SearchStated Q []
 
-pub record FirstPlace (Q : Request) (c : ℕ) : Type 0 where
+pub record PlaceOfFirstGood (Q : Request) (c : ℕ) : Type 0 where
   pub before : ℕ
   pub place : c ≡ before + 1
   pub allowed : c ≤ Q .allowance

@@ -1,5 +1,5 @@
 use Rattle.lent_lists.proofs.Lists.{lists-≡}
-use Rattle.lent_lists.specs.Filled.{weightsAfter}
+use Rattle.lent_lists.specs.Filled.{closedWeights}
 use Rattle.lent_lists.specs.Pasted.{FillRoom, spanOf, pastedAt}
 use Rattle.form_values.specs.declared.Part.the-variants.{Right}
 use lib.IntN.{ℤ}
@@ -67,7 +67,7 @@ returns c =
     let s = p1 .before .before in
     let d = p3 .write-part3 .ensures ∙ ap (λ (vs : List ℤ). pastedAt (spanOf Right (s .args .item) 1) vs (s .args .tolerance .now)) (p3 .before .before .second-of .ensures) in
     lists-≡ (p1 .write-part .ensures) (p2 .write-part2 .ensures) d (p4 .write-part4 .ensures) (p5 .write-part5 .ensures)
-    (f .fill-weights .ensures ∙ ap (weightsAfter (s .args .n) (s .args .given) (s .args .item)) (p6 .write-part6 .ensures))
+    (f .fill-weights .ensures ∙ ap (closedWeights (s .args .n) (s .args .given) (s .args .item)) (p6 .write-part6 .ensures))
 
 pub write-all-spec : {M : Type 1} → statement M
 write-all-spec =
