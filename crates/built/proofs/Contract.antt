@@ -22,7 +22,7 @@ use Rattle.equations.specs.Written.{widthOf, matrixWritten, rightWritten}
 use Rattle.equations.specs.Kept.{keptMatrix, keptRight}
 use Rattle.built.specs.Finished.{saidFinally, Finished}
 use Rattle.equations.proofs.Places.{written-ext, rows-ext}
-use Rattle.built.specs.BuiltAs.{shortLists, BuiltAs}
+use Rattle.built.specs.BuiltAs.{shortFor, BuiltAs}
 
 -- 8 first, then 3 for n, 3 for a list above 256, then the lines
 finally : (s z m : Bool) (lines : List ℕ) → cond s (8 ∷ []) (andThen (cond (z && m) [] (3 ∷ [])) lines) ≡ andThen (cond s (8 ∷ []) (cond (not z) (3 ∷ []) (cond (not m) (3 ∷ []) []))) lines
@@ -42,20 +42,20 @@ module _ (n : ℕ) (ls : List Observation) (layout : Layout) (a b : List ℤ) wh
   w : Whole n ls
   w = whole n ls
 
-  says : saidFinally (shortLists layout a b) (saidBuilt (gatheredOf n ls .told)) ≡ buildAnswer n ls (shortLists layout a b)
+  says : saidFinally (shortFor layout a b) (saidBuilt (gatheredOf n ls .told)) ≡ buildAnswer n ls (shortFor layout a b)
   unfolding buildAnswer
   says =
-      ap (saidFinally (shortLists layout a b)) (w .says)
-      ∙ finally (shortLists layout a b) (inRange kind.Size (pos n)) (leb (length ls) 256) (observationsSay n [] ls)
-      ∙ ap (λ (m : Bool). andThen (cond (shortLists layout a b) (8 ∷ []) (cond (not (inRange kind.Size (pos n))) (3 ∷ []) (cond m (3 ∷ []) []))) (observationsSay n [] ls)) (many (length ls))
+      ap (saidFinally (shortFor layout a b)) (w .says)
+      ∙ finally (shortFor layout a b) (inRange kind.Size (pos n)) (leb (length ls) 256) (observationsSay n [] ls)
+      ∙ ap (λ (m : Bool). andThen (cond (shortFor layout a b) (8 ∷ []) (cond (not (inRange kind.Size (pos n))) (3 ∷ []) (cond m (3 ∷ []) []))) (observationsSay n [] ls)) (many (length ls))
 
   -- where nothing is said in the end, nothing was said of the lines
   lines-silent : (s : Bool) (t : List ℕ) → cond s (8 ∷ []) t ≡ [] → t ≡ []
   lines-silent true t e = absurd (nothing-is-not e)
   lines-silent false t e = e
 
-  kept : (t : List ℕ) → t ≡ saidFinally (shortLists layout a b) (saidBuilt (gatheredOf n ls .told)) → {A : Type 0} (new new′ old : A) → (saidBuilt (gatheredOf n ls .told) ≡ [] → new ≡ new′) → accepted t new old ≡ accepted t new′ old
-  kept [] e new new′ old h = h (lines-silent (shortLists layout a b) _ (sym e))
+  kept : (t : List ℕ) → t ≡ saidFinally (shortFor layout a b) (saidBuilt (gatheredOf n ls .told)) → {A : Type 0} (new new′ old : A) → (saidBuilt (gatheredOf n ls .told) ≡ [] → new ≡ new′) → accepted t new old ≡ accepted t new′ old
+  kept [] e new new′ old h = h (lines-silent (shortFor layout a b) _ (sym e))
   kept (k ∷ ks) e new new′ old h = refl
 
   pub built : {r : Built} {a′ b′ : List ℤ} → Finished (gatheredOf n ls) layout a b r a′ b′ → BuiltAs n ls layout a b r a′ b′

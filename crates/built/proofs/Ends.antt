@@ -23,20 +23,20 @@ use Rattle.integer.specs.Finite.{sumℕ}
 use Rattle.linear.proofs.Places.{square}
 use native.Mathlib.Omega.{arith}
 use Rattle.equations.specs.Kept.{keptMatrix, keptRight}
-use Rattle.built.specs.BuiltAs.{shortAs, shortLists}
+use Rattle.built.specs.BuiltAs.{shortAs, shortFor}
 use Rattle.built.specs.Finished.{Finished}
 
-pub long-right : (layout : Layout) (a b : List ℤ) → shortLists layout a b ≡ false → 32 ≤ length b
+pub long-right : (layout : Layout) (a b : List ℤ) → shortFor layout a b ≡ false → 32 ≤ length b
 long-right layout a b e = ltb-false (length b) 32 (neither-right (shortAs layout (length a)) (shortColumn (length b)) e)
 
 room-as : (layout : Layout) (n k : ℕ) → n ≤ 32 → shortAs layout k ≡ false → sumℕ n (widthOf layout n) ≤ k
 room-as Square n k few e = omega (arith, square-start n n, square few, ltb-false k 1024 e)
 room-as Lower n k few e = omega (arith, lower-start n n, count-few few, ltb-false k 528 e)
 
-pub matrix-room : (layout : Layout) (n : ℕ) (a b : List ℤ) → n ≤ 32 → shortLists layout a b ≡ false → sumℕ n (widthOf layout n) ≤ length a
+pub matrix-room : (layout : Layout) (n : ℕ) (a b : List ℤ) → n ≤ 32 → shortFor layout a b ≡ false → sumℕ n (widthOf layout n) ≤ length a
 matrix-room layout n a b few e = room-as layout n (length a) few (neither-left (shortAs layout (length a)) (shortColumn (length b)) e)
 
-module _ (g : Gathered) (layout : Layout) (a b : List ℤ) {s : Bool} (t : s ≡ shortLists layout a b) where
+module _ (g : Gathered) (layout : Layout) (a b : List ℤ) {s : Bool} (t : s ≡ shortFor layout a b) where
   pub finish-short : s ≡ true → Finished g layout a b (Refused TooShort) a b
   finish-short e = record { says = rw (← t, e); matrix = refl; right = refl }
 

@@ -27,7 +27,7 @@ use Rattle.observation.proofs.Net.{symmetric}
 use Rattle.equations.specs.declared.Layout.the-variants.{Square, Lower}
 use Rattle.equations.specs.Written.{widthOf, matrixWritten}
 use Rattle.equations.proofs.Layouts.{rows-at, rows-else, lower-start}
-use Rattle.built.specs.BuiltAs.{shortLists, BuiltAs}
+use Rattle.built.specs.BuiltAs.{shortFor, BuiltAs}
 use Rattle.built.proofs.Ends.{matrix-room}
 use Rattle.built.proofs.Held.{new-matrix, fitting, few-rows, right-held, right-rest, right-in-check-range, matrix-in-check-range, held}
 
@@ -83,5 +83,5 @@ module _ (n : ℕ) (ls : List Observation) (h b : List ℤ) {r : Built} {h′ b�
     )
 
 pub same-refusals : (n : ℕ) (ls : List Observation) (h b a c : List ℤ) {r s : Built} {h′ b′ a′ c′ : List ℤ} → BuiltAs n ls Lower h b r h′ b′ → BuiltAs n ls Square a c s a′ c′ →
-    shortLists Lower h b ≡ shortLists Square a c → saidBuilt r ≡ saidBuilt s
+    shortFor Lower h b ≡ shortFor Square a c → saidBuilt r ≡ saidBuilt s
 same-refusals n ls h b a c f g e = f .says ∙ ap (buildAnswer n ls) e ∙ sym (g .says)

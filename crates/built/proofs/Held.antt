@@ -32,7 +32,7 @@ use Rattle.equations.specs.Written.{widthOf, matrixWritten, rightWritten}
 use Rattle.built.proofs.Ends.{matrix-room, long-right}
 use Rattle.equations.proofs.Layouts.{square-start, square-at, square-else}
 use Rattle.equations.proofs.Places.{written-at, written-else, written-ext, rows-ext}
-use Rattle.built.specs.BuiltAs.{shortLists, BuiltAs}
+use Rattle.built.specs.BuiltAs.{shortFor, BuiltAs}
 
 pub record Held (n : ℕ) (ls : List Observation) (a b a′ b′ : List ℤ) : Type 0 where
   pub matrix : (i j : ℕ) → i < n → j < n → at a′ (i * n + j) ≡ builtMatrix ls i j
@@ -47,7 +47,7 @@ module _ (n : ℕ) (ls : List Observation) (layout : Layout) (a b : List ℤ) {r
       (built .matrix ∙ accepted-old (matrixWritten layout n (builtMatrix ls) a) a s, built .right ∙ accepted-old (rightWritten n (builtRight ls) b) b s)
 
   module _ (done : saidBuilt r ≡ []) where
-    silent : buildAnswer n ls (shortLists layout a b) ≡ []
+    silent : buildAnswer n ls (shortFor layout a b) ≡ []
     silent = sym (built .says) ∙ done
 
     pub new-matrix : a′ ≡ matrixWritten layout n (builtMatrix ls) a
@@ -56,8 +56,8 @@ module _ (n : ℕ) (ls : List Observation) (layout : Layout) (a b : List ℤ) {r
     pub new-right : b′ ≡ rightWritten n (builtRight ls) b
     new-right = built .right ∙ accepted-new (rightWritten n (builtRight ls) b) b silent
 
-    pub fitting : Admitted n (length ls) (shortLists layout a b) × Fits n ls
-    fitting = builds-fits n ls (shortLists layout a b) silent
+    pub fitting : Admitted n (length ls) (shortFor layout a b) × Fits n ls
+    fitting = builds-fits n ls (shortFor layout a b) silent
 
     pub few-rows : n ≤ 32
     few-rows = size-range n (fitting .0 .size) .1
@@ -105,7 +105,7 @@ module _ (n : ℕ) (ls : List Observation) (a b : List ℤ) {r : Built} {a′ b�
 pub repeated-built : (n : ℕ) (l : Observation) (xs ys : List Observation) (layout : Layout) (a b : List ℤ) {r s : Built} {a′ b′ a″ b″ : List ℤ} →
     BuiltAs n (xs ++ ys) layout a b r a′ b′ → saidBuilt r ≡ [] → Among l (xs ++ ys) → length (xs ++ l ∷ ys) ≤ 256 → BuiltAs n (xs ++ l ∷ ys) layout a b s a″ b″ → (saidBuilt s ≡ []) × (a″ ≡ a′) × (b″ ≡ b′)
 repeated-built n l xs ys layout a b f done i few g =
-    let same = repeated n (shortLists layout a b) l xs ys (sym (f .says) ∙ done) i few in
+    let same = repeated n (shortFor layout a b) l xs ys (sym (f .says) ∙ done) i few in
     let again = g .says ∙ same .builds in (
       again,
       new-matrix n (xs ++ l ∷ ys) layout a b g again ∙ rows-ext (widthOf layout n) n (builtMatrix (xs ++ l ∷ ys)) (builtMatrix (xs ++ ys)) a (same .matrix) ∙ sym (new-matrix n (xs ++ ys) layout a b f done),

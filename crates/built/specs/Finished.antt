@@ -13,12 +13,12 @@ use Rattle.gathering.specs.declared.Gathered.{Gathered}
 use Rattle.equations.specs.declared.Layout.{Layout}
 use Rattle.equations.specs.Kept.{keptMatrix, keptRight}
 use Rattle.equations.specs.Written.{matrixWritten, rightWritten}
-use Rattle.built.specs.BuiltAs.{shortLists}
+use Rattle.built.specs.BuiltAs.{shortFor}
 
 abbrev pub saidFinally : Bool → List ℕ → List ℕ
 saidFinally short lines = cond short (8 ∷ []) lines
 
 pub record Finished (g : Gathered) (layout : Layout) (a b : List ℤ) (r : Built) (a′ b′ : List ℤ) : Type 0 where
-  pub says : saidBuilt r ≡ saidFinally (shortLists layout a b) (saidBuilt (g .told))
+  pub says : saidBuilt r ≡ saidFinally (shortFor layout a b) (saidBuilt (g .told))
   pub matrix : a′ ≡ accepted (saidBuilt r) (matrixWritten layout (g .n) (keptMatrix g) a) a
   pub right : b′ ≡ accepted (saidBuilt r) (rightWritten (g .n) (keptRight g) b) b

@@ -24,7 +24,7 @@ use Rattle.observation.specs.Order.{saidBuilt, buildAnswer}
 use Rattle.lower_half.specs.Half.{filledOut}
 use Rattle.equations.specs.declared.Layout.{Layout}
 use Rattle.equations.specs.declared.Layout.the-variants.{Square, Lower}
-use Rattle.built.specs.BuiltAs.{shortLists}
+use Rattle.built.specs.BuiltAs.{shortFor}
 use Rattle.built.proofs.Held.{Held, held, untouched, in-check-ranges}
 use Rattle.built.proofs.Halves.{HeldHalf, held-half, half-is-square}
 use Rattle.kodarfi.specs.Build.{BuildExported}
@@ -37,7 +37,7 @@ zero-built SameMark e = absurd (omega arith)
 zero-built OtherContents e = absurd (omega arith)
 
 module _ {n : ℕ} {ls : List Observation} {layout : Layout} {a b : List ℤ} {number : ℕ} {a′ b′ : List ℤ} (x : BuildExported n ls layout a b number a′ b′) where
-  pub build-told : number ≡ getD (buildAnswer n ls (shortLists layout a b)) 0 0
+  pub build-told : number ≡ getD (buildAnswer n ls (shortFor layout a b)) 0 0
   build-told = x .number-is ∙ ap (λ (l : List ℕ). getD l 0 0) (x .built .says)
 
   pub build-refused : {k : ℕ} → number ≡ suc k → (a′ ≡ a) × (b′ ≡ b)
