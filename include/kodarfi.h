@@ -51,6 +51,23 @@ uint32_t kodarfi_check(uint32_t n, uint32_t s, uint32_t t,
                        uint64_t *inverse_bounds, size_t inverse_bounds_len,
                        uint64_t places[2]);
 
+/* The check of a symmetric matrix by its lower half (document 02, Paper 10).
+ *
+ * half has at least 528 numbers, 8 under that. It holds the matrix in rows of 1, 2, .. n numbers: row i and column j, j up to i, both from 1, at place
+ * i * (i - 1) / 2 + j, from 1. The first n * (n + 1) / 2 are used, and the rest is not read; where n is outside its range none is. Everything else is as in
+ * kodarfi_check, and so are the answer, the places and both lists of limits, for the square matrix that has these numbers on both sides of the diagonal.
+ */
+uint32_t kodarfi_check_half(uint32_t n, uint32_t s, uint32_t t,
+                            const int64_t *half, size_t half_len,
+                            const int64_t *right, size_t right_len,
+                            const int64_t *tolerance, size_t tolerance_len,
+                            const int64_t *guess, size_t guess_len,
+                            const int64_t *inverse, size_t inverse_len,
+                            const int64_t *weights, size_t weights_len,
+                            uint64_t *solution_bounds, size_t solution_bounds_len,
+                            uint64_t *inverse_bounds, size_t inverse_bounds_len,
+                            uint64_t places[2]);
+
 /* The listing of a file, byte for byte what the program `register` prints for it.
  *
  * listing has 32,768 bytes, which is enough for every file. The first *written of them are the listing, its last line feed included; the others are
@@ -128,6 +145,13 @@ uint32_t kodarfi_build(uint32_t n,
                        const struct kodarfi_observation *observations, size_t observations_len,
                        int64_t *matrix, size_t matrix_len,
                        int64_t *right, size_t right_len);
+
+/* The same, with the matrix by its lower half, as kodarfi_check_half takes it: half has at least 528 numbers, 8 under that, and the first n * (n + 1) / 2 are
+ * written. What they stand for is what kodarfi_build writes, and the right sides are the same. */
+uint32_t kodarfi_build_half(uint32_t n,
+                            const struct kodarfi_observation *observations, size_t observations_len,
+                            int64_t *half, size_t half_len,
+                            int64_t *right, size_t right_len);
 
 /* Doubles in (document 02, Paper 11): a solver's heights as guesses, for S = 2^s solution steps a unit.
  *

@@ -24,13 +24,15 @@ MOST_DAMAGED = 10
 DAMAGES = 6
 
 
-def emit(call):
-    outcome = check(call.problem(), call.lengths)
-    lists = [[call.count, call.n, call.s, call.t, *call.lengths], *call.lists]
+def answer_lines(outcome):
+    """The refusal's number with its places, and where accepted the limits."""
     if isinstance(outcome, Bounds):
-        lists += [[0, 0, 0], outcome.solution, [limit for row in outcome.inverse for limit in row]]
-    else:
-        lists += [[outcome.number, *outcome.values, 0, 0][:3]]
+        return [[0, 0, 0], outcome.solution, [limit for row in outcome.inverse for limit in row]]
+    return [[outcome.number, *outcome.values, 0, 0][:3]]
+
+
+def emit(call):
+    lists = [[call.count, call.n, call.s, call.t, *call.lengths], *call.lists, *answer_lines(check(call.problem(), call.lengths))]
     sys.stdout.write("".join(joined(numbers) + "\n" for numbers in lists))
 
 

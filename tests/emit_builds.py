@@ -1,10 +1,11 @@
-"""Writes lists of field lines (02, Paper 3) with what the second implementation builds of them, for programs in other languages.
+"""Writes lists of field lines (02, Paper 3) with what the second implementation builds of them, squares and lower halves, for programs in other languages.
 
   python3 tests/emit_builds.py [--builds 2000] [--seed 1]   lists by chance, and damaged calls of them
   python3 tests/emit_builds.py --self-test                  they meet every case, tell every version of wrong_builds.py, and agree with the other tests' nets
 
-Each build is: n, how many lines, and the two lengths that the call is told; then the lines, five numbers each; then the refusal's number, 0 where the
-equations are built; and then, where they are, the n × n numbers of the matrix and the n right sides."""
+Each build is: n, how many lines, 0 for a square and 1 for a lower half (02, Paper 10), and the two lengths that the call is told; then the lines, five
+numbers each; then the refusal's number, 0 where the equations are built; and then, where they are, the numbers of the matrix, n × n or n(n + 1)/2, and the n
+right sides."""
 
 import argparse
 import random
@@ -13,10 +14,11 @@ from collections import Counter
 from pathlib import Path
 
 from net import joined
-from second.field_lines import MOST, Build, Builder, FieldLine
+from second.field_lines import LEAST, LOWER, MOST, SQUARE, Builder
+from second.half import HALF, HalfEntry
 from second.refusal import Refusal
 from systems import usual
-from systems.field import damaged, listed, town
+from systems.field import damaged, halved, listed, town
 from wrong_builds import BUILT
 
 sys.path.append(str(Path(__file__).resolve().parent.parent / "examples"))
@@ -30,22 +32,26 @@ CASES = (
     *("built", "refused 3", "refused 8", "refused 16", "refused 17"),
     *("a list of 0", "a list of 1", "a list of 256", "a list of 257", "a key met again and built", "mark 0 and mark n", "0 to 0", "16 with a key met before"),
     *("a right side of 2^30", "a right side of -2^30", "3 after a good line", "a refusal with lines after it"),
+    *("half built", "half refused 3", "half refused 8", "half refused 16", "half refused 17"),
+    *("a half of 527", "a half of 528", "a half above 528", "half with n = 32"),
 )
 
 
 def builds(seed, count):
+    """Every list as a square, and each second one as a half too; some of either damaged."""
     yield town()
     for index in range(count):
         rng = random.Random(f"builds {seed}/{index}")
         call = listed(rng)
-        yield call
-        if rng.randrange(4) == 0:
-            yield damaged(rng, call)
+        for laid in (call, halved(rng, call)) if index % 2 else (call,):
+            yield laid
+            if rng.randrange(4) == 0:
+                yield damaged(rng, laid)
 
 
 def written(call):
     answer = Builder().build(call)
-    yield [call.n, len(call.lines), *call.lengths]
+    yield [call.n, len(call.lines), (SQUARE, LOWER).index(call.layout), *call.lengths]
     yield from call.lines
     if isinstance(answer, Refusal):
         yield [answer.number]
@@ -65,8 +71,17 @@ def first_refused(call):
     return None
 
 
+def half_cases_of(call, answer):
+    yield f"half refused {answer.number}" if isinstance(answer, Refusal) else "half built"
+    yield f"a half of {call.lengths.matrix}" if call.lengths.matrix <= HALF else "a half above 528"
+    if call.n == 32:
+        yield "half with n = 32"
+
+
 def cases_of(call, answer):
     lines = call.lines
+    if call.layout == LOWER:
+        yield from half_cases_of(call, answer)
     yield f"a list of {len(lines)}"
     if isinstance(answer, Refusal):
         yield f"refused {answer.number}"
@@ -117,11 +132,18 @@ def beside_others():
             yield f"levelling net {index} has another matrix"
 
 
+def is_filled_out(call, built):
+    """Whether a half, filled out, is what the square layout gives."""
+    square = Builder().build(call._replace(layout=SQUARE, lengths=LEAST[SQUARE]))
+    return HalfEntry().filled_out(call.n, built.matrix) == square.matrix and built.right == square.right
+
+
 def self_test(seed, count):
-    met, told, total = Counter(), Counter(), 0
+    met, told, total, differing = Counter(), Counter(), 0, 0
     for call in builds(seed, count):
         right = Builder().build(call)
         met.update(cases_of(call, right))
+        differing += call.layout == LOWER and not isinstance(right, Refusal) and not is_filled_out(call, right)
         total += 1
         for name, wrong in BUILT.items():
             told[name] += told[name] < ENOUGH and wrong.build(call) != right
@@ -129,9 +151,10 @@ def self_test(seed, count):
     failed = [f"{name}: {met[name]} met" for name in CASES if met[name] < ENOUGH]
     failed += [f"no build tells the version '{name}'" for name in BUILT if not told[name]]
     failed += beside_others()
+    failed += [f"{differing} halves, filled out, are not what the square layout gives"] if differing else []
     for fault in failed:
         print("FAILED", fault)
-    print(f"{max(0, len(CASES) + len(BUILT) + 3 - len(failed))} passed, {len(failed)} failed")
+    print(f"{max(0, len(CASES) + len(BUILT) + 4 - len(failed))} passed, {len(failed)} failed")
     return int(bool(failed))
 
 

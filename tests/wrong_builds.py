@@ -1,6 +1,7 @@
-"""Wrong versions of the second implementation's builder, by name. Each breaks one rule of 02's Paper 3; the builds must tell every one of them."""
+"""Wrong versions of the second implementation's builder, by name. Each breaks one rule of 02's Paper 3 or 10; the builds must tell every one of them."""
 
-from second.field_lines import Build, Builder, Equations, FULL, MOST
+from second.field_lines import LEAST, LOWER, MOST, SQUARE, Builder
+from second.half import lower_half
 from second.lists import is_within
 from second.refusal import Refusal
 
@@ -105,6 +106,20 @@ def last_contents(self, kept, line):
     kept[line.key] = line
 
 
+def halves_by(rule):
+    """A builder whose halves are rule(n, the square's numbers)."""
+    return builder(laid_out=lambda self, layout, n, matrix: rule(n, matrix) if layout == LOWER else matrix)
+
+
+def half_least(length):
+    """A builder that says 8 for a half under this length."""
+    return builder(least=lambda self, layout: LEAST[LOWER]._replace(matrix=length) if layout == LOWER else LEAST[layout])
+
+
+def diagonal_twice(n, matrix):
+    return lower_half(n, [2 * number if place // n == place % n else number for place, number in enumerate(matrix)])
+
+
 BUILT = {
     "a repeated key counted twice": builder(keep=keep_twice),
     "a repeated line refused": refused_by(repeat_refused),
@@ -139,4 +154,12 @@ BUILT = {
     "a weight of 0 taken": within(weight=(0, 64)),
     "a weight of 65 taken": within(weight=(1, 65)),
     "a weight of 64 refused": within(weight=(1, 63)),
+    "the upper half built": halves_by(lambda n, matrix: [matrix[i * n + j] for i in range(n) for j in range(i, n)]),
+    "a half with stride n": halves_by(lambda n, matrix: [number if place % n <= place // n else None for place, number in enumerate(matrix)]),
+    "a square built for a half": halves_by(lambda n, matrix: matrix),
+    "a half built for a square": builder(laid_out=lambda self, layout, n, matrix: lower_half(n, matrix)),
+    "the diagonal twice in a half": halves_by(diagonal_twice),
+    "the diagonal left out of a half": halves_by(lambda n, matrix: [matrix[i * n + j] for i in range(n) for j in range(i)]),
+    "a half of 527 taken": half_least(527),
+    "a half of 528 refused": half_least(LEAST[SQUARE].matrix),
 }

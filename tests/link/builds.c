@@ -27,14 +27,16 @@ static void read_line(FILE *file, struct kodarfi_observation *line) {
 
 bool read_build(FILE *file, struct build *x, struct build_answer *answer) {
     if (fscanf(file, "%" SCNu32, &x->n) != 1) return false;
-    size_t *const lengths[] = {&x->count, &x->matrix_len, &x->right_len};
-    for (unsigned i = 0; i < 3; i++) *lengths[i] = (size_t)next_number(file);
+    x->count = (size_t)next_number(file);
+    x->is_half = next_number(file) != 0;
+    x->matrix_len = (size_t)next_number(file);
+    x->right_len = (size_t)next_number(file);
     if (x->count > LINES) exit(2);
     for (size_t i = 0; i < x->count; i++) read_line(file, &x->lines[i]);
     set_before(answer);
     answer->number = (uint32_t)next_number(file);
     if (answer->number != 0) return true;
-    for (uint32_t i = 0; i < x->n * x->n; i++) answer->matrix[i] = next_number(file);
+    for (uint32_t i = 0; i < (x->is_half ? x->n * (x->n + 1) / 2 : x->n * x->n); i++) answer->matrix[i] = next_number(file);
     for (uint32_t i = 0; i < x->n; i++) answer->right[i] = next_number(file);
     return true;
 }

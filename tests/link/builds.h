@@ -12,6 +12,7 @@ enum { LINES = 512 };
 /* What a build is handed, the lengths included. */
 struct build {
     uint32_t n;
+    bool is_half;
     size_t count, matrix_len, right_len;
     struct kodarfi_observation lines[LINES];
 };

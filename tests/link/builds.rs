@@ -1,5 +1,6 @@
 //! The builder: what it is handed and leaves, the library's, a version in 128-bit numbers, and the lists of tests/emit_builds.py.
 
+use crate::halves::HALF;
 use crate::lists::{COLUMN, MATRIX};
 use std::collections::HashMap;
 
@@ -21,13 +22,21 @@ extern "C" {
         matrix: *mut i64, matrix_len: usize,
         right: *mut i64, right_len: usize,
     ) -> u32;
+
+    fn kodarfi_build_half(
+        n: u32,
+        observations: *const Observation, observations_len: usize,
+        half: *mut i64, half_len: usize,
+        right: *mut i64, right_len: usize,
+    ) -> u32;
 }
 
-/// What a build is handed; the lengths of the two lists are those it is told.
+/// What a build is handed, for a square or for its lower half; the lengths of the two lists are those it is told.
 #[derive(Clone)]
 pub struct Build {
     pub n: u32,
     pub lines: Vec<Observation>,
+    pub is_half: bool,
     pub lengths: [usize; 2],
 }
 
@@ -57,8 +66,9 @@ impl Built {
 /// The library's builder, safe: no length is above that of its list.
 pub fn library_build(build: &Build) -> Built {
     let mut out = Built::refused(0);
+    let library = if build.is_half { kodarfi_build_half } else { kodarfi_build };
     out.number = unsafe {
-        kodarfi_build(
+        library(
             build.n,
             build.lines.as_ptr(), build.lines.len(),
             out.matrix.as_mut_ptr(), build.lengths[0],
@@ -76,9 +86,14 @@ fn in_range(line: &Observation, n: u32) -> bool {
         && (1..=64).contains(&line.weight)
 }
 
-/// Document 02, Paper 3.
+/// The lower half of a square, row after row.
+fn lower_half(n: usize, square: &[i64]) -> Vec<i64> {
+    (0..n).flat_map(|i| square[i * n..=i * n + i].to_vec()).collect()
+}
+
+/// Document 02, Papers 3 and 10.
 pub fn build(build: &Build) -> Built {
-    if build.lengths[0] < MATRIX || build.lengths[1] < COLUMN {
+    if build.lengths[0] < if build.is_half { HALF } else { MATRIX } || build.lengths[1] < COLUMN {
         return Built::refused(8);
     }
     if !(1..=32).contains(&build.n) || build.lines.len() > 256 {
@@ -111,7 +126,8 @@ pub fn build(build: &Build) -> Built {
         }
     }
     let narrow = |numbers: Vec<i128>| numbers.into_iter().map(|number| i64::try_from(number).expect("a small sum")).collect::<Vec<i64>>();
-    Built::equations(&narrow(matrix), &narrow(right))
+    let (square, right) = (narrow(matrix), narrow(right));
+    Built::equations(&if build.is_half { lower_half(n, &square) } else { square }, &right)
 }
 
 /// The builds of the file with what they leave.
@@ -120,7 +136,7 @@ pub fn read_builds(text: &str) -> Vec<(Build, Built)> {
     let mut builds = Vec::new();
     while let Some(n) = numbers.next() {
         let mut take = |count: usize| numbers.by_ref().take(count).collect::<Vec<i64>>();
-        let sizes = take(3);
+        let sizes = take(4);
         let lines = take(5 * sizes[0] as usize).chunks(5).map(|line| Observation {
             key: line[0] as u32,
             from: line[1] as u32,
@@ -129,9 +145,10 @@ pub fn read_builds(text: &str) -> Vec<(Build, Built)> {
             weight: line[4] as u32,
         }).collect();
         let number = take(1)[0] as u32;
-        let size = n as usize;
-        let built = if number == 0 { Built::equations(&take(size * size), &take(size)) } else { Built::refused(number) };
-        builds.push((Build { n: n as u32, lines, lengths: [sizes[1] as usize, sizes[2] as usize] }, built));
+        let (size, is_half) = (n as usize, sizes[1] != 0);
+        let written = if is_half { size * (size + 1) / 2 } else { size * size };
+        let built = if number == 0 { Built::equations(&take(written), &take(size)) } else { Built::refused(number) };
+        builds.push((Build { n: n as u32, lines, is_half, lengths: [sizes[2] as usize, sizes[3] as usize] }, built));
     }
     builds
 }

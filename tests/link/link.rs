@@ -1,7 +1,8 @@
-//! The library linked from Rust, each of its calls beside what the second implementation says, and the check on lists, the search for weights, the
+//! The library linked from Rust, each of its calls beside what the second implementation says, and the checks on lists, the search for weights, the
 //! builder and the calls with doubles beside versions in Rust.
 //!
-//!   link FOLDER [--first]   what the emitters wrote: FOLDER/nets.txt, files.bin, entries.txt, weights.txt, builds.txt and doubles.txt; with --first it stops at the first test that fails
+//!   link FOLDER [--first]   what the emitters wrote: FOLDER/nets.txt, files.bin, entries.txt, weights.txt, builds.txt, doubles.txt, halves.txt;
+//!                           with --first it stops at the first test that fails
 //!
 //! The last line is 'N passed, M failed'.
 
@@ -11,10 +12,12 @@ mod damage;
 mod doubles;
 mod entries;
 mod files;
+mod halves;
 mod lists;
 mod reckoning;
 mod test_builds;
 mod test_doubles;
+mod test_halves;
 mod test_lists;
 mod test_weights;
 mod weights;
@@ -46,6 +49,7 @@ fn main() {
     test_builds::test_builds(&mut count, &builds::read_builds(&text_of(folder, "builds.txt")));
     let (inward, outward) = doubles::read_exchanges(&text_of(folder, "doubles.txt"));
     test_doubles::test_doubles(&mut count, &inward, &outward);
+    test_halves::test_halves(&mut count, &lists::read_halves(&text_of(folder, "halves.txt")));
     files::test_files(&mut count, &bytes_of(folder, "files.bin"));
     test_lists::test_lists(&mut count, &lists::read_nets(&text_of(folder, "nets.txt")));
     count.close()

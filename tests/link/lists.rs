@@ -1,20 +1,4 @@
-//! What a check on lists is handed and leaves; the library's check; the calls of tests/emit.py.
-
-#[link(name = "kodarfi", kind = "static")]
-extern "C" {
-    fn kodarfi_check(
-        n: u32, s: u32, t: u32,
-        matrix: *const i64, matrix_len: usize,
-        right: *const i64, right_len: usize,
-        tolerance: *const i64, tolerance_len: usize,
-        guess: *const i64, guess_len: usize,
-        inverse: *const i64, inverse_len: usize,
-        weights: *const i64, weights_len: usize,
-        solution_bounds: *mut u64, solution_bounds_len: usize,
-        inverse_bounds: *mut u64, inverse_bounds_len: usize,
-        places: *mut u64,
-    ) -> u32;
-}
+//! What a check on lists is handed and leaves; the library's checks; the calls of tests/emit.py and tests/emit_halves.py.
 
 pub const MATRIX: usize = 1024;
 pub const COLUMN: usize = 32;
@@ -65,29 +49,62 @@ impl Outcome {
     }
 }
 
-/// The library's check, safe: no length is above that of its list. The places hold other numbers before.
-pub fn library_check(net: &Net) -> Outcome {
-    let mut out = Outcome::untouched(0, [u64::MAX; 2]);
-    let lengths = &net.lengths;
-    out.number = unsafe {
-        kodarfi_check(
-            net.n, net.s, net.t,
-            net.matrix.as_ptr(), lengths.matrix,
-            net.right.as_ptr(), lengths.right,
-            net.tolerance.as_ptr(), lengths.tolerance,
-            net.guess.as_ptr(), lengths.guess,
-            net.inverse.as_ptr(), lengths.inverse,
-            net.weights.as_ptr(), lengths.weights,
-            out.solution.as_mut_ptr(), lengths.solution,
-            out.inverse.as_mut_ptr(), lengths.bounds,
-            out.places.as_mut_ptr(),
-        )
+/// A check of the library, safe: no length is above that of its list. The places hold other numbers before.
+macro_rules! library_check {
+    ($library:ident, $check:ident) => {
+        #[link(name = "kodarfi", kind = "static")]
+        extern "C" {
+            fn $library(
+                n: u32, s: u32, t: u32,
+                matrix: *const i64, matrix_len: usize,
+                right: *const i64, right_len: usize,
+                tolerance: *const i64, tolerance_len: usize,
+                guess: *const i64, guess_len: usize,
+                inverse: *const i64, inverse_len: usize,
+                weights: *const i64, weights_len: usize,
+                solution_bounds: *mut u64, solution_bounds_len: usize,
+                inverse_bounds: *mut u64, inverse_bounds_len: usize,
+                places: *mut u64,
+            ) -> u32;
+        }
+
+        pub fn $check(net: &Net) -> Outcome {
+            let mut out = Outcome::untouched(0, [u64::MAX; 2]);
+            let lengths = &net.lengths;
+            out.number = unsafe {
+                $library(
+                    net.n, net.s, net.t,
+                    net.matrix.as_ptr(), lengths.matrix,
+                    net.right.as_ptr(), lengths.right,
+                    net.tolerance.as_ptr(), lengths.tolerance,
+                    net.guess.as_ptr(), lengths.guess,
+                    net.inverse.as_ptr(), lengths.inverse,
+                    net.weights.as_ptr(), lengths.weights,
+                    out.solution.as_mut_ptr(), lengths.solution,
+                    out.inverse.as_mut_ptr(), lengths.bounds,
+                    out.places.as_mut_ptr(),
+                )
+            };
+            out
+        }
     };
-    out
 }
+
+library_check!(kodarfi_check, library_check);
+library_check!(kodarfi_check_half, library_check_half);
 
 /// The calls of the file with their outcomes. Each list begins with the numbers given and is filled up to its full length.
 pub fn read_nets(text: &str) -> Vec<(Net, Outcome)> {
+    read_calls(text, |count| count * count)
+}
+
+/// The same of tests/emit_halves.py: each matrix begins with the lower half.
+pub fn read_halves(text: &str) -> Vec<(Net, Outcome)> {
+    read_calls(text, |count| count * (count + 1) / 2)
+}
+
+/// Calls with so many numbers of the matrix as `given` says for a count.
+fn read_calls(text: &str, given: fn(usize) -> usize) -> Vec<(Net, Outcome)> {
     let mut numbers = text.split_ascii_whitespace().map(|word| word.parse::<i64>().expect("a number"));
     let mut nets = Vec::new();
     while let Some(count) = numbers.next() {
@@ -104,7 +121,7 @@ pub fn read_nets(text: &str) -> Vec<(Net, Outcome)> {
             n: sizes[0] as u32,
             s: sizes[1] as u32,
             t: sizes[2] as u32,
-            matrix: list(count * count, MATRIX),
+            matrix: list(given(count), MATRIX),
             right: list(count, COLUMN),
             tolerance: list(count, COLUMN),
             guess: list(count, COLUMN),

@@ -6,7 +6,7 @@ use crate::damage::Chance;
 
 const CHANGES: usize = 2;
 
-/// Another n, a line repeated, taken away or exchanged with another, or a number of a line changed.
+/// Another n or layout, a line repeated, taken away or exchanged with another, or a number of a line changed.
 fn change(call: &mut Build, chance: &mut Chance) {
     if call.lines.is_empty() {
         call.n = chance.pick(&[0, 1, 2, 32, 33]);
@@ -14,7 +14,7 @@ fn change(call: &mut Build, chance: &mut Chance) {
     }
     let place = |chance: &mut Chance, call: &Build| chance.below(call.lines.len() as u64) as usize;
     let (at, to) = (place(chance, call), place(chance, call));
-    match chance.below(9) {
+    match chance.below(10) {
         0 => call.n = chance.pick(&[0, 1, 2, 3, 5, 32, 33]),
         1 => call.lines.insert(to, call.lines[at]),
         2 => drop(call.lines.remove(at)),
@@ -22,18 +22,19 @@ fn change(call: &mut Build, chance: &mut Chance) {
         4 => call.lines[at].key = call.lines[to].key,
         5 => call.lines[at].from = chance.pick(&[0, 1, 2, call.n, call.n.wrapping_add(1)]),
         6 => call.lines[at].to = chance.pick(&[0, 1, 2, call.n, call.n.wrapping_add(1)]),
-        7 => call.lines[at].difference = chance.pick(&[-65537, -65536, -1, 0, 1, 65536, 65537]),
+        7 => call.is_half = !call.is_half,
+        8 => call.lines[at].difference = chance.pick(&[-65537, -65536, -1, 0, 1, 65536, 65537]),
         _ => call.lines[at].weight = chance.pick(&[0, 1, 2, 64, 65]),
     }
 }
 
 pub fn test_builds(count: &mut Count, builds: &[(Build, Built)]) {
     let mut chance = Chance(11);
-    let (mut met, mut met_changed) = ([0; 32], [0; 32]);
+    let (mut met, mut met_changed) = ([[0; 32]; 2], [0; 32]);
     for (index, (call, expected)) in builds.iter().enumerate() {
         let built = library_build(call);
         count.test(|| format!("build {index}"), built == *expected && built == build(call));
-        met[expected.number as usize & 31] += 1;
+        met[usize::from(call.is_half)][expected.number as usize & 31] += 1;
         for _ in 0..CHANGES {
             let mut changed = call.clone();
             change(&mut changed, &mut chance);
@@ -42,6 +43,7 @@ pub fn test_builds(count: &mut Count, builds: &[(Build, Built)]) {
             met_changed[built.number as usize & 31] += 1;
         }
     }
-    count.test_reach("builds by number", &met, &[0, 3, 8, 16, 17]);
+    count.test_reach("builds by number", &met[0], &[0, 3, 8, 16, 17]);
+    count.test_reach("builds of a half by number", &met[1], &[0, 3, 8, 16, 17]);
     count.test_reach("changed builds by number", &met_changed, &[0, 3, 8, 16, 17]);
 }

@@ -143,7 +143,30 @@
     X(listing_places_left)        \
     X(count_not_in_places)        \
     X(line_for_15)                \
-    X(number_lost)
+    X(number_lost)                \
+    /* kodarfi_check_half */      \
+    X(half_upper_read)            \
+    X(half_stride_32)             \
+    X(half_stride_n)              \
+    X(half_diagonal_twice)        \
+    X(half_lower_triangle_only)   \
+    X(half_of_527_taken)          \
+    X(half_under_1024_refused)    \
+    X(half_after_n)               \
+    X(half_of_inverse_alone)      \
+    X(half_read_past_end)         \
+    X(half_of_528_read)           \
+    X(half_refused_and_written)   \
+    X(half_limits_mirrored)       \
+    /* kodarfi_build_half */      \
+    X(built_upper_half)           \
+    X(built_half_stride_n)        \
+    X(built_half_diagonal_twice)  \
+    X(built_half_of_527)          \
+    X(built_half_at_1024)         \
+    X(built_half_cleared_first)   \
+    X(built_half_and_rest)        \
+    X(built_square_for_half)
 
 #define NAMED(name) name,
 enum way { RIGHT_WAY, WAYS(NAMED) };

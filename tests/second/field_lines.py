@@ -1,8 +1,10 @@
-"""Document 02, Paper 3: equations from the field lines, as the normal equations of a least-squares fit, in exact fractions."""
+"""Document 02, Paper 3: equations from the field lines, as the normal equations of a least-squares fit, in exact fractions; the matrix as a square or, since
+Paper 10, as its lower half."""
 
 from fractions import Fraction
 from typing import NamedTuple
 
+from .half import HALF, lower_half
 from .lists import COLUMN, MATRIX, is_within
 from .refusal import Refusal
 
@@ -30,6 +32,10 @@ class Lengths(NamedTuple):
 
 FULL = Lengths()
 
+# How a matrix is laid out, with the lengths that its lists have at least.
+SQUARE, LOWER = "square", "lower"
+LEAST = {SQUARE: FULL, LOWER: FULL._replace(matrix=HALF)}
+
 
 class Build(NamedTuple):
     """What a build is handed."""
@@ -37,10 +43,11 @@ class Build(NamedTuple):
     n: int
     lines: tuple
     lengths: Lengths = FULL
+    layout: str = SQUARE
 
 
 class Equations(NamedTuple):
-    """The first n × n numbers of the matrix, row after row, and the first n of the right side."""
+    """The numbers of the matrix that are written, n × n or n(n + 1)/2, row after row, and the n right sides."""
 
     matrix: list
     right: list
@@ -49,7 +56,7 @@ class Equations(NamedTuple):
 class Builder:
     def build(self, call):
         """The equations, or the refusal: "8 comes first, then 3 for n. [..] A list above 256 is 3, before any line." """
-        if any(told < least for told, least in zip(call.lengths, FULL)):
+        if any(told < least for told, least in zip(call.lengths, self.least(call.layout))):
             return Refusal(8)
         if not is_within("problem", [call.n]) or len(call.lines) > MOST:
             return Refusal(3)
@@ -59,7 +66,16 @@ class Builder:
             if number:
                 return Refusal(number)
             self.keep(kept, line)
-        return self.equations(call.n, list(kept.values()))
+        equations = self.equations(call.n, list(kept.values()))
+        return equations._replace(matrix=self.laid_out(call.layout, call.n, equations.matrix))
+
+    def least(self, layout):
+        """02, Paper 10: "8 for a list under 528", where the half is built."""
+        return LEAST[layout]
+
+    def laid_out(self, layout, n, matrix):
+        """02, Paper 10: "The builder of Paper 3 gains the same form."."""
+        return lower_half(n, matrix) if layout == LOWER else matrix
 
     def refused(self, n, kept, line):
         """ "For each line: 3 for ranges, then new 16, from equals to, then new 17, a key met before with other contents." """

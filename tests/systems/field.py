@@ -2,7 +2,7 @@
 
 from pathlib import Path
 
-from second.field_lines import DIFFERENCE, FULL, KEY, MOST, WEIGHT, Build, FieldLine
+from second.field_lines import DIFFERENCE, KEY, LEAST, LOWER, MOST, WEIGHT, Build, FieldLine
 from systems.usual import levelling_lines
 
 TOWN = Path(__file__).resolve().parent.parent.parent / "examples" / "town" / "field.txt"
@@ -137,10 +137,16 @@ def listed(rng):
     return Build(n, tuple(lines))
 
 
+def halved(rng, call):
+    """The same lines for the lower half of the matrix (02, Paper 10), in a list that is just long enough or longer."""
+    least = LEAST[LOWER]
+    return call._replace(layout=LOWER, lengths=least._replace(matrix=rng.choice((least.matrix, least.matrix, least.matrix + 1, 1024))))
+
+
 def damaged(rng, call):
     """Another n, or a list too short."""
     if rng.randrange(2):
         return call._replace(n=rng.choice((0, 33, 2**32 - 1, max(1, call.n - 1), min(32, call.n + 1))))
-    which = rng.randrange(2)
-    short = call._replace(lengths=FULL._replace(**{FULL._fields[which]: rng.choice((FULL[which] - 1, FULL[which] // 2, 0))}))
+    which, least = rng.randrange(2), LEAST[call.layout]
+    short = call._replace(lengths=least._replace(**{least._fields[which]: rng.choice((least[which] - 1, least[which] - 1, least[which] // 2, 0))}))
     return rng.choice((short, short._replace(n=33)))

@@ -1,10 +1,11 @@
-// Equations from the field lines (document 02, Paper 3). Two functions are lent a slice of field lines, `gather` and `build`; each is proved by a walk of
+// Equations from the field lines (document 02, Papers 3 and 10). Two functions are lent a slice of field lines, `gather` and `build`; each is proved by a walk of
 // its code by hand, and does no more than take the slice apart: tests, sums and writing are in covered functions.
 ghost use mathlib.Core.Path.{_≡_};
 ghost use lib.ListN.{length};
 ghost use Rattle.gathering.specs.Gathered.{gathered, few};
 ghost use Rattle.built.specs.BuiltAs.{BuiltAs};
 use built::finish;
+use equations::Layout;
 use gathering::Gathered;
 use gathering::add_observation;
 use gathering::few_of;
@@ -26,11 +27,17 @@ fn gather(observations: &[Observation], start: Gathered) -> Gathered
     g
 }
 
-// The equations of the distinct lines, or the first refusal with both lists untouched.
-pub fn build(n: u32, observations: &[Observation], matrix: &mut [i64], right: &mut [i64]) -> Built
-    ensures { λ r. ⌜ BuiltAs n (now (observations .entry)) (now (matrix .entry)) (now (right .entry)) r (now (matrix .exit)) (now (right .exit)) ⌝ }
+// The equations of the distinct lines, the matrix in its layout, or the first refusal with both lists untouched.
+pub fn build(
+    n: u32,
+    observations: &[Observation],
+    layout: Layout,
+    matrix: &mut [i64],
+    right: &mut [i64],
+) -> Built
+    ensures { λ r. ⌜ BuiltAs n (now (observations .entry)) layout (now (matrix .entry)) (now (right .entry)) r (now (matrix .exit)) (now (right .exit)) ⌝ }
 {
     let start = open(n, observations.len());
     let g = gather(observations, start);
-    finish(g, matrix, right)
+    finish(g, layout, matrix, right)
 }

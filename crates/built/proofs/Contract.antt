@@ -1,7 +1,7 @@
 -- The contract of `build`, from what was gathered and finished.
 --   built — the contract
 use mathlib.Core.Path.{_≡_, refl, sym, ap, _∙_}
-use mathlib.Core.Bool.{Bool, true, false, not, cond, _&&_, _||_}
+use mathlib.Core.Bool.{Bool, true, false, not, cond, _&&_}
 use mathlib.Core.List.{List, [], _∷_}
 use Prim.Native.Nat.{ℕ, _+_}
 use borrow.Author.Tests.{leb-true, leb-false, lt-ltb, le-ltb}
@@ -9,7 +9,7 @@ use lib.Dec.{leb, ltb}
 use lib.IntN.{ℤ, pos}
 use lib.ListN.{length}
 use Rattle.rules.specs.Order.{accepted}
-use Rattle.rules.specs.Range.{inRange, shortMatrix, shortColumn}
+use Rattle.rules.specs.Range.{inRange}
 use Rattle.rules.specs.declared.Kind.the-variants as kind
 use Rattle.rules.proofs.Verdicts.{nothing-is-not}
 use Rattle.observation.specs.declared.Built.{Built}
@@ -17,12 +17,12 @@ use Rattle.observation.specs.declared.Observation.{Observation}
 use Rattle.observation.specs.Distinct.{builtMatrix, builtRight, weightAt, gain}
 use Rattle.observation.specs.Order.{saidBuilt, andThen, observationsSay, buildAnswer}
 use Rattle.gathering.proofs.Whole.{gatheredOf, Whole, whole}
-use Rattle.equations.specs.declared.Layout.the-variants.{Square}
+use Rattle.equations.specs.declared.Layout.{Layout}
 use Rattle.equations.specs.Written.{widthOf, matrixWritten, rightWritten}
 use Rattle.equations.specs.Kept.{keptMatrix, keptRight}
 use Rattle.built.specs.Finished.{saidFinally, Finished}
 use Rattle.equations.proofs.Places.{written-ext, rows-ext}
-use Rattle.built.specs.BuiltAs.{BuiltAs}
+use Rattle.built.specs.BuiltAs.{shortFor, BuiltAs}
 
 -- 8 first, then 3 for n, 3 for a list above 256, then the lines
 finally : (s z m : Bool) (lines : List ℕ) → cond s (8 ∷ []) (andThen (cond (z && m) [] (3 ∷ [])) lines) ≡ andThen (cond s (8 ∷ []) (cond (not z) (3 ∷ []) (cond (not m) (3 ∷ []) []))) lines
@@ -38,34 +38,34 @@ many k = go (leb k 256) refl
     go true e = sym (le-ltb 256 k (leb-true k 256 e))
     go false e = sym (lt-ltb 256 k (leb-false k 256 e))
 
-module _ (n : ℕ) (ls : List Observation) (a b : List ℤ) where
+module _ (n : ℕ) (ls : List Observation) (layout : Layout) (a b : List ℤ) where
   w : Whole n ls
   w = whole n ls
 
-  says : saidFinally (length a) (length b) (saidBuilt (gatheredOf n ls .told)) ≡ buildAnswer n ls (length a) (length b)
+  says : saidFinally (shortFor layout a b) (saidBuilt (gatheredOf n ls .told)) ≡ buildAnswer n ls (shortFor layout a b)
   unfolding buildAnswer
   says =
-      ap (saidFinally (length a) (length b)) (w .says)
-      ∙ finally (shortMatrix (length a) || shortColumn (length b)) (inRange kind.Size (pos n)) (leb (length ls) 256) (observationsSay n [] ls)
-      ∙ ap (λ (m : Bool). andThen (cond (shortMatrix (length a) || shortColumn (length b)) (8 ∷ []) (cond (not (inRange kind.Size (pos n))) (3 ∷ []) (cond m (3 ∷ []) []))) (observationsSay n [] ls)) (many (length ls))
+      ap (saidFinally (shortFor layout a b)) (w .says)
+      ∙ finally (shortFor layout a b) (inRange kind.Size (pos n)) (leb (length ls) 256) (observationsSay n [] ls)
+      ∙ ap (λ (m : Bool). andThen (cond (shortFor layout a b) (8 ∷ []) (cond (not (inRange kind.Size (pos n))) (3 ∷ []) (cond m (3 ∷ []) []))) (observationsSay n [] ls)) (many (length ls))
 
   -- where nothing is said in the end, nothing was said of the lines
   lines-silent : (s : Bool) (t : List ℕ) → cond s (8 ∷ []) t ≡ [] → t ≡ []
   lines-silent true t e = absurd (nothing-is-not e)
   lines-silent false t e = e
 
-  kept : (t : List ℕ) → t ≡ saidFinally (length a) (length b) (saidBuilt (gatheredOf n ls .told)) → {A : Type 0} (new new′ old : A) → (saidBuilt (gatheredOf n ls .told) ≡ [] → new ≡ new′) → accepted t new old ≡ accepted t new′ old
-  kept [] e new new′ old h = h (lines-silent (shortMatrix (length a) || shortColumn (length b)) _ (sym e))
+  kept : (t : List ℕ) → t ≡ saidFinally (shortFor layout a b) (saidBuilt (gatheredOf n ls .told)) → {A : Type 0} (new new′ old : A) → (saidBuilt (gatheredOf n ls .told) ≡ [] → new ≡ new′) → accepted t new old ≡ accepted t new′ old
+  kept [] e new new′ old h = h (lines-silent (shortFor layout a b) _ (sym e))
   kept (k ∷ ks) e new new′ old h = refl
 
-  pub built : {r : Built} {a′ b′ : List ℤ} → Finished (gatheredOf n ls) a b r a′ b′ → BuiltAs n ls a b r a′ b′
+  pub built : {r : Built} {a′ b′ : List ℤ} → Finished (gatheredOf n ls) layout a b r a′ b′ → BuiltAs n ls layout a b r a′ b′
   built {r} {a′} {b′} f = record {
     says = f .says ∙ says;
     matrix =
         f .matrix
-        ∙ kept (saidBuilt r) (f .says) (matrixWritten Square (gatheredOf n ls .n) (keptMatrix (gatheredOf n ls)) a) (matrixWritten Square n (builtMatrix ls) a) a
-        (λ e. ap (λ (k : ℕ). matrixWritten Square k (keptMatrix (gatheredOf n ls)) a) (w .size) ∙ rows-ext (widthOf Square n) n (keptMatrix (gatheredOf n ls)) (builtMatrix ls) a (λ i j. w .sums e (weightAt (i + 1) (j + 1))))
-        ∙ ap (λ (t : List ℕ). accepted t (matrixWritten Square n (builtMatrix ls) a) a) (f .says ∙ says);
+        ∙ kept (saidBuilt r) (f .says) (matrixWritten layout (gatheredOf n ls .n) (keptMatrix (gatheredOf n ls)) a) (matrixWritten layout n (builtMatrix ls) a) a
+        (λ e. ap (λ (k : ℕ). matrixWritten layout k (keptMatrix (gatheredOf n ls)) a) (w .size) ∙ rows-ext (widthOf layout n) n (keptMatrix (gatheredOf n ls)) (builtMatrix ls) a (λ i j. w .sums e (weightAt (i + 1) (j + 1))))
+        ∙ ap (λ (t : List ℕ). accepted t (matrixWritten layout n (builtMatrix ls) a) a) (f .says ∙ says);
     right =
         f .right
         ∙ kept (saidBuilt r) (f .says) (rightWritten (gatheredOf n ls .n) (keptRight (gatheredOf n ls)) b) (rightWritten n (builtRight ls) b) b

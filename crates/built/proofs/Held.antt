@@ -1,6 +1,7 @@
 -- What the two lists hold after `build`.
---   untouched — on a refusal both lists are as before
---   Held, held — where the equations are built: the numbers at their places, every other place as before
+--   untouched — on a refusal both lists are as before;  new-matrix, new-right — where the equations are built, the lists with them written
+--   right-held, right-rest — the right sides at their places, every other place as before
+--   Held, held — in the square layout: the numbers at their places, every other place as before
 --   in-check-ranges — (d) never is it the built matrix or right side that makes a check answer 3
 --   repeated-built — (b) a copy of a line anywhere gives the same two lists
 use mathlib.Core.Path.{_≡_, sym, ap, subst, _∙_}
@@ -12,7 +13,6 @@ use native.Mathlib.Omega.{arith}
 use lib.IntN.{ℤ}
 use lib.ListN.{length}
 use Rattle.linear.specs.Slice.{at}
-use Rattle.linear.proofs.Places.{square}
 use Rattle.rules.specs.Range.{inRange, allInRange}
 use Rattle.rules.specs.declared.Kind.the-variants as kind
 use Rattle.rules.proofs.AllInRange.{all-in}
@@ -22,16 +22,17 @@ use Rattle.observation.specs.declared.Built.{Built}
 use Rattle.observation.specs.declared.Observation.{Observation}
 use Rattle.observation.specs.Distinct.{builtMatrix, builtRight}
 use Rattle.observation.specs.Order.{saidBuilt, buildAnswer}
-use Rattle.observation.specs.Stated.{Among}
+use Rattle.observation.specs.Stated.{Among, Admitted, Fits}
 use Rattle.observation.proofs.Lines.{builds-fits}
 use Rattle.observation.proofs.Net.{matrix-in-range, right-in-range}
 use Rattle.observation.proofs.Repeated.{repeated}
+use Rattle.equations.specs.declared.Layout.{Layout}
 use Rattle.equations.specs.declared.Layout.the-variants.{Square}
 use Rattle.equations.specs.Written.{widthOf, matrixWritten, rightWritten}
-use Rattle.built.proofs.Ends.{long-matrix, long-right}
-use Rattle.equations.proofs.Layouts.{square-at, square-else}
+use Rattle.built.proofs.Ends.{matrix-room, long-right}
+use Rattle.equations.proofs.Layouts.{square-start, square-at, square-else}
 use Rattle.equations.proofs.Places.{written-at, written-else, written-ext, rows-ext}
-use Rattle.built.specs.BuiltAs.{BuiltAs}
+use Rattle.built.specs.BuiltAs.{shortFor, BuiltAs}
 
 pub record Held (n : ℕ) (ls : List Observation) (a b a′ b′ : List ℤ) : Type 0 where
   pub matrix : (i j : ℕ) → i < n → j < n → at a′ (i * n + j) ≡ builtMatrix ls i j
@@ -39,56 +40,74 @@ pub record Held (n : ℕ) (ls : List Observation) (a b a′ b′ : List ℤ) : T
   pub matrix-rest : (p : ℕ) → n * n ≤ p → at a′ p ≡ at a p
   pub right-rest : (p : ℕ) → n ≤ p → at b′ p ≡ at b p
 
-module _ (n : ℕ) (ls : List Observation) (a b : List ℤ) {r : Built} {a′ b′ : List ℤ} (built : BuiltAs n ls a b r a′ b′) where
+module _ (n : ℕ) (ls : List Observation) (layout : Layout) (a b : List ℤ) {r : Built} {a′ b′ : List ℤ} (built : BuiltAs n ls layout a b r a′ b′) where
   pub untouched : {k : ℕ} {ks : List ℕ} → saidBuilt r ≡ k ∷ ks → (a′ ≡ a) × (b′ ≡ b)
   untouched e =
       let s = sym (built .says) ∙ e in
-      (built .matrix ∙ accepted-old (matrixWritten Square n (builtMatrix ls) a) a s, built .right ∙ accepted-old (rightWritten n (builtRight ls) b) b s)
+      (built .matrix ∙ accepted-old (matrixWritten layout n (builtMatrix ls) a) a s, built .right ∙ accepted-old (rightWritten n (builtRight ls) b) b s)
 
   module _ (done : saidBuilt r ≡ []) where
-    silent : buildAnswer n ls (length a) (length b) ≡ []
+    silent : buildAnswer n ls (shortFor layout a b) ≡ []
     silent = sym (built .says) ∙ done
 
-    new-matrix : a′ ≡ matrixWritten Square n (builtMatrix ls) a
-    new-matrix = built .matrix ∙ accepted-new (matrixWritten Square n (builtMatrix ls) a) a silent
+    pub new-matrix : a′ ≡ matrixWritten layout n (builtMatrix ls) a
+    new-matrix = built .matrix ∙ accepted-new (matrixWritten layout n (builtMatrix ls) a) a silent
 
-    new-right : b′ ≡ rightWritten n (builtRight ls) b
+    pub new-right : b′ ≡ rightWritten n (builtRight ls) b
     new-right = built .right ∙ accepted-new (rightWritten n (builtRight ls) b) b silent
 
-    pub held : Held n ls a b a′ b′
-    held =
-        let u = builds-fits n ls (length a) (length b) silent .0 in
-        let few = size-range n (u .size) .1 in
-        record {
-          matrix = λ i j p q. ap (λ (l : List ℤ). at l (i * n + j)) new-matrix ∙ square-at n (builtMatrix ls) a (omega (arith, square few, long-matrix (length a) (length b) (u .long))) i j p q;
-          right = λ i p. ap (λ (l : List ℤ). at l i) new-right ∙ from-zero i p (omega (arith, few, long-right (length a) (length b) (u .long)));
-          matrix-rest = λ p h. ap (λ (l : List ℤ). at l p) new-matrix ∙ square-else n (builtMatrix ls) a p h;
-          right-rest = λ p h. ap (λ (l : List ℤ). at l p) new-right ∙ written-else 0 (builtRight ls) b n p (λ j m e. omega (arith, e));
-        }
-      where
-        from-zero : (i : ℕ) → i < n → n ≤ length b → at (rightWritten n (builtRight ls) b) i ≡ builtRight ls i
-        from-zero i p h = let e : 0 + i ≡ i = omega arith in subst (λ (k : ℕ). at (rightWritten n (builtRight ls) b) k ≡ builtRight ls i) e (written-at 0 (builtRight ls) b n (omega arith) i p)
+    pub fitting : Admitted n (length ls) (shortFor layout a b) × Fits n ls
+    fitting = builds-fits n ls (shortFor layout a b) silent
 
-    pub in-check-ranges : (allInRange kind.Matrix (n * n) (at a′) ≡ true) × (allInRange kind.Right n (at b′) ≡ true)
-    in-check-ranges =
-        let t = builds-fits n ls (length a) (length b) silent in
-        let h = held in (
-          all-in kind.Matrix (n * n) (at a′) (λ p m. subst (λ (z : ℤ). inRange kind.Matrix z ≡ true) (sym (place p m h)) (matrix-in-range n ls (t .1) (t .0 .few) (p / n) (p % n))),
-          all-in kind.Right n (at b′) (λ i m. subst (λ (z : ℤ). inRange kind.Right z ≡ true) (sym (h .right i m)) (right-in-range n ls (t .1) (t .0 .few) i)),
-        )
+    pub few-rows : n ≤ 32
+    few-rows = size-range n (fitting .0 .size) .1
+
+    pub right-held : (i : ℕ) → i < n → at b′ i ≡ builtRight ls i
+    right-held i p =
+        let e : 0 + i ≡ i = omega arith in
+        ap (λ (l : List ℤ). at l i) new-right
+        ∙ subst (λ (k : ℕ). at (rightWritten n (builtRight ls) b) k ≡ builtRight ls i) e
+        (written-at 0 (builtRight ls) b n (omega (arith, few-rows, long-right layout a b (fitting .0 .long))) i p)
+
+    pub right-rest : (p : ℕ) → n ≤ p → at b′ p ≡ at b p
+    right-rest p h = ap (λ (l : List ℤ). at l p) new-right ∙ written-else 0 (builtRight ls) b n p (λ j m e. omega (arith, e))
+
+    pub right-in-check-range : allInRange kind.Right n (at b′) ≡ true
+    right-in-check-range =
+        all-in kind.Right n (at b′) (λ i m. subst (λ (z : ℤ). inRange kind.Right z ≡ true) (sym (right-held i m)) (right-in-range n ls (fitting .1) (fitting .0 .few) i))
+
+    -- a list that has the built matrix at i·n + j
+    pub matrix-in-check-range : (A : List ℤ) → ((i j : ℕ) → i < n → j < n → at A (i * n + j) ≡ builtMatrix ls i j) → allInRange kind.Matrix (n * n) (at A) ≡ true
+    matrix-in-check-range A h =
+        all-in kind.Matrix (n * n) (at A) (λ p m. subst (λ (z : ℤ). inRange kind.Matrix z ≡ true) (sym (place p m)) (matrix-in-range n ls (fitting .1) (fitting .0 .few) (p / n) (p % n)))
       where
         some : (p : ℕ) → p < n * n → 0 < n
-        some p m = omega (arith, size-range n (builds-fits n ls (length a) (length b) silent .0 .size) .0)
+        some p m = omega (arith, size-range n (fitting .0 .size) .0)
 
-        place : (p : ℕ) → p < n * n → Held n ls a b a′ b′ → at a′ p ≡ builtMatrix ls (p / n) (p % n)
-        place p m h = ap (at a′) (sym (div-add-mod' p n)) ∙ h .matrix (p / n) (p % n) (div-lt-iff-lt-mul (some p m) .1 m) (mod-lt p (some p m))
+        place : (p : ℕ) → p < n * n → at A p ≡ builtMatrix ls (p / n) (p % n)
+        place p m = ap (at A) (sym (div-add-mod' p n)) ∙ h (p / n) (p % n) (div-lt-iff-lt-mul (some p m) .1 m) (mod-lt p (some p m))
 
-pub repeated-built : (n : ℕ) (l : Observation) (xs ys : List Observation) (a b : List ℤ) {r s : Built} {a′ b′ a″ b″ : List ℤ} →
-    BuiltAs n (xs ++ ys) a b r a′ b′ → saidBuilt r ≡ [] → Among l (xs ++ ys) → length (xs ++ l ∷ ys) ≤ 256 → BuiltAs n (xs ++ l ∷ ys) a b s a″ b″ → (saidBuilt s ≡ []) × (a″ ≡ a′) × (b″ ≡ b′)
-repeated-built n l xs ys a b f done i few g =
-    let same = repeated n (length a) (length b) l xs ys (sym (f .says) ∙ done) i few in
+module _ (n : ℕ) (ls : List Observation) (a b : List ℤ) {r : Built} {a′ b′ : List ℤ} (built : BuiltAs n ls Square a b r a′ b′) (done : saidBuilt r ≡ []) where
+  pub held : Held n ls a b a′ b′
+  held =
+      let few = few-rows n ls Square a b built done in
+      let fits : n * n ≤ length a = omega (arith, square-start n n, matrix-room Square n a b few (fitting n ls Square a b built done .0 .long)) in
+      record {
+        matrix = λ i j p q. ap (λ (l : List ℤ). at l (i * n + j)) (new-matrix n ls Square a b built done) ∙ square-at n (builtMatrix ls) a fits i j p q;
+        right = right-held n ls Square a b built done;
+        matrix-rest = λ p h. ap (λ (l : List ℤ). at l p) (new-matrix n ls Square a b built done) ∙ square-else n (builtMatrix ls) a p h;
+        right-rest = right-rest n ls Square a b built done;
+      }
+
+  pub in-check-ranges : (allInRange kind.Matrix (n * n) (at a′) ≡ true) × (allInRange kind.Right n (at b′) ≡ true)
+  in-check-ranges = (matrix-in-check-range n ls Square a b built done a′ (held .matrix), right-in-check-range n ls Square a b built done)
+
+pub repeated-built : (n : ℕ) (l : Observation) (xs ys : List Observation) (layout : Layout) (a b : List ℤ) {r s : Built} {a′ b′ a″ b″ : List ℤ} →
+    BuiltAs n (xs ++ ys) layout a b r a′ b′ → saidBuilt r ≡ [] → Among l (xs ++ ys) → length (xs ++ l ∷ ys) ≤ 256 → BuiltAs n (xs ++ l ∷ ys) layout a b s a″ b″ → (saidBuilt s ≡ []) × (a″ ≡ a′) × (b″ ≡ b′)
+repeated-built n l xs ys layout a b f done i few g =
+    let same = repeated n (shortFor layout a b) l xs ys (sym (f .says) ∙ done) i few in
     let again = g .says ∙ same .builds in (
       again,
-      new-matrix n (xs ++ l ∷ ys) a b g again ∙ rows-ext (widthOf Square n) n (builtMatrix (xs ++ l ∷ ys)) (builtMatrix (xs ++ ys)) a (same .matrix) ∙ sym (new-matrix n (xs ++ ys) a b f done),
-      new-right n (xs ++ l ∷ ys) a b g again ∙ written-ext 0 n (builtRight (xs ++ l ∷ ys)) (builtRight (xs ++ ys)) b (λ j m. same .right j) ∙ sym (new-right n (xs ++ ys) a b f done),
+      new-matrix n (xs ++ l ∷ ys) layout a b g again ∙ rows-ext (widthOf layout n) n (builtMatrix (xs ++ l ∷ ys)) (builtMatrix (xs ++ ys)) a (same .matrix) ∙ sym (new-matrix n (xs ++ ys) layout a b f done),
+      new-right n (xs ++ l ∷ ys) layout a b g again ∙ written-ext 0 n (builtRight (xs ++ l ∷ ys)) (builtRight (xs ++ ys)) b (λ j m. same .right j) ∙ sym (new-right n (xs ++ ys) layout a b f done),
     )

@@ -1,9 +1,9 @@
-// The last step of a build (document 02, Paper 3): 8, then what was said of the lines, and where nothing is, the equations written.
+// The last step of a build (document 02, Papers 3 and 10): 8, then what was said of the lines, and where nothing is, the equations written.
 ghost use mathlib.Core.Path.{_≡_};
 ghost use mathlib.Core.Bool.{_||_};
-ghost use lib.ListN.{length};
-ghost use Rattle.rules.specs.Range.{shortMatrix, shortColumn};
+ghost use Rattle.rules.specs.Range.{shortColumn};
 ghost use Rattle.gathering.specs.Gathered.{ReadyWhenDone};
+ghost use Rattle.built.specs.BuiltAs.{shortAs};
 ghost use Rattle.built.specs.Finished.{Finished};
 use equations::Layout;
 use equations::write_equations;
@@ -11,24 +11,34 @@ use gathering::Gathered;
 use observation::Built;
 use rules::Refusal;
 
-// 8: whether a list of one of these lengths is too short.
-fn is_short(matrix: usize, right: usize) -> bool
-    ensures { λ r. ⌜ r ≡ shortMatrix matrix || shortColumn right ⌝ }
+// Whether a matrix list of this length is too short for its layout.
+fn is_short_as(layout: Layout, matrix: usize) -> bool
+    ensures { λ r. ⌜ r ≡ shortAs layout matrix ⌝ }
 {
-    (matrix < 1024) | (right < 32)
+    match layout {
+        Layout::Square => matrix < 1024,
+        Layout::Lower => matrix < 528,
+    }
 }
 
-pub fn finish(g: Gathered, matrix: &mut [i64], right: &mut [i64]) -> Built
-    requires { ⌜ ReadyWhenDone g ⌝ }
-    ensures { λ r. ⌜ Finished g (now (matrix .entry)) (now (right .entry)) r (now (matrix .exit)) (now (right .exit)) ⌝ }
+// 8: whether a list of one of these lengths is too short.
+fn is_short(layout: Layout, matrix: usize, right: usize) -> bool
+    ensures { λ r. ⌜ r ≡ shortAs layout matrix || shortColumn right ⌝ }
 {
-    if is_short(matrix.len(), right.len()) {
+    is_short_as(layout, matrix) | (right < 32)
+}
+
+pub fn finish(g: Gathered, layout: Layout, matrix: &mut [i64], right: &mut [i64]) -> Built
+    requires { ⌜ ReadyWhenDone g ⌝ }
+    ensures { λ r. ⌜ Finished g layout (now (matrix .entry)) (now (right .entry)) r (now (matrix .exit)) (now (right .exit)) ⌝ }
+{
+    if is_short(layout, matrix.len(), right.len()) {
         return Built::Refused(Refusal::TooShort);
     }
     let told = g.told;
     match told {
         Built::Done => {
-            write_equations(g, Layout::Square, matrix, right);
+            write_equations(g, layout, matrix, right);
             Built::Done
         }
         Built::Refused(_) => told,

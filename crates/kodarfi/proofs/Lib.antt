@@ -3,5 +3,7 @@ pub mod Entry
 pub mod Meaning
 pub mod Covered
 pub mod Weights
+pub mod BuildWalk
 pub mod Build
 pub mod Doubles
+pub mod Half

@@ -1,6 +1,6 @@
 -- What the exported builder says and leaves.
---   BuildExported — the contract of `kodarfi_build`: the number of an answer that `BuiltAs`, the contract of `builder::build`, holds of, 0 where the
---                   equations are built; both lists as there
+--   BuildExported — the contract of `kodarfi_build` and `kodarfi_build_half`, each with its layout: the number of an answer that `BuiltAs`, the contract of
+--                   `builder::build`, holds of, 0 where the equations are built; both lists as there
 use mathlib.Core.List.{List}
 use mathlib.Core.Path.{_≡_}
 use Prim.Native.Nat.{ℕ}
@@ -9,9 +9,10 @@ use lib.ListN.{getD}
 use Rattle.observation.specs.declared.Built.{Built}
 use Rattle.observation.specs.declared.Observation.{Observation}
 use Rattle.observation.specs.Order.{saidBuilt}
+use Rattle.equations.specs.declared.Layout.{Layout}
 use Rattle.built.specs.BuiltAs.{BuiltAs}
 
-pub record BuildExported (n : ℕ) (ls : List Observation) (matrix right : List ℤ) (number : ℕ) (newMatrix newRight : List ℤ) : Type 0 where
+pub record BuildExported (n : ℕ) (ls : List Observation) (layout : Layout) (matrix right : List ℤ) (number : ℕ) (newMatrix newRight : List ℤ) : Type 0 where
   pub answer : Built
-  pub built : BuiltAs n ls matrix right answer newMatrix newRight
+  pub built : BuiltAs n ls layout matrix right answer newMatrix newRight
   pub number-is : number ≡ getD (saidBuilt answer) 0 0

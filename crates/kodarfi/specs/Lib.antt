@@ -3,3 +3,4 @@ pub mod Exported
 pub mod Weights
 pub mod Build
 pub mod Doubles
+pub mod Half

@@ -8,6 +8,7 @@ ghost use Rattle.refusal.specs.Refused.{printed};
 ghost use Rattle.refusal.specs.Reply.{replyOf};
 ghost use Rattle.weight_sequence.specs.Request.{request};
 ghost use Rattle.observation.specs.Order.{saidBuilt};
+ghost use Rattle.equations.specs.declared.Layout.the-variants.{Square};
 ghost use Rattle.kodarfi.specs.Exported.{CheckExported, ListingExported, EntryExported};
 ghost use Rattle.kodarfi.specs.Weights.{SearchExported};
 ghost use Rattle.kodarfi.specs.Build.{BuildExported};
@@ -15,6 +16,7 @@ use builder::build;
 use checker::check;
 use entry::Registered;
 use entry::register_entry;
+use equations::Layout;
 use listing::answer_file;
 use observation::Built;
 use observation::Observation;
@@ -27,6 +29,7 @@ use weight_reply::found_reply;
 use weight_reply::tried_or;
 use weight_search::find_weights;
 
+mod half_matrix;
 mod with_doubles;
 
 // What an outcome says; a refusal that gives its number alone leaves both places 0.
@@ -162,7 +165,7 @@ fn built_number(built: Built) -> u32
     }
 }
 
-// Equations from the field lines: `builder::build`.
+// Equations from the field lines: `builder::build`, the matrix square.
 #[no_mangle]
 pub extern "C" fn kodarfi_build(
     n: u32,
@@ -170,7 +173,7 @@ pub extern "C" fn kodarfi_build(
     matrix: &mut [i64],
     right: &mut [i64],
 ) -> u32
-    ensures { λ r. ⌜ BuildExported n (now (observations .entry)) (now (matrix .entry)) (now (right .entry)) r (now (matrix .exit)) (now (right .exit)) ⌝ }
+    ensures { λ r. ⌜ BuildExported n (now (observations .entry)) Square (now (matrix .entry)) (now (right .entry)) r (now (matrix .exit)) (now (right .exit)) ⌝ }
 {
-    built_number(build(n, observations, matrix, right))
+    built_number(build(n, observations, Layout::Square, matrix, right))
 }

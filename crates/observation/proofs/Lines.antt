@@ -4,7 +4,7 @@
 --   usable, usable-said — nothing is said before any line exactly where all can be used
 --   builds-fits, fits-builds — a list builds exactly where it is usable and fits
 use mathlib.Core.Path.{_≡_, refl, sym, ap, _∙_}
-use mathlib.Core.Bool.{false, not}
+use mathlib.Core.Bool.{Bool, false, not}
 use mathlib.Core.List.{List, [], _∷_}
 use Prim.Native.Nat.{ℕ}
 use borrow.Author.Tests.{not-false, eqb-false, ne-eqb, ltb-false, le-ltb}
@@ -84,26 +84,26 @@ pub fit-lines : (n : ℕ) (ls : List Observation) → Fits n ls → observations
 fit-lines n ls f = nothing-said n [] ls (record { good = f .good; apart = λ e l i j k. nobody i; one = f .one })
 
 -- ---- before any line
-module _ (n k a b : ℕ) where
-  pub usable : verdict (openOrder n k a b) ≡ [] → Admitted n k a b
+module _ (n k : ℕ) (short : Bool) where
+  pub usable : verdict (openOrder n k short) ≡ [] → Admitted n k short
   usable e =
-      let t = none-said (openOrder n k a b) [] refl e in
+      let t = none-said (openOrder n k short) [] refl e in
       record { long = t .0; size = not-false _ (t .1 .0); few = ltb-false 256 k (t .1 .1 .0) }
 
-  pub usable-said : Admitted n k a b → verdict (openOrder n k a b) ≡ []
-  usable-said u = silent (openOrder n k a b) (u .long, (ap not (u .size), (le-ltb 256 k (u .few), tt)))
+  pub usable-said : Admitted n k short → verdict (openOrder n k short) ≡ []
+  usable-said u = silent (openOrder n k short) (u .long, (ap not (u .size), (le-ltb 256 k (u .few), tt)))
 
 -- ---- the whole
-module _ (n : ℕ) (ls : List Observation) (a b : ℕ) where
-  pub builds-fits : buildAnswer n ls a b ≡ [] → Admitted n (length ls) a b × Fits n ls
+module _ (n : ℕ) (ls : List Observation) (short : Bool) where
+  pub builds-fits : buildAnswer n ls short ≡ [] → Admitted n (length ls) short × Fits n ls
   unfolding buildAnswer
   builds-fits e =
-      let t = then-none (verdict (openOrder n (length ls) a b)) (observationsSay n [] ls) e in
-      (usable n (length ls) a b (t .0), lines-fit n ls (t .1))
+      let t = then-none (verdict (openOrder n (length ls) short)) (observationsSay n [] ls) e in
+      (usable n (length ls) short (t .0), lines-fit n ls (t .1))
 
-  pub usable-answer : Admitted n (length ls) a b → buildAnswer n ls a b ≡ observationsSay n [] ls
+  pub usable-answer : Admitted n (length ls) short → buildAnswer n ls short ≡ observationsSay n [] ls
   unfolding buildAnswer
-  usable-answer u = rw (usable-said n (length ls) a b u)
+  usable-answer u = rw (usable-said n (length ls) short u)
 
-  pub fits-builds : Admitted n (length ls) a b → Fits n ls → buildAnswer n ls a b ≡ []
+  pub fits-builds : Admitted n (length ls) short → Fits n ls → buildAnswer n ls short ≡ []
   fits-builds u f = usable-answer u ∙ fit-lines n ls f

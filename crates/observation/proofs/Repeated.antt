@@ -1,6 +1,7 @@
 -- Theorem (b): in a list that builds, a copy of any of its lines at any place changes nothing.
 --   Same, repeated — the longer list builds, with the same matrix and the same right side, while it is at most 256 long
 use mathlib.Core.Path.{_≡_, sym, subst}
+use mathlib.Core.Bool.{Bool}
 use mathlib.Core.List.{List, [], _∷_, _++_}
 use Prim.Native.Nat.{ℕ, _+_, _≤_}
 use lib.ListN.{length}
@@ -12,21 +13,21 @@ use Rattle.observation.proofs.Members.{joined}
 use Rattle.observation.proofs.Lines.{builds-fits, fits-builds}
 use Rattle.observation.proofs.Repeat.{repeated-total}
 
-pub record Same (n : ℕ) (ls ms : List Observation) (a b : ℕ) : Type 0 where
-  pub builds : buildAnswer n ms a b ≡ []
+pub record Same (n : ℕ) (ls ms : List Observation) (short : Bool) : Type 0 where
+  pub builds : buildAnswer n ms short ≡ []
   pub matrix : (i j : ℕ) → builtMatrix ms i j ≡ builtMatrix ls i j
   pub right : (i : ℕ) → builtRight ms i ≡ builtRight ls i
 
-pub repeated : (n a b : ℕ) (l : Observation) (xs ys : List Observation) → buildAnswer n (xs ++ ys) a b ≡ [] → Among l (xs ++ ys) → length (xs ++ l ∷ ys) ≤ 256 →
-    Same n (xs ++ ys) (xs ++ l ∷ ys) a b
-repeated n a b l xs ys e i few =
-    let t = builds-fits n (xs ++ ys) a b e in
+pub repeated : (n : ℕ) (short : Bool) (l : Observation) (xs ys : List Observation) → buildAnswer n (xs ++ ys) short ≡ [] → Among l (xs ++ ys) → length (xs ++ l ∷ ys) ≤ 256 →
+    Same n (xs ++ ys) (xs ++ l ∷ ys) short
+repeated n short l xs ys e i few =
+    let t = builds-fits n (xs ++ ys) short e in
     let u = t .0 in
     let w = t .1 in
     let own : (m : Observation) → Among m (xs ++ l ∷ ys) → Among m (xs ++ ys) = λ m j. joined xs ys j (λ p. subst (λ (z : Observation). Among z (xs ++ ys)) (sym p) i) (λ k. k) in
     record {
       builds =
-          fits-builds n (xs ++ l ∷ ys) a b (record { long = u .long; size = u .size; few = few })
+          fits-builds n (xs ++ l ∷ ys) short (record { long = u .long; size = u .size; few = few })
           (record { good = λ m j. w .good m (own m j); one = λ x y j k. w .one x y (own x j) (own y k) });
       matrix = λ r c. repeated-total (weightAt (r + 1) (c + 1)) l xs ys [] i (λ y j k. w .one y l j i k);
       right = λ r. repeated-total (gain (r + 1)) l xs ys [] i (λ y j k. w .one y l j i k);

@@ -1,6 +1,7 @@
 -- The small net of specs/Example, computed: what is said, A and b; the ends of the ranges: 3 one past each of them, and past 256 lines; and heights that fit
 -- every line, so that `heights-solve` is of more than nothing.
 use mathlib.Core.Path.{_≡_, refl, sym, subst}
+use mathlib.Core.Bool.{true, false}
 use mathlib.Core.List.{List, [], _∷_, _++_}
 use lib.IntN.{pos, negsuc, _-ℤ_, _*ℤ_}
 use lib.ListN.{replicate}
@@ -16,13 +17,13 @@ use Rattle.observation.specs.Heights.{FitAll}
 use Rattle.observation.specs.Stated.{Among}
 use Rattle.observation.proofs.Members.{nobody, either}
 
-builds : buildAnswer 2 net 1024 32 ≡ []
+builds : buildAnswer 2 net false ≡ []
 unfolding O.buildAnswer O.observationsSay L.outsideRange L.clashes L.sameContents R.inRange R.rangeOf R.ranges
 builds = refl
 
 -- 8 and 3 before any line, 3, 16 and 17 of a line, in this order
-refusals : (buildAnswer 33 net 1023 32 ≡ 8 ∷ []) × (buildAnswer 0 net 1024 32 ≡ 3 ∷ []) × (buildAnswer 1 net 1024 32 ≡ 3 ∷ []) × (buildAnswer 2 (net ++ heavy ∷ []) 1024 32 ≡ 3 ∷ [])
-    × (buildAnswer 2 (net ++ loop ∷ other ∷ []) 1024 32 ≡ 16 ∷ []) × (buildAnswer 2 (net ++ other ∷ loop ∷ []) 1024 32 ≡ 17 ∷ [])
+refusals : (buildAnswer 33 net true ≡ 8 ∷ []) × (buildAnswer 0 net false ≡ 3 ∷ []) × (buildAnswer 1 net false ≡ 3 ∷ []) × (buildAnswer 2 (net ++ heavy ∷ []) false ≡ 3 ∷ [])
+    × (buildAnswer 2 (net ++ loop ∷ other ∷ []) false ≡ 16 ∷ []) × (buildAnswer 2 (net ++ other ∷ loop ∷ []) false ≡ 17 ∷ [])
 unfolding O.buildAnswer O.observationsSay L.outsideRange L.clashes L.sameContents R.inRange R.rangeOf R.ranges
 refusals = (refl, refl, refl, refl, refl, refl)
 
@@ -30,16 +31,16 @@ equations : (builtMatrix net 0 0 ≡ pos 7) × (builtMatrix net 0 1 ≡ negsuc 4
 unfolding D.distinctAfter D.total D.weightAt D.gain L.hasKey
 equations = (refl, refl, refl, refl, refl, refl)
 
-ends-build : buildAnswer 32 ends 1024 32 ≡ []
+ends-build : buildAnswer 32 ends false ≡ []
 unfolding O.buildAnswer O.observationsSay L.outsideRange L.clashes L.sameContents R.inRange R.rangeOf R.ranges
 ends-build = refl
 
-past-ends : (buildAnswer 32 (line 0 0 1 (pos 0) 1 ∷ []) 1024 32 ≡ 3 ∷ []) × (buildAnswer 32 (line 65536 0 1 (pos 0) 1 ∷ []) 1024 32 ≡ 3 ∷ []) × (buildAnswer 32 (line 1 0 33 (pos 0) 1 ∷ []) 1024 32 ≡ 3 ∷ [])
-    × (buildAnswer 32 (line 1 0 1 (negsuc 65536) 1 ∷ []) 1024 32 ≡ 3 ∷ []) × (buildAnswer 32 (line 1 0 1 (pos 65537) 1 ∷ []) 1024 32 ≡ 3 ∷ []) × (buildAnswer 32 (line 1 0 1 (pos 0) 0 ∷ []) 1024 32 ≡ 3 ∷ [])
+past-ends : (buildAnswer 32 (line 0 0 1 (pos 0) 1 ∷ []) false ≡ 3 ∷ []) × (buildAnswer 32 (line 65536 0 1 (pos 0) 1 ∷ []) false ≡ 3 ∷ []) × (buildAnswer 32 (line 1 0 33 (pos 0) 1 ∷ []) false ≡ 3 ∷ [])
+    × (buildAnswer 32 (line 1 0 1 (negsuc 65536) 1 ∷ []) false ≡ 3 ∷ []) × (buildAnswer 32 (line 1 0 1 (pos 65537) 1 ∷ []) false ≡ 3 ∷ []) × (buildAnswer 32 (line 1 0 1 (pos 0) 0 ∷ []) false ≡ 3 ∷ [])
 unfolding O.buildAnswer O.observationsSay L.outsideRange L.clashes L.sameContents R.inRange R.rangeOf R.ranges
 past-ends = (refl, refl, refl, refl, refl, refl)
 
-counts : (buildAnswer 2 (replicate 256 near) 1024 32 ≡ []) × (buildAnswer 2 (replicate 257 near) 1024 32 ≡ 3 ∷ [])
+counts : (buildAnswer 2 (replicate 256 near) false ≡ []) × (buildAnswer 2 (replicate 257 near) false ≡ 3 ∷ [])
 unfolding O.buildAnswer O.observationsSay L.outsideRange L.clashes L.sameContents R.inRange R.rangeOf R.ranges
 counts = (refl, refl)
 

@@ -3,16 +3,16 @@
 --   observationOrder n earlier l — the tests of the line l after the lines `earlier`;  observationSays — what is said of it
 --   andThen first rest — what is said first, and the rest where that is nothing
 --   observationsSay n earlier ls — what is said of the lines ls, in order: the first refusal ends it
---   openOrder n k a b — the tests before any line: n, the count k of lines, the lengths a and b of the lent lists
---   buildAnswer n ls a b — what is said of all
-use mathlib.Core.Bool.{not, _||_}
+--   openOrder n k short — the tests before any line: n, the count k of lines, and whether a lent list is too short, which depends on the layout (built/specs/BuiltAs)
+--   buildAnswer n ls short — what is said of all
+use mathlib.Core.Bool.{Bool, not}
 use mathlib.Core.List.{List, [], _∷_}
 use Prim.Native.Nat.{ℕ}
 use lib.Dec.{ltb}
 use lib.IntN.{pos}
 use lib.ListN.{length}
 use Rattle.rules.specs.Order.{Test, number, verdict, accepted}
-use Rattle.rules.specs.Range.{inRange, shortMatrix, shortColumn}
+use Rattle.rules.specs.Range.{inRange}
 use Rattle.rules.specs.Refusal.{numberOf, valuesOf}
 use Rattle.rules.specs.declared.Kind.the-variants as kind
 use Rattle.observation.specs.declared.Built.{Built}
@@ -42,8 +42,8 @@ observationsSay n earlier [] = []
 observationsSay n earlier (l ∷ ls) = andThen (observationSays n earlier l) (observationsSay n (l ∷ earlier) ls)
 
 -- 02: "8 comes first, then 3 for n." "A list above 256 is 3, before any line."
-abbrev pub openOrder : ℕ → ℕ → ℕ → ℕ → List Test
-openOrder n k a b = number 8 (shortMatrix a || shortColumn b) ∷ number 3 (not (inRange kind.Size (pos n))) ∷ number 3 (ltb 256 k) ∷ []
+abbrev pub openOrder : ℕ → ℕ → Bool → List Test
+openOrder n k short = number 8 short ∷ number 3 (not (inRange kind.Size (pos n))) ∷ number 3 (ltb 256 k) ∷ []
 
-unfoldable pub buildAnswer : ℕ → List Observation → ℕ → ℕ → List ℕ
-buildAnswer n ls a b = andThen (verdict (openOrder n (length ls) a b)) (observationsSay n [] ls)
+unfoldable pub buildAnswer : ℕ → List Observation → Bool → List ℕ
+buildAnswer n ls short = andThen (verdict (openOrder n (length ls) short)) (observationsSay n [] ls)

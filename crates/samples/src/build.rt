@@ -10,6 +10,7 @@ use crate::print::print_number;
 use crate::print::print_refusal;
 use crate::print::print_text;
 use crate::print::size_of;
+use equations::Layout;
 use numeral::Number;
 use observation::Built;
 use observation::Observation;
@@ -127,7 +128,14 @@ fn built_of(name: u8, n: u32, lines: [Observation; 320], count: usize) -> BuiltL
     let mut right = marked();
     let a = less_where(1024, name == b'a');
     let b = less_where(32, name == b'r');
-    let built = build_first(n, lines, count, &mut matrix[..a], &mut right[..b]);
+    let built = build_first(
+        n,
+        lines,
+        count,
+        Layout::Square,
+        &mut matrix[..a],
+        &mut right[..b],
+    );
     BuiltLists {
         built,
         matrix,

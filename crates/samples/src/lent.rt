@@ -3,19 +3,21 @@ ghost use Prim.Native.Nat.{_≤_};
 ghost use lib.ListN.{take};
 ghost use Rattle.built.specs.BuiltAs.{BuiltAs};
 use builder::build;
+use equations::Layout;
 use observation::Built;
 use observation::Observation;
 
-// The equations of the first lines of an array.
+// The equations of the first lines of an array, the matrix in its layout.
 pub fn build_first(
     n: u32,
     lines: [Observation; 320],
     count: usize,
+    layout: Layout,
     matrix: &mut [i64],
     right: &mut [i64],
 ) -> Built
     requires { ⌜ count ≤ 320 ⌝ }
-    ensures { λ r. ⌜ BuiltAs n (take count lines) (now (matrix .entry)) (now (right .entry)) r (now (matrix .exit)) (now (right .exit)) ⌝ }
+    ensures { λ r. ⌜ BuiltAs n (take count lines) layout (now (matrix .entry)) (now (right .entry)) r (now (matrix .exit)) (now (right .exit)) ⌝ }
 {
-    build(n, &lines[..count], matrix, right)
+    build(n, &lines[..count], layout, matrix, right)
 }

@@ -1,6 +1,5 @@
-use Rattle.built.proofs.Ends.{finish-short, finish-done, finish-refused, long-matrix, long-right, square-room}
+use Rattle.built.proofs.Ends.{finish-short, finish-done, finish-refused, long-right, matrix-room}
 use Rattle.observation.specs.Order.{saidBuilt}
-use lib.ListN.{length}
 use native.Mathlib.Omega.{arith}
 use mathlib.Core.Path.{sym, ap, _∙_}
 use borrow.Author.Needs.{needs}
@@ -11,7 +10,7 @@ is-short-requires : tie.Need-is-short-requires
 is-short-requires c κs = search needs
 
 returns : tie.Need-returns
-returns c = let s = c .before .before in finish-short (s .args .g) (s .args .matrix .now) (s .args .right .now) (c .before .is-short .ensures) (c .if1 .taken)
+returns c = let s = c .before .before in finish-short (s .args .g) (s .args .layout) (s .args .matrix .now) (s .args .right .now) (c .before .is-short .ensures) (c .if1 .taken)
 
 enum-told : tie.Need-enum-told
 enum-told c = search needs
@@ -21,7 +20,7 @@ write-equations-requires c κs =
     let s = c .before .before .before .before .before .before in
     let r = s .pre .ready (c .before .before .enum-told .given .1) in
     let l = sym (c .before .before .before .before .before .is-short .ensures) ∙ c .before .before .before .before .if1 .left in
-    (r, (square-room (s .args .g .n) (r .size) (long-matrix _ (length (s .args .right .now)) l), omega (arith, r .size, long-right (length (s .args .matrix .now)) (length (s .args .right .now)) l)))
+    (r, (matrix-room (s .args .layout) (s .args .g .n) (s .args .matrix .now) (s .args .right .now) (r .size) l, omega (arith, r .size, long-right (s .args .layout) (s .args .matrix .now) (s .args .right .now) l)))
 
 enum-told-2 : tie.Need-enum-told-2
 enum-told-2 c = search needs
@@ -43,22 +42,22 @@ returns-2 c =
     let d = c .before .before .before .before .before in
     let s = d .before .before .before .before in
     let e = c .before .before .write-equations .ensures in
-    finish-done (s .args .g) (s .args .matrix .now) (s .args .right .now) (d .before .before .before .is-short .ensures) (d .before .before .if1 .left) (d .enum-told .given .1) (e .0) (e .1)
+    finish-done (s .args .g) (s .args .layout) (s .args .matrix .now) (s .args .right .now) (d .before .before .before .is-short .ensures) (d .before .before .if1 .left) (d .enum-told .given .1) (e .0) (e .1)
 
 returns-3 : tie.Need-returns-3
 returns-3 c =
     let s = c .before .before .before .before in
-    finish-refused (s .args .g) (s .args .matrix .now) (s .args .right .now) (c .before .before .before .is-short .ensures) (c .before .before .if1 .left) (ap saidBuilt (c .enum-told2 .given .1))
+    finish-refused (s .args .g) (s .args .layout) (s .args .matrix .now) (s .args .right .now) (c .before .before .before .is-short .ensures) (c .before .before .if1 .left) (ap saidBuilt (c .enum-told2 .given .1))
 
 returns-4 : tie.Need-returns-4
 returns-4 c =
     let s = c .before .before .before .before in
-    finish-refused (s .args .g) (s .args .matrix .now) (s .args .right .now) (c .before .before .before .is-short .ensures) (c .before .before .if1 .left) (ap saidBuilt (c .enum-told3 .given .1))
+    finish-refused (s .args .g) (s .args .layout) (s .args .matrix .now) (s .args .right .now) (c .before .before .before .is-short .ensures) (c .before .before .if1 .left) (ap saidBuilt (c .enum-told3 .given .1))
 
 returns-5 : tie.Need-returns-5
 returns-5 c =
     let s = c .before .before .before .before in
-    finish-refused (s .args .g) (s .args .matrix .now) (s .args .right .now) (c .before .before .before .is-short .ensures) (c .before .before .if1 .left) (ap saidBuilt (c .enum-told4 .given .1))
+    finish-refused (s .args .g) (s .args .layout) (s .args .matrix .now) (s .args .right .now) (c .before .before .before .is-short .ensures) (c .before .before .if1 .left) (ap saidBuilt (c .enum-told4 .given .1))
 
 pub finish-spec : {M : Type 1} → statement M
 finish-spec =

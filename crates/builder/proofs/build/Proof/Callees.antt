@@ -27,6 +27,7 @@ use denote.Ref.{RefT}
 use denote.Slice.{sliceVal, ShrSlice, MutSlice, finally}
 use denote.Steps.{owned, nothing}
 use denote.Struct.Laws as LL
+use denote.Enum.Laws as EL
 use denote.Triple.Entry.{onEntry}
 use denote.Triple.Spec.{tripleOf}
 use denote.Triple.Statement.{Contract}
@@ -39,6 +40,9 @@ use Rattle.gathering.specs.declared.Gathered.{Gathered}
 use Rattle.observation.specs.declared.Observation.{Observation}
 use Rattle.gathering.specs.Gathered.{gathered, few, opened, ReadyWhenDone}
 use Rattle.observation.proofs.Built as B
+use Rattle.equations.specs.declared.Layout.{Layout}
+use Rattle.equations.proofs.Layout as L
+use Rattle.equations.proofs.Layout.Laws as L′
 use Rattle.gathering.proofs.Gathered as S
 use Rattle.gathering.proofs.Gathered.Laws as S′
 use Rattle.observation.proofs.Observation as T
@@ -53,7 +57,11 @@ abbrev pub R : RattleType
 R = T.the-row
 
 abbrev pub stayed : Stays (self.ended .signature .params) (self.ended .kept)
-stayed = (stay-none (λ _. u32) yes, (stay-none-slice (0 ∷ []) tt (plain (λ _. R)) yes, (gave-slice (1 ∷ []) tt (plain (λ _. i64)), (gave-slice (2 ∷ []) tt (plain (λ _. i64)), tt))))
+stayed = (stay-none (λ _. u32) yes, (stay-none-slice (0 ∷ []) tt (plain (λ _. R)) yes, (stay-none (λ _. L.the-row) yes, (gave-slice (1 ∷ []) tt (plain (λ _. i64)), (gave-slice (2 ∷ []) tt (plain (λ _. i64)), tt)))))
+
+-- the machine value of a layout
+abbrev pub laid : Layout → Val
+laid l = EL.val L.the-type L′.the-laws l
 
 abbrev pub sl : {A : Type 0} → RefT (List A) → Val
 sl x = sliceVal (x .ptr) (length (x .now))
@@ -69,15 +77,15 @@ module _ {M : Type 1} (𝓤 : URA M) (H : Heap 𝓤) (A : Atoms 𝓤) (mem : Mem
   Fin = tripleOf 𝓤 H A fin.signature (fin.spec 𝓤 H A mem run)
 
 module _ {M : Type 1} (𝓤 : URA M) (H : Heap 𝓤) (A : Atoms 𝓤) (W : Given 𝓤 H A) (mem : Memory → SProp 𝓤) (run : Routine → Fun 𝓤) (κ κ′ κ″ : Lft) (q q′ q″ : Share)
-    (n : ℕ) (x : RefT (List Observation)) (m r : RefT (List ℤ)) (nf : n < 2 ^ 32) where
-  abbrev pub a : ℕ × (RefT (List Observation) × (RefT (List ℤ) × (RefT (List ℤ) × Unit {0})))
-  a = (n, (x, (m, (r, tt))))
+    (n : ℕ) (x : RefT (List Observation)) (lay : Layout) (m r : RefT (List ℤ)) (nf : n < 2 ^ 32) (lf : Is L.the-row lay (laid lay ∷ [])) where
+  abbrev pub a : ℕ × (RefT (List Observation) × (Layout × (RefT (List ℤ) × (RefT (List ℤ) × Unit {0}))))
+  a = (n, (x, (lay, (m, (r, tt)))))
 
   abbrev pub k : ℕ
   k = length (x .now)
 
-  abbrev pub vals : List Val × (List Val × (List Val × (List Val × Unit {0})))
-  vals = (vint w32 n ∷ [], (sl x ∷ [], (sl m ∷ [], (sl r ∷ [], tt))))
+  abbrev pub vals : List Val × (List Val × (List Val × (List Val × (List Val × Unit {0}))))
+  vals = (vint w32 n ∷ [], (sl x ∷ [], (laid lay ∷ [], (sl m ∷ [], (sl r ∷ [], tt)))))
 
   abbrev pub Post : Val → SProp 𝓤
   Post = walkOf 𝓤 H A self.ended stayed (self.clauses 𝓤 H A mem run) .post (((κ, (κ′, (κ″, tt))), (q, (q′, (q″, tt))), tt, a, vals), tt)
@@ -112,21 +120,22 @@ module _ {M : Type 1} (𝓤 : URA M) (H : Heap 𝓤) (A : Atoms 𝓤) (W : Given
   is-sound g e = subst ReadyWhenDone (sym e) (whole n (x .now) .sound)
 
   abbrev pub to-fin : Gathered → Val → Fin 𝓤 H A mem run .Ghost
-  to-fin g u = (((κ′, (κ″, tt)), (q′, (q″, tt)), tt, (g, (m, (r, tt))), (u ∷ [], (sl m ∷ [], (sl r ∷ [], tt)))), tt)
+  to-fin g u = (((κ′, (κ″, tt)), (q′, (q″, tt)), tt, (g, (lay, (m, (r, tt)))), (u ∷ [], (laid lay ∷ [], (sl m ∷ [], (sl r ∷ [], tt))))), tt)
 
-  pub asked-fin : (g : Gathered) (u : Val) → ReadyWhenDone g → ent 𝓤 (onEntry 𝓤 H A fin.signature (κ′, (κ″, tt)) (q′, (q″, tt)) (g, (m, (r, tt))) (u ∷ [], (sl m ∷ [], (sl r ∷ [], tt)))) (Fin 𝓤 H A mem run .pre (to-fin g u))
+  pub asked-fin : (g : Gathered) (u : Val) → ReadyWhenDone g → ent 𝓤 (onEntry 𝓤 H A fin.signature (κ′, (κ″, tt)) (q′, (q″, tt)) (g, (lay, (m, (r, tt)))) (u ∷ [], (laid lay ∷ [], (sl m ∷ [], (sl r ∷ [], tt))))) (Fin 𝓤 H A mem run .pre (to-fin g u))
   asked-fin g u sound =
-      qed W ((‵ (flft κ′ q′) ⊛ ‵ (flft κ″ q″) ⊛ ‵ ftrue) ∷ ‵ (owns (S.the-row ∷ MutSlice (named 0) κ′ i64 ∷ MutSlice (named 1) κ″ i64 ∷ []) (g, (m, (r, tt))) (u ∷ [], (sl m ∷ [], (sl r ∷ [], tt)))) ∷ []) ∵ says ! sound $ frame ! $ done !
+      qed W ((‵ (flft κ′ q′) ⊛ ‵ (flft κ″ q″) ⊛ ‵ ftrue) ∷ ‵ (owns (S.the-row ∷ L.the-row ∷ MutSlice (named 0) κ′ i64 ∷ MutSlice (named 1) κ″ i64 ∷ []) (g, (lay, (m, (r, tt)))) (u ∷ [], (laid lay ∷ [], (sl m ∷ [], (sl r ∷ [], tt))))) ∷ []) ∵ says ! sound $ frame ! $ done !
 
   pub typed : (s : Gathered) (v : Val) → Is S.the-row s (v ∷ []) → Holds (hasTy S′.mir v) × WT v
   typed s v g = LL.lawful S.the-type S′.the-laws 𝓤 H A W .typed s _ g .0
 
-  pub exits : (b : Built) (w : Val) (zm zr : List ℤ) → BuiltAs n (x .now) (m .now) (r .now) b zm zr → length zm ≡ length (m .now) → length zr ≡ length (r .now)
+  pub exits : (b : Built) (w : Val) (zm zr : List ℤ) → BuiltAs n (x .now) lay (m .now) (r .now) b zm zr → length zm ≡ length (m .now) → length zr ≡ length (r .now)
       → ent 𝓤 (⋆ 𝓤 H A (‵ (B.the-row .own b (w ∷ [])) ∷ (‵ (flft κ′ q′) ⊛ ‵ (flft κ″ q″) ⊛ ‵ ftrue) ∷ ‵ (finally i64 (r .name) zr) ∷ ‵ (finally i64 (m .name) zm) ∷ (‵ (flft κ q) ⊛ ‵ ftrue) ∷ ‵ Lines ∷ [])) (Post w)
   exits b w zm zr e lm lr =
       qed W (‵ (B.the-row .own b (w ∷ [])) ∷ (‵ (flft κ′ q′) ⊛ ‵ (flft κ″ q″) ⊛ ‵ ftrue) ∷ ‵ (finally i64 (r .name) zr) ∷ ‵ (finally i64 (m .name) zm) ∷ (‵ (flft κ q) ⊛ ‵ ftrue) ∷ ‵ Lines ∷ []) ∵
-      suffices ! _ (ends-at 𝓤 H A self.ended stayed (self.clauses 𝓤 H A mem run) W (((κ, (κ′, (κ″, tt))), (q, (q′, (q″, tt))), tt, a, vals), tt) w b (tt, (tt, (zm, (zr, tt)))) (tt, (tt, (lm, (lr, tt))))) $ says ! e $
+      suffices ! _ (ends-at 𝓤 H A self.ended stayed (self.clauses 𝓤 H A mem run) W (((κ, (κ′, (κ″, tt))), (q, (q′, (q″, tt))), tt, a, vals), tt) w b (tt, (tt, (tt, (zm, (zr, tt))))) (tt, (tt, (tt, (lm, (lr, tt)))))) $ says ! e $
       move ! (4 ∷ []) $ split ! $ move ! (1 ∷ []) $ drop ! $ move ! (0 ∷ 2 ∷ []) $ join ! $ frame ! $
       -- [result; last right; last matrix; lines]
-      nothing ! $ move ! (2 ∷ 0 ∷ []) $ fjoin ! $ move ! (2 ∷ 0 ∷ []) $ fjoin ! $ move ! (2 ∷ 0 ∷ []) $ fjoin ! $
+      nothing ! $ move ! (2 ∷ 0 ∷ []) $ fjoin ! $ move ! (2 ∷ 0 ∷ []) $ fjoin ! $
+      owned ! L.the-row (Is L.the-row) (EL.makes L.the-type L′.the-plain 𝓤 H A) lay _ lf $ fjoin ! $ move ! (2 ∷ 0 ∷ []) $ fjoin ! $
       owned ! u32 (Is u32) (uint-makes 𝓤 H A W w32) n _ (refl, nf) $ fjoin ! $ done !

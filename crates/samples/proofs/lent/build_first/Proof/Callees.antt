@@ -30,6 +30,7 @@ use denote.Ref.{RefT}
 use denote.Slice.{sliceVal, ShrSlice, MutSlice, finally}
 use denote.Steps.{owned, nothing}
 use denote.Struct.Laws as LL
+use denote.Enum.Laws as EL
 use denote.Triple.Entry.{onEntry}
 use denote.Triple.Spec.{tripleOf}
 use denote.Triple.Statement.{Contract}
@@ -42,6 +43,9 @@ use Rattle.observation.specs.declared.Observation.{Observation}
 use Rattle.observation.proofs.Built as B
 use Rattle.observation.proofs.Observation as T
 use Rattle.observation.proofs.Observation.Laws as T′
+use Rattle.equations.specs.declared.Layout.{Layout}
+use Rattle.equations.proofs.Layout as L
+use Rattle.equations.proofs.Layout.Laws as L′
 use Rattle.built.specs.BuiltAs.{BuiltAs}
 use Rattle.builder.proofs.build as build-fn
 use Rattle.samples.proofs.lent.build_first as self
@@ -58,8 +62,12 @@ the-one (v ∷ vs) = v
 abbrev pub array-val : List Observation → Val
 array-val ls = the-one (array-vals line-vals ls)
 
+-- the machine value of a layout
+abbrev pub laid : Layout → Val
+laid l = EL.val L.the-type L′.the-laws l
+
 abbrev pub stayed : Stays (self.ended .signature .params) (self.ended .kept)
-stayed = (stay-none (λ _. u32) yes, (stay-none (λ _. Array R 320) yes, (stay-none (λ _. usize) yes, (gave-slice (0 ∷ []) tt (plain (λ _. i64)), (gave-slice (1 ∷ []) tt (plain (λ _. i64)), tt)))))
+stayed = (stay-none (λ _. u32) yes, (stay-none (λ _. Array R 320) yes, (stay-none (λ _. usize) yes, (stay-none (λ _. L.the-row) yes, (gave-slice (0 ∷ []) tt (plain (λ _. i64)), (gave-slice (1 ∷ []) tt (plain (λ _. i64)), tt))))))
 
 abbrev pub sl : {A : Type 0} → RefT (List A) → Val
 sl x = sliceVal (x .ptr) (length (x .now))
@@ -76,22 +84,22 @@ module _ {M : Type 1} (𝓤 : URA M) (H : Heap 𝓤) (A : Atoms 𝓤) (W : Given
   halved xs b o = slice-halves 𝓤 H A W R (Is R) (shows 𝓤 H A R) line-vals (LL.tells T.the-type T′.the-laws) (LL.copy T.the-type T′.the-copy 𝓤 H A W) (length xs) xs b o
 
 module _ {M : Type 1} (𝓤 : URA M) (H : Heap 𝓤) (A : Atoms 𝓤) (W : Given 𝓤 H A) (mem : Memory → SProp 𝓤) (run : Routine → Fun 𝓤) (κ′ κ″ : Lft) (q′ q″ : Share)
-    (n : ℕ) (ls : List Observation) (k : ℕ) (m r : RefT (List ℤ)) (nf : n < 2 ^ 32) (kf : k < 2 ^ 64) (is : Is (Array R 320) ls (array-val ls ∷ [])) where
-  abbrev pub a : ℕ × (List Observation × (ℕ × (RefT (List ℤ) × (RefT (List ℤ) × Unit {0}))))
-  a = (n, (ls, (k, (m, (r, tt)))))
+    (n : ℕ) (ls : List Observation) (k : ℕ) (lay : Layout) (m r : RefT (List ℤ)) (nf : n < 2 ^ 32) (kf : k < 2 ^ 64) (is : Is (Array R 320) ls (array-val ls ∷ [])) (lf : Is L.the-row lay (laid lay ∷ [])) where
+  abbrev pub a : ℕ × (List Observation × (ℕ × (Layout × (RefT (List ℤ) × (RefT (List ℤ) × Unit {0})))))
+  a = (n, (ls, (k, (lay, (m, (r, tt))))))
 
-  abbrev pub vals : List Val × (List Val × (List Val × (List Val × (List Val × Unit {0}))))
-  vals = (vint w32 n ∷ [], (array-val ls ∷ [], (vint w64 k ∷ [], (sl m ∷ [], (sl r ∷ [], tt)))))
+  abbrev pub vals : List Val × (List Val × (List Val × (List Val × (List Val × (List Val × Unit {0})))))
+  vals = (vint w32 n ∷ [], (array-val ls ∷ [], (vint w64 k ∷ [], (laid lay ∷ [], (sl m ∷ [], (sl r ∷ [], tt))))))
 
   abbrev pub Post : Val → SProp 𝓤
   Post = walkOf 𝓤 H A self.ended stayed (self.clauses 𝓤 H A mem run) .post (((κ′, (κ″, tt)), (q′, (q″, tt)), tt, a, vals), tt)
 
   -- build's arguments: the first k lines of the array at l, lent for κ under the name γ
-  abbrev pub lent-args : ℕ → GName → ℕ × (RefT (List Observation) × (RefT (List ℤ) × (RefT (List ℤ) × Unit {0})))
-  lent-args l γ = (n, (first-of ls k l γ, (m, (r, tt))))
+  abbrev pub lent-args : ℕ → GName → ℕ × (RefT (List Observation) × (Layout × (RefT (List ℤ) × (RefT (List ℤ) × Unit {0}))))
+  lent-args l γ = (n, (first-of ls k l γ, (lay, (m, (r, tt)))))
 
-  abbrev pub lent-vals : ℕ → List Val × (List Val × (List Val × (List Val × Unit {0})))
-  lent-vals l = (vint w32 n ∷ [], (sliceVal (l, 0) k ∷ [], (sl m ∷ [], (sl r ∷ [], tt))))
+  abbrev pub lent-vals : ℕ → List Val × (List Val × (List Val × (List Val × (List Val × Unit {0}))))
+  lent-vals l = (vint w32 n ∷ [], (sliceVal (l, 0) k ∷ [], (laid lay ∷ [], (sl m ∷ [], (sl r ∷ [], tt)))))
 
   abbrev pub to-build : Lft → ℕ → GName → Build 𝓤 H A mem run .Ghost
   to-build κ l γ = (((κ, (κ′, (κ″, tt))), (fullShare, (q′, (q″, tt))), tt, lent-args l γ, lent-vals l), tt)
@@ -99,17 +107,18 @@ module _ {M : Type 1} (𝓤 : URA M) (H : Heap 𝓤) (A : Atoms 𝓤) (W : Given
   pub asked-build : (κ : Lft) (l : ℕ) (γ : GName) → ent 𝓤 (onEntry 𝓤 H A build-fn.signature (κ, (κ′, (κ″, tt))) (fullShare, (q′, (q″, tt))) (lent-args l γ) (lent-vals l)) (Build 𝓤 H A mem run .pre (to-build κ l γ))
   asked-build κ l γ =
       qed W ((‵ (flft κ fullShare) ⊛ ‵ (flft κ′ q′) ⊛ ‵ (flft κ″ q″) ⊛ ‵ ftrue)
-      ∷ ‵ (owns (u32 ∷ ShrSlice (named 0) κ R ∷ MutSlice (named 1) κ′ i64 ∷ MutSlice (named 2) κ″ i64 ∷ []) (lent-args l γ) (lent-vals l)) ∷ []) ∵
+      ∷ ‵ (owns (u32 ∷ ShrSlice (named 0) κ R ∷ L.the-row ∷ MutSlice (named 1) κ′ i64 ∷ MutSlice (named 2) κ″ i64 ∷ []) (lent-args l γ) (lent-vals l)) ∷ []) ∵
       join ! $ frame ! $ done !
 
-  pub exits : (b : Built) (w : Val) (zm zr : List ℤ) → BuiltAs n (take k ls) (m .now) (r .now) b zm zr → length zm ≡ length (m .now) → length zr ≡ length (r .now)
+  pub exits : (b : Built) (w : Val) (zm zr : List ℤ) → BuiltAs n (take k ls) lay (m .now) (r .now) b zm zr → length zm ≡ length (m .now) → length zr ≡ length (r .now)
       → ent 𝓤 (⋆ 𝓤 H A (‵ (B.the-row .own b (w ∷ [])) ∷ (‵ (flft κ′ q′) ⊛ ‵ (flft κ″ q″) ⊛ ‵ ftrue) ∷ ‵ (finally i64 (r .name) zr) ∷ ‵ (finally i64 (m .name) zm) ∷ [])) (Post w)
   exits b w zm zr e lm lr =
       qed W (‵ (B.the-row .own b (w ∷ [])) ∷ (‵ (flft κ′ q′) ⊛ ‵ (flft κ″ q″) ⊛ ‵ ftrue) ∷ ‵ (finally i64 (r .name) zr) ∷ ‵ (finally i64 (m .name) zm) ∷ []) ∵
-      suffices ! _ (ends-at 𝓤 H A self.ended stayed (self.clauses 𝓤 H A mem run) W (((κ′, (κ″, tt)), (q′, (q″, tt)), tt, a, vals), tt) w b (tt, (tt, (tt, (zm, (zr, tt))))) (tt, (tt, (tt, (lm, (lr, tt)))))) $ says ! e $
+      suffices ! _ (ends-at 𝓤 H A self.ended stayed (self.clauses 𝓤 H A mem run) W (((κ′, (κ″, tt)), (q′, (q″, tt)), tt, a, vals), tt) w b (tt, (tt, (tt, (tt, (zm, (zr, tt)))))) (tt, (tt, (tt, (tt, (lm, (lr, tt))))))) $ says ! e $
       move ! (1 ∷ []) $ frame ! $
       -- [result; last right; last matrix]
       nothing ! $ move ! (2 ∷ 0 ∷ []) $ fjoin ! $ move ! (2 ∷ 0 ∷ []) $ fjoin ! $
+      owned ! L.the-row (Is L.the-row) (EL.makes L.the-type L′.the-plain 𝓤 H A) lay _ lf $ fjoin ! $
       owned ! usize (Is usize) (uint-makes 𝓤 H A W w64) k _ (refl, kf) $ fjoin ! $
       owned ! (Array R 320) (Is (Array R 320)) (array-makes 𝓤 H A W R (LL.makes T.the-type T′.the-plain 𝓤 H A) 320) ls _ is $ fjoin ! $
       owned ! u32 (Is u32) (uint-makes 𝓤 H A W w32) n _ (refl, nf) $ fjoin ! $ done !

@@ -1,0 +1,64 @@
+-- Document 01's whole file by its lower half: no theorem on an accepted half is empty.
+--   file-half-long — the half is long enough
+--   file-half-accepted — what is said of the filled-out matrix: nothing
+--   file-half-rounded — and it is a rounded exact proposal
+use mathlib.Core.Path.{_≡_, refl, sym, _∙_}
+use mathlib.Core.Bool.{false}
+use mathlib.Core.List.{[]}
+use Prim.Native.Nat.{ℕ, zero, suc, _<_}
+use native.Mathlib.Omega.{arith}
+use lib.Dec.{lit<, lit≤}
+use lib.ListN.{length}
+use Rattle.integer.specs.Finite.{sum, sumℕ}
+use Rattle.linear.specs.Matrix.{apply, product, identity}
+use Rattle.linear.specs.Slice.{at, matrixOf}
+use Rattle.reckoning.specs.Arrays.{stored}
+use Rattle.rules.specs.Range.{inRange, rangeOf, ranges}
+use Rattle.enclosure.specs.Demand.{RoundedExact, sumOfSizes}
+use Rattle.enclosure.specs.Reckoning.{rowSum}
+use Rattle.enclosure.specs.Example as example
+use Rattle.checked.specs.Input.{problem, short}
+use Rattle.checked.specs.Order.{answer}
+use Rattle.checked.proofs.Table.{fileInput, file-accepted, file-rounded-here}
+use Rattle.lower_half.specs.Half.{halfPlace, shortHalf, filledOut}
+use Rattle.lower_half.proofs.Filling.{filled-length}
+use Rattle.half.specs.Checked.{filledInput}
+use Rattle.half.specs.Example.{fileHalf, fileHalved}
+use Rattle.half.proofs.Square.{answers}
+
+-- both indices below 2
+each : (Q : ℕ → Type 0) → Q 0 → Q 1 → (i : ℕ) → i < 2 → Q i
+each Q a b zero l = a
+each Q a b (suc zero) l = b
+each Q a b (suc (suc i)) l = absurd (omega arith)
+
+each₂ : (Q : ℕ → ℕ → Type 0) → Q 0 0 → Q 0 1 → Q 1 0 → Q 1 1 → (i j : ℕ) → i < 2 → j < 2 → Q i j
+each₂ Q a b c d i j l m = each (λ k. Q k j) (each (Q 0) a b j m) (each (Q 1) c d j m) i l
+
+pub file-half-long : shortHalf (length fileHalf) ≡ false
+file-half-long = refl
+
+same : (i j : ℕ) → i < 2 → j < 2 → matrixOf (fileInput .matrix) 2 i j ≡ at fileHalf (halfPlace i j)
+unfolding halfPlace
+same = each₂ _ refl refl refl refl
+
+long : short (filledInput fileHalved) ≡ false
+long = rw (filled-length 2 fileHalf)
+
+pub file-half-accepted : answer (filledInput fileHalved) ≡ []
+file-half-accepted = answers fileHalved (fileInput .matrix) long refl same ∙ file-accepted
+
+pub file-half-rounded : RoundedExact (problem (filledInput fileHalved)) example.exact 11 example.exactInverse 11
+unfolding filledOut stored halfPlace inRange rangeOf ranges apply product identity sum sumℕ rowSum sumOfSizes
+file-half-rounded = record {
+  exact-right = file-rounded-here .exact-right;
+  solution = record { positive = lit≤ tt; solves = each _ refl refl };
+  inverse = record {
+    inverse = record { positive = lit≤ tt; right = each₂ _ refl refl refl refl };
+    left = each₂ _ refl refl refl refl;
+  };
+  near-solution = file-rounded-here .near-solution;
+  near-inverse = file-rounded-here .near-inverse;
+  weights = file-rounded-here .weights;
+  small = lit< tt;
+}

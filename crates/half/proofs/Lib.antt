@@ -1,0 +1,4 @@
+pub mod Contract
+pub mod Promises
+pub mod Square
+pub mod Example

@@ -1,0 +1,3 @@
+pub mod Checked
+pub mod Stated
+pub mod Example
