@@ -1,7 +1,7 @@
 -- A slack with each limit capped just above what is allowed does as well as the exact one.
 --   capped-test  — with a residual's size z and a rest y of the slack, both are above c alike
---   capped-equal — where they are not, the two sums are equal
-use mathlib.Core.Path.{_≡_, refl, sym, ap}
+--   capped-equal — where they are not, the two sums are equal;  capped-where — the same by the test of the exact slack
+use mathlib.Core.Path.{_≡_, refl, sym, ap, _∙_}
 use mathlib.Core.Bool.{Bool, true, false}
 use Prim.Native.Nat.{ℕ, zero, suc, _+_, _*_, _≤_, min}
 use native.Mathlib.Omega.{arith}
@@ -25,7 +25,7 @@ module _ (n c : ℕ) (a E : ℕ → ℕ) where
       let low : min e (c + 1) ≤ c = omega (arith, mul-le-mul-right {m = 1} {n = suc x} (min e (c + 1)) (omega arith)) in
       ap (λ (y : ℕ). suc x * y) (omega arith)
 
-  pub capped-equal : (z y : ℕ) → z + (sumℕ n capped + y) ≤ c → sumℕ n capped ≡ sumℕ n exact
+  capped-equal : (z y : ℕ) → z + (sumℕ n capped + y) ≤ c → sumℕ n capped ≡ sumℕ n exact
   capped-equal z y h = sumℕ-ext n capped exact (λ k l. term (a k) (E k) (omega (arith, sumℕ-at n capped k l)))
 
   capped-most : sumℕ n capped ≤ sumℕ n exact
@@ -39,3 +39,6 @@ module _ (n c : ℕ) (a E : ℕ → ℕ) where
       go false e =
           let h : z + (sumℕ n capped + y) ≤ c = ltb-false c (z + (sumℕ n capped + y)) e in
           sym (le-ltb c (z + (sumℕ n exact + y)) (omega (arith, h, capped-equal z y h)))
+
+  pub capped-where : (z y : ℕ) → ltb c (z + (sumℕ n exact + y)) ≡ false → sumℕ n capped ≡ sumℕ n exact
+  capped-where z y e = capped-equal z y (ltb-false c (z + (sumℕ n capped + y)) (capped-test z y ∙ e))
