@@ -6,24 +6,23 @@
 use mathlib.Core.Path.{_≡_, refl, sym, ap, ap₂, _∙_}
 use mathlib.Core.Bool.{Bool, true, false, _||_}
 use mathlib.Core.List.{List, [], _∷_}
-use Prim.Native.Nat.{ℕ, _+_, _*_, _≤_, _<_, _^_, min}
+use Prim.Native.Nat.{ℕ, _+_, _*_, _≤_, _<_, _^_}
 use native.Mathlib.Omega.{arith}
 use native.Mathlib.Nat.{mul-le-mul-right}
-use borrow.Author.Tests.{ltb-true, ltb-false, lt-ltb}
+use borrow.Author.Tests.{ltb-true, ltb-false}
 use lib.Dec.{eqb, ltb}
-use lib.IntN.{ℤ, pos, natAbs, _-ℤ_, _*ℤ_}
+use lib.IntN.{ℤ, pos, natAbs, _*ℤ_}
 use lib.ListN.{getD, length, replicate, getD-replicate}
 use Rattle.integer.proofs.Search.{first-ext}
-use Rattle.linear.specs.Matrix.{apply}
 use Rattle.linear.specs.Reach.{ColumnList}
-use Rattle.linear.specs.Slice.{at, vectorOf, matrixOf}
+use Rattle.linear.specs.Slice.{at, vectorOf}
 use Rattle.linear.proofs.Slack.{slack-ext}
 use Rattle.rules.specs.Order.{accepted}
 use Rattle.rules.specs.Range.{allInRange}
 use Rattle.rules.specs.declared.Kind.the-variants as kind
 use Rattle.rules.specs.declared.Outcome.{Outcome}
 use Rattle.rules.proofs.AllInRange.{all-at}
-use Rattle.rules.proofs.Ranges.{both-right, matrix-range, neither-left, neither-right}
+use Rattle.rules.proofs.Ranges.{both-right, matrix-range, neither-left}
 use Rattle.enclosure.specs.Reckoning.{margin, load, defect, residual, slack, allowedResidual, rowSum, exceeds, sizesWith, boundWith, bound}
 use Rattle.enclosure.proofs.Bounds.{bound-ext}
 use Rattle.reckoning.specs.Arrays.{Begins}
@@ -39,7 +38,7 @@ use Rattle.checked.proofs.Written.{written-ext}
 use Rattle.checker.specs.Work.{Work, work, workProblem, workResidual, workSlack, workAnswer, Workable, ReckonedAs}
 use Rattle.dependent.specs.Nets.{Attached, attachedBy, couplingOf}
 use Rattle.dependent.specs.Reckoning.{ownProblem, dependentResidual, dependentSlack, dependentExceeds, dependentBound}
-use Rattle.dependent.specs.Order.{dependentShort, dependentInRanges, dependentReckoned, dependentAnswer}
+use Rattle.dependent.specs.Order.{dependentReckoned, dependentAnswer}
 use Rattle.dependent.specs.Stated.{UsableDependent}
 use Rattle.dependent.specs.Attached.{AttachedAs}
 use Rattle.dependent.proofs.Statements.{answer-ready, own-fit, passed-of}

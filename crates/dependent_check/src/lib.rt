@@ -50,7 +50,17 @@ pub fn check_dependent(
     if inverse_bounds1.len() < 1024 {
         return CheckedNets::Main(Refusal::TooShort);
     }
-    let held = check_held(n1, s1, t1, matrix1, right1, tolerance1, guess1, inverse1, weights1);
+    let held = check_held(
+        n1,
+        s1,
+        t1,
+        matrix1,
+        right1,
+        tolerance1,
+        guess1,
+        inverse1,
+        weights1,
+    );
     let main = held.outcome;
     match main {
         Outcome::Refused(refusal) => CheckedNets::Main(refusal),

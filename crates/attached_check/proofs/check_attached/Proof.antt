@@ -13,7 +13,7 @@ use Rattle.checked.specs.Input.{Input, input, short, sizesInRange, inRanges}
 use Rattle.checked.proofs.Fit.{Fit}
 use Rattle.checked.proofs.Lengths.{long-of}
 use Rattle.dependent.specs.Nets.{Attached, attachedBy}
-use Rattle.dependent.specs.Order.{dependentShort, dependentInRanges}
+use Rattle.dependent.specs.Order.{dependentShort}
 use Rattle.dependent.specs.Stated.{UsableDependent}
 use Rattle.dependent.proofs.Statements.{own-fit}
 use Rattle.attached_check.proofs.Handed.{Handed, coupling-list, scaled-list, own-slacks, workable, reckoned-attached}
