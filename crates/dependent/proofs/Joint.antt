@@ -11,6 +11,7 @@ use Rattle.integer.proofs.Ring.{ring, ring₀, moves, by-zero, *-left-comm, zer
 use Rattle.linear.specs.Matrix.{Vec, Mat, apply}
 use Rattle.linear.proofs.Product.{apply-vectors, apply-scale, apply-ext}
 use Rattle.exact_solution.specs.Determined.{ZeroKernel, Determined}
+use Rattle.entry.proofs.Limit.{entry-covers}
 use Rattle.enclosure.specs.Demand.{Margins, InLimits, RightSide, Encloses}
 use Rattle.enclosure.specs.Reckoning.{bound, inverseBound}
 use Rattle.enclosure.proofs.Demands.{encloses}
@@ -131,10 +132,14 @@ module _ (J : Nets) where
     unfolding dependentResidual dependentSlack
     within-both β₁ ρ₁ β₂ ρ₂ t₁ t₂ N₁ N₂ q x =
         let h₁ : InLimits (mainProblem J) (bound (mainProblem J)) N₁ q = main-encloses .solution β₁ ρ₁ t₁ N₁ q (record { positive = x .positive; solves = x .main }) in
+        let h₂ : InLimits (dependentProblem J) (dependentBound (attached J)) N₂ q =
+        attached-within (dependentProblem J) n₁ C (mainProblem J .X) (bound (mainProblem J)) q N₁ (λ j l. rw (← same) (h₁ j l)) N₂
+        (λ k l. tolerated ρ₂ q (dependentProblem J .d k) (apply n₂ A₂ N₂ k +ℤ apply n₁ C N₁ k) (dependentProblem J .b k) (β₂ k) (t₂ .positive) (x .dependent k l) (t₂ .near k l)) heavy₂ margins₂ in
         record {
           main = h₁;
-          dependent = attached-within (dependentProblem J) n₁ C (mainProblem J .X) (bound (mainProblem J)) q N₁ (λ j l. rw (← same) (h₁ j l)) N₂
-              (λ k l. tolerated ρ₂ q (dependentProblem J .d k) (apply n₂ A₂ N₂ k +ℤ apply n₁ C N₁ k) (dependentProblem J .b k) (β₂ k) (t₂ .positive) (x .dependent k l) (t₂ .near k l)) heavy₂ margins₂;
+          dependent = h₂;
+          main-entry = λ i l. entry-covers (J .main .s) (mainProblem J .X i) (bound (mainProblem J) i) (N₁ i) q (h₁ i l);
+          dependent-entry = λ i l. entry-covers (J .dependent .s) (dependentProblem J .X i) (dependentBound (attached J) i) (N₂ i) q (h₂ i l);
         }
 
     pub encloses-both : EnclosesBoth J (bound (mainProblem J)) (inverseBound (mainProblem J)) (dependentBound (attached J)) (inverseBound (dependentProblem J))
@@ -156,7 +161,12 @@ module _ (J : Nets) where
     main = main;
     joint = λ β₁ ρ₁ β₂ ρ₂ t₁ t₂ N₁ N₂ q y.
         let w = x .joint β₁ ρ₁ β₂ ρ₂ t₁ t₂ N₁ N₂ q y in
-        record { main = λ i l. rw (e₁ i l) (w .main i l); dependent = λ i l. rw (e₂ i l) (w .dependent i l) };
+        record {
+          main = λ i l. rw (e₁ i l) (w .main i l);
+          dependent = λ i l. rw (e₂ i l) (w .dependent i l);
+          main-entry = λ i l. rw (e₁ i l) (w .main-entry i l);
+          dependent-entry = λ i l. rw (e₂ i l) (w .dependent-entry i l);
+        };
     inverse = λ H q h i j li lj. rw (f i j li lj) (x .inverse H q h i j li lj);
     kernel = x .kernel;
     joint-kernel = x .joint-kernel;

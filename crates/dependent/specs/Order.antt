@@ -3,7 +3,8 @@
 --   dependentShort D    — 8 of the dependent net: C, a list of its own or one of its two limit lists is too short
 --   dependentInRanges D — no 3 of it: its own numbers are in their ranges, its s is the main net's, and C is in the matrix range
 --   firstDependentResidual D — the lowest row whose residual with its slack is above 2^25; n where there is none
---   dependentReckoned D — what is said of 5, 6 and 7;  dependentAnswer D — what is said of the dependent net: 8, 3, 5, 6, 7
+--   dependentTests D — 5, 6 and 7 at the first place of each;  dependentReckoned D — what is said of these
+--   dependentAnswer D — what is said of the dependent net: 8, 3, 5, 6, 7
 --   ofNet net l  — l, where it is a refusal, with the net that it is of before it
 --   jointAnswer J — what is said of both: of the main net what its check says, and of the other where the main net is accepted
 --   saidNets r   — what an answer says: nothing where both nets are accepted, else the net, 1 or 2, the number of the refusal and its values
@@ -14,7 +15,7 @@ use lib.Dec.{eqb}
 use lib.ListN.{length}
 use Rattle.integer.specs.Finite.{first}
 use Rattle.linear.specs.Slice.{at}
-use Rattle.rules.specs.Order.{number, verdict, accepted}
+use Rattle.rules.specs.Order.{Test, number, verdict, accepted}
 use Rattle.rules.specs.Range.{allInRange, shortMatrix}
 use Rattle.rules.specs.Refusal.{numberOf, valuesOf}
 use Rattle.rules.specs.declared.Kind.the-variants as kind
@@ -35,17 +36,14 @@ dependentInRanges D =
 abbrev pub firstDependentResidual : Attached → ℕ
 firstDependentResidual D = first (D .own .n) (dependentExceeds D)
 
+abbrev pub dependentTests : Attached → List Test
+dependentTests D = reckoned (D .own .n) (firstMargin (ownProblem D)) (firstDependentResidual D) (firstInversePlace (ownProblem D))
+
 abbrev pub dependentReckoned : Attached → List ℕ
-dependentReckoned D =
-    verdict (reckoned (D .own .n) (firstMargin (ownProblem D)) (firstDependentResidual D) (firstInversePlace (ownProblem D)))
+dependentReckoned D = verdict (dependentTests D)
 
 unfoldable pub dependentAnswer : Attached → List ℕ
-dependentAnswer D =
-    verdict (
-    number 8 (dependentShort D)
-    ∷ number 3 (not (dependentInRanges D))
-    ∷ reckoned (D .own .n) (firstMargin (ownProblem D)) (firstDependentResidual D) (firstInversePlace (ownProblem D))
-    )
+dependentAnswer D = verdict (number 8 (dependentShort D) ∷ number 3 (not (dependentInRanges D)) ∷ dependentTests D)
 
 abbrev pub ofNet : ℕ → List ℕ → List ℕ
 ofNet net [] = []
