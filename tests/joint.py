@@ -1,7 +1,8 @@
 """What must hold of an accepted net and one hung from it, whatever the second implementation says (02, Paper 8): "every exact solution of the two nets together
-lies within both lists of limits, tolerances included". The joint systems are solved exactly, for right sides within the tolerances."""
+lies within both lists of limits, tolerances included". The joint systems are solved exactly, for right sides within the tolerances. Both inverses lie within
+theirs."""
 
-from exact import inverse_of, product, solution_within, within_tolerances
+from exact import inverse_of, inverse_within, product, solution_within, within_tolerances
 
 # A right side is in parts of this.
 OVER = 6
@@ -45,6 +46,9 @@ def faults(rng, pair, bounds):
     if inverse_of(pair.main.matrix) is None or inverse_of(pair.dependent.matrix) is None:
         yield "accepted, though a matrix has no inverse"
         return
+    for name, net, limits in (("main", pair.main, bounds.main), ("hung", pair.dependent, bounds.dependent)):
+        if not inverse_within(net, *inverse_of(net.matrix), limits.inverse):
+            yield f"the exact inverse of the {name} net lies outside its limits"
     for right1, right2 in right_sides(rng, pair):
         q, N1, N2 = joint_solution(pair, right1, right2)
         if not (within_tolerances(pair.main, right1, OVER) and within_tolerances(pair.dependent, right2, OVER) and solves(pair, q, N1, N2, right1, right2)):
