@@ -8,8 +8,8 @@
 --   SameHeights — of both nets the same fractions;  WithinBoth — N₁ / q within E₁ of X1 and N₂ / q within E₂ of X2, and both within the entry limits of
 --     their entries
 --   EnclosesBoth J E₁ L₁ E₂ L₂ — the main net's limits enclose, as after its own check; every joint solution of right sides within both tolerances lies
---     within E₁ of X1 and within E₂ of X2, and within the entry limits; every exact inverse of A2 lies within L₂; the kernels of A2 and of both nets together are zero;
---     and (Paper 12) every two right sides in whole numbers, and in fractions, have a joint solution, any two of them are the same fractions, and A2 has an
+--     within E₁ of X1 and within E₂ of X2, and within the entry limits; every exact inverse of A2 lies within L₂; the kernels of A2 and of both nets together
+--     are zero; and (Paper 12) every two right sides in whole numbers, and in fractions, have a joint solution, any two of them are the same fractions, and A2 has an
 --     inverse on both sides (`determined`)
 use mathlib.Core.Path.{_≡_}
 use Prim.Native.Nat.{ℕ, _*_, _≤_, _<_}

@@ -1,6 +1,7 @@
 -- Where C is all zeros the dependent net is checked as a net by itself, but for Paper 9's sums along the rows, which its heights are exempted from.
 --   Uncoupled D     — C has 1,024 numbers, all that are used are 0, and both nets have one s
---   exemptTests I, exemptAnswer I — 5, 6 and 7, and what a check on lists says where the guess is held to 2^25 with its slack alone, and the inverse's columns to both tests
+--   exemptTests I, exemptAnswer I — 5, 6 and 7, and what a check on lists says, where the guess is held to 2^25 with its slack alone, and the inverse's columns
+--     to both tests
 --   MeetsSums I     — no residual of the guess is above the sum along its row
 use mathlib.Core.Bool.{false, not}
 use mathlib.Core.List.{List, _∷_}

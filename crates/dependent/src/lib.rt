@@ -1,4 +1,5 @@
-// What the check of two nets, of which the second is hung from the first, answers (document 02, Paper 8). Its code stands in the crates couplings and dependent_check.
+// What the check of two nets, the second hung from the first, answers (document 02, Paper 8). Its code stands in the crates couplings, attached_check, held_check
+// and dependent_check.
 use rules::Refusal;
 
 pub enum CheckedNets {
