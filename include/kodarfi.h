@@ -191,6 +191,48 @@ uint32_t kodarfi_intervals(uint32_t n, uint32_t s,
                            double *high, size_t high_len,
                            uint64_t places[2]);
 
+/* The check of two nets, the second hung from the first (document 02, Paper 8).
+ *
+ * The main net, whose parameters end in 1, is as in kodarfi_check. The dependent net, whose parameters end in 2, has the equations
+ * A2 * u2 = b2 - C * u1 over the main net's heights u1. C, `coupling`, has n2 rows of n1 numbers, row after row without gaps, each -2^20 to 2^20, in a list of
+ * at least 1,024; the rest is neither read nor written. Both nets have the same s.
+ *
+ * The main net is checked first, just as kodarfi_check does, and then the dependent net: its residual is S * b2 - C * X1 - A2 * X2, and its slack is the sum
+ * of |C| * E1 along the row, for the limits E1 of the main net that this call finds, and S * tolerance2.
+ *
+ * The answer is 0 where both are accepted, and *net is 0: then the limits of both stand in the four lists, as in kodarfi_check, and every exact solution of
+ * the two nets together, for all right sides in fractions within both tolerances, lies within both lists of solution limits. Else the answer is the number
+ * of the first refusal, *net is 1 or 2, the net that it is of, and all four lists of limits are as before:
+ *
+ *   8, 3, 5, 6, 7 of the main net, as in kodarfi_check: 8 for its own lists and limits alone                  *net is 1
+ *   8   a list of the dependent net, its limits or C is too short                                             *net is 2    places: 0, 0
+ *   3   n2, s2, t2, a number that is used of its lists or of C is outside its range, or s2 is not s1                               0, 0
+ *   5   a margin of the dependent net is 0 or less                                                                                 row, 0
+ *   6   a residual of its guess is above 2^25 together with its slack; the row's sum is not asked of it                            row, 0
+ *   7   a residual of its inverse is above its row's sum in size                                                                   column, row
+ */
+uint32_t kodarfi_check_dependent(uint32_t n1, uint32_t s1, uint32_t t1,
+                                 const int64_t *matrix1, size_t matrix1_len,
+                                 const int64_t *right1, size_t right1_len,
+                                 const int64_t *tolerance1, size_t tolerance1_len,
+                                 const int64_t *guess1, size_t guess1_len,
+                                 const int64_t *inverse1, size_t inverse1_len,
+                                 const int64_t *weights1, size_t weights1_len,
+                                 uint64_t *solution_bounds1, size_t solution_bounds1_len,
+                                 uint64_t *inverse_bounds1, size_t inverse_bounds1_len,
+                                 uint32_t n2, uint32_t s2, uint32_t t2,
+                                 const int64_t *matrix2, size_t matrix2_len,
+                                 const int64_t *coupling, size_t coupling_len,
+                                 const int64_t *right2, size_t right2_len,
+                                 const int64_t *tolerance2, size_t tolerance2_len,
+                                 const int64_t *guess2, size_t guess2_len,
+                                 const int64_t *inverse2, size_t inverse2_len,
+                                 const int64_t *weights2, size_t weights2_len,
+                                 uint64_t *solution_bounds2, size_t solution_bounds2_len,
+                                 uint64_t *inverse_bounds2, size_t inverse_bounds2_len,
+                                 uint32_t *net,
+                                 uint64_t places[2]);
+
 #ifdef __cplusplus
 }
 #endif

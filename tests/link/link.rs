@@ -1,7 +1,7 @@
 //! The library linked from Rust, each of its calls beside what the second implementation says, and the checks on lists, the search for weights, the
 //! builder and the calls with doubles beside versions in Rust.
 //!
-//!   link FOLDER [--first]   what the emitters wrote: FOLDER/nets.txt, files.bin, entries.txt, weights.txt, builds.txt, doubles.txt, halves.txt;
+//!   link FOLDER [--first]   what the emitters wrote: FOLDER/nets.txt, files.bin, entries.txt, weights.txt, builds.txt, doubles.txt, halves.txt, pairs.txt;
 //!                           with --first it stops at the first test that fails
 //!
 //! The last line is 'N passed, M failed'.
@@ -9,6 +9,7 @@
 mod builds;
 mod count;
 mod damage;
+mod dependent;
 mod doubles;
 mod entries;
 mod files;
@@ -16,6 +17,7 @@ mod halves;
 mod lists;
 mod reckoning;
 mod test_builds;
+mod test_dependent;
 mod test_doubles;
 mod test_halves;
 mod test_lists;
@@ -50,6 +52,7 @@ fn main() {
     let (inward, outward) = doubles::read_exchanges(&text_of(folder, "doubles.txt"));
     test_doubles::test_doubles(&mut count, &inward, &outward);
     test_halves::test_halves(&mut count, &lists::read_halves(&text_of(folder, "halves.txt")));
+    test_dependent::test_dependent(&mut count, &dependent::read_pairs(&text_of(folder, "pairs.txt")));
     files::test_files(&mut count, &bytes_of(folder, "files.bin"));
     test_lists::test_lists(&mut count, &lists::read_nets(&text_of(folder, "nets.txt")));
     count.close()

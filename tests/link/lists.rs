@@ -93,9 +93,47 @@ macro_rules! library_check {
 library_check!(kodarfi_check, library_check);
 library_check!(kodarfi_check_half, library_check_half);
 
-/// The calls of the file with their outcomes. Each list begins with the numbers given and is filled up to its full length.
+/// A call's numbers, its count aside; the matrix has so many as `given` says for a count. Each list begins with the numbers given and is filled up to its
+/// full length.
+pub fn read_net(count: usize, given: fn(usize) -> usize, mut take: impl FnMut(usize) -> Vec<i64>) -> Net {
+    let (sizes, lengths) = (take(3), take(8));
+    let [matrix, right, tolerance, guess, inverse, weights, solution, bounds] = lengths[..] else { panic!("eight lengths") };
+    let mut list = |count: usize, length: usize| {
+        let mut list = take(count);
+        list.resize(length, UNREAD);
+        list
+    };
+    Net {
+        n: sizes[0] as u32,
+        s: sizes[1] as u32,
+        t: sizes[2] as u32,
+        matrix: list(given(count), MATRIX),
+        right: list(count, COLUMN),
+        tolerance: list(count, COLUMN),
+        guess: list(count, COLUMN),
+        inverse: list(count * count, MATRIX),
+        weights: list(count, COLUMN),
+        lengths: Lengths {
+            matrix: matrix as usize,
+            right: right as usize,
+            tolerance: tolerance as usize,
+            guess: guess as usize,
+            inverse: inverse as usize,
+            weights: weights as usize,
+            solution: solution as usize,
+            bounds: bounds as usize,
+        },
+    }
+}
+
+/// How many numbers a whole matrix has.
+pub fn whole(count: usize) -> usize {
+    count * count
+}
+
+/// The calls of the file with their outcomes.
 pub fn read_nets(text: &str) -> Vec<(Net, Outcome)> {
-    read_calls(text, |count| count * count)
+    read_calls(text, whole)
 }
 
 /// The same of tests/emit_halves.py: each matrix begins with the lower half.
@@ -108,36 +146,8 @@ fn read_calls(text: &str, given: fn(usize) -> usize) -> Vec<(Net, Outcome)> {
     let mut numbers = text.split_ascii_whitespace().map(|word| word.parse::<i64>().expect("a number"));
     let mut nets = Vec::new();
     while let Some(count) = numbers.next() {
-        let count = count as usize;
         let mut take = |count: usize| numbers.by_ref().take(count).collect::<Vec<i64>>();
-        let (sizes, lengths) = (take(3), take(8));
-        let [matrix, right, tolerance, guess, inverse, weights, solution, bounds] = lengths[..] else { panic!("eight lengths") };
-        let mut list = |count: usize, length: usize| {
-            let mut list = take(count);
-            list.resize(length, UNREAD);
-            list
-        };
-        let net = Net {
-            n: sizes[0] as u32,
-            s: sizes[1] as u32,
-            t: sizes[2] as u32,
-            matrix: list(given(count), MATRIX),
-            right: list(count, COLUMN),
-            tolerance: list(count, COLUMN),
-            guess: list(count, COLUMN),
-            inverse: list(count * count, MATRIX),
-            weights: list(count, COLUMN),
-            lengths: Lengths {
-                matrix: matrix as usize,
-                right: right as usize,
-                tolerance: tolerance as usize,
-                guess: guess as usize,
-                inverse: inverse as usize,
-                weights: weights as usize,
-                solution: solution as usize,
-                bounds: bounds as usize,
-            },
-        };
+        let net = read_net(count as usize, given, &mut take);
         let said = take(3);
         let mut out = Outcome::untouched(said[0] as u32, [said[1] as u64, said[2] as u64]);
         if out.number == 0 {

@@ -1,7 +1,7 @@
 //! Document 01's check on lists, with the tolerances of 02's Paper 5 and the row sums of its Paper 9, in 128-bit numbers.
 use crate::lists::{Net, Outcome, COLUMN, MATRIX};
 
-struct System {
+pub struct System {
     n: usize,
     steps: i128,
     inverse_steps: i128,
@@ -21,12 +21,12 @@ fn rows(list: &[i64], n: usize) -> Vec<Vec<i128>> {
     list[..n * n].chunks(n).map(wide).collect()
 }
 
-fn all_within(list: &[i64], size: i64) -> bool {
+pub fn all_within(list: &[i64], size: i64) -> bool {
     list.iter().all(|v| (-size..=size).contains(v))
 }
 
 /// 8: "A lent list too short."
-fn too_short(net: &Net) -> bool {
+pub fn too_short(net: &Net) -> bool {
     let told = &net.lengths;
     let matrices = [told.matrix, told.inverse, told.bounds];
     let columns = [told.right, told.tolerance, told.guess, told.weights, told.solution];
@@ -34,7 +34,7 @@ fn too_short(net: &Net) -> bool {
 }
 
 /// 3: "A number outside its range".
-fn out_of_range(net: &Net) -> bool {
+pub fn out_of_range(net: &Net) -> bool {
     if !(1..=32).contains(&net.n) || net.s > 20 || net.t > 20 {
         return true;
     }
@@ -56,7 +56,7 @@ fn column(matrix: &[Vec<i128>], j: usize) -> Vec<i128> {
 }
 
 impl System {
-    fn of(net: &Net) -> System {
+    pub fn of(net: &Net) -> System {
         let n = net.n as usize;
         System {
             n,
@@ -82,13 +82,18 @@ impl System {
         self.inverse_steps * self.w[m] - sum
     }
 
+    /// S·b − A·X.
+    pub fn guess_residual(&self) -> Vec<i128> {
+        self.residual(self.steps, &self.b, &self.x)
+    }
+
     /// scale·right − A·guess.
     fn residual(&self, scale: i128, right: &[i128], guess: &[i128]) -> Vec<i128> {
         (0..self.n).map(|k| scale * right[k] - dot(&self.a[k], guess)).collect()
     }
 
     /// S·d_k for each row.
-    fn slacks(&self) -> Vec<i128> {
+    pub fn slacks(&self) -> Vec<i128> {
         self.d.iter().map(|d| self.steps * d).collect()
     }
 
@@ -102,9 +107,8 @@ impl System {
         self.a.iter().map(|row| row.iter().map(|a| a.abs()).sum()).collect()
     }
 
-    /// The first row whose residual and slack are above 2^25 together in size, or whose residual is above the sum along it.
-    fn above(&self, residual: &[i128], slacks: &[i128]) -> Option<usize> {
-        let sums = self.row_sums();
+    /// The first row whose residual and slack are above 2^25 together in size, or whose residual is above its sum.
+    fn above(&self, residual: &[i128], slacks: &[i128], sums: &[i128]) -> Option<usize> {
         (0..self.n).find(|&k| residual[k].abs() + slacks[k] > 1 << 25 || residual[k].abs() > sums[k])
     }
 
@@ -126,21 +130,27 @@ pub fn check(net: &Net) -> Outcome {
         return refused(3, [0, 0]);
     }
     let system = System::of(net);
+    reckon(&system, &system.guess_residual(), &system.slacks(), &system.row_sums())
+}
+
+/// 5, 6, 7 and the limits, by the residuals of the guess, their slacks and the sums to which they are held.
+pub fn reckon(system: &System, residual: &[i128], slacks: &[i128], sums: &[i128]) -> Outcome {
+    let refused = Outcome::untouched;
     let n = system.n;
     let margins: Vec<i128> = (0..n).map(|m| system.margin(m)).collect();
     if let Some(m) = margins.iter().position(|&g| g <= 0) {
         return refused(5, [m as u64 + 1, 0]);
     }
-    let (residual, slacks, none) = (system.residual(system.steps, &system.b, &system.x), system.slacks(), vec![0; n]);
-    if let Some(k) = system.above(&residual, &slacks) {
+    if let Some(k) = system.above(residual, slacks, sums) {
         return refused(6, [k as u64 + 1, 0]);
     }
+    let (none, row_sums) = (vec![0; n], system.row_sums());
     let columns: Vec<Vec<i128>> = (0..n).map(|j| system.inverse_residual(j)).collect();
-    if let Some((j, k)) = columns.iter().enumerate().find_map(|(j, r)| Some((j, system.above(r, &none)?))) {
+    if let Some((j, k)) = columns.iter().enumerate().find_map(|(j, r)| Some((j, system.above(r, &none, &row_sums)?))) {
         return refused(7, [j as u64 + 1, k as u64 + 1]);
     }
     let mut out = refused(0, [0, 0]);
-    out.solution[..n].copy_from_slice(&system.bounds(&residual, &slacks, &margins));
+    out.solution[..n].copy_from_slice(&system.bounds(residual, slacks, &margins));
     for (j, residual) in columns.iter().enumerate() {
         for (i, bound) in system.bounds(residual, &none, &margins).into_iter().enumerate() {
             out.inverse[i * n + j] = bound;

@@ -32,4 +32,7 @@ void test_doubles(FILE *exchanges);
 /* kodarfi_check_half on the calls of tests/emit_halves.py. */
 void test_halves(FILE *halves);
 
+/* kodarfi_check_dependent on the pairs of tests/emit_dependent.py. */
+void test_dependent(FILE *pairs);
+
 #endif

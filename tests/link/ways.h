@@ -166,7 +166,31 @@
     X(built_half_at_1024)         \
     X(built_half_cleared_first)   \
     X(built_half_and_rest)        \
-    X(built_square_for_half)
+    X(built_square_for_half)      \
+    /* kodarfi_check_dependent */ \
+    X(slack_of_tolerance_alone)   \
+    X(slack_of_coupling_alone)    \
+    X(coupling_transposed)        \
+    X(coupling_stride_32)         \
+    X(coupling_added)             \
+    X(coupling_with_sign)         \
+    X(limit_capped_at_2_25)       \
+    X(limit_not_capped)           \
+    X(limits_of_caller_read)      \
+    X(main_limits_written_early)  \
+    X(main_limits_capped)         \
+    X(unequal_scales_passed)      \
+    X(coupling_of_any_size)       \
+    X(coupling_read_past_end)     \
+    X(short_coupling_taken)       \
+    X(hung_slack_untested)        \
+    X(hung_heights_by_row_sums)   \
+    X(hung_columns_without_row_sums)\
+    X(hung_lists_first)           \
+    X(hung_inverse_by_row)        \
+    X(main_row_for_hung)          \
+    X(net_always_1)               \
+    X(net_left_at_2)
 
 #define NAMED(name) name,
 enum way { RIGHT_WAY, WAYS(NAMED) };

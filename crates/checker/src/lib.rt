@@ -26,7 +26,7 @@ use slacks::slacks_of;
 
 // The reckoning of what passes 8 and 3, from a base of the residuals, what is allowed of them and of the inverse's columns, and their slacks: all refusals are
 // decided before the first limit is written.
-fn reckon(
+pub fn reckon(
     n: usize,
     t: u32,
     matrix: &[i64],

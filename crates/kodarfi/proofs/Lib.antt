@@ -7,3 +7,4 @@ pub mod BuildWalk
 pub mod Build
 pub mod Doubles
 pub mod Half
+pub mod TwoNets

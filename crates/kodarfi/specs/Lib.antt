@@ -4,3 +4,4 @@ pub mod Weights
 pub mod Build
 pub mod Doubles
 pub mod Half
+pub mod TwoNets

@@ -30,6 +30,7 @@ use weight_reply::tried_or;
 use weight_search::find_weights;
 
 mod half_matrix;
+mod two_nets;
 mod with_doubles;
 
 // What an outcome says; a refusal that gives its number alone leaves both places 0.
@@ -43,7 +44,7 @@ fn outcome_reply(outcome: Outcome) -> Reply
 }
 
 // Writes the two places of a reply; gives its number.
-fn tell(reply: Reply, places: &mut [u64; 2]) -> u32
+pub fn tell(reply: Reply, places: &mut [u64; 2]) -> u32
     ensures { λ r. ⌜ (r ≡ reply .number) × (now (places .exit) ≡ reply .first ∷ reply .second ∷ []) ⌝ }
 {
     *places = [reply.first, reply.second];

@@ -1,0 +1,22 @@
+-- What a dependent net takes over from the main net, from lists; cited by contracts inside. C stands row after row, `marks` numbers a row.
+--   baseFrom marks base coupling guess k — a base less row k of C times the main net's guess
+--   limitCap — 2^25 + 1: a limit counts for so much at most in the code's slack, so that the sum fits. The definition's slack is exact; the law `capped-test`
+--     of proofs/Cap says that both are above what is allowed alike, and `capped-equal` that they are equal where neither is
+--   cappedSum marks coupling limits k — the sum over j of |C_kj|·min(E_j, 2^25 + 1)
+use mathlib.Core.List.{List}
+use Prim.Native.Nat.{ℕ, _+_, _*_, min}
+use lib.IntN.{ℤ, natAbs, _-ℤ_}
+use lib.ListN.{getD}
+use Rattle.integer.specs.Finite.{sumℕ}
+use Rattle.linear.specs.Matrix.{apply}
+use Rattle.linear.specs.Slice.{at, vectorOf, matrixOf}
+use Rattle.enclosure.specs.Reckoning.{allowedResidual}
+
+abbrev pub baseFrom : ℕ → List ℤ → List ℤ → List ℤ → ℕ → ℤ
+baseFrom marks base coupling guess k = at base k -ℤ apply marks (matrixOf coupling marks) (vectorOf guess) k
+
+abbrev pub limitCap : ℕ
+limitCap = allowedResidual + 1
+
+abbrev pub cappedSum : ℕ → List ℤ → List ℕ → ℕ → ℕ
+cappedSum marks coupling limits k = sumℕ marks (λ (j : ℕ). natAbs (matrixOf coupling marks k j) * min (getD limits j 0) limitCap)

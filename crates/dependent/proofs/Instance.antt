@@ -1,0 +1,67 @@
+-- No theorem of this crate is empty: two nets of one mark each meet their hypotheses (specs/Example).
+--   accepted-here — both nets are accepted;  encloses-here — and their limits enclose
+--   near₁, near₂, solved — the right sides 9/3 and 1/1 are within the tolerances, and 3 and 7 are their joint solution
+--   limits-here, reached — the limits are 48 and 112, and that joint solution lies just so far from both guesses, so that no smaller slack would do
+--   apart-here, apart-sums, apart-said — with C = 0 the nets are uncoupled, the guess meets Paper 9's sums, and both are accepted
+use mathlib.Core.Path.{_≡_, refl}
+use mathlib.Core.List.{[]}
+use Prim.Native.Nat.{ℕ, zero, suc, _*_, _<_}
+use native.Mathlib.Omega.{arith}
+use lib.Dec.{lit≤}
+use lib.IntN.{pos, natAbs, _-ℤ_, _*ℤ_}
+use Rattle.integer.specs.Finite.{sum, sumℕ, largest, first}
+use Rattle.integer.specs.Quotient.{ceilDiv}
+use Rattle.linear.specs.Matrix.{apply, product, identity}
+use Rattle.rules.specs.Range.{ranges, rangeOf, inRange, allInRange}
+use Rattle.enclosure.specs.Demand.{RightSide}
+use Rattle.enclosure.specs.Problem.{S}
+use Rattle.enclosure.specs.Reckoning.{defect, load, margin, residual, rowSum, exceeds, sizesWith, boundFrom, boundWith, bound, inverseBound}
+use Rattle.checked.specs.Order.{answer}
+use Rattle.dependent.specs.Nets.{attached}
+use Rattle.dependent.specs.Reckoning.{dependentResidual, dependentSlack, dependentBound}
+use Rattle.dependent.specs.Order.{dependentAnswer, jointAnswer}
+use Rattle.dependent.specs.Joint.{mainProblem, dependentProblem, JointSolution, EnclosesBoth}
+use Rattle.dependent.specs.Uncoupled.{Uncoupled, MeetsSums}
+use Rattle.dependent.specs.Example.{both, apart, farRight₁, farRight₂, farHeight₁, farHeight₂}
+use Rattle.dependent.proofs.Joint.{encloses-both}
+
+only : (Q : ℕ → Type 0) → Q 0 → (i : ℕ) → i < 1 → Q i
+only Q a zero l = a
+only Q a (suc i) l = absurd (omega arith)
+
+pub accepted-here : jointAnswer both ≡ []
+unfolding jointAnswer answer dependentAnswer dependentResidual dependentSlack bound boundWith boundFrom sizesWith exceeds rowSum residual margin load defect product apply identity sum sumℕ largest first ceilDiv allInRange inRange rangeOf ranges
+accepted-here = refl
+
+pub encloses-here : EnclosesBoth both (bound (mainProblem both)) (inverseBound (mainProblem both)) (dependentBound (attached both)) (inverseBound (dependentProblem both))
+unfolding margin load defect product apply identity sum sumℕ
+encloses-here = encloses-both both refl (only _ (lit≤ tt)) (only _ (lit≤ tt)) (only _ refl) (only _ refl)
+
+pub near₁ : RightSide (mainProblem both) farRight₁ 3
+near₁ = record { positive = lit≤ tt; near = only _ (lit≤ tt) }
+
+pub near₂ : RightSide (dependentProblem both) farRight₂ 1
+near₂ = record { positive = lit≤ tt; near = only _ (lit≤ tt) }
+
+pub solved : JointSolution both farRight₁ 3 farRight₂ 1 farHeight₁ farHeight₂ 1
+unfolding apply sum
+solved = record { positive = lit≤ tt; main = only _ refl; dependent = only _ refl }
+
+pub limits-here : (bound (mainProblem both) 0 ≡ 48) × (dependentBound (attached both) 0 ≡ 112)
+unfolding apply product identity sum sumℕ defect load margin residual sizesWith boundFrom boundWith bound largest ceilDiv dependentResidual dependentSlack
+limits-here = (refl, refl)
+
+pub reached : (natAbs (pos (S (mainProblem both)) *ℤ farHeight₁ 0 -ℤ pos 1 *ℤ mainProblem both .X 0) ≡ 1 * 48)
+    × (natAbs (pos (S (dependentProblem both)) *ℤ farHeight₂ 0 -ℤ pos 1 *ℤ dependentProblem both .X 0) ≡ 1 * 112)
+reached = (refl, refl)
+
+pub apart-here : Uncoupled (attached apart)
+apart-here = record { long = lit≤ tt; zeros = only _ refl; scale = refl }
+
+pub apart-sums : MeetsSums (apart .dependent)
+unfolding residual rowSum apply sum sumℕ
+apart-sums = only _ refl
+
+pub apart-said : jointAnswer apart ≡ []
+unfolding jointAnswer answer dependentAnswer dependentResidual dependentSlack bound boundWith boundFrom sizesWith exceeds rowSum residual margin load defect product apply identity sum sumℕ largest first ceilDiv allInRange inRange rangeOf ranges
+apart-said = refl

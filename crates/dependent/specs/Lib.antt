@@ -1,0 +1,9 @@
+pub mod Nets
+pub mod Reckoning
+pub mod Order
+pub mod Joint
+pub mod Together
+pub mod Attached
+pub mod Stated
+pub mod Uncoupled
+pub mod Example

@@ -1,0 +1,28 @@
+-- What the check of two nets says and leaves (02, Paper 8: "either net's leaves the limit lists of both").
+--   dependentSolutionAfter said D — the solution limits of the dependent net where this is said: its limits where it is nothing, as before where it is a
+--     refusal of either net. The other three lists are those of a check on lists (`solutionAfter`, `inverseAfter`)
+--   CheckedTogether — the contract of `check_dependent`: what is said, the four limit lists, and what acceptance shows for the limits that the call wrote
+use mathlib.Core.List.{List, []}
+use mathlib.Core.Path.{_≡_}
+use Prim.Native.Nat.{ℕ, _+_, _*_}
+use lib.ListN.{getD}
+use Rattle.rules.specs.Order.{accepted}
+use Rattle.checked.specs.Checked.{written, solutionAfter, inverseAfter}
+use Rattle.dependent.specs.declared.CheckedNets.{CheckedNets}
+use Rattle.dependent.specs.Nets.{Nets, Attached, attached}
+use Rattle.dependent.specs.Reckoning.{dependentBound}
+use Rattle.dependent.specs.Order.{jointAnswer, saidNets}
+use Rattle.dependent.specs.Joint.{EnclosesBoth}
+
+abbrev pub dependentSolutionAfter : List ℕ → Attached → List ℕ
+dependentSolutionAfter said D = accepted said (written (D .own .n) (dependentBound D) (D .own .solutionBounds)) (D .own .solutionBounds)
+
+pub record CheckedTogether (J : Nets) (r : CheckedNets) (E₁ L₁ E₂ L₂ : List ℕ) : Type 0 where
+  pub says : saidNets r ≡ jointAnswer J
+  pub main-solution : E₁ ≡ solutionAfter (jointAnswer J) (J .main)
+  pub main-inverse : L₁ ≡ inverseAfter (jointAnswer J) (J .main)
+  pub dependent-solution : E₂ ≡ dependentSolutionAfter (jointAnswer J) (attached J)
+  pub dependent-inverse : L₂ ≡ inverseAfter (jointAnswer J) (J .dependent)
+  pub encloses : saidNets r ≡ [] →
+      EnclosesBoth J (λ (i : ℕ). getD E₁ i 0) (λ (i j : ℕ). getD L₁ (i * J .main .n + j) 0)
+      (λ (i : ℕ). getD E₂ i 0) (λ (i j : ℕ). getD L₂ (i * J .dependent .n + j) 0)

@@ -1,0 +1,150 @@
+use mathlib.Core.Path.{sym}
+use native.Mathlib.Omega.{arith}
+use Rattle.linear.proofs.Places.{square}
+use Rattle.checked.specs.Input.{input}
+use Rattle.dependent.specs.Nets.{Nets, nets}
+use Rattle.dependent_check.proofs.Held.{short-solution, short-inverse, main-refused, marks-few, guess-known, limits-long, inverse-long, dependent-refused, both-accepted}
+use borrow.Author.Needs.{needs}
+use Rattle.dependent_check.proofs.check_dependent.Statement.{statement}
+use Rattle.dependent_check.proofs.check_dependent.Tie as tie
+
+abbrev J : tie.Start → Nets
+J s =
+    let a = s .args in
+    nets
+    (input (a .n1) (a .s1) (a .t1) (a .matrix1 .now) (a .right1 .now) (a .tolerance1 .now) (a .guess1 .now) (a .inverse1 .now) (a .weights1 .now) (a .solution-bounds1 .now) (a .inverse-bounds1 .now))
+    (input (a .n2) (a .s2) (a .t2) (a .matrix2 .now) (a .right2 .now) (a .tolerance2 .now) (a .guess2 .now) (a .inverse2 .now) (a .weights2 .now) (a .solution-bounds2 .now) (a .inverse-bounds2 .now))
+    (a .coupling .now)
+
+-- the check of the main net, whose limits are held, and where it was accepted
+abbrev start : tie.After-check-held → tie.Start
+start h = h .before .before .before .before .before .before .before
+
+abbrev held : tie.After-check-attached → tie.After-check-held
+held a = a .before .before .before .before .before .before
+
+abbrev attached : tie.After-limits2 → tie.After-check-attached
+attached l = l .before .before .before .before .before .before .before .before .before
+
+returns : tie.Need-returns
+returns c = short-solution (J (c .before .before .before .before .before)) (c .if1 .taken)
+
+returns-2 : tie.Need-returns-2
+returns-2 c = short-inverse (J (c .before .before .before .before .before .before)) (c .if2 .taken)
+
+check-held-requires : tie.Need-check-held-requires
+check-held-requires c κs = search needs
+
+enum-known-main : tie.Need-enum-known-main
+enum-known-main c = search needs
+
+enum-told : tie.Need-enum-told
+enum-told c = search needs
+
+check-attached-requires : tie.Need-check-attached-requires
+check-attached-requires c κs =
+    let h = c .before .before .before .before .before in
+    let e = c .before .before .before .enum-told .given .1 in
+    (marks-few (J (start h)) (h .before .before .if1 .left) (h .before .if2 .left) (h .check-held .ensures) e, guess-known (J (start h)) (h .before .before .if1 .left) (h .before .if2 .left) (h .check-held .ensures) e)
+
+enum-known-own : tie.Need-enum-known-own
+enum-known-own c = search needs
+
+enum-told-2 : tie.Need-enum-told-2
+enum-told-2 c = search needs
+
+slice-aggregate-copy-limits : tie.Need-slice-aggregate-copy-limits
+slice-aggregate-copy-limits c =
+    let a = attached c in
+    let h = held a in sym (limits-long (J (start h)) (h .before .before .if1 .left) (h .before .if2 .left) (h .check-held .ensures) (a .before .before .before .before .enum-told .given .1))
+
+copy-limits-requires : tie.Need-copy-limits-requires
+copy-limits-requires c κs =
+    let a = attached c in
+    let h = held a in
+    let e = a .before .before .before .before .enum-told .given .1 in
+    let few = marks-few (J (start h)) (h .before .before .if1 .left) (h .before .if2 .left) (h .check-held .ensures) e in
+    let long = limits-long (J (start h)) (h .before .before .if1 .left) (h .before .if2 .left) (h .check-held .ensures) e in
+    (omega (arith, few, long), omega (arith, few, h .before .before .if1 .left))
+
+slice-aggregate-copy-limits-2 : tie.Need-slice-aggregate-copy-limits-2
+slice-aggregate-copy-limits-2 c =
+    let a = attached (c .before .before .before .before .before) in
+    let h = held a in sym (inverse-long (J (start h)) (h .before .before .if1 .left) (h .before .if2 .left) (h .check-held .ensures) (a .before .before .before .before .enum-told .given .1))
+
+mul-copy-limits : tie.Need-mul-copy-limits
+mul-copy-limits c =
+    let a = attached (c .before .before .before .before .before) in
+    let h = held a in
+    let few = marks-few (J (start h)) (h .before .before .if1 .left) (h .before .if2 .left) (h .check-held .ensures) (a .before .before .before .before .enum-told .given .1) in omega (arith, square few)
+
+copy-limits-requires-2 : tie.Need-copy-limits-requires-2
+copy-limits-requires-2 c κs =
+    let a = attached (c .before .before .before .before .before) in
+    let h = held a in
+    let e = a .before .before .before .before .enum-told .given .1 in
+    let few = marks-few (J (start h)) (h .before .before .if1 .left) (h .before .if2 .left) (h .check-held .ensures) e in
+    let long = inverse-long (J (start h)) (h .before .before .if1 .left) (h .before .if2 .left) (h .check-held .ensures) e in
+    (omega (arith, square few, long), omega (arith, square few, h .before .if2 .left))
+
+returns-3 : tie.Need-returns-3
+returns-3 c =
+    let h = c .before .before .before in main-refused (J (start h)) (h .before .before .if1 .left) (h .before .if2 .left) (h .check-held .ensures) _ (c .before .main .given .1)
+
+same-length : tie.Need-same-length
+same-length c = search needs
+
+same-length-2 : tie.Need-same-length-2
+same-length-2 c = search needs
+
+returns-4 : tie.Need-returns-4
+returns-4 c =
+    let a = c .before .before .before .before .before .before .before in
+    let h = held a in
+    dependent-refused (J (start h)) (h .before .before .if1 .left) (h .before .if2 .left) (h .check-held .ensures) (a .before .before .before .before .enum-told .given .1) (a .check-attached .ensures) _ (c .before .own .given .1)
+
+same-length-3 : tie.Need-same-length-3
+same-length-3 c = search needs
+
+same-length-4 : tie.Need-same-length-4
+same-length-4 c = search needs
+
+same-length-5 : tie.Need-same-length-5
+same-length-5 c = search needs
+
+same-length-6 : tie.Need-same-length-6
+same-length-6 c = search needs
+
+returns-5 : tie.Need-returns-5
+returns-5 c =
+    let a = c .before .before .before .before .before .before .before .before .before .before .before .before .before .before .before .before .before in
+    let h = held a in
+    both-accepted (J (start h)) (h .before .before .if1 .left) (h .before .if2 .left) (h .check-held .ensures) (a .before .before .before .before .enum-told .given .1) (a .check-attached .ensures) (c .before .before .before .before .before .before .before .before .before .before .before .enum-told2 .given .1)
+    (c .before .before .before .before .before .before .before .copy-limits .ensures) (c .before .before .copy-limits2 .ensures)
+
+pub check-dependent-spec : {M : Type 1} → statement M
+check-dependent-spec =
+    tie.close
+    (tie.spec
+    returns
+    returns-2
+    check-held-requires
+    enum-known-main
+    enum-told
+    check-attached-requires
+    enum-known-own
+    enum-told-2
+    slice-aggregate-copy-limits
+    copy-limits-requires
+    slice-aggregate-copy-limits-2
+    mul-copy-limits
+    copy-limits-requires-2
+    returns-3
+    same-length
+    same-length-2
+    returns-4
+    same-length-3
+    same-length-4
+    same-length-5
+    same-length-6
+    returns-5)

@@ -1,0 +1,56 @@
+use lib.ListN.{drop}
+use Rattle.dependent.specs.Order.{saidNets}
+use Rattle.kodarfi.proofs.Told.{told-alone}
+use borrow.Author.Needs.{needs}
+use Rattle.kodarfi.proofs.two_nets.kodarfi_check_dependent.Statement.{statement}
+use Rattle.kodarfi.proofs.two_nets.kodarfi_check_dependent.Tie as tie
+
+check-dependent-requires : tie.Need-check-dependent-requires
+check-dependent-requires c κs = search needs
+
+net-of-requires : tie.Need-net-of-requires
+net-of-requires c κs = search needs
+
+nets-reply-requires : tie.Need-nets-reply-requires
+nets-reply-requires c κs = search needs
+
+tell-requires : tie.Need-tell-requires
+tell-requires c κs = search needs
+
+same-length : tie.Need-same-length
+same-length c = search needs
+
+same-length-2 : tie.Need-same-length-2
+same-length-2 c = search needs
+
+same-length-3 : tie.Need-same-length-3
+same-length-3 c = search needs
+
+same-length-4 : tie.Need-same-length-4
+same-length-4 c = search needs
+
+returns : tie.Need-returns
+returns c =
+    let r = c .before .before in
+    let o = r .before in
+    let k = o .before .before .before .before .before .before .before .before .before in
+    record {
+      answer = k .check-dependent .result;
+      checked = k .check-dependent .ensures;
+      net-is = o .net-of .ensures;
+      told = told-alone (drop 1 (saidNets (k .check-dependent .result))) (c .tell .ensures) (r .nets-reply .ensures);
+    }
+
+pub kodarfi-check-dependent-spec : {M : Type 1} → statement M
+kodarfi-check-dependent-spec =
+    tie.close
+    (tie.spec
+    check-dependent-requires
+    net-of-requires
+    nets-reply-requires
+    tell-requires
+    same-length
+    same-length-2
+    same-length-3
+    same-length-4
+    returns)

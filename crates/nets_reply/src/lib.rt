@@ -1,0 +1,32 @@
+// The answer of a check of two nets in numbers, for other languages.
+ghost use mathlib.Core.Path.{_≡_};
+ghost use lib.ListN.{getD, drop};
+ghost use Rattle.refusal.specs.Refused.{printed};
+ghost use Rattle.refusal.specs.Reply.{replyOf};
+ghost use Rattle.dependent.specs.Order.{saidNets};
+use dependent::CheckedNets;
+use refusal::Reply;
+use refusal::no_refusal;
+use refusal::reply_of;
+
+// What is said, without the net that it is of.
+pub fn nets_reply(checked: CheckedNets) -> Reply
+    ensures { λ r. ⌜ r ≡ replyOf (printed 0 (drop 1 (saidNets checked))) ⌝ }
+{
+    match checked {
+        CheckedNets::Accepted => no_refusal(),
+        CheckedNets::Main(refusal) => reply_of(refusal, 0),
+        CheckedNets::Dependent(refusal) => reply_of(refusal, 0),
+    }
+}
+
+// The net that a refusal is of, 1 or 2; 0 where nothing is refused.
+pub fn net_of(checked: CheckedNets) -> u32
+    ensures { λ r. ⌜ r ≡ getD (saidNets checked) 0 0 ⌝ }
+{
+    match checked {
+        CheckedNets::Accepted => 0,
+        CheckedNets::Main(_) => 1,
+        CheckedNets::Dependent(_) => 2,
+    }
+}
