@@ -12,7 +12,7 @@ ghost use Rattle.raised_rows.specs.Raised.{raisedBy, lowered, RaisedRow, Raised
 ghost use Rattle.enclosure.specs.Reckoning.{allowedResidual};
 ghost use Rattle.reckoning.specs.Arrays.{Begins, stored, storedColumns};
 ghost use Rattle.reckoning.specs.Rows.{InverseRows};
-ghost use Rattle.ratios.specs.Ratio.{Positive};
+ghost use Rattle.ratios.specs.Ratio.{Positive, Caps};
 ghost use Rattle.bounds.specs.Limits.{Near, limitsOf};
 use integer::magnitude;
 use raised_rows::ROWS_LENGTH;
@@ -22,6 +22,7 @@ use raised_rows::raise_row;
 use raised_rows::raise_rows;
 use raised_rows::row_dot;
 use ratios::bounds_of;
+use ratios::sum_of;
 
 // The sizes of p = G·r, from the raised rows of G and the raised row j, from a place on, that stands for r.
 fn sizes_of(rows: &[u64], residuals: &[u64], j: usize, place: usize, n: usize) -> [u64; 32]
@@ -67,19 +68,6 @@ fn slack_of(rows: &[u64], m: usize, row: usize, slacks: &[u64; 32], n: usize) ->
     sum
 }
 
-// The sum of n slacks.
-fn sum_of(slacks: &[u64; 32], n: usize) -> u64
-    requires { ⌜ n ≤ 32 ⌝ }
-    requires { ⌜ ((k : ℕ) → k < n → getD (now slacks) k 0 ≤ allowedResidual) ⌝ }
-    ensures { λ r. ⌜ r ≡ sumℕ n (λ (k : ℕ). getD (now (slacks .entry)) k 0) ⌝ }
-{
-    let mut sum: u64 = 0;
-    for k in 0..n {
-        sum += slacks[k];
-    }
-    sum
-}
-
 // Sizes, each with its slack; where no row has one, n·n products are saved.
 fn add_slacks(sizes: [u64; 32], rows: &[u64], slacks: &[u64; 32], n: usize) -> [u64; 32]
     requires { ⌜ n ≤ 32 ⌝ }
@@ -107,6 +95,7 @@ pub fn column_bounds(
     residuals: [i64; 32],
     slacks: [u64; 32],
     margins: [u64; 32],
+    caps: [u64; 32],
     weights: &[i64],
     n: usize,
 ) -> [u64; 32]
@@ -115,13 +104,14 @@ pub fn column_bounds(
     requires { ⌜ Near (at residuals) (λ (k : ℕ). getD slacks k 0) n ⌝ }
     requires { ⌜ Positive margins n ⌝ }
     requires { ⌜ ColumnList (now weights) n 1024 ⌝ }
+    requires { ⌜ Caps caps margins (now weights) n ⌝ }
     ensures { λ r. ⌜ Begins 0 r n
         (limitsOf n (now (rows .entry)) (at residuals) (λ (k : ℕ). getD slacks k 0) margins (now (weights .entry))) ⌝ }
 {
     let mut raised = [0u64; 33];
     raise_row(&mut raised, 0, &residuals, 0, 1, n);
     let sizes = add_slacks(sizes_of(rows, &raised, 0, 0, n), rows, &slacks, n);
-    bounds_of(&sizes, &margins, weights, n)
+    bounds_of(&sizes, &margins, &caps, weights, n)
 }
 
 // Writes n limits from a place on, some places apart.
@@ -143,6 +133,7 @@ pub fn store_columns(
     rows: &[u64; ROWS_LENGTH],
     residuals: &[i64; 1024],
     margins: [u64; 32],
+    caps: [u64; 32],
     weights: &[i64],
     n: usize,
 )
@@ -151,6 +142,7 @@ pub fn store_columns(
     requires { ⌜ ColumnList (now residuals) (n * n) allowedResidual ⌝ }
     requires { ⌜ Positive margins n ⌝ }
     requires { ⌜ ColumnList (now weights) n 1024 ⌝ }
+    requires { ⌜ Caps caps margins (now weights) n ⌝ }
     ensures { λ _. ⌜ now (dst .exit) ≡ storedColumns (now (dst .entry)) n
         (λ (i j : ℕ). limitsOf n (now (rows .entry)) (λ (k : ℕ). at (now (residuals .entry)) (j * n + k)) (λ (k : ℕ). 0) margins
         (now (weights .entry)) i) n ⌝ }
@@ -160,7 +152,7 @@ pub fn store_columns(
     let mut place = 0;
     for j in 0..n {
         let sizes = sizes_of(rows, &raised, j, place, n);
-        let column = bounds_of(&sizes, &margins, weights, n);
+        let column = bounds_of(&sizes, &margins, &caps, weights, n);
         store(dst, j, n, column, n);
         place += n + 1;
     }

@@ -1,14 +1,14 @@
 -- What the reckoning says and leaves, from what the arrays hold and what is judged of them.
 --   Worked   — what the arrays hold
 --   refused  — a refusal leaves both limit lists
---   positive-here, near-here, columns-here — where it is accepted: margins above 0, residuals at most 2^25 in size
+--   positive-here, weighed-here, near-here, columns-here — where it is accepted: margins and weights above 0, residuals at most 2^25 in size
 --   accepted-here — and the limits that are written are the reckoning's
 use mathlib.Core.Path.{_≡_, sym, ap, _∙_}
 use mathlib.Core.List.{List, []}
-use Prim.Native.Nat.{ℕ, _+_, _*_, _/_, _%_, _≤_, _<_}
+use Prim.Native.Nat.{ℕ, zero, suc, _+_, _*_, _-_, _/_, _%_, _≤_, _<_}
 use native.Mathlib.Omega.{arith}
 use lib.Dec.{eqb}
-use lib.IntN.{ℤ, pos}
+use lib.IntN.{ℤ, pos, natAbs}
 use lib.ListN.{getD, length}
 use Rattle.integer.specs.Finite.{first}
 use Rattle.linear.specs.Slice.{at}
@@ -32,6 +32,11 @@ use Rattle.checker.specs.Work.{Work, workProblem, workResidual, workSlac
 use Rattle.checker.proofs.Limits.{solution-limit, inverse-limit}
 use Rattle.checker.proofs.Places.{first-margin, first-residual, first-column, positive, near, near-columns}
 use Rattle.checker.proofs.Written.{written-stored, written-columns}
+
+-- a weight whose margin is above 0 is above 0
+weighed : (x w c : ℕ) → 0 < x * w - c → 0 < w
+weighed x zero c h = absurd (omega arith)
+weighed x (suc w) c h = omega arith
 
 -- the arrays of the reckoning, the first refused row of each, and what is judged of them
 pub record Worked (W : Work) (rows margins : List ℕ) (residuals columns : List ℤ) (r : Outcome) : Type 0 where
@@ -68,6 +73,9 @@ module _ (W : Work) (ready : Workable W) {rows margins : List ℕ} {residuals co
 
     pub positive-here : Positive margins (W .n)
     positive-here = positive W ready (a .raised) margins (a .hm) (omega (arith, none .margin, a .em))
+
+    pub weighed-here : (m : ℕ) → m < W .n → 0 < natAbs (at (W .weights) m)
+    weighed-here m l = weighed _ _ _ (rw (a .hm .each m l) at (positive-here .above m l))
 
     pub near-here : Near (at residuals) (workSlack W) (W .n)
     near-here = near W ready residuals (a .hr) (omega (arith, none .residual, a .ek))

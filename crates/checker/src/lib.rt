@@ -13,6 +13,7 @@ use margins::first_zero;
 use margins::margins_of;
 use raised_rows::ROWS_LENGTH;
 use raised_rows::raise_rows;
+use ratios::caps_of;
 use residuals::first_above;
 use residuals::first_above_in_columns;
 use residuals::inverse_residuals_of;
@@ -58,9 +59,10 @@ pub fn reckon(
     match outcome {
         Outcome::Refused(refusal) => Outcome::Refused(refusal),
         Outcome::Accepted => {
-            let column = column_bounds(&rows, residuals, slacks, margins, weights, n);
+            let caps = caps_of(&margins, weights, n);
+            let column = column_bounds(&rows, residuals, slacks, margins, caps, weights, n);
             store(solution_bounds, 0, 1, column, n);
-            store_columns(inverse_bounds, &rows, &columns, margins, weights, n);
+            store_columns(inverse_bounds, &rows, &columns, margins, caps, weights, n);
             Outcome::Accepted
         }
     }

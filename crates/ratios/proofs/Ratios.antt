@@ -1,4 +1,5 @@
--- The row where sizes / margins is largest, found by comparing quotients and then remainders.
+-- The row where sizes / margins is largest, found by comparing quotients and then remainders, or by products.
+--   product-moves, product-stays, steepest-end — a search by products: with one row more, and at the end
 --   Best, best-first, best-next, best-end — the loop's invariant: at the first row, with one row more, and at the end
 use mathlib.Core.Path.{_≡_, refl, sym, ap, _∙_, subst}
 use mathlib.Core.Bool.{Bool, true, false, cond}
@@ -11,6 +12,17 @@ use Rattle.integer.specs.Steepest.{Steepest}
 use Rattle.integer.proofs.Steepest.{steepest-one, steepest-stays, steepest-moves}
 use Rattle.ratios.specs.declared.Ratio.{Ratio}
 use Rattle.ratios.specs.Ratio.{ratioOf, steeperOf, SmallTerms}
+
+-- by products
+module _ (u v : ℕ → ℕ) where
+  pub product-moves : (n k : ℕ) {r : Bool} → 0 < v k → Steepest n u v k → r ≡ ltb (u k * v n) (u n * v k) → r ≡ true → Steepest (n + 1) u v n
+  product-moves n k above s e t = steepest-moves u v n k above s (omega (arith, ltb-true (u k * v n) (u n * v k) (sym e ∙ t)))
+
+  pub product-stays : (n k : ℕ) {r : Bool} → Steepest n u v k → r ≡ ltb (u k * v n) (u n * v k) → r ≡ false → Steepest (n + 1) u v k
+  product-stays n k s e f = steepest-stays u v n k s (ltb-false (u k * v n) (u n * v k) (sym e ∙ f))
+
+  pub steepest-end : {m n k : ℕ} → m ≤ n → n ≤ m → Steepest m u v k → Steepest n u v k
+  steepest-end {m} {n} {k} p q s = subst (λ (x : ℕ). Steepest x u v k) (le-antisymm p q) s
 
 -- by quotients, and by remainders
 less : (Q R G q r g : ℕ) → R < G → Q < q → (Q * G + R) * g ≤ (q * g + r) * G

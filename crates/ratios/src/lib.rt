@@ -1,8 +1,11 @@
 // The limits of a column from its sizes, the margins and the weights: each is that of the row where size / margin is largest.
 ghost use mathlib.Core.Path.{_≡_};
-ghost use Prim.Native.Nat.{ℕ, _*_, _≤_, _<_, _^_};
+ghost use mathlib.Core.Bool.{true};
+ghost use Prim.Native.Nat.{ℕ, _*_, _≤_, _<_, _^_, max};
+ghost use lib.Dec.{ltb};
 ghost use lib.IntN.{natAbs};
 ghost use lib.ListN.{getD};
+ghost use Rattle.integer.specs.Finite.{sumℕ, largest};
 ghost use Rattle.integer.specs.Steepest.{Steepest};
 ghost use Rattle.integer.specs.Quotient.{ceilDiv};
 ghost use Rattle.linear.specs.Slice.{at};
@@ -10,9 +13,12 @@ ghost use Rattle.linear.specs.Reach.{ColumnList};
 ghost use Rattle.enclosure.specs.Largest.{largestSize};
 ghost use Rattle.enclosure.specs.Reckoning.{boundFrom};
 ghost use Rattle.reckoning.specs.Arrays.{Begins};
-ghost use Rattle.ratios.specs.Ratio.{ratioOf, steeperOf, SmallTerms, Positive, Sized};
+ghost use Rattle.ratios.specs.Ratio.{ratioOf, steeperOf, SmallTerms, Positive, Sized, Flat, Caps};
 use integer::ceil_div;
 use integer::magnitude;
+
+// Sizes whose sum is below this have products with a margin below 2^63.
+const SMALL_SUM: u64 = 8589934592;
 
 // A row with the quotient and the remainder of |p_m| by its margin g_m.
 pub struct Ratio {
@@ -51,8 +57,8 @@ fn steeper(a: Ratio, b: Ratio) -> Ratio
     a
 }
 
-// A row where sizes / margins is largest.
-fn steepest_of(sizes: &[u64; 32], margins: &[u64; 32], n: usize) -> usize
+// A row where sizes / margins is largest, found by quotients and remainders.
+fn steepest_by_quotients(sizes: &[u64; 32], margins: &[u64; 32], n: usize) -> usize
     requires { ⌜ (0 < n) × (n ≤ 32) ⌝ }
     requires { ⌜ Positive (now margins) n ⌝ }
     ensures { λ r. ⌜ Steepest n (λ (m : ℕ). getD (now (sizes .entry)) m 0) (λ (m : ℕ). getD (now (margins .entry)) m 0) r ⌝ }
@@ -64,6 +70,57 @@ fn steepest_of(sizes: &[u64; 32], margins: &[u64; 32], n: usize) -> usize
     best.row
 }
 
+// Whether p / g is larger than size / margin, by products.
+fn is_steeper(size: u64, margin: u64, p: u64, g: u64) -> bool
+    requires { ⌜ (size ≤ 2 ^ 33) × (g ≤ 2 ^ 30) ⌝ }
+    requires { ⌜ (p ≤ 2 ^ 33) × (margin ≤ 2 ^ 30) ⌝ }
+    ensures { λ r. ⌜ r ≡ ltb (size * g) (p * margin) ⌝ }
+{
+    size * g < p * margin
+}
+
+// A row where sizes / margins is largest, found by products, for small sizes.
+fn steepest_by_products(sizes: &[u64; 32], margins: &[u64; 32], n: usize) -> usize
+    requires { ⌜ (0 < n) × (n ≤ 32) ⌝ }
+    requires { ⌜ ((m : ℕ) → m < n → getD (now sizes) m 0 ≤ 2 ^ 33) ⌝ }
+    requires { ⌜ Positive (now margins) n ⌝ }
+    ensures { λ r. ⌜ Steepest n (λ (m : ℕ). getD (now (sizes .entry)) m 0) (λ (m : ℕ). getD (now (margins .entry)) m 0) r ⌝ }
+{
+    let mut k = 0;
+    for m in 1..n {
+        if is_steeper(sizes[k], margins[k], sizes[m], margins[m]) {
+            k = m;
+        }
+    }
+    k
+}
+
+// The sum of n numbers.
+pub fn sum_of(xs: &[u64; 32], n: usize) -> u64
+    requires { ⌜ n ≤ 32 ⌝ }
+    requires { ⌜ Sized (now xs) n ⌝ }
+    ensures { λ r. ⌜ r ≡ sumℕ n (λ (k : ℕ). getD (now (xs .entry)) k 0) ⌝ }
+{
+    let mut sum: u64 = 0;
+    for k in 0..n {
+        sum += xs[k];
+    }
+    sum
+}
+
+// A row where sizes / margins is largest.
+fn steepest_of(sizes: &[u64; 32], margins: &[u64; 32], n: usize) -> usize
+    requires { ⌜ (0 < n) × (n ≤ 32) ⌝ }
+    requires { ⌜ Sized (now sizes) n ⌝ }
+    requires { ⌜ Positive (now margins) n ⌝ }
+    ensures { λ r. ⌜ Steepest n (λ (m : ℕ). getD (now (sizes .entry)) m 0) (λ (m : ℕ). getD (now (margins .entry)) m 0) r ⌝ }
+{
+    if sum_of(sizes, n) < SMALL_SUM {
+        return steepest_by_products(sizes, margins, n);
+    }
+    steepest_by_quotients(sizes, margins, n)
+}
+
 // w·p / g rounded up, for the weight w.
 fn bound_of(w: i64, p: u64, g: u64) -> u64
     requires { ⌜ (natAbs w ≤ 1024) × ((p ≤ largestSize) × ((0 < g) × (g ≤ 2 ^ 30))) ⌝ }
@@ -72,8 +129,8 @@ fn bound_of(w: i64, p: u64, g: u64) -> u64
     ceil_div(magnitude(w) * p, g)
 }
 
-// The limits of a column: each is that of the row where sizes / margins is largest.
-pub fn bounds_of(sizes: &[u64; 32], margins: &[u64; 32], weights: &[i64], n: usize) -> [u64; 32]
+// The limits of a column by its steepest row.
+fn steep_bounds(sizes: &[u64; 32], margins: &[u64; 32], weights: &[i64], n: usize) -> [u64; 32]
     requires { ⌜ (0 < n) × (n ≤ 32) ⌝ }
     requires { ⌜ Sized (now sizes) n ⌝ }
     requires { ⌜ Positive (now margins) n ⌝ }
@@ -87,6 +144,79 @@ pub fn bounds_of(sizes: &[u64; 32], margins: &[u64; 32], weights: &[i64], n: usi
     let mut out = [0u64; 32];
     for i in 0..n {
         out[i] = bound_of(weights[i], p, g);
+    }
+    out
+}
+
+// Whether every size is at most its cap.
+fn is_flat(sizes: &[u64; 32], caps: &[u64; 32], n: usize) -> bool
+    requires { ⌜ n ≤ 32 ⌝ }
+    ensures { λ r. ⌜ (r ≡ true → Flat (now (sizes .entry)) (now (caps .entry)) n) ⌝ }
+{
+    let mut flat = true;
+    for m in 0..n {
+        if caps[m] < sizes[m] {
+            flat = false;
+        }
+    }
+    flat
+}
+
+// The limits of a column. Where every size is at most its cap they are all 1, or all 0 where every size is 0: nothing is divided.
+pub fn bounds_of(
+    sizes: &[u64; 32],
+    margins: &[u64; 32],
+    caps: &[u64; 32],
+    weights: &[i64],
+    n: usize,
+) -> [u64; 32]
+    requires { ⌜ (0 < n) × (n ≤ 32) ⌝ }
+    requires { ⌜ Sized (now sizes) n ⌝ }
+    requires { ⌜ Positive (now margins) n ⌝ }
+    requires { ⌜ ColumnList (now weights) n 1024 ⌝ }
+    requires { ⌜ Caps (now caps) (now margins) (now weights) n ⌝ }
+    ensures { λ r. ⌜ Begins 0 r n (boundFrom n (λ (m : ℕ). getD (now (sizes .entry)) m 0) (λ (m : ℕ). getD (now (margins .entry)) m 0)
+        (λ (i : ℕ). natAbs (at (now (weights .entry)) i))) ⌝ }
+{
+    if is_flat(sizes, caps, n) {
+        if sum_of(sizes, n) == 0 {
+            return [0u64; 32];
+        }
+        return [1u64; 32];
+    }
+    steep_bounds(sizes, margins, weights, n)
+}
+
+fn larger(a: u64, b: u64) -> u64
+    ensures { λ r. ⌜ r ≡ max a b ⌝ }
+{
+    if a < b { b } else { a }
+}
+
+// The largest weight.
+fn largest_weight(weights: &[i64], n: usize) -> u64
+    requires { ⌜ n ≤ 32 ⌝ }
+    requires { ⌜ ColumnList (now weights) n 1024 ⌝ }
+    ensures { λ r. ⌜ r ≡ largest n (λ (i : ℕ). natAbs (at (now (weights .entry)) i)) ⌝ }
+{
+    let mut most = 0;
+    for i in 0..n {
+        most = larger(most, magnitude(weights[i]));
+    }
+    most
+}
+
+// The caps of all rows: each margin divided by the largest weight.
+pub fn caps_of(margins: &[u64; 32], weights: &[i64], n: usize) -> [u64; 32]
+    requires { ⌜ (0 < n) × (n ≤ 32) ⌝ }
+    requires { ⌜ ColumnList (now weights) n 1024 ⌝ }
+    requires { ⌜ ((i : ℕ) → i < n → 0 < natAbs (at (now weights) i)) ⌝ }
+    ensures { λ r. ⌜ Caps r (now (margins .entry)) (now (weights .entry)) n ⌝ }
+{
+    let most = largest_weight(weights, n);
+    let mut out = [0u64; 32];
+    for m in 0..n {
+        out[m] = margins[m] / most;
     }
     out
 }

@@ -1,3 +1,5 @@
+use native.Mathlib.Nat.{le-trans}
+use lib.Dec.{lit≤}
 use mathlib.Core.Path.{_≡_, refl, sym, ap, _∙_}
 use Prim.Native.Nat.{ℕ, _+_, _*_, _≤_, _-_, _^_}
 use native.Mathlib.Omega.{arith}
@@ -27,7 +29,7 @@ abbrev start : tie.In-loop Inv-loop μ-loop → tie.Start Inv-loop μ-loop
 start t = t .before .before .before .before .before
 
 sum-of-requires : tie.Need-sum-of-requires Inv-loop μ-loop
-sum-of-requires c κs = search needs
+sum-of-requires c κs = let p = c .before .pre in (p .0, record { most = λ k l. le-trans (p .1 .1 .0 k l) (lit≤ tt) })
 
 returns : tie.Need-returns Inv-loop μ-loop
 returns c =

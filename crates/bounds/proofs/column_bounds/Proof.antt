@@ -59,12 +59,12 @@ add-slacks-requires c κs =
 
 bounds-of-requires : tie.Need-bounds-of-requires
 bounds-of-requires c κs =
-    let a = c .before .before in
+    let a = c .before .before .before in
     let s = start (a .before .before .before) in
-    (s .pre .0, (sized (s .pre .0 .1) (s .pre .1 .0) (s .pre .1 .1 .0) (sizes-are a), (s .pre .1 .1 .1 .0, s .pre .1 .1 .1 .1)))
+    (s .pre .0, (sized (s .pre .0 .1) (s .pre .1 .0) (s .pre .1 .1 .0) (sizes-are a), s .pre .1 .1 .1))
 
 returns : tie.Need-returns
-returns c = bounds-of-sizes _ _ _ _ _ (sizes-are (c .before .before .before)) (c .bounds-of .ensures)
+returns c = bounds-of-sizes _ _ _ _ _ (sizes-are (c .before .before .before .before)) (c .bounds-of .ensures)
 
 pub column-bounds-spec : {M : Type 1} → statement M
 column-bounds-spec =

@@ -21,11 +21,11 @@ use Rattle.bounds.proofs.store_columns.Statement.{statement}
 use Rattle.bounds.proofs.store_columns.Tie as tie
 
 abbrev Inv-loop : tie.InvT-loop
-Inv-loop dst₀ rows residuals weights n margins raised place₀ j₀ dst place j =
+Inv-loop dst₀ rows residuals weights n margins caps raised place₀ j₀ dst place j =
     (j ≤ n) × (Carried 0 (n + 1) j place × (dst ≡ storedColumns dst₀ n (λ (i k : ℕ). limitsOf n rows (λ (a : ℕ). at residuals (k * n + a)) (λ (a : ℕ). 0) margins weights i) j))
 
 abbrev μ-loop : tie.MeasureT-loop
-μ-loop dst₀ rows residuals weights n margins raised place₀ j₀ dst place j = n - j
+μ-loop dst₀ rows residuals weights n margins caps raised place₀ j₀ dst place j = n - j
 
 abbrev start : tie.In-loop Inv-loop μ-loop → tie.Start Inv-loop μ-loop
 start t = t .before .before .before .before .before .before .before
@@ -69,16 +69,16 @@ sizes-of-requires c κs =
 
 bounds-of-requires : tie.Need-bounds-of-requires Inv-loop μ-loop
 bounds-of-requires c κs =
-    let z = c .before .before in
+    let z = c .before .before .before in
     let t = turn z in
     let p = start t .pre in (
       (p .0 .0, p .0 .1 .0),
-      (sized (p .0 .1 .0) (p .1 .0) (columns-near (t .before .loop .j) (t .loop-test .taken) (p .1 .1 .0)) (sizes-here z), (p .1 .1 .1 .0, p .1 .1 .1 .1)),
+      (sized (p .0 .1 .0) (p .1 .0) (columns-near (t .before .loop .j) (t .loop-test .taken) (p .1 .1 .0)) (sizes-here z), p .1 .1 .1),
     )
 
 store-requires : tie.Need-store-requires Inv-loop μ-loop
 store-requires c κs =
-    let t = turn (c .before .before .before .before) in
+    let t = turn (c .before .before .before .before .before) in
     let l = t .before .loop in
     let s = start t in (
       (omega (arith, s .pre .0 .1 .0), omega (arith, column-ends (t .loop-test .taken) (s .pre .0 .1 .0))),
@@ -86,11 +86,11 @@ store-requires c κs =
     )
 
 add-place : tie.Need-add-place Inv-loop μ-loop
-add-place c = omega (arith, start (turn (c .before .before .before .before .before .before .before)) .pre .0 .1 .0)
+add-place c = omega (arith, start (turn (c .before .before .before .before .before .before .before .before)) .pre .0 .1 .0)
 
 add-place-2 : tie.Need-add-place-2 Inv-loop μ-loop
 add-place-2 c =
-    let t = turn (c .before .before .before .before .before .before .before) in
+    let t = turn (c .before .before .before .before .before .before .before .before) in
     omega (arith, t .before .loop .inv .1 .0 .is, rows-room (t .loop-test .taken) (start t .pre .0 .1 .0))
 
 add-j : tie.Need-add-j Inv-loop μ-loop
@@ -101,7 +101,7 @@ loop-less c = search needs
 
 loop-again : tie.Need-loop-again Inv-loop μ-loop
 loop-again c =
-    let z = c .before .before .before .before .before .before .before in
+    let z = c .before .before .before .before .before .before .before .before in
     let l = turn z .before .loop in
     let s = start (turn z) in (
       omega arith,

@@ -6,7 +6,7 @@ use Rattle.linear.proofs.Places.{square}
 use Rattle.reckoning.specs.Rows.{InverseRows}
 use Rattle.reckoning.proofs.Sizes.{raisable}
 use Rattle.checker.specs.Work.{Work, work}
-use Rattle.checker.proofs.Outcome.{Worked, refused, positive-here, near-here, columns-here, accepted-here}
+use Rattle.checker.proofs.Outcome.{Worked, refused, positive-here, weighed-here, near-here, columns-here, accepted-here}
 use Rattle.checker.proofs.Rows.{inverse-rows}
 use borrow.Author.Needs.{needs}
 use Rattle.checker.proofs.reckon.Statement.{statement}
@@ -91,29 +91,35 @@ enum-known-outcome c = search needs
 enum-told : tie.Need-enum-told
 enum-told c = search needs
 
-column-bounds-requires : tie.Need-column-bounds-requires
-column-bounds-requires c κs =
+caps-of-requires : tie.Need-caps-of-requires
+caps-of-requires c κs =
     let j = c .before .before .before in
     let s = start j in
-    let e = c .before .enum-told .given .1 in
-    ((s .pre .some, s .pre .few), (rows-are (raised j), (near-here (W s) (s .pre) (worked j) e, (positive-here (W s) (s .pre) (worked j) e, s .pre .weights))))
+    ((s .pre .some, s .pre .few), (s .pre .weights, weighed-here (W s) (s .pre) (worked j) (c .before .enum-told .given .1)))
+
+column-bounds-requires : tie.Need-column-bounds-requires
+column-bounds-requires c κs =
+    let j = c .before .before .before .before .before in
+    let s = start j in
+    let e = c .before .before .before .enum-told .given .1 in
+    ((s .pre .some, s .pre .few), (rows-are (raised j), (near-here (W s) (s .pre) (worked j) e, (positive-here (W s) (s .pre) (worked j) e, (s .pre .weights, c .before .caps-of .ensures)))))
 
 store-requires : tie.Need-store-requires
 store-requires c κs =
-    let p = start (c .before .before .before .before .before) .pre in
+    let p = start (c .before .before .before .before .before .before .before) .pre in
     ((omega (arith, p .few), omega (arith, p .few)), λ k l. omega (arith, p .few, p .solution-long))
 
 store-columns-requires : tie.Need-store-columns-requires
 store-columns-requires c κs =
-    let j = c .before .before .before .before .before .before .before .before .before .before .before in
+    let j = c .before .before .before .before .before .before .before .before .before .before .before .before .before in
     let s = start j in
-    let e = c .before .before .before .before .before .before .before .before .before .enum-told .given .1 in (
+    let e = c .before .before .before .before .before .before .before .before .before .before .before .enum-told .given .1 in (
       (s .pre .some, (s .pre .few, omega (arith, square (s .pre .few), s .pre .inverse-long))),
       (
         rows-are (raised j),
         (
           columns-here (W s) (s .pre) (worked j) e (omega (arith, square (s .pre .few), wide-columns (j .before .before .before .before .before .before .before .before))),
-          (positive-here (W s) (s .pre) (worked j) e, s .pre .weights),
+          (positive-here (W s) (s .pre) (worked j) e, (s .pre .weights, c .before .before .before .before .before .before .before .before .before .caps-of .ensures)),
         ),
       ),
     )
@@ -131,7 +137,7 @@ same-length-2 c = search needs
 
 returns-2 : tie.Need-returns-2
 returns-2 c =
-    let told = c .before .before .before .before .before .before .before .before .before .before .before .before in
+    let told = c .before .before .before .before .before .before .before .before .before .before .before .before .before .before in
     let j = told .before .before in
     accepted-here (W (start j)) (start j .pre) (worked j) (told .enum-told .given .1) (c .before .before .before .before .before .before .before .before .before .before .column-bounds .ensures) (c .before .before .before .before .before .before .before .before .store .ensures) (c .before .before .store-columns .ensures)
 
@@ -151,6 +157,7 @@ reckon-spec =
     judge-requires
     enum-known-outcome
     enum-told
+    caps-of-requires
     column-bounds-requires
     store-requires
     store-columns-requires

@@ -4,20 +4,20 @@ use native.Mathlib.Omega.{arith}
 use lib.ListN.{getD}
 use Rattle.integer.specs.Finite.{sumℕ}
 use Rattle.integer.proofs.Sum.{sumℕ-none, sumℕ-next, sumℕ-end, sumℕ≤}
-use Rattle.enclosure.specs.Reckoning.{allowedResidual}
+use Rattle.enclosure.specs.Largest.{largestSize}
 use borrow.Author.Needs.{needs}
-use Rattle.bounds.proofs.sum_of.Statement.{statement}
-use Rattle.bounds.proofs.sum_of.Tie as tie
+use Rattle.ratios.proofs.sum_of.Statement.{statement}
+use Rattle.ratios.proofs.sum_of.Tie as tie
 
 abbrev Inv-loop : tie.InvT-loop
-Inv-loop slacks n sum₀ k₀ sum k = (k ≤ n) × (sum ≡ sumℕ k (λ (i : ℕ). getD slacks i 0))
+Inv-loop xs n sum₀ k₀ sum k = (k ≤ n) × (sum ≡ sumℕ k (λ (i : ℕ). getD xs i 0))
 
 abbrev μ-loop : tie.MeasureT-loop
-μ-loop slacks n sum₀ k₀ sum k = n - k
+μ-loop xs n sum₀ k₀ sum k = n - k
 
 -- a partial sum
-partial : (s : tie.Start Inv-loop μ-loop) (k : ℕ) → k ≤ s .args .n → sumℕ k (λ (i : ℕ). getD (s .args .slacks .now) i 0) ≤ k * allowedResidual
-partial s k l = sumℕ≤ k allowedResidual _ (λ i h. s .pre .1 i (omega arith))
+partial : (s : tie.Start Inv-loop μ-loop) (k : ℕ) → k ≤ s .args .n → sumℕ k (λ (i : ℕ). getD (s .args .xs .now) i 0) ≤ k * largestSize
+partial s k l = sumℕ≤ k largestSize _ (λ i h. s .pre .1 .most i (omega arith))
 
 loop-holds : tie.Need-loop-holds Inv-loop μ-loop
 loop-holds c = (omega arith, sym (sumℕ-none _))
@@ -33,7 +33,7 @@ add-sum c =
     let t = c .before in
     let l = t .before .loop in
     let s = t .before .before in
-    omega (arith, l .inv .1, partial s (l .k) (l .inv .0), s .pre .1 (l .k) (t .loop-test .taken))
+    omega (arith, l .inv .1, partial s (l .k) (l .inv .0), s .pre .1 .most (l .k) (t .loop-test .taken))
 
 add-k : tie.Need-add-k Inv-loop μ-loop
 add-k c = search needs
@@ -44,7 +44,7 @@ loop-less c = search needs
 loop-again : tie.Need-loop-again Inv-loop μ-loop
 loop-again c =
     let l = c .before .before .loop in
-    (omega arith, ap (λ (x : ℕ). x + getD (c .before .before .before .args .slacks .now) (l .k) 0) (l .inv .1) ∙ sym (sumℕ-next _ _))
+    (omega arith, ap (λ (x : ℕ). x + getD (c .before .before .before .args .xs .now) (l .k) 0) (l .inv .1) ∙ sym (sumℕ-next _ _))
 
 returns : tie.Need-returns Inv-loop μ-loop
 returns c = c .before .loop .inv .1 ∙ sumℕ-end _ (c .before .loop .inv .0) (c .loop-test .left)
