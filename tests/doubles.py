@@ -17,7 +17,7 @@ from collections import Counter
 from fractions import Fraction
 from pathlib import Path
 
-from exchanged import IN, OUT, damaged_inward, damaged_outward, inward, met_inward, met_outward, outward
+from exchanged import IN, OUT, damaged_inward, damaged_outward, inward, met_inward, met_outward, of_bits, outward
 from second.doubles import Doubles
 from second.refusal import Refusal
 from wrong_doubles import INWARD, OUTWARD
@@ -25,7 +25,8 @@ from wrong_doubles import INWARD, OUTWARD
 CASES, SELF_TEST_CALLS, ENOUGH = 1000000, 4000, 100
 PLACES = 40
 DOUBLES, WHOLES, NATURALS = ctypes.c_double * PLACES, ctypes.c_int64 * PLACES, ctypes.c_uint64 * PLACES
-GUESSES_BEFORE, ENDS_BEFORE = [-1234567890123456789] * PLACES, [-1e-300] * PLACES
+GUESSES_BEFORE = [-1234567890123456789] * PLACES
+ENDS_BEFORE = [-1e-300, of_bits(0x7FF80000DEADBEEF)] * (PLACES // 2)  # a NaN keeps its bits, which the logic does not know
 SAID = {"in": (0, 3, 8, 19), "out": (0, 3, 8)}
 
 

@@ -3,18 +3,19 @@
 --   fileEnds, file-between — 01's whole file: its exact heights 16/11 and 9/11 lie between the ends of its guesses and limits
 --   looseEnds, loose-between — a problem with a tolerance of 3 and the right side 9/3: its exact height, 3, lies between the ends
 --   given, back, goes-and-comes — 2.5, with two steps to one, goes in as 5 and comes back as itself
+--   said-inward, said-outward — each number is said of some call, 8 before 3 and 3 before 19; the limit 2^60 is taken, and one more is 3
 use mathlib.Core.Path.{_≡_, refl, sym, ap, ap₂, _∙_, subst}
-use mathlib.Core.List.{List, []}
-use Prim.Native.Nat.{ℕ, zero, suc, _≤_, _<_, _^_}
+use mathlib.Core.List.{List, [], _∷_}
+use Prim.Native.Nat.{ℕ, zero, suc, _+_, _≤_, _<_, _^_}
 use native.Mathlib.Omega.{arith}
 use lib.Dec.{lit<, lit≤}
-use lib.IntN.{pos}
+use lib.IntN.{ℤ, pos, negsuc}
 use lib.ListN.{getD, replicate}
-use lib.Ieee.{Float, binary64, ofBits}
+use lib.Ieee.{Float, nan, binary64, ofBits}
 use lib.Ieee.Bits.{ofBits-fits}
 use Rattle.linear.specs.Slice.{at}
 use Rattle.integer.specs.Quotient.{roundDiv}
-use Rattle.rules.specs.Range.{ranges, rangeOf, inRange}
+use Rattle.rules.specs.Range.{ranges, rangeOf, inRange, allInRange}
 use Rattle.rules.specs.declared.Outcome.the-variants as outcome
 use Rattle.enclosure.specs.Example.{exact, loose, farRight, farHeight}
 use Rattle.enclosure.specs.Reckoning.{bound}
@@ -116,3 +117,25 @@ goes-and-comes =
     let g = inward-accepts given given-accepted in
     comes-back given g refl (outward-accepts back (guesses-taken given g refl (replicate 32 0) zeros zeros (lit≤ tt) (lit≤ tt) (lit≤ tt) (only _ (lit≤ tt)))) refl 0 (lit< tt) refl (pos 5)
     (record { held = ofBits-fits binary64 4612811918334230528; finite = tt }) refl
+
+-- ---- each refusal, and the ends of the ranges
+abbrev zero-guesses : List ℤ
+zero-guesses = replicate 32 (pos 0)
+
+pub said-inward :
+    (inwardAnswer (incoming 33 0 (replicate 31 nan) zero-guesses) ≡ 8 ∷ [])
+    × (inwardAnswer (incoming 1 21 (replicate 32 nan) zero-guesses) ≡ 3 ∷ [])
+    × (inwardAnswer (incoming 1 20 (replicate 32 nan) zero-guesses) ≡ 19 ∷ [])
+unfolding inwardAnswer every hasGuess inRange rangeOf ranges
+said-inward = (refl, refl, refl)
+
+abbrev limits : ℕ → Outgoing
+limits e = outgoing 1 20 (replicate 32 (negsuc 68719476735)) (replicate 32 e) zeros zeros
+
+pub said-outward :
+    (outwardAnswer (outgoing 33 0 zero-guesses (replicate 31 0) zeros zeros) ≡ 8 ∷ [])
+    × (outwardAnswer (limits (2 ^ 60)) ≡ [])
+    × (outwardAnswer (limits (2 ^ 60 + 1)) ≡ 3 ∷ [])
+    × (outwardAnswer (outgoing 1 0 (replicate 32 (negsuc 68719476736)) (replicate 32 0) zeros zeros) ≡ 3 ∷ [])
+unfolding outwardAnswer every allInRange inRange rangeOf ranges
+said-outward = (refl, refl, refl, refl)

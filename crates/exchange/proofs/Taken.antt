@@ -2,6 +2,7 @@
 --   numbers-taken — numbers in their ranges, in lists long enough, pass 8 and 3
 --   checked-taken — so do the guesses and the limits of an accepted check
 --   guesses-taken — and the guesses of an accepted call inward, with limits of at most 2^60
+--   steps-taken   — inward: a double that is a whole number of steps in the range of a guess gives one
 use mathlib.Core.Path.{_≡_, refl, sym, ap, _∙_}
 use mathlib.Core.Bool.{true}
 use mathlib.Core.List.{List, []}
@@ -11,6 +12,7 @@ use borrow.Author.Tests.{le-ltb, le-leb, ltb-false}
 use lib.IntN.{ℤ, pos, negsuc, natAbs}
 use lib.ListN.{length, getD}
 use lib.Ieee.{Float}
+use lib.Ieee.Bits.{is-true}
 use lib.Ieee.Scale.{finite}
 use Rattle.linear.specs.Slice.{at}
 use Rattle.rules.specs.Range.{inRange, rangeOf, ranges, shortColumn}
@@ -30,6 +32,9 @@ use Rattle.checked.proofs.Lengths.{long-of}
 use Rattle.checked.proofs.Statements.{accepted-usable}
 use Rattle.checked.proofs.Written as limits
 use Rattle.doubles.specs.Guess.{hasGuess, guessFor}
+use Rattle.doubles.specs.Units.{Double}
+use Rattle.doubles.proofs.Steps.{guess-whole}
+use Rattle.interval.specs.Interval.{Steps}
 use Rattle.exchange.specs.Lists.{doubleAt}
 use Rattle.exchange.specs.Inward.{Incoming, saidGuessed, inwardAnswer, GuessesOf}
 use Rattle.exchange.specs.Outward.{outgoing, outwardAnswer}
@@ -51,6 +56,10 @@ in-guess : (x : ℤ) → natAbs x ≤ 2 ^ 36 → inRange kind.Guess x ≡ true
 unfolding inRange rangeOf ranges
 in-guess (pos x) h = le-leb x 68719476736 h
 in-guess (negsuc x) h = both (le-leb x 68719476735 (omega arith)) refl
+
+pub steps-taken : (s : ℕ) (x : ℤ) (y : Float) → Double y → Steps s x y → natAbs x ≤ 2 ^ 36 → hasGuess s y ≡ true
+unfolding hasGuess
+steps-taken s x y d w h = both (is-true (finite y) (d .finite)) (ap (inRange kind.Guess) (guess-whole s y x w) ∙ in-guess x h)
 
 module _ (n s : ℕ) (guess : List ℤ) (bounds : List ℕ) (low high : List Float) where
   pub numbers-taken : 0 < n → n ≤ 32 → s ≤ 20 → 32 ≤ length guess → 32 ≤ length bounds → 32 ≤ length low → 32 ≤ length high →
