@@ -1,10 +1,11 @@
 -- Every end of a common interval is at most 2^57 in size: after 21, X ± E is at most 2^37, and a step is cut into at most 2^20.
+--   stepped-size — one end;  end-size — those of the common interval
 use mathlib.Core.Path.{_≡_}
 use mathlib.Core.List.{[]}
 use Prim.Native.Nat.{ℕ, _+_, _*_, _-_, _≤_, _<_, _^_}
 use native.Mathlib.Omega.{arith}
 use native.Mathlib.Nat.{mul-le-mul, pow-le-pow-right}
-use lib.IntN.{ℤ, pos, natAbs, _+ℤ_, _-ℤ_}
+use lib.IntN.{ℤ, pos, natAbs, _+ℤ_, _-ℤ_, _*ℤ_}
 use Rattle.integer.proofs.Absolute.{abs-+, abs-sub, abs-*}
 use Rattle.linear.specs.Slice.{at}
 use Rattle.enclosure.specs.Reckoning.{bound}
@@ -19,15 +20,15 @@ use Rattle.common.specs.Stated.{Narrow}
 use Rattle.common.proofs.Order.{max-either, min-either}
 use Rattle.common.proofs.Statements.{found-case}
 
+pub stepped-size : (k : ℕ) (z : ℤ) → k ≤ 20 → natAbs z ≤ 2 ^ 37 → natAbs (pos (2 ^ k) *ℤ z) ≤ 2 ^ 57
+stepped-size k z h l = rw (abs-* (pos (2 ^ k)) z) (omega (arith, mul-le-mul (pow-le-pow-right {n = 2} (omega arith) {i = k} {j = 20} h) l))
+
 module _ (I : Input) (a : answer I ≡ []) (u : Narrow I) (s : ℕ) (h : s ≤ 20) (i : ℕ) (l : i < I .n) where
   guess-size : natAbs (at (I .guess) i) ≤ 2 ^ 36
   guess-size = let v = accepted-usable I a in fit-of I (v .long) (v .inside) .guess .within .size i l
 
-  factor : 2 ^ (s - I .s) ≤ 2 ^ 20
-  factor = pow-le-pow-right {n = 2} (omega arith) {i = s - I .s} {j = 20} (omega arith)
-
   steps-size : (z : ℤ) → natAbs z ≤ 2 ^ 37 → natAbs (inSteps s I z) ≤ 2 ^ 57
-  steps-size z k = rw (abs-* (pos (2 ^ (s - I .s))) z) (omega (arith, mul-le-mul factor k))
+  steps-size z = stepped-size (s - I .s) z (omega arith)
 
   low-size : natAbs (lowOf s I i) ≤ 2 ^ 57
   low-size = steps-size (at (I .guess) i -ℤ pos (bound (problem I) i)) (omega (arith, abs-sub (at (I .guess) i) (pos (bound (problem I) i)), guess-size, u .each i l))
