@@ -33,6 +33,8 @@ mod half_matrix;
 mod two_nets;
 mod with_doubles;
 
+mod two_proposals;
+
 // What an outcome says; a refusal that gives its number alone leaves both places 0.
 fn outcome_reply(outcome: Outcome) -> Reply
     ensures { λ r. ⌜ r ≡ replyOf (printed 0 (said outcome)) ⌝ }
