@@ -1,6 +1,7 @@
 -- The contract of the call on two proposals, case by case.
 --   answer-short, answer-first, answer-second, answer-different, answer-wide, answer-found — what is said
---   ends-at  — what a list that the ends are written to holds;  long-low, long-high — the interval lists have room for them
+--   ends-at, ends-else — what a list that the ends are written to holds at its first n places and at every other;  long-low, long-high — the interval lists have room for them
+--   rest-kept — past the first n places both lists are as before, whatever is said
 --   common-short, common-first, common-second, common-different, common-wide, common-found — the contract where 8 is said, where a refusal of the first or of
 --     the second proposal is, where 20 is, where 21 is, and where the intervals are found
 use mathlib.Core.Path.{_≡_, refl, sym, ap, _∙_}
@@ -12,6 +13,7 @@ use borrow.Author.Tests.{ltb-false}
 use lib.IntN.{ℤ, pos}
 use lib.ListN.{length}
 use Rattle.linear.specs.Slice.{at}
+use Rattle.rules.specs.Order.{accepted}
 use Rattle.rules.specs.Range.{shortColumn}
 use Rattle.rules.specs.Refusal.{said}
 use Rattle.rules.specs.declared.Outcome.the-variants.{Refused}
@@ -19,7 +21,7 @@ use Rattle.rules.specs.declared.Refusal.{Refusal}
 use Rattle.rules.proofs.Ranges.{neither-left, neither-right}
 use Rattle.rules.proofs.Verdicts.{accepted-new, accepted-old, nothing-is-not}
 use Rattle.reckoning.specs.Arrays.{stored}
-use Rattle.reckoning.proofs.Filled.{stored-at}
+use Rattle.reckoning.proofs.Filled.{stored-at, stored-else}
 use Rattle.checked.specs.Input.{Input}
 use Rattle.checked.specs.Order.{answer}
 use Rattle.checked.proofs.Fit.{fit-of}
@@ -67,6 +69,9 @@ pub ends-at : (xs : List ℤ) (f : ℕ → ℤ) (n : ℕ) → n ≤ length xs �
 ends-at xs f n long i l =
     let e : 0 + i * 1 ≡ i = omega arith in
     rw e at (stored-at xs 0 1 f (pos 0) n i (omega arith) l (λ j lj. omega arith))
+
+pub ends-else : (xs : List ℤ) (f : ℕ → ℤ) (n k : ℕ) → n ≤ k → at (stored xs 0 1 f n) k ≡ at xs k
+ends-else xs f n k h = stored-else xs 0 1 f (pos 0) n k (λ i l e. omega arith)
 
 module _ (Q : Proposals) (e : shortIntervals Q ≡ false) (a : answer (Q .first) ≡ []) where
   few : Q .first .n ≤ 32
@@ -125,3 +130,15 @@ module _ (Q : Proposals) where
                     (λ i li. rw h (ends-at (Q .high) (highEnd (Q .first) (Q .second)) n (long-high Q e a) i li))
                     (contains (Q .first) (Q .second) a b (same-of (Q .first) (Q .second) s));
               }
+
+-- ---- past the first n places
+kept : (w : List ℕ) (xs : List ℤ) (f : ℕ → ℤ) (n k : ℕ) → n ≤ k → at (accepted w (stored xs 0 1 f n) xs) k ≡ at xs k
+kept [] xs f n k h = ends-else xs f n k h
+kept (x ∷ w) xs f n k h = refl
+
+pub rest-kept : (Q : Proposals) (r : Common) (low high : List ℤ) → CommonAs Q r low high → (k : ℕ) → Q .first .n ≤ k → (at low k ≡ at (Q .low) k) × (at high k ≡ at (Q .high) k)
+unfolding lowAfter highAfter
+rest-kept Q r low high x k h = (
+  ap (λ (xs : List ℤ). at xs k) (x .low-is) ∙ kept (commonAnswer Q) (Q .low) (lowEnd (Q .first) (Q .second)) (Q .first .n) k h,
+  ap (λ (xs : List ℤ). at xs k) (x .high-is) ∙ kept (commonAnswer Q) (Q .high) (highEnd (Q .first) (Q .second)) (Q .first .n) k h,
+)

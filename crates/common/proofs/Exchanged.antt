@@ -25,7 +25,7 @@ use Rattle.common.specs.declared.Common.{Common}
 use Rattle.common.specs.Proposals.{Proposals, proposals, shortIntervals}
 use Rattle.common.specs.Ends.{maxℤ, minℤ, finer, inSteps, lowOf, highOf, lowEnd, highEnd}
 use Rattle.common.specs.Answer.{saidCommon, commonAnswer, lowAfter, highAfter, CommonAs}
-use Rattle.common.specs.Stated.{SameEquations, Narrow, CommonStated, interval-short, of-first, of-second, different, first-wide, second-wide, found}
+use Rattle.common.specs.Stated.{SameEquations, Narrow, BothAccepted, CommonStated, interval-short, of-first, of-second, different, first-wide, second-wide, found}
 use Rattle.common.specs.Promised.{exchanged, Exchanged, of-neither, first-alone, second-alone, both, OwnEnds}
 use Rattle.common.specs.Promised as promised
 use Rattle.common.proofs.Equations.{exchanged-same}
@@ -68,14 +68,17 @@ module _ (Q : Proposals) where
   by-second k l e a [] b = as-said (answer-second (exchanged Q) e b a) (first-alone k l b)
   by-second k l e a (k′ ∷ l′) b = as-said (answer-first (exchanged Q) e b) (both k k′ l l′ a b)
 
+  other : BothAccepted Q → BothAccepted (exchanged Q)
+  other x = record { long = x .long; first = x .second; second = x .first }
+
   turned : {w : List ℕ} → CommonStated Q w → Exchanged Q w (commonAnswer (exchanged Q))
   turned (interval-short e) = as-said (answer-short (exchanged Q) e) (of-neither 8)
   turned (of-first k l e x) = by-second k l e (check.said-of (Q .first) x) (answer (Q .second)) refl
   turned (of-second k l e x y) = as-said (answer-first (exchanged Q) e (check.said-of (Q .second) y)) (second-alone k l (check.said-of (Q .first) x))
-  turned (different e x y d) = as-said (said-of (exchanged Q) (different e y x (λ s. d (exchanged-same (Q .second) (Q .first) s)))) (of-neither 20)
-  turned (first-wide e x y s w) = as-said (said-of (exchanged Q) (second-wide e y x (exchanged-same (Q .first) (Q .second) s) w)) (of-neither 21)
-  turned (second-wide e x y s w) = as-said (said-of (exchanged Q) (first-wide e y x (exchanged-same (Q .first) (Q .second) s) w)) (of-neither 21)
-  turned (found e x y s u v) = as-said (said-of (exchanged Q) (found e y x (exchanged-same (Q .first) (Q .second) s) v u)) promised.found
+  turned (different x d) = as-said (said-of (exchanged Q) (different (other x) (λ s. d (exchanged-same (Q .second) (Q .first) s)))) (of-neither 20)
+  turned (first-wide x s w) = as-said (said-of (exchanged Q) (second-wide (other x) (exchanged-same (Q .first) (Q .second) s) w)) (of-neither 21)
+  turned (second-wide x s w) = as-said (said-of (exchanged Q) (first-wide (other x) (exchanged-same (Q .first) (Q .second) s) w)) (of-neither 21)
+  turned (found x s u v) = as-said (said-of (exchanged Q) (found (other x) (exchanged-same (Q .first) (Q .second) s) v u)) promised.found
 
   pub exchanged-said : Exchanged Q (commonAnswer Q) (commonAnswer (exchanged Q))
   exchanged-said = turned (stated Q)
@@ -123,7 +126,7 @@ module _ (I : Input) (low high : List ℤ) where
   pub own-said : shortIntervals twice ≡ false → answer I ≡ [] → Narrow I → commonAnswer twice ≡ []
   own-said e a u =
       let x : Stated I [] = subst (Stated I) a (check.stated I) in
-      said-of twice (found e x x (itself I) u u)
+      said-of twice (found (record { long = e; first = x; second = x }) (itself I) u u)
 
   pub own-ends : (r : Common) (low′ high′ : List ℤ) → CommonAs twice r low′ high′ → saidCommon r ≡ [] → OwnEnds I (at low′) (at high′)
   unfolding lowAfter highAfter

@@ -11,6 +11,7 @@ use native.Mathlib.Decide.{decLt}
 use borrow.Author.Tests.{ltb-true, ltb-false, lt-ltb, le-ltb}
 use Rattle.integer.specs.Finite.{largest}
 use Rattle.integer.proofs.Search.{largest-at, largest-≤, clash}
+use Rattle.rules.proofs.Ranges.{neither}
 use Rattle.rules.proofs.Verdicts.{nothing-is-not}
 use Rattle.enclosure.specs.Reckoning.{bound}
 use Rattle.checked.specs.Input.{Input, problem}
@@ -19,7 +20,7 @@ use Rattle.checked.specs.Stated.{Stated}
 use Rattle.checked.proofs.Statements as check
 use Rattle.common.specs.Proposals.{Proposals, shortIntervals, sameEquations, mostSteps, tooWide}
 use Rattle.common.specs.Answer.{commonAnswer}
-use Rattle.common.specs.Stated.{SameEquations, Narrow, Wide, CommonStated, interval-short, of-first, of-second, different, first-wide, second-wide, found}
+use Rattle.common.specs.Stated.{SameEquations, Narrow, Wide, BothAccepted, CommonStated, interval-short, of-first, of-second, different, first-wide, second-wide, found}
 use Rattle.common.proofs.Contract.{answer-short, answer-first, answer-second, answer-different, answer-wide, answer-found}
 use Rattle.common.proofs.Equations.{same-of, of-same}
 
@@ -62,9 +63,6 @@ either-right : (a b : Bool) → b ≡ true → (a || b) ≡ true
 either-right true b e = refl
 either-right false b e = e
 
-neither : (a b : Bool) → a ≡ false → b ≡ false → (a || b) ≡ false
-neither a b e f = rw (e, f)
-
 -- ---- what is said has its stated case
 module _ (Q : Proposals) where
   said-as : {w : List ℕ} → commonAnswer Q ≡ w → CommonStated Q w → CommonStated Q (commonAnswer Q)
@@ -74,6 +72,9 @@ module _ (Q : Proposals) where
   case {I} e = subst (Stated I) e (check.stated I)
 
   module _ (e : shortIntervals Q ≡ false) (a : answer (Q .first) ≡ []) (b : answer (Q .second) ≡ []) where
+    ready : BothAccepted Q
+    ready = record { long = e; first = case a; second = case b }
+
     by-width : sameEquations (Q .first) (Q .second) ≡ true → CommonStated Q (commonAnswer Q)
     by-width s = go (tooWide (Q .first)) refl (tooWide (Q .second)) refl
       where
@@ -81,17 +82,17 @@ module _ (Q : Proposals) where
         same = same-of (Q .first) (Q .second) s
 
         go : (x : Bool) → tooWide (Q .first) ≡ x → (y : Bool) → tooWide (Q .second) ≡ y → CommonStated Q (commonAnswer Q)
-        go true u y v = said-as (answer-wide Q e a b s (either-left _ _ u)) (first-wide e (case a) (case b) same (wide-of (Q .first) u))
-        go false u true v = said-as (answer-wide Q e a b s (either-right (tooWide (Q .first)) _ v)) (second-wide e (case a) (case b) same (wide-of (Q .second) v))
+        go true u y v = said-as (answer-wide Q e a b s (either-left _ _ u)) (first-wide ready same (wide-of (Q .first) u))
+        go false u true v = said-as (answer-wide Q e a b s (either-right (tooWide (Q .first)) _ v)) (second-wide ready same (wide-of (Q .second) v))
         go false u false v =
-            said-as (answer-found Q e a b s (neither _ _ u v)) (found e (case a) (case b) same (narrow-of (Q .first) u) (narrow-of (Q .second) v))
+            said-as (answer-found Q e a b s (neither u v)) (found ready same (narrow-of (Q .first) u) (narrow-of (Q .second) v))
 
     by-equations : CommonStated Q (commonAnswer Q)
     by-equations = go (sameEquations (Q .first) (Q .second)) refl
       where
         go : (x : Bool) → sameEquations (Q .first) (Q .second) ≡ x → CommonStated Q (commonAnswer Q)
         go true s = by-width s
-        go false s = said-as (answer-different Q e a b s) (different e (case a) (case b) (λ x. clash (sameEquations (Q .first) (Q .second)) (of-same (Q .first) (Q .second) x) s))
+        go false s = said-as (answer-different Q e a b s) (different ready (λ x. clash (sameEquations (Q .first) (Q .second)) (of-same (Q .first) (Q .second) x) s))
 
   pub stated : CommonStated Q (commonAnswer Q)
   stated = go (shortIntervals Q) refl (answer (Q .first)) refl (answer (Q .second)) refl
@@ -103,21 +104,35 @@ module _ (Q : Proposals) where
       go false e [] a [] b = by-equations e a b
 
   -- ---- what has its stated case is said
+  module _ (x : BothAccepted Q) where
+    first-said : answer (Q .first) ≡ []
+    first-said = check.said-of (Q .first) (x .first)
+
+    second-said : answer (Q .second) ≡ []
+    second-said = check.said-of (Q .second) (x .second)
+
+    said-20 : (SameEquations (Q .first) (Q .second) → ⊥) → commonAnswer Q ≡ 0 ∷ 20 ∷ []
+    said-20 d = answer-different Q (x .long) first-said second-said (go (sameEquations (Q .first) (Q .second)) refl)
+      where
+        go : (b : Bool) → sameEquations (Q .first) (Q .second) ≡ b → sameEquations (Q .first) (Q .second) ≡ false
+        go true s = absurd (d (same-of (Q .first) (Q .second) s))
+        go false s = s
+
+    module _ (s : SameEquations (Q .first) (Q .second)) where
+      said-21 : (tooWide (Q .first) || tooWide (Q .second)) ≡ true → commonAnswer Q ≡ 0 ∷ 21 ∷ []
+      said-21 = answer-wide Q (x .long) first-said second-said (of-same (Q .first) (Q .second) s)
+
+      said-0 : (tooWide (Q .first) || tooWide (Q .second)) ≡ false → commonAnswer Q ≡ []
+      said-0 = answer-found Q (x .long) first-said second-said (of-same (Q .first) (Q .second) s)
+
   pub said-of : {w : List ℕ} → CommonStated Q w → commonAnswer Q ≡ w
   said-of (interval-short e) = answer-short Q e
   said-of (of-first k l e x) = answer-first Q e (check.said-of (Q .first) x)
   said-of (of-second k l e x y) = answer-second Q e (check.said-of (Q .first) x) (check.said-of (Q .second) y)
-  said-of (different e x y d) = answer-different Q e (check.said-of (Q .first) x) (check.said-of (Q .second) y) (go (sameEquations (Q .first) (Q .second)) refl)
-    where
-      go : (b : Bool) → sameEquations (Q .first) (Q .second) ≡ b → sameEquations (Q .first) (Q .second) ≡ false
-      go true s = absurd (d (same-of (Q .first) (Q .second) s))
-      go false s = s
-  said-of (first-wide e x y s w) =
-      answer-wide Q e (check.said-of (Q .first) x) (check.said-of (Q .second) y) (of-same (Q .first) (Q .second) s) (either-left _ _ (of-wide (Q .first) w))
-  said-of (second-wide e x y s w) =
-      answer-wide Q e (check.said-of (Q .first) x) (check.said-of (Q .second) y) (of-same (Q .first) (Q .second) s) (either-right (tooWide (Q .first)) _ (of-wide (Q .second) w))
-  said-of (found e x y s u v) =
-      answer-found Q e (check.said-of (Q .first) x) (check.said-of (Q .second) y) (of-same (Q .first) (Q .second) s) (neither _ _ (of-narrow (Q .first) u) (of-narrow (Q .second) v))
+  said-of (different x d) = said-20 x d
+  said-of (first-wide x s w) = said-21 x s (either-left _ _ (of-wide (Q .first) w))
+  said-of (second-wide x s w) = said-21 x s (either-right (tooWide (Q .first)) _ (of-wide (Q .second) w))
+  said-of (found x s u v) = said-0 x s (neither (of-narrow (Q .first) u) (of-narrow (Q .second) v))
 
 -- ---- what is found
 pub record FoundCase (Q : Proposals) : Type 0 where
@@ -132,13 +147,13 @@ found-of : (Q : Proposals) {w : List ℕ} → CommonStated Q w → w ≡ [] → 
 found-of Q (interval-short e) z = absurd (nothing-is-not z)
 found-of Q (of-first k l e x) z = absurd (nothing-is-not z)
 found-of Q (of-second k l e x y) z = absurd (nothing-is-not z)
-found-of Q (different e x y d) z = absurd (nothing-is-not z)
-found-of Q (first-wide e x y s w) z = absurd (nothing-is-not z)
-found-of Q (second-wide e x y s w) z = absurd (nothing-is-not z)
-found-of Q (found e x y s u v) z = record {
-  long = e;
-  first = check.said-of (Q .first) x;
-  second = check.said-of (Q .second) y;
+found-of Q (different x d) z = absurd (nothing-is-not z)
+found-of Q (first-wide x s w) z = absurd (nothing-is-not z)
+found-of Q (second-wide x s w) z = absurd (nothing-is-not z)
+found-of Q (found x s u v) z = record {
+  long = x .long;
+  first = first-said Q x;
+  second = second-said Q x;
   same = s;
   first-narrow = u;
   second-narrow = v;

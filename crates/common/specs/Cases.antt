@@ -4,7 +4,7 @@
 --   coarse     — in steps of 1/16, limits 1 and 1: 23 to 25 and 12 to 14;  fine — in steps of 1/64, limits 2 and 2: 90 to 94 and 50 to 54
 --   far        — as coarse with guess 20: 6, row 1
 --   broad d s  — a net whose limits are d + 2^36 in steps of 1, and twice that in steps of 1/2
---   solved s x y w — another net;  wide — limits 2^30 and 2^36 in steps of 1, no tolerance;  solvedExactly — the same equations solved exactly, in steps of 1/2: limits 0 and 0
+--   solved s x y w — another net, without tolerance;  wide — limits 2^30 and 2^36 in steps of 1;  solvedExactly — its exact heights in steps of 1/2, limits 0 and 0
 --   cornerRight, cornerHeight — a right side of `broad` at the corner of its tolerances, and its height, at the lower end of the interval of 2^36
 --   commonRows — the table;  commonInput r — what is handed in;  numbersAre f i xs — f has the numbers xs from place i on
 --   commonHolds, allCommonHold — a row, all rows of the table hold

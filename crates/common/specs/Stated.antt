@@ -1,6 +1,7 @@
 -- What Paper 13 says of each refusal, with the order written out: each case holds only where no earlier one does. Places count from 0 here.
 --   SameEquations I J — size, matrix, right side and tolerances of both, as far as they are used, are the same
 --   Narrow I    — no solution limit of I is above 2^36;  Wide I — one is
+--   BothAccepted Q — the interval lists are long enough, and each proposal is accepted by itself
 --   CommonStated Q said — the case that is stated for what is said; `Stated` (checked/specs/Stated) has the cases of one proposal
 use mathlib.Core.Bool.{true, false}
 use mathlib.Core.List.{List, [], _∷_}
@@ -26,17 +27,23 @@ pub record Wide (I : Input) : Type 0 where
   pub inside : place < I .n
   pub above : mostSteps < bound (problem I) place
 
+pub record BothAccepted (Q : Proposals) : Type 0 where
+  pub long : shortIntervals Q ≡ false
+  pub first : Stated (Q .first) []
+  pub second : Stated (Q .second) []
+
 pub data CommonStated (Q : Proposals) : List ℕ → Type 0 where
   -- 8: an interval list too short
   interval-short : shortIntervals Q ≡ true → CommonStated Q (0 ∷ 8 ∷ [])
   -- a refusal of the first proposal, by its own stated case
   of-first : (k : ℕ) (l : List ℕ) → shortIntervals Q ≡ false → Stated (Q .first) (k ∷ l) → CommonStated Q (1 ∷ k ∷ l)
   -- a refusal of the second, where the first is accepted
-  of-second : (k : ℕ) (l : List ℕ) → shortIntervals Q ≡ false → Stated (Q .first) [] → Stated (Q .second) (k ∷ l) → CommonStated Q (2 ∷ k ∷ l)
-  -- 20: both are accepted, and not of the same equations
-  different : shortIntervals Q ≡ false → Stated (Q .first) [] → Stated (Q .second) [] → (SameEquations (Q .first) (Q .second) → ⊥) → CommonStated Q (0 ∷ 20 ∷ [])
+  of-second : (k : ℕ) (l : List ℕ) → shortIntervals Q ≡ false → Stated (Q .first) [] → Stated (Q .second) (k ∷ l) →
+      CommonStated Q (2 ∷ k ∷ l)
+  -- 20: not of the same equations
+  different : BothAccepted Q → (SameEquations (Q .first) (Q .second) → ⊥) → CommonStated Q (0 ∷ 20 ∷ [])
   -- 21: of the same equations, and a solution limit is above 2^36, of the first or of the second
-  first-wide : shortIntervals Q ≡ false → Stated (Q .first) [] → Stated (Q .second) [] → SameEquations (Q .first) (Q .second) → Wide (Q .first) → CommonStated Q (0 ∷ 21 ∷ [])
-  second-wide : shortIntervals Q ≡ false → Stated (Q .first) [] → Stated (Q .second) [] → SameEquations (Q .first) (Q .second) → Wide (Q .second) → CommonStated Q (0 ∷ 21 ∷ [])
+  first-wide : BothAccepted Q → SameEquations (Q .first) (Q .second) → Wide (Q .first) → CommonStated Q (0 ∷ 21 ∷ [])
+  second-wide : BothAccepted Q → SameEquations (Q .first) (Q .second) → Wide (Q .second) → CommonStated Q (0 ∷ 21 ∷ [])
   -- found: none of them
-  found : shortIntervals Q ≡ false → Stated (Q .first) [] → Stated (Q .second) [] → SameEquations (Q .first) (Q .second) → Narrow (Q .first) → Narrow (Q .second) → CommonStated Q []
+  found : BothAccepted Q → SameEquations (Q .first) (Q .second) → Narrow (Q .first) → Narrow (Q .second) → CommonStated Q []
