@@ -1,6 +1,7 @@
 /* The library linked from C, each of its calls beside what the second implementation says.
  *
- *   link FOLDER [--first]   what the emitters wrote: FOLDER/nets.txt, files.bin, entries.txt, weights.txt,, builds.txt and common.txt, doubles.txt, halves.txt, pairs.txt;
+ *   link FOLDER [--first]   what the emitters wrote: FOLDER/nets.txt, files.bin, entries.txt, weights.txt, builds.txt, doubles.txt, halves.txt, pairs.txt,
+ *                           common.txt;
  *                           with --first it stops at the first test that fails
  *
  * The last line is 'N passed, M failed'. */

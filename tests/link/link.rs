@@ -1,7 +1,8 @@
 //! The library linked from Rust, each of its calls beside what the second implementation says, and the checks on lists, the search for weights, the
-//! builder and the calls with doubles and the common intervals beside versions in Rust.
+//! builder, the calls with doubles, the check of two nets and the common intervals beside versions in Rust.
 //!
-//!   link FOLDER [--first]   what the emitters wrote: FOLDER/nets.txt, files.bin, entries.txt, weights.txt,, builds.txt and common.txt, doubles.txt, halves.txt, pairs.txt;
+//!   link FOLDER [--first]   what the emitters wrote: FOLDER/nets.txt, files.bin, entries.txt, weights.txt, builds.txt, doubles.txt, halves.txt, pairs.txt,
+//!                           common.txt;
 //!                           with --first it stops at the first test that fails
 //!
 //! The last line is 'N passed, M failed'.
@@ -18,10 +19,10 @@ mod halves;
 mod lists;
 mod reckoning;
 mod test_builds;
+mod test_common;
 mod test_dependent;
 mod test_doubles;
 mod test_halves;
-mod test_common;
 mod test_lists;
 mod test_weights;
 mod weights;

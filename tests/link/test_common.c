@@ -1,4 +1,4 @@
-#include "pairs.h"
+#include "proposals.h"
 #include "tests.h"
 
 #include <string.h>
@@ -35,7 +35,7 @@ void test_common(FILE *pairs) {
     static struct pair x;
     struct pair_answer expected;
     unsigned met[16] = {0};
-    for (unsigned index = 0; read_pair(pairs, &x, &expected); index++) {
+    for (unsigned index = 0; read_proposals(pairs, &x, &expected); index++) {
         test("pair", index, holds(&x, &expected));
         count(met, &x, &expected);
     }

@@ -31,9 +31,8 @@ use weight_search::find_weights;
 
 mod half_matrix;
 mod two_nets;
-mod with_doubles;
-
 mod two_proposals;
+mod with_doubles;
 
 // What an outcome says; a refusal that gives its number alone leaves both places 0.
 fn outcome_reply(outcome: Outcome) -> Reply
