@@ -233,6 +233,45 @@ uint32_t kodarfi_check_dependent(uint32_t n1, uint32_t s1, uint32_t t1,
                                  uint32_t *net,
                                  uint64_t places[2]);
 
+/* Two proposals for the same equations (document 02, Paper 13): what both together say of each height.
+ *
+ * The numbers and lists of the first proposal, then those of the second, each as in kodarfi_check; low and high have at least 32 numbers. The two may differ in
+ * s, t, guess, inverse and weights.
+ *
+ * The answer is 0 where both are accepted and of the same equations, and no solution limit is above 2^36: then the first n of low and of high are the ends of
+ * the heights' common intervals, in steps of 2^s to a unit with s the larger of s1 and s2, and the rest is as before. The lower end is the larger of both
+ * proposals' guess - limit, and the upper end the smaller of both guess + limit. The exact height of every right side, in fractions, that differs from the one
+ * given by at most the tolerance in each place lies in the interval, and no lower end is above its upper. The two in the other order give the same intervals.
+ * Else it is the number of the first refusal in this order, and both lists are as before; *proposal is 1 or 2 where the refusal is of that proposal, and 0
+ * where it is of neither:
+ *
+ *   8                low or high is too short                             *proposal: 0   places: 0, 0
+ *   8, 3, 5, 6, 7    the check of the first proposal refuses it                      1   as in kodarfi_check
+ *   8, 3, 5, 6, 7    the check of the second does                                    2   as in kodarfi_check
+ *   20               n, the first n * n of the matrices, or the first n               0   0, 0
+ *                    right sides or tolerances differ
+ *   21               a solution limit of either, in its own steps, is above 2^36      0   0, 0
+ *
+ * *proposal is 0 where nothing is refused. The limits themselves are not handed out. */
+uint32_t kodarfi_common(uint32_t n1, uint32_t s1, uint32_t t1,
+                        const int64_t *matrix1, size_t matrix1_len,
+                        const int64_t *right1, size_t right1_len,
+                        const int64_t *tolerance1, size_t tolerance1_len,
+                        const int64_t *guess1, size_t guess1_len,
+                        const int64_t *inverse1, size_t inverse1_len,
+                        const int64_t *weights1, size_t weights1_len,
+                        uint32_t n2, uint32_t s2, uint32_t t2,
+                        const int64_t *matrix2, size_t matrix2_len,
+                        const int64_t *right2, size_t right2_len,
+                        const int64_t *tolerance2, size_t tolerance2_len,
+                        const int64_t *guess2, size_t guess2_len,
+                        const int64_t *inverse2, size_t inverse2_len,
+                        const int64_t *weights2, size_t weights2_len,
+                        int64_t *low, size_t low_len,
+                        int64_t *high, size_t high_len,
+                        uint32_t *proposal,
+                        uint64_t places[2]);
+
 #ifdef __cplusplus
 }
 #endif

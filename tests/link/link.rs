@@ -1,12 +1,14 @@
 //! The library linked from Rust, each of its calls beside what the second implementation says, and the checks on lists, the search for weights, the
-//! builder and the calls with doubles beside versions in Rust.
+//! builder, the calls with doubles, the check of two nets and the common intervals beside versions in Rust.
 //!
-//!   link FOLDER [--first]   what the emitters wrote: FOLDER/nets.txt, files.bin, entries.txt, weights.txt, builds.txt, doubles.txt, halves.txt, pairs.txt;
+//!   link FOLDER [--first]   what the emitters wrote: FOLDER/nets.txt, files.bin, entries.txt, weights.txt, builds.txt, doubles.txt, halves.txt, pairs.txt,
+//!                           common.txt;
 //!                           with --first it stops at the first test that fails
 //!
 //! The last line is 'N passed, M failed'.
 
 mod builds;
+mod common;
 mod count;
 mod damage;
 mod dependent;
@@ -17,6 +19,7 @@ mod halves;
 mod lists;
 mod reckoning;
 mod test_builds;
+mod test_common;
 mod test_dependent;
 mod test_doubles;
 mod test_halves;
@@ -53,6 +56,7 @@ fn main() {
     test_doubles::test_doubles(&mut count, &inward, &outward);
     test_halves::test_halves(&mut count, &lists::read_halves(&text_of(folder, "halves.txt")));
     test_dependent::test_dependent(&mut count, &dependent::read_pairs(&text_of(folder, "pairs.txt")));
+    test_common::test_common(&mut count, &common::read_pairs(&text_of(folder, "common.txt")));
     files::test_files(&mut count, &bytes_of(folder, "files.bin"));
     test_lists::test_lists(&mut count, &lists::read_nets(&text_of(folder, "nets.txt")));
     count.close()

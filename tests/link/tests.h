@@ -35,4 +35,7 @@ void test_halves(FILE *halves);
 /* kodarfi_check_dependent on the pairs of tests/emit_dependent.py. */
 void test_dependent(FILE *pairs);
 
+/* kodarfi_common on the pairs of tests/emit_common.py. */
+void test_common(FILE *pairs);
+
 #endif

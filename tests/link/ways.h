@@ -125,6 +125,29 @@
     X(ends_before_tested)         \
     X(ends_past_n)                \
     X(ends_places_left)           \
+    /* kodarfi_common */          \
+    X(the_coarser_step)           \
+    X(the_union)                  \
+    X(ends_of_second)             \
+    X(different_before_second)    \
+    X(wide_before_different)      \
+    X(wide_in_finer_step)         \
+    X(limit_of_2_36_wide)         \
+    X(wide_of_first_alone)        \
+    X(compared_past_n)            \
+    X(diagonals_alone)            \
+    X(matrices_not_compared)      \
+    X(rights_not_compared)        \
+    X(tolerances_not_compared)    \
+    X(inverse_steps_compared)     \
+    X(no_proposal_named)          \
+    X(second_as_first)            \
+    X(proposal_left_at_2)         \
+    X(short_of_first)             \
+    X(short_high_taken)           \
+    X(writes_with_20)             \
+    X(writes_all_ends)            \
+    X(common_places_left)         \
     /* kodarfi_listing: file */   \
     X(first_4096_bytes)           \
     X(last_line_needs_feed)       \

@@ -8,3 +8,4 @@ pub mod Build
 pub mod Doubles
 pub mod Half
 pub mod TwoNets
+pub mod TwoProposals

@@ -5,3 +5,4 @@ pub mod Build
 pub mod Doubles
 pub mod Half
 pub mod TwoNets
+pub mod TwoProposals

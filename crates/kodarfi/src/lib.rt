@@ -31,6 +31,7 @@ use weight_search::find_weights;
 
 mod half_matrix;
 mod two_nets;
+mod two_proposals;
 mod with_doubles;
 
 // What an outcome says; a refusal that gives its number alone leaves both places 0.

@@ -1,0 +1,67 @@
+-- The table of pairs holds (specs/Cases), and no theorem of this crate is of an empty case.
+--   common-hold — one theorem for all rows, computed
+--   pair-found, pair-exact, pair-contains — of `coarse` and `fine` the intervals are found; 16/11 and 9/11 are their exact heights; the intervals contain them
+--   corner-right, corner-exact, corner-reached — a right side at the corner of the tolerances, its height, and that it is the lower end itself
+use mathlib.Core.Path.{_≡_, refl}
+use mathlib.Core.Bool.{true}
+use mathlib.Core.List.{[]}
+use Prim.Native.Nat.{ℕ, zero, suc, _<_, _^_}
+use native.Mathlib.Omega.{arith}
+use lib.Dec.{lit≤}
+use lib.IntN.{pos, _*ℤ_}
+use Rattle.integer.specs.Finite.{sum, sumℕ, largest, first}
+use Rattle.integer.specs.Quotient.{ceilDiv}
+use Rattle.linear.specs.Matrix.{apply, product, identity}
+use Rattle.rules.specs.Range.{ranges, rangeOf, inRange, allInRange}
+use Rattle.enclosure.specs.Demand.{ExactSolution, ExactSolutionOf, RightSide}
+use Rattle.enclosure.specs.Example as example
+use Rattle.enclosure.specs.Reckoning.{defect, load, margin, residual, rowSum, exceeds, sizesWith, boundFrom, boundWith, bound}
+use Rattle.enclosure.proofs.Instance.{file-rounded}
+use Rattle.reckoning.specs.Arrays.{stored}
+use Rattle.checked.specs.Cases.{inputOf}
+use Rattle.checked.specs.Input.{Input, problem}
+use Rattle.checked.specs.Order.{answer}
+use Rattle.common.specs.Proposals.{Proposals, allSame}
+use Rattle.common.specs.Ends.{lowEnd, highEnd, Between}
+use Rattle.common.specs.Answer.{commonAnswer, lowAfter, highAfter}
+use Rattle.common.specs.Cases.{commonRow, commonInput, coarse, fine, broad, cornerRight, cornerHeight, commonRows, allCommonHold}
+use Rattle.common.proofs.Contains.{contains}
+use Rattle.common.proofs.Statements.{found-case}
+
+pub common-hold : allCommonHold commonRows ≡ true
+unfolding sum sumℕ largest first ceilDiv apply product identity ranges rangeOf inRange allInRange defect load margin residual rowSum exceeds sizesWith boundFrom boundWith bound stored answer allSame lowEnd highEnd commonAnswer lowAfter highAfter
+common-hold = refl
+
+-- ---- two proposals for one net
+abbrev pub pair : Proposals
+pair = commonInput (commonRow coarse fine [] [] [])
+
+pub pair-found : commonAnswer pair ≡ []
+unfolding sum sumℕ largest first ceilDiv apply product identity ranges rangeOf inRange allInRange defect load margin residual rowSum exceeds sizesWith boundFrom boundWith bound answer allSame commonAnswer
+pair-found = refl
+
+pub pair-exact : ExactSolution (problem (pair .first)) example.exact 11
+pair-exact = file-rounded .solution
+
+pub pair-contains : Between (pair .first) (pair .second) (lowEnd (pair .first) (pair .second)) (highEnd (pair .first) (pair .second)) example.exact 11
+pair-contains = let c = found-case pair pair-found in contains (pair .first) (pair .second) (c .first) (c .second) (c .same) .at-b example.exact 11 pair-exact
+
+-- ---- the corner of the tolerances
+abbrev net : Input
+net = inputOf (broad (pos 0) 0)
+
+each : (Q : ℕ → Type 0) → Q 0 → Q 1 → (i : ℕ) → i < 2 → Q i
+each Q a b zero l = a
+each Q a b (suc zero) l = b
+each Q a b (suc (suc i)) l = absurd (omega arith)
+
+pub corner-right : RightSide (problem net) cornerRight 1
+corner-right = record { positive = lit≤ tt; near = each _ (lit≤ tt) (lit≤ tt) }
+
+pub corner-exact : ExactSolutionOf (problem net) cornerRight 1 cornerHeight 1
+unfolding apply sum
+corner-exact = record { positive = lit≤ tt; solves = each _ refl refl }
+
+pub corner-reached : pos 1 *ℤ lowEnd net net 0 ≡ pos (2 ^ 0) *ℤ cornerHeight 0
+unfolding sum sumℕ largest ceilDiv apply product identity defect load margin residual sizesWith boundFrom boundWith bound lowEnd
+corner-reached = refl

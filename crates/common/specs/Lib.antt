@@ -1,0 +1,6 @@
+pub mod Proposals
+pub mod Ends
+pub mod Answer
+pub mod Stated
+pub mod Promised
+pub mod Cases

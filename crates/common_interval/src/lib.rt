@@ -1,0 +1,135 @@
+// Two proposals for the same equations: each height's common interval (document 02, Paper 13).
+ghost use Rattle.common.specs.Answer.{CommonAs};
+ghost use Rattle.common.specs.Proposals.{proposal, proposals};
+ghost use Rattle.common_interval.specs.Checks.{ProposalChecked};
+use checker::check;
+use common::Common;
+use common_ends::are_equations_same;
+use common_ends::meet;
+use rules::Outcome;
+
+// What the check of a proposal says, and its solution limits.
+pub struct CheckedProposal {
+    pub outcome: Outcome,
+    pub solution: [u64; 32],
+}
+
+// The check of one proposal, with lists of its own for the limits.
+fn check_proposal(
+    n: u32,
+    s: u32,
+    t: u32,
+    matrix: &[i64],
+    right: &[i64],
+    tolerance: &[i64],
+    guess: &[i64],
+    inverse: &[i64],
+    weights: &[i64],
+) -> CheckedProposal
+    ensures { λ r. ⌜ ProposalChecked (proposal n s t (now (matrix .entry)) (now (right .entry)) (now (tolerance .entry))
+        (now (guess .entry)) (now (inverse .entry)) (now (weights .entry))) r ⌝ }
+{
+    let mut solution = [0u64; 32];
+    let mut inverse_bounds = [0u64; 1024];
+    let outcome = check(
+        n,
+        s,
+        t,
+        matrix,
+        right,
+        tolerance,
+        guess,
+        inverse,
+        weights,
+        &mut solution,
+        &mut inverse_bounds,
+    );
+    CheckedProposal { outcome, solution }
+}
+
+// The common interval of each height, in the finer of the two steps. Order: 8 for an interval list, the first proposal, the second, 20, 21; a refusal leaves
+// both interval lists as they were.
+pub fn common_interval(
+    n1: u32,
+    s1: u32,
+    t1: u32,
+    matrix1: &[i64],
+    right1: &[i64],
+    tolerance1: &[i64],
+    guess1: &[i64],
+    inverse1: &[i64],
+    weights1: &[i64],
+    n2: u32,
+    s2: u32,
+    t2: u32,
+    matrix2: &[i64],
+    right2: &[i64],
+    tolerance2: &[i64],
+    guess2: &[i64],
+    inverse2: &[i64],
+    weights2: &[i64],
+    low: &mut [i64],
+    high: &mut [i64],
+) -> Common
+    ensures { λ r. ⌜ CommonAs (proposals
+        (proposal n1 s1 t1 (now (matrix1 .entry)) (now (right1 .entry)) (now (tolerance1 .entry)) (now (guess1 .entry)) (now (inverse1 .entry)) (now (weights1 .entry)))
+        (proposal n2 s2 t2 (now (matrix2 .entry)) (now (right2 .entry)) (now (tolerance2 .entry)) (now (guess2 .entry)) (now (inverse2 .entry)) (now (weights2 .entry)))
+        (now (low .entry)) (now (high .entry))) r (now (low .exit)) (now (high .exit)) ⌝ }
+{
+    if low.len() < 32 {
+        return Common::TooShort;
+    }
+    if high.len() < 32 {
+        return Common::TooShort;
+    }
+    let first = check_proposal(
+        n1,
+        s1,
+        t1,
+        matrix1,
+        right1,
+        tolerance1,
+        guess1,
+        inverse1,
+        weights1,
+    );
+    let said1 = first.outcome;
+    match said1 {
+        Outcome::Refused(refusal) => Common::First(refusal),
+        Outcome::Accepted => {
+            let second = check_proposal(
+                n2,
+                s2,
+                t2,
+                matrix2,
+                right2,
+                tolerance2,
+                guess2,
+                inverse2,
+                weights2,
+            );
+            let said2 = second.outcome;
+            match said2 {
+                Outcome::Refused(refusal) => Common::Second(refusal),
+                Outcome::Accepted => {
+                    let size = n1 as usize;
+                    if are_equations_same(
+                        size,
+                        matrix1,
+                        right1,
+                        tolerance1,
+                        n2 as usize,
+                        matrix2,
+                        right2,
+                        tolerance2,
+                    ) {
+                        let limits1 = first.solution;
+                        let limits2 = second.solution;
+                        return meet(size, s1, guess1, limits1, s2, guess2, limits2, low, high);
+                    }
+                    Common::Different
+                }
+            }
+        }
+    }
+}
