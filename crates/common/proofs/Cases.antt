@@ -22,9 +22,9 @@ use Rattle.checked.specs.Cases.{inputOf}
 use Rattle.checked.specs.Input.{Input, problem}
 use Rattle.checked.specs.Order.{answer}
 use Rattle.common.specs.Proposals.{Proposals, allSame}
-use Rattle.common.specs.Ends.{lowEnd, highEnd, Between}
+use Rattle.common.specs.Ends.{lowEnd, highEnd, WithinEnds}
 use Rattle.common.specs.Answer.{commonAnswer, lowAfter, highAfter}
-use Rattle.common.specs.Cases.{commonRow, commonInput, coarse, fine, broad, cornerRight, cornerHeight, commonRows, allCommonHold}
+use Rattle.common.specs.Cases.{commonRow, commonInput, coarse, fine, broad, broadRight, broadHeight, commonRows, allCommonHold}
 use Rattle.common.proofs.Contains.{contains}
 use Rattle.common.proofs.Statements.{found-case}
 
@@ -43,7 +43,7 @@ pair-found = refl
 pub pair-exact : ExactSolution (problem (pair .first)) example.exact 11
 pair-exact = file-rounded .solution
 
-pub pair-contains : Between (pair .first) (pair .second) (lowEnd (pair .first) (pair .second)) (highEnd (pair .first) (pair .second)) example.exact 11
+pub pair-contains : WithinEnds (pair .first) (pair .second) (lowEnd (pair .first) (pair .second)) (highEnd (pair .first) (pair .second)) example.exact 11
 pair-contains = let c = found-case pair pair-found in contains (pair .first) (pair .second) (c .first) (c .second) (c .same) .at-b example.exact 11 pair-exact
 
 -- ---- the corner of the tolerances
@@ -55,13 +55,13 @@ each Q a b zero l = a
 each Q a b (suc zero) l = b
 each Q a b (suc (suc i)) l = absurd (omega arith)
 
-pub corner-right : RightSide (problem net) cornerRight 1
+pub corner-right : RightSide (problem net) broadRight 1
 corner-right = record { positive = lit≤ tt; near = each _ (lit≤ tt) (lit≤ tt) }
 
-pub corner-exact : ExactSolutionOf (problem net) cornerRight 1 cornerHeight 1
+pub corner-exact : ExactSolutionOf (problem net) broadRight 1 broadHeight 1
 unfolding apply sum
 corner-exact = record { positive = lit≤ tt; solves = each _ refl refl }
 
-pub corner-reached : pos 1 *ℤ lowEnd net net 0 ≡ pos (2 ^ 0) *ℤ cornerHeight 0
+pub corner-reached : pos 1 *ℤ lowEnd net net 0 ≡ pos (2 ^ 0) *ℤ broadHeight 0
 unfolding sum sumℕ largest ceilDiv apply product identity defect load margin residual sizesWith boundFrom boundWith bound lowEnd
 corner-reached = refl

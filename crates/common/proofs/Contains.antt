@@ -20,7 +20,7 @@ use Rattle.checked.specs.Order.{answer}
 use Rattle.checked.proofs.Contract.{answer-ready, said-sound}
 use Rattle.checked.proofs.Fit.{fit-of}
 use Rattle.checked.proofs.Statements.{accepted-usable}
-use Rattle.common.specs.Ends.{maxℤ, minℤ, finer, lowOf, highOf, lowEnd, highEnd, Between, Contains}
+use Rattle.common.specs.Ends.{maxℤ, minℤ, finer, lowOf, highOf, lowEnd, highEnd, WithinEnds, Contains}
 use Rattle.common.specs.Stated.{SameEquations}
 use Rattle.common.proofs.Equations.{right-carried, solution-carried, at-b-carried}
 use Rattle.common.proofs.Order.{low-side, high-side, between, max-either, min-either}
@@ -50,7 +50,7 @@ module _ (K : Input) (s : ℕ) (h : K .s ≤ s) (N : Vec) (q i : ℕ) (x : natAb
 
 -- ---- two of the same size
 module _ (I J : Input) (n : I .n ≡ J .n) where
-  held : (N : Vec) (q : ℕ) → InLimits (problem I) (bound (problem I)) N q → InLimits (problem J) (bound (problem J)) N q → Between I J (lowEnd I J) (highEnd I J) N q
+  held : (N : Vec) (q : ℕ) → InLimits (problem I) (bound (problem I)) N q → InLimits (problem J) (bound (problem J)) N q → WithinEnds I J (lowEnd I J) (highEnd I J) N q
   unfolding lowEnd highEnd
   held N q x y i l =
       let s : ℕ = finer I J in
@@ -62,10 +62,10 @@ module _ (I J : Input) (n : I .n ≡ J .n) where
       )
 
 module _ (I J : Input) (a : answer I ≡ []) (b : answer J ≡ []) (x : SameEquations I J) where
-  here : (N : Vec) (q : ℕ) → InLimits (problem I) (bound (problem I)) N q → InLimits (problem J) (bound (problem J)) N q → Between I J (lowEnd I J) (highEnd I J) N q
+  here : (N : Vec) (q : ℕ) → InLimits (problem I) (bound (problem I)) N q → InLimits (problem J) (bound (problem J)) N q → WithinEnds I J (lowEnd I J) (highEnd I J) N q
   here = held I J (x .n)
 
-  own : (N : Vec) (q : ℕ) → ExactSolution (problem I) N q → Between I J (lowEnd I J) (highEnd I J) N q
+  own : (N : Vec) (q : ℕ) → ExactSolution (problem I) N q → WithinEnds I J (lowEnd I J) (highEnd I J) N q
   own N q y = here N q (accepted-encloses I a .solution-at-b N q y) (accepted-encloses J b .solution-at-b N q (at-b-carried I J x N q y))
 
   pub contains : Contains I J (lowEnd I J) (highEnd I J)

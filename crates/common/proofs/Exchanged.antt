@@ -25,7 +25,7 @@ use Rattle.common.specs.declared.Common.{Common}
 use Rattle.common.specs.Proposals.{Proposals, proposals, shortIntervals}
 use Rattle.common.specs.Ends.{maxℤ, minℤ, finer, inSteps, lowOf, highOf, lowEnd, highEnd}
 use Rattle.common.specs.Answer.{saidCommon, commonAnswer, lowAfter, highAfter, CommonAs}
-use Rattle.common.specs.Stated.{SameEquations, Narrow, BothAccepted, CommonStated, interval-short, of-first, of-second, different, first-wide, second-wide, found}
+use Rattle.common.specs.Stated.{SameEquations, NoneWide, BothAccepted, CommonStated, interval-short, of-first, of-second, different, first-wide, second-wide, found}
 use Rattle.common.specs.Promised.{exchanged, Exchanged, of-neither, first-alone, second-alone, both, OwnEnds}
 use Rattle.common.specs.Promised as promised
 use Rattle.common.proofs.Equations.{exchanged-same}
@@ -123,7 +123,7 @@ module _ (I : Input) (low high : List ℤ) where
   abbrev twice : Proposals
   twice = proposals I I low high
 
-  pub own-said : shortIntervals twice ≡ false → answer I ≡ [] → Narrow I → commonAnswer twice ≡ []
+  pub own-said : shortIntervals twice ≡ false → answer I ≡ [] → NoneWide I → commonAnswer twice ≡ []
   own-said e a u =
       let x : Stated I [] = subst (Stated I) a (check.stated I) in
       said-of twice (found (record { long = e; first = x; second = x }) (itself I) u u)

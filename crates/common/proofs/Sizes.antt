@@ -16,14 +16,14 @@ use Rattle.checked.proofs.Statements.{accepted-usable}
 use Rattle.common.specs.Proposals.{Proposals}
 use Rattle.common.specs.Ends.{finer, inSteps, lowOf, highOf, lowEnd, highEnd}
 use Rattle.common.specs.Answer.{commonAnswer}
-use Rattle.common.specs.Stated.{Narrow}
+use Rattle.common.specs.Stated.{NoneWide}
 use Rattle.common.proofs.Order.{max-either, min-either}
 use Rattle.common.proofs.Statements.{found-case}
 
 pub stepped-size : (k : ℕ) (z : ℤ) → k ≤ 20 → natAbs z ≤ 2 ^ 37 → natAbs (pos (2 ^ k) *ℤ z) ≤ 2 ^ 57
 stepped-size k z h l = rw (abs-* (pos (2 ^ k)) z) (omega (arith, mul-le-mul (pow-le-pow-right {n = 2} (omega arith) {i = k} {j = 20} h) l))
 
-module _ (I : Input) (a : answer I ≡ []) (u : Narrow I) (s : ℕ) (h : s ≤ 20) (i : ℕ) (l : i < I .n) where
+module _ (I : Input) (a : answer I ≡ []) (u : NoneWide I) (s : ℕ) (h : s ≤ 20) (i : ℕ) (l : i < I .n) where
   guess-size : natAbs (at (I .guess) i) ≤ 2 ^ 36
   guess-size = let v = accepted-usable I a in fit-of I (v .long) (v .inside) .guess .within .size i l
 

@@ -20,7 +20,7 @@ use Rattle.checked.specs.Stated.{Stated}
 use Rattle.checked.proofs.Statements as check
 use Rattle.common.specs.Proposals.{Proposals, shortIntervals, sameEquations, mostSteps, tooWide}
 use Rattle.common.specs.Answer.{commonAnswer}
-use Rattle.common.specs.Stated.{SameEquations, Narrow, Wide, BothAccepted, CommonStated, interval-short, of-first, of-second, different, first-wide, second-wide, found}
+use Rattle.common.specs.Stated.{SameEquations, NoneWide, Wide, BothAccepted, CommonStated, interval-short, of-first, of-second, different, first-wide, second-wide, found}
 use Rattle.common.proofs.Contract.{answer-short, answer-first, answer-second, answer-different, answer-wide, answer-found}
 use Rattle.common.proofs.Equations.{same-of, of-same}
 
@@ -45,7 +45,7 @@ module _ (I : Input) where
       let x = above-place (I .n) (bound (problem I)) mostSteps (ltb-true mostSteps (largest (I .n) (bound (problem I))) e) in
       record { place = x .place; inside = x .inside; above = x .above }
 
-  pub narrow-of : tooWide I ≡ false → Narrow I
+  pub narrow-of : tooWide I ≡ false → NoneWide I
   narrow-of e = record {
     each = λ i l. omega (arith, largest-at (I .n) (bound (problem I)) i l, ltb-false mostSteps (largest (I .n) (bound (problem I))) e);
   }
@@ -53,7 +53,7 @@ module _ (I : Input) where
   pub of-wide : Wide I → tooWide I ≡ true
   of-wide x = lt-ltb mostSteps (largest (I .n) (bound (problem I))) (omega (arith, x .above, largest-at (I .n) (bound (problem I)) (x .place) (x .inside)))
 
-  pub of-narrow : Narrow I → tooWide I ≡ false
+  pub of-narrow : NoneWide I → tooWide I ≡ false
   of-narrow x = le-ltb mostSteps (largest (I .n) (bound (problem I))) (largest-≤ (I .n) (bound (problem I)) mostSteps (x .each))
 
 either-left : (a b : Bool) → a ≡ true → (a || b) ≡ true
@@ -140,8 +140,8 @@ pub record FoundCase (Q : Proposals) : Type 0 where
   pub first : answer (Q .first) ≡ []
   pub second : answer (Q .second) ≡ []
   pub same : SameEquations (Q .first) (Q .second)
-  pub first-narrow : Narrow (Q .first)
-  pub second-narrow : Narrow (Q .second)
+  pub first-narrow : NoneWide (Q .first)
+  pub second-narrow : NoneWide (Q .second)
 
 found-of : (Q : Proposals) {w : List ℕ} → CommonStated Q w → w ≡ [] → FoundCase Q
 found-of Q (interval-short e) z = absurd (nothing-is-not z)

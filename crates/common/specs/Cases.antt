@@ -2,10 +2,11 @@
 --   CommonRow  — two proposals, what is said of them, and the ends that are written
 --   fileAt s x y d — document 01's whole file, with s, the guess and the tolerances
 --   coarse     — in steps of 1/16, limits 1 and 1: 23 to 25 and 12 to 14;  fine — in steps of 1/64, limits 2 and 2: 90 to 94 and 50 to 54
---   far        — as coarse with guess 20: 6, row 1
+--   farGuess       — as coarse with guess 20: 6, row 1;  fineOther — as fine, by another inverse in steps of 1/32, and with other numbers past the first n
 --   broad d s  — a net whose limits are d + 2^36 in steps of 1, and twice that in steps of 1/2
---   solved s x y w — another net, without tolerance;  wide — limits 2^30 and 2^36 in steps of 1;  solvedExactly — its exact heights in steps of 1/2, limits 0 and 0
---   cornerRight, cornerHeight — a right side of `broad` at the corner of its tolerances, and its height, at the lower end of the interval of 2^36
+--   solved s x y w — another net, without tolerance;  wide — limits 2^30 and 2^36 in steps of 1
+--   solvedExactly, solvedInUnits — its exact heights in steps of 1/2 and of 1, limits 0 and 0;  oneStepOff — in steps of 1/2, limits 1 and 1
+--   broadRight, broadHeight — a right side of `broad` at the corner of its tolerances, and its height, at the lower end of the interval of 2^36
 --   commonRows — the table;  commonInput r — what is handed in;  numbersAre f i xs — f has the numbers xs from place i on
 --   commonHolds, allCommonHold — a row, all rows of the table hold
 use mathlib.Core.Bool.{Bool, true, _&&_}
@@ -41,19 +42,24 @@ coarse = fileAt 4 (pos 24) (pos 13) (pos 0)
 abbrev pub fine : Row
 fine = fileAt 6 (pos 92) (pos 52) (pos 0)
 
-abbrev pub far : Row
-far = fileAt 4 (pos 20) (pos 13) (pos 0)
+abbrev pub farGuess : Row
+farGuess = fileAt 4 (pos 20) (pos 13) (pos 0)
+
+abbrev pub fineOther : Row
+fineOther =
+    row 2 6 5 (pos 4 ∷ negsuc 0 ∷ negsuc 0 ∷ pos 3 ∷ pos 9 ∷ []) (pos 5 ∷ pos 1 ∷ pos 9 ∷ []) (pos 0 ∷ pos 0 ∷ pos 9 ∷ []) (pos 92 ∷ pos 52 ∷ pos 9 ∷ [])
+    (pos 9 ∷ pos 3 ∷ pos 3 ∷ pos 12 ∷ pos 9 ∷ []) (pos 1 ∷ pos 1 ∷ pos 9 ∷ []) [] []
 
 abbrev pub broad : ℤ → ℕ → Row
 broad d s =
     row 2 s 0 (pos 1 ∷ pos 1048576 ∷ pos 0 ∷ pos 1 ∷ []) (pos 0 ∷ pos 0 ∷ []) (d ∷ pos 65536 ∷ []) (pos 0 ∷ pos 0 ∷ [])
     (pos 1 ∷ negsuc 1048575 ∷ pos 0 ∷ pos 1 ∷ []) (pos 1 ∷ pos 1 ∷ []) [] []
 
-abbrev pub cornerRight : Vec
-cornerRight = vectorOf (pos 0 ∷ pos 65536 ∷ [])
+abbrev pub broadRight : Vec
+broadRight = vectorOf (pos 0 ∷ pos 65536 ∷ [])
 
-abbrev pub cornerHeight : Vec
-cornerHeight = vectorOf (negsuc 68719476735 ∷ pos 65536 ∷ [])
+abbrev pub broadHeight : Vec
+broadHeight = vectorOf (negsuc 68719476735 ∷ pos 65536 ∷ [])
 
 abbrev pub solved : ℕ → ℤ → ℤ → ℤ → Row
 solved s x y w =
@@ -66,18 +72,28 @@ wide = solved 0 (pos 0) (pos 0) (pos 64)
 abbrev pub solvedExactly : Row
 solvedExactly = solved 1 (pos 2147483648) (negsuc 2097151) (pos 1)
 
+abbrev pub solvedInUnits : Row
+solvedInUnits = solved 0 (pos 1073741824) (negsuc 1048575) (pos 1)
+
+abbrev pub oneStepOff : Row
+oneStepOff = solved 1 (pos 2147483649) (negsuc 2097151) (pos 1)
+
 abbrev pub commonRows : List CommonRow
 commonRows =
     commonRow coarse fine [] (pos 92 ∷ pos 50 ∷ []) (pos 94 ∷ pos 54 ∷ [])
     ∷ commonRow fine coarse [] (pos 92 ∷ pos 50 ∷ []) (pos 94 ∷ pos 54 ∷ [])
     ∷ commonRow coarse coarse [] (pos 23 ∷ pos 12 ∷ []) (pos 25 ∷ pos 14 ∷ [])
-    ∷ commonRow far fine (1 ∷ 6 ∷ 1 ∷ []) [] []
-    ∷ commonRow fine far (2 ∷ 6 ∷ 1 ∷ []) [] []
+    ∷ commonRow farGuess fine (1 ∷ 6 ∷ 1 ∷ []) [] []
+    ∷ commonRow fine farGuess (2 ∷ 6 ∷ 1 ∷ []) [] []
     ∷ commonRow coarse (fileAt 6 (pos 92) (pos 52) (pos 1)) (0 ∷ 20 ∷ []) [] []
     ∷ commonRow (broad (pos 0) 0) (broad (pos 0) 0) [] (negsuc 68719476735 ∷ []) (pos 68719476736 ∷ [])
     ∷ commonRow (broad (pos 1) 0) (broad (pos 1) 0) (0 ∷ 21 ∷ []) [] []
     ∷ commonRow (broad (pos 0) 0) (broad (pos 0) 1) (0 ∷ 21 ∷ []) [] []
     ∷ commonRow wide solvedExactly [] (pos 2147483648 ∷ negsuc 2097151 ∷ []) (pos 2147483648 ∷ negsuc 2097151 ∷ [])
+    ∷ commonRow solvedInUnits oneStepOff [] (pos 2147483648 ∷ negsuc 2097151 ∷ []) (pos 2147483648 ∷ negsuc 2097151 ∷ [])
+    ∷ commonRow coarse fineOther [] (pos 92 ∷ pos 50 ∷ []) (pos 94 ∷ pos 54 ∷ [])
+    ∷ commonRow coarse (fileAt 4 (pos 20) (pos 13) (pos 1)) (2 ∷ 6 ∷ 1 ∷ []) [] []
+    ∷ commonRow (broad (pos 1) 0) coarse (0 ∷ 20 ∷ []) [] []
     ∷ []
 
 abbrev pub commonInput : CommonRow → Proposals

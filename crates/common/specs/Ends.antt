@@ -5,7 +5,7 @@
 --   inSteps s I z — z of I's own steps, in steps of 2^s to a unit
 --   lowOf s I i, highOf s I i — X − E and X + E of height i, of one proposal
 --   lowEnd I J i, highEnd I J i — the ends of its common interval
---   Between I J low high N q — q·low_i ≤ S·N_i ≤ q·high_i for every height N_i / q, with S = 2^s of the finer step
+--   WithinEnds I J low high N q — q·low_i ≤ S·N_i ≤ q·high_i for every height N_i / q, with S = 2^s of the finer step
 --   Contains I J low high — "It contains the exact height for every right side within the tolerance, and its lower end is never above its upper"
 use mathlib.Core.Bool.{cond}
 use Prim.Native.Nat.{ℕ, _-_, _<_, _^_, max}
@@ -41,12 +41,12 @@ lowEnd I J i = maxℤ (lowOf (finer I J) I i) (lowOf (finer I J) J i)
 unfoldable pub highEnd : Input → Input → ℕ → ℤ
 highEnd I J i = minℤ (highOf (finer I J) I i) (highOf (finer I J) J i)
 
-abbrev pub Between : Input → Input → (ℕ → ℤ) → (ℕ → ℤ) → Vec → ℕ → Type 0
-Between I J low high N q =
+abbrev pub WithinEnds : Input → Input → (ℕ → ℤ) → (ℕ → ℤ) → Vec → ℕ → Type 0
+WithinEnds I J low high N q =
     (i : ℕ) → i < I .n → ((pos q *ℤ low i) ≤ℤ (pos (2 ^ finer I J) *ℤ N i)) × ((pos (2 ^ finer I J) *ℤ N i) ≤ℤ (pos q *ℤ high i))
 
 pub record Contains (I J : Input) (low high : ℕ → ℤ) : Type 0 where
-  pub height : (β : Vec) (ρ : ℕ) → RightSide (problem I) β ρ → (N : Vec) (q : ℕ) → ExactSolutionOf (problem I) β ρ N q → Between I J low high N q
+  pub height : (β : Vec) (ρ : ℕ) → RightSide (problem I) β ρ → (N : Vec) (q : ℕ) → ExactSolutionOf (problem I) β ρ N q → WithinEnds I J low high N q
   -- of b itself
-  pub at-b : (N : Vec) (q : ℕ) → ExactSolution (problem I) N q → Between I J low high N q
+  pub at-b : (N : Vec) (q : ℕ) → ExactSolution (problem I) N q → WithinEnds I J low high N q
   pub ordered : (i : ℕ) → i < I .n → low i ≤ℤ high i

@@ -1,6 +1,6 @@
 -- What Paper 13 says of each refusal, with the order written out: each case holds only where no earlier one does. Places count from 0 here.
 --   SameEquations I J — size, matrix, right side and tolerances of both, as far as they are used, are the same
---   Narrow I    — no solution limit of I is above 2^36;  Wide I — one is
+--   NoneWide I    — no solution limit of I is above 2^36;  Wide I — one is
 --   BothAccepted Q — the interval lists are long enough, and each proposal is accepted by itself
 --   CommonStated Q said — the case that is stated for what is said; `Stated` (checked/specs/Stated) has the cases of one proposal
 use mathlib.Core.Bool.{true, false}
@@ -19,7 +19,7 @@ pub record SameEquations (I J : Input) : Type 0 where
   pub right : (k : ℕ) → k < I .n → at (I .right) k ≡ at (J .right) k
   pub tolerance : (k : ℕ) → k < I .n → at (I .tolerance) k ≡ at (J .tolerance) k
 
-pub record Narrow (I : Input) : Type 0 where
+pub record NoneWide (I : Input) : Type 0 where
   pub each : (i : ℕ) → i < I .n → bound (problem I) i ≤ mostSteps
 
 pub record Wide (I : Input) : Type 0 where
@@ -46,4 +46,4 @@ pub data CommonStated (Q : Proposals) : List ℕ → Type 0 where
   first-wide : BothAccepted Q → SameEquations (Q .first) (Q .second) → Wide (Q .first) → CommonStated Q (0 ∷ 21 ∷ [])
   second-wide : BothAccepted Q → SameEquations (Q .first) (Q .second) → Wide (Q .second) → CommonStated Q (0 ∷ 21 ∷ [])
   -- found: none of them
-  found : BothAccepted Q → SameEquations (Q .first) (Q .second) → Narrow (Q .first) → Narrow (Q .second) → CommonStated Q []
+  found : BothAccepted Q → SameEquations (Q .first) (Q .second) → NoneWide (Q .first) → NoneWide (Q .second) → CommonStated Q []

@@ -5,3 +5,4 @@ pub mod Statements
 pub mod Contract
 pub mod Uncoupled
 pub mod Instance
+pub mod Cases

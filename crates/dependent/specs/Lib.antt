@@ -7,3 +7,4 @@ pub mod Attached
 pub mod Stated
 pub mod Uncoupled
 pub mod Example
+pub mod Cases

@@ -1,5 +1,5 @@
 -- Document 01's whole file by its lower half: no theorem on an accepted half is empty.
---   file-half-long — the half is long enough
+--   file-half-long — the half, of 528 numbers, is long enough
 --   file-half-accepted — what is said of the filled-out matrix: nothing
 --   file-half-rounded — and it is a rounded exact proposal
 use mathlib.Core.Path.{_≡_, refl, sym, _∙_}

@@ -1,4 +1,5 @@
 -- What a check by halves promises, from its contract.
+--   own-matrix — an input with its own matrix list again is that input: `withMatrix` puts another list in the place of the matrix and of nothing else
 --   half-stated — each refusal, and acceptance, is said exactly in its stated case
 --   half-8 — 8 exactly where the half or another list is too short;  half-3 — n out of range is 3, whatever the half holds
 --   half-encloses, half-accepts — both halves of demand 3, for the filled-out matrix
@@ -32,6 +33,9 @@ use Rattle.lower_half.specs.Half.{halfCount, shortHalf}
 use Rattle.lower_half.proofs.Filling.{filled-same}
 use Rattle.half.specs.Checked.{withMatrix, filledInput, CheckedHalf}
 use Rattle.half.specs.Stated.{HalfStated, half-too-short, as-stated}
+
+pub own-matrix : (H : Input) → withMatrix H (H .matrix) ≡ H
+own-matrix H = refl
 
 -- whether the half is too short
 data Length (H : Input) : Type 0 where
