@@ -2,7 +2,7 @@
  *
  * Each answers every input: numbers, bytes and lengths may be anything. What C's types cannot say is the caller's part: no pointer is null; a pointer
  * with a length after it leads to as many numbers or bytes as that length says, and any other to as many as its comment says; nothing that is written
- * (a pointer without const) overlaps anything else of the same call. Calls keep no state, take at most 96 kilobytes of
+ * (a pointer without const) overlaps anything else of the same call. Calls keep no state, take at most 112 kilobytes of
  * stack and no other memory, and may run at the same time.
  *
  * Each gives the papers' number of the first refusal, 0 where nothing is refused. One that has `places` writes them in any case: the row, column,
@@ -271,6 +271,24 @@ uint32_t kodarfi_common(uint32_t n1, uint32_t s1, uint32_t t1,
                         int64_t *high, size_t high_len,
                         uint32_t *proposal,
                         uint64_t places[2]);
+
+/* A file written anew for offices on the old edition, which can read only what document 01 describes (document 02, Paper 14).
+ *
+ * The answer is 0 where every line of the file is accepted, its end among them, all tolerances are 0 and the new file fits: then the first *written bytes of out are
+ * the new file (problem, scale, rows, right sides, guesses, inverse rows and all n weights, each kind by rising i, then end, each line with its line feed), and the
+ * others are as before. No new file has more than 21,300 bytes. It is accepted by document 01's rules, gives the same listing as the file, and is its own new file.
+ * Else the answer is the number of the refusal, and out and *written are as before:
+ *
+ *   1 to 4, 11, 12, 14   of the first line that is refused     places: 0, 0
+ *   13                   forms are missing at the end                  how many, 0
+ *   15                   the file stops before an end                  0, 0
+ *   22                   a tolerance is above 0, or out is shorter
+ *                        than the new file                             0, 0
+ */
+uint32_t kodarfi_convert(const uint8_t *file, size_t file_len,
+                         uint8_t *out, size_t out_len,
+                         size_t *written,
+                         uint64_t places[2]);
 
 #ifdef __cplusplus
 }

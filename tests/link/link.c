@@ -1,7 +1,7 @@
 /* The library linked from C, each of its calls beside what the second implementation says.
  *
  *   link FOLDER [--first]   what the emitters wrote: FOLDER/nets.txt, files.bin, entries.txt, weights.txt, builds.txt, doubles.txt, halves.txt, pairs.txt,
- *                           common.txt;
+ *                           common.txt, conversions.bin;
  *                           with --first it stops at the first test that fails
  *
  * The last line is 'N passed, M failed'. */
@@ -61,6 +61,7 @@ int main(int argc, char **argv) {
     run(test_halves, argv[1], "halves.txt");
     run(test_dependent, argv[1], "pairs.txt");
     run(test_common, argv[1], "common.txt");
+    run(test_conversions, argv[1], "conversions.bin");
     run(test_files, argv[1], "files.bin");
     run(test_lists, argv[1], "nets.txt");
     return close_count();

@@ -2,13 +2,14 @@
 //! builder, the calls with doubles, the check of two nets and the common intervals beside versions in Rust.
 //!
 //!   link FOLDER [--first]   what the emitters wrote: FOLDER/nets.txt, files.bin, entries.txt, weights.txt, builds.txt, doubles.txt, halves.txt, pairs.txt,
-//!                           common.txt;
+//!                           common.txt, conversions.bin;
 //!                           with --first it stops at the first test that fails
 //!
 //! The last line is 'N passed, M failed'.
 
 mod builds;
 mod common;
+mod conversions;
 mod count;
 mod damage;
 mod dependent;
@@ -57,6 +58,7 @@ fn main() {
     test_halves::test_halves(&mut count, &lists::read_halves(&text_of(folder, "halves.txt")));
     test_dependent::test_dependent(&mut count, &dependent::read_pairs(&text_of(folder, "pairs.txt")));
     test_common::test_common(&mut count, &common::read_pairs(&text_of(folder, "common.txt")));
+    conversions::test_conversions(&mut count, &bytes_of(folder, "conversions.bin"));
     files::test_files(&mut count, &bytes_of(folder, "files.bin"));
     test_lists::test_lists(&mut count, &lists::read_nets(&text_of(folder, "nets.txt")));
     count.close()

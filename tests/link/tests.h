@@ -38,4 +38,7 @@ void test_dependent(FILE *pairs);
 /* kodarfi_common on the pairs of tests/emit_common.py. */
 void test_common(FILE *pairs);
 
+/* kodarfi_convert on the conversions of tests/emit_conversions.py. */
+void test_conversions(FILE *conversions);
+
 #endif

@@ -148,6 +148,20 @@
     X(writes_with_20)             \
     X(writes_all_ends)            \
     X(common_places_left)         \
+    /* kodarfi_convert */         \
+    X(writes_before_22)           \
+    X(writes_on_line_refused)     \
+    X(writes_past_room)           \
+    X(just_as_long_refused)       \
+    X(last_feed_missing)          \
+    X(length_of_buffer)           \
+    X(convert_rest_cleared)       \
+    X(new_file_ended_by_zero)     \
+    X(refused_conversion_counts)  \
+    X(convert_places_left)        \
+    X(line_in_places)             \
+    X(count_of_13_lost)           \
+    X(said_3_for_22)              \
     /* kodarfi_listing: file */   \
     X(first_4096_bytes)           \
     X(last_line_needs_feed)       \

@@ -30,6 +30,7 @@ use weight_reply::tried_or;
 use weight_search::find_weights;
 
 mod half_matrix;
+mod old_files;
 mod two_nets;
 mod two_proposals;
 mod with_doubles;

@@ -5,6 +5,7 @@ ghost use mathlib.Core.List.{[], _∷_};
 ghost use Rattle.rules.specs.Refusal.{said};
 ghost use Rattle.checked.specs.Input.{input};
 ghost use Rattle.lent_lists.specs.Lists.{lists};
+ghost use Rattle.given_forms.specs.Progress.{ended};
 ghost use Rattle.loader_order.specs.Through.{CheckedThrough};
 ghost use Rattle.loader.specs.Taken.{fresh, after, TakenAs};
 ghost use Rattle.loader.specs.Decided.{saidIn, fits, refusedBy, DecidedIn, DecidedAs};
@@ -66,6 +67,21 @@ impl Loader {
         ensures { λ r. ⌜ r ≡ self .s ⌝ }
     {
         self.s
+    }
+
+    // t, once given.
+    pub fn inverse_scale(self) -> u32
+        ensures { λ r. ⌜ r ≡ self .t ⌝ }
+    {
+        self.t
+    }
+
+    // Whether an end was accepted.
+    pub fn has_ended(self) -> bool
+        ensures { λ r. ⌜ r ≡ ended (self .stage) ⌝ }
+    {
+        let stage = self.stage;
+        given_forms::is_ended(stage)
     }
 
     // What is said of a form: 11, 3 for i, 12, 3 for values, 4 and 13, in this order.

@@ -1,7 +1,7 @@
 use native.Mathlib.Omega.{arith}
 use lib.ListN.{length}
-use Rattle.register.specs.Step.{Filled}
-use Rattle.register.specs.declared.Input.the-variants.{Bytes}
+use Rattle.standard_input.specs.Step.{Filled}
+use Rattle.standard_input.specs.declared.Input.the-variants.{Bytes}
 use borrow.Author.Needs.{needs}
 use Rattle.register.proofs.main.Statement.{statement}
 use Rattle.register.proofs.main.Tie as tie

@@ -1,0 +1,49 @@
+use native.Mathlib.Omega.{arith}
+use Rattle.text.proofs.Wrote.{then, wider}
+use borrow.Author.Needs.{needs}
+use Rattle.conversion.proofs.put_row.Statement.{statement}
+use Rattle.conversion.proofs.put_row.Tie as tie
+
+put-bytes-requires : tie.Need-put-bytes-requires
+put-bytes-requires c κs = search needs
+
+put-natural-requires : tie.Need-put-natural-requires
+put-natural-requires c κs = search needs
+
+slice-aggregate-put-bytes : tie.Need-slice-aggregate-put-bytes
+slice-aggregate-put-bytes c = search needs
+
+put-bytes-requires-2 : tie.Need-put-bytes-requires-2
+put-bytes-requires-2 c κs = search needs
+
+put-integers-requires : tie.Need-put-integers-requires
+put-integers-requires c κs = search needs
+
+slice-aggregate-put-bytes-2 : tie.Need-slice-aggregate-put-bytes-2
+slice-aggregate-put-bytes-2 c = search needs
+
+put-bytes-requires-3 : tie.Need-put-bytes-requires-3
+put-bytes-requires-3 c κs = search needs
+
+same-length : tie.Need-same-length
+same-length c = search needs
+
+returns : tie.Need-returns
+returns c =
+    let s = c .before .before .before .before .before .before .before .before .before .before .before .before .before .before .before .before .before .before .before .before .before .before .before .before in
+    wider 707 (omega (arith, s .pre .0 .1 .0))
+    (then (then (then (then (wider 10 (s .pre .0 .0) (c .before .before .before .before .before .before .before .before .before .before .before .before .before .before .before .before .before .before .before .before .put-bytes .ensures)) (c .before .before .before .before .before .before .before .before .before .before .before .before .before .before .before .before .put-natural .ensures)) (c .before .before .before .before .before .before .before .before .before .before .before .put-bytes2 .ensures)) (c .before .before .before .before .before .before .before .put-integers .ensures)) (c .before .before .put-bytes3 .ensures))
+
+pub put-row-spec : {M : Type 1} → statement M
+put-row-spec =
+    tie.close
+    (tie.spec
+    put-bytes-requires
+    put-natural-requires
+    slice-aggregate-put-bytes
+    put-bytes-requires-2
+    put-integers-requires
+    slice-aggregate-put-bytes-2
+    put-bytes-requires-3
+    same-length
+    returns)

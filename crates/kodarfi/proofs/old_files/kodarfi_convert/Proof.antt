@@ -1,0 +1,43 @@
+use Rattle.old_edition.specs.Converted.{saidConverted}
+use Rattle.kodarfi.proofs.Told.{told-alone}
+use borrow.Author.Needs.{needs}
+use Rattle.kodarfi.proofs.old_files.kodarfi_convert.Statement.{statement}
+use Rattle.kodarfi.proofs.old_files.kodarfi_convert.Tie as tie
+
+convert-requires : tie.Need-convert-requires
+convert-requires c κs = search needs
+
+length-or-requires : tie.Need-length-or-requires
+length-or-requires c κs = search needs
+
+converted-reply-requires : tie.Need-converted-reply-requires
+converted-reply-requires c κs = search needs
+
+tell-requires : tie.Need-tell-requires
+tell-requires c κs = search needs
+
+same-length : tie.Need-same-length
+same-length c = search needs
+
+returns : tie.Need-returns
+returns c =
+    let r = c .before .before in
+    let o = r .before in
+    let k = o .before .before .before .before in
+    record {
+      answer = k .convert .result;
+      converted = k .convert .ensures;
+      told = told-alone (saidConverted (k .convert .result)) (c .tell .ensures) (r .converted-reply .ensures);
+      written-is = o .length-or .ensures;
+    }
+
+pub kodarfi-convert-spec : {M : Type 1} → statement M
+kodarfi-convert-spec =
+    tie.close
+    (tie.spec
+    convert-requires
+    length-or-requires
+    converted-reply-requires
+    tell-requires
+    same-length
+    returns)

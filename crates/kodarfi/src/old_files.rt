@@ -1,0 +1,21 @@
+// Files for offices on the old edition (document 02, Paper 14).
+ghost use Rattle.kodarfi.specs.Conversion.{ConvertExported};
+use crate::tell;
+use conversion_reply::converted_reply;
+use conversion_reply::length_or;
+use converter::convert;
+
+// A file as one of the old edition: `converter::convert`.
+#[no_mangle]
+pub extern "C" fn kodarfi_convert(
+    file: &[u8],
+    out: &mut [u8],
+    written: &mut usize,
+    places: &mut [u64; 2],
+) -> u32
+    ensures { λ r. ⌜ ConvertExported (now (file .entry)) (now (out .entry)) (now (written .entry)) r (now (places .exit)) (now (out .exit)) (now (written .exit)) ⌝ }
+{
+    let converted = convert(file, out);
+    *written = length_or(converted, *written);
+    tell(converted_reply(converted), places)
+}

@@ -1,0 +1,13 @@
+pub mod Numbers
+pub mod Reached
+pub mod Taken
+pub mod Ends
+pub mod Values
+pub mod Same
+pub mod Size
+pub mod Equal
+pub mod Orders
+pub mod Stated
+pub mod Promises
+pub mod Example
+pub mod Text

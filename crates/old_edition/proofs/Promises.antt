@@ -1,0 +1,80 @@
+-- What 02's Paper 14 promises of a file that is converted: of every file and every room for which `convertAnswer` says nothing.
+--   complete, untolerant, fits — such a file is complete, its tolerances are 0, and there is room for the new file
+--   old-desk     — "Some offices can read only what 01 describes": the desk of 01 accepts every line of the new file, end among them
+--   equal-checks — "The old and new file lead to equal checks": what is said, every limit, and the listing
+--   again        — "Converting a converted file gives equal bytes": it is converted, and the new file is that file
+--   alike        — "two files with equal numbers give equal bytes": where one is converted, so is the other, if it is complete and has no tolerance
+--   new-fits     — the new file has at most 21,300 bytes, so there is always room for it in 32,768
+use mathlib.Core.Path.{_≡_, sym}
+use mathlib.Core.List.{List, []}
+use Prim.Native.Nat.{ℕ, _≤_, _<_}
+use lib.ListN.{length}
+use Rattle.rules.proofs.Verdicts.{nothing-is-not}
+use Rattle.enclosure.specs.Reckoning.{bound, inverseBound}
+use Rattle.checked.specs.Order.{checkedOf}
+use Rattle.listing.specs.Listing.{problemIn, Complete, answerOf, listingOf}
+use Rattle.old_edition.specs.Converted.{convertAnswer}
+use Rattle.old_edition.specs.Edition.{CompleteOld}
+use Rattle.old_edition.specs.File.{newFile}
+use Rattle.old_edition.specs.Numbers.{SameNumbers}
+use Rattle.old_edition.specs.Stated.{NoTolerance, ConvertStated, line-refused, not-ended, tolerance, too-small, written}
+use Rattle.old_edition.proofs.Equal.{new-complete, new-complete-old, new-size, equal-answer, equal-listing, equal-check, equal-bound, equal-inverse-bound}
+use Rattle.old_edition.proofs.Orders.{equal-bytes}
+use Rattle.old_edition.proofs.Same as same
+use Rattle.old_edition.proofs.Stated.{convert-stated, stated-said}
+use Rattle.old_edition.proofs.Values.{same-file, no-tolerance}
+
+-- ---- a file that is converted
+pub record Convertible (file : List ℕ) (room : ℕ) : Type 0 where
+  pub complete : Complete file
+  pub untolerant : NoTolerance (problemIn file)
+  pub fits : length (newFile file) ≤ room
+
+stated-nothing : {file : List ℕ} {room : ℕ} {w : List ℕ} → ConvertStated file room w → w ≡ [] → Convertible file room
+stated-nothing (line-refused k vs q) e = absurd (nothing-is-not e)
+stated-nothing (not-ended q d) e = absurd (nothing-is-not e)
+stated-nothing (tolerance c i l h) e = absurd (nothing-is-not e)
+stated-nothing (too-small c l) e = absurd (nothing-is-not e)
+stated-nothing (written c z l) e = record { complete = c; untolerant = z; fits = l }
+
+pub record EqualChecks (file other : List ℕ) : Type 0 where
+  pub check : checkedOf (problemIn other) ≡ checkedOf (problemIn file)
+  pub size : problemIn other .n ≡ problemIn file .n
+  pub bounds : (i : ℕ) → i < problemIn other .n → bound (problemIn other) i ≡ bound (problemIn file) i
+  pub inverse-bounds : (i j : ℕ) → i < problemIn other .n → j < problemIn other .n → inverseBound (problemIn other) i j ≡ inverseBound (problemIn file) i j
+  pub answer : answerOf other ≡ answerOf file
+  pub listing : listingOf other ≡ listingOf file
+
+module _ (file : List ℕ) (room : ℕ) (e : convertAnswer file room ≡ []) where
+  pub convertible : Convertible file room
+  convertible = stated-nothing (convert-stated file room) e
+
+  pub old-desk : CompleteOld (newFile file)
+  old-desk = new-complete-old file (convertible .complete)
+
+  pub new-fits : length (newFile file) ≤ 21300
+  new-fits = new-size file (convertible .complete)
+
+  pub equal-checks : EqualChecks file (newFile file)
+  equal-checks =
+      let c = convertible .complete in
+      let z = convertible .untolerant in
+      record {
+        check = equal-check file c z;
+        size = same-file (problemIn file) .size;
+        bounds = equal-bound file c z;
+        inverse-bounds = equal-inverse-bound file c z;
+        answer = equal-answer file c z;
+        listing = equal-listing file c z;
+      }
+
+  pub same-again : newFile (newFile file) ≡ newFile file
+  same-again = same.again (problemIn file)
+
+  pub again : convertAnswer (newFile file) room ≡ []
+  again = stated-said (newFile file) room (written (new-complete file (convertible .complete)) (no-tolerance (problemIn file)) (rw same-again (convertible .fits)))
+
+  pub alike : (other : List ℕ) → Complete other → NoTolerance (problemIn other) → SameNumbers (problemIn file) (problemIn other) → (convertAnswer other room ≡ []) × (newFile other ≡ newFile file)
+  alike other c z same =
+      let b = equal-bytes file other same in
+      (stated-said other room (written c z (rw (← b) (convertible .fits))), sym b)

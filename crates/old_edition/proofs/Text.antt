@@ -1,0 +1,61 @@
+-- What the program prints of a file.
+--   text-refused, text-complete — the line of a line's refusal; where every line is accepted, what the tests after it say, or the new file
+--   answer-numbers — the numbers of the refusal's line, from what is said and the number of the line
+--   first-bytes    — the first 65,536 bytes decide any file: the program may read into one buffer of that size
+--   never-too-small — for a complete file without tolerance the program prints the new file: its buffer of 32,768 bytes is long enough
+use mathlib.Core.Path.{_≡_, refl, sym, ap, _∙_}
+use mathlib.Core.List.{List, [], _∷_}
+use Prim.Native.Nat.{ℕ}
+use native.Mathlib.Omega.{arith}
+use lib.ListN.{take}
+use Rattle.rules.specs.Order.{verdict, accepted}
+use Rattle.line_runs.specs.Acceptable.{bytesMost}
+use Rattle.line_runs.specs.Run.{fromNew}
+use Rattle.line_runs.specs.Read.{Reading, zeros, readingOf}
+use Rattle.line_runs.proofs.FirstBytes.{Cut, whole, stopped}
+use Rattle.line_runs.proofs.FirstBytes as file
+use Rattle.refusal.specs.Refused.{printed, refusedOf}
+use Rattle.file_check.specs.Judged.{lineOr}
+use Rattle.listing.specs.Listing.{problemIn, Complete}
+use Rattle.old_edition.specs.Converted.{conversionOrder, convertAnswer, refusalNumbers, convertedText}
+use Rattle.old_edition.specs.File.{newFile}
+use Rattle.old_edition.specs.Stated.{NoTolerance}
+use Rattle.old_edition.proofs.Stated.{always-fits}
+
+module _ (file : List ℕ) where
+  pub answer-numbers : (room : ℕ) → refusalNumbers file room ≡ printed (accepted (readingOf file .said) 0 (readingOf file .line)) (convertAnswer file room)
+  unfolding convertAnswer
+  answer-numbers room = go (readingOf file .said) (readingOf file .line)
+    where
+      go : (w : List ℕ) (k : ℕ) → accepted (printed k w) (printed 0 (verdict (conversionOrder file room))) (printed k w) ≡ printed (accepted w 0 k) (accepted w (verdict (conversionOrder file room)) w)
+      go [] k = refl
+      go (n ∷ vs) k = refl
+
+  pub text-is : (w : List ℕ) → convertAnswer file 32768 ≡ w → convertedText file ≡ lineOr (printed (accepted (readingOf file .said) 0 (readingOf file .line)) w) (newFile file)
+  unfolding convertedText
+  text-is w e = rw (answer-numbers 32768, e)
+
+  pub text-refused : {k : ℕ} {vs : List ℕ} → readingOf file .said ≡ k ∷ vs → convertedText file ≡ refusedOf (printed (readingOf file .line) (k ∷ vs))
+  unfolding convertedText
+  text-refused e = rw e
+
+  pub never-too-small : Complete file → NoTolerance (problemIn file) → convertedText file ≡ newFile file
+  never-too-small c z = text-is [] (always-fits file 32768 c z (omega arith))
+
+-- a refusal decides the text
+refused-alike : (s t : List ℕ) → readingOf t ≡ readingOf s → (readingOf s .said ≡ [] → ⊥) → convertedText s ≡ convertedText t
+refused-alike s t e n = go (readingOf s .said) refl
+  where
+    go : (r : List ℕ) → readingOf s .said ≡ r → convertedText s ≡ convertedText t
+    go [] q = absurd (n q)
+    go (k ∷ vs) q =
+        text-refused s q
+        ∙ ap (λ (R : Reading). refusedOf (printed (R .line) (k ∷ vs))) (sym e)
+        ∙ sym (text-refused t (ap (λ (R : Reading). R .said) e ∙ q))
+
+pub first-bytes : (s : List ℕ) → convertedText s ≡ convertedText (take bytesMost s)
+first-bytes s = go (file.first-bytes zeros s)
+  where
+    go : Cut bytesMost 0 (fromNew zeros) s → convertedText s ≡ convertedText (take bytesMost s)
+    go (whole e) = ap convertedText (sym e)
+    go (stopped e n) = refused-alike s (take bytesMost s) e n

@@ -1,0 +1,6 @@
+pub mod File
+pub mod Numbers
+pub mod Converted
+pub mod Edition
+pub mod Stated
+pub mod Cases

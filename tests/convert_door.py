@@ -1,0 +1,113 @@
+"""./convert as an office uses it: what it prints, and its status.
+
+  python3 tests/convert_door.py              on the program that is built
+  python3 tests/convert_door.py --self-test  on a stand-in by the second implementation, right and then with each wrong version of the script, which must fail
+
+The last line is 'N passed, M failed'."""
+
+import subprocess
+import sys
+import tempfile
+from pathlib import Path
+
+ROOT = Path(__file__).resolve().parent.parent
+WHOLE = (ROOT / "examples/whole-file.txt").read_bytes()
+TOLERANCE = (ROOT / "examples/tolerance.txt").read_bytes()
+
+STAND_IN = f"""#!/usr/bin/env python3
+import sys
+sys.path.insert(0, {str(ROOT / "tests")!r})
+from second.converter import Converter, printed
+sys.stdout.buffer.write(printed(Converter().convert(sys.stdin.buffer.read())))
+"""
+
+# The script with one thing changed, by what is then wrong.
+WRONG = {
+    "refused with status 0": ("  converted=1\n", "  converted=0\n"),
+    "converted with status 1": ("  converted=0\n", "  converted=1\n"),
+    "any output taken": ("""if [[ $ended$said == '0(problem '*$'\\n(end)\\n' ]]; then""", "if true; then"),
+    "no such file taken for an empty one": ("""  [ -e "$file" ] || fail "$name: no such file"\n""", """  [ -e "$file" ] || exec </dev/null\n"""),
+    "two files taken": ("""[ ${#names[@]} -le 1 ] || misused "one file at a time"\n""", ""),
+    "an option taken for a name": ("""    no-?*) misused "there is no option $word" ;;\n""", ""),
+    "the last line feed lost": ("said=${said%.}\n", "said=${said%.}\nkept=$said\n", """printf '%s' "$said" 2>""", """printf '%s' "${said%$'\\n'}" 2>"""),
+    "help on standard error": ("no--help) help 2>/dev/null ||", "no--help) help >&2 ||"),
+    "a program that fails taken": ("""  fail "$name: ${said%$'\\n'}"\n""", "  converted=0\n"),
+}
+
+
+class Room:
+    """A folder with the script, a program and two files."""
+
+    def __init__(self, folder, program, change=()):
+        self.folder = Path(folder)
+        text = (ROOT / "convert").read_text()
+        for old, new in zip(change[::2], change[1::2]):
+            assert old in text, old
+            text = text.replace(old, new)
+        (self.folder / "convert").write_text(text)
+        (self.folder / "convert").chmod(0o755)
+        (self.folder / "crates").mkdir()
+        (self.folder / "crates.txt").write_text("")
+        (self.folder / "target/bin").mkdir(parents=True)
+        self.give(program)
+        (self.folder / "whole.txt").write_bytes(WHOLE)
+        (self.folder / "-tolerance").write_bytes(TOLERANCE)
+
+    def give(self, program):
+        path = self.folder / "target/bin/convert"
+        path.write_bytes(program)
+        path.chmod(0o755)
+
+    def run(self, *words, text=b""):
+        done = subprocess.run(["./convert", *words], cwd=self.folder, input=text, capture_output=True, timeout=60, check=False)
+        return done.returncode, done.stdout, done.stderr
+
+
+def failing(room):
+    """The program replaced by one that says that it could not read."""
+    right = (room.folder / "target/bin/convert").read_bytes()
+    room.give(b"#!/bin/sh\nprintf 'convert: the input could not be read\\n' >&2\n")
+    told = room.run("whole.txt")
+    room.give(right)
+    return told[0] == 2 and told[1] == b"" and told[2] == b"convert: whole.txt: the input could not be read\n"
+
+
+TESTS = {
+    "a file by its name": lambda room: room.run("whole.txt") == (0, WHOLE, b""),
+    "standard input": lambda room: room.run(text=WHOLE) == (0, WHOLE, b""),
+    "standard input as -": lambda room: room.run("-", text=WHOLE) == (0, WHOLE, b""),
+    "weights left out": lambda room: room.run(text=WHOLE.replace(b"(weight 1 1)\n(weight 2 1)\n", b"")) == (0, WHOLE, b""),
+    "a tolerance": lambda room: room.run("--", "-tolerance") == (1, b"(refused 22 (0))\n", b""),
+    "a refused line": lambda room: room.run(text=b"(problem 2)\n(row 1 (1 1))\n") == (1, b"(refused 11 (2))\n", b""),
+    "an empty input": lambda room: room.run(text=b"") == (1, b"(refused 15 (0))\n", b""),
+    "no such file": lambda room: room.run("none.txt") == (2, b"", b"convert: none.txt: no such file\n"),
+    "a folder": lambda room: room.run("crates") == (2, b"", b"convert: crates: a folder, not a file\n"),
+    "two files": lambda room: room.run("whole.txt", "whole.txt")[:2] == (2, b""),
+    "no such option": lambda room: room.run("-tolerance")[:2] == (2, b""),
+    "help": lambda room: room.run("--help")[:1] + (b"usage: convert [FILE]" in room.run("--help")[1],) == (0, True),
+    "a program that fails": failing,
+}
+
+
+def faults(program, change=()):
+    """The tests that do not hold."""
+    with tempfile.TemporaryDirectory() as folder:
+        room = Room(folder, program, change)
+        return [name for name, holds in TESTS.items() if not holds(room)]
+
+
+def main():
+    if sys.argv[1:] == ["--self-test"]:
+        failed = faults(STAND_IN.encode())
+        failed += [f"no test tells the version '{name}'" for name, change in WRONG.items() if not faults(STAND_IN.encode(), change)]
+        count = len(TESTS) + len(WRONG)
+    else:
+        failed, count = faults((ROOT / "target/bin/convert").read_bytes()), len(TESTS)
+    for fault in failed:
+        print("FAILED", fault)
+    print(f"{count - len(failed)} passed, {len(failed)} failed")
+    return int(bool(failed))
+
+
+if __name__ == "__main__":
+    sys.exit(main())
