@@ -1,10 +1,12 @@
-"""./convert as an office uses it: what it prints, and its status.
+"""./convert as an office uses it: what it prints, and its status; and the program by itself where its input is long or cannot be read, or its output takes nothing.
 
   python3 tests/convert_door.py              on the program that is built
-  python3 tests/convert_door.py --self-test  on a stand-in by the second implementation, right and then with each wrong version of the script, which must fail
+  python3 tests/convert_door.py --self-test  on a stand-in by the second implementation, right and then with each wrong version of the script or of the stand-in,
+                                             which must fail
 
 The last line is 'N passed, M failed'."""
 
+import os
 import subprocess
 import sys
 import tempfile
@@ -15,11 +17,29 @@ WHOLE = (ROOT / "examples/whole-file.txt").read_bytes()
 TOLERANCE = (ROOT / "examples/tolerance.txt").read_bytes()
 
 STAND_IN = f"""#!/usr/bin/env python3
+import os
 import sys
 sys.path.insert(0, {str(ROOT / "tests")!r})
 from second.converter import Converter, printed
-sys.stdout.buffer.write(printed(Converter().convert(sys.stdin.buffer.read())))
+try:
+    file = sys.stdin.buffer.read()
+except OSError:
+    os.write(2, b"convert: the input could not be read\\n")
+    sys.exit()
+try:
+    os.write(1, printed(Converter().convert(file)))
+except OSError:
+    os.write(2, b"convert: the file could not be written\\n")
 """
+
+# The stand-in with one thing changed: what no contract of the program knows.
+WRONG_PROGRAMS = {
+    "an input not read past the buffer": ("sys.stdin.buffer.read()", "sys.stdin.buffer.read(65536)"),
+    "nothing counted as read": ("convert(file)", "convert(b'')"),
+    "the new file on standard error": ("os.write(1,", "os.write(2,"),
+    "a failed read taken for the end": ("    os.write(2, b\"convert: the input could not be read\\n\")\n    sys.exit()\n", "    file = b''\n"),
+    "a failed write not told": ("    os.write(2, b\"convert: the file could not be written\\n\")\n", "    pass\n"),
+}
 
 # The script with one thing changed, by what is then wrong.
 WRONG = {
@@ -62,6 +82,35 @@ class Room:
         done = subprocess.run(["./convert", *words], cwd=self.folder, input=text, capture_output=True, timeout=60, check=False)
         return done.returncode, done.stdout, done.stderr
 
+    def alone(self, **options):
+        """The program by itself, without the script."""
+        return subprocess.run([str(self.folder / "target/bin/convert")], stderr=subprocess.PIPE, timeout=60, check=False, **options)
+
+
+def long_input(room):
+    """A file longer than what decides it and than a pipe holds: the pipe's writer, whom a closed end would end, ends by itself."""
+    with tempfile.TemporaryFile() as file:
+        file.write(WHOLE + b"x" * 4000000)
+        file.seek(0)
+        with subprocess.Popen(["cat"], stdin=file, stdout=subprocess.PIPE) as writer:
+            done = room.alone(stdin=writer.stdout, stdout=subprocess.PIPE)
+            writer.stdout.close()
+            return (done.stdout, writer.wait(timeout=60)) == (b"(refused 14 (14))\n", 0)
+
+
+def unread_input(room):
+    """Standard input that cannot be read, being open for writing."""
+    written = os.open(room.folder / "whole.txt", os.O_WRONLY)
+    done = room.alone(stdin=written, stdout=subprocess.PIPE)
+    os.close(written)
+    return (done.stdout, done.stderr) == (b"", b"convert: the input could not be read\n")
+
+
+def unwritten_output(room):
+    """Standard output that takes nothing."""
+    with open("/dev/full", "wb") as full:
+        return room.alone(input=WHOLE, stdout=full).stderr == b"convert: the file could not be written\n"
+
 
 def failing(room):
     """The program replaced by one that says that it could not read."""
@@ -86,6 +135,10 @@ TESTS = {
     "no such option": lambda room: room.run("-tolerance")[:2] == (2, b""),
     "help": lambda room: room.run("--help")[:1] + (b"usage: convert [FILE]" in room.run("--help")[1],) == (0, True),
     "a program that fails": failing,
+    "standard output of the program": lambda room: room.alone(input=WHOLE, stdout=subprocess.PIPE).stdout == WHOLE,
+    "a long input": long_input,
+    "an input that cannot be read": unread_input,
+    "an output that takes nothing": unwritten_output,
 }
 
 
@@ -100,7 +153,11 @@ def main():
     if sys.argv[1:] == ["--self-test"]:
         failed = faults(STAND_IN.encode())
         failed += [f"no test tells the version '{name}'" for name, change in WRONG.items() if not faults(STAND_IN.encode(), change)]
-        count = len(TESTS) + len(WRONG)
+        for name, (old, new) in WRONG_PROGRAMS.items():
+            assert old in STAND_IN, old
+            if not faults(STAND_IN.replace(old, new).encode()):
+                failed.append(f"no test tells the program '{name}'")
+        count = len(TESTS) + len(WRONG) + len(WRONG_PROGRAMS)
     else:
         failed, count = faults((ROOT / "target/bin/convert").read_bytes()), len(TESTS)
     for fault in failed:

@@ -4,6 +4,7 @@
 --   unbounded-refused, unbounded-converted, unbounded-new — a file whose check says 5 is converted
 --   tolerant-refused — a file with a tolerance is 22, whatever the room
 --   longest-in-range, longest-size — a problem in range whose file has 21,300 bytes: the bound of `old-size` is reached
+--   longest-converted, longest-too-small — that file is converted for a buffer of 21,300 bytes, and is 22 for one that is a byte shorter
 use mathlib.Core.Path.{_≡_, refl, ap, _∙_}
 use mathlib.Core.Bool.{true, false}
 use mathlib.Core.List.{List, [], _∷_}
@@ -44,7 +45,10 @@ use Rattle.old_edition.specs.Converted.{someTolerance, convertAnswer}
 use Rattle.old_edition.specs.File.{numbersAlong, rising, oldForms, oldFile, newFile}
 use Rattle.old_edition.specs.Numbers.{NumbersInRange}
 use Rattle.old_edition.specs.Stated.{tolerance, too-small, written}
-use Rattle.old_edition.proofs.Stated.{none-above, stated-said}
+use Rattle.old_edition.proofs.Ends.{file-complete}
+use Rattle.old_edition.proofs.Same.{again}
+use Rattle.old_edition.proofs.Stated.{none-above, stated-said, always-fits}
+use Rattle.old_edition.proofs.Values.{no-tolerance}
 
 -- the problem of a file whose lines spell forms
 problem-of : (file : List ℕ) (fs : List Form) → linesOf file ≡ spelled fs → problemIn file ≡ problemFrom fs
@@ -187,3 +191,12 @@ longest-in-range = record {
 pub longest-size : length (oldFile longest) ≡ 21300
 unfolding numbersAlong rising oldForms textOf digits decimal numeral numerals spell
 longest-size = refl
+
+longest-new : newFile (oldFile longest) ≡ oldFile longest
+longest-new = again longest
+
+pub longest-converted : convertAnswer (oldFile longest) 21300 ≡ []
+longest-converted = always-fits (oldFile longest) 21300 (file-complete longest longest-in-range) (no-tolerance longest) (lit≤ tt)
+
+pub longest-too-small : convertAnswer (oldFile longest) 21299 ≡ 22 ∷ []
+longest-too-small = stated-said (oldFile longest) 21299 (too-small (file-complete longest longest-in-range) (rw (longest-new, longest-size) (lit≤ tt)))

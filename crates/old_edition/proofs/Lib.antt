@@ -9,5 +9,7 @@ pub mod Equal
 pub mod Orders
 pub mod Stated
 pub mod Promises
+pub mod OldDesk
 pub mod Example
 pub mod Text
+pub mod Printed

@@ -1,28 +1,51 @@
 -- What 02's Paper 14 promises of a file that is converted: of every file and every room for which `convertAnswer` says nothing.
 --   complete, untolerant, fits — such a file is complete, its tolerances are 0, and there is room for the new file
 --   old-desk     — "Some offices can read only what 01 describes": the desk of 01 accepts every line of the new file, end among them
+--   new-count    — its forms are problem, scale and end, and 5n others
 --   equal-checks — "The old and new file lead to equal checks": what is said, every limit, and the listing
 --   again        — "Converting a converted file gives equal bytes": it is converted, and the new file is that file
 --   alike        — "two files with equal numbers give equal bytes": where one is converted, so is the other, if it is complete and has no tolerance
 --   new-fits     — the new file has at most 21,300 bytes, so there is always room for it in 32,768
-use mathlib.Core.Path.{_≡_, sym}
-use mathlib.Core.List.{List, []}
-use Prim.Native.Nat.{ℕ, _≤_, _<_}
+use mathlib.Core.Path.{_≡_, sym, ap, _∙_}
+use mathlib.Core.List.{List, [], _∷_}
+use Prim.Native.Nat.{ℕ, zero, suc, _+_, _*_, _≤_, _<_}
+use native.Mathlib.Nat.{suc-mul}
+use native.Mathlib.Omega.{arith}
 use lib.ListN.{length}
 use Rattle.rules.proofs.Verdicts.{nothing-is-not}
+use Rattle.enclosure.specs.Problem.{Problem}
 use Rattle.enclosure.specs.Reckoning.{bound, inverseBound}
 use Rattle.checked.specs.Order.{checkedOf}
+use Rattle.form.specs.Form.{Form, end}
+use Rattle.form_values.specs.declared.Part.{Part}
+use Rattle.form_values.specs.declared.Part.the-variants.{Row, Right, Guess, Inverse, Weight}
+use Rattle.line_runs.specs.Lines.{linesOf}
+use Rattle.line_runs.specs.Run.{forms}
 use Rattle.listing.specs.Listing.{problemIn, Complete, answerOf, listingOf}
 use Rattle.old_edition.specs.Converted.{convertAnswer}
 use Rattle.old_edition.specs.Edition.{CompleteOld}
-use Rattle.old_edition.specs.File.{newFile}
+use Rattle.old_edition.specs.File.{formFor, rising, partsThen, oldForms, newFile}
 use Rattle.old_edition.specs.Numbers.{SameNumbers}
 use Rattle.old_edition.specs.Stated.{NoTolerance, ConvertStated, line-refused, not-ended, tolerance, too-small, written}
 use Rattle.old_edition.proofs.Equal.{new-complete, new-complete-old, new-size, equal-answer, equal-listing, equal-check, equal-bound, equal-inverse-bound}
 use Rattle.old_edition.proofs.Orders.{equal-bytes}
 use Rattle.old_edition.proofs.Same as same
 use Rattle.old_edition.proofs.Stated.{convert-stated, stated-said}
-use Rattle.old_edition.proofs.Values.{same-file, no-tolerance}
+use Rattle.old_edition.proofs.Values.{forms-of, same-file, no-tolerance}
+
+-- ---- the forms of a problem
+rising-count : (f : ℕ → Form) (i c : ℕ) (rest : List Form) → length (rising f i c rest) ≡ c + length rest
+unfolding rising
+rising-count f i zero rest = omega arith
+rising-count f i (suc c) rest = omega (arith, rising-count f (suc i) c rest)
+
+parts-count : (P : Problem) (ps : List Part) (rest : List Form) → length (partsThen P ps rest) ≡ length ps * P .n + length rest
+parts-count P [] rest = omega arith
+parts-count P (p ∷ ps) rest = omega (arith, suc-mul (length ps) (P .n), rising-count (formFor P p) 0 (P .n) (partsThen P ps rest), parts-count P ps rest)
+
+forms-count : (P : Problem) → length (oldForms P) ≡ 5 * P .n + 3
+unfolding oldForms
+forms-count P = omega (arith, parts-count P (Row ∷ Right ∷ Guess ∷ Inverse ∷ Weight ∷ []) (end ∷ []))
 
 -- ---- a file that is converted
 pub record Convertible (file : List ℕ) (room : ℕ) : Type 0 where
@@ -51,6 +74,9 @@ module _ (file : List ℕ) (room : ℕ) (e : convertAnswer file room ≡ []) whe
 
   pub old-desk : CompleteOld (newFile file)
   old-desk = new-complete-old file (convertible .complete)
+
+  pub new-count : length (forms (linesOf (newFile file))) ≡ 5 * problemIn file .n + 3
+  new-count = ap length (forms-of (problemIn file)) ∙ forms-count (problemIn file)
 
   pub new-fits : length (newFile file) ≤ 21300
   new-fits = new-size file (convertible .complete)

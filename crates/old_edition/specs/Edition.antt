@@ -4,7 +4,7 @@
 --   isOld f       — the form f is one of 01's;  readingOld line — the form of 01 that the line is, if it is one
 --   caseOld d l line — which of the stated cases hold of a line at the loader d, with the lists l;  answerOld — what is said of the line
 --   loaderOld, listsOld, stepOld — what is left of it
---   readOld k u lines — the lines at the state u, after k others, up to the first refusal
+--   readOld k u lines — the lines at the state u, after k others, up to the first refusal;  readingOfOld file — those of a file, at a new desk
 --   CompleteOld file — every line is accepted, and the last is an end
 use mathlib.Core.Bool.{Bool, true, false, cond}
 use mathlib.Core.List.{List, [], _∷_}
@@ -77,6 +77,9 @@ readOld k u (line ∷ lines) =
     let said = answerOld (u .loader) (u .lists) line in
     accepted said (readOld (k + 1) (stepOld u line) lines) (record { said = said; line = k + 1; state = u })
 
+abbrev pub readingOfOld : List ℕ → Reading
+readingOfOld file = readOld 0 (fromNew zeros) (linesOf file)
+
 pub record CompleteOld (file : List ℕ) : Type 0 where
-  pub lines : readOld 0 (fromNew zeros) (linesOf file) .said ≡ []
-  pub end : ended (readOld 0 (fromNew zeros) (linesOf file) .state .loader .stage) ≡ true
+  pub lines : readingOfOld file .said ≡ []
+  pub end : ended (readingOfOld file .state .loader .stage) ≡ true
