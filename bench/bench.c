@@ -1,6 +1,6 @@
 /* Microseconds a net for the check on lists, at n = 8, 16 and 32.
  *
- *   bench FILE   reads accepted nets as tests/emit.py writes them
+ *   bench KIND=FILE..   accepted nets of each kind, as tests/emit.py writes them
  *
  * The versions run on the same nets in alternation in one process, each on lists of limits that were not cleared before. Time is processor
  * time. A version's time is the middle one of many rounds, and its ratio to another the middle one of the ratios within a round. */
@@ -8,6 +8,7 @@
 #include "timing.h"
 
 #include <stdlib.h>
+#include <string.h>
 
 enum { MOST_NETS = 1000, ROUNDS = 101 };
 
@@ -19,7 +20,7 @@ struct version {
 static const struct version VERSIONS[] = {
     {"naive", native_check_naive},
     {"quick", native_check_quick},
-    {"raised", native_check_raised},
+    {"sparse", native_check_sparse},
     {"proved", kodarfi_check},
 };
 
@@ -44,12 +45,12 @@ static uint32_t read_all(const char *path) {
 }
 
 /* Whether all versions give the outcome that stands beside every net. */
-static bool agree(uint32_t count) {
+static bool agree(const char *kind, uint32_t count) {
     for (uint32_t k = 0; k < count; k++) {
         for (uint32_t v = 0; v < COUNT; v++) {
             run_check(VERSIONS[v].check, &nets[k], &answers[v]);
             if (!same_outcome(&answers[v], &expected[k])) {
-                printf("net %u: '%s' differs\n", k, VERSIONS[v].name);
+                printf("%s, net %u: '%s' differs\n", kind, k, VERSIONS[v].name);
                 return false;
             }
         }
@@ -74,7 +75,7 @@ static double round_of(uint32_t v, uint32_t count, uint32_t n) {
     return used ? spent / used : 0;
 }
 
-static void measure(uint32_t count, uint32_t n) {
+static void measure(const char *kind, uint32_t count, uint32_t n) {
     static double times[COUNT][ROUNDS];
     double ratios[COUNT][COUNT];
     for (uint32_t round = 0; round < ROUNDS; round++) {
@@ -88,20 +89,24 @@ static void measure(uint32_t count, uint32_t n) {
         }
     }
     for (uint32_t v = 0; v < COUNT; v++) {
-        printf("n = %2u  %-6s %8.2f us a net", n, VERSIONS[v].name, middle_of(times[v], ROUNDS));
+        printf("%-6s  n = %2u  %-6s %8.2f us a net", kind, n, VERSIONS[v].name, middle_of(times[v], ROUNDS));
         for (uint32_t other = 0; other < v; other++) printf("  %5.2f of %s", ratios[v][other], VERSIONS[other].name);
         printf("\n");
     }
 }
 
 int main(int argc, char **argv) {
-    if (argc != 2) {
-        fprintf(stderr, "usage: bench FILE\n");
-        return 2;
-    }
-    const uint32_t count = read_all(argv[1]);
-    if (!agree(count)) return 1;
     printf("proved code %u bytes after a multiple of 64\n", (unsigned)((uintptr_t)library_place % 64));
-    for (uint32_t n = 8; n <= 32; n *= 2) measure(count, n);
+    for (int i = 1; i < argc; i++) {
+        char *const path = strchr(argv[i], '=');
+        if (!path) {
+            fprintf(stderr, "usage: bench KIND=FILE..\n");
+            return 2;
+        }
+        *path = 0;
+        const uint32_t count = read_all(path + 1);
+        if (!agree(argv[i], count)) return 1;
+        for (uint32_t n = 8; n <= 32; n *= 2) measure(argv[i], count, n);
+    }
     return 0;
 }

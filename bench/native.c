@@ -1,147 +1,8 @@
-/* Every number here fits 64 bits: |D| <= 2^20 + 2^45, the sum of |D| * w <= 2^60 + 2^35, the sum of |a| along a row <= 2^25,
- * |S * b - A * X| + S * d <= 2^61 + 2^50 + 2^40, and where that is at most 2^25 in every row, |p| and the slack with it <= 2^50. */
 #include "native.h"
 
-#include <stdbool.h>
-#include <string.h>
+#include "sparse.h"
 
-enum { MOST = 32, PLACES = MOST * MOST, RAISED = MOST * (MOST + 1) };
-
-#define LARGEST_RESIDUAL ((int64_t)1 << 25)
-
-/* A problem whose numbers are in their ranges. */
-struct system {
-    uint32_t n;
-    int64_t S, T;
-    const int64_t *A, *b, *d, *X, *G, *w;
-};
-
-/* out = diagonal * I - left * right, row after row. */
-typedef void defect_of(size_t n, int64_t diagonal, const int64_t *left, const int64_t *right, int64_t *out);
-
-/* Whether a residual of row k, of the guess or of a column of the inverse, is refused, by its size, its slack and the sum of |a| along its row. */
-typedef bool is_refused(const struct system *y, uint32_t k, bool of_guess, int64_t size, int64_t slack, int64_t sum);
-
-/* The limits of one column from its sizes |p_m|, the margins and the weights. */
-typedef void bounds_of_column(uint32_t n, const int64_t *w, const int64_t *p, const int64_t *g, uint64_t *bounds);
-
-static int64_t size_of(int64_t x) {
-    return x < 0 ? -x : x;
-}
-
-static bool all_within(const int64_t *numbers, uint32_t count, int64_t lowest, int64_t highest) {
-    for (uint32_t i = 0; i < count; i++) {
-        if (numbers[i] < lowest || numbers[i] > highest) return false;
-    }
-    return true;
-}
-
-/* 3: "A check on lists tests all ranges itself." */
-static bool is_in_range(uint32_t n, uint32_t s, uint32_t t, const struct system *y) {
-    const int64_t small = (int64_t)1 << 20, whole = (int64_t)1 << 30, large = (int64_t)1 << 36;
-    if (n < 1 || n > MOST || s > 20 || t > 20) return false;
-    return all_within(y->A, n * n, -small, small) && all_within(y->b, n, -whole, whole) && all_within(y->d, n, 0, small) &&
-           all_within(y->X, n, -large, large) && all_within(y->G, n * n, -small, small) && all_within(y->w, n, 1, 1024);
-}
-
-/* The sum over n terms of a number of a times one of x, which stand a stride apart. */
-static int64_t dot(size_t n, const int64_t *a, const int64_t *x, size_t stride) {
-    int64_t sum = 0;
-    for (size_t j = 0; j < n; j++, x += stride) sum += a[j] * *x;
-    return sum;
-}
-
-static void signed_defect(size_t n, int64_t diagonal, const int64_t *left, const int64_t *right, int64_t *out) {
-    for (size_t i = 0; i < n; i++) {
-        for (size_t j = 0; j < n; j++) *out++ = (i == j ? diagonal : 0) - dot(n, left + i * n, right + j, n);
-    }
-}
-
-/* n lines of n numbers raised by 2^25, each with its sum after it; sizes are at most 2^25. */
-static void raise_lines(size_t n, const int64_t *x, size_t step, size_t stride, uint64_t *out) {
-    for (size_t i = 0; i < n; i++, x += step, out += n + 1) {
-        uint64_t sum = 0;
-        for (size_t k = 0; k < n; k++) sum += out[k] = (uint64_t)(x[k * stride] + LARGEST_RESIDUAL);
-        out[n] = sum;
-    }
-}
-
-/* The same, by products of unsigned 32-bit numbers. */
-static void raised_defect(size_t n, int64_t diagonal, const int64_t *left, const int64_t *right, int64_t *out) {
-    uint64_t rows[RAISED], columns[RAISED];
-    raise_lines(n, left, n, 1, rows);
-    raise_lines(n, right, 1, n, columns);
-    for (size_t i = 0; i < n; i++) {
-        for (size_t j = 0; j < n; j++) {
-            const uint64_t *a = rows + i * (n + 1), *b = columns + j * (n + 1);
-            uint64_t sum = 0;
-            for (size_t k = 0; k < n; k++) sum += (a[k] & UINT32_MAX) * (b[k] & UINT32_MAX);
-            *out++ = (i == j ? diagonal : 0) - (int64_t)(sum + (n << 50)) + (int64_t)((a[n] + b[n]) << 25);
-        }
-    }
-}
-
-/* g_m = T * w_m - (sum over j of |D_mj| * w_j), D = T * I - G * A. Gives the lowest row with a margin of 0 or less, from 1, or 0. */
-static uint32_t failing_margin(const struct system *y, defect_of *defect, int64_t *g) {
-    int64_t D[PLACES];
-    uint32_t failing = 0;
-    defect(y->n, y->T, y->G, y->A, D);
-    for (uint32_t m = y->n; m-- > 0;) {
-        int64_t sum = 0;
-        for (uint32_t j = 0; j < y->n; j++) sum += size_of(D[m * y->n + j]) * y->w[j];
-        g[m] = y->T * y->w[m] - sum;
-        if (g[m] <= 0) failing = m + 1;
-    }
-    return failing;
-}
-
-/* 02, Paper 5: "size of residual plus slack is above 2^25"; Paper 9: "the residual of row m, without slack, may be at most the sum of |a| along that row". */
-static bool is_above(const struct system *y, uint32_t k, bool of_guess, int64_t size, int64_t slack, int64_t sum) {
-    (void)y, (void)k, (void)of_guess;
-    return size + slack > LARGEST_RESIDUAL || size > sum;
-}
-
-/* The sums of |a| along the rows. */
-static void sum_rows(const struct system *y, int64_t *sums) {
-    for (uint32_t k = 0; k < y->n; k++) {
-        sums[k] = 0;
-        for (uint32_t j = 0; j < y->n; j++) sums[k] += size_of(y->A[k * y->n + j]);
-    }
-}
-
-/* r = S * b - A * X, with the slack S * d. Gives the lowest row whose residual is refused, from 1, or 0. */
-static uint32_t failing_residual(const struct system *y, is_refused *refused, const int64_t *sums, int64_t *r) {
-    uint32_t failing = 0;
-    for (uint32_t k = y->n; k-- > 0;) {
-        r[k] = y->S * y->b[k] - dot(y->n, y->A + k * y->n, y->X, 1);
-        if (refused(y, k, true, size_of(r[k]), y->S * y->d[k], sums[k])) failing = k + 1;
-    }
-    return failing;
-}
-
-/* Adds to each size |p_m| the sum over j of |G_mj| * S * d_j, where some d_j is above 0. */
-static void add_slacks(const struct system *y, int64_t *p) {
-    if (all_within(y->d, y->n, 0, 0)) return;
-    for (uint32_t m = 0; m < y->n; m++) {
-        for (uint32_t j = 0; j < y->n; j++) p[m] += size_of(y->G[m * y->n + j]) * y->S * y->d[j];
-    }
-}
-
-/* R = T * I - A * G, column j in column j. Gives the lowest column, then its lowest row, whose residual is refused. */
-static bool failing_inverse(const struct system *y, defect_of *defect, is_refused *refused, const int64_t *sums, int64_t *R, uint64_t places[2]) {
-    defect(y->n, y->T, y->A, y->G, R);
-    for (uint32_t j = 0; j < y->n; j++) {
-        for (uint32_t k = 0; k < y->n; k++) {
-            if (refused(y, k, false, size_of(R[k * y->n + j]), 0, sums[k])) {
-                places[0] = j + 1;
-                places[1] = k + 1;
-                return true;
-            }
-        }
-    }
-    return false;
-}
-
+/* As document 01 states them. */
 static void naive_bounds(uint32_t n, const int64_t *w, const int64_t *p, const int64_t *g, uint64_t *bounds) {
     for (uint32_t i = 0; i < n; i++) {
         int64_t largest = 0;
@@ -153,70 +14,36 @@ static void naive_bounds(uint32_t n, const int64_t *w, const int64_t *p, const i
     }
 }
 
-/* The largest of the limits rounded up is the largest ratio rounded up: that row is found by quotients, then by remainders times the other margin. */
-static void quick_bounds(uint32_t n, const int64_t *w, const int64_t *p, const int64_t *g, uint64_t *bounds) {
-    uint32_t best = 0;
-    int64_t whole = p[0] / g[0], rest = p[0] % g[0];
-    for (uint32_t m = 1; m < n; m++) {
-        const int64_t next_whole = p[m] / g[m], next_rest = p[m] % g[m];
-        if (next_whole > whole || (next_whole == whole && next_rest * g[best] > rest * g[m])) {
-            best = m;
-            whole = next_whole;
-            rest = next_rest;
-        }
-    }
-    for (uint32_t i = 0; i < n; i++) bounds[i] = (uint64_t)((w[i] * p[best] + g[best] - 1) / g[best]);
-}
-
-/* "The limits of one column are worked out whole before any of them is written." */
-static void write_inverse(const struct system *y, const int64_t *R, const int64_t *g, defect_of *defect, bounds_of_column *bounds_of, uint64_t *bounds) {
-    int64_t P[PLACES], p[MOST];
-    uint64_t column[MOST];
-    defect(y->n, 0, y->G, R, P);
-    for (uint32_t j = 0; j < y->n; j++) {
-        for (uint32_t m = 0; m < y->n; m++) p[m] = size_of(P[m * y->n + j]);
-        bounds_of(y->n, y->w, p, g, column);
-        for (uint32_t i = 0; i < y->n; i++) bounds[i * y->n + j] = column[i];
-    }
-}
-
-/* "Order for a check: .. 5, 6, 7." */
-static uint32_t reckon(const struct system *y, defect_of *defect, is_refused *refused, bounds_of_column *bounds_of, uint64_t *solution_bounds,
-                       uint64_t *inverse_bounds, uint64_t places[2]) {
-    int64_t g[MOST], r[MOST], p[MOST], sums[MOST], R[PLACES];
+static uint32_t reckon_plainly(const struct system *y, bounds_of_column *bounds_of, uint64_t *solution_bounds, uint64_t *inverse_bounds, uint64_t places[2]) {
+    int64_t D[PLACES], R[PLACES], g[MOST], r[MOST], p[MOST], sums[MOST];
     uint64_t column[MOST];
     sum_rows(y, sums);
-    if ((places[0] = failing_margin(y, defect, g)) != 0) return 5;
-    if ((places[0] = failing_residual(y, refused, sums, r)) != 0) return 6;
-    if (failing_inverse(y, defect, refused, sums, R, places)) return 7;
+    difference(y->n, y->T, y->G, y->A, D);
+    if ((places[0] = failing_margin(y, D, g)) != 0) return 5;
+    if ((places[0] = failing_residual(y, is_above, sums, r)) != 0) return 6;
+    difference(y->n, y->T, y->A, y->G, R);
+    if (failing_inverse(y, is_above, sums, R, 1, y->n, places)) return 7;
     for (uint32_t m = 0; m < y->n; m++) p[m] = size_of(dot(y->n, y->G + m * y->n, r, 1));
     add_slacks(y, p);
     bounds_of(y->n, y->w, p, g, column);
     memcpy(solution_bounds, column, y->n * sizeof *column);
-    write_inverse(y, R, g, defect, bounds_of, inverse_bounds);
+    write_inverse(y, R, g, bounds_of, inverse_bounds);
     return 0;
 }
 
-/* The checks differ in `defect`, `refused` and `bounds_of` alone. */
-#define CHECK(name, defect, refused, bounds_of)                                                                                                   \
-    uint32_t name(uint32_t n, uint32_t s, uint32_t t, const int64_t *matrix, size_t matrix_len, const int64_t *right, size_t right_len,  \
-                  const int64_t *tolerance, size_t tolerance_len, const int64_t *guess, size_t guess_len, const int64_t *inverse,        \
-                  size_t inverse_len, const int64_t *weights, size_t weights_len, uint64_t *solution_bounds, size_t solution_bounds_len, \
-                  uint64_t *inverse_bounds, size_t inverse_bounds_len, uint64_t places[2]) {                                             \
-        const struct system y = {n, (int64_t)1 << (s & 31), (int64_t)1 << (t & 31), matrix, right, tolerance, guess, inverse, weights};  \
-        places[0] = places[1] = 0;                                                                                                       \
-        if (matrix_len < PLACES || inverse_len < PLACES || inverse_bounds_len < PLACES || right_len < MOST || tolerance_len < MOST ||    \
-            guess_len < MOST || weights_len < MOST || solution_bounds_len < MOST)                                                        \
-            return 8;                                                                                                                    \
-        if (!is_in_range(n, s, t, &y)) return 3;                                                                                         \
-        return reckon(&y, defect, refused, bounds_of, solution_bounds, inverse_bounds, places);                                                   \
-    }
+static uint32_t reckon_naive(const struct system *y, uint64_t *solution_bounds, uint64_t *inverse_bounds, uint64_t places[2]) {
+    return reckon_plainly(y, naive_bounds, solution_bounds, inverse_bounds, places);
+}
 
-/* tests/link/stand_in_check.c, which has another test of residuals, includes this file under other names. */
-#ifndef NATIVE
-#define NATIVE(version) native_check_##version
-#endif
+static uint32_t reckon_quick(const struct system *y, uint64_t *solution_bounds, uint64_t *inverse_bounds, uint64_t places[2]) {
+    return reckon_plainly(y, quick_bounds, solution_bounds, inverse_bounds, places);
+}
 
-CHECK(NATIVE(naive), signed_defect, is_above, naive_bounds)
-CHECK(NATIVE(quick), signed_defect, is_above, quick_bounds)
-CHECK(NATIVE(raised), raised_defect, is_above, quick_bounds)
+static uint32_t reckon_sparse(const struct system *y, uint64_t *solution_bounds, uint64_t *inverse_bounds, uint64_t places[2]) {
+    const bool is_mirrored = is_symmetric(y->n, y->A) && is_symmetric(y->n, y->G);
+    return sparse_reckon(y, is_above, is_mirrored, is_mirrored, sparse_bounds, solution_bounds, inverse_bounds, places);
+}
+
+CHECK(native_check_naive, reckon_naive)
+CHECK(native_check_quick, reckon_quick)
+CHECK(native_check_sparse, reckon_sparse)

@@ -47,10 +47,12 @@ WRONG_HERE = {
     "a term of the guess's residual": ("linear/src/lib.rt", "add_product(sum, a[at_a], x[at_x])", "add_product(sum, a[p + j * s], x[at_x])"),
     "a term of raised rows": ("raised_rows/src/lib.rt", "        at_b += 1;", "        at_b = q + (k + 1) * 1;"),
     "the start of a raised row": ("raised_rows/src/lib.rt", "        place += n + 1;", "        place = (i + 1) * (n + 1);"),
-    "a row of the defect": ("margins/src/lib.rt", "margin_of(t, rows, &columns, weights, n, m, row)", "margin_of(t, rows, &columns, weights, n, m, m * (n + 1))"),
-    "where a column's residuals begin": ("residuals/src/lib.rt", "&columns, n, j, start, column)", "&columns, n, j, j * n, column)"),
-    "a raised column of the inverse": ("residuals/src/lib.rt", "        column += n + 1;", "        column = (j + 1) * (n + 1);"),
-    "a row of p": ("bounds/src/lib.rt", "row_dot(rows, m, row, residuals, j, place, n)", "row_dot(rows, m, m * (n + 1), residuals, j, place, n)"),
+    "a row of the defect": ("margins/src/lib.rt", "margin_of(t, defects, weights, n, m, row)", "margin_of(t, defects, weights, n, m, m * n)"),
+    "a row of the matrix": ("differences/src/lib.rt", "store_row(&mut out, t, m, xs, start, stride, rows, n)", "store_row(&mut out, t, m, xs, m * step, stride, rows, n)"),
+    "a raised row of the inverse": ("differences/src/lib.rt", "        row += n + 1;", "        row = (k + 1) * (n + 1);"),
+    "a place across the diagonal": ("symmetry/src/lib.rt", "        down += n;", "        down = (j + 1) * n + i;"),
+    "a row of p": ("bounds/src/lib.rt", "out[m] = magnitude(row_dot(rows, m, row, residuals, j, place, n))", "out[m] = magnitude(row_dot(rows, m, m * (n + 1), residuals, j, place, n))"),
+    "a size across the columns": ("bounds/src/lib.rt", "        across += n;", "        across = (m + 1) * n + j;"),
     "where a limit is written": ("bounds/src/lib.rt", "        dst[place] = column[i];", "        dst[start + i * stride] = column[i];"),
 }
 

@@ -1,6 +1,6 @@
 /* Stands in for the proved check: by a version in C, right or wrong in one of the ways. */
-#define NATIVE(version) stand_in_##version
-#include "../../bench/native.c"
+#include "kodarfi.h"
+#include "sparse.h"
 #include "ways.h"
 
 static uint64_t scratch[1024];
@@ -38,7 +38,60 @@ static bool is_above_somehow(const struct system *y, uint32_t k, bool of_guess, 
     return is_above(y, k, of_guess, size, slack, sum);
 }
 
-CHECK(check_somehow, signed_defect, is_above_somehow, quick_bounds)
+/* Whether a list is symmetric, or as a wrong version compares it. */
+static bool is_symmetric_somehow(uint32_t n, const int64_t *x) {
+    for (uint32_t i = 0; i < n; i++) {
+        for (uint32_t j = 0; j < i; j++) {
+            if (is_wrong(last_row_not_compared) && i == n - 1) continue;
+            if (is_wrong(last_of_row_not_compared) && j == i - 1) continue;
+            if (x[i * n + j] != x[j * n + i]) return false;
+        }
+    }
+    return true;
+}
+
+/* Whether D is read from the residuals of the inverse, or half of p across its columns. */
+static bool is_mirrored(const struct system *y, bool of_p) {
+    const bool of_matrix = is_symmetric_somehow(y->n, y->A), of_inverse = is_symmetric_somehow(y->n, y->G);
+    if (is_wrong(symmetry_taken_for_granted)) return true;
+    if (is_wrong(matrix_compared_alone) || is_wrong(of_p ? half_of_p_by_matrix : defect_by_matrix)) return of_matrix;
+    if (is_wrong(inverse_compared_alone) || is_wrong(of_p ? half_of_p_by_inverse : defect_by_inverse)) return of_inverse;
+    return of_matrix && of_inverse;
+}
+
+/* The limits of a column by products that may wrap, whatever the sizes. */
+static void wrapping_bounds(uint32_t n, const int64_t *w, const int64_t *p, const int64_t *g, uint64_t *bounds) {
+    uint32_t best = 0;
+    for (uint32_t m = 1; m < n; m++) {
+        if ((uint64_t)p[best] * (uint64_t)g[m] < (uint64_t)p[m] * (uint64_t)g[best]) best = m;
+    }
+    bounds_by_row(n, w, p[best], g[best], bounds);
+}
+
+/* The limits of a column, right or as a wrong version has them. */
+static void bounds_somehow(uint32_t n, const int64_t *w, const int64_t *p, const int64_t *g, const int64_t *caps, uint64_t *bounds) {
+    int64_t seen[MOST];
+    for (uint32_t m = 0; m < n; m++) {
+        seen[m] = caps[m];
+        if (is_wrong(flat_by_first_weight)) seen[m] = g[m] / w[0];
+        if (is_wrong(flat_by_last_row) && m + 1 < n) seen[m] = p[m];
+    }
+    if (is_wrong(products_wrap)) {
+        wrapping_bounds(n, w, p, g, bounds);
+    } else {
+        sparse_bounds(n, w, p, g, seen, bounds);
+    }
+    for (uint32_t i = 0; i < n; i++) {
+        if (is_wrong(one_for_zeros) && bounds[i] == 0) bounds[i] = 1;
+        if (is_wrong(zero_by_last_size) && p[n - 1] == 0) bounds[i] = 0;
+    }
+}
+
+static uint32_t reckon_somehow(const struct system *y, uint64_t *solution_bounds, uint64_t *inverse_bounds, uint64_t places[2]) {
+    return sparse_reckon(y, is_above_somehow, is_mirrored(y, false), is_mirrored(y, true), bounds_somehow, solution_bounds, inverse_bounds, places);
+}
+
+CHECK(check_somehow, reckon_somehow)
 
 uint32_t kodarfi_check(uint32_t n, uint32_t s, uint32_t t, const int64_t *matrix, size_t matrix_len, const int64_t *right, size_t right_len,
                        const int64_t *tolerance, size_t tolerance_len, const int64_t *guess, size_t guess_len, const int64_t *inverse,

@@ -1,6 +1,6 @@
 /* Stands in for the proved check of a net and one hung from it: by a version in C, right or wrong in one of the ways. */
-#define NATIVE(version) dependent_##version
-#include "../../bench/native.c"
+#include "kodarfi.h"
+#include "reckoning.h"
 #include "ways.h"
 
 /* A hung net: its system, and what it takes over from the main net. */
@@ -64,17 +64,19 @@ static bool is_above_2_25(const struct system *y, uint32_t k, bool of_guess, int
 
 /* "then the hung net in the usual order" */
 static uint32_t reckon_hung(const struct hung *h, uint64_t *solution_bounds, uint64_t *inverse_bounds, uint64_t places[2]) {
-    int64_t g[MOST], r[MOST], slack[MOST], p[MOST], sums[MOST], R[PLACES];
+    int64_t g[MOST], r[MOST], slack[MOST], p[MOST], sums[MOST], D[PLACES], R[PLACES];
     sum_rows(&h->y, sums);
-    if ((places[0] = failing_margin(&h->y, signed_defect, g)) != 0) return 5;
+    difference(h->n2, h->y.T, h->y.G, h->y.A, D);
+    if ((places[0] = failing_margin(&h->y, D, g)) != 0) return 5;
     if ((places[0] = failing_hung(h, sums, r, slack)) != 0) return 6;
-    if (failing_inverse(&h->y, signed_defect, is_wrong(hung_columns_without_row_sums) ? is_above_2_25 : is_above, sums, R, places)) return 7;
+    difference(h->n2, h->y.T, h->y.A, h->y.G, R);
+    if (failing_inverse(&h->y, is_wrong(hung_columns_without_row_sums) ? is_above_2_25 : is_above, sums, R, 1, h->n2, places)) return 7;
     for (uint32_t m = 0; m < h->n2; m++) {
         p[m] = size_of(dot(h->n2, h->y.G + m * h->n2, r, 1));
         for (uint32_t j = 0; j < h->n2; j++) p[m] += size_of(h->y.G[m * h->n2 + j]) * slack[j];
     }
     quick_bounds(h->n2, h->y.w, p, g, solution_bounds);
-    write_inverse(&h->y, R, g, signed_defect, quick_bounds, inverse_bounds);
+    write_inverse(&h->y, R, g, quick_bounds, inverse_bounds);
     return 0;
 }
 

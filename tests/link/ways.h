@@ -29,6 +29,20 @@
     X(old_test_dropped)           \
     X(sum_for_guess_alone)        \
     X(sum_for_columns_alone)      \
+    X(symmetry_taken_for_granted) \
+    X(matrix_compared_alone)      \
+    X(inverse_compared_alone)     \
+    X(defect_by_matrix)           \
+    X(defect_by_inverse)          \
+    X(half_of_p_by_matrix)        \
+    X(half_of_p_by_inverse)       \
+    X(last_row_not_compared)      \
+    X(last_of_row_not_compared)   \
+    X(flat_by_first_weight)       \
+    X(flat_by_last_row)           \
+    X(one_for_zeros)              \
+    X(zero_by_last_size)          \
+    X(products_wrap)              \
     /* kodarfi_entry */           \
     X(refused_entry_written)      \
     X(refused_bound_written)      \

@@ -1,5 +1,5 @@
 -- The limits of a column.
---   image-size   — the code's sizes are at most 2^55 whatever is raised
+--   image-is     — the code's sizes are those of G·r;  image-size — they are at most 2^55 whatever is raised
 --   plain-sizes, slack-sizes — the code's sizes are the definition's, without slack and with it
 --   sized        — they are at most 2^50
 --   slack-near, near-reach, columns-near — slacks and residuals that are near are small; residuals of columns are near
@@ -30,7 +30,7 @@ use Rattle.ratios.specs.Ratio.{Sized}
 use Rattle.bounds.specs.Limits.{inversePart, Near}
 
 module _ (n : ℕ) {rows residuals : List ℕ} {place : ℕ} {r : Vec} (h : RaisedRows rows n) (s : RowOf residuals place n r) where
-  image-is : (m : ℕ) → m < n → natAbs (rowDot rows (m * (n + 1)) residuals place n) ≡ natAbs (apply n (loweredRows rows n) r m)
+  pub image-is : (m : ℕ) → m < n → natAbs (rowDot rows (m * (n + 1)) residuals place n) ≡ natAbs (apply n (loweredRows rows n) r m)
   unfolding apply
   image-is m l = ap natAbs (row-dot-shows n (rows-themselves h .each m l) s)
 

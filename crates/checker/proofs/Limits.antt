@@ -2,7 +2,7 @@
 --   solution-limit — from the residuals of the guess and the slacks;  inverse-limit — from the residuals of a column of the inverse
 use mathlib.Core.Path.{_≡_, refl, sym, _∙_}
 use mathlib.Core.List.{List}
-use Prim.Native.Nat.{ℕ, _+_, _*_, _-_, _/_, _%_, _<_}
+use Prim.Native.Nat.{ℕ, _+_, _*_, _-_, _<_}
 use native.Mathlib.Omega.{arith}
 use lib.IntN.{ℤ, pos, natAbs}
 use lib.ListN.{getD}
@@ -14,18 +14,18 @@ use Rattle.enclosure.specs.Reckoning.{defect, load, margin, residual, slack, si
 use Rattle.enclosure.proofs.Bounds.{bound-ext}
 use Rattle.enclosure.proofs.Margin.{margin-cut}
 use Rattle.reckoning.specs.Arrays.{Begins}
-use Rattle.reckoning.specs.Parts.{rowsPart, columnResidual, cutMargin}
+use Rattle.reckoning.specs.Parts.{cutMargin}
 use Rattle.bounds.specs.Limits.{inversePart, limitsOf}
 use Rattle.ratios.specs.Ratio.{Positive}
 use Rattle.checker.specs.Work.{Work, workProblem, workResidual, workSlack}
-use Rattle.checker.proofs.Rows.{margin-is, sizes-are}
+use Rattle.checker.proofs.Rows.{workColumn, sizes-are}
 
 module _ (W : Work) {rows : List ℕ} (raised : RowsOfMatrix rows (W .n) (W .inverse)) (margins : List ℕ)
-    (hm : Begins 0 margins (W .n) (cutMargin (rowsPart (W .n) (W .t) (W .matrix) rows (W .weights)))) (pm : Positive margins (W .n)) where
+    (hm : Begins 0 margins (W .n) (cutMargin (workProblem W))) (pm : Positive margins (W .n)) where
   -- a margin that is above 0 is the signed margin's size
   margin-here : (m : ℕ) → m < W .n → getD margins m 0 ≡ natAbs (margin (workProblem W) m)
   margin-here m l =
-      let e : getD margins m 0 ≡ T (workProblem W) * workProblem W .w m - load (workProblem W) m = hm .each m l ∙ margin-is W raised m l in
+      let e : getD margins m 0 ≡ T (workProblem W) * workProblem W .w m - load (workProblem W) m = hm .each m l in
       e ∙ sym (margin-cut (workProblem W) m (omega (arith, pm .above m l)))
 
   pub solution-limit : (residuals : List ℤ) → Begins (pos 0) residuals (W .n) (workResidual W) → (i : ℕ) →
@@ -36,7 +36,7 @@ module _ (W : Work) {rows : List ℕ} (raised : RowsOfMatrix rows (W .n) (W .inv
       (λ (m : ℕ). natAbs (margin (workProblem W) m)) (λ (k : ℕ). natAbs (at (W .weights) k)) i
       (λ m l. sizes-are W raised (at residuals) (workResidual W) (workSlack W) (workSlack W) m l (h .each) (λ k lk. refl)) margin-here
 
-  pub inverse-limit : (columns : List ℤ) → Begins (pos 0) columns (W .n * W .n) (λ (k : ℕ). columnResidual (W .n) (W .t) (W .matrix) (W .inverse) (k / W .n) (k % W .n)) →
+  pub inverse-limit : (columns : List ℤ) → Begins (pos 0) columns (W .n * W .n) (workColumn W) →
       (i j : ℕ) → i < W .n → j < W .n →
       limitsOf (W .n) rows (λ (k : ℕ). at columns (j * W .n + k)) (λ (k : ℕ). 0) margins (W .weights) i ≡ inverseBound (workProblem W) i j
   unfolding bound boundWith sizesWith margin load defect

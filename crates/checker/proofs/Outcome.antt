@@ -23,12 +23,13 @@ use Rattle.rules.specs.declared.Refusal.{Refusal}
 use Rattle.rules.proofs.Verdicts.{accepted-new, accepted-old}
 use Rattle.enclosure.specs.Reckoning.{allowedResidual, boundWith, inverseBound}
 use Rattle.reckoning.specs.Arrays.{Begins, stored, storedColumns}
-use Rattle.reckoning.specs.Parts.{rowsPart, columnResidual, cutMargin, aboveAllowed}
+use Rattle.reckoning.specs.Parts.{cutMargin, aboveAllowed}
 use Rattle.bounds.specs.Limits.{Near, limitsOf}
 use Rattle.ratios.specs.Ratio.{Positive}
 use Rattle.checked.specs.Order.{reckoned}
 use Rattle.checked.proofs.Contract.{NoPlace, accepted-places}
 use Rattle.checker.specs.Work.{Work, workProblem, workResidual, workSlack, workAnswer, Workable, ReckonedAs}
+use Rattle.checker.proofs.Rows.{workColumn}
 use Rattle.checker.proofs.Limits.{solution-limit, inverse-limit}
 use Rattle.checker.proofs.Places.{first-margin, first-residual, first-column, positive, near, near-columns}
 use Rattle.checker.proofs.Written.{written-stored, written-columns}
@@ -41,9 +42,9 @@ weighed x (suc w) c h = omega arith
 -- the arrays of the reckoning, the first refused row of each, and what is judged of them
 pub record Worked (W : Work) (rows margins : List ℕ) (residuals columns : List ℤ) (r : Outcome) : Type 0 where
   pub raised : RowsOfMatrix rows (W .n) (W .inverse)
-  pub hm : Begins 0 margins (W .n) (cutMargin (rowsPart (W .n) (W .t) (W .matrix) rows (W .weights)))
+  pub hm : Begins 0 margins (W .n) (cutMargin (workProblem W))
   pub hr : Begins (pos 0) residuals (W .n) (workResidual W)
-  pub hc : Begins (pos 0) columns (W .n * W .n) (λ (i : ℕ). columnResidual (W .n) (W .t) (W .matrix) (W .inverse) (i / W .n) (i % W .n))
+  pub hc : Begins (pos 0) columns (W .n * W .n) (workColumn W)
   pub m : ℕ
   pub k : ℕ
   pub i : ℕ
@@ -57,7 +58,7 @@ module _ (W : Work) (ready : Workable W) {rows margins : List ℕ} {residuals co
   said-is =
       a .er
       ∙ rw (
-        a .em ∙ first-margin W ready (a .raised) margins (a .hm),
+        a .em ∙ first-margin W ready margins (a .hm),
         a .ek ∙ first-residual W ready residuals (a .hr),
         a .ei ∙ first-column W ready columns (a .hc),
       )
@@ -72,7 +73,7 @@ module _ (W : Work) (ready : Workable W) {rows margins : List ℕ} {residuals co
     none = accepted-places (W .n) (a .m) (a .k) (a .i) (sym (a .er) ∙ ap said e)
 
     pub positive-here : Positive margins (W .n)
-    positive-here = positive W ready (a .raised) margins (a .hm) (omega (arith, none .margin, a .em))
+    positive-here = positive W ready margins (a .hm) (omega (arith, none .margin, a .em))
 
     pub weighed-here : (m : ℕ) → m < W .n → 0 < natAbs (at (W .weights) m)
     weighed-here m l = weighed _ _ _ (rw (a .hm .each m l) at (positive-here .above m l))

@@ -15,35 +15,33 @@ use Rattle.integer.specs.Finite.{first}
 use Rattle.integer.proofs.Search.{first-ext, first-past}
 use Rattle.linear.specs.Slice.{at}
 use Rattle.linear.specs.Reach.{ColumnList}
-use Rattle.raised_rows.specs.Place.{RowsOfMatrix}
 use Rattle.rules.proofs.Ranges.{neither-left}
 use Rattle.enclosure.specs.Problem.{T, columnOf}
 use Rattle.enclosure.specs.Reckoning.{load, marginFails, residual, allowedResidual, rowSum, exceeds}
 use Rattle.enclosure.proofs.Before.{no-slack}
 use Rattle.enclosure.proofs.Margin.{cut-test, margin-test}
 use Rattle.reckoning.specs.Arrays.{Begins}
-use Rattle.reckoning.specs.Parts.{rowsPart, columnResidual, cutMargin, aboveAllowed}
+use Rattle.reckoning.specs.Parts.{cutMargin, aboveAllowed}
 use Rattle.reckoning.proofs.Sizes.{power-size}
 use Rattle.slacks.proofs.Allowed.{allowed-test}
 use Rattle.bounds.specs.Limits.{Near}
 use Rattle.ratios.specs.Ratio.{Positive}
 use Rattle.checked.specs.Order.{firstMargin, firstInversePlace}
 use Rattle.checker.specs.Work.{Work, workProblem, workResidual, workSlack, Workable}
-use Rattle.checker.proofs.Rows.{margin-is}
+use Rattle.checker.proofs.Rows.{workColumn}
 
 module _ (W : Work) (ready : Workable W) where
   -- ---- margins
-  module _ {rows : List ℕ} (raised : RowsOfMatrix rows (W .n) (W .inverse)) (margins : List ℕ)
-      (h : Begins 0 margins (W .n) (cutMargin (rowsPart (W .n) (W .t) (W .matrix) rows (W .weights)))) where
+  module _ (margins : List ℕ) (h : Begins 0 margins (W .n) (cutMargin (workProblem W))) where
     pub first-margin : first (W .n) (λ (m : ℕ). eqb (getD margins m 0) 0) ≡ firstMargin (workProblem W)
     first-margin =
         first-ext (W .n) (λ (m : ℕ). eqb (getD margins m 0) 0) (marginFails (workProblem W))
-        (λ m l. rw (h .each m l, margin-is W raised m l) (cut-test (T (workProblem W) * workProblem W .w m) (load (workProblem W) m) ∙ sym (margin-test (workProblem W) m)))
+        (λ m l. rw (h .each m l) (cut-test (T (workProblem W) * workProblem W .w m) (load (workProblem W) m) ∙ sym (margin-test (workProblem W) m)))
 
     pub positive : W .n ≤ first (W .n) (λ (m : ℕ). eqb (getD margins m 0) 0) → Positive margins (W .n)
     positive past = record {
       above = λ m l. above (getD margins m 0) (first-past (W .n) (λ (m : ℕ). eqb (getD margins m 0) 0) past m l);
-      most = λ m l. rw (h .each m l, margin-is W raised m l)
+      most = λ m l. rw (h .each m l)
           (omega (arith, mul-le-mul (power-size (W .t) (ready .inverse-scale)) (ready .weights .within .size m l)));
     }
       where
@@ -68,7 +66,7 @@ module _ (W : Work) (ready : Workable W) where
     }
 
   -- ---- residuals of the columns
-  module _ (columns : List ℤ) (h : Begins (pos 0) columns (W .n * W .n) (λ (i : ℕ). columnResidual (W .n) (W .t) (W .matrix) (W .inverse) (i / W .n) (i % W .n))) where
+  module _ (columns : List ℤ) (h : Begins (pos 0) columns (W .n * W .n) (workColumn W)) where
     abbrev column-refused : ℕ → Bool
     column-refused i = aboveAllowed (at (W .allowedInColumns) (i % W .n)) (at columns i)
 

@@ -1,22 +1,27 @@
 -- The raised rows of the inverse stand for it.
 --   inverse-rows — they are what the reckoning asks
---   margin-is    — margins from the rows are the problem's
+--   margins-are  — margins of a problem without a guess are the problem's
+--   workColumn W — the residuals of the inverse, column after column;  columns-are — those from the rows are these
 --   sizes-are    — sizes from the rows, of residuals and slacks that agree on the first n, are the problem's
-use mathlib.Core.Path.{_≡_, refl, ap, _∙_}
-use mathlib.Core.List.{List}
-use Prim.Native.Nat.{ℕ, _+_, _*_, _-_, _<_, _^_}
-use lib.IntN.{ℤ, pos, natAbs}
+use mathlib.Core.Path.{_≡_}
+use mathlib.Core.List.{List, []}
+use Prim.Native.Nat.{ℕ, _+_, _*_, _/_, _%_, _<_}
+use lib.IntN.{ℤ, pos}
 use Rattle.linear.specs.Matrix.{Vec}
-use Rattle.linear.specs.Slice.{at, matrixOf}
+use Rattle.linear.specs.Slice.{matrixOf}
 use Rattle.linear.specs.Reach.{MatrixList}
 use Rattle.linear.proofs.Places.{place}
 use Rattle.linear.proofs.Slack.{slack-ext}
 use Rattle.raised_rows.specs.Raised.{loweredRows}
 use Rattle.raised_rows.specs.Place.{RowsOfMatrix}
-use Rattle.enclosure.specs.Reckoning.{defect, load, sizesWith}
-use Rattle.enclosure.proofs.Agreement.{load-same}
-use Rattle.reckoning.specs.Parts.{rowsPart, cutMargin}
+use Rattle.enclosure.specs.Problem.{columnOf, problemOf}
+use Rattle.enclosure.specs.Reckoning.{defect, load, residual, sizesWith}
+use Rattle.reckoning.specs.Arrays.{Begins}
+use Rattle.reckoning.specs.Parts.{rowsPart, columnResidual, cutMargin}
 use Rattle.reckoning.specs.Rows.{InverseRows}
+use Rattle.reckoning.proofs.Columns.{in-square}
+use Rattle.reckoning.proofs.Filled.{begins-as}
+use Rattle.differences.proofs.Product.{residual-of-rows}
 use Rattle.bounds.specs.Limits.{inversePart}
 use Rattle.checker.specs.Work.{Work, workProblem}
 
@@ -30,16 +35,21 @@ module _ (n : ℕ) (inverse : List ℤ) {rows : List ℕ} (h : RowsOfMatrix rows
     size = λ i k li lk. rw (stands-for i k li lk) (q .within .size (i * n + k) (place li lk));
   }
 
-module _ (W : Work) {rows : List ℕ} (h : RowsOfMatrix rows (W .n) (W .inverse)) where
-  load-is : (m : ℕ) → m < W .n → load (rowsPart (W .n) (W .t) (W .matrix) rows (W .weights)) m ≡ load (workProblem W) m
-  load-is m l =
-      load-same (W .n) 0 (W .t) (matrixOf (W .matrix) (W .n)) (matrixOf (W .matrix) (W .n)) (λ i. pos 0) (λ i. pos 0) (λ i. 0) (λ i. 0) (λ i. pos 0) (λ i. pos 0)
-      (loweredRows rows (W .n)) (matrixOf (W .inverse) (W .n)) (λ i. natAbs (at (W .weights) i)) (λ i. natAbs (at (W .weights) i))
-      (λ i j li lj. refl) (λ i li. refl) (λ i li. refl) (λ i li. refl) (stands-for (W .n) (W .inverse) h) (λ i li. refl) m l
-      ∙ unfold load defect in refl
+abbrev pub workColumn : Work → Vec
+workColumn W i = columnResidual (W .n) (W .t) (W .matrix) (W .inverse) (i / W .n) (i % W .n)
 
-  pub margin-is : (m : ℕ) → m < W .n → cutMargin (rowsPart (W .n) (W .t) (W .matrix) rows (W .weights)) m ≡ cutMargin (workProblem W) m
-  margin-is m l = ap (λ (x : ℕ). 2 ^ W .t * natAbs (at (W .weights) m) - x) (load-is m l)
+pub margins-are : (W : Work) {margins : List ℕ} → Begins 0 margins (W .n) (cutMargin (problemOf (W .n) 0 (W .t) (W .matrix) [] [] [] (W .inverse) (W .weights))) →
+    Begins 0 margins (W .n) (cutMargin (workProblem W))
+unfolding load defect
+margins-are W h = h
+
+module _ (W : Work) {rows : List ℕ} (h : RowsOfMatrix rows (W .n) (W .inverse)) where
+  pub columns-are : {columns : List ℤ} →
+      Begins (pos 0) columns (W .n * W .n) (λ (i : ℕ). residual (columnOf (rowsPart (W .n) (W .t) (W .matrix) rows []) (i / W .n)) (i % W .n)) →
+      Begins (pos 0) columns (W .n * W .n) (workColumn W)
+  columns-are =
+      begins-as (pos 0) (λ (i : ℕ). residual (columnOf (rowsPart (W .n) (W .t) (W .matrix) rows []) (i / W .n)) (i % W .n)) (workColumn W)
+      (λ i l. residual-of-rows (W .n) (W .t) (W .matrix) [] h (i / W .n) (i % W .n) (in-square (W .n) i l .0) (in-square (W .n) i l .1))
 
   pub sizes-are : (r r′ : Vec) (σ σ′ : ℕ → ℕ) (m : ℕ) → m < W .n → ((k : ℕ) → k < W .n → r k ≡ r′ k) → ((k : ℕ) → k < W .n → σ k ≡ σ′ k) →
       sizesWith (inversePart (W .n) rows) r σ m ≡ sizesWith (workProblem W) r′ σ′ m

@@ -9,6 +9,7 @@ use admission::judge;
 use bounds::column_bounds;
 use bounds::store;
 use bounds::store_columns;
+use differences::inverse_residuals_of;
 use margins::first_zero;
 use margins::margins_of;
 use raised_rows::ROWS_LENGTH;
@@ -16,7 +17,6 @@ use raised_rows::raise_rows;
 use ratios::caps_of;
 use residuals::first_above;
 use residuals::first_above_in_columns;
-use residuals::inverse_residuals_of;
 use residuals::residuals_of;
 use residuals::scaled_right;
 use row_sums::row_sums_of;
@@ -24,6 +24,7 @@ use rules::Outcome;
 use rules::Refusal;
 use slacks::allowed_of;
 use slacks::slacks_of;
+use symmetry::are_symmetric;
 
 // The reckoning of what passes 8 and 3, from a base of the residuals, what is allowed of them and of the inverse's columns, and their slacks: all refusals are
 // decided before the first limit is written.
@@ -49,9 +50,10 @@ pub fn reckon(
 {
     let mut rows = [0u64; ROWS_LENGTH];
     raise_rows(&mut rows, inverse, n);
-    let margins = margins_of(t, &rows, matrix, weights, n);
+    let columns = inverse_residuals_of(t, matrix, &rows, n);
+    let mirrored = are_symmetric(matrix, inverse, n);
+    let margins = margins_of(t, matrix, inverse, &columns, mirrored, weights, n);
     let residuals = residuals_of(base, matrix, guess, n);
-    let columns = inverse_residuals_of(t, matrix, inverse, n);
     let m = first_zero(margins, n);
     let k = first_above(&residuals, 0, &allowed, n);
     let i = first_above_in_columns(&columns, &allowed_in_columns, n);
@@ -62,7 +64,16 @@ pub fn reckon(
             let caps = caps_of(&margins, weights, n);
             let column = column_bounds(&rows, residuals, slacks, margins, caps, weights, n);
             store(solution_bounds, 0, 1, column, n);
-            store_columns(inverse_bounds, &rows, &columns, margins, caps, weights, n);
+            store_columns(
+                inverse_bounds,
+                &rows,
+                &columns,
+                mirrored,
+                margins,
+                caps,
+                weights,
+                n,
+            );
             Outcome::Accepted
         }
     }

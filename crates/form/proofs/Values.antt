@@ -1,11 +1,12 @@
 -- Laws of the numbers of a list.
+--   addNumber k l v, addAll k l zs — the numbers l, and v after them, or those of a list
 --   numbers-next — one number more, capped
 --   numbers-all  — the numbers that follow the first, one after another
 --   numbers-at   — the value at a place is the number there, capped
 use mathlib.Core.Path.{_≡_, refl, sym, ap, _∙_}
 use mathlib.Core.Bool.{Bool, true, false, _&&_}
 use mathlib.Core.List.{List, [], _∷_, _++_, append-assoc, append-nil}
-use Prim.Native.Nat.{ℕ, zero, suc, _<_}
+use Prim.Native.Nat.{ℕ, zero, suc, _+_, _<_}
 use native.Mathlib.Omega.{arith}
 use lib.IntN.{ℤ, pos}
 use lib.ListN.{length, getD, set, length-append}
@@ -15,7 +16,13 @@ use Rattle.rules.specs.Range.{inRange}
 use Rattle.rules.specs.declared.Kind.{Kind}
 use Rattle.form.specs.declared.Numbers.{Numbers}
 use Rattle.form.specs.List.{noNumbers, allInside, firstValues, numbersOf}
-use Rattle.form.specs.List.{addNumber}
+
+unfoldable pub addNumber : Kind → Numbers → ℤ → Numbers
+addNumber k l v = record { count = l .count + 1; inside = l .inside && inRange k v; values = set (l .values) (l .count) v }
+
+unfoldable pub addAll : Kind → Numbers → List ℤ → Numbers
+addAll k l [] = l
+addAll k l (z ∷ zs) = addAll k (addNumber k l (cap z)) zs
 
 both-assoc : (a b c : Bool) → (a && b) && c ≡ a && (b && c)
 both-assoc true b c = refl
@@ -40,11 +47,6 @@ values-next (suc n) (y ∷ zs) z = ap (λ (l : List ℤ). cap y ∷ l) (values-n
 pub numbers-next : (k : Kind) (zs : List ℤ) (z : ℤ) → addNumber k (numbersOf k zs) (cap z) ≡ numbersOf k (zs ++ (z ∷ []))
 unfolding addNumber numbersOf
 numbers-next k zs z = rw (values-next 32 zs z, cap-range k z, inside-next k zs z, length-append)
-
--- the numbers l and those of a list after them
-unfoldable pub addAll : Kind → Numbers → List ℤ → Numbers
-addAll k l [] = l
-addAll k l (z ∷ zs) = addAll k (addNumber k l (cap z)) zs
 
 all-next : (k : Kind) (ys zs : List ℤ) → addAll k (numbersOf k ys) zs ≡ numbersOf k (ys ++ zs)
 unfolding addAll

@@ -3,13 +3,12 @@
 --   allInside k zs  — all numbers are in the range of the kind k
 --   firstValues n zs — the first n of them, capped; 0 where there are fewer
 --   numbersOf k zs  — how many, whether all are in range, and the first 32, capped
---   addNumber k l v — the numbers l, and v after them
 --   listedAt k s at — the list at a place
 use mathlib.Core.Bool.{Bool, true, _&&_}
 use mathlib.Core.List.{List, [], _∷_}
-use Prim.Native.Nat.{ℕ, zero, suc, _+_}
+use Prim.Native.Nat.{ℕ, zero, suc}
 use lib.IntN.{ℤ, pos}
-use lib.ListN.{length, replicate, set}
+use lib.ListN.{length, replicate}
 use Rattle.numeral.specs.Numeral.{numberAt, cap}
 use Rattle.rules.specs.Range.{inRange}
 use Rattle.rules.specs.declared.Kind.{Kind}
@@ -31,9 +30,6 @@ firstValues (suc n) (z ∷ zs) = cap z ∷ firstValues n zs
 
 unfoldable pub numbersOf : Kind → List ℤ → Numbers
 numbersOf k zs = record { count = length zs; inside = allInside k zs; values = firstValues 32 zs }
-
-unfoldable pub addNumber : Kind → Numbers → ℤ → Numbers
-addNumber k l v = record { count = l .count + 1; inside = l .inside && inRange k v; values = set (l .values) (l .count) v }
 
 unfoldable pub listedAt : Kind → List ℕ → ℕ → Listed
 listedAt k s at =

@@ -1,10 +1,10 @@
 // The parts of a line at a place: a form's opening word, bytes, and a list of numbers. Each gives the place after it, past the end of
 // the line where it does not stand there.
 ghost use mathlib.Core.Path.{_≡_};
-ghost use Prim.Native.Nat.{_-_, _<_, _^_};
+ghost use Prim.Native.Nat.{_-_};
 ghost use lib.ListN.{drop, set};
 ghost use Rattle.form.specs.Reading.{starts, wordAt, orWord, headAt};
-ghost use Rattle.form.specs.List.{noNumbers, addNumber, listedAt};
+ghost use Rattle.form.specs.List.{noNumbers, listedAt};
 use rules::Kind;
 
 // The word that a form starts with.
@@ -117,47 +117,41 @@ pub fn no_numbers() -> Numbers
     }
 }
 
-// v at the place n, where there is such a place.
-fn stored(values: [i64; 32], n: usize, v: i64) -> [i64; 32]
-    ensures { λ r. ⌜ r ≡ set values n v ⌝ }
+// Stores v at the place n, where there is such a place.
+fn put(values: &mut [i64], n: usize, v: i64)
+    ensures { λ _. ⌜ now (values .exit) ≡ set (now (values .entry)) n v ⌝ }
 {
-    if n < 32 {
-        let mut next = values;
-        next[n] = v;
-        return next;
-    }
-    values
-}
-
-// One number more; past the 32nd it is only counted and tested.
-fn add_number(l: Numbers, kind: Kind, v: i64) -> Numbers
-    requires { ⌜ l .count < 2 ^ 63 ⌝ }
-    ensures { λ r. ⌜ r ≡ addNumber kind l v ⌝ }
-{
-    let values = l.values;
-    Numbers {
-        count: l.count + 1,
-        inside: l.inside & rules::is_in_range(kind, v),
-        values: stored(values, l.count, v),
+    if n < values.len() {
+        values[n] = v;
     }
 }
 
-// The numbers from a place on, single spaces between them, and the place after the last.
+// The numbers from a place on, single spaces between them, and the place after the last. Past the 32nd they are only counted and tested.
 pub fn list_at(s: &[u8], at: usize, kind: Kind) -> Listed
     ensures { λ r. ⌜ r ≡ listedAt kind (now (s .entry)) at ⌝ }
 {
     let first = numeral::number_at(s, at);
-    let mut numbers = add_number(no_numbers(), kind, first.value);
+    let mut values = [0i64; 32];
+    put(&mut values, 0, first.value);
+    let mut inside = rules::is_in_range(kind, first.value);
     let mut next = first.next;
-    let mut k: usize = 0;
-    while k < s.len() {
+    let mut count = 1;
+    while count <= s.len() {
         if numeral::byte_at(s, next) != b' ' {
             break;
         }
         let n = numeral::number_at(s, next + 1);
-        numbers = add_number(numbers, kind, n.value);
+        put(&mut values, count, n.value);
+        inside = inside & rules::is_in_range(kind, n.value);
         next = n.next;
-        k += 1;
+        count += 1;
     }
-    Listed { numbers, next }
+    Listed {
+        numbers: Numbers {
+            count,
+            inside,
+            values,
+        },
+        next,
+    }
 }

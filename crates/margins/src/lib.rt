@@ -1,23 +1,24 @@
 // The margins of all rows (01: g_m = T·w_m − the sum over j of |D_mj|·w_j), and the first that is 0 or less.
 ghost use mathlib.Core.Path.{_≡_};
-ghost use Prim.Native.Nat.{ℕ, _+_, _*_, _-_, _≤_, _<_, _^_};
+ghost use mathlib.Core.Bool.{true};
+ghost use mathlib.Core.List.{[]};
+ghost use Prim.Native.Nat.{ℕ, _+_, _*_, _-_, _/_, _%_, _≤_, _<_, _^_};
 ghost use lib.Dec.{eqb};
-ghost use lib.IntN.{natAbs};
+ghost use lib.IntN.{pos, natAbs};
 ghost use lib.ListN.{getD};
 ghost use Rattle.integer.specs.Finite.{first};
 ghost use Rattle.linear.specs.Slice.{at};
 ghost use Rattle.linear.specs.Place.{Carried};
-ghost use Rattle.linear.specs.Reach.{ColumnList, MatrixList};
-ghost use Rattle.raised_rows.specs.Raised.{RaisedRows};
+ghost use Rattle.linear.specs.Reach.{Within, ColumnList, MatrixList};
 ghost use Rattle.reckoning.specs.Arrays.{Begins};
-ghost use Rattle.reckoning.specs.Parts.{rowsPart, cutMargin};
-ghost use Rattle.reckoning.specs.Rows.{InverseRows, rowDifference, rowLoad};
+ghost use Rattle.enclosure.specs.Problem.{problemOf};
+ghost use Rattle.reckoning.specs.Parts.{columnResidual, cutMargin};
+ghost use Rattle.symmetry.specs.Symmetric.{Symmetric};
+ghost use Rattle.margins.specs.Load.{loadFrom};
+use differences::defects_of;
 use integer::first_or;
 use integer::magnitude;
 use integer::power;
-use raised_rows::ROWS_LENGTH;
-use raised_rows::raise_columns;
-use reckoning::unit_difference;
 
 // One term of a load: sum + |d|·|w|.
 fn weigh(sum: u64, d: i64, w: i64) -> u64
@@ -27,77 +28,84 @@ fn weigh(sum: u64, d: i64, w: i64) -> u64
     sum + magnitude(d) * magnitude(w)
 }
 
-// The sum over j of |D_mj|·w_j; D from the raised rows of G, of which row m starts at place row, and the raised columns of A.
-fn load_of(
-    t: u32,
-    rows: &[u64],
-    columns: &[u64],
-    weights: &[i64],
-    n: usize,
-    m: usize,
-    row: usize,
-) -> u64
-    requires { ⌜ (t ≤ 20) × ((n ≤ 32) × ((m < n) × Carried 0 (n + 1) m row)) ⌝ }
-    requires { ⌜ RaisedRows (now rows) n × RaisedRows (now columns) n ⌝ }
-    requires { ⌜ ((j : ℕ) → j < n → natAbs (rowDifference n t (now rows) (now columns) m j) ≤ 2 ^ 46) ⌝ }
+// Term j of a load, where d is number j of the row of D that starts at place row, by way of the place that was carried to it.
+fn weigh_at(sum: u64, defects: &[i64; 1024], row: usize, place: usize, w: i64, j: usize) -> u64
+    requires { ⌜ Carried row 1 j place ⌝ }
+    requires { ⌜ (row + j < 1024) × (natAbs (at (now defects) (row + j)) ≤ 2 ^ 46) ⌝ }
+    requires { ⌜ (sum ≤ 2 ^ 62) × (natAbs w ≤ 1024) ⌝ }
+    ensures { λ r. ⌜ r ≡ sum + natAbs (at (now (defects .entry)) (row + j)) * natAbs w ⌝ }
+{
+    weigh(sum, defects[place], w)
+}
+
+// The sum over j of |D_mj|·w_j; D stands row after row, row m from place row on.
+fn load_of(defects: &[i64; 1024], weights: &[i64], n: usize, m: usize, row: usize) -> u64
+    requires { ⌜ (n ≤ 32) × ((m < n) × Carried 0 n m row) ⌝ }
+    requires { ⌜ Within (now defects) (n * n) (2 ^ 46) ⌝ }
     requires { ⌜ ColumnList (now weights) n 1024 ⌝ }
-    ensures { λ r. ⌜ r ≡ rowLoad n t (now (rows .entry)) (now (columns .entry)) (now (weights .entry)) m ⌝ }
+    ensures { λ r. ⌜ r ≡ loadFrom n (now (defects .entry)) (now (weights .entry)) m ⌝ }
 {
     let mut sum: u64 = 0;
-    let mut column = 0;
+    let mut place = row;
     for j in 0..n {
-        let d = unit_difference(t, m, j, rows, row, columns, column, n);
-        sum = weigh(sum, d, weights[j]);
-        column += n + 1;
+        sum = weigh_at(sum, defects, row, place, weights[j], j);
+        place += 1;
     }
     sum
 }
 
 // The margin of row m, 0 where it is 0 or less.
-fn margin_of(
-    t: u32,
-    rows: &[u64],
-    columns: &[u64],
-    weights: &[i64],
-    n: usize,
-    m: usize,
-    row: usize,
-) -> u64
-    requires { ⌜ (t ≤ 20) × ((n ≤ 32) × ((m < n) × Carried 0 (n + 1) m row)) ⌝ }
-    requires { ⌜ RaisedRows (now rows) n × RaisedRows (now columns) n ⌝ }
-    requires { ⌜ ((j : ℕ) → j < n → natAbs (rowDifference n t (now rows) (now columns) m j) ≤ 2 ^ 46) ⌝ }
+fn margin_of(t: u32, defects: &[i64; 1024], weights: &[i64], n: usize, m: usize, row: usize) -> u64
+    requires { ⌜ (t ≤ 20) × ((n ≤ 32) × ((m < n) × Carried 0 n m row)) ⌝ }
+    requires { ⌜ Within (now defects) (n * n) (2 ^ 46) ⌝ }
     requires { ⌜ ColumnList (now weights) n 1024 ⌝ }
-    ensures { λ r. ⌜ r ≡ 2 ^ t * natAbs (at (now (weights .entry)) m)
-        - rowLoad n t (now (rows .entry)) (now (columns .entry)) (now (weights .entry)) m ⌝ }
+    ensures { λ r. ⌜ r ≡ 2 ^ t * natAbs (at (now (weights .entry)) m) - loadFrom n (now (defects .entry)) (now (weights .entry)) m ⌝ }
 {
     let full = power(t) * magnitude(weights[m]);
-    let sum = load_of(t, rows, columns, weights, n, m, row);
+    let sum = load_of(defects, weights, n, m, row);
     if sum < full { full - sum } else { 0 }
 }
 
-// The margins of all rows, from the raised rows of G.
+// The margins of all rows, from D, row after row.
+fn margins_from(t: u32, defects: &[i64; 1024], weights: &[i64], n: usize) -> [u64; 32]
+    requires { ⌜ (t ≤ 20) × (n ≤ 32) ⌝ }
+    requires { ⌜ Within (now defects) (n * n) (2 ^ 46) ⌝ }
+    requires { ⌜ ColumnList (now weights) n 1024 ⌝ }
+    ensures { λ r. ⌜ Begins 0 r n
+        (λ (m : ℕ). 2 ^ t * natAbs (at (now (weights .entry)) m) - loadFrom n (now (defects .entry)) (now (weights .entry)) m) ⌝ }
+{
+    let mut out = [0u64; 32];
+    let mut row = 0;
+    for m in 0..n {
+        out[m] = margin_of(t, defects, weights, n, m, row);
+        row += n;
+    }
+    out
+}
+
+// The margins of all rows. Where A and G are symmetric, row m of D is column m of T·I − A·G, which stands in the list of the inverse's residuals.
 pub fn margins_of(
     t: u32,
-    rows: &[u64; ROWS_LENGTH],
     matrix: &[i64],
+    inverse: &[i64],
+    columns: &[i64; 1024],
+    mirrored: bool,
     weights: &[i64],
     n: usize,
 ) -> [u64; 32]
     requires { ⌜ (t ≤ 20) × (n ≤ 32) ⌝ }
-    requires { ⌜ InverseRows (now rows) n ⌝ }
     requires { ⌜ MatrixList (now matrix) n ⌝ }
+    requires { ⌜ MatrixList (now inverse) n ⌝ }
+    requires { ⌜ Begins (pos 0) (now columns) (n * n) (λ (i : ℕ). columnResidual n t (now matrix) (now inverse) (i / n) (i % n)) ⌝ }
+    requires { ⌜ (mirrored ≡ true → Symmetric (now matrix) n × Symmetric (now inverse) n) ⌝ }
     requires { ⌜ ColumnList (now weights) n 1024 ⌝ }
-    ensures { λ r. ⌜ Begins 0 r n (cutMargin (rowsPart n t (now (matrix .entry)) (now (rows .entry)) (now (weights .entry)))) ⌝ }
+    ensures { λ r. ⌜ Begins 0 r n
+        (cutMargin (problemOf n 0 t (now (matrix .entry)) [] [] [] (now (inverse .entry)) (now (weights .entry)))) ⌝ }
 {
-    let mut columns = [0u64; ROWS_LENGTH];
-    raise_columns(&mut columns, matrix, n);
-    let mut out = [0u64; 32];
-    let mut row = 0;
-    for m in 0..n {
-        out[m] = margin_of(t, rows, &columns, weights, n, m, row);
-        row += n + 1;
+    if mirrored {
+        return margins_from(t, columns, weights, n);
     }
-    out
+    margins_from(t, &defects_of(t, matrix, inverse, n), weights, n)
 }
 
 // The first margin that is 0; n where there is none.

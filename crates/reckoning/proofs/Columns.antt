@@ -2,12 +2,14 @@
 --   columns-more — with one column more stored, the array holds that many more numbers
 --   first-after — the first place of two parts;  first-no-column, first-column — of no column, and of one column more;  first-most — it is at most n
 --   columns-at, columns-else — what a matrix stored column by column, row after row, holds at its places and past them
+--   in-square — the column and the row of a place are below n;  columns-whole — what such a matrix holds, place by place
 use mathlib.Core.Path.{_≡_, refl, sym, ap, ap₂, subst, _∙_}
 use mathlib.Core.Bool.{Bool, false}
 use mathlib.Core.List.{List}
 use Prim.Native.Nat.{ℕ, zero, suc, _+_, _*_, _-_, _/_, _%_, _≤_, _<_}
 use native.Mathlib.Omega.{arith}
 use native.Mathlib.Decide.{decLe, ℕ-discrete}
+use native.Mathlib.Nat.{mod-lt, div-lt-iff-lt-mul, div-add-mod'}
 use borrow.Author.Tests.{lt-ltb, le-ltb}
 use lib.ListN.{length, getD}
 use Rattle.integer.specs.Finite.{first}
@@ -65,6 +67,18 @@ module _ {A : Type 0} (d : A) (xs : List A) (n : ℕ) (f : ℕ → ℕ → A) wh
       go (no e) ih =
           stored-else (storedColumns xs n f k) k n (λ (i : ℕ). f i k) d n (j + i * n) (λ x lx q. e (same-column n i j x k (omega arith) (omega arith) q))
           ∙ ih (omega arith)
+
+pub in-square : (n i : ℕ) → i < n * n → (i / n < n) × (i % n < n)
+in-square zero i l = absurd (omega arith)
+in-square (suc n) i l = (div-lt-iff-lt-mul {k = suc n} (omega arith) .1 l, mod-lt i (omega arith))
+
+module _ {A : Type 0} (d : A) (xs : List A) (n : ℕ) (f : ℕ → ℕ → A) where
+  pub columns-whole : n * n ≤ length xs → Begins d (storedColumns xs n f n) (n * n) (λ (i : ℕ). f (i / n) (i % n))
+  columns-whole h = record {
+    each = λ i l.
+        ap (λ (k : ℕ). getD (storedColumns xs n f n) k d) (sym (div-add-mod' i n))
+        ∙ columns-at d xs n f n (i / n) (i % n) (in-square n i l .0) (in-square n i l .1) (omega arith) h;
+  }
 
 -- ---- a search column by column
 pub first-after : (m n : ℕ) (f : ℕ → Bool) → first (m + n) f ≡ firstFrom (first m f) m (first n (λ (k : ℕ). f (m + k)))

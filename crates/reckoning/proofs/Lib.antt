@@ -1,4 +1,3 @@
 pub mod Filled
 pub mod Sizes
-pub mod Numbers
 pub mod Columns

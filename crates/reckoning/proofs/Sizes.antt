@@ -1,11 +1,13 @@
 -- Sizes of the reckoning's numbers, all within an i64.
 --   power-size, unit-same, unit-other, unit-size, scaled-size — of 2^t, of the numbers of T·I and of S·b
 --   raisable — a matrix list, as `raise_rows` and `raise_columns` ask for it
---   Ranged P, defect-most — n at most 32, t at most 20, A and G at most 2^20 in size: then |D_mj| ≤ 2^45 + 2^20;  defect-size — from raised rows
+--   Ranged P, defect-most — n at most 32, t at most 20, A and G at most 2^20 in size: then |D_mj| ≤ 2^45 + 2^20
+--   ranged-of, defect-size — of lists in these ranges;  residual-exchanged — a residual of the inverse is a number of D with the two matrices exchanged
+--   residual-size — its size
 --   row-ends, column-ends — places of rows and columns;  above-below, above-above — the code's test of a residual
 use mathlib.Core.Path.{_≡_, refl, sym, ap, subst}
 use mathlib.Core.Bool.{Bool, true, false, cond}
-use mathlib.Core.List.{List}
+use mathlib.Core.List.{List, []}
 use Prim.Native.Nat.{ℕ, zero, suc, _+_, _*_, _<_, _≤_, _^_}
 use native.Mathlib.Omega.{arith}
 use native.Mathlib.Nat.{mul-le-mul, mul-le-mul-right, pow-le-pow-right, le-trans}
@@ -21,10 +23,9 @@ use Rattle.linear.specs.Reach.{ColumnList, MatrixList}
 use Rattle.linear.proofs.Product.{identity-same, identity-other}
 use Rattle.linear.proofs.Places.{place, square}
 use Rattle.raised_rows.specs.Raised.{raisedBy}
-use Rattle.enclosure.specs.Problem.{Problem}
-use Rattle.enclosure.specs.Reckoning.{defect}
-use Rattle.reckoning.specs.Parts.{rowsPart, aboveAllowed}
-use Rattle.reckoning.specs.Rows.{InverseRows}
+use Rattle.enclosure.specs.Problem.{Problem, problemOf}
+use Rattle.enclosure.specs.Reckoning.{defect, residual}
+use Rattle.reckoning.specs.Parts.{columnResidual, aboveAllowed}
 
 pub power-size : (t : ℕ) → t ≤ 20 → 2 ^ t ≤ 2 ^ 20
 power-size t h = pow-le-pow-right {n = 2} (omega arith) {i = t} {j = 20} h
@@ -72,14 +73,26 @@ defect-most P r m j lm lj =
       mul-le-mul-right (2 ^ 40) (r .few),
     )
 
-pub defect-size : (n t : ℕ) (matrix : List ℤ) (rows : List ℕ) (weights : List ℤ) → t ≤ 20 → n ≤ 32 → MatrixList matrix n → InverseRows rows n →
-    (m j : ℕ) → m < n → j < n → natAbs (defect (rowsPart n t matrix rows weights) m j) ≤ 2 ^ 46
-defect-size n t matrix rows weights ht few hm hr m j lm lj =
-    omega (
-      arith,
-      defect-most (rowsPart n t matrix rows weights)
-          (record { few = few; scale = ht; matrix = λ i k li lk. hm .within .size (i * n + k) (place li lk); inverse = hr .size }) m j lm lj,
-    )
+-- of lists in these ranges
+module _ (n t : ℕ) (matrix inverse : List ℤ) (ht : t ≤ 20) (few : n ≤ 32) (hm : MatrixList matrix n) (hi : MatrixList inverse n) where
+  pub ranged-of : Ranged (problemOf n 0 t matrix [] [] [] inverse [])
+  ranged-of = record {
+    few = few;
+    scale = ht;
+    matrix = λ i j li lj. hm .within .size (i * n + j) (place li lj);
+    inverse = λ i j li lj. hi .within .size (i * n + j) (place li lj);
+  }
+
+  pub defect-size : (m j : ℕ) → m < n → j < n → natAbs (defect (problemOf n 0 t matrix [] [] [] inverse []) m j) ≤ 2 ^ 46
+  defect-size m j lm lj = omega (arith, defect-most (problemOf n 0 t matrix [] [] [] inverse []) ranged-of m j lm lj)
+
+pub residual-exchanged : (n t : ℕ) (matrix inverse : List ℤ) (j k : ℕ) → columnResidual n t matrix inverse j k ≡ defect (problemOf n 0 t inverse [] [] [] matrix []) k j
+unfolding residual defect product
+residual-exchanged n t matrix inverse j k = refl
+
+pub residual-size : (n t : ℕ) (matrix inverse : List ℤ) → t ≤ 20 → n ≤ 32 → MatrixList matrix n → MatrixList inverse n →
+    (j k : ℕ) → j < n → k < n → natAbs (columnResidual n t matrix inverse j k) ≤ 2 ^ 46
+residual-size n t matrix inverse ht few hm hi j k lj lk = rw (residual-exchanged n t matrix inverse j k) (defect-size n t inverse matrix ht few hi hm k j lk lj)
 
 -- places of a row and of a column stay small
 pub row-ends : {m n : ℕ} → m < n → n ≤ 32 → m * n + n ≤ 1024

@@ -1,6 +1,6 @@
-// The residuals of the guess and of all columns of the inverse, and the first that is above what is allowed.
+// The residuals of the guess, and the first of these, or of the residuals of all columns of the inverse, that is above what is allowed.
 ghost use mathlib.Core.Path.{_≡_};
-ghost use Prim.Native.Nat.{ℕ, _+_, _*_, _/_, _%_, _≤_, _<_, _^_};
+ghost use Prim.Native.Nat.{ℕ, _+_, _*_, _%_, _≤_, _<_, _^_};
 ghost use lib.IntN.{pos, natAbs, _-ℤ_, _*ℤ_};
 ghost use lib.ListN.{length};
 ghost use Rattle.integer.specs.Finite.{first};
@@ -8,18 +8,12 @@ ghost use Rattle.linear.specs.Matrix.{apply};
 ghost use Rattle.linear.specs.Slice.{at, vectorOf, matrixOf};
 ghost use Rattle.linear.specs.Place.{Carried};
 ghost use Rattle.linear.specs.Reach.{ColumnList, MatrixList};
-ghost use Rattle.raised_rows.specs.Raised.{RaisedRows};
 ghost use Rattle.enclosure.specs.Reckoning.{allowedResidual};
-ghost use Rattle.reckoning.specs.Arrays.{Begins, firstFrom, stored};
-ghost use Rattle.reckoning.specs.Parts.{residualFrom, columnResidual, aboveAllowed};
-ghost use Rattle.reckoning.specs.Rows.{rowDifference};
+ghost use Rattle.reckoning.specs.Arrays.{Begins, firstFrom};
+ghost use Rattle.reckoning.specs.Parts.{residualFrom, aboveAllowed};
 use integer::first_or;
 use integer::power;
 use linear::dot;
-use raised_rows::ROWS_LENGTH;
-use raised_rows::raise_columns;
-use raised_rows::raise_rows;
-use reckoning::unit_difference;
 
 // 2^s·b
 fn scaled(s: u32, b: i64) -> i64
@@ -66,56 +60,6 @@ pub fn residuals_of(base: [i64; 32], matrix: &[i64], guess: &[i64], n: usize) ->
     for k in 0..n {
         out[k] = difference(base[k], matrix, k, row, guess, n);
         row += n;
-    }
-    out
-}
-
-// The residuals of column j of the inverse, stored from place start on, from the raised rows of A and columns of G, of which column j starts at
-// place column.
-fn column_residuals(
-    out: &mut [i64; 1024],
-    t: u32,
-    rows: &[u64],
-    columns: &[u64],
-    n: usize,
-    j: usize,
-    start: usize,
-    column: usize,
-)
-    requires { ⌜ (t ≤ 20) × ((n ≤ 32) × (j < n)) ⌝ }
-    requires { ⌜ Carried 0 n j start × Carried 0 (n + 1) j column ⌝ }
-    requires { ⌜ RaisedRows (now rows) n × RaisedRows (now columns) n ⌝ }
-    ensures { λ _. ⌜ now (out .exit)
-        ≡ stored (now (out .entry)) (j * n) 1 (λ (k : ℕ). rowDifference n t (now (rows .entry)) (now (columns .entry)) k j) n ⌝ }
-{
-    let mut place = start;
-    let mut row = 0;
-    for k in 0..n {
-        out[place] = unit_difference(t, k, j, rows, row, columns, column, n);
-        place += 1;
-        row += n + 1;
-    }
-}
-
-// The residuals of all columns of the inverse, column after column.
-pub fn inverse_residuals_of(t: u32, matrix: &[i64], inverse: &[i64], n: usize) -> [i64; 1024]
-    requires { ⌜ (t ≤ 20) × (n ≤ 32) ⌝ }
-    requires { ⌜ MatrixList (now matrix) n ⌝ }
-    requires { ⌜ MatrixList (now inverse) n ⌝ }
-    ensures { λ r. ⌜ Begins (pos 0) r (n * n)
-        (λ (i : ℕ). columnResidual n t (now (matrix .entry)) (now (inverse .entry)) (i / n) (i % n)) ⌝ }
-{
-    let mut rows = [0u64; ROWS_LENGTH];
-    let mut columns = [0u64; ROWS_LENGTH];
-    raise_rows(&mut rows, matrix, n);
-    raise_columns(&mut columns, inverse, n);
-    let mut out = [0i64; 1024];
-    let mut start = 0;
-    let mut column = 0;
-    for j in 0..n {
-        column_residuals(&mut out, t, &rows, &columns, n, j, start, column);
-        start += n;
-        column += n + 1;
     }
     out
 }

@@ -1,67 +1,42 @@
 -- What the arrays of a step hold is what the sequence says.
---   defect-is — a residual with the two matrices exchanged is a number of D
---   ranged-of, residual-size — the sizes of a request in its ranges
---   in-square — the column and the row of a place of a matrix
 --   sizes-at, sizes-below — what `defect_sizes` gives is |D|, column after column, each at most 2^46
 --   below-of  — the weights of a list of the sequence are at most 1,024
 --   load-is, good-is, next-is — the sums, the test and the next list;  ones — list 1
-use mathlib.Core.Path.{_≡_, refl, sym, ap, ap₂, _∙_}
+use mathlib.Core.Path.{_≡_, sym, ap, ap₂, _∙_}
 use mathlib.Core.List.{List, []}
-use Prim.Native.Nat.{ℕ, zero, suc, _+_, _*_, _-_, _/_, _%_, _^_, _≤_, _<_, max}
+use Prim.Native.Nat.{ℕ, _+_, _*_, _/_, _%_, _^_, _≤_, _<_}
 use native.Mathlib.Omega.{arith}
-use native.Mathlib.Nat.{le-antisymm, mod-lt, div-lt-iff-lt-mul}
-use native.Mathlib.Numerals.{add-one}
 use lib.Dec.{eqb, leb}
 use lib.IntN.{ℤ, natAbs}
 use lib.ListN.{getD, replicate, getD-replicate}
-use Rattle.integer.specs.Finite.{first, largest}
+use Rattle.integer.specs.Finite.{first}
 use Rattle.integer.proofs.Search.{first-ext, largest-ext}
 use Rattle.integer.proofs.Sum.{sumℕ-ext}
-use Rattle.linear.specs.Matrix.{product}
 use Rattle.linear.specs.Reach.{MatrixList}
 use Rattle.linear.proofs.Places.{place, place-column, place-row}
 use Rattle.enclosure.specs.Problem.{Problem, T, problemOf}
-use Rattle.enclosure.specs.Reckoning.{defect, load, marginFails, residual}
+use Rattle.enclosure.specs.Reckoning.{defect, load, marginFails}
 use Rattle.enclosure.proofs.Margin.{cut-test, margin-test}
 use Rattle.reckoning.specs.Arrays.{Begins}
 use Rattle.reckoning.specs.Parts.{columnResidual}
-use Rattle.reckoning.proofs.Sizes.{Ranged, defect-most}
+use Rattle.reckoning.proofs.Columns.{in-square}
+use Rattle.reckoning.proofs.Sizes.{residual-exchanged, residual-size}
 use Rattle.weight_sequence.specs.Sequence.{weighted, loads, bits, next, tried, good}
 use Rattle.weight_sequence.proofs.Lists.{tried-first, tried-high}
 use Rattle.weight_steps.specs.Steps.{Below, storedLoad, storedMargin, shiftedNext}
-
--- the column and the row of a place
-pub in-square : (n i : ℕ) → i < n * n → (i / n < n) × (i % n < n)
-in-square zero i l = absurd (omega arith)
-in-square (suc n) i l = (div-lt-iff-lt-mul {k = suc n} (omega arith) .1 l, mod-lt i (omega arith))
 
 -- ---- |D|
 module _ (n t : ℕ) (matrix inverse : List ℤ) where
   abbrev P : Problem
   P = problemOf n 0 t matrix [] [] [] inverse []
 
-  pub defect-is : (j k : ℕ) → columnResidual n t inverse matrix j k ≡ defect P k j
-  unfolding residual defect product
-  defect-is j k = refl
-
   module _ (ht : t ≤ 20) (few : n ≤ 32) (hm : MatrixList matrix n) (hi : MatrixList inverse n) where
-    pub ranged-of : Ranged P
-    ranged-of = record {
-      few = few;
-      scale = ht;
-      matrix = λ i j li lj. hm .within .size (i * n + j) (place li lj);
-      inverse = λ i j li lj. hi .within .size (i * n + j) (place li lj);
-    }
-
-    pub residual-size : (j k : ℕ) → k < n → j < n → natAbs (columnResidual n t inverse matrix j k) ≤ 2 ^ 46
-    residual-size j k lk lj = rw (defect-is j k) (omega (arith, defect-most P ranged-of k j lk lj))
-
     pub sizes-at : {sizes : List ℕ} → Begins 0 sizes (n * n) (λ (i : ℕ). natAbs (columnResidual n t inverse matrix (i / n) (i % n))) →
         (m j : ℕ) → m < n → j < n → getD sizes (j * n + m) 0 ≡ natAbs (defect P m j)
-    sizes-at h m j lm lj = h .each (j * n + m) (place lj lm) ∙ rw (place-column j m n lm, place-row j m n lm) (ap natAbs (defect-is j m))
+    sizes-at h m j lm lj = h .each (j * n + m) (place lj lm) ∙ rw (place-column j m n lm, place-row j m n lm) (ap natAbs (residual-exchanged n t inverse matrix j m))
 
     pub sizes-below : {sizes : List ℕ} → Begins 0 sizes (n * n) (λ (i : ℕ). natAbs (columnResidual n t inverse matrix (i / n) (i % n))) → Below sizes (n * n) (2 ^ 46)
-    sizes-below h = record { each = λ i l. rw (h .each i l) (residual-size (i / n) (i % n) (in-square n i l .1) (in-square n i l .0)) }
+    sizes-below h = record { each = λ i l. rw (h .each i l) (residual-size n t inverse matrix ht few hi hm (i / n) (i % n) (in-square n i l .0) (in-square n i l .1)) }
 
 -- ---- one step of the sequence
 pub below-of : {xs : List ℕ} (P : Problem) (k : ℕ) → Begins 0 xs (P .n) (tried P k) → Below xs (P .n) 1024

@@ -10,10 +10,12 @@ ghost use Rattle.reckoning.specs.Arrays.{Begins};
 ghost use Rattle.reckoning.specs.Parts.{columnResidual};
 ghost use Rattle.weight_sequence.specs.Sequence.{bits};
 ghost use Rattle.weight_steps.specs.Steps.{Below, storedLoad, storedMargin, shiftedNext};
+use differences::inverse_residuals_of;
 use integer::magnitude;
 use integer::power;
 use margins::first_zero;
-use residuals::inverse_residuals_of;
+use raised_rows::ROWS_LENGTH;
+use raised_rows::raise_rows;
 
 // |D|, column after column: T·I − G·A is what the residuals of an inverse are with the two matrices exchanged.
 pub fn defect_sizes(t: u32, matrix: &[i64], inverse: &[i64], n: usize) -> [u64; 1024]
@@ -21,7 +23,9 @@ pub fn defect_sizes(t: u32, matrix: &[i64], inverse: &[i64], n: usize) -> [u64; 
     requires { ⌜ MatrixList (now matrix) n × MatrixList (now inverse) n ⌝ }
     ensures { λ r. ⌜ Begins 0 r (n * n) (λ (i : ℕ). natAbs (columnResidual n t (now (inverse .entry)) (now (matrix .entry)) (i / n) (i % n))) ⌝ }
 {
-    let columns = inverse_residuals_of(t, inverse, matrix, n);
+    let mut rows = [0u64; ROWS_LENGTH];
+    raise_rows(&mut rows, matrix, n);
+    let columns = inverse_residuals_of(t, inverse, &rows, n);
     let mut out = [0u64; 1024];
     for i in 0..n * n {
         out[i] = magnitude(columns[i]);

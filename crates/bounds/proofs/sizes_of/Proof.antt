@@ -1,23 +1,22 @@
 use mathlib.Core.Path.{_≡_, refl}
-use Prim.Native.Nat.{ℕ, _+_, _*_, _≤_, _-_}
+use Prim.Native.Nat.{ℕ, _+_, _≤_, _-_}
 use native.Mathlib.Omega.{arith}
-use lib.IntN.{natAbs}
 use lib.ListN.{length, length-set}
 use Rattle.integer.proofs.Machine.{read}
 use Rattle.linear.specs.Place.{Carried}
 use Rattle.linear.proofs.Carried.{carried-first, carried-next}
-use Rattle.raised_rows.specs.Raised.{rowDot}
 use Rattle.raised_rows.proofs.Filling.{rows-room}
 use Rattle.raised_rows.proofs.Lowering.{row-dot-size}
 use Rattle.reckoning.specs.Arrays.{Begins}
 use Rattle.reckoning.proofs.Filled.{begins-none, begins-more, begins-end}
+use Rattle.bounds.specs.Mirrored.{columnSize}
 use borrow.Author.Needs.{needs}
 use Rattle.bounds.proofs.sizes_of.Statement.{statement}
 use Rattle.bounds.proofs.sizes_of.Tie as tie
 
 abbrev Inv-loop : tie.InvT-loop
 Inv-loop rows residuals j place n out₀ row₀ m₀ out row m =
-    (m ≤ n) × (Carried 0 (n + 1) m row × ((length out ≡ 32) × (Begins 0 out m (λ (i : ℕ). natAbs (rowDot rows (i * (n + 1)) residuals (j * (n + 1)) n)))))
+    (m ≤ n) × (Carried 0 (n + 1) m row × ((length out ≡ 32) × Begins 0 out m (λ (i : ℕ). columnSize rows residuals n i j)))
 
 abbrev μ-loop : tie.MeasureT-loop
 μ-loop rows residuals j place n out₀ row₀ m₀ out row m = n - m

@@ -1,13 +1,17 @@
 use mathlib.Core.Path.{_≡_}
+use Prim.Native.Nat.{_*_}
 use native.Mathlib.Omega.{arith}
 use lib.Dec.{lit≤}
+use lib.IntN.{pos}
 use lib.ListN.{length}
 use Rattle.linear.proofs.Places.{square}
+use Rattle.reckoning.specs.Arrays.{Begins}
 use Rattle.reckoning.specs.Rows.{InverseRows}
 use Rattle.reckoning.proofs.Sizes.{raisable}
 use Rattle.checker.specs.Work.{Work, work}
 use Rattle.checker.proofs.Outcome.{Worked, refused, positive-here, weighed-here, near-here, columns-here, accepted-here}
-use Rattle.checker.proofs.Rows.{inverse-rows}
+use Rattle.checker.proofs.Rows.{inverse-rows, workColumn, margins-are, columns-are}
+use Rattle.checker.proofs.Mirror.{mirrored-product}
 use borrow.Author.Needs.{needs}
 use Rattle.checker.proofs.reckon.Statement.{statement}
 use Rattle.checker.proofs.reckon.Tie as tie
@@ -17,24 +21,34 @@ W s =
     let a = s .args in
     work (a .n) (a .t) (a .matrix .now) (a .base) (a .t5) (a .t6) (a .slacks) (a .guess .now) (a .inverse .now) (a .weights .now) (a .solution-bounds .now) (a .inverse-bounds .now)
 
--- the raised rows
+-- the raised rows, and the residuals of the inverse
 rows-are : (c : tie.After-raise-rows) → InverseRows (c .raise-rows .last .0) (c .before .before .before .before .args .n)
 rows-are c = let s = c .before .before .before .before in inverse-rows (s .args .n) (s .args .inverse .now) (c .raise-rows .ensures) (s .pre .inverse)
 
+residuals-are : (c : tie.After-inverse-residuals-of) →
+    Begins (pos 0) (c .inverse-residuals-of .result) (c .before .before .before .before .before .before .before .args .n * c .before .before .before .before .before .before .before .args .n) (workColumn (W (c .before .before .before .before .before .before .before)))
+residuals-are c = columns-are (W (c .before .before .before .before .before .before .before)) (c .before .before .before .raise-rows .ensures) (c .inverse-residuals-of .ensures)
+
 -- places on the way to the judgement
+abbrev with-margins : tie.After-judge → tie.After-margins-of
+with-margins j = j .before .before .before .before .before .before .before .before .before
+
+abbrev looked : tie.After-judge → tie.After-are-symmetric
+looked j = with-margins j .before .before
+
 abbrev raised : tie.After-judge → tie.After-raise-rows
-raised j = j .before .before .before .before .before .before .before .before .before .before .before .before .before
+raised j = looked j .before .before .before .before
 
 abbrev start : tie.After-judge → tie.Start
 start j = raised j .before .before .before .before
 
 abbrev worked : (j : tie.After-judge) →
-    Worked (W (start j)) (raised j .raise-rows .last .0) (j .before .before .before .before .before .before .before .before .before .before .margins-of .result) (j .before .before .before .before .before .before .before .before .before .residuals-of .result) (j .before .before .before .before .before .before .before .before .inverse-residuals-of .result) (j .judge .result)
+    Worked (W (start j)) (raised j .raise-rows .last .0) (with-margins j .margins-of .result) (j .before .before .before .before .before .before .before .before .residuals-of .result) (looked j .before .inverse-residuals-of .result) (j .judge .result)
 worked j = record {
   raised = raised j .raise-rows .ensures;
-  hm = j .before .before .before .before .before .before .before .before .before .before .margins-of .ensures;
-  hr = j .before .before .before .before .before .before .before .before .before .residuals-of .ensures;
-  hc = j .before .before .before .before .before .before .before .before .inverse-residuals-of .ensures;
+  hm = margins-are (W (start j)) (with-margins j .margins-of .ensures);
+  hr = j .before .before .before .before .before .before .before .before .residuals-of .ensures;
+  hc = residuals-are (looked j .before);
   m = j .before .before .before .before .before .before .before .first-zero .result;
   k = j .before .before .before .before .first-above .result;
   i = j .before .first-above-in-columns .result;
@@ -55,18 +69,22 @@ slice-aggregate-raise-rows : tie.Need-slice-aggregate-raise-rows
 slice-aggregate-raise-rows c = search needs
 
 raise-rows-requires : tie.Need-raise-rows-requires
-raise-rows-requires c κs = let p = c .before .before .before .pre in ((p .few, lit≤ tt), raisable (search (p .matrix, p .inverse)))
-
-margins-of-requires : tie.Need-margins-of-requires
-margins-of-requires c κs =
-    let r = c .before .before in
-    let p = r .before .before .before .before .pre in ((p .inverse-scale, p .few), (rows-are r, (search (p .matrix, p .inverse), p .weights)))
-
-residuals-of-requires : tie.Need-residuals-of-requires
-residuals-of-requires c κs = search needs
+raise-rows-requires c κs = let p = c .before .before .before .pre in ((p .few, lit≤ tt), raisable (p .inverse))
 
 inverse-residuals-of-requires : tie.Need-inverse-residuals-of-requires
 inverse-residuals-of-requires c κs = search needs
+
+are-symmetric-requires : tie.Need-are-symmetric-requires
+are-symmetric-requires c κs = search needs
+
+margins-of-requires : tie.Need-margins-of-requires
+margins-of-requires c κs =
+    let k = c .before .before in
+    let p = k .before .before .before .before .before .before .before .pre in
+    ((p .inverse-scale, p .few), (search (p .matrix, p .inverse), (search (p .matrix, p .inverse), (residuals-are k, (c .before .are-symmetric .ensures, p .weights)))))
+
+residuals-of-requires : tie.Need-residuals-of-requires
+residuals-of-requires c κs = search needs
 
 first-zero-requires : tie.Need-first-zero-requires
 first-zero-requires c κs = search needs
@@ -76,14 +94,14 @@ slice-aggregate-first-above c = search needs
 
 first-above-requires : tie.Need-first-above-requires
 first-above-requires c κs =
-    let p = c .before .before .before .before .before .before .before .before .before .before .before .before .pre in
-    ((p .few, (omega (arith, p .few, wide (c .before .before .before .before)), lit≤ tt)), p .allowed)
+    let p = c .before .before .before .before .before .before .before .before .before .before .before .before .before .before .pre in
+    ((p .few, (omega (arith, p .few, wide (c .before .before .before)), lit≤ tt)), p .allowed)
 
 first-above-in-columns-requires : tie.Need-first-above-in-columns-requires
-first-above-in-columns-requires c κs = let p = c .before .before .before .before .before .before .before .before .before .before .before .before .before .before .before .pre in (p .few, p .in-columns)
+first-above-in-columns-requires c κs = let p = c .before .before .before .before .before .before .before .before .before .before .before .before .before .before .before .before .before .pre in (p .few, p .in-columns)
 
 judge-requires : tie.Need-judge-requires
-judge-requires c κs = search needs
+judge-requires c κs = let p = c .before .before .before .before .before .before .before .before .before .before .before .before .before .before .before .before .before .before .pre in (p .some, p .few)
 
 enum-known-outcome : tie.Need-enum-known-outcome
 enum-known-outcome c = search needs
@@ -118,8 +136,11 @@ store-columns-requires c κs =
       (
         rows-are (raised j),
         (
-          columns-here (W s) (s .pre) (worked j) e (omega (arith, square (s .pre .few), wide-columns (j .before .before .before .before .before .before .before .before))),
-          (positive-here (W s) (s .pre) (worked j) e, (s .pre .weights, c .before .before .before .before .before .before .before .before .before .caps-of .ensures)),
+          columns-here (W s) (s .pre) (worked j) e (omega (arith, square (s .pre .few), wide-columns (looked j .before))),
+          (
+            (λ y. let both = looked j .are-symmetric .ensures y in mirrored-product (W s) (raised j .raise-rows .ensures) (residuals-are (looked j .before)) (both .0) (both .1)),
+            (positive-here (W s) (s .pre) (worked j) e, (s .pre .weights, c .before .before .before .before .before .before .before .before .before .caps-of .ensures)),
+          ),
         ),
       ),
     )
@@ -147,9 +168,10 @@ reckon-spec =
     (tie.spec
     slice-aggregate-raise-rows
     raise-rows-requires
+    inverse-residuals-of-requires
+    are-symmetric-requires
     margins-of-requires
     residuals-of-requires
-    inverse-residuals-of-requires
     first-zero-requires
     slice-aggregate-first-above
     first-above-requires

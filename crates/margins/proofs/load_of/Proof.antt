@@ -1,72 +1,60 @@
 use mathlib.Core.Path.{_≡_, sym, _∙_}
-use Prim.Native.Nat.{ℕ, _+_, _*_, _≤_, _<_, _-_, _^_}
+use Prim.Native.Nat.{ℕ, _+_, _*_, _≤_, _<_, _-_}
 use native.Mathlib.Omega.{arith}
-use native.Mathlib.Nat.{mul-le-mul}
 use lib.IntN.{natAbs}
-use mir.Syntax.{w64}
-use mir.Val.{toZ, ofZ}
 use Rattle.integer.specs.Finite.{sumℕ}
 use Rattle.integer.proofs.Machine.{read}
-use Rattle.integer.proofs.Sum.{sumℕ-none, sumℕ-next, sumℕ-end, sumℕ≤}
+use Rattle.integer.proofs.Sum.{sumℕ-none, sumℕ-next, sumℕ-end}
 use Rattle.linear.specs.Slice.{at}
 use Rattle.linear.specs.Place.{Carried}
-use Rattle.linear.proofs.Carried.{carried-first, carried-next}
-use Rattle.raised_rows.proofs.Filling.{rows-room}
-use Rattle.reckoning.specs.Rows.{rowDifference}
+use Rattle.linear.proofs.Carried.{carried-first, carried-next, start-place}
+use Rattle.linear.proofs.Places.{place}
+use Rattle.reckoning.proofs.Sizes.{row-ends}
+use Rattle.margins.proofs.Loads.{load-size}
 use borrow.Author.Needs.{needs}
 use Rattle.margins.proofs.load_of.Statement.{statement}
 use Rattle.margins.proofs.load_of.Tie as tie
 
 abbrev Inv-loop : tie.InvT-loop
-Inv-loop t rows columns weights n m row sum₀ column₀ j₀ sum column j =
-    (j ≤ n) × (Carried 0 (n + 1) j column × (sum ≡ sumℕ j (λ (k : ℕ). natAbs (rowDifference n t rows columns m k) * natAbs (at weights k))))
+Inv-loop defects weights n m row sum₀ place₀ j₀ sum place j =
+    (j ≤ n) × (Carried row 1 j place × (sum ≡ sumℕ j (λ (k : ℕ). natAbs (at defects (m * n + k)) * natAbs (at weights k))))
 
 abbrev μ-loop : tie.MeasureT-loop
-μ-loop t rows columns weights n m row sum₀ column₀ j₀ sum column j = n - j
+μ-loop defects weights n m row sum₀ place₀ j₀ sum place j = n - j
 
-sized : (s : tie.Start Inv-loop μ-loop) (j : ℕ) → j < s .args .n →
-    natAbs (rowDifference (s .args .n) (s .args .t) (s .args .rows .now) (s .args .columns .now) (s .args .m) j) * natAbs (at (s .args .weights .now) j) ≤ 2 ^ 56
-sized s j l = mul-le-mul (s .pre .1 .1 .0 j l) (s .pre .1 .1 .1 .within .size j l)
+module _ (t : tie.In-loop Inv-loop μ-loop) where
+  start-is : t .before .before .args .row ≡ t .before .before .args .m * t .before .before .args .n
+  start-is = start-place (t .before .before .pre .0 .1 .1)
 
--- what the call of `unit_difference` gives
-difference-here : (c : tie.After-unit-difference Inv-loop μ-loop) → toZ w64 (ofZ w64 (c .unit-difference .result)) ≡
-    rowDifference (c .before .before .before .before .before .args .n) (c .before .before .before .before .before .args .t) (c .before .before .before .before .before .args .rows .now) (c .before .before .before .before .before .args .columns .now) (c .before .before .before .before .before .args .m) (c .before .before .loop .j)
-difference-here c =
-    read _ (c .unit-difference .ok) ∙ c .unit-difference .ensures
+  place-in : t .before .before .args .row + t .before .loop .j < 1024
+  place-in = let p = t .before .before .pre .0 in omega (arith, start-is, t .loop-test .taken, row-ends (p .1 .0) (p .0))
 
 loop-holds : tie.Need-loop-holds Inv-loop μ-loop
 loop-holds c = (omega arith, (carried-first _ _, sym (sumℕ-none _)))
 
-unit-difference-requires : tie.Need-unit-difference-requires Inv-loop μ-loop
-unit-difference-requires c κs =
-    let s = c .before .before .before .before in
-    let l = c .before .loop in (
-      (s .pre .0 .0, s .pre .0 .1 .0),
-      ((s .pre .0 .1 .1 .1, l .inv .1 .0), (s .pre .1 .0 .0 .each (s .args .m) (s .pre .0 .1 .1 .0), s .pre .1 .0 .1 .each (l .j) (c .loop-test .taken))),
+mul-weigh-at : tie.Need-mul-weigh-at Inv-loop μ-loop
+mul-weigh-at c = search needs
+
+shared-slice-copy-out-weigh-at : tie.Need-shared-slice-copy-out-weigh-at Inv-loop μ-loop
+shared-slice-copy-out-weigh-at c = search needs
+
+weigh-at-requires : tie.Need-weigh-at-requires Inv-loop μ-loop
+weigh-at-requires c κs =
+    let t = c .before in
+    let l = t .before .loop in
+    let p = t .before .before .pre in (
+      l .inv .1 .0,
+      (
+        (place-in t, rw (start-is t) (p .1 .0 .size _ (place (p .0 .1 .0) (t .loop-test .taken)))),
+        (
+          load-size (p .1 .0) (p .1 .1) (p .0 .1 .0) (l .j) (p .0 .0) (l .inv .0) (l .inv .1 .1),
+          rw (read _ (c .weigh-at-arg .given)) (p .1 .1 .within .size _ (omega (arith, t .loop-test .taken, p .0 .1 .0))),
+        ),
+      ),
     )
 
-mul-weigh : tie.Need-mul-weigh Inv-loop μ-loop
-mul-weigh c = search needs
-
-shared-slice-copy-out-weigh : tie.Need-shared-slice-copy-out-weigh Inv-loop μ-loop
-shared-slice-copy-out-weigh c = search needs
-
-weigh-requires : tie.Need-weigh-requires Inv-loop μ-loop
-weigh-requires c κs =
-    let t = c .before .before in
-    let s = t .before .before .before .before in
-    let j = t .before .loop .j in (
-      omega (arith, t .before .loop .inv .1 .1, sumℕ≤ j (2 ^ 56) _ (λ k l. sized s k (omega arith))),
-      (rw (difference-here (c .before)) (s .pre .1 .1 .0 j (t .loop-test .taken)), rw (read _ (c .weigh-arg .given)) (s .pre .1 .1 .1 .within .size _ (omega (arith, t .loop-test .taken, s .pre .0 .1 .1 .0)))),
-    )
-
-add-column : tie.Need-add-column Inv-loop μ-loop
-add-column c = search needs
-
-add-column-2 : tie.Need-add-column-2 Inv-loop μ-loop
-add-column-2 c =
-    let t = c .before .before .before in
-    omega (arith, t .before .loop .inv .1 .0 .is, rows-room (t .loop-test .taken) (t .before .before .before .before .pre .0 .1 .0))
+add-place : tie.Need-add-place Inv-loop μ-loop
+add-place c = let t = c .before .before in omega (arith, t .before .loop .inv .1 .0 .is, place-in t)
 
 add-j : tie.Need-add-j Inv-loop μ-loop
 add-j c = search needs
@@ -75,13 +63,12 @@ loop-less : tie.Need-loop-less Inv-loop μ-loop
 loop-less c = search needs
 
 loop-again : tie.Need-loop-again Inv-loop μ-loop
-loop-again c = (
-  omega arith,
-  (
-    carried-next (c .before .before .before .before .loop .inv .1 .0),
-    (rw (difference-here (c .before .before), read _ (c .before .weigh-arg .given), c .before .before .before .before .loop .inv .1 .1) at (c .weigh .ensures)) ∙ sym (sumℕ-next _ _),
-  ),
-)
+loop-again c =
+    let t = c .before .before in
+    let l = t .before .loop in (
+      omega arith,
+      (carried-next (l .inv .1 .0), (rw (read _ (c .before .weigh-at-arg .given), start-is t, l .inv .1 .1) at (c .weigh-at .ensures)) ∙ sym (sumℕ-next _ _)),
+    )
 
 returns : tie.Need-returns Inv-loop μ-loop
 returns c = c .before .loop .inv .1 .1 ∙ sumℕ-end _ (c .before .loop .inv .0) (c .loop-test .left)
@@ -93,12 +80,10 @@ load-of-spec =
     Inv-loop
     μ-loop
     loop-holds
-    unit-difference-requires
-    mul-weigh
-    shared-slice-copy-out-weigh
-    weigh-requires
-    add-column
-    add-column-2
+    mul-weigh-at
+    shared-slice-copy-out-weigh-at
+    weigh-at-requires
+    add-place
     add-j
     loop-less
     loop-again

@@ -10,15 +10,15 @@ use borrow.Author.Needs.{needs}
 use Rattle.margins.proofs.margin_of.Statement.{statement}
 use Rattle.margins.proofs.margin_of.Tie as tie
 
-weight-small : (c : tie.After-magnitude-arg) → natAbs (at (c .before .before .before .before .args .weights .now) (c .before .before .before .before .args .m)) ≤ 1024
-weight-small c = let s = c .before .before .before .before in s .pre .1 .1 .1 .within .size (s .args .m) (s .pre .0 .1 .1 .0)
+weight-small : (c : tie.After-magnitude-arg) → natAbs (at (c .before .before .args .weights .now) (c .before .before .args .m)) ≤ 1024
+weight-small c = let s = c .before .before in s .pre .1 .1 .within .size (s .args .m) (s .pre .0 .1 .1 .0)
 
 module _ (c : tie.After-magnitude) where
-  weight-is : c .magnitude .result ≡ natAbs (at (c .before .before .before .before .before .args .weights .now) (c .before .before .before .before .before .args .m))
+  weight-is : c .magnitude .result ≡ natAbs (at (c .before .before .before .args .weights .now) (c .before .before .before .args .m))
   weight-is = rw (read _ (c .before .magnitude-arg .given)) at (c .magnitude .ensures)
 
   full-small : c .before .before .power .result * c .magnitude .result ≤ 2 ^ 20 * 1024
-  full-small = rw (weight-is, c .before .before .power .ensures) (mul-le-mul (power-size _ (c .before .before .before .before .before .pre .0 .0)) (weight-small (c .before)))
+  full-small = rw (weight-is, c .before .before .power .ensures) (mul-le-mul (power-size _ (c .before .before .before .pre .0 .0)) (weight-small (c .before)))
 
 power-requires : tie.Need-power-requires
 power-requires c κs = search needs

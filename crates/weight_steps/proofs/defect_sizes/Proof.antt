@@ -1,14 +1,18 @@
-use mathlib.Core.Path.{_≡_, refl}
+use mathlib.Core.Path.{_≡_, refl, _∙_}
+use mathlib.Core.List.{[]}
 use Prim.Native.Nat.{_^_, ℕ, _*_, _/_, _%_, _≤_, _<_, _-_}
 use native.Mathlib.Omega.{arith}
+use lib.Dec.{lit≤}
 use lib.IntN.{natAbs, pos}
 use lib.ListN.{length, length-set, getD}
 use Rattle.integer.proofs.Machine.{read}
 use Rattle.linear.proofs.Places.{square}
 use Rattle.reckoning.specs.Arrays.{Begins}
 use Rattle.reckoning.specs.Parts.{columnResidual}
+use Rattle.reckoning.proofs.Columns.{in-square}
 use Rattle.reckoning.proofs.Filled.{begins-none, begins-more, begins-end}
-use Rattle.weight_steps.proofs.Stored.{in-square, residual-size}
+use Rattle.reckoning.proofs.Sizes.{raisable, residual-size}
+use Rattle.differences.proofs.Product.{residual-of-rows}
 use borrow.Author.Needs.{needs}
 use Rattle.weight_steps.proofs.defect_sizes.Statement.{statement}
 use Rattle.weight_steps.proofs.defect_sizes.Tie as tie
@@ -19,38 +23,60 @@ Inv-loop t matrix inverse n columns out₀ i₀ i-end out i = (i ≤ n * n) × (
 abbrev μ-loop : tie.MeasureT-loop
 μ-loop t matrix inverse n columns out₀ i₀ i-end out i = n * n - i
 
+abbrev start : tie.In-loop Inv-loop μ-loop → tie.Start Inv-loop μ-loop
+start c = c .before .before .before .before .before .before .before
+
+-- the residual of this turn
 module _ (c : tie.In-loop Inv-loop μ-loop) where
+  residual-is : getD (c .before .before .inverse-residuals-of .result) (c .before .loop .i) (pos 0)
+      ≡ columnResidual (start c .args .n) (start c .args .t) (start c .args .inverse .now) (start c .args .matrix .now) (c .before .loop .i / start c .args .n) (c .before .loop .i % start c .args .n)
+  residual-is =
+      let a = start c .args in
+      let i = c .before .loop .i in
+      let l = in-square (a .n) i (c .loop-test .taken) in
+      c .before .before .inverse-residuals-of .ensures .each i (c .loop-test .taken)
+      ∙ residual-of-rows (a .n) (a .t) (a .inverse .now) [] (c .before .before .before .before .before .raise-rows .ensures) (i / a .n) (i % a .n) (l .0) (l .1)
+
   residual-here : natAbs (getD (c .before .before .inverse-residuals-of .result) (c .before .loop .i) (pos 0)) < 2 ^ 63
   residual-here =
-      let s = c .before .before .before in
+      let s = start c in
       let i = c .before .loop .i in
       let l = in-square (s .args .n) i (c .loop-test .taken) in
-      rw (c .before .before .inverse-residuals-of .ensures .each i (c .loop-test .taken))
-      (omega (arith, residual-size (s .args .n) (s .args .t) (s .args .matrix .now) (s .args .inverse .now) (s .pre .0 .0) (s .pre .0 .1) (s .pre .1 .0) (s .pre .1 .1) (i / s .args .n) (i % s .args .n) (l .1) (l .0)))
+      rw residual-is
+      (omega (arith, residual-size (s .args .n) (s .args .t) (s .args .inverse .now) (s .args .matrix .now) (s .pre .0 .0) (s .pre .0 .1) (s .pre .1 .1) (s .pre .1 .0) (i / s .args .n) (i % s .args .n) (l .0) (l .1)))
+
+  inside : c .before .loop .i < 1024
+  inside = omega (arith, square (start c .pre .0 .1), c .loop-test .taken)
+
+slice-aggregate-raise-rows : tie.Need-slice-aggregate-raise-rows Inv-loop μ-loop
+slice-aggregate-raise-rows c = search needs
+
+raise-rows-requires : tie.Need-raise-rows-requires Inv-loop μ-loop
+raise-rows-requires c κs = let p = c .before .pre in ((p .0 .1, lit≤ tt), raisable (p .1 .0))
 
 inverse-residuals-of-requires : tie.Need-inverse-residuals-of-requires Inv-loop μ-loop
-inverse-residuals-of-requires c κs = search needs
+inverse-residuals-of-requires c κs = let p = c .before .before .before .before .pre in (p .0, (p .1 .1, c .before .before .raise-rows .ensures .rows))
 
 mul-i-end : tie.Need-mul-i-end Inv-loop μ-loop
-mul-i-end c = omega (arith, square (c .before .pre .0 .1))
+mul-i-end c = omega (arith, square (c .before .before .before .before .before .pre .0 .1))
 
 loop-holds : tie.Need-loop-holds Inv-loop μ-loop
 loop-holds c = (omega arith, (refl, begins-none _ _ _))
 
 mul-magnitude : tie.Need-mul-magnitude Inv-loop μ-loop
-mul-magnitude c = omega (arith, square (c .before .before .before .pre .0 .1))
+mul-magnitude c = omega (arith, inside c)
 
 array-copy-out-magnitude : tie.Need-array-copy-out-magnitude Inv-loop μ-loop
-array-copy-out-magnitude c = omega (arith, square (c .before .before .before .pre .0 .1), c .loop-test .taken)
+array-copy-out-magnitude c = inside c
 
 magnitude-requires : tie.Need-magnitude-requires Inv-loop μ-loop
 magnitude-requires c κs = rw (read _ (c .magnitude-arg .given)) (residual-here (c .before))
 
 mul-out : tie.Need-mul-out Inv-loop μ-loop
-mul-out c = omega (arith, square (c .before .before .before .before .before .pre .0 .1))
+mul-out c = omega (arith, inside (c .before .before))
 
 array-write-out : tie.Need-array-write-out Inv-loop μ-loop
-array-write-out c = omega (arith, square (c .before .before .before .before .before .pre .0 .1), c .before .before .loop-test .taken)
+array-write-out c = inside (c .before .before)
 
 add-i : tie.Need-add-i Inv-loop μ-loop
 add-i c = search needs
@@ -65,8 +91,7 @@ loop-again c =
       omega arith,
       (
         simp length-set (l .inv .1 .0),
-        begins-more _ _ _ _ _ (l .inv .1 .1) (omega (arith, square (t .before .before .before .pre .0 .1), t .loop-test .taken))
-            (rw (read _ (c .before .magnitude-arg .given), t .before .before .inverse-residuals-of .ensures .each (l .i) (t .loop-test .taken)) at (c .magnitude .ensures)),
+        begins-more _ _ _ _ _ (l .inv .1 .1) (omega (arith, inside t)) (rw (read _ (c .before .magnitude-arg .given), residual-is t) at (c .magnitude .ensures)),
       ),
     )
 
@@ -79,6 +104,8 @@ defect-sizes-spec =
     (tie.spec
     Inv-loop
     μ-loop
+    slice-aggregate-raise-rows
+    raise-rows-requires
     inverse-residuals-of-requires
     mul-i-end
     loop-holds

@@ -1,0 +1,96 @@
+-- The two parts of a number, and one row more in the sums that it belongs to.
+--   signs — a number is its part of 0 or more less its part below 0;  up-size, down-size — these are at most its size
+--   half-below, half-above — the code's test of the sign;  half-ends, half-room — the sums that a number belongs to end within the 64 and have room
+--   read-at — a small number of a list is read as it stands
+--   added-none, added-row — nothing for 0, and a row of multiples stored in those sums;  stored-ahead — what stands at the place that comes next
+use mathlib.Core.List.{List}
+use mathlib.Core.Bool.{true, false}
+use mathlib.Core.Path.{_≡_, refl, sym, ap, subst, _∙_}
+use Prim.Native.Nat.{ℕ, _+_, _*_, _≤_, _<_, _^_}
+use native.Mathlib.Omega.{arith}
+use borrow.Author.Tests.{ltb-true}
+use lib.Dec.{T}
+use lib.IntN.{ℤ, pos, negsuc, natAbs, _-ℤ_, +ℤ-idl}
+use lib.ListN.{getD, length}
+use lib.Signed.{ltZ}
+use mir.Syntax.{w64}
+use mir.Val.{toZ, ofZ}
+use mir.ValLaws.{toZ-ofZ}
+use Rattle.integer.proofs.Difference.{zz}
+use Rattle.integer.proofs.Machine.{small}
+use Rattle.linear.specs.Slice.{at}
+use Rattle.linear.specs.Place.{Carried}
+use Rattle.linear.proofs.Carried.{unit-place}
+use Rattle.reckoning.specs.Arrays.{stored}
+use Rattle.reckoning.proofs.Filled.{stored-at, stored-else, stored-length}
+use Rattle.differences.specs.Sums.{up, down, halfOf, Room, Added}
+
+-- ---- the two parts of a number
+pub signs : (x : ℤ) → x ≡ pos (up x) -ℤ pos (down x)
+unfolding up down
+signs (pos a) = simp zz (omega arith)
+signs (negsuc a) = sym (+ℤ-idl (negsuc a))
+
+pub up-size : (x : ℤ) → up x ≤ natAbs x
+unfolding up
+up-size (pos a) = omega arith
+up-size (negsuc a) = omega arith
+
+pub down-size : (x : ℤ) → down x ≤ natAbs x
+unfolding down
+down-size (pos a) = omega arith
+down-size (negsuc a) = omega arith
+
+pub half-ends : (x : ℤ) {n : ℕ} → n ≤ 32 → halfOf x + n ≤ 64
+unfolding halfOf
+half-ends (pos a) h = omega arith
+half-ends (negsuc a) h = omega arith
+
+pub half-below : (x : ℤ) → ltZ x (pos 0) ≡ true → 32 ≡ halfOf x
+unfolding halfOf
+half-below (pos a) e = absurd (omega (arith, ltb-true a 0 e))
+half-below (negsuc a) e = refl
+
+pub half-above : (x : ℤ) → ltZ x (pos 0) ≡ false → 0 ≡ halfOf x
+unfolding halfOf
+half-above (pos a) e = refl
+half-above (negsuc a) e = absurd (subst T e tt)
+
+pub half-room : (x : ℤ) {sums : List ℕ} {n : ℕ} → Room sums 0 n → Room sums 32 n → Room sums (halfOf x) n
+unfolding halfOf
+half-room (pos a) p q = p
+half-room (negsuc a) p q = q
+
+-- a small number of a list is read as it stands
+pub read-at : (xs : List ℤ) {k p : ℕ} → k ≡ p → natAbs (at xs p) ≤ 2 ^ 20 → toZ w64 (ofZ w64 (at xs k)) ≡ at xs p
+read-at xs {k} {p} e h = rw e (toZ-ofZ w64 (at xs p) (small (at xs p) (omega (arith, h))))
+
+-- ---- one row more
+pub added-none : (sums : List ℕ) (n : ℕ) (row : ℕ → ℕ) → Added sums sums n (pos 0) row
+unfolding up down
+added-none sums n row = record { long = refl; ups = λ j l. omega arith; downs = λ j l. omega arith }
+
+module _ (sums : List ℕ) (n : ℕ) (few : n ≤ 32) (long : length sums ≡ 64) (row : ℕ → ℕ) where
+  -- the numbers from place p on
+  module _ (p : ℕ) (inside : p + n ≤ 64) (f : ℕ → ℕ) where
+    stored-here : (j q : ℕ) → q ≡ p + j → j < n → getD (stored sums p 1 f n) q 0 ≡ f j
+    stored-here j q e l =
+        ap (λ (k : ℕ). getD (stored sums p 1 f n) k 0) (omega arith)
+        ∙ stored-at sums p 1 f 0 n j (omega arith) l (λ k m. omega arith)
+
+  pub added-row : (x : ℤ) → Added sums (stored sums (halfOf x) 1 (λ (j : ℕ). getD sums (halfOf x + j) 0 + natAbs x * row j) n) n x row
+  unfolding up down halfOf
+  added-row (pos a) = record {
+    long = stored-length sums 0 1 _ n;
+    ups = λ j l. let e : j ≡ 0 + j = omega arith in stored-here 0 (omega arith) _ j j e l ∙ rw (← e);
+    downs = λ j l. stored-else sums 0 1 _ 0 n (32 + j) (λ i m e. omega arith) ∙ omega arith;
+  }
+  added-row (negsuc a) = record {
+    long = stored-length sums 32 1 _ n;
+    ups = λ j l. stored-else sums 32 1 _ 0 n j (λ i m e. omega arith) ∙ omega arith;
+    downs = λ j l. stored-here 32 (omega arith) _ j (32 + j) refl l;
+  }
+
+-- what stands at the place that comes next
+pub stored-ahead : {now : List ℕ} {p to : ℕ} (xs : List ℕ) (f : ℕ → ℕ) (j : ℕ) → now ≡ stored xs p 1 f j → Carried p 1 j to → getD now to 0 ≡ getD xs (p + j) 0
+stored-ahead {now} {p} {to} xs f j e h = rw (e, unit-place h) (stored-else xs p 1 f 0 j (p + j) (λ i l q. omega arith))

@@ -1,0 +1,88 @@
+use mathlib.Core.List.{List}
+use mathlib.Core.Path.{_≡_, sym, ap₂, _∙_}
+use Prim.Native.Nat.{ℕ, _≤_, _-_}
+use native.Mathlib.Omega.{arith}
+use native.Mathlib.Nat.{mul-le-mul}
+use lib.IntN.{ℤ, pos}
+use Rattle.linear.specs.Place.{Carried}
+use Rattle.linear.proofs.Carried.{carried-first, carried-next, start-place}
+use Rattle.linear.proofs.Places.{square}
+use Rattle.reckoning.specs.Arrays.{stored, storedColumns}
+use Rattle.reckoning.proofs.Filled.{columns-none, columns-next, columns-end}
+use Rattle.reckoning.proofs.Columns.{columns-whole}
+use Rattle.differences.specs.Difference.{numberLess, difference}
+use borrow.Author.Needs.{needs}
+use Rattle.differences.proofs.differences_of.Statement.{statement}
+use Rattle.differences.proofs.differences_of.Tie as tie
+
+abbrev Inv-loop : tie.InvT-loop
+Inv-loop t xs step stride rows n out₀ start₀ m₀ out start m =
+    (m ≤ n) × (Carried 0 step m start × (out ≡ storedColumns out₀ n (difference n t xs step stride rows) m))
+
+abbrev μ-loop : tie.MeasureT-loop
+μ-loop t xs step stride rows n out₀ start₀ m₀ out start m = n - m
+
+-- where the row starts
+starts : (t : tie.In-loop Inv-loop μ-loop) → t .before .loop .start ≤ 1024
+starts t =
+    let few : t .before .loop .m ≤ 32 = omega (arith, t .before .loop .inv .0, t .before .before .pre .0 .1 .0) in
+    rw (start-place (t .before .loop .inv .1 .0)) (mul-le-mul few (t .before .before .pre .0 .1 .1 .0))
+
+loop-holds : tie.Need-loop-holds Inv-loop μ-loop
+loop-holds c = (omega arith, (carried-first _ _, sym (columns-none _ _ _)))
+
+store-row-requires : tie.Need-store-row-requires Inv-loop μ-loop
+store-row-requires c κs =
+    let t = c .before .before in
+    let l = t .before .loop in
+    let s = t .before .before in (
+      (
+        s .pre .0 .0,
+        (s .pre .0 .1 .0, (t .loop-test .taken, omega (arith, starts t, mul-le-mul (s .pre .0 .1 .0) (s .pre .0 .1 .1 .1)))),
+      ),
+      (rw (start-place (l .inv .1 .0)) (s .pre .1 .0 (l .m) (t .loop-test .taken)), s .pre .1 .1),
+    )
+
+add-start : tie.Need-add-start Inv-loop μ-loop
+add-start c = let t = c .before .before .before in omega (arith, starts t, t .before .before .pre .0 .1 .1 .0)
+
+add-m : tie.Need-add-m Inv-loop μ-loop
+add-m c = search needs
+
+loop-less : tie.Need-loop-less Inv-loop μ-loop
+loop-less c = search needs
+
+loop-again : tie.Need-loop-again Inv-loop μ-loop
+loop-again c =
+    let t = c .before .before .before in
+    let l = t .before .loop in
+    let a = t .before .before .args in (
+      omega arith,
+      (
+        carried-next (l .inv .1 .0),
+        c .store-row .ensures
+            ∙ ap₂ (λ (ys : List ℤ) (p : ℕ). stored ys (l .m) (a .n) (λ (j : ℕ). numberLess (a .t) (a .xs .now) p (a .stride) (a .rows .now) (a .n) (l .m) j) (a .n)) (l .inv .1 .1) (start-place (l .inv .1 .0))
+            ∙ sym (columns-next _ _ _ (l .m)),
+      ),
+    )
+
+returns : tie.Need-returns Inv-loop μ-loop
+returns c =
+    let l = c .before .loop in
+    let s = c .before .before in
+    rw (l .inv .1 .1 ∙ columns-end _ _ _ (l .inv .0) (c .loop-test .left))
+    (columns-whole (pos 0) _ (s .args .n) (difference (s .args .n) (s .args .t) (s .args .xs .now) (s .args .step) (s .args .stride) (s .args .rows .now)) (square (s .pre .0 .1 .0)))
+
+pub differences-of-spec : {M : Type 1} → statement M
+differences-of-spec =
+    tie.close
+    (tie.spec
+    Inv-loop
+    μ-loop
+    loop-holds
+    store-row-requires
+    add-start
+    add-m
+    loop-less
+    loop-again
+    returns)
