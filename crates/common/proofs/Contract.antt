@@ -13,7 +13,7 @@ use borrow.Author.Tests.{ltb-false}
 use lib.IntN.{ℤ, pos}
 use lib.ListN.{length}
 use Rattle.linear.specs.Slice.{at}
-use Rattle.rules.specs.Order.{accepted}
+use Rattle.rules.specs.Order.{ifAccepted}
 use Rattle.rules.specs.Range.{shortColumn}
 use Rattle.rules.specs.Refusal.{said}
 use Rattle.rules.specs.declared.Outcome.the-variants.{Refused}
@@ -132,7 +132,7 @@ module _ (Q : Proposals) where
               }
 
 -- ---- past the first n places
-kept : (w : List ℕ) (xs : List ℤ) (f : ℕ → ℤ) (n k : ℕ) → n ≤ k → at (accepted w (stored xs 0 1 f n) xs) k ≡ at xs k
+kept : (w : List ℕ) (xs : List ℤ) (f : ℕ → ℤ) (n k : ℕ) → n ≤ k → at (ifAccepted w (stored xs 0 1 f n) xs) k ≡ at xs k
 kept [] xs f n k h = ends-else xs f n k h
 kept (x ∷ w) xs f n k h = refl
 

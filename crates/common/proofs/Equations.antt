@@ -19,8 +19,8 @@ use Rattle.linear.proofs.Places.{place}
 use Rattle.rules.proofs.Ranges.{both, both-left, both-right}
 use Rattle.enclosure.specs.Demand.{RightSide, ExactSolution, ExactSolutionOf}
 use Rattle.checked.specs.Input.{Input, problem}
-use Rattle.observation.specs.Line.{sameNumber}
-use Rattle.observation.proofs.Laws.{same-number, number-same}
+use Rattle.integer.specs.Same.{sameNumber}
+use Rattle.integer.proofs.Same.{same-number, number-same}
 use Rattle.common.specs.Proposals.{allSame, sameEquations}
 use Rattle.common.specs.Stated.{SameEquations}
 
