@@ -6,6 +6,7 @@
 --   InRange u    — every number that a check uses is in its range
 --   ReckoningSays w — w is nothing, 5, 6 or 7
 use mathlib.Core.Bool.{true}
+use mathlib.Core.List.{List, [], _∷_}
 use mathlib.Core.Path.{_≡_}
 use Prim.Native.Nat.{ℕ, _+_, _*_, _-_, _<_}
 use lib.IntN.{ℤ, pos, natAbs}
