@@ -17,7 +17,7 @@ use Rattle.integer.proofs.Search.{first-ext}
 use Rattle.linear.specs.Reach.{ColumnList}
 use Rattle.linear.specs.Slice.{at, vectorOf}
 use Rattle.linear.proofs.Slack.{slack-ext}
-use Rattle.rules.specs.Order.{accepted}
+use Rattle.rules.specs.Order.{ifAccepted}
 use Rattle.rules.specs.Range.{allInRange}
 use Rattle.rules.specs.declared.Kind.the-variants as kind
 use Rattle.rules.specs.declared.Outcome.{Outcome}
@@ -182,8 +182,8 @@ module _ (marks s₁ : ℕ) (guess : List ℤ) (limits : List ℕ) (coupling : L
         (λ m l. refl)
 
     solution-is : (l : List ℕ) → dependentReckoned D ≡ l →
-        accepted l (written (I .n) (boundWith (workProblem W) (workResidual W) (workSlack W)) (I .solutionBounds)) (I .solutionBounds)
-        ≡ accepted l (written (I .n) (dependentBound D) (I .solutionBounds)) (I .solutionBounds)
+        ifAccepted l (written (I .n) (boundWith (workProblem W) (workResidual W) (workSlack W)) (I .solutionBounds)) (I .solutionBounds)
+        ≡ ifAccepted l (written (I .n) (dependentBound D) (I .solutionBounds)) (I .solutionBounds)
     solution-is [] e = written-ext (I .n) (boundWith (workProblem W) (workResidual W) (workSlack W)) (dependentBound D) (I .solutionBounds) (λ i l. bound-is e i)
     solution-is (k ∷ ks) e = refl
 

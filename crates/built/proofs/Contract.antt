@@ -8,7 +8,7 @@ use borrow.Author.Tests.{leb-true, leb-false, lt-ltb, le-ltb}
 use lib.Dec.{leb, ltb}
 use lib.IntN.{ℤ, pos}
 use lib.ListN.{length}
-use Rattle.rules.specs.Order.{accepted}
+use Rattle.rules.specs.Order.{ifAccepted}
 use Rattle.rules.specs.Range.{inRange}
 use Rattle.rules.specs.declared.Kind.the-variants as kind
 use Rattle.rules.proofs.Verdicts.{nothing-is-not}
@@ -54,7 +54,7 @@ module _ (n : ℕ) (ls : List Observation) (layout : Layout) (a b : List ℤ) wh
   lines-silent true t e = absurd (nothing-is-not e)
   lines-silent false t e = e
 
-  kept : (t : List ℕ) → t ≡ saidFinally (shortFor layout a b) (saidBuilt (gatheredOf n ls .told)) → {A : Type 0} (new new′ old : A) → (saidBuilt (gatheredOf n ls .told) ≡ [] → new ≡ new′) → accepted t new old ≡ accepted t new′ old
+  kept : (t : List ℕ) → t ≡ saidFinally (shortFor layout a b) (saidBuilt (gatheredOf n ls .told)) → {A : Type 0} (new new′ old : A) → (saidBuilt (gatheredOf n ls .told) ≡ [] → new ≡ new′) → ifAccepted t new old ≡ ifAccepted t new′ old
   kept [] e new new′ old h = h (lines-silent (shortFor layout a b) _ (sym e))
   kept (k ∷ ks) e new new′ old h = refl
 
@@ -65,10 +65,10 @@ module _ (n : ℕ) (ls : List Observation) (layout : Layout) (a b : List ℤ) wh
         f .matrix
         ∙ kept (saidBuilt r) (f .says) (matrixWritten layout (gatheredOf n ls .n) (keptMatrix (gatheredOf n ls)) a) (matrixWritten layout n (builtMatrix ls) a) a
         (λ e. ap (λ (k : ℕ). matrixWritten layout k (keptMatrix (gatheredOf n ls)) a) (w .size) ∙ rows-ext (widthOf layout n) n (keptMatrix (gatheredOf n ls)) (builtMatrix ls) a (λ i j. w .sums e (weightAt (i + 1) (j + 1))))
-        ∙ ap (λ (t : List ℕ). accepted t (matrixWritten layout n (builtMatrix ls) a) a) (f .says ∙ says);
+        ∙ ap (λ (t : List ℕ). ifAccepted t (matrixWritten layout n (builtMatrix ls) a) a) (f .says ∙ says);
     right =
         f .right
         ∙ kept (saidBuilt r) (f .says) (rightWritten (gatheredOf n ls .n) (keptRight (gatheredOf n ls)) b) (rightWritten n (builtRight ls) b) b
         (λ e. ap (λ (k : ℕ). rightWritten k (keptRight (gatheredOf n ls)) b) (w .size) ∙ written-ext 0 n (keptRight (gatheredOf n ls)) (builtRight ls) b (λ i m. w .sums e (gain (i + 1))))
-        ∙ ap (λ (t : List ℕ). accepted t (rightWritten n (builtRight ls) b) b) (f .says ∙ says);
+        ∙ ap (λ (t : List ℕ). ifAccepted t (rightWritten n (builtRight ls) b) b) (f .says ∙ says);
   }

@@ -22,7 +22,8 @@ use Rattle.observation.specs.declared.Built.{Built}
 use Rattle.observation.specs.declared.Observation.{Observation}
 use Rattle.observation.specs.Distinct.{builtMatrix, builtRight}
 use Rattle.observation.specs.Order.{saidBuilt, buildAnswer}
-use Rattle.observation.specs.Stated.{Among, Admitted, Fits}
+use Rattle.integer.specs.Among.{Among}
+use Rattle.observation.specs.Stated.{Admitted, Fits}
 use Rattle.observation.proofs.Lines.{builds-fits}
 use Rattle.observation.proofs.Net.{matrix-in-range, right-in-range}
 use Rattle.observation.proofs.Repeated.{repeated}

@@ -10,7 +10,7 @@ use mathlib.Core.Path.{_≡_}
 use Prim.Native.Nat.{ℕ}
 use lib.IntN.{ℤ}
 use lib.ListN.{length}
-use Rattle.rules.specs.Order.{accepted}
+use Rattle.rules.specs.Order.{ifAccepted}
 use Rattle.rules.specs.Range.{shortMatrix, shortColumn}
 use Rattle.lower_half.specs.Half.{shortHalf}
 use Rattle.observation.specs.declared.Built.{Built}
@@ -32,5 +32,5 @@ shortFor layout a b = shortAs layout (length a) || shortColumn (length b)
 -- 02, Paper 3: "The builder takes a list of field lines, at most 256, and fills matrix and right side from zero."
 pub record BuiltAs (n : ℕ) (ls : List Observation) (layout : Layout) (a b : List ℤ) (r : Built) (a′ b′ : List ℤ) : Type 0 where
   pub says : saidBuilt r ≡ buildAnswer n ls (shortFor layout a b)
-  pub matrix : a′ ≡ accepted (buildAnswer n ls (shortFor layout a b)) (matrixWritten layout n (builtMatrix ls) a) a
-  pub right : b′ ≡ accepted (buildAnswer n ls (shortFor layout a b)) (rightWritten n (builtRight ls) b) b
+  pub matrix : a′ ≡ ifAccepted (buildAnswer n ls (shortFor layout a b)) (matrixWritten layout n (builtMatrix ls) a) a
+  pub right : b′ ≡ ifAccepted (buildAnswer n ls (shortFor layout a b)) (rightWritten n (builtRight ls) b) b

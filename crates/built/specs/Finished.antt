@@ -6,7 +6,7 @@ use mathlib.Core.List.{List, [], _∷_}
 use mathlib.Core.Path.{_≡_}
 use Prim.Native.Nat.{ℕ}
 use lib.IntN.{ℤ}
-use Rattle.rules.specs.Order.{accepted}
+use Rattle.rules.specs.Order.{ifAccepted}
 use Rattle.observation.specs.declared.Built.{Built}
 use Rattle.observation.specs.Order.{saidBuilt}
 use Rattle.gathering.specs.declared.Gathered.{Gathered}
@@ -20,5 +20,5 @@ saidFinally short lines = cond short (8 ∷ []) lines
 
 pub record Finished (g : Gathered) (layout : Layout) (a b : List ℤ) (r : Built) (a′ b′ : List ℤ) : Type 0 where
   pub says : saidBuilt r ≡ saidFinally (shortFor layout a b) (saidBuilt (g .told))
-  pub matrix : a′ ≡ accepted (saidBuilt r) (matrixWritten layout (g .n) (keptMatrix g) a) a
-  pub right : b′ ≡ accepted (saidBuilt r) (rightWritten (g .n) (keptRight g) b) b
+  pub matrix : a′ ≡ ifAccepted (saidBuilt r) (matrixWritten layout (g .n) (keptMatrix g) a) a
+  pub right : b′ ≡ ifAccepted (saidBuilt r) (rightWritten (g .n) (keptRight g) b) b

@@ -16,7 +16,7 @@ use Prim.Native.Nat.{ℕ, _*_, _/_, _%_}
 use lib.ListN.{length}
 use Rattle.integer.specs.Finite.{first}
 use Rattle.linear.specs.Slice.{at}
-use Rattle.rules.specs.Order.{Test, number, verdict, accepted}
+use Rattle.rules.specs.Order.{Test, number, verdict, ifAccepted}
 use Rattle.rules.specs.Range.{allInRange, shortMatrix, shortColumn}
 use Rattle.rules.specs.declared.Kind.the-variants as kind
 use Rattle.enclosure.specs.Before.{exceeds05, exceeds01, bound01, inverseBound01}
@@ -79,11 +79,11 @@ unfoldable pub answer01 : Input → List ℕ
 answer01 I = verdict (number 8 (short01 I) ∷ number 3 (not (inRanges01 I)) ∷ reckonedOf01 (problem I))
 
 unfoldable pub solutionAfter01 : Input → List ℕ
-solutionAfter01 I = accepted (answer01 I) (written (I .n) (bound01 (problem I)) (I .solutionBounds)) (I .solutionBounds)
+solutionAfter01 I = ifAccepted (answer01 I) (written (I .n) (bound01 (problem I)) (I .solutionBounds)) (I .solutionBounds)
 
 unfoldable pub inverseAfter01 : Input → List ℕ
 inverseAfter01 I =
-    accepted (answer01 I) (written (I .n * I .n) (λ (k : ℕ). inverseBound01 (problem I) (k / I .n) (k % I .n)) (I .inverseBounds))
+    ifAccepted (answer01 I) (written (I .n * I .n) (λ (k : ℕ). inverseBound01 (problem I) (k / I .n) (k % I .n)) (I .inverseBounds))
     (I .inverseBounds)
 
 pub record Unmoved (I : Input) : Type 0 where

@@ -10,7 +10,7 @@ use mathlib.Core.Path.{_≡_}
 use Prim.Native.Nat.{ℕ, zero, suc, _+_, _*_, _/_, _%_}
 use lib.ListN.{getD, set}
 use Rattle.linear.specs.Matrix.{Vec, Mat}
-use Rattle.rules.specs.Order.{accepted}
+use Rattle.rules.specs.Order.{ifAccepted}
 use Rattle.rules.specs.Refusal.{said}
 use Rattle.rules.specs.declared.Outcome.{Outcome}
 use Rattle.enclosure.specs.Demand.{Encloses, RoundedExact}
@@ -23,11 +23,11 @@ written zero f l = l
 written (suc n) f l = set (written n f l) n (f n)
 
 abbrev pub solutionAfter : List ℕ → Input → List ℕ
-solutionAfter said I = accepted said (written (I .n) (bound (problem I)) (I .solutionBounds)) (I .solutionBounds)
+solutionAfter said I = ifAccepted said (written (I .n) (bound (problem I)) (I .solutionBounds)) (I .solutionBounds)
 
 abbrev pub inverseAfter : List ℕ → Input → List ℕ
 inverseAfter said I =
-    accepted said (written (I .n * I .n) (λ (k : ℕ). inverseBound (problem I) (k / I .n) (k % I .n)) (I .inverseBounds)) (I .inverseBounds)
+    ifAccepted said (written (I .n * I .n) (λ (k : ℕ). inverseBound (problem I) (k / I .n) (k % I .n)) (I .inverseBounds)) (I .inverseBounds)
 
 unfoldable pub solutionBoundsAfter : Input → List ℕ
 solutionBoundsAfter I = solutionAfter (answer I) I

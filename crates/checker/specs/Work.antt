@@ -19,7 +19,7 @@ use Rattle.integer.specs.Finite.{first}
 use Rattle.linear.specs.Matrix.{Vec}
 use Rattle.linear.specs.Slice.{at}
 use Rattle.linear.specs.Reach.{ColumnList, MatrixList}
-use Rattle.rules.specs.Order.{verdict, accepted}
+use Rattle.rules.specs.Order.{verdict, ifAccepted}
 use Rattle.rules.specs.Refusal.{said}
 use Rattle.rules.specs.declared.Outcome.{Outcome}
 use Rattle.enclosure.specs.Problem.{Problem, problemOf}
@@ -91,12 +91,12 @@ pub record Workable (W : Work) : Type 0 where
 
 abbrev pub solutionOf : Work → List ℕ
 solutionOf W =
-    accepted (workAnswer W) (written (W .n) (boundWith (workProblem W) (workResidual W) (workSlack W)) (W .solutionBounds))
+    ifAccepted (workAnswer W) (written (W .n) (boundWith (workProblem W) (workResidual W) (workSlack W)) (W .solutionBounds))
     (W .solutionBounds)
 
 abbrev pub inverseOf : Work → List ℕ
 inverseOf W =
-    accepted (workAnswer W)
+    ifAccepted (workAnswer W)
     (written (W .n * W .n) (λ (k : ℕ). inverseBound (workProblem W) (k / W .n) (k % W .n)) (W .inverseBounds)) (W .inverseBounds)
 
 pub record ReckonedAs (W : Work) (r : Outcome) (E L : List ℕ) : Type 0 where

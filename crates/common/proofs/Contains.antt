@@ -20,10 +20,11 @@ use Rattle.checked.specs.Order.{answer}
 use Rattle.checked.proofs.Contract.{answer-ready, said-sound}
 use Rattle.checked.proofs.Fit.{fit-of}
 use Rattle.checked.proofs.Statements.{accepted-usable}
-use Rattle.common.specs.Ends.{maxℤ, minℤ, finer, lowOf, highOf, lowEnd, highEnd, WithinEnds, Contains}
+use Rattle.common.specs.Ends.{finer, lowOf, highOf, lowEnd, highEnd, WithinEnds, Contains}
 use Rattle.common.specs.Stated.{SameEquations}
 use Rattle.common.proofs.Equations.{right-carried, solution-carried, at-b-carried}
-use Rattle.common.proofs.Order.{low-side, high-side, between, max-either, min-either}
+use Rattle.integer.proofs.Order.{low-side, high-side}
+use Rattle.common.proofs.Order.{between, max-either, min-either}
 
 pub accepted-encloses : (I : Input) → answer I ≡ [] → Encloses (problem I) (bound (problem I)) (inverseBound (problem I))
 accepted-encloses I e =

@@ -5,7 +5,7 @@
 --   common-short, common-first, common-second, common-different, common-wide, common-found — the contract where 8 is said, where a refusal of the first or of
 --     the second proposal is, where 20 is, where 21 is, and where the intervals are found
 use mathlib.Core.Path.{_≡_, refl, sym, ap, _∙_}
-use mathlib.Core.Bool.{Bool, true, false, _||_}
+use mathlib.Core.Bool.{true, false, _||_}
 use mathlib.Core.List.{List, [], _∷_}
 use Prim.Native.Nat.{ℕ, _+_, _*_, _≤_, _<_}
 use native.Mathlib.Omega.{arith}
@@ -13,7 +13,7 @@ use borrow.Author.Tests.{ltb-false}
 use lib.IntN.{ℤ, pos}
 use lib.ListN.{length}
 use Rattle.linear.specs.Slice.{at}
-use Rattle.rules.specs.Order.{accepted}
+use Rattle.rules.specs.Order.{ifAccepted}
 use Rattle.rules.specs.Range.{shortColumn}
 use Rattle.rules.specs.Refusal.{said}
 use Rattle.rules.specs.declared.Outcome.the-variants.{Refused}
@@ -22,14 +22,13 @@ use Rattle.rules.proofs.Ranges.{neither-left, neither-right}
 use Rattle.rules.proofs.Verdicts.{accepted-new, accepted-old, nothing-is-not}
 use Rattle.reckoning.specs.Arrays.{stored}
 use Rattle.reckoning.proofs.Filled.{stored-at, stored-else}
-use Rattle.checked.specs.Input.{Input}
 use Rattle.checked.specs.Order.{answer}
 use Rattle.checked.proofs.Fit.{fit-of}
 use Rattle.checked.proofs.Statements.{accepted-usable}
 use Rattle.common.specs.declared.Common.{Common}
 use Rattle.common.specs.declared.Common.the-variants.{Found, TooShort, First, Second, Different, TooWide}
 use Rattle.common.specs.Proposals.{Proposals, shortIntervals, sameEquations, tooWide}
-use Rattle.common.specs.Ends.{lowEnd, highEnd, Contains}
+use Rattle.common.specs.Ends.{lowEnd, highEnd}
 use Rattle.common.specs.Answer.{saidCommon, commonAnswer, lowAfter, highAfter, CommonAs}
 use Rattle.common.proofs.Contains.{contains, contains-as}
 use Rattle.common.proofs.Equations.{same-of}
@@ -132,7 +131,7 @@ module _ (Q : Proposals) where
               }
 
 -- ---- past the first n places
-kept : (w : List ℕ) (xs : List ℤ) (f : ℕ → ℤ) (n k : ℕ) → n ≤ k → at (accepted w (stored xs 0 1 f n) xs) k ≡ at xs k
+kept : (w : List ℕ) (xs : List ℤ) (f : ℕ → ℤ) (n k : ℕ) → n ≤ k → at (ifAccepted w (stored xs 0 1 f n) xs) k ≡ at xs k
 kept [] xs f n k h = ends-else xs f n k h
 kept (x ∷ w) xs f n k h = refl
 

@@ -3,14 +3,14 @@
 --   same-of, of-same   — the test of the equations, and its record
 --   exchanged-same     — in the other order
 --   right-carried, solution-carried, at-b-carried — a right side within the tolerances, an exact solution of one, and one of b itself
-use mathlib.Core.Path.{_≡_, refl, sym, ap, subst, _∙_}
-use mathlib.Core.Bool.{Bool, true, false, _&&_}
+use mathlib.Core.Path.{_≡_, refl, sym, ap, _∙_}
+use mathlib.Core.Bool.{true}
 use mathlib.Core.List.{List}
-use Prim.Native.Nat.{ℕ, zero, suc, _*_, _≤_, _<_}
+use Prim.Native.Nat.{ℕ, zero, suc, _*_, _<_}
 use native.Mathlib.Omega.{arith}
 use borrow.Author.Tests.{eqb-true, eq-eqb}
-use lib.Dec.{T, eqb}
-use lib.IntN.{ℤ, pos, natAbs, _-ℤ_, _*ℤ_}
+use lib.Dec.{eqb}
+use lib.IntN.{ℤ, _*ℤ_}
 use Rattle.integer.proofs.Search.{upto}
 use Rattle.integer.proofs.Sum.{sum-ext}
 use Rattle.linear.specs.Matrix.{Vec, apply}
@@ -19,8 +19,8 @@ use Rattle.linear.proofs.Places.{place}
 use Rattle.rules.proofs.Ranges.{both, both-left, both-right}
 use Rattle.enclosure.specs.Demand.{RightSide, ExactSolution, ExactSolutionOf}
 use Rattle.checked.specs.Input.{Input, problem}
-use Rattle.observation.specs.Line.{sameNumber}
-use Rattle.observation.proofs.Laws.{same-number, number-same}
+use Rattle.integer.specs.Same.{sameNumber}
+use Rattle.integer.proofs.Same.{same-number, number-same}
 use Rattle.common.specs.Proposals.{allSame, sameEquations}
 use Rattle.common.specs.Stated.{SameEquations}
 

@@ -13,7 +13,7 @@ use lib.IntN.{ℤ, pos, _+ℤ_, _-ℤ_, _*ℤ_}
 use Rattle.integer.proofs.Ring.{one-*}
 use Rattle.linear.specs.Slice.{at}
 use Rattle.rules.proofs.Verdicts.{accepted-new}
-use Rattle.rules.specs.Order.{accepted}
+use Rattle.rules.specs.Order.{ifAccepted}
 use Rattle.reckoning.specs.Arrays.{stored}
 use Rattle.reckoning.proofs.Filled.{stored-ext}
 use Rattle.enclosure.specs.Reckoning.{bound}
@@ -84,7 +84,7 @@ module _ (Q : Proposals) where
   exchanged-said = turned (stated Q)
 
   -- ---- the lists
-  either-way : (old new new′ : List ℤ) {w w′ : List ℕ} → Exchanged Q w w′ → (w ≡ [] → new′ ≡ new) → accepted w′ new′ old ≡ accepted w new old
+  either-way : (old new new′ : List ℤ) {w w′ : List ℕ} → Exchanged Q w w′ → (w ≡ [] → new′ ≡ new) → ifAccepted w′ new′ old ≡ ifAccepted w new old
   either-way old new new′ (of-neither k) e = refl
   either-way old new new′ promised.found e = e refl
   either-way old new new′ (first-alone k l b) e = refl

@@ -1,56 +1,20 @@
 -- Order on ℤ, as the theorems of this crate use it.
---   le-trans, le-both — two steps, both ways
---   times    — a factor that is a natural number
---   low-side, high-side — from |S·N − q·X| ≤ q·E to q·(X − E) ≤ S·N ≤ q·(X + E), with a common factor f
 --   between  — a number between q·a and q·b shows a ≤ b
 --   max-either, min-either — what holds of both numbers holds of the larger, of the smaller
 --   max-comm, min-comm, max-self, min-self — of two numbers in either order, and of one twice
 --   max-above, min-below — each is at most the larger, at least the smaller
-use mathlib.Core.Path.{_≡_, refl, sym, ap, subst, _∙_}
+use mathlib.Core.Path.{_≡_, refl, sym, subst}
 use mathlib.Core.Bool.{Bool, true, false, cond}
 use Prim.Native.Nat.{ℕ, _+_, _*_, _≤_}
-use native.Mathlib.Nat.{mul-le-mul-left, le-of-mul-le-mul-left}
+use native.Mathlib.Nat.{le-of-mul-le-mul-left}
 use native.Mathlib.Omega.{arith}
 use borrow.Author.Tests.{leb-false}
 use lib.Dec.{T, le→leb}
-use lib.IntN.{ℤ, pos, negsuc, natAbs, _+ℤ_, _-ℤ_, _*ℤ_}
+use lib.IntN.{ℤ, pos, negsuc, _*ℤ_}
 use lib.Signed.{leZ, _≤ℤ_, ≤ℤ-refl, leZ-yes}
-use Rattle.integer.proofs.Difference.{is, zz, zarith, pp, nn}
-use Rattle.integer.proofs.Ring.{ring}
+use Rattle.integer.proofs.Difference.{is, zz, pp, nn}
+use Rattle.integer.proofs.Order.{le-both}
 use Rattle.common.specs.Ends.{maxℤ, minℤ}
-
-pub le-trans : {x y z : ℤ} → x ≤ℤ y → y ≤ℤ z → x ≤ℤ z
-le-trans {x} {y} {z} h k = rw (is x, is z) (simp zz (omega (zarith, h, k)))
-
-pub le-both : {x y : ℤ} → x ≤ℤ y → y ≤ℤ x → x ≡ y
-le-both {x} {y} h k = rw (is x, is y) (simp zz (omega (zarith, h, k)))
-
-pub times : (f : ℕ) {x y : ℤ} → x ≤ℤ y → (pos f *ℤ x) ≤ℤ (pos f *ℤ y)
-times f {x} {y} h =
-    let g : pp x + nn y ≤ pp y + nn x = simp zz at (rw (is x, is y) at h) in
-    rw (is x, is y) (simp zz (omega (arith, mul-le-mul-left f g)))
-
--- ---- from a size to its two sides
-above-low : (u v : ℤ) (k : ℕ) → natAbs (u -ℤ v) ≤ k → (v -ℤ pos k) ≤ℤ u
-above-low u v k h = let g = simp zz at (rw (is u, is v) at h) in rw (is u, is v) (simp zz (omega (arith, g)))
-
-below-high : (u v : ℤ) (k : ℕ) → natAbs (u -ℤ v) ≤ k → u ≤ℤ (v +ℤ pos k)
-below-high u v k h = let g = simp zz at (rw (is u, is v) at h) in rw (is u, is v) (simp zz (omega (arith, g)))
-
-turned-low : (q f X E : ℤ) → f *ℤ (q *ℤ X -ℤ q *ℤ E) ≡ q *ℤ (f *ℤ (X -ℤ E))
-turned-low q f X E = simp ring
-
-turned-high : (q f X E : ℤ) → f *ℤ (q *ℤ X +ℤ q *ℤ E) ≡ q *ℤ (f *ℤ (X +ℤ E))
-turned-high q f X E = simp ring
-
-module _ (q f s E : ℕ) (N X : ℤ) (h : natAbs (pos s *ℤ N -ℤ pos q *ℤ X) ≤ q * E) where
-  pub low-side : (pos q *ℤ (pos f *ℤ (X -ℤ pos E))) ≤ℤ (pos f *ℤ (pos s *ℤ N))
-  low-side =
-      subst (λ (z : ℤ). z ≤ℤ (pos f *ℤ (pos s *ℤ N))) (turned-low (pos q) (pos f) X (pos E)) (times f (above-low (pos s *ℤ N) (pos q *ℤ X) (q * E) h))
-
-  pub high-side : (pos f *ℤ (pos s *ℤ N)) ≤ℤ (pos q *ℤ (pos f *ℤ (X +ℤ pos E)))
-  high-side =
-      subst (λ (z : ℤ). (pos f *ℤ (pos s *ℤ N)) ≤ℤ z) (turned-high (pos q) (pos f) X (pos E)) (times f (below-high (pos s *ℤ N) (pos q *ℤ X) (q * E) h))
 
 pub between : (q : ℕ) (a b z : ℤ) → 1 ≤ q → (pos q *ℤ a) ≤ℤ z → z ≤ℤ (pos q *ℤ b) → a ≤ℤ b
 between q a b z o h k =

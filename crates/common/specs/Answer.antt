@@ -14,7 +14,7 @@ use mathlib.Core.Path.{_≡_}
 use Prim.Native.Nat.{ℕ}
 use lib.IntN.{ℤ}
 use Rattle.linear.specs.Slice.{at}
-use Rattle.rules.specs.Order.{Test, verdict, accepted}
+use Rattle.rules.specs.Order.{Test, verdict, ifAccepted}
 use Rattle.rules.specs.Refusal.{numberOf, valuesOf}
 use Rattle.reckoning.specs.Arrays.{stored}
 use Rattle.checked.specs.Order.{answer}
@@ -54,10 +54,10 @@ unfoldable pub commonAnswer : Proposals → List ℕ
 commonAnswer Q = verdict (commonOrder Q)
 
 unfoldable pub lowAfter : Proposals → List ℤ
-lowAfter Q = accepted (commonAnswer Q) (stored (Q .low) 0 1 (lowEnd (Q .first) (Q .second)) (Q .first .n)) (Q .low)
+lowAfter Q = ifAccepted (commonAnswer Q) (stored (Q .low) 0 1 (lowEnd (Q .first) (Q .second)) (Q .first .n)) (Q .low)
 
 unfoldable pub highAfter : Proposals → List ℤ
-highAfter Q = accepted (commonAnswer Q) (stored (Q .high) 0 1 (highEnd (Q .first) (Q .second)) (Q .first .n)) (Q .high)
+highAfter Q = ifAccepted (commonAnswer Q) (stored (Q .high) 0 1 (highEnd (Q .first) (Q .second)) (Q .first .n)) (Q .high)
 
 pub record CommonAs (Q : Proposals) (r : Common) (low high : List ℤ) : Type 0 where
   pub says : saidCommon r ≡ commonAnswer Q

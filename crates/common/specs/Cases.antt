@@ -17,7 +17,7 @@ use lib.ListN.{replicate}
 use Rattle.linear.specs.Matrix.{Vec}
 use Rattle.linear.specs.Slice.{at, vectorOf}
 use Rattle.checked.specs.Cases.{Row, row, inputOf, sameNumbers}
-use Rattle.observation.specs.Line.{sameNumber}
+use Rattle.integer.specs.Same.{sameNumber}
 use Rattle.common.specs.Proposals.{Proposals, proposals}
 use Rattle.common.specs.Answer.{commonAnswer, lowAfter, highAfter}
 

@@ -19,7 +19,7 @@ use Rattle.linear.specs.Slice.{at}
 use Rattle.rules.specs.Range.{shortColumn}
 use Rattle.enclosure.specs.Reckoning.{bound}
 use Rattle.checked.specs.Input.{Input, input, problem}
-use Rattle.observation.specs.Line.{sameNumber}
+use Rattle.integer.specs.Same.{sameNumber}
 
 abbrev pub proposal : ℕ → ℕ → ℕ → List ℤ → List ℤ → List ℤ → List ℤ → List ℤ → List ℤ → Input
 proposal n s t matrix right tolerance guess inverse weights =

@@ -14,7 +14,7 @@ use lib.IntN.{ℤ}
 use Rattle.integer.specs.Finite.{largest}
 use Rattle.integer.proofs.Search.{largest-none, largest-next, largest-end, largest-at}
 use Rattle.linear.specs.Reach.{ColumnList}
-use Rattle.observation.specs.Line.{sameNumber}
+use Rattle.integer.specs.Same.{sameNumber}
 use Rattle.common.specs.Proposals.{allSame, mostSteps}
 use Rattle.common_ends.specs.Met.{limitAt, wideLimits, Fitting}
 

@@ -6,7 +6,7 @@ ghost use lib.IntN.{pos, natAbs, _+ℤ_, _-ℤ_, _*ℤ_};
 ghost use lib.ListN.{getD, length};
 ghost use Rattle.linear.specs.Reach.{ColumnList};
 ghost use Rattle.linear.specs.Slice.{at};
-ghost use Rattle.observation.specs.Line.{sameNumber};
+ghost use Rattle.integer.specs.Same.{sameNumber};
 ghost use Rattle.reckoning.specs.Arrays.{stored};
 ghost use Rattle.common.specs.Ends.{maxℤ, minℤ};
 ghost use Rattle.common.specs.Proposals.{proposal, allSame, sameEquations, mostSteps};

@@ -1,6 +1,6 @@
 // The answer of a converter in numbers, for other languages.
 ghost use mathlib.Core.Path.{_≡_};
-ghost use Rattle.rules.specs.Order.{accepted};
+ghost use Rattle.rules.specs.Order.{ifAccepted};
 ghost use Rattle.refusal.specs.Refused.{printed};
 ghost use Rattle.refusal.specs.Reply.{replyOf};
 ghost use Rattle.old_edition.specs.Converted.{saidConverted, lengthOf};
@@ -27,7 +27,7 @@ pub fn converted_reply(converted: Converted) -> Reply
 
 // The new file's length where it is written, and what was there before where it is not.
 pub fn length_or(converted: Converted, before: usize) -> usize
-    ensures { λ r. ⌜ r ≡ accepted (saidConverted converted) (lengthOf converted) before ⌝ }
+    ensures { λ r. ⌜ r ≡ ifAccepted (saidConverted converted) (lengthOf converted) before ⌝ }
 {
     match converted {
         Converted::Length(length) => length,

@@ -15,7 +15,7 @@ use lib.Dec.{eqb}
 use lib.ListN.{length}
 use Rattle.integer.specs.Finite.{first}
 use Rattle.linear.specs.Slice.{at}
-use Rattle.rules.specs.Order.{Test, number, verdict, accepted}
+use Rattle.rules.specs.Order.{Test, number, verdict, ifAccepted}
 use Rattle.rules.specs.Range.{allInRange, shortMatrix}
 use Rattle.rules.specs.Refusal.{numberOf, valuesOf}
 use Rattle.rules.specs.declared.Kind.the-variants as kind
@@ -50,7 +50,7 @@ ofNet net [] = []
 ofNet net (k ∷ ks) = net ∷ k ∷ ks
 
 unfoldable pub jointAnswer : Nets → List ℕ
-jointAnswer J = accepted (answer (J .main)) (ofNet 2 (dependentAnswer (attached J))) (ofNet 1 (answer (J .main)))
+jointAnswer J = ifAccepted (answer (J .main)) (ofNet 2 (dependentAnswer (attached J))) (ofNet 1 (answer (J .main)))
 
 abbrev pub saidNets : CheckedNets → List ℕ
 saidNets Accepted = []

@@ -6,7 +6,7 @@ use mathlib.Core.List.{List, []}
 use mathlib.Core.Path.{_≡_}
 use Prim.Native.Nat.{ℕ, _+_, _*_}
 use lib.ListN.{getD}
-use Rattle.rules.specs.Order.{accepted}
+use Rattle.rules.specs.Order.{ifAccepted}
 use Rattle.checked.specs.Checked.{written, solutionAfter, inverseAfter}
 use Rattle.dependent.specs.declared.CheckedNets.{CheckedNets}
 use Rattle.dependent.specs.Nets.{Nets, Attached, attached}
@@ -15,7 +15,7 @@ use Rattle.dependent.specs.Order.{jointAnswer, saidNets}
 use Rattle.dependent.specs.Joint.{EnclosesBoth}
 
 abbrev pub dependentSolutionAfter : List ℕ → Attached → List ℕ
-dependentSolutionAfter said D = accepted said (written (D .own .n) (dependentBound D) (D .own .solutionBounds)) (D .own .solutionBounds)
+dependentSolutionAfter said D = ifAccepted said (written (D .own .n) (dependentBound D) (D .own .solutionBounds)) (D .own .solutionBounds)
 
 pub record CheckedTogether (J : Nets) (r : CheckedNets) (E₁ L₁ E₂ L₂ : List ℕ) : Type 0 where
   pub says : saidNets r ≡ jointAnswer J

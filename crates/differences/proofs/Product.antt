@@ -1,32 +1,23 @@
 -- Numbers of 2^t·I less a product are those that the definitions name.
---   identity-flip — I is symmetric
 --   rows-residual — rows of A and raised rows of G: a residual of the inverse;  residual-of-rows — of rows that stand for a list, that of the list
 --   columns-defect — columns of A and raised columns of G: a number of D
-use mathlib.Core.Path.{_≡_, sym, ap, ap₂, _∙_}
+use mathlib.Core.Path.{_≡_, ap, ap₂, _∙_}
 use mathlib.Core.List.{List, []}
 use Prim.Native.Nat.{ℕ, _*_, _<_, _^_}
 use native.Mathlib.Omega.{arith}
-use native.Mathlib.Decide.{ℕ-discrete}
 use lib.IntN.{ℤ, pos, _-ℤ_, _*ℤ_, *ℤ-comm}
 use Rattle.integer.proofs.Sum.{sum-ext}
 use Rattle.linear.specs.Matrix.{identity, apply, product}
 use Rattle.linear.specs.Slice.{at, matrixOf}
 use Rattle.linear.specs.Place.{placeOf}
 use Rattle.linear.proofs.Carried.{row-place, column-place, carried}
-use Rattle.linear.proofs.Product.{identity-other}
+use Rattle.linear.proofs.Product.{identity-turned}
 use Rattle.raised_rows.specs.Raised.{loweredRows}
 use Rattle.raised_rows.specs.Place.{RowsOfMatrix, ColumnsOfMatrix}
 use Rattle.enclosure.specs.Problem.{columnOf, problemOf}
 use Rattle.enclosure.specs.Reckoning.{defect, residual}
 use Rattle.reckoning.specs.Parts.{rowsPart, columnResidual}
 use Rattle.differences.specs.Difference.{difference}
-
-pub identity-flip : (i j : ℕ) → identity i j ≡ identity j i
-identity-flip i j = go (ℕ-discrete i j)
-  where
-    go : Dec (i ≡ j) → identity i j ≡ identity j i
-    go (yes e) = rw e
-    go (no e) = identity-other i j e ∙ sym (identity-other j i (λ p. e (sym p)))
 
 module _ (n t : ℕ) (matrix : List ℤ) where
   pub rows-residual : (rows : List ℕ) (weights : List ℤ) (j m : ℕ) → difference n t matrix n 1 rows j m ≡ residual (columnOf (rowsPart n t matrix rows weights) j) m
@@ -45,7 +36,7 @@ module _ (n t : ℕ) (matrix : List ℤ) where
       (m j : ℕ) → m < n → j < n → difference n t matrix 1 n columns m j ≡ defect (problemOf n 0 t matrix [] [] [] inverse []) m j
   unfolding defect product apply
   columns-defect {columns} {inverse} h m j lm lj =
-      ap₂ (λ (u z : ℤ). pos (2 ^ t) *ℤ u -ℤ z) (identity-flip j m)
+      ap₂ (λ (u z : ℤ). pos (2 ^ t) *ℤ u -ℤ z) (identity-turned j m)
       (sum-ext n _ _
       (λ k lk.
       ap₂ (λ (p : ℕ) (z : ℤ). at matrix p *ℤ z) (let e : j * 1 ≡ j = omega arith in rw e (column-place (carried j n k))) (h .stands k m lk lm)

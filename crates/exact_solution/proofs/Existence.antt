@@ -3,8 +3,8 @@
 --   Columns, columns — the first m columns of an inverse from the right, one by one over the product of their denominators
 --   left-of    — an inverse from the right is one from the left
 --   determined — together
-use mathlib.Core.Path.{_≡_, refl, sym, ap, subst, _∙_}
-use mathlib.Core.Bool.{Bool, true, false, cond}
+use mathlib.Core.Path.{_≡_, refl, sym, ap, _∙_}
+use mathlib.Core.Bool.{cond}
 use Prim.Native.Nat.{ℕ, zero, suc, _+_, _*_, _≤_, _<_}
 use native.Mathlib.Omega.{arith}
 use native.Mathlib.Decide.{ℕ-discrete}
@@ -14,11 +14,11 @@ use lib.Dec.{ltb, eqb}
 use lib.IntN.{ℤ, pos, negsuc, negℤ, natAbs, _+ℤ_, _-ℤ_, _*ℤ_, +ℤ-invr, *ℤ-comm}
 use Rattle.integer.specs.Finite.{sum}
 use Rattle.integer.proofs.Absolute.{abs-*, abs-zero}
-use Rattle.integer.proofs.Ring.{ring, ring₀, moves, by-zero, zero-*, one-*, *-assoc, *-left-comm}
+use Rattle.integer.proofs.Ring.{ring, by-zero, zero-*, one-*, *-assoc, *-left-comm}
 use Rattle.integer.proofs.Search.{upto}
 use Rattle.integer.proofs.Sum.{sum-ext, sum-*}
 use Rattle.linear.specs.Matrix.{Vec, Mat, column, apply, product, identity}
-use Rattle.linear.proofs.Product.{apply-vectors, apply-scale, apply-ext, apply-product, sum-identity, identity-same, identity-other}
+use Rattle.linear.proofs.Product.{apply-vectors, apply-scale, apply-product, sum-identity, identity-turned}
 use Rattle.exact_solution.specs.Determined.{ZeroKernel, Solves, SolvesOver, RightInverse, Same, Solution, SolutionOver, BothSided, Determined}
 use Rattle.exact_solution.proofs.Unknowns.{Kernel, unknowns}
 
@@ -45,13 +45,6 @@ free : (r : ℕ) (z : ℤ) → 1 ≤ r → pos r *ℤ z ≡ pos 0 → z ≡ pos 
 free r z o e =
     let f : natAbs (pos r *ℤ z) ≡ 0 = ap natAbs e in
     abs-zero z (le-of-mul-le-mul-left (omega (arith, f, abs-* (pos r) z)) o)
-
-identity-turned : (i j : ℕ) → identity i j ≡ identity j i
-identity-turned i j = go (ℕ-discrete i j)
-  where
-    go : Dec (i ≡ j) → identity i j ≡ identity j i
-    go (yes p) = rw p
-    go (no p) = identity-other i j p ∙ sym (identity-other j i (λ q. p (sym q)))
 
 zero-size : (z : ℤ) → z ≡ pos 0 → 0 < natAbs z → ⊥
 zero-size z e h = let f : natAbs z ≡ 0 = ap natAbs e in omega arith

@@ -14,7 +14,7 @@ use borrow.Author.Tests.{ltb-false, not-true, not-false}
 use lib.IntN.{ℤ, pos}
 use lib.ListN.{getD, length}
 use Rattle.linear.specs.Slice.{at}
-use Rattle.rules.specs.Order.{Test, number, verdict, accepted}
+use Rattle.rules.specs.Order.{Test, number, verdict, ifAccepted}
 use Rattle.rules.specs.Range.{inRange, shortColumn}
 use Rattle.rules.specs.declared.Kind.the-variants as kind
 use Rattle.rules.specs.declared.Refusal.the-variants.{TooShort, OutOfRange}
@@ -142,7 +142,7 @@ module _ (I : Incoming) where
   unfolding guessesAfter
   after-else i h = go (inwardAnswer I)
     where
-      go : (w : List ℕ) → at (accepted w (stored (I .guess) 0 1 (λ (j : ℕ). guessFor (I .s) (doubleAt (I .values) j)) (I .n)) (I .guess)) i ≡ at (I .guess) i
+      go : (w : List ℕ) → at (ifAccepted w (stored (I .guess) 0 1 (λ (j : ℕ). guessFor (I .s) (doubleAt (I .values) j)) (I .n)) (I .guess)) i ≡ at (I .guess) i
       go [] = written-else (I .guess) _ (pos 0) (I .n) i h
       go (k ∷ ks) = refl
 
@@ -150,6 +150,6 @@ module _ (I : Incoming) where
   unfolding guessesAfter
   after-length = go (inwardAnswer I)
     where
-      go : (w : List ℕ) → length (accepted w (stored (I .guess) 0 1 (λ (j : ℕ). guessFor (I .s) (doubleAt (I .values) j)) (I .n)) (I .guess)) ≡ length (I .guess)
+      go : (w : List ℕ) → length (ifAccepted w (stored (I .guess) 0 1 (λ (j : ℕ). guessFor (I .s) (doubleAt (I .values) j)) (I .n)) (I .guess)) ≡ length (I .guess)
       go [] = stored-length (I .guess) 0 1 _ (I .n)
       go (k ∷ ks) = refl

@@ -14,7 +14,7 @@ use lib.IntN.{pos}
 use lib.ListN.{getD, length}
 use lib.Ieee.{Float, nan}
 use Rattle.linear.specs.Slice.{at}
-use Rattle.rules.specs.Order.{Test, number, accepted}
+use Rattle.rules.specs.Order.{Test, number, ifAccepted}
 use Rattle.rules.specs.Range.{inRange, allInRange, shortColumn}
 use Rattle.rules.specs.declared.Kind.the-variants as kind
 use Rattle.rules.specs.declared.Outcome.the-variants.{Accepted, Refused}
@@ -144,7 +144,7 @@ module _ (I : Outgoing) where
       let n = said-nothing .0 e in
       ap (λ (xs : List Float). doubleAt xs i) (accepted-new _ _ e) ∙ written-at (I .high) _ nan (I .n) i l (ready (n .0) (both-left (exchangeSizes (I .n) (I .s)) _ (n .1)) .high)
 
-  kept : (old : List Float) (f : ℕ → Float) (i : ℕ) → I .n ≤ i → (w : List ℕ) → doubleAt (accepted w (stored old 0 1 f (I .n)) old) i ≡ doubleAt old i
+  kept : (old : List Float) (f : ℕ → Float) (i : ℕ) → I .n ≤ i → (w : List ℕ) → doubleAt (ifAccepted w (stored old 0 1 f (I .n)) old) i ≡ doubleAt old i
   kept old f i h [] = written-else old f nan (I .n) i h
   kept old f i h (k ∷ ks) = refl
 

@@ -3,7 +3,7 @@
 --   lineOr numbers rest — the line of a refusal with these numbers; the rest where there are none
 use mathlib.Core.List.{List}
 use Prim.Native.Nat.{ℕ}
-use Rattle.rules.specs.Order.{accepted}
+use Rattle.rules.specs.Order.{ifAccepted}
 use Rattle.enclosure.specs.Problem.{Problem}
 use Rattle.enclosure.specs.Reckoning.{bound, inverseBound}
 use Rattle.report.specs.Report.{reportOf}
@@ -13,4 +13,4 @@ abbrev pub reportedOf : Problem → List ℕ
 reportedOf P = reportOf (P .n) (P .s) (P .X) (bound P) (inverseBound P)
 
 abbrev pub lineOr : List ℕ → List ℕ → List ℕ
-lineOr numbers rest = accepted numbers rest (refusedOf numbers)
+lineOr numbers rest = ifAccepted numbers rest (refusedOf numbers)

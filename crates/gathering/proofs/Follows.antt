@@ -21,7 +21,8 @@ use Rattle.observation.specs.declared.Observation.{Observation}
 use Rattle.observation.specs.Line.{noObservation, hasKey}
 use Rattle.observation.specs.Order.{saidBuilt, observationSays}
 use Rattle.gathering.specs.Gathered.{places, refusedAs, kept, added, keptAt, keptSum}
-use Rattle.observation.specs.Stated.{Among, here, there, Passes}
+use Rattle.integer.specs.Among.{Among, here, there}
+use Rattle.observation.specs.Stated.{Passes}
 use Rattle.observation.proofs.Members.{key-here, key-none, clash-free, either}
 use Rattle.observation.proofs.Lines.{line-good}
 use Rattle.observation.proofs.Repeat.{share, share-met, share-new}

@@ -7,3 +7,5 @@ pub mod Steepest
 pub mod Machine
 pub mod Rounding
 pub mod Covering
+pub mod Same
+pub mod Order

@@ -25,7 +25,7 @@ use Rattle.interval.specs.Ends.{LowEnd, HighEnd}
 use Rattle.interval.specs.Interval.{unitsOf, intervalOf, Outward, Between, WithinLimit, Steps, Returned}
 use Rattle.interval.specs.declared.Interval.{Interval}
 use Rattle.interval.proofs.Ends.{room, low-end, high-end}
-use Rattle.interval.proofs.Order.{le-trans, times, low-side, high-side}
+use Rattle.integer.proofs.Order.{le-trans, times, low-side, high-side}
 use Rattle.interval.proofs.Unique.{same-whole, ends-meet}
 use Rattle.interval.proofs.Values.{units-double, units-value, fine}
 

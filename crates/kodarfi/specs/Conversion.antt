@@ -4,7 +4,7 @@
 use mathlib.Core.List.{List}
 use mathlib.Core.Path.{_≡_}
 use Prim.Native.Nat.{ℕ}
-use Rattle.rules.specs.Order.{accepted}
+use Rattle.rules.specs.Order.{ifAccepted}
 use Rattle.old_edition.specs.declared.Converted.{Converted}
 use Rattle.old_edition.specs.Converted.{saidConverted, lengthOf, ConvertedAs}
 use Rattle.kodarfi.specs.Told.{Told}
@@ -13,4 +13,4 @@ pub record ConvertExported (file old : List ℕ) (oldWritten number : ℕ) (plac
   pub answer : Converted
   pub converted : ConvertedAs file old new answer
   pub told : Told (saidConverted answer) number places
-  pub written-is : written ≡ accepted (saidConverted answer) (lengthOf answer) oldWritten
+  pub written-is : written ≡ ifAccepted (saidConverted answer) (lengthOf answer) oldWritten

@@ -9,7 +9,7 @@ use mathlib.Core.List.{List}
 use mathlib.Core.Path.{_≡_}
 use Prim.Native.Nat.{ℕ}
 use lib.IntN.{ℤ}
-use Rattle.rules.specs.Order.{accepted}
+use Rattle.rules.specs.Order.{ifAccepted}
 use Rattle.rules.specs.Refusal.{said}
 use Rattle.rules.specs.declared.Outcome.{Outcome}
 use Rattle.checked.specs.Input.{Input}
@@ -34,5 +34,5 @@ pub record EntryExported (x : ℤ) (e s : ℕ) (oldValue : ℤ) (oldBound number
   pub answer : Registered
   pub registered : RegisteredAs x e s answer
   pub told : Told (entry.saidEntry answer) number places
-  pub value-is : value ≡ accepted (entry.saidEntry answer) (entryValue s x) oldValue
-  pub bound-is : bound ≡ accepted (entry.saidEntry answer) (entryBound s x e) oldBound
+  pub value-is : value ≡ ifAccepted (entry.saidEntry answer) (entryValue s x) oldValue
+  pub bound-is : bound ≡ ifAccepted (entry.saidEntry answer) (entryBound s x e) oldBound

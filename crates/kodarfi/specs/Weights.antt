@@ -5,7 +5,7 @@ use mathlib.Core.List.{List}
 use mathlib.Core.Path.{_≡_}
 use Prim.Native.Nat.{ℕ}
 use lib.IntN.{ℤ}
-use Rattle.rules.specs.Order.{accepted}
+use Rattle.rules.specs.Order.{ifAccepted}
 use Rattle.weight_sequence.specs.declared.Found.{Found}
 use Rattle.weight_sequence.specs.Request.{Request}
 use Rattle.weight_sequence.specs.Search.{saidFound, countOf, FoundAs}
@@ -15,4 +15,4 @@ pub record SearchExported (Q : Request) (oldTried number : ℕ) (places : List �
   pub answer : Found
   pub found : FoundAs Q answer weights
   pub told : Told (saidFound answer) number places
-  pub tried-is : tried ≡ accepted (saidFound answer) (countOf answer) oldTried
+  pub tried-is : tried ≡ ifAccepted (saidFound answer) (countOf answer) oldTried

@@ -23,7 +23,8 @@ use Rattle.given_forms.specs.Progress.{given, ended}
 use Rattle.given_forms.proofs.Progress.{scaled-sized}
 use Rattle.line_runs.specs.Run.{State, fromNew, run, Accepts, forms}
 use Rattle.line_runs.specs.Given.{isOf}
-use Rattle.line_runs.specs.Holds.{In, HoldsItem, cell}
+use Rattle.integer.specs.Among.{Among}
+use Rattle.line_runs.specs.Holds.{HoldsItem, cell}
 use Rattle.line_runs.proofs.Sound.{fresh-sound}
 use Rattle.line_runs.proofs.Runs.{collected}
 use Rattle.line_runs.proofs.Sizes.{problem-line, scale-line}
@@ -53,14 +54,14 @@ not-of f s n e i w q =
     n (of-part s (sym p) (λ x. other-part x tt))
 
 module _ (l l′ : Lists) (lines lines′ : List (List ℕ)) (a : Accepts (fromNew l) lines) (a′ : Accepts (fromNew l′) lines′)
-    (e : ended (run (fromNew l) lines .loader .stage) ≡ true) (same : (f : Form) → NotWeight f → In f (forms lines) → In f (forms lines′)) where
+    (e : ended (run (fromNew l) lines .loader .stage) ≡ true) (same : (f : Form) → NotWeight f → Among f (forms lines) → Among f (forms lines′)) where
   abbrev one : State
   one = run (fromNew l) lines
 
   abbrev two : State
   two = run (fromNew l′) lines′
 
-  both-at : {f : Form} {x : Item} → NotWeight f → In f (forms lines) → itemOf f ≡ x → HoldsItem x (λ (s : Slot). valuesFor s f) one × HoldsItem x (λ (s : Slot). valuesFor s f) two
+  both-at : {f : Form} {x : Item} → NotWeight f → Among f (forms lines) → itemOf f ≡ x → HoldsItem x (λ (s : Slot). valuesFor s f) one × HoldsItem x (λ (s : Slot). valuesFor s f) two
   both-at {f} {x} n i q = (
     subst (λ (y : Item). HoldsItem y (λ (s : Slot). valuesFor s f) one) q (collected (fromNew l) fresh-sound lines a f i),
     subst (λ (y : Item). HoldsItem y (λ (s : Slot). valuesFor s f) two) q (collected (fromNew l′) fresh-sound lines′ a′ f (same f n i)),
@@ -102,7 +103,7 @@ pub record Agrees (u v : State) : Type 0 where
 
 module _ (l l′ : Lists) (lines lines′ : List (List ℕ)) (a : Accepts (fromNew l) lines) (a′ : Accepts (fromNew l′) lines′)
     (e : ended (run (fromNew l) lines .loader .stage) ≡ true) (e′ : ended (run (fromNew l′) lines′ .loader .stage) ≡ true)
-    (same : (f : Form) → In f (forms lines) ↔ In f (forms lines′)) where
+    (same : (f : Form) → Among f (forms lines) ↔ Among f (forms lines′)) where
   abbrev first : State
   first = run (fromNew l) lines
 

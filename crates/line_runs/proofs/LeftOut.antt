@@ -28,7 +28,8 @@ use Rattle.loader.specs.Taken.{after}
 use Rattle.loader.proofs.Accepted.{Accepted, accepted-form}
 use Rattle.line_runs.specs.Run.{State, step, run, Accepts, forms}
 use Rattle.line_runs.specs.Given.{isOf, absent, valueFrom}
-use Rattle.line_runs.specs.Holds.{In, here, there, HoldsItem, cell}
+use Rattle.integer.specs.Among.{Among, here, there}
+use Rattle.line_runs.specs.Holds.{HoldsItem, cell}
 use Rattle.line_runs.proofs.Sound.{Sound, line-sound}
 use Rattle.line_runs.proofs.Cells.{cell-problem, cell-scale, cell-else, cell-one}
 use Rattle.line_runs.proofs.Marks.{given-own}
@@ -93,7 +94,7 @@ module _ (u : State) (sound : Sound (u .loader)) {line : List ℕ} {g : Form} (a
 
 -- ---- what no line gives
 pub not-given : (u : State) → Sound (u .loader) → (lines : List (List ℕ)) → Accepts u lines → (p : Part) (k : ℕ) → given (run u lines .loader .sets) p k ≡ false
-    → (f : Form) → In f (forms lines) → isOf p k (itemOf f) ≡ false
+    → (f : Form) → Among f (forms lines) → isOf p k (itemOf f) ≡ false
 not-given u s lines a p k g f i = go (isOf p k (itemOf f)) refl
   where
     go : (b : Bool) → isOf p k (itemOf f) ≡ b → b ≡ false
@@ -103,7 +104,7 @@ not-given u s lines a p k g f i = go (isOf p k (itemOf f)) refl
         let h = subst (λ (y : Item). HoldsItem y (λ (z : Slot). valuesFor z f) (run u lines)) (x .1) (collected u s lines a f i) in
         clash (given (run u lines .loader .sets) p k) (rw (x .2) (h .mark)) g
 
-pub value-absent : (s : Slot) (k j : ℕ) (fs : List Form) → ((f : Form) → In f fs → isOf (partOf s) k (itemOf f) ≡ false) → valueFrom fs s k j ≡ absent s
+pub value-absent : (s : Slot) (k j : ℕ) (fs : List Form) → ((f : Form) → Among f fs → isOf (partOf s) k (itemOf f) ≡ false) → valueFrom fs s k j ≡ absent s
 unfolding valueFrom
 value-absent s k j [] h = refl
 value-absent s k j (f ∷ fs) h = rw (h f here) (value-absent s k j fs (λ g i. h g (there i)))

@@ -29,7 +29,8 @@ use Rattle.loader.proofs.Accepted.{Accepted, accepted-form}
 use Rattle.line_runs.specs.Run.{State, step, run, Accepts, forms}
 use Rattle.lent_lists.specs.Slot.{Slot, partOf, valuesFor}
 use Rattle.line_runs.specs.Given.{isOf, valueFrom}
-use Rattle.line_runs.specs.Holds.{In, here, there, HoldsForm}
+use Rattle.integer.specs.Among.{Among, here, there}
+use Rattle.line_runs.specs.Holds.{HoldsForm}
 use Rattle.line_runs.proofs.Sound.{Sound, line-sound}
 use Rattle.line_runs.proofs.Collected.{next, holds-own, holds-kept}
 use Rattle.line_runs.proofs.Marks.{given-else}
@@ -61,12 +62,12 @@ none : List Form → Bool
 none [] = true
 none (f ∷ fs) = false
 
-in-some : {f : Form} {fs : List Form} → In f fs → none fs ≡ false
+in-some : {f : Form} {fs : List Form} → Among f fs → none fs ≡ false
 unfolding none
 in-some here = refl
 in-some (there i) = refl
 
-in-cases : (P : Form → Type 0) {f g : Form} {fs : List Form} → In f (g ∷ fs) → P g → (In f fs → P f) → P f
+in-cases : (P : Form → Type 0) {f g : Form} {fs : List Form} → Among f (g ∷ fs) → P g → (Among f fs → P f) → P f
 in-cases P here h rest = h
 in-cases P (there i) h rest = rest i
 
@@ -74,13 +75,13 @@ none-of : none (forms []) ≡ false → true ≡ false
 unfolding none forms
 none-of e = e
 
-pub collected : (u : State) → Sound (u .loader) → (lines : List (List ℕ)) → Accepts u lines → (f : Form) → In f (forms lines) → HoldsForm f (run u lines)
+pub collected : (u : State) → Sound (u .loader) → (lines : List (List ℕ)) → Accepts u lines → (f : Form) → Among f (forms lines) → HoldsForm f (run u lines)
 unfolding run
 collected u s [] a f i = clash true refl (none-of (in-some i))
 collected u s (line ∷ lines) a f i =
     let r = accepted-form (u .loader) (u .lists) line (a .0) in
     let s′ = line-sound (u .loader) (u .lists) line s in
-    in-cases (λ (g : Form). HoldsForm g (run (step u line) lines)) (subst (λ (fs : List Form). In f fs) (forms-next line lines (r .1 .reads)) i)
+    in-cases (λ (g : Form). HoldsForm g (run (step u line) lines)) (subst (λ (fs : List Form). Among f fs) (forms-next line lines (r .1 .reads)) i)
     (kept-all (step u line) s′ lines (a .1) (r .0) (step-own u s (r .1)))
     (collected (step u line) s′ lines (a .1) f)
 
@@ -106,7 +107,7 @@ other-marks d s p k l End h e = refl
 -- the line that gave the part p for the number k, and its numbers
 pub record Found (p : Part) (k : ℕ) (fs : List Form) : Type 0 where
   pub form : Form
-  pub among : In form fs
+  pub among : Among form fs
   pub place : ℤ
   pub item : itemOf form ≡ Of p place
   pub number : k ≡ natAbs place

@@ -18,7 +18,8 @@ use Rattle.loader.proofs.Accepted.{Accepted, accepted-form}
 use Rattle.line_runs.specs.Run.{State, step, run, Accepts, forms}
 use Rattle.lent_lists.specs.Slot.{Slot, valuesFor}
 use Rattle.line_runs.specs.Given.{sizeFrom, scalesFrom, sizeBy, scaleBy, Scales}
-use Rattle.line_runs.specs.Holds.{In, here, there, HoldsForm, HoldsItem}
+use Rattle.integer.specs.Among.{Among, here, there}
+use Rattle.line_runs.specs.Holds.{HoldsForm, HoldsItem}
 use Rattle.line_runs.proofs.Sound.{Sound, line-sound}
 use Rattle.line_runs.proofs.View.{View, view, a-problem, a-scale, a-part, an-end}
 use Rattle.line_runs.proofs.Runs.{step-own, kept-all, forms-next}
@@ -79,7 +80,7 @@ scales-from u s (line ∷ lines) a before now =
 
 -- the line that gave n, and the one that gave s and t
 pub problem-line : (u : State) → Sound (u .loader) → (lines : List (List ℕ)) → Accepts u lines → sized (u .loader .stage) ≡ false → sized (run u lines .loader .stage) ≡ true
-    → (f : Form) × In f (forms lines) × (m : ℤ) × (itemOf f ≡ Problem m)
+    → (f : Form) × Among f (forms lines) × (m : ℤ) × (itemOf f ≡ Problem m)
 unfolding run
 problem-line u s [] a before now = clash (sized (u .loader .stage)) now before
 problem-line u s (line ∷ lines) a before now = rw (first-form u s line lines a) (go (the-view u s line lines a))
@@ -87,14 +88,14 @@ problem-line u s (line ∷ lines) a before now = rw (first-form u s line lines a
     f : Form
     f = form u s line lines a
 
-    go : View (u .loader .n) f → (g : Form) × In g (f ∷ forms lines) × (m : ℤ) × (itemOf g ≡ Problem m)
+    go : View (u .loader .n) f → (g : Form) × Among g (f ∷ forms lines) × (m : ℤ) × (itemOf g ≡ Problem m)
     go (a-problem m e) = (f, here, m, e)
     go (a-scale m t e) = clash (sized (u .loader .stage)) (not-false _ (rw e at (accepted u s line lines a .fine .early))) before
     go (a-part q i e c r) = clash (sized (u .loader .stage)) (late (u .loader .stage) (rw e at (accepted u s line lines a .fine .early))) before
     go (an-end e) = clash (sized (u .loader .stage)) (late (u .loader .stage) (rw e at (accepted u s line lines a .fine .early))) before
 
 pub scale-line : (u : State) → Sound (u .loader) → (lines : List (List ℕ)) → Accepts u lines → scaled (u .loader .stage) ≡ false → scaled (run u lines .loader .stage) ≡ true
-    → (f : Form) × In f (forms lines) × (x : ℤ) × (y : ℤ) × (itemOf f ≡ Scale x y)
+    → (f : Form) × Among f (forms lines) × (x : ℤ) × (y : ℤ) × (itemOf f ≡ Scale x y)
 unfolding run
 scale-line u s [] a before now = clash (scaled (u .loader .stage)) now before
 scale-line u s (line ∷ lines) a before now =
@@ -104,8 +105,8 @@ scale-line u s (line ∷ lines) a before now =
     f : Form
     f = form u s line lines a
 
-    go : View (u .loader .n) f → (scaled (step u line .loader .stage) ≡ false → (g : Form) × In g (forms lines) × (x : ℤ) × (y : ℤ) × (itemOf g ≡ Scale x y))
-        → (g : Form) × In g (f ∷ forms lines) × (x : ℤ) × (y : ℤ) × (itemOf g ≡ Scale x y)
+    go : View (u .loader .n) f → (scaled (step u line .loader .stage) ≡ false → (g : Form) × Among g (forms lines) × (x : ℤ) × (y : ℤ) × (itemOf g ≡ Scale x y))
+        → (g : Form) × Among g (f ∷ forms lines) × (x : ℤ) × (y : ℤ) × (itemOf g ≡ Scale x y)
     go (a-problem m e) rest = let r = rest (rw (accepted u s line lines a .loader, e)) in (r .0, there (r .1), r .2, r .3, r .4)
     go (a-scale m t e) rest = (f, here, m, t, e)
     go (a-part q i e c r) rest = clash (scaled (u .loader .stage)) (not-false _ (rw e at (accepted u s line lines a .fine .early))) before

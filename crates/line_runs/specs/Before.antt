@@ -10,7 +10,7 @@ use mathlib.Core.List.{List, [], _∷_}
 use mathlib.Core.Path.{_≡_}
 use Prim.Native.Nat.{ℕ, _+_}
 use lib.IntN.{ℤ, pos, natAbs}
-use Rattle.rules.specs.Order.{Test, number, verdict, accepted}
+use Rattle.rules.specs.Order.{Test, number, verdict, ifAccepted}
 use Rattle.rules.specs.Range.{inRange}
 use Rattle.rules.specs.declared.Kind.the-variants.{Size}
 use Rattle.form.specs.Form.{Form}
@@ -46,10 +46,10 @@ unfoldable pub answerBefore : Loader → Lists → List ℕ → List ℕ
 answerBefore d l line = verdict (orderBefore (caseOf d l line))
 
 unfoldable pub loaderBefore : Loader → Lists → List ℕ → Loader
-loaderBefore d l line = accepted (answerBefore d l line) (ofForm (reading line) d (λ (f : Form). after d (itemOf f))) d
+loaderBefore d l line = ifAccepted (answerBefore d l line) (ofForm (reading line) d (λ (f : Form). after d (itemOf f))) d
 
 unfoldable pub listsBefore : Loader → Lists → List ℕ → Lists
-listsBefore d l line = accepted (answerBefore d l line) (ofForm (reading line) l (λ (f : Form). listsWith d f l)) l
+listsBefore d l line = ifAccepted (answerBefore d l line) (ofForm (reading line) l (λ (f : Form). listsWith d f l)) l
 
 abbrev pub stepBefore : State → List ℕ → State
 stepBefore u line = record { loader = loaderBefore (u .loader) (u .lists) line; lists = listsBefore (u .loader) (u .lists) line }
@@ -58,11 +58,11 @@ unfoldable pub readBefore : ℕ → State → List (List ℕ) → Reading
 readBefore k u [] = record { said = []; line = k; state = u }
 readBefore k u (line ∷ lines) =
     let said = answerBefore (u .loader) (u .lists) line in
-    accepted said (readBefore (k + 1) (stepBefore u line) lines) (record { said = said; line = k + 1; state = u })
+    ifAccepted said (readBefore (k + 1) (stepBefore u line) lines) (record { said = said; line = k + 1; state = u })
 
 unfoldable pub refusedBefore : State → List (List ℕ) → List ℕ
 refusedBefore u [] = []
-refusedBefore u (line ∷ lines) = accepted (answerBefore (u .loader) (u .lists) line) (refusedBefore (stepBefore u line) lines) line
+refusedBefore u (line ∷ lines) = ifAccepted (answerBefore (u .loader) (u .lists) line) (refusedBefore (stepBefore u line) lines) line
 
 pub data ThreeOrFour : List ℕ → Type 0 where
   three : ThreeOrFour (3 ∷ [])

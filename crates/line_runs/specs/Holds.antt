@@ -1,5 +1,4 @@
 -- What a state holds of the forms that were given; cited by the theorems on runs of lines.
---   In f fs      — f is one of the forms fs
 --   HoldsForm f u — the state u holds what the form f gives: n; s and t; a part's numbers at their own places, all in their range, the form marked as
 --                  given; the accepted end.  HoldsSize, HoldsScale, HoldsPart, HoldsItem — by the kind of form, vs being its numbers by list
 --   kindFor s    — what the numbers of the list s stand for
@@ -24,10 +23,6 @@ use Rattle.lent_lists.specs.Slot.{Slot, Matrix, Right, Tolerance, Guess, Invers
 use Rattle.lent_lists.specs.Lists.{Lists, listOf}
 use Rattle.given_forms.specs.Progress.{given, sized, scaled, ended}
 use Rattle.line_runs.specs.Run.{State}
-
-pub data In (f : Form) : List Form → Type 0 where
-  here : {fs : List Form} → In f (f ∷ fs)
-  there : {g : Form} {fs : List Form} → In f fs → In f (g ∷ fs)
 
 abbrev pub kindFor : Slot → Kind
 kindFor Matrix = kind.Matrix

@@ -7,7 +7,7 @@ use mathlib.Core.List.{List, [], _∷_}
 use Prim.Native.Nat.{ℕ, _+_}
 use lib.IntN.{pos}
 use lib.ListN.{replicate}
-use Rattle.rules.specs.Order.{accepted}
+use Rattle.rules.specs.Order.{ifAccepted}
 use Rattle.lent_lists.specs.Lists.{Lists, lists}
 use Rattle.loader.specs.Answer.{lineAnswer}
 use Rattle.line_runs.specs.Lines.{linesOf}
@@ -22,7 +22,7 @@ unfoldable pub readFrom : ℕ → State → List (List ℕ) → Reading
 readFrom k u [] = record { said = []; line = k; state = u }
 readFrom k u (line ∷ lines) =
     let said = lineAnswer (u .loader) (u .lists) line in
-    accepted said (readFrom (k + 1) (step u line) lines) (record { said = said; line = k + 1; state = u })
+    ifAccepted said (readFrom (k + 1) (step u line) lines) (record { said = said; line = k + 1; state = u })
 
 unfoldable pub zeros : Lists
 zeros = lists (replicate 1024 (pos 0)) (replicate 32 (pos 0)) (replicate 32 (pos 0)) (replicate 32 (pos 0)) (replicate 1024 (pos 0)) (replicate 32 (pos 0))

@@ -1,5 +1,5 @@
 -- Laws of products of matrices and vectors.
---   identity-same, identity-other — the numbers of I
+--   identity-same, identity-other — the numbers of I;  identity-turned — I is symmetric
 --   apply-identity — I·v = v;  apply-product, product-assoc — (G·A)·v = G·(A·v), (G·A)·H = G·(A·H)
 --   apply-vectors, apply-sub, apply-matrices, apply-less, apply-scale — products with k·u − l·v, u − v, k·A − l·B, k·A − B, q·v
 --   apply-ext — only the first n numbers count;  abs-apply — |A·v| ≤ |A|·|v|
@@ -31,6 +31,13 @@ identity-same i = if-yes (eqb i i) (pos 1) (pos 0) (eqb-refl i)
 pub identity-other : (i j : ℕ) → ¬ (i ≡ j) → identity i j ≡ pos 0
 unfolding identity
 identity-other i j h = if-no (eqb i j) (pos 1) (pos 0) (λ t. h (eqb→eq i j t))
+
+pub identity-turned : (i j : ℕ) → identity i j ≡ identity j i
+identity-turned i j = go (ℕ-discrete i j)
+  where
+    go : Dec (i ≡ j) → identity i j ≡ identity j i
+    go (yes p) = rw p
+    go (no p) = identity-other i j p ∙ sym (identity-other j i (λ q. p (sym q)))
 
 sum-identity-out : (n i : ℕ) (e : ℕ → ℤ) → n ≤ i → sum n (λ (j : ℕ). identity i j *ℤ e j) ≡ pos 0
 sum-identity-out n i e h = sum-ext n (λ (j : ℕ). identity i j *ℤ e j) (λ (j : ℕ). pos 0) (λ j l. rw (identity-other i j (λ p. omega arith)) (zero-* (e j))) ∙ sum-zero n

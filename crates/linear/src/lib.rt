@@ -1,4 +1,4 @@
-// The dot product over slices, the one signed sum of the project.
+// The dot product over slices.
 ghost use mathlib.Core.Path.{_≡_};
 ghost use Prim.Native.Nat.{_+_, _*_, _<_, _≤_, _^_};
 ghost use lib.IntN.{natAbs, _+ℤ_, _*ℤ_};

@@ -8,7 +8,7 @@ use Prim.Native.Nat.{ℕ, _+_, _*_, _/_, _%_}
 use native.Mathlib.Omega.{arith}
 use lib.Dec.{ltb}
 use lib.ListN.{getD}
-use Rattle.rules.specs.Order.{verdict, accepted}
+use Rattle.rules.specs.Order.{verdict, ifAccepted}
 use Rattle.enclosure.specs.Problem.{Problem}
 use Rattle.checked.specs.Order.{firstMargin, firstResidual, firstInversePlace, reckoned, checkedOf}
 use Rattle.lent_lists.specs.Lists.{shortLists}
@@ -52,7 +52,7 @@ line-said c h = rw h (go (c .ended) (c .long) (c .unspelled) (c .early) (c .misp
 abbrev printedOf : Reading → List ℕ
 printedOf R = printed (R .line) (R .said)
 
-first-answers : {l : List ℕ} (k : ℕ) (u : State) (rest : Reading) → LineSaid l → (l ≡ [] → Answers (printedOf rest)) → Answers (printedOf (accepted l rest (record { said = l; line = k + 1; state = u })))
+first-answers : {l : List ℕ} (k : ℕ) (u : State) (rest : Reading) → LineSaid l → (l ≡ [] → Answers (printedOf rest)) → Answers (printedOf (ifAccepted l rest (record { said = l; line = k + 1; state = u })))
 first-answers k u rest quiet h = h refl
 first-answers k u rest (alone a) h = of-line a (k + 1) (omega arith)
 first-answers k u rest (lacking count) h = missing count

@@ -19,7 +19,7 @@ use Rattle.line_runs.specs.Run.{forms}
 use Rattle.line_runs.specs.Lines.{linesOf}
 use Rattle.line_runs.specs.Read.{zeros}
 use Rattle.line_runs.specs.Given.{valueFrom}
-use Rattle.line_runs.specs.Holds.{here, there}
+use Rattle.integer.specs.Among.{here, there}
 use Rattle.line_runs.proofs.AnyOrder.{others-agree}
 use Rattle.refusal.specs.Refused.{printed}
 use Rattle.file_check.specs.Judged.{reportedOf, lineOr}

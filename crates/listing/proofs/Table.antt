@@ -37,7 +37,7 @@ use Rattle.file_check.specs.Judged.{reportedOf}
 use Rattle.file_check.specs.Problem.{problemFrom}
 use Rattle.line_runs.specs.Lines.{linesOf}
 use Rattle.line_runs.specs.Read.{zeros}
-use Rattle.line_runs.specs.Holds.{here, there}
+use Rattle.integer.specs.Among.{here, there}
 use Rattle.listing.specs.Cases.{table, tableHolds, wholeFile, unweightedFile, wholeListing}
 use Rattle.listing.specs.Listing.{problemIn, Complete, answerOf, listingOf}
 use Rattle.listing.specs.LeftOut.{NoWeights}

@@ -16,7 +16,7 @@ use Rattle.given_forms.specs.Progress.{ended}
 use Rattle.line_runs.specs.Lines.{linesOf}
 use Rattle.line_runs.specs.Run.{State, fromNew, run, Accepts, forms, withForm}
 use Rattle.line_runs.specs.Read.{readFrom, zeros}
-use Rattle.line_runs.specs.Holds.{In, here, there}
+use Rattle.integer.specs.Among.{Among, here, there}
 use Rattle.line_runs.proofs.Passing.{spelled, forms-spelled}
 use Rattle.spelled_lines.specs.Ones.{onesFrom, textOf}
 use Rattle.spelled_lines.proofs.Text.{Split, lines-whole, lines-text, last-line}
@@ -28,15 +28,15 @@ use Rattle.listing.proofs.Entire.{zeros-long, accepts, ended-run, run-f
 use Rattle.listing.proofs.LeftOut.{without-weights}
 
 -- ---- forms of lists, one after another
-in-first : {f : Form} {fs : List Form} (gs : List Form) → In f fs → In f (fs ++ gs)
+in-first : {f : Form} {fs : List Form} (gs : List Form) → Among f fs → Among f (fs ++ gs)
 in-first gs here = here
 in-first gs (there i) = there (in-first gs i)
 
-in-second : {f : Form} (fs : List Form) {gs : List Form} → In f gs → In f (fs ++ gs)
+in-second : {f : Form} (fs : List Form) {gs : List Form} → Among f gs → Among f (fs ++ gs)
 in-second [] i = i
 in-second (g ∷ fs) i = there (in-second fs i)
 
-in-either : {P : Type 0} {f : Form} (fs : List Form) {gs : List Form} → In f (fs ++ gs) → (In f fs → P) → (In f gs → P) → P
+in-either : {P : Type 0} {f : Form} (fs : List Form) {gs : List Form} → Among f (fs ++ gs) → (Among f fs → P) → (Among f gs → P) → P
 in-either [] i a b = b i
 in-either (g ∷ fs) here a b = a here
 in-either (g ∷ fs) (there i) a b = in-either fs i (λ m. a (there m)) b
@@ -50,15 +50,15 @@ forms-both (x ∷ xs) ys = go (reading x) (forms-both xs ys)
     go none e = e
     go (some f) e = ap (λ (fs : List Form). f ∷ fs) e
 
-pub not-in-none : {f : Form} {P : Type 0} → In f [] → P
+pub not-in-none : {f : Form} {P : Type 0} → Among f [] → P
 not-in-none i = go i refl
   where
-    go : {fs : List Form} {P : Type 0} {f : Form} → In f fs → fs ≡ [] → P
+    go : {fs : List Form} {P : Type 0} {f : Form} → Among f fs → fs ≡ [] → P
     go here e = let z : _≡_ {A = ℕ} 0 1 = cc in absurd (omega arith)
     go (there i) e = let z : _≡_ {A = ℕ} 0 1 = cc in absurd (omega arith)
 
 -- every one of the weights is 1
-a-one : {f : Form} (i c : ℕ) → In f (onesFrom i c) → (k : ℕ) × (f ≡ weight (pos k) (pos 1))
+a-one : {f : Form} (i c : ℕ) → Among f (onesFrom i c) → (k : ℕ) × (f ≡ weight (pos k) (pos 1))
 unfolding onesFrom
 a-one i zero m = not-in-none m
 a-one i (suc c) here = (suc i, refl)
@@ -118,7 +118,7 @@ module _ (file : List ℕ) (c : Complete file) (without : NoWeights (forms (line
 
   all-accepted : Ends (linesOf withOnes)
   all-accepted =
-      let none : (i w : ℤ) → In (weight i w) (forms front) → ⊥ = λ i w m. without i w (subst (λ (fs : List Form). In (weight i w) fs) (sym forms-are) (in-first last m)) in
+      let none : (i w : ℤ) → Among (weight i w) (forms front) → ⊥ = λ i w m. without i w (subst (λ (fs : List Form). Among (weight i w) fs) (sym forms-are) (in-first last m)) in
       let r = with-ones zeros front (parts .line) accepted stops zeros-long none in
       subst (λ (ls : List (List ℕ)). Ends ls) (sym ones-are) (subst (λ (n : ℕ). Ends (front ++ (spelled (onesFrom 0 n) ++ (parts .line ∷ [])))) size-is r)
 
@@ -130,10 +130,10 @@ module _ (file : List ℕ) (c : Complete file) (without : NoWeights (forms (line
   -- ---- the listing
   same-others : SameOthers (forms (linesOf file)) (forms (linesOf withOnes))
   same-others f n = (
-    λ i. subst (λ (fs : List Form). In f fs) (sym ones-forms)
-        (in-either (forms front) (subst (λ (fs : List Form). In f fs) forms-are i) (λ m. in-first (ones ++ last) m) (λ m. in-second (forms front) (in-second ones m))),
-    λ i. subst (λ (fs : List Form). In f fs) (sym forms-are)
-        (in-either (forms front) (subst (λ (fs : List Form). In f fs) ones-forms i) (λ m. in-first last m)
+    λ i. subst (λ (fs : List Form). Among f fs) (sym ones-forms)
+        (in-either (forms front) (subst (λ (fs : List Form). Among f fs) forms-are i) (λ m. in-first (ones ++ last) m) (λ m. in-second (forms front) (in-second ones m))),
+    λ i. subst (λ (fs : List Form). Among f fs) (sym forms-are)
+        (in-either (forms front) (subst (λ (fs : List Form). Among f fs) ones-forms i) (λ m. in-first last m)
         (λ m. in-either ones m (λ o. let w = a-one 0 (problemIn file .n) o in absurd (n (pos (w .0)) (pos 1) (w .1))) (λ o. in-second (forms front) o))),
   )
 
@@ -142,10 +142,10 @@ module _ (file : List ℕ) (c : Complete file) (without : NoWeights (forms (line
 
   only-ones : OnlyOnes (forms (linesOf withOnes))
   only-ones i w m =
-      in-either (forms front) (subst (λ (fs : List Form). In (weight i w) fs) ones-forms m)
-      (λ o. absurd (without i w (subst (λ (fs : List Form). In (weight i w) fs) (sym forms-are) (in-first last o))))
+      in-either (forms front) (subst (λ (fs : List Form). Among (weight i w) fs) ones-forms m)
+      (λ o. absurd (without i w (subst (λ (fs : List Form). Among (weight i w) fs) (sym forms-are) (in-first last o))))
       (λ o. in-either ones o (λ p. is-one (a-one 0 (problemIn file .n) p .1))
-      (λ p. absurd (without i w (subst (λ (fs : List Form). In (weight i w) fs) (sym forms-are) (in-second (forms front) p)))))
+      (λ p. absurd (without i w (subst (λ (fs : List Form). Among (weight i w) fs) (sym forms-are) (in-second (forms front) p)))))
 
   pub ones-listing : listingOf file ≡ listingOf withOnes
   ones-listing = without-weights file withOnes c ones-complete same-others without only-ones

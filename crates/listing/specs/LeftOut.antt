@@ -11,7 +11,7 @@ use lib.IntN.{ℤ, pos}
 use Rattle.form.specs.Form.{Form, weight}
 use Rattle.lent_lists.specs.Slot.{Slot, Weight, width}
 use Rattle.line_runs.specs.Given.{sizeFrom, scalesFrom, valueFrom}
-use Rattle.line_runs.specs.Holds.{In}
+use Rattle.integer.specs.Among.{Among}
 
 pub record EqualNumbers (fs gs : List Form) : Type 0 where
   pub size : sizeFrom fs ≡ sizeFrom gs
@@ -20,10 +20,10 @@ pub record EqualNumbers (fs gs : List Form) : Type 0 where
   pub values : (s : Slot) → (s ≡ Weight → ⊥) → (k j : ℕ) → 1 ≤ k → k ≤ sizeFrom fs → j < width s (sizeFrom fs) → valueFrom fs s k j ≡ valueFrom gs s k j
 
 abbrev pub OnlyOnes : List Form → Type 0
-OnlyOnes fs = (i w : ℤ) → In (weight i w) fs → w ≡ pos 1
+OnlyOnes fs = (i w : ℤ) → Among (weight i w) fs → w ≡ pos 1
 
 abbrev pub NoWeights : List Form → Type 0
-NoWeights fs = (i w : ℤ) → In (weight i w) fs → ⊥
+NoWeights fs = (i w : ℤ) → Among (weight i w) fs → ⊥
 
 abbrev pub SameOthers : List Form → List Form → Type 0
-SameOthers fs gs = (f : Form) → ((i w : ℤ) → f ≡ weight i w → ⊥) → In f fs ↔ In f gs
+SameOthers fs gs = (f : Form) → ((i w : ℤ) → f ≡ weight i w → ⊥) → Among f fs ↔ Among f gs

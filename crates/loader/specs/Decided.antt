@@ -13,7 +13,7 @@ use mathlib.Core.Path.{_≡_}
 use Prim.Native.Nat.{ℕ}
 use lib.IntN.{pos}
 use lib.ListN.{replicate}
-use Rattle.rules.specs.Order.{accepted, verdict}
+use Rattle.rules.specs.Order.{ifAccepted, verdict}
 use Rattle.rules.specs.Range.{inRange}
 use Rattle.rules.specs.Refusal.{said}
 use Rattle.rules.specs.declared.Kind.the-variants as kind
@@ -68,8 +68,8 @@ refusedBy d x = record { taken = record { loader = d; outcome = Refused x }; ite
 
 pub record DecidedIn (d : Loader) (m : CappedForm) (z : Numbers) (r : Decided) : Type 0 where
   pub says : said (r .taken .outcome) ≡ saidIn d m (z .count) (z .inside)
-  pub loader : r .taken .loader ≡ accepted (saidIn d m (z .count) (z .inside)) (after d (itemIn m)) d
-  pub item : r .item ≡ accepted (saidIn d m (z .count) (z .inside)) (itemIn m) nothing
+  pub loader : r .taken .loader ≡ ifAccepted (saidIn d m (z .count) (z .inside)) (after d (itemIn m)) d
+  pub item : r .item ≡ ifAccepted (saidIn d m (z .count) (z .inside)) (itemIn m) nothing
   pub values : r .values ≡ valuesIn m (z .values)
 
 pub record DecidedFor (d : Loader) (l : Lists) (line : List ℕ) (r : Decided) : Type 0 where

@@ -10,7 +10,7 @@ use mathlib.Core.Path.{_≡_}
 use Prim.Native.Nat.{ℕ}
 use lib.IntN.{natAbs}
 use lib.ListN.{replicate}
-use Rattle.rules.specs.Order.{accepted}
+use Rattle.rules.specs.Order.{ifAccepted}
 use Rattle.rules.specs.Refusal.{said}
 use Rattle.form.specs.Form.{Form}
 use Rattle.form.specs.Reading.{reading}
@@ -40,10 +40,10 @@ abbrev pub listsWith : Loader → Form → Lists → Lists
 listsWith d f l = closed (d .n) (setOf (d .sets) Weight) (itemOf f) (putAll (d .n) f l)
 
 unfoldable pub loaderAfter : Loader → Lists → List ℕ → Loader
-loaderAfter d l line = accepted (lineAnswer d l line) (ofForm (reading line) d (λ (f : Form). after d (itemOf f))) d
+loaderAfter d l line = ifAccepted (lineAnswer d l line) (ofForm (reading line) d (λ (f : Form). after d (itemOf f))) d
 
 unfoldable pub listsAfter : Loader → Lists → List ℕ → Lists
-listsAfter d l line = accepted (lineAnswer d l line) (ofForm (reading line) l (λ (f : Form). listsWith d f l)) l
+listsAfter d l line = ifAccepted (lineAnswer d l line) (ofForm (reading line) l (λ (f : Form). listsWith d f l)) l
 
 pub record TakenAs (d : Loader) (line : List ℕ) (l : Lists) (r : Taken) (l′ : Lists) : Type 0 where
   pub says : said (r .outcome) ≡ lineAnswer d l line

@@ -12,7 +12,7 @@ use Rattle.rules.proofs.Ranges.{both-left, both-right}
 use Rattle.observation.specs.declared.Observation.{Observation}
 use Rattle.observation.specs.Line.{sameContents, clashes}
 use Rattle.observation.specs.Order.{observationSays, andThen, observationsSay}
-use Rattle.observation.specs.Stated.{Among, here, there}
+use Rattle.integer.specs.Among.{Among, here, there}
 use Rattle.observation.proofs.Members.{line-same}
 use Rattle.observation.proofs.Lines.{then-none}
 

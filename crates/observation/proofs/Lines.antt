@@ -15,7 +15,8 @@ use Rattle.rules.proofs.Verdicts.{nothing-is-not}
 use Rattle.observation.specs.declared.Observation.{Observation}
 use Rattle.observation.specs.Line.{clashes}
 use Rattle.observation.specs.Order.{observationOrder, observationSays, andThen, observationsSay, openOrder, buildAnswer}
-use Rattle.observation.specs.Stated.{Among, here, there, Passes, Fits, Admitted}
+use Rattle.integer.specs.Among.{Among, here, there}
+use Rattle.observation.specs.Stated.{Passes, Fits, Admitted}
 use Rattle.observation.proofs.Members.{no-clash, clash-free, nobody}
 
 pub then-none : (a b : List ℕ) → andThen a b ≡ [] → (a ≡ []) × (b ≡ [])

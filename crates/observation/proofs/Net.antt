@@ -26,7 +26,8 @@ use Rattle.rules.proofs.Ranges.{in-matrix-range, in-right-range}
 use Rattle.observation.specs.declared.Observation.{Observation}
 use Rattle.observation.specs.Distinct.{distinct, total, when, touches, joins, weightAt, gain, builtMatrix, builtRight}
 use Rattle.observation.specs.Heights.{unknowns, FitAll, fixedWeight, allWeight}
-use Rattle.observation.specs.Stated.{Among, Passes, Fits}
+use Rattle.integer.specs.Among.{Among}
+use Rattle.observation.specs.Stated.{Passes, Fits}
 use Rattle.observation.proofs.Totals.{distinct-among, distinct-length, total-ext, total-+, total-*, total-*r, total-swap, abs-total}
 use Rattle.observation.proofs.Marks.{Inside, inside, line-diagonal}
 use Rattle.observation.proofs.Rows.{line-row}

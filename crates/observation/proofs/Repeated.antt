@@ -8,7 +8,7 @@ use lib.ListN.{length}
 use Rattle.observation.specs.declared.Observation.{Observation}
 use Rattle.observation.specs.Order.{buildAnswer}
 use Rattle.observation.specs.Distinct.{weightAt, gain, builtMatrix, builtRight}
-use Rattle.observation.specs.Stated.{Among}
+use Rattle.integer.specs.Among.{Among}
 use Rattle.observation.proofs.Members.{joined}
 use Rattle.observation.proofs.Lines.{builds-fits, fits-builds}
 use Rattle.observation.proofs.Repeat.{repeated-total}

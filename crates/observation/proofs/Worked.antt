@@ -14,7 +14,7 @@ use Rattle.observation.specs.Distinct.{builtMatrix, builtRight}
 use Rattle.observation.specs.declared.Observation.{Observation}
 use Rattle.observation.specs.Example.{line, near, net, other, loop, heavy, ends, fitting, fitHeights}
 use Rattle.observation.specs.Heights.{FitAll}
-use Rattle.observation.specs.Stated.{Among}
+use Rattle.integer.specs.Among.{Among}
 use Rattle.observation.proofs.Members.{nobody, either}
 
 builds : buildAnswer 2 net false ≡ []

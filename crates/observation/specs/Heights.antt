@@ -9,7 +9,7 @@ use lib.IntN.{ℤ, pos, _-ℤ_, _*ℤ_}
 use Rattle.linear.specs.Matrix.{Vec}
 use Rattle.observation.specs.declared.Observation.{Observation}
 use Rattle.observation.specs.Distinct.{distinct, total, when, touches}
-use Rattle.observation.specs.Stated.{Among}
+use Rattle.integer.specs.Among.{Among}
 
 abbrev pub unknowns : (ℕ → ℤ) → Vec
 unknowns h i = h (i + 1)

@@ -3,7 +3,6 @@
 --   isMark n k  — k is the fixed mark 0 or one of the marks 1 to n
 --   outsideRange n l — 3: the key, a mark, the difference or the weight is outside its range
 --   sameMark l  — 16: from equals to
---   sameNumber  — two whole numbers are equal
 --   sameContents l m — from, to, difference and weight of both are equal, as given
 --   hasKey ls k — a line of ls has the key k
 --   clashes ls l — 17: a line of ls has the key of l and other contents
@@ -11,7 +10,8 @@ use mathlib.Core.Bool.{Bool, false, not, _&&_, _||_}
 use mathlib.Core.List.{List, [], _∷_}
 use Prim.Native.Nat.{ℕ}
 use lib.Dec.{eqb, leb}
-use lib.IntN.{ℤ, pos, negsuc}
+use lib.IntN.{pos}
+use Rattle.integer.specs.Same.{sameNumber}
 use Rattle.rules.specs.Range.{inRange}
 use Rattle.rules.specs.declared.Kind.the-variants as kind
 use Rattle.observation.specs.declared.Observation.{Observation}
@@ -34,12 +34,6 @@ outsideRange n l =
 -- 02: "then new 16, from equals to"
 abbrev pub sameMark : Observation → Bool
 sameMark l = eqb (l .«from») (l .to)
-
-abbrev pub sameNumber : ℤ → ℤ → Bool
-sameNumber (pos a) (pos b) = eqb a b
-sameNumber (pos a) (negsuc b) = false
-sameNumber (negsuc a) (pos b) = false
-sameNumber (negsuc a) (negsuc b) = eqb a b
 
 unfoldable pub sameContents : Observation → Observation → Bool
 sameContents l m =

@@ -11,7 +11,7 @@ use Prim.Native.Nat.{ℕ}
 use lib.Dec.{ltb}
 use lib.IntN.{pos}
 use lib.ListN.{length}
-use Rattle.rules.specs.Order.{Test, number, verdict, accepted}
+use Rattle.rules.specs.Order.{Test, number, verdict, ifAccepted}
 use Rattle.rules.specs.Range.{inRange}
 use Rattle.rules.specs.Refusal.{numberOf, valuesOf}
 use Rattle.rules.specs.declared.Kind.the-variants as kind
@@ -34,7 +34,7 @@ abbrev pub observationSays : ℕ → List Observation → Observation → List �
 observationSays n earlier l = verdict (observationOrder n earlier l)
 
 abbrev pub andThen : List ℕ → List ℕ → List ℕ
-andThen first rest = accepted first rest first
+andThen first rest = ifAccepted first rest first
 
 -- 02: "Lines are taken in order and the first refusal ends the build with both lists untouched."
 unfoldable pub observationsSay : ℕ → List Observation → List Observation → List ℕ

@@ -1,5 +1,4 @@
 -- What document 02 says of each refusal of Paper 3, and of a list that builds, in words about lines and the lines before them.
---   Among x xs — x is one of xs
 --   Passes n l — every number of l is in its range, and from is not to
 --   Fits n ls  — a list that builds: every line passes, and lines with one key are equal
 --   Admitted n k short — the lent lists are long enough, n is in its range and there are at most 256 lines: neither 8 nor 3 before any line
@@ -10,14 +9,11 @@ use mathlib.Core.Path.{_≡_}
 use Prim.Native.Nat.{ℕ, _≤_, _<_}
 use lib.IntN.{pos}
 use lib.ListN.{length}
+use Rattle.integer.specs.Among.{Among}
 use Rattle.rules.specs.Range.{inRange}
 use Rattle.rules.specs.declared.Kind.the-variants as kind
 use Rattle.observation.specs.declared.Observation.{Observation}
 use Rattle.observation.specs.Line.{outsideRange}
-
-pub data Among {A : Type 0} (x : A) : List A → Type 0 where
-  here : {ys : List A} → Among x (x ∷ ys)
-  there : {y : A} {ys : List A} → Among x ys → Among x (y ∷ ys)
 
 pub record Passes (n : ℕ) (l : Observation) : Type 0 where
   pub inside : outsideRange n l ≡ false

@@ -16,7 +16,7 @@ use Rattle.form.specs.Form.{Form}
 use Rattle.lent_lists.specs.Slot.{Slot, Matrix, Right, Tolerance, Guess, Inverse, Weight, width}
 use Rattle.line_runs.specs.Run.{State, fromNew, run, forms}
 use Rattle.line_runs.specs.Given.{valueFrom, sizeFrom}
-use Rattle.line_runs.specs.Holds.{In}
+use Rattle.integer.specs.Among.{Among}
 use Rattle.line_runs.specs.Lines.{linesOf}
 use Rattle.line_runs.specs.Read.{Reading, zeros, readingOf}
 use Rattle.line_runs.specs.Respelled.{Respelled}
@@ -65,7 +65,7 @@ module _ (file other : List ℕ) where
           ∙ two .values s (suc i) j (omega arith) (rw n at li) (rw n at lj)
 
   module _ (c : Complete file) (c′ : Complete other) where
-    pub any-order-bytes : ((f : Form) → In f fs ↔ In f gs) → newFile file ≡ newFile other
+    pub any-order-bytes : ((f : Form) → Among f fs ↔ Among f gs) → newFile file ≡ newFile other
     any-order-bytes same =
         equal-bytes file other
         (of-states (run (fromNew zeros) (linesOf file)) (run (fromNew zeros) (linesOf other)) (run-from file (c .lines) (c .end)) (run-from other (c′ .lines) (c′ .end))

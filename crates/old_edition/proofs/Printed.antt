@@ -7,7 +7,7 @@ use mathlib.Core.List.{List, [], _∷_}
 use Prim.Native.Nat.{ℕ}
 use lib.IntN.{pos, negsuc}
 use Rattle.integer.specs.Finite.{sumℕ, largest}
-use Rattle.rules.specs.Order.{accepted}
+use Rattle.rules.specs.Order.{ifAccepted}
 use Rattle.rules.specs.Range.{ranges, rangeOf, inRange}
 use Rattle.numeral.specs.Decimal.{digits, decimal, numeral}
 use Rattle.numeral.specs.Numeral.{runAt, sizeAt, numberAt}
@@ -94,7 +94,7 @@ tolerant-line = refl
 tolerant-text : convertedText tolerantFile ≡ bytes "(refused 22 (0))\n"
 tolerant-text =
     text-is tolerantFile (22 ∷ []) (tolerant-refused 32768)
-    ∙ ap (λ (said : List ℕ). lineOr (printed (accepted said 0 (readingOf tolerantFile .line)) (22 ∷ [])) (newFile tolerantFile)) (accepted-parts tolerantFile tolerant-accepted .complete .lines)
+    ∙ ap (λ (said : List ℕ). lineOr (printed (ifAccepted said 0 (readingOf tolerantFile .line)) (22 ∷ [])) (newFile tolerantFile)) (accepted-parts tolerantFile tolerant-accepted .complete .lines)
     ∙ tolerant-line
 
 -- ---- the table; files that are not complete are computed line by line

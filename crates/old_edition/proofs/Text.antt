@@ -8,7 +8,7 @@ use mathlib.Core.List.{List, [], _∷_}
 use Prim.Native.Nat.{ℕ}
 use native.Mathlib.Omega.{arith}
 use lib.ListN.{take}
-use Rattle.rules.specs.Order.{verdict, accepted}
+use Rattle.rules.specs.Order.{verdict, ifAccepted}
 use Rattle.line_runs.specs.Acceptable.{bytesMost}
 use Rattle.line_runs.specs.Run.{fromNew}
 use Rattle.line_runs.specs.Read.{Reading, zeros, readingOf}
@@ -23,15 +23,15 @@ use Rattle.old_edition.specs.Stated.{NoTolerance}
 use Rattle.old_edition.proofs.Stated.{always-fits}
 
 module _ (file : List ℕ) where
-  pub answer-numbers : (room : ℕ) → refusalNumbers file room ≡ printed (accepted (readingOf file .said) 0 (readingOf file .line)) (convertAnswer file room)
+  pub answer-numbers : (room : ℕ) → refusalNumbers file room ≡ printed (ifAccepted (readingOf file .said) 0 (readingOf file .line)) (convertAnswer file room)
   unfolding convertAnswer
   answer-numbers room = go (readingOf file .said) (readingOf file .line)
     where
-      go : (w : List ℕ) (k : ℕ) → accepted (printed k w) (printed 0 (verdict (conversionOrder file room))) (printed k w) ≡ printed (accepted w 0 k) (accepted w (verdict (conversionOrder file room)) w)
+      go : (w : List ℕ) (k : ℕ) → ifAccepted (printed k w) (printed 0 (verdict (conversionOrder file room))) (printed k w) ≡ printed (ifAccepted w 0 k) (ifAccepted w (verdict (conversionOrder file room)) w)
       go [] k = refl
       go (n ∷ vs) k = refl
 
-  pub text-is : (w : List ℕ) → convertAnswer file 32768 ≡ w → convertedText file ≡ lineOr (printed (accepted (readingOf file .said) 0 (readingOf file .line)) w) (newFile file)
+  pub text-is : (w : List ℕ) → convertAnswer file 32768 ≡ w → convertedText file ≡ lineOr (printed (ifAccepted (readingOf file .said) 0 (readingOf file .line)) w) (newFile file)
   unfolding convertedText
   text-is w e = rw (answer-numbers 32768, e)
 

@@ -18,7 +18,7 @@ use Prim.Native.Nat.{ℕ}
 use lib.Dec.{ltb}
 use lib.ListN.{length, drop}
 use Rattle.integer.specs.Finite.{largest}
-use Rattle.rules.specs.Order.{Test, number, verdict, accepted}
+use Rattle.rules.specs.Order.{Test, number, verdict, ifAccepted}
 use Rattle.rules.specs.Refusal.{numberOf, valuesOf}
 use Rattle.enclosure.specs.Problem.{Problem}
 use Rattle.given_forms.specs.Progress.{ended}
@@ -55,8 +55,8 @@ convertAnswer file room = orElse (readingOf file .said) (verdict (conversionOrde
 
 pub record Delivered (said text old new : List ℕ) (r : Converted) : Type 0 where
   pub says : saidConverted r ≡ said
-  pub size : lengthOf r ≡ accepted said (length text) 0
-  pub bytes : new ≡ accepted said (text ++ drop (length text) old) old
+  pub size : lengthOf r ≡ ifAccepted said (length text) 0
+  pub bytes : new ≡ ifAccepted said (text ++ drop (length text) old) old
 
 abbrev pub ConvertedAs : List ℕ → List ℕ → List ℕ → Converted → Type 0
 ConvertedAs file old new r = Delivered (convertAnswer file (length old)) (newFile file) old new r
@@ -69,4 +69,4 @@ convertedText file = lineOr (refusalNumbers file 32768) (newFile file)
 
 pub record ConvertedAt (file old new : List ℕ) (r : Conversion) : Type 0 where
   pub answer : ConvertedAs file old new (r .answer)
-  pub line : r .line ≡ accepted (readingOf file .said) 0 (readingOf file .line)
+  pub line : r .line ≡ ifAccepted (readingOf file .said) 0 (readingOf file .line)

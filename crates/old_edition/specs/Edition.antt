@@ -13,7 +13,7 @@ use mathlib.Core.Path.{_≡_}
 use Prim.Native.Nat.{ℕ, _+_}
 use lib.Dec.{ltb}
 use lib.ListN.{length}
-use Rattle.rules.specs.Order.{verdict, accepted}
+use Rattle.rules.specs.Order.{verdict, ifAccepted}
 use Rattle.form.specs.Form.{Form, problem, scale, row, right, rightWithin, guess, inverse, weight, end}
 use Rattle.form.specs.Reading.{reading}
 use Rattle.form_values.specs.Item.{itemOf, outside, miscounted}
@@ -63,10 +63,10 @@ unfoldable pub answerOld : Loader → Lists → List ℕ → List ℕ
 answerOld d l line = verdict (orderBefore (caseOld d l line))
 
 unfoldable pub loaderOld : Loader → Lists → List ℕ → Loader
-loaderOld d l line = accepted (answerOld d l line) (ofForm (readingOld line) d (λ (f : Form). after d (itemOf f))) d
+loaderOld d l line = ifAccepted (answerOld d l line) (ofForm (readingOld line) d (λ (f : Form). after d (itemOf f))) d
 
 unfoldable pub listsOld : Loader → Lists → List ℕ → Lists
-listsOld d l line = accepted (answerOld d l line) (ofForm (readingOld line) l (λ (f : Form). putAll (d .n) f l)) l
+listsOld d l line = ifAccepted (answerOld d l line) (ofForm (readingOld line) l (λ (f : Form). putAll (d .n) f l)) l
 
 abbrev pub stepOld : State → List ℕ → State
 stepOld u line = record { loader = loaderOld (u .loader) (u .lists) line; lists = listsOld (u .loader) (u .lists) line }
@@ -75,7 +75,7 @@ unfoldable pub readOld : ℕ → State → List (List ℕ) → Reading
 readOld k u [] = record { said = []; line = k; state = u }
 readOld k u (line ∷ lines) =
     let said = answerOld (u .loader) (u .lists) line in
-    accepted said (readOld (k + 1) (stepOld u line) lines) (record { said = said; line = k + 1; state = u })
+    ifAccepted said (readOld (k + 1) (stepOld u line) lines) (record { said = said; line = k + 1; state = u })
 
 abbrev pub readingOfOld : List ℕ → Reading
 readingOfOld file = readOld 0 (fromNew zeros) (linesOf file)

@@ -1,13 +1,12 @@
 -- Which place of a matrix each place of raised rows stands for.
 --   rows-of-matrix — raised row by row from i·n on with stride 1;  columns-of-matrix — column by column, from j on with stride n
---   rows-stand, columns-stand — as rows that stand for the numbers of the matrix
+--   rows-stand — as rows that stand for the numbers of the matrix
 use mathlib.Core.Path.{_≡_, ap, _∙_}
 use mathlib.Core.List.{List}
 use Prim.Native.Nat.{ℕ, _+_, _*_}
 use native.Mathlib.Omega.{arith}
 use lib.IntN.{ℤ}
 use Rattle.linear.specs.Slice.{at, matrixOf}
-use Rattle.linear.specs.Matrix.{column}
 use Rattle.linear.proofs.Carried.{row-place, column-place, carried}
 use Rattle.raised_rows.specs.Raised.{RowsOf}
 use Rattle.raised_rows.specs.Place.{RowsOfMatrix, ColumnsOfMatrix}
@@ -28,6 +27,3 @@ module _ {xs : List ℕ} {n : ℕ} {ys : List ℤ} where
 
   pub rows-stand : RowsOfMatrix xs n ys → RowsOf xs n n (matrixOf ys n)
   rows-stand h = record { each = λ i li. record { row = h .rows .each i li; each = λ k lk. h .stands i k li lk } }
-
-  pub columns-stand : ColumnsOfMatrix xs n ys → RowsOf xs n n (λ (j : ℕ). column (matrixOf ys n) j)
-  columns-stand h = record { each = λ j lj. record { row = h .rows .each j lj; each = λ k lk. h .stands j k lj lk } }

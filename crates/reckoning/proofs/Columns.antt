@@ -1,9 +1,8 @@
 -- Column after column: place i stands for column i / n and row i mod n.
---   columns-more — with one column more stored, the array holds that many more numbers
 --   first-after — the first place of two parts;  first-no-column, first-column — of no column, and of one column more;  first-most — it is at most n
 --   columns-at, columns-else — what a matrix stored column by column, row after row, holds at its places and past them
 --   in-square — the column and the row of a place are below n;  columns-whole — what such a matrix holds, place by place
-use mathlib.Core.Path.{_≡_, refl, sym, ap, ap₂, subst, _∙_}
+use mathlib.Core.Path.{_≡_, refl, sym, ap, subst, _∙_}
 use mathlib.Core.Bool.{Bool, false}
 use mathlib.Core.List.{List}
 use Prim.Native.Nat.{ℕ, zero, suc, _+_, _*_, _-_, _/_, _%_, _≤_, _<_}
@@ -16,27 +15,9 @@ use Rattle.integer.specs.Finite.{first}
 use Rattle.integer.proofs.Search.{Searched, found, nowhere, searched, first-none, first-is, first-never, first-ext}
 use Rattle.linear.specs.Place.{placeOf}
 use Rattle.linear.proofs.Carried.{column-place, carried}
-use Rattle.linear.proofs.Places.{place, place-column, place-row}
+use Rattle.linear.proofs.Places.{place, place-row}
 use Rattle.reckoning.specs.Arrays.{Begins, firstFrom, stored, storedColumns}
 use Rattle.reckoning.proofs.Filled.{stored-at, stored-else, columns-length}
-
-module _ {A : Type 0} (d : A) (n : ℕ) (f : ℕ → ℕ → A) where
-  pub columns-more : {xs ys : List A} (j : ℕ) → Begins d xs (j * n) (λ (i : ℕ). f (i / n) (i % n)) → (j + 1) * n ≤ length xs →
-      ys ≡ stored xs (j * n) 1 (f j) n → Begins d ys ((j + 1) * n) (λ (i : ℕ). f (i / n) (i % n))
-  columns-more {xs} {ys} j h long e = record { each = λ i l. rw e (go i l (decLe (j * n) i)) }
-    where
-      go : (i : ℕ) → i < (j + 1) * n → Dec (j * n ≤ i) → getD (stored xs (j * n) 1 (f j) n) i d ≡ f (i / n) (i % n)
-      go i l (no p) = stored-else xs (j * n) 1 (f j) d n i (λ k m q. omega arith) ∙ h .each i (omega arith)
-      go i l (yes p) =
-          let k : ℕ = i - j * n in
-          let m : k < n = omega arith in
-          let place : i ≡ j * n + k = omega arith in
-          let step : i ≡ j * n + k * 1 = omega arith in
-          let column : i / n ≡ j = ap (λ (x : ℕ). x / n) place ∙ place-column j k n m in
-          let row : i % n ≡ k = ap (λ (x : ℕ). x % n) place ∙ place-row j k n m in
-          ap (λ (x : ℕ). getD (stored xs (j * n) 1 (f j) n) x d) step
-          ∙ stored-at xs (j * n) 1 (f j) d n k (omega arith) m (λ x y. omega arith)
-          ∙ sym (ap₂ f column row)
 
 -- ---- the columns of a matrix, stored row after row
 same-column : (n i j i′ k : ℕ) → j < n → k < n → j + i * n ≡ k + i′ * n → j ≡ k

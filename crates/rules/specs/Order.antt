@@ -2,7 +2,7 @@
 --   Test    — what is said, in 01's numbers, where a condition holds
 --   number k b — a refusal that gives its number alone
 --   verdict — what the first test that holds says; nothing where none holds
---   accepted — the new where nothing is said, the old where a refusal is
+--   ifAccepted — the new where nothing is said, the old where a refusal is
 use mathlib.Core.Bool.{Bool, cond}
 use mathlib.Core.List.{List, [], _∷_}
 use Prim.Native.Nat.{ℕ}
@@ -18,6 +18,6 @@ abbrev pub verdict : List Test → List ℕ
 verdict [] = []
 verdict (t ∷ ts) = cond (t .holds) (t .says) (verdict ts)
 
-abbrev pub accepted {ℓ} : {A : Type ℓ} → List ℕ → A → A → A
-accepted [] new old = new
-accepted (k ∷ ks) new old = old
+abbrev pub ifAccepted {ℓ} : {A : Type ℓ} → List ℕ → A → A → A
+ifAccepted [] new old = new
+ifAccepted (k ∷ ks) new old = old

@@ -34,7 +34,7 @@ use Rattle.loader.specs.Taken.{after, loaderAfter}
 use Rattle.loader.proofs.Exact.{formCase, answer-form}
 use Rattle.loader.proofs.Accepted.{accepted-form}
 use Rattle.line_runs.specs.Run.{State, fromNew, step, run, Accepts, forms}
-use Rattle.line_runs.specs.Holds.{In}
+use Rattle.integer.specs.Among.{Among}
 use Rattle.line_runs.proofs.Sound.{Sound, fresh-sound, fresh-empty, line-sound}
 use Rattle.line_runs.proofs.Marks.{given-else, missing-kept}
 use Rattle.line_runs.proofs.Runs.{found}
@@ -168,7 +168,7 @@ module _ (u : State) (sound : Sound (u .loader)) (line : List ℕ) (a : lineAnsw
 
 -- ---- all lines
 module _ (l : Lists) (lines : List (List ℕ)) (line : List ℕ) (a : Accepts (fromNew l) (lines ++ (line ∷ []))) (e : ended (run (fromNew l) (lines ++ (line ∷ [])) .loader .stage) ≡ true)
-    (long : shortLists l ≡ false) (none : (i w : ℤ) → In (weight i w) (forms lines) → ⊥) where
+    (long : shortLists l ≡ false) (none : (i w : ℤ) → Among (weight i w) (forms lines) → ⊥) where
   abbrev last : State
   last = run (fromNew l) lines
 
@@ -190,7 +190,7 @@ module _ (l : Lists) (lines : List (List ℕ)) (line : List ℕ) (a : Accepts (f
       go true g =
           let r = found part.Weight k f (fromNew l) fresh-sound lines accepts (fresh-empty part.Weight k) g in
           let w = weight-form (r .form) (r .item) in
-          absurd (none (w .0) (w .1) (subst (λ (h : Form). In h (forms lines)) (w .2) (r .among)))
+          absurd (none (w .0) (w .1) (subst (λ (h : Form). Among h (forms lines)) (w .2) (r .among)))
 
   -- n, once all lines are taken
   abbrev n : ℕ

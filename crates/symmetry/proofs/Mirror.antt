@@ -1,20 +1,18 @@
 -- Products of symmetric matrices.
 --   Mirror A n — number i, j is number j, i, for all below n
---   identity-mirror — I is symmetric
 --   product-mirror — number k, j of A·G is number j, k of G·A
 --   difference-mirror — number k, j of T·I − A·G is number j, k of T·I − G·A
 --   columns-identity — G·I = G
 --   triple-mirror — G·(A·G) is symmetric;  residual-mirror — G·(T·I − A·G) is symmetric
 --   matrix-mirror — a symmetric matrix in a list
-use mathlib.Core.Path.{_≡_, refl, sym, ap, ap₂, _∙_}
+use mathlib.Core.Path.{_≡_, sym, ap, ap₂, _∙_}
 use mathlib.Core.List.{List}
 use Prim.Native.Nat.{ℕ, _<_}
-use native.Mathlib.Decide.{ℕ-discrete}
 use lib.IntN.{ℤ, _-ℤ_, _*ℤ_, *ℤ-comm}
 use Rattle.integer.proofs.Sum.{sum-ext}
 use Rattle.linear.specs.Matrix.{Mat, column, apply, product, identity}
 use Rattle.linear.specs.Slice.{matrixOf}
-use Rattle.linear.proofs.Product.{identity-other, sum-identity, product-assoc, apply-sub, apply-scale}
+use Rattle.linear.proofs.Product.{identity-turned, sum-identity, product-assoc, apply-sub, apply-scale}
 use Rattle.symmetry.specs.Symmetric.{Symmetric}
 
 pub record Mirror (A : Mat) (n : ℕ) : Type 0 where
@@ -23,17 +21,10 @@ pub record Mirror (A : Mat) (n : ℕ) : Type 0 where
 pub matrix-mirror : {xs : List ℤ} {n : ℕ} → Symmetric xs n → Mirror (matrixOf xs n) n
 matrix-mirror s = record { each = s .each }
 
-pub identity-mirror : (i j : ℕ) → identity i j ≡ identity j i
-identity-mirror i j = go (ℕ-discrete i j)
-  where
-    go : Dec (i ≡ j) → identity i j ≡ identity j i
-    go (yes e) = rw e refl
-    go (no e) = identity-other i j e ∙ sym (identity-other j i (λ p. e (sym p)))
-
 columns-identity : (n : ℕ) (G : Mat) (m j : ℕ) → j < n → apply n G (column identity j) m ≡ G m j
 unfolding apply
 columns-identity n G m j lj =
-    sum-ext n (λ (k : ℕ). G m k *ℤ identity k j) (λ (k : ℕ). identity j k *ℤ G m k) (λ k l. rw (identity-mirror k j) (*ℤ-comm (G m k) (identity j k)))
+    sum-ext n (λ (k : ℕ). G m k *ℤ identity k j) (λ (k : ℕ). identity j k *ℤ G m k) (λ k l. rw (identity-turned k j) (*ℤ-comm (G m k) (identity j k)))
     ∙ sum-identity n j (G m) lj
 
 module _ {n : ℕ} {A G : Mat} (a : Mirror A n) (g : Mirror G n) where
@@ -44,7 +35,7 @@ module _ {n : ℕ} {A G : Mat} (a : Mirror A n) (g : Mirror G n) where
       (λ l ll. rw (a .each k l lk ll, g .each l j ll lj) (*ℤ-comm (A l k) (G j l)))
 
   pub difference-mirror : (T : ℤ) (k j : ℕ) → k < n → j < n → T *ℤ identity k j -ℤ product n A G k j ≡ T *ℤ identity j k -ℤ product n G A j k
-  difference-mirror T k j lk lj = ap₂ (λ (x y : ℤ). T *ℤ x -ℤ y) (identity-mirror k j) (product-mirror k j lk lj)
+  difference-mirror T k j lk lj = ap₂ (λ (x y : ℤ). T *ℤ x -ℤ y) (identity-turned k j) (product-mirror k j lk lj)
 
   triple-across : (m j : ℕ) → m < n → j < n → product n G (product n A G) m j ≡ product n (product n G A) G j m
   unfolding product apply

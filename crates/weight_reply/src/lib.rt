@@ -1,6 +1,6 @@
 // The answer of a search for weights in numbers, for other languages.
 ghost use mathlib.Core.Path.{_≡_};
-ghost use Rattle.rules.specs.Order.{accepted};
+ghost use Rattle.rules.specs.Order.{ifAccepted};
 ghost use Rattle.refusal.specs.Refused.{printed};
 ghost use Rattle.refusal.specs.Reply.{replyOf};
 ghost use Rattle.weight_sequence.specs.Search.{saidFound, countOf};
@@ -27,7 +27,7 @@ pub fn found_reply(found: Found) -> Reply
 
 // The tried count where a list was found, and what was there before where none was.
 pub fn tried_or(found: Found, before: u32) -> u32
-    ensures { λ r. ⌜ r ≡ accepted (saidFound found) (countOf found) before ⌝ }
+    ensures { λ r. ⌜ r ≡ ifAccepted (saidFound found) (countOf found) before ⌝ }
 {
     match found {
         Found::Tried(count) => count,

@@ -14,7 +14,7 @@ use Rattle.integer.proofs.Search.{first-ext, largest-ext}
 use Rattle.linear.specs.Matrix.{Mat}
 use Rattle.linear.specs.Slice.{at, vectorOf, matrixOf}
 use Rattle.linear.proofs.Places.{place}
-use Rattle.rules.specs.Order.{verdict, accepted}
+use Rattle.rules.specs.Order.{verdict, ifAccepted}
 use Rattle.rules.specs.declared.Kind.the-variants as kind
 use Rattle.rules.proofs.AllInRange.{all-ext}
 use Rattle.rules.proofs.Verdicts.{accepted-new}
@@ -94,7 +94,7 @@ module _ (Q : Request) (matrix inverse weights : List ℤ) (long : searchShort Q
 
     count-here : countAfter Q ≡ countAfter R
     unfolding countAfter
-    count-here = ap₂ (λ (x : List ℕ) (y : ℕ). accepted x (y + 1) 0) answer-here passed-same
+    count-here = ap₂ (λ (x : List ℕ) (y : ℕ). ifAccepted x (y + 1) 0) answer-here passed-same
 
     module _ (z : searchAnswer Q ≡ []) where
       list-here : (i : ℕ) → i < Q .n → at (weightsAfter Q) i ≡ at (weightsAfter R) i
@@ -112,7 +112,7 @@ module _ (Q : Request) (matrix inverse weights : List ℤ) (long : searchShort Q
     unfolding weightsAfter
     weights-here e =
         rw (sym answer-here, sym e)
-        (ap (λ (x : List ℤ). accepted (searchAnswer Q) x (Q .weights))
+        (ap (λ (x : List ℤ). ifAccepted (searchAnswer Q) x (Q .weights))
         (stored-ext (Q .weights) 0 1 (λ (i : ℕ). pos (tried (searchProblem Q) (passed Q) i)) (λ (i : ℕ). pos (tried (searchProblem R) (passed R) i)) (Q .n)
         (λ i l. ap pos (list-same (passed Q) i l ∙ ap (λ (x : ℕ). tried (searchProblem R) x i) passed-same))))
 

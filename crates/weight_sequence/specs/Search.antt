@@ -16,7 +16,7 @@ use Prim.Native.Nat.{ℕ, _+_}
 use lib.Dec.{leb}
 use lib.IntN.{ℤ, pos}
 use Rattle.linear.specs.Slice.{at}
-use Rattle.rules.specs.Order.{Test, number, verdict, accepted}
+use Rattle.rules.specs.Order.{Test, number, verdict, ifAccepted}
 use Rattle.rules.specs.Range.{allInRange}
 use Rattle.rules.specs.Refusal.{numberOf, valuesOf}
 use Rattle.rules.specs.declared.Kind.the-variants as kind
@@ -52,11 +52,11 @@ unfoldable pub searchAnswer : Request → List ℕ
 searchAnswer Q = verdict (searchOrder Q)
 
 unfoldable pub countAfter : Request → ℕ
-countAfter Q = accepted (searchAnswer Q) (passed Q + 1) 0
+countAfter Q = ifAccepted (searchAnswer Q) (passed Q + 1) 0
 
 unfoldable pub weightsAfter : Request → List ℤ
 weightsAfter Q =
-    accepted (searchAnswer Q) (stored (Q .weights) 0 1 (λ (i : ℕ). pos (tried (searchProblem Q) (passed Q) i)) (Q .n)) (Q .weights)
+    ifAccepted (searchAnswer Q) (stored (Q .weights) 0 1 (λ (i : ℕ). pos (tried (searchProblem Q) (passed Q) i)) (Q .n)) (Q .weights)
 
 pub record FoundAs (Q : Request) (r : Found) (weights : List ℤ) : Type 0 where
   pub says : saidFound r ≡ searchAnswer Q
