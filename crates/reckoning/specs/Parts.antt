@@ -1,5 +1,5 @@
 -- The parts of a problem that a step of the reckoning works on, and what it makes of them; cited by contracts inside.
---   rowsPart      — the problem whose inverse stands in raised rows, as far as margins and limits need it; b, d and X are left out
+--   rowsPart      — the problem whose inverse stands in raised rows, as far as its residuals and limits need it; b, d and X are left out
 --   cutMargin     — the margin in ℕ: 0 where it is 0 or less
 --   residualFrom  — a base less A·X;  columnResidual — the residual of row k of the inverse's column j
 --   aboveAllowed a z — the size of the residual z is above a; of any size where a is below 0
