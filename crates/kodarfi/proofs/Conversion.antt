@@ -15,7 +15,7 @@ use Rattle.old_edition.specs.declared.Converted.the-variants.{Length, Refused, 
 use Rattle.old_edition.specs.Converted.{saidConverted, convertAnswer}
 use Rattle.old_edition.specs.File.{newFile}
 use Rattle.kodarfi.specs.Conversion.{ConvertExported}
-use Rattle.kodarfi.specs.Told.{Told}
+use Rattle.reply.specs.Told.{Told}
 use Rattle.kodarfi.proofs.Meaning.{zero-said}
 
 zero-converted : (r : Converted) → getD (saidConverted r) 0 0 ≡ 0 → saidConverted r ≡ []

@@ -24,7 +24,7 @@ use Rattle.exchange.specs.Outward.{Outgoing, outgoing, endsIn, outwardAnswer}
 use Rattle.exchange.specs.Hands.{AllBetween}
 use Rattle.exchange.proofs.Enclosed.{checked-between}
 use Rattle.exchange.proofs.Inward.{zero-accepted}
-use Rattle.kodarfi.specs.Told.{Told}
+use Rattle.reply.specs.Told.{Told}
 use Rattle.kodarfi.specs.Exported.{CheckExported}
 use Rattle.kodarfi.specs.Doubles.{GuessesExported, IntervalsExported}
 use Rattle.kodarfi.proofs.Meaning.{zero-said}

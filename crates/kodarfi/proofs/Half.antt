@@ -16,7 +16,7 @@ use Rattle.half.specs.Checked.{filledInput}
 use Rattle.half.specs.Stated.{HalfStated}
 use Rattle.half.proofs.Promises.{half-stated, half-encloses, half-accepts}
 use Rattle.kodarfi.specs.Half.{HalfExported}
-use Rattle.kodarfi.specs.Told.{Told}
+use Rattle.reply.specs.Told.{Told}
 use Rattle.kodarfi.proofs.Meaning.{zero-said}
 
 module _ {H : Input} {number : ℕ} {places E L : List ℕ} (x : HalfExported H number places E L) where

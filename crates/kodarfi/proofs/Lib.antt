@@ -1,4 +1,3 @@
-pub mod Told
 pub mod Entry
 pub mod Meaning
 pub mod Covered

@@ -13,7 +13,7 @@ use Rattle.dependent.specs.declared.CheckedNets.the-variants.{Accepted, Main, D
 use Rattle.dependent.specs.Nets.{Nets}
 use Rattle.dependent.specs.Order.{saidNets, jointAnswer}
 use Rattle.dependent.specs.Joint.{EnclosesBoth}
-use Rattle.kodarfi.specs.Told.{Told}
+use Rattle.reply.specs.Told.{Told}
 use Rattle.kodarfi.specs.TwoNets.{DependentExported}
 use Rattle.kodarfi.proofs.Meaning.{zero-said}
 

@@ -23,7 +23,7 @@ use Rattle.common.specs.Proposals.{Proposals}
 use Rattle.common.proofs.Exchanged.{calls-exchanged}
 use Rattle.common.proofs.Statements.{found-case}
 use Rattle.common_reply.specs.Numbers.{proposalOf, refusalOf}
-use Rattle.kodarfi.specs.Told.{Told}
+use Rattle.reply.specs.Told.{Told}
 use Rattle.kodarfi.specs.TwoProposals.{CommonExported}
 use Rattle.kodarfi.proofs.Meaning.{zero-said}
 

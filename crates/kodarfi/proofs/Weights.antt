@@ -17,7 +17,7 @@ use Rattle.weight_sequence.specs.Search.{saidFound, searchAnswer}
 use Rattle.weight_sequence.specs.Promised.{UsableRequest, PlaceOfFirstGood, NoGood}
 use Rattle.weight_sequence.proofs.Promises.{zero-found, number-none, count-first, none-exactly}
 use Rattle.weight_sequence.proofs.Checks.{never-five}
-use Rattle.kodarfi.specs.Told.{Told}
+use Rattle.reply.specs.Told.{Told}
 use Rattle.kodarfi.specs.Exported.{CheckExported}
 use Rattle.kodarfi.specs.Weights.{SearchExported}
 

@@ -7,7 +7,7 @@ use Prim.Native.Nat.{ℕ}
 use Rattle.rules.specs.Order.{ifAccepted}
 use Rattle.old_edition.specs.declared.Converted.{Converted}
 use Rattle.old_edition.specs.Converted.{saidConverted, lengthOf, ConvertedAs}
-use Rattle.kodarfi.specs.Told.{Told}
+use Rattle.reply.specs.Told.{Told}
 
 pub record ConvertExported (file old : List ℕ) (oldWritten number : ℕ) (places new : List ℕ) (written : ℕ) : Type 0 where
   pub answer : Converted

@@ -12,7 +12,7 @@ use Rattle.rules.specs.declared.Outcome.{Outcome}
 use Rattle.exchange.specs.declared.Guessed.{Guessed}
 use Rattle.exchange.specs.Inward.{saidGuessed, Incoming, GuessesOf}
 use Rattle.exchange.specs.Outward.{Outgoing, IntervalsOf}
-use Rattle.kodarfi.specs.Told.{Told}
+use Rattle.reply.specs.Told.{Told}
 
 pub record GuessesExported (I : Incoming) (number : ℕ) (places : List ℕ) (guess : List ℤ) : Type 0 where
   pub answer : Guessed

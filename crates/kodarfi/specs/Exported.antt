@@ -19,7 +19,7 @@ use Rattle.listing.specs.Listing.{answerOf, ListedAs}
 use Rattle.entry.specs.Register.{RegisteredAs}
 use Rattle.entry.specs.Register as entry
 use Rattle.entry.specs.declared.Registered.{Registered}
-use Rattle.kodarfi.specs.Told.{Told}
+use Rattle.reply.specs.Told.{Told}
 
 pub record CheckExported (I : Input) (number : ℕ) (places E L : List ℕ) : Type 0 where
   pub outcome : Outcome

@@ -7,7 +7,7 @@ use Rattle.rules.specs.Refusal.{said}
 use Rattle.rules.specs.declared.Outcome.{Outcome}
 use Rattle.checked.specs.Input.{Input}
 use Rattle.half.specs.Checked.{CheckedHalf}
-use Rattle.kodarfi.specs.Told.{Told}
+use Rattle.reply.specs.Told.{Told}
 
 pub record HalfExported (H : Input) (number : ℕ) (places E L : List ℕ) : Type 0 where
   pub outcome : Outcome

@@ -1,4 +1,3 @@
-pub mod Told
 pub mod Exported
 pub mod Weights
 pub mod Build

@@ -9,7 +9,7 @@ use Rattle.dependent.specs.declared.CheckedNets.{CheckedNets}
 use Rattle.dependent.specs.Nets.{Nets}
 use Rattle.dependent.specs.Order.{saidNets}
 use Rattle.dependent.specs.Together.{CheckedTogether}
-use Rattle.kodarfi.specs.Told.{Told}
+use Rattle.reply.specs.Told.{Told}
 
 pub record DependentExported (J : Nets) (number net : ℕ) (places E₁ L₁ E₂ L₂ : List ℕ) : Type 0 where
   pub answer : CheckedNets

@@ -10,7 +10,7 @@ use Rattle.common.specs.declared.Common.{Common}
 use Rattle.common.specs.Answer.{saidCommon, CommonAs}
 use Rattle.common.specs.Proposals.{Proposals}
 use Rattle.common_reply.specs.Numbers.{proposalOf, refusalOf}
-use Rattle.kodarfi.specs.Told.{Told}
+use Rattle.reply.specs.Told.{Told}
 
 pub record CommonExported (Q : Proposals) (number proposal : ℕ) (places : List ℕ) (low high : List ℤ) : Type 0 where
   pub answer : Common

@@ -9,7 +9,7 @@ use Rattle.rules.specs.Order.{ifAccepted}
 use Rattle.weight_sequence.specs.declared.Found.{Found}
 use Rattle.weight_sequence.specs.Request.{Request}
 use Rattle.weight_sequence.specs.Search.{saidFound, countOf, FoundAs}
-use Rattle.kodarfi.specs.Told.{Told}
+use Rattle.reply.specs.Told.{Told}
 
 pub record SearchExported (Q : Request) (oldTried number : ℕ) (places : List ℕ) (tried : ℕ) (weights : List ℤ) : Type 0 where
   pub answer : Found

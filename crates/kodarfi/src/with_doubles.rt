@@ -2,11 +2,11 @@
 ghost use Rattle.exchange.specs.Inward.{incoming};
 ghost use Rattle.exchange.specs.Outward.{outgoing};
 ghost use Rattle.kodarfi.specs.Doubles.{GuessesExported, IntervalsExported};
-use crate::outcome_reply;
-use crate::tell;
 use exchange::guesses_of;
 use exchange::intervals_of;
 use exchange_reply::guessed_reply;
+use reply::outcome_reply;
+use reply::tell;
 
 // Doubles in: `exchange::guesses_of`.
 #[no_mangle]

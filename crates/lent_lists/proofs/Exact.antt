@@ -28,9 +28,10 @@ use Rattle.form_values.proofs.Capped.{no-tolerance, part-same}
 use Rattle.lent_lists.specs.Slot.{Slot, Matrix, Right, Tolerance, Guess, Inverse, Weight, partOf, width, rightValue}
 use Rattle.lent_lists.specs.Lists.{Lists, shortLists}
 use Rattle.lent_lists.specs.Put.{putItem, put, putAll}
-use Rattle.lent_lists.specs.Pasted.{Narrow, Room, nowhere, spanOf, pastedAt, writtenTo, pastedAll}
+use Rattle.lent_list.specs.Pasted.{Narrow, Room, nowhere, spanOf, pastedAt}
+use Rattle.lent_lists.specs.Pasted.{writtenTo, pastedAll}
 use Rattle.lent_lists.proofs.Lists.{lists-≡, rooms}
-use Rattle.lent_lists.proofs.Put.{Inside, span-fits}
+use Rattle.lent_list.proofs.Put.{Inside, span-fits}
 use Rattle.lent_lists.proofs.Slot.{slotOf, of-part, of-right, other-part}
 
 -- ---- the numbers of a form

@@ -23,8 +23,8 @@ use Rattle.form_values.specs.declared.Part.the-variants as part
 use Rattle.lent_lists.specs.Slot.{Slot, Matrix, Right, Tolerance, Guess, Inverse, Weight, partOf, width, valuesFor}
 use Rattle.lent_lists.specs.Lists.{Lists, shortLists}
 use Rattle.lent_lists.specs.Put.{putItem, put}
-use Rattle.lent_lists.specs.Filled.{closedWeights}
-use Rattle.lent_lists.proofs.Filled.{length-filled}
+use Rattle.lent_list.specs.Filled.{closedWeights}
+use Rattle.lent_list.proofs.Filled.{length-filled}
 use Rattle.lent_lists.proofs.Lists.{Long, long}
 use Rattle.given_forms.specs.Progress.{setOf, ended}
 use Rattle.checked.specs.Input.{Input, input, problem, inRanges}

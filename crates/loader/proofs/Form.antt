@@ -19,7 +19,7 @@ use Rattle.form_values.specs.Capped.{itemIn, outsideIn, valuesIn}
 use Rattle.form_values.specs.declared.Item.{Item}
 use Rattle.form_values.specs.declared.Item.the-variants.{Problem, Scale, Of, End}
 use Rattle.loader.specs.declared.Loader.{Loader}
-use Rattle.lent_lists.specs.Pasted.{Narrow}
+use Rattle.lent_list.specs.Pasted.{Narrow}
 use Rattle.given_forms.specs.Progress.{early, misplaced}
 use Rattle.loader_order.proofs.Said.{Passed, passed}
 use Rattle.loader.specs.Taken.{after}

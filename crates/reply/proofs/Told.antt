@@ -7,7 +7,7 @@ use Prim.Native.Nat.{ℕ}
 use Rattle.refusal.specs.Refused.{printed}
 use Rattle.refusal.specs.Reply.{replyOf}
 use Rattle.refusal.specs.declared.Reply.{Reply}
-use Rattle.kodarfi.specs.Told.{Told}
+use Rattle.reply.specs.Told.{Told}
 
 abbrev places : Reply → List ℕ
 places r = r .first ∷ r .second ∷ []

@@ -15,8 +15,8 @@ use lib.Seq.{getD-set-same, getD-set-other}
 use Rattle.bit_set.specs.Places.{hasPlace}
 use Rattle.form_values.specs.declared.Item.{Item}
 use Rattle.form_values.specs.declared.Item.the-variants.{End}
-use Rattle.lent_lists.specs.Filled.{filledAt, filled, closedWeights}
-use Rattle.lent_lists.specs.Pasted.{FillRoom}
+use Rattle.lent_list.specs.Filled.{filledAt, filled, closedWeights}
+use Rattle.lent_list.specs.Pasted.{FillRoom}
 
 is-false : (b : Bool) → not b ≡ true → b ≡ false
 is-false true e = sym e

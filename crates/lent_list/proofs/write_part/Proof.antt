@@ -1,10 +1,10 @@
 use lib.ListN.{length}
 use mathlib.Core.Path.{_≡_, ap}
-use Rattle.lent_lists.specs.Pasted.{pastedAt}
-use Rattle.lent_lists.proofs.Put.{narrow-of, span-fits}
+use Rattle.lent_list.specs.Pasted.{pastedAt}
+use Rattle.lent_list.proofs.Put.{narrow-of, span-fits}
 use borrow.Author.Needs.{needs}
-use Rattle.lent_lists.proofs.write_part.Statement.{statement}
-use Rattle.lent_lists.proofs.write_part.Tie as tie
+use Rattle.lent_list.proofs.write_part.Statement.{statement}
+use Rattle.lent_list.proofs.write_part.Tie as tie
 
 span-of-requires : tie.Need-span-of-requires
 span-of-requires c κs = narrow-of (c .args .width) (length (c .args .l .now)) (c .args .item) (c .pre)

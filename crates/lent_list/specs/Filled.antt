@@ -3,7 +3,6 @@
 --   filledAt z k l — the list l with 1 at the place k, where that place is not in the set z
 --   filled n z l   — the same at every place below n
 --   closedWeights n z x l — the weight list l after the item x: an end fills it in, any other item leaves it
---   closed n z x l — all lists after the item x: the others stay as they are
 use mathlib.Core.Bool.{cond}
 use mathlib.Core.List.{List}
 use Prim.Native.Nat.{ℕ, zero, suc}
@@ -12,7 +11,6 @@ use lib.ListN.{set}
 use Rattle.bit_set.specs.Places.{hasPlace}
 use Rattle.form_values.specs.declared.Item.{Item}
 use Rattle.form_values.specs.declared.Item.the-variants.{Problem, Scale, Of, End}
-use Rattle.lent_lists.specs.Lists.{Lists, lists}
 
 abbrev pub filledAt : ℕ → ℕ → List ℤ → List ℤ
 filledAt z k l = cond (hasPlace z k) l (set l k (pos 1))
@@ -26,6 +24,3 @@ closedWeights n z (Problem m) l = l
 closedWeights n z (Scale s t) l = l
 closedWeights n z (Of p i) l = l
 closedWeights n z End l = filled n z l
-
-abbrev pub closed : ℕ → ℕ → Item → Lists → Lists
-closed n z x l = lists (l .matrix) (l .right) (l .tolerance) (l .guess) (l .inverse) (closedWeights n z x (l .weights))

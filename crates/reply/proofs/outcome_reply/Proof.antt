@@ -4,8 +4,8 @@ use Rattle.rules.specs.declared.Outcome.{Outcome}
 use Rattle.refusal.specs.Refused.{printed}
 use Rattle.refusal.specs.Reply.{replyOf}
 use borrow.Author.Needs.{needs}
-use Rattle.kodarfi.proofs.outcome_reply.Statement.{statement}
-use Rattle.kodarfi.proofs.outcome_reply.Tie as tie
+use Rattle.reply.proofs.outcome_reply.Statement.{statement}
+use Rattle.reply.proofs.outcome_reply.Tie as tie
 
 enum-told : tie.Need-enum-told
 enum-told c = search needs

@@ -1,7 +1,7 @@
-use Rattle.lent_lists.proofs.Filled.{place-given, place-open}
+use Rattle.lent_list.proofs.Filled.{place-given, place-open}
 use borrow.Author.Needs.{needs}
-use Rattle.lent_lists.proofs.fill_place.Statement.{statement}
-use Rattle.lent_lists.proofs.fill_place.Tie as tie
+use Rattle.lent_list.proofs.fill_place.Statement.{statement}
+use Rattle.lent_list.proofs.fill_place.Tie as tie
 
 cast-has-place : tie.Need-cast-has-place
 cast-has-place c = search needs

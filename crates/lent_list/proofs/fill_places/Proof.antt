@@ -4,11 +4,11 @@ use native.Mathlib.Nat.{le-antisymm}
 use native.Mathlib.Numerals.{add-one}
 use native.Mathlib.Omega.{arith}
 use lib.ListN.{length}
-use Rattle.lent_lists.specs.Filled.{filled}
-use Rattle.lent_lists.proofs.Filled.{filled-none, filled-next}
+use Rattle.lent_list.specs.Filled.{filled}
+use Rattle.lent_list.proofs.Filled.{filled-none, filled-next}
 use borrow.Author.Needs.{needs}
-use Rattle.lent_lists.proofs.fill_places.Statement.{statement}
-use Rattle.lent_lists.proofs.fill_places.Tie as tie
+use Rattle.lent_list.proofs.fill_places.Statement.{statement}
+use Rattle.lent_list.proofs.fill_places.Tie as tie
 
 abbrev Inv-loop : tie.InvT-loop
 Inv-loop set n l₀ i₀ l i = (i ≤ n) × (length l ≡ length l₀) × (l ≡ filled i set l₀)

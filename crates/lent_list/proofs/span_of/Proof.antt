@@ -4,10 +4,10 @@ use native.Mathlib.Omega.{arith}
 use mir.Facts.{toZ-ofZ}
 use mir.Val.{SFits}
 use mir.Syntax.{w64}
-use Rattle.lent_lists.proofs.Put.{narrow-at, stride, span-same, span-other}
+use Rattle.lent_list.proofs.Put.{narrow-at, stride, span-same, span-other}
 use borrow.Author.Needs.{needs}
-use Rattle.lent_lists.proofs.span_of.Statement.{statement}
-use Rattle.lent_lists.proofs.span_of.Tie as tie
+use Rattle.lent_list.proofs.span_of.Statement.{statement}
+use Rattle.lent_list.proofs.span_of.Tie as tie
 
 enum-told : tie.Need-enum-told
 enum-told c = search needs

@@ -11,8 +11,8 @@ use mathlib.Core.Path.{_≡_}
 use lib.ListN.{length, length-set}
 use lib.Seq.{paste, paste-zero, paste-suc}
 use borrow.Author.Needs.{needs}
-use Rattle.lent_lists.proofs.write_values.Statement.{statement}
-use Rattle.lent_lists.proofs.write_values.Tie as tie
+use Rattle.lent_list.proofs.write_values.Statement.{statement}
+use Rattle.lent_list.proofs.write_values.Tie as tie
 
 abbrev Inv-loop : tie.InvT-loop
 Inv-loop count l₀ at values j₀ l j = (j ≤ count) × (length l ≡ length l₀) × (l ≡ paste l₀ at values j)

@@ -16,8 +16,8 @@ use Rattle.form_values.specs.declared.Item.{Item}
 use Rattle.form_values.specs.declared.Item.the-variants.{Problem, Scale, Of, End}
 use Rattle.form_values.specs.declared.Part.{Part}
 use Rattle.form_values.proofs.Between.{between}
-use Rattle.lent_lists.specs.declared.Span.{Span}
-use Rattle.lent_lists.specs.Pasted.{Narrow, Room, nowhere, spanOf}
+use Rattle.lent_list.specs.declared.Span.{Span}
+use Rattle.lent_list.specs.Pasted.{Narrow, Room, nowhere, spanOf}
 
 pub narrow-at : (w : ℕ) {x : Item} {p : Part} {i : ℤ} → x ≡ Of p i → Narrow w x → (w ≤ 32) × (leZ (pos 1) i && leZ i (pos 32) ≡ true)
 narrow-at w e h = rw e at h

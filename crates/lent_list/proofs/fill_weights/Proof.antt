@@ -1,7 +1,7 @@
-use Rattle.lent_lists.proofs.Filled.{end-room, end-filled}
+use Rattle.lent_list.proofs.Filled.{end-room, end-filled}
 use borrow.Author.Needs.{needs}
-use Rattle.lent_lists.proofs.fill_weights.Statement.{statement}
-use Rattle.lent_lists.proofs.fill_weights.Tie as tie
+use Rattle.lent_list.proofs.fill_weights.Statement.{statement}
+use Rattle.lent_list.proofs.fill_weights.Tie as tie
 
 enum-told : tie.Need-enum-told
 enum-told c = search needs
