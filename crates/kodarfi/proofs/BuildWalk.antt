@@ -49,7 +49,7 @@ use Rattle.equations.proofs.Layout.Laws as L′
 use Rattle.built.specs.BuiltAs.{BuiltAs}
 use Rattle.builder.proofs.build as build-fn
 use Rattle.builder.proofs.build.Symbol.{name as #builder·build}
-use Rattle.kodarfi.specs.Build.{BuildExported}
+use Rattle.calls.specs.Build.{BuildExported}
 use Rattle.reply.proofs.built_number as number-fn
 use Rattle.reply.proofs.built_number.Symbol.{name as #reply·built-number}
 

@@ -1,8 +1,8 @@
 // The calls on a matrix by its lower half (document 02, Paper 10).
 ghost use Rattle.checked.specs.Input.{input};
 ghost use Rattle.equations.specs.declared.Layout.the-variants.{Lower};
-ghost use Rattle.kodarfi.specs.Build.{BuildExported};
-ghost use Rattle.kodarfi.specs.Half.{HalfExported};
+ghost use Rattle.calls.specs.Build.{BuildExported};
+ghost use Rattle.calls.specs.Half.{HalfExported};
 use builder::build;
 use equations::Layout;
 use half::check_half;

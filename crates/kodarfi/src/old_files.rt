@@ -1,5 +1,5 @@
 // Files for offices on the old edition (document 02, Paper 14).
-ghost use Rattle.kodarfi.specs.Conversion.{ConvertExported};
+ghost use Rattle.calls.specs.Conversion.{ConvertExported};
 use conversion_reply::converted_reply;
 use conversion_reply::length_or;
 use converter::convert;

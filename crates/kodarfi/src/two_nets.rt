@@ -1,7 +1,7 @@
 // The check of two nets, the second hung from the first (document 02, Paper 8).
 ghost use Rattle.checked.specs.Input.{input};
 ghost use Rattle.dependent.specs.Nets.{nets};
-ghost use Rattle.kodarfi.specs.TwoNets.{DependentExported};
+ghost use Rattle.calls.specs.TwoNets.{DependentExported};
 use dependent_check::check_dependent;
 use nets_reply::net_of;
 use nets_reply::nets_reply;

@@ -1,7 +1,7 @@
 // Doubles in, doubles out (document 02, Paper 11).
 ghost use Rattle.exchange.specs.Inward.{incoming};
 ghost use Rattle.exchange.specs.Outward.{outgoing};
-ghost use Rattle.kodarfi.specs.Doubles.{GuessesExported, IntervalsExported};
+ghost use Rattle.calls.specs.Doubles.{GuessesExported, IntervalsExported};
 use exchange::guesses_of;
 use exchange::intervals_of;
 use exchange_reply::guessed_reply;

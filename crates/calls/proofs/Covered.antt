@@ -11,8 +11,8 @@ use lib.IntN.{ℤ, pos, natAbs, _-ℤ_, _*ℤ_}
 use Rattle.entry.specs.Entry.{entryValue, entryBound, EntryLimit}
 use Rattle.entry.proofs.Limit.{entry-limit}
 use Rattle.entry.specs.Register as entry
-use Rattle.kodarfi.specs.Exported.{EntryExported}
-use Rattle.kodarfi.proofs.Meaning.{entry-zero, entry-three}
+use Rattle.calls.specs.Exported.{EntryExported}
+use Rattle.calls.proofs.Meaning.{entry-zero, entry-three}
 
 module _ {x : ℤ} {e s : ℕ} {v₀ : ℤ} {b₀ number : ℕ} {places : List ℕ} {v : ℤ} {b : ℕ} (y : EntryExported x e s v₀ b₀ number places v b) (z : number ≡ 0) where
   pub entry-written : (v ≡ entryValue s x) × (b ≡ entryBound s x e)

@@ -24,8 +24,8 @@ use Rattle.common.proofs.Exchanged.{calls-exchanged}
 use Rattle.common.proofs.Statements.{found-case}
 use Rattle.common_reply.specs.Numbers.{proposalOf, refusalOf}
 use Rattle.reply.specs.Told.{Told}
-use Rattle.kodarfi.specs.TwoProposals.{CommonExported}
-use Rattle.kodarfi.proofs.Meaning.{zero-said}
+use Rattle.calls.specs.TwoProposals.{CommonExported}
+use Rattle.calls.proofs.Meaning.{zero-said}
 
 pub zero-common : (c : Common) → getD (refusalOf (saidCommon c)) 0 0 ≡ 0 → saidCommon c ≡ []
 zero-common Found e = refl

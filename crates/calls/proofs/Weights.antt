@@ -18,8 +18,8 @@ use Rattle.weight_sequence.specs.Promised.{UsableRequest, PlaceOfFirstGood, NoG
 use Rattle.weight_sequence.proofs.Promises.{zero-found, number-none, count-first, none-exactly}
 use Rattle.weight_sequence.proofs.Checks.{never-five}
 use Rattle.reply.specs.Told.{Told}
-use Rattle.kodarfi.specs.Exported.{CheckExported}
-use Rattle.kodarfi.specs.Weights.{SearchExported}
+use Rattle.calls.specs.Exported.{CheckExported}
+use Rattle.calls.specs.Weights.{SearchExported}
 
 module _ {Q : Request} {old number : ℕ} {places : List ℕ} {tried : ℕ} {weights : List ℤ} (x : SearchExported Q old number places tried weights) where
   pub search-told : Told (searchAnswer Q) number places

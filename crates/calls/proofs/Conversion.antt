@@ -14,9 +14,9 @@ use Rattle.old_edition.specs.declared.Converted.{Converted}
 use Rattle.old_edition.specs.declared.Converted.the-variants.{Length, Refused, NotConvertible}
 use Rattle.old_edition.specs.Converted.{saidConverted, convertAnswer}
 use Rattle.old_edition.specs.File.{newFile}
-use Rattle.kodarfi.specs.Conversion.{ConvertExported}
+use Rattle.calls.specs.Conversion.{ConvertExported}
 use Rattle.reply.specs.Told.{Told}
-use Rattle.kodarfi.proofs.Meaning.{zero-said}
+use Rattle.calls.proofs.Meaning.{zero-said}
 
 zero-converted : (r : Converted) → getD (saidConverted r) 0 0 ≡ 0 → saidConverted r ≡ []
 zero-converted (Length n) e = refl

@@ -15,9 +15,9 @@ use Rattle.lower_half.specs.Half.{shortHalf}
 use Rattle.half.specs.Checked.{filledInput}
 use Rattle.half.specs.Stated.{HalfStated}
 use Rattle.half.proofs.Promises.{half-stated, half-encloses, half-accepts}
-use Rattle.kodarfi.specs.Half.{HalfExported}
+use Rattle.calls.specs.Half.{HalfExported}
 use Rattle.reply.specs.Told.{Told}
-use Rattle.kodarfi.proofs.Meaning.{zero-said}
+use Rattle.calls.proofs.Meaning.{zero-said}
 
 module _ {H : Input} {number : ℕ} {places E L : List ℕ} (x : HalfExported H number places E L) where
   pub half-number : (w : List ℕ) × (HalfStated H w × Told w number places)

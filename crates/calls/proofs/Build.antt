@@ -27,8 +27,8 @@ use Rattle.equations.specs.declared.Layout.the-variants.{Square, Lower}
 use Rattle.built.specs.BuiltAs.{shortFor}
 use Rattle.built.proofs.Held.{Held, held, untouched, in-check-ranges}
 use Rattle.built.proofs.Halves.{HeldHalf, held-half, half-is-square}
-use Rattle.kodarfi.specs.Build.{BuildExported}
-use Rattle.kodarfi.proofs.Meaning.{zero-said}
+use Rattle.calls.specs.Build.{BuildExported}
+use Rattle.calls.proofs.Meaning.{zero-said}
 
 zero-built : (b : Built) → getD (saidBuilt b) 0 0 ≡ 0 → saidBuilt b ≡ []
 zero-built Done e = refl

@@ -32,7 +32,7 @@ use Rattle.listing.specs.Listing.{problemIn, Complete, answerOf}
 use Rattle.listing.proofs.Demand.{file-reported, file-encloses, file-height, exact-accepted}
 use Rattle.listing.proofs.Answers.{answer-zero}
 use Rattle.reply.specs.Told.{Told}
-use Rattle.kodarfi.specs.Exported.{CheckExported, ListingExported, EntryExported}
+use Rattle.calls.specs.Exported.{CheckExported, ListingExported, EntryExported}
 
 pub zero-said : (o : Outcome) → getD (said o) 0 0 ≡ 0 → said o ≡ []
 zero-said Accepted e = refl

@@ -14,8 +14,8 @@ use Rattle.dependent.specs.Nets.{Nets}
 use Rattle.dependent.specs.Order.{saidNets, jointAnswer}
 use Rattle.dependent.specs.Joint.{EnclosesBoth}
 use Rattle.reply.specs.Told.{Told}
-use Rattle.kodarfi.specs.TwoNets.{DependentExported}
-use Rattle.kodarfi.proofs.Meaning.{zero-said}
+use Rattle.calls.specs.TwoNets.{DependentExported}
+use Rattle.calls.proofs.Meaning.{zero-said}
 
 -- no refusal has the number 0
 zero-nets : (r : CheckedNets) → getD (drop 1 (saidNets r)) 0 0 ≡ 0 → saidNets r ≡ []

@@ -25,9 +25,9 @@ use Rattle.exchange.specs.Hands.{AllBetween}
 use Rattle.exchange.proofs.Enclosed.{checked-between}
 use Rattle.exchange.proofs.Inward.{zero-accepted}
 use Rattle.reply.specs.Told.{Told}
-use Rattle.kodarfi.specs.Exported.{CheckExported}
-use Rattle.kodarfi.specs.Doubles.{GuessesExported, IntervalsExported}
-use Rattle.kodarfi.proofs.Meaning.{zero-said}
+use Rattle.calls.specs.Exported.{CheckExported}
+use Rattle.calls.specs.Doubles.{GuessesExported, IntervalsExported}
+use Rattle.calls.proofs.Meaning.{zero-said}
 
 module _ {I : Incoming} {number : ℕ} {places : List ℕ} {guess : List ℤ} (x : GuessesExported I number places guess) where
   pub guesses-told : Told (inwardAnswer I) number places
