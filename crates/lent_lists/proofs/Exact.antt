@@ -18,7 +18,7 @@ use Rattle.numeral.specs.Numeral.{cap}
 use Rattle.numeral.proofs.Cap.{cap-in}
 use Rattle.form.specs.Form.{Form, problem, scale, row, right, rightWithin, guess, inverse, weight, end}
 use Rattle.form.specs.List.{noNumbers, numbersOf, allInside, firstValues}
-use Rattle.line.specs.Line.{cappedForm, numbersIn}
+use Rattle.line_parts.specs.Line.{cappedForm, numbersIn}
 use Rattle.form_values.specs.Item.{itemOf, partIndex, outside, miscounted}
 use Rattle.form_values.specs.Capped.{valuesIn}
 use Rattle.form_values.specs.declared.Item.the-variants.{Problem, Scale, Of, End}

@@ -17,7 +17,7 @@ use Rattle.numeral.specs.Numeral.{cap, capAt}
 use Rattle.numeral.proofs.Cap.{cap-small}
 use Rattle.form.specs.Form.{Form, problem, scale, row, right, rightWithin, guess, inverse, weight, end}
 use Rattle.form.specs.Reading.{reading}
-use Rattle.line.specs.Line.{cappedForm, numbersIn}
+use Rattle.line_parts.specs.Line.{cappedForm, numbersIn}
 use Rattle.form_values.specs.Item.{itemOf, placed, outside, miscounted}
 use Rattle.form_values.specs.Capped.{itemIn, valuesIn}
 use Rattle.form_values.specs.declared.Item.the-variants.{Of}

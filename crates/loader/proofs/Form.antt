@@ -11,8 +11,8 @@ use Rattle.rules.specs.Refusal.{said, numberOf, valuesOf}
 use Rattle.rules.specs.declared.Outcome.{Outcome}
 use Rattle.rules.specs.declared.Outcome.the-variants.{Accepted, Refused}
 use Rattle.rules.specs.declared.Refusal.{Refusal}
-use Rattle.line.specs.declared.CappedForm.{CappedForm}
-use Rattle.line.specs.declared.CappedForm.the-variants as form
+use Rattle.line_parts.specs.declared.CappedForm.{CappedForm}
+use Rattle.line_parts.specs.declared.CappedForm.the-variants as form
 use Rattle.form.specs.declared.Numbers.{Numbers}
 use Rattle.form_values.specs.Item.{placed}
 use Rattle.form_values.specs.Capped.{itemIn, outsideIn, valuesIn}

@@ -19,7 +19,7 @@ use Rattle.rules.specs.Refusal.{said}
 use Rattle.rules.specs.declared.Kind.the-variants as kind
 use Rattle.rules.specs.declared.Outcome.the-variants.{Refused}
 use Rattle.rules.specs.declared.Refusal.{Refusal}
-use Rattle.line.specs.declared.CappedForm.{CappedForm}
+use Rattle.line_parts.specs.declared.CappedForm.{CappedForm}
 use Rattle.form.specs.declared.Numbers.{Numbers}
 use Rattle.form_values.specs.Item.{placed}
 use Rattle.form_values.specs.Capped.{itemIn, outsideIn, miscountedIn, valuesIn}

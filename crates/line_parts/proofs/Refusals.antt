@@ -19,10 +19,10 @@ use lib.IntN.{ℤ, pos}
 use lib.ListN.{length, getD}
 use Rattle.numeral.specs.Decimal.{numeral}
 use Rattle.rules.specs.declared.Refusal.the-variants.{TooLong}
-use Rattle.line.specs.declared.Line.{Line}
+use Rattle.line_parts.specs.declared.Line.{Line}
 use Rattle.form.specs.Form.{bytes, numerals, Form, right, rightWithin, spell}
 use Rattle.form.specs.Reading.{reading}
-use Rattle.line.specs.Line.{lineOf, ofReading, refused, saidOfLine}
+use Rattle.line_parts.specs.Line.{lineOf, ofReading, refused, saidOfLine}
 use Rattle.form.proofs.Printable.{spell-some, spell-printable}
 use Rattle.form.proofs.Rights.{right-unread}
 use Rattle.form.proofs.Spelling.{spelled-read, read-spelled}

@@ -1,6 +1,6 @@
 use borrow.Author.Needs.{needs}
-use Rattle.line.proofs.refuse.Statement.{statement}
-use Rattle.line.proofs.refuse.Tie as tie
+use Rattle.line_parts.proofs.refuse.Statement.{statement}
+use Rattle.line_parts.proofs.refuse.Tie as tie
 
 no-numbers-requires : tie.Need-no-numbers-requires
 no-numbers-requires c κs = search needs

@@ -1,6 +1,6 @@
 use borrow.Author.Needs.{needs}
-use Rattle.line.proofs.last_at.Statement.{statement}
-use Rattle.line.proofs.last_at.Tie as tie
+use Rattle.line_parts.proofs.last_at.Statement.{statement}
+use Rattle.line_parts.proofs.last_at.Tie as tie
 
 close-at-requires : tie.Need-close-at-requires
 close-at-requires c κs = search needs

@@ -17,11 +17,11 @@ use Rattle.rules.specs.declared.Kind.the-variants as kind
 use Rattle.rules.specs.declared.Outcome.the-variants.{Refused}
 use Rattle.rules.specs.declared.Refusal.{Refusal}
 use Rattle.rules.specs.declared.Refusal.the-variants.{TooLong, NoForm}
-use Rattle.line.specs.declared.Answer.{Answer}
-use Rattle.line.specs.declared.Answer.the-variants as answer
-use Rattle.line.specs.declared.CappedForm.{CappedForm}
-use Rattle.line.specs.declared.CappedForm.the-variants.{Problem, Scale, Row, Right, Guess, Inverse, Weight, End}
-use Rattle.line.specs.declared.Line.{Line}
+use Rattle.line_parts.specs.declared.Answer.{Answer}
+use Rattle.line_parts.specs.declared.Answer.the-variants as answer
+use Rattle.line_parts.specs.declared.CappedForm.{CappedForm}
+use Rattle.line_parts.specs.declared.CappedForm.the-variants.{Problem, Scale, Row, Right, Guess, Inverse, Weight, End}
+use Rattle.line_parts.specs.declared.Line.{Line}
 use Rattle.form.specs.declared.Numbers.{Numbers}
 use Rattle.form.specs.Form.{Form, problem, scale, row, right, rightWithin, guess, inverse, weight, end}
 use Rattle.form.specs.Reading.{reading}

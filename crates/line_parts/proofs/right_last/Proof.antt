@@ -1,6 +1,6 @@
-use Rattle.line.proofs.Right.{last-second, last-list, last-other}
-use Rattle.line.proofs.right_last.Statement.{statement}
-use Rattle.line.proofs.right_last.Tie as tie
+use Rattle.line_parts.proofs.Right.{last-second, last-list, last-other}
+use Rattle.line_parts.proofs.right_last.Statement.{statement}
+use Rattle.line_parts.proofs.right_last.Tie as tie
 
 returns : tie.Need-returns
 returns c = last-second _ _ _ _ (c .if1 .taken)

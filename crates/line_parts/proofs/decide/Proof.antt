@@ -1,9 +1,9 @@
 use native.Mathlib.Omega.{arith}
 use Rattle.integer.proofs.Machine.{read}
 use borrow.Author.Needs.{needs}
-use Rattle.line.proofs.Whole.{decided-none, decided-form}
-use Rattle.line.proofs.decide.Statement.{statement}
-use Rattle.line.proofs.decide.Tie as tie
+use Rattle.line_parts.proofs.Whole.{decided-none, decided-form}
+use Rattle.line_parts.proofs.decide.Statement.{statement}
+use Rattle.line_parts.proofs.decide.Tie as tie
 
 refuse-requires : tie.Need-refuse-requires
 refuse-requires c κs = search needs

@@ -15,10 +15,10 @@ use Rattle.numeral.specs.Numeral.{numberAt, cap, cappedNumber}
 use Rattle.numeral.specs.declared.Number.{Number}
 use Rattle.rules.specs.declared.Kind.{Kind}
 use Rattle.rules.specs.declared.Refusal.the-variants.{NoForm}
-use Rattle.line.specs.declared.Answer.the-variants as answer
-use Rattle.line.specs.declared.CappedForm.{CappedForm}
+use Rattle.line_parts.specs.declared.Answer.the-variants as answer
+use Rattle.line_parts.specs.declared.CappedForm.{CappedForm}
 use Rattle.form.specs.declared.Head.{Head}
-use Rattle.line.specs.declared.Line.{Line}
+use Rattle.line_parts.specs.declared.Line.{Line}
 use Rattle.form.specs.declared.Listed.{Listed}
 use Rattle.form.specs.declared.Numbers.{Numbers}
 use Rattle.form.specs.declared.Word.{Word}
@@ -26,8 +26,8 @@ use Rattle.form.specs.declared.Word.the-variants.{Problem, Scale, Row, Right, G
 use Rattle.form.specs.Form.{Form, bytes}
 use Rattle.form.specs.Reading.{wordAt, headAt, endOf, formOf, formAt, reading}
 use Rattle.form.specs.List.{firstValues, numbersOf, listedAt}
-use Rattle.line.specs.Line.{cappedForm, numbersIn, refused, ofReading}
-use Rattle.line.specs.Parts.{kindOf, lastIn, cappedRight, cappedOf, besideOf, decided}
+use Rattle.line_parts.specs.Line.{cappedForm, numbersIn, refused, ofReading}
+use Rattle.line_parts.specs.Parts.{kindOf, lastIn, cappedRight, cappedOf, besideOf, decided}
 
 right-form : (k : Kind) (i v a : ℤ) (zs : List ℤ) → cappedRight (cap i) (cap v) (numbersOf k (a ∷ zs)) ≡ cappedForm (formOf Right i v a zs)
 unfolding numbersOf firstValues

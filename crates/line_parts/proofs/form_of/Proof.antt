@@ -1,7 +1,7 @@
 use Rattle.integer.proofs.Machine.{read}
 use borrow.Author.Needs.{needs}
-use Rattle.line.proofs.form_of.Statement.{statement}
-use Rattle.line.proofs.form_of.Tie as tie
+use Rattle.line_parts.proofs.form_of.Statement.{statement}
+use Rattle.line_parts.proofs.form_of.Tie as tie
 
 enum-told : tie.Need-enum-told
 enum-told c = search needs

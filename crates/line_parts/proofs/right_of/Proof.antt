@@ -1,8 +1,8 @@
 use Rattle.integer.proofs.Machine.{read}
-use Rattle.line.proofs.Right.{right-alone, right-within}
+use Rattle.line_parts.proofs.Right.{right-alone, right-within}
 use borrow.Author.Needs.{needs}
-use Rattle.line.proofs.right_of.Statement.{statement}
-use Rattle.line.proofs.right_of.Tie as tie
+use Rattle.line_parts.proofs.right_of.Statement.{statement}
+use Rattle.line_parts.proofs.right_of.Tie as tie
 
 returns : tie.Need-returns
 returns c =

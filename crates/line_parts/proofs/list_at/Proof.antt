@@ -1,6 +1,6 @@
 use borrow.Author.Needs.{needs}
-use Rattle.line.proofs.reader.list_at.Statement.{statement}
-use Rattle.line.proofs.reader.list_at.Tie as tie
+use Rattle.line_parts.proofs.list_at.Statement.{statement}
+use Rattle.line_parts.proofs.list_at.Tie as tie
 
 kind-of-requires : tie.Need-kind-of-requires
 kind-of-requires c κs = search needs

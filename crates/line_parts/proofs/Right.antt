@@ -8,8 +8,8 @@ use lib.IntN.{ℤ, pos}
 use lib.ListN.{getD}
 use Rattle.form.specs.declared.Numbers.{Numbers}
 use Rattle.form.specs.Reading.{rightLast}
-use Rattle.line.specs.declared.CappedForm.the-variants.{Right}
-use Rattle.line.specs.Parts.{cappedRight}
+use Rattle.line_parts.specs.declared.CappedForm.the-variants.{Right}
+use Rattle.line_parts.specs.Parts.{cappedRight}
 
 module _ (c v l other : ℕ) where
   pub last-second : c ≡ 1 → v ≡ rightLast c v l other

@@ -17,10 +17,10 @@ use Rattle.numeral.specs.declared.Number.{Number}
 use Rattle.rules.specs.declared.Kind.{Kind}
 use Rattle.rules.specs.declared.Kind.the-variants as kind
 use Rattle.rules.specs.declared.Refusal.the-variants.{NoForm}
-use Rattle.line.specs.declared.Answer.the-variants as answer
-use Rattle.line.specs.declared.CappedForm.{CappedForm}
-use Rattle.line.specs.declared.CappedForm.the-variants as capped
-use Rattle.line.specs.declared.Line.{Line}
+use Rattle.line_parts.specs.declared.Answer.the-variants as answer
+use Rattle.line_parts.specs.declared.CappedForm.{CappedForm}
+use Rattle.line_parts.specs.declared.CappedForm.the-variants as capped
+use Rattle.line_parts.specs.declared.Line.{Line}
 use Rattle.form.specs.declared.Head.{Head}
 use Rattle.form.specs.declared.Listed.{Listed}
 use Rattle.form.specs.declared.Numbers.{Numbers}
@@ -29,7 +29,7 @@ use Rattle.form.specs.declared.Word.the-variants.{Problem, Scale, Row, Right, G
 use Rattle.form.specs.Form.{bytes}
 use Rattle.form.specs.List.{noNumbers}
 use Rattle.form.specs.Reading.{wordAt, rightLast, lastOf}
-use Rattle.line.specs.Line.{refused}
+use Rattle.line_parts.specs.Line.{refused}
 
 abbrev pub kindOf : Word → Kind
 kindOf Problem = kind.Matrix
