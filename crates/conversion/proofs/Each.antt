@@ -14,7 +14,7 @@ use Rattle.enclosure.specs.Problem.{Problem}
 use Rattle.form.specs.Form.{Form, problem, scale, end, spell, numerals, bytes}
 use Rattle.form_values.specs.declared.Part.the-variants.{Row, Right, Guess, Inverse, Weight}
 use Rattle.spelled_lines.specs.Ones.{textOf}
-use Rattle.text.specs.Line.{each, gap}
+use Rattle.listing_lines.specs.Line.{each, gap}
 use Rattle.old_edition.specs.File.{numbersAlong, formFor, rising, partsThen, oldForms, oldFile}
 use Rattle.conversion.specs.Written.{formLine, restOf, integers, valueText, rowText}
 

@@ -16,7 +16,7 @@ use Rattle.numeral.specs.Decimal.{decimal, numeral}
 use Rattle.form.specs.Form.{Form, end, bytes, spell}
 use Rattle.form_values.specs.declared.Part.{Part}
 use Rattle.form_values.specs.declared.Part.the-variants.{Row, Right, Guess, Inverse, Weight}
-use Rattle.text.specs.Line.{each, gap}
+use Rattle.listing_lines.specs.Line.{each, gap}
 use Rattle.file.specs.declared.Collected.{Collected}
 use Rattle.old_edition.specs.File.{formFor}
 

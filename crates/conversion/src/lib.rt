@@ -9,7 +9,7 @@ ghost use Rattle.integer.specs.Finite.{largest};
 ghost use Rattle.linear.specs.Slice.{at as number};
 ghost use Rattle.numeral.specs.Decimal.{numeral};
 ghost use Rattle.form.specs.Form.{problem, scale};
-ghost use Rattle.text.specs.Line.{each, gap};
+ghost use Rattle.listing_lines.specs.Line.{each, gap};
 ghost use Rattle.text.specs.Wrote.{Wrote};
 ghost use Rattle.line_runs.specs.Holds.{InRange};
 ghost use Rattle.file.specs.Read.{stateOf};

@@ -30,7 +30,7 @@ use Rattle.loader.proofs.Exact.{formSaid}
 use Rattle.line_runs.specs.Given.{valueFrom, sizeFrom, scalesFrom}
 use Rattle.line_runs.specs.Run.{fromNew, forms}
 use Rattle.line_runs.proofs.Passing.{spelled, forms-spelled, passes, pass-all}
-use Rattle.text.specs.Line.{each}
+use Rattle.listing_lines.specs.Line.{each}
 use Rattle.report.specs.Report.{reportOf}
 use Rattle.refusal.specs.Refused.{printed}
 use Rattle.file_check.specs.Judged.{reportedOf}

@@ -1,9 +1,9 @@
 use native.Mathlib.Omega.{arith}
 use Rattle.text.proofs.Wrote.{then, wider}
-use Rattle.text.proofs.Each.{gap-first, gap-later}
+use Rattle.listing_lines.proofs.Each.{gap-first, gap-later}
 use borrow.Author.Needs.{needs}
-use Rattle.text.proofs.put_item.Statement.{statement}
-use Rattle.text.proofs.put_item.Tie as tie
+use Rattle.listing_lines.proofs.put_item.Statement.{statement}
+use Rattle.listing_lines.proofs.put_item.Tie as tie
 
 put-natural-requires : tie.Need-put-natural-requires
 put-natural-requires c κs = search needs

@@ -1,8 +1,8 @@
 use Rattle.integer.proofs.Machine.{read}
 use Rattle.text.proofs.Wrote.{then}
 use borrow.Author.Needs.{needs}
-use Rattle.text.proofs.put_pair.Statement.{statement}
-use Rattle.text.proofs.put_pair.Tie as tie
+use Rattle.listing_lines.proofs.put_pair.Statement.{statement}
+use Rattle.listing_lines.proofs.put_pair.Tie as tie
 
 put-opening-requires : tie.Need-put-opening-requires
 put-opening-requires c κs = search needs

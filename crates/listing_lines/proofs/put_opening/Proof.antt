@@ -1,7 +1,7 @@
 use Rattle.text.proofs.Wrote.{then, wider}
 use borrow.Author.Needs.{needs}
-use Rattle.text.proofs.put_opening.Statement.{statement}
-use Rattle.text.proofs.put_opening.Tie as tie
+use Rattle.listing_lines.proofs.put_opening.Statement.{statement}
+use Rattle.listing_lines.proofs.put_opening.Tie as tie
 
 put-bytes-requires : tie.Need-put-bytes-requires
 put-bytes-requires c κs = search needs

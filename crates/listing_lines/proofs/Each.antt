@@ -10,9 +10,9 @@ use native.Mathlib.Nat.{mul-le-mul-right, le-antisymm}
 use native.Mathlib.Numerals.{add-one}
 use native.Mathlib.Omega.{arith}
 use Rattle.form.specs.Form.{bytes}
 use Rattle.text.specs.Wrote.{Wrote}
 use Rattle.text.proofs.Wrote.{none, then, wider, called}
-use Rattle.text.specs.Line.{each, gap}
+use Rattle.listing_lines.specs.Line.{each, gap}
 
 pub each-none : (f : ℕ → List ℕ) → each 0 f ≡ []
 unfolding each

@@ -1,8 +1,8 @@
 use native.Mathlib.Omega.{arith}
 use Rattle.text.proofs.Wrote.{then, wider}
 use borrow.Author.Needs.{needs}
-use Rattle.text.proofs.put_list.Statement.{statement}
-use Rattle.text.proofs.put_list.Tie as tie
+use Rattle.listing_lines.proofs.put_list.Statement.{statement}
+use Rattle.listing_lines.proofs.put_list.Tie as tie
 
 put-opening-requires : tie.Need-put-opening-requires
 put-opening-requires c κs = search needs

@@ -4,12 +4,12 @@ use Prim.Native.Nat.{ℕ, _+_, _*_, _-_, _≤_}
 use native.Mathlib.Omega.{arith}
 use lib.ListN.{length, getD}
 use Rattle.numeral.specs.Decimal.{decimal}
 use Rattle.text.specs.Wrote.{Wrote}
-use Rattle.text.specs.Line.{gap, numbers}
-use Rattle.text.proofs.Each.{wrote-none, wrote-more, wrote-end}
+use Rattle.listing_lines.specs.Line.{gap, numbers}
+use Rattle.listing_lines.proofs.Each.{wrote-none, wrote-more, wrote-end}
 use borrow.Author.Needs.{needs}
-use Rattle.text.proofs.put_numbers.Statement.{statement}
-use Rattle.text.proofs.put_numbers.Tie as tie
+use Rattle.listing_lines.proofs.put_numbers.Statement.{statement}
+use Rattle.listing_lines.proofs.put_numbers.Tie as tie
 
 abbrev Inv-loop : tie.InvT-loop
 Inv-loop out₀ at values start n place₀ j₀ out place j =
