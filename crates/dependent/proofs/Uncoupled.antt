@@ -20,6 +20,7 @@ use Rattle.integer.proofs.Sum.{sum-ext, sum-zero, sumℕ-ext, sumℕ-zero}
 use Rattle.linear.specs.Matrix.{apply}
 use Rattle.linear.specs.Slice.{at}
 use Rattle.linear.proofs.Slack.{slack-ext}
+use Rattle.linear.proofs.Written.{written-ext}
 use Rattle.rules.specs.Range.{allInRange}
 use Rattle.rules.specs.declared.Kind.the-variants as kind
 use Rattle.rules.proofs.AllInRange.{all-in}
@@ -31,7 +32,6 @@ use Rattle.enclosure.proofs.Bounds.{bound-ext}
 use Rattle.checked.specs.Checked.{solutionAfter}
 use Rattle.checked.specs.Input.{Input, problem, inRanges}
 use Rattle.checked.specs.Order.{answer}
-use Rattle.checked.proofs.Written.{written-ext}
 use Rattle.dependent.specs.Nets.{Nets, Attached, attached, couplingOf}
 use Rattle.dependent.specs.Reckoning.{ownProblem, dependentResidual, dependentSlack, dependentExceeds, dependentBound}
 use Rattle.dependent.specs.Order.{dependentAnswer, ofNet, jointAnswer, dependentInRanges}
@@ -99,7 +99,7 @@ module _ (D : Attached) (u : Uncoupled D) (h : MeetsSums (D .own)) where
 
   pub uncoupled-solution : (said : List ℕ) → dependentSolutionAfter said D ≡ solutionAfter said (D .own)
   uncoupled-solution said =
-      rw (written-ext (D .own .n) (dependentBound D) (bound (problem (D .own))) (D .own .solutionBounds) (λ i l. uncoupled-bound D u i))
+      rw (written-ext (D .own .solutionBounds) 0 1 (dependentBound D) (bound (problem (D .own))) (D .own .n) (λ i l. uncoupled-bound D u i))
 
 pub uncoupled-together : (J : Nets) → answer (J .main) ≡ [] → Uncoupled (attached J) → MeetsSums (J .dependent) → jointAnswer J ≡ ofNet 2 (answer (J .dependent))
 unfolding jointAnswer

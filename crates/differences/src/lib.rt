@@ -10,11 +10,12 @@ ghost use Rattle.linear.specs.Matrix.{identity};
 ghost use Rattle.linear.specs.Slice.{at};
 ghost use Rattle.linear.specs.Place.{Carried};
 ghost use Rattle.linear.specs.Reach.{Reach, MatrixList};
+ghost use Rattle.linear.specs.Written.{written};
 ghost use Rattle.raised_rows.specs.Raised.{raisedBy, RaisedRow, RaisedRows};
 ghost use Rattle.raised_rows.specs.Place.{raisedPlace};
 ghost use Rattle.enclosure.specs.Problem.{columnOf, problemOf};
 ghost use Rattle.enclosure.specs.Reckoning.{defect, residual};
-ghost use Rattle.reckoning.specs.Arrays.{Begins, stored};
+ghost use Rattle.reckoning.specs.Arrays.{Begins};
 ghost use Rattle.reckoning.specs.Parts.{rowsPart};
 ghost use Rattle.differences.specs.Sums.{halfOf, Room, Added, SumsOf};
 ghost use Rattle.differences.specs.Difference.{numberLess, difference};
@@ -41,7 +42,7 @@ fn add_row(sums: &mut [u64; 64], half: usize, size: u64, rows: &[u64], row: usiz
     requires { ⌜ (half + n ≤ 64) × (size ≤ 2 ^ 20) ⌝ }
     requires { ⌜ RaisedRow (now rows) row n ⌝ }
     requires { ⌜ Room (now sums) half n ⌝ }
-    ensures { λ _. ⌜ now (sums .exit) ≡ stored (now (sums .entry)) half 1
+    ensures { λ _. ⌜ now (sums .exit) ≡ written (now (sums .entry)) half 1
         (λ (j : ℕ). getD (now (sums .entry)) (half + j) 0 + size * getD (now (rows .entry)) (row + j) 0) n ⌝ }
 {
     let mut place = row;
@@ -136,7 +137,7 @@ fn store_row(
     requires { ⌜ (t ≤ 20) × ((n ≤ 32) × ((m < n) × (start + n * stride < 2 ^ 60))) ⌝ }
     requires { ⌜ Reach (now xs) start stride n (2 ^ 20) ⌝ }
     requires { ⌜ RaisedRows (now rows) n ⌝ }
-    ensures { λ _. ⌜ now (out .exit) ≡ stored (now (out .entry)) m n
+    ensures { λ _. ⌜ now (out .exit) ≡ written (now (out .entry)) m n
         (λ (j : ℕ). numberLess t (now (xs .entry)) start stride (now (rows .entry)) n m j) n ⌝ }
 {
     let mut sums = [0u64; 64];

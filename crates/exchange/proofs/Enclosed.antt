@@ -6,7 +6,7 @@
 --   height-between   — for every right side within tolerance there is exactly one exact height in fractions, and it lies between the ends
 use mathlib.Core.Path.{_≡_, refl}
 use mathlib.Core.List.{List, []}
-use Prim.Native.Nat.{ℕ, _<_}
+use Prim.Native.Nat.{ℕ}
 use lib.ListN.{getD}
 use lib.Ieee.{Float}
 use Rattle.linear.specs.Matrix.{Vec}

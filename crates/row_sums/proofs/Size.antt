@@ -1,6 +1,6 @@
 -- How large the sums are.
 --   sum-size, partial-size — the sum along a row of a matrix list is at most 2^25, and so is that of its first j numbers
-use Prim.Native.Nat.{ℕ, _*_, _≤_, _<_, _^_}
+use Prim.Native.Nat.{ℕ, _≤_, _<_, _^_}
 use native.Mathlib.Omega.{arith}
 use native.Mathlib.Nat.{mul-le-mul-right}
 use mathlib.Core.List.{List}

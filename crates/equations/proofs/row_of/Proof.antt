@@ -3,9 +3,8 @@ use Rattle.equations.proofs.Rows.{row-none, row-next, row-end, row-smal
 use Rattle.equations.proofs.Terms.{same-row}
 use Rattle.equations.specs.Kept.{RowSums, Grown}
 use mathlib.Core.Logic.{⊎-elim}
-use mathlib.Core.Path.{_≡_, sym, subst, _∙_}
+use mathlib.Core.Path.{sym, subst, _∙_}
 use Prim.Native.Nat.{_≤_, _-_}
-use native.Mathlib.Omega.{arith}
 use borrow.Author.Needs.{needs}
 use Rattle.equations.proofs.row_of.Statement.{statement}
 use Rattle.equations.proofs.row_of.Tie as tie

@@ -1,17 +1,17 @@
 use mir.Val.{SFits}
 use mir.ValLaws.{toZ-ofZ}
 use mir.Syntax.{w64}
-use Rattle.equations.proofs.Places.{written-none, written-end, right-next, rows-none, rows-end, row-start, row-room, row-length, row-written}
+use Rattle.equations.proofs.Places.{rows-none, rows-end, row-start, row-room, row-length, row-written}
 use Rattle.equations.proofs.Rows.{row-matrix, row-right}
 use Rattle.equations.specs.Kept.{keptMatrix, keptRight}
-use Rattle.equations.specs.Written.{widthOf, writtenFrom, rowsWritten}
-use Rattle.integer.proofs.Machine.{read}
+use Rattle.equations.specs.Written.{widthOf, rowsWritten}
 use Rattle.integer.proofs.Sum.{sumℕ-none}
 use Rattle.integer.specs.Finite.{sumℕ}
-use Rattle.linear.specs.Slice.{at}
+use Rattle.linear.specs.Written.{written}
+use Rattle.linear.proofs.Written.{written-none, written-more, written-end}
 use lib.ListN.{length, length-set}
 use native.Mathlib.Omega.{arith}
-use Prim.Native.Nat.{ℕ, _+_, _≤_, _-_}
+use Prim.Native.Nat.{_+_, _≤_, _-_}
 use mathlib.Core.Path.{_≡_, sym, _∙_}
 use borrow.Author.Needs.{needs}
 use Rattle.equations.proofs.write_equations.Statement.{statement}
@@ -25,7 +25,7 @@ use Rattle.equations.proofs.width_of.Reads as width-of-reads
 abbrev Inv-loop : tie.InvT-loop
 Inv-loop g layout matrix₀ right₀ n start₀ i₀ matrix right start i =
     (i ≤ n) × (start ≡ sumℕ i (widthOf layout n)) × (length matrix ≡ length matrix₀) × (length right ≡ length right₀)
-    × (matrix ≡ rowsWritten (widthOf layout n) i (keptMatrix g) matrix₀) × (right ≡ writtenFrom 0 i (keptRight g) right₀)
+    × (matrix ≡ rowsWritten (widthOf layout n) i (keptMatrix g) matrix₀) × (right ≡ written right₀ 0 1 (keptRight g) i)
 
 abbrev μ-loop : tie.MeasureT-loop
 μ-loop g layout matrix₀ right₀ n start₀ i₀ matrix right start i = n - i
@@ -36,7 +36,7 @@ cast-n c = search needs
 
 -- src/lib.rt:147:5
 loop-holds : tie.Need-loop-holds Inv-loop μ-loop
-loop-holds c = (search needs, sym (sumℕ-none _), search needs, search needs, sym (rows-none _ _ _), sym (written-none _ _ _))
+loop-holds c = (search needs, sym (sumℕ-none _), search needs, search needs, sym (rows-none _ _ _), sym (written-none _ _ 1 _))
 
 -- src/lib.rt:148:30
 add-row-of : tie.Need-add-row-of Inv-loop μ-loop
@@ -109,7 +109,7 @@ loop-again c =
       simp length-set (l .inv .3),
       row-written (s .args .layout) (s .args .g .n) (l .i) (l .inv .1) (w .0) _ (keptMatrix (s .args .g)) (s .args .matrix .now) (l .matrix) r
           (λ j b. row-matrix (s .args .g) (l .i) (o .ensures) j (omega (arith, b, w .1))) (l .inv .4),
-      right-next (keptRight (s .args .g)) (s .args .right .now) (l .right) (l .i) (toZ-ofZ w64 (o .result .right) f ∙ row-right (s .args .g) (l .i) (o .ensures)) (l .inv .5),
+      written-more _ _ 1 _ (l .i) (l .inv .5) (omega arith) (toZ-ofZ w64 (o .result .right) f ∙ row-right (s .args .g) (l .i) (o .ensures)),
     )
 
 -- src/lib.rt:139:1
@@ -122,7 +122,7 @@ same-length-2 c = search needs
 
 -- src/lib.rt:139:1
 returns : tie.Need-returns Inv-loop μ-loop
-returns c = (c .before .loop .inv .4 ∙ rows-end _ _ _ (c .before .loop .inv .0) (c .loop-test .left), c .before .loop .inv .5 ∙ written-end _ _ _ (c .before .loop .inv .0) (c .loop-test .left))
+returns c = (c .before .loop .inv .4 ∙ rows-end _ _ _ (c .before .loop .inv .0) (c .loop-test .left), c .before .loop .inv .5 ∙ written-end _ _ 1 _ (c .before .loop .inv .0) (c .loop-test .left))
 
 pub write-equations-spec : {M : Type 1} → statement M
 write-equations-spec =
