@@ -27,17 +27,16 @@ use raised_rows::row_dot;
 use ratios::bounds_of;
 use ratios::sum_of;
 
-// The sizes of p = G·r, from the raised rows of G and the raised row j, from a place on, that stands for r.
-fn sizes_of(rows: &[u64], residuals: &[u64], j: usize, place: usize, n: usize) -> [u64; 32]
+// The sizes of p = G·r, from the raised rows of G and the raised row that stands for r.
+fn sizes_of(rows: &[u64], residuals: &[u64], n: usize) -> [u64; 32]
     requires { ⌜ n ≤ 32 ⌝ }
-    requires { ⌜ Carried 0 (n + 1) j place ⌝ }
-    requires { ⌜ RaisedRows (now rows) n × RaisedRow (now residuals) (j * (n + 1)) n ⌝ }
-    ensures { λ r. ⌜ Begins 0 r n (λ (m : ℕ). columnSize (now (rows .entry)) (now (residuals .entry)) n m j) ⌝ }
+    requires { ⌜ RaisedRows (now rows) n × RaisedRow (now residuals) (0 * (n + 1)) n ⌝ }
+    ensures { λ r. ⌜ Begins 0 r n (λ (m : ℕ). columnSize (now (rows .entry)) (now (residuals .entry)) n m 0) ⌝ }
 {
     let mut out = [0u64; 32];
     let mut row = 0;
     for m in 0..n {
-        out[m] = magnitude(row_dot(rows, m, row, residuals, j, place, n));
+        out[m] = magnitude(row_dot(rows, m, row, residuals, 0, 0, n));
         row += n + 1;
     }
     out
@@ -112,7 +111,7 @@ pub fn column_bounds(
 {
     let mut raised = [0u64; 33];
     raise_row(&mut raised, 0, &residuals, 0, 1, n);
-    let sizes = add_slacks(sizes_of(rows, &raised, 0, 0, n), rows, &slacks, n);
+    let sizes = add_slacks(sizes_of(rows, &raised, n), rows, &slacks, n);
     bounds_of(&sizes, &margins, &caps, weights, n)
 }
 

@@ -37,11 +37,11 @@ use Rattle.common.proofs.Statements.{stated, said-of, found-case}
 finer-exchanged : (I J : Input) → finer J I ≡ finer I J
 finer-exchanged I J = omega arith
 
-pub low-end-exchanged : (I J : Input) (i : ℕ) → lowEnd J I i ≡ lowEnd I J i
+low-end-exchanged : (I J : Input) (i : ℕ) → lowEnd J I i ≡ lowEnd I J i
 unfolding lowEnd
 low-end-exchanged I J i = max-comm (lowOf (finer J I) J i) (lowOf (finer J I) I i) ∙ ap (λ (s : ℕ). maxℤ (lowOf s I i) (lowOf s J i)) (finer-exchanged I J)
 
-pub high-end-exchanged : (I J : Input) (i : ℕ) → highEnd J I i ≡ highEnd I J i
+high-end-exchanged : (I J : Input) (i : ℕ) → highEnd J I i ≡ highEnd I J i
 unfolding highEnd
 high-end-exchanged I J i = min-comm (highOf (finer J I) J i) (highOf (finer J I) I i) ∙ ap (λ (s : ℕ). minℤ (highOf s I i) (highOf s J i)) (finer-exchanged I J)
 

@@ -54,14 +54,14 @@ module _ (D : Attached) (u : Uncoupled D) where
   zero-at : (k j : ℕ) → k < P .n → j < D .n₁ → couplingOf D k j ≡ pos 0
   zero-at k j lk lj = u .zeros (k * D .n₁ + j) (omega (arith, mul-le-mul-right (D .n₁) lk))
 
-  pub uncoupled-residual : (k : ℕ) → k < P .n → dependentResidual D k ≡ residual P k
+  uncoupled-residual : (k : ℕ) → k < P .n → dependentResidual D k ≡ residual P k
   unfolding dependentResidual residual apply
   uncoupled-residual k l =
       let e : sum (D .n₁) (λ (j : ℕ). couplingOf D k j *ℤ D .X₁ j) ≡ pos 0 =
       sum-ext (D .n₁) (λ (j : ℕ). couplingOf D k j *ℤ D .X₁ j) (λ (j : ℕ). pos 0) (λ j lj. rw (zero-at k j l lj) (zero-* (D .X₁ j))) ∙ sum-zero (D .n₁) in
       rw e (ap (λ (z : ℤ). z -ℤ sum (P .n) (λ (j : ℕ). P .A k j *ℤ P .X j)) (+ℤ-idr (pos (S P) *ℤ P .b k)))
 
-  pub uncoupled-slack : (k : ℕ) → k < P .n → dependentSlack D k ≡ slack P k
+  uncoupled-slack : (k : ℕ) → k < P .n → dependentSlack D k ≡ slack P k
   unfolding dependentSlack
   uncoupled-slack k l =
       let e : sumℕ (D .n₁) (λ (j : ℕ). natAbs (couplingOf D k j) * D .E₁ j) ≡ 0 =
@@ -89,7 +89,7 @@ module _ (D : Attached) (u : Uncoupled D) where
   uncoupled-answer =
       rw (le-ltb (length (D .coupling)) 1024 (u .long), ranges-are, first-ext (P .n) (dependentExceeds D) (exceeds05 P) exceeds-is)
 
-pub exempt-answer : (I : Input) → MeetsSums I → exemptAnswer I ≡ answer I
+exempt-answer : (I : Input) → MeetsSums I → exemptAnswer I ≡ answer I
 unfolding exemptAnswer answer
 exempt-answer I h = rw (first-ext (I .n) (exceeds05 (problem I)) (exceeds (problem I)) (λ k l. unfold exceeds in sym (or-false (exceeds05 (problem I) k) (h k l))))
 

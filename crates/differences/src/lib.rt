@@ -20,12 +20,11 @@ ghost use Rattle.reckoning.specs.Parts.{rowsPart};
 ghost use Rattle.differences.specs.Sums.{halfOf, Room, Added, SumsOf};
 ghost use Rattle.differences.specs.Difference.{numberLess, difference};
 use integer::magnitude;
+use raised_rows::RAISED_BY;
 use raised_rows::ROWS_LENGTH;
 use raised_rows::add_low;
 use raised_rows::raise_columns;
 use reckoning::unit_at;
-
-const RAISED_BY: i64 = 33554432;
 
 // Term j of a multiple of a raised row: sum + size·x, where x is number j of the row that starts at place row, by way of the place that was carried to it.
 fn add_scaled(sum: u64, size: u64, rows: &[u64], row: usize, place: usize, j: usize) -> u64
@@ -141,7 +140,7 @@ fn store_row(
         (λ (j : ℕ). numberLess t (now (xs .entry)) start stride (now (rows .entry)) n m j) n ⌝ }
 {
     let mut sums = [0u64; 64];
-    let raised = RAISED_BY * add_rows(&mut sums, xs, start, stride, rows, n);
+    let raised = RAISED_BY as i64 * add_rows(&mut sums, xs, start, stride, rows, n);
     let mut place = m;
     for j in 0..n {
         out[place] = number_less(t, m, j, raised, sums[j], sums[32 + j]);
@@ -184,7 +183,7 @@ pub fn inverse_residuals_of(
     requires { ⌜ MatrixList (now matrix) n ⌝ }
     requires { ⌜ RaisedRows (now rows) n ⌝ }
     ensures { λ r. ⌜ Begins (pos 0) r (n * n)
-        (λ (i : ℕ). residual (columnOf (rowsPart n t (now (matrix .entry)) (now (rows .entry)) []) (i / n)) (i % n)) ⌝ }
+        (λ (i : ℕ). residual (columnOf (rowsPart n t (now (matrix .entry)) (now (rows .entry))) (i / n)) (i % n)) ⌝ }
 {
     differences_of(t, matrix, n, 1, rows, n)
 }

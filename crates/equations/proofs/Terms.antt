@@ -155,7 +155,7 @@ module _ (k : ℕ) (l : Observation) (proper : Proper l) (few : k ≤ 32) (row :
 
 -- a line at other marks
 module _ (k : ℕ) (l : Observation) (t : touches k l ≡ false) where
-  pub not-at : (m : ℕ) → weightAt k m l ≡ pos 0
+  not-at : (m : ℕ) → weightAt k m l ≡ pos 0
   unfolding weightAt
   not-at m =
       rw (t, neither-left (eqb (l .«from») k) (eqb (l .to) k) t, neither-right (eqb (l .«from») k) (eqb (l .to) k) t)
@@ -166,7 +166,7 @@ module _ (k : ℕ) (l : Observation) (t : touches k l ≡ false) where
       go false true = refl
       go false false = refl
 
-  pub no-gain : gain k l ≡ pos 0
+  no-gain : gain k l ≡ pos 0
   unfolding gain
   no-gain = rw (neither-left (eqb (l .«from») k) (eqb (l .to) k) t, neither-right (eqb (l .«from») k) (eqb (l .to) k) t)
 

@@ -42,14 +42,14 @@ use Rattle.exchange.proofs.Outward.{low-after, high-after, said-nothing
 use Rattle.exchange.proofs.Promises.{comes-back}
 use Rattle.exchange.proofs.Taken.{numbers-taken, checked-taken, guesses-taken}
 
-pub inward-accepts : (I : Incoming) → inwardAnswer I ≡ [] → GuessesOf I guessed.Accepted (guessesAfter I)
+inward-accepts : (I : Incoming) → inwardAnswer I ≡ [] → GuessesOf I guessed.Accepted (guessesAfter I)
 inward-accepts I e = record {
   says = sym e;
   guesses = refl;
   nearest = λ n i l. subst (Nearest (I .s) (doubleAt (I .values) i)) (sym (after-at I e i l)) (guess-nearest (I .s) (doubleAt (I .values) i));
 }
 
-pub outward-accepts : (I : Outgoing) → outwardAnswer I ≡ [] → IntervalsOf I outcome.Accepted (lowsAfter I) (highsAfter I)
+outward-accepts : (I : Outgoing) → outwardAnswer I ≡ [] → IntervalsOf I outcome.Accepted (lowsAfter I) (highsAfter I)
 outward-accepts I e = record {
   says = sym e;
   lows = refl;

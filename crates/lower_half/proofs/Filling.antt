@@ -34,7 +34,7 @@ written-row xs f g p (suc n) h =
 abbrev zeros : List ℤ
 zeros = replicate 1024 (pos 0)
 
-pub inside-range : (n : ℕ) → 0 < n → n ≤ 32 → inRange kind.Size (pos n) ≡ true
+inside-range : (n : ℕ) → 0 < n → n ≤ 32 → inRange kind.Size (pos n) ≡ true
 unfolding inRange rangeOf ranges
 inside-range n some few = both (le-leb 1 n some) (le-leb n 32 few)
 

@@ -86,7 +86,7 @@ module _ (file : List ℕ) (c : Complete file) where
   abbrev Q : Problem
   Q = problemIn (newFile file)
 
-  pub in-range-file : NumbersInRange P
+  in-range-file : NumbersInRange P
   in-range-file = in-range-forms (readingOf file .state) (forms (linesOf file)) (from file (c .lines) (c .end)) (inside file (c .lines) (c .end))
 
   pub new-complete : Complete (newFile file)

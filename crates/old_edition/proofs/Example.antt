@@ -154,7 +154,7 @@ unbounded-refused =
     ∙ ap (λ (Q : Problem). printed 0 (checkedOf Q)) unbounded-problem
     ∙ ap (printed 0) unbounded-checked
 
-pub unbounded-new : newFile unboundedFile ≡ unboundedNew
+unbounded-new : newFile unboundedFile ≡ unboundedNew
 unbounded-new = ap oldFile unbounded-problem ∙ unbounded-bytes
 
 pub unbounded-converted : convertAnswer unboundedFile 32768 ≡ []
@@ -175,7 +175,7 @@ pub tolerant-refused : (room : ℕ) → convertAnswer tolerantFile room ≡ 22 �
 tolerant-refused room = stated-said tolerantFile room (tolerance (accepted-parts tolerantFile tolerant-accepted .complete) 0 tolerant-size tolerant-above)
 
 -- ---- the longest
-pub longest-in-range : NumbersInRange longest
+longest-in-range : NumbersInRange longest
 unfolding inRange rangeOf ranges
 longest-in-range = record {
   size = refl;

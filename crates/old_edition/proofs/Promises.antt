@@ -69,7 +69,7 @@ pub record EqualChecks (file other : List ℕ) : Type 0 where
   pub listing : listingOf other ≡ listingOf file
 
 module _ (file : List ℕ) (room : ℕ) (e : convertAnswer file room ≡ []) where
-  pub convertible : Convertible file room
+  convertible : Convertible file room
   convertible = stated-nothing (convert-stated file room) e
 
   pub old-desk : CompleteOld (newFile file)

@@ -33,7 +33,7 @@ some-above (suc n) d h = go (decLt 0 (d n)) (some-above n d)
     go (yes a) before = (n, (omega arith, a))
     go (no a) before = let r = before (omega arith) in (r .0, (omega (arith, r .1 .0), r .1 .1))
 
-pub tolerance-said : (P : Problem) (i : ℕ) → i < P .n → 0 < P .d i → someTolerance P ≡ true
+tolerance-said : (P : Problem) (i : ℕ) → i < P .n → 0 < P .d i → someTolerance P ≡ true
 tolerance-said P i l h = lt-ltb 0 (largest (P .n) (P .d)) (omega (arith, largest-at (P .n) (P .d) i l))
 
 pub none-said : (P : Problem) → NoTolerance P → someTolerance P ≡ false

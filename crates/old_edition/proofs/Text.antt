@@ -23,7 +23,7 @@ use Rattle.old_edition.specs.Stated.{NoTolerance}
 use Rattle.old_edition.proofs.Stated.{always-fits}
 
 module _ (file : List ℕ) where
-  pub answer-numbers : (room : ℕ) → refusalNumbers file room ≡ printed (ifAccepted (readingOf file .said) 0 (readingOf file .line)) (convertAnswer file room)
+  answer-numbers : (room : ℕ) → refusalNumbers file room ≡ printed (ifAccepted (readingOf file .said) 0 (readingOf file .line)) (convertAnswer file room)
   unfolding convertAnswer
   answer-numbers room = go (readingOf file .said) (readingOf file .line)
     where
@@ -35,7 +35,7 @@ module _ (file : List ℕ) where
   unfolding convertedText
   text-is w e = rw (answer-numbers 32768, e)
 
-  pub text-refused : {k : ℕ} {vs : List ℕ} → readingOf file .said ≡ k ∷ vs → convertedText file ≡ refusedOf (printed (readingOf file .line) (k ∷ vs))
+  text-refused : {k : ℕ} {vs : List ℕ} → readingOf file .said ≡ k ∷ vs → convertedText file ≡ refusedOf (printed (readingOf file .line) (k ∷ vs))
   unfolding convertedText
   text-refused e = rw e
 

@@ -64,7 +64,7 @@ module _ {A : Type 0} (d : A) (xs : List A) (n : ℕ) (f : ℕ → ℕ → A) wh
   }
 
 -- ---- a search column by column
-pub first-after : (m n : ℕ) (f : ℕ → Bool) → first (m + n) f ≡ firstFrom (first m f) m (first n (λ (k : ℕ). f (m + k)))
+first-after : (m n : ℕ) (f : ℕ → Bool) → first (m + n) f ≡ firstFrom (first m f) m (first n (λ (k : ℕ). f (m + k)))
 first-after m n f = go (searched m f) (searched n (λ (k : ℕ). f (m + k)))
   where
     before : ((k : ℕ) → k < m → f k ≡ false) → (b : ℕ) → ((k : ℕ) → k < b → f (m + k) ≡ false) → (x : ℕ) → x < m + b → f x ≡ false

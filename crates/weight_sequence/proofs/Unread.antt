@@ -51,12 +51,12 @@ module _ (n t : ℕ) (A A′ G G′ : Mat) (hA : (i j : ℕ) → i < n → j < n
         (λ m l. ap (λ (z : ℤ). leZ z (pos 0))
         (margin-same n 0 t A A′ (vectorOf []) (vectorOf []) (λ i. natAbs (at [] i)) (λ i. natAbs (at [] i)) (vectorOf []) (vectorOf []) G G′ w w′ hA (λ i l. refl) (λ i l. refl) (λ i l. refl) hG h m l)))
 
-  pub tried-same : (k i : ℕ) → i < n → tried (with A G) k i ≡ tried (with A′ G′) k i
+  tried-same : (k i : ℕ) → i < n → tried (with A G) k i ≡ tried (with A′ G′) k i
   unfolding tried
   tried-same zero i l = refl
   tried-same (suc k) i l = next-same (tried (with A G) k) (tried (with A′ G′) k) (tried-same k) i l
 
-  pub first-same : (a : ℕ) → firstGood (with A G) a ≡ firstGood (with A′ G′) a
+  first-same : (a : ℕ) → firstGood (with A G) a ≡ firstGood (with A′ G′) a
   first-same a =
       first-ext a (λ (k : ℕ). good (with A G) (tried (with A G) k)) (λ (k : ℕ). good (with A′ G′) (tried (with A′ G′) k))
       (λ k l. good-same (tried (with A G) k) (tried (with A′ G′) k) (tried-same k))

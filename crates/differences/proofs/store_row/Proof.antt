@@ -61,6 +61,9 @@ in-array t =
       omega (arith, t .before .loop .inv .1 .0 .is, place (t .loop-test .taken) (s .pre .0 .1 .1 .0), square (s .pre .0 .1 .0), s .pre .0 .1 .0),
     )
 
+cast-raised : tie.Need-cast-raised Inv-loop μ-loop
+cast-raised c = search needs
+
 add-rows-requires : tie.Need-add-rows-requires Inv-loop μ-loop
 add-rows-requires c κs =
     let s = c .before .before in ((s .pre .0 .1 .0, s .pre .0 .1 .1 .1), (s .pre .1 .0, (s .pre .1 .1, (refl, no-sums))))
@@ -99,8 +102,8 @@ number-less-requires c κs =
       ),
     )
 
-mul-t26 : tie.Need-mul-t26 Inv-loop μ-loop
-mul-t26 c = omega (arith, in-array (c .before) .0)
+mul-t27 : tie.Need-mul-t27 Inv-loop μ-loop
+mul-t27 c = omega (arith, in-array (c .before) .0)
 
 element-set-from-out : tie.Need-element-set-from-out Inv-loop μ-loop
 element-set-from-out c = in-array (c .before) .0
@@ -136,6 +139,7 @@ store-row-spec =
     (tie.spec
     Inv-loop
     μ-loop
+    cast-raised
     add-rows-requires
     mul-raised
     loop-holds
@@ -145,7 +149,7 @@ store-row-spec =
     mul-number-less-2
     array-read-number-less-2
     number-less-requires
-    mul-t26
+    mul-t27
     element-set-from-out
     add-place
     add-j
