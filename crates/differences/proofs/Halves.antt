@@ -23,7 +23,7 @@ use Rattle.linear.specs.Place.{Carried}
 use Rattle.linear.specs.Written.{written}
 use Rattle.linear.proofs.Carried.{unit-place}
 use Rattle.linear.proofs.Written.{written-at, written-else, written-length, front-at}
-use Rattle.differences.specs.Sums.{up, down, halfOf, Room, Added}
+use Rattle.differences.specs.Sums.{up, down, halfOf, SmallSums, Added}
 
 -- ---- the two parts of a number
 pub signs : (x : ℤ) → x ≡ pos (up x) -ℤ pos (down x)
@@ -56,7 +56,7 @@ unfolding halfOf
 half-above (pos a) e = refl
 half-above (negsuc a) e = absurd (subst T e tt)
 
-pub half-room : (x : ℤ) {sums : List ℕ} {n : ℕ} → Room sums 0 n → Room sums 32 n → Room sums (halfOf x) n
+pub half-room : (x : ℤ) {sums : List ℕ} {n : ℕ} → SmallSums sums 0 n → SmallSums sums 32 n → SmallSums sums (halfOf x) n
 unfolding halfOf
 half-room (pos a) p q = p
 half-room (negsuc a) p q = q

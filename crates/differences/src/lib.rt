@@ -17,7 +17,7 @@ ghost use Rattle.enclosure.specs.Problem.{columnOf, problemOf};
 ghost use Rattle.enclosure.specs.Reckoning.{defect, residual};
 ghost use Rattle.reckoning.specs.Arrays.{Begins};
 ghost use Rattle.reckoning.specs.Parts.{rowsPart};
-ghost use Rattle.differences.specs.Sums.{halfOf, Room, Added, SumsOf};
+ghost use Rattle.differences.specs.Sums.{halfOf, SmallSums, Added, SumsOf};
 ghost use Rattle.differences.specs.Difference.{numberLess, difference};
 use integer::magnitude;
 use raised_rows::RAISED_BY;
@@ -40,7 +40,7 @@ fn add_scaled(sum: u64, size: u64, rows: &[u64], row: usize, place: usize, j: us
 fn add_row(sums: &mut [u64; 64], half: usize, size: u64, rows: &[u64], row: usize, n: usize)
     requires { ⌜ (half + n ≤ 64) × (size ≤ 2 ^ 20) ⌝ }
     requires { ⌜ RaisedRow (now rows) row n ⌝ }
-    requires { ⌜ Room (now sums) half n ⌝ }
+    requires { ⌜ SmallSums (now sums) half n ⌝ }
     ensures { λ _. ⌜ now (sums .exit) ≡ written (now (sums .entry)) half 1
         (λ (j : ℕ). getD (now (sums .entry)) (half + j) 0 + size * getD (now (rows .entry)) (row + j) 0) n ⌝ }
 {
@@ -65,7 +65,7 @@ fn add_multiple(sums: &mut [u64; 64], x: i64, rows: &[u64], k: usize, row: usize
     requires { ⌜ (n ≤ 32) × (natAbs x ≤ 2 ^ 20) ⌝ }
     requires { ⌜ Carried 0 (n + 1) k row ⌝ }
     requires { ⌜ RaisedRow (now rows) (k * (n + 1)) n ⌝ }
-    requires { ⌜ (length (now sums) ≡ 64) × (Room (now sums) 0 n × Room (now sums) 32 n) ⌝ }
+    requires { ⌜ (length (now sums) ≡ 64) × (SmallSums (now sums) 0 n × SmallSums (now sums) 32 n) ⌝ }
     ensures { λ _. ⌜ Added (now (sums .entry)) (now (sums .exit)) n x
         (λ (j : ℕ). getD (now (rows .entry)) (raisedPlace n k j) 0) ⌝ }
 {

@@ -9,6 +9,7 @@ use Prim.Native.Nat.{ℕ}
 use native.Mathlib.Omega.{arith}
 use lib.ListN.{take}
 use Rattle.rules.specs.Order.{verdict, ifAccepted}
+use Rattle.enclosure.specs.Demand.{NoTolerance}
 use Rattle.line_runs.specs.Acceptable.{bytesMost}
 use Rattle.line_runs.specs.Run.{fromNew}
 use Rattle.line_runs.specs.Read.{Reading, zeros, readingOf}
@@ -19,7 +20,6 @@ use Rattle.file_check.specs.Judged.{lineOr}
 use Rattle.listing.specs.Listing.{problemIn, Complete}
 use Rattle.old_edition.specs.Converted.{conversionOrder, convertAnswer, refusalNumbers, convertedText}
 use Rattle.old_edition.specs.File.{newFile}
-use Rattle.old_edition.specs.Stated.{NoTolerance}
 use Rattle.old_edition.proofs.Stated.{always-fits}
 
 module _ (file : List ℕ) where
