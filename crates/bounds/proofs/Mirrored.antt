@@ -1,6 +1,6 @@
 -- Sizes of p for all columns: what the list of them holds, and that half of them will do where p is symmetric.
 --   known-none, known-fewer — the list begins with the sizes of no column, and of fewer than it does
---   known-kept, known-more — it keeps them while column j is stored after them, and then has that column too
+--   known-kept, known-more — it keeps them while column j is written after them, and then has that column too
 --   known-across — where p is symmetric, number j of column m is that of p_m of column j
 --   mirrored-sizes — symmetric for the residuals themselves, then for the raised rows that stand for them
 use mathlib.Core.Path.{_≡_, sym, ap, _∙_}
@@ -12,12 +12,12 @@ use borrow.Author.Count.{below-more}
 use lib.IntN.{ℤ, natAbs}
 use lib.ListN.{getD, length}
 use Rattle.linear.specs.Place.{Carried}
+use Rattle.linear.specs.Written.{written}
 use Rattle.linear.proofs.Carried.{column-place}
+use Rattle.linear.proofs.Written.{written-at, written-else}
 use Rattle.raised_rows.specs.Raised.{RaisedRows}
 use Rattle.raised_rows.specs.Place.{RowsOfMatrix}
 use Rattle.raised_rows.proofs.Standing.{rows-stand}
-use Rattle.reckoning.specs.Arrays.{stored}
-use Rattle.reckoning.proofs.Filled.{stored-at, stored-else}
 use Rattle.bounds.specs.Mirrored.{columnSize, KnownColumns, Mirrored, MirroredProduct}
 use Rattle.bounds.proofs.Column.{image-is}
 
@@ -29,23 +29,21 @@ module _ {list : List ℕ} {n : ℕ} {rows residuals : List ℕ} where
   known-fewer h e = record { each = λ i m l lm. e .each i m (omega arith) lm }
 
   pub known-kept : {k : ℕ} (f : ℕ → ℕ) {j : ℕ} (i : ℕ) {after : List ℕ} → k ≤ j → KnownColumns list n k rows residuals →
-      after ≡ stored list (j * n) 1 f i → KnownColumns after n k rows residuals
+      after ≡ written list (j * n) 1 f i → KnownColumns after n k rows residuals
   known-kept f {j} i h e s = record {
     each = λ a m l lm.
-        rw s (stored-else list (j * n) 1 f 0 i (a * n + m) (λ x lx q. let b : a + 1 ≤ j = omega arith in omega (arith, mul-le-mul-right n b)) ∙ e .each a m l lm);
+        rw s (written-else list (j * n) 1 f 0 i (a * n + m) (λ x lx q. let b : a + 1 ≤ j = omega arith in omega (arith, mul-le-mul-right n b)) ∙ e .each a m l lm);
   }
 
   pub known-more : (j : ℕ) {after : List ℕ} → j * n + n ≤ length list → KnownColumns list n j rows residuals →
-      after ≡ stored list (j * n) 1 (λ (m : ℕ). columnSize rows residuals n m j) n → KnownColumns after n (j + 1) rows residuals
+      after ≡ written list (j * n) 1 (λ (m : ℕ). columnSize rows residuals n m j) n → KnownColumns after n (j + 1) rows residuals
   known-more j {after} long e s = record { each = λ i m l. all i l m }
     where
       f : ℕ → ℕ
       f m = columnSize rows residuals n m j
 
       new : (m : ℕ) → m < n → getD after (j * n + m) 0 ≡ f m
-      new m lm =
-          let place : j * n + m ≡ j * n + m * 1 = omega arith in
-          rw (s, place) (stored-at list (j * n) 1 f 0 n m (omega arith) lm (λ k l. omega arith))
+      new m lm = rw s (written-at list (j * n) 1 f 0 n m (omega arith) (omega arith) lm (λ k l. omega arith))
 
       all : (i : ℕ) → i < j + 1 → (m : ℕ) → m < n → getD after (i * n + m) 0 ≡ columnSize rows residuals n m i
       all = below-more (λ i. (m : ℕ) → m < n → getD after (i * n + m) 0 ≡ columnSize rows residuals n m i) j (λ i l m. known-kept f n (omega arith) e s .each i m l) new

@@ -13,7 +13,7 @@ use Rattle.enclosure.specs.Reckoning.{allowedResidual, sizesWith, boundFrom}
 use Rattle.reckoning.specs.Parts.{rowsPart}
 
 abbrev pub inversePart : ℕ → List ℕ → Problem
-inversePart n rows = rowsPart n 0 [] rows []
+inversePart n rows = rowsPart n 0 [] rows
 
 pub record Near (r : Vec) (σ : ℕ → ℕ) (n : ℕ) : Type 0 where
   pub each : (k : ℕ) → k < n → natAbs (r k) + σ k ≤ allowedResidual

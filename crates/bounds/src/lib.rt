@@ -9,9 +9,10 @@ ghost use Rattle.integer.specs.Finite.{sumℕ};
 ghost use Rattle.linear.specs.Slice.{at};
 ghost use Rattle.linear.specs.Place.{Carried};
 ghost use Rattle.linear.specs.Reach.{ColumnList};
+ghost use Rattle.linear.specs.Written.{written};
 ghost use Rattle.raised_rows.specs.Raised.{raisedBy, lowered, RaisedRow, RaisedRows, loweredRows};
 ghost use Rattle.enclosure.specs.Reckoning.{allowedResidual};
-ghost use Rattle.reckoning.specs.Arrays.{Begins, stored, storedColumns};
+ghost use Rattle.reckoning.specs.Arrays.{Begins, columnsWritten};
 ghost use Rattle.reckoning.specs.Rows.{InverseRows};
 ghost use Rattle.ratios.specs.Ratio.{Positive, Caps};
 ghost use Rattle.bounds.specs.Limits.{Near, limitsOf};
@@ -26,17 +27,16 @@ use raised_rows::row_dot;
 use ratios::bounds_of;
 use ratios::sum_of;
 
-// The sizes of p = G·r, from the raised rows of G and the raised row j, from a place on, that stands for r.
-fn sizes_of(rows: &[u64], residuals: &[u64], j: usize, place: usize, n: usize) -> [u64; 32]
+// The sizes of p = G·r, from the raised rows of G and the raised row that stands for r.
+fn sizes_of(rows: &[u64], residuals: &[u64], n: usize) -> [u64; 32]
     requires { ⌜ n ≤ 32 ⌝ }
-    requires { ⌜ Carried 0 (n + 1) j place ⌝ }
-    requires { ⌜ RaisedRows (now rows) n × RaisedRow (now residuals) (j * (n + 1)) n ⌝ }
-    ensures { λ r. ⌜ Begins 0 r n (λ (m : ℕ). columnSize (now (rows .entry)) (now (residuals .entry)) n m j) ⌝ }
+    requires { ⌜ RaisedRows (now rows) n × RaisedRow (now residuals) (0 * (n + 1)) n ⌝ }
+    ensures { λ r. ⌜ Begins 0 r n (λ (m : ℕ). columnSize (now (rows .entry)) (now (residuals .entry)) n m 0) ⌝ }
 {
     let mut out = [0u64; 32];
     let mut row = 0;
     for m in 0..n {
-        out[m] = magnitude(row_dot(rows, m, row, residuals, j, place, n));
+        out[m] = magnitude(row_dot(rows, m, row, residuals, 0, 0, n));
         row += n + 1;
     }
     out
@@ -111,7 +111,7 @@ pub fn column_bounds(
 {
     let mut raised = [0u64; 33];
     raise_row(&mut raised, 0, &residuals, 0, 1, n);
-    let sizes = add_slacks(sizes_of(rows, &raised, 0, 0, n), rows, &slacks, n);
+    let sizes = add_slacks(sizes_of(rows, &raised, n), rows, &slacks, n);
     bounds_of(&sizes, &margins, &caps, weights, n)
 }
 
@@ -119,7 +119,7 @@ pub fn column_bounds(
 pub fn store(dst: &mut [u64], start: usize, stride: usize, column: [u64; 32], n: usize)
     requires { ⌜ (n ≤ 32) × (start + n * stride < 2 ^ 60) ⌝ }
     requires { ⌜ ((k : ℕ) → k < n → start + k * stride < length (now dst)) ⌝ }
-    ensures { λ _. ⌜ now (dst .exit) ≡ stored (now (dst .entry)) start stride (λ (i : ℕ). getD column i 0) n ⌝ }
+    ensures { λ _. ⌜ now (dst .exit) ≡ written (now (dst .entry)) start stride (λ (i : ℕ). getD column i 0) n ⌝ }
 {
     let mut place = start;
     for i in 0..n {
@@ -171,7 +171,7 @@ fn column_sizes(
     requires { ⌜ KnownColumns (now list) n known (now rows) (now residuals) ⌝ }
     requires { ⌜ (0 < known → Mirrored (now rows) (now residuals) n) ⌝ }
     ensures { λ r. ⌜ Begins 0 r n (λ (m : ℕ). columnSize (now (rows .entry)) (now (residuals .entry)) n m j)
-        × (now (list .exit) ≡ stored (now (list .entry)) (j * n) 1 (λ (m : ℕ). columnSize (now (rows .entry)) (now (residuals .entry)) n m j) n) ⌝ }
+        × (now (list .exit) ≡ written (now (list .entry)) (j * n) 1 (λ (m : ℕ). columnSize (now (rows .entry)) (now (residuals .entry)) n m j) n) ⌝ }
 {
     let mut out = [0u64; 32];
     let mut across = j;
@@ -207,7 +207,7 @@ pub fn store_columns(
     requires { ⌜ Positive margins n ⌝ }
     requires { ⌜ ColumnList (now weights) n 1024 ⌝ }
     requires { ⌜ Caps caps margins (now weights) n ⌝ }
-    ensures { λ _. ⌜ now (dst .exit) ≡ storedColumns (now (dst .entry)) n
+    ensures { λ _. ⌜ now (dst .exit) ≡ columnsWritten (now (dst .entry)) n
         (λ (i j : ℕ). limitsOf n (now (rows .entry)) (λ (k : ℕ). at (now (residuals .entry)) (j * n + k)) (λ (k : ℕ). 0) margins
         (now (weights .entry)) i) n ⌝ }
 {

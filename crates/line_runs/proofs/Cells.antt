@@ -3,7 +3,7 @@
 --   rows-apart — the numbers for different i stand apart
 --   cell-own   — a form's own cells hold its numbers;  cell-else — every other cell is as before
 --   cell-end, cell-one — at an end, too, but for the weights that were not given, which are 1
-use mathlib.Core.Path.{_≡_, refl, sym, ap, _∙_}
+use mathlib.Core.Path.{_≡_, refl, ap, _∙_}
 use mathlib.Core.Bool.{Bool, true, false, cond}
 use mathlib.Core.List.{List, [], _∷_}
 use Prim.Native.Nat.{ℕ, zero, suc, _+_, _*_, _-_, _≤_, _<_}

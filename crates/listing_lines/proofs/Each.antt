@@ -14,11 +14,11 @@ use Rattle.text.specs.Wrote.{Wrote}
 use Rattle.text.proofs.Wrote.{none, then, wider, called}
 use Rattle.listing_lines.specs.Line.{each, gap}
 
-pub each-none : (f : ℕ → List ℕ) → each 0 f ≡ []
+each-none : (f : ℕ → List ℕ) → each 0 f ≡ []
 unfolding each
 each-none f = refl
 
-pub each-next : (n : ℕ) (f : ℕ → List ℕ) → each (n + 1) f ≡ each n f ++ f n
+each-next : (n : ℕ) (f : ℕ → List ℕ) → each (n + 1) f ≡ each n f ++ f n
 unfolding each
 each-next n f = rw add-one
 

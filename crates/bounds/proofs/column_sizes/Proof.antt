@@ -3,11 +3,13 @@ use Prim.Native.Nat.{ℕ, _+_, _*_, _≤_, _<_, _-_}
 use native.Mathlib.Omega.{arith}
 use lib.ListN.{length, length-set}
 use Rattle.linear.specs.Place.{Carried}
+use Rattle.linear.specs.Written.{written}
 use Rattle.linear.proofs.Carried.{carried-first, carried-next, start-place}
 use Rattle.linear.proofs.Places.{place, square}
+use Rattle.linear.proofs.Written.{written-none, written-more, written-end}
 use Rattle.raised_rows.proofs.Filling.{rows-room}
-use Rattle.reckoning.specs.Arrays.{Begins, stored}
-use Rattle.reckoning.proofs.Filled.{begins-none, begins-more, begins-end, stored-none, stored-more, stored-end}
+use Rattle.reckoning.specs.Arrays.{Begins}
+use Rattle.reckoning.proofs.Filled.{begins-none, begins-more, begins-end}
 use Rattle.reckoning.proofs.Sizes.{row-ends}
 use Rattle.bounds.specs.Mirrored.{columnSize}
 use Rattle.bounds.proofs.Mirrored.{known-kept}
@@ -18,7 +20,7 @@ use Rattle.bounds.proofs.column_sizes.Tie as tie
 abbrev Inv-loop : tie.InvT-loop
 Inv-loop list₀ known rows residuals j place start n out₀ across₀ along₀ row₀ m₀ list out across along row m =
     (m ≤ n) × ((Carried j n m across × (Carried start 1 m along × Carried 0 (n + 1) m row)) × ((length out ≡ 32)
-    × (Begins 0 out m (λ (i : ℕ). columnSize rows residuals n i j) × (list ≡ stored list₀ (j * n) 1 (λ (i : ℕ). columnSize rows residuals n i j) m))))
+    × (Begins 0 out m (λ (i : ℕ). columnSize rows residuals n i j) × (list ≡ written list₀ (j * n) 1 (λ (i : ℕ). columnSize rows residuals n i j) m))))
 
 abbrev μ-loop : tie.MeasureT-loop
 μ-loop list₀ known rows residuals j place start n out₀ across₀ along₀ row₀ m₀ list out across along row m = n - m
@@ -39,7 +41,7 @@ module _ (t : tie.In-loop Inv-loop μ-loop) where
 
 loop-holds : tie.Need-loop-holds Inv-loop μ-loop
 loop-holds c =
-    (omega arith, ((carried-first _ _, (carried-first _ _, carried-first _ _)), (refl, (begins-none _ _ _, sym (stored-none _ _ _ _)))))
+    (omega arith, ((carried-first _ _, (carried-first _ _, carried-first _ _)), (refl, (begins-none _ _ _, sym (written-none _ _ _ _)))))
 
 size-at-requires : tie.Need-size-at-requires Inv-loop μ-loop
 size-at-requires c κs =
@@ -98,7 +100,7 @@ loop-again c =
           simp length-set (i .1 .1 .0),
           (
             begins-more _ _ _ _ _ (i .1 .1 .1 .0) (omega arith) (c .size-at .ensures),
-            stored-more _ _ _ _ (turn c .before .loop .m) (i .1 .1 .1 .1) (along-is (turn c)) (c .size-at .ensures),
+            written-more _ _ _ _ (turn c .before .loop .m) (i .1 .1 .1 .1) (along-is (turn c)) (c .size-at .ensures),
           ),
         ),
       ),
@@ -107,7 +109,7 @@ loop-again c =
 returns : tie.Need-returns Inv-loop μ-loop
 returns c =
     let i = c .before .loop .inv in
-    (begins-end 0 (i .0) (c .loop-test .left) (i .1 .1 .1 .0), i .1 .1 .1 .1 ∙ stored-end _ _ _ _ (i .0) (c .loop-test .left))
+    (begins-end 0 (i .0) (c .loop-test .left) (i .1 .1 .1 .0), i .1 .1 .1 .1 ∙ written-end _ _ _ _ (i .0) (c .loop-test .left))
 
 pub column-sizes-spec : {M : Type 1} → statement M
 column-sizes-spec =

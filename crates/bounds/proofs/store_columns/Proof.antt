@@ -9,12 +9,13 @@ use Rattle.linear.specs.Slice.{at}
 use Rattle.linear.specs.Place.{Carried}
 use Rattle.linear.proofs.Carried.{carried-first, carried-next}
 use Rattle.linear.proofs.Places.{place}
+use Rattle.linear.proofs.Written.{written-length}
 use Rattle.raised_rows.specs.Raised.{RowOf}
 use Rattle.raised_rows.proofs.Filling.{rows-room}
 use Rattle.raised_rows.proofs.Standing.{rows-stand}
 use Rattle.enclosure.specs.Reckoning.{sizesWith}
-use Rattle.reckoning.specs.Arrays.{Begins, storedColumns}
-use Rattle.reckoning.proofs.Filled.{columns-none, columns-end, columns-length, stored-length}
+use Rattle.reckoning.specs.Arrays.{Begins, columnsWritten}
+use Rattle.reckoning.proofs.Filled.{columns-none, columns-end, columns-length}
 use Rattle.reckoning.proofs.Sizes.{row-ends, column-ends}
 use Rattle.bounds.specs.Limits.{inversePart, limitsOf}
 use Rattle.bounds.specs.Mirrored.{KnownColumns}
@@ -26,7 +27,7 @@ use Rattle.bounds.proofs.store_columns.Tie as tie
 
 abbrev Inv-loop : tie.InvT-loop
 Inv-loop dst₀ rows residuals mirrored weights n margins caps raised list₀ place₀ start₀ j₀ dst list place start j =
-    (j ≤ n) × ((Carried 0 (n + 1) j place × Carried 0 n j start) × (((length list ≡ 1024) × KnownColumns list n j rows raised) × (dst ≡ storedColumns dst₀ n (λ (i k : ℕ). limitsOf n rows (λ (a : ℕ). at residuals (k * n + a)) (λ (a : ℕ). 0) margins weights i) j)))
+    (j ≤ n) × ((Carried 0 (n + 1) j place × Carried 0 n j start) × (((length list ≡ 1024) × KnownColumns list n j rows raised) × (dst ≡ columnsWritten dst₀ n (λ (i k : ℕ). limitsOf n rows (λ (a : ℕ). at residuals (k * n + a)) (λ (a : ℕ). 0) margins weights i) j)))
 
 abbrev μ-loop : tie.MeasureT-loop
 μ-loop dst₀ rows residuals mirrored weights n margins caps raised list₀ place₀ start₀ j₀ dst list place start j = n - j
@@ -59,7 +60,7 @@ list-next : (c : tie.After-column-sizes Inv-loop μ-loop) →
 list-next c =
     let t = turn c in
     let i = t .before .loop .inv .1 .1 .0 in (
-      ap length (c .column-sizes .ensures .1) ∙ stored-length _ _ _ _ (start t .args .n) ∙ i .0,
+      ap length (c .column-sizes .ensures .1) ∙ written-length _ _ _ _ (start t .args .n) ∙ i .0,
       known-more (t .before .loop .j) (omega (arith, i .0, row-ends (t .loop-test .taken) (start t .pre .0 .1 .0))) (i .1) (c .column-sizes .ensures .1),
     )
 

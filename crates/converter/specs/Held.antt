@@ -1,5 +1,5 @@
 -- What the steps of a conversion ask and say; cited by the contracts inside.
---   Ready c     — where the end was accepted, every collected number that counts is in its range
+--   InRangeAtEnd c — where the end was accepted, every collected number that counts is in its range
 --   heldAnswer c room — what is said of collected numbers: 15, 22
 --   unfit tolerance room size — 22 where there is a tolerance, or the room is less than the size
 use mathlib.Core.Bool.{Bool, true, _||_, cond}
@@ -16,8 +16,8 @@ use Rattle.old_edition.specs.Converted.{someTolerance}
 use Rattle.old_edition.specs.File.{oldFile}
 use Rattle.conversion.specs.Written.{heldBy}
 
-abbrev pub Ready : Collected → Type 0
-Ready c = ended (c .loader .stage) ≡ true → InRange (stateOf c)
+abbrev pub InRangeAtEnd : Collected → Type 0
+InRangeAtEnd c = ended (c .loader .stage) ≡ true → InRange (stateOf c)
 
 abbrev pub unfit : Bool → ℕ → ℕ → List ℕ
 unfit tolerance room size = cond (tolerance || ltb room size) (22 ∷ []) []
