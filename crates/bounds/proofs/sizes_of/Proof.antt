@@ -9,7 +9,7 @@ use Rattle.raised_rows.proofs.Filling.{rows-room}
 use Rattle.raised_rows.proofs.Lowering.{row-dot-size}
 use Rattle.reckoning.specs.Arrays.{Begins}
 use Rattle.reckoning.proofs.Filled.{begins-none, begins-more, begins-end}
-use Rattle.bounds.specs.Mirrored.{columnSize}
+use Rattle.bounds.specs.Limits.{columnSize}
 use borrow.Author.Needs.{needs}
 use Rattle.bounds.proofs.sizes_of.Statement.{statement}
 use Rattle.bounds.proofs.sizes_of.Tie as tie

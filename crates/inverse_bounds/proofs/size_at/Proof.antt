@@ -3,9 +3,9 @@ use native.Mathlib.Omega.{arith}
 use Rattle.integer.proofs.Machine.{read}
 use Rattle.linear.proofs.Places.{place, square}
 use Rattle.raised_rows.proofs.Lowering.{row-dot-size}
-use Rattle.bounds.proofs.Mirrored.{known-across}
-use Rattle.bounds.proofs.size_at.Statement.{statement}
-use Rattle.bounds.proofs.size_at.Tie as tie
+use Rattle.inverse_bounds.proofs.Mirrored.{known-across}
+use Rattle.inverse_bounds.proofs.size_at.Statement.{statement}
+use Rattle.inverse_bounds.proofs.size_at.Tie as tie
 
 inside : (s : tie.Start) → s .args .across < 1024
 inside s = omega (arith, s .pre .1 .0 .0 .is, place (s .pre .0 .1 .0) (s .pre .0 .1 .1 .0), square (s .pre .0 .0))

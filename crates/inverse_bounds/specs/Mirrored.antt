@@ -1,19 +1,16 @@
 -- Sizes of p = G·r for all columns of the inverse, and when half of them will do; cited by contracts inside.
---   columnSize rows residuals n m j — the size of p_m of column j, from the raised rows of G and the raised residuals, column after column
 --   KnownColumns list n k rows residuals — the list begins with the sizes of the first k columns, n of each
 --   Mirrored rows residuals n — the size of p_m of column j is that of p_j of column m
 --   MirroredProduct rows residuals n — p_m of column j is p_j of column m, for residuals that are not raised
 use mathlib.Core.Path.{_≡_}
 use mathlib.Core.List.{List}
 use Prim.Native.Nat.{ℕ, _+_, _*_, _<_}
-use lib.IntN.{ℤ, natAbs}
+use lib.IntN.{ℤ}
 use lib.ListN.{getD}
 use Rattle.linear.specs.Matrix.{apply}
 use Rattle.linear.specs.Slice.{at}
-use Rattle.raised_rows.specs.Raised.{loweredRows, rowDot}
-
-abbrev pub columnSize : List ℕ → List ℕ → ℕ → ℕ → ℕ → ℕ
-columnSize rows residuals n m j = natAbs (rowDot rows (m * (n + 1)) residuals (j * (n + 1)) n)
+use Rattle.raised_rows.specs.Raised.{loweredRows}
+use Rattle.bounds.specs.Limits.{columnSize}
 
 pub record KnownColumns (list : List ℕ) (n k : ℕ) (rows residuals : List ℕ) : Type 0 where
   pub each : (j m : ℕ) → j < k → m < n → getD list (j * n + m) 0 ≡ columnSize rows residuals n m j

@@ -11,11 +11,11 @@ use Rattle.raised_rows.proofs.Filling.{rows-room}
 use Rattle.reckoning.specs.Arrays.{Begins}
 use Rattle.reckoning.proofs.Filled.{begins-none, begins-more, begins-end}
 use Rattle.reckoning.proofs.Sizes.{row-ends}
-use Rattle.bounds.specs.Mirrored.{columnSize}
-use Rattle.bounds.proofs.Mirrored.{known-kept}
+use Rattle.bounds.specs.Limits.{columnSize}
+use Rattle.inverse_bounds.proofs.Mirrored.{known-kept}
 use borrow.Author.Needs.{needs}
-use Rattle.bounds.proofs.column_sizes.Statement.{statement}
-use Rattle.bounds.proofs.column_sizes.Tie as tie
+use Rattle.inverse_bounds.proofs.column_sizes.Statement.{statement}
+use Rattle.inverse_bounds.proofs.column_sizes.Tie as tie
 
 abbrev Inv-loop : tie.InvT-loop
 Inv-loop list₀ known rows residuals j place start n out₀ across₀ along₀ row₀ m₀ list out across along row m =

@@ -18,8 +18,9 @@ use Rattle.linear.proofs.Written.{written-at, written-else}
 use Rattle.raised_rows.specs.Raised.{RaisedRows}
 use Rattle.raised_rows.specs.Place.{RowsOfMatrix}
 use Rattle.raised_rows.proofs.Standing.{rows-stand}
-use Rattle.bounds.specs.Mirrored.{columnSize, KnownColumns, Mirrored, MirroredProduct}
+use Rattle.bounds.specs.Limits.{columnSize}
+use Rattle.inverse_bounds.specs.Mirrored.{KnownColumns, Mirrored, MirroredProduct}
 use Rattle.bounds.proofs.Column.{image-is}
 
 module _ {list : List ℕ} {n : ℕ} {rows residuals : List ℕ} where
   pub known-none : KnownColumns list n 0 rows residuals

@@ -17,13 +17,13 @@ use Rattle.enclosure.specs.Reckoning.{sizesWith}
 use Rattle.reckoning.specs.Arrays.{Begins, columnsWritten}
 use Rattle.reckoning.proofs.Filled.{columns-none, columns-end, columns-length}
 use Rattle.reckoning.proofs.Sizes.{row-ends, column-ends}
 use Rattle.bounds.specs.Limits.{inversePart, limitsOf}
-use Rattle.bounds.specs.Mirrored.{KnownColumns}
-use Rattle.bounds.proofs.Mirrored.{known-none, known-fewer, known-more, mirrored-sizes}
+use Rattle.inverse_bounds.specs.Mirrored.{KnownColumns}
+use Rattle.inverse_bounds.proofs.Mirrored.{known-none, known-fewer, known-more, mirrored-sizes}
 use Rattle.bounds.proofs.Column.{plain-sizes, sized, columns-near, bounds-of-sizes, column-more}
 use borrow.Author.Needs.{needs}
-use Rattle.bounds.proofs.store_columns.Statement.{statement}
-use Rattle.bounds.proofs.store_columns.Tie as tie
+use Rattle.inverse_bounds.proofs.store_columns.Statement.{statement}
+use Rattle.inverse_bounds.proofs.store_columns.Tie as tie
 
 abbrev Inv-loop : tie.InvT-loop
 Inv-loop dst₀ rows residuals mirrored weights n margins caps raised list₀ place₀ start₀ j₀ dst list place start j =
