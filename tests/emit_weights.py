@@ -11,6 +11,7 @@ import argparse
 import random
 import sys
 from collections import Counter
+from math import ceil, sqrt
 from typing import NamedTuple
 
 from damage.lists import UNREAD, odd_number
@@ -41,6 +42,12 @@ def filled(request):
     """The lists at their full length."""
     fill = lambda numbers: list(numbers) + [UNREAD] * (FULL.matrix - len(numbers))
     return request._replace(matrix=fill(request.matrix), inverse=fill(request.inverse))
+
+
+def rows_given(request):
+    """The least count k such that UNREAD stands past the first k × k numbers of either list."""
+    given = max(at + 1 for numbers in (request.matrix, request.inverse) for at, number in enumerate(numbers) if number != UNREAD)
+    return ceil(sqrt(given))
 
 
 def allowances(rng, place):
@@ -79,7 +86,7 @@ def searches(seed, problems):
             changed = damaged(rng, request)
             told = WeightSearch().find(changed)
             is_searched = not isinstance(told, Refusal) or told.number == 18
-            yield Search(changed, FULL.weights, place_within(changed, MOST) if is_searched else 0)
+            yield Search(changed, rows_given(changed), place_within(changed, MOST) if is_searched else 0)
 
 
 def answer(found):

@@ -1,5 +1,7 @@
 """Document 01's desk: it collects forms line by line and fills the lists."""
 
+from functools import cached_property
+
 from .format import LONGEST_LINE, PLACED, is_in_range, read_form
 from .lists import COLUMN, KINDS, MATRIX
 from .refusal import Refusal
@@ -13,11 +15,9 @@ class Line:
         self.text = text
         self._read = read
 
-    @property
+    @cached_property
     def form(self):
-        if not hasattr(self, "_form"):
-            self._form = self._read(self.text)
-        return self._form
+        return self._read(self.text)
 
 
 class Loader:

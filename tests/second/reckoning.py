@@ -198,13 +198,12 @@ class Reckoning:
 
     def bounds(self, system, residuals, slacks, margins):
         """The limits of one column, from its residuals and slacks."""
-        sizes = self.sizes(system, residuals, slacks)
-        return [self.bound(system, i, sizes, margins) for i in range(system.n)]
+        return self.bounds_of_sizes(system, self.sizes(system, residuals, slacks), margins)
 
-    def bound(self, system, i, sizes, margins):
-        """01: the largest over all rows m of w_i·|p_m| / g_m, each rounded up to a whole number."""
-        w = system.w[i]
-        return max(rounded_up(w * p, g) for p, g in zip(sizes, margins))
+    def bounds_of_sizes(self, system, sizes, margins):
+        """01: the largest over all rows m of w_i·|p_m| / g_m, each rounded up to a whole number. Equal weights have equal limits, reckoned once."""
+        largest = {w: max(rounded_up(w * p, g) for p, g in zip(sizes, margins)) for w in set(system.w)}
+        return [largest[w] for w in system.w]
 
     def bounds_of_columns(self, system, columns, margins):
         """For column j of the inverse the same."""
