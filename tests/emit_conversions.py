@@ -122,7 +122,7 @@ def closed(passed, failed):
 
 
 def self_test(seed, files):
-    met, told, failed, count, texts = Counter(), Counter(), [], 0, set()
+    met, told, failed, count, texts = Counter(), set(), [], 0, set()
     for file, room in conversions(seed, files):
         right = Converter().convert(file, room)
         met.update(case_of(file, room, right))
@@ -130,11 +130,10 @@ def self_test(seed, files):
         if not isinstance(right, Refusal) and file not in texts:
             texts.add(file)
             failed += [f"{sentence}: {file[:60]!r}" for sentence in faults(file, right)]
-        for name, wrong in CONVERTED.items():
-            told[name] += told[name] < ENOUGH and wrong.convert(file, room) != right
+        told.update(name for name in CONVERTED.keys() - told if CONVERTED[name].convert(file, room) != right)
     print(f"{count} conversions of {len(texts)} files that are converted: {', '.join(f'{name} {met[name]}' for name in CASES)}")
     failed += [f"{name}: {met[name]} met" for name in CASES if met[name] < ENOUGH]
-    failed += [f"no file tells the version '{name}'" for name in CONVERTED if not told[name]]
+    failed += [f"no file tells the version '{name}'" for name in CONVERTED if name not in told]
     return closed(len(CASES) + len(CONVERTED) + len(texts), failed)
 
 

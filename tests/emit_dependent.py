@@ -7,15 +7,14 @@ Each call is: for each net a count k, n s t, the eight lengths that the call is 
 given, the length that the call is told of C, and these numbers, after which it is filled with UNREAD; then the refusal's number (0 where accepted), the net that
 it is of (0 where accepted) and two places, and where accepted the limits, n and n × n of the main net, n and n × n of the other."""
 
-import argparse
 import random
 import sys
 from collections import Counter
 from typing import NamedTuple
 
 from damage.pairs import PairCall, damaged, pair_call_of
+from emitter import run
 from joint import faults
-from net import joined
 from second.dependent import DependentCheck, NetRefusal
 from second.lists import check, is_within
 from second.reckoning import Bounds, Reckoning
@@ -61,7 +60,8 @@ def limits(bounds):
     return [bounds.solution, [limit for row in bounds.inverse for limit in row]]
 
 
-def written(call):
+def written(sent):
+    call = sent.call
     for net in (call.main, call.dependent):
         yield [net.count, net.n, net.s, net.t, *net.lengths]
         yield from net.lists
@@ -179,18 +179,5 @@ def self_test(seed, count):
     return int(bool(failed))
 
 
-def main():
-    parser = argparse.ArgumentParser()
-    parser.add_argument("--seed", default="1")
-    parser.add_argument("--pairs", type=int, default=PAIRS)
-    parser.add_argument("--self-test", action="store_true")
-    given = parser.parse_args()
-    if given.self_test:
-        return self_test(given.seed, given.pairs)
-    for sent in calls(given.seed, given.pairs):
-        sys.stdout.write("".join(joined(numbers) + "\n" for numbers in written(sent.call)))
-    return 0
-
-
 if __name__ == "__main__":
-    sys.exit(main())
+    sys.exit(run("pairs", PAIRS, calls, written, self_test))
