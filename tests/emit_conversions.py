@@ -99,14 +99,14 @@ def faults(file, text):
     """What is wrong with a new file, a sentence each."""
     old, new = Program().load(file), type("Old", (Program,), {"rules": Rules()})().load(text)
     numbers = lambda problem: [list(part) if isinstance(part, list) else part for part in problem]
-    listing = type("OldFiles", (Program,), {"rules": OLD_FILES})().listing(text)
+    listing, by_old_files = Program().listing(file), type("OldFiles", (Program,), {"rules": OLD_FILES})().listing(text)
     return [
         sentence
         for sentence, holds in (
             ("01 does not read it", not isinstance(new, Refusal)),
             ("other numbers", not isinstance(new, Refusal) and numbers(old) == numbers(new)),
-            ("another listing under 01's rules of the file", listing == Program().listing(file)),
-            ("another listing", Program().listing(text) == Program().listing(file)),
+            ("another listing under 01's rules of the file", by_old_files == listing),
+            ("another listing", Program().listing(text) == listing),
             ("not itself when converted", Converter().convert(text) == text),
             ("above 21,300 bytes", len(text) <= 21300),
         )
