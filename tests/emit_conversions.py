@@ -21,7 +21,7 @@ from outside import outside
 from second.converter import ROOM, Converter, answered, printed
 from second.program import Program
 from second.refusal import Refusal
-from second.rules import IN_FORCE, Rules
+from second.rules import Rules
 from systems import edge, ends, rows, usual
 from systems.tolerant import respelt, tolerated
 from wrong_conversions import CONVERTED
