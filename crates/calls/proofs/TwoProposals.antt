@@ -4,7 +4,7 @@
 --   zero-contains  — then the intervals contain the exact height for every right side within the tolerance, and no lower end is above its upper
 --   zero-unrefused — then both proposals are accepted by themselves
 --   order-exported — the same two in the other order leave the same intervals
-use mathlib.Core.List.{List, [], _∷_}
+use mathlib.Core.List.{List, []}
 use mathlib.Core.Path.{_≡_, refl, sym, _∙_}
 use Prim.Native.Nat.{ℕ}
 use native.Mathlib.Omega.{arith}

@@ -5,12 +5,12 @@
 --   check-not-five — a check with the weights that stand there after 0 is never refused with 5, whatever its scale, right side, tolerances and guess
 use mathlib.Core.List.{List, [], _∷_}
 use mathlib.Core.Logic.{_↔_}
-use mathlib.Core.Path.{_≡_, sym, ap, subst, _∙_}
+use mathlib.Core.Path.{_≡_, sym, ap, _∙_}
 use Prim.Native.Nat.{ℕ}
 use lib.IntN.{ℤ}
 use lib.ListN.{getD}
 use Rattle.rules.proofs.Verdicts.{accepted-new}
-use Rattle.checked.specs.Input.{Input, input}
+use Rattle.checked.specs.Input.{input}
 use Rattle.checked.specs.Order.{answer}
 use Rattle.weight_sequence.specs.Request.{Request}
 use Rattle.weight_sequence.specs.Search.{saidFound, searchAnswer}
@@ -18,7 +18,6 @@ use Rattle.weight_sequence.specs.Promised.{UsableRequest, PlaceOfFirstGood, NoG
 use Rattle.weight_sequence.proofs.Promises.{zero-found, number-none, count-first, none-exactly}
 use Rattle.weight_sequence.proofs.Checks.{never-five}
 use Rattle.reply.specs.Told.{Told}
-use Rattle.calls.specs.Exported.{CheckExported}
 use Rattle.calls.specs.Weights.{SearchExported}
 
 module _ {Q : Request} {old number : ℕ} {places : List ℕ} {tried : ℕ} {weights : List ℤ} (x : SearchExported Q old number places tried weights) where

@@ -1,5 +1,4 @@
 // The functions that other languages link: total, over numbers and slices, with document 01's number as their result (include/kodarfi.h).
-ghost use mathlib.Core.Path.{_≡_};
 ghost use Rattle.checked.specs.Input.{input};
 ghost use Rattle.weight_sequence.specs.Request.{request};
 ghost use Rattle.equations.specs.declared.Layout.the-variants.{Square};

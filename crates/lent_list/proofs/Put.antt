@@ -2,7 +2,7 @@
 --   narrow-at, narrow-of — what is known of an item of a part
 --   span-same, span-other — its places in a list of that part, and in another
 --   span-fits  — they are inside a list that has room for them
-use mathlib.Core.Path.{_≡_, refl, sym}
+use mathlib.Core.Path.{_≡_}
 use mathlib.Core.Bool.{Bool, true, false, _&&_, cond}
 use Prim.Native.Nat.{ℕ, suc, _+_, _*_, _-_, _≤_}
 use native.Mathlib.Nat.{mul-le-mul-right, suc-mul}

@@ -1,6 +1,6 @@
 -- What the code writes of a form that no test refuses is what the exact form leaves.
 --   all-exact — in all lists
-use mathlib.Core.Path.{_≡_, refl, sym, ap, ap₂, subst, _∙_}
+use mathlib.Core.Path.{_≡_, refl, sym, ap, ap₂, _∙_}
 use mathlib.Core.Bool.{Bool, true, false, not, _&&_, cond}
 use mathlib.Core.List.{List, [], _∷_, _++_}
 use Prim.Native.Nat.{ℕ, zero, suc, _+_, _*_, _-_, _≤_}
@@ -21,7 +21,7 @@ use Rattle.form.specs.List.{noNumbers, numbersOf, allInside, firstValues}
 use Rattle.line_parts.specs.Line.{cappedForm, numbersIn}
 use Rattle.form_values.specs.Item.{itemOf, partIndex, outside, miscounted}
 use Rattle.form_values.specs.Capped.{valuesIn}
-use Rattle.form_values.specs.declared.Item.the-variants.{Problem, Scale, Of, End}
+use Rattle.form_values.specs.declared.Item.the-variants.{Of}
 use Rattle.form_values.specs.declared.Part.{Part}
 use Rattle.form_values.specs.declared.Part.the-variants as part
 use Rattle.form_values.proofs.Capped.{no-tolerance, part-same}

@@ -3,7 +3,7 @@
 --   answer-form  — what is said of a line that is a form is what is said of the form
 --   said-capped  — and of its capped form
 --   exact-loader, exact-lists — where nothing is said, both leave the same;  exact-room — and there is room for the form
-use mathlib.Core.Path.{_≡_, refl, ap, _∙_}
+use mathlib.Core.Path.{_≡_, refl, ap}
 use mathlib.Core.Bool.{Bool, true, false}
 use mathlib.Core.List.{List, []}
 use mathlib.Core.Option.{none, some}

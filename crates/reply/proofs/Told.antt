@@ -1,7 +1,7 @@
 -- A reply's numbers as C has them.
 --   told       — of a reply in numbers, its number and its two places
 --   told-alone — and of what a check says, where a refusal that gives its number alone leaves both places 0
-use mathlib.Core.Path.{_≡_, refl, _∙_}
+use mathlib.Core.Path.{_≡_, refl}
 use mathlib.Core.List.{List, [], _∷_}
 use Prim.Native.Nat.{ℕ}
 use Rattle.refusal.specs.Refused.{printed}

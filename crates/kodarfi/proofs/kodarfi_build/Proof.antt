@@ -16,7 +16,7 @@ use prog.Wp.{Heap, Calls, Loops, WpFn, Tables}
 use ghost.Atoms.{Atoms}
 use contract.Monad.{Fun}
 use contract.Running.{givenOf, tables, tablesOf}
-use types.Kit.{Given, ‵, _⊛_, _$_, _∵_, !, qed, move, join, fjoin, suffices, frame, done}
+use types.Kit.{Given, ‵, _⊛_, _$_, _∵_, !, qed, move, fjoin, suffices, frame, done}
 use types.Run.{init, stop, from, lit, and-then, no-more, assigns, enter, alloc1, alloc0, params1, pass1, pass0}
 use types.Part.{agg}
 use sound.WpLaws.{FmC, fmOf, WpFn-mono}

@@ -1,6 +1,4 @@
 use lib.ListN.{length}
-use mathlib.Core.Path.{_≡_, ap}
-use Rattle.lent_list.specs.Pasted.{pastedAt}
 use Rattle.lent_list.proofs.Put.{narrow-of, span-fits}
 use borrow.Author.Needs.{needs}
 use Rattle.lent_list.proofs.write_part.Statement.{statement}
