@@ -48,10 +48,11 @@ def all_cases(seed, files):
 
 
 def examined(second, run, case):
-    """What is wrong with a program's run on a file; then what the file holds, its right listing, and its net where it was read to the end."""
+    """What is wrong with a program's run on a file, or without a program with the right listing; then what the file holds, its right listing, and its net where
+    it was read to the end."""
     loaded = second.load(case.file)
     expected = second.printed(loaded)
-    ran = run(case.file)
+    ran = run(case.file) if run else Ran(expected)
     problems = ran.differences(expected)
     if isinstance(loaded, Refusal):
         return problems, loaded, expected, None
@@ -60,7 +61,7 @@ def examined(second, run, case):
 
 
 def compare(run, seed, files, count, watch=None):
-    """Every file through the program; `watch` sees each file with what it holds and its right listing."""
+    """Every file through the program, or through none; `watch` sees each file with what it holds and its right listing."""
     second, reach = Program(), Reach()
     for case in all_cases(seed, files):
         problems, loaded, expected, net = examined(second, run, case)
@@ -81,7 +82,7 @@ def self_test(seed, files, count):
     test_given(count)
     test_checks(count)
     test_programs(count, lambda run, case: examined(Program(), run, case)[0])
-    compare(lambda file: Ran(Program().listing(file)), seed, files, count, telling.watch)
+    compare(None, seed, files, count, telling.watch)
     telling.report(count)
 
 

@@ -32,26 +32,26 @@ except OSError:
     os.write(2, b"convert: the file could not be written\\n")
 """
 
-# The stand-in with one thing changed: what no contract of the program knows.
+# The stand-in with one thing changed, what no contract of the program knows, and the test that must tell it.
 WRONG_PROGRAMS = {
-    "an input not read past the buffer": ("sys.stdin.buffer.read()", "sys.stdin.buffer.read(65536)"),
-    "nothing counted as read": ("convert(file)", "convert(b'')"),
-    "the new file on standard error": ("os.write(1,", "os.write(2,"),
-    "a failed read taken for the end": ("    os.write(2, b\"convert: the input could not be read\\n\")\n    sys.exit()\n", "    file = b''\n"),
-    "a failed write not told": ("    os.write(2, b\"convert: the file could not be written\\n\")\n", "    pass\n"),
+    "an input not read past the buffer": ("a long input", "sys.stdin.buffer.read()", "sys.stdin.buffer.read(65536)"),
+    "nothing counted as read": ("standard output of the program", "convert(file)", "convert(b'')"),
+    "the new file on standard error": ("standard output of the program", "os.write(1,", "os.write(2,"),
+    "a failed read taken for the end": ("an input that cannot be read", "    os.write(2, b\"convert: the input could not be read\\n\")\n    sys.exit()\n", "    file = b''\n"),
+    "a failed write not told": ("an output that takes nothing", "    os.write(2, b\"convert: the file could not be written\\n\")\n", "    pass\n"),
 }
 
-# The script with one thing changed, by what is then wrong.
+# The script with one thing changed, by what is then wrong, and the test that must tell it.
 WRONG = {
-    "refused with status 0": ("  converted=1\n", "  converted=0\n"),
-    "converted with status 1": ("  converted=0\n", "  converted=1\n"),
-    "any output taken": ("""if [[ $ended$said == '0(problem '*$'\\n(end)\\n' ]]; then""", "if true; then"),
-    "no such file taken for an empty one": ("""  [ -e "$file" ] || fail "$name: no such file"\n""", """  [ -e "$file" ] || exec </dev/null\n"""),
-    "two files taken": ("""[ ${#names[@]} -le 1 ] || misused "one file at a time"\n""", ""),
-    "an option taken for a name": ("""    no-?*) misused "there is no option $word" ;;\n""", ""),
-    "the last line feed lost": ("said=${said%.}\n", "said=${said%.}\nkept=$said\n", """printf '%s' "$said" 2>""", """printf '%s' "${said%$'\\n'}" 2>"""),
-    "help on standard error": ("no--help) help 2>/dev/null ||", "no--help) help >&2 ||"),
-    "a program that fails taken": ("""  fail "$name: ${said%$'\\n'}"\n""", "  converted=0\n"),
+    "refused with status 0": ("a refused line", "  converted=1\n", "  converted=0\n"),
+    "converted with status 1": ("a file by its name", "  converted=0\n", "  converted=1\n"),
+    "any output taken": ("a tolerance", """if [[ $ended$said == '0(problem '*$'\\n(end)\\n' ]]; then""", "if true; then"),
+    "no such file taken for an empty one": ("no such file", """  [ -e "$file" ] || fail "$name: no such file"\n""", """  [ -e "$file" ] || exec </dev/null\n"""),
+    "two files taken": ("two files", """[ ${#names[@]} -le 1 ] || misused "one file at a time"\n""", ""),
+    "an option taken for a name": ("no such option", """    no-?*) misused "there is no option $word" ;;\n""", ""),
+    "the last line feed lost": ("standard input", "said=${said%.}\n", "said=${said%.}\nkept=$said\n", """printf '%s' "$said" 2>""", """printf '%s' "${said%$'\\n'}" 2>"""),
+    "help on standard error": ("help", "no--help) help 2>/dev/null ||", "no--help) help >&2 ||"),
+    "a program that fails taken": ("a program that fails", """  fail "$name: ${said%$'\\n'}"\n""", "  converted=0\n"),
 }
 
 
@@ -142,21 +142,27 @@ TESTS = {
 }
 
 
-def faults(program, change=()):
-    """The tests that do not hold."""
+def faults(program, change=(), tests=TESTS):
+    """Those of the tests that do not hold."""
     with tempfile.TemporaryDirectory() as folder:
         room = Room(folder, program, change)
-        return [name for name, holds in TESTS.items() if not holds(room)]
+        return [name for name in tests if not TESTS[name](room)]
+
+
+def untold():
+    """The wrong versions that the test of their own does not tell."""
+    for name, (test, *change) in WRONG.items():
+        if not faults(STAND_IN.encode(), change, [test]):
+            yield f"'{test}' does not tell the version '{name}'"
+    for name, (test, old, new) in WRONG_PROGRAMS.items():
+        assert old in STAND_IN, old
+        if not faults(STAND_IN.replace(old, new).encode(), tests=[test]):
+            yield f"'{test}' does not tell the program '{name}'"
 
 
 def main():
     if sys.argv[1:] == ["--self-test"]:
-        failed = faults(STAND_IN.encode())
-        failed += [f"no test tells the version '{name}'" for name, change in WRONG.items() if not faults(STAND_IN.encode(), change)]
-        for name, (old, new) in WRONG_PROGRAMS.items():
-            assert old in STAND_IN, old
-            if not faults(STAND_IN.replace(old, new).encode()):
-                failed.append(f"no test tells the program '{name}'")
+        failed = faults(STAND_IN.encode()) + list(untold())
         count = len(TESTS) + len(WRONG) + len(WRONG_PROGRAMS)
     else:
         failed, count = faults((ROOT / "target/bin/convert").read_bytes()), len(TESTS)

@@ -21,7 +21,7 @@ from second.lists import check
 from second.reckoning import Bounds, Reckoning
 from systems import timed, usual
 from systems.shaped import SHAPES, shaped
-from wrong_shapes import RIGHT, SHAPED, is_symmetric
+from wrong_shapes import RIGHT, SHAPED
 
 # A damaged system that may be reckoned, and one that wrong versions reckon too, has at most so many equations: reckoning takes its time.
 MOST_DAMAGED = 10

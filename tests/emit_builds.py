@@ -7,12 +7,12 @@ Each build is: n, how many lines, 0 for a square and 1 for a lower half (02, Pap
 numbers each; then the refusal's number, 0 where the equations are built; and then, where they are, the numbers of the matrix, n × n or n(n + 1)/2, and the n
 right sides."""
 
-import argparse
 import random
 import sys
 from collections import Counter
 from pathlib import Path
 
+from emitter import run
 from net import joined
 from second.field_lines import LEAST, LOWER, MOST, SQUARE, Builder
 from second.half import HALF, HalfEntry
@@ -139,17 +139,16 @@ def is_filled_out(call, built):
 
 
 def self_test(seed, count):
-    met, told, total, differing = Counter(), Counter(), 0, 0
+    met, told, total, differing = Counter(), set(), 0, 0
     for call in builds(seed, count):
         right = Builder().build(call)
         met.update(cases_of(call, right))
         differing += call.layout == LOWER and not isinstance(right, Refusal) and not is_filled_out(call, right)
         total += 1
-        for name, wrong in BUILT.items():
-            told[name] += told[name] < ENOUGH and wrong.build(call) != right
+        told.update(name for name in BUILT.keys() - told if BUILT[name].build(call) != right)
     print(f"{total} builds: {', '.join(f'{name} {met[name]}' for name in CASES)}")
     failed = [f"{name}: {met[name]} met" for name in CASES if met[name] < ENOUGH]
-    failed += [f"no build tells the version '{name}'" for name in BUILT if not told[name]]
+    failed += [f"no build tells the version '{name}'" for name in BUILT if name not in told]
     failed += beside_others()
     failed += [f"{differing} halves, filled out, are not what the square layout gives"] if differing else []
     for fault in failed:
@@ -158,18 +157,5 @@ def self_test(seed, count):
     return int(bool(failed))
 
 
-def main():
-    parser = argparse.ArgumentParser()
-    parser.add_argument("--seed", default="1")
-    parser.add_argument("--builds", type=int, default=BUILDS)
-    parser.add_argument("--self-test", action="store_true")
-    given = parser.parse_args()
-    if given.self_test:
-        return self_test(given.seed, given.builds)
-    for call in builds(given.seed, given.builds):
-        sys.stdout.write("".join(joined(numbers) + "\n" for numbers in written(call)))
-    return 0
-
-
 if __name__ == "__main__":
-    sys.exit(main())
+    sys.exit(run("builds", BUILDS, builds, written, self_test))

@@ -8,7 +8,6 @@ numbers of the matrix, k of the right side, k tolerances, k of the guess, k × k
 then the refusal's number (0 where the intervals are found), the proposal it is of and its two places (0 where there is none); and where they are found n
 lower and n upper ends."""
 
-import argparse
 import random
 import sys
 from collections import Counter
@@ -17,8 +16,8 @@ from itertools import product as choices
 from typing import NamedTuple
 
 from damage.lists import UNREAD, call_of, damaged
+from emitter import run
 from exact import inverse_of, product
-from net import joined
 from second.common import CommonInterval, Intervals, Pair, Proposal, outcome
 from second.lists import COLUMN, FULL
 from second.reckoning import Problem
@@ -168,13 +167,12 @@ def promised(rng, handed, found):
 
 
 def self_test(seed, count):
-    met, told, failed, last, held = Counter(), Counter(), [], None, 0
+    met, told, failed, last, held = Counter(), set(), [], None, 0
     for index, handed in enumerate(pairs(seed, count)):
         pair = handed.pair()
         found = CommonInterval().find(pair)
         met.update(cases_of(handed, pair, found))
-        for name, wrong in COMMON.items():
-            told[name] += told[name] < ENOUGH and wrong.find(pair) != found
+        told.update(name for name in COMMON.keys() - told if COMMON[name].find(pair) != found)
         if handed.nets and isinstance(found, Intervals):
             held += 1
             if not promised(random.Random(index), handed, found):
@@ -184,25 +182,12 @@ def self_test(seed, count):
         last = found
     print(f"{index + 1} pairs, {held} found as made: {', '.join(f'{name} {met[name]}' for name in CASES)}")
     failed += [f"{name}: {met[name]} met" for name in CASES if met[name] < ENOUGH]
-    failed += [f"no pair tells the version '{name}'" for name in COMMON if not told[name]]
+    failed += [f"no pair tells the version '{name}'" for name in COMMON if name not in told]
     for fault in failed:
         print("FAILED", fault)
     print(f"{held + len(CASES) + len(COMMON) - len(failed)} passed, {len(failed)} failed")
     return int(bool(failed))
 
 
-def main():
-    parser = argparse.ArgumentParser()
-    parser.add_argument("--seed", default="1")
-    parser.add_argument("--pairs", type=int, default=PAIRS)
-    parser.add_argument("--self-test", action="store_true")
-    given = parser.parse_args()
-    if given.self_test:
-        return self_test(given.seed, given.pairs)
-    for handed in pairs(given.seed, given.pairs):
-        sys.stdout.write("".join(joined(numbers) + "\n" for numbers in written(handed)))
-    return 0
-
-
 if __name__ == "__main__":
-    sys.exit(main())
+    sys.exit(run("pairs", PAIRS, pairs, written, self_test))

@@ -21,7 +21,7 @@ from outside import outside
 from second.converter import ROOM, Converter, answered, printed
 from second.program import Program
 from second.refusal import Refusal
-from second.rules import IN_FORCE, Rules
+from second.rules import Rules
 from systems import edge, ends, rows, usual
 from systems.tolerant import respelt, tolerated
 from wrong_conversions import CONVERTED
@@ -99,14 +99,14 @@ def faults(file, text):
     """What is wrong with a new file, a sentence each."""
     old, new = Program().load(file), type("Old", (Program,), {"rules": Rules()})().load(text)
     numbers = lambda problem: [list(part) if isinstance(part, list) else part for part in problem]
-    listing = type("OldFiles", (Program,), {"rules": OLD_FILES})().listing(text)
+    listing, by_old_files = Program().listing(file), type("OldFiles", (Program,), {"rules": OLD_FILES})().listing(text)
     return [
         sentence
         for sentence, holds in (
             ("01 does not read it", not isinstance(new, Refusal)),
             ("other numbers", not isinstance(new, Refusal) and numbers(old) == numbers(new)),
-            ("another listing under 01's rules of the file", listing == Program().listing(file)),
-            ("another listing", Program().listing(text) == Program().listing(file)),
+            ("another listing under 01's rules of the file", by_old_files == listing),
+            ("another listing", Program().listing(text) == listing),
             ("not itself when converted", Converter().convert(text) == text),
             ("above 21,300 bytes", len(text) <= 21300),
         )
@@ -122,7 +122,7 @@ def closed(passed, failed):
 
 
 def self_test(seed, files):
-    met, told, failed, count, texts = Counter(), Counter(), [], 0, set()
+    met, told, failed, count, texts = Counter(), set(), [], 0, set()
     for file, room in conversions(seed, files):
         right = Converter().convert(file, room)
         met.update(case_of(file, room, right))
@@ -130,11 +130,10 @@ def self_test(seed, files):
         if not isinstance(right, Refusal) and file not in texts:
             texts.add(file)
             failed += [f"{sentence}: {file[:60]!r}" for sentence in faults(file, right)]
-        for name, wrong in CONVERTED.items():
-            told[name] += told[name] < ENOUGH and wrong.convert(file, room) != right
+        told.update(name for name in CONVERTED.keys() - told if CONVERTED[name].convert(file, room) != right)
     print(f"{count} conversions of {len(texts)} files that are converted: {', '.join(f'{name} {met[name]}' for name in CASES)}")
     failed += [f"{name}: {met[name]} met" for name in CASES if met[name] < ENOUGH]
-    failed += [f"no file tells the version '{name}'" for name in CONVERTED if not told[name]]
+    failed += [f"no file tells the version '{name}'" for name in CONVERTED if name not in told]
     return closed(len(CASES) + len(CONVERTED) + len(texts), failed)
 
 

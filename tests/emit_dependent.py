@@ -7,15 +7,14 @@ Each call is: for each net a count k, n s t, the eight lengths that the call is 
 given, the length that the call is told of C, and these numbers, after which it is filled with UNREAD; then the refusal's number (0 where accepted), the net that
 it is of (0 where accepted) and two places, and where accepted the limits, n and n × n of the main net, n and n × n of the other."""
 
-import argparse
 import random
 import sys
 from collections import Counter
 from typing import NamedTuple
 
 from damage.pairs import PairCall, damaged, pair_call_of
+from emitter import run
 from joint import faults
-from net import joined
 from second.dependent import DependentCheck, NetRefusal
 from second.lists import check, is_within
 from second.reckoning import Bounds, Reckoning
@@ -61,7 +60,8 @@ def limits(bounds):
     return [bounds.solution, [limit for row in bounds.inverse for limit in row]]
 
 
-def written(call):
+def written(sent):
+    call = sent.call
     for net in (call.main, call.dependent):
         yield [net.count, net.n, net.s, net.t, *net.lengths]
         yield from net.lists
@@ -126,21 +126,19 @@ def reckoned_cases(call, answer, main):
         yield "tolerances in both nets accepted"
 
 
-def cases_of(call, answer):
+def cases_of(call, answer, main):
     is_refused = isinstance(answer, NetRefusal)
     yield f"net {answer.net} refused {answer.refusal.number}" if is_refused else "accepted"
     n1, n2 = call.main.n, call.dependent.n
     yield from (name for name, holds in (("n1 below n2", n1 < n2), ("n1 above n2", n1 > n2), ("n1 = 32", n1 == 32), ("n2 = 32", n2 == 32)) if holds)
-    main = check(call.nets().main, call.told().main)
     if isinstance(main, Bounds):
         yield from range_cases(call, answer)
         if not (is_refused and answer.refusal.number in (3, 8)):
             yield from reckoned_cases(call, answer, main)
 
 
-def differs_alone(call, answer):
+def differs_alone(call, answer, main):
     """Whether a hung net whose C is all zeros, and whose guess is within the sums along its rows, is answered otherwise than by itself."""
-    main = check(call.nets().main, call.told().main)
     if isinstance(main, Refusal) or any(call.coupling[: call.used()]) or answer in (NetRefusal(2, Refusal(3)), NetRefusal(2, Refusal(8))):
         return False
     _, _, residuals, _, sums = reckoned(call, main)
@@ -159,11 +157,12 @@ def is_left_by(sent, wrong, right, rng):
 def self_test(seed, count):
     met, wrongs, told, unsound, total = Counter(), Counter(), set(), set(), 0
     for sent in calls(seed, count):
-        right = DependentCheck().check(sent.call.nets(), sent.call.told())
-        met.update(cases_of(sent.call, right))
+        nets, lengths = sent.call.nets(), sent.call.told()
+        right, main = DependentCheck().check(nets, lengths), check(nets.main, lengths.main)
+        met.update(cases_of(sent.call, right, main))
         total += 1
-        told.update(name for name in HUNG.keys() - told if HUNG[name].check(sent.call.nets(), sent.call.told()) != right)
-        wrongs.update(["C of zeros, and not what the net by itself gets"] if differs_alone(sent.call, right) else [])
+        told.update(name for name in HUNG.keys() - told if HUNG[name].check(nets, lengths) != right)
+        wrongs.update(["C of zeros, and not what the net by itself gets"] if differs_alone(sent.call, right, main) else [])
         if sent.pair:
             rng = random.Random(total)
             wrongs.update(() if isinstance(right, NetRefusal) else faults(rng, sent.pair, right))
@@ -179,18 +178,5 @@ def self_test(seed, count):
     return int(bool(failed))
 
 
-def main():
-    parser = argparse.ArgumentParser()
-    parser.add_argument("--seed", default="1")
-    parser.add_argument("--pairs", type=int, default=PAIRS)
-    parser.add_argument("--self-test", action="store_true")
-    given = parser.parse_args()
-    if given.self_test:
-        return self_test(given.seed, given.pairs)
-    for sent in calls(given.seed, given.pairs):
-        sys.stdout.write("".join(joined(numbers) + "\n" for numbers in written(sent.call)))
-    return 0
-
-
 if __name__ == "__main__":
-    sys.exit(main())
+    sys.exit(run("pairs", PAIRS, calls, written, self_test))

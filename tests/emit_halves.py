@@ -5,7 +5,6 @@
 
 Each call is as tests/emit.py writes it, with the k(k + 1)/2 numbers of the half in place of the k × k of the matrix."""
 
-import argparse
 import random
 import sys
 from collections import Counter
@@ -13,7 +12,7 @@ from typing import NamedTuple
 
 from damage.lists import Call
 from emit import answer_lines
-from net import joined
+from emitter import run
 from second.half import HALF, HalfEntry, lower_half
 from second.lists import check, is_within
 from second.reckoning import Bounds
@@ -54,7 +53,8 @@ def calls(seed, count):
             yield from (Sent(damaged(rng, call), family, None) for _ in range(DAMAGES))
 
 
-def written(call):
+def written(sent):
+    call = sent.call
     yield [call.count, call.n, call.s, call.t, *call.lengths]
     yield from call.lists
     yield from answer_lines(HalfEntry().check(call.problem(), call.lengths))
@@ -110,7 +110,7 @@ def disagrees(sent, answer):
 
 
 def self_test(seed, count):
-    met, told, total, differing = Counter(), Counter(), 0, 0
+    met, told, total, differing = Counter(), set(), 0, 0
     for sent in calls(seed, count):
         problem, lengths = sent.call.problem(), sent.call.lengths
         right = HalfEntry().check(problem, lengths)
@@ -118,11 +118,10 @@ def self_test(seed, count):
         differing += disagrees(sent, right)
         total += 1
         if sent.call.n <= MOST_DAMAGED:
-            for name, wrong in HALVED.items():
-                told[name] += told[name] < ENOUGH and wrong.check(problem, lengths) != right
+            told.update(name for name in HALVED.keys() - told if HALVED[name].check(problem, lengths) != right)
     print(f"{total} calls: {', '.join(f'{name} {met[name]}' for name in CASES)}")
     failed = [f"{name}: {met[name]} met" for name in CASES if met[name] < ENOUGH]
-    failed += [f"no call tells the version '{name}'" for name in HALVED if not told[name]]
+    failed += [f"no call tells the version '{name}'" for name in HALVED if name not in told]
     failed += [f"{differing} calls differ from the square entry, or from 02's places"] if differing else []
     for fault in failed:
         print("FAILED", fault)
@@ -130,18 +129,5 @@ def self_test(seed, count):
     return int(bool(failed))
 
 
-def main():
-    parser = argparse.ArgumentParser()
-    parser.add_argument("--seed", default="1")
-    parser.add_argument("--nets", type=int, default=NETS)
-    parser.add_argument("--self-test", action="store_true")
-    given = parser.parse_args()
-    if given.self_test:
-        return self_test(given.seed, given.nets)
-    for sent in calls(given.seed, given.nets):
-        sys.stdout.write("".join(joined(numbers) + "\n" for numbers in written(sent.call)))
-    return 0
-
-
 if __name__ == "__main__":
-    sys.exit(main())
+    sys.exit(run("nets", NETS, calls, written, self_test))

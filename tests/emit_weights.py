@@ -7,14 +7,14 @@ Each search is: a count k, n t and the allowance, and the three lengths that the
 which each list is filled with UNREAD; then the refusal's number (0 where a list is found), how many lists were tried (0 where refused) and the place of
 the first good list among the first 65 (0 where none of them is good, or where 8 or 3 is said); and where a list is found its n weights."""
 
-import argparse
 import random
 import sys
 from collections import Counter
+from math import ceil, sqrt
 from typing import NamedTuple
 
 from damage.lists import UNREAD, odd_number
-from net import joined
+from emitter import run
 from second.refusal import Refusal
 from second.weights import FULL, Request, WeightSearch, place_within
 from systems.searched import late, searched
@@ -41,6 +41,12 @@ def filled(request):
     """The lists at their full length."""
     fill = lambda numbers: list(numbers) + [UNREAD] * (FULL.matrix - len(numbers))
     return request._replace(matrix=fill(request.matrix), inverse=fill(request.inverse))
+
+
+def rows_given(request):
+    """The least count k such that UNREAD stands past the first k × k numbers of either list."""
+    given = max(at + 1 for numbers in (request.matrix, request.inverse) for at, number in enumerate(numbers) if number != UNREAD)
+    return ceil(sqrt(given))
 
 
 def allowances(rng, place):
@@ -79,7 +85,7 @@ def searches(seed, problems):
             changed = damaged(rng, request)
             told = WeightSearch().find(changed)
             is_searched = not isinstance(told, Refusal) or told.number == 18
-            yield Search(changed, FULL.weights, place_within(changed, MOST) if is_searched else 0)
+            yield Search(changed, rows_given(changed), place_within(changed, MOST) if is_searched else 0)
 
 
 def answer(found):
@@ -116,35 +122,21 @@ def cases_of(search, number, tried):
 
 
 def self_test(seed, problems):
-    met, told, count = Counter(), Counter(), 0
+    met, told, count = Counter(), set(), 0
     for search in searches(seed, problems):
         right = WeightSearch().find(search.request)
         number, tried, _ = answer(right)
         met.update(cases_of(search, number, tried))
         count += 1
-        for name, wrong in SEARCHED.items():
-            told[name] += told[name] < ENOUGH and wrong.find(search.request) != right
+        told.update(name for name in SEARCHED.keys() - told if SEARCHED[name].find(search.request) != right)
     print(f"{count} searches: {', '.join(f'{name} {met[name]}' for name in CASES + RARE)}")
     failed = [f"{name}: {met[name]} met" for name in CASES if met[name] < ENOUGH] + [f"{name} not met" for name in RARE if not met[name]]
-    failed += [f"no search tells the version '{name}'" for name in SEARCHED if not told[name]]
+    failed += [f"no search tells the version '{name}'" for name in SEARCHED if name not in told]
     for fault in failed:
         print("FAILED", fault)
     print(f"{len(CASES) + len(RARE) + len(SEARCHED) - len(failed)} passed, {len(failed)} failed")
     return int(bool(failed))
 
 
-def main():
-    parser = argparse.ArgumentParser()
-    parser.add_argument("--seed", default="1")
-    parser.add_argument("--problems", type=int, default=PROBLEMS)
-    parser.add_argument("--self-test", action="store_true")
-    given = parser.parse_args()
-    if given.self_test:
-        return self_test(given.seed, given.problems)
-    for search in searches(given.seed, given.problems):
-        sys.stdout.write("".join(joined(numbers) + "\n" for numbers in written(search)))
-    return 0
-
-
 if __name__ == "__main__":
-    sys.exit(main())
+    sys.exit(run("problems", PROBLEMS, searches, written, self_test))

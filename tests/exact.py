@@ -8,24 +8,25 @@ from operator import mul
 def inverse_of(matrix):
     """(q, H) with A·H = q·I and H·A = q·I, q at least 1, for a matrix given as a tuple of tuples; None where there is none.
 
-    Elimination without fractions: each division by the last pivot leaves no remainder."""
+    Elimination without fractions: each division by the last pivot leaves no remainder. A row begins with the column in work; those before it are done with."""
     n = len(matrix)
     rows = [list(row) + [int(i == j) for j in range(n)] for i, row in enumerate(matrix)]
     last = 1
     for k in range(n):
-        found = next((i for i in range(k, n) if rows[i][k]), None)
+        found = next((i for i in range(k, n) if rows[i][0]), None)
         if found is None:
             return None
         if found != k:
             rows[k], rows[found] = rows[found], [-value for value in rows[k]]
-        pivot_row, pivot = rows[k], rows[k][k]
+        pivot, *pivot_row = rows[k]
+        rows[k] = pivot_row
         for i in range(n):
             if i != k:
-                factor = rows[i][k]
-                rows[i] = [(pivot * x - factor * y) // last for x, y in zip(rows[i], pivot_row)]
+                factor, *row = rows[i]
+                rows[i] = [(pivot * x - factor * y) // last for x, y in zip(row, pivot_row)]
         last = pivot
     sign = 1 if last > 0 else -1
-    return sign * last, tuple(tuple(sign * value for value in row[n:]) for row in rows)
+    return sign * last, tuple(tuple(sign * value for value in row) for row in rows)
 
 
 def product(matrix, vector):

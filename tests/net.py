@@ -37,8 +37,11 @@ class Net:
 
 
 def frozen(value):
-    """Lists and lists of lists as tuples."""
-    return tuple(frozen(part) for part in value) if isinstance(value, (list, tuple)) else value
+    """Lists of numbers and lists of lists as tuples."""
+    is_list = lambda part: isinstance(part, (list, tuple))
+    if not is_list(value):
+        return value
+    return tuple(map(frozen, value)) if any(map(is_list, value[:1])) else tuple(value)
 
 
 def net_of(s, t, matrix, right, guess, inverse, weights):

@@ -12,7 +12,7 @@ import sys
 from pathlib import Path
 from typing import NamedTuple
 
-CRATES = ["integer", "linear", "raised_rows", "reckoning", "symmetry", "differences", "margins", "residuals", "row_sums", "slacks", "ratios", "bounds", "checker", "couplings"]
+CRATES = ["integer", "linear", "raised_rows", "reckoning", "symmetry", "differences", "margins", "residuals", "row_sums", "slacks", "ratios", "bounds", "inverse_bounds", "checker", "couplings"]
 
 TOKEN = re.compile(r"[A-Za-z_]\w*|\d\w*|::|=>|->|\.\.=|\.\.|<<=?|[-+*/%&|^]=|[-+*/%&|^<>=!]=?|[()\[\]{};:,.@#'\"«»]")
 OPEN, CLOSE = "([{", ")]}"

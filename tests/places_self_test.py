@@ -51,8 +51,8 @@ WRONG_HERE = {
     "a row of the matrix": ("differences/src/lib.rt", "store_row(&mut out, t, m, xs, start, stride, rows, n)", "store_row(&mut out, t, m, xs, m * step, stride, rows, n)"),
     "a raised row of the inverse": ("differences/src/lib.rt", "        row += n + 1;", "        row = (k + 1) * (n + 1);"),
     "a place across the diagonal": ("symmetry/src/lib.rt", "        down += n;", "        down = (j + 1) * n + i;"),
-    "a row of p": ("bounds/src/lib.rt", "out[m] = magnitude(row_dot(rows, m, row, residuals, j, place, n))", "out[m] = magnitude(row_dot(rows, m, m * (n + 1), residuals, j, place, n))"),
-    "a size across the columns": ("bounds/src/lib.rt", "        across += n;", "        across = (m + 1) * n + j;"),
+    "a row of p": ("bounds/src/lib.rt", "out[m] = magnitude(row_dot(rows, m, row, residuals, 0, 0, n))", "out[m] = magnitude(row_dot(rows, m, m * (n + 1), residuals, 0, 0, n))"),
+    "a size across the columns": ("inverse_bounds/src/lib.rt", "        across += n;", "        across = (m + 1) * n + j;"),
     "where a limit is written": ("bounds/src/lib.rt", "        dst[place] = column[i];", "        dst[start + i * stride] = column[i];"),
 }
 

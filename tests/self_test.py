@@ -19,10 +19,6 @@ from wrong_reading import READING
 from wrong_row_sums import HELD
 from wrong_tolerances import SLACKENED, TOLERATED
 
-# A wrong version is dropped from the run once so many files have told it.
-TOLD = 3
-
-
 def reads_otherwise(program, file, loaded, expected):
     """Whether a version that reads wrongly prints another listing; it need not reckon where it has read the same."""
     read = program.load(file)
@@ -35,18 +31,18 @@ def prints_otherwise(program, file, loaded, expected):
 
 
 class Telling:
-    """Which files tell which wrong version from the right one."""
+    """Which wrong versions some file has told from the right one; such a version is not run on."""
 
     VERSIONS = [(name, wrong, reads_otherwise) for name, wrong in (READING | TOLERATED).items()]
     VERSIONS += [(name, wrong, prints_otherwise) for name, wrong in (PRINTING | SLACKENED | HELD).items()]
 
     def __init__(self):
-        self.told = {name: [] for name, _, _ in self.VERSIONS}
+        self.told = set()
 
     def watch(self, case, loaded, expected):
         for name, wrong, differs in self.VERSIONS:
-            if len(self.told[name]) < TOLD and self.is_told(wrong, differs, case.file, loaded, expected):
-                self.told[name].append(case.name)
+            if name not in self.told and self.is_told(wrong, differs, case.file, loaded, expected):
+                self.told.add(name)
 
     def is_told(self, wrong, differs, *seen):
         """A wrong version may also divide by 0."""
@@ -56,10 +52,8 @@ class Telling:
             return True
 
     def report(self, count):
-        for name, cases in self.told.items():
-            count.test(f"wrong version '{name}'", [] if cases else ["no file tells it"])
-        few = [f"{name} ({len(cases)})" for name, cases in self.told.items() if len(cases) < TOLD]
-        print(f"{len(self.told)} wrong versions; told by fewer than {TOLD} files: {', '.join(few) or 'none'}")
+        for name, _, _ in self.VERSIONS:
+            count.test(f"wrong version '{name}'", [] if name in self.told else ["no file tells it"])
 
 
 def test_given(count):

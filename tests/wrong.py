@@ -20,7 +20,7 @@ def reckoning(**parts):
 
 def bound_by(rule):
     """Reckoning whose bound of row i is rule(w, i, sizes, margins)."""
-    return reckoning(bound=lambda self, system, i, sizes, margins: rule(system.w, i, sizes, margins))
+    return reckoning(bounds_of_sizes=lambda self, system, sizes, margins: [rule(system.w, i, sizes, margins) for i in range(system.n)])
 
 
 def largest(rounding):

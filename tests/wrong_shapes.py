@@ -49,7 +49,7 @@ class Mirroring(Reckoning):
         places = range(system.n)
         sizes = [self.sizes(system, residuals, self.column_slacks(system)) for residuals in columns]
         half = [[sizes[min(j, m)][max(j, m)] for m in places] for j in places]
-        return [[self.bound(system, i, column, margins) for i in places] for column in half]
+        return [self.bounds_of_sizes(system, column, margins) for column in half]
 
 
 def mirroring(defect, half):

@@ -1,35 +1,10 @@
 //! The builder: what it is handed and leaves, the library's, a version in 128-bit numbers, and the lists of tests/emit_builds.py.
 
 use crate::halves::HALF;
-use crate::lists::{COLUMN, MATRIX};
+use crate::kodarfi::{kodarfi_build, kodarfi_build_half, Observation};
+use crate::lists::{lower, whole, COLUMN, MATRIX};
+use crate::numbers::Numbers;
 use std::collections::HashMap;
-
-/// A field line, laid out as in include/kodarfi.h.
-#[repr(C)]
-#[derive(Clone, Copy, PartialEq, Debug)]
-pub struct Observation {
-    pub key: u32,
-    pub from: u32,
-    pub to: u32,
-    pub difference: i64,
-    pub weight: u32,
-}
-
-extern "C" {
-    fn kodarfi_build(
-        n: u32,
-        observations: *const Observation, observations_len: usize,
-        matrix: *mut i64, matrix_len: usize,
-        right: *mut i64, right_len: usize,
-    ) -> u32;
-
-    fn kodarfi_build_half(
-        n: u32,
-        observations: *const Observation, observations_len: usize,
-        half: *mut i64, half_len: usize,
-        right: *mut i64, right_len: usize,
-    ) -> u32;
-}
 
 /// What a build is handed, for a square or for its lower half; the lengths of the two lists are those it is told.
 #[derive(Clone)]
@@ -130,25 +105,17 @@ pub fn build(build: &Build) -> Built {
     Built::equations(&if build.is_half { lower_half(n, &square) } else { square }, &right)
 }
 
-/// The builds of the file with what they leave.
-pub fn read_builds(text: &str) -> Vec<(Build, Built)> {
-    let mut numbers = text.split_ascii_whitespace().map(|word| word.parse::<i64>().expect("a number"));
-    let mut builds = Vec::new();
-    while let Some(n) = numbers.next() {
-        let mut take = |count: usize| numbers.by_ref().take(count).collect::<Vec<i64>>();
-        let sizes = take(4);
-        let lines = take(5 * sizes[0] as usize).chunks(5).map(|line| Observation {
-            key: line[0] as u32,
-            from: line[1] as u32,
-            to: line[2] as u32,
-            difference: line[3],
-            weight: line[4] as u32,
-        }).collect();
-        let number = take(1)[0] as u32;
-        let (size, is_half) = (n as usize, sizes[1] != 0);
-        let written = if is_half { size * (size + 1) / 2 } else { size * size };
-        let built = if number == 0 { Built::equations(&take(written), &take(size)) } else { Built::refused(number) };
-        builds.push((Build { n: n as u32, lines, is_half, lengths: [sizes[2] as usize, sizes[3] as usize] }, built));
-    }
-    builds
+fn read_line(numbers: &mut Numbers) -> Observation {
+    Observation { key: numbers.one(), from: numbers.one(), to: numbers.one(), difference: numbers.one(), weight: numbers.one() }
+}
+
+/// The next build and what it leaves; None at the end.
+pub fn read_build(numbers: &mut Numbers) -> Option<(Build, Built)> {
+    let n: u32 = numbers.next()?;
+    let [count, layout, matrix, right]: [usize; 4] = numbers.array();
+    let build = Build { n, lines: (0..count).map(|_| read_line(numbers)).collect(), is_half: layout == 1, lengths: [matrix, right] };
+    let (size, number) = (n as usize, numbers.one());
+    let used = if build.is_half { lower(size) } else { whole(size) };
+    let built = if number == 0 { Built::equations(&numbers.list(used), &numbers.list(size)) } else { Built::refused(number) };
+    Some((build, built))
 }

@@ -1,31 +1,10 @@
 //! Two proposals: what the call is handed and leaves, the library's, a version in 128-bit numbers over the check in Rust, and the pairs of
 //! tests/emit_common.py.
 
-use crate::lists::{Lengths, Net, COLUMN, MATRIX};
+use crate::kodarfi::kodarfi_common;
+use crate::lists::{read_lists, whole, Lengths, Net, COLUMN, MATRIX};
+use crate::numbers::Numbers;
 use crate::reckoning::check;
-
-extern "C" {
-    fn kodarfi_common(
-        n1: u32, s1: u32, t1: u32,
-        matrix1: *const i64, matrix1_len: usize,
-        right1: *const i64, right1_len: usize,
-        tolerance1: *const i64, tolerance1_len: usize,
-        guess1: *const i64, guess1_len: usize,
-        inverse1: *const i64, inverse1_len: usize,
-        weights1: *const i64, weights1_len: usize,
-        n2: u32, s2: u32, t2: u32,
-        matrix2: *const i64, matrix2_len: usize,
-        right2: *const i64, right2_len: usize,
-        tolerance2: *const i64, tolerance2_len: usize,
-        guess2: *const i64, guess2_len: usize,
-        inverse2: *const i64, inverse2_len: usize,
-        weights2: *const i64, weights2_len: usize,
-        low: *mut i64, low_len: usize,
-        high: *mut i64, high_len: usize,
-        proposal: *mut u32,
-        places: *mut u64,
-    ) -> u32;
-}
 
 /// What stands in the interval lists before a call; a refused one leaves it.
 const END_BEFORE: i64 = -987654321;
@@ -128,52 +107,23 @@ pub fn common(pair: &Pair) -> Common {
     Common::found(&low, &high)
 }
 
-/// The pairs of the file with what they leave.
-pub fn read_pairs(text: &str) -> Vec<(Pair, Common)> {
-    let mut numbers = text.split_ascii_whitespace().map(|word| word.parse::<i64>().expect("a number"));
-    let mut pairs = Vec::new();
-    while let Some(count) = numbers.next() {
-        let mut take = |count: usize| numbers.by_ref().take(count).collect::<Vec<i64>>();
-        let first = read_proposal(count as usize, &mut take);
-        let second = read_proposal(take(1)[0] as usize, &mut take);
-        let (told, said) = (take(2), take(4));
-        let pair = Pair { first, second, low: told[0] as usize, high: told[1] as usize };
-        let n = pair.first.n as usize;
-        let answer = match said[0] {
-            0 => Common::found(&take(n), &take(n)),
-            number => Common::refused(number as u32, said[1] as u32, [said[2] as u64, said[3] as u64]),
-        };
-        pairs.push((pair, answer));
-    }
-    pairs
+/// The next pair and what it leaves; None at the end.
+pub fn read_pair(numbers: &mut Numbers) -> Option<(Pair, Common)> {
+    let count = numbers.next()?;
+    let first = read_proposal(numbers, count);
+    let count = numbers.one();
+    let second = read_proposal(numbers, count);
+    let [low, high] = numbers.array();
+    let ([number, proposal], places) = (numbers.array(), numbers.array());
+    let n = first.n as usize;
+    let answer = if number == 0 { Common::found(&numbers.list(n), &numbers.list(n)) } else { Common::refused(number, proposal, places) };
+    Some((Pair { first, second, low, high }, answer))
 }
 
-fn read_proposal(count: usize, take: &mut impl FnMut(usize) -> Vec<i64>) -> Net {
-    let (sizes, lengths, fill) = (take(3), take(6), take(1)[0]);
-    let mut list = |count: usize, length: usize| {
-        let mut list = take(count);
-        list.resize(length, fill);
-        list
-    };
-    Net {
-        n: sizes[0] as u32,
-        s: sizes[1] as u32,
-        t: sizes[2] as u32,
-        matrix: list(count * count, MATRIX),
-        right: list(count, COLUMN),
-        tolerance: list(count, COLUMN),
-        guess: list(count, COLUMN),
-        inverse: list(count * count, MATRIX),
-        weights: list(count, COLUMN),
-        lengths: Lengths {
-            matrix: lengths[0] as usize,
-            right: lengths[1] as usize,
-            tolerance: lengths[2] as usize,
-            guess: lengths[3] as usize,
-            inverse: lengths[4] as usize,
-            weights: lengths[5] as usize,
-            solution: COLUMN,
-            bounds: MATRIX,
-        },
-    }
+/// A proposal's numbers, its count aside.
+fn read_proposal(numbers: &mut Numbers, count: usize) -> Net {
+    let sizes = numbers.array();
+    let [matrix, right, tolerance, guess, inverse, weights] = numbers.array();
+    let fill = numbers.one();
+    read_lists(numbers, count, whole, fill, sizes, Lengths { matrix, right, tolerance, guess, inverse, weights, solution: COLUMN, bounds: MATRIX })
 }

@@ -1,10 +1,7 @@
 //! The converter, on the conversions of tests/emit_conversions.py.
 
 use crate::count::Count;
-
-extern "C" {
-    fn kodarfi_convert(file: *const u8, file_len: usize, out: *mut u8, out_len: usize, written: *mut usize, places: *mut u64) -> u32;
-}
+use crate::kodarfi::kodarfi_convert;
 
 /// How many bytes past the buffer are looked at, and what stands in the length before a call.
 const PAST: usize = 64;

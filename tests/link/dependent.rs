@@ -1,34 +1,10 @@
 //! The check of a net and one hung from it (document 02, Paper 8): what it is handed and leaves, the library's, a version in 128-bit numbers, and the pairs of
 //! tests/emit_dependent.py.
 
+use crate::kodarfi::kodarfi_check_dependent;
 use crate::lists::{read_net, whole, Net, Outcome, MATRIX, UNREAD};
+use crate::numbers::Numbers;
 use crate::reckoning::{all_within, check, out_of_range, reckon, too_short, System};
-
-extern "C" {
-    fn kodarfi_check_dependent(
-        n1: u32, s1: u32, t1: u32,
-        matrix1: *const i64, matrix1_len: usize,
-        right1: *const i64, right1_len: usize,
-        tolerance1: *const i64, tolerance1_len: usize,
-        guess1: *const i64, guess1_len: usize,
-        inverse1: *const i64, inverse1_len: usize,
-        weights1: *const i64, weights1_len: usize,
-        solution_bounds1: *mut u64, solution_bounds1_len: usize,
-        inverse_bounds1: *mut u64, inverse_bounds1_len: usize,
-        n2: u32, s2: u32, t2: u32,
-        matrix2: *const i64, matrix2_len: usize,
-        coupling: *const i64, coupling_len: usize,
-        right2: *const i64, right2_len: usize,
-        tolerance2: *const i64, tolerance2_len: usize,
-        guess2: *const i64, guess2_len: usize,
-        inverse2: *const i64, inverse2_len: usize,
-        weights2: *const i64, weights2_len: usize,
-        solution_bounds2: *mut u64, solution_bounds2_len: usize,
-        inverse_bounds2: *mut u64, inverse_bounds2_len: usize,
-        net: *mut u32,
-        places: *mut u64,
-    ) -> u32;
-}
 
 /// What a check is handed: the main net, the dependent one, and C with the length that is told.
 #[derive(Clone)]
@@ -131,29 +107,21 @@ pub fn check_dependent(pair: &Pair) -> PairOutcome {
     PairOutcome { number: 0, net: 0, places: [0, 0], main: (main.solution, main.inverse), dependent: (dependent.solution, dependent.inverse) }
 }
 
-/// The pairs of the file with their outcomes.
-pub fn read_pairs(text: &str) -> Vec<(Pair, PairOutcome)> {
-    let mut numbers = text.split_ascii_whitespace().map(|word| word.parse::<i64>().expect("a number"));
-    let mut pairs = Vec::new();
-    while let Some(count) = numbers.next() {
-        let mut take = |count: usize| numbers.by_ref().take(count).collect::<Vec<i64>>();
-        let main = read_net(count as usize, whole, &mut take);
-        let count = take(1)[0] as usize;
-        let dependent = read_net(count, whole, &mut take);
-        let given = take(2);
-        let mut coupling = take(given[0] as usize);
-        coupling.resize(MATRIX, UNREAD);
-        let said = take(4);
-        let mut out = PairOutcome::untouched(said[0] as u32, said[1] as u32, [said[2] as u64, said[3] as u64]);
-        if out.number == 0 {
-            for (net, limits) in [(&main, &mut out.main), (&dependent, &mut out.dependent)] {
-                let n = net.n as usize;
-                let read = |to: &mut [u64], list: Vec<i64>| to.iter_mut().zip(list).for_each(|(limit, number)| *limit = number as u64);
-                read(&mut limits.0, take(n));
-                read(&mut limits.1, take(n * n));
-            }
+/// The next pair and its outcome; None at the end.
+pub fn read_pair(numbers: &mut Numbers) -> Option<(Pair, PairOutcome)> {
+    let count = numbers.next()?;
+    let main = read_net(numbers, count, whole);
+    let count = numbers.one();
+    let dependent = read_net(numbers, count, whole);
+    let [given, coupling_len] = numbers.array();
+    let coupling = numbers.filled(given, MATRIX, UNREAD);
+    let mut out = PairOutcome::untouched(numbers.one(), numbers.one(), numbers.array());
+    if out.number == 0 {
+        for (net, limits) in [(&main, &mut out.main), (&dependent, &mut out.dependent)] {
+            let n = net.n as usize;
+            limits.0[..n].copy_from_slice(&numbers.list(n));
+            limits.1[..whole(n)].copy_from_slice(&numbers.list(whole(n)));
         }
-        pairs.push((Pair { main, dependent, coupling, coupling_len: given[1] as usize }, out));
     }
-    pairs
+    Some((Pair { main, dependent, coupling, coupling_len }, out))
 }

@@ -1,24 +1,9 @@
 //! Doubles in and out (02, Paper 11): what a call is handed and leaves, the library's, a version in whole numbers, and the calls of tests/emit_doubles.py.
 
+use crate::kodarfi::{kodarfi_guesses, kodarfi_intervals};
 use crate::lists::COLUMN;
+use crate::numbers::Numbers;
 use std::cmp::Ordering;
-
-extern "C" {
-    fn kodarfi_guesses(
-        n: u32, s: u32,
-        values: *const f64, values_len: usize,
-        guess: *mut i64, guess_len: usize,
-        places: *mut u64,
-    ) -> u32;
-    fn kodarfi_intervals(
-        n: u32, s: u32,
-        guess: *const i64, guess_len: usize,
-        bounds: *const u64, bounds_len: usize,
-        low: *mut f64, low_len: usize,
-        high: *mut f64, high_len: usize,
-        places: *mut u64,
-    ) -> u32;
-}
 
 /// What stands in the lists before a call; a refused one leaves them.
 const GUESS_BEFORE: i64 = -987654321;
@@ -196,27 +181,30 @@ pub fn intervals(call: &Outward) -> Intervals {
     Intervals::of(0, &low, &high)
 }
 
-/// The calls of the file with what they leave.
-pub fn read_exchanges(text: &str) -> (Vec<(Inward, Guesses)>, Vec<(Outward, Intervals)>) {
-    let mut numbers = text.split_ascii_whitespace().map(|word| word.parse::<i128>().expect("a number"));
+fn read_inward(numbers: &mut Numbers) -> (Inward, Guesses) {
+    let ([n, s], lengths) = (numbers.array(), numbers.array());
+    let values = numbers.list(COLUMN).into_iter().map(f64::from_bits).collect();
+    let number = numbers.one();
+    let guess = numbers.list(if number == 0 { n as usize } else { 0 });
+    (Inward { n, s, lengths, values }, Guesses::of(number, &guess))
+}
+
+fn read_outward(numbers: &mut Numbers) -> (Outward, Intervals) {
+    let ([n, s], lengths) = (numbers.array(), numbers.array());
+    let (guess, bounds) = (numbers.list(COLUMN), numbers.list(COLUMN));
+    let number = numbers.one();
+    let ends = if number == 0 { n as usize } else { 0 };
+    let (low, high) = (numbers.list(ends), numbers.list(ends));
+    (Outward { n, s, lengths, guess, bounds }, Intervals::of(number, &low, &high))
+}
+
+/// The calls with what they leave.
+pub fn read_exchanges(numbers: &mut Numbers) -> (Vec<(Inward, Guesses)>, Vec<(Outward, Intervals)>) {
     let (mut inward, mut outward) = (Vec::new(), Vec::new());
-    while let Some(way) = numbers.next() {
-        let mut take = |count: usize| numbers.by_ref().take(count).collect::<Vec<i128>>();
-        let head = take(if way == 0 { 4 } else { 6 });
-        let (n, s) = (head[0] as u32, head[1] as u32);
-        let told = |k: usize| head[2 + k] as usize;
-        if way == 0 {
-            let values = take(COLUMN).into_iter().map(|bits| f64::from_bits(bits as u64)).collect();
-            let number = take(1)[0] as u32;
-            let guess: Vec<i64> = take(if number == 0 { n as usize } else { 0 }).into_iter().map(|x| x as i64).collect();
-            inward.push((Inward { n, s, lengths: [told(0), told(1)], values }, Guesses::of(number, &guess)));
-        } else {
-            let guess = take(COLUMN).into_iter().map(|x| x as i64).collect();
-            let bounds = take(COLUMN).into_iter().map(|e| e as u64).collect();
-            let number = take(1)[0] as u32;
-            let mut ends = || take(if number == 0 { n as usize } else { 0 }).into_iter().map(|bits| bits as u64).collect::<Vec<u64>>();
-            let (low, high) = (ends(), ends());
-            outward.push((Outward { n, s, lengths: [told(0), told(1), told(2), told(3)], guess, bounds }, Intervals::of(number, &low, &high)));
+    while let Some(way) = numbers.next::<u32>() {
+        match way {
+            0 => inward.push(read_inward(numbers)),
+            _ => outward.push(read_outward(numbers)),
         }
     }
     (inward, outward)

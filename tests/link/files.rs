@@ -1,10 +1,7 @@
 //! The listing, on the files of tests/emit_files.py.
 
 use crate::count::Count;
-
-extern "C" {
-    fn kodarfi_listing(file: *const u8, file_len: usize, listing: *mut u8, length: *mut usize, places: *mut u64) -> u32;
-}
+use crate::kodarfi::kodarfi_listing;
 
 const LISTING: usize = 32768;
 

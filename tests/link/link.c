@@ -1,8 +1,6 @@
 /* The library linked from C, each of its calls beside what the second implementation says.
  *
- *   link FOLDER [--first]   what the emitters wrote: FOLDER/nets.txt, files.bin, entries.txt, weights.txt, builds.txt, doubles.txt, halves.txt, pairs.txt,
- *                           common.txt, conversions.bin;
- *                           with --first it stops at the first test that fails
+ *   link FOLDER [PART]   on what the emitters wrote into FOLDER; with PART, a name of the list below, that part alone, up to the first test that fails
  *
  * The last line is 'N passed, M failed'. */
 #include "tests.h"
@@ -35,34 +33,49 @@ void test_reach(const char *what, const unsigned *met, const unsigned *numbers, 
     for (unsigned k = 0; k < count; k++) test(what, numbers[k], met[numbers[k]] >= 20);
 }
 
-/* Runs a part of the test on a file of the folder. */
-static void run(void part(FILE *), const char *folder, const char *name) {
+/* The parts of the test: the name, what an emitter wrote for it, and the test on this file. */
+static const struct part {
+    const char *name, *file;
+    void (*test)(FILE *);
+} PARTS[] = {
+    {"entries", "entries.txt", test_entries},
+    {"weights", "weights.txt", test_weights},
+    {"builds", "builds.txt", test_builds},
+    {"doubles", "doubles.txt", test_doubles},
+    {"halves", "halves.txt", test_halves},
+    {"dependent", "pairs.txt", test_dependent},
+    {"common", "common.txt", test_common},
+    {"conversions", "conversions.bin", test_conversions},
+    {"files", "files.bin", test_files},
+    {"lists", "nets.txt", test_lists},
+};
+
+static void run(const struct part *part, const char *folder) {
     char path[4096];
-    snprintf(path, sizeof path, "%s/%s", folder, name);
+    snprintf(path, sizeof path, "%s/%s", folder, part->file);
     FILE *const file = fopen(path, "rb");
     if (!file) {
         perror(path);
         exit(2);
     }
-    part(file);
+    part->test(file);
     fclose(file);
 }
 
-int main(int argc, char **argv) {
-    stops = argc == 3 && strcmp(argv[2], "--first") == 0;
-    if (argc != 2 && !stops) {
-        fprintf(stderr, "usage: link FOLDER [--first]\n");
-        return 2;
+/* Runs all parts, or the one with this name; gives how many were run. */
+static unsigned run_parts(const char *folder, const char *only) {
+    unsigned count = 0;
+    for (unsigned k = 0; k < sizeof PARTS / sizeof *PARTS; k++) {
+        if (only && strcmp(only, PARTS[k].name) != 0) continue;
+        run(&PARTS[k], folder);
+        count++;
     }
-    run(test_entries, argv[1], "entries.txt");
-    run(test_weights, argv[1], "weights.txt");
-    run(test_builds, argv[1], "builds.txt");
-    run(test_doubles, argv[1], "doubles.txt");
-    run(test_halves, argv[1], "halves.txt");
-    run(test_dependent, argv[1], "pairs.txt");
-    run(test_common, argv[1], "common.txt");
-    run(test_conversions, argv[1], "conversions.bin");
-    run(test_files, argv[1], "files.bin");
-    run(test_lists, argv[1], "nets.txt");
-    return close_count();
+    return count;
+}
+
+int main(int argc, char **argv) {
+    stops = argc == 3;
+    if ((argc == 2 || argc == 3) && run_parts(argv[1], argv[2]) > 0) return close_count();
+    fprintf(stderr, "usage: link FOLDER [PART]\n");
+    return 2;
 }

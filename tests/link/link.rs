@@ -1,9 +1,7 @@
 //! The library linked from Rust, each of its calls beside what the second implementation says, and the checks on lists, the search for weights, the
 //! builder, the calls with doubles, the check of two nets and the common intervals beside versions in Rust.
 //!
-//!   link FOLDER [--first]   what the emitters wrote: FOLDER/nets.txt, files.bin, entries.txt, weights.txt, builds.txt, doubles.txt, halves.txt, pairs.txt,
-//!                           common.txt, conversions.bin;
-//!                           with --first it stops at the first test that fails
+//!   link FOLDER [PART]   on what the emitters wrote into FOLDER; with PART, a name of the list below, that part alone, up to the first test that fails
 //!
 //! The last line is 'N passed, M failed'.
 
@@ -17,7 +15,9 @@ mod doubles;
 mod entries;
 mod files;
 mod halves;
+mod kodarfi;
 mod lists;
+mod numbers;
 mod reckoning;
 mod test_builds;
 mod test_common;
@@ -31,6 +31,20 @@ mod weights;
 use count::Count;
 use std::process::exit;
 
+/// The parts of the test: the name, what an emitter wrote for it, and the test on these bytes.
+const PARTS: [(&str, &str, fn(&mut Count, &[u8])); 10] = [
+    ("entries", "entries.txt", entries::test_entries),
+    ("weights", "weights.txt", test_weights::test_weights),
+    ("builds", "builds.txt", test_builds::test_builds),
+    ("doubles", "doubles.txt", test_doubles::test_doubles),
+    ("halves", "halves.txt", test_halves::test_halves),
+    ("dependent", "pairs.txt", test_dependent::test_dependent),
+    ("common", "common.txt", test_common::test_common),
+    ("conversions", "conversions.bin", conversions::test_conversions),
+    ("files", "files.bin", files::test_files),
+    ("lists", "nets.txt", test_lists::test_lists),
+];
+
 fn bytes_of(folder: &str, name: &str) -> Vec<u8> {
     let path = format!("{folder}/{name}");
     std::fs::read(&path).unwrap_or_else(|error| {
@@ -39,27 +53,19 @@ fn bytes_of(folder: &str, name: &str) -> Vec<u8> {
     })
 }
 
-fn text_of(folder: &str, name: &str) -> String {
-    String::from_utf8(bytes_of(folder, name)).expect("a list of numbers")
-}
-
 fn main() {
     let arguments: Vec<String> = std::env::args().skip(1).collect();
-    let [folder, rest @ ..] = &arguments[..] else {
-        eprintln!("usage: link FOLDER [--first]");
-        exit(2)
+    let (folder, only) = match &arguments[..] {
+        [folder] => (folder, None),
+        [folder, part] if PARTS.iter().any(|(name, ..)| name == part) => (folder, Some(part)),
+        _ => {
+            eprintln!("usage: link FOLDER [PART]");
+            exit(2)
+        }
     };
-    let mut count = Count::new(rest == ["--first"]);
-    entries::test_entries(&mut count, &text_of(folder, "entries.txt"));
-    test_weights::test_weights(&mut count, &weights::read_searches(&text_of(folder, "weights.txt")));
-    test_builds::test_builds(&mut count, &builds::read_builds(&text_of(folder, "builds.txt")));
-    let (inward, outward) = doubles::read_exchanges(&text_of(folder, "doubles.txt"));
-    test_doubles::test_doubles(&mut count, &inward, &outward);
-    test_halves::test_halves(&mut count, &lists::read_halves(&text_of(folder, "halves.txt")));
-    test_dependent::test_dependent(&mut count, &dependent::read_pairs(&text_of(folder, "pairs.txt")));
-    test_common::test_common(&mut count, &common::read_pairs(&text_of(folder, "common.txt")));
-    conversions::test_conversions(&mut count, &bytes_of(folder, "conversions.bin"));
-    files::test_files(&mut count, &bytes_of(folder, "files.bin"));
-    test_lists::test_lists(&mut count, &lists::read_nets(&text_of(folder, "nets.txt")));
+    let mut count = Count::new(only.is_some());
+    for (_, file, test) in PARTS.iter().filter(|(name, ..)| only.is_none_or(|part| part == name)) {
+        test(&mut count, &bytes_of(folder, file));
+    }
     count.close()
 }

@@ -1,8 +1,10 @@
 //! The builder: the lists of tests/emit_builds.py beside what stands with them and beside the version in Rust, and with lines changed beside the latter.
 
-use crate::builds::{build, library_build, Build, Built};
+use crate::builds::{build, library_build, read_build, Build};
 use crate::count::Count;
 use crate::damage::Chance;
+use crate::numbers::Numbers;
+use std::iter::from_fn;
 
 const CHANGES: usize = 2;
 
@@ -28,12 +30,13 @@ fn change(call: &mut Build, chance: &mut Chance) {
     }
 }
 
-pub fn test_builds(count: &mut Count, builds: &[(Build, Built)]) {
+pub fn test_builds(count: &mut Count, bytes: &[u8]) {
+    let mut numbers = Numbers::of(bytes);
     let mut chance = Chance(11);
     let (mut met, mut met_changed) = ([[0; 32]; 2], [0; 32]);
-    for (index, (call, expected)) in builds.iter().enumerate() {
-        let built = library_build(call);
-        count.test(|| format!("build {index}"), built == *expected && built == build(call));
+    for (index, (call, expected)) in from_fn(|| read_build(&mut numbers)).enumerate() {
+        let built = library_build(&call);
+        count.test(|| format!("build {index}"), built == expected && built == build(&call));
         met[usize::from(call.is_half)][expected.number as usize & 31] += 1;
         for _ in 0..CHANGES {
             let mut changed = call.clone();

@@ -1,10 +1,12 @@
 //! The common intervals: the pairs of tests/emit_common.py beside what stands with them and beside the version in Rust, and damaged once more beside the
 //! latter; in the other order they are the same.
 
-use crate::common::{common, library_common, Common, Pair};
+use crate::common::{common, library_common, read_pair, Common, Pair};
 use crate::count::Count;
 use crate::damage::{damage, Chance};
 use crate::lists::{COLUMN, MATRIX};
+use crate::numbers::Numbers;
+use std::iter::from_fn;
 
 const DAMAGES: usize = 2;
 
@@ -36,14 +38,15 @@ fn change(pair: &mut Pair, chance: &mut Chance) {
     }
 }
 
-pub fn test_common(count: &mut Count, pairs: &[(Pair, Common)]) {
+pub fn test_common(count: &mut Count, bytes: &[u8]) {
+    let mut numbers = Numbers::of(bytes);
     let mut chance = Chance(13);
     let (mut met, mut met_changed) = ([0; 16], [0; 16]);
-    for (index, (pair, expected)) in pairs.iter().enumerate() {
-        let said = library_common(pair);
-        count.test(|| format!("pair {index}"), said == *expected && said == common(pair));
-        met_by(pair, expected).into_iter().for_each(|number| met[number] += 1);
-        let turned = library_common(&Pair { first: pair.second.clone(), second: pair.first.clone(), ..*pair });
+    for (index, (pair, expected)) in from_fn(|| read_pair(&mut numbers)).enumerate() {
+        let said = library_common(&pair);
+        count.test(|| format!("pair {index}"), said == expected && said == common(&pair));
+        met_by(&pair, &expected).into_iter().for_each(|number| met[number] += 1);
+        let turned = library_common(&Pair { first: pair.second.clone(), second: pair.first.clone(), ..pair });
         count.test(|| format!("pair {index} in the other order"), (turned.low, turned.high) == (said.low, said.high));
         for _ in 0..DAMAGES {
             let mut changed = pair.clone();

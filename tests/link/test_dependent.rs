@@ -3,8 +3,10 @@
 
 use crate::count::Count;
 use crate::damage::{damage, Chance};
-use crate::dependent::{check_dependent, library_check_dependent, Pair, PairOutcome};
+use crate::dependent::{check_dependent, library_check_dependent, read_pair, Pair, PairOutcome};
 use crate::lists::MATRIX;
+use crate::numbers::Numbers;
+use std::iter::from_fn;
 
 const DAMAGES: usize = 2;
 
@@ -31,13 +33,14 @@ fn count_met(met: &mut [[usize; 16]; 3], out: &PairOutcome) {
     met[out.net as usize % 3][out.number as usize & 15] += 1;
 }
 
-pub fn test_dependent(count: &mut Count, pairs: &[(Pair, PairOutcome)]) {
+pub fn test_dependent(count: &mut Count, bytes: &[u8]) {
+    let mut numbers = Numbers::of(bytes);
     let mut chance = Chance(17);
     let (mut met, mut met_damaged) = ([[0; 16]; 3], [[0; 16]; 3]);
-    for (index, (pair, expected)) in pairs.iter().enumerate() {
-        let out = library_check_dependent(pair);
-        count.test(|| format!("pair {index}"), out == *expected && out == check_dependent(pair));
-        count_met(&mut met, expected);
+    for (index, (pair, expected)) in from_fn(|| read_pair(&mut numbers)).enumerate() {
+        let out = library_check_dependent(&pair);
+        count.test(|| format!("pair {index}"), out == expected && out == check_dependent(&pair));
+        count_met(&mut met, &expected);
         for _ in 0..DAMAGES {
             let mut damaged = pair.clone();
             damage_pair(&mut damaged, &mut chance);

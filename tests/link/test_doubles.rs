@@ -2,7 +2,8 @@
 
 use crate::count::Count;
 use crate::damage::Chance;
-use crate::doubles::{guesses, intervals, library_guesses, library_intervals, Guesses, Intervals, Inward, Outward};
+use crate::doubles::{guesses, intervals, library_guesses, library_intervals, read_exchanges, Guesses, Intervals, Inward, Outward};
+use crate::numbers::Numbers;
 
 const CHANGES: usize = 3;
 
@@ -64,9 +65,10 @@ fn test_way<Call: Clone, Answer: PartialEq>(count: &mut Count, way: &Way<Call, A
     count.test_reach(&format!("changed calls {name} by number"), &met_changed, way.numbers);
 }
 
-pub fn test_doubles(count: &mut Count, inward: &[(Inward, Guesses)], outward: &[(Outward, Intervals)]) {
+pub fn test_doubles(count: &mut Count, bytes: &[u8]) {
+    let (inward, outward) = read_exchanges(&mut Numbers::of(bytes));
     let into = Way { name: "inward", library: library_guesses, version: guesses, number: |found: &Guesses| found.number, change: change_inward, numbers: &[0, 3, 8, 19] };
     let out = Way { name: "outward", library: library_intervals, version: intervals, number: |found: &Intervals| found.number, change: change_outward, numbers: &[0, 3, 8] };
-    test_way(count, &into, inward);
-    test_way(count, &out, outward);
+    test_way(count, &into, &inward);
+    test_way(count, &out, &outward);
 }

@@ -4,7 +4,9 @@
 use crate::count::Count;
 use crate::damage::{damage, Chance};
 use crate::halves::{check_half, filled_out, HALF};
-use crate::lists::{library_check, library_check_half, Net, Outcome, COLUMN, MATRIX};
+use crate::lists::{library_check, library_check_half, lower, read_call, Net, Outcome, COLUMN, MATRIX};
+use crate::numbers::Numbers;
+use std::iter::from_fn;
 
 const DAMAGES: usize = 2;
 
@@ -21,13 +23,14 @@ fn is_square_told(net: &Net) -> bool {
     net.lengths.matrix >= HALF && net.n as usize <= COLUMN
 }
 
-pub fn test_halves(count: &mut Count, halves: &[(Net, Outcome)]) {
+pub fn test_halves(count: &mut Count, bytes: &[u8]) {
+    let mut numbers = Numbers::of(bytes);
     let mut chance = Chance(13);
     let (mut met, mut met_damaged) = ([0; 16], [0; 16]);
-    for (index, (net, expected)) in halves.iter().enumerate() {
-        let out = library_check_half(net);
-        count.test(|| format!("half {index}"), out == *expected && out == check_half(net));
-        count.test(|| format!("half {index} as a square"), !is_square_told(net) || out == library_square(net));
+    for (index, (net, expected)) in from_fn(|| read_call(&mut numbers, lower)).enumerate() {
+        let out = library_check_half(&net);
+        count.test(|| format!("half {index}"), out == expected && out == check_half(&net));
+        count.test(|| format!("half {index} as a square"), !is_square_told(&net) || out == library_square(&net));
         met[expected.number as usize & 15] += 1;
         for _ in 0..DAMAGES {
             let mut damaged = net.clone();

@@ -2,8 +2,10 @@
 
 use crate::count::Count;
 use crate::damage::{damage, Chance};
-use crate::lists::{library_check, Net, Outcome, COLUMN};
+use crate::lists::{library_check, read_call, whole, Net, COLUMN};
+use crate::numbers::Numbers;
 use crate::reckoning::check;
+use std::iter::from_fn;
 
 const DAMAGES: usize = 2;
 
@@ -12,12 +14,13 @@ fn is_tolerant(net: &Net) -> bool {
     net.tolerance[..(net.n as usize).min(COLUMN)].iter().any(|&d| d > 0)
 }
 
-pub fn test_lists(count: &mut Count, nets: &[(Net, Outcome)]) {
+pub fn test_lists(count: &mut Count, bytes: &[u8]) {
+    let mut numbers = Numbers::of(bytes);
     let mut chance = Chance(1);
     let (mut met, mut met_tolerant) = ([0; 16], [0; 16]);
-    for (index, (net, expected)) in nets.iter().enumerate() {
-        let out = library_check(net);
-        count.test(|| format!("call {index}"), out == *expected && out == check(net));
+    for (index, (net, expected)) in from_fn(|| read_call(&mut numbers, whole)).enumerate() {
+        let out = library_check(&net);
+        count.test(|| format!("call {index}"), out == expected && out == check(&net));
         for _ in 0..DAMAGES {
             let mut damaged = net.clone();
             for _ in 0..=chance.below(2) {

@@ -4,7 +4,9 @@
 use crate::count::Count;
 use crate::damage::Chance;
 use crate::lists::MATRIX;
-use crate::weights::{find_weights, library_search, Found, Search};
+use crate::numbers::Numbers;
+use crate::weights::{find_weights, library_search, read_search, Found, Search};
+use std::iter::from_fn;
 
 const CHANGES: usize = 2;
 
@@ -36,13 +38,14 @@ fn change(search: &mut Search, chance: &mut Chance) {
     }
 }
 
-pub fn test_weights(count: &mut Count, searches: &[(Search, Found, u32)]) {
+pub fn test_weights(count: &mut Count, bytes: &[u8]) {
+    let mut numbers = Numbers::of(bytes);
     let mut chance = Chance(7);
     let (mut met, mut met_changed) = ([0; 16], [0; 16]);
-    for (index, (search, expected, place)) in searches.iter().enumerate() {
-        let found = library_search(search);
-        count.test(|| format!("search {index}"), found == *expected && found == find_weights(search));
-        met_by(search, expected, *place).into_iter().for_each(|number| met[number] += 1);
+    for (index, (search, expected, place)) in from_fn(|| read_search(&mut numbers)).enumerate() {
+        let found = library_search(&search);
+        count.test(|| format!("search {index}"), found == expected && found == find_weights(&search));
+        met_by(&search, &expected, place).into_iter().for_each(|number| met[number] += 1);
         for _ in 0..CHANGES {
             let mut changed = search.clone();
             change(&mut changed, &mut chance);

@@ -3,7 +3,7 @@
 #include <stdlib.h>
 #include <string.h>
 
-#define QUOTED(name) #name,
+#define QUOTED(part, name) #name,
 static const char *const NAMES[] = {"", WAYS(QUOTED)};
 
 static enum way named_way(void) {

@@ -1,18 +1,8 @@
 //! The search for weights: what it is handed and leaves, the library's, a version in 128-bit numbers, and the searches of tests/emit_weights.py.
 
+use crate::kodarfi::kodarfi_find_weights;
 use crate::lists::{COLUMN, MATRIX, UNREAD};
-
-extern "C" {
-    fn kodarfi_find_weights(
-        n: u32, t: u32,
-        matrix: *const i64, matrix_len: usize,
-        inverse: *const i64, inverse_len: usize,
-        allowance: u32,
-        weights: *mut i64, weights_len: usize,
-        tried: *mut u32,
-        places: *mut u64,
-    ) -> u32;
-}
+use crate::numbers::Numbers;
 
 /// What stands in the count and in the weight list before a search; a refused one leaves both.
 const TRIED_BEFORE: u32 = 0xdead_beef;
@@ -110,29 +100,13 @@ pub fn find_weights(search: &Search) -> Found {
     Found::refused(18)
 }
 
-/// The searches of the file with what they leave, and the place of the first good list among the first 65, 0 where there is none.
-pub fn read_searches(text: &str) -> Vec<(Search, Found, u32)> {
-    let mut numbers = text.split_ascii_whitespace().map(|word| word.parse::<i64>().expect("a number"));
-    let mut searches = Vec::new();
-    while let Some(count) = numbers.next() {
-        let mut take = |count: usize| numbers.by_ref().take(count).collect::<Vec<i64>>();
-        let (sizes, lengths) = (take(3), take(3));
-        let mut matrix = || {
-            let mut list = take((count * count) as usize);
-            list.resize(MATRIX, UNREAD);
-            list
-        };
-        let search = Search {
-            n: sizes[0] as u32,
-            t: sizes[1] as u32,
-            allowance: sizes[2] as u32,
-            matrix: matrix(),
-            inverse: matrix(),
-            lengths: [lengths[0] as usize, lengths[1] as usize, lengths[2] as usize],
-        };
-        let said = take(3);
-        let found = if said[0] == 0 { Found::list(said[1] as u32, &take(search.n as usize)) } else { Found::refused(said[0] as u32) };
-        searches.push((search, found, said[2] as u32));
-    }
-    searches
+/// The next search and what it leaves, and the place of the first good list among the first 65, 0 where there is none; None at the end.
+pub fn read_search(numbers: &mut Numbers) -> Option<(Search, Found, u32)> {
+    let count: usize = numbers.next()?;
+    let ([n, t, allowance], lengths) = (numbers.array(), numbers.array());
+    let matrix = numbers.filled(count * count, MATRIX, UNREAD);
+    let inverse = numbers.filled(count * count, MATRIX, UNREAD);
+    let [number, tried, place] = numbers.array();
+    let found = if number == 0 { Found::list(tried, &numbers.list(n as usize)) } else { Found::refused(number) };
+    Some((Search { n, t, allowance, matrix, inverse, lengths }, found, place))
 }

@@ -3,6 +3,7 @@
 import math
 from typing import NamedTuple
 
+from .format import is_in_range
 from .lists import COLUMN, is_within
 from .refusal import Refusal
 
@@ -56,7 +57,7 @@ class Doubles:
         return steps if self.is_guess(steps) else None
 
     def is_guess(self, steps):
-        return is_within("guess", [steps])
+        return is_in_range("guess", steps)
 
     def nearest(self, numerator, denominator):
         """"a nearest whole number, halves away from zero"."""

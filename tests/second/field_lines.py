@@ -1,7 +1,6 @@
-"""Document 02, Paper 3: equations from the field lines, as the normal equations of a least-squares fit, in exact fractions; the matrix as a square or, since
+"""Document 02, Paper 3: equations from the field lines, as the normal equations of a least-squares fit, in whole numbers; the matrix as a square or, since
 Paper 10, as its lower half."""
 
-from fractions import Fraction
 from typing import NamedTuple
 
 from .half import HALF, lower_half
@@ -102,20 +101,15 @@ class Builder:
 
     def design(self, n, line):
         """How much the heights count in the difference of a line, by mark: the fixed mark's is 0 and has no place."""
-        return {mark: Fraction(sign) for mark, sign in ((line.to, 1), (line.start, -1)) if 1 <= mark <= n}
+        return {mark: sign for mark, sign in ((line.to, 1), (line.start, -1)) if 1 <= mark <= n}
 
     def equations(self, n, lines):
         """For rows J of the design, weights W and differences d: JᵀWJ and JᵀWd."""
-        matrix, right = [[Fraction(0)] * n for _ in range(n)], [Fraction(0)] * n
+        matrix, right = [[0] * n for _ in range(n)], [0] * n
         for line in lines:
             row = self.design(n, line)
             for i, a in row.items():
                 right[i - 1] += a * line.weight * line.difference
                 for j, b in row.items():
                     matrix[i - 1][j - 1] += a * line.weight * b
-        return Equations([whole(value) for row in matrix for value in row], [whole(value) for value in right])
-
-
-def whole(value):
-    assert value.denominator == 1
-    return int(value)
+        return Equations([value for row in matrix for value in row], right)

@@ -3,7 +3,7 @@
 from typing import NamedTuple
 
 from . import format
-from .reckoning import Problem, Reckoning
+from .reckoning import Reckoning
 from .refusal import Refusal
 
 MATRIX, COLUMN = 1024, 32

@@ -1,5 +1,7 @@
 """Document 01's desk: it collects forms line by line and fills the lists."""
 
+from functools import cached_property
+
 from .format import LONGEST_LINE, PLACED, is_in_range, read_form
 from .lists import COLUMN, KINDS, MATRIX
 from .refusal import Refusal
@@ -13,11 +15,9 @@ class Line:
         self.text = text
         self._read = read
 
-    @property
+    @cached_property
     def form(self):
-        if not hasattr(self, "_form"):
-            self._form = self._read(self.text)
-        return self._form
+        return self._read(self.text)
 
 
 class Loader:
@@ -32,6 +32,7 @@ class Loader:
 
     def __init__(self, rules=IN_FORCE):
         self.rules = rules
+        self.tests = [(int(test.split("_")[0]), getattr(type(self), f"refusal_{test}")) for test in self.order()]
         self.n = self.s = self.t = None
         self.given = set()
         self.ended = False
@@ -40,10 +41,10 @@ class Loader:
     def take(self, text):
         """Takes a line in; gives its refusal, or None where it is accepted."""
         line = Line(text, self.read)
-        for test in self.order():
-            values = getattr(self, f"refusal_{test}")(line)
+        for number, refusal in self.tests:
+            values = refusal(self, line)
             if values is not None:
-                return Refusal(int(test.split("_")[0]), values)
+                return Refusal(number, values)
         self.accept(line.form)
         return None
 

@@ -1,8 +1,7 @@
 """Document 01, "The reckoning", with the slacks of document 02, Paper 5, and the row sums of its Paper 9: margins, residuals and the bounds of a column (01:
-limits), in exact fractions."""
+limits), in whole numbers, which are exact in Python whatever their size."""
 
-from fractions import Fraction
-from math import ceil, inf
+from math import inf
 from operator import mul
 from typing import NamedTuple
 
@@ -49,6 +48,11 @@ class System(NamedTuple):
 
 def dot(left, right):
     return sum(map(mul, left, right))
+
+
+def rounded_up(p, q):
+    """p / q rounded up to a whole number: a quotient of whole numbers is rounded down."""
+    return -(-p // q)
 
 
 def times(matrix, vector):
@@ -194,13 +198,12 @@ class Reckoning:
 
     def bounds(self, system, residuals, slacks, margins):
         """The limits of one column, from its residuals and slacks."""
-        sizes = self.sizes(system, residuals, slacks)
-        return [self.bound(system, i, sizes, margins) for i in range(system.n)]
+        return self.bounds_of_sizes(system, self.sizes(system, residuals, slacks), margins)
 
-    def bound(self, system, i, sizes, margins):
-        """01: the largest over all rows m of w_i·|p_m| / g_m, each rounded up to a whole number."""
-        w = system.w[i]
-        return max(ceil(Fraction(w * p, g)) for p, g in zip(sizes, margins))
+    def bounds_of_sizes(self, system, sizes, margins):
+        """01: the largest over all rows m of w_i·|p_m| / g_m, each rounded up to a whole number. Equal weights have equal limits, reckoned once."""
+        largest = {w: max(rounded_up(w * p, g) for p, g in zip(sizes, margins)) for w in set(system.w)}
+        return [largest[w] for w in system.w]
 
     def bounds_of_columns(self, system, columns, margins):
         """For column j of the inverse the same."""

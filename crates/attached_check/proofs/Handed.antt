@@ -16,7 +16,9 @@ use lib.ListN.{getD, length, replicate, getD-replicate}
 use Rattle.integer.proofs.Search.{first-ext}
 use Rattle.linear.specs.Reach.{ColumnList}
 use Rattle.linear.specs.Slice.{at, vectorOf}
+use Rattle.linear.specs.Written.{written}
 use Rattle.linear.proofs.Slack.{slack-ext}
+use Rattle.linear.proofs.Written.{written-ext}
 use Rattle.rules.specs.Order.{ifAccepted}
 use Rattle.rules.specs.Range.{allInRange}
 use Rattle.rules.specs.declared.Kind.the-variants as kind
@@ -31,10 +33,8 @@ use Rattle.reckoning.proofs.Sizes.{scaled-size}
 use Rattle.row_sums.specs.Sum.{rowSumOf}
 use Rattle.slacks.specs.Allowed.{slackAt, allowedBeside}
 use Rattle.slacks.proofs.Allowed.{slack-size, allowed-size, allowed-test}
-use Rattle.checked.specs.Checked.{written}
 use Rattle.checked.specs.Input.{Input, inRanges}
 use Rattle.checked.proofs.Fit.{Fit}
-use Rattle.checked.proofs.Written.{written-ext}
 use Rattle.checker.specs.Work.{Work, work, workProblem, workResidual, workSlack, workAnswer, Workable, ReckonedAs}
 use Rattle.dependent.specs.Nets.{Attached, attachedBy, couplingOf}
 use Rattle.dependent.specs.Reckoning.{ownProblem, dependentResidual, dependentSlack, dependentExceeds, dependentBound}
@@ -182,9 +182,9 @@ module _ (marks s₁ : ℕ) (guess : List ℤ) (limits : List ℕ) (coupling : L
         (λ m l. refl)
 
     solution-is : (l : List ℕ) → dependentReckoned D ≡ l →
-        ifAccepted l (written (I .n) (boundWith (workProblem W) (workResidual W) (workSlack W)) (I .solutionBounds)) (I .solutionBounds)
-        ≡ ifAccepted l (written (I .n) (dependentBound D) (I .solutionBounds)) (I .solutionBounds)
-    solution-is [] e = written-ext (I .n) (boundWith (workProblem W) (workResidual W) (workSlack W)) (dependentBound D) (I .solutionBounds) (λ i l. bound-is e i)
+        ifAccepted l (written (I .solutionBounds) 0 1 (boundWith (workProblem W) (workResidual W) (workSlack W)) (I .n)) (I .solutionBounds)
+        ≡ ifAccepted l (written (I .solutionBounds) 0 1 (dependentBound D) (I .n)) (I .solutionBounds)
+    solution-is [] e = written-ext (I .solutionBounds) 0 1 (boundWith (workProblem W) (workResidual W) (workSlack W)) (dependentBound D) (I .n) (λ i l. bound-is e i)
     solution-is (k ∷ ks) e = refl
 
     pub reckoned-attached : {r : Outcome} {E L : List ℕ} → ReckonedAs W r E L → AttachedAs D r E L

@@ -88,7 +88,7 @@ unfolding lacking
 lacking-with x n i l e =
     one-less n (λ (j : ℕ). cond (hasPlace x j) 0 1) (λ (j : ℕ). cond (hasPlace (withPlace x i) j) 0 1) i l (rw (e, has-same x i)) (λ j d. rw (has-other x i j d))
 
-pub lacking-all : (n : ℕ) → lacking 0 n ≡ n
+lacking-all : (n : ℕ) → lacking 0 n ≡ n
 unfolding lacking sumℕ
 lacking-all zero = refl
 lacking-all (suc n) =

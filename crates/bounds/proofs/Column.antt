@@ -17,15 +17,17 @@ use Rattle.integer.proofs.Sum.{sumℕ-ext, sumℕ-*, sumℕ-zero, sumℕ-at, su
 use Rattle.linear.specs.Matrix.{Vec, apply}
 use Rattle.linear.specs.Slice.{at}
 use Rattle.linear.specs.Reach.{Reach, ColumnList}
+use Rattle.linear.specs.Written.{written}
 use Rattle.linear.proofs.Places.{place, list-reach}
 use Rattle.linear.proofs.Slack.{joint}
+use Rattle.linear.proofs.Written.{written-ext}
 use Rattle.raised_rows.specs.Raised.{raisedBy, lowered, RaisedRow, RaisedRows, loweredRows, rowDot, RowOf}
 use Rattle.raised_rows.proofs.Lowering.{lowered-size, row-dot-size, row-dot-shows, rows-themselves}
 use Rattle.enclosure.specs.Reckoning.{allowedResidual, sizesWith, boundFrom}
 use Rattle.enclosure.proofs.Bounds.{bound-ext}
-use Rattle.reckoning.specs.Arrays.{Begins, stored, storedColumns}
+use Rattle.reckoning.specs.Arrays.{Begins, columnsWritten}
 use Rattle.reckoning.specs.Rows.{InverseRows}
-use Rattle.reckoning.proofs.Filled.{begins-as, stored-ext, columns-next}
+use Rattle.reckoning.proofs.Filled.{begins-as, columns-next}
 use Rattle.ratios.specs.Ratio.{Sized}
 use Rattle.bounds.specs.Limits.{inversePart, Near}
 
@@ -83,7 +85,7 @@ bounds-of-sizes n sizes f margins w h k =
     begins-as 0 _ _ (λ i l. bound-ext n (λ (m : ℕ). getD sizes m 0) margins f margins w i (h .each) (λ m lm. refl)) k
 
 -- one column more
-pub column-more : (xs : List ℕ) (n : ℕ) (f : ℕ → ℕ → ℕ) (j : ℕ) {now after column : List ℕ} → now ≡ storedColumns xs n f j →
-    Begins 0 column n (λ (i : ℕ). f i j) → after ≡ stored now j n (λ (i : ℕ). getD column i 0) n → after ≡ storedColumns xs n f (j + 1)
+pub column-more : (xs : List ℕ) (n : ℕ) (f : ℕ → ℕ → ℕ) (j : ℕ) {now after column : List ℕ} → now ≡ columnsWritten xs n f j →
+    Begins 0 column n (λ (i : ℕ). f i j) → after ≡ written now j n (λ (i : ℕ). getD column i 0) n → after ≡ columnsWritten xs n f (j + 1)
 column-more xs n f j {now} {after} {column} e h a =
-    a ∙ stored-ext now j n (λ (i : ℕ). getD column i 0) (λ (i : ℕ). f i j) n (h .each) ∙ rw e (sym (columns-next xs n f j))
+    a ∙ written-ext now j n (λ (i : ℕ). getD column i 0) (λ (i : ℕ). f i j) n (h .each) ∙ rw e (sym (columns-next xs n f j))

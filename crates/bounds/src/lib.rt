@@ -1,7 +1,6 @@
 // The limits of a column from the raised rows of the inverse, and the writer of a column (01: "The limits of one column are worked out
 // whole before any of them is written").
 ghost use mathlib.Core.Path.{_≡_};
-ghost use mathlib.Core.Bool.{true};
 ghost use Prim.Native.Nat.{ℕ, _+_, _*_, _≤_, _<_, _^_};
 ghost use lib.IntN.{natAbs};
 ghost use lib.ListN.{getD, length};
@@ -9,34 +8,32 @@ ghost use Rattle.integer.specs.Finite.{sumℕ};
 ghost use Rattle.linear.specs.Slice.{at};
 ghost use Rattle.linear.specs.Place.{Carried};
 ghost use Rattle.linear.specs.Reach.{ColumnList};
+ghost use Rattle.linear.specs.Written.{written};
 ghost use Rattle.raised_rows.specs.Raised.{raisedBy, lowered, RaisedRow, RaisedRows, loweredRows};
 ghost use Rattle.enclosure.specs.Reckoning.{allowedResidual};
-ghost use Rattle.reckoning.specs.Arrays.{Begins, stored, storedColumns};
+ghost use Rattle.reckoning.specs.Arrays.{Begins};
 ghost use Rattle.reckoning.specs.Rows.{InverseRows};
 ghost use Rattle.ratios.specs.Ratio.{Positive, Caps};
-ghost use Rattle.bounds.specs.Limits.{Near, limitsOf};
-ghost use Rattle.bounds.specs.Mirrored.{columnSize, KnownColumns, Mirrored, MirroredProduct};
+ghost use Rattle.bounds.specs.Limits.{columnSize, Near, limitsOf};
 use integer::magnitude;
 use raised_rows::ROWS_LENGTH;
 use raised_rows::add_low;
 use raised_rows::lowered_size;
 use raised_rows::raise_row;
-use raised_rows::raise_rows;
 use raised_rows::row_dot;
 use ratios::bounds_of;
 use ratios::sum_of;
 
-// The sizes of p = G·r, from the raised rows of G and the raised row j, from a place on, that stands for r.
-fn sizes_of(rows: &[u64], residuals: &[u64], j: usize, place: usize, n: usize) -> [u64; 32]
+// The sizes of p = G·r, from the raised rows of G and the raised row that stands for r.
+fn sizes_of(rows: &[u64], residuals: &[u64], n: usize) -> [u64; 32]
     requires { ⌜ n ≤ 32 ⌝ }
-    requires { ⌜ Carried 0 (n + 1) j place ⌝ }
-    requires { ⌜ RaisedRows (now rows) n × RaisedRow (now residuals) (j * (n + 1)) n ⌝ }
-    ensures { λ r. ⌜ Begins 0 r n (λ (m : ℕ). columnSize (now (rows .entry)) (now (residuals .entry)) n m j) ⌝ }
+    requires { ⌜ RaisedRows (now rows) n × RaisedRow (now residuals) (0 * (n + 1)) n ⌝ }
+    ensures { λ r. ⌜ Begins 0 r n (λ (m : ℕ). columnSize (now (rows .entry)) (now (residuals .entry)) n m 0) ⌝ }
 {
     let mut out = [0u64; 32];
     let mut row = 0;
     for m in 0..n {
-        out[m] = magnitude(row_dot(rows, m, row, residuals, j, place, n));
+        out[m] = magnitude(row_dot(rows, m, row, residuals, 0, 0, n));
         row += n + 1;
     }
     out
@@ -111,7 +108,7 @@ pub fn column_bounds(
 {
     let mut raised = [0u64; 33];
     raise_row(&mut raised, 0, &residuals, 0, 1, n);
-    let sizes = add_slacks(sizes_of(rows, &raised, 0, 0, n), rows, &slacks, n);
+    let sizes = add_slacks(sizes_of(rows, &raised, n), rows, &slacks, n);
     bounds_of(&sizes, &margins, &caps, weights, n)
 }
 
@@ -119,109 +116,11 @@ pub fn column_bounds(
 pub fn store(dst: &mut [u64], start: usize, stride: usize, column: [u64; 32], n: usize)
     requires { ⌜ (n ≤ 32) × (start + n * stride < 2 ^ 60) ⌝ }
     requires { ⌜ ((k : ℕ) → k < n → start + k * stride < length (now dst)) ⌝ }
-    ensures { λ _. ⌜ now (dst .exit) ≡ stored (now (dst .entry)) start stride (λ (i : ℕ). getD column i 0) n ⌝ }
+    ensures { λ _. ⌜ now (dst .exit) ≡ written (now (dst .entry)) start stride (λ (i : ℕ). getD column i 0) n ⌝ }
 {
     let mut place = start;
     for i in 0..n {
         dst[place] = column[i];
         place += stride;
-    }
-}
-
-// The size of p_m of column j: where column m is one of the first `known`, read there as that of p_j of column m, else worked out.
-fn size_at(
-    list: &[u64; 1024],
-    across: usize,
-    known: usize,
-    rows: &[u64],
-    m: usize,
-    row: usize,
-    residuals: &[u64],
-    j: usize,
-    place: usize,
-    n: usize,
-) -> u64
-    requires { ⌜ (n ≤ 32) × ((m < n) × ((j < n) × (known ≤ j))) ⌝ }
-    requires { ⌜ Carried j n m across × (Carried 0 (n + 1) m row × Carried 0 (n + 1) j place) ⌝ }
-    requires { ⌜ RaisedRows (now rows) n × RaisedRow (now residuals) (j * (n + 1)) n ⌝ }
-    requires { ⌜ KnownColumns (now list) n known (now rows) (now residuals) ⌝ }
-    requires { ⌜ (m < known → Mirrored (now rows) (now residuals) n) ⌝ }
-    ensures { λ r. ⌜ r ≡ columnSize (now (rows .entry)) (now (residuals .entry)) n m j ⌝ }
-{
-    if m < known {
-        return list[across];
-    }
-    magnitude(row_dot(rows, m, row, residuals, j, place, n))
-}
-
-// The sizes of p = G·r for column j, of which the first `known` are read across the columns before it; they are put in the list after these.
-fn column_sizes(
-    list: &mut [u64; 1024],
-    known: usize,
-    rows: &[u64],
-    residuals: &[u64],
-    j: usize,
-    place: usize,
-    start: usize,
-    n: usize,
-) -> [u64; 32]
-    requires { ⌜ (n ≤ 32) × ((j < n) × (known ≤ j)) ⌝ }
-    requires { ⌜ Carried 0 (n + 1) j place × Carried 0 n j start ⌝ }
-    requires { ⌜ RaisedRows (now rows) n × RaisedRow (now residuals) (j * (n + 1)) n ⌝ }
-    requires { ⌜ KnownColumns (now list) n known (now rows) (now residuals) ⌝ }
-    requires { ⌜ (0 < known → Mirrored (now rows) (now residuals) n) ⌝ }
-    ensures { λ r. ⌜ Begins 0 r n (λ (m : ℕ). columnSize (now (rows .entry)) (now (residuals .entry)) n m j)
-        × (now (list .exit) ≡ stored (now (list .entry)) (j * n) 1 (λ (m : ℕ). columnSize (now (rows .entry)) (now (residuals .entry)) n m j) n) ⌝ }
-{
-    let mut out = [0u64; 32];
-    let mut across = j;
-    let mut along = start;
-    let mut row = 0;
-    for m in 0..n {
-        let x = size_at(list, across, known, rows, m, row, residuals, j, place, n);
-        out[m] = x;
-        list[along] = x;
-        across += n;
-        along += 1;
-        row += n + 1;
-    }
-    out
-}
-
-// Writes the limits of all columns of the inverse, row after row, from their residuals, column after column, and the raised rows of G.
-// Where p of the columns is symmetric, half of it is worked out.
-pub fn store_columns(
-    dst: &mut [u64],
-    rows: &[u64; ROWS_LENGTH],
-    residuals: &[i64; 1024],
-    mirrored: bool,
-    margins: [u64; 32],
-    caps: [u64; 32],
-    weights: &[i64],
-    n: usize,
-)
-    requires { ⌜ (0 < n) × ((n ≤ 32) × (n * n ≤ length (now dst))) ⌝ }
-    requires { ⌜ InverseRows (now rows) n ⌝ }
-    requires { ⌜ ColumnList (now residuals) (n * n) allowedResidual ⌝ }
-    requires { ⌜ (mirrored ≡ true → MirroredProduct (now rows) (now residuals) n) ⌝ }
-    requires { ⌜ Positive margins n ⌝ }
-    requires { ⌜ ColumnList (now weights) n 1024 ⌝ }
-    requires { ⌜ Caps caps margins (now weights) n ⌝ }
-    ensures { λ _. ⌜ now (dst .exit) ≡ storedColumns (now (dst .entry)) n
-        (λ (i j : ℕ). limitsOf n (now (rows .entry)) (λ (k : ℕ). at (now (residuals .entry)) (j * n + k)) (λ (k : ℕ). 0) margins
-        (now (weights .entry)) i) n ⌝ }
-{
-    let mut raised = [0u64; ROWS_LENGTH];
-    raise_rows(&mut raised, residuals, n);
-    let mut list = [0u64; 1024];
-    let mut place = 0;
-    let mut start = 0;
-    for j in 0..n {
-        let known = if mirrored { j } else { 0 };
-        let sizes = column_sizes(&mut list, known, rows, &raised, j, place, start, n);
-        let column = bounds_of(&sizes, &margins, &caps, weights, n);
-        store(dst, j, n, column, n);
-        place += n + 1;
-        start += n;
     }
 }

@@ -8,6 +8,7 @@ use borrow.Author.Tests.{leb-true, leb-false, lt-ltb, le-ltb}
 use lib.Dec.{leb, ltb}
 use lib.IntN.{ℤ, pos}
 use lib.ListN.{length}
+use Rattle.linear.proofs.Written.{written-ext}
 use Rattle.rules.specs.Order.{ifAccepted}
 use Rattle.rules.specs.Range.{inRange}
 use Rattle.rules.specs.declared.Kind.the-variants as kind
@@ -21,7 +22,7 @@ use Rattle.equations.specs.declared.Layout.{Layout}
 use Rattle.equations.specs.Written.{widthOf, matrixWritten, rightWritten}
 use Rattle.equations.specs.Kept.{keptMatrix, keptRight}
 use Rattle.built.specs.Finished.{saidFinally, Finished}
-use Rattle.equations.proofs.Places.{written-ext, rows-ext}
+use Rattle.equations.proofs.Places.{rows-ext}
 use Rattle.built.specs.BuiltAs.{shortFor, BuiltAs}
 
 -- 8 first, then 3 for n, 3 for a list above 256, then the lines
@@ -69,6 +70,6 @@ module _ (n : ℕ) (ls : List Observation) (layout : Layout) (a b : List ℤ) wh
     right =
         f .right
         ∙ kept (saidBuilt r) (f .says) (rightWritten (gatheredOf n ls .n) (keptRight (gatheredOf n ls)) b) (rightWritten n (builtRight ls) b) b
-        (λ e. ap (λ (k : ℕ). rightWritten k (keptRight (gatheredOf n ls)) b) (w .size) ∙ written-ext 0 n (keptRight (gatheredOf n ls)) (builtRight ls) b (λ i m. w .sums e (gain (i + 1))))
+        (λ e. ap (λ (k : ℕ). rightWritten k (keptRight (gatheredOf n ls)) b) (w .size) ∙ written-ext b 0 1 (keptRight (gatheredOf n ls)) (builtRight ls) n (λ i m. w .sums e (gain (i + 1))))
         ∙ ap (λ (t : List ℕ). ifAccepted t (rightWritten n (builtRight ls) b) b) (f .says ∙ says);
   }

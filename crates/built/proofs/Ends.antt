@@ -2,13 +2,13 @@
 --   finish-short, finish-done, finish-refused — 8, the equations written, what was said of the lines
 --   matrix-room, long-right — lists that are not too short have room for the equations
 use mathlib.Core.Path.{_≡_, refl, sym, ap}
-use mathlib.Core.Bool.{Bool, true, false, _||_}
+use mathlib.Core.Bool.{Bool, true, false}
 use mathlib.Core.List.{List, _∷_}
 use Prim.Native.Nat.{ℕ, _≤_}
 use borrow.Author.Tests.{ltb-false}
 use lib.IntN.{ℤ}
 use lib.ListN.{length}
-use Rattle.rules.specs.Range.{shortMatrix, shortColumn}
+use Rattle.rules.specs.Range.{shortColumn}
 use Rattle.rules.specs.declared.Refusal.the-variants.{TooShort}
 use Rattle.rules.proofs.Ranges.{neither-left, neither-right}
 use Rattle.lower_half.proofs.Places.{count-few}

@@ -11,7 +11,6 @@ use native.Mathlib.Nat.{mod-lt, div-lt-iff-lt-mul, div-add-mod'}
 use native.Mathlib.Omega.{arith}
 use native.Mathlib.Decide.{decLe}
 use lib.IntN.{ℤ}
-use lib.ListN.{length}
 use Rattle.integer.specs.Finite.{sumℕ}
 use Rattle.linear.specs.Slice.{at}
 use Rattle.rules.specs.Range.{allInRange}

@@ -10,7 +10,7 @@ use mathlib.Core.List.{List, [], _∷_, _++_}
 use Prim.Native.Nat.{ℕ, _+_, _*_, _/_, _%_, _≤_, _<_}
 use native.Mathlib.Nat.{mod-lt, div-lt-iff-lt-mul, div-add-mod'}
 use native.Mathlib.Omega.{arith}
-use lib.IntN.{ℤ}
+use lib.IntN.{ℤ, pos}
 use lib.ListN.{length}
 use Rattle.linear.specs.Slice.{at}
 use Rattle.rules.specs.Range.{inRange, allInRange}
@@ -23,6 +23,7 @@ use Rattle.observation.specs.declared.Observation.{Observation}
 use Rattle.observation.specs.Distinct.{builtMatrix, builtRight}
 use Rattle.observation.specs.Order.{saidBuilt, buildAnswer}
 use Rattle.integer.specs.Among.{Among}
+use Rattle.linear.proofs.Written.{front-at, front-else, written-ext}
 use Rattle.observation.specs.Stated.{Admitted, Fits}
 use Rattle.observation.proofs.Lines.{builds-fits}
 use Rattle.observation.proofs.Net.{matrix-in-range, right-in-range}
@@ -32,7 +33,7 @@ use Rattle.equations.specs.declared.Layout.the-variants.{Square}
 use Rattle.equations.specs.Written.{widthOf, matrixWritten, rightWritten}
 use Rattle.built.proofs.Ends.{matrix-room, long-right}
 use Rattle.equations.proofs.Layouts.{square-start, square-at, square-else}
-use Rattle.equations.proofs.Places.{written-at, written-else, written-ext, rows-ext}
+use Rattle.equations.proofs.Places.{rows-ext}
 use Rattle.built.specs.BuiltAs.{shortFor, BuiltAs}
 
 pub record Held (n : ℕ) (ls : List Observation) (a b a′ b′ : List ℤ) : Type 0 where
@@ -54,7 +55,7 @@ module _ (n : ℕ) (ls : List Observation) (layout : Layout) (a b : List ℤ) {r
     pub new-matrix : a′ ≡ matrixWritten layout n (builtMatrix ls) a
     new-matrix = built .matrix ∙ accepted-new (matrixWritten layout n (builtMatrix ls) a) a silent
 
-    pub new-right : b′ ≡ rightWritten n (builtRight ls) b
+    new-right : b′ ≡ rightWritten n (builtRight ls) b
     new-right = built .right ∙ accepted-new (rightWritten n (builtRight ls) b) b silent
 
     pub fitting : Admitted n (length ls) (shortFor layout a b) × Fits n ls
@@ -65,13 +66,10 @@ module _ (n : ℕ) (ls : List Observation) (layout : Layout) (a b : List ℤ) {r
 
     pub right-held : (i : ℕ) → i < n → at b′ i ≡ builtRight ls i
     right-held i p =
-        let e : 0 + i ≡ i = omega arith in
-        ap (λ (l : List ℤ). at l i) new-right
-        ∙ subst (λ (k : ℕ). at (rightWritten n (builtRight ls) b) k ≡ builtRight ls i) e
-        (written-at 0 (builtRight ls) b n (omega (arith, few-rows, long-right layout a b (fitting .0 .long))) i p)
+        ap (λ (l : List ℤ). at l i) new-right ∙ front-at b (builtRight ls) (pos 0) n i p (omega (arith, few-rows, long-right layout a b (fitting .0 .long)))
 
     pub right-rest : (p : ℕ) → n ≤ p → at b′ p ≡ at b p
-    right-rest p h = ap (λ (l : List ℤ). at l p) new-right ∙ written-else 0 (builtRight ls) b n p (λ j m e. omega (arith, e))
+    right-rest p h = ap (λ (l : List ℤ). at l p) new-right ∙ front-else b (builtRight ls) (pos 0) n p h
 
     pub right-in-check-range : allInRange kind.Right n (at b′) ≡ true
     right-in-check-range =
@@ -110,5 +108,5 @@ repeated-built n l xs ys layout a b f done i few g =
     let again = g .says ∙ same .builds in (
       again,
       new-matrix n (xs ++ l ∷ ys) layout a b g again ∙ rows-ext (widthOf layout n) n (builtMatrix (xs ++ l ∷ ys)) (builtMatrix (xs ++ ys)) a (same .matrix) ∙ sym (new-matrix n (xs ++ ys) layout a b f done),
-      new-right n (xs ++ l ∷ ys) layout a b g again ∙ written-ext 0 n (builtRight (xs ++ l ∷ ys)) (builtRight (xs ++ ys)) b (λ j m. same .right j) ∙ sym (new-right n (xs ++ ys) layout a b f done),
+      new-right n (xs ++ l ∷ ys) layout a b g again ∙ written-ext b 0 1 (builtRight (xs ++ l ∷ ys)) (builtRight (xs ++ ys)) n (λ j m. same .right j) ∙ sym (new-right n (xs ++ ys) layout a b f done),
     )

@@ -14,6 +14,7 @@ use Rattle.integer.proofs.Search.{first-ext}
 use Rattle.linear.specs.Matrix.{Vec, Mat, column, identity}
 use Rattle.linear.specs.Slice.{at, vectorOf, matrixOf}
 use Rattle.linear.proofs.Places.{place, square}
+use Rattle.linear.proofs.Written.{front-at}
 use Rattle.rules.specs.declared.Kind.the-variants as kind
 use Rattle.rules.proofs.AllInRange.{all-ext}
 use Rattle.enclosure.specs.Problem.{Problem, columnOf}
@@ -27,7 +28,7 @@ use Rattle.checked.proofs.Contract.{answer-range, answer-ready}
 use Rattle.checked.proofs.Fit.{fit-of}
 use Rattle.checked.proofs.Lengths.{Long, long-of}
 use Rattle.checked.proofs.Statements.{accepted-usable}
-use Rattle.checked.proofs.Written.{written-at, solution-written, inverse-written}
+use Rattle.checked.proofs.Written.{solution-written, inverse-written}
 
 -- ---- problems of the same n, s and t
 module _ (n s t : ℕ) (A A′ : Mat) (b b′ : Vec) (d d′ : ℕ → ℕ) (X X′ : Vec) (G G′ : Mat) (w w′ : ℕ → ℕ) (hA : (i j : ℕ) → i < n → j < n → A i j ≡ A′ i j)
@@ -149,9 +150,9 @@ module _ (I J : Input) (a : Agree I J) where
         here : getD (solutionBoundsAfter I) i 0 ≡ getD (solutionBoundsAfter K) i 0
         here =
             rw (solution-written I e, solution-written K (ap answer K-is ∙ sym same-answer ∙ e))
-            (written-at (I .n) (bound (problem I)) (I .solutionBounds) i l (omega (arith, few, long-of I (a .long) .solution))
+            (front-at (I .solutionBounds) (bound (problem I)) 0 (I .n) i l (omega (arith, few, long-of I (a .long) .solution))
             ∙ solution-here I (J .matrix) (J .right) (J .tolerance) (J .guess) (J .inverse) (J .weights) (J .solutionBounds) (J .inverseBounds) (a .matrix) (a .right) (a .tolerance) (a .guess) (a .inverse) (a .weights) i l
-            ∙ sym (written-at (I .n) (bound (problem K)) (J .solutionBounds) i l (omega (arith, few, long .solution))))
+            ∙ sym (front-at (J .solutionBounds) (bound (problem K)) 0 (I .n) i l (omega (arith, few, long .solution))))
 
     pub same-inverse : (k : ℕ) → k < I .n * I .n → getD (inverseBoundsAfter I) k 0 ≡ getD (inverseBoundsAfter J) k 0
     same-inverse k l = here ∙ ap (λ (X : Input). getD (inverseBoundsAfter X) k 0) K-is
@@ -159,7 +160,7 @@ module _ (I J : Input) (a : Agree I J) where
         here : getD (inverseBoundsAfter I) k 0 ≡ getD (inverseBoundsAfter K) k 0
         here =
             rw (inverse-written I e, inverse-written K (ap answer K-is ∙ sym same-answer ∙ e))
-            (written-at (I .n * I .n) (λ (x : ℕ). inverseBound (problem I) (x / I .n) (x % I .n)) (I .inverseBounds) k l (omega (arith, square few, long-of I (a .long) .inverses))
+            (front-at (I .inverseBounds) (λ (x : ℕ). inverseBound (problem I) (x / I .n) (x % I .n)) 0 (I .n * I .n) k l (omega (arith, square few, long-of I (a .long) .inverses))
             ∙ inverse-here I (J .matrix) (J .right) (J .tolerance) (J .guess) (J .inverse) (J .weights) (J .solutionBounds) (J .inverseBounds) (a .matrix) (a .right) (a .tolerance) (a .guess) (a .inverse) (a .weights)
             (k / I .n) (k % I .n) (div-lt-iff-lt-mul some .1 l) (mod-lt k some)
-            ∙ sym (written-at (I .n * I .n) (λ (x : ℕ). inverseBound (problem K) (x / I .n) (x % I .n)) (J .inverseBounds) k l (omega (arith, square few, long .inverses))))
+            ∙ sym (front-at (J .inverseBounds) (λ (x : ℕ). inverseBound (problem K) (x / I .n) (x % I .n)) 0 (I .n * I .n) k l (omega (arith, square few, long .inverses))))

@@ -3,7 +3,7 @@
 --   no-tolerance   — of a check on lists
 use mathlib.Core.Path.{_≡_, refl}
 use mathlib.Core.Bool.{true}
-use Prim.Native.Nat.{ℕ, _+_, _*_, _/_, _%_, _≤_}
+use Prim.Native.Nat.{ℕ, _*_, _/_, _%_, _≤_}
 use native.Mathlib.Omega.{arith}
 use borrow.Author.Tests.{le-ltb}
 use lib.IntN.{pos}
@@ -11,6 +11,7 @@ use lib.ListN.{length}
 use Rattle.integer.proofs.Absolute.{abs-zero}
 use Rattle.integer.proofs.Search.{first-ext}
 use Rattle.linear.specs.Slice.{at}
+use Rattle.linear.proofs.Written.{written-ext}
 use Rattle.rules.specs.Range.{inRange, allInRange, rangeOf, ranges}
 use Rattle.rules.specs.declared.Kind.the-variants as kind
 use Rattle.rules.proofs.AllInRange.{all-in}
@@ -21,7 +22,6 @@ use Rattle.enclosure.specs.Reckoning.{residual, bound, inverseBound}
 use Rattle.enclosure.proofs.Before.{exceeds-before, column-exceeds-before, bound-before, inverse-bound-before}
 use Rattle.checked.specs.Before.{firstResidual05, firstInversePlace05, checkedOf05, answer05, solutionAfter05, inverseAfter05, short01, inRanges01, firstResidual01, firstInversePlace01, checkedOf01, answer01, solutionAfter01, inverseAfter01, Unmoved}
 use Rattle.checked.specs.Input.{Input, problem, short, inRanges}
-use Rattle.checked.proofs.Written.{written-ext}
 
 module _ (P : Problem) where
   place-before : firstInversePlace05 P ≡ firstInversePlace01 P
@@ -59,10 +59,10 @@ module _ (I : Input) (long : 32 ≤ length (I .tolerance)) (none : NoTolerance (
   unfolding solutionAfter05 solutionAfter01 inverseAfter05 inverseAfter01
   no-tolerance = record {
     says = answer-before;
-    solution = rw (answer-before, written-ext (I .n) (bound (problem I)) (bound01 (problem I)) (I .solutionBounds) (λ k l. bound-before (problem I) none k));
+    solution = rw (answer-before, written-ext (I .solutionBounds) 0 1 (bound (problem I)) (bound01 (problem I)) (I .n) (λ k l. bound-before (problem I) none k));
     inverse = rw (
       answer-before,
-      written-ext (I .n * I .n) (λ (k : ℕ). inverseBound (problem I) (k / I .n) (k % I .n)) (λ (k : ℕ). inverseBound01 (problem I) (k / I .n) (k % I .n)) (I .inverseBounds)
+      written-ext (I .inverseBounds) 0 1 (λ (k : ℕ). inverseBound (problem I) (k / I .n) (k % I .n)) (λ (k : ℕ). inverseBound01 (problem I) (k / I .n) (k % I .n)) (I .n * I .n)
           (λ k l. inverse-bound-before (problem I) (k / I .n) (k % I .n)),
     );
   }

@@ -12,8 +12,10 @@ use native.Mathlib.Omega.{arith}
 use borrow.Author.Tests.{le-ltb, ltb-false}
 use lib.Dec.{ltb}
 use lib.ListN.{getD}
+use Rattle.linear.specs.Written.{written}
 use Rattle.integer.proofs.Search.{first-past, first-never, clash}
 use Rattle.linear.proofs.Places.{place, square, place-column, place-row}
+use Rattle.linear.proofs.Written.{front-at}
 use Rattle.rules.specs.Order.{verdict}
 use Rattle.rules.specs.Refusal.{said}
 use Rattle.rules.specs.declared.Outcome.{Outcome}
@@ -27,10 +29,9 @@ use Rattle.enclosure.proofs.Acceptance.{rounded-sound}
 use Rattle.enclosure.proofs.Demands.{encloses, encloses-as}
 use Rattle.checked.specs.Input.{Input, problem, short, inRanges}
 use Rattle.checked.specs.Order.{firstMargin, firstResidual, firstInversePlace, reckoned, answer, checkedOf}
-use Rattle.checked.specs.Checked.{written, solutionAfter, inverseAfter, solutionBoundsAfter, inverseBoundsAfter, Checked}
+use Rattle.checked.specs.Checked.{solutionAfter, inverseAfter, solutionBoundsAfter, inverseBoundsAfter, Checked}
 use Rattle.checked.proofs.Fit.{fit-of}
 use Rattle.checked.proofs.Places.{no-place, none-placed}
-use Rattle.checked.proofs.Written.{written-at}
 
 module _ (I : Input) where
   pub answer-short : short I ≡ true → answer I ≡ 8 ∷ []
@@ -99,15 +100,15 @@ checked-range I e f = record {
 -- where the reckoning decides
 module _ (I : Input) (e : short I ≡ false) (f : inRanges I ≡ true) where
   -- limits that were written where every margin is above 0 enclose
-  pub written-encloses : {E L : List ℕ} → E ≡ written (I .n) (bound (problem I)) (I .solutionBounds) →
-      L ≡ written (I .n * I .n) (λ (k : ℕ). inverseBound (problem I) (k / I .n) (k % I .n)) (I .inverseBounds) → Margins (problem I) →
+  pub written-encloses : {E L : List ℕ} → E ≡ written (I .solutionBounds) 0 1 (bound (problem I)) (I .n) →
+      L ≡ written (I .inverseBounds) 0 1 (λ (k : ℕ). inverseBound (problem I) (k / I .n) (k % I .n)) (I .n * I .n) → Margins (problem I) →
       Encloses (problem I) (λ (i : ℕ). getD E i 0) (λ (i j : ℕ). getD L (i * I .n + j) 0)
   written-encloses {E} {L} eE eL margins =
       let fit = fit-of I e f in
       let P : Problem = problem I in
       encloses-as P (bound P) (λ (i : ℕ). getD E i 0) (inverseBound P) (λ (i j : ℕ). getD L (i * I .n + j) 0)
-      (λ i l. rw eE (written-at (I .n) (bound P) (I .solutionBounds) i l (omega (arith, fit .few, fit .solution-long))))
-      (λ i j li lj. rw eL (written-at (I .n * I .n) (λ (k : ℕ). inverseBound P (k / I .n) (k % I .n)) (I .inverseBounds) (i * I .n + j) (place li lj) (omega (arith, square (fit .few), fit .inverse-long))
+      (λ i l. rw eE (front-at (I .solutionBounds) (bound P) 0 (I .n) i l (omega (arith, fit .few, fit .solution-long))))
+      (λ i j li lj. rw eL (front-at (I .inverseBounds) (λ (k : ℕ). inverseBound P (k / I .n) (k % I .n)) 0 (I .n * I .n) (i * I .n + j) (place li lj) (omega (arith, square (fit .few), fit .inverse-long))
       ∙ rw (place-column i j (I .n) lj, place-row i j (I .n) lj)))
       (encloses P (fit .heavy) margins)
 

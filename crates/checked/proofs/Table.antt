@@ -9,13 +9,14 @@ use lib.Dec.{lit<}
 use Rattle.integer.specs.Finite.{sum, sumℕ, largest, first}
 use Rattle.integer.specs.Quotient.{ceilDiv}
 use Rattle.linear.specs.Matrix.{apply, product, identity}
+use Rattle.linear.specs.Written.{written}
 use Rattle.rules.specs.Range.{ranges, rangeOf, inRange, allInRange}
 use Rattle.enclosure.specs.Demand.{RoundedExact}
 use Rattle.enclosure.specs.Example as example
 use Rattle.enclosure.specs.Reckoning.{defect, load, margin, residual, rowSum, exceeds, sizesWith, boundFrom, boundWith, bound}
 use Rattle.enclosure.proofs.Instance.{file-rounded, file-sound}
 use Rattle.checked.specs.Cases.{rows, rowSumRows, limitRows, allLimitsHold, toleranceRows, allRowsHold, inputOf, e}
-use Rattle.checked.specs.Checked.{written, solutionBoundsAfter, inverseBoundsAfter}
+use Rattle.checked.specs.Checked.{solutionBoundsAfter, inverseBoundsAfter}
 use Rattle.checked.specs.Input.{Input, problem}
 use Rattle.checked.specs.Order.{answer}
 use Rattle.checked.specs.Stated.{Usable}

@@ -24,7 +24,7 @@ use Rattle.checked.specs.Before.{firstResidual05, firstInversePlace05, c
 use Rattle.checked.specs.Checked.{solutionBoundsAfter, inverseBoundsAfter}
 use Rattle.checked.specs.Input.{Input, problem, short, inRanges}
 use Rattle.checked.specs.Order.{firstMargin, firstResidual, firstInversePlace, reckoned, checkedOf, answer}
-use Rattle.checked.specs.Tightened.{above, RowsKept, PlacesKept, FirstRow, FirstPlace, at-row, at-place, Tightened}
+use Rattle.checked.specs.Tightened.{exceedsRowAt, RowsKept, PlacesKept, FirstRow, FirstPlace, at-row, at-place, Tightened}
 use Rattle.checked.specs.Tightened as change
 use Rattle.checked.proofs.Contract.{answer-short, answer-range, answer-ready, accepted-places, written-encloses}
 
@@ -123,7 +123,7 @@ module _ (I : Input) where
           pair (says-0 (I .n) m k i a b c) (says-0 (I .n) m k i a b c) (change.accepted-stays (λ x l. h x (omega arith)) (λ x l. p b x (omega arith)))
 
   at-columns : (m : ℕ) → I .n ≤ m → I .n ≤ firstResidual05 (problem I) → firstResidual (problem I) ≡ firstResidual05 (problem I) → RowsKept (problem I) (I .n) →
-      Split (I .n * I .n) large (above (problem I)) →
+      Split (I .n * I .n) large (exceedsRowAt (problem I)) →
       Tightened I (verdict (reckoned (I .n) m (firstResidual05 (problem I)) (firstInversePlace05 (problem I)))) (verdict (reckoned (I .n) m (firstResidual (problem I)) (firstInversePlace (problem I))))
   unfolding large exceeds
   at-columns m a b e h (stays f p) =
@@ -141,7 +141,7 @@ module _ (I : Input) where
     where
       go : Dec (I .n ≤ firstResidual05 (problem I)) →
           Tightened I (verdict (reckoned (I .n) m (firstResidual05 (problem I)) (firstInversePlace05 (problem I)))) (verdict (reckoned (I .n) m (firstResidual (problem I)) (firstInversePlace (problem I))))
-      go (yes b) = at-columns m a b e (λ x l. h x (omega arith)) (split (I .n * I .n) large (above (problem I)))
+      go (yes b) = at-columns m a b e (λ x l. h x (omega arith)) (split (I .n * I .n) large (exceedsRowAt (problem I)))
       go (no b) =
           pair (says-6 (I .n) m (firstResidual05 (problem I)) (firstInversePlace05 (problem I)) a (omega arith))
           (rw e (says-6 (I .n) m (firstResidual05 (problem I)) (firstInversePlace (problem I)) a (omega arith))) (change.row-stays (firstResidual05 (problem I)) h)

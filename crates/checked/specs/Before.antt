@@ -16,6 +16,7 @@ use Prim.Native.Nat.{ℕ, _*_, _/_, _%_}
 use lib.ListN.{length}
 use Rattle.integer.specs.Finite.{first}
 use Rattle.linear.specs.Slice.{at}
+use Rattle.linear.specs.Written.{written}
 use Rattle.rules.specs.Order.{Test, number, verdict, ifAccepted}
 use Rattle.rules.specs.Range.{allInRange, shortMatrix, shortColumn}
 use Rattle.rules.specs.declared.Kind.the-variants as kind
@@ -24,7 +25,7 @@ use Rattle.enclosure.specs.Problem.{Problem, columnOf}
 use Rattle.enclosure.specs.Reckoning.{residual}
 use Rattle.checked.specs.Input.{Input, problem, short, inRanges, sizesInRange}
 use Rattle.checked.specs.Order.{firstMargin, reckoned}
-use Rattle.checked.specs.Checked.{written, solutionAfter, inverseAfter}
+use Rattle.checked.specs.Checked.{solutionAfter, inverseAfter}
 
 abbrev pub firstResidual05 : Problem → ℕ
 firstResidual05 P = first (P .n) (exceeds05 P)
@@ -79,11 +80,11 @@ unfoldable pub answer01 : Input → List ℕ
 answer01 I = verdict (number 8 (short01 I) ∷ number 3 (not (inRanges01 I)) ∷ reckonedOf01 (problem I))
 
 unfoldable pub solutionAfter01 : Input → List ℕ
-solutionAfter01 I = ifAccepted (answer01 I) (written (I .n) (bound01 (problem I)) (I .solutionBounds)) (I .solutionBounds)
+solutionAfter01 I = ifAccepted (answer01 I) (written (I .solutionBounds) 0 1 (bound01 (problem I)) (I .n)) (I .solutionBounds)
 
 unfoldable pub inverseAfter01 : Input → List ℕ
 inverseAfter01 I =
-    ifAccepted (answer01 I) (written (I .n * I .n) (λ (k : ℕ). inverseBound01 (problem I) (k / I .n) (k % I .n)) (I .inverseBounds))
+    ifAccepted (answer01 I) (written (I .inverseBounds) 0 1 (λ (k : ℕ). inverseBound01 (problem I) (k / I .n) (k % I .n)) (I .n * I .n))
     (I .inverseBounds)
 
 pub record Unmoved (I : Input) : Type 0 where

@@ -1,5 +1,4 @@
 -- What a check on lists says and leaves.
---   written n f l — l with f 0, .., f (n − 1) at its first n places; the rest as before
 --   solutionAfter said I, inverseAfter said I — the limit lists where this is said: the limits of the reckoning where it is nothing, as
 --     before where it is a refusal
 --   solutionBoundsAfter, inverseBoundsAfter — the limit lists after a check
@@ -7,9 +6,10 @@
 use mathlib.Core.Bool.{true, false}
 use mathlib.Core.List.{List, []}
 use mathlib.Core.Path.{_≡_}
-use Prim.Native.Nat.{ℕ, zero, suc, _+_, _*_, _/_, _%_}
-use lib.ListN.{getD, set}
+use Prim.Native.Nat.{ℕ, _+_, _*_, _/_, _%_}
+use lib.ListN.{getD}
 use Rattle.linear.specs.Matrix.{Vec, Mat}
+use Rattle.linear.specs.Written.{written}
 use Rattle.rules.specs.Order.{ifAccepted}
 use Rattle.rules.specs.Refusal.{said}
 use Rattle.rules.specs.declared.Outcome.{Outcome}
@@ -18,16 +18,12 @@ use Rattle.enclosure.specs.Reckoning.{bound, inverseBound}
 use Rattle.checked.specs.Input.{Input, problem, short, inRanges}
 use Rattle.checked.specs.Order.{answer}
 
-unfoldable pub written : ℕ → (ℕ → ℕ) → List ℕ → List ℕ
-written zero f l = l
-written (suc n) f l = set (written n f l) n (f n)
-
 abbrev pub solutionAfter : List ℕ → Input → List ℕ
-solutionAfter said I = ifAccepted said (written (I .n) (bound (problem I)) (I .solutionBounds)) (I .solutionBounds)
+solutionAfter said I = ifAccepted said (written (I .solutionBounds) 0 1 (bound (problem I)) (I .n)) (I .solutionBounds)
 
 abbrev pub inverseAfter : List ℕ → Input → List ℕ
 inverseAfter said I =
-    ifAccepted said (written (I .n * I .n) (λ (k : ℕ). inverseBound (problem I) (k / I .n) (k % I .n)) (I .inverseBounds)) (I .inverseBounds)
+    ifAccepted said (written (I .inverseBounds) 0 1 (λ (k : ℕ). inverseBound (problem I) (k / I .n) (k % I .n)) (I .n * I .n)) (I .inverseBounds)
 
 unfoldable pub solutionBoundsAfter : Input → List ℕ
 solutionBoundsAfter I = solutionAfter (answer I) I

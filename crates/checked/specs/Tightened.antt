@@ -1,6 +1,6 @@
 -- What 02's Paper 9 changes in a check on lists, exactly, against the check before it (specs/Before). Rows and places count from 0 here, a place of the inverse
 -- being column · n + row, and from 1 in what is said.
---   above P i   — the residual of the inverse's column and row at the place i is above the sum along its row
+--   exceedsRowAt P i — the residual of the inverse's column and row at the place i is above the sum along its row
 --   RowsKept P k, PlacesKept P i — no residual of the guess in a row before k, none of the inverse at a place before i, is above that sum
 --   FirstRow P k, FirstPlace P i — row k, place i is the first where one is
 --   at-row k, at-place n i — 6 at row k, 7 at the place i
@@ -14,21 +14,21 @@ use Rattle.enclosure.specs.Problem.{Problem, columnOf}
 use Rattle.enclosure.specs.Reckoning.{exceedsRow}
 use Rattle.checked.specs.Input.{Input, problem}
 
-abbrev pub above : Problem → ℕ → Bool
-above P i = exceedsRow (columnOf P (i / P .n)) (i % P .n)
+abbrev pub exceedsRowAt : Problem → ℕ → Bool
+exceedsRowAt P i = exceedsRow (columnOf P (i / P .n)) (i % P .n)
 
 abbrev pub RowsKept : Problem → ℕ → Type 0
 RowsKept P k = (i : ℕ) → i < k → exceedsRow P i ≡ false
 
 abbrev pub PlacesKept : Problem → ℕ → Type 0
-PlacesKept P i = (k : ℕ) → k < i → above P k ≡ false
+PlacesKept P i = (k : ℕ) → k < i → exceedsRowAt P k ≡ false
 
 pub record FirstRow (P : Problem) (k : ℕ) : Type 0 where
   pub fails : exceedsRow P k ≡ true
   pub before : RowsKept P k
 
 pub record FirstPlace (P : Problem) (i : ℕ) : Type 0 where
-  pub fails : above P i ≡ true
+  pub fails : exceedsRowAt P i ≡ true
   pub before : PlacesKept P i
 
 abbrev pub at-row : ℕ → List ℕ

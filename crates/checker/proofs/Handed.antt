@@ -6,7 +6,7 @@
 use mathlib.Core.Path.{_≡_, refl, sym, ap, ap₂, _∙_}
 use mathlib.Core.Bool.{true, false}
 use mathlib.Core.List.{List}
-use Prim.Native.Nat.{ℕ, _+_, _≤_, _<_, _^_}
+use Prim.Native.Nat.{ℕ, _+_, _<_, _^_}
 use native.Mathlib.Omega.{arith}
 use borrow.Author.Tests.{ltb-false}
 use lib.Dec.{ltb}
@@ -14,7 +14,9 @@ use lib.IntN.{ℤ, pos, natAbs, _*ℤ_}
 use lib.ListN.{getD, length, replicate, getD-replicate}
 use Rattle.integer.proofs.Search.{first-ext}
 use Rattle.linear.specs.Slice.{at}
+use Rattle.linear.specs.Written.{written}
 use Rattle.linear.proofs.Slack.{slack-ext}
+use Rattle.linear.proofs.Written.{written-ext}
 use Rattle.rules.proofs.Ranges.{neither-left}
 use Rattle.rules.specs.declared.Outcome.{Outcome}
 use Rattle.enclosure.specs.Reckoning.{margin, load, defect, residual, slack, allowedResidual, rowSum, exceeds, sizesWith, boundWith, bound}
@@ -25,12 +27,11 @@ use Rattle.reckoning.proofs.Sizes.{scaled-size}
 use Rattle.row_sums.specs.Sum.{rowSumOf}
 use Rattle.slacks.specs.Allowed.{slackAt, allowedBeside}
 use Rattle.slacks.proofs.Allowed.{allowed-size, allowed-test}
-use Rattle.checked.specs.Checked.{Checked, written}
+use Rattle.checked.specs.Checked.{Checked}
 use Rattle.checked.specs.Input.{Input, problem, short, inRanges}
 use Rattle.checked.specs.Order.{checkedOf}
 use Rattle.checked.proofs.Contract.{checked-ready}
 use Rattle.checked.proofs.Fit.{Fit, fit-of}
-use Rattle.checked.proofs.Written.{written-ext}
 use Rattle.checker.specs.Work.{Work, work, workProblem, workResidual, workSlack, workAnswer, Workable, ReckonedAs}
 
 abbrev pub workOf : Input → List ℤ → List ℤ → List ℤ → List ℕ → Work
@@ -107,8 +108,8 @@ module _ (I : Input) {base allowed columns : List ℤ} {slacks sums : List ℕ} 
       (λ m l. slack-ext (I .n) (problem I .G) (problem I .G) (workResidual W) (residual (problem I)) (workSlack W) (slack (problem I)) m (λ j lj. refl) residual-is (h .slacks .each))
       (λ m l. refl)
 
-  solution-is : written (I .n) (boundWith (workProblem W) (workResidual W) (workSlack W)) (I .solutionBounds) ≡ written (I .n) (bound (problem I)) (I .solutionBounds)
-  solution-is = written-ext (I .n) (boundWith (workProblem W) (workResidual W) (workSlack W)) (bound (problem I)) (I .solutionBounds) (λ i l. bound-is i)
+  solution-is : written (I .solutionBounds) 0 1 (boundWith (workProblem W) (workResidual W) (workSlack W)) (I .n) ≡ written (I .solutionBounds) 0 1 (bound (problem I)) (I .n)
+  solution-is = written-ext (I .solutionBounds) 0 1 (boundWith (workProblem W) (workResidual W) (workSlack W)) (bound (problem I)) (I .n) (λ i l. bound-is i)
 
   pub reckoned-checked : {r : Outcome} {E L : List ℕ} → ReckonedAs W r E L → Checked I r E L
   reckoned-checked {r} {E} {L} x =

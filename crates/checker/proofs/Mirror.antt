@@ -15,7 +15,7 @@ use Rattle.reckoning.specs.Arrays.{Begins}
 use Rattle.reckoning.specs.Parts.{columnResidual}
 use Rattle.symmetry.specs.Symmetric.{Symmetric}
 use Rattle.symmetry.proofs.Mirror.{matrix-mirror, residual-mirror}
-use Rattle.bounds.specs.Mirrored.{MirroredProduct}
+use Rattle.inverse_bounds.specs.Mirrored.{MirroredProduct}
 use Rattle.checker.specs.Work.{Work}
 use Rattle.checker.proofs.Rows.{workColumn}
 

@@ -13,6 +13,8 @@ use lib.ListN.{getD, length}
 use Rattle.integer.specs.Finite.{first}
 use Rattle.linear.specs.Slice.{at}
 use Rattle.linear.specs.Reach.{ColumnList}
+use Rattle.linear.specs.Written.{written}
+use Rattle.linear.proofs.Written.{written-ext}
 use Rattle.linear.proofs.Places.{square}
 use Rattle.raised_rows.specs.Place.{RowsOfMatrix}
 use Rattle.rules.specs.Order.{verdict}
@@ -22,7 +24,7 @@ use Rattle.rules.specs.declared.Outcome.the-variants.{Accepted, Refused}
 use Rattle.rules.specs.declared.Refusal.{Refusal}
 use Rattle.rules.proofs.Verdicts.{accepted-new, accepted-old}
 use Rattle.enclosure.specs.Reckoning.{allowedResidual, boundWith, inverseBound}
-use Rattle.reckoning.specs.Arrays.{Begins, stored, storedColumns}
+use Rattle.reckoning.specs.Arrays.{Begins, columnsWritten}
 use Rattle.reckoning.specs.Parts.{cutMargin, aboveAllowed}
 use Rattle.bounds.specs.Limits.{Near, limitsOf}
 use Rattle.ratios.specs.Ratio.{Positive}
@@ -32,7 +34,7 @@ use Rattle.checker.specs.Work.{Work, workProblem, workResidual, workSlac
 use Rattle.checker.proofs.Rows.{workColumn}
 use Rattle.checker.proofs.Limits.{solution-limit, inverse-limit}
 use Rattle.checker.proofs.Places.{first-margin, first-residual, first-column, positive, near, near-columns}
-use Rattle.checker.proofs.Written.{written-stored, written-columns}
+use Rattle.checker.proofs.Written.{written-columns}
 
 -- a weight whose margin is above 0 is above 0
 weighed : (x w c : ℕ) → 0 < x * w - c → 0 < w
@@ -85,15 +87,15 @@ module _ (W : Work) (ready : Workable W) {rows margins : List ℕ} {residuals co
     columns-here long = near-columns W ready columns (a .hc) long (omega (arith, none .column, a .ei))
 
     pub accepted-here : {column E L : List ℕ} → Begins 0 column (W .n) (limitsOf (W .n) rows (at residuals) (workSlack W) margins (W .weights)) →
-        E ≡ stored (W .solutionBounds) 0 1 (λ (x : ℕ). getD column x 0) (W .n) →
-        L ≡ storedColumns (W .inverseBounds) (W .n) (λ (b c : ℕ). limitsOf (W .n) rows (λ (x : ℕ). at columns (c * W .n + x)) (λ (x : ℕ). 0) margins (W .weights) b) (W .n) →
+        E ≡ written (W .solutionBounds) 0 1 (λ (x : ℕ). getD column x 0) (W .n) →
+        L ≡ columnsWritten (W .inverseBounds) (W .n) (λ (b c : ℕ). limitsOf (W .n) rows (λ (x : ℕ). at columns (c * W .n + x)) (λ (x : ℕ). 0) margins (W .weights) b) (W .n) →
         ReckonedAs W Accepted E L
     accepted-here {column} {E} {L} h eE eL =
         let s : [] ≡ workAnswer W = ap said (sym e) ∙ said-is in
         record {
           says = s;
           solution-bounds = eE
-              ∙ written-stored (W .n) (λ (x : ℕ). getD column x 0) (boundWith (workProblem W) (workResidual W) (workSlack W)) (W .solutionBounds)
+              ∙ written-ext (W .solutionBounds) 0 1 (λ (x : ℕ). getD column x 0) (boundWith (workProblem W) (workResidual W) (workSlack W)) (W .n)
               (λ x l. h .each x l ∙ solution-limit W (a .raised) margins (a .hm) positive-here residuals (a .hr) x)
               ∙ sym (accepted-new _ _ (sym s));
           inverse-bounds = eL

@@ -26,7 +26,7 @@ use Rattle.bounds.specs.Limits.{inversePart}
 use Rattle.checker.specs.Work.{Work, workProblem}
 
 module _ (n : ℕ) (inverse : List ℤ) {rows : List ℕ} (h : RowsOfMatrix rows n inverse) where
-  pub stands-for : (i k : ℕ) → i < n → k < n → loweredRows rows n i k ≡ matrixOf inverse n i k
+  stands-for : (i k : ℕ) → i < n → k < n → loweredRows rows n i k ≡ matrixOf inverse n i k
   stands-for = h .stands
 
   pub inverse-rows : MatrixList inverse n → InverseRows rows n
@@ -45,11 +45,11 @@ margins-are W h = h
 
 module _ (W : Work) {rows : List ℕ} (h : RowsOfMatrix rows (W .n) (W .inverse)) where
   pub columns-are : {columns : List ℤ} →
-      Begins (pos 0) columns (W .n * W .n) (λ (i : ℕ). residual (columnOf (rowsPart (W .n) (W .t) (W .matrix) rows []) (i / W .n)) (i % W .n)) →
+      Begins (pos 0) columns (W .n * W .n) (λ (i : ℕ). residual (columnOf (rowsPart (W .n) (W .t) (W .matrix) rows) (i / W .n)) (i % W .n)) →
       Begins (pos 0) columns (W .n * W .n) (workColumn W)
   columns-are =
-      begins-as (pos 0) (λ (i : ℕ). residual (columnOf (rowsPart (W .n) (W .t) (W .matrix) rows []) (i / W .n)) (i % W .n)) (workColumn W)
-      (λ i l. residual-of-rows (W .n) (W .t) (W .matrix) [] h (i / W .n) (i % W .n) (in-square (W .n) i l .0) (in-square (W .n) i l .1))
+      begins-as (pos 0) (λ (i : ℕ). residual (columnOf (rowsPart (W .n) (W .t) (W .matrix) rows) (i / W .n)) (i % W .n)) (workColumn W)
+      (λ i l. residual-of-rows (W .n) (W .t) (W .matrix) h (i / W .n) (i % W .n) (in-square (W .n) i l .0) (in-square (W .n) i l .1))
 
   pub sizes-are : (r r′ : Vec) (σ σ′ : ℕ → ℕ) (m : ℕ) → m < W .n → ((k : ℕ) → k < W .n → r k ≡ r′ k) → ((k : ℕ) → k < W .n → σ k ≡ σ′ k) →
       sizesWith (inversePart (W .n) rows) r σ m ≡ sizesWith (workProblem W) r′ σ′ m

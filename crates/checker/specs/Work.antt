@@ -19,6 +19,7 @@ use Rattle.integer.specs.Finite.{first}
 use Rattle.linear.specs.Matrix.{Vec}
 use Rattle.linear.specs.Slice.{at}
 use Rattle.linear.specs.Reach.{ColumnList, MatrixList}
+use Rattle.linear.specs.Written.{written}
 use Rattle.rules.specs.Order.{verdict, ifAccepted}
 use Rattle.rules.specs.Refusal.{said}
 use Rattle.rules.specs.declared.Outcome.{Outcome}
@@ -26,7 +27,6 @@ use Rattle.enclosure.specs.Problem.{Problem, problemOf}
 use Rattle.enclosure.specs.Reckoning.{allowedResidual, rowSum, boundWith, inverseBound}
 use Rattle.reckoning.specs.Parts.{residualFrom, aboveAllowed}
 use Rattle.slacks.specs.Allowed.{allowedBeside}
-use Rattle.checked.specs.Checked.{written}
 use Rattle.checked.specs.Order.{firstMargin, firstInversePlace, reckoned}
 
 pub record Work : Type 0 where
@@ -91,13 +91,13 @@ pub record Workable (W : Work) : Type 0 where
 
 abbrev pub solutionOf : Work → List ℕ
 solutionOf W =
-    ifAccepted (workAnswer W) (written (W .n) (boundWith (workProblem W) (workResidual W) (workSlack W)) (W .solutionBounds))
+    ifAccepted (workAnswer W) (written (W .solutionBounds) 0 1 (boundWith (workProblem W) (workResidual W) (workSlack W)) (W .n))
     (W .solutionBounds)
 
 abbrev pub inverseOf : Work → List ℕ
 inverseOf W =
     ifAccepted (workAnswer W)
-    (written (W .n * W .n) (λ (k : ℕ). inverseBound (workProblem W) (k / W .n) (k % W .n)) (W .inverseBounds)) (W .inverseBounds)
+    (written (W .inverseBounds) 0 1 (λ (k : ℕ). inverseBound (workProblem W) (k / W .n) (k % W .n)) (W .n * W .n)) (W .inverseBounds)
 
 pub record ReckonedAs (W : Work) (r : Outcome) (E L : List ℕ) : Type 0 where
   pub says : said r ≡ workAnswer W

@@ -12,12 +12,12 @@ use lib.IntN.{pos, _*ℤ_}
 use Rattle.integer.specs.Finite.{sum, sumℕ, largest, first}
 use Rattle.integer.specs.Quotient.{ceilDiv}
 use Rattle.linear.specs.Matrix.{apply, product, identity}
+use Rattle.linear.specs.Written.{written}
 use Rattle.rules.specs.Range.{ranges, rangeOf, inRange, allInRange}
 use Rattle.enclosure.specs.Demand.{ExactSolution, ExactSolutionOf, RightSide}
 use Rattle.enclosure.specs.Example as example
 use Rattle.enclosure.specs.Reckoning.{defect, load, margin, residual, rowSum, exceeds, sizesWith, boundFrom, boundWith, bound}
 use Rattle.enclosure.proofs.Instance.{file-rounded}
-use Rattle.reckoning.specs.Arrays.{stored}
 use Rattle.checked.specs.Cases.{inputOf}
 use Rattle.checked.specs.Input.{Input, problem}
 use Rattle.checked.specs.Order.{answer}
@@ -29,7 +29,7 @@ use Rattle.common.proofs.Contains.{contains}
 use Rattle.common.proofs.Statements.{found-case}
 
 pub common-hold : allCommonHold commonRows ≡ true
-unfolding sum sumℕ largest first ceilDiv apply product identity ranges rangeOf inRange allInRange defect load margin residual rowSum exceeds sizesWith boundFrom boundWith bound stored answer allSame lowEnd highEnd commonAnswer lowAfter highAfter
+unfolding sum sumℕ largest first ceilDiv apply product identity ranges rangeOf inRange allInRange defect load margin residual rowSum exceeds sizesWith boundFrom boundWith bound written answer allSame lowEnd highEnd commonAnswer lowAfter highAfter
 common-hold = refl
 
 -- ---- two proposals for one net

@@ -1,18 +1,20 @@
 -- The contract of the call on two proposals, case by case.
 --   answer-short, answer-first, answer-second, answer-different, answer-wide, answer-found — what is said
---   ends-at, ends-else — what a list that the ends are written to holds at its first n places and at every other;  long-low, long-high — the interval lists have room for them
+--   long-low, long-high — the interval lists have room for the ends
 --   rest-kept — past the first n places both lists are as before, whatever is said
 --   common-short, common-first, common-second, common-different, common-wide, common-found — the contract where 8 is said, where a refusal of the first or of
 --     the second proposal is, where 20 is, where 21 is, and where the intervals are found
 use mathlib.Core.Path.{_≡_, refl, sym, ap, _∙_}
 use mathlib.Core.Bool.{true, false, _||_}
 use mathlib.Core.List.{List, [], _∷_}
-use Prim.Native.Nat.{ℕ, _+_, _*_, _≤_, _<_}
+use Prim.Native.Nat.{ℕ, _≤_}
 use native.Mathlib.Omega.{arith}
 use borrow.Author.Tests.{ltb-false}
 use lib.IntN.{ℤ, pos}
 use lib.ListN.{length}
 use Rattle.linear.specs.Slice.{at}
+use Rattle.linear.specs.Written.{written}
+use Rattle.linear.proofs.Written.{front-at, front-else}
 use Rattle.rules.specs.Order.{ifAccepted}
 use Rattle.rules.specs.Range.{shortColumn}
 use Rattle.rules.specs.Refusal.{said}
@@ -20,8 +22,6 @@ use Rattle.rules.specs.declared.Outcome.the-variants.{Refused}
 use Rattle.rules.specs.declared.Refusal.{Refusal}
 use Rattle.rules.proofs.Ranges.{neither-left, neither-right}
 use Rattle.rules.proofs.Verdicts.{accepted-new, accepted-old, nothing-is-not}
-use Rattle.reckoning.specs.Arrays.{stored}
-use Rattle.reckoning.proofs.Filled.{stored-at, stored-else}
 use Rattle.checked.specs.Order.{answer}
 use Rattle.checked.proofs.Fit.{fit-of}
 use Rattle.checked.proofs.Statements.{accepted-usable}
@@ -63,15 +63,7 @@ module _ (Q : Proposals) where
           unfolding commonAnswer
           answer-found w = rw (e, a, b, s, w)
 
--- ---- a list with the ends of n intervals
-pub ends-at : (xs : List ℤ) (f : ℕ → ℤ) (n : ℕ) → n ≤ length xs → (i : ℕ) → i < n → at (stored xs 0 1 f n) i ≡ f i
-ends-at xs f n long i l =
-    let e : 0 + i * 1 ≡ i = omega arith in
-    rw e at (stored-at xs 0 1 f (pos 0) n i (omega arith) l (λ j lj. omega arith))
-
-pub ends-else : (xs : List ℤ) (f : ℕ → ℤ) (n k : ℕ) → n ≤ k → at (stored xs 0 1 f n) k ≡ at xs k
-ends-else xs f n k h = stored-else xs 0 1 f (pos 0) n k (λ i l e. omega arith)
-
+-- ---- room for the ends of n intervals
 module _ (Q : Proposals) (e : shortIntervals Q ≡ false) (a : answer (Q .first) ≡ []) where
   few : Q .first .n ≤ 32
   few = let u = accepted-usable (Q .first) a in fit-of (Q .first) (u .long) (u .inside) .few
@@ -115,8 +107,8 @@ module _ (Q : Proposals) where
           abbrev n : ℕ
           n = Q .first .n
 
-          pub common-found : (tooWide (Q .first) || tooWide (Q .second)) ≡ false → {low high : List ℤ} → low ≡ stored (Q .low) 0 1 (lowEnd (Q .first) (Q .second)) n →
-              high ≡ stored (Q .high) 0 1 (highEnd (Q .first) (Q .second)) n → CommonAs Q Found low high
+          pub common-found : (tooWide (Q .first) || tooWide (Q .second)) ≡ false → {low high : List ℤ} → low ≡ written (Q .low) 0 1 (lowEnd (Q .first) (Q .second)) n →
+              high ≡ written (Q .high) 0 1 (highEnd (Q .first) (Q .second)) n → CommonAs Q Found low high
           unfolding lowAfter highAfter
           common-found w {low} {high} l h =
               let f : commonAnswer Q ≡ [] = answer-found Q e a b s w in
@@ -125,14 +117,14 @@ module _ (Q : Proposals) where
                 low-is = l ∙ sym (accepted-new _ _ f);
                 high-is = h ∙ sym (accepted-new _ _ f);
                 contains = λ z. contains-as (Q .first) (Q .second) (lowEnd (Q .first) (Q .second)) (at low) (highEnd (Q .first) (Q .second)) (at high)
-                    (λ i li. rw l (ends-at (Q .low) (lowEnd (Q .first) (Q .second)) n (long-low Q e a) i li))
-                    (λ i li. rw h (ends-at (Q .high) (highEnd (Q .first) (Q .second)) n (long-high Q e a) i li))
+                    (λ i li. rw l (front-at (Q .low) (lowEnd (Q .first) (Q .second)) (pos 0) n i li (long-low Q e a)))
+                    (λ i li. rw h (front-at (Q .high) (highEnd (Q .first) (Q .second)) (pos 0) n i li (long-high Q e a)))
                     (contains (Q .first) (Q .second) a b (same-of (Q .first) (Q .second) s));
               }
 
 -- ---- past the first n places
-kept : (w : List ℕ) (xs : List ℤ) (f : ℕ → ℤ) (n k : ℕ) → n ≤ k → at (ifAccepted w (stored xs 0 1 f n) xs) k ≡ at xs k
-kept [] xs f n k h = ends-else xs f n k h
+kept : (w : List ℕ) (xs : List ℤ) (f : ℕ → ℤ) (n k : ℕ) → n ≤ k → at (ifAccepted w (written xs 0 1 f n) xs) k ≡ at xs k
+kept [] xs f n k h = front-else xs f (pos 0) n k h
 kept (x ∷ w) xs f n k h = refl
 
 pub rest-kept : (Q : Proposals) (r : Common) (low high : List ℤ) → CommonAs Q r low high → (k : ℕ) → Q .first .n ≤ k → (at low k ≡ at (Q .low) k) × (at high k ≡ at (Q .high) k)

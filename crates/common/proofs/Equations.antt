@@ -25,13 +25,13 @@ use Rattle.common.specs.Proposals.{allSame, sameEquations}
 use Rattle.common.specs.Stated.{SameEquations}
 
 -- ---- the test
-pub all-same : (n : ℕ) (f g : ℕ → ℤ) → allSame n f g ≡ true → (k : ℕ) → k < n → f k ≡ g k
+all-same : (n : ℕ) (f g : ℕ → ℤ) → allSame n f g ≡ true → (k : ℕ) → k < n → f k ≡ g k
 unfolding allSame
 all-same zero f g e k l = absurd (omega arith)
 all-same (suc n) f g e k l =
     upto (λ (j : ℕ). f j ≡ g j) n k l (all-same n f g (both-right (sameNumber (f n) (g n)) _ e)) (same-number (f n) (g n) (both-left _ _ e))
 
-pub same-all : (n : ℕ) (f g : ℕ → ℤ) → ((k : ℕ) → k < n → f k ≡ g k) → allSame n f g ≡ true
+same-all : (n : ℕ) (f g : ℕ → ℤ) → ((k : ℕ) → k < n → f k ≡ g k) → allSame n f g ≡ true
 unfolding allSame
 same-all zero f g h = refl
 same-all (suc n) f g h =

@@ -7,15 +7,15 @@
 use mathlib.Core.Path.{_≡_, refl, sym, ap, subst, _∙_}
 use mathlib.Core.Bool.{false}
 use mathlib.Core.List.{List, [], _∷_}
-use Prim.Native.Nat.{ℕ, _+_, _*_, _-_, _^_}
+use Prim.Native.Nat.{ℕ, _-_, _^_}
 use native.Mathlib.Omega.{arith}
 use lib.IntN.{ℤ, pos, _+ℤ_, _-ℤ_, _*ℤ_}
 use Rattle.integer.proofs.Ring.{one-*}
 use Rattle.linear.specs.Slice.{at}
+use Rattle.linear.specs.Written.{written}
+use Rattle.linear.proofs.Written.{written-ext, front-at}
 use Rattle.rules.proofs.Verdicts.{accepted-new}
 use Rattle.rules.specs.Order.{ifAccepted}
-use Rattle.reckoning.specs.Arrays.{stored}
-use Rattle.reckoning.proofs.Filled.{stored-ext}
 use Rattle.enclosure.specs.Reckoning.{bound}
 use Rattle.checked.specs.Input.{Input, problem}
 use Rattle.checked.specs.Order.{answer}
@@ -29,7 +29,7 @@ use Rattle.common.specs.Stated.{SameEquations, NoneWide, BothAccepted, C
 use Rattle.common.specs.Promised.{exchanged, Exchanged, of-neither, first-alone, second-alone, both, OwnEnds}
 use Rattle.common.specs.Promised as promised
 use Rattle.common.proofs.Equations.{exchanged-same}
-use Rattle.common.proofs.Contract.{answer-short, answer-first, answer-second, ends-at, long-low, long-high}
+use Rattle.common.proofs.Contract.{answer-short, answer-first, answer-second, long-low, long-high}
 use Rattle.common.proofs.Order.{max-comm, min-comm, max-self, min-self}
 use Rattle.common.proofs.Statements.{stated, said-of, found-case}
 
@@ -37,11 +37,11 @@ use Rattle.common.proofs.Statements.{stated, said-of, found-case}
 finer-exchanged : (I J : Input) → finer J I ≡ finer I J
 finer-exchanged I J = omega arith
 
-pub low-end-exchanged : (I J : Input) (i : ℕ) → lowEnd J I i ≡ lowEnd I J i
+low-end-exchanged : (I J : Input) (i : ℕ) → lowEnd J I i ≡ lowEnd I J i
 unfolding lowEnd
 low-end-exchanged I J i = max-comm (lowOf (finer J I) J i) (lowOf (finer J I) I i) ∙ ap (λ (s : ℕ). maxℤ (lowOf s I i) (lowOf s J i)) (finer-exchanged I J)
 
-pub high-end-exchanged : (I J : Input) (i : ℕ) → highEnd J I i ≡ highEnd I J i
+high-end-exchanged : (I J : Input) (i : ℕ) → highEnd J I i ≡ highEnd I J i
 unfolding highEnd
 high-end-exchanged I J i = min-comm (highOf (finer J I) J i) (highOf (finer J I) I i) ∙ ap (λ (s : ℕ). minℤ (highOf s I i) (highOf s J i)) (finer-exchanged I J)
 
@@ -92,21 +92,21 @@ module _ (Q : Proposals) where
   either-way old new new′ (both k k′ l l′ a b) e = refl
 
   module _ (f g : ℕ → ℤ) (xs : List ℤ) (h : (i : ℕ) → g i ≡ f i) where
-    stored-exchanged : commonAnswer Q ≡ [] → stored xs 0 1 g (Q .second .n) ≡ stored xs 0 1 f (Q .first .n)
-    stored-exchanged e =
-        stored-ext xs 0 1 g f (Q .second .n) (λ i l. h i) ∙ ap (stored xs 0 1 f) (sym (found-case Q e .same .n))
+    written-exchanged : commonAnswer Q ≡ [] → written xs 0 1 g (Q .second .n) ≡ written xs 0 1 f (Q .first .n)
+    written-exchanged e =
+        written-ext xs 0 1 g f (Q .second .n) (λ i l. h i) ∙ ap (written xs 0 1 f) (sym (found-case Q e .same .n))
 
   pub low-exchanged : lowAfter (exchanged Q) ≡ lowAfter Q
   unfolding lowAfter
   low-exchanged =
       either-way (Q .low) _ _ exchanged-said
-      (stored-exchanged (lowEnd (Q .first) (Q .second)) (lowEnd (Q .second) (Q .first)) (Q .low) (low-end-exchanged (Q .first) (Q .second)))
+      (written-exchanged (lowEnd (Q .first) (Q .second)) (lowEnd (Q .second) (Q .first)) (Q .low) (low-end-exchanged (Q .first) (Q .second)))
 
   pub high-exchanged : highAfter (exchanged Q) ≡ highAfter Q
   unfolding highAfter
   high-exchanged =
       either-way (Q .high) _ _ exchanged-said
-      (stored-exchanged (highEnd (Q .first) (Q .second)) (highEnd (Q .second) (Q .first)) (Q .high) (high-end-exchanged (Q .first) (Q .second)))
+      (written-exchanged (highEnd (Q .first) (Q .second)) (highEnd (Q .second) (Q .first)) (Q .high) (high-end-exchanged (Q .first) (Q .second)))
 
 pub calls-exchanged : (Q : Proposals) (r r′ : Common) (low high low′ high′ : List ℤ) → CommonAs Q r low high → CommonAs (exchanged Q) r′ low′ high′ →
     Exchanged Q (saidCommon r) (saidCommon r′) × ((low′ ≡ low) × (high′ ≡ high))
@@ -134,6 +134,6 @@ module _ (I : Input) (low high : List ℤ) where
       let s : commonAnswer twice ≡ [] = sym (x .says) ∙ z in
       let c = found-case twice s in
       record {
-        lower = λ i l. ap (λ (xs : List ℤ). at xs i) (x .low-is ∙ accepted-new _ _ s) ∙ ends-at low (lowEnd I I) (I .n) (long-low twice (c .long) (c .first)) i l ∙ own-low I i;
-        upper = λ i l. ap (λ (xs : List ℤ). at xs i) (x .high-is ∙ accepted-new _ _ s) ∙ ends-at high (highEnd I I) (I .n) (long-high twice (c .long) (c .first)) i l ∙ own-high I i;
+        lower = λ i l. ap (λ (xs : List ℤ). at xs i) (x .low-is ∙ accepted-new _ _ s) ∙ front-at low (lowEnd I I) (pos 0) (I .n) i l (long-low twice (c .long) (c .first)) ∙ own-low I i;
+        upper = λ i l. ap (λ (xs : List ℤ). at xs i) (x .high-is ∙ accepted-new _ _ s) ∙ front-at high (highEnd I I) (pos 0) (I .n) i l (long-high twice (c .long) (c .first)) ∙ own-high I i;
       }

@@ -48,14 +48,14 @@ module _ (x y : ℤ) where
       go true = p
       go false = q
 
-  pub max-above : (x ≤ℤ maxℤ x y) × (y ≤ℤ maxℤ x y)
+  max-above : (x ≤ℤ maxℤ x y) × (y ≤ℤ maxℤ x y)
   max-above = go (leZ x y) refl
     where
       go : (b : Bool) → leZ x y ≡ b → (x ≤ℤ cond b y x) × (y ≤ℤ cond b y x)
       go true e = (less x y e, ≤ℤ-refl y)
       go false e = (≤ℤ-refl x, more x y e)
 
-  pub min-below : (minℤ x y ≤ℤ x) × (minℤ x y ≤ℤ y)
+  min-below : (minℤ x y ≤ℤ x) × (minℤ x y ≤ℤ y)
   min-below = go (leZ x y) refl
     where
       go : (b : Bool) → leZ x y ≡ b → (cond b x y ≤ℤ x) × (cond b x y ≤ℤ y)

@@ -5,7 +5,7 @@
 use mathlib.Core.Path.{_≡_, refl, sym, subst}
 use mathlib.Core.Bool.{Bool, true, false, _||_}
 use mathlib.Core.List.{List, [], _∷_}
-use Prim.Native.Nat.{ℕ, zero, suc, _≤_, _<_}
+use Prim.Native.Nat.{ℕ, zero, suc, _<_}
 use native.Mathlib.Omega.{arith}
 use native.Mathlib.Decide.{decLt}
 use borrow.Author.Tests.{ltb-true, ltb-false, lt-ltb, le-ltb}
@@ -50,10 +50,10 @@ module _ (I : Input) where
     each = λ i l. omega (arith, largest-at (I .n) (bound (problem I)) i l, ltb-false mostSteps (largest (I .n) (bound (problem I))) e);
   }
 
-  pub of-wide : Wide I → tooWide I ≡ true
+  of-wide : Wide I → tooWide I ≡ true
   of-wide x = lt-ltb mostSteps (largest (I .n) (bound (problem I))) (omega (arith, x .above, largest-at (I .n) (bound (problem I)) (x .place) (x .inside)))
 
-  pub of-narrow : NoneWide I → tooWide I ≡ false
+  of-narrow : NoneWide I → tooWide I ≡ false
   of-narrow x = le-ltb mostSteps (largest (I .n) (bound (problem I))) (largest-≤ (I .n) (bound (problem I)) mostSteps (x .each))
 
 either-left : (a b : Bool) → a ≡ true → (a || b) ≡ true

@@ -14,9 +14,9 @@ use mathlib.Core.Path.{_≡_}
 use Prim.Native.Nat.{ℕ}
 use lib.IntN.{ℤ}
 use Rattle.linear.specs.Slice.{at}
+use Rattle.linear.specs.Written.{written}
 use Rattle.rules.specs.Order.{Test, verdict, ifAccepted}
 use Rattle.rules.specs.Refusal.{numberOf, valuesOf}
-use Rattle.reckoning.specs.Arrays.{stored}
 use Rattle.checked.specs.Order.{answer}
 use Rattle.common.specs.declared.Common.{Common}
 use Rattle.common.specs.declared.Common.the-variants.{Found, TooShort, First, Second, Different, TooWide}
@@ -54,10 +54,10 @@ unfoldable pub commonAnswer : Proposals → List ℕ
 commonAnswer Q = verdict (commonOrder Q)
 
 unfoldable pub lowAfter : Proposals → List ℤ
-lowAfter Q = ifAccepted (commonAnswer Q) (stored (Q .low) 0 1 (lowEnd (Q .first) (Q .second)) (Q .first .n)) (Q .low)
+lowAfter Q = ifAccepted (commonAnswer Q) (written (Q .low) 0 1 (lowEnd (Q .first) (Q .second)) (Q .first .n)) (Q .low)
 
 unfoldable pub highAfter : Proposals → List ℤ
-highAfter Q = ifAccepted (commonAnswer Q) (stored (Q .high) 0 1 (highEnd (Q .first) (Q .second)) (Q .first .n)) (Q .high)
+highAfter Q = ifAccepted (commonAnswer Q) (written (Q .high) 0 1 (highEnd (Q .first) (Q .second)) (Q .first .n)) (Q .high)
 
 pub record CommonAs (Q : Proposals) (r : Common) (low high : List ℤ) : Type 0 where
   pub says : saidCommon r ≡ commonAnswer Q

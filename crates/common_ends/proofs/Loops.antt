@@ -51,7 +51,7 @@ module _ (f : ℕ → ℕ) where
   pub wide-end : {i n : ℕ} → i ≤ n → n ≤ i → ltb mostSteps (largest i f) ≡ ltb mostSteps (largest n f)
   wide-end p q = ap (ltb mostSteps) (largest-end f p q)
 
-  pub all-narrow : (n : ℕ) → ltb mostSteps (largest n f) ≡ false → (i : ℕ) → i < n → f i ≤ mostSteps
+  all-narrow : (n : ℕ) → ltb mostSteps (largest n f) ≡ false → (i : ℕ) → i < n → f i ≤ mostSteps
   all-narrow n e i l = omega (arith, largest-at n f i l, ltb-false mostSteps (largest n f) e)
 
 pub fitting : (n k : ℕ) (X : List ℤ) (E : List ℕ) → k ≤ 20 → ColumnList X n (2 ^ 36) → wideLimits n E ≡ false → Fitting n k X E

@@ -14,7 +14,7 @@ use lib.ListN.{getD}
 use Rattle.integer.specs.Finite.{largest}
 use Rattle.linear.specs.Reach.{ColumnList}
 use Rattle.linear.specs.Slice.{at}
-use Rattle.reckoning.specs.Arrays.{stored}
+use Rattle.linear.specs.Written.{written}
 use Rattle.common.specs.declared.Common.{Common}
 use Rattle.common.specs.declared.Common.the-variants.{Found, TooWide}
 use Rattle.common.specs.Ends.{maxℤ, minℤ}
@@ -46,5 +46,5 @@ pub record Fitting (n k : ℕ) (X : List ℤ) (E : List ℕ) : Type 0 where
 pub data Met (n s : ℕ) (X : List ℤ) (E : List ℕ) (s′ : ℕ) (X′ : List ℤ) (E′ : List ℕ) (low high : List ℤ) : Common → List ℤ → List ℤ → Type 0 where
   too-wide : (wideLimits n E || wideLimits n E′) ≡ true → Met n s X E s′ X′ E′ low high TooWide low high
   narrow : (low′ high′ : List ℤ) → (wideLimits n E || wideLimits n E′) ≡ false →
-      low′ ≡ stored low 0 1 (lowsOf (max s s′ - s) X E (max s s′ - s′) X′ E′) n → high′ ≡ stored high 0 1 (highsOf (max s s′ - s) X E (max s s′ - s′) X′ E′) n →
+      low′ ≡ written low 0 1 (lowsOf (max s s′ - s) X E (max s s′ - s′) X′ E′) n → high′ ≡ written high 0 1 (highsOf (max s s′ - s) X E (max s s′ - s′) X′ E′) n →
       Met n s X E s′ X′ E′ low high Found low′ high′

@@ -1,13 +1,13 @@
 // The tests of 20 and 21 and the ends of common intervals (document 02, Paper 13).
 ghost use mathlib.Core.Path.{_≡_};
 ghost use mathlib.Core.List.{[]};
-ghost use Prim.Native.Nat.{ℕ, _*_, _≤_, _<_, _^_, max};
+ghost use Prim.Native.Nat.{_*_, _≤_, _<_, _^_, max};
 ghost use lib.IntN.{pos, natAbs, _+ℤ_, _-ℤ_, _*ℤ_};
-ghost use lib.ListN.{getD, length};
+ghost use lib.ListN.{length};
 ghost use Rattle.linear.specs.Reach.{ColumnList};
 ghost use Rattle.linear.specs.Slice.{at};
 ghost use Rattle.integer.specs.Same.{sameNumber};
-ghost use Rattle.reckoning.specs.Arrays.{stored};
+ghost use Rattle.linear.specs.Written.{written};
 ghost use Rattle.common.specs.Ends.{maxℤ, minℤ};
 ghost use Rattle.common.specs.Proposals.{proposal, allSame, sameEquations, mostSteps};
 ghost use Rattle.common_ends.specs.Met.{wideLimits, lowsOf, highsOf, Fitting, Met};
@@ -130,9 +130,9 @@ fn write_ends(
 )
     requires { ⌜ (n ≤ 32) × ((n ≤ length (now low)) × (n ≤ length (now high))) ⌝ }
     requires { ⌜ Fitting n k1 (now guess1) limits1 × Fitting n k2 (now guess2) limits2 ⌝ }
-    ensures { λ _. ⌜ now (low .exit) ≡ stored (now (low .entry)) 0 1
+    ensures { λ _. ⌜ now (low .exit) ≡ written (now (low .entry)) 0 1
         (lowsOf k1 (now (guess1 .entry)) limits1 k2 (now (guess2 .entry)) limits2) n ⌝ }
-    ensures { λ _. ⌜ now (high .exit) ≡ stored (now (high .entry)) 0 1
+    ensures { λ _. ⌜ now (high .exit) ≡ written (now (high .entry)) 0 1
         (highsOf k1 (now (guess1 .entry)) limits1 k2 (now (guess2 .entry)) limits2) n ⌝ }
 {
     for i in 0..n {

@@ -16,18 +16,18 @@ use lib.ListN.{getD, length}
 use Rattle.integer.specs.Finite.{largest}
 use Rattle.integer.proofs.Search.{largest-ext}
 use Rattle.linear.specs.Reach.{ColumnList}
+use Rattle.linear.proofs.Written.{written-ext, front-at}
 use Rattle.rules.specs.Refusal.{said}
 use Rattle.rules.specs.declared.Outcome.the-variants.{Accepted, Refused}
 use Rattle.rules.specs.declared.Refusal.{Refusal}
 use Rattle.rules.proofs.Ranges.{neither}
-use Rattle.reckoning.proofs.Filled.{stored-ext}
 use Rattle.enclosure.specs.Reckoning.{bound}
 use Rattle.checked.specs.Input.{Input, problem}
 use Rattle.checked.specs.Order.{answer}
 use Rattle.checked.proofs.Fit.{Fit, fit-of}
 use Rattle.checked.proofs.Lengths.{Long, long-of}
 use Rattle.checked.proofs.Statements.{accepted-usable}
-use Rattle.checked.proofs.Written.{written-at, solution-written}
+use Rattle.checked.proofs.Written.{solution-written}
 use Rattle.common.specs.declared.Common.{Common}
 use Rattle.common.specs.Answer.{CommonAs}
 use Rattle.common.specs.Ends.{finer, lowEnd, highEnd}
@@ -65,7 +65,7 @@ module _ (I : Input) (a : answer I ≡ []) where
   pub limit-is : (c : CheckedProposal) → ProposalChecked I c → (i : ℕ) → i < I .n → limitAt (c .solution) i ≡ bound (problem I) i
   limit-is c x i l =
       ap (λ (E : List ℕ). getD E i 0) (x .checked .solution-bounds ∙ solution-written I a)
-      ∙ written-at (I .n) (bound (problem I)) (I .solutionBounds) i l (omega (arith, fit .few, fit .solution-long))
+      ∙ front-at (I .solutionBounds) (bound (problem I)) 0 (I .n) i l (omega (arith, fit .few, fit .solution-long))
 
 pub equations-ready : (I J : Input) → answer I ≡ [] → answer J ≡ [] →
     ((I .n ≤ 32) × ((1024 ≤ length (I .matrix)) × (1024 ≤ length (J .matrix))))
@@ -132,5 +132,5 @@ module _ (Q : Proposals) (c d : CheckedProposal) (x : ProposalChecked (Q .first)
   common-met (too-wide w) = common-wide Q e a b s (sym wide-same ∙ w)
   common-met (narrow low high w l h) =
       common-found Q e a b s (sym wide-same ∙ w)
-      (l ∙ stored-ext (Q .low) 0 1 (lowsOf k (I .guess) (c .solution) k′ (J .guess) (d .solution)) (lowEnd I J) n low-same)
-      (h ∙ stored-ext (Q .high) 0 1 (highsOf k (I .guess) (c .solution) k′ (J .guess) (d .solution)) (highEnd I J) n high-same)
+      (l ∙ written-ext (Q .low) 0 1 (lowsOf k (I .guess) (c .solution) k′ (J .guess) (d .solution)) (lowEnd I J) n low-same)
+      (h ∙ written-ext (Q .high) 0 1 (highsOf k (I .guess) (c .solution) k′ (J .guess) (d .solution)) (highEnd I J) n high-same)

@@ -14,7 +14,7 @@ use Rattle.enclosure.specs.Problem.{Problem}
 use Rattle.form.specs.Form.{Form, problem, scale, end, spell, numerals, bytes}
 use Rattle.form_values.specs.declared.Part.the-variants.{Row, Right, Guess, Inverse, Weight}
 use Rattle.spelled_lines.specs.Ones.{textOf}
-use Rattle.text.specs.Line.{each, gap}
+use Rattle.listing_lines.specs.Line.{each, gap}
 use Rattle.old_edition.specs.File.{numbersAlong, formFor, rising, partsThen, oldForms, oldFile}
 use Rattle.conversion.specs.Written.{formLine, restOf, integers, valueText, rowText}
 
@@ -66,7 +66,7 @@ unfolding numbersAlong
 along-last g zero j = let e : j + 0 ≡ j = omega arith in rw e
 along-last g (suc c) j = let e : j + suc c ≡ suc j + c = omega arith in rw e (ap (λ (zs : List ℤ). g j ∷ zs) (along-last g c (suc j)))
 
-pub numerals-each : (g : ℕ → ℤ) (n : ℕ) → 1 ≤ n → numerals (g 0) (numbersAlong g 1 (n - 1)) ≡ each n (λ (j : ℕ). gap j ++ numeral (g j))
+numerals-each : (g : ℕ → ℤ) (n : ℕ) → 1 ≤ n → numerals (g 0) (numbersAlong g 1 (n - 1)) ≡ each n (λ (j : ℕ). gap j ++ numeral (g j))
 numerals-each g zero h = absurd (omega arith)
 numerals-each g (suc m) h = let e : suc m - 1 ≡ m = omega arith in rw e (go m)
   where

@@ -38,7 +38,7 @@ use Rattle.spelled_lines.proofs.Length.{place-most}
 use Rattle.old_edition.specs.File.{formFor}
 use Rattle.old_edition.specs.Numbers.{NumbersInRange}
 use Rattle.old_edition.proofs.Size.{most, part-most}
-use Rattle.conversion.specs.Written.{heldBy, formLine, valueText, rowText, mostFor, Small, FirstSmall}
+use Rattle.conversion.specs.Written.{heldBy, formLine, valueText, rowText, mostFor, SmallFrom, FirstSmall}
 use Rattle.conversion.proofs.Each.{value-line, row-line}
 
 -- a number of this size is read back as itself
@@ -76,10 +76,10 @@ module _ (c : Collected) (r : InRange (stateOf c)) where
   pub size : (0 < n) × (n ≤ 32)
   size = size-range n (r .size)
 
-  pub matrix-small : (i : ℕ) → i < n → Small (c .matrix) (i * n) n
+  pub matrix-small : (i : ℕ) → i < n → SmallFrom (c .matrix) (i * n) n
   matrix-small i li j lj = omega (arith, matrix-range (at (c .matrix) (i * n + j)) (all-at kind.Matrix (n * n) (at (c .matrix)) (r .matrix) (i * n + j) (place-below li lj)))
 
-  pub inverse-small : (i : ℕ) → i < n → Small (c .inverse) (i * n) n
+  pub inverse-small : (i : ℕ) → i < n → SmallFrom (c .inverse) (i * n) n
   inverse-small i li j lj = omega (arith, inverse-range (at (c .inverse) (i * n + j)) (all-at kind.Inverse (n * n) (at (c .inverse)) (r .inverse) (i * n + j) (place-below li lj)))
 
   pub right-small : FirstSmall (c .right) n

@@ -6,7 +6,7 @@
 --   valueText word i z — (word i z);  rowText word i n f — (word i (f 0 .. f (n − 1))); the word comes with its bracket and the space after it
 --   mostFor p   — the most bytes that a line of the part p has, its line feed among them
 --   lineRoom    — the room that the writer of a line asks for: it counts 20 bytes for every number
---   Small values start n — the n numbers from the place start on are smaller in size than 2^63;  FirstSmall values n — the first n are
+--   SmallFrom values start n — the n numbers from the place start on are smaller in size than 2^63;  FirstSmall values n — the first n are
 use mathlib.Core.List.{List, [], _∷_, _++_}
 use Prim.Native.Nat.{ℕ, _+_, _<_, _^_}
 use lib.IntN.{ℤ, natAbs}
@@ -16,7 +16,7 @@ use Rattle.numeral.specs.Decimal.{decimal, numeral}
 use Rattle.form.specs.Form.{Form, end, bytes, spell}
 use Rattle.form_values.specs.declared.Part.{Part}
 use Rattle.form_values.specs.declared.Part.the-variants.{Row, Right, Guess, Inverse, Weight}
-use Rattle.text.specs.Line.{each, gap}
+use Rattle.listing_lines.specs.Line.{each, gap}
 use Rattle.file.specs.declared.Collected.{Collected}
 use Rattle.old_edition.specs.File.{formFor}
 
@@ -51,8 +51,8 @@ mostFor Weight = 17
 abbrev pub lineRoom : ℕ
 lineRoom = 707
 
-abbrev pub Small : List ℤ → ℕ → ℕ → Type 0
-Small values start n = (j : ℕ) → j < n → natAbs (at values (start + j)) < 2 ^ 63
+abbrev pub SmallFrom : List ℤ → ℕ → ℕ → Type 0
+SmallFrom values start n = (j : ℕ) → j < n → natAbs (at values (start + j)) < 2 ^ 63
 
 abbrev pub FirstSmall : List ℤ → ℕ → Type 0
 FirstSmall values n = (i : ℕ) → i < n → natAbs (at values i) < 2 ^ 63

@@ -9,13 +9,13 @@ ghost use Rattle.integer.specs.Finite.{largest};
 ghost use Rattle.linear.specs.Slice.{at as number};
 ghost use Rattle.numeral.specs.Decimal.{numeral};
 ghost use Rattle.form.specs.Form.{problem, scale};
-ghost use Rattle.text.specs.Line.{each, gap};
+ghost use Rattle.listing_lines.specs.Line.{each, gap};
 ghost use Rattle.text.specs.Wrote.{Wrote};
 ghost use Rattle.line_runs.specs.Holds.{InRange};
 ghost use Rattle.file.specs.Read.{stateOf};
 ghost use Rattle.old_edition.specs.Converted.{someTolerance};
 ghost use Rattle.old_edition.specs.File.{formFor, oldFile};
-ghost use Rattle.conversion.specs.Written.{heldBy, formLine, restOf, integers, valueText, rowText, mostFor, lineRoom, Small, FirstSmall};
+ghost use Rattle.conversion.specs.Written.{heldBy, formLine, restOf, integers, valueText, rowText, mostFor, lineRoom, SmallFrom, FirstSmall};
 use file::Collected;
 use form_values::Part;
 use text::put_bytes;
@@ -49,7 +49,7 @@ fn put_next(out: &mut [u8], at: usize, j: usize, z: i64) -> usize
 // The n numbers from a place of a list on, single spaces between them.
 fn put_integers(out: &mut [u8], at: usize, values: &[i64; 1024], start: usize, n: usize) -> usize
     requires { ⌜ (n ≤ 32) × ((start + n ≤ 1024) × (at + n * 21 ≤ length (now out))) ⌝ }
-    requires { ⌜ Small (now values) start n ⌝ }
+    requires { ⌜ SmallFrom (now values) start n ⌝ }
     ensures { λ r. ⌜ Wrote (n * 21) (now (out .entry)) at (integers n (λ (j : ℕ). number (now (values .entry)) (start + j))) (now (out .exit)) r ⌝ }
 {
     let mut place = at;
@@ -70,7 +70,7 @@ fn put_row(
     n: usize,
 ) -> usize
     requires { ⌜ (length (now word) ≤ 10) × ((n ≤ 32) × ((start + n ≤ 1024) × (at + 707 ≤ length (now out)))) ⌝ }
-    requires { ⌜ Small (now values) start n ⌝ }
+    requires { ⌜ SmallFrom (now values) start n ⌝ }
     ensures { λ r. ⌜ Wrote 707 (now (out .entry)) at
         (rowText (now (word .entry)) i n (λ (j : ℕ). number (now (values .entry)) (start + j))) (now (out .exit)) r ⌝ }
 {

@@ -11,7 +11,7 @@ use Rattle.rules.specs.Refusal.{numberOf, valuesOf}
 use Rattle.rules.specs.declared.Refusal.{Refusal}
 use Rattle.rules.proofs.Verdicts.{accepted-new}
 use Rattle.form.specs.Form.{bytes}
-use Rattle.text.specs.Line.{each, listLine}
+use Rattle.listing_lines.specs.Line.{each, listLine}
 use Rattle.text.specs.Wrote.{Wrote}
 use Rattle.text.proofs.Wrote.{wider}
 use Rattle.refusal.specs.Refused.{printed, refusedOf}

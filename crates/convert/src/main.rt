@@ -6,12 +6,12 @@ ghost use Rattle.old_edition.specs.Converted.{convertedText};
 use converter::convert_file;
 use libc::STDERR_FILENO;
 use libc::STDOUT_FILENO;
+use listing_lines::put_list;
 use old_edition::Converted;
 use refusal::put_refusal;
 use standard_input::Input;
 use standard_input::fill;
 use standard_input::skip_rest;
-use text::put_list;
 
 fn report(text: &[u8]) {
     io::write_all(STDERR_FILENO, text);

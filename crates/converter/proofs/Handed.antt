@@ -21,7 +21,7 @@ use Rattle.old_edition.specs.declared.Converted.the-variants.{Length, Refused, 
 use Rattle.old_edition.specs.Converted.{someTolerance, Delivered}
 use Rattle.old_edition.specs.File.{oldFile}
 use Rattle.conversion.specs.Written.{heldBy}
-use Rattle.converter.specs.Ready.{unfit, heldAnswer}
+use Rattle.converter.specs.Held.{unfit, heldAnswer}
 
 -- what was written from the start on, and the rest as before
 from-start : {most end : ℕ} {o t p : List ℕ} → Wrote most o 0 t p end → length t ≤ length o → p ≡ t ++ drop (length t) o

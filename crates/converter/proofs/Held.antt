@@ -38,7 +38,7 @@ use Rattle.old_edition.specs.Numbers.{SameNumbers, SameTolerances}
 use Rattle.old_edition.proofs.Same.{same-numbers}
 use Rattle.old_edition.proofs.Stated.{said-of-line, said-open, said-complete}
 use Rattle.conversion.specs.Written.{heldBy}
-use Rattle.converter.specs.Ready.{Ready, heldAnswer}
+use Rattle.converter.specs.Held.{InRangeAtEnd, heldAnswer}
 
 -- ---- the collected numbers
 module _ (c : Collected) (fs : List Form) (h : FromForms fs (stateOf c)) where
@@ -96,7 +96,7 @@ module _ (file : List ℕ) {c : Collected} (read : ReadAs file c) (e : c .outcom
     held-said : (room : ℕ) → heldAnswer c room ≡ convertAnswer file room
     held-said room = rw (z, same-tolerance, same-text) (sym (said-complete file room whole))
 
-  pub ready : Ready c
+  pub ready : InRangeAtEnd c
   ready z = subst InRange (sym (read .state)) (inside file quiet (end z))
 
   held-open : ended (c .loader .stage) ≡ false → (room : ℕ) → heldAnswer c room ≡ convertAnswer file room

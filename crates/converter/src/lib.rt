@@ -3,7 +3,7 @@ ghost use lib.ListN.{length};
 ghost use Rattle.old_edition.specs.Converted.{Delivered, ConvertedAs, ConvertedAt};
 ghost use Rattle.old_edition.specs.File.{oldFile};
 ghost use Rattle.conversion.specs.Written.{heldBy};
-ghost use Rattle.converter.specs.Ready.{Ready, unfit, heldAnswer};
+ghost use Rattle.converter.specs.Held.{InRangeAtEnd, unfit, heldAnswer};
 use conversion::has_tolerance;
 use conversion::put_file;
 use file::Collected;
@@ -27,7 +27,7 @@ fn hand_over(out: &mut [u8], text: &[u8], tolerance: bool) -> Converted
 
 // The new file of the numbers that a file's lines gave; it is written whole before any of it is handed over. 15 where the file stopped before an end.
 fn deliver(out: &mut [u8], collected: Collected) -> Converted
-    requires { ⌜ Ready collected ⌝ }
+    requires { ⌜ InRangeAtEnd collected ⌝ }
     ensures { λ r. ⌜ Delivered (heldAnswer collected (length (now (out .entry)))) (oldFile (heldBy collected)) (now (out .entry)) (now (out .exit)) r ⌝ }
 {
     let loader = collected.loader;

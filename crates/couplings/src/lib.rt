@@ -8,7 +8,8 @@ ghost use Rattle.linear.specs.Matrix.{apply};
 ghost use Rattle.linear.specs.Slice.{at, vectorOf, matrixOf};
 ghost use Rattle.linear.specs.Place.{Carried};
 ghost use Rattle.linear.specs.Reach.{ColumnList, Reach};
-ghost use Rattle.reckoning.specs.Arrays.{Begins, stored};
+ghost use Rattle.linear.specs.Written.{written};
+ghost use Rattle.reckoning.specs.Arrays.{Begins};
 ghost use Rattle.couplings.specs.Carried.{baseFrom, limitCap, cappedSum};
 use integer::magnitude;
 use linear::dot;
@@ -108,7 +109,7 @@ pub fn slacks_with(
 // Copies the first n limits.
 pub fn copy_limits(dst: &mut [u64], src: &[u64], n: usize)
     requires { ⌜ (n ≤ length (now src)) × (n ≤ length (now dst)) ⌝ }
-    ensures { λ _. ⌜ now (dst .exit) ≡ stored (now (dst .entry)) 0 1 (λ (i : ℕ). getD (now (src .entry)) i 0) n ⌝ }
+    ensures { λ _. ⌜ now (dst .exit) ≡ written (now (dst .entry)) 0 1 (λ (i : ℕ). getD (now (src .entry)) i 0) n ⌝ }
 {
     for i in 0..n {
         dst[i] = src[i];

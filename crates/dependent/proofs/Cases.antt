@@ -5,9 +5,9 @@ use mathlib.Core.Bool.{true}
 use Rattle.integer.specs.Finite.{sum, sumℕ, largest, first}
 use Rattle.integer.specs.Quotient.{ceilDiv}
 use Rattle.linear.specs.Matrix.{apply, product, identity}
+use Rattle.linear.specs.Written.{written}
 use Rattle.rules.specs.Range.{ranges, rangeOf, inRange, allInRange}
 use Rattle.enclosure.specs.Reckoning.{defect, load, margin, residual, rowSum, exceeds, sizesWith, boundFrom, boundWith, bound}
-use Rattle.checked.specs.Checked.{written}
 use Rattle.checked.specs.Order.{answer}
 use Rattle.dependent.specs.Reckoning.{dependentResidual, dependentSlack}
 use Rattle.dependent.specs.Order.{dependentAnswer, jointAnswer}

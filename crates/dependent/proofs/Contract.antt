@@ -7,21 +7,21 @@ use Prim.Native.Nat.{ℕ, _+_, _*_, _/_, _%_, _≤_}
 use native.Mathlib.Omega.{arith}
 use borrow.Author.Tests.{eqb-true, le-ltb}
 use lib.ListN.{getD, length}
+use Rattle.linear.specs.Written.{written}
 use Rattle.linear.proofs.Places.{place, square, place-column, place-row}
+use Rattle.linear.proofs.Written.{front-at}
 use Rattle.rules.specs.Refusal.{said, numberOf, valuesOf}
 use Rattle.rules.specs.declared.Outcome.the-variants as outcome
 use Rattle.rules.specs.declared.Refusal.{Refusal}
 use Rattle.rules.proofs.Ranges.{both-left, both-right}
 use Rattle.rules.proofs.Verdicts.{accepted-new, accepted-old, nothing-is-not}
 use Rattle.enclosure.specs.Reckoning.{bound, inverseBound}
-use Rattle.checked.specs.Checked.{written}
 use Rattle.checked.specs.Input.{Input, input, problem, inRanges}
 use Rattle.checked.specs.Order.{answer}
 use Rattle.checked.specs.Stated.{Usable}
 use Rattle.checked.proofs.Contract.{answer-ready, said-sound, written-encloses}
 use Rattle.checked.proofs.Fit.{Fit, fit-of}
 use Rattle.checked.proofs.Statements.{accepted-usable}
-use Rattle.checked.proofs.Written.{written-at}
 use Rattle.dependent.specs.declared.CheckedNets.the-variants.{Accepted, Main, Dependent}
 use Rattle.dependent.specs.Nets.{Nets, attached}
 use Rattle.dependent.specs.Reckoning.{dependentBound}
@@ -75,10 +75,10 @@ module _ (J : Nets) where
     one-scale = sym (eqb-true (J .dependent .s) (J .main .s) (both-left _ _ (both-right (inRanges (J .dependent)) _ (passed .usable .inside))))
 
     pub together-accepted : {E₁ L₁ E₂ L₂ : List ℕ} →
-        E₁ ≡ written (J .main .n) (bound (problem (J .main))) (J .main .solutionBounds) →
-        L₁ ≡ written (J .main .n * J .main .n) (λ (k : ℕ). inverseBound (problem (J .main)) (k / J .main .n) (k % J .main .n)) (J .main .inverseBounds) →
-        E₂ ≡ written (J .dependent .n) (dependentBound (attached J)) (J .dependent .solutionBounds) →
-        L₂ ≡ written (J .dependent .n * J .dependent .n) (λ (k : ℕ). inverseBound (problem (J .dependent)) (k / J .dependent .n) (k % J .dependent .n)) (J .dependent .inverseBounds) →
+        E₁ ≡ written (J .main .solutionBounds) 0 1 (bound (problem (J .main))) (J .main .n) →
+        L₁ ≡ written (J .main .inverseBounds) 0 1 (λ (k : ℕ). inverseBound (problem (J .main)) (k / J .main .n) (k % J .main .n)) (J .main .n * J .main .n) →
+        E₂ ≡ written (J .dependent .solutionBounds) 0 1 (dependentBound (attached J)) (J .dependent .n) →
+        L₂ ≡ written (J .dependent .inverseBounds) 0 1 (λ (k : ℕ). inverseBound (problem (J .dependent)) (k / J .dependent .n) (k % J .dependent .n)) (J .dependent .n * J .dependent .n) →
         CheckedTogether J Accepted E₁ L₁ E₂ L₂
     together-accepted {E₁} {L₁} {E₂} {L₂} h₁ g₁ h₂ g₂ =
         let j : jointAnswer J ≡ [] = joint-accepted J e f in
@@ -94,9 +94,9 @@ module _ (J : Nets) where
               encloses-both-as J (bound (problem (J .main))) (λ (i : ℕ). getD E₁ i 0) (inverseBound (problem (J .main))) (λ (i j : ℕ). getD L₁ (i * J .main .n + j) 0)
               (dependentBound (attached J)) (λ (i : ℕ). getD E₂ i 0) (inverseBound (problem (J .dependent))) (λ (i j : ℕ). getD L₂ (i * n + j) 0)
               (written-encloses (J .main) (usable .long) (usable .inside) h₁ g₁ margins)
-              (λ i l. rw h₁ (written-at (J .main .n) (bound (problem (J .main))) (J .main .solutionBounds) i l (omega (arith, fit₁ .few, fit₁ .solution-long))))
-              (λ i l. rw h₂ (written-at n (dependentBound (attached J)) (J .dependent .solutionBounds) i l (omega (arith, fit₂ .few, fit₂ .solution-long))))
-              (λ i j li lj. rw g₂ (written-at (n * n) (λ (k : ℕ). inverseBound (problem (J .dependent)) (k / n) (k % n)) (J .dependent .inverseBounds) (i * n + j) (place li lj)
+              (λ i l. rw h₁ (front-at (J .main .solutionBounds) (bound (problem (J .main))) 0 (J .main .n) i l (omega (arith, fit₁ .few, fit₁ .solution-long))))
+              (λ i l. rw h₂ (front-at (J .dependent .solutionBounds) (dependentBound (attached J)) 0 n i l (omega (arith, fit₂ .few, fit₂ .solution-long))))
+              (λ i j li lj. rw g₂ (front-at (J .dependent .inverseBounds) (λ (k : ℕ). inverseBound (problem (J .dependent)) (k / n) (k % n)) 0 (n * n) (i * n + j) (place li lj)
               (omega (arith, square (fit₂ .few), fit₂ .inverse-long)) ∙ rw (place-column i j n lj, place-row i j n lj)))
               (encloses-both J one-scale (fit₁ .heavy) (fit₂ .heavy) margins (passed .margins));
         }

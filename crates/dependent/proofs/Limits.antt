@@ -9,11 +9,11 @@ use Rattle.integer.proofs.Search.{first-ext}
 use Rattle.integer.proofs.Sum.{sumℕ-ext}
 use Rattle.linear.specs.Matrix.{Vec}
 use Rattle.linear.proofs.Slack.{slack-ext}
+use Rattle.linear.proofs.Written.{written-ext}
 use Rattle.rules.specs.declared.Outcome.{Outcome}
 use Rattle.enclosure.specs.Reckoning.{slack, sizesWith, boundWith}
 use Rattle.enclosure.proofs.Bounds.{bound-ext}
 use Rattle.checked.specs.Input.{Input}
-use Rattle.checked.proofs.Written.{written-ext}
 use Rattle.dependent.specs.Nets.{Attached, attachedBy, couplingOf}
 use Rattle.dependent.specs.Reckoning.{ownProblem, dependentResidual, dependentSlack, dependentExceeds, dependentBound}
 use Rattle.dependent.specs.Order.{dependentAnswer}
@@ -54,6 +54,6 @@ module _ (n₁ s₁ : ℕ) (X₁ : Vec) (E F : ℕ → ℕ) (coupling : List ℤ
   pub attached-same : {r : Outcome} {K L : List ℕ} → AttachedAs D r K L → AttachedAs B r K L
   attached-same {r} {K} {L} x = record {
     says = x .says ∙ answer-same;
-    solution-bounds = rw (answer-same, written-ext (own .n) (dependentBound D) (dependentBound B) (own .solutionBounds) (λ i l. bound-same i)) at (x .solution-bounds);
+    solution-bounds = rw (answer-same, written-ext (own .solutionBounds) 0 1 (dependentBound D) (dependentBound B) (own .n) (λ i l. bound-same i)) at (x .solution-bounds);
     inverse-bounds = rw answer-same at (x .inverse-bounds);
   }

@@ -20,6 +20,7 @@ use Rattle.integer.proofs.Sum.{sum-ext, sum-zero, sumℕ-ext, sumℕ-zero}
 use Rattle.linear.specs.Matrix.{apply}
 use Rattle.linear.specs.Slice.{at}
 use Rattle.linear.proofs.Slack.{slack-ext}
+use Rattle.linear.proofs.Written.{written-ext}
 use Rattle.rules.specs.Range.{allInRange}
 use Rattle.rules.specs.declared.Kind.the-variants as kind
 use Rattle.rules.proofs.AllInRange.{all-in}
@@ -31,7 +32,6 @@ use Rattle.enclosure.proofs.Bounds.{bound-ext}
 use Rattle.checked.specs.Checked.{solutionAfter}
 use Rattle.checked.specs.Input.{Input, problem, inRanges}
 use Rattle.checked.specs.Order.{answer}
-use Rattle.checked.proofs.Written.{written-ext}
 use Rattle.dependent.specs.Nets.{Nets, Attached, attached, couplingOf}
 use Rattle.dependent.specs.Reckoning.{ownProblem, dependentResidual, dependentSlack, dependentExceeds, dependentBound}
 use Rattle.dependent.specs.Order.{dependentAnswer, ofNet, jointAnswer, dependentInRanges}
@@ -54,14 +54,14 @@ module _ (D : Attached) (u : Uncoupled D) where
   zero-at : (k j : ℕ) → k < P .n → j < D .n₁ → couplingOf D k j ≡ pos 0
   zero-at k j lk lj = u .zeros (k * D .n₁ + j) (omega (arith, mul-le-mul-right (D .n₁) lk))
 
-  pub uncoupled-residual : (k : ℕ) → k < P .n → dependentResidual D k ≡ residual P k
+  uncoupled-residual : (k : ℕ) → k < P .n → dependentResidual D k ≡ residual P k
   unfolding dependentResidual residual apply
   uncoupled-residual k l =
       let e : sum (D .n₁) (λ (j : ℕ). couplingOf D k j *ℤ D .X₁ j) ≡ pos 0 =
       sum-ext (D .n₁) (λ (j : ℕ). couplingOf D k j *ℤ D .X₁ j) (λ (j : ℕ). pos 0) (λ j lj. rw (zero-at k j l lj) (zero-* (D .X₁ j))) ∙ sum-zero (D .n₁) in
       rw e (ap (λ (z : ℤ). z -ℤ sum (P .n) (λ (j : ℕ). P .A k j *ℤ P .X j)) (+ℤ-idr (pos (S P) *ℤ P .b k)))
 
-  pub uncoupled-slack : (k : ℕ) → k < P .n → dependentSlack D k ≡ slack P k
+  uncoupled-slack : (k : ℕ) → k < P .n → dependentSlack D k ≡ slack P k
   unfolding dependentSlack
   uncoupled-slack k l =
       let e : sumℕ (D .n₁) (λ (j : ℕ). natAbs (couplingOf D k j) * D .E₁ j) ≡ 0 =
@@ -89,7 +89,7 @@ module _ (D : Attached) (u : Uncoupled D) where
   uncoupled-answer =
       rw (le-ltb (length (D .coupling)) 1024 (u .long), ranges-are, first-ext (P .n) (dependentExceeds D) (exceeds05 P) exceeds-is)
 
-pub exempt-answer : (I : Input) → MeetsSums I → exemptAnswer I ≡ answer I
+exempt-answer : (I : Input) → MeetsSums I → exemptAnswer I ≡ answer I
 unfolding exemptAnswer answer
 exempt-answer I h = rw (first-ext (I .n) (exceeds05 (problem I)) (exceeds (problem I)) (λ k l. unfold exceeds in sym (or-false (exceeds05 (problem I) k) (h k l))))
 
@@ -99,7 +99,7 @@ module _ (D : Attached) (u : Uncoupled D) (h : MeetsSums (D .own)) where
 
   pub uncoupled-solution : (said : List ℕ) → dependentSolutionAfter said D ≡ solutionAfter said (D .own)
   uncoupled-solution said =
-      rw (written-ext (D .own .n) (dependentBound D) (bound (problem (D .own))) (D .own .solutionBounds) (λ i l. uncoupled-bound D u i))
+      rw (written-ext (D .own .solutionBounds) 0 1 (dependentBound D) (bound (problem (D .own))) (D .own .n) (λ i l. uncoupled-bound D u i))
 
 pub uncoupled-together : (J : Nets) → answer (J .main) ≡ [] → Uncoupled (attached J) → MeetsSums (J .dependent) → jointAnswer J ≡ ofNet 2 (answer (J .dependent))
 unfolding jointAnswer

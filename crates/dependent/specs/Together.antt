@@ -6,8 +6,9 @@ use mathlib.Core.List.{List, []}
 use mathlib.Core.Path.{_≡_}
 use Prim.Native.Nat.{ℕ, _+_, _*_}
 use lib.ListN.{getD}
+use Rattle.linear.specs.Written.{written}
 use Rattle.rules.specs.Order.{ifAccepted}
-use Rattle.checked.specs.Checked.{written, solutionAfter, inverseAfter}
+use Rattle.checked.specs.Checked.{solutionAfter, inverseAfter}
 use Rattle.dependent.specs.declared.CheckedNets.{CheckedNets}
 use Rattle.dependent.specs.Nets.{Nets, Attached, attached}
 use Rattle.dependent.specs.Reckoning.{dependentBound}
@@ -15,7 +16,7 @@ use Rattle.dependent.specs.Order.{jointAnswer, saidNets}
 use Rattle.dependent.specs.Joint.{EnclosesBoth}
 
 abbrev pub dependentSolutionAfter : List ℕ → Attached → List ℕ
-dependentSolutionAfter said D = ifAccepted said (written (D .own .n) (dependentBound D) (D .own .solutionBounds)) (D .own .solutionBounds)
+dependentSolutionAfter said D = ifAccepted said (written (D .own .solutionBounds) 0 1 (dependentBound D) (D .own .n)) (D .own .solutionBounds)
 
 pub record CheckedTogether (J : Nets) (r : CheckedNets) (E₁ L₁ E₂ L₂ : List ℕ) : Type 0 where
   pub says : saidNets r ≡ jointAnswer J

@@ -11,7 +11,9 @@ use lib.Dec.{lit≤}
 use lib.ListN.{getD, length, replicate}
 use Rattle.linear.specs.Reach.{ColumnList}
 use Rattle.linear.specs.Slice.{vectorOf}
+use Rattle.linear.specs.Written.{written}
 use Rattle.linear.proofs.Places.{square}
+use Rattle.linear.proofs.Written.{written-length, written-ext, front-at}
 use Rattle.rules.specs.Range.{shortMatrix, shortColumn}
 use Rattle.rules.specs.Refusal.{said}
 use Rattle.rules.specs.declared.Outcome.{Outcome}
@@ -20,15 +22,13 @@ use Rattle.rules.specs.declared.Refusal.{Refusal}
 use Rattle.rules.specs.declared.Refusal.the-variants.{TooShort}
 use Rattle.rules.proofs.Verdicts.{accepted-new, accepted-old}
 use Rattle.enclosure.specs.Reckoning.{bound, inverseBound}
-use Rattle.reckoning.specs.Arrays.{stored}
 use Rattle.checked.specs.Checked.{Checked}
 use Rattle.checked.specs.Input.{Input, problem, short}
 use Rattle.checked.specs.Order.{answer}
 use Rattle.checked.proofs.Contract.{answer-short}
 use Rattle.checked.proofs.Fit.{Fit, fit-of}
 use Rattle.checked.proofs.Statements.{accepted-usable}
-use Rattle.checked.proofs.Written.{written-at, written-length, solution-written, inverse-written}
-use Rattle.checker.proofs.Written.{written-stored}
+use Rattle.checked.proofs.Written.{solution-written, inverse-written}
 use Rattle.dependent.specs.declared.CheckedNets.the-variants.{Accepted, Main, Dependent}
 use Rattle.dependent.specs.Nets.{Nets, attachedBy, attached}
 use Rattle.dependent.specs.Order.{dependentAnswer}
@@ -91,22 +91,22 @@ module _ (J : Nets) where
       guess-known = fit .guess
 
       pub limits-long : length E ≡ 32
-      limits-long = ap length (x .solution-bounds ∙ solution-written own own-accepted) ∙ written-length (J .main .n) (bound (problem (J .main))) (replicate 32 0)
+      limits-long = ap length (x .solution-bounds ∙ solution-written own own-accepted) ∙ written-length (replicate 32 0) 0 1 (bound (problem (J .main))) (J .main .n)
 
       pub inverse-long : length L ≡ 1024
       inverse-long =
           ap length (x .inverse-bounds ∙ inverse-written own own-accepted)
-          ∙ written-length (J .main .n * J .main .n) (λ (k : ℕ). inverseBound (problem (J .main)) (k / J .main .n) (k % J .main .n)) (replicate 1024 0)
+          ∙ written-length (replicate 1024 0) 0 1 (λ (k : ℕ). inverseBound (problem (J .main)) (k / J .main .n) (k % J .main .n)) (J .main .n * J .main .n)
 
       limit-is : (i : ℕ) → i < J .main .n → getD E i 0 ≡ bound (problem (J .main)) i
       limit-is i l =
           rw (x .solution-bounds ∙ solution-written own own-accepted)
-          (written-at (J .main .n) (bound (problem (J .main))) (replicate 32 0) i l (fit .few))
+          (front-at (replicate 32 0) (bound (problem (J .main))) 0 (J .main .n) i l (fit .few))
 
       inverse-is : (k : ℕ) → k < J .main .n * J .main .n → getD L k 0 ≡ inverseBound (problem (J .main)) (k / J .main .n) (k % J .main .n)
       inverse-is k l =
           rw (x .inverse-bounds ∙ inverse-written own own-accepted)
-          (written-at (J .main .n * J .main .n) (λ (k : ℕ). inverseBound (problem (J .main)) (k / J .main .n) (k % J .main .n)) (replicate 1024 0) k l (square (fit .few)))
+          (front-at (replicate 1024 0) (λ (k : ℕ). inverseBound (problem (J .main)) (k / J .main .n) (k % J .main .n)) 0 (J .main .n * J .main .n) k l (square (fit .few)))
 
       module _ {q : Outcome} {K M : List ℕ}
           (y : AttachedAs (attachedBy (J .main .n) (J .main .s) (vectorOf (J .main .guess)) (λ (j : ℕ). getD E j 0) (J .coupling) (J .dependent)) q K M) where
@@ -118,11 +118,11 @@ module _ (J : Nets) where
             let s : said (outcome.Refused w) ≡ dependentAnswer (attached J) = ap said (sym f) ∙ z .says in
             rw (z .solution-bounds ∙ accepted-old _ _ (sym s), z .inverse-bounds ∙ accepted-old _ _ (sym s)) (together-dependent J w main-accepted s)
 
-        pub both-accepted : q ≡ outcome.Accepted → {A B : List ℕ} → A ≡ stored (J .main .solutionBounds) 0 1 (λ (i : ℕ). getD E i 0) (J .main .n) →
-            B ≡ stored (J .main .inverseBounds) 0 1 (λ (i : ℕ). getD L i 0) (J .main .n * J .main .n) → CheckedTogether J Accepted A B K M
+        pub both-accepted : q ≡ outcome.Accepted → {A B : List ℕ} → A ≡ written (J .main .solutionBounds) 0 1 (λ (i : ℕ). getD E i 0) (J .main .n) →
+            B ≡ written (J .main .inverseBounds) 0 1 (λ (i : ℕ). getD L i 0) (J .main .n * J .main .n) → CheckedTogether J Accepted A B K M
         both-accepted f {A} {B} a b =
             let s : dependentAnswer (attached J) ≡ [] = sym (z .says) ∙ ap said f in
             together-accepted J main-accepted s
-            (a ∙ written-stored (J .main .n) (λ (i : ℕ). getD E i 0) (bound (problem (J .main))) (J .main .solutionBounds) limit-is)
-            (b ∙ written-stored (J .main .n * J .main .n) (λ (i : ℕ). getD L i 0) (λ (k : ℕ). inverseBound (problem (J .main)) (k / J .main .n) (k % J .main .n)) (J .main .inverseBounds) inverse-is)
+            (a ∙ written-ext (J .main .solutionBounds) 0 1 (λ (i : ℕ). getD E i 0) (bound (problem (J .main))) (J .main .n) limit-is)
+            (b ∙ written-ext (J .main .inverseBounds) 0 1 (λ (i : ℕ). getD L i 0) (λ (k : ℕ). inverseBound (problem (J .main)) (k / J .main .n) (k % J .main .n)) (J .main .n * J .main .n) inverse-is)
             (z .solution-bounds ∙ accepted-new _ _ s) (z .inverse-bounds ∙ accepted-new _ _ s)

@@ -2,11 +2,11 @@
 --   signs — a number is its part of 0 or more less its part below 0;  up-size, down-size — these are at most its size
 --   half-below, half-above — the code's test of the sign;  half-ends, half-room — the sums that a number belongs to end within the 64 and have room
 --   read-at — a small number of a list is read as it stands
---   added-none, added-row — nothing for 0, and a row of multiples stored in those sums;  stored-ahead — what stands at the place that comes next
+--   added-none, added-row — nothing for 0, and a row of multiples written into those sums;  written-ahead — what stands at the place that comes next
 use mathlib.Core.List.{List}
 use mathlib.Core.Bool.{true, false}
-use mathlib.Core.Path.{_≡_, refl, sym, ap, subst, _∙_}
-use Prim.Native.Nat.{ℕ, _+_, _*_, _≤_, _<_, _^_}
+use mathlib.Core.Path.{_≡_, refl, sym, subst, _∙_}
+use Prim.Native.Nat.{ℕ, _+_, _*_, _≤_, _^_}
 use native.Mathlib.Omega.{arith}
 use borrow.Author.Tests.{ltb-true}
 use lib.Dec.{T}
@@ -20,10 +20,10 @@ use Rattle.integer.proofs.Difference.{zz}
 use Rattle.integer.proofs.Machine.{small}
 use Rattle.linear.specs.Slice.{at}
 use Rattle.linear.specs.Place.{Carried}
+use Rattle.linear.specs.Written.{written}
 use Rattle.linear.proofs.Carried.{unit-place}
-use Rattle.reckoning.specs.Arrays.{stored}
-use Rattle.reckoning.proofs.Filled.{stored-at, stored-else, stored-length}
-use Rattle.differences.specs.Sums.{up, down, halfOf, Room, Added}
+use Rattle.linear.proofs.Written.{written-at, written-else, written-length, front-at}
+use Rattle.differences.specs.Sums.{up, down, halfOf, SmallSums, Added}
 
 -- ---- the two parts of a number
 pub signs : (x : ℤ) → x ≡ pos (up x) -ℤ pos (down x)
@@ -56,7 +56,7 @@ unfolding halfOf
 half-above (pos a) e = refl
 half-above (negsuc a) e = absurd (subst T e tt)
 
-pub half-room : (x : ℤ) {sums : List ℕ} {n : ℕ} → Room sums 0 n → Room sums 32 n → Room sums (halfOf x) n
+pub half-room : (x : ℤ) {sums : List ℕ} {n : ℕ} → SmallSums sums 0 n → SmallSums sums 32 n → SmallSums sums (halfOf x) n
 unfolding halfOf
 half-room (pos a) p q = p
 half-room (negsuc a) p q = q
@@ -71,26 +71,19 @@ unfolding up down
 added-none sums n row = record { long = refl; ups = λ j l. omega arith; downs = λ j l. omega arith }
 
 module _ (sums : List ℕ) (n : ℕ) (few : n ≤ 32) (long : length sums ≡ 64) (row : ℕ → ℕ) where
-  -- the numbers from place p on
-  module _ (p : ℕ) (inside : p + n ≤ 64) (f : ℕ → ℕ) where
-    stored-here : (j q : ℕ) → q ≡ p + j → j < n → getD (stored sums p 1 f n) q 0 ≡ f j
-    stored-here j q e l =
-        ap (λ (k : ℕ). getD (stored sums p 1 f n) k 0) (omega arith)
-        ∙ stored-at sums p 1 f 0 n j (omega arith) l (λ k m. omega arith)
-
-  pub added-row : (x : ℤ) → Added sums (stored sums (halfOf x) 1 (λ (j : ℕ). getD sums (halfOf x + j) 0 + natAbs x * row j) n) n x row
+  pub added-row : (x : ℤ) → Added sums (written sums (halfOf x) 1 (λ (j : ℕ). getD sums (halfOf x + j) 0 + natAbs x * row j) n) n x row
   unfolding up down halfOf
   added-row (pos a) = record {
-    long = stored-length sums 0 1 _ n;
-    ups = λ j l. let e : j ≡ 0 + j = omega arith in stored-here 0 (omega arith) _ j j e l ∙ rw (← e);
-    downs = λ j l. stored-else sums 0 1 _ 0 n (32 + j) (λ i m e. omega arith) ∙ omega arith;
+    long = written-length sums 0 1 _ n;
+    ups = λ j l. let e : 0 + j ≡ j = omega arith in front-at sums _ 0 n j l (omega arith) ∙ rw e;
+    downs = λ j l. written-else sums 0 1 _ 0 n (32 + j) (λ i m e. omega arith) ∙ omega arith;
   }
   added-row (negsuc a) = record {
-    long = stored-length sums 32 1 _ n;
-    ups = λ j l. stored-else sums 32 1 _ 0 n j (λ i m e. omega arith) ∙ omega arith;
-    downs = λ j l. stored-here 32 (omega arith) _ j (32 + j) refl l;
+    long = written-length sums 32 1 _ n;
+    ups = λ j l. written-else sums 32 1 _ 0 n j (λ i m e. omega arith) ∙ omega arith;
+    downs = λ j l. written-at sums 32 1 _ 0 n j (omega arith) (omega arith) l (λ k m. omega arith);
   }
 
 -- what stands at the place that comes next
-pub stored-ahead : {now : List ℕ} {p to : ℕ} (xs : List ℕ) (f : ℕ → ℕ) (j : ℕ) → now ≡ stored xs p 1 f j → Carried p 1 j to → getD now to 0 ≡ getD xs (p + j) 0
-stored-ahead {now} {p} {to} xs f j e h = rw (e, unit-place h) (stored-else xs p 1 f 0 j (p + j) (λ i l q. omega arith))
+pub written-ahead : {now : List ℕ} {p to : ℕ} (xs : List ℕ) (f : ℕ → ℕ) (j : ℕ) → now ≡ written xs p 1 f j → Carried p 1 j to → getD now to 0 ≡ getD xs (p + j) 0
+written-ahead {now} {p} {to} xs f j e h = rw (e, unit-place h) (written-else xs p 1 f 0 j (p + j) (λ i l q. omega arith))

@@ -20,16 +20,16 @@ use Rattle.reckoning.specs.Parts.{rowsPart, columnResidual}
 use Rattle.differences.specs.Difference.{difference}
 
 module _ (n t : ℕ) (matrix : List ℤ) where
-  pub rows-residual : (rows : List ℕ) (weights : List ℤ) (j m : ℕ) → difference n t matrix n 1 rows j m ≡ residual (columnOf (rowsPart n t matrix rows weights) j) m
+  pub rows-residual : (rows : List ℕ) (j m : ℕ) → difference n t matrix n 1 rows j m ≡ residual (columnOf (rowsPart n t matrix rows) j) m
   unfolding residual apply
-  rows-residual rows weights j m =
+  rows-residual rows j m =
       ap (λ (z : ℤ). pos (2 ^ t) *ℤ identity m j -ℤ z)
       (sum-ext n _ _ (λ k l. ap (λ (p : ℕ). at matrix p *ℤ loweredRows rows n k j) (row-place n m (carried (m * n) 1 k))))
 
-  pub residual-of-rows : {rows : List ℕ} {inverse : List ℤ} (weights : List ℤ) → RowsOfMatrix rows n inverse →
-      (j k : ℕ) → j < n → k < n → residual (columnOf (rowsPart n t matrix rows weights) j) k ≡ columnResidual n t matrix inverse j k
+  pub residual-of-rows : {rows : List ℕ} {inverse : List ℤ} → RowsOfMatrix rows n inverse →
+      (j k : ℕ) → j < n → k < n → residual (columnOf (rowsPart n t matrix rows) j) k ≡ columnResidual n t matrix inverse j k
   unfolding residual apply
-  residual-of-rows weights h j k lj lk =
+  residual-of-rows h j k lj lk =
       ap (λ (z : ℤ). pos (2 ^ t) *ℤ identity k j -ℤ z) (sum-ext n _ _ (λ i li. ap (λ (z : ℤ). matrixOf matrix n k i *ℤ z) (h .stands i j li lj)))
 
   pub columns-defect : {columns : List ℕ} {inverse : List ℤ} → ColumnsOfMatrix columns n inverse →

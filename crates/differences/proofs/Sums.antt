@@ -17,7 +17,7 @@ use Rattle.raised_rows.specs.Raised.{raisedBy, lowered, loweredRows}
 use Rattle.raised_rows.specs.Place.{raisedPlace}
 use Rattle.reckoning.specs.Arrays.{Begins}
 use Rattle.differences.proofs.Halves.{signs, up-size, down-size}
-use Rattle.differences.specs.Sums.{up, down, Room, Added, SumsOf}
+use Rattle.differences.specs.Sums.{up, down, SmallSums, Added, SumsOf}
 
 -- ---- row after row
 pub no-sums : Begins {A = ℕ} 0 (replicate 64 0) 64 (λ (j : ℕ). 0)
@@ -59,7 +59,7 @@ module _ (n : ℕ) (xs : ℕ → ℤ) (rows : ℕ → ℕ → ℕ) where
           mul-le-mul-right (2 ^ 46) few,
         ))
 
-    pub sums-room : Room sums 0 n × Room sums 32 n
+    pub sums-room : SmallSums sums 0 n × SmallSums sums 32 n
     sums-room = (record { each = λ j l. let e : 0 + j ≡ j = omega arith in rw e (omega (arith, ups-small j l)) }, record { each = λ j l. omega (arith, downs-small j l) })
 
 pub total-small : {k : ℕ} (xs : ℕ → ℤ) → k ≤ 32 → ((i : ℕ) → i < k → natAbs (xs i) ≤ 2 ^ 20) → natAbs (sum k xs) ≤ 2 ^ 25

@@ -2,7 +2,7 @@
 -- those of factors of 0 or more stand from place 0 on, those of factors below 0 from place 32 on.
 --   up x, down x — the size of x where x is 0 or more, and where it is below 0; 0 else
 --   halfOf x     — the place from which on the sums that x belongs to stand
---   Room sums p n — the n sums from place p on are at most 2^62
+--   SmallSums sums p n — the n sums from place p on are at most 2^62
 --   Added before after n x row — x times each of the first n numbers of a row was added to its sum
 --   SumsOf sums n k xs rows — the sums over the first k factors and rows, for the first n numbers of a row
 use mathlib.Core.Path.{_≡_}
@@ -24,7 +24,7 @@ unfoldable pub halfOf : ℤ → ℕ
 halfOf (pos a) = 0
 halfOf (negsuc a) = 32
 
-pub record Room (sums : List ℕ) (p n : ℕ) : Type 0 where
+pub record SmallSums (sums : List ℕ) (p n : ℕ) : Type 0 where
   pub each : (j : ℕ) → j < n → getD sums (p + j) 0 ≤ 2 ^ 62
 
 pub record Added (before after : List ℕ) (n : ℕ) (x : ℤ) (row : ℕ → ℕ) : Type 0 where

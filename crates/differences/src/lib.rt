@@ -10,21 +10,21 @@ ghost use Rattle.linear.specs.Matrix.{identity};
 ghost use Rattle.linear.specs.Slice.{at};
 ghost use Rattle.linear.specs.Place.{Carried};
 ghost use Rattle.linear.specs.Reach.{Reach, MatrixList};
+ghost use Rattle.linear.specs.Written.{written};
 ghost use Rattle.raised_rows.specs.Raised.{raisedBy, RaisedRow, RaisedRows};
 ghost use Rattle.raised_rows.specs.Place.{raisedPlace};
 ghost use Rattle.enclosure.specs.Problem.{columnOf, problemOf};
 ghost use Rattle.enclosure.specs.Reckoning.{defect, residual};
-ghost use Rattle.reckoning.specs.Arrays.{Begins, stored};
+ghost use Rattle.reckoning.specs.Arrays.{Begins};
 ghost use Rattle.reckoning.specs.Parts.{rowsPart};
-ghost use Rattle.differences.specs.Sums.{halfOf, Room, Added, SumsOf};
+ghost use Rattle.differences.specs.Sums.{halfOf, SmallSums, Added, SumsOf};
 ghost use Rattle.differences.specs.Difference.{numberLess, difference};
 use integer::magnitude;
+use raised_rows::RAISED_BY;
 use raised_rows::ROWS_LENGTH;
 use raised_rows::add_low;
 use raised_rows::raise_columns;
 use reckoning::unit_at;
-
-const RAISED_BY: i64 = 33554432;
 
 // Term j of a multiple of a raised row: sum + size·x, where x is number j of the row that starts at place row, by way of the place that was carried to it.
 fn add_scaled(sum: u64, size: u64, rows: &[u64], row: usize, place: usize, j: usize) -> u64
@@ -40,8 +40,8 @@ fn add_scaled(sum: u64, size: u64, rows: &[u64], row: usize, place: usize, j: us
 fn add_row(sums: &mut [u64; 64], half: usize, size: u64, rows: &[u64], row: usize, n: usize)
     requires { ⌜ (half + n ≤ 64) × (size ≤ 2 ^ 20) ⌝ }
     requires { ⌜ RaisedRow (now rows) row n ⌝ }
-    requires { ⌜ Room (now sums) half n ⌝ }
-    ensures { λ _. ⌜ now (sums .exit) ≡ stored (now (sums .entry)) half 1
+    requires { ⌜ SmallSums (now sums) half n ⌝ }
+    ensures { λ _. ⌜ now (sums .exit) ≡ written (now (sums .entry)) half 1
         (λ (j : ℕ). getD (now (sums .entry)) (half + j) 0 + size * getD (now (rows .entry)) (row + j) 0) n ⌝ }
 {
     let mut place = row;
@@ -65,7 +65,7 @@ fn add_multiple(sums: &mut [u64; 64], x: i64, rows: &[u64], k: usize, row: usize
     requires { ⌜ (n ≤ 32) × (natAbs x ≤ 2 ^ 20) ⌝ }
     requires { ⌜ Carried 0 (n + 1) k row ⌝ }
     requires { ⌜ RaisedRow (now rows) (k * (n + 1)) n ⌝ }
-    requires { ⌜ (length (now sums) ≡ 64) × (Room (now sums) 0 n × Room (now sums) 32 n) ⌝ }
+    requires { ⌜ (length (now sums) ≡ 64) × (SmallSums (now sums) 0 n × SmallSums (now sums) 32 n) ⌝ }
     ensures { λ _. ⌜ Added (now (sums .entry)) (now (sums .exit)) n x
         (λ (j : ℕ). getD (now (rows .entry)) (raisedPlace n k j) 0) ⌝ }
 {
@@ -136,11 +136,11 @@ fn store_row(
     requires { ⌜ (t ≤ 20) × ((n ≤ 32) × ((m < n) × (start + n * stride < 2 ^ 60))) ⌝ }
     requires { ⌜ Reach (now xs) start stride n (2 ^ 20) ⌝ }
     requires { ⌜ RaisedRows (now rows) n ⌝ }
-    ensures { λ _. ⌜ now (out .exit) ≡ stored (now (out .entry)) m n
+    ensures { λ _. ⌜ now (out .exit) ≡ written (now (out .entry)) m n
         (λ (j : ℕ). numberLess t (now (xs .entry)) start stride (now (rows .entry)) n m j) n ⌝ }
 {
     let mut sums = [0u64; 64];
-    let raised = RAISED_BY * add_rows(&mut sums, xs, start, stride, rows, n);
+    let raised = RAISED_BY as i64 * add_rows(&mut sums, xs, start, stride, rows, n);
     let mut place = m;
     for j in 0..n {
         out[place] = number_less(t, m, j, raised, sums[j], sums[32 + j]);
@@ -183,7 +183,7 @@ pub fn inverse_residuals_of(
     requires { ⌜ MatrixList (now matrix) n ⌝ }
     requires { ⌜ RaisedRows (now rows) n ⌝ }
     ensures { λ r. ⌜ Begins (pos 0) r (n * n)
-        (λ (i : ℕ). residual (columnOf (rowsPart n t (now (matrix .entry)) (now (rows .entry)) []) (i / n)) (i % n)) ⌝ }
+        (λ (i : ℕ). residual (columnOf (rowsPart n t (now (matrix .entry)) (now (rows .entry))) (i / n)) (i % n)) ⌝ }
 {
     differences_of(t, matrix, n, 1, rows, n)
 }

@@ -1,13 +1,13 @@
 -- The exact value of a double.
 --   value-whole, value-finite — what is ±n units in value is ±n whole, and finite
---   Some, some   — every finite double is ±q · 2^k units, for a q of at most 53 digits;  one-size — and has one size
+--   Some, some   — every finite double is ±q · 2^k units, for a q of at most 53 digits
 --   whole-exact  — a finite double is exactly `whole` units: nothing is rounded away
 --   same-value   — two doubles with one sign and one size are one
 --   minus-zero   — minus zero is 0 units
 use mathlib.Core.Path.{_≡_, refl, sym, ap, _∙_, subst}
 use mathlib.Core.Bool.{Bool, true, false, cond}
 use Prim.Native.Nat.{ℕ, _+_, _-_, _*_, _/_, _%_, _^_, _<_}
-use native.Mathlib.Nat.{mul-div-cancel, eq-of-mul-eq-mul-right}
+use native.Mathlib.Nat.{mul-div-cancel}
 use native.Mathlib.Omega.{arith}
 use borrow.Author.Tests.{eqb-true, eqb-false}
 use lib.Dec.{T, T-not, leb, eqb}
@@ -32,11 +32,6 @@ pub value-finite : (x : Float) (s : Bool) (n c : ℕ) → HasValue x s n c → T
 value-finite nan s n c h = h
 value-finite (inf t) s n c h = h
 value-finite (fin t m e) s n c h = tt
-
-pub one-size : (x : Float) (s t : Bool) (m n c : ℕ) → HasValue x s m c → HasValue x t n c → m ≡ n
-one-size nan s t m n c h g = absurd h
-one-size (inf u) s t m n c h g = absurd h
-one-size (fin u i e) s t m n c h g = eq-of-mul-eq-mul-right (down e) (down-pos e) m n (sym (h .1) ∙ g .1)
 
 -- ---- every finite double is ±q · 2^k units
 abbrev pub Some : Float → Type 0

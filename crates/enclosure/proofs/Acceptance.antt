@@ -42,7 +42,7 @@ unfolding apply rowSum
 residual-half P N q c o h near k l =
     half (P .n) q c (λ j. pos (S P) *ℤ N j -ℤ pos q *ℤ P .X j) (P .A k) (residual P k) o near (sym (error-solves P q N h k l) ∙ simp *ℤ-comm)
 
-pub defect-half : (P : Problem) (H : Mat) (q : ℕ) → 1 ≤ q → ((m j : ℕ) → m < P .n → j < P .n → product (P .n) H (P .A) m j ≡ pos q *ℤ identity m j) →
+defect-half : (P : Problem) (H : Mat) (q : ℕ) → 1 ≤ q → ((m j : ℕ) → m < P .n → j < P .n → product (P .n) H (P .A) m j ≡ pos q *ℤ identity m j) →
     ((m k : ℕ) → m < P .n → k < P .n → 2 * natAbs (pos (T P) *ℤ H m k -ℤ pos q *ℤ P .G m k) ≤ q) →
     (m j : ℕ) → m < P .n → j < P .n → 2 * natAbs (defect P m j) ≤ 1 * sumℕ (P .n) (λ (k : ℕ). natAbs (P .A k j))
 unfolding product defect apply

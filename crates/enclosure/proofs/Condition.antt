@@ -28,7 +28,7 @@ use Rattle.enclosure.proofs.Margin.{margin-sum, margin-above}
 swap : (d x y : ℤ) → d +ℤ x -ℤ (d +ℤ y) ≡ negℤ (y -ℤ x)
 swap d x y = by-zero (simp ring (simp moves (simp ring₀)))
 
-pub start-next : (P : Problem) (i : ℕ) → i < P .n → natAbs (u0 P i -ℤ u1 P i) ≡ natAbs (image P i)
+start-next : (P : Problem) (i : ℕ) → i < P .n → natAbs (u0 P i -ℤ u1 P i) ≡ natAbs (image P i)
 unfolding u0 u1 image residual
 start-next P i l =
     let d : ℤ = apply (P .n) (defect P) (P .X) i in

@@ -23,7 +23,7 @@ use Rattle.exact_solution.proofs.Existence.{determined}
 use Rattle.entry.proofs.Limit.{entry-covers}
 use Rattle.enclosure.specs.Problem.{Problem, S, columnOf}
 use Rattle.enclosure.specs.Reckoning.{load, margin, residual, slack, sizesWith, boundWith, bound, inverseBound, defect}
-use Rattle.enclosure.specs.Demand.{RightSide, ExactSolution, ExactSolutionOf, InLimits, InEntryLimits, Encloses, OneHeight, Margins}
+use Rattle.enclosure.specs.Demand.{RightSide, ExactSolutionOf, InLimits, InEntryLimits, Encloses, OneHeight, Margins}
 use Rattle.enclosure.proofs.Margin.{margin-above}
 use Rattle.enclosure.proofs.Bounds.{bound-covers}
 use Rattle.enclosure.proofs.Enclosure.{enclosed}

@@ -21,7 +21,7 @@ pub record Small (P : Problem) (r : Vec) (σ : ℕ → ℕ) : Type 0 where
   pub margins : (m : ℕ) → m < P .n → 0 < natAbs (margin P m)
 
 module _ (P : Problem) (r : Vec) (σ : ℕ → ℕ) (h : Small P r σ) where
-  pub sizes-size : (m : ℕ) → m < P .n → sizesWith P r σ m ≤ largestSize
+  sizes-size : (m : ℕ) → m < P .n → sizesWith P r σ m ≤ largestSize
   unfolding sizesWith
   sizes-size m l =
       omega (arith, joint (P .n) (2 ^ 20) allowedResidual (P .G) r σ m (λ j lj. h .inverse m j l lj) (h .residuals), mul-le-mul-right (2 ^ 45) (h .few))

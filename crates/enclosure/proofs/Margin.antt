@@ -32,14 +32,14 @@ cut-test a b = go (leb a b) refl
     go true e = eq-eqb (a - b) 0 (omega (arith, leb-true a b e))
     go false e = ne-eqb (a - b) 0 (λ z. omega (arith, leb-false a b e))
 
-pub difference-test : (a b : ℕ) → leZ (pos a -ℤ pos b) (pos 0) ≡ leb a b
+difference-test : (a b : ℕ) → leZ (pos a -ℤ pos b) (pos 0) ≡ leb a b
 difference-test a b = go (leb a b) refl
   where
     go : (t : Bool) → leb a b ≡ t → leZ (pos a -ℤ pos b) (pos 0) ≡ t
     go true e = rw (less a b (leb-true a b e)) (not-above (b - a))
     go false e = let l : b < a = leb-false a b e in rw (more a b (omega arith)) (lt-leb (a - b) 0 (omega arith))
 
-pub difference-size : (a b : ℕ) → natAbs (pos a -ℤ pos b) ≡ (a - b) + (b - a)
+difference-size : (a b : ℕ) → natAbs (pos a -ℤ pos b) ≡ (a - b) + (b - a)
 difference-size a b = simp zz (omega arith)
 
 module _ (P : Problem) (m : ℕ) where
@@ -52,7 +52,7 @@ module _ (P : Problem) (m : ℕ) where
   margin-cut h = difference-size (T P * P .w m) (load P m) ∙ omega arith
 
 module _ (P : Problem) (m : ℕ) (h : marginFails P m ≡ false) where
-  pub load-below : load P m < T P * P .w m
+  load-below : load P m < T P * P .w m
   load-below = leb-false (T P * P .w m) (load P m) (sym (margin-test P m) ∙ h)
 
   pub margin-sum : natAbs (margin P m) + load P m ≡ T P * P .w m

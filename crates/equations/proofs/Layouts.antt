@@ -6,15 +6,16 @@ use mathlib.Core.Path.{_≡_, refl, subst, _∙_}
 use mathlib.Core.List.{List}
 use Prim.Native.Nat.{ℕ, zero, suc, _+_, _*_, _≤_, _<_}
 use native.Mathlib.Omega.{arith}
-use lib.IntN.{ℤ}
+use lib.IntN.{ℤ, pos}
 use lib.ListN.{length}
 use Rattle.integer.specs.Finite.{sumℕ}
 use Rattle.integer.proofs.Search.{upto}
 use Rattle.linear.specs.Matrix.{Mat}
 use Rattle.linear.specs.Slice.{at}
+use Rattle.linear.proofs.Written.{written-at, written-else}
 use Rattle.equations.specs.declared.Layout.the-variants.{Square, Lower}
 use Rattle.equations.specs.Written.{widthOf, rowsWritten, matrixWritten}
-use Rattle.equations.proofs.Places.{start-below, written-at, written-else, rows-length}
+use Rattle.equations.proofs.Places.{start-below, rows-length}
 
 module _ (width : ℕ → ℕ) (A : Mat) (l : List ℤ) where
   pub rows-at : (k : ℕ) → sumℕ k width ≤ length l → (i : ℕ) → i < k → (j : ℕ) → j < width i → at (rowsWritten width k A l) (sumℕ i width + j) ≡ A i j
@@ -23,14 +24,14 @@ module _ (width : ℕ → ℕ) (A : Mat) (l : List ℤ) where
   rows-at (suc k) h i b =
       upto (λ (m : ℕ). (j : ℕ) → j < width m → at (rowsWritten width (suc k) A l) (sumℕ m width + j) ≡ A m j) k i b
       (λ m c j d.
-      written-else (sumℕ k width) (A k) (rowsWritten width k A l) (width k) (sumℕ m width + j) (λ p e q. omega (arith, q, start-below width k m c, d))
+      written-else (rowsWritten width k A l) (sumℕ k width) 1 (A k) (pos 0) (width k) (sumℕ m width + j) (λ p e q. omega (arith, q, start-below width k m c, d))
       ∙ rows-at k (omega arith) m c j d)
-      (λ j d. written-at (sumℕ k width) (A k) (rowsWritten width k A l) (width k) (omega (arith, rows-length width A l k)) j d)
+      (λ j d. written-at (rowsWritten width k A l) (sumℕ k width) 1 (A k) (pos 0) (width k) j (omega arith) (omega arith) d (λ p e. omega (arith, h, rows-length width A l k)))
 
   pub rows-else : (k p : ℕ) → sumℕ k width ≤ p → at (rowsWritten width k A l) p ≡ at l p
   unfolding rowsWritten sumℕ
   rows-else zero p h = refl
-  rows-else (suc k) p h = written-else (sumℕ k width) (A k) (rowsWritten width k A l) (width k) p (λ j b q. omega (arith, q, h)) ∙ rows-else k p (omega arith)
+  rows-else (suc k) p h = written-else (rowsWritten width k A l) (sumℕ k width) 1 (A k) (pos 0) (width k) p (λ j b q. omega (arith, q, h)) ∙ rows-else k p (omega arith)
 
 -- ---- the square
 pub square-start : (n i : ℕ) → sumℕ i (widthOf Square n) ≡ i * n

@@ -7,7 +7,7 @@
 use mathlib.Core.Path.{_≡_, refl, sym, ap, _∙_}
 use mathlib.Core.Bool.{Bool, true, false, cond, _&&_, _||_}
 use mathlib.Core.List.{List}
-use Prim.Native.Nat.{ℕ, _*_, _≤_, _<_, _^_}
+use Prim.Native.Nat.{ℕ, _≤_, _<_, _^_}
 use native.Mathlib.Nat.{mul-le-mul}
 use native.Mathlib.Omega.{arith}
 use borrow.Author.Tests.{eqb-true, eqb-false, eq-eqb, ne-eqb}
@@ -23,7 +23,7 @@ use Rattle.integer.proofs.Machine.{small}
 use Rattle.linear.specs.Slice.{at}
 use Rattle.rules.proofs.Ranges.{neither-left, neither-right}
 use Rattle.observation.specs.declared.Observation.{Observation}
-use Rattle.observation.specs.Distinct.{when, touches, joins, weightAt, gain}
+use Rattle.observation.specs.Distinct.{when, touches, weightAt, gain}
 use Rattle.gathering.specs.Gathered.{Proper}
 use Rattle.equations.specs.declared.Row.{Row}
 use Rattle.equations.specs.Kept.{Grown, SmallRow}
@@ -155,7 +155,7 @@ module _ (k : ℕ) (l : Observation) (proper : Proper l) (few : k ≤ 32) (row :
 
 -- a line at other marks
 module _ (k : ℕ) (l : Observation) (t : touches k l ≡ false) where
-  pub not-at : (m : ℕ) → weightAt k m l ≡ pos 0
+  not-at : (m : ℕ) → weightAt k m l ≡ pos 0
   unfolding weightAt
   not-at m =
       rw (t, neither-left (eqb (l .«from») k) (eqb (l .to) k) t, neither-right (eqb (l .«from») k) (eqb (l .to) k) t)
@@ -166,7 +166,7 @@ module _ (k : ℕ) (l : Observation) (t : touches k l ≡ false) where
       go false true = refl
       go false false = refl
 
-  pub no-gain : gain k l ≡ pos 0
+  no-gain : gain k l ≡ pos 0
   unfolding gain
   no-gain = rw (neither-left (eqb (l .«from») k) (eqb (l .to) k) t, neither-right (eqb (l .«from») k) (eqb (l .to) k) t)
 

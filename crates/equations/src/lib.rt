@@ -6,9 +6,10 @@ ghost use lib.IntN.{pos, natAbs, _+ℤ_, _-ℤ_, _*ℤ_};
 ghost use lib.ListN.{length, set};
 ghost use Rattle.integer.specs.Finite.{sumℕ};
 ghost use Rattle.linear.specs.Slice.{at};
+ghost use Rattle.linear.specs.Written.{written};
 ghost use Rattle.observation.specs.Distinct.{touches};
 ghost use Rattle.gathering.specs.Gathered.{Proper, Ready};
-ghost use Rattle.equations.specs.Written.{widthOf, writtenFrom, matrixWritten, rightWritten};
+ghost use Rattle.equations.specs.Written.{widthOf, matrixWritten, rightWritten};
 ghost use Rattle.equations.specs.Kept.{SmallRow, RowSums, Grown, keptMatrix, keptRight};
 use gathering::Gathered;
 use observation::Observation;
@@ -118,7 +119,7 @@ fn row_of(g: Gathered, k: u32) -> Row
 // Writes the sums at marks 1, 2, .. width from a place on.
 fn store_row(sums: [i64; 33], width: usize, dst: &mut [i64], start: usize)
     requires { ⌜ (width ≤ 32) × (start + width ≤ length (now dst)) ⌝ }
-    ensures { λ _. ⌜ now (dst .exit) ≡ writtenFrom start width (λ (j : ℕ). at sums (j + 1)) (now (dst .entry)) ⌝ }
+    ensures { λ _. ⌜ now (dst .exit) ≡ written (now (dst .entry)) start 1 (λ (j : ℕ). at sums (j + 1)) width ⌝ }
 {
     for j in 0..width {
         dst[start + j] = sums[j + 1];

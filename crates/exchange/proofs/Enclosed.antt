@@ -6,7 +6,7 @@
 --   height-between   — for every right side within tolerance there is exactly one exact height in fractions, and it lies between the ends
 use mathlib.Core.Path.{_≡_, refl}
 use mathlib.Core.List.{List, []}
-use Prim.Native.Nat.{ℕ, _<_}
+use Prim.Native.Nat.{ℕ}
 use lib.ListN.{getD}
 use lib.Ieee.{Float}
 use Rattle.linear.specs.Matrix.{Vec}
@@ -22,14 +22,14 @@ use Rattle.exchange.specs.Hands.{Hands, AllBetween}
 use Rattle.exchange.proofs.Promises.{within-between}
 
 module _ (P : Problem) (E : ℕ → ℕ) (I : Outgoing) (h : Hands P E I) {r : Outcome} {low high : List Float} (c : IntervalsOf I r low high) (ok : said r ≡ []) where
-  pub limits-between : (N : Vec) (q : ℕ) → InLimits P E N q → AllBetween (P .n) low high N q
+  limits-between : (N : Vec) (q : ℕ) → InLimits P E N q → AllBetween (P .n) low high N q
   limits-between N q w i l = within-between I c ok i (rw (h .n) l) (N i) q (rw (h .s, h .guess i l, h .bounds i l) (w i l))
 
   module _ {L : ℕ → ℕ → ℕ} (e : Encloses P E L) where
     pub encloses-between : (β : Vec) (ρ : ℕ) → RightSide P β ρ → (N : Vec) (q : ℕ) → ExactSolutionOf P β ρ N q → AllBetween (P .n) low high N q
     encloses-between β ρ side N q x = limits-between N q (e .solution β ρ side N q x)
 
-    pub encloses-between-at-b : (N : Vec) (q : ℕ) → ExactSolution P N q → AllBetween (P .n) low high N q
+    encloses-between-at-b : (N : Vec) (q : ℕ) → ExactSolution P N q → AllBetween (P .n) low high N q
     encloses-between-at-b N q x = limits-between N q (e .solution-at-b N q x)
 
 module _ (J : Input) {a : Outcome} {E L : List ℕ} (k : Checked J a E L) (yes′ : said a ≡ []) {low₀ high₀ : List Float} {r : Outcome} {low high : List Float}

@@ -6,7 +6,7 @@
 --   said-inward, said-outward — each number is said of some call, 8 before 3 and 3 before 19; the limit 2^60 is taken, and one more is 3
 use mathlib.Core.Path.{_≡_, refl, sym, ap, ap₂, _∙_, subst}
 use mathlib.Core.List.{List, [], _∷_}
-use Prim.Native.Nat.{ℕ, zero, suc, _+_, _≤_, _<_, _^_}
+use Prim.Native.Nat.{ℕ, zero, suc, _+_, _<_, _^_}
 use native.Mathlib.Omega.{arith}
 use lib.Dec.{lit<, lit≤}
 use lib.IntN.{ℤ, pos, negsuc}
@@ -42,14 +42,14 @@ use Rattle.exchange.proofs.Outward.{low-after, high-after, said-nothing
 use Rattle.exchange.proofs.Promises.{comes-back}
 use Rattle.exchange.proofs.Taken.{numbers-taken, checked-taken, guesses-taken}
 
-pub inward-accepts : (I : Incoming) → inwardAnswer I ≡ [] → GuessesOf I guessed.Accepted (guessesAfter I)
+inward-accepts : (I : Incoming) → inwardAnswer I ≡ [] → GuessesOf I guessed.Accepted (guessesAfter I)
 inward-accepts I e = record {
   says = sym e;
   guesses = refl;
   nearest = λ n i l. subst (Nearest (I .s) (doubleAt (I .values) i)) (sym (after-at I e i l)) (guess-nearest (I .s) (doubleAt (I .values) i));
 }
 
-pub outward-accepts : (I : Outgoing) → outwardAnswer I ≡ [] → IntervalsOf I outcome.Accepted (lowsAfter I) (highsAfter I)
+outward-accepts : (I : Outgoing) → outwardAnswer I ≡ [] → IntervalsOf I outcome.Accepted (lowsAfter I) (highsAfter I)
 outward-accepts I e = record {
   says = sym e;
   lows = refl;

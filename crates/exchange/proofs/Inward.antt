@@ -14,6 +14,8 @@ use borrow.Author.Tests.{ltb-false, not-true, not-false}
 use lib.IntN.{ℤ, pos}
 use lib.ListN.{getD, length}
 use Rattle.linear.specs.Slice.{at}
+use Rattle.linear.specs.Written.{written}
+use Rattle.linear.proofs.Written.{written-length, front-at, front-else}
 use Rattle.rules.specs.Order.{Test, number, verdict, ifAccepted}
 use Rattle.rules.specs.Range.{inRange, shortColumn}
 use Rattle.rules.specs.declared.Kind.the-variants as kind
@@ -21,14 +23,12 @@ use Rattle.rules.specs.declared.Refusal.the-variants.{TooShort, OutOfRange}
 use Rattle.rules.proofs.Ranges.{both-left, both-right, neither-left, neither-right, size-range, solution-scale-range}
 use Rattle.rules.proofs.Tests.{said-exactly, none-said, silent}
 use Rattle.rules.proofs.Verdicts.{accepted-new, accepted-old, nothing-is-not}
-use Rattle.reckoning.specs.Arrays.{stored}
-use Rattle.reckoning.proofs.Filled.{stored-length}
 use Rattle.doubles.specs.Guess.{guessFor, hasGuess, Nearest}
 use Rattle.doubles.proofs.Steps.{guess-nearest}
 use Rattle.exchange.specs.Lists.{doubleAt, exchangeSizes}
 use Rattle.exchange.specs.Inward.{Incoming, shortIncoming, allHaveGuess, inwardOrder, inwardAnswer, guessesAfter, GuessesOf}
 use Rattle.exchange.specs.declared.Guessed.the-variants.{Accepted, Refused, NoGuess}
-use Rattle.exchange.proofs.Lists.{every-at, every-in, every-fails, every-not, written-at, written-else}
+use Rattle.exchange.proofs.Lists.{every-at, every-in, every-fails, every-not}
 
 pub record Ready (I : Incoming) : Type 0 where
   pub values : I .n ≤ length (I .values)
@@ -76,12 +76,12 @@ module _ (I : Incoming) where
   in-none e f g = record { says = sym (answer-19 e f g); guesses = sym (accepted-old _ _ (answer-19 e f g)); nearest = λ n. absurd (nothing-is-not n) }
 
   pub in-all : {after : List ℤ} → shortIncoming I ≡ false → exchangeSizes (I .n) (I .s) ≡ true → allHaveGuess I ≡ true →
-      after ≡ stored (I .guess) 0 1 (λ (i : ℕ). guessFor (I .s) (doubleAt (I .values) i)) (I .n) → GuessesOf I Accepted after
+      after ≡ written (I .guess) 0 1 (λ (i : ℕ). guessFor (I .s) (doubleAt (I .values) i)) (I .n) → GuessesOf I Accepted after
   unfolding guessesAfter
   in-all e f g w = record {
     says = sym (answer-0 e f g);
     guesses = w ∙ sym (accepted-new _ _ (answer-0 e f g));
-    nearest = λ n i l. subst (Nearest (I .s) (doubleAt (I .values) i)) (sym (ap (λ (xs : List ℤ). at xs i) w ∙ written-at (I .guess) _ (pos 0) (I .n) i l (ready e f .guess))) (guess-nearest (I .s) (doubleAt (I .values) i));
+    nearest = λ n i l. subst (Nearest (I .s) (doubleAt (I .values) i)) (sym (ap (λ (xs : List ℤ). at xs i) w ∙ front-at (I .guess) _ (pos 0) (I .n) i l (ready e f .guess))) (guess-nearest (I .s) (doubleAt (I .values) i));
   }
 
   -- ---- exactly when
@@ -136,20 +136,20 @@ module _ (I : Incoming) where
   unfolding guessesAfter
   after-at e i l =
       let n = said-nothing .0 e in
-      ap (λ (xs : List ℤ). at xs i) (accepted-new _ _ e) ∙ written-at (I .guess) _ (pos 0) (I .n) i l (ready (n .0) (n .1) .guess)
+      ap (λ (xs : List ℤ). at xs i) (accepted-new _ _ e) ∙ front-at (I .guess) _ (pos 0) (I .n) i l (ready (n .0) (n .1) .guess)
 
   pub after-else : (i : ℕ) → I .n ≤ i → at (guessesAfter I) i ≡ at (I .guess) i
   unfolding guessesAfter
   after-else i h = go (inwardAnswer I)
     where
-      go : (w : List ℕ) → at (ifAccepted w (stored (I .guess) 0 1 (λ (j : ℕ). guessFor (I .s) (doubleAt (I .values) j)) (I .n)) (I .guess)) i ≡ at (I .guess) i
-      go [] = written-else (I .guess) _ (pos 0) (I .n) i h
+      go : (w : List ℕ) → at (ifAccepted w (written (I .guess) 0 1 (λ (j : ℕ). guessFor (I .s) (doubleAt (I .values) j)) (I .n)) (I .guess)) i ≡ at (I .guess) i
+      go [] = front-else (I .guess) _ (pos 0) (I .n) i h
       go (k ∷ ks) = refl
 
   pub after-length : length (guessesAfter I) ≡ length (I .guess)
   unfolding guessesAfter
   after-length = go (inwardAnswer I)
     where
-      go : (w : List ℕ) → length (ifAccepted w (stored (I .guess) 0 1 (λ (j : ℕ). guessFor (I .s) (doubleAt (I .values) j)) (I .n)) (I .guess)) ≡ length (I .guess)
-      go [] = stored-length (I .guess) 0 1 _ (I .n)
+      go : (w : List ℕ) → length (ifAccepted w (written (I .guess) 0 1 (λ (j : ℕ). guessFor (I .s) (doubleAt (I .values) j)) (I .n)) (I .guess)) ≡ length (I .guess)
+      go [] = written-length (I .guess) 0 1 _ (I .n)
       go (k ∷ ks) = refl

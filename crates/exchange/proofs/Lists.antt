@@ -2,20 +2,15 @@
 --   every-none, every-next, every-end — at none, at n + 1 and at the end, for loops
 --   every-at, every-in — each one holds, and the converse;  every-fails, every-not — one does not, and the converse
 --   every-ext — equal tests are alike
---   written-at, written-else — the first n places hold f; every other place is as before
 use mathlib.Core.Path.{_≡_, refl, sym, ap, _∙_, subst}
 use mathlib.Core.Bool.{Bool, true, false, _&&_}
-use mathlib.Core.List.{List}
-use Prim.Native.Nat.{ℕ, zero, suc, _+_, _*_, _≤_, _<_}
+use Prim.Native.Nat.{ℕ, zero, suc, _+_, _≤_, _<_}
 use native.Mathlib.Nat.{le-antisymm}
 use native.Mathlib.Numerals.{add-one}
 use native.Mathlib.Omega.{arith}
 use lib.Dec.{T}
-use lib.ListN.{length, getD}
 use Rattle.integer.proofs.Search.{upto}
 use Rattle.rules.proofs.Ranges.{both, both-left, both-right}
-use Rattle.reckoning.specs.Arrays.{stored}
-use Rattle.reckoning.proofs.Filled.{stored-at, stored-else}
 use Rattle.exchange.specs.Lists.{every}
 
 pub every-none : (p : ℕ → Bool) → every 0 p ≡ true
@@ -59,11 +54,3 @@ pub every-ext : (n : ℕ) (p q : ℕ → Bool) → ((i : ℕ) → i < n → p i 
 unfolding every
 every-ext zero p q h = refl
 every-ext (suc n) p q h = rw (h n (omega arith), every-ext n p q (λ i l. h i (omega arith)))
-
--- ---- lists with their first n places written
-module _ {A : Type 0} (xs : List A) (f : ℕ → A) (d : A) (n : ℕ) where
-  pub written-at : (i : ℕ) → i < n → n ≤ length xs → getD (stored xs 0 1 f n) i d ≡ f i
-  written-at i l h = let e : 0 + i * 1 ≡ i = omega arith in rw e at (stored-at xs 0 1 f d n i (omega arith) l (λ k m. omega arith))
-
-  pub written-else : (i : ℕ) → n ≤ i → getD (stored xs 0 1 f n) i d ≡ getD xs i d
-  written-else i h = stored-else xs 0 1 f d n i (λ k l e. omega arith)

@@ -14,6 +14,8 @@ use lib.IntN.{pos}
 use lib.ListN.{getD, length}
 use lib.Ieee.{Float, nan}
 use Rattle.linear.specs.Slice.{at}
+use Rattle.linear.specs.Written.{written}
+use Rattle.linear.proofs.Written.{front-at, front-else}
 use Rattle.rules.specs.Order.{Test, number, ifAccepted}
 use Rattle.rules.specs.Range.{inRange, allInRange, shortColumn}
 use Rattle.rules.specs.declared.Kind.the-variants as kind
@@ -23,12 +25,11 @@ use Rattle.rules.proofs.AllInRange.{all-at}
 use Rattle.rules.proofs.Ranges.{both-left, both-right, neither-left, neither-right, size-range, solution-scale-range, guess-range}
 use Rattle.rules.proofs.Tests.{said-exactly, none-said, silent}
 use Rattle.rules.proofs.Verdicts.{accepted-new, accepted-old, nothing-is-not}
-use Rattle.reckoning.specs.Arrays.{stored}
 use Rattle.interval.specs.Interval.{Outward}
 use Rattle.interval.proofs.Heights.{outward}
 use Rattle.exchange.specs.Lists.{doubleAt, exchangeSizes}
 use Rattle.exchange.specs.Outward.{Outgoing, shortOutgoing, boundsInRange, outgoingInRanges, outwardOrder, outwardAnswer, endsAt, lowsAfter, highsAfter, IntervalsOf, Reckonable}
-use Rattle.exchange.proofs.Lists.{every-at, written-at, written-else}
+use Rattle.exchange.proofs.Lists.{every-at}
 
 pub record Ready (I : Outgoing) : Type 0 where
   pub guess : I .n ≤ length (I .guess)
@@ -91,8 +92,8 @@ module _ (I : Outgoing) where
     outward = λ n. absurd (nothing-is-not n);
   }
 
-  pub out-all : {low high : List Float} → shortOutgoing I ≡ false → outgoingInRanges I ≡ true → low ≡ stored (I .low) 0 1 (λ (i : ℕ). endsAt I i .low) (I .n) →
-      high ≡ stored (I .high) 0 1 (λ (i : ℕ). endsAt I i .high) (I .n) → IntervalsOf I Accepted low high
+  pub out-all : {low high : List Float} → shortOutgoing I ≡ false → outgoingInRanges I ≡ true → low ≡ written (I .low) 0 1 (λ (i : ℕ). endsAt I i .low) (I .n) →
+      high ≡ written (I .high) 0 1 (λ (i : ℕ). endsAt I i .high) (I .n) → IntervalsOf I Accepted low high
   unfolding lowsAfter highsAfter
   out-all {low} {high} e f l h =
       let r = ready e (both-left (exchangeSizes (I .n) (I .s)) _ f) in
@@ -102,8 +103,8 @@ module _ (I : Outgoing) where
         lows = l ∙ sym (accepted-new _ _ (answer-0 e f));
         highs = h ∙ sym (accepted-new _ _ (answer-0 e f));
         outward = λ n i b.
-            let a : doubleAt low i ≡ endsAt I i .low = ap (λ (xs : List Float). doubleAt xs i) l ∙ written-at (I .low) _ nan (I .n) i b (r .low) in
-            let c : doubleAt high i ≡ endsAt I i .high = ap (λ (xs : List Float). doubleAt xs i) h ∙ written-at (I .high) _ nan (I .n) i b (r .high) in
+            let a : doubleAt low i ≡ endsAt I i .low = ap (λ (xs : List Float). doubleAt xs i) l ∙ front-at (I .low) _ nan (I .n) i b (r .low) in
+            let c : doubleAt high i ≡ endsAt I i .high = ap (λ (xs : List Float). doubleAt xs i) h ∙ front-at (I .high) _ nan (I .n) i b (r .high) in
             subst (Outward (I .s) (at (I .guess) i) (getD (I .bounds) i 0)) (ap₂ (λ (x y : Float). record { low = x; high = y }) (sym a) (sym c))
             (outward (I .s) (at (I .guess) i) (getD (I .bounds) i 0) (k .guesses i b) (k .limits i b));
       }
@@ -136,16 +137,16 @@ module _ (I : Outgoing) where
   unfolding lowsAfter
   low-after e i l =
       let n = said-nothing .0 e in
-      ap (λ (xs : List Float). doubleAt xs i) (accepted-new _ _ e) ∙ written-at (I .low) _ nan (I .n) i l (ready (n .0) (both-left (exchangeSizes (I .n) (I .s)) _ (n .1)) .low)
+      ap (λ (xs : List Float). doubleAt xs i) (accepted-new _ _ e) ∙ front-at (I .low) _ nan (I .n) i l (ready (n .0) (both-left (exchangeSizes (I .n) (I .s)) _ (n .1)) .low)
 
   pub high-after : outwardAnswer I ≡ [] → (i : ℕ) → i < I .n → doubleAt (highsAfter I) i ≡ endsAt I i .high
   unfolding highsAfter
   high-after e i l =
       let n = said-nothing .0 e in
-      ap (λ (xs : List Float). doubleAt xs i) (accepted-new _ _ e) ∙ written-at (I .high) _ nan (I .n) i l (ready (n .0) (both-left (exchangeSizes (I .n) (I .s)) _ (n .1)) .high)
+      ap (λ (xs : List Float). doubleAt xs i) (accepted-new _ _ e) ∙ front-at (I .high) _ nan (I .n) i l (ready (n .0) (both-left (exchangeSizes (I .n) (I .s)) _ (n .1)) .high)
 
-  kept : (old : List Float) (f : ℕ → Float) (i : ℕ) → I .n ≤ i → (w : List ℕ) → doubleAt (ifAccepted w (stored old 0 1 f (I .n)) old) i ≡ doubleAt old i
-  kept old f i h [] = written-else old f nan (I .n) i h
+  kept : (old : List Float) (f : ℕ → Float) (i : ℕ) → I .n ≤ i → (w : List ℕ) → doubleAt (ifAccepted w (written old 0 1 f (I .n)) old) i ≡ doubleAt old i
+  kept old f i h [] = front-else old f nan (I .n) i h
   kept old f i h (k ∷ ks) = refl
 
   pub ends-else : (i : ℕ) → I .n ≤ i → (doubleAt (lowsAfter I) i ≡ doubleAt (I .low) i) × (doubleAt (highsAfter I) i ≡ doubleAt (I .high) i)

@@ -15,6 +15,8 @@ use lib.Ieee.{Float}
 use lib.Ieee.Bits.{is-true}
 use lib.Ieee.Scale.{finite}
 use Rattle.linear.specs.Slice.{at}
+use Rattle.linear.specs.Written.{written}
+use Rattle.linear.proofs.Written.{written-length, front-at}
 use Rattle.rules.specs.Range.{inRange, rangeOf, ranges, shortColumn}
 use Rattle.rules.specs.Refusal.{said}
 use Rattle.rules.specs.declared.Kind.the-variants as kind
@@ -24,7 +26,7 @@ use Rattle.rules.proofs.Ranges.{both, both-left, both-right, neither-right, siz
 use Rattle.enclosure.specs.Reckoning.{bound}
 use Rattle.checked.specs.Input.{Input, problem}
 use Rattle.checked.specs.Order.{answer}
-use Rattle.checked.specs.Checked.{Checked, written}
+use Rattle.checked.specs.Checked.{Checked}
 use Rattle.checked.proofs.Contract.{answer-ready}
 use Rattle.checked.proofs.Fit.{fit-of}
 use Rattle.checked.proofs.Largest.{solution-size}
@@ -77,9 +79,9 @@ checked-taken J {a} {E} {L} c ok low high hl hh =
     let none : answer J ≡ [] = sym (c .says) ∙ ok in
     let u = accepted-usable J none in
     let fit = fit-of J (u .long) (u .inside) in
-    let e : E ≡ written (J .n) (bound (problem J)) (J .solutionBounds) = c .solution-bounds ∙ limits.solution-written J none in
-    let long : length E ≡ length (J .solutionBounds) = ap length e ∙ limits.written-length (J .n) (bound (problem J)) (J .solutionBounds) in
-    let at-place : (i : ℕ) → i < J .n → getD E i 0 ≡ bound (problem J) i = λ i l. rw e (limits.written-at (J .n) (bound (problem J)) (J .solutionBounds) i l (omega (arith, fit .few, fit .solution-long))) in
+    let e : E ≡ written (J .solutionBounds) 0 1 (bound (problem J)) (J .n) = c .solution-bounds ∙ limits.solution-written J none in
+    let long : length E ≡ length (J .solutionBounds) = ap length e ∙ written-length (J .solutionBounds) 0 1 (bound (problem J)) (J .n) in
+    let at-place : (i : ℕ) → i < J .n → getD E i 0 ≡ bound (problem J) i = λ i l. rw e (front-at (J .solutionBounds) (bound (problem J)) 0 (J .n) i l (omega (arith, fit .few, fit .solution-long))) in
     let small : (i : ℕ) → i < J .n → getD E i 0 ≤ 2 ^ 60 = λ i l. rw (at-place i l) (solution-size J fit (sym (answer-ready J (u .long) (u .inside)) ∙ none) i l) in
     numbers-taken (J .n) (J .s) (J .guess) E low high (fit .some) (fit .few) (fit .solution-scale) (long-of J (u .long) .guess) (omega (arith, long, fit .solution-long)) hl hh (fit .guess .within .size) small
 

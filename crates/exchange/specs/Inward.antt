@@ -16,10 +16,10 @@ use lib.IntN.{ℤ}
 use lib.ListN.{length}
 use lib.Ieee.{Float}
 use Rattle.linear.specs.Slice.{at}
+use Rattle.linear.specs.Written.{written}
 use Rattle.rules.specs.Order.{Test, number, verdict, ifAccepted}
 use Rattle.rules.specs.Range.{shortColumn}
 use Rattle.rules.specs.Refusal.{numberOf, valuesOf}
-use Rattle.reckoning.specs.Arrays.{stored}
 use Rattle.doubles.specs.Guess.{guessFor, hasGuess, Nearest}
 use Rattle.exchange.specs.Lists.{doubleAt, every, exchangeSizes}
 use Rattle.exchange.specs.declared.Guessed.{Guessed}
@@ -56,7 +56,7 @@ unfoldable pub inwardAnswer : Incoming → List ℕ
 inwardAnswer I = verdict (inwardOrder I)
 
 unfoldable pub guessesAfter : Incoming → List ℤ
-guessesAfter I = ifAccepted (inwardAnswer I) (stored (I .guess) 0 1 (λ (i : ℕ). guessFor (I .s) (doubleAt (I .values) i)) (I .n)) (I .guess)
+guessesAfter I = ifAccepted (inwardAnswer I) (written (I .guess) 0 1 (λ (i : ℕ). guessFor (I .s) (doubleAt (I .values) i)) (I .n)) (I .guess)
 
 pub record GuessesOf (I : Incoming) (r : Guessed) (guess : List ℤ) : Type 0 where
   pub says : saidGuessed r ≡ inwardAnswer I

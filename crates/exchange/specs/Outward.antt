@@ -19,12 +19,12 @@ use lib.IntN.{ℤ, natAbs}
 use lib.ListN.{getD, length}
 use lib.Ieee.{Float}
 use Rattle.linear.specs.Slice.{at}
+use Rattle.linear.specs.Written.{written}
 use Rattle.rules.specs.Order.{Test, number, verdict, ifAccepted}
 use Rattle.rules.specs.Range.{allInRange, shortColumn}
 use Rattle.rules.specs.Refusal.{said}
 use Rattle.rules.specs.declared.Kind.the-variants as kind
 use Rattle.rules.specs.declared.Outcome.{Outcome}
-use Rattle.reckoning.specs.Arrays.{stored}
 use Rattle.interval.specs.Interval.{intervalOf, Outward}
 use Rattle.interval.specs.declared.Interval.{Interval}
 use Rattle.exchange.specs.Lists.{doubleAt, every, exchangeSizes}
@@ -65,10 +65,10 @@ abbrev pub endsIn : List Float → List Float → ℕ → Interval
 endsIn low high i = record { low = doubleAt low i; high = doubleAt high i }
 
 unfoldable pub lowsAfter : Outgoing → List Float
-lowsAfter I = ifAccepted (outwardAnswer I) (stored (I .low) 0 1 (λ (i : ℕ). endsAt I i .low) (I .n)) (I .low)
+lowsAfter I = ifAccepted (outwardAnswer I) (written (I .low) 0 1 (λ (i : ℕ). endsAt I i .low) (I .n)) (I .low)
 
 unfoldable pub highsAfter : Outgoing → List Float
-highsAfter I = ifAccepted (outwardAnswer I) (stored (I .high) 0 1 (λ (i : ℕ). endsAt I i .high) (I .n)) (I .high)
+highsAfter I = ifAccepted (outwardAnswer I) (written (I .high) 0 1 (λ (i : ℕ). endsAt I i .high) (I .n)) (I .high)
 
 pub record IntervalsOf (I : Outgoing) (r : Outcome) (low high : List Float) : Type 0 where
   pub says : said r ≡ outwardAnswer I

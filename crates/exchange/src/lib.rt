@@ -5,7 +5,7 @@ ghost use Prim.Native.Nat.{ℕ, _≤_, _^_};
 ghost use lib.Dec.{leb};
 ghost use lib.ListN.{getD, length};
 ghost use Rattle.linear.specs.Slice.{at};
-ghost use Rattle.reckoning.specs.Arrays.{stored};
+ghost use Rattle.linear.specs.Written.{written};
 ghost use Rattle.doubles.specs.Guess.{hasGuess, guessFor};
 ghost use Rattle.interval.specs.Interval.{intervalOf};
 ghost use Rattle.exchange.specs.Lists.{every, doubleAt, exchangeSizes};
@@ -53,7 +53,7 @@ fn all_have_guess(n: usize, s: u32, values: &[f64]) -> bool
 fn write_guesses(n: usize, s: u32, values: &[f64], guess: &mut [i64])
     requires { ⌜ (n ≤ length (now values)) × ((n ≤ length (now guess)) × (s ≤ 20)) ⌝ }
     requires { ⌜ every n (λ (i : ℕ). hasGuess s (doubleAt (now values) i)) ≡ true ⌝ }
-    ensures { λ _. ⌜ now (guess .exit) ≡ stored (now (guess .entry)) 0 1 (λ (i : ℕ). guessFor s (doubleAt (now (values .entry)) i)) n ⌝ }
+    ensures { λ _. ⌜ now (guess .exit) ≡ written (now (guess .entry)) 0 1 (λ (i : ℕ). guessFor s (doubleAt (now (values .entry)) i)) n ⌝ }
 {
     for i in 0..n {
         let g = guess_of(values[i], s);
@@ -105,8 +105,8 @@ fn write_intervals(
 )
     requires { ⌜ (n ≤ length (now guess)) × ((n ≤ length (now bounds)) × ((n ≤ length (now low)) × (n ≤ length (now high)))) ⌝ }
     requires { ⌜ Reckonable n s (now guess) (now bounds) ⌝ }
-    ensures { λ _. ⌜ now (low .exit) ≡ stored (now (low .entry)) 0 1 (λ (i : ℕ). intervalOf s (at (now (guess .entry)) i) (getD (now (bounds .entry)) i 0) .low) n ⌝ }
-    ensures { λ _. ⌜ now (high .exit) ≡ stored (now (high .entry)) 0 1 (λ (i : ℕ). intervalOf s (at (now (guess .entry)) i) (getD (now (bounds .entry)) i 0) .high) n ⌝ }
+    ensures { λ _. ⌜ now (low .exit) ≡ written (now (low .entry)) 0 1 (λ (i : ℕ). intervalOf s (at (now (guess .entry)) i) (getD (now (bounds .entry)) i 0) .low) n ⌝ }
+    ensures { λ _. ⌜ now (high .exit) ≡ written (now (high .entry)) 0 1 (λ (i : ℕ). intervalOf s (at (now (guess .entry)) i) (getD (now (bounds .entry)) i 0) .high) n ⌝ }
 {
     for i in 0..n {
         let v = interval_of(guess[i], bounds[i], s);

@@ -1,7 +1,7 @@
 -- The loop over a file.
 --   Reached, at-start, read-on, read-refusal, at-end — the invariant of the loop over a file: at the start, past a line that is accepted, at one that is
 --     refused, and at the end
-use mathlib.Core.Path.{_≡_, refl, sym, ap, _∙_}
+use mathlib.Core.Path.{_≡_, sym, ap, _∙_}
 use mathlib.Core.List.{List, [], _∷_}
 use Prim.Native.Nat.{ℕ, _+_, _-_, _≤_, _<_}
 use native.Mathlib.Omega.{arith}

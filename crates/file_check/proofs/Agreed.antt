@@ -9,8 +9,8 @@ use Rattle.enclosure.specs.Problem.{Problem}
 use Rattle.enclosure.specs.Reckoning.{bound, inverseBound}
 use Rattle.enclosure.proofs.Agreement.{bound-same}
 use Rattle.numeral.specs.Decimal.{decimal}
-use Rattle.text.specs.Line.{gap, numbers, lineOpening, lineClosing}
-use Rattle.text.proofs.Each.{each-ext}
+use Rattle.listing_lines.specs.Line.{gap, numbers, lineOpening, lineClosing}
+use Rattle.listing_lines.proofs.Each.{each-ext}
 use Rattle.report.specs.Report.{solutionLine, entryLine, inverseLine, reportOf}
 use Rattle.form.specs.Form.{bytes}
 use Rattle.checked.proofs.Agreement.{inverse-same}

@@ -74,7 +74,7 @@ module _ (u : State) (fs : List Form) (from : FromForms fs u) where
         let k : i < n = rw (from .size) l in
         rw (sym (narrow Weight refl i k)) (weight-range (at (u .lists .weights) i) (all-at kind.Weight n (at (u .lists .weights)) (h .weights) i k) .0)
 
-  pub checked-forms : checkedOf (problem (inputAt u)) ≡ checkedOf (problemFrom fs)
+  checked-forms : checkedOf (problem (inputAt u)) ≡ checkedOf (problemFrom fs)
   checked-forms =
       checked-same n (u .loader .s) (u .loader .t) (matrixOf (u .lists .matrix) n) (given .A) (vectorOf (u .lists .right)) (given .b) (λ i. natAbs (at (u .lists .tolerance) i)) (given .d) (vectorOf (u .lists .guess)) (given .X)
       (matrixOf (u .lists .inverse) n) (given .G) (λ i. natAbs (at (u .lists .weights) i)) (given .w)
@@ -89,7 +89,7 @@ module _ (u : State) (fs : List Form) (from : FromForms fs u) where
       ∙ ap reportedOf given-is
 
   module _ (h : InRange u) (long : short (inputAt u) ≡ false) where
-    pub ranges-hold : inRanges (inputAt u) ≡ true
+    ranges-hold : inRanges (inputAt u) ≡ true
     ranges-hold =
         both (both (h .size) (both (h .solution) (h .inverse-scale))) (both (h .matrix) (both (h .right) (both (h .tolerance) (both (h .guess) (both (h .inverse) (h .weights))))))
 

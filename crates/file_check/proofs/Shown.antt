@@ -15,14 +15,14 @@ use Rattle.rules.specs.declared.Outcome.the-variants.{Accepted, Refused}
 use Rattle.rules.specs.declared.Refusal.{Refusal}
 use Rattle.rules.proofs.Verdicts.{accepted-new, nothing-is-not}
 use Rattle.linear.specs.Slice.{at}
+use Rattle.linear.specs.Written.{written}
 use Rattle.linear.proofs.Places.{place, square, place-column, place-row}
+use Rattle.linear.proofs.Written.{front-at, written-length}
 use Rattle.enclosure.specs.Reckoning.{bound, inverseBound}
-use Rattle.checked.specs.Checked.{written}
 use Rattle.checked.specs.Input.{Input, problem, short}
 use Rattle.checked.specs.Order.{answer}
 use Rattle.checked.proofs.Fit.{Fit, fit-of}
 use Rattle.checked.proofs.Statements.{accepted-usable}
-use Rattle.checked.proofs.Written.{written-at, written-length}
 use Rattle.given_forms.specs.Progress.{ended}
 use Rattle.given_forms.specs.declared.Stage.{Stage}
 use Rattle.loader_order.specs.Through.{answerThrough, solutionBoundsThrough, inverseBoundsThrough, CheckedThrough}
@@ -68,21 +68,21 @@ module _ (s : Stage) (I : Input) where
     ready : Fit I
     ready = let u = accepted-usable I (nothing-said quiet) in fit-of I (u .long) (u .inside)
 
-    solution-is : E ≡ written (I .n) (bound (problem I)) (I .solutionBounds)
+    solution-is : E ≡ written (I .solutionBounds) 0 1 (bound (problem I)) (I .n)
     unfolding solutionBoundsThrough
     solution-is = c .solution-bounds ∙ accepted-new _ _ quiet
 
-    inverse-is : L ≡ written (I .n * I .n) (λ (k : ℕ). inverseBound (problem I) (k / I .n) (k % I .n)) (I .inverseBounds)
+    inverse-is : L ≡ written (I .inverseBounds) 0 1 (λ (k : ℕ). inverseBound (problem I) (k / I .n) (k % I .n)) (I .n * I .n)
     unfolding inverseBoundsThrough
     inverse-is = c .inverse-bounds ∙ accepted-new _ _ quiet
 
     solution-at : (i : ℕ) → i < I .n → getD E i 0 ≡ bound (problem I) i
-    solution-at i l = rw solution-is (written-at (I .n) (bound (problem I)) (I .solutionBounds) i l (omega (arith, ready .few, ready .solution-long)))
+    solution-at i l = rw solution-is (front-at (I .solutionBounds) (bound (problem I)) 0 (I .n) i l (omega (arith, ready .few, ready .solution-long)))
 
     inverse-at : (i j : ℕ) → i < I .n → j < I .n → getD L (i * I .n + j) 0 ≡ inverseBound (problem I) i j
     inverse-at i j li lj =
         rw inverse-is
-        (written-at (I .n * I .n) (λ (k : ℕ). inverseBound (problem I) (k / I .n) (k % I .n)) (I .inverseBounds) (i * I .n + j) (place li lj)
+        (front-at (I .inverseBounds) (λ (k : ℕ). inverseBound (problem I) (k / I .n) (k % I .n)) 0 (I .n * I .n) (i * I .n + j) (place li lj)
         (omega (arith, square (ready .few), ready .inverse-long))
         ∙ rw (place-column i j (I .n) lj, place-row i j (I .n) lj))
 
@@ -92,8 +92,8 @@ module _ (s : Stage) (I : Input) where
           few = ready .few;
           scale = ready .solution-scale;
           guess-long = ready .guess .long;
-          solution-long = rw (solution-is, written-length (I .n) (bound (problem I)) (I .solutionBounds)) (omega (arith, ready .few, ready .solution-long));
-          inverse-long = rw (inverse-is, written-length (I .n * I .n) (λ (k : ℕ). inverseBound (problem I) (k / I .n) (k % I .n)) (I .inverseBounds)) (omega (arith, square (ready .few), ready .inverse-long));
+          solution-long = rw (solution-is, written-length (I .solutionBounds) 0 1 (bound (problem I)) (I .n)) (omega (arith, ready .few, ready .solution-long));
+          inverse-long = rw (inverse-is, written-length (I .inverseBounds) 0 1 (λ (k : ℕ). inverseBound (problem I) (k / I .n) (k % I .n)) (I .n * I .n)) (omega (arith, square (ready .few), ready .inverse-long));
           guess = ready .guess .within .size;
         })
 

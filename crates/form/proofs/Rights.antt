@@ -7,15 +7,15 @@ use Prim.Native.Nat.{ℕ, suc}
 use native.Mathlib.Omega.{arith}
 use borrow.Author.Tests.{ne-eqb}
 use lib.IntN.{ℤ}
-use lib.ListN.{length, drop, getD}
+use lib.ListN.{length, getD}
 use Rattle.numeral.specs.Decimal.{numeral}
 use Rattle.numeral.specs.Numeral.{lost, sizeAt, numberAt}
 use Rattle.numeral.proofs.Places.{head-at}
 use Rattle.form.specs.declared.Word.the-variants.{Right}
 use Rattle.form.specs.Form.{bytes, numerals}
-use Rattle.form.specs.Reading.{opening, wordAt, headAt, firstNumber, secondNumber, endOf, reading}
+use Rattle.form.specs.Reading.{opening, secondNumber, endOf, reading}
 use Rattle.form.proofs.Words.{word-lost}
-use Rattle.form.proofs.Shapes.{Many, headed, after, number-step, word-step, many-spelled}
+use Rattle.form.proofs.Shapes.{headed, after, number-step, word-step, many-spelled}
 
 -- where a bracket stands, no number does
 no-number : (s : List ℕ) (at : ℕ) → getD s at 0 ≡ 40 → numberAt s at .next ≡ lost s

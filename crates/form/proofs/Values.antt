@@ -44,7 +44,7 @@ values-next zero (y ∷ zs) z = refl
 values-next (suc n) [] z = refl
 values-next (suc n) (y ∷ zs) z = ap (λ (l : List ℤ). cap y ∷ l) (values-next n zs z)
 
-pub numbers-next : (k : Kind) (zs : List ℤ) (z : ℤ) → addNumber k (numbersOf k zs) (cap z) ≡ numbersOf k (zs ++ (z ∷ []))
+numbers-next : (k : Kind) (zs : List ℤ) (z : ℤ) → addNumber k (numbersOf k zs) (cap z) ≡ numbersOf k (zs ++ (z ∷ []))
 unfolding addNumber numbersOf
 numbers-next k zs z = rw (values-next 32 zs z, cap-range k z, inside-next k zs z, length-append)
 

@@ -17,7 +17,7 @@ use Rattle.numeral.specs.Numeral.{cap, capAt}
 use Rattle.numeral.proofs.Cap.{cap-between, cap-range, cap-small, cap-in}
 use Rattle.form.specs.Form.{Form, problem, scale, row, right, rightWithin, guess, inverse, weight, end}
 use Rattle.form.specs.List.{numbersOf}
-use Rattle.line.specs.Line.{cappedForm, numbersIn}
+use Rattle.line_parts.specs.Line.{cappedForm, numbersIn}
 use Rattle.form_values.specs.declared.Item.the-variants.{Problem, Scale, Of}
 use Rattle.form_values.specs.declared.Part.{Part}
 use Rattle.form_values.specs.declared.Part.the-variants.{Row, Right, Guess, Inverse, Weight}

@@ -12,8 +12,8 @@ use lib.IntN.{ℤ}
 use lib.ListN.{set}
 use Rattle.rules.specs.Range.{inRange}
 use Rattle.rules.specs.declared.Kind.the-variants as kind
-use Rattle.line.specs.declared.CappedForm.{CappedForm}
-use Rattle.line.specs.declared.CappedForm.the-variants as form
+use Rattle.line_parts.specs.declared.CappedForm.{CappedForm}
+use Rattle.line_parts.specs.declared.CappedForm.the-variants as form
 use Rattle.form_values.specs.declared.Item.{Item}
 use Rattle.form_values.specs.declared.Item.the-variants.{Problem, Scale, Of, End}
 use Rattle.form_values.specs.declared.Part.the-variants.{Row, Right, Guess, Inverse, Weight}

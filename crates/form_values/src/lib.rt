@@ -6,7 +6,7 @@ ghost use lib.IntN.{pos, natAbs};
 ghost use lib.Signed.{leZ};
 ghost use Rattle.form_values.specs.Item.{partIndex, placed};
 ghost use Rattle.form_values.specs.Capped.{itemIn, outsideIn, miscountedIn, valuesIn};
-use line::CappedForm;
+use line_parts::CappedForm;
 use rules::Kind;
 
 // The forms that are given once for each i from 1 to n.

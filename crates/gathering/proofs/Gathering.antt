@@ -1,7 +1,7 @@
 -- What is gathered of a whole list of lines.
 --   Outcome — what is said, and where nothing is: the kept lines are ready, and their sums are those of the distinct lines
 --   gathered-folded, gathers — by places and line after line; from lines that follow
---   done-of, old, still — nothing is said exactly where it is done; after a refusal nothing changes
+--   old, still — after a refusal nothing changes
 use mathlib.Core.Path.{_≡_, refl, sym, ap, _∙_}
 use mathlib.Core.List.{List, [], _∷_}
 use Prim.Native.Nat.{ℕ, zero, suc, _+_, _≤_, _<_}
@@ -38,12 +38,6 @@ gathered-folded g [] = unfold gathered in refl
 gathered-folded g (l ∷ ls) = front g l ls (length ls) ∙ gathered-folded (added g l) ls
 
 -- ---- after a refusal nothing changes
-pub done-of : (b : Built) → saidBuilt b ≡ [] → b ≡ Done
-done-of Done e = refl
-done-of (Refused r) e = absurd (nothing-is-not e)
-done-of SameMark e = absurd (nothing-is-not e)
-done-of OtherContents e = absurd (nothing-is-not e)
-
 pub old : (b : Built) {k : ℕ} {ks : List ℕ} (x y : Gathered) → saidBuilt b ≡ k ∷ ks → whenDone b x y ≡ y
 old Done x y e = absurd (nothing-is-not (sym e))
 old (Refused r) x y e = refl

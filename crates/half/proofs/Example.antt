@@ -2,7 +2,7 @@
 --   file-half-long — the half, of 528 numbers, is long enough
 --   file-half-accepted — what is said of the filled-out matrix: nothing
 --   file-half-rounded — and it is a rounded exact proposal
-use mathlib.Core.Path.{_≡_, refl, sym, _∙_}
+use mathlib.Core.Path.{_≡_, refl, _∙_}
 use mathlib.Core.Bool.{false}
 use mathlib.Core.List.{[]}
 use Prim.Native.Nat.{ℕ, zero, suc, _<_}
@@ -12,7 +12,7 @@ use lib.ListN.{length}
 use Rattle.integer.specs.Finite.{sum, sumℕ}
 use Rattle.linear.specs.Matrix.{apply, product, identity}
 use Rattle.linear.specs.Slice.{at, matrixOf}
-use Rattle.reckoning.specs.Arrays.{stored}
+use Rattle.linear.specs.Written.{written}
 use Rattle.rules.specs.Range.{inRange, rangeOf, ranges}
 use Rattle.enclosure.specs.Demand.{RoundedExact, sumOfSizes}
 use Rattle.enclosure.specs.Reckoning.{rowSum}
@@ -49,7 +49,7 @@ pub file-half-accepted : answer (filledInput fileHalved) ≡ []
 file-half-accepted = answers fileHalved (fileInput .matrix) long refl same ∙ file-accepted
 
 pub file-half-rounded : RoundedExact (problem (filledInput fileHalved)) example.exact 11 example.exactInverse 11
-unfolding filledOut stored halfPlace inRange rangeOf ranges apply product identity sum sumℕ rowSum sumOfSizes
+unfolding filledOut written halfPlace inRange rangeOf ranges apply product identity sum sumℕ rowSum sumOfSizes
 file-half-rounded = record {
   exact-right = file-rounded-here .exact-right;
   solution = record { positive = lit≤ tt; solves = each _ refl refl };

@@ -11,7 +11,6 @@ use mathlib.Core.Logic.{_↔_}
 use Prim.Native.Nat.{ℕ, _+_, _*_, _<_}
 use lib.IntN.{ℤ, pos}
 use lib.ListN.{getD, length}
-use Rattle.integer.proofs.Search.{clash}
 use Rattle.linear.specs.Matrix.{Vec, Mat}
 use Rattle.linear.specs.Slice.{at}
 use Rattle.rules.specs.Order.{number}

@@ -42,7 +42,7 @@ module _ (H : Input) (A : List ℤ) (long : short (filledInput H) ≡ false) (wi
       let e : k ≡ i * H .n + j = omega (arith, div-add-mod' k (H .n)) in
       ap (at (filledOut (H .n) (H .matrix))) e ∙ filled-at (H .n) (H .matrix) few i j li lj ∙ sym (same i j li lj) ∙ ap (at A) (sym e)
 
-  pub square-agrees : H .n ≤ 32 → Agree (filledInput H) (withMatrix H A)
+  square-agrees : H .n ≤ 32 → Agree (filledInput H) (withMatrix H A)
   square-agrees few = record {
     n = refl;
     s = refl;

@@ -33,7 +33,7 @@ module _ (s : Bool) (q k : ℕ) (small : q ≤ 2 ^ 53) where
     pub units-double : Double (units binary64 s q k)
     units-double = record { held = held; finite = value-finite (units binary64 s q k) s (q * 2 ^ k) (2 ^ 1074) units-value }
 
-    pub units-is : (x : Float) → T (fits binary64 x) → HasValue x s (q * 2 ^ k) (2 ^ 1074) → x ≡ units binary64 s q k
+    units-is : (x : Float) → T (fits binary64 x) → HasValue x s (q * 2 ^ k) (2 ^ 1074) → x ≡ units binary64 s q k
     units-is x f v = same-value x (units binary64 s q k) s (q * 2 ^ k) f held v units-value
 
 pub units-same : (s : Bool) (q k q' k' : ℕ) → q ≤ 2 ^ 53 → q' ≤ 2 ^ 53 → q' * 2 ^ k' < 2 ^ 2098 → q * 2 ^ k ≡ q' * 2 ^ k' → units binary64 s q k ≡ units binary64 s q' k'

@@ -1,12 +1,2 @@
-pub mod Told
 pub mod Entry
-pub mod Meaning
-pub mod Covered
-pub mod Weights
 pub mod BuildWalk
-pub mod Build
-pub mod Doubles
-pub mod Half
-pub mod TwoNets
-pub mod TwoProposals
-pub mod Conversion

@@ -1,15 +1,15 @@
 // The calls on a matrix by its lower half (document 02, Paper 10).
 ghost use Rattle.checked.specs.Input.{input};
 ghost use Rattle.equations.specs.declared.Layout.the-variants.{Lower};
-ghost use Rattle.kodarfi.specs.Build.{BuildExported};
-ghost use Rattle.kodarfi.specs.Half.{HalfExported};
-use crate::built_number;
-use crate::outcome_reply;
-use crate::tell;
+ghost use Rattle.calls.specs.Build.{BuildExported};
+ghost use Rattle.calls.specs.Half.{HalfExported};
 use builder::build;
 use equations::Layout;
 use half::check_half;
 use observation::Observation;
+use reply::built_number;
+use reply::outcome_reply;
+use reply::tell;
 
 // The check of a matrix by its lower half: `half::check_half`.
 #[no_mangle]

@@ -1,30 +1,22 @@
 // The functions that other languages link: total, over numbers and slices, with document 01's number as their result (include/kodarfi.h).
-ghost use mathlib.Core.Path.{_≡_};
-ghost use mathlib.Core.List.{[], _∷_};
-ghost use lib.ListN.{getD};
-ghost use Rattle.rules.specs.Refusal.{said, numberOf};
 ghost use Rattle.checked.specs.Input.{input};
-ghost use Rattle.refusal.specs.Refused.{printed};
-ghost use Rattle.refusal.specs.Reply.{replyOf};
 ghost use Rattle.weight_sequence.specs.Request.{request};
-ghost use Rattle.observation.specs.Order.{saidBuilt};
 ghost use Rattle.equations.specs.declared.Layout.the-variants.{Square};
-ghost use Rattle.kodarfi.specs.Exported.{CheckExported, ListingExported, EntryExported};
-ghost use Rattle.kodarfi.specs.Weights.{SearchExported};
-ghost use Rattle.kodarfi.specs.Build.{BuildExported};
+ghost use Rattle.calls.specs.Exported.{CheckExported, ListingExported, EntryExported};
+ghost use Rattle.calls.specs.Weights.{SearchExported};
+ghost use Rattle.calls.specs.Build.{BuildExported};
 use builder::build;
 use checker::check;
 use entry::Registered;
 use entry::register_entry;
 use equations::Layout;
 use listing::answer_file;
-use observation::Built;
 use observation::Observation;
-use refusal::Reply;
 use refusal::no_refusal;
 use refusal::reply_of;
-use rules::Outcome;
-use rules::Refusal;
+use reply::built_number;
+use reply::outcome_reply;
+use reply::tell;
 use weight_reply::found_reply;
 use weight_reply::tried_or;
 use weight_search::find_weights;
@@ -34,24 +26,6 @@ mod old_files;
 mod two_nets;
 mod two_proposals;
 mod with_doubles;
-
-// What an outcome says; a refusal that gives its number alone leaves both places 0.
-fn outcome_reply(outcome: Outcome) -> Reply
-    ensures { λ r. ⌜ r ≡ replyOf (printed 0 (said outcome)) ⌝ }
-{
-    match outcome {
-        Outcome::Accepted => no_refusal(),
-        Outcome::Refused(refusal) => reply_of(refusal, 0),
-    }
-}
-
-// Writes the two places of a reply; gives its number.
-pub fn tell(reply: Reply, places: &mut [u64; 2]) -> u32
-    ensures { λ r. ⌜ (r ≡ reply .number) × (now (places .exit) ≡ reply .first ∷ reply .second ∷ []) ⌝ }
-{
-    *places = [reply.first, reply.second];
-    reply.number
-}
 
 // The check on lists: `checker::check`.
 #[no_mangle]
@@ -146,26 +120,6 @@ pub extern "C" fn kodarfi_find_weights(
     let found = find_weights(n, t, matrix, inverse, allowance, weights);
     *tried = tried_or(found, *tried);
     tell(found_reply(found), places)
-}
-
-// The number of a refusal.
-fn refused_number(refusal: Refusal) -> u32
-    ensures { λ r. ⌜ r ≡ numberOf refusal ⌝ }
-{
-    let told = reply_of(refusal, 0);
-    told.number
-}
-
-// The number of what is said of field lines, 0 where the equations are built.
-fn built_number(built: Built) -> u32
-    ensures { λ r. ⌜ r ≡ getD (saidBuilt built) 0 0 ⌝ }
-{
-    match built {
-        Built::Done => 0,
-        Built::Refused(refusal) => refused_number(refusal),
-        Built::SameMark => 16,
-        Built::OtherContents => 17,
-    }
 }
 
 // Equations from the field lines: `builder::build`, the matrix square.

@@ -1,9 +1,9 @@
 // Files for offices on the old edition (document 02, Paper 14).
-ghost use Rattle.kodarfi.specs.Conversion.{ConvertExported};
-use crate::tell;
+ghost use Rattle.calls.specs.Conversion.{ConvertExported};
 use conversion_reply::converted_reply;
 use conversion_reply::length_or;
 use converter::convert;
+use reply::tell;
 
 // A file as one of the old edition: `converter::convert`.
 #[no_mangle]

@@ -1,11 +1,11 @@
 // The check of two nets, the second hung from the first (document 02, Paper 8).
 ghost use Rattle.checked.specs.Input.{input};
 ghost use Rattle.dependent.specs.Nets.{nets};
-ghost use Rattle.kodarfi.specs.TwoNets.{DependentExported};
-use crate::tell;
+ghost use Rattle.calls.specs.TwoNets.{DependentExported};
 use dependent_check::check_dependent;
 use nets_reply::net_of;
 use nets_reply::nets_reply;
+use reply::tell;
 
 // `dependent_check::check_dependent`; `*net` is the net that a refusal is of, and 0 where nothing is refused.
 #[no_mangle]

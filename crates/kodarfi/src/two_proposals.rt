@@ -1,10 +1,10 @@
 // Two proposals for the same equations (document 02, Paper 13), for other languages.
 ghost use Rattle.common.specs.Proposals.{proposal, proposals};
-ghost use Rattle.kodarfi.specs.TwoProposals.{CommonExported};
-use crate::tell;
+ghost use Rattle.calls.specs.TwoProposals.{CommonExported};
 use common_interval::common_interval;
 use common_reply::common_reply;
 use common_reply::proposal_of;
+use reply::tell;
 
 // The common intervals of two proposals: `common_interval::common_interval`.
 #[no_mangle]

@@ -1,12 +1,12 @@
 // Doubles in, doubles out (document 02, Paper 11).
 ghost use Rattle.exchange.specs.Inward.{incoming};
 ghost use Rattle.exchange.specs.Outward.{outgoing};
-ghost use Rattle.kodarfi.specs.Doubles.{GuessesExported, IntervalsExported};
-use crate::outcome_reply;
-use crate::tell;
+ghost use Rattle.calls.specs.Doubles.{GuessesExported, IntervalsExported};
 use exchange::guesses_of;
 use exchange::intervals_of;
 use exchange_reply::guessed_reply;
+use reply::outcome_reply;
+use reply::tell;
 
 // Doubles in: `exchange::guesses_of`.
 #[no_mangle]

@@ -1,6 +1,6 @@
 -- What the code writes of a form that no test refuses is what the exact form leaves.
 --   all-exact — in all lists
-use mathlib.Core.Path.{_≡_, refl, sym, ap, ap₂, subst, _∙_}
+use mathlib.Core.Path.{_≡_, refl, sym, ap, ap₂, _∙_}
 use mathlib.Core.Bool.{Bool, true, false, not, _&&_, cond}
 use mathlib.Core.List.{List, [], _∷_, _++_}
 use Prim.Native.Nat.{ℕ, zero, suc, _+_, _*_, _-_, _≤_}
@@ -18,19 +18,20 @@ use Rattle.numeral.specs.Numeral.{cap}
 use Rattle.numeral.proofs.Cap.{cap-in}
 use Rattle.form.specs.Form.{Form, problem, scale, row, right, rightWithin, guess, inverse, weight, end}
 use Rattle.form.specs.List.{noNumbers, numbersOf, allInside, firstValues}
-use Rattle.line.specs.Line.{cappedForm, numbersIn}
+use Rattle.line_parts.specs.Line.{cappedForm, numbersIn}
 use Rattle.form_values.specs.Item.{itemOf, partIndex, outside, miscounted}
 use Rattle.form_values.specs.Capped.{valuesIn}
-use Rattle.form_values.specs.declared.Item.the-variants.{Problem, Scale, Of, End}
+use Rattle.form_values.specs.declared.Item.the-variants.{Of}
 use Rattle.form_values.specs.declared.Part.{Part}
 use Rattle.form_values.specs.declared.Part.the-variants as part
 use Rattle.form_values.proofs.Capped.{no-tolerance, part-same}
 use Rattle.lent_lists.specs.Slot.{Slot, Matrix, Right, Tolerance, Guess, Inverse, Weight, partOf, width, rightValue}
 use Rattle.lent_lists.specs.Lists.{Lists, shortLists}
 use Rattle.lent_lists.specs.Put.{putItem, put, putAll}
-use Rattle.lent_lists.specs.Pasted.{Narrow, Room, nowhere, spanOf, pastedAt, writtenTo, pastedAll}
+use Rattle.lent_list.specs.Pasted.{Narrow, Room, nowhere, spanOf, pastedAt}
+use Rattle.lent_lists.specs.Pasted.{writtenTo, pastedAll}
 use Rattle.lent_lists.proofs.Lists.{lists-≡, rooms}
-use Rattle.lent_lists.proofs.Put.{Inside, span-fits}
+use Rattle.lent_list.proofs.Put.{Inside, span-fits}
 use Rattle.lent_lists.proofs.Slot.{slotOf, of-part, of-right, other-part}
 
 -- ---- the numbers of a form

@@ -13,7 +13,8 @@ use lib.ListN.{length}
 use lib.Seq.{paste-zero}
 use Rattle.rules.specs.Range.{shortMatrix, shortColumn}
 use Rattle.rules.proofs.Ranges.{neither-left, neither-right}
-use Rattle.lent_lists.specs.Pasted.{Narrow, Rooms, nowhere, pastedAt, secondOf}
+use Rattle.lent_list.specs.Pasted.{Narrow, nowhere, pastedAt, secondOf}
+use Rattle.lent_lists.specs.Pasted.{Rooms}
 use Rattle.form_values.specs.declared.Item.{Item}
 use Rattle.form_values.specs.declared.Item.the-variants.{Problem, Scale, Of, End}
 use Rattle.lent_lists.specs.Lists.{Lists, lists, shortLists}

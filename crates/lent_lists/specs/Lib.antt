@@ -1,5 +1,4 @@
 pub mod Slot
 pub mod Lists
 pub mod Put
-pub mod Filled
 pub mod Pasted

@@ -1,46 +1,19 @@
--- What the code writes of a form, its numbers capped; cited by the contracts inside. proofs/Exact.antt ties it to `put`.
---   Narrow w x    — the item x, if it is of a part, has i in 1 to 32 and at most 32 numbers, w; at an end w is at most 32
---   Room w k x    — the same, in a list of length k that has room for 32 · w
---   FillRoom n k x — an end's first n places, at most 32, are in a list of length k;  Rooms n x l — all this in every list
---   nowhere       — no place;  spanOf p x w — the places of the item x in a list of the part p, of w numbers a form: none where it is of another part
---   pastedAt       — a list after the first of 32 numbers were written there
---   secondOf vs    — 32 times the second of 32 numbers, which is a right side's tolerance;  writtenTo s vs — the numbers whose first are for the list s
+-- What the code writes of a form into all lists, its numbers capped; cited by the contracts inside. proofs/Exact.antt ties it to `put`.
+--   Rooms n x l    — every list has room for the item x
+--   writtenTo s vs — the numbers whose first are for the list s
 --   pastedAll n x vs l — all lists after the item x
-use mathlib.Core.Bool.{true, cond}
+--   closed n z x l — all lists after an end has filled in the weights that are not in the set z: the others stay as they are
 use mathlib.Core.List.{List}
-use mathlib.Core.Path.{_≡_}
-use Prim.Native.Nat.{ℕ, _*_, _-_, _≤_}
-use lib.Dec.{eqb}
-use lib.IntN.{ℤ, pos, natAbs}
-use lib.ListN.{length, getD, replicate}
-use lib.Seq.{paste}
-use Rattle.form_values.specs.Item.{partIndex, placed}
+use Prim.Native.Nat.{ℕ}
+use lib.IntN.{ℤ}
+use lib.ListN.{length}
 use Rattle.form_values.specs.declared.Item.{Item}
-use Rattle.form_values.specs.declared.Item.the-variants.{Problem, Scale, Of, End}
-use Rattle.form_values.specs.declared.Part.{Part}
 use Rattle.form_values.specs.declared.Part.the-variants.{Row, Right, Guess, Inverse, Weight}
-use Rattle.lent_lists.specs.declared.Span.{Span}
+use Rattle.lent_list.specs.Filled.{closedWeights}
+use Rattle.lent_list.specs.Pasted.{Room, FillRoom, spanOf, pastedAt, secondOf}
 use Rattle.lent_lists.specs.Slot as slot
 use Rattle.lent_lists.specs.Slot.{Slot}
-use Rattle.lent_lists.specs.Lists.{Lists}
-
-abbrev pub Narrow : ℕ → Item → Type 0
-Narrow w (Problem n) = Unit
-Narrow w (Scale s t) = Unit
-Narrow w (Of p i) = (w ≤ 32) × (placed 32 (Of p i) ≡ true)
-Narrow w End = w ≤ 32
-
-abbrev pub Room : ℕ → ℕ → Item → Type 0
-Room w k (Problem n) = Unit
-Room w k (Scale s t) = Unit
-Room w k (Of p i) = (w ≤ 32) × (32 * w ≤ k) × (placed 32 (Of p i) ≡ true)
-Room w k End = w ≤ 32
-
-abbrev pub FillRoom : ℕ → ℕ → Item → Type 0
-FillRoom n k (Problem m) = Unit
-FillRoom n k (Scale s t) = Unit
-FillRoom n k (Of p i) = Unit
-FillRoom n k End = (n ≤ 32) × (n ≤ k)
+use Rattle.lent_lists.specs.Lists.{Lists, lists}
 
 pub record Rooms (n : ℕ) (x : Item) (l : Lists) : Type 0 where
   pub matrix : Room n (length (l .matrix)) x
@@ -50,21 +23,6 @@ pub record Rooms (n : ℕ) (x : Item) (l : Lists) : Type 0 where
   pub inverse : Room n (length (l .inverse)) x
   pub weights : Room 1 (length (l .weights)) x
   pub filled : FillRoom n (length (l .weights)) x
-
-abbrev pub nowhere : Span
-nowhere = record { at = 0; count = 0 }
-
-abbrev pub spanOf : Part → Item → ℕ → Span
-spanOf p (Problem n) w = nowhere
-spanOf p (Scale s t) w = nowhere
-spanOf p (Of q i) w = cond (eqb (partIndex p) (partIndex q)) (record { at = (natAbs i - 1) * w; count = w }) nowhere
-spanOf p End w = nowhere
-
-abbrev pub pastedAt : Span → List ℤ → List ℤ → List ℤ
-pastedAt s vs l = paste l (s .at) vs (s .count)
-
-abbrev pub secondOf : List ℤ → List ℤ
-secondOf vs = replicate 32 (getD vs 1 (pos 0))
 
 abbrev pub writtenTo : Slot → List ℤ → List ℤ
 writtenTo slot.Matrix vs = vs
@@ -83,3 +41,6 @@ pastedAll n x vs l = record {
   inverse = pastedAt (spanOf Inverse x n) vs (l .inverse);
   weights = pastedAt (spanOf Weight x 1) vs (l .weights);
 }
+
+abbrev pub closed : ℕ → ℕ → Item → Lists → Lists
+closed n z x l = lists (l .matrix) (l .right) (l .tolerance) (l .guess) (l .inverse) (closedWeights n z x (l .weights))

@@ -29,8 +29,8 @@ use Rattle.form.proofs.Listed as Listed
 use Rattle.form.proofs.Listed.Laws as Listed′
 use Rattle.form.proofs.Word as Word
 use Rattle.form.proofs.Word.Laws as Word′
-use Rattle.line.proofs.Line as Line
-use Rattle.line.proofs.Line.Laws as Line′
+use Rattle.line_parts.proofs.Line as Line
+use Rattle.line_parts.proofs.Line.Laws as Line′
 
 pub record Data (R : RattleType) : Type 2 where
   pub lowers : Lowered R

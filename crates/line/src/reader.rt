@@ -5,46 +5,17 @@ ghost use Rattle.numeral.specs.Numeral.{numberAt, cappedNumber};
 ghost use Rattle.form.specs.Form.{bytes};
 ghost use Rattle.form.specs.List.{listedAt};
 ghost use Rattle.form.specs.Reading.{wordAt, headAt};
-ghost use Rattle.line.specs.Parts.{kindOf};
+ghost use Rattle.line_parts.specs.Parts.{kindOf};
 use form::Head;
 use form::Listed;
 use form::Word;
+use line_parts::close_at;
+use line_parts::list_at;
 use numeral::Number;
-use rules::Kind;
 
 pub struct LineReader<'a> {
     pub line: &'a [u8],
     pub at: usize,
-}
-
-// The kind against whose range the numbers of a list are tested, in a row and in a row of the inverse; of the other words no such test is kept.
-pub fn kind_of(word: Word) -> Kind
-    ensures { λ r. ⌜ r ≡ kindOf word ⌝ }
-{
-    match word {
-        Word::Problem => Kind::Matrix,
-        Word::Scale => Kind::Matrix,
-        Word::Row => Kind::Matrix,
-        Word::Right => Kind::Matrix,
-        Word::Guess => Kind::Matrix,
-        Word::Inverse => Kind::Inverse,
-        Word::Weight => Kind::Matrix,
-        Word::End => Kind::Matrix,
-    }
-}
-
-// The list at a place, in a form of this word.
-pub fn list_at(line: &[u8], at: usize, word: Word) -> Listed
-    ensures { λ r. ⌜ r ≡ listedAt (kindOf word) (now (line .entry)) at ⌝ }
-{
-    form::list_at(line, at, kind_of(word))
-}
-
-// The place after a closing bracket.
-pub fn close_at(line: &[u8], at: usize) -> usize
-    ensures { λ r. ⌜ r ≡ wordAt (now (line .entry)) at (bytes ")") ⌝ }
-{
-    form::word_at(line, at, b")")
 }
 
 impl<'a> LineReader<'a> {

@@ -6,7 +6,7 @@
 use mathlib.Core.Path.{_≡_, refl}
 use mathlib.Core.Bool.{Bool, true, false, not}
 use mathlib.Core.List.{List, [], _∷_}
-use Prim.Native.Nat.{ℕ, suc, _+_, _-_, _≤_, _<_}
+use Prim.Native.Nat.{ℕ, suc, _+_, _≤_, _<_}
 use native.Mathlib.Omega.{arith}
 use borrow.Author.Tests.{not-false, ltb-false}
 use lib.IntN.{ℤ, natAbs}
@@ -123,7 +123,7 @@ module _ (d : Loader) (h : Sound d) (l : Lists) (line : List ℕ) (e : lineAnswe
       go false s false n = let a = accepted-form d l line e in rw (a .1 .loader) (first-falls d h (a .1 .going) (a .0) (a .1 .fine) s)
 
 -- every accepted line is one of those that could be
-pub lines-fall : (u : State) → Sound (u .loader) → (lines : List (List ℕ)) → Accepts u lines → length lines + acceptable (run u lines .loader) ≤ acceptable (u .loader)
+lines-fall : (u : State) → Sound (u .loader) → (lines : List (List ℕ)) → Accepts u lines → length lines + acceptable (run u lines .loader) ≤ acceptable (u .loader)
 unfolding run
 lines-fall u h [] a = omega arith
 lines-fall u h (line ∷ lines) a =

@@ -3,7 +3,7 @@
 --   rows-apart — the numbers for different i stand apart
 --   cell-own   — a form's own cells hold its numbers;  cell-else — every other cell is as before
 --   cell-end, cell-one — at an end, too, but for the weights that were not given, which are 1
-use mathlib.Core.Path.{_≡_, refl, sym, ap, _∙_}
+use mathlib.Core.Path.{_≡_, refl, ap, _∙_}
 use mathlib.Core.Bool.{Bool, true, false, cond}
 use mathlib.Core.List.{List, [], _∷_}
 use Prim.Native.Nat.{ℕ, zero, suc, _+_, _*_, _-_, _≤_, _<_}
@@ -23,8 +23,8 @@ use Rattle.form_values.proofs.Capped.{part-same}
 use Rattle.lent_lists.specs.Slot.{Slot, Matrix, Right, Tolerance, Guess, Inverse, Weight, partOf, width, valuesFor}
 use Rattle.lent_lists.specs.Lists.{Lists, listOf}
 use Rattle.lent_lists.specs.Put.{put, putAll}
-use Rattle.lent_lists.specs.Filled.{closed}
-use Rattle.lent_lists.proofs.Filled.{filled-given, filled-one}
+use Rattle.lent_lists.specs.Pasted.{closed}
+use Rattle.lent_list.proofs.Filled.{filled-given, filled-one}
 use Rattle.bit_set.specs.Places.{hasPlace}
 use Rattle.line_runs.specs.Holds.{cell}
 

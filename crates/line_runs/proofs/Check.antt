@@ -23,8 +23,8 @@ use Rattle.form_values.specs.declared.Part.the-variants as part
 use Rattle.lent_lists.specs.Slot.{Slot, Matrix, Right, Tolerance, Guess, Inverse, Weight, partOf, width, valuesFor}
 use Rattle.lent_lists.specs.Lists.{Lists, shortLists}
 use Rattle.lent_lists.specs.Put.{putItem, put}
-use Rattle.lent_lists.specs.Filled.{closedWeights}
-use Rattle.lent_lists.proofs.Filled.{length-filled}
+use Rattle.lent_list.specs.Filled.{closedWeights}
+use Rattle.lent_list.proofs.Filled.{length-filled}
 use Rattle.lent_lists.proofs.Lists.{Long, long}
 use Rattle.given_forms.specs.Progress.{setOf, ended}
 use Rattle.checked.specs.Input.{Input, input, problem, inRanges}
@@ -71,7 +71,7 @@ run-long u (line ∷ lines) a h =
     run-long (step u line) lines (a .1) (rw (r .1 .lists) (long-kept (u .loader) (r .0) (u .lists) ∙ h))
 
 -- a run that ends has a line, which was accepted, so its lists were long enough
-pub lists-long : (l : Lists) (lines : List (List ℕ)) → Accepts (fromNew l) lines → ended (run (fromNew l) lines .loader .stage) ≡ true → shortLists (run (fromNew l) lines .lists) ≡ false
+lists-long : (l : Lists) (lines : List (List ℕ)) → Accepts (fromNew l) lines → ended (run (fromNew l) lines .loader .stage) ≡ true → shortLists (run (fromNew l) lines .lists) ≡ false
 lists-long l [] a e = clash false (unfold run in e) refl
 lists-long l (line ∷ lines) a e =
     let r = accepted-form (fromNew l .loader) l line (a .0) in

@@ -1,6 +1,6 @@
 -- A tolerance of an earlier use of the list does not stay (02, Paper 5: "(right i b) means d = 0, written like a given one").
 --   right-clears — after an accepted (right i b) the tolerance of i is 0, whatever stood there;  within-writes — after (right i (b d)) it is d
-use mathlib.Core.Path.{_≡_, refl, sym, ap, subst, _∙_}
+use mathlib.Core.Path.{_≡_, refl, sym, subst, _∙_}
 use mathlib.Core.List.{List, []}
 use mathlib.Core.Option.{some}
 use Prim.Native.Nat.{ℕ, _+_, _*_, _-_}
@@ -9,10 +9,10 @@ use lib.IntN.{ℤ, pos, natAbs}
 use lib.ListN.{getD}
 use Rattle.form.specs.Form.{Form, right, rightWithin}
 use Rattle.form.specs.Reading.{reading}
-use Rattle.lent_lists.specs.Slot.{Tolerance, valuesFor}
+use Rattle.lent_lists.specs.Slot.{Tolerance}
 use Rattle.lent_lists.specs.Lists.{Lists}
 use Rattle.loader.specs.Answer.{lineAnswer}
-use Rattle.loader.proofs.Accepted.{Accepted, accepted-form}
+use Rattle.loader.proofs.Accepted.{accepted-form}
 use Rattle.line_runs.specs.Run.{State, step}
 use Rattle.line_runs.specs.Holds.{HoldsForm}
 use Rattle.line_runs.proofs.Sound.{Sound}

@@ -4,7 +4,7 @@
 use mathlib.Core.Path.{_≡_, refl, sym, ap, subst, _∙_}
 use mathlib.Core.Bool.{true, false, not}
 use mathlib.Core.List.{List}
-use Prim.Native.Nat.{ℕ, _*_, _-_, _≤_, _<_}
+use Prim.Native.Nat.{ℕ, _*_, _≤_, _<_}
 use native.Mathlib.Omega.{arith}
 use borrow.Author.Tests.{not-false}
 use lib.IntN.{ℤ, pos, natAbs}
@@ -21,7 +21,7 @@ use Rattle.form_values.proofs.Capped.{part-same}
 use Rattle.lent_lists.specs.Slot.{Slot, Matrix, Right, Tolerance, Guess, Inverse, Weight, partOf, width, valuesFor}
 use Rattle.lent_lists.specs.Lists.{Lists, listOf, shortLists}
 use Rattle.lent_lists.specs.Put.{putAll}
-use Rattle.lent_lists.specs.Filled.{closed}
+use Rattle.lent_lists.specs.Pasted.{closed}
 use Rattle.lent_lists.proofs.Lists.{long}
 use Rattle.form_values.proofs.Between.{between}
 use Rattle.given_forms.specs.Progress.{setOf, given, sized, scaled, ended}

@@ -51,7 +51,7 @@ none-at p (q ∷ ps) f e h = go (eqb (partIndex p) (partIndex q)) refl h (none-a
     go true t l rest = subst (λ (r : Part). f r ≡ 0) (sym (part-same p q (eqb-true (partIndex p) (partIndex q) t))) (omega arith)
     go false t l rest = rest (omega arith)
 
-pub all-given : (n : ℕ) (z : List ℕ) → missing n z ≡ 0 → (p : Part) → 1 ≤ totalOver counted (hits p) → (k : ℕ) → 1 ≤ k → k ≤ n → given z p k ≡ true
+all-given : (n : ℕ) (z : List ℕ) → missing n z ≡ 0 → (p : Part) → 1 ≤ totalOver counted (hits p) → (k : ℕ) → 1 ≤ k → k ≤ n → given z p k ≡ true
 unfolding missing
 all-given n z e p c k l h = lacking-none (setOf z p) n (none-at p counted (λ (q : Part). lacking (setOf z q) n) e c) (k - 1) (omega arith)
 

@@ -28,7 +28,7 @@ use Rattle.line_runs.proofs.Lines.{length-most, lines-next}
 use Rattle.line_runs.proofs.Read.{read-accepted, read-refused}
 
 -- ---- the first line of the first N bytes
-pub length-cut : (N : ℕ) (s : List ℕ) → lineLength (take N s) ≡ min N (lineLength s)
+length-cut : (N : ℕ) (s : List ℕ) → lineLength (take N s) ≡ min N (lineLength s)
 unfolding lineLength
 length-cut zero s = omega arith
 length-cut (suc N) [] = omega arith
@@ -38,7 +38,7 @@ length-cut (suc N) (b ∷ bs) = go (eqb b 10) (length-cut N bs)
     go true h = omega arith
     go false h = omega arith
 
-pub drop-take : (a N : ℕ) (s : List ℕ) → drop a (take N s) ≡ take (N - a) (drop a s)
+drop-take : (a N : ℕ) (s : List ℕ) → drop a (take N s) ≡ take (N - a) (drop a s)
 drop-take zero N s = let e : N - 0 ≡ N = omega arith in rw e
 drop-take (suc a) zero s = let e : 0 - suc a ≡ 0 = omega arith in rw e
 drop-take (suc a) (suc N) [] = rw (take-nil {A = ℕ} (suc N - suc a))

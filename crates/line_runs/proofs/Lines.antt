@@ -39,7 +39,7 @@ length-most (b ∷ bs) = go (eqb b 10) (length-most bs)
     go false h = omega arith
 
 -- ---- one line after another
-pub lines-none : linesOf [] ≡ []
+lines-none : linesOf [] ≡ []
 unfolding linesOf
 lines-none = refl
 

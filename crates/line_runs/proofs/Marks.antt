@@ -47,10 +47,10 @@ index-below Weight = omega arith
 
 -- the sets after a form: its own part's set with its place, the others as before
 module _ (z : List ℕ) (five : length z ≡ 5) (p : Part) (i : ℕ) where
-  pub marked-own : setOf (marked z p i) p ≡ withPlace (setOf z p) (i - 1)
+  marked-own : setOf (marked z p i) p ≡ withPlace (setOf z p) (i - 1)
   marked-own = getD-set-same z (partIndex p) (withPlace (setOf z p) (i - 1)) 0 (omega (arith, index-below p))
 
-  pub marked-other : (q : Part) → (partIndex q ≡ partIndex p → ⊥) → setOf (marked z p i) q ≡ setOf z q
+  marked-other : (q : Part) → (partIndex q ≡ partIndex p → ⊥) → setOf (marked z p i) q ≡ setOf z q
   marked-other q e = getD-set-other z (partIndex p) (partIndex q) (withPlace (setOf z p) (i - 1)) 0 e
 
   fewer : (n : ℕ) → 1 ≤ i → i ≤ n → given z p i ≡ false → (q : Part) → lacking (setOf z q) n ≡ lacking (setOf (marked z p i) q) n + hits p q

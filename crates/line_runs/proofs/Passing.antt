@@ -5,13 +5,11 @@
 use mathlib.Core.Path.{_≡_, refl, sym, ap, subst, _∙_}
 use mathlib.Core.Bool.{Bool, true, false, not, _&&_}
 use mathlib.Core.List.{List, [], _∷_}
-use mathlib.Core.Option.{some}
 use Prim.Native.Nat.{ℕ, _+_}
 use lib.Dec.{T, ltb}
 use lib.ListN.{length}
 use Rattle.rules.proofs.Ranges.{both-left, both-right}
 use Rattle.form.specs.Form.{Form, spell}
-use Rattle.form.specs.Reading.{reading}
 use Rattle.form.proofs.Spelling.{read-spelled}
 use Rattle.form_values.specs.Item.{itemOf}
 use Rattle.lent_lists.specs.Lists.{shortLists}

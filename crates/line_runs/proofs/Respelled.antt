@@ -29,7 +29,6 @@ unfolding readFrom
 front k u line line′ lines lines′ a h = rw (a .says, a .loader, a .lists, h (k + 1) (step u line′))
 
 pub respelled-read : (k : ℕ) (u : State) {lines lines′ : List (List ℕ)} → Respelled lines lines′ → readFrom k u lines ≡ readFrom k u lines′
-unfolding readFrom
 respelled-read k u none = refl
-respelled-read k u (same line h) = rw (respelled-read (k + 1) (step u line) h)
+respelled-read k u (same {lines} {lines′} line h) = front k u line line lines lines′ (record { says = refl; loader = refl; lists = refl }) (λ j v. respelled-read j v h)
 respelled-read k u (alone {lines} {lines′} i b few h) = front k u (spell (right i b)) (spell (rightWithin i b (pos 0))) lines lines′ (either u i b few) (λ j v. respelled-read j v h)

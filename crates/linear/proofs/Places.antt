@@ -63,7 +63,7 @@ module _ (n : ℕ) where
 
 -- ---- sizes
 module _ (a : List ℤ) (p s : ℕ) (x : List ℤ) (q u n : ℕ) (ha : Reach a p s n (2 ^ 20)) (hx : Reach x q u n (2 ^ 36)) where
-  pub dot-term : (j : ℕ) → j < n → natAbs (at a (p + j * s) *ℤ at x (q + j * u)) ≤ 2 ^ 56
+  dot-term : (j : ℕ) → j < n → natAbs (at a (p + j * s) *ℤ at x (q + j * u)) ≤ 2 ^ 56
   dot-term j l = rw (abs-* (at a (p + j * s)) (at x (q + j * u))) (mul-le-mul (ha .size j l) (hx .size j l))
 
   pub dot-fits : (j : ℕ) → n ≤ 32 → j < n → natAbs (dotOf a p s x q u j) + natAbs (at a (p + j * s)) * natAbs (at x (q + j * u)) < 2 ^ 63

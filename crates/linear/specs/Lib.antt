@@ -2,3 +2,4 @@ pub mod Matrix
 pub mod Slice
 pub mod Place
 pub mod Reach
+pub mod Written

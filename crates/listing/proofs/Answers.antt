@@ -1,7 +1,7 @@
 -- What can be said of a file.
 --   file-answers — nothing, or one of 01's refusals with what stands in the inner brackets; never 8
 --   answer-zero  — 0 stands for nothing but acceptance
-use mathlib.Core.Path.{_≡_, refl, _∙_}
+use mathlib.Core.Path.{_≡_, refl}
 use mathlib.Core.Bool.{Bool, true, false, cond}
 use mathlib.Core.List.{List, [], _∷_}
 use Prim.Native.Nat.{ℕ, _+_, _*_, _/_, _%_}
@@ -12,7 +12,6 @@ use Rattle.rules.specs.Order.{verdict, ifAccepted}
 use Rattle.enclosure.specs.Problem.{Problem}
 use Rattle.checked.specs.Order.{firstMargin, firstResidual, firstInversePlace, reckoned, checkedOf}
 use Rattle.lent_lists.specs.Lists.{shortLists}
-use Rattle.loader.specs.declared.Loader.{Loader}
 use Rattle.loader_order.specs.Order.{LineCase, lineOrder}
 use Rattle.loader.specs.Answer.{caseOf, lineAnswer}
 use Rattle.line_runs.specs.Run.{State, fromNew, step}

@@ -10,7 +10,6 @@ use mathlib.Core.List.{List, [], _∷_}
 use Prim.Native.Nat.{ℕ}
 use Rattle.linear.specs.Matrix.{Vec, Mat}
 use Rattle.rules.proofs.Verdicts.{nothing-is-not}
-use Rattle.enclosure.specs.Problem.{Problem}
 use Rattle.enclosure.specs.Reckoning.{bound, inverseBound}
 use Rattle.enclosure.specs.Demand.{Encloses, OneHeight, RoundedExact}
 use Rattle.enclosure.proofs.Acceptance.{rounded-sound}

@@ -133,7 +133,7 @@ module _ (file : List ℕ) {r : Collected} (read : ReadAs file r) where
       subst (λ (u : State). Answered (saidOf u) (shownOf u) o p a → Answered (answerOf file) (listingOf file) o p a) (sym (read .state)) (same-answer (sym (c .answer)) (sym (c .listing)))
 
 -- ---- what was written
-pub as-listed : (file : List ℕ) {o p : List ℕ} {end : ℕ} → 32768 ≤ length o → Wrote 32768 o 0 (listingOf file) p end → ListedAs file o p end
+as-listed : (file : List ℕ) {o p : List ℕ} {end : ℕ} → 32768 ≤ length o → Wrote 32768 o 0 (listingOf file) p end → ListedAs file o p end
 as-listed file {o} {p} {end} h w =
     let text = listingOf file in
     let n : end ≡ length text = omega (arith, w .place) in

@@ -1,7 +1,7 @@
 -- 02, Paper 5: "(right i b) means d = 0, written like a given one": two files whose lines differ only in how a right side without tolerance is spelled.
 --   respelled-answer, respelled-listing — what is said of them, and their listings, are equal
 --   spelled-out — so they are for 01's whole file with (right 1 (5 0)) for (right 1 5)
-use mathlib.Core.Path.{_≡_, refl, sym, ap, subst, _∙_}
+use mathlib.Core.Path.{_≡_, refl, sym, ap, _∙_}
 use mathlib.Core.List.{List, [], _∷_, _++_}
 use Prim.Native.Nat.{ℕ, _≤_}
 use lib.Dec.{lit≤}
@@ -12,7 +12,7 @@ use Rattle.form.specs.Form.{Form, problem, scale, row, right, rightWithin, gues
 use Rattle.line_runs.specs.Lines.{linesOf}
 use Rattle.line_runs.specs.Read.{Reading, zeros, readingOf}
 use Rattle.line_runs.specs.Respelled.{Respelled, none, same, alone}
-use Rattle.line_runs.specs.Run.{State, fromNew}
+use Rattle.line_runs.specs.Run.{fromNew}
 use Rattle.line_runs.proofs.Respelled.{respelled-read}
 use Rattle.line_runs.proofs.Passing.{spelled}
 use Rattle.refusal.specs.Refused.{printed}

@@ -17,7 +17,7 @@ use Rattle.rules.specs.Range.{ranges, rangeOf, inRange, allInRange}
 use Rattle.entry.specs.Entry.{entryBound}
 use Rattle.enclosure.specs.Problem.{Problem}
 use Rattle.enclosure.specs.Reckoning.{defect, load, margin, residual, rowSum, exceeds, sizesWith, boundFrom, boundWith, bound}
-use Rattle.checked.specs.Checked.{written, solutionBoundsAfter, inverseBoundsAfter}
+use Rattle.checked.specs.Checked.{solutionBoundsAfter, inverseBoundsAfter}
 use Rattle.checked.specs.Order as check
 use Rattle.checked.specs.Order.{checkedOf}
 use Rattle.numeral.specs.Decimal.{digits, decimal, numeral}
@@ -30,7 +30,7 @@ use Rattle.loader.proofs.Exact.{formSaid}
 use Rattle.line_runs.specs.Given.{valueFrom, sizeFrom, scalesFrom}
 use Rattle.line_runs.specs.Run.{fromNew, forms}
 use Rattle.line_runs.proofs.Passing.{spelled, forms-spelled, passes, pass-all}
-use Rattle.text.specs.Line.{each}
+use Rattle.listing_lines.specs.Line.{each}
 use Rattle.report.specs.Report.{reportOf}
 use Rattle.refusal.specs.Refused.{printed}
 use Rattle.file_check.specs.Judged.{reportedOf}
@@ -38,6 +38,7 @@ use Rattle.file_check.specs.Problem.{problemFrom}
 use Rattle.line_runs.specs.Lines.{linesOf}
 use Rattle.line_runs.specs.Read.{zeros}
 use Rattle.integer.specs.Among.{here, there}
+use Rattle.linear.specs.Written.{written}
 use Rattle.listing.specs.Cases.{table, tableHolds, wholeFile, unweightedFile, wholeListing}
 use Rattle.listing.specs.Listing.{problemIn, Complete, answerOf, listingOf}
 use Rattle.listing.specs.LeftOut.{NoWeights}

@@ -29,7 +29,7 @@ use Rattle.loader.proofs.Exact.{formSaid}
 use Rattle.line_runs.specs.Given.{valueFrom, sizeFrom, scalesFrom}
 use Rattle.line_runs.specs.Lines.{linesOf}
 use Rattle.line_runs.proofs.Passing.{spelled, passes}
-use Rattle.text.specs.Line.{each}
+use Rattle.listing_lines.specs.Line.{each}
 use Rattle.report.specs.Report.{reportOf}
 use Rattle.file_check.specs.Judged.{reportedOf}
 use Rattle.file_check.specs.Problem.{problemFrom}

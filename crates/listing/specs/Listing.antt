@@ -21,7 +21,7 @@ use Rattle.refusal.specs.Reply.{replyOf}
 use Rattle.refusal.specs.declared.FileAnswer.{FileAnswer}
 use Rattle.file_check.specs.Judged.{reportedOf, lineOr}
 use Rattle.line_runs.specs.Lines.{linesOf}
-use Rattle.line_runs.specs.Read.{Reading, readingOf}
+use Rattle.line_runs.specs.Read.{readingOf}
 use Rattle.file_check.specs.Problem.{problemFrom}
 
 abbrev pub problemIn : List ℕ → Problem

@@ -1,9 +1,6 @@
 // The listing of a file.
-ghost use mathlib.Core.Path.{_≡_};
-ghost use Prim.Native.Nat.{_≤_};
 ghost use lib.ListN.{length};
-ghost use Rattle.refusal.specs.Reply.{Answered};
-ghost use Rattle.listing.specs.Listing.{answerOf, listingOf, ListedAs, AnsweredAs};
+ghost use Rattle.listing.specs.Listing.{ListedAs, AnsweredAs};
 use file::read_file;
 use file_check::put_checked;
 use refusal::FileAnswer;

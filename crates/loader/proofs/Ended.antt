@@ -14,7 +14,7 @@ use Rattle.form_values.specs.declared.Item.the-variants.{End}
 use Rattle.form_values.specs.declared.Part.the-variants.{Weight}
 use Rattle.lent_lists.specs.Lists.{Lists}
 use Rattle.lent_lists.proofs.Lists.{long}
-use Rattle.lent_lists.proofs.Filled.{length-filled, filled-given, filled-one, filled-past}
+use Rattle.lent_list.proofs.Filled.{length-filled, filled-given, filled-one, filled-past}
 use Rattle.given_forms.specs.Progress.{setOf, given}
 use Rattle.given_forms.proofs.Progress.{end-size}
 use Rattle.loader_order.proofs.Said.{Passed, passed}

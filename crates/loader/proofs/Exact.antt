@@ -3,7 +3,7 @@
 --   answer-form  — what is said of a line that is a form is what is said of the form
 --   said-capped  — and of its capped form
 --   exact-loader, exact-lists — where nothing is said, both leave the same;  exact-room — and there is room for the form
-use mathlib.Core.Path.{_≡_, refl, ap, _∙_}
+use mathlib.Core.Path.{_≡_, refl, ap}
 use mathlib.Core.Bool.{Bool, true, false}
 use mathlib.Core.List.{List, []}
 use mathlib.Core.Option.{none, some}
@@ -17,7 +17,7 @@ use Rattle.numeral.specs.Numeral.{cap, capAt}
 use Rattle.numeral.proofs.Cap.{cap-small}
 use Rattle.form.specs.Form.{Form, problem, scale, row, right, rightWithin, guess, inverse, weight, end}
 use Rattle.form.specs.Reading.{reading}
-use Rattle.line.specs.Line.{cappedForm, numbersIn}
+use Rattle.line_parts.specs.Line.{cappedForm, numbersIn}
 use Rattle.form_values.specs.Item.{itemOf, placed, outside, miscounted}
 use Rattle.form_values.specs.Capped.{itemIn, valuesIn}
 use Rattle.form_values.specs.declared.Item.the-variants.{Of}
@@ -26,8 +26,8 @@ use Rattle.form_values.specs.declared.Part.the-variants.{Row, Right, Guess, Inv
 use Rattle.form_values.proofs.Capped.{placed-capped, outside-capped, miscounted-capped, item-exact}
 use Rattle.form_values.proofs.Between.{between}
 use Rattle.lent_lists.specs.Lists.{Lists, shortLists}
-use Rattle.lent_lists.specs.Filled.{closed}
-use Rattle.lent_lists.specs.Pasted.{Narrow, Rooms, pastedAll}
+use Rattle.lent_lists.specs.Pasted.{closed, Rooms, pastedAll}
+use Rattle.lent_list.specs.Pasted.{Narrow}
 use Rattle.lent_lists.proofs.Lists.{rooms}
 use Rattle.lent_lists.proofs.Exact.{all-exact}
 use Rattle.loader_order.specs.Order.{LineCase, lineOrder}

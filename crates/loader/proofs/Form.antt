@@ -11,15 +11,15 @@ use Rattle.rules.specs.Refusal.{said, numberOf, valuesOf}
 use Rattle.rules.specs.declared.Outcome.{Outcome}
 use Rattle.rules.specs.declared.Outcome.the-variants.{Accepted, Refused}
 use Rattle.rules.specs.declared.Refusal.{Refusal}
-use Rattle.line.specs.declared.CappedForm.{CappedForm}
-use Rattle.line.specs.declared.CappedForm.the-variants as form
+use Rattle.line_parts.specs.declared.CappedForm.{CappedForm}
+use Rattle.line_parts.specs.declared.CappedForm.the-variants as form
 use Rattle.form.specs.declared.Numbers.{Numbers}
 use Rattle.form_values.specs.Item.{placed}
 use Rattle.form_values.specs.Capped.{itemIn, outsideIn, valuesIn}
 use Rattle.form_values.specs.declared.Item.{Item}
 use Rattle.form_values.specs.declared.Item.the-variants.{Problem, Scale, Of, End}
 use Rattle.loader.specs.declared.Loader.{Loader}
-use Rattle.lent_lists.specs.Pasted.{Narrow}
+use Rattle.lent_list.specs.Pasted.{Narrow}
 use Rattle.given_forms.specs.Progress.{early, misplaced}
 use Rattle.loader_order.proofs.Said.{Passed, passed}
 use Rattle.loader.specs.Taken.{after}

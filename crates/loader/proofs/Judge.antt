@@ -4,7 +4,7 @@ use mathlib.Core.Path.{_≡_}
 use mathlib.Core.Bool.{Bool, true, false, cond}
 use mathlib.Core.List.{List, [], _∷_}
 use Prim.Native.Nat.{ℕ}
-use Rattle.line.specs.declared.CappedForm.{CappedForm}
+use Rattle.line_parts.specs.declared.CappedForm.{CappedForm}
 use Rattle.form_values.specs.Capped.{itemIn, outsideIn, miscountedIn}
 use Rattle.form_values.specs.declared.Item.{Item}
 use Rattle.given_forms.specs.Progress.{early, misplaced, repeated, incomplete, missing}

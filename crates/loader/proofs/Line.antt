@@ -17,16 +17,15 @@ use Rattle.rules.specs.declared.Refusal.the-variants.{TooShort, AfterEnd, TooLo
 use Rattle.numeral.specs.Numeral.{capAt}
 use Rattle.form.specs.Form.{Form}
 use Rattle.form.specs.Reading.{reading}
-use Rattle.line.specs.Line.{cappedForm, numbersIn, lineOf, ofReading, refused}
-use Rattle.line.specs.declared.Answer.the-variants as answer
-use Rattle.line.specs.declared.CappedForm.{CappedForm}
-use Rattle.line.specs.declared.Line.{Line}
+use Rattle.line_parts.specs.Line.{cappedForm, numbersIn, lineOf, ofReading, refused}
+use Rattle.line_parts.specs.declared.Answer.the-variants as answer
+use Rattle.line_parts.specs.declared.CappedForm.{CappedForm}
+use Rattle.line_parts.specs.declared.Line.{Line}
 use Rattle.form.specs.declared.Numbers.{Numbers}
 use Rattle.form_values.specs.Capped.{itemIn}
 use Rattle.form_values.specs.declared.Part.the-variants.{Weight}
 use Rattle.lent_lists.specs.Lists.{Lists, shortLists}
-use Rattle.lent_lists.specs.Filled.{closed}
-use Rattle.lent_lists.specs.Pasted.{pastedAll}
+use Rattle.lent_lists.specs.Pasted.{closed, pastedAll}
 use Rattle.lent_lists.proofs.Lists.{nothing-pasted}
 use Rattle.given_forms.specs.Progress.{setOf, ended}
 use Rattle.loader.specs.declared.Decided.{Decided}

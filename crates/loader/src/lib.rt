@@ -13,8 +13,8 @@ use form::Numbers;
 use form_values::Item;
 use form_values::Part;
 use given_forms::Stage;
-use line::Answer;
-use line::CappedForm;
+use line_parts::Answer;
+use line_parts::CappedForm;
 use rules::Outcome;
 use rules::Refusal;
 

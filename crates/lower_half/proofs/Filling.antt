@@ -15,26 +15,26 @@ use borrow.Author.Tests.{le-leb}
 use lib.IntN.{ℤ, pos}
 use lib.ListN.{length, replicate, length-replicate, getD-replicate}
 use Rattle.linear.specs.Slice.{at, matrixOf}
+use Rattle.linear.specs.Written.{written}
 use Rattle.rules.specs.Range.{inRange, rangeOf, ranges}
 use Rattle.rules.specs.declared.Kind.the-variants as kind
 use Rattle.rules.proofs.Ranges.{both}
 use Rattle.linear.proofs.Places.{place, square, place-column, place-row}
-use Rattle.reckoning.specs.Arrays.{stored}
-use Rattle.reckoning.proofs.Filled.{stored-none, stored-more, stored-length, stored-at, stored-else, stored-ext}
+use Rattle.linear.proofs.Written.{written-none, written-more, written-length, written-ext, front-at, front-else}
 use Rattle.lower_half.specs.Half.{halfPlace, halfCount, filledRows, filledOut}
 use Rattle.lower_half.proofs.Places.{some-row, place-swap, place-below}
 
-stored-row : {A : Type 0} (xs : List A) (f g : ℕ → A) (p n : ℕ) → ((k : ℕ) → k < n → g k ≡ f (p + k)) → stored (stored xs 0 1 f p) p 1 g n ≡ stored xs 0 1 f (p + n)
-unfolding stored
-stored-row xs f g p zero h = let e : p + 0 ≡ p = omega arith in rw e
-stored-row xs f g p (suc n) h =
+written-row : {A : Type 0} (xs : List A) (f g : ℕ → A) (p n : ℕ) → ((k : ℕ) → k < n → g k ≡ f (p + k)) → written (written xs 0 1 f p) p 1 g n ≡ written xs 0 1 f (p + n)
+unfolding written
+written-row xs f g p zero h = let e : p + 0 ≡ p = omega arith in rw e
+written-row xs f g p (suc n) h =
     let e : p + n + 1 ≡ p + suc n = omega arith in
-    stored-more xs 0 1 f (p + n) (stored-row xs f g p n (λ k l. h k (omega arith))) (omega arith) (h n (omega arith)) ∙ ap (stored xs 0 1 f) e
+    written-more xs 0 1 f (p + n) (written-row xs f g p n (λ k l. h k (omega arith))) (omega arith) (h n (omega arith)) ∙ ap (written xs 0 1 f) e
 
 abbrev zeros : List ℤ
 zeros = replicate 1024 (pos 0)
 
-pub inside-range : (n : ℕ) → 0 < n → n ≤ 32 → inRange kind.Size (pos n) ≡ true
+inside-range : (n : ℕ) → 0 < n → n ≤ 32 → inRange kind.Size (pos n) ≡ true
 unfolding inRange rangeOf ranges
 inside-range n some few = both (le-leb 1 n some) (le-leb n 32 few)
 
@@ -46,14 +46,14 @@ module _ (n : ℕ) (half : List ℤ) where
   number-is i j l = rw (place-column i j n l, place-row i j n l)
 
   pub rows-none : filledRows n half 0 ≡ zeros
-  rows-none = let e : 0 * n ≡ 0 = omega arith in ap (stored zeros 0 1 numberAt) e ∙ stored-none zeros 0 1 numberAt
+  rows-none = let e : 0 * n ≡ 0 = omega arith in ap (written zeros 0 1 numberAt) e ∙ written-none zeros 0 1 numberAt
 
-  pub rows-next : {xs : List ℤ} (i : ℕ) → xs ≡ filledRows n half i → stored xs (i * n) 1 (λ (j : ℕ). at half (halfPlace i j)) n ≡ filledRows n half (i + 1)
+  pub rows-next : {xs : List ℤ} (i : ℕ) → xs ≡ filledRows n half i → written xs (i * n) 1 (λ (j : ℕ). at half (halfPlace i j)) n ≡ filledRows n half (i + 1)
   rows-next i e =
       let more : i * n + n ≡ (i + 1) * n = omega arith in
-      ap (λ (ys : List ℤ). stored ys (i * n) 1 (λ (j : ℕ). at half (halfPlace i j)) n) e
-      ∙ stored-row zeros numberAt (λ (j : ℕ). at half (halfPlace i j)) (i * n) n (number-is i)
-      ∙ ap (stored zeros 0 1 numberAt) more
+      ap (λ (ys : List ℤ). written ys (i * n) 1 (λ (j : ℕ). at half (halfPlace i j)) n) e
+      ∙ written-row zeros numberAt (λ (j : ℕ). at half (halfPlace i j)) (i * n) n (number-is i)
+      ∙ ap (written zeros 0 1 numberAt) more
 
   pub rows-end : {i : ℕ} → i ≤ n → n ≤ i → filledRows n half i ≡ filledRows n half n
   rows-end l h = ap (filledRows n half) (le-antisymm l h)
@@ -70,22 +70,20 @@ module _ (n : ℕ) (half : List ℤ) where
   filled-length = go (inRange kind.Size (pos n)) refl
     where
       go : (b : Bool) → inRange kind.Size (pos n) ≡ b → length (filledOut n half) ≡ 1024
-      go true e = rw (filled-inside e) (stored-length zeros 0 1 numberAt (n * n) ∙ length-replicate 1024 (pos 0))
+      go true e = rw (filled-inside e) (written-length zeros 0 1 numberAt (n * n) ∙ length-replicate 1024 (pos 0))
       go false e = rw (filled-outside e) (length-replicate 1024 (pos 0))
 
   pub filled-at : n ≤ 32 → (i j : ℕ) → i < n → j < n → matrixOf (filledOut n half) n i j ≡ at half (halfPlace i j)
   filled-at few i j li lj =
-      let e : i * n + j ≡ 0 + (i * n + j) * 1 = omega arith in
       ap (λ (A : List ℤ). at A (i * n + j)) (filled-inside (inside-range n (omega arith) few))
-      ∙ ap (at (filledRows n half n)) e
-      ∙ stored-at zeros 0 1 numberAt (pos 0) (n * n) (i * n + j) (omega arith) (place li lj) (λ k l. omega (arith, square few, length-replicate 1024 (pos 0)))
+      ∙ front-at zeros numberAt (pos 0) (n * n) (i * n + j) (place li lj) (omega (arith, square few, length-replicate 1024 (pos 0)))
       ∙ sym (number-is i j lj)
 
   pub filled-past : (k : ℕ) → n * n ≤ k → k < 1024 → at (filledOut n half) k ≡ pos 0
   filled-past k l h = go (inRange kind.Size (pos n)) refl
     where
       go : (b : Bool) → inRange kind.Size (pos n) ≡ b → at (filledOut n half) k ≡ pos 0
-      go true e = rw (filled-inside e) (stored-else zeros 0 1 numberAt (pos 0) (n * n) k (λ i m e. omega arith) ∙ getD-replicate 1024 k (pos 0) (pos 0) h)
+      go true e = rw (filled-inside e) (front-else zeros numberAt (pos 0) (n * n) k l ∙ getD-replicate 1024 k (pos 0) (pos 0) h)
       go false e = rw (filled-outside e) (getD-replicate 1024 k (pos 0) (pos 0) h)
 
   pub filled-symmetric : n ≤ 32 → (i j : ℕ) → i < n → j < n → matrixOf (filledOut n half) n i j ≡ matrixOf (filledOut n half) n j i
@@ -95,5 +93,5 @@ pub filled-same : (n : ℕ) (half other : List ℤ) → ((k : ℕ) → k < halfC
 unfolding filledOut
 filled-same n half other h =
     ap (λ (A : List ℤ). cond (inRange kind.Size (pos n)) A zeros)
-    (stored-ext zeros 0 1 (numberAt n half) (numberAt n other) (n * n)
+    (written-ext zeros 0 1 (numberAt n half) (numberAt n other) (n * n)
     (λ k l. h (halfPlace (k / n) (k % n)) (place-below (div-lt-iff-lt-mul (some-row l) .1 l) (mod-lt k (some-row l)))))

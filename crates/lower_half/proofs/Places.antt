@@ -22,7 +22,7 @@ some-row {n} {k} l = go n l
 pub count-next : (i : ℕ) → halfCount (i + 1) ≡ halfCount i + (i + 1)
 count-next i = omega arith
 
-pub count-up : {m n : ℕ} → m ≤ n → halfCount m ≤ halfCount n
+count-up : {m n : ℕ} → m ≤ n → halfCount m ≤ halfCount n
 count-up {m} {n} l = let h : m * (m + 1) ≤ n * (n + 1) = mul-le-mul l (omega arith) in omega (arith, h)
 
 pub count-few : {n : ℕ} → n ≤ 32 → halfCount n ≤ 528
@@ -45,7 +45,7 @@ pub place-lower : {i j : ℕ} → j ≤ i → halfPlace i j ≡ lowerPlace i j
 unfolding halfPlace
 place-lower l = rw (max-left l, min-right l)
 
-pub place-upper : {i j : ℕ} → i ≤ j → halfPlace i j ≡ lowerPlace j i
+place-upper : {i j : ℕ} → i ≤ j → halfPlace i j ≡ lowerPlace j i
 unfolding halfPlace
 place-upper l = rw (max-right l, min-left l)
 

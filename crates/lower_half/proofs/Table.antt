@@ -2,11 +2,11 @@
 --   six-filled  — three rows filled out
 use mathlib.Core.Path.{_≡_, refl}
 use lib.ListN.{take}
-use Rattle.reckoning.specs.Arrays.{stored}
+use Rattle.linear.specs.Written.{written}
 use Rattle.rules.specs.Range.{inRange, rangeOf, ranges}
 use Rattle.lower_half.specs.Half.{halfPlace, filledOut}
 use Rattle.lower_half.specs.Cases.{sixHalf, sixSquare}
 
 pub six-filled : take 9 (filledOut 3 sixHalf) ≡ sixSquare
-unfolding filledOut stored halfPlace inRange rangeOf ranges
+unfolding filledOut written halfPlace inRange rangeOf ranges
 six-filled = refl

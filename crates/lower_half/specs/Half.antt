@@ -12,7 +12,7 @@ use lib.Dec.{ltb}
 use lib.IntN.{ℤ, pos}
 use lib.ListN.{replicate}
 use Rattle.linear.specs.Slice.{at}
-use Rattle.reckoning.specs.Arrays.{stored}
+use Rattle.linear.specs.Written.{written}
 use Rattle.rules.specs.Range.{inRange}
 use Rattle.rules.specs.declared.Kind.the-variants as kind
 
@@ -32,7 +32,7 @@ abbrev pub shortHalf : ℕ → Bool
 shortHalf k = ltb k 528
 
 abbrev pub filledRows : ℕ → List ℤ → ℕ → List ℤ
-filledRows n half i = stored (replicate 1024 (pos 0)) 0 1 (λ (k : ℕ). at half (halfPlace (k / n) (k % n))) (i * n)
+filledRows n half i = written (replicate 1024 (pos 0)) 0 1 (λ (k : ℕ). at half (halfPlace (k / n) (k % n))) (i * n)
 
 unfoldable pub filledOut : ℕ → List ℤ → List ℤ
 filledOut n half = cond (inRange kind.Size (pos n)) (filledRows n half n) (replicate 1024 (pos 0))

@@ -3,7 +3,7 @@ ghost use mathlib.Core.Path.{_≡_};
 ghost use Prim.Native.Nat.{ℕ, _+_, _*_, _≤_, _<_};
 ghost use lib.ListN.{length};
 ghost use Rattle.linear.specs.Slice.{at};
-ghost use Rattle.reckoning.specs.Arrays.{stored};
+ghost use Rattle.linear.specs.Written.{written};
 ghost use Rattle.lower_half.specs.Half.{lowerPlace, halfPlace, filledRows, filledOut};
 use rules::Kind;
 use rules::is_natural_in_range;
@@ -23,7 +23,7 @@ fn next_place(place: usize, i: usize, j: usize) -> usize
 fn fill_row(out: &mut [i64; 1024], to: usize, half: &[i64], from: usize, i: usize, n: usize)
     requires { ⌜ (n ≤ 32) × ((i < n) × (528 ≤ length (now half))) ⌝ }
     requires { ⌜ (to ≡ i * n) × (from ≡ lowerPlace i 0) ⌝ }
-    ensures { λ _. ⌜ now (out .exit) ≡ stored (now (out .entry)) to 1 (λ (j : ℕ). at (now (half .entry)) (halfPlace i j)) n ⌝ }
+    ensures { λ _. ⌜ now (out .exit) ≡ written (now (out .entry)) to 1 (λ (j : ℕ). at (now (half .entry)) (halfPlace i j)) n ⌝ }
 {
     let mut at_out = to;
     let mut at_half = from;

@@ -30,7 +30,7 @@ abbrev pub DefectList : List ℤ → ℕ → ℕ → List ℤ → List ℤ → T
 DefectList defects n t matrix inverse = Begins (pos 0) defects (n * n) (λ (i : ℕ). defect (problemOf n 0 t matrix [] [] [] inverse []) (i / n) (i % n))
 
 module _ (n t : ℕ) (matrix inverse : List ℤ) where
-  pub residual-defect : Symmetric matrix n → Symmetric inverse n → (j k : ℕ) → j < n → k < n →
+  residual-defect : Symmetric matrix n → Symmetric inverse n → (j k : ℕ) → j < n → k < n →
       columnResidual n t matrix inverse j k ≡ defect (problemOf n 0 t matrix [] [] [] inverse []) j k
   unfolding residual defect product
   residual-defect a g j k lj lk = difference-mirror (matrix-mirror a) (matrix-mirror g) (pos (2 ^ t)) k j lk lj
@@ -60,7 +60,7 @@ module _ (n t : ℕ) (matrix inverse : List ℤ) where
 
 -- ---- sizes of the terms
 module _ {defects weights : List ℤ} {n m : ℕ} (d : Within defects (n * n) (2 ^ 46)) (w : ColumnList weights n 1024) (lm : m < n) where
-  pub term-size : (j : ℕ) → j < n → natAbs (at defects (m * n + j)) * natAbs (at weights j) ≤ 2 ^ 56
+  term-size : (j : ℕ) → j < n → natAbs (at defects (m * n + j)) * natAbs (at weights j) ≤ 2 ^ 56
   term-size j l = mul-le-mul (d .size (m * n + j) (place lm l)) (w .within .size j l)
 
   pub load-size : {sum : ℕ} (j : ℕ) → n ≤ 32 → j ≤ n → sum ≡ sumℕ j (λ (k : ℕ). natAbs (at defects (m * n + k)) * natAbs (at weights k)) → sum ≤ 2 ^ 62

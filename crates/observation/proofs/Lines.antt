@@ -91,7 +91,7 @@ module _ (n k : ℕ) (short : Bool) where
       let t = none-said (openOrder n k short) [] refl e in
       record { long = t .0; size = not-false _ (t .1 .0); few = ltb-false 256 k (t .1 .1 .0) }
 
-  pub usable-said : Admitted n k short → verdict (openOrder n k short) ≡ []
+  usable-said : Admitted n k short → verdict (openOrder n k short) ≡ []
   usable-said u = silent (openOrder n k short) (u .long, (ap not (u .size), (le-ltb 256 k (u .few), tt)))
 
 -- ---- the whole

@@ -18,6 +18,7 @@ use Rattle.rules.specs.declared.Kind.{Kind}
 use Rattle.rules.specs.declared.Kind.the-variants as kind
 use Rattle.rules.proofs.AllInRange.{all-at}
 use Rattle.rules.proofs.Ranges.{range-natural}
+use Rattle.enclosure.specs.Demand.{NoTolerance}
 use Rattle.enclosure.specs.Problem.{Problem}
 use Rattle.enclosure.specs.Reckoning.{bound, inverseBound}
 use Rattle.checked.specs.Order.{checkedOf}
@@ -38,7 +39,6 @@ use Rattle.listing.proofs.Entire.{answer-judged, listing-from, from, inside}
 use Rattle.old_edition.specs.Edition.{CompleteOld}
 use Rattle.old_edition.specs.File.{newFile}
 use Rattle.old_edition.specs.Numbers.{SameNumbers, SameTolerances, NumbersInRange}
-use Rattle.old_edition.specs.Stated.{NoTolerance}
 use Rattle.old_edition.proofs.Ends.{file-complete, file-complete-old}
 use Rattle.old_edition.proofs.Same.{same-check, same-report, same-bound, same-inverse-bound}
 use Rattle.old_edition.proofs.Size.{old-size}
@@ -86,7 +86,7 @@ module _ (file : List ℕ) (c : Complete file) where
   abbrev Q : Problem
   Q = problemIn (newFile file)
 
-  pub in-range-file : NumbersInRange P
+  in-range-file : NumbersInRange P
   in-range-file = in-range-forms (readingOf file .state) (forms (linesOf file)) (from file (c .lines) (c .end)) (inside file (c .lines) (c .end))
 
   pub new-complete : Complete (newFile file)

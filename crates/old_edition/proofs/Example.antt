@@ -44,7 +44,7 @@ use Rattle.old_edition.specs.Cases.{shuffledFile, unboundedFile, unbound
 use Rattle.old_edition.specs.Converted.{someTolerance, convertAnswer}
 use Rattle.old_edition.specs.File.{numbersAlong, rising, oldForms, oldFile, newFile}
 use Rattle.old_edition.specs.Numbers.{NumbersInRange}
-use Rattle.old_edition.specs.Stated.{tolerance, too-small, written}
+use Rattle.old_edition.specs.Stated.{tolerance, too-small, converted}
 use Rattle.old_edition.proofs.Ends.{file-complete}
 use Rattle.old_edition.proofs.Same.{again}
 use Rattle.old_edition.proofs.Stated.{none-above, stated-said, always-fits}
@@ -105,7 +105,7 @@ shuffled-new = ap oldFile shuffled-problem ∙ shuffled-bytes
 pub shuffled-converted : convertAnswer shuffledFile 172 ≡ []
 shuffled-converted =
     stated-said shuffledFile 172
-    (written shuffled-complete (none-above (problemIn shuffledFile) (ap someTolerance shuffled-problem ∙ shuffled-none)) (rw shuffled-new (lit≤ tt)))
+    (converted shuffled-complete (none-above (problemIn shuffledFile) (ap someTolerance shuffled-problem ∙ shuffled-none)) (rw shuffled-new (lit≤ tt)))
 
 pub shuffled-too-small : convertAnswer shuffledFile 171 ≡ 22 ∷ []
 shuffled-too-small = stated-said shuffledFile 171 (too-small shuffled-complete (rw shuffled-new (lit≤ tt)))
@@ -154,13 +154,13 @@ unbounded-refused =
     ∙ ap (λ (Q : Problem). printed 0 (checkedOf Q)) unbounded-problem
     ∙ ap (printed 0) unbounded-checked
 
-pub unbounded-new : newFile unboundedFile ≡ unboundedNew
+unbounded-new : newFile unboundedFile ≡ unboundedNew
 unbounded-new = ap oldFile unbounded-problem ∙ unbounded-bytes
 
 pub unbounded-converted : convertAnswer unboundedFile 32768 ≡ []
 unbounded-converted =
     stated-said unboundedFile 32768
-    (written unbounded-complete (none-above (problemIn unboundedFile) (ap someTolerance unbounded-problem ∙ unbounded-none)) (rw unbounded-new (lit≤ tt)))
+    (converted unbounded-complete (none-above (problemIn unboundedFile) (ap someTolerance unbounded-problem ∙ unbounded-none)) (rw unbounded-new (lit≤ tt)))
 
 -- ---- a file with a tolerance
 tolerant-above : 0 < problemIn tolerantFile .d 0
@@ -175,7 +175,7 @@ pub tolerant-refused : (room : ℕ) → convertAnswer tolerantFile room ≡ 22 �
 tolerant-refused room = stated-said tolerantFile room (tolerance (accepted-parts tolerantFile tolerant-accepted .complete) 0 tolerant-size tolerant-above)
 
 -- ---- the longest
-pub longest-in-range : NumbersInRange longest
+longest-in-range : NumbersInRange longest
 unfolding inRange rangeOf ranges
 longest-in-range = record {
   size = refl;

@@ -25,18 +25,18 @@ use Rattle.old_edition.specs.Edition.{isOld}
 use Rattle.old_edition.specs.File.{numbersAlong, formFor}
 use Rattle.old_edition.specs.Numbers.{NumbersInRange}
 
-pub along-length : (g : ℕ → ℤ) (j c : ℕ) → length (numbersAlong g j c) ≡ c
+along-length : (g : ℕ → ℤ) (j c : ℕ) → length (numbersAlong g j c) ≡ c
 unfolding numbersAlong
 along-length g j zero = refl
 along-length g j (suc c) = ap suc (along-length g (suc j) c)
 
-pub along-at : (g : ℕ → ℤ) (j c m : ℕ) → m < c → getD (numbersAlong g j c) m (pos 0) ≡ g (j + m)
+along-at : (g : ℕ → ℤ) (j c m : ℕ) → m < c → getD (numbersAlong g j c) m (pos 0) ≡ g (j + m)
 unfolding numbersAlong
 along-at g j zero m h = absurd (omega arith)
 along-at g j (suc c) zero h = ap g (omega arith)
 along-at g j (suc c) (suc m) h = along-at g (suc j) c m (omega arith) ∙ ap g (omega arith)
 
-pub along-inside : (k : Kind) (g : ℕ → ℤ) (n j c : ℕ) → j + c ≤ n → ((m : ℕ) → m < n → inRange k (g m) ≡ true) → allInside k (numbersAlong g j c) ≡ true
+along-inside : (k : Kind) (g : ℕ → ℤ) (n j c : ℕ) → j + c ≤ n → ((m : ℕ) → m < n → inRange k (g m) ≡ true) → allInside k (numbersAlong g j c) ≡ true
 unfolding numbersAlong allInside
 along-inside k g n j zero l h = refl
 along-inside k g n j (suc c) l h = both (h j (omega arith)) (along-inside k g n (suc j) c (omega arith) h)
@@ -46,7 +46,7 @@ unfolding numbersAlong
 along-ext g h n j zero l e = refl
 along-ext g h n j (suc c) l e = rw (e j (omega arith), along-ext g h n (suc j) c (omega arith) e)
 
-pub whole-list : (g : ℕ → ℤ) (n : ℕ) → 1 ≤ n → g 0 ∷ numbersAlong g 1 (n - 1) ≡ numbersAlong g 0 n
+whole-list : (g : ℕ → ℤ) (n : ℕ) → 1 ≤ n → g 0 ∷ numbersAlong g 1 (n - 1) ≡ numbersAlong g 0 n
 unfolding numbersAlong
 whole-list g zero h = absurd (omega arith)
 whole-list g (suc m) h = let e : suc m - 1 ≡ m = omega arith in ap (λ (c : ℕ). g 0 ∷ numbersAlong g 1 c) e

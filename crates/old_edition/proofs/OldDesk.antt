@@ -22,4 +22,4 @@ OldHolds (c ∷ cs) = (readingOfOld (c .file) .said ≡ c .says) × OldHolds cs
 
 pub old-cases-hold : OldHolds oldCases
 unfolding readOld answerOld loaderOld listsOld zeros linesOf reading starts wordAt orWord firstOf headAt othersAt runAt sizeAt numberAt missing01 misplaced withPlace lacking allInside sumℕ inRange rangeOf ranges
-old-cases-hold = (refl, (refl, (refl, (refl, (refl, (refl, (refl, (refl, (refl, tt)))))))))
+old-cases-hold = (refl, (refl, (refl, (refl, (refl, (refl, (refl, (refl, (refl, (refl, tt))))))))))

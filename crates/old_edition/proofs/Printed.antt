@@ -25,7 +25,7 @@ use Rattle.line_runs.specs.Read.{readFrom, zeros, readingOf}
 use Rattle.line_runs.specs.Run.{forms}
 use Rattle.line_runs.proofs.Passing.{spelled, passes}
 use Rattle.spelled_lines.specs.Ones.{textOf}
-use Rattle.text.specs.Line.{each}
+use Rattle.listing_lines.specs.Line.{each}
 use Rattle.refusal.specs.Refused.{printed}
 use Rattle.file_check.specs.Judged.{lineOr}
 use Rattle.file_check.specs.Problem.{problemFrom}

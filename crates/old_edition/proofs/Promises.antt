@@ -13,6 +13,7 @@ use native.Mathlib.Nat.{suc-mul}
 use native.Mathlib.Omega.{arith}
 use lib.ListN.{length}
 use Rattle.rules.proofs.Verdicts.{nothing-is-not}
+use Rattle.enclosure.specs.Demand.{NoTolerance}
 use Rattle.enclosure.specs.Problem.{Problem}
 use Rattle.enclosure.specs.Reckoning.{bound, inverseBound}
 use Rattle.checked.specs.Order.{checkedOf}
@@ -26,7 +27,7 @@ use Rattle.old_edition.specs.Converted.{convertAnswer}
 use Rattle.old_edition.specs.Edition.{CompleteOld}
 use Rattle.old_edition.specs.File.{formFor, rising, partsThen, oldForms, newFile}
 use Rattle.old_edition.specs.Numbers.{SameNumbers}
-use Rattle.old_edition.specs.Stated.{NoTolerance, ConvertStated, line-refused, not-ended, tolerance, too-small, written}
+use Rattle.old_edition.specs.Stated.{ConvertStated, line-refused, not-ended, tolerance, too-small, converted}
 use Rattle.old_edition.proofs.Equal.{new-complete, new-complete-old, new-size, equal-answer, equal-listing, equal-check, equal-bound, equal-inverse-bound}
 use Rattle.old_edition.proofs.Orders.{equal-bytes}
 use Rattle.old_edition.proofs.Same as same
@@ -58,7 +59,7 @@ stated-nothing (line-refused k vs q) e = absurd (nothing-is-not e)
 stated-nothing (not-ended q d) e = absurd (nothing-is-not e)
 stated-nothing (tolerance c i l h) e = absurd (nothing-is-not e)
 stated-nothing (too-small c l) e = absurd (nothing-is-not e)
-stated-nothing (written c z l) e = record { complete = c; untolerant = z; fits = l }
+stated-nothing (converted c z l) e = record { complete = c; untolerant = z; fits = l }
 
 pub record EqualChecks (file other : List ℕ) : Type 0 where
   pub check : checkedOf (problemIn other) ≡ checkedOf (problemIn file)
@@ -69,7 +70,7 @@ pub record EqualChecks (file other : List ℕ) : Type 0 where
   pub listing : listingOf other ≡ listingOf file
 
 module _ (file : List ℕ) (room : ℕ) (e : convertAnswer file room ≡ []) where
-  pub convertible : Convertible file room
+  convertible : Convertible file room
   convertible = stated-nothing (convert-stated file room) e
 
   pub old-desk : CompleteOld (newFile file)
@@ -98,9 +99,9 @@ module _ (file : List ℕ) (room : ℕ) (e : convertAnswer file room ≡ []) whe
   same-again = same.again (problemIn file)
 
   pub again : convertAnswer (newFile file) room ≡ []
-  again = stated-said (newFile file) room (written (new-complete file (convertible .complete)) (no-tolerance (problemIn file)) (rw same-again (convertible .fits)))
+  again = stated-said (newFile file) room (converted (new-complete file (convertible .complete)) (no-tolerance (problemIn file)) (rw same-again (convertible .fits)))
 
   pub alike : (other : List ℕ) → Complete other → NoTolerance (problemIn other) → SameNumbers (problemIn file) (problemIn other) → (convertAnswer other room ≡ []) × (newFile other ≡ newFile file)
   alike other c z same =
       let b = equal-bytes file other same in
-      (stated-said other room (written c z (rw (← b) (convertible .fits))), sym b)
+      (stated-said other room (converted c z (rw (← b) (convertible .fits))), sym b)

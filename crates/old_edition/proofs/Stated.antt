@@ -14,13 +14,14 @@ use lib.Dec.{ltb}
 use lib.ListN.{length}
 use Rattle.integer.specs.Finite.{largest}
 use Rattle.integer.proofs.Search.{largest-at, largest-≤}
+use Rattle.enclosure.specs.Demand.{NoTolerance}
 use Rattle.enclosure.specs.Problem.{Problem}
 use Rattle.given_forms.specs.Progress.{ended}
 use Rattle.line_runs.specs.Read.{readingOf}
 use Rattle.listing.specs.Listing.{problemIn, Complete}
 use Rattle.old_edition.specs.Converted.{someTolerance, convertAnswer}
 use Rattle.old_edition.specs.File.{newFile}
-use Rattle.old_edition.specs.Stated.{NoTolerance, ConvertStated, line-refused, not-ended, tolerance, too-small, written}
+use Rattle.old_edition.specs.Stated.{ConvertStated, line-refused, not-ended, tolerance, too-small, converted}
 use Rattle.old_edition.proofs.Equal.{new-size}
 
 -- ---- the tolerances
@@ -33,7 +34,7 @@ some-above (suc n) d h = go (decLt 0 (d n)) (some-above n d)
     go (yes a) before = (n, (omega arith, a))
     go (no a) before = let r = before (omega arith) in (r .0, (omega (arith, r .1 .0), r .1 .1))
 
-pub tolerance-said : (P : Problem) (i : ℕ) → i < P .n → 0 < P .d i → someTolerance P ≡ true
+tolerance-said : (P : Problem) (i : ℕ) → i < P .n → 0 < P .d i → someTolerance P ≡ true
 tolerance-said P i l h = lt-ltb 0 (largest (P .n) (P .d)) (omega (arith, largest-at (P .n) (P .d) i l))
 
 pub none-said : (P : Problem) → NoTolerance P → someTolerance P ≡ false
@@ -66,7 +67,7 @@ module _ (file : List ℕ) (room : ℕ) where
       let r = some-above (problemIn file .n) (problemIn file .d) (ltb-true 0 _ p) in
       tolerance c (r .0) (r .1 .0) (r .1 .1)
   by-tests c false true p q = too-small c (ltb-true room _ q)
-  by-tests c false false p q = written c (none-above (problemIn file) p) (omega (arith, ltb-false room (length (newFile file)) q))
+  by-tests c false false p q = converted c (none-above (problemIn file) p) (omega (arith, ltb-false room (length (newFile file)) q))
 
   pub convert-stated : ConvertStated file room (convertAnswer file room)
   convert-stated = go (readingOf file .said) refl (ended (readingOf file .state .loader .stage)) refl
@@ -84,7 +85,7 @@ module _ (file : List ℕ) (room : ℕ) where
   stated-said (not-ended q e) = said-open q e
   stated-said (tolerance c i l h) = said-complete c ∙ rw (tolerance-said (problemIn file) i l h)
   stated-said (too-small c l) = said-complete c ∙ rw (lt-ltb room (length (newFile file)) l) (either-way (someTolerance (problemIn file)) (22 ∷ []))
-  stated-said (written c z l) = said-complete c ∙ rw (none-said (problemIn file) z, le-ltb room (length (newFile file)) l)
+  stated-said (converted c z l) = said-complete c ∙ rw (none-said (problemIn file) z, le-ltb room (length (newFile file)) l)
 
   pub always-fits : Complete file → NoTolerance (problemIn file) → 21300 ≤ room → convertAnswer file room ≡ []
-  always-fits c z l = stated-said (written c z (omega (arith, new-size file c)))
+  always-fits c z l = stated-said (converted c z (omega (arith, new-size file c)))

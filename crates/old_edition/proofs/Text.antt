@@ -9,6 +9,7 @@ use Prim.Native.Nat.{ℕ}
 use native.Mathlib.Omega.{arith}
 use lib.ListN.{take}
 use Rattle.rules.specs.Order.{verdict, ifAccepted}
+use Rattle.enclosure.specs.Demand.{NoTolerance}
 use Rattle.line_runs.specs.Acceptable.{bytesMost}
 use Rattle.line_runs.specs.Run.{fromNew}
 use Rattle.line_runs.specs.Read.{Reading, zeros, readingOf}
@@ -19,11 +20,10 @@ use Rattle.file_check.specs.Judged.{lineOr}
 use Rattle.listing.specs.Listing.{problemIn, Complete}
 use Rattle.old_edition.specs.Converted.{conversionOrder, convertAnswer, refusalNumbers, convertedText}
 use Rattle.old_edition.specs.File.{newFile}
-use Rattle.old_edition.specs.Stated.{NoTolerance}
 use Rattle.old_edition.proofs.Stated.{always-fits}
 
 module _ (file : List ℕ) where
-  pub answer-numbers : (room : ℕ) → refusalNumbers file room ≡ printed (ifAccepted (readingOf file .said) 0 (readingOf file .line)) (convertAnswer file room)
+  answer-numbers : (room : ℕ) → refusalNumbers file room ≡ printed (ifAccepted (readingOf file .said) 0 (readingOf file .line)) (convertAnswer file room)
   unfolding convertAnswer
   answer-numbers room = go (readingOf file .said) (readingOf file .line)
     where
@@ -35,7 +35,7 @@ module _ (file : List ℕ) where
   unfolding convertedText
   text-is w e = rw (answer-numbers 32768, e)
 
-  pub text-refused : {k : ℕ} {vs : List ℕ} → readingOf file .said ≡ k ∷ vs → convertedText file ≡ refusedOf (printed (readingOf file .line) (k ∷ vs))
+  text-refused : {k : ℕ} {vs : List ℕ} → readingOf file .said ≡ k ∷ vs → convertedText file ≡ refusedOf (printed (readingOf file .line) (k ∷ vs))
   unfolding convertedText
   text-refused e = rw e
 

@@ -15,6 +15,7 @@ use lib.Dec.{eqb}
 use lib.IntN.{pos, natAbs}
 use lib.ListN.{getD}
 use Rattle.rules.proofs.Ranges.{both}
+use Rattle.enclosure.specs.Demand.{NoTolerance}
 use Rattle.enclosure.specs.Problem.{Problem}
 use Rattle.form.specs.Form.{Form, end}
 use Rattle.form_values.specs.Item.{itemOf, partIndex}
@@ -32,7 +33,6 @@ use Rattle.file_check.specs.Problem.{problemFrom}
 use Rattle.listing.specs.Listing.{problemIn}
 use Rattle.old_edition.specs.File.{formFor, rising, partsThen, oldForms, oldFile}
 use Rattle.old_edition.specs.Numbers.{SameNumbers}
-use Rattle.old_edition.specs.Stated.{NoTolerance}
 use Rattle.old_edition.proofs.Numbers.{item-for, row-at}
 use Rattle.old_edition.proofs.Taken.{lines-of}
 

@@ -12,7 +12,7 @@ use lib.IntN.{negsuc}
 use lib.ListN.{replicate}
 use Rattle.enclosure.specs.Problem.{Problem}
 use Rattle.form.specs.Form.{bytes}
-use Rattle.listing.specs.Cases.{unweightedFile, spelledOutFile, tolerantFile}
+use Rattle.listing.specs.Cases.{spelledOutFile, tolerantFile}
 
 abbrev pub shuffledFile : List ℕ
 shuffledFile =
@@ -58,8 +58,9 @@ pub record OldCase : Type 0 where
 
 abbrev pub oldCases : List OldCase
 oldCases =
-    -- 13: 01 asks for all n weights
-    record { file = unweightedFile; says = 13 ∷ 2 ∷ [] }
+    -- 13: 01 asks for all n weights, and counts them
+    record { file = unboundedFile; says = 13 ∷ 1 ∷ [] }
+    ∷ record { file = bytes "(problem 2)\n(scale 4 4)\n(end)\n"; says = 13 ∷ 10 ∷ [] }
     -- 2: 01 has no form with a tolerance, be it 0
     ∷ record { file = spelledOutFile; says = 2 ∷ [] }
     -- 4, and not 12: 01 tests repetition late

@@ -1,19 +1,15 @@
 -- Each answer of a converter written out, with what must not hold before it (02, Paper 14).
---   NoTolerance P — all tolerances are 0
 --   ConvertStated file room w — w is said of the file, for a buffer of the length room, by its stated case
 use mathlib.Core.Bool.{false}
 use mathlib.Core.List.{List, [], _∷_}
 use mathlib.Core.Path.{_≡_}
 use Prim.Native.Nat.{ℕ, _≤_, _<_}
 use lib.ListN.{length}
-use Rattle.enclosure.specs.Problem.{Problem}
+use Rattle.enclosure.specs.Demand.{NoTolerance}
 use Rattle.given_forms.specs.Progress.{ended}
 use Rattle.line_runs.specs.Read.{readingOf}
 use Rattle.listing.specs.Listing.{problemIn, Complete}
 use Rattle.old_edition.specs.File.{newFile}
-
-abbrev pub NoTolerance : Problem → Type 0
-NoTolerance P = (i : ℕ) → i < P .n → P .d i ≡ 0
 
 pub data ConvertStated (file : List ℕ) (room : ℕ) : List ℕ → Type 0 where
   -- the desk's refusals: 1 to 4 and 11 to 14, as the loader says them
@@ -25,4 +21,4 @@ pub data ConvertStated (file : List ℕ) (room : ℕ) : List ℕ → Type 0 wher
   -- 22: the buffer is shorter than the new file
   too-small : Complete file → room < length (newFile file) → ConvertStated file room (22 ∷ [])
   -- none of them
-  written : Complete file → NoTolerance (problemIn file) → length (newFile file) ≤ room → ConvertStated file room []
+  converted : Complete file → NoTolerance (problemIn file) → length (newFile file) ≤ room → ConvertStated file room []

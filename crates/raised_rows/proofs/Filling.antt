@@ -79,7 +79,7 @@ module _ {before out : List ℕ} {p k sum : ℕ} {f : ℕ → ℤ} (h : RowPart 
   part-end e = rw e end
 
 -- ---- row after row
-pub row-kept : {xs ys : List ℕ} {p q n : ℕ} {f : ℕ → ℤ} → RowOf xs p n f → p + n < q → Kept xs ys q → RowOf ys p n f
+row-kept : {xs ys : List ℕ} {p q n : ℕ} {f : ℕ → ℤ} → RowOf xs p n f → p + n < q → Kept xs ys q → RowOf ys p n f
 row-kept {xs} {ys} {p} {q} {n} h l k = record {
   row = record {
     inside = omega (arith, k .long, h .row .inside);

@@ -42,7 +42,7 @@ row-products {xs} {ys} {p} {q} {n} few a b =
     )
 
 module _ (c : ℕ) (a b : ℕ → ℕ) where
-  pub dot-lowered : (n : ℕ) →
+  dot-lowered : (n : ℕ) →
       pos (sumℕ n (λ (k : ℕ). a k * b k) + n * (c * c)) -ℤ pos (c * (sumℕ n a + sumℕ n b)) ≡ sum n (λ (k : ℕ). (pos (a k) -ℤ pos c) *ℤ (pos (b k) -ℤ pos c))
   unfolding sum sumℕ
   dot-lowered zero = simp zz (omega arith)

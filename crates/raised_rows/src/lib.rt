@@ -12,7 +12,7 @@ ghost use Rattle.raised_rows.specs.Raised.{raisedBy, rowsLength, lowered
 ghost use Rattle.raised_rows.specs.Place.{RowsOfMatrix, ColumnsOfMatrix};
 
 // What is added to a number to raise it, 2^25, and its square.
-const RAISED_BY: u64 = 33554432;
+pub const RAISED_BY: u64 = 33554432;
 
 const RAISED_BY_SQUARED: u64 = 1125899906842624;
 

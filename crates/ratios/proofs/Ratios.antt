@@ -36,7 +36,7 @@ module _ (k P G m p g : ℕ) (hG : 0 < G) (hg : 0 < g) where
   whole : (x y : ℕ) → x / y * y + x % y ≡ x
   whole x y = div-add-mod' x y
 
-  pub steeper-outcome : (R : Ratio → Type 0) → (p * G ≤ P * g → R (ratioOf k P G)) → (P * g ≤ p * G → R (ratioOf m p g)) →
+  steeper-outcome : (R : Ratio → Type 0) → (p * G ≤ P * g → R (ratioOf k P G)) → (P * g ≤ p * G → R (ratioOf m p g)) →
       R (steeperOf (ratioOf k P G) (ratioOf m p g))
   unfolding steeperOf
   steeper-outcome R a b = go (ltb (P / G) (p / g)) refl (ltb (p / g) (P / G)) refl (ltb (P % G * g) (p % g * G)) refl

@@ -75,7 +75,7 @@ defect-most P r m j lm lj =
 
 -- of lists in these ranges
 module _ (n t : ℕ) (matrix inverse : List ℤ) (ht : t ≤ 20) (few : n ≤ 32) (hm : MatrixList matrix n) (hi : MatrixList inverse n) where
-  pub ranged-of : Ranged (problemOf n 0 t matrix [] [] [] inverse [])
+  ranged-of : Ranged (problemOf n 0 t matrix [] [] [] inverse [])
   ranged-of = record {
     few = few;
     scale = ht;

@@ -1,5 +1,5 @@
 -- The parts of a problem that a step of the reckoning works on, and what it makes of them; cited by contracts inside.
---   rowsPart      — the problem whose inverse stands in raised rows, as far as its residuals and limits need it; b, d and X are left out
+--   rowsPart      — the problem whose inverse stands in raised rows, as far as its residuals and p need it; b, d, X and w are left out
 --   cutMargin     — the margin in ℕ: 0 where it is 0 or less
 --   residualFrom  — a base less A·X;  columnResidual — the residual of row k of the inverse's column j
 --   aboveAllowed a z — the size of the residual z is above a; of any size where a is below 0
@@ -14,8 +14,8 @@ use Rattle.raised_rows.specs.Raised.{loweredRows}
 use Rattle.enclosure.specs.Problem.{Problem, T, columnOf, problemOf}
 use Rattle.enclosure.specs.Reckoning.{load, residual}
 
-abbrev pub rowsPart : ℕ → ℕ → List ℤ → List ℕ → List ℤ → Problem
-rowsPart n t matrix rows weights = record {
+abbrev pub rowsPart : ℕ → ℕ → List ℤ → List ℕ → Problem
+rowsPart n t matrix rows = record {
   n = n;
   s = 0;
   t = t;
@@ -24,7 +24,7 @@ rowsPart n t matrix rows weights = record {
   d = λ (i : ℕ). 0;
   X = λ (i : ℕ). pos 0;
   G = loweredRows rows n;
-  w = λ (i : ℕ). natAbs (at weights i);
+  w = λ (i : ℕ). 0;
 }
 
 abbrev pub cutMargin : Problem → ℕ → ℕ

@@ -14,7 +14,7 @@ use Rattle.rules.specs.declared.Refusal.{Refusal}
 use Rattle.rules.specs.declared.Refusal.the-variants.{TooLong, NoForm, OutOfRange, WrongCount, Margin, Residual, InverseResidual, TooShort, TooEarly, Repeated, Missing, AfterEnd, NotEnded}
 use Rattle.text.specs.Wrote.{Wrote}
 use Rattle.text.proofs.Wrote.{wider, called}
-use Rattle.text.specs.Line.{each, listLine}
+use Rattle.listing_lines.specs.Line.{each, listLine}
 use Rattle.refusal.specs.declared.Reply.{Reply}
 use Rattle.refusal.specs.declared.FileAnswer.{FileAnswer}
 use Rattle.refusal.specs.Refused.{shown, printed, refusedOf}

@@ -8,7 +8,7 @@ use mathlib.Core.List.{List, [], _∷_}
 use Prim.Native.Nat.{ℕ}
 use lib.ListN.{length, getD}
 use Rattle.form.specs.Form.{bytes}
-use Rattle.text.specs.Line.{listLine}
+use Rattle.listing_lines.specs.Line.{listLine}
 
 abbrev pub shown : ℕ → List ℕ → List ℕ
 shown line [] = line ∷ []

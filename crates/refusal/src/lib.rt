@@ -6,8 +6,8 @@ ghost use lib.ListN.{length, getD};
 ghost use Rattle.rules.specs.Refusal.{numberOf, valuesOf};
 ghost use Rattle.refusal.specs.Refused.{shown, printed, refusedOf};
 ghost use Rattle.refusal.specs.Reply.{replyOf, Answered};
+use listing_lines::put_list;
 use rules::Refusal;
-use text::put_list;
 
 // What is said, in numbers: 01's number of a refusal, how many numbers stand in the inner brackets, and these; 0 where there is none.
 pub struct Reply {

@@ -11,7 +11,7 @@ use lib.IntN.{ℤ}
 use Rattle.numeral.specs.Decimal.{decimal}
 use Rattle.form.specs.Form.{bytes}
 use Rattle.entry.specs.Entry.{entryValue, entryBound}
-use Rattle.text.specs.Line.{each, pairLine, listLine}
+use Rattle.listing_lines.specs.Line.{each, pairLine, listLine}
 
 abbrev pub boundsLine : ℕ → List ℕ
 boundsLine n = bytes "(bounds " ++ decimal n ++ bytes ")\n"

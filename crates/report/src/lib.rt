@@ -1,18 +1,17 @@
 // The report of an accepted proposal, written into a buffer.
-ghost use mathlib.Core.Path.{_≡_};
 ghost use Prim.Native.Nat.{_+_, _*_, _≤_, _<_, _^_};
 ghost use lib.IntN.{natAbs};
 ghost use lib.ListN.{length};
 ghost use Rattle.form.specs.Form.{bytes};
 ghost use Rattle.text.specs.Wrote.{Wrote};
 ghost use Rattle.entry.specs.Entry.{entryValue, entryBound};
-ghost use Rattle.text.specs.Line.{each, pairLine};
+ghost use Rattle.listing_lines.specs.Line.{each, pairLine};
 ghost use Rattle.report.specs.Report.{boundsLine};
 ghost use Rattle.report.specs.Ready.{Reportable, reportIn, blockLine, mostOf};
+use listing_lines::put_list;
+use listing_lines::put_pair;
 use text::put_bytes;
-use text::put_list;
 use text::put_natural;
-use text::put_pair;
 
 // (entry i (V limit))
 fn put_entry(out: &mut [u8], at: usize, i: u64, x: i64, e: u64, s: u32) -> usize

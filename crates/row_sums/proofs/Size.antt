@@ -1,6 +1,5 @@
--- How large the sums are.
---   sum-size, partial-size — the sum along a row of a matrix list is at most 2^25, and so is that of its first j numbers
-use Prim.Native.Nat.{ℕ, _*_, _≤_, _<_, _^_}
+-- partial-size — the sum of the first j numbers of a row of a matrix list is at most 2^25.
+use Prim.Native.Nat.{ℕ, _≤_, _<_, _^_}
 use native.Mathlib.Omega.{arith}
 use native.Mathlib.Nat.{mul-le-mul-right}
 use mathlib.Core.List.{List}
@@ -10,12 +9,8 @@ use Rattle.integer.proofs.Sum.{sumℕ≤}
 use Rattle.linear.specs.Slice.{matrixOf}
 use Rattle.linear.specs.Reach.{MatrixList}
 use Rattle.linear.proofs.Places.{place}
-use Rattle.row_sums.specs.Sum.{rowSumOf}
 
 module _ {n : ℕ} {matrix : List ℤ} (few : n ≤ 32) (h : MatrixList matrix n) (k : ℕ) (l : k < n) where
   pub partial-size : (j : ℕ) → j ≤ n → sumℕ j (λ (i : ℕ). natAbs (matrixOf matrix n k i)) ≤ 2 ^ 25
   partial-size j m =
       omega (arith, sumℕ≤ j (2 ^ 20) (λ (i : ℕ). natAbs (matrixOf matrix n k i)) (λ i li. h .within .size _ (place l (omega arith))), mul-le-mul-right (2 ^ 20) m, mul-le-mul-right (2 ^ 20) few)
-
-  pub sum-size : rowSumOf n matrix k ≤ 2 ^ 25
-  sum-size = partial-size n (omega arith)

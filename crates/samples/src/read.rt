@@ -5,8 +5,8 @@ use crate::print::print_refusal;
 use crate::print::print_signed;
 use crate::print::print_text;
 use form::Numbers;
-use line::Answer;
-use line::CappedForm;
+use line_parts::Answer;
+use line_parts::CappedForm;
 
 pub fn print_line(text: &[u8]) {
     let line = line::read_line(text);

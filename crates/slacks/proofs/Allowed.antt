@@ -4,7 +4,7 @@
 --   allowed-test  — a residual z is above what is allowed exactly where |z| + σ is above 2^25, or |z| above the sum along its row: |z| + σ is not formed
 use mathlib.Core.Path.{_≡_, refl, sym, ap, _∙_}
 use mathlib.Core.Bool.{Bool, true, false, _||_, cond}
-use Prim.Native.Nat.{ℕ, _+_, _*_, _-_, _≤_, _^_, min}
+use Prim.Native.Nat.{ℕ, _+_, _-_, _≤_, _^_, min}
 use native.Mathlib.Omega.{arith}
 use native.Mathlib.Nat.{mul-le-mul, le-trans}
 use borrow.Author.Tests.{ltb-true, ltb-false, lt-ltb, le-ltb}

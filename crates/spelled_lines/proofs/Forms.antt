@@ -1,7 +1,7 @@
--- Which forms no test refuses, and so whose spellings are accepted.
+-- Which forms no test refuses, and that the spelling of a part's is accepted.
 --   passed-part    — a form of a part with i in 1 to n, its numbers in range, n of them in a list, not given yet, at a scaled loader
 --   passed-problem, passed-scale, passed-end — problem at a loader that was given none, scale at a sized one, end where nothing is missing
---   accepts-part, accepts-problem, accepts-scale, accepts-end — their spellings are accepted
+--   accepts-part — its spelling is accepted
 use mathlib.Core.Path.{_≡_, refl, sym}
 use mathlib.Core.Bool.{true, false}
 use mathlib.Core.List.{[]}
@@ -84,20 +84,9 @@ module _ (d : Loader) where
         incomplete = le-ltb 0 (missing (d .n) (d .sets)) (omega (arith, m));
       }
 
--- ---- their spellings, with lists that are long enough
-module _ (d : Loader) (l : Lists) (long : shortLists l ≡ false) (going : ended (d .stage) ≡ false) where
-  pub accepts-problem : (n : ℤ) → sized (d .stage) ≡ false → inRange kind.Size n ≡ true → lineAnswer d l (spell (problem n)) ≡ []
-  accepts-problem n s r = accepts-spelled d l long going (problem n) (passed-problem d n s r)
-
-  module _ (own : inRange kind.Size (pos (d .n)) ≡ true) where
-    pub accepts-scale : (s t : ℤ) → sized (d .stage) ≡ true → scaled (d .stage) ≡ false → inRange kind.SolutionScale s ≡ true → inRange kind.InverseScale t ≡ true
-        → lineAnswer d l (spell (scale s t)) ≡ []
-    accepts-scale s t a b p q = accepts-spelled d l long going (scale s t) (passed-scale d own s t a b p q)
-
-    module _ (ready : scaled (d .stage) ≡ true) where
-      pub accepts-part : (f : Form) {p : Part} {i : ℤ} → itemOf f ≡ Of p i → placed (d .n) (Of p i) ≡ true → outside f ≡ false → miscounted (d .n) f ≡ false → given (d .sets) p (natAbs i) ≡ false
-          → lineAnswer d l (spell f) ≡ []
-      accepts-part f e h o c g = accepts-spelled d l long going f (passed-part d own ready f e h o c g)
-
-      pub accepts-end : missing (d .n) (d .sets) ≡ 0 → lineAnswer d l (spell end) ≡ []
-      accepts-end m = accepts-spelled d l long going end (passed-end d own ready m)
+-- ---- a spelling, with lists that are long enough
+module _ (d : Loader) (l : Lists) (long : shortLists l ≡ false) (going : ended (d .stage) ≡ false) (own : inRange kind.Size (pos (d .n)) ≡ true)
+    (ready : scaled (d .stage) ≡ true) where
+  pub accepts-part : (f : Form) {p : Part} {i : ℤ} → itemOf f ≡ Of p i → placed (d .n) (Of p i) ≡ true → outside f ≡ false → miscounted (d .n) f ≡ false → given (d .sets) p (natAbs i) ≡ false
+      → lineAnswer d l (spell f) ≡ []
+  accepts-part f e h o c g = accepts-spelled d l long going f (passed-part d own ready f e h o c g)

@@ -50,7 +50,7 @@ use Rattle.spelled_lines.proofs.Runs.{run-both, accepts-both, accepts-f
 apart {ℓ} : {A : Type ℓ} (p q : Part) {i k : ℤ} → Of p i ≡ Of q k → (partIndex p ≡ partIndex q → ⊥) → A
 apart p q e n = absurd (n (let s : p ≡ q = cc in ap (λ (r : Part). partIndex r) s))
 
-pub weight-form : (f : Form) {i : ℤ} → itemOf f ≡ Of part.Weight i → (k : ℤ) × (w : ℤ) × (f ≡ weight k w)
+weight-form : (f : Form) {i : ℤ} → itemOf f ≡ Of part.Weight i → (k : ℤ) × (w : ℤ) × (f ≡ weight k w)
 weight-form (problem n) e = let z : _≡_ {A = ℕ} 0 1 = cc in absurd (omega arith)
 weight-form (scale s t) e = let z : _≡_ {A = ℕ} 0 1 = cc in absurd (omega arith)
 weight-form (row i a others) e = apart part.Row part.Weight e (λ z. omega arith)
@@ -88,7 +88,7 @@ module _ (n i : ℕ) (u : State) (h : Open n i u) (l : i < n) where
   passes : Passed (formCase (u .loader) form)
   passes = passed-part (u .loader) own (h .ready) form refl in-place (rw one-inside) refl (h .clear (suc i) (omega arith) (omega arith))
 
-  pub next-accepted : lineAnswer (u .loader) (u .lists) (spell form) ≡ []
+  next-accepted : lineAnswer (u .loader) (u .lists) (spell form) ≡ []
   next-accepted = accepts-spelled (u .loader) (u .lists) (h .long) (h .going) form passes
 
   abbrev next : Loader
@@ -97,7 +97,7 @@ module _ (n i : ℕ) (u : State) (h : Open n i u) (l : i < n) where
   next-loader : step u (spell form) .loader ≡ next
   next-loader = spelled-accepted (u .loader) (u .lists) (h .long) (h .going) form passes .loader
 
-  pub open-next : Open n (suc i) (step u (spell form))
+  open-next : Open n (suc i) (step u (spell form))
   open-next = record {
     sound = line-sound (u .loader) (u .lists) (spell form) (h .sound);
     size = rw next-loader (h .size);
@@ -108,7 +108,7 @@ module _ (n i : ℕ) (u : State) (h : Open n i u) (l : i < n) where
     long = step-long u (spell form) next-accepted (h .long);
   }
 
-pub open-all : (n c i : ℕ) (u : State) → Open n i u → i + c ≡ n → Accepts u (spelled (onesFrom i c)) × Open n n (run u (spelled (onesFrom i c)))
+open-all : (n c i : ℕ) (u : State) → Open n i u → i + c ≡ n → Accepts u (spelled (onesFrom i c)) × Open n n (run u (spelled (onesFrom i c)))
 unfolding onesFrom run
 open-all n zero i u h e = let j : i ≡ n = omega arith in (tt, subst (λ (k : ℕ). Open n k u) j h)
 open-all n (suc c) i u h e =
@@ -148,7 +148,7 @@ module _ (u : State) (sound : Sound (u .loader)) (line : List ℕ) (a : lineAnsw
   unfolding lineAnswer
   short-line = passed (caseOf (u .loader) (u .lists) line) a .long
 
-  pub end-open : (n : ℕ) → u .loader .n ≡ n → shortLists (u .lists) ≡ false → ((k : ℕ) → 0 < k → k ≤ n → given (u .loader .sets) part.Weight k ≡ false) → Open n 0 u
+  end-open : (n : ℕ) → u .loader .n ≡ n → shortLists (u .lists) ≡ false → ((k : ℕ) → 0 < k → k ≤ n → given (u .loader .sets) part.Weight k ≡ false) → Open n 0 u
   end-open n z l c = record {
     sound = sound;
     size = z;
@@ -159,7 +159,7 @@ module _ (u : State) (sound : Sound (u .loader)) (line : List ℕ) (a : lineAnsw
     long = l;
   }
 
-  pub end-again : (n : ℕ) (v : State) → Open n n v → (lineAnswer (v .loader) (v .lists) line ≡ []) × (ended (step v line .loader .stage) ≡ true)
+  end-again : (n : ℕ) (v : State) → Open n n v → (lineAnswer (v .loader) (v .lists) line ≡ []) × (ended (step v line .loader .stage) ≡ true)
   unfolding loaderAfter
   end-again n v h =
       let p = passed-end (v .loader) (h .sound .size (late (v .loader .stage) (rw (h .ready)))) (h .ready) (rw (h .size) (h .complete)) in

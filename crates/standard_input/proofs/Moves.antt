@@ -1,6 +1,6 @@
 -- What a read may answer.
 --   moved-size, some-moved — a read that did not fail moved at most the bytes it was handed; one that did not end moved some
-use mathlib.Core.Path.{_≡_, sym, subst}
+use mathlib.Core.Path.{_≡_, subst}
 use mathlib.Core.Bool.{false}
 use Prim.Native.Nat.{ℕ, _≤_}
 use borrow.Author.Tests.{ltb-false}

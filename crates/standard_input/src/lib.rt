@@ -1,5 +1,5 @@
 // Standard input, read into a buffer.
-ghost use Prim.Native.Nat.{_+_, _≤_};
+ghost use Prim.Native.Nat.{_≤_};
 ghost use mathlib.Core.Path.{_≡_};
 ghost use lib.ListN.{length, take};
 ghost use Rattle.standard_input.specs.Step.{Inside, Filled};

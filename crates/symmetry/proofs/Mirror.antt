@@ -28,7 +28,7 @@ columns-identity n G m j lj =
     ∙ sum-identity n j (G m) lj
 
 module _ {n : ℕ} {A G : Mat} (a : Mirror A n) (g : Mirror G n) where
-  pub product-mirror : (k j : ℕ) → k < n → j < n → product n A G k j ≡ product n G A j k
+  product-mirror : (k j : ℕ) → k < n → j < n → product n A G k j ≡ product n G A j k
   unfolding product apply
   product-mirror k j lk lj =
       sum-ext n (λ (l : ℕ). A k l *ℤ G l j) (λ (l : ℕ). G j l *ℤ A l k)

@@ -27,7 +27,7 @@ use Rattle.numeral.proofs.Decimal.{decimal-small, decimal-next, decimal-inducti
 use Rattle.text.specs.Wrote.{Wrote}
 
 -- ---- runs of stores
-pub sets-append : (l : List ℕ) (i : ℕ) (vs ws : List ℕ) → sets l i (vs ++ ws) ≡ sets (sets l i vs) (i + length vs) ws
+sets-append : (l : List ℕ) (i : ℕ) (vs ws : List ℕ) → sets l i (vs ++ ws) ≡ sets (sets l i vs) (i + length vs) ws
 sets-append l i [] ws = ap (λ (k : ℕ). sets l k ws) (sym (add-zero i))
 sets-append l i (v ∷ vs) ws =
     sets-append (set l i v) (suc i) vs ws ∙ ap (λ (k : ℕ). sets (sets (set l i v) (suc i) vs) k ws) (suc-add i (length vs) ∙ sym (add-suc i (length vs)))
@@ -85,7 +85,7 @@ decimal-length k n = decimal-induction P one next n k
 pub decimal-digits : (n : ℕ) → n < 2 ^ 64 → length (decimal n) ≤ 20
 decimal-digits n h = decimal-length 19 n (omega arith)
 
-pub decimal-sized : (n : ℕ) → n ≤ 2 ^ 63 → length (decimal n) ≤ 19
+decimal-sized : (n : ℕ) → n ≤ 2 ^ 63 → length (decimal n) ≤ 19
 decimal-sized n h = decimal-length 18 n (omega arith)
 
 pub small-length : (n : ℕ) → n < 10 → length (decimal n) ≡ 1

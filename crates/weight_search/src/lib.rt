@@ -6,8 +6,8 @@ ghost use Prim.Native.Nat.{ℕ, _≤_};
 ghost use lib.IntN.{pos};
 ghost use lib.ListN.{getD, length};
 ghost use Rattle.linear.specs.Reach.{MatrixList};
+ghost use Rattle.linear.specs.Written.{written};
 ghost use Rattle.enclosure.specs.Problem.{problemOf};
-ghost use Rattle.reckoning.specs.Arrays.{stored};
 ghost use Rattle.weight_sequence.specs.Request.{request, searchShort, searchInRanges};
 ghost use Rattle.weight_sequence.specs.Search.{FoundAs};
 ghost use Rattle.weight_steps.specs.Steps.{Below};
@@ -54,7 +54,7 @@ fn search(t: u32, matrix: &[i64], inverse: &[i64], n: usize, allowance: u32) -> 
 fn write_weights(dst: &mut [i64], list: [u64; 32], n: usize)
     requires { ⌜ (n ≤ 32) × (n ≤ length (now dst)) ⌝ }
     requires { ⌜ Below list n 1024 ⌝ }
-    ensures { λ _. ⌜ now (dst .exit) ≡ stored (now (dst .entry)) 0 1 (λ (i : ℕ). pos (getD list i 0)) n ⌝ }
+    ensures { λ _. ⌜ now (dst .exit) ≡ written (now (dst .entry)) 0 1 (λ (i : ℕ). pos (getD list i 0)) n ⌝ }
 {
     for i in 0..n {
         dst[i] = list[i] as i64;

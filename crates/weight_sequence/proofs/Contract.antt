@@ -14,14 +14,15 @@ use lib.IntN.{ℤ, pos}
 use lib.ListN.{getD, length}
 use Rattle.linear.specs.Slice.{at}
 use Rattle.linear.specs.Reach.{MatrixList}
+use Rattle.linear.specs.Written.{written}
 use Rattle.linear.proofs.Places.{square}
+use Rattle.linear.proofs.Written.{written-ext}
 use Rattle.rules.specs.Range.{inRange, allInRange, shortMatrix}
 use Rattle.rules.specs.declared.Kind.the-variants as kind
 use Rattle.rules.specs.declared.Refusal.the-variants.{TooShort, OutOfRange}
 use Rattle.rules.proofs.Ranges.{both-left, both-right, neither-left, neither-right, size-range, inverse-scale-range, allowance-range, matrix-range, inverse-range}
 use Rattle.rules.proofs.Verdicts.{accepted-new, accepted-old, nothing-is-not}
-use Rattle.reckoning.specs.Arrays.{Begins, stored}
-use Rattle.reckoning.proofs.Filled.{stored-ext}
+use Rattle.reckoning.specs.Arrays.{Begins}
 use Rattle.checked.proofs.Fit.{squared}
 use Rattle.weight_sequence.specs.declared.Found.{Found}
 use Rattle.weight_sequence.specs.declared.Found.the-variants.{Tried, Refused, NoneGood}
@@ -112,7 +113,7 @@ module _ (Q : Request) where
     found-none l = refusal NoneGood 18 [] refl (answer-none e f (omega arith)) refl
 
     -- the first good list is written
-    first-written : passed Q < Q .allowance → FoundAs Q (Tried (passed Q + 1)) (stored (Q .weights) 0 1 (λ (i : ℕ). pos (tried (searchProblem Q) (passed Q) i)) (Q .n))
+    first-written : passed Q < Q .allowance → FoundAs Q (Tried (passed Q + 1)) (written (Q .weights) 0 1 (λ (i : ℕ). pos (tried (searchProblem Q) (passed Q) i)) (Q .n))
     unfolding countAfter weightsAfter
     first-written l =
         let a = answer-found e f l in
@@ -126,10 +127,10 @@ module _ (Q : Request) where
         }
 
     pub found-list : {list : List ℕ} {weights : List ℤ} → p < Q .allowance → Begins 0 list (Q .n) (tried (searchProblem Q) p) →
-        weights ≡ stored (Q .weights) 0 1 (λ (i : ℕ). pos (getD list i 0)) (Q .n) → FoundAs Q (Tried (p + 1)) weights
+        weights ≡ written (Q .weights) 0 1 (λ (i : ℕ). pos (getD list i 0)) (Q .n) → FoundAs Q (Tried (p + 1)) weights
     found-list {list} {weights} l b w =
-        let same : weights ≡ stored (Q .weights) 0 1 (λ (i : ℕ). pos (tried (searchProblem Q) (passed Q) i)) (Q .n) =
+        let same : weights ≡ written (Q .weights) 0 1 (λ (i : ℕ). pos (tried (searchProblem Q) (passed Q) i)) (Q .n) =
         w
-        ∙ stored-ext (Q .weights) 0 1 (λ (i : ℕ). pos (getD list i 0)) (λ (i : ℕ). pos (tried (searchProblem Q) (passed Q) i)) (Q .n)
+        ∙ written-ext (Q .weights) 0 1 (λ (i : ℕ). pos (getD list i 0)) (λ (i : ℕ). pos (tried (searchProblem Q) (passed Q) i)) (Q .n)
         (λ i li. ap pos (b .each i li ∙ ap (λ (x : ℕ). tried (searchProblem Q) x i) h)) in
         rw (same, h) (first-written (omega arith))

@@ -4,21 +4,20 @@
 use mathlib.Core.Path.{_≡_, ap, ap₂, _∙_}
 use mathlib.Core.Bool.{true}
 use mathlib.Core.List.{List, []}
-use Prim.Native.Nat.{ℕ, _+_, _*_, _^_, _≤_, _<_}
-use native.Mathlib.Omega.{arith}
+use Prim.Native.Nat.{ℕ, _*_, _^_, _≤_, _<_}
 use lib.IntN.{ℤ, pos, natAbs, _-ℤ_}
 use lib.ListN.{length}
 use lib.Signed.{leZ}
 use Rattle.integer.proofs.Sum.{sumℕ-ext}
 use Rattle.linear.specs.Slice.{at}
+use Rattle.linear.specs.Written.{written}
+use Rattle.linear.proofs.Written.{front-at}
 use Rattle.rules.specs.Range.{allInRange}
 use Rattle.rules.specs.declared.Kind.the-variants as kind
 use Rattle.rules.proofs.AllInRange.{all-in}
 use Rattle.enclosure.specs.Demand.{Margins}
 use Rattle.enclosure.specs.Problem.{Problem, problemOf}
 use Rattle.enclosure.specs.Reckoning.{defect, load, margin, marginFails}
-use Rattle.reckoning.specs.Arrays.{stored}
-use Rattle.reckoning.proofs.Filled.{stored-at}
 use Rattle.weight_sequence.specs.Sequence.{weighted, tried, firstGood}
 use Rattle.weight_sequence.proofs.First.{found-margins}
 use Rattle.weight_sequence.proofs.Lists.{tried-range}
@@ -36,12 +35,10 @@ module _ (n t : ℕ) (matrix inverse weights : List ℤ) (k : ℕ) (long : n ≤
   P = problemOf n 0 t matrix [] [] [] inverse []
 
   abbrev listed : List ℤ
-  listed = stored weights 0 1 (λ (i : ℕ). pos (tried P k i)) n
+  listed = written weights 0 1 (λ (i : ℕ). pos (tried P k i)) n
 
   pub listed-at : (i : ℕ) → i < n → at listed i ≡ pos (tried P k i)
-  listed-at i l =
-      let e : 0 + i * 1 ≡ i = omega arith in
-      rw e at (stored-at weights 0 1 (λ (i : ℕ). pos (tried P k i)) (pos 0) n i (omega arith) l (λ j lj. omega arith))
+  listed-at i l = front-at weights (λ (i : ℕ). pos (tried P k i)) (pos 0) n i l long
 
   pub listed-inside : allInRange kind.Weight n (at listed) ≡ true
   listed-inside = all-in kind.Weight n (at listed) (λ i l. rw (listed-at i l) (tried-range P k i l))

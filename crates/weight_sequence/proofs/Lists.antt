@@ -36,10 +36,10 @@ module _ (P : Problem) where
   unfolding tried
   tried-next k i = ap (λ (x : ℕ). tried P x i) (add-one k)
 
-  pub next-low : (w : ℕ → ℕ) (i : ℕ) → 1 ≤ next P w i
+  next-low : (w : ℕ → ℕ) (i : ℕ) → 1 ≤ next P w i
   next-low w i = omega arith
 
-  pub next-high : (w : ℕ → ℕ) (i : ℕ) → i < P .n → next P w i ≤ 1024
+  next-high : (w : ℕ → ℕ) (i : ℕ) → i < P .n → next P w i ≤ 1024
   next-high w i l =
       let u : ℕ = largest (P .n) (loads P w) in
       omega (arith, shifted u (loads P w i) (bits u) (largest-at (P .n) (loads P w) i l) (bits-fit u))

@@ -16,12 +16,12 @@ use borrow.Author.Tests.{ltb-true, ltb-false}
 use lib.Dec.{T, ltb}
 use lib.IntN.{ℤ, pos}
 use lib.ListN.{getD}
+use Rattle.linear.specs.Written.{written}
 use Rattle.linear.proofs.Places.{place}
 use Rattle.rules.specs.Range.{inRange}
 use Rattle.rules.specs.declared.Kind.the-variants as kind
 use Rattle.rules.proofs.Ranges.{in-allowance-range}
 use Rattle.rules.proofs.Verdicts.{nothing-is-not, accepted-new}
-use Rattle.reckoning.specs.Arrays.{stored}
 use Rattle.weight_sequence.specs.Sequence.{loads, tried}
 use Rattle.weight_sequence.specs.declared.Found.{Found}
 use Rattle.weight_sequence.specs.Request.{Request, searchProblem, searchShort, searchInRanges, searchLists}
@@ -149,7 +149,7 @@ module _ (Q : Request) (b : ℕ) (more : Q .allowance ≤ b) (most : b ≤ 64) (
   unfolding weightsAfter
   same-weights =
       accepted-new _ _ said-too
-      ∙ ap (λ (k : ℕ). stored (Q .weights) 0 1 (λ (i : ℕ). pos (tried (searchProblem Q) k i)) (Q .n)) same
+      ∙ ap (λ (k : ℕ). written (Q .weights) 0 1 (λ (i : ℕ). pos (tried (searchProblem Q) k i)) (Q .n)) same
       ∙ sym (accepted-new _ _ z)
 
 pub larger-allowance : (Q : Request) (b : ℕ) (r r′ : Found) (weights weights′ : List ℤ) → FoundAs Q r weights → FoundAs (allowing Q b) r′ weights′ →

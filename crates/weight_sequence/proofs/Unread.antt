@@ -3,26 +3,25 @@
 --   same-said, same-count — what is said and the tried count;  same-list — the first n weights where a list is found
 --   same-weights — the whole weight list, where the same one was handed in
 use mathlib.Core.Path.{_≡_, refl, sym, ap, ap₂, _∙_}
-use mathlib.Core.Bool.{Bool, true, false}
+use mathlib.Core.Bool.{false}
 use mathlib.Core.List.{List, []}
-use Prim.Native.Nat.{ℕ, zero, suc, _+_, _*_, _/_, _^_, _≤_, _<_}
-use native.Mathlib.Omega.{arith}
+use Prim.Native.Nat.{ℕ, zero, suc, _+_, _*_, _/_, _^_, _<_}
 use lib.Dec.{leb}
 use lib.IntN.{ℤ, pos, natAbs}
 use lib.Signed.{leZ}
 use Rattle.integer.proofs.Search.{first-ext, largest-ext}
 use Rattle.linear.specs.Matrix.{Mat}
 use Rattle.linear.specs.Slice.{at, vectorOf, matrixOf}
+use Rattle.linear.specs.Written.{written}
 use Rattle.linear.proofs.Places.{place}
-use Rattle.rules.specs.Order.{verdict, ifAccepted}
+use Rattle.linear.proofs.Written.{written-ext}
+use Rattle.rules.specs.Order.{ifAccepted}
 use Rattle.rules.specs.declared.Kind.the-variants as kind
 use Rattle.rules.proofs.AllInRange.{all-ext}
 use Rattle.rules.proofs.Verdicts.{accepted-new}
 use Rattle.enclosure.specs.Problem.{Problem}
 use Rattle.enclosure.specs.Reckoning.{marginFails}
 use Rattle.enclosure.proofs.Agreement.{load-same, margin-same}
-use Rattle.reckoning.specs.Arrays.{stored}
-use Rattle.reckoning.proofs.Filled.{stored-ext}
 use Rattle.weight_sequence.specs.declared.Found.{Found}
 use Rattle.weight_sequence.specs.Sequence.{weighted, loads, bits, next, tried, good, firstGood}
 use Rattle.weight_sequence.specs.Request.{Request, request, searchProblem, searchShort, searchInRanges}
@@ -52,12 +51,12 @@ module _ (n t : ℕ) (A A′ G G′ : Mat) (hA : (i j : ℕ) → i < n → j < n
         (λ m l. ap (λ (z : ℤ). leZ z (pos 0))
         (margin-same n 0 t A A′ (vectorOf []) (vectorOf []) (λ i. natAbs (at [] i)) (λ i. natAbs (at [] i)) (vectorOf []) (vectorOf []) G G′ w w′ hA (λ i l. refl) (λ i l. refl) (λ i l. refl) hG h m l)))
 
-  pub tried-same : (k i : ℕ) → i < n → tried (with A G) k i ≡ tried (with A′ G′) k i
+  tried-same : (k i : ℕ) → i < n → tried (with A G) k i ≡ tried (with A′ G′) k i
   unfolding tried
   tried-same zero i l = refl
   tried-same (suc k) i l = next-same (tried (with A G) k) (tried (with A′ G′) k) (tried-same k) i l
 
-  pub first-same : (a : ℕ) → firstGood (with A G) a ≡ firstGood (with A′ G′) a
+  first-same : (a : ℕ) → firstGood (with A G) a ≡ firstGood (with A′ G′) a
   first-same a =
       first-ext a (λ (k : ℕ). good (with A G) (tried (with A G) k)) (λ (k : ℕ). good (with A′ G′) (tried (with A′ G′) k))
       (λ k l. good-same (tried (with A G) k) (tried (with A′ G′) k) (tried-same k))
@@ -103,7 +102,7 @@ module _ (Q : Request) (matrix inverse weights : List ℤ) (long : searchShort Q
           let y : searchAnswer R ≡ [] = sym answer-here ∙ z in
           let u = found-usable Q z in
           let v = found-usable R y in
-          rw (accepted-new (stored (Q .weights) 0 1 (λ (i : ℕ). pos (tried (searchProblem Q) (passed Q) i)) (Q .n)) (Q .weights) z, accepted-new (stored weights 0 1 (λ (i : ℕ). pos (tried (searchProblem R) (passed R) i)) (Q .n)) weights y)
+          rw (accepted-new (written (Q .weights) 0 1 (λ (i : ℕ). pos (tried (searchProblem Q) (passed Q) i)) (Q .n)) (Q .weights) z, accepted-new (written weights 0 1 (λ (i : ℕ). pos (tried (searchProblem R) (passed R) i)) (Q .n)) weights y)
           (listed-at (Q .n) (Q .t) (Q .matrix) (Q .inverse) (Q .weights) (passed Q) (fit-of Q (u .long) (u .inside) .long) i l
           ∙ ap pos (list-same (passed Q) i l ∙ ap (λ (x : ℕ). tried (searchProblem R) x i) passed-same)
           ∙ sym (listed-at (Q .n) (Q .t) matrix inverse weights (passed R) (fit-of R (v .long) (v .inside) .long) i l))
@@ -113,7 +112,7 @@ module _ (Q : Request) (matrix inverse weights : List ℤ) (long : searchShort Q
     weights-here e =
         rw (sym answer-here, sym e)
         (ap (λ (x : List ℤ). ifAccepted (searchAnswer Q) x (Q .weights))
-        (stored-ext (Q .weights) 0 1 (λ (i : ℕ). pos (tried (searchProblem Q) (passed Q) i)) (λ (i : ℕ). pos (tried (searchProblem R) (passed R) i)) (Q .n)
+        (written-ext (Q .weights) 0 1 (λ (i : ℕ). pos (tried (searchProblem Q) (passed Q) i)) (λ (i : ℕ). pos (tried (searchProblem R) (passed R) i)) (Q .n)
         (λ i l. ap pos (list-same (passed Q) i l ∙ ap (λ (x : ℕ). tried (searchProblem R) x i) passed-same))))
 
 -- ---- of two calls

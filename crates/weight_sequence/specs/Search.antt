@@ -16,13 +16,13 @@ use Prim.Native.Nat.{ℕ, _+_}
 use lib.Dec.{leb}
 use lib.IntN.{ℤ, pos}
 use Rattle.linear.specs.Slice.{at}
+use Rattle.linear.specs.Written.{written}
 use Rattle.rules.specs.Order.{Test, number, verdict, ifAccepted}
 use Rattle.rules.specs.Range.{allInRange}
 use Rattle.rules.specs.Refusal.{numberOf, valuesOf}
 use Rattle.rules.specs.declared.Kind.the-variants as kind
 use Rattle.enclosure.specs.Demand.{Margins}
 use Rattle.enclosure.specs.Problem.{problemOf}
-use Rattle.reckoning.specs.Arrays.{stored}
 use Rattle.weight_sequence.specs.Sequence.{tried, firstGood}
 use Rattle.weight_sequence.specs.declared.Found.{Found}
 use Rattle.weight_sequence.specs.declared.Found.the-variants.{Tried, Refused, NoneGood}
@@ -56,7 +56,7 @@ countAfter Q = ifAccepted (searchAnswer Q) (passed Q + 1) 0
 
 unfoldable pub weightsAfter : Request → List ℤ
 weightsAfter Q =
-    ifAccepted (searchAnswer Q) (stored (Q .weights) 0 1 (λ (i : ℕ). pos (tried (searchProblem Q) (passed Q) i)) (Q .n)) (Q .weights)
+    ifAccepted (searchAnswer Q) (written (Q .weights) 0 1 (λ (i : ℕ). pos (tried (searchProblem Q) (passed Q) i)) (Q .n)) (Q .weights)
 
 pub record FoundAs (Q : Request) (r : Found) (weights : List ℤ) : Type 0 where
   pub says : saidFound r ≡ searchAnswer Q

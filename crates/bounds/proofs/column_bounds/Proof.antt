@@ -3,7 +3,6 @@ use Prim.Native.Nat.{ℕ, _+_, _*_}
 use native.Mathlib.Omega.{arith}
 use lib.ListN.{getD, length}
 use Rattle.linear.specs.Slice.{at}
-use Rattle.linear.proofs.Carried.{carried-first}
 use Rattle.raised_rows.specs.Raised.{RowOf}
 use Rattle.raised_rows.proofs.Lowering.{row-as}
 use Rattle.enclosure.specs.Reckoning.{sizesWith}
@@ -49,7 +48,7 @@ sizes-of-requires : tie.Need-sizes-of-requires
 sizes-of-requires c κs =
     let r = c .before .before .before in
     let s = r .before .before .before in
-    let first : 0 * (s .args .n + 1) ≡ 0 = omega arith in (s .pre .0 .1, (carried-first _ _, (s .pre .1 .0 .rows, rw first (r .raise-row .ensures .0 .row))))
+    let first : 0 * (s .args .n + 1) ≡ 0 = omega arith in (s .pre .0 .1, (s .pre .1 .0 .rows, rw first (r .raise-row .ensures .0 .row)))
 
 add-slacks-requires : tie.Need-add-slacks-requires
 add-slacks-requires c κs =

@@ -9,17 +9,17 @@ use Rattle.raised_rows.proofs.Filling.{rows-room}
 use Rattle.raised_rows.proofs.Lowering.{row-dot-size}
 use Rattle.reckoning.specs.Arrays.{Begins}
 use Rattle.reckoning.proofs.Filled.{begins-none, begins-more, begins-end}
-use Rattle.bounds.specs.Mirrored.{columnSize}
+use Rattle.bounds.specs.Limits.{columnSize}
 use borrow.Author.Needs.{needs}
 use Rattle.bounds.proofs.sizes_of.Statement.{statement}
 use Rattle.bounds.proofs.sizes_of.Tie as tie
 
 abbrev Inv-loop : tie.InvT-loop
-Inv-loop rows residuals j place n out₀ row₀ m₀ out row m =
-    (m ≤ n) × (Carried 0 (n + 1) m row × ((length out ≡ 32) × Begins 0 out m (λ (i : ℕ). columnSize rows residuals n i j)))
+Inv-loop rows residuals n out₀ row₀ m₀ out row m =
+    (m ≤ n) × (Carried 0 (n + 1) m row × ((length out ≡ 32) × Begins 0 out m (λ (i : ℕ). columnSize rows residuals n i 0)))
 
 abbrev μ-loop : tie.MeasureT-loop
-μ-loop rows residuals j place n out₀ row₀ m₀ out row m = n - m
+μ-loop rows residuals n out₀ row₀ m₀ out row m = n - m
 
 loop-holds : tie.Need-loop-holds Inv-loop μ-loop
 loop-holds c = (omega arith, (carried-first _ _, (refl, begins-none _ _ _)))
@@ -27,13 +27,13 @@ loop-holds c = (omega arith, (carried-first _ _, (refl, begins-none _ _ _)))
 row-dot-requires : tie.Need-row-dot-requires Inv-loop μ-loop
 row-dot-requires c κs =
     let s = c .before .before .before .before in
-    let l = c .before .loop in (s .pre .0, ((l .inv .1 .0, s .pre .1 .0), (s .pre .1 .1 .0 .each (l .m) (c .loop-test .taken), s .pre .1 .1 .1)))
+    let l = c .before .loop in (s .pre .0, ((l .inv .1 .0, carried-first _ _), (s .pre .1 .0 .each (l .m) (c .loop-test .taken), s .pre .1 .1)))
 
 magnitude-requires : tie.Need-magnitude-requires Inv-loop μ-loop
 magnitude-requires c κs =
     let t = c .before in
     let s = t .before .before .before .before in
-    rw (read _ (c .row-dot .ok), c .row-dot .ensures) (omega (arith, row-dot-size (s .pre .0) (s .pre .1 .1 .0 .each (t .before .loop .m) (t .loop-test .taken) .small) (s .pre .1 .1 .1 .small)))
+    rw (read _ (c .row-dot .ok), c .row-dot .ensures) (omega (arith, row-dot-size (s .pre .0) (s .pre .1 .0 .each (t .before .loop .m) (t .loop-test .taken) .small) (s .pre .1 .1 .small)))
 
 mul-out : tie.Need-mul-out Inv-loop μ-loop
 mul-out c = search needs

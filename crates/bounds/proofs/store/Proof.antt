@@ -3,15 +3,15 @@ use Prim.Native.Nat.{ℕ, _+_, _*_, _≤_, _<_, _-_}
 use native.Mathlib.Omega.{arith}
 use native.Mathlib.Nat.{mul-le-mul-right}
 use lib.ListN.{length, getD}
-use Rattle.reckoning.specs.Arrays.{stored}
-use Rattle.reckoning.proofs.Filled.{stored-none, stored-more, stored-end, stored-length}
+use Rattle.linear.specs.Written.{written}
+use Rattle.linear.proofs.Written.{written-none, written-more, written-end, written-length}
 use borrow.Author.Needs.{needs}
 use Rattle.bounds.proofs.store.Statement.{statement}
 use Rattle.bounds.proofs.store.Tie as tie
 
 abbrev Inv-loop : tie.InvT-loop
 Inv-loop dst₀ start stride n column place₀ i₀ dst place i =
-    (i ≤ n) × ((place ≡ start + i * stride) × (dst ≡ stored dst₀ start stride (λ (k : ℕ). getD column k 0) i))
+    (i ≤ n) × ((place ≡ start + i * stride) × (dst ≡ written dst₀ start stride (λ (k : ℕ). getD column k 0) i))
 
 abbrev μ-loop : tie.MeasureT-loop
 μ-loop dst₀ start stride n column place₀ i₀ dst place i = n - i
@@ -24,10 +24,10 @@ module _ (c : tie.In-loop Inv-loop μ-loop) where
   reaches = rw (c .before .loop .inv .1 .0) (c .before .before .pre .1 (c .before .loop .i) (c .loop-test .taken))
 
   same : length (c .before .loop .dst) ≡ length (c .before .before .args .dst .now)
-  same = ap length (c .before .loop .inv .1 .1) ∙ stored-length _ _ _ _ (c .before .loop .i)
+  same = ap length (c .before .loop .inv .1 .1) ∙ written-length _ _ _ _ (c .before .loop .i)
 
 loop-holds : tie.Need-loop-holds Inv-loop μ-loop
-loop-holds c = (omega arith, (omega arith, sym (stored-none _ _ _ _)))
+loop-holds c = (omega arith, (omega arith, sym (written-none _ _ _ _)))
 
 mul-dst : tie.Need-mul-dst Inv-loop μ-loop
 mul-dst c = omega arith
@@ -52,13 +52,13 @@ loop-less c = search needs
 
 loop-again : tie.Need-loop-again Inv-loop μ-loop
 loop-again c =
-    let l = c .before .loop in (omega arith, (omega arith, stored-more _ _ _ _ (l .i) (l .inv .1 .1) (l .inv .1 .0) refl))
+    let l = c .before .loop in (omega arith, (omega arith, written-more _ _ _ _ (l .i) (l .inv .1 .1) (l .inv .1 .0) refl))
 
 same-length : tie.Need-same-length Inv-loop μ-loop
-same-length c = ap length (c .before .loop .inv .1 .1) ∙ stored-length _ _ _ _ (c .before .loop .i)
+same-length c = ap length (c .before .loop .inv .1 .1) ∙ written-length _ _ _ _ (c .before .loop .i)
 
 returns : tie.Need-returns Inv-loop μ-loop
-returns c = c .before .loop .inv .1 .1 ∙ stored-end _ _ _ _ (c .before .loop .inv .0) (c .loop-test .left)
+returns c = c .before .loop .inv .1 .1 ∙ written-end _ _ _ _ (c .before .loop .inv .0) (c .loop-test .left)
 
 pub store-spec : {M : Type 1} → statement M
 store-spec =

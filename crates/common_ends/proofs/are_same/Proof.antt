@@ -1,5 +1,5 @@
 use mathlib.Core.Path.{_≡_, sym, _∙_}
-use Prim.Native.Nat.{ℕ, _≤_, _-_}
+use Prim.Native.Nat.{_≤_, _-_}
 use Rattle.integer.proofs.Machine.{read}
 use Rattle.linear.specs.Slice.{at}
 use Rattle.common.specs.Proposals.{allSame}

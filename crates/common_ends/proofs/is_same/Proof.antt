@@ -1,5 +1,4 @@
 use Rattle.integer.proofs.Same.{same-bits}
-use borrow.Author.Needs.{needs}
 use Rattle.common_ends.proofs.is_same.Statement.{statement}
 use Rattle.common_ends.proofs.is_same.Tie as tie
 

@@ -1,5 +1,5 @@
 use mathlib.Core.Path.{_≡_, sym, _∙_}
-use Prim.Native.Nat.{ℕ, _≤_, _-_}
+use Prim.Native.Nat.{_≤_, _-_}
 use native.Mathlib.Omega.{arith}
 use Rattle.common_ends.specs.Met.{wideLimits}
 use Rattle.common_ends.proofs.Loops.{wide-none, wide-next, wide-end}

@@ -1,4 +1,4 @@
-use mathlib.Core.Path.{_≡_, sym, _∙_}
+use mathlib.Core.Path.{sym, _∙_}
 use native.Mathlib.Omega.{arith}
 use Rattle.common_ends.specs.Met.{too-wide, narrow}
 use Rattle.common_ends.proofs.Loops.{fitting}

@@ -5,29 +5,29 @@ use lib.ListN.{length}
 use mir.Syntax.{w64}
 use mir.Val.{SFits}
 use mir.ValLaws.{toZ-ofZ}
+use Rattle.linear.specs.Written.{written}
 use Rattle.integer.proofs.Machine.{read}
-use Rattle.reckoning.proofs.Filled.{stored-none, stored-more, stored-end, stored-length}
+use Rattle.linear.proofs.Written.{written-none, written-more, written-end, written-length}
 use Rattle.common.specs.Ends.{maxℤ, minℤ}
 use Prim.Native.Nat.{ℕ, _≤_, _-_}
 use mathlib.Core.Path.{_≡_}
-use Rattle.reckoning.specs.Arrays.{stored}
 use Rattle.common_ends.specs.Met.{lowsOf, highsOf}
 use borrow.Author.Needs.{needs}
 use Rattle.common_ends.proofs.write_ends.Statement.{statement}
 use Rattle.common_ends.proofs.write_ends.Tie as tie
 
 abbrev Inv-loop : tie.InvT-loop
-Inv-loop low₀ high₀ n k1 guess1 k2 guess2 limits1 limits2 i₀ low high i = (i ≤ n) × ((low ≡ stored low₀ 0 1 (lowsOf k1 guess1 limits1 k2 guess2 limits2) i) × (high ≡ stored high₀ 0 1 (highsOf k1 guess1 limits1 k2 guess2 limits2) i))
+Inv-loop low₀ high₀ n k1 guess1 k2 guess2 limits1 limits2 i₀ low high i = (i ≤ n) × ((low ≡ written low₀ 0 1 (lowsOf k1 guess1 limits1 k2 guess2 limits2) i) × (high ≡ written high₀ 0 1 (highsOf k1 guess1 limits1 k2 guess2 limits2) i))
 
 abbrev μ-loop : tie.MeasureT-loop
 μ-loop low₀ high₀ n k1 guess1 k2 guess2 limits1 limits2 i₀ low high i = n - i
 
 module _ (c : tie.At-loop Inv-loop μ-loop) where
   low-length : length (c .loop .low) ≡ length (c .before .args .low .now)
-  low-length = ap length (c .loop .inv .1 .0) ∙ stored-length _ _ _ _ (c .loop .i)
+  low-length = ap length (c .loop .inv .1 .0) ∙ written-length _ _ _ _ (c .loop .i)
 
   high-length : length (c .loop .high) ≡ length (c .before .args .high .now)
-  high-length = ap length (c .loop .inv .1 .1) ∙ stored-length _ _ _ _ (c .loop .i)
+  high-length = ap length (c .loop .inv .1 .1) ∙ written-length _ _ _ _ (c .loop .i)
 
 module _ (c : tie.After-common-of Inv-loop μ-loop) where
   abbrev s : tie.Start Inv-loop μ-loop
@@ -49,7 +49,7 @@ module _ (c : tie.After-common-of Inv-loop μ-loop) where
       (rw (read _ (c .before .before .ends-of-arg2 .given)) at (c .before .ends-of2 .ensures .1))
 
 loop-holds : tie.Need-loop-holds Inv-loop μ-loop
-loop-holds c = (omega arith, (sym (stored-none _ _ _ _), sym (stored-none _ _ _ _)))
+loop-holds c = (omega arith, (sym (written-none _ _ _ _), sym (written-none _ _ _ _)))
 
 mul-ends-of : tie.Need-mul-ends-of Inv-loop μ-loop
 mul-ends-of c = search needs
@@ -116,8 +116,8 @@ loop-again c =
     let g : SFits w64 (k .common-of .result .high) = search needs in (
       omega arith,
       (
-        stored-more _ _ _ _ (l .i) (l .inv .1 .0) (omega arith) (toZ-ofZ w64 _ f ∙ lower k),
-        stored-more _ _ _ _ (l .i) (l .inv .1 .1) (omega arith) (toZ-ofZ w64 _ g ∙ upper k),
+        written-more _ _ _ _ (l .i) (l .inv .1 .0) (omega arith) (toZ-ofZ w64 _ f ∙ lower k),
+        written-more _ _ _ _ (l .i) (l .inv .1 .1) (omega arith) (toZ-ofZ w64 _ g ∙ upper k),
       ),
     )
 
@@ -130,7 +130,7 @@ same-length-2 c = high-length (c .before)
 returns : tie.Need-returns Inv-loop μ-loop
 returns c =
     let i = c .before .loop .inv in
-    (i .1 .0 ∙ stored-end _ _ _ _ (i .0) (c .loop-test .left), i .1 .1 ∙ stored-end _ _ _ _ (i .0) (c .loop-test .left))
+    (i .1 .0 ∙ written-end _ _ _ _ (i .0) (c .loop-test .left), i .1 .1 ∙ written-end _ _ _ _ (i .0) (c .loop-test .left))
 
 pub write-ends-spec : {M : Type 1} → statement M
 write-ends-spec =

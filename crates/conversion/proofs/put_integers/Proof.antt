@@ -6,8 +6,8 @@ use lib.ListN.{length}
 use Rattle.linear.specs.Slice.{at as number}
 use Rattle.numeral.specs.Decimal.{numeral}
 use Rattle.text.specs.Wrote.{Wrote}
-use Rattle.text.specs.Line.{gap}
-use Rattle.text.proofs.Each.{wrote-none, wrote-more, wrote-end, room}
+use Rattle.listing_lines.specs.Line.{gap}
+use Rattle.listing_lines.proofs.Each.{wrote-none, wrote-more, wrote-end, room}
 use Rattle.conversion.specs.Written.{integers}
 use Rattle.conversion.proofs.Held.{small-read}
 use borrow.Author.Needs.{needs}

@@ -1,7 +1,7 @@
 use native.Mathlib.Omega.{arith}
 use Rattle.integer.proofs.Machine.{read}
 use Rattle.text.proofs.Wrote.{then, wider}
-use Rattle.text.proofs.Each.{gap-first, gap-later}
+use Rattle.listing_lines.proofs.Each.{gap-first, gap-later}
 use borrow.Author.Needs.{needs}
 use Rattle.conversion.proofs.put_next.Statement.{statement}
 use Rattle.conversion.proofs.put_next.Tie as tie

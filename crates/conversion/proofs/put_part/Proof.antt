@@ -4,8 +4,8 @@ use native.Mathlib.Nat.{mul-le-mul-right}
 use native.Mathlib.Omega.{arith}
 use lib.ListN.{length}
 use Rattle.text.specs.Wrote.{Wrote}
-use Rattle.text.specs.Line.{each}
-use Rattle.text.proofs.Each.{wrote-none, wrote-more, wrote-end}
+use Rattle.listing_lines.specs.Line.{each}
+use Rattle.listing_lines.proofs.Each.{wrote-none, wrote-more, wrote-end}
 use Rattle.old_edition.specs.File.{formFor}
 use Rattle.conversion.specs.Written.{heldBy, formLine, mostFor}
 use borrow.Author.Needs.{needs}

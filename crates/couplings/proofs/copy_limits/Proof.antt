@@ -2,24 +2,24 @@ use mathlib.Core.Path.{_≡_, refl, sym, ap, _∙_}
 use Prim.Native.Nat.{ℕ, _≤_, _-_}
 use native.Mathlib.Omega.{arith}
 use lib.ListN.{length, getD}
-use Rattle.reckoning.specs.Arrays.{stored}
-use Rattle.reckoning.proofs.Filled.{stored-none, stored-more, stored-end, stored-length}
+use Rattle.linear.specs.Written.{written}
+use Rattle.linear.proofs.Written.{written-none, written-more, written-end, written-length}
 use borrow.Author.Needs.{needs}
 use Rattle.couplings.proofs.copy_limits.Statement.{statement}
 use Rattle.couplings.proofs.copy_limits.Tie as tie
 
 abbrev Inv-loop : tie.InvT-loop
-Inv-loop dst₀ src n i₀ dst i = (i ≤ n) × (dst ≡ stored dst₀ 0 1 (λ (k : ℕ). getD src k 0) i)
+Inv-loop dst₀ src n i₀ dst i = (i ≤ n) × (dst ≡ written dst₀ 0 1 (λ (k : ℕ). getD src k 0) i)
 
 abbrev μ-loop : tie.MeasureT-loop
 μ-loop dst₀ src n i₀ dst i = n - i
 
 module _ (c : tie.At-loop Inv-loop μ-loop) where
   same : length (c .loop .dst) ≡ length (c .before .args .dst .now)
-  same = ap length (c .loop .inv .1) ∙ stored-length _ _ _ _ (c .loop .i)
+  same = ap length (c .loop .inv .1) ∙ written-length _ _ _ _ (c .loop .i)
 
 loop-holds : tie.Need-loop-holds Inv-loop μ-loop
-loop-holds c = (omega arith, sym (stored-none _ _ _ _))
+loop-holds c = (omega arith, sym (written-none _ _ _ _))
 
 mul-dst : tie.Need-mul-dst Inv-loop μ-loop
 mul-dst c = search needs
@@ -41,13 +41,13 @@ loop-less c = search needs
 
 loop-again : tie.Need-loop-again Inv-loop μ-loop
 loop-again c =
-    let l = c .before .before .loop in (omega arith, stored-more _ _ _ _ (l .i) (l .inv .1) (omega arith) refl)
+    let l = c .before .before .loop in (omega arith, written-more _ _ _ _ (l .i) (l .inv .1) (omega arith) refl)
 
 same-length : tie.Need-same-length Inv-loop μ-loop
 same-length c = same (c .before)
 
 returns : tie.Need-returns Inv-loop μ-loop
-returns c = c .before .loop .inv .1 ∙ stored-end _ _ _ _ (c .before .loop .inv .0) (c .loop-test .left)
+returns c = c .before .loop .inv .1 ∙ written-end _ _ _ _ (c .before .loop .inv .0) (c .loop-test .left)
 
 pub copy-limits-spec : {M : Type 1} → statement M
 copy-limits-spec =

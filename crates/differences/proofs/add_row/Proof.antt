@@ -3,17 +3,17 @@ use Prim.Native.Nat.{ℕ, _+_, _*_, _≤_, _-_}
 use native.Mathlib.Omega.{arith}
 use lib.ListN.{getD}
 use Rattle.linear.specs.Place.{Carried}
+use Rattle.linear.specs.Written.{written}
 use Rattle.linear.proofs.Carried.{carried-first, carried-next}
-use Rattle.reckoning.specs.Arrays.{stored}
-use Rattle.reckoning.proofs.Filled.{stored-none, stored-more, stored-end}
-use Rattle.differences.proofs.Halves.{stored-ahead}
+use Rattle.linear.proofs.Written.{written-none, written-more, written-end}
+use Rattle.differences.proofs.Halves.{written-ahead}
 use borrow.Author.Needs.{needs}
 use Rattle.differences.proofs.add_row.Statement.{statement}
 use Rattle.differences.proofs.add_row.Tie as tie
 
 abbrev Inv-loop : tie.InvT-loop
 Inv-loop sums₀ half size rows row n place₀ to₀ j₀ sums place to j =
-    (j ≤ n) × ((Carried row 1 j place × Carried half 1 j to) × (sums ≡ stored sums₀ half 1 (λ (i : ℕ). getD sums₀ (half + i) 0 + size * getD rows (row + i) 0) j))
+    (j ≤ n) × ((Carried row 1 j place × Carried half 1 j to) × (sums ≡ written sums₀ half 1 (λ (i : ℕ). getD sums₀ (half + i) 0 + size * getD rows (row + i) 0) j))
 
 abbrev μ-loop : tie.MeasureT-loop
 μ-loop sums₀ half size rows row n place₀ to₀ j₀ sums place to j = n - j
@@ -21,10 +21,10 @@ abbrev μ-loop : tie.MeasureT-loop
 -- the sum at the place that comes next is as it was
 ahead : (t : tie.In-loop Inv-loop μ-loop) →
     getD (t .before .loop .sums) (t .before .loop .to) 0 ≡ getD (t .before .before .before .args .sums .now) (t .before .before .before .args .half + t .before .loop .j) 0
-ahead t = stored-ahead _ _ (t .before .loop .j) (t .before .loop .inv .1 .1) (t .before .loop .inv .1 .0 .1)
+ahead t = written-ahead _ _ (t .before .loop .j) (t .before .loop .inv .1 .1) (t .before .loop .inv .1 .0 .1)
 
 loop-holds : tie.Need-loop-holds Inv-loop μ-loop
-loop-holds c = (omega arith, ((carried-first _ _, carried-first _ _), sym (stored-none _ _ _ _)))
+loop-holds c = (omega arith, ((carried-first _ _, carried-first _ _), sym (written-none _ _ _ _)))
 
 mul-add-scaled : tie.Need-mul-add-scaled Inv-loop μ-loop
 mul-add-scaled c = search needs
@@ -70,13 +70,13 @@ loop-again c =
       omega arith,
       (
         (carried-next (l .inv .1 .0 .0), carried-next (l .inv .1 .0 .1)),
-        stored-more _ _ _ _ (l .j) (l .inv .1 .1) (l .inv .1 .0 .1 .is)
+        written-more _ _ _ _ (l .j) (l .inv .1 .1) (l .inv .1 .0 .1 .is)
             (c .add-scaled .ensures ∙ ap (λ (x : ℕ). x + s .args .size * getD (s .args .rows .now) (s .args .row + l .j) 0) (ahead t)),
       ),
     )
 
 returns : tie.Need-returns Inv-loop μ-loop
-returns c = c .before .loop .inv .1 .1 ∙ stored-end _ _ _ _ (c .before .loop .inv .0) (c .loop-test .left)
+returns c = c .before .loop .inv .1 .1 ∙ written-end _ _ _ _ (c .before .loop .inv .0) (c .loop-test .left)
 
 pub add-row-spec : {M : Type 1} → statement M
 add-row-spec =

@@ -5,9 +5,10 @@ use native.Mathlib.Omega.{arith}
 use native.Mathlib.Nat.{mul-le-mul}
 use lib.IntN.{ℤ, pos}
 use Rattle.linear.specs.Place.{Carried}
+use Rattle.linear.specs.Written.{written}
 use Rattle.linear.proofs.Carried.{carried-first, carried-next, start-place}
 use Rattle.linear.proofs.Places.{square}
-use Rattle.reckoning.specs.Arrays.{stored, storedColumns}
+use Rattle.reckoning.specs.Arrays.{columnsWritten}
 use Rattle.reckoning.proofs.Filled.{columns-none, columns-next, columns-end}
 use Rattle.reckoning.proofs.Columns.{columns-whole}
 use Rattle.differences.specs.Difference.{numberLess, difference}
@@ -17,7 +18,7 @@ use Rattle.differences.proofs.differences_of.Tie as tie
 
 abbrev Inv-loop : tie.InvT-loop
 Inv-loop t xs step stride rows n out₀ start₀ m₀ out start m =
-    (m ≤ n) × (Carried 0 step m start × (out ≡ storedColumns out₀ n (difference n t xs step stride rows) m))
+    (m ≤ n) × (Carried 0 step m start × (out ≡ columnsWritten out₀ n (difference n t xs step stride rows) m))
 
 abbrev μ-loop : tie.MeasureT-loop
 μ-loop t xs step stride rows n out₀ start₀ m₀ out start m = n - m
@@ -61,7 +62,7 @@ loop-again c =
       (
         carried-next (l .inv .1 .0),
         c .store-row .ensures
-            ∙ ap₂ (λ (ys : List ℤ) (p : ℕ). stored ys (l .m) (a .n) (λ (j : ℕ). numberLess (a .t) (a .xs .now) p (a .stride) (a .rows .now) (a .n) (l .m) j) (a .n)) (l .inv .1 .1) (start-place (l .inv .1 .0))
+            ∙ ap₂ (λ (ys : List ℤ) (p : ℕ). written ys (l .m) (a .n) (λ (j : ℕ). numberLess (a .t) (a .xs .now) p (a .stride) (a .rows .now) (a .n) (l .m) j) (a .n)) (l .inv .1 .1) (start-place (l .inv .1 .0))
             ∙ sym (columns-next _ _ _ (l .m)),
       ),
     )

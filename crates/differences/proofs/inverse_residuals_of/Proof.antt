@@ -1,4 +1,3 @@
-use mathlib.Core.List.{[]}
 use Prim.Native.Nat.{_/_, _%_}
 use native.Mathlib.Omega.{arith}
 use lib.Dec.{lit≤}
@@ -16,7 +15,7 @@ differences-of-requires c κs =
 returns : tie.Need-returns
 returns c =
     let a = c .before .args in
-    begins-as (pos 0) _ _ (λ i l. rows-residual (a .n) (a .t) (a .matrix .now) (a .rows .now) [] (i / a .n) (i % a .n)) (c .differences-of .ensures)
+    begins-as (pos 0) _ _ (λ i l. rows-residual (a .n) (a .t) (a .matrix .now) (a .rows .now) (i / a .n) (i % a .n)) (c .differences-of .ensures)
 
 pub inverse-residuals-of-spec : {M : Type 1} → statement M
 inverse-residuals-of-spec = tie.close (tie.spec differences-of-requires returns)

@@ -11,12 +11,12 @@ use Rattle.integer.proofs.Machine.{small, read}
 use Rattle.linear.specs.Matrix.{identity}
 use Rattle.linear.specs.Slice.{at}
 use Rattle.linear.specs.Place.{Carried}
+use Rattle.linear.specs.Written.{written}
 use Rattle.linear.proofs.Carried.{carried-first, carried-next}
 use Rattle.linear.proofs.Places.{place, square}
+use Rattle.linear.proofs.Written.{written-none, written-more, written-end}
 use Rattle.raised_rows.specs.Raised.{raisedBy}
 use Rattle.raised_rows.specs.Place.{raisedPlace}
-use Rattle.reckoning.specs.Arrays.{stored}
-use Rattle.reckoning.proofs.Filled.{stored-none, stored-more, stored-end}
 use Rattle.differences.specs.Difference.{numberLess}
 use Rattle.differences.proofs.Sums.{no-sums, ups-small, downs-small, raised-small, sums-less}
 use borrow.Author.Needs.{needs}
@@ -25,7 +25,7 @@ use Rattle.differences.proofs.store_row.Tie as tie
 
 abbrev Inv-loop : tie.InvT-loop
 Inv-loop out₀ t m xs start stride rows n sums raised place₀ j₀ out place j =
-    (j ≤ n) × (Carried m n j place × (out ≡ stored out₀ m n (λ (i : ℕ). numberLess t xs start stride rows n m i) j))
+    (j ≤ n) × (Carried m n j place × (out ≡ written out₀ m n (λ (i : ℕ). numberLess t xs start stride rows n m i) j))
 
 abbrev μ-loop : tie.MeasureT-loop
 μ-loop out₀ t m xs start stride rows n sums raised place₀ j₀ out place j = n - j
@@ -61,6 +61,9 @@ in-array t =
       omega (arith, t .before .loop .inv .1 .0 .is, place (t .loop-test .taken) (s .pre .0 .1 .1 .0), square (s .pre .0 .1 .0), s .pre .0 .1 .0),
     )
 
+cast-raised : tie.Need-cast-raised Inv-loop μ-loop
+cast-raised c = search needs
+
 add-rows-requires : tie.Need-add-rows-requires Inv-loop μ-loop
 add-rows-requires c κs =
     let s = c .before .before in ((s .pre .0 .1 .0, s .pre .0 .1 .1 .1), (s .pre .1 .0, (s .pre .1 .1, (refl, no-sums))))
@@ -69,7 +72,7 @@ mul-raised : tie.Need-mul-raised Inv-loop μ-loop
 mul-raised c = rw (total-is c) (raised-fits c)
 
 loop-holds : tie.Need-loop-holds Inv-loop μ-loop
-loop-holds c = (omega arith, (carried-first _ _, sym (stored-none _ _ _ _)))
+loop-holds c = (omega arith, (carried-first _ _, sym (written-none _ _ _ _)))
 
 mul-number-less : tie.Need-mul-number-less Inv-loop μ-loop
 mul-number-less c = search needs
@@ -99,8 +102,8 @@ number-less-requires c κs =
       ),
     )
 
-mul-t26 : tie.Need-mul-t26 Inv-loop μ-loop
-mul-t26 c = omega (arith, in-array (c .before) .0)
+mul-t27 : tie.Need-mul-t27 Inv-loop μ-loop
+mul-t27 c = omega (arith, in-array (c .before) .0)
 
 element-set-from-out : tie.Need-element-set-from-out Inv-loop μ-loop
 element-set-from-out c = in-array (c .before) .0
@@ -122,13 +125,13 @@ loop-again c =
       omega arith,
       (
         carried-next (l .inv .1 .0),
-        stored-more _ _ _ _ (l .j) (l .inv .1 .1) (l .inv .1 .0 .is)
+        written-more _ _ _ _ (l .j) (l .inv .1 .1) (l .inv .1 .0 .is)
             (read _ (c .number-less .ok) ∙ (rw (raised-is a) at (c .number-less .ensures)) ∙ sums-less (s .args .rows .now) (s .args .n) (X s) (pos (2 ^ s .args .t) *ℤ identity (s .args .m) (l .j)) (a .add-rows .ensures .1) (l .j) (c .before .loop-test .taken)),
       ),
     )
 
 returns : tie.Need-returns Inv-loop μ-loop
-returns c = c .before .loop .inv .1 .1 ∙ stored-end _ _ _ _ (c .before .loop .inv .0) (c .loop-test .left)
+returns c = c .before .loop .inv .1 .1 ∙ written-end _ _ _ _ (c .before .loop .inv .0) (c .loop-test .left)
 
 pub store-row-spec : {M : Type 1} → statement M
 store-row-spec =
@@ -136,6 +139,7 @@ store-row-spec =
     (tie.spec
     Inv-loop
     μ-loop
+    cast-raised
     add-rows-requires
     mul-raised
     loop-holds
@@ -145,7 +149,7 @@ store-row-spec =
     mul-number-less-2
     array-read-number-less-2
     number-less-requires
-    mul-t26
+    mul-t27
     element-set-from-out
     add-place
     add-j

@@ -7,30 +7,19 @@ use mathlib.Core.Path.{_∙_}
 use borrow.Author.Needs.{needs}
 use Rattle.equations.proofs.grow.Statement.{statement}
 use Rattle.equations.proofs.grow.Tie as tie
-use Rattle.equations.proofs.grow.Reads as reads
-use Rattle.equations.proofs.grow.Lts as lts
-use Rattle.equations.proofs.join.Reads as join-reads
-use Rattle.equations.proofs.minus.Reads as minus-reads
-use Rattle.equations.proofs.plus.Reads as plus-reads
-use Rattle.equations.proofs.product_of.Reads as product-of-reads
-use Rattle.equations.proofs.weight_of.Reads as weight-of-reads
 
--- src/lib.rt:84:9
 weight-of-requires : tie.Need-weight-of-requires
 weight-of-requires c κs = search needs
 
--- src/lib.rt:85:9
 product-of-requires : tie.Need-product-of-requires
 product-of-requires c κs = search needs
 
--- src/lib.rt:88:19
 join-requires : tie.Need-join-requires
 join-requires c κs =
     let s = c .before .before .before .before .before in
     let w = c .before .before .before .weight-of in
     join-room (s .args .row) (s .pre .0 .1 .1) (s .args .l) (s .pre .0 .1 .0) (s .args .k) _ (s .pre .0 .0) (s .pre .0 .1 .0 .start) (read _ (w .ok) ∙ w .ensures)
 
--- src/lib.rt:89:20
 plus-requires : tie.Need-plus-requires
 plus-requires c κs =
     let s = c .before .before .before .before .before .before .before in
@@ -38,7 +27,6 @@ plus-requires c κs =
     let f : SFits w64 (s .args .row .right) = search needs in
     right-room (s .args .row) (s .pre .0 .1 .1) (s .args .l) (s .pre .0 .1 .0) (toZ-ofZ w64 (s .args .row .right) f) (read _ (p .ok) ∙ p .ensures)
 
--- src/lib.rt:87:9
 returns : tie.Need-returns
 returns c =
     let s = c .before .before .before .before .before .before .before .before in
@@ -49,14 +37,12 @@ returns c =
     (rw (read _ (w .ok), w .ensures) at (c .before .before .join .ensures))
     (read _ (c .plus .ok) ∙ (rw (toZ-ofZ w64 (s .args .row .right) f, read _ (p .ok), p .ensures) at (c .plus .ensures)))
 
--- src/lib.rt:93:15
 join-requires-2 : tie.Need-join-requires-2
 join-requires-2 c κs =
     let s = c .before .before .before .before .before in
     let w = c .before .before .before .weight-of in
     join-room (s .args .row) (s .pre .0 .1 .1) (s .args .l) (s .pre .0 .1 .0) (s .args .k) _ (s .pre .0 .0) (s .pre .0 .1 .0 .end) (read _ (w .ok) ∙ w .ensures)
 
--- src/lib.rt:94:16
 minus-requires : tie.Need-minus-requires
 minus-requires c κs =
     let s = c .before .before .before .before .before .before .before in
@@ -64,7 +50,6 @@ minus-requires c κs =
     let f : SFits w64 (s .args .row .right) = search needs in
     right-room (s .args .row) (s .pre .0 .1 .1) (s .args .l) (s .pre .0 .1 .0) (toZ-ofZ w64 (s .args .row .right) f) (read _ (p .ok) ∙ p .ensures)
 
--- src/lib.rt:78:1
 returns-2 : tie.Need-returns-2
 returns-2 c =
     let s = c .before .before .before .before .before .before .before .before in

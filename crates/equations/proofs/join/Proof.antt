@@ -5,52 +5,37 @@ use mathlib.Core.Path.{_∙_}
 use borrow.Author.Needs.{needs}
 use Rattle.equations.proofs.join.Statement.{statement}
 use Rattle.equations.proofs.join.Tie as tie
-use Rattle.equations.proofs.join.Reads as reads
-use Rattle.equations.proofs.join.Lts as lts
-use Rattle.equations.proofs.minus.Reads as minus-reads
-use Rattle.equations.proofs.plus.Reads as plus-reads
 
--- src/lib.rt:69:25
 mul-plus : tie.Need-mul-plus
 mul-plus c = search needs
 
--- src/lib.rt:69:25
 array-copy-out-plus : tie.Need-array-copy-out-plus
 array-copy-out-plus c = search needs
 
--- src/lib.rt:69:9
 plus-requires : tie.Need-plus-requires
 plus-requires c κs = search needs
 
--- src/lib.rt:70:24
 mul-minus : tie.Need-mul-minus
 mul-minus c = search needs
 
--- src/lib.rt:70:24
 array-copy-out-minus : tie.Need-array-copy-out-minus
 array-copy-out-minus c = search needs
 
--- src/lib.rt:70:9
 minus-requires : tie.Need-minus-requires
 minus-requires c κs = search needs
 
--- src/lib.rt:72:5
 mul-out : tie.Need-mul-out
 mul-out c = search needs
 
--- src/lib.rt:72:5
 array-set-from-out : tie.Need-array-set-from-out
 array-set-from-out c = search needs
 
--- src/lib.rt:73:5
 mul-out-2 : tie.Need-mul-out-2
 mul-out-2 c = search needs
 
--- src/lib.rt:73:5
 array-set-from-out-2 : tie.Need-array-set-from-out-2
 array-set-from-out-2 c = search needs
 
--- src/lib.rt:62:1
 returns : tie.Need-returns
 returns c =
     let s = c .before .before .before .before in

@@ -1,4 +1,3 @@
-use Rattle.integer.proofs.Machine.{read}
 use Rattle.equations.proofs.Terms.{minus-fits, minus-read}
 use mir.ValLaws.{toZ-ofZ}
 use mir.Syntax.{w64}

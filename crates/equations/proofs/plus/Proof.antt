@@ -1,4 +1,3 @@
-use Rattle.integer.proofs.Machine.{read}
 use Rattle.equations.proofs.Terms.{plus-fits, plus-read}
 use mir.ValLaws.{toZ-ofZ}
 use mir.Syntax.{w64}

@@ -3,16 +3,11 @@ use Rattle.equations.proofs.Rows.{row-none, row-next, row-end, row-smal
 use Rattle.equations.proofs.Terms.{same-row}
 use Rattle.equations.specs.Kept.{RowSums, Grown}
 use mathlib.Core.Logic.{⊎-elim}
-use mathlib.Core.Path.{_≡_, sym, subst, _∙_}
+use mathlib.Core.Path.{sym, subst, _∙_}
 use Prim.Native.Nat.{_≤_, _-_}
-use native.Mathlib.Omega.{arith}
 use borrow.Author.Needs.{needs}
 use Rattle.equations.proofs.row_of.Statement.{statement}
 use Rattle.equations.proofs.row_of.Tie as tie
-use Rattle.equations.proofs.row_of.Reads as reads
-use Rattle.equations.proofs.row_of.Lts as lts
-use Rattle.equations.proofs.grow.Reads as grow-reads
-use Rattle.equations.proofs.is_at.Reads as is-at-reads
 
 abbrev Inv-loop : tie.InvT-loop
 Inv-loop k seen count row₀ p₀ row p = (p ≤ count) × RowSums seen k p row
@@ -20,23 +15,18 @@ Inv-loop k seen count row₀ p₀ row p = (p ≤ count) × RowSums seen k p row
 abbrev μ-loop : tie.MeasureT-loop
 μ-loop k seen count row₀ p₀ row p = count - p
 
--- src/lib.rt:109:5
 loop-holds : tie.Need-loop-holds Inv-loop μ-loop
 loop-holds c = (search needs, row-none _ _)
 
--- src/lib.rt:110:17
 mul-l : tie.Need-mul-l Inv-loop μ-loop
 mul-l c = search needs
 
--- src/lib.rt:110:17
 array-copy-out-l : tie.Need-array-copy-out-l Inv-loop μ-loop
 array-copy-out-l c = search needs
 
--- src/lib.rt:111:12
 is-at-requires : tie.Need-is-at-requires Inv-loop μ-loop
 is-at-requires c κs = search needs
 
--- src/lib.rt:112:13
 grow-requires : tie.Need-grow-requires Inv-loop μ-loop
 grow-requires c κs =
     let s = c .before .before .before .before .before .before in
@@ -44,15 +34,12 @@ grow-requires c κs =
     let b = c .before .before .before .loop-test .taken in
     ((s .pre .0, (s .pre .1 .proper (i .p) b, row-small (s .args .g) (s .args .k) (s .pre .1) (i .inv .0) (i .inv .1))), sym (c .before .is-at .ensures) ∙ c .if1 .taken)
 
--- src/lib.rt:109:9
 add-p : tie.Need-add-p Inv-loop μ-loop
 add-p c = search needs
 
--- src/lib.rt:109:5
 loop-less : tie.Need-loop-less Inv-loop μ-loop
 loop-less c = search needs
 
--- src/lib.rt:109:5
 loop-again : tie.Need-loop-again Inv-loop μ-loop
 loop-again c =
     let s = c .before .before .before .before .before .before in
@@ -64,7 +51,6 @@ loop-again c =
           (c .if1 .came)),
     )
 
--- src/lib.rt:99:1
 returns : tie.Need-returns Inv-loop μ-loop
 returns c = row-end _ _ (c .before .loop .inv .0) (c .loop-test .left) (c .before .loop .inv .1)
 

@@ -1,62 +1,50 @@
 use mir.Val.{SFits}
 use mir.ValLaws.{toZ-ofZ}
 use mir.Syntax.{w64}
-use Rattle.equations.proofs.Places.{written-none, written-end, right-next, rows-none, rows-end, row-start, row-room, row-length, row-written}
+use Rattle.equations.proofs.Places.{rows-none, rows-end, row-start, row-room, row-length, row-written}
 use Rattle.equations.proofs.Rows.{row-matrix, row-right}
 use Rattle.equations.specs.Kept.{keptMatrix, keptRight}
-use Rattle.equations.specs.Written.{widthOf, writtenFrom, rowsWritten}
-use Rattle.integer.proofs.Machine.{read}
+use Rattle.equations.specs.Written.{widthOf, rowsWritten}
 use Rattle.integer.proofs.Sum.{sumℕ-none}
 use Rattle.integer.specs.Finite.{sumℕ}
-use Rattle.linear.specs.Slice.{at}
+use Rattle.linear.specs.Written.{written}
+use Rattle.linear.proofs.Written.{written-none, written-more, written-end}
 use lib.ListN.{length, length-set}
 use native.Mathlib.Omega.{arith}
-use Prim.Native.Nat.{ℕ, _+_, _≤_, _-_}
+use Prim.Native.Nat.{_+_, _≤_, _-_}
 use mathlib.Core.Path.{_≡_, sym, _∙_}
 use borrow.Author.Needs.{needs}
 use Rattle.equations.proofs.write_equations.Statement.{statement}
 use Rattle.equations.proofs.write_equations.Tie as tie
-use Rattle.equations.proofs.write_equations.Reads as reads
-use Rattle.equations.proofs.write_equations.Lts as lts
-use Rattle.equations.proofs.row_of.Reads as row-of-reads
-use Rattle.equations.proofs.store_row.Reads as store-row-reads
-use Rattle.equations.proofs.width_of.Reads as width-of-reads
 
 abbrev Inv-loop : tie.InvT-loop
 Inv-loop g layout matrix₀ right₀ n start₀ i₀ matrix right start i =
     (i ≤ n) × (start ≡ sumℕ i (widthOf layout n)) × (length matrix ≡ length matrix₀) × (length right ≡ length right₀)
-    × (matrix ≡ rowsWritten (widthOf layout n) i (keptMatrix g) matrix₀) × (right ≡ writtenFrom 0 i (keptRight g) right₀)
+    × (matrix ≡ rowsWritten (widthOf layout n) i (keptMatrix g) matrix₀) × (right ≡ written right₀ 0 1 (keptRight g) i)
 
 abbrev μ-loop : tie.MeasureT-loop
 μ-loop g layout matrix₀ right₀ n start₀ i₀ matrix right start i = n - i
 
--- src/lib.rt:145:13
 cast-n : tie.Need-cast-n Inv-loop μ-loop
 cast-n c = search needs
 
--- src/lib.rt:147:5
 loop-holds : tie.Need-loop-holds Inv-loop μ-loop
-loop-holds c = (search needs, sym (sumℕ-none _), search needs, search needs, sym (rows-none _ _ _), sym (written-none _ _ _))
+loop-holds c = (search needs, sym (sumℕ-none _), search needs, search needs, sym (rows-none _ _ _), sym (written-none _ _ 1 _))
 
--- src/lib.rt:148:30
 add-row-of : tie.Need-add-row-of Inv-loop μ-loop
 add-row-of c = search needs
 
--- src/lib.rt:148:29
 cast-row-of : tie.Need-cast-row-of Inv-loop μ-loop
 cast-row-of c = search needs
 
--- src/lib.rt:148:13
 row-of-requires : tie.Need-row-of-requires Inv-loop μ-loop
 row-of-requires c κs =
     let s = c .before .before .before in
     (omega (arith, c .loop-test .taken, s .pre .0 .size), s .pre .0)
 
--- src/lib.rt:150:13
 width-of-requires : tie.Need-width-of-requires Inv-loop μ-loop
 width-of-requires c κs = (c .before .before .before .before .before .pre .0 .size, c .before .before .loop-test .taken)
 
--- src/lib.rt:151:9
 store-row-requires : tie.Need-store-row-requires Inv-loop μ-loop
 store-row-requires c κs =
     let s = c .before .before .before .before .before .before .before in
@@ -65,18 +53,15 @@ store-row-requires c κs =
     let e = row-room (s .args .layout) (s .args .g .n) (l .i) (l .inv .1) (w .0) (c .before .before .before .before .loop-test .taken) (s .pre .1 .0) in
     (w .1, omega (arith, e, l .inv .2))
 
--- src/lib.rt:153:9
 mul-b : tie.Need-mul-b Inv-loop μ-loop
 mul-b c = search needs
 
--- src/lib.rt:153:9
 slice-set-from-b : tie.Need-slice-set-from-b Inv-loop μ-loop
 slice-set-from-b c =
     let s = c .before .before .before .before .before .before .before .before .before .before in
     let l = c .before .before .before .before .before .before .before .before .loop in
     omega (arith, c .before .before .before .before .before .before .before .loop-test .taken, l .inv .3, s .pre .1 .1)
 
--- src/lib.rt:154:9
 add-start : tie.Need-add-start Inv-loop μ-loop
 add-start c =
     let s = c .before .before .before .before .before .before .before .before .before .before in
@@ -86,15 +71,12 @@ add-start c =
     row-room (s .args .layout) (s .args .g .n) (l .i) (l .inv .1) (w .0) (c .before .before .before .before .before .before .before .loop-test .taken) (s .pre .1 .0) in
     search needs
 
--- src/lib.rt:147:9
 add-i : tie.Need-add-i Inv-loop μ-loop
 add-i c = search needs
 
--- src/lib.rt:147:5
 loop-less : tie.Need-loop-less Inv-loop μ-loop
 loop-less c = search needs
 
--- src/lib.rt:147:5
 loop-again : tie.Need-loop-again Inv-loop μ-loop
 loop-again c =
     let s = c .before .before .before .before .before .before .before .before .before .before in
@@ -109,20 +91,17 @@ loop-again c =
       simp length-set (l .inv .3),
       row-written (s .args .layout) (s .args .g .n) (l .i) (l .inv .1) (w .0) _ (keptMatrix (s .args .g)) (s .args .matrix .now) (l .matrix) r
           (λ j b. row-matrix (s .args .g) (l .i) (o .ensures) j (omega (arith, b, w .1))) (l .inv .4),
-      right-next (keptRight (s .args .g)) (s .args .right .now) (l .right) (l .i) (toZ-ofZ w64 (o .result .right) f ∙ row-right (s .args .g) (l .i) (o .ensures)) (l .inv .5),
+      written-more _ _ 1 _ (l .i) (l .inv .5) (omega arith) (toZ-ofZ w64 (o .result .right) f ∙ row-right (s .args .g) (l .i) (o .ensures)),
     )
 
--- src/lib.rt:139:1
 same-length : tie.Need-same-length Inv-loop μ-loop
 same-length c = search needs
 
--- src/lib.rt:139:1
 same-length-2 : tie.Need-same-length-2 Inv-loop μ-loop
 same-length-2 c = search needs
 
--- src/lib.rt:139:1
 returns : tie.Need-returns Inv-loop μ-loop
-returns c = (c .before .loop .inv .4 ∙ rows-end _ _ _ (c .before .loop .inv .0) (c .loop-test .left), c .before .loop .inv .5 ∙ written-end _ _ _ (c .before .loop .inv .0) (c .loop-test .left))
+returns c = (c .before .loop .inv .4 ∙ rows-end _ _ _ (c .before .loop .inv .0) (c .loop-test .left), c .before .loop .inv .5 ∙ written-end _ _ 1 _ (c .before .loop .inv .0) (c .loop-test .left))
 
 pub write-equations-spec : {M : Type 1} → statement M
 write-equations-spec =

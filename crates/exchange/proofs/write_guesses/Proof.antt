@@ -5,9 +5,9 @@ use mathlib.Core.Path.{_≡_, sym, ap, _∙_}
 use Prim.Native.Nat.{ℕ, _≤_, _-_}
 use lib.ListN.{length}
 use native.Mathlib.Omega.{arith}
+use Rattle.linear.specs.Written.{written}
+use Rattle.linear.proofs.Written.{written-none, written-more, written-end, written-length}
 use Rattle.doubles.specs.Guess.{guessFor}
-use Rattle.reckoning.specs.Arrays.{stored}
-use Rattle.reckoning.proofs.Filled.{stored-none, stored-more, stored-end, stored-length}
 use Rattle.exchange.specs.Lists.{doubleAt}
 use Rattle.exchange.proofs.Lists.{every-at}
 use borrow.Author.Needs.{needs}
@@ -15,16 +15,16 @@ use Rattle.exchange.proofs.write_guesses.Statement.{statement}
 use Rattle.exchange.proofs.write_guesses.Tie as tie
 
 abbrev Inv-loop : tie.InvT-loop
-Inv-loop n s values guess₀ i₀ guess i = (i ≤ n) × (guess ≡ stored guess₀ 0 1 (λ (j : ℕ). guessFor s (doubleAt values j)) i)
+Inv-loop n s values guess₀ i₀ guess i = (i ≤ n) × (guess ≡ written guess₀ 0 1 (λ (j : ℕ). guessFor s (doubleAt values j)) i)
 
 abbrev μ-loop : tie.MeasureT-loop
 μ-loop n s values guess₀ i₀ guess i = n - i
 
 longer : (c : tie.At-loop Inv-loop μ-loop) → length (c .loop .guess) ≡ length (c .before .before .args .guess .now)
-longer c = ap length (c .loop .inv .1) ∙ stored-length _ _ _ _ (c .loop .i)
+longer c = ap length (c .loop .inv .1) ∙ written-length _ _ _ _ (c .loop .i)
 
 loop-holds : tie.Need-loop-holds Inv-loop μ-loop
-loop-holds c = (search needs, sym (stored-none _ _ _ _))
+loop-holds c = (search needs, sym (written-none _ _ _ _))
 
 mul-guess-of : tie.Need-mul-guess-of Inv-loop μ-loop
 mul-guess-of c = search needs
@@ -54,13 +54,13 @@ loop-again c =
     let l = t .before .loop in
     let s = t .before .before .before in
     let h : SFits w64 (g .result .steps) = search needs in
-    (search needs, stored-more _ _ _ _ (l .i) (l .inv .1) (omega arith) (toZ-ofZ w64 _ h ∙ g .ensures .steps (every-at (s .args .n) _ (s .pre .1) (l .i) (t .loop-test .taken))))
+    (search needs, written-more _ _ _ _ (l .i) (l .inv .1) (omega arith) (toZ-ofZ w64 _ h ∙ g .ensures .steps (every-at (s .args .n) _ (s .pre .1) (l .i) (t .loop-test .taken))))
 
 same-length : tie.Need-same-length Inv-loop μ-loop
-same-length c = ap length (c .before .loop .inv .1) ∙ stored-length _ _ _ _ (c .before .loop .i)
+same-length c = ap length (c .before .loop .inv .1) ∙ written-length _ _ _ _ (c .before .loop .i)
 
 returns : tie.Need-returns Inv-loop μ-loop
-returns c = c .before .loop .inv .1 ∙ stored-end _ _ _ _ (c .before .loop .inv .0) (c .loop-test .left)
+returns c = c .before .loop .inv .1 ∙ written-end _ _ _ _ (c .before .loop .inv .0) (c .loop-test .left)
 
 pub write-guesses-spec : {M : Type 1} → statement M
 write-guesses-spec =

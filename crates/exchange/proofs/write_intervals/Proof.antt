@@ -1,3 +1,4 @@
+use Rattle.linear.specs.Written.{written}
 use Rattle.interval.specs.declared.Interval.{Interval}
 use mathlib.Core.Path.{_≡_, sym, ap, _∙_}
 use Prim.Native.Nat.{ℕ, _≤_, _-_}
@@ -5,9 +6,8 @@ use lib.IntN.{pos}
 use lib.ListN.{length, getD}
 use native.Mathlib.Omega.{arith}
 use Rattle.integer.proofs.Machine.{read}
+use Rattle.linear.proofs.Written.{written-none, written-more, written-end, written-length}
 use Rattle.interval.specs.Interval.{intervalOf}
-use Rattle.reckoning.specs.Arrays.{stored}
-use Rattle.reckoning.proofs.Filled.{stored-none, stored-more, stored-end, stored-length}
 use borrow.Author.Needs.{needs}
 use Rattle.exchange.proofs.write_intervals.Statement.{statement}
 use Rattle.exchange.proofs.write_intervals.Tie as tie
@@ -15,18 +15,18 @@ use Rattle.exchange.proofs.write_intervals.Tie as tie
 abbrev Inv-loop : tie.InvT-loop
 Inv-loop n s guess bounds low₀ high₀ i₀ low high i =
     (i ≤ n)
-    × ((low ≡ stored low₀ 0 1 (λ (j : ℕ). intervalOf s (getD guess j (pos 0)) (getD bounds j 0) .low) i)
-    × (high ≡ stored high₀ 0 1 (λ (j : ℕ). intervalOf s (getD guess j (pos 0)) (getD bounds j 0) .high) i))
+    × ((low ≡ written low₀ 0 1 (λ (j : ℕ). intervalOf s (getD guess j (pos 0)) (getD bounds j 0) .low) i)
+    × (high ≡ written high₀ 0 1 (λ (j : ℕ). intervalOf s (getD guess j (pos 0)) (getD bounds j 0) .high) i))
 
 abbrev μ-loop : tie.MeasureT-loop
 μ-loop n s guess bounds low₀ high₀ i₀ low high i = n - i
 
 module _ (c : tie.At-loop Inv-loop μ-loop) where
   lows : length (c .loop .low) ≡ length (c .before .before .before .before .args .low .now)
-  lows = ap length (c .loop .inv .1 .0) ∙ stored-length _ _ _ _ (c .loop .i)
+  lows = ap length (c .loop .inv .1 .0) ∙ written-length _ _ _ _ (c .loop .i)
 
   highs : length (c .loop .high) ≡ length (c .before .before .before .before .args .high .now)
-  highs = ap length (c .loop .inv .1 .1) ∙ stored-length _ _ _ _ (c .loop .i)
+  highs = ap length (c .loop .inv .1 .1) ∙ written-length _ _ _ _ (c .loop .i)
 
 ends : (c : tie.After-interval-of Inv-loop μ-loop) →
     let s = c .before .before .before .before .before .before .before .before in
@@ -35,7 +35,7 @@ ends : (c : tie.After-interval-of Inv-loop μ-loop) →
 ends c = rw (read _ (c .before .before .interval-of-arg .given)) at (c .interval-of .ensures)
 
 loop-holds : tie.Need-loop-holds Inv-loop μ-loop
-loop-holds c = (search needs, (sym (stored-none _ _ _ _), sym (stored-none _ _ _ _)))
+loop-holds c = (search needs, (sym (written-none _ _ _ _), sym (written-none _ _ _ _)))
 
 mul-interval-of : tie.Need-mul-interval-of Inv-loop μ-loop
 mul-interval-of c = search needs
@@ -77,16 +77,16 @@ loop-less c = search needs
 loop-again : tie.Need-loop-again Inv-loop μ-loop
 loop-again c =
     let l = c .before .before .before .before .loop in
-    (search needs, (stored-more _ _ _ _ (l .i) (l .inv .1 .0) (omega arith) (ap (λ (v : Interval). v .low) (ends c)), stored-more _ _ _ _ (l .i) (l .inv .1 .1) (omega arith) (ap (λ (v : Interval). v .high) (ends c))))
+    (search needs, (written-more _ _ _ _ (l .i) (l .inv .1 .0) (omega arith) (ap (λ (v : Interval). v .low) (ends c)), written-more _ _ _ _ (l .i) (l .inv .1 .1) (omega arith) (ap (λ (v : Interval). v .high) (ends c))))
 
 same-length : tie.Need-same-length Inv-loop μ-loop
-same-length c = ap length (c .before .loop .inv .1 .0) ∙ stored-length _ _ _ _ (c .before .loop .i)
+same-length c = ap length (c .before .loop .inv .1 .0) ∙ written-length _ _ _ _ (c .before .loop .i)
 
 same-length-2 : tie.Need-same-length-2 Inv-loop μ-loop
-same-length-2 c = ap length (c .before .loop .inv .1 .1) ∙ stored-length _ _ _ _ (c .before .loop .i)
+same-length-2 c = ap length (c .before .loop .inv .1 .1) ∙ written-length _ _ _ _ (c .before .loop .i)
 
 returns : tie.Need-returns Inv-loop μ-loop
-returns c = (c .before .loop .inv .1 .0 ∙ stored-end _ _ _ _ (c .before .loop .inv .0) (c .loop-test .left), c .before .loop .inv .1 .1 ∙ stored-end _ _ _ _ (c .before .loop .inv .0) (c .loop-test .left))
+returns c = (c .before .loop .inv .1 .0 ∙ written-end _ _ _ _ (c .before .loop .inv .0) (c .loop-test .left), c .before .loop .inv .1 .1 ∙ written-end _ _ _ _ (c .before .loop .inv .0) (c .loop-test .left))
 
 pub write-intervals-spec : {M : Type 1} → statement M
 write-intervals-spec =

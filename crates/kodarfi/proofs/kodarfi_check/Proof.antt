@@ -1,5 +1,5 @@
 use Rattle.rules.specs.Refusal.{said}
-use Rattle.kodarfi.proofs.Told.{told-alone}
+use Rattle.reply.proofs.Told.{told-alone}
 use borrow.Author.Needs.{needs}
 use Rattle.kodarfi.proofs.kodarfi_check.Statement.{statement}
 use Rattle.kodarfi.proofs.kodarfi_check.Tie as tie

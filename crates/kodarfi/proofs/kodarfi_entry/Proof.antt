@@ -1,7 +1,7 @@
 use mathlib.Core.List.{[], _∷_}
 use Rattle.integer.proofs.Machine.{read}
 use Rattle.rules.specs.Refusal.{numberOf, valuesOf}
-use Rattle.kodarfi.proofs.Told.{told, told-alone}
+use Rattle.reply.proofs.Told.{told, told-alone}
 use Rattle.kodarfi.proofs.Entry.{entry-exported, refusal-exported}
 use borrow.Author.Needs.{needs}
 use Rattle.kodarfi.proofs.kodarfi_entry.Statement.{statement}

@@ -1,5 +1,5 @@
 use Rattle.weight_sequence.specs.Search.{saidFound}
-use Rattle.kodarfi.proofs.Told.{told-alone}
+use Rattle.reply.proofs.Told.{told-alone}
 use borrow.Author.Needs.{needs}
 use Rattle.kodarfi.proofs.kodarfi_find_weights.Statement.{statement}
 use Rattle.kodarfi.proofs.kodarfi_find_weights.Tie as tie

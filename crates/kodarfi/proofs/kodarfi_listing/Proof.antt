@@ -1,5 +1,5 @@
 use Rattle.listing.specs.Listing.{answerOf}
-use Rattle.kodarfi.proofs.Told.{told}
+use Rattle.reply.proofs.Told.{told}
 use borrow.Author.Needs.{needs}
 use Rattle.kodarfi.proofs.kodarfi_listing.Statement.{statement}
 use Rattle.kodarfi.proofs.kodarfi_listing.Tie as tie

@@ -1,6 +1,6 @@
 use Rattle.lent_lists.proofs.Lists.{lists-≡}
-use Rattle.lent_lists.specs.Filled.{closedWeights}
-use Rattle.lent_lists.specs.Pasted.{FillRoom, spanOf, pastedAt}
+use Rattle.lent_list.specs.Filled.{closedWeights}
+use Rattle.lent_list.specs.Pasted.{FillRoom, spanOf, pastedAt}
 use Rattle.form_values.specs.declared.Part.the-variants.{Right}
 use lib.IntN.{ℤ}
 use Prim.Native.Nat.{ℕ}

@@ -35,8 +35,8 @@ use Rattle.form.proofs.Head as H
 use Rattle.form.proofs.Head.Laws as Head′
 use Rattle.form.proofs.Word.Laws as Word′
 use Rattle.form.specs.Reading.{reading}
-use Rattle.line.specs.Line.{ofReading}
-use Rattle.line.proofs.Line.Laws as Line′
+use Rattle.line_parts.specs.Line.{ofReading}
+use Rattle.line_parts.proofs.Line.Laws as Line′
 use Rattle.line.proofs.reader.LineReader.Laws as T′
 use Rattle.line.proofs.reader.LineReader.new.Symbol as new
 use Rattle.line.proofs.reader.LineReader.new.Met as new-met
@@ -54,10 +54,10 @@ use Rattle.line.proofs.after_space.Symbol as space
 use Rattle.line.proofs.after_space.Met as space-met
 use Rattle.line.proofs.after_bracket.Symbol as bracket
 use Rattle.line.proofs.after_bracket.Met as bracket-met
-use Rattle.line.proofs.last_at.Symbol as last
-use Rattle.line.proofs.last_at.Met as last-met
-use Rattle.line.proofs.decide.Symbol as decide
-use Rattle.line.proofs.decide.Met as decide-met
+use Rattle.line_parts.proofs.last_at.Symbol as last
+use Rattle.line_parts.proofs.last_at.Met as last-met
+use Rattle.line_parts.proofs.decide.Symbol as decide
+use Rattle.line_parts.proofs.decide.Met as decide-met
 use Rattle.line.proofs.read_short_line.Key.{name as #read-short-line}
 use Rattle.line.proofs.read_short_line as self
 use Rattle.line.proofs.read_short_line.Statement as stated
@@ -67,7 +67,7 @@ use Rattle.line.proofs.Data.{Fits, fits, typed, owned, head, number, li
 use Rattle.line.proofs.Held.{Bytes, reader}
 use Rattle.line.proofs.Steps.{var, part, copied, kept, over, gone}
 use Rattle.line.proofs.Walks.{first-own, asks, leaves, begins}
-use Rattle.line.proofs.Whole.{line-read}
+use Rattle.line_parts.proofs.Whole.{line-read}
 
 -- a part's place, and a head's word, have machine values where the part has one
 head-next : (h : Head) → Fits Head′.lowers h → h .next < 2 ^ 64
@@ -144,8 +144,8 @@ read-short-line-spec 𝓤 H 𝓜 𝓖 𝓡 =
       close = cited 𝓤 H _ 𝓜 𝓡 code.env close-of.name close-of.routine code.calls-line·reader·LineReader·close (close-met.met 𝓤 H 𝓜 𝓖 𝓡);
       space = cited 𝓤 H _ 𝓜 𝓡 code.env space.name space.routine code.calls-line·after-space (space-met.met 𝓤 H 𝓜 𝓖 𝓡);
       bracket = cited 𝓤 H _ 𝓜 𝓡 code.env bracket.name bracket.routine code.calls-line·after-bracket (bracket-met.met 𝓤 H 𝓜 𝓖 𝓡);
-      last = cited 𝓤 H _ 𝓜 𝓡 code.env last.name last.routine code.calls-line·last-at (last-met.met 𝓤 H 𝓜 𝓖 𝓡);
-      decide = cited 𝓤 H _ 𝓜 𝓡 code.env decide.name decide.routine code.calls-line·decide (decide-met.met 𝓤 H 𝓜 𝓖 𝓡);
+      last = cited 𝓤 H _ 𝓜 𝓡 code.env last.name last.routine code.calls-line-parts·last-at (last-met.met 𝓤 H 𝓜 𝓖 𝓡);
+      decide = cited 𝓤 H _ 𝓜 𝓡 code.env decide.name decide.routine code.calls-line-parts·decide (decide-met.met 𝓤 H 𝓜 𝓖 𝓡);
     } in
     entered 𝓤 H (Reads 𝓤 H (𝓖 .A) (𝓜 .mem) (𝓡 .run)) (𝓣 .C) (𝓣 .Λ) #read-short-line code.function (code.unfolded 𝓤 H 𝓜 𝓡)
     (begins 𝓤 H (𝓖 .A) self.ended (self.clauses 𝓤 H (𝓖 .A) (𝓜 .mem) (𝓡 .run)) (WpFn 𝓤 H (𝓣 .C) (𝓣 .Λ) code.function) (λ κs. (slice-vals, tt)) (λ κs. (shr-slice-tells (named 0) (κs .0) u8, tt))

@@ -2,10 +2,10 @@ use mathlib.Core.Path.{_≡_, sym, ap, _∙_}
 use Prim.Native.Nat.{ℕ, _+_, _*_, _≤_, _<_, _-_}
 use native.Mathlib.Omega.{arith}
 use Rattle.linear.specs.Slice.{at}
+use Rattle.linear.specs.Written.{written}
 use Rattle.linear.proofs.Places.{place, square}
 use Rattle.integer.proofs.Machine.{read}
-use Rattle.reckoning.specs.Arrays.{stored}
-use Rattle.reckoning.proofs.Filled.{stored-none, stored-more, stored-end}
+use Rattle.linear.proofs.Written.{written-none, written-more, written-end}
 use Rattle.lower_half.specs.Half.{halfPlace, halfCount}
 use Rattle.lower_half.proofs.Places.{place-lower, place-below, count-few}
 use borrow.Author.Needs.{needs}
@@ -14,7 +14,7 @@ use Rattle.lower_half.proofs.fill_row.Tie as tie
 
 abbrev Inv-loop : tie.InvT-loop
 Inv-loop out₀ to half from i n at-out₀ at-half₀ j₀ out at-out at-half j =
-    (j ≤ n) × ((at-out ≡ to + j * 1) × ((at-half ≡ halfPlace i j) × (out ≡ stored out₀ to 1 (λ (k : ℕ). at half (halfPlace i k)) j)))
+    (j ≤ n) × ((at-out ≡ to + j * 1) × ((at-half ≡ halfPlace i j) × (out ≡ written out₀ to 1 (λ (k : ℕ). at half (halfPlace i k)) j)))
 
 abbrev μ-loop : tie.MeasureT-loop
 μ-loop out₀ to half from i n at-out₀ at-half₀ j₀ out at-out at-half j = n - j
@@ -33,7 +33,7 @@ module _ (c : tie.In-loop Inv-loop μ-loop) where
       omega (arith, place (p .0 .1 .0) l, square (p .0 .0), p .1 .0, c .before .loop .inv .1 .0)
 
 loop-holds : tie.Need-loop-holds Inv-loop μ-loop
-loop-holds c = (omega arith, (omega arith, (c .pre .1 .1 ∙ sym (place-lower (omega arith)), sym (stored-none _ _ _ _))))
+loop-holds c = (omega arith, (omega arith, (c .pre .1 .1 ∙ sym (place-lower (omega arith)), sym (written-none _ _ _ _))))
 
 mul-out : tie.Need-mul-out Inv-loop μ-loop
 mul-out c = omega (arith, there c)
@@ -62,10 +62,10 @@ loop-less c = search needs
 loop-again : tie.Need-loop-again Inv-loop μ-loop
 loop-again c =
     let l = c .before .before .before .loop in
-    (omega arith, (omega arith, (c .next-place .ensures, stored-more _ _ _ _ (l .j) (l .inv .1 .1 .1) (l .inv .1 .0) (read _ (c .before .out .given) ∙ ap (at (c .before .before .before .before .args .half .now)) (l .inv .1 .1 .0)))))
+    (omega arith, (omega arith, (c .next-place .ensures, written-more _ _ _ _ (l .j) (l .inv .1 .1 .1) (l .inv .1 .0) (read _ (c .before .out .given) ∙ ap (at (c .before .before .before .before .args .half .now)) (l .inv .1 .1 .0)))))
 
 returns : tie.Need-returns Inv-loop μ-loop
-returns c = c .before .loop .inv .1 .1 .1 ∙ stored-end _ _ _ _ (c .before .loop .inv .0) (c .loop-test .left)
+returns c = c .before .loop .inv .1 .1 .1 ∙ written-end _ _ _ _ (c .before .loop .inv .0) (c .loop-test .left)
 
 pub fill-row-spec : {M : Type 1} → statement M
 fill-row-spec =

@@ -1,5 +1,4 @@
 use mathlib.Core.Path.{sym, _∙_}
-use native.Mathlib.Omega.{arith}
 use Rattle.ratios.proofs.Flat.{flat-none, flat-some}
 use borrow.Author.Needs.{needs}
 use Rattle.ratios.proofs.bounds_of.Statement.{statement}

@@ -1,4 +1,3 @@
-use mathlib.Core.Path.{ap}
 use Rattle.ratios.proofs.Flat.{cap-under}
 use Rattle.reckoning.proofs.Filled.{begins-none, begins-more, begins-end}
 use Rattle.reckoning.specs.Arrays.{Begins}
@@ -8,7 +7,7 @@ use Rattle.integer.specs.Finite.{largest}
 use lib.ListN.{getD, length, length-set}
 use lib.IntN.{natAbs}
 use native.Mathlib.Omega.{arith}
-use Prim.Native.Nat.{ℕ, _/_, _≤_, _<_, _-_}
+use Prim.Native.Nat.{ℕ, _/_, _≤_, _-_}
 use mathlib.Core.Path.{_≡_, refl}
 use borrow.Author.Needs.{needs}
 use Rattle.ratios.proofs.caps_of.Statement.{statement}

@@ -1,4 +1,3 @@
-use mathlib.Core.Bool.{false}
 use Rattle.integer.proofs.Search.{clash}
 use mathlib.Core.Path.{_≡_, sym, _∙_}
 use mathlib.Core.Bool.{true}

@@ -3,9 +3,9 @@ use Prim.Native.Nat.{_*_, _-_, _≤_}
 use native.Mathlib.Omega.{arith}
 use lib.ListN.{length}
 use Rattle.text.specs.Wrote.{Wrote}
-use Rattle.text.specs.Line.{each}
+use Rattle.listing_lines.specs.Line.{each}
 use Rattle.report.specs.Ready.{blockLine, mostOf}
-use Rattle.text.proofs.Each.{wrote-none, wrote-more, wrote-end, room}
+use Rattle.listing_lines.proofs.Each.{wrote-none, wrote-more, wrote-end, room}
 use borrow.Author.Needs.{needs}
 use Rattle.report.proofs.put_lines.Statement.{statement}
 use Rattle.report.proofs.put_lines.Tie as tie

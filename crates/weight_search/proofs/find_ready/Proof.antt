@@ -1,4 +1,3 @@
-use mathlib.Core.Path.{_≡_}
 use native.Mathlib.Omega.{arith}
 use Rattle.weight_sequence.specs.Request.{Request, request, searchProblem}
 use Rattle.weight_sequence.proofs.Contract.{FitRequest, fit-of, found-list, found-none}

@@ -5,14 +5,14 @@ use lib.IntN.{pos}
 use lib.ListN.{length, getD}
 use mir.Syntax.{w64}
 use mir.ValLaws.{toZ-pos}
-use Rattle.reckoning.specs.Arrays.{stored}
-use Rattle.reckoning.proofs.Filled.{stored-none, stored-more, stored-end, stored-length}
+use Rattle.linear.specs.Written.{written}
+use Rattle.linear.proofs.Written.{written-none, written-more, written-end, written-length}
 use borrow.Author.Needs.{needs}
 use Rattle.weight_search.proofs.write_weights.Statement.{statement}
 use Rattle.weight_search.proofs.write_weights.Tie as tie
 
 abbrev Inv-loop : tie.InvT-loop
-Inv-loop dst₀ n list i₀ dst i = (i ≤ n) × (dst ≡ stored dst₀ 0 1 (λ (k : ℕ). pos (getD list k 0)) i)
+Inv-loop dst₀ n list i₀ dst i = (i ≤ n) × (dst ≡ written dst₀ 0 1 (λ (k : ℕ). pos (getD list k 0)) i)
 
 abbrev μ-loop : tie.MeasureT-loop
 μ-loop dst₀ n list i₀ dst i = n - i
@@ -22,10 +22,10 @@ module _ (c : tie.In-loop Inv-loop μ-loop) where
   light = c .before .before .pre .1 .each _ (c .loop-test .taken)
 
   same : length (c .before .loop .dst) ≡ length (c .before .before .args .dst .now)
-  same = ap length (c .before .loop .inv .1) ∙ stored-length _ _ _ _ (c .before .loop .i)
+  same = ap length (c .before .loop .inv .1) ∙ written-length _ _ _ _ (c .before .loop .i)
 
 loop-holds : tie.Need-loop-holds Inv-loop μ-loop
-loop-holds c = (omega arith, sym (stored-none _ _ _ _))
+loop-holds c = (omega arith, sym (written-none _ _ _ _))
 
 mul-dst : tie.Need-mul-dst Inv-loop μ-loop
 mul-dst c = search needs
@@ -51,13 +51,13 @@ loop-less c = search needs
 loop-again : tie.Need-loop-again Inv-loop μ-loop
 loop-again c =
     let l = c .before .loop in
-    (omega arith, stored-more _ _ _ _ (l .i) (l .inv .1) (omega arith) (toZ-pos w64 _ (omega (arith, light c))))
+    (omega arith, written-more _ _ _ _ (l .i) (l .inv .1) (omega arith) (toZ-pos w64 _ (omega (arith, light c))))
 
 same-length : tie.Need-same-length Inv-loop μ-loop
-same-length c = ap length (c .before .loop .inv .1) ∙ stored-length _ _ _ _ (c .before .loop .i)
+same-length c = ap length (c .before .loop .inv .1) ∙ written-length _ _ _ _ (c .before .loop .i)
 
 returns : tie.Need-returns Inv-loop μ-loop
-returns c = c .before .loop .inv .1 ∙ stored-end _ _ _ _ (c .before .loop .inv .0) (c .loop-test .left)
+returns c = c .before .loop .inv .1 ∙ written-end _ _ _ _ (c .before .loop .inv .0) (c .loop-test .left)
 
 pub write-weights-spec : {M : Type 1} → statement M
 write-weights-spec =

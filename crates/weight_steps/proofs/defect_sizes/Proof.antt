@@ -1,5 +1,4 @@
 use mathlib.Core.Path.{_≡_, refl, _∙_}
-use mathlib.Core.List.{[]}
 use Prim.Native.Nat.{_^_, ℕ, _*_, _/_, _%_, _≤_, _<_, _-_}
 use native.Mathlib.Omega.{arith}
 use lib.Dec.{lit≤}
@@ -35,7 +34,7 @@ module _ (c : tie.In-loop Inv-loop μ-loop) where
       let i = c .before .loop .i in
       let l = in-square (a .n) i (c .loop-test .taken) in
       c .before .before .inverse-residuals-of .ensures .each i (c .loop-test .taken)
-      ∙ residual-of-rows (a .n) (a .t) (a .inverse .now) [] (c .before .before .before .before .before .raise-rows .ensures) (i / a .n) (i % a .n) (l .0) (l .1)
+      ∙ residual-of-rows (a .n) (a .t) (a .inverse .now) (c .before .before .before .before .before .raise-rows .ensures) (i / a .n) (i % a .n) (l .0) (l .1)
 
   residual-here : natAbs (getD (c .before .before .inverse-residuals-of .result) (c .before .loop .i) (pos 0)) < 2 ^ 63
   residual-here =

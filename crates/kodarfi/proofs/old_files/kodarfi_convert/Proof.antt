@@ -1,5 +1,5 @@
 use Rattle.old_edition.specs.Converted.{saidConverted}
-use Rattle.kodarfi.proofs.Told.{told-alone}
+use Rattle.reply.proofs.Told.{told-alone}
 use borrow.Author.Needs.{needs}
 use Rattle.kodarfi.proofs.old_files.kodarfi_convert.Statement.{statement}
 use Rattle.kodarfi.proofs.old_files.kodarfi_convert.Tie as tie

@@ -1,6 +1,6 @@
 use lib.ListN.{drop}
 use Rattle.dependent.specs.Order.{saidNets}
-use Rattle.kodarfi.proofs.Told.{told-alone}
+use Rattle.reply.proofs.Told.{told-alone}
 use borrow.Author.Needs.{needs}
 use Rattle.kodarfi.proofs.two_nets.kodarfi_check_dependent.Statement.{statement}
 use Rattle.kodarfi.proofs.two_nets.kodarfi_check_dependent.Tie as tie

@@ -1,6 +1,6 @@
 use Rattle.common.specs.Answer.{saidCommon}
 use Rattle.common_reply.specs.Numbers.{refusalOf}
-use Rattle.kodarfi.proofs.Told.{told-alone}
+use Rattle.reply.proofs.Told.{told-alone}
 use borrow.Author.Needs.{needs}
 use Rattle.kodarfi.proofs.two_proposals.kodarfi_common.Statement.{statement}
 use Rattle.kodarfi.proofs.two_proposals.kodarfi_common.Tie as tie

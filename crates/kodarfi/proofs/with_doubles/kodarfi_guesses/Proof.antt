@@ -1,5 +1,5 @@
 use Rattle.exchange.specs.Inward.{saidGuessed}
-use Rattle.kodarfi.proofs.Told.{told-alone}
+use Rattle.reply.proofs.Told.{told-alone}
 use borrow.Author.Needs.{needs}
 use Rattle.kodarfi.proofs.with_doubles.kodarfi_guesses.Statement.{statement}
 use Rattle.kodarfi.proofs.with_doubles.kodarfi_guesses.Tie as tie

@@ -38,9 +38,9 @@ use Rattle.form.specs.declared.Word.{Word}
 use Rattle.form.proofs.Head.Laws as Head′
 use Rattle.form.proofs.Listed.Laws as Listed′
 use Rattle.form.proofs.Word.Laws as Word′
-use Rattle.line.specs.Parts.{kindOf, lastIn, decided}
+use Rattle.line_parts.specs.Parts.{kindOf, lastIn, decided}
 use Rattle.line.specs.declared.reader.LineReader.{LineReader}
-use Rattle.line.proofs.Line.Laws as Line′
+use Rattle.line_parts.proofs.Line.Laws as Line′
 use Rattle.line.proofs.reader.LineReader.Laws as T′
 use Rattle.line.proofs.reader.LineReader.new as new
 use Rattle.line.proofs.reader.LineReader.new.Symbol.{name as #new}
@@ -58,10 +58,10 @@ use Rattle.line.proofs.after_space as space
 use Rattle.line.proofs.after_space.Symbol.{name as #space}
 use Rattle.line.proofs.after_bracket as bracket
 use Rattle.line.proofs.after_bracket.Symbol.{name as #bracket}
-use Rattle.line.proofs.last_at as last
-use Rattle.line.proofs.last_at.Symbol.{name as #last}
-use Rattle.line.proofs.decide as decide
-use Rattle.line.proofs.decide.Symbol.{name as #decide}
+use Rattle.line_parts.proofs.last_at as last
+use Rattle.line_parts.proofs.last_at.Symbol.{name as #last}
+use Rattle.line_parts.proofs.decide as decide
+use Rattle.line_parts.proofs.decide.Symbol.{name as #decide}
 use Rattle.line.proofs.Data.{Fits, is-low, owned, place, word, head, number, listed}
 use Rattle.line.proofs.Held.{first, Bytes, Reader, reader, reader-of}
 use Rattle.line.proofs.Walks.{Told, answers, replies}

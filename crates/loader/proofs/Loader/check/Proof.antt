@@ -1,4 +1,4 @@
-use mathlib.Core.Path.{_≡_, sym, _∙_}
+use mathlib.Core.Path.{sym, _∙_}
 use Rattle.checked.specs.Input.{Input, input}
 use Rattle.loader_order.proofs.Through.{through-ended, through-open}
 use borrow.Author.Needs.{needs}

@@ -1,12 +1,7 @@
-use mathlib.Core.Path.{_≡_, sym, subst, _∙_}
-use mathlib.Core.Bool.{false}
+use mathlib.Core.Path.{sym, _∙_}
 use Prim.Native.Nat.{_<_}
 use native.Mathlib.Omega.{arith}
 use Rattle.numeral.specs.Numeral.{capAt}
-use Rattle.lent_lists.specs.Lists.{Lists}
-use Rattle.given_forms.specs.Progress.{ended}
-use Rattle.loader.specs.declared.Decided.{Decided}
-use Rattle.loader.specs.Decided.{DecidedFor}
 use Rattle.loader.proofs.Line.{decided-short, decided-ended, decided-unread, decided-form}
 use borrow.Author.Needs.{needs}
 use Rattle.loader.proofs.Loader.decide.Statement.{statement}

@@ -29,13 +29,13 @@ use Rattle.form.proofs.Word as W′
 use Rattle.form.proofs.Word.Laws as Word′
 use Rattle.form.proofs.Listed.Laws as Listed′
 use Rattle.line.specs.declared.reader.LineReader.{LineReader}
-use Rattle.line.specs.Parts.{kindOf}
+use Rattle.line_parts.specs.Parts.{kindOf}
 use Rattle.line.proofs.reader.LineReader as T
 use Rattle.line.proofs.reader.LineReader.Laws as T′
-use Rattle.line.proofs.reader.list_at as core
-use Rattle.line.proofs.reader.list_at.Symbol as core-def
-use Rattle.line.proofs.reader.list_at.Symbol.{name as #list-at}
-use Rattle.line.proofs.reader.list_at.Met as core-met
+use Rattle.line_parts.proofs.list_at as core
+use Rattle.line_parts.proofs.list_at.Symbol as core-def
+use Rattle.line_parts.proofs.list_at.Symbol.{name as #list-at}
+use Rattle.line_parts.proofs.list_at.Met as core-met
 use Rattle.line.proofs.reader.LineReader.list.Key.{name as #list}
 use Rattle.line.proofs.reader.LineReader.list as self
 use Rattle.line.proofs.reader.LineReader.list.Statement as stated
@@ -98,4 +98,4 @@ list-spec 𝓤 H 𝓜 𝓖 𝓡 =
     (begins 𝓤 H (𝓖 .A) self.ended (self.clauses 𝓤 H (𝓖 .A) (𝓜 .mem) (𝓡 .run)) (WpFn 𝓤 H (𝓣 .C) (𝓣 .Λ) code.function)
     (λ κs. ((λ d. T′.lowered d ∷ []), ((λ w. Word′.lowered w ∷ []), tt))) (λ κs. (T′.lowers (first (κs .0)) .val-is, (Word′.lowers .val-is, tt)))
     (λ κs qs b a g are. walk 𝓤 H (𝓖 .A) (𝓜 .mem) (𝓡 .run) W (𝓣 .C) (𝓣 .Λ) (fmOf 𝓤 H (W .laws) (tablesOf 𝓤 H 𝓜 𝓣))
-    (cited 𝓤 H (Core 𝓤 H (𝓖 .A) (𝓜 .mem) (𝓡 .run)) 𝓜 𝓡 code.env #list-at core-def.routine code.calls-line·reader·list-at (core-met.met 𝓤 H 𝓜 𝓖 𝓡)) (κs .0) (qs .0) (a .0) (a .1 .0) (are .0) (are .1 .0)))
+    (cited 𝓤 H (Core 𝓤 H (𝓖 .A) (𝓜 .mem) (𝓡 .run)) 𝓜 𝓡 code.env #list-at core-def.routine code.calls-line-parts·list-at (core-met.met 𝓤 H 𝓜 𝓖 𝓡)) (κs .0) (qs .0) (a .0) (a .1 .0) (are .0) (are .1 .0)))

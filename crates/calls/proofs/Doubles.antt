@@ -1,0 +1,52 @@
+-- The exported calls of 02's Paper 11, in its words.
+--   guesses-told — the number and the values are those of the order of tests, 8, 3, 19
+--   zero-nearest — 0 is said of accepted doubles alone: each of the first n guesses is the nearest to its double, halves away from zero
+--   ends-told    — the number and the values are those of the order of tests, 8, 3
+--   zero-ends, zero-outward — 0 is said of ends that were written alone: each pair is the largest double not above and the smallest not below
+--   zero-between — and where a check of the same n, s and guesses gave these limits and 0 as well, every exact solution of every
+--     right side within tolerance lies between the ends
+use mathlib.Core.List.{List, []}
+use mathlib.Core.Path.{_≡_, sym, _∙_}
+use Prim.Native.Nat.{ℕ, _<_}
+use lib.IntN.{ℤ}
+use lib.ListN.{getD}
+use lib.Ieee.{Float}
+use Rattle.linear.specs.Matrix.{Vec}
+use Rattle.linear.specs.Slice.{at}
+use Rattle.enclosure.specs.Demand.{RightSide, ExactSolutionOf}
+use Rattle.checked.specs.Input.{Input, problem}
+use Rattle.doubles.specs.Guess.{Nearest}
+use Rattle.interval.specs.Interval.{Outward}
+use Rattle.rules.specs.Refusal.{said}
+use Rattle.exchange.specs.Lists.{doubleAt}
+use Rattle.exchange.specs.Inward.{Incoming, inwardAnswer}
+use Rattle.exchange.specs.Outward.{Outgoing, outgoing, endsIn, outwardAnswer}
+use Rattle.exchange.specs.Hands.{AllBetween}
+use Rattle.exchange.proofs.Enclosed.{checked-between}
+use Rattle.exchange.proofs.Inward.{zero-accepted}
+use Rattle.reply.specs.Told.{Told}
+use Rattle.calls.specs.Exported.{CheckExported}
+use Rattle.calls.specs.Doubles.{GuessesExported, IntervalsExported}
+use Rattle.calls.proofs.Meaning.{zero-said}
+
+module _ {I : Incoming} {number : ℕ} {places : List ℕ} {guess : List ℤ} (x : GuessesExported I number places guess) where
+  pub guesses-told : Told (inwardAnswer I) number places
+  guesses-told = rw (x .guessed .says) at (x .told)
+
+  pub zero-nearest : number ≡ 0 → (i : ℕ) → i < I .n → Nearest (I .s) (doubleAt (I .values) i) (at guess i)
+  zero-nearest e = x .guessed .nearest (x .guessed .says ∙ zero-accepted I (sym (guesses-told .number-is) ∙ e))
+
+module _ {I : Outgoing} {number : ℕ} {places : List ℕ} {low high : List Float} (x : IntervalsExported I number places low high) where
+  pub ends-told : Told (outwardAnswer I) number places
+  ends-told = rw (x .ends .says) at (x .told)
+
+  pub zero-ends : number ≡ 0 → said (x .outcome) ≡ []
+  zero-ends e = zero-said (x .outcome) (sym (x .told .number-is) ∙ e)
+
+  pub zero-outward : number ≡ 0 → (i : ℕ) → i < I .n → Outward (I .s) (at (I .guess) i) (getD (I .bounds) i 0) (endsIn low high i)
+  zero-outward e = x .ends .outward (zero-ends e)
+
+module _ {J : Input} {number′ : ℕ} {places′ E L : List ℕ} (k : CheckExported J number′ places′ E L) {low₀ high₀ : List Float} {number : ℕ} {places : List ℕ} {low high : List Float}
+    (x : IntervalsExported (outgoing (J .n) (J .s) (J .guess) E low₀ high₀) number places low high) where
+  pub zero-between : number′ ≡ 0 → number ≡ 0 → (β : Vec) (ρ : ℕ) → RightSide (problem J) β ρ → (N : Vec) (q : ℕ) → ExactSolutionOf (problem J) β ρ N q → AllBetween (J .n) low high N q
+  zero-between e f = checked-between J (k .checked) (zero-said (k .outcome) (sym (k .told .number-is) ∙ e)) (x .ends) (zero-ends x f)

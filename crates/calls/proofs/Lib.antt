@@ -1,0 +1,9 @@
+pub mod Meaning
+pub mod Covered
+pub mod Weights
+pub mod Build
+pub mod Doubles
+pub mod Half
+pub mod TwoNets
+pub mod TwoProposals
+pub mod Conversion

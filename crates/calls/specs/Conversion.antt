@@ -1,0 +1,16 @@
+-- What the exported converter says and leaves.
+--   ConvertExported — the contract of `kodarfi_convert`: the number and the count of an answer that `ConvertedAs`, the contract of `converter::convert`, holds
+--                     of, with the buffer as there; the new file's length where it is written, and what was there before where the call is refused
+use mathlib.Core.List.{List}
+use mathlib.Core.Path.{_≡_}
+use Prim.Native.Nat.{ℕ}
+use Rattle.rules.specs.Order.{ifAccepted}
+use Rattle.old_edition.specs.declared.Converted.{Converted}
+use Rattle.old_edition.specs.Converted.{saidConverted, lengthOf, ConvertedAs}
+use Rattle.reply.specs.Told.{Told}
+
+pub record ConvertExported (file old : List ℕ) (oldWritten number : ℕ) (places new : List ℕ) (written : ℕ) : Type 0 where
+  pub answer : Converted
+  pub converted : ConvertedAs file old new answer
+  pub told : Told (saidConverted answer) number places
+  pub written-is : written ≡ ifAccepted (saidConverted answer) (lengthOf answer) oldWritten

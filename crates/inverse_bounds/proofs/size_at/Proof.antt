@@ -1,0 +1,47 @@
+use Prim.Native.Nat.{_<_}
+use native.Mathlib.Omega.{arith}
+use Rattle.integer.proofs.Machine.{read}
+use Rattle.linear.proofs.Places.{place, square}
+use Rattle.raised_rows.proofs.Lowering.{row-dot-size}
+use Rattle.inverse_bounds.proofs.Mirrored.{known-across}
+use Rattle.inverse_bounds.proofs.size_at.Statement.{statement}
+use Rattle.inverse_bounds.proofs.size_at.Tie as tie
+
+inside : (s : tie.Start) → s .args .across < 1024
+inside s = omega (arith, s .pre .1 .0 .0 .is, place (s .pre .0 .1 .0) (s .pre .0 .1 .1 .0), square (s .pre .0 .0))
+
+mul-result : tie.Need-mul-result
+mul-result c = omega (arith, inside (c .before .before .before))
+
+element-copy-out-result : tie.Need-element-copy-out-result
+element-copy-out-result c = omega (arith, inside (c .before .before .before))
+
+returns : tie.Need-returns
+returns c =
+    let p = c .before .before .before .before .pre in
+    known-across (c .before .if1 .taken) (p .0 .1 .1 .1) (p .0 .1 .1 .0) (p .1 .0 .0) (p .1 .1 .1 .0) (p .1 .1 .1 .1 (c .before .if1 .taken))
+
+row-dot-requires : tie.Need-row-dot-requires
+row-dot-requires c κs =
+    let s = c .before .before .before in
+    let p = s .pre in (p .0 .0, (p .1 .0 .1, (p .1 .1 .0 .0 .each (s .args .m) (p .0 .1 .0), p .1 .1 .0 .1)))
+
+magnitude-requires : tie.Need-magnitude-requires
+magnitude-requires c κs =
+    let s = c .before .before .before .before in
+    let p = s .pre in
+    rw (read _ (c .row-dot .ok), c .row-dot .ensures) (omega (arith, row-dot-size (p .0 .0) (p .1 .1 .0 .0 .each (s .args .m) (p .0 .1 .0) .small) (p .1 .1 .0 .1 .small)))
+
+returns-2 : tie.Need-returns-2
+returns-2 c = rw (read _ (c .before .row-dot .ok), c .before .row-dot .ensures) at (c .magnitude .ensures)
+
+pub size-at-spec : {M : Type 1} → statement M
+size-at-spec =
+    tie.close
+    (tie.spec
+    mul-result
+    element-copy-out-result
+    returns
+    row-dot-requires
+    magnitude-requires
+    returns-2)

@@ -1,9 +1,0 @@
-pub mod Told
-pub mod Exported
-pub mod Weights
-pub mod Build
-pub mod Doubles
-pub mod Half
-pub mod TwoNets
-pub mod TwoProposals
-pub mod Conversion

@@ -1,0 +1,52 @@
+// What a call says, as numbers for other languages: 01's number and its two places.
+ghost use mathlib.Core.Path.{_≡_};
+ghost use mathlib.Core.List.{[], _∷_};
+ghost use lib.ListN.{getD};
+ghost use Rattle.rules.specs.Refusal.{said, numberOf};
+ghost use Rattle.refusal.specs.Refused.{printed};
+ghost use Rattle.refusal.specs.Reply.{replyOf};
+ghost use Rattle.observation.specs.Order.{saidBuilt};
+use observation::Built;
+use refusal::Reply;
+use refusal::no_refusal;
+use refusal::reply_of;
+use rules::Outcome;
+use rules::Refusal;
+
+// What an outcome says; a refusal that gives its number alone leaves both places 0.
+pub fn outcome_reply(outcome: Outcome) -> Reply
+    ensures { λ r. ⌜ r ≡ replyOf (printed 0 (said outcome)) ⌝ }
+{
+    match outcome {
+        Outcome::Accepted => no_refusal(),
+        Outcome::Refused(refusal) => reply_of(refusal, 0),
+    }
+}
+
+// Writes the two places of a reply; gives its number.
+pub fn tell(reply: Reply, places: &mut [u64; 2]) -> u32
+    ensures { λ r. ⌜ (r ≡ reply .number) × (now (places .exit) ≡ reply .first ∷ reply .second ∷ []) ⌝ }
+{
+    *places = [reply.first, reply.second];
+    reply.number
+}
+
+// The number of a refusal.
+fn refused_number(refusal: Refusal) -> u32
+    ensures { λ r. ⌜ r ≡ numberOf refusal ⌝ }
+{
+    let told = reply_of(refusal, 0);
+    told.number
+}
+
+// The number of what is said of field lines, 0 where the equations are built.
+pub fn built_number(built: Built) -> u32
+    ensures { λ r. ⌜ r ≡ getD (saidBuilt built) 0 0 ⌝ }
+{
+    match built {
+        Built::Done => 0,
+        Built::Refused(refusal) => refused_number(refusal),
+        Built::SameMark => 16,
+        Built::OtherContents => 17,
+    }
+}
