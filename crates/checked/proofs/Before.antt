@@ -1,9 +1,11 @@
 -- Paper 5 moves nothing where all tolerances are 0 and their list is long enough: what is said, and both limit lists, are document 01's (specs/Before).
 --   checked-before — what is said of a problem
+--   written-before — a list that numbers were written into
 --   no-tolerance   — of a check on lists
 use mathlib.Core.Path.{_≡_, refl}
 use mathlib.Core.Bool.{true}
-use Prim.Native.Nat.{ℕ, _*_, _/_, _%_, _≤_}
+use mathlib.Core.List.{List}
+use Prim.Native.Nat.{ℕ, zero, suc, _+_, _*_, _/_, _%_, _≤_}
 use native.Mathlib.Omega.{arith}
 use borrow.Author.Tests.{le-ltb}
 use lib.IntN.{pos}
@@ -11,6 +13,7 @@ use lib.ListN.{length}
 use Rattle.integer.proofs.Absolute.{abs-zero}
 use Rattle.integer.proofs.Search.{first-ext}
 use Rattle.linear.specs.Slice.{at}
+use Rattle.linear.specs.Written.{written}
 use Rattle.linear.proofs.Written.{written-ext}
 use Rattle.rules.specs.Range.{inRange, allInRange, rangeOf, ranges}
 use Rattle.rules.specs.declared.Kind.the-variants as kind
@@ -20,7 +23,7 @@ use Rattle.enclosure.specs.Demand.{NoTolerance}
 use Rattle.enclosure.specs.Problem.{Problem, columnOf}
 use Rattle.enclosure.specs.Reckoning.{residual, bound, inverseBound}
 use Rattle.enclosure.proofs.Before.{exceeds-before, column-exceeds-before, bound-before, inverse-bound-before}
-use Rattle.checked.specs.Before.{firstResidual05, firstInversePlace05, checkedOf05, answer05, solutionAfter05, inverseAfter05, short01, inRanges01, firstResidual01, firstInversePlace01, checkedOf01, answer01, solutionAfter01, inverseAfter01, Unmoved}
+use Rattle.checked.specs.Before.{firstResidual05, firstInversePlace05, checkedOf05, answer05, solutionAfter05, inverseAfter05, short01, inRanges01, firstResidual01, firstInversePlace01, checkedOf01, answer01, written01, solutionAfter01, inverseAfter01, Unmoved}
 use Rattle.checked.specs.Input.{Input, problem, short, inRanges}
 
 module _ (P : Problem) where
@@ -35,6 +38,11 @@ module _ (P : Problem) where
 
     pub checked-before : checkedOf05 P ≡ checkedOf01 P
     checked-before = rw (residual-before, place-before)
+
+pub written-before : (n : ℕ) (f : ℕ → ℕ) (l : List ℕ) → written l 0 1 f n ≡ written01 n f l
+unfolding written written01
+written-before zero f l = refl
+written-before (suc n) f l = let e : 0 + n * 1 ≡ n = omega arith in rw (e, written-before n f l)
 
 -- a tolerance of 0 is in its range
 zero-in : inRange kind.Tolerance (pos 0) ≡ true
@@ -59,10 +67,15 @@ module _ (I : Input) (long : 32 ≤ length (I .tolerance)) (none : NoTolerance (
   unfolding solutionAfter05 solutionAfter01 inverseAfter05 inverseAfter01
   no-tolerance = record {
     says = answer-before;
-    solution = rw (answer-before, written-ext (I .solutionBounds) 0 1 (bound (problem I)) (bound01 (problem I)) (I .n) (λ k l. bound-before (problem I) none k));
+    solution = rw (
+      answer-before,
+      written-ext (I .solutionBounds) 0 1 (bound (problem I)) (bound01 (problem I)) (I .n) (λ k l. bound-before (problem I) none k),
+      written-before (I .n) (bound01 (problem I)) (I .solutionBounds),
+    );
     inverse = rw (
       answer-before,
       written-ext (I .inverseBounds) 0 1 (λ (k : ℕ). inverseBound (problem I) (k / I .n) (k % I .n)) (λ (k : ℕ). inverseBound01 (problem I) (k / I .n) (k % I .n)) (I .n * I .n)
           (λ k l. inverse-bound-before (problem I) (k / I .n) (k % I .n)),
+      written-before (I .n * I .n) (λ (k : ℕ). inverseBound01 (problem I) (k / I .n) (k % I .n)) (I .inverseBounds),
     );
   }

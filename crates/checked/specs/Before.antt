@@ -7,16 +7,15 @@
 --   short01, inRanges01 — 8 and 3 of five lists of numbers
 --   firstResidual01, firstInversePlace01 — the lowest row, the lowest column and its lowest row, of a residual above 2^25 in size
 --   reckonedOf01 P, checkedOf01 P, answer01 I — the tests, and what is said
---   solutionAfter01 I, inverseAfter01 I — the two limit lists after a check
+--   written01 n f l — l with f 0, .., f (n − 1) at its first n places, the rest as before;  solutionAfter01 I, inverseAfter01 I — the two limit lists after a check
 --   Unmoved I — what Paper 5 says of an input and the two lists afterwards are 01's
 use mathlib.Core.Bool.{Bool, not, _&&_, _||_}
 use mathlib.Core.List.{List, _∷_}
 use mathlib.Core.Path.{_≡_}
-use Prim.Native.Nat.{ℕ, _*_, _/_, _%_}
-use lib.ListN.{length}
+use Prim.Native.Nat.{ℕ, zero, suc, _*_, _/_, _%_}
+use lib.ListN.{length, set}
 use Rattle.integer.specs.Finite.{first}
 use Rattle.linear.specs.Slice.{at}
-use Rattle.linear.specs.Written.{written}
 use Rattle.rules.specs.Order.{Test, number, verdict, ifAccepted}
 use Rattle.rules.specs.Range.{allInRange, shortMatrix, shortColumn}
 use Rattle.rules.specs.declared.Kind.the-variants as kind
@@ -79,12 +78,16 @@ checkedOf01 P = verdict (reckonedOf01 P)
 unfoldable pub answer01 : Input → List ℕ
 answer01 I = verdict (number 8 (short01 I) ∷ number 3 (not (inRanges01 I)) ∷ reckonedOf01 (problem I))
 
+unfoldable pub written01 : ℕ → (ℕ → ℕ) → List ℕ → List ℕ
+written01 zero f l = l
+written01 (suc n) f l = set (written01 n f l) n (f n)
+
 unfoldable pub solutionAfter01 : Input → List ℕ
-solutionAfter01 I = ifAccepted (answer01 I) (written (I .solutionBounds) 0 1 (bound01 (problem I)) (I .n)) (I .solutionBounds)
+solutionAfter01 I = ifAccepted (answer01 I) (written01 (I .n) (bound01 (problem I)) (I .solutionBounds)) (I .solutionBounds)
 
 unfoldable pub inverseAfter01 : Input → List ℕ
 inverseAfter01 I =
-    ifAccepted (answer01 I) (written (I .inverseBounds) 0 1 (λ (k : ℕ). inverseBound01 (problem I) (k / I .n) (k % I .n)) (I .n * I .n))
+    ifAccepted (answer01 I) (written01 (I .n * I .n) (λ (k : ℕ). inverseBound01 (problem I) (k / I .n) (k % I .n)) (I .inverseBounds))
     (I .inverseBounds)
 
 pub record Unmoved (I : Input) : Type 0 where

@@ -2,18 +2,16 @@
 --   Rooms n x l    — every list has room for the item x
 --   writtenTo s vs — the numbers whose first are for the list s
 --   pastedAll n x vs l — all lists after the item x
---   closed n z x l — all lists after an end has filled in the weights that are not in the set z: the others stay as they are
 use mathlib.Core.List.{List}
 use Prim.Native.Nat.{ℕ}
 use lib.IntN.{ℤ}
 use lib.ListN.{length}
 use Rattle.form_values.specs.declared.Item.{Item}
 use Rattle.form_values.specs.declared.Part.the-variants.{Row, Right, Guess, Inverse, Weight}
-use Rattle.lent_list.specs.Filled.{closedWeights}
 use Rattle.lent_list.specs.Pasted.{Room, FillRoom, spanOf, pastedAt, secondOf}
 use Rattle.lent_lists.specs.Slot as slot
 use Rattle.lent_lists.specs.Slot.{Slot}
-use Rattle.lent_lists.specs.Lists.{Lists, lists}
+use Rattle.lent_lists.specs.Lists.{Lists}
 
 pub record Rooms (n : ℕ) (x : Item) (l : Lists) : Type 0 where
   pub matrix : Room n (length (l .matrix)) x
@@ -41,6 +39,3 @@ pastedAll n x vs l = record {
   inverse = pastedAt (spanOf Inverse x n) vs (l .inverse);
   weights = pastedAt (spanOf Weight x 1) vs (l .weights);
 }
-
-abbrev pub closed : ℕ → ℕ → Item → Lists → Lists
-closed n z x l = lists (l .matrix) (l .right) (l .tolerance) (l .guess) (l .inverse) (closedWeights n z x (l .weights))

@@ -2,6 +2,7 @@
 -- lists"). Row i of an n-wide matrix starts at (i − 1)·n.
 --   putItem s n x vs l — the list l of the slot s after the item x with the values vs; `sets l k vs` is l with vs from the place k on
 --   put s n f l  — that list after the form f, at a loader of size n;  putAll n f l — all lists
+--   closed n z x l — all lists after the item x, where z is the set of the weights that were given: an end fills in the others, and every other list stays as it is
 use mathlib.Core.Bool.{cond}
 use mathlib.Core.List.{List}
 use Prim.Native.Nat.{ℕ, _*_, _-_}
@@ -12,8 +13,9 @@ use Rattle.form.specs.Form.{Form}
 use Rattle.form_values.specs.Item.{itemOf, partIndex}
 use Rattle.form_values.specs.declared.Item.{Item}
 use Rattle.form_values.specs.declared.Item.the-variants.{Problem, Scale, Of, End}
+use Rattle.lent_list.specs.Filled.{closedWeights}
 use Rattle.lent_lists.specs.Slot.{Slot, Matrix, Right, Tolerance, Guess, Inverse, Weight, partOf, width, valuesFor}
-use Rattle.lent_lists.specs.Lists.{Lists}
+use Rattle.lent_lists.specs.Lists.{Lists, lists}
 
 abbrev pub putItem : Slot → ℕ → Item → List ℤ → List ℤ → List ℤ
 putItem s n (Problem m) vs l = l
@@ -33,3 +35,6 @@ putAll n f l = record {
   inverse = put Inverse n f (l .inverse);
   weights = put Weight n f (l .weights);
 }
+
+abbrev pub closed : ℕ → ℕ → Item → Lists → Lists
+closed n z x l = lists (l .matrix) (l .right) (l .tolerance) (l .guess) (l .inverse) (closedWeights n z x (l .weights))

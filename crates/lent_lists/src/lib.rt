@@ -1,7 +1,8 @@
 // The six lent lists: whether one is too short, and what a form writes into them.
 ghost use mathlib.Core.Path.{_≡_};
 ghost use Rattle.lent_lists.specs.Lists.{lists, tooShort};
-ghost use Rattle.lent_lists.specs.Pasted.{Rooms, pastedAll, closed};
+ghost use Rattle.lent_lists.specs.Pasted.{Rooms, pastedAll};
+ghost use Rattle.lent_lists.specs.Put.{closed};
 use form_values::Item;
 use form_values::Part;
 use lent_list::fill_weights;

@@ -20,8 +20,7 @@ use Rattle.form_values.specs.declared.Part.the-variants as part
 use Rattle.form_values.proofs.Capped.{part-same}
 use Rattle.lent_lists.specs.Slot.{Slot, Matrix, Right, Tolerance, Guess, Inverse, Weight, partOf, width, valuesFor}
 use Rattle.lent_lists.specs.Lists.{Lists, listOf, shortLists}
-use Rattle.lent_lists.specs.Put.{putAll}
-use Rattle.lent_lists.specs.Pasted.{closed}
+use Rattle.lent_lists.specs.Put.{putAll, closed}
 use Rattle.lent_lists.proofs.Lists.{long}
 use Rattle.form_values.proofs.Between.{between}
 use Rattle.given_forms.specs.Progress.{setOf, given, sized, scaled, ended}

@@ -19,8 +19,7 @@ use Rattle.form_values.proofs.Capped.{part-same}
 use Rattle.form_values.specs.declared.Part.{Part}
 use Rattle.form_values.specs.declared.Part.the-variants as part
 use Rattle.lent_lists.specs.Slot.{Slot, Weight, partOf, valuesFor}
-use Rattle.lent_lists.specs.Put.{putAll}
-use Rattle.lent_lists.specs.Pasted.{closed}
+use Rattle.lent_lists.specs.Put.{putAll, closed}
 use Rattle.lent_lists.proofs.Lists.{long}
 use Rattle.given_forms.specs.Progress.{setOf, given, marked, ended}
 use Rattle.given_forms.proofs.Progress.{late, placed-of}

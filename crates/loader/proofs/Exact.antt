@@ -26,7 +26,8 @@ use Rattle.form_values.specs.declared.Part.the-variants.{Row, Right, Guess, Inv
 use Rattle.form_values.proofs.Capped.{placed-capped, outside-capped, miscounted-capped, item-exact}
 use Rattle.form_values.proofs.Between.{between}
 use Rattle.lent_lists.specs.Lists.{Lists, shortLists}
-use Rattle.lent_lists.specs.Pasted.{closed, Rooms, pastedAll}
+use Rattle.lent_lists.specs.Pasted.{Rooms, pastedAll}
+use Rattle.lent_lists.specs.Put.{closed}
 use Rattle.lent_list.specs.Pasted.{Narrow}
 use Rattle.lent_lists.proofs.Lists.{rooms}
 use Rattle.lent_lists.proofs.Exact.{all-exact}

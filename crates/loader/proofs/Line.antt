@@ -25,7 +25,8 @@ use Rattle.form.specs.declared.Numbers.{Numbers}
 use Rattle.form_values.specs.Capped.{itemIn}
 use Rattle.form_values.specs.declared.Part.the-variants.{Weight}
 use Rattle.lent_lists.specs.Lists.{Lists, shortLists}
-use Rattle.lent_lists.specs.Pasted.{closed, pastedAll}
+use Rattle.lent_lists.specs.Pasted.{pastedAll}
+use Rattle.lent_lists.specs.Put.{closed}
 use Rattle.lent_lists.proofs.Lists.{nothing-pasted}
 use Rattle.given_forms.specs.Progress.{setOf, ended}
 use Rattle.loader.specs.declared.Decided.{Decided}

@@ -27,7 +27,8 @@ use Rattle.form_values.specs.declared.Item.{Item}
 use Rattle.form_values.specs.declared.Item.the-variants.{Problem, Scale, Of, End}
 use Rattle.form_values.specs.declared.Part.the-variants.{Weight}
 use Rattle.lent_lists.specs.Lists.{Lists, shortLists}
-use Rattle.lent_lists.specs.Pasted.{closed, Rooms, pastedAll}
+use Rattle.lent_lists.specs.Pasted.{Rooms, pastedAll}
+use Rattle.lent_lists.specs.Put.{closed}
 use Rattle.given_forms.specs.Progress.{setOf, missing, early, misplaced, repeated, incomplete}
 use Rattle.loader_order.specs.Order.{LineCase, lineOrder}
 use Rattle.loader.specs.declared.Decided.{Decided}

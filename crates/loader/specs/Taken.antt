@@ -19,8 +19,7 @@ use Rattle.form_values.specs.declared.Item.{Item}
 use Rattle.form_values.specs.declared.Item.the-variants.{Problem, Scale, Of, End}
 use Rattle.form_values.specs.declared.Part.the-variants.{Weight}
 use Rattle.lent_lists.specs.Lists.{Lists}
-use Rattle.lent_lists.specs.Put.{putAll}
-use Rattle.lent_lists.specs.Pasted.{closed}
+use Rattle.lent_lists.specs.Put.{putAll, closed}
 use Rattle.given_forms.specs.Progress.{setOf, marked}
 use Rattle.given_forms.specs.declared.Stage.the-variants.{Start, Sized, Scaled, Ended}
 use Rattle.loader.specs.declared.Loader.{Loader}
