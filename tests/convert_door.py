@@ -79,12 +79,12 @@ class Room:
         path.chmod(0o755)
 
     def run(self, *words, text=b""):
-        done = subprocess.run(["./convert", *words], cwd=self.folder, input=text, capture_output=True, timeout=60, check=False)
+        done = subprocess.run(["./convert", *words], cwd=self.folder, input=text, capture_output=True, timeout=600, check=False)
         return done.returncode, done.stdout, done.stderr
 
     def alone(self, **options):
         """The program by itself, without the script."""
-        return subprocess.run([str(self.folder / "target/bin/convert")], stderr=subprocess.PIPE, timeout=60, check=False, **options)
+        return subprocess.run([str(self.folder / "target/bin/convert")], stderr=subprocess.PIPE, timeout=600, check=False, **options)
 
 
 def long_input(room):
@@ -95,7 +95,7 @@ def long_input(room):
         with subprocess.Popen(["cat"], stdin=file, stdout=subprocess.PIPE) as writer:
             done = room.alone(stdin=writer.stdout, stdout=subprocess.PIPE)
             writer.stdout.close()
-            return (done.stdout, writer.wait(timeout=60)) == (b"(refused 14 (14))\n", 0)
+            return (done.stdout, writer.wait(timeout=600)) == (b"(refused 14 (14))\n", 0)
 
 
 def unread_input(room):

@@ -44,7 +44,6 @@ WRONG = {
     "another status in the manual": ("docs/register.1", "\naccepted\n", "\ngood\n", words.manual_has_the_help),
     "another status in README": ("README.md", "      1   refused", "      3   refused", words.readme_has_the_help),
     "a digit more in README": ("README.md", "| together | ", "| together | 1", words.readme_counts_lines),
-    "another kit in README": ("README.md", "kit `", "kit `a", words.readme_names_the_kit),
     "listings of equal names": (BATCH, "to=$listings/$1", "to=$listings/${1##*/}", batches.keeps_folders),
     "a name's end is lost": (BATCH, "xargs -0 -n 1", "tr '\\0' '\\n' | xargs -n 1", batches.keeps_folders),
     "an empty listing for a failure": (BATCH, "[ $? -gt 1 ] || place", "place", batches.program_that_dies_is_2),
