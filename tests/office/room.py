@@ -17,6 +17,7 @@ PATIENCE = 600
 RT = """#!/bin/sh
 [ "$1" = version ] && { echo kit-of-the-tests; exit; }
 echo "$*" >>calls
+echo "$TMPDIR" >folder
 mkdir building || echo "two at once" >>calls
 cat >/dev/null
 sleep 0.2
@@ -63,9 +64,9 @@ class Room:
         os.chmod(self.outside.name, 0o755)
         self.root = Path(self.outside.name) / "the repository"
         self.root.mkdir()
-        for name in ("register", "batch", "crates.txt", "README.md"):
+        for name in ("register", "convert", "batch", "crates.txt", "README.md"):
             shutil.copy(ROOT / name, self.root)
-        for name in ("docs", "examples", "crates/register/src"):
+        for name in ("docs", "examples", "scripts", "crates/register/src"):
             shutil.copytree(ROOT / name, self.root / name)
         for name, old, new in edits:
             text = (self.root / name).read_text()
@@ -132,9 +133,9 @@ class Room:
             options["stdin"] = subprocess.PIPE
         return ended(self.start(*arguments, **options), text)
 
-    def shell(self, command):
+    def shell(self, command, rt=True):
         """The same of a command of bash, which may close what it likes."""
-        return ended(self.started(["bash", "-c", command], True, {}))
+        return ended(self.started(["bash", "-c", command], rt, {}))
 
 
 def ended(process, text=None):

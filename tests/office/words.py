@@ -117,7 +117,7 @@ def manual_has_the_help(room):
     """Every paragraph and every option of the help, word for word."""
     manual = re.sub(r"\\f[BIR]", "", (room.root / "docs/register.1").read_text())
     manual = " ".join(re.sub(r"(?m)^\.\S+ ?", "", manual).replace("\\-", "-").split())
-    text = re.sub(r"(?m)^(usage:)? +(register|--|\d )", r"\n\n\2", help_text(room)).replace("usage: ", "").replace("Exit status:", "")
+    text = re.sub(r"(?m)^(usage:)? +(register|--|-h|\d )", r"\n\n\2", help_text(room)).replace("usage: ", "").replace("Exit status:", "")
     paragraphs = [" ".join(paragraph.split()) for paragraph in text.split("\n\n")]
     return len(paragraphs) > 8 and all(paragraph in manual for paragraph in paragraphs)
 
