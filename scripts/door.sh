@@ -174,8 +174,8 @@ show_progress() {
 # Builds the program, one at a time: whoever waited for the lock looks again. It gets the time at which its building
 # began, so that a source that was changed meanwhile is newer, and the lowest time where the building failed.
 build() {
-  local reason=$1 began from memory
-  command -v rt >/dev/null 2>&1 || fail "$reason, and the tool 'rt' that builds it is missing"
+  local reason=$1 began from
+  command -v rt >/dev/null 2>&1 || fail "$reason, and the tool 'rt' that builds it is missing$([ ! -x "$program" ] || echo '; with KODARFI_AS_BUILT=1 in the environment it is taken as it was built')"
   mkdir -p "$here/target" 2>/dev/null
   [ -w "$here/target" ] || fail "$reason, and there is no right to write to $here/target"
   exec 3<"$here/crates.txt"
