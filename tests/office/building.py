@@ -2,6 +2,7 @@
 
 import fcntl
 import os
+import shutil
 import subprocess
 import time
 
@@ -145,6 +146,8 @@ def rt_has_its_files_in_memory(room):
         status = room.shell(f"TMPDIR=/var/tmp ./register {REFUSED}")[0]
         folder = (room.root / "folder").read_text().strip()
         found.append((status, folder.startswith("/dev/shm/"), folder == "/var/tmp", os.path.exists(folder)))
+        if folder.startswith("/dev/shm/tmp."):
+            shutil.rmtree(folder, ignore_errors=True)
         if size == 9_000:
             room.write("broken", "")
     return found == [(1, can, not can, not can), (1, False, True, True), (2, can, not can, not can)]
