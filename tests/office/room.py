@@ -124,6 +124,7 @@ class Room:
     def started(self, command, rt, options):
         settings = {"cwd": self.root, "stdin": subprocess.DEVNULL, "stdout": subprocess.PIPE, "stderr": subprocess.PIPE} | options
         environment = os.environ | {"PATH": self.with_rt if rt else self.without_rt, "LC_ALL": "C"}
+        environment.pop("KODARFI_AS_BUILT", None)
         default = lambda: signal.signal(signal.SIGPIPE, signal.SIG_DFL)
         return subprocess.Popen(command, env=environment, preexec_fn=default, start_new_session=True, **settings)
 
