@@ -186,7 +186,7 @@ build() {
   reason=$(reason_to_build)
   if [ -n "$reason" ]; then
     echo "$me: $reason: building it, which takes some minutes" >&2
-    began=$(date +%s.%N) from=$(commit) memory=$(memory_folder 1)
+    began=$(date +%s.%N) from=$(commit) memory=$(memory_folder 2)
     trap '[ -z "$memory" ] || rm -rf "$memory"' EXIT
     if ! (set -o pipefail; cd "$here" && TMPDIR=${memory:-${TMPDIR:-/tmp}} rt check "$me" </dev/null 3<&- | show_progress); then
       touch -d @0 "$program" 2>/dev/null
