@@ -60,6 +60,7 @@ class Room:
     """`edits` are triples of a file, a text in it and another text for it."""
 
     def __init__(self, edits=()):
+        os.umask(0o022)
         self.outside = tempfile.TemporaryDirectory(dir=open_folder())
         os.chmod(self.outside.name, 0o755)
         self.root = Path(self.outside.name) / "the repository"
@@ -74,6 +75,7 @@ class Room:
                 raise ValueError(f"{name} has no text {old!r}")
             (self.root / name).write_text(text.replace(old, new))
         for place in self.root.rglob("*"):
+            place.chmod(place.stat().st_mode | (0o555 if place.is_dir() or os.access(place, os.X_OK) else 0o444))
             os.utime(place, (LONG_AGO, LONG_AGO))
         (self.root / "target" / "bin").mkdir(parents=True)
         shutil.copy(PROGRAM, self.root / "program")
