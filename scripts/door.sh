@@ -1,4 +1,4 @@
-# What ./register and ./convert share, as functions: what is said where nothing can be done, the words of a call, the file that is read, the program with
+# What ./register, ./convert and ./batch share, as functions: what is said where nothing can be done, the words of a call, the file that is read, the program with
 # its version, and its building. A script sets `me`, the name of itself and of its program, and `here`, its folder, and calls `lay_out`.
 # The gate takes memory_folder, commit and note_version from here.
 

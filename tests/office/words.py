@@ -155,6 +155,16 @@ def clerk_is_told_the_same(room):
     return entered and CLERKS_PART in text and note in text and note in (room.root / "docs/FORMAT.md").read_text()
 
 
+def dropped_tolerance_gives_smaller_limits(room):
+    """CLERK's example of what an edit by a clerk does: without its last right side the file is accepted with limits of 1, without the first one with 5."""
+    lines = (room.root / "examples/refused/12-tolerance-added.txt").read_bytes().splitlines(keepends=True)
+    limits = []
+    for place in (6, 4):
+        listing = room.run(text=b"".join(lines[:place] + lines[place + 1 :]))[1].decode()
+        limits.append(re.findall(r"\(solution \d+ \(\d+ (\d+)\)\)", listing))
+    return limits == [["1", "1"], ["5", "5"]] and "accepted with limits of 1, where 5 was meant" in (room.root / "docs/CLERK.md").read_text()
+
+
 def explains_an_accepted_file(room):
     """With a tolerance and without, or with tolerances of 0, which is said."""
     words, tolerant = explained(room, room.root / WHOLE), explained(room, room.root / "examples/tolerance.txt")
@@ -222,6 +232,7 @@ def count_lines(path):
 
 
 TESTS = (
-    examples_give_their_lines, every_example_is_told, format_has_the_table, explains_every_example, names_the_very_fault, field_comes_first, clerk_is_told_the_same, explains_an_accepted_file, explains_what_is_read_once,
+    examples_give_their_lines, every_example_is_told, format_has_the_table, explains_every_example, names_the_very_fault, field_comes_first, clerk_is_told_the_same, dropped_tolerance_gives_smaller_limits,
+    explains_an_accepted_file, explains_what_is_read_once,
     quotes_no_control_bytes, quotes_a_long_line_in_part, names_many_missing_forms_in_part, readme_has_the_help, manual_has_the_help, readme_counts_lines,
 )

@@ -58,7 +58,7 @@ WRONG = {
     "all forms are expected": (EXPLAIN, "word in is_word ? spelled(word) :", "word in is_word ? must :", words.names_the_very_fault),
     "a range reaches one too far": (EXPLAIN, "text + 0 < low[letter]", "text + 1 < low[letter]", words.names_the_very_fault),
     "the number before is named": (EXPLAIN, '"number " (k - 2)', '"number " (k - 3)', words.names_the_very_fault),
-    "two that differ are the same": (EXPLAIN, 'if (here[k] != part[k]) return before "differ"', "", words.names_the_very_fault),
+    "two that differ are the same": (EXPLAIN, "meaning(old) == meaning(text) ?", "1 ?", words.names_the_very_fault),
     "a clerk is told to correct": (EXPLAIN, "enter nothing, change nothing in the file, and send it", "correct the file, and send it", words.names_the_very_fault),
     "tolerances of 0 are tolerances": (EXPLAIN, "part[4] + 0 > 0", "part[4] + 0 >= 0", words.explains_an_accepted_file),
     "a better guess before the field": ("docs/refusals.tsv", "first compare rows and right sides with the field, since a wrong sign", "better numbers, since a wrong sign", words.field_comes_first),
