@@ -1,6 +1,6 @@
 # What ./register, ./convert and ./batch share, as functions: what is said where nothing can be done, the words of a call, the file that is read, the program with
 # its version, and its building. A script sets `me`, the name of itself and of its program, and `here`, its folder, and calls `lay_out`.
-# The gate takes memory_folder, commit and note_version from here.
+# The gate takes memory_folder, open_folder, commit and note_version from here.
 
 unwritten='standard output could not be written'
 
@@ -86,6 +86,18 @@ memory_folder() {
   else
     rm -rf "$folder"
   fi
+}
+
+# Prints $TMPDIR where every user can pass through it, else /tmp: what root's rt has built, it runs as nobody.
+open_folder() {
+  local folder
+  folder=$(readlink -f -- "${TMPDIR:-/tmp}")
+  while [[ $(stat -c %a -- "$folder" 2>/dev/null) == *[1357] ]]; do
+    [ "$folder" != / ] || { echo "${TMPDIR:-/tmp}"; return; }
+    folder=${folder%/*}
+    folder=${folder:-/}
+  done
+  echo /tmp
 }
 
 # The commit that is checked out here, with -dirty where a source is not the commit's; unknown where this is no clone or there is no git.
@@ -188,7 +200,7 @@ build() {
     echo "$me: $reason: building it, which takes some minutes" >&2
     began=$(date +%s.%N) from=$(commit) memory=$(memory_folder 2)
     trap '[ -z "$memory" ] || rm -rf "$memory"' EXIT
-    if ! (set -o pipefail; cd "$here" && TMPDIR=${memory:-${TMPDIR:-/tmp}} rt check "$me" </dev/null 3<&- | show_progress); then
+    if ! (set -o pipefail; cd "$here" && TMPDIR=${memory:-$(open_folder)} rt check "$me" </dev/null 3<&- | show_progress); then
       touch -d @0 "$program" 2>/dev/null
       fail "$reason, and building it failed: 'rt check $me' in $here tells more"
     fi

@@ -136,21 +136,24 @@ def as_built_is_told(room):
 
 
 def rt_has_its_files_in_memory(room):
-    """Where there is room, by a stand-in for df, and a folder from which programs run; it is gone afterwards, after a failure too. Else they are where they were."""
+    """Where there is room, by a stand-in for df, and a folder from which programs run; it is gone afterwards, after a failure too.
+    Else they are where they were, unless no other user can pass through that folder, whom rt of root needs."""
     can = room.shell("f=$(mktemp -p /dev/shm) && echo '#!/bin/sh' >$f && chmod 700 $f && $f; s=$?; rm -f $f; exit $s")[0] == 0
     found = []
-    for size in (9_000_000, 9_000, 9_000_000):
+    (room.root / "closed").mkdir(mode=0o700)
+    for size, place in ((9_000_000, "/var/tmp"), (9_000, "$PWD/closed"), (9_000, "/var/tmp"), (9_000_000, "/var/tmp")):
         room.write("with-rt/df", f"#!/bin/sh\necho head\necho shm 1 1 {size}\n").chmod(0o755)
         older_program(room)
         (room.root / "folder").unlink(missing_ok=True)
-        status = room.shell(f"TMPDIR=/var/tmp ./register {REFUSED}")[0]
+        status = room.shell(f"TMPDIR={place} ./register {REFUSED}")[0]
         folder = (room.root / "folder").read_text().strip()
-        found.append((status, folder.startswith("/dev/shm/"), folder == "/var/tmp", os.path.exists(folder)))
+        found.append((status, folder if folder in ("/tmp", "/var/tmp") else folder[:9], os.path.exists(folder)))
         if folder.startswith("/dev/shm/tmp."):
             shutil.rmtree(folder, ignore_errors=True)
-        if size == 9_000:
+        if (size, place) == (9_000, "/var/tmp"):
             room.write("broken", "")
-    return found == [(1, can, not can, not can), (1, False, True, True), (2, can, not can, not can)]
+    memory = ("/dev/shm/", False) if can else ("/var/tmp", True)
+    return found == [(1, *memory), (1, "/tmp", True), (1, "/var/tmp", True), (2, *memory)]
 
 
 def old_program_without_rt_is_2(room):

@@ -51,6 +51,7 @@ WRONG = {
     "as built in silence": (SHARED, '[ "$KODARFI_AS_BUILT" = silent ] ||', "true ||", building.as_built_is_told),
     "the folder in memory stays after a failure": (SHARED, """trap '[ -z "$memory" ] || rm -rf "$memory"' EXIT""", ":", building.rt_has_its_files_in_memory),
     "rt's temporary files on disk": (SHARED, "memory=$(memory_folder 2)", "memory=", building.rt_has_its_files_in_memory),
+    "rt's temporary files where nobody may pass": (SHARED, "  echo /tmp\n", '  echo "$TMPDIR"\n', building.rt_has_its_files_in_memory),
     "no room is asked for": (SHARED, '[ "${room:-0}" -ge', '[ -n "${room:-0}" ] || [ "${room:-0}" -ge', building.rt_has_its_files_in_memory),
     "the folder in memory stays": (SHARED, 'rm -rf "$memory"', "true", building.rt_has_its_files_in_memory),
     "the line after is quoted": (EXPLAIN, "lines == first)", "lines == first + 1)", words.names_the_very_fault),
