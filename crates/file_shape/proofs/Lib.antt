@@ -12,3 +12,4 @@ pub mod Orders
 pub mod Once
 pub mod Chosen
 pub mod Unweighted
+pub mod Missing

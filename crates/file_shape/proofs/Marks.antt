@@ -72,7 +72,7 @@ times-most Guess h = omega arith
 times-most Inverse h = omega arith
 times-most Weight h = omega arith
 
-mark-one : (b : Bool) → _≡_ {A = ℕ} (cond b 1 0) 1 → b ≡ true
+pub mark-one : (b : Bool) → _≡_ {A = ℕ} (cond b 1 0) 1 → b ≡ true
 mark-one true e = refl
 mark-one false e = absurd (omega arith)
 
