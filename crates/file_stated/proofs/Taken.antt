@@ -20,7 +20,7 @@ use Rattle.line_runs.specs.Run.{State, step, run, Accepts, Made, taken}
 use Rattle.line_runs.proofs.Read.{read-accepted}
 use Rattle.line_stated.specs.Stated.{LineStated}
 use Rattle.line_stated.proofs.Stated.{made-exactly}
-use Rattle.file_stated.specs.Stated.{afterForm, Taken, none, next}
+use Rattle.file_stated.specs.Stated.{afterForm, TakenLines, none, next}
 
 -- ---- a line
 module _ (u : State) where
@@ -49,21 +49,21 @@ runs-next : (u v : State) (f : Form) (lines : List (List ℕ)) → lineAnswer (u
 unfolding run
 runs-next u v f lines e r = let x = subst (λ (w : State). Runs w lines v) (sym (spelled-step u f e)) r in ((e, x .0), x .1)
 
-pub taken-runs : {u v : State} {lines : List (List ℕ)} → Made (u .loader) → Taken u lines v → Runs u lines v
+pub taken-runs : {u v : State} {lines : List (List ℕ)} → Made (u .loader) → TakenLines u lines v → Runs u lines v
 taken-runs m none = (tt, unfold run in refl)
 taken-runs {u} {v} m (next f lines s t) =
     let e = made-exactly (u .loader) (u .lists) (spell f) m [] .1 s in
     runs-next u v f lines e (taken-runs (subst (λ (w : State). Made (w .loader)) (spelled-step u f e) (taken m (u .lists) (spell f))) t)
 
-pub runs-taken : (u : State) (lines : List (List ℕ)) → Made (u .loader) → Accepts u lines → Taken u lines (run u lines)
+pub runs-taken : (u : State) (lines : List (List ℕ)) → Made (u .loader) → Accepts u lines → TakenLines u lines (run u lines)
 unfolding run
 runs-taken u [] m a = none
 runs-taken u (line ∷ lines) m a =
     let x = form-step u line (a .0) in
     let s = made-exactly (u .loader) (u .lists) line m [] .0 (a .0) in
     let t = runs-taken (step u line) lines (taken m (u .lists) line) (a .1) in
-    subst (λ (b : List ℕ). Taken u (b ∷ lines) (run (step u line) lines)) (sym (x .1 .0))
-    (next (x .0) lines (subst (λ (b : List ℕ). LineStated (u .loader) (u .lists) b []) (x .1 .0) s) (subst (λ (v : State). Taken v lines (run (step u line) lines)) (x .1 .1) t))
+    subst (λ (b : List ℕ). TakenLines u (b ∷ lines) (run (step u line) lines)) (sym (x .1 .0))
+    (next (x .0) lines (subst (λ (b : List ℕ). LineStated (u .loader) (u .lists) b []) (x .1 .0) s) (subst (λ (v : State). TakenLines v lines (run (step u line) lines)) (x .1 .1) t))
 
 -- ---- the first that is refused
 pub data Split (u : State) (lines : List (List ℕ)) : Type 0 where

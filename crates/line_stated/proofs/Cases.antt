@@ -1,5 +1,5 @@
 -- The statements on lines are not empty: the table of specs/Cases, computed line by line, and cases at lists that are too short and at a loader with its own n out of range.
---   CasesSaid, cases-said, alike, stated-cases, cases-stated — what is said of each line of the table, and that it has its stated case
+--   RowsSaid, rows-said, alike, stated-rows, rows-stated — what is said of each line of the table, and that it has its stated case
 --   short-stated — 8;  forged-row, forged-blank — 3 for a form with its i in 1 to n; 2 as at any loader
 use mathlib.Core.Path.{_≡_, refl, _∙_}
 use mathlib.Core.Bool.{true, false}
@@ -19,21 +19,21 @@ use Rattle.loader.specs.declared.Loader.{Loader}
 use Rattle.loader.specs.Answer.{lineAnswer}
 use Rattle.loader.specs.Taken.{fresh}
 use Rattle.line_runs.specs.Read.{zeros}
-use Rattle.line_stated.specs.Cases.{LineCase, given, lineCases, CasesStated, shortOnes, forged}
+use Rattle.line_stated.specs.Cases.{LineRow, afterForms, lineRows, RowsStated, shortOnes, forged}
 use Rattle.line_stated.specs.Stated.{LineStated, too-short, OwnSize, OtherStated}
-use Rattle.line_stated.proofs.Stated.{exactly, other-exactly}
+use Rattle.line_stated.proofs.Stated.{line-exactly, other-exactly}
 
-abbrev CasesSaid : List LineCase → Type 0
-CasesSaid [] = Unit
-CasesSaid (c ∷ cs) = (OwnSize (given fresh (c .before)) × (lineAnswer (given fresh (c .before)) zeros (c .line) ≡ c .says)) × CasesSaid cs
+abbrev RowsSaid : List LineRow → Type 0
+RowsSaid [] = Unit
+RowsSaid (c ∷ cs) = (OwnSize (afterForms fresh (c .before)) × (lineAnswer (afterForms fresh (c .before)) zeros (c .line) ≡ c .says)) × RowsSaid cs
 
 -- a new loader has no n yet
 at-first : OwnSize fresh
 at-first e = clash false e refl
 
-cases-said : CasesSaid lineCases
+rows-said : RowsSaid lineRows
 unfolding lineAnswer zeros reading starts wordAt orWord firstOf headAt othersAt runAt sizeAt numberAt missing misplaced withPlace lacking allInside sumℕ inRange rangeOf ranges
-cases-said =
+rows-said =
     let own : true ≡ true → true ≡ true = λ e. e in (
       (own, refl),
       (
@@ -73,14 +73,14 @@ module _ (l : Lists) (enough : shortLists l ≡ false) where
   unfolding lineAnswer
   alike d line = let z : shortLists zeros ≡ false = unfold zeros in refl in rw (enough, z)
 
-  stated-cases : (cs : List LineCase) → CasesSaid cs → CasesStated l cs
-  stated-cases [] h = tt
-  stated-cases (c ∷ cs) h =
-      let d = given fresh (c .before) in
-      (exactly d l (c .line) (h .0 .0) (c .says) .0 (alike d (c .line) ∙ h .0 .1), stated-cases cs (h .1))
+  stated-rows : (cs : List LineRow) → RowsSaid cs → RowsStated l cs
+  stated-rows [] h = tt
+  stated-rows (c ∷ cs) h =
+      let d = afterForms fresh (c .before) in
+      (line-exactly d l (c .line) (h .0 .0) (c .says) .0 (alike d (c .line) ∙ h .0 .1), stated-rows cs (h .1))
 
-  pub cases-stated : CasesStated l lineCases
-  cases-stated = stated-cases lineCases cases-said
+  pub rows-stated : RowsStated l lineRows
+  rows-stated = stated-rows lineRows rows-said
 
   forged-stated : {line w : List ℕ} → lineAnswer forged zeros line ≡ w → OtherStated forged l line w
   unfolding inRange rangeOf ranges

@@ -1,7 +1,7 @@
 -- In its stated case a refusal is said (specs/Stated).
 --   reads-as   — a line that spells a form reads as it
 --   own-placed — where the loader's own n is in range the test of the place asks whether i is 1 to n, and nothing else;  Placing — so it asks of the line
---   said-form, said-early, unread, said-2, said-place, said-again, said-new — what is said, by the tests
+--   said-form, said-early, unread, said-2, said-place, said-again, said-first — what is said, by the tests
 --   said-by    — what is stated for a line is said of it
 use mathlib.Core.Path.{_≡_, refl, ap, _∙_}
 use mathlib.Core.Bool.{Bool, true, false, not}
@@ -22,7 +22,7 @@ use Rattle.loader_order.specs.Order.{lineOrder}
 use Rattle.loader.specs.declared.Loader.{Loader}
 use Rattle.loader.specs.Answer.{lineAnswer}
 use Rattle.loader.proofs.Exact.{formCase, formSaid, answer-form}
-use Rattle.line_stated.specs.Stated.{OwnSize, Formed, New, LineStated, too-short, after-end, too-long, no-form, too-early, i-outside, again, value-outside, wrong-count, forms-missing, accepted}
+use Rattle.line_stated.specs.Stated.{OwnSize, Formed, Unrepeated, LineStated, too-short, after-end, too-long, no-form, too-early, i-outside, again, value-outside, wrong-count, forms-missing, accepted}
 
 pub reads-as : {line : List ℕ} {f : Form} → line ≡ spell f → reading line ≡ some f
 reads-as {line} {f} e = ap reading e ∙ read-spelled f
@@ -65,8 +65,8 @@ module _ (d : Loader) (l : Lists) (line : List ℕ) where
     said-again {f} h t p r = said-form h ∙ unfold formSaid in rw (t, placing f h t, p, r)
 
     -- the tests after that of repetition
-    said-new : {f : Form} → New d l line f → lineAnswer d l line ≡ verdict (drop 7 (lineOrder (formCase d f)))
-    said-new {f} h = said-form (h .formed) ∙ unfold formSaid in rw (h .timely, placing f (h .formed) (h .timely), h .place, h .first)
+    said-first : {f : Form} → Unrepeated d l line f → lineAnswer d l line ≡ verdict (drop 7 (lineOrder (formCase d f)))
+    said-first {f} h = said-form (h .formed) ∙ unfold formSaid in rw (h .timely, placing f (h .formed) (h .timely), h .place, h .first)
 
     pub said-by : {w : List ℕ} → LineStated d l line w → lineAnswer d l line ≡ w
     said-by (too-short a) = unfold lineAnswer in rw a
@@ -76,7 +76,7 @@ module _ (d : Loader) (l : Lists) (line : List ℕ) where
     said-by (too-early f h e) = said-early h e
     said-by (i-outside f h t p) = said-place h t p
     said-by (again f h t p r) = said-again h t p r
-    said-by (value-outside f h o) = said-new h ∙ rw o
-    said-by (wrong-count f h o m) = said-new h ∙ rw (o, m)
-    said-by (forms-missing f h o m c) = said-new h ∙ rw (o, m, c)
-    said-by (accepted f h o m c) = said-new h ∙ rw (o, m, c)
+    said-by (value-outside f h o) = said-first h ∙ rw o
+    said-by (wrong-count f h o m) = said-first h ∙ rw (o, m)
+    said-by (forms-missing f h o m c) = said-first h ∙ rw (o, m, c)
+    said-by (accepted f h o m c) = said-first h ∙ rw (o, m, c)

@@ -1,8 +1,8 @@
 -- Each refusal of a line is said exactly in its stated case (specs/Stated).
 --   Reached, reached — a line is refused with 8, 14, 1, 2 or 11, or it is a form in time
 --   in-time, some-stated, some-other — so there is a stated case of every line, at every loader
---   exactly       — what is said is what is stated, at a loader whose own n is in range;  made-exactly — so it is at every loader made by `new` and `take`
---   other-exactly — and at any other loader
+--   said-stated, line-exactly — what is said is what is stated, at a loader whose own n is in range;  made-exactly — so it is at every loader made by `new` and `take`
+--   said-own, said-other, other-exactly — and at any other loader
 use mathlib.Core.Path.{_≡_, refl, sym, ap, subst, _∙_}
 use mathlib.Core.Bool.{Bool, true, false}
 use mathlib.Core.List.{List, [], _∷_}
@@ -96,11 +96,11 @@ module _ (d : Loader) (l : Lists) (line : List ℕ) where
   said-stated : OwnSize d → {w : List ℕ} → LineStated d l line w → lineAnswer d l line ≡ w
   said-stated own s = said-by d l line (λ f h t. own-placed d own (itemOf f)) s
 
-  pub exactly : OwnSize d → (w : List ℕ) → (lineAnswer d l line ≡ w) ↔ LineStated d l line w
-  exactly own w = let s = some-stated in (λ e. subst (LineStated d l line) (sym (said-stated own (s .1)) ∙ e) (s .1), said-stated own)
+  pub line-exactly : OwnSize d → (w : List ℕ) → (lineAnswer d l line ≡ w) ↔ LineStated d l line w
+  line-exactly own w = let s = some-stated in (λ e. subst (LineStated d l line) (sym (said-stated own (s .1)) ∙ e) (s .1), said-stated own)
 
   pub made-exactly : Made d → (w : List ℕ) → (lineAnswer d l line ≡ w) ↔ LineStated d l line w
-  made-exactly m = exactly (made-size m)
+  made-exactly m = line-exactly (made-size m)
 
   -- ---- any other loader
   module _ (given : sized (d .stage) ≡ true) (out : inRange Size (pos (d .n)) ≡ false) where

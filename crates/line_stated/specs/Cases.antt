@@ -1,10 +1,10 @@
 -- Lines and what is said of them: each refusal of a line has one, some with a later refusal that holds too.
---   LineCase     — forms that a new loader was given; a line; what is said of it then
---   given d fs   — the loader d after the forms fs
---   twoEquations — problem, scale and row 1 of two equations;  oneEquation — all of one equation, with its end
---   lineCases    — such lines, and what is said of them
---   CasesStated  — with whatever lists that are long enough, what is said has its stated case
---   shortOnes    — lists that are too short;  forged — a loader that `new` and `take` never make, its own n out of range
+--   LineRow         — forms that a new loader was given; a line; what is said of it then
+--   afterForms d fs — the loader d after the forms fs
+--   twoEquations    — problem, scale and row 1 of two equations;  oneEquation — all of one equation, with its end
+--   lineRows        — such lines, and what is said of them
+--   RowsStated      — with whatever lists that are long enough, what is said has its stated case
+--   shortOnes       — lists that are too short;  forged — a loader that `new` and `take` never make, its own n out of range
 use mathlib.Core.List.{List, [], _∷_}
 use Prim.Native.Nat.{ℕ}
 use lib.IntN.{ℤ, pos, negsuc}
@@ -17,14 +17,14 @@ use Rattle.loader.specs.declared.Loader.{Loader}
 use Rattle.loader.specs.Taken.{fresh, after}
 use Rattle.line_stated.specs.Stated.{LineStated}
 
-pub record LineCase : Type 0 where
+pub record LineRow : Type 0 where
   pub before : List Form
   pub line : List ℕ
   pub says : List ℕ
 
-abbrev pub given : Loader → List Form → Loader
-given d [] = d
-given d (f ∷ fs) = given (after d (itemOf f)) fs
+abbrev pub afterForms : Loader → List Form → Loader
+afterForms d [] = d
+afterForms d (f ∷ fs) = afterForms (after d (itemOf f)) fs
 
 abbrev pub twoEquations : List Form
 twoEquations = problem (pos 2) ∷ scale (pos 4) (pos 4) ∷ row (pos 1) (pos 4) (negsuc 0 ∷ []) ∷ []
@@ -32,8 +32,8 @@ twoEquations = problem (pos 2) ∷ scale (pos 4) (pos 4) ∷ row (pos 1) (pos 4)
 abbrev pub oneEquation : List Form
 oneEquation = problem (pos 1) ∷ scale (pos 4) (pos 4) ∷ row (pos 1) (pos 4) [] ∷ right (pos 1) (pos 0) ∷ guess (pos 1) (pos 0) ∷ inverse (pos 1) (pos 4) [] ∷ end ∷ []
 
-abbrev pub lineCases : List LineCase
-lineCases =
+abbrev pub lineRows : List LineRow
+lineRows =
     -- 14, be it too long as well
     record { before = oneEquation; line = bytes "(end)"; says = 14 ∷ [] }
     ∷ record { before = oneEquation; line = replicate 321 40; says = 14 ∷ [] }
@@ -63,9 +63,9 @@ lineCases =
     ∷ record { before = twoEquations; line = bytes "(row 2 (-1 3))"; says = [] }
     ∷ []
 
-abbrev pub CasesStated : Lists → List LineCase → Type 0
-CasesStated l [] = Unit
-CasesStated l (c ∷ cs) = LineStated (given fresh (c .before)) l (c .line) (c .says) × CasesStated l cs
+abbrev pub RowsStated : Lists → List LineRow → Type 0
+RowsStated l [] = Unit
+RowsStated l (c ∷ cs) = LineStated (afterForms fresh (c .before)) l (c .line) (c .says) × RowsStated l cs
 
 abbrev pub shortOnes : Lists
 shortOnes = let none : List ℤ = [] in lists none none none none none none

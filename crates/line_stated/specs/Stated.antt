@@ -1,8 +1,8 @@
 -- What is said of a line at a loader, each refusal written out in the order 8, 14, 1, 2, 11, 3 for i, 12, 3 for values, 4, 13 (02, Paper 6): each case holds
 -- only where no earlier one does. Nothing here reads a line: that it is one of the eight forms, spelled exactly, is line ≡ spell f.
---   OwnSize d    — once problem was given, the loader's own n is in its range; so it is at every loader that `new` and `take` make
---   Formed d l line f — the line is the form f; neither 8, 14, 1 nor 2
---   New d l line f    — and it comes neither too early nor with an i out of range nor a second time; nor 11, 3 for i and 12
+--   OwnSize d              — once problem was given, the loader's own n is in its range; so it is at every loader that `new` and `take` make
+--   Formed d l line f      — the line is the form f: none of 8, 14, 1 and 2
+--   Unrepeated d l line f  — and it comes neither too early, nor with its i out of range, nor a second time: none of 11, 3 for i and 12 either
 --   LineStated d l line w  — the case that is stated for w, at a loader d with its own n in range
 --   OtherStated d l line w — the same at any other loader: every form is 3 there that is not 11
 use mathlib.Core.Bool.{true, false}
@@ -28,7 +28,7 @@ pub record Formed (d : Loader) (l : Lists) (line : List ℕ) (f : Form) : Type 0
   pub few : length line ≤ 320
   pub spelled : line ≡ spell f
 
-pub record New (d : Loader) (l : Lists) (line : List ℕ) (f : Form) : Type 0 where
+pub record Unrepeated (d : Loader) (l : Lists) (line : List ℕ) (f : Form) : Type 0 where
   pub formed : Formed d l line f
   pub timely : early (d .stage) (itemOf f) ≡ false
   pub place : placed (d .n) (itemOf f) ≡ true
@@ -51,14 +51,14 @@ pub data LineStated (d : Loader) (l : Lists) (line : List ℕ) : List ℕ → Ty
   again : (f : Form) → Formed d l line f → early (d .stage) (itemOf f) ≡ false → placed (d .n) (itemOf f) ≡ true →
       repeated (d .stage) (d .sets) (itemOf f) ≡ true → LineStated d l line (12 ∷ [])
   -- 3: another number of it is outside its range
-  value-outside : (f : Form) → New d l line f → outside f ≡ true → LineStated d l line (3 ∷ [])
+  value-outside : (f : Form) → Unrepeated d l line f → outside f ≡ true → LineStated d l line (3 ∷ [])
   -- 4: a row or inverse list with other than n numbers
-  wrong-count : (f : Form) → New d l line f → outside f ≡ false → miscounted (d .n) f ≡ true → LineStated d l line (4 ∷ [])
+  wrong-count : (f : Form) → Unrepeated d l line f → outside f ≡ false → miscounted (d .n) f ≡ true → LineStated d l line (4 ∷ [])
   -- 13: end with forms outstanding; the count of those still missing
-  forms-missing : (f : Form) → New d l line f → outside f ≡ false → miscounted (d .n) f ≡ false → incomplete (d .n) (d .sets) (itemOf f) ≡ true →
+  forms-missing : (f : Form) → Unrepeated d l line f → outside f ≡ false → miscounted (d .n) f ≡ false → incomplete (d .n) (d .sets) (itemOf f) ≡ true →
       LineStated d l line (13 ∷ missing (d .n) (d .sets) ∷ [])
   -- accepted: none of them
-  accepted : (f : Form) → New d l line f → outside f ≡ false → miscounted (d .n) f ≡ false → incomplete (d .n) (d .sets) (itemOf f) ≡ false → LineStated d l line []
+  accepted : (f : Form) → Unrepeated d l line f → outside f ≡ false → miscounted (d .n) f ≡ false → incomplete (d .n) (d .sets) (itemOf f) ≡ false → LineStated d l line []
 
 pub data OtherStated (d : Loader) (l : Lists) (line : List ℕ) : List ℕ → Type 0 where
   -- 3: the loader's own n
