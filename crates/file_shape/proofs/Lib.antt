@@ -13,3 +13,4 @@ pub mod Once
 pub mod Chosen
 pub mod Unweighted
 pub mod Missing
+pub mod Stage

@@ -29,7 +29,7 @@ use Rattle.line_runs.specs.Given.{isOf}
 use Rattle.line_runs.specs.Run.{State, fromNew, step, run, Accepts, forms}
 use Rattle.line_runs.proofs.Runs.{forms-next}
 use Rattle.line_runs.proofs.Sound.{Sound, fresh-sound, fresh-empty, line-sound}
-use Rattle.file_shape.specs.Missing.{missingOf}
+use Rattle.file_shape.specs.Given.{missingOf}
 use Rattle.file_shape.specs.Shape.{howMany}
 use Rattle.file_shape.proofs.Marks.{mark, mark-one, count-none, count-next, moved}
 

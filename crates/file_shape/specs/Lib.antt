@@ -1,4 +1,4 @@
 pub mod Shape
 pub mod Order
 pub mod Chosen
-pub mod Missing
+pub mod Given
