@@ -8,6 +8,7 @@ pub mod Agreement
 pub mod Answers01
 pub mod Before
 pub mod Tightened
+pub mod Limits01
 pub mod Largest
 pub mod Table
 pub mod Heights

@@ -7,7 +7,7 @@ use mathlib.Core.Path.{_≡_, refl, _∙_}
 use mathlib.Core.Bool.{true}
 use mathlib.Core.List.{[]}
 use lib.Dec.{lit<}
-use Rattle.integer.specs.Finite.{sum, sumℕ, largest, first}
+use Rattle.integer.specs.Finite.{sum, sumℕ, largest, first, every}
 use Rattle.integer.specs.Quotient.{ceilDiv}
 use Rattle.linear.specs.Matrix.{apply, product, identity}
 use Rattle.linear.specs.Written.{written}
@@ -25,7 +25,7 @@ use Rattle.checked.specs.Stated.{Usable}
 use Rattle.checked.proofs.Contract.{answer-ready, sound-said}
 
 pub cases-hold : allRowsHold rows ≡ true
-unfolding answer solutionBoundsAfter inverseBoundsAfter written bound boundWith boundFrom sizesWith exceeds rowSum residual margin load defect product apply identity sum sumℕ largest first ceilDiv allInRange inRange rangeOf ranges
+unfolding answer solutionBoundsAfter inverseBoundsAfter written bound boundWith boundFrom sizesWith exceeds rowSum residual margin load defect product apply identity sum sumℕ largest first ceilDiv allInRange inRange rangeOf ranges every
 cases-hold = refl
 
 pub limits-hold : allLimitsHold rows01 ≡ true
@@ -33,18 +33,18 @@ unfolding bound boundWith boundFrom sizesWith residual margin load defect produc
 limits-hold = refl
 
 pub row-sums-hold : allRowsHold rowSumRows ≡ true
-unfolding answer solutionBoundsAfter inverseBoundsAfter written bound boundWith boundFrom sizesWith exceeds rowSum residual margin load defect product apply identity sum sumℕ largest first ceilDiv allInRange inRange rangeOf ranges
+unfolding answer solutionBoundsAfter inverseBoundsAfter written bound boundWith boundFrom sizesWith exceeds rowSum residual margin load defect product apply identity sum sumℕ largest first ceilDiv allInRange inRange rangeOf ranges every
 row-sums-hold = refl
 
 pub tolerances-hold : allRowsHold toleranceRows ≡ true
-unfolding answer solutionBoundsAfter inverseBoundsAfter written bound boundWith boundFrom sizesWith exceeds rowSum residual margin load defect product apply identity sum sumℕ largest first ceilDiv allInRange inRange rangeOf ranges
+unfolding answer solutionBoundsAfter inverseBoundsAfter written bound boundWith boundFrom sizesWith exceeds rowSum residual margin load defect product apply identity sum sumℕ largest first ceilDiv allInRange inRange rangeOf ranges every
 tolerances-hold = refl
 
 abbrev pub fileInput : Input
 fileInput = inputOf e
 
 pub file-usable : Usable fileInput
-unfolding allInRange inRange rangeOf ranges
+unfolding allInRange inRange rangeOf ranges every
 file-usable = record { long = refl; inside = refl }
 
 pub file-rounded-here : RoundedExact (problem fileInput) example.exact 11 example.exactInverse 11
