@@ -9,7 +9,7 @@ use Prim.Native.Nat.{ℕ, zero, suc, _<_, _^_}
 use native.Mathlib.Omega.{arith}
 use lib.Dec.{lit≤}
 use lib.IntN.{pos, _*ℤ_}
-use Rattle.integer.specs.Finite.{sum, sumℕ, largest, first}
+use Rattle.integer.specs.Finite.{sum, sumℕ, largest, first, every}
 use Rattle.integer.specs.Quotient.{ceilDiv}
 use Rattle.linear.specs.Matrix.{apply, product, identity}
 use Rattle.linear.specs.Written.{written}
@@ -29,7 +29,7 @@ use Rattle.common.proofs.Contains.{contains}
 use Rattle.common.proofs.Statements.{found-case}
 
 pub common-hold : allCommonHold commonRows ≡ true
-unfolding sum sumℕ largest first ceilDiv apply product identity ranges rangeOf inRange allInRange defect load margin residual rowSum exceeds sizesWith boundFrom boundWith bound written answer allSame lowEnd highEnd commonAnswer lowAfter highAfter
+unfolding sum sumℕ largest first ceilDiv apply product identity ranges rangeOf inRange allInRange defect load margin residual rowSum exceeds sizesWith boundFrom boundWith bound written answer allSame lowEnd highEnd commonAnswer lowAfter highAfter every
 common-hold = refl
 
 -- ---- two proposals for one net
@@ -37,7 +37,7 @@ abbrev pub pair : Proposals
 pair = commonInput (commonRow coarse fine [] [] [])
 
 pub pair-found : commonAnswer pair ≡ []
-unfolding sum sumℕ largest first ceilDiv apply product identity ranges rangeOf inRange allInRange defect load margin residual rowSum exceeds sizesWith boundFrom boundWith bound answer allSame commonAnswer
+unfolding sum sumℕ largest first ceilDiv apply product identity ranges rangeOf inRange allInRange defect load margin residual rowSum exceeds sizesWith boundFrom boundWith bound answer allSame commonAnswer every
 pair-found = refl
 
 pub pair-exact : ExactSolution (problem (pair .first)) example.exact 11

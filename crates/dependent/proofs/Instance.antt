@@ -9,7 +9,7 @@ use Prim.Native.Nat.{ℕ, zero, suc, _*_, _<_}
 use native.Mathlib.Omega.{arith}
 use lib.Dec.{lit≤}
 use lib.IntN.{pos, natAbs, _-ℤ_, _*ℤ_}
-use Rattle.integer.specs.Finite.{sum, sumℕ, largest, first}
+use Rattle.integer.specs.Finite.{sum, sumℕ, largest, first, every}
 use Rattle.integer.specs.Quotient.{ceilDiv}
 use Rattle.linear.specs.Matrix.{apply, product, identity}
 use Rattle.rules.specs.Range.{ranges, rangeOf, inRange, allInRange}
@@ -30,7 +30,7 @@ only Q a zero l = a
 only Q a (suc i) l = absurd (omega arith)
 
 pub accepted-here : jointAnswer both ≡ []
-unfolding jointAnswer answer dependentAnswer dependentResidual dependentSlack bound boundWith boundFrom sizesWith exceeds rowSum residual margin load defect product apply identity sum sumℕ largest first ceilDiv allInRange inRange rangeOf ranges
+unfolding jointAnswer answer dependentAnswer dependentResidual dependentSlack bound boundWith boundFrom sizesWith exceeds rowSum residual margin load defect product apply identity sum sumℕ largest first ceilDiv allInRange inRange rangeOf ranges every
 accepted-here = refl
 
 pub encloses-here : EnclosesBoth both (bound (mainProblem both)) (inverseBound (mainProblem both)) (dependentBound (attached both)) (inverseBound (dependentProblem both))
@@ -63,5 +63,5 @@ unfolding residual rowSum apply sum sumℕ
 apart-sums = only _ refl
 
 pub apart-said : jointAnswer apart ≡ []
-unfolding jointAnswer answer dependentAnswer dependentResidual dependentSlack bound boundWith boundFrom sizesWith exceeds rowSum residual margin load defect product apply identity sum sumℕ largest first ceilDiv allInRange inRange rangeOf ranges
+unfolding jointAnswer answer dependentAnswer dependentResidual dependentSlack bound boundWith boundFrom sizesWith exceeds rowSum residual margin load defect product apply identity sum sumℕ largest first ceilDiv allInRange inRange rangeOf ranges every
 apart-said = refl

@@ -1,4 +1,5 @@
 -- Neither half of demand 3 is empty: the whole file of document 01 meets the hypotheses of both, and a problem with a tolerance those of the first.
+--   file-worked  — D, the margins, r and p of the whole file are those that 01 writes out
 --   file-rounded — it is a rounded exact proposal;  file-sound — so it is sound;  file-encloses — and its limits enclose
 --   file-heights — any exact solution of it is (16/11, 9/11)
 --   loose-right, loose-exact — 9/3 is a right side of `loose`, at the corner of its tolerance, and 3 its exact solution
@@ -17,9 +18,10 @@ use Rattle.integer.specs.Quotient.{ceilDiv}
 use Rattle.linear.specs.Matrix.{Vec, apply, product, identity}
 use Rattle.exact_solution.specs.Determined.{Same}
 use Rattle.enclosure.specs.Demand.{ExactSolution, ExactSolutionOf, RightSide, RoundedExact, Sound, Encloses, sumOfSizes}
-use Rattle.enclosure.specs.Example.{file, exact, exactInverse, loose, farRight, farHeight, looseFile, cornerRight, cornerHeight}
+use Rattle.enclosure.specs.Example.{file, FileWorked, exact, exactInverse, loose, farRight, farHeight, looseFile, cornerRight, cornerHeight}
 use Rattle.enclosure.specs.Problem.{S}
 use Rattle.enclosure.specs.Reckoning.{defect, load, margin, residual, rowSum, exceeds, sizesWith, boundFrom, boundWith, bound, inverseBound}
+use Rattle.enclosure.specs.Schroeder.{image}
 use Rattle.enclosure.proofs.Acceptance.{rounded-sound}
 use Rattle.enclosure.proofs.Demands.{encloses}
 
@@ -33,6 +35,10 @@ each₂ : (Q : ℕ → ℕ → Type 0) → Q 0 0 → Q 0 1 → Q 1 0 → Q 1 1 �
 each₂ Q a b c d zero j l = each (Q 0) a b j
 each₂ Q a b c d (suc zero) j l = each (Q 1) c d j
 each₂ Q a b c d (suc (suc i)) j l = absurd (omega arith)
+
+pub file-worked : FileWorked
+unfolding defect load margin residual image product apply identity sum sumℕ
+file-worked = record { D = each₂ _ refl refl refl refl; g = each _ refl refl; r = each _ refl refl; p = each _ refl refl }
 
 pub file-rounded : RoundedExact file exact 11 exactInverse 11
 unfolding apply product identity sum sumℕ rowSum sumOfSizes

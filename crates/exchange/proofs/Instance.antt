@@ -13,6 +13,7 @@ use lib.IntN.{ℤ, pos, negsuc}
 use lib.ListN.{getD, replicate}
 use lib.Ieee.{Float, nan, binary64, ofBits}
 use lib.Ieee.Bits.{ofBits-fits}
+use Rattle.integer.specs.Finite.{every}
 use Rattle.linear.specs.Slice.{at}
 use Rattle.integer.specs.Quotient.{roundDiv}
 use Rattle.rules.specs.Range.{ranges, rangeOf, inRange, allInRange}
@@ -31,7 +32,7 @@ use Rattle.doubles.specs.Units.{whole, plusZero}
 use Rattle.doubles.proofs.Steps.{guess-nearest}
 use Rattle.interval.specs.Interval.{Outward, Returned}
 use Rattle.interval.proofs.Heights.{outward}
-use Rattle.exchange.specs.Lists.{doubleAt, every}
+use Rattle.exchange.specs.Lists.{doubleAt}
 use Rattle.exchange.specs.Inward.{Incoming, incoming, inwardAnswer, guessesAfter, GuessesOf}
 use Rattle.exchange.specs.Outward.{Outgoing, outgoing, outwardAnswer, endsIn, lowsAfter, highsAfter, IntervalsOf}
 use Rattle.exchange.specs.Hands.{Hands, AllBetween}

@@ -28,7 +28,7 @@ use Rattle.doubles.proofs.Steps.{guess-nearest}
 use Rattle.exchange.specs.Lists.{doubleAt, exchangeSizes}
 use Rattle.exchange.specs.Inward.{Incoming, shortIncoming, allHaveGuess, inwardOrder, inwardAnswer, guessesAfter, GuessesOf}
 use Rattle.exchange.specs.declared.Guessed.the-variants.{Accepted, Refused, NoGuess}
-use Rattle.exchange.proofs.Lists.{every-at, every-in, every-fails, every-not}
+use Rattle.rules.proofs.Every.{every-at, every-in, every-fails, every-not}
 
 pub record Ready (I : Incoming) : Type 0 where
   pub values : I .n ≤ length (I .values)

@@ -42,7 +42,7 @@ use Rattle.exchange.specs.Inward.{Incoming, saidGuessed, inwardAnswer, G
 use Rattle.exchange.specs.Outward.{outgoing, outwardAnswer}
 use Rattle.exchange.specs.declared.Guessed.{Guessed}
 use Rattle.exchange.proofs.Inward as inward
-use Rattle.exchange.proofs.Lists.{every-in}
+use Rattle.rules.proofs.Every.{every-in}
 use Rattle.exchange.proofs.Outward as outward
 use Rattle.exchange.proofs.Promises.{guess-at}
 

@@ -15,13 +15,14 @@ use Prim.Native.Nat.{ℕ, _<_}
 use lib.IntN.{ℤ}
 use lib.ListN.{length}
 use lib.Ieee.{Float}
+use Rattle.integer.specs.Finite.{every}
 use Rattle.linear.specs.Slice.{at}
 use Rattle.linear.specs.Written.{written}
 use Rattle.rules.specs.Order.{Test, number, verdict, ifAccepted}
 use Rattle.rules.specs.Range.{shortColumn}
 use Rattle.rules.specs.Refusal.{numberOf, valuesOf}
 use Rattle.doubles.specs.Guess.{guessFor, hasGuess, Nearest}
-use Rattle.exchange.specs.Lists.{doubleAt, every, exchangeSizes}
+use Rattle.exchange.specs.Lists.{doubleAt, exchangeSizes}
 use Rattle.exchange.specs.declared.Guessed.{Guessed}
 use Rattle.exchange.specs.declared.Guessed.the-variants.{Accepted, Refused, NoGuess}
 
