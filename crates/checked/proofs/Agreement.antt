@@ -1,5 +1,7 @@
 -- The rest of each list is not read: inputs that agree on the places used get the same answer and the same limits.
 --   checked-same — what the reckoning says of two problems that agree on the first n numbers
+--   like, like-is — one of two inputs that agree, by the n, s and t of the other: it is itself
+--   like-ranges, like-margin, like-columns, like-bound, like-inverse — 3, the margins, 7 at each place, and the limits of both
 --   same-answer — what is said;  same-solution, same-inverse — the limits that are written
 use mathlib.Core.Path.{_≡_, refl, sym, ap, _∙_}
 use mathlib.Core.Bool.{Bool, true, false}
@@ -18,7 +20,7 @@ use Rattle.linear.proofs.Written.{front-at}
 use Rattle.rules.specs.declared.Kind.the-variants as kind
 use Rattle.rules.proofs.AllInRange.{all-ext}
 use Rattle.enclosure.specs.Problem.{Problem, columnOf}
-use Rattle.enclosure.specs.Reckoning.{marginFails, exceeds, bound, inverseBound}
+use Rattle.enclosure.specs.Reckoning.{margin, marginFails, exceeds, bound, inverseBound}
 use Rattle.enclosure.proofs.Agreement.{margin-same, exceeds-same, bound-same}
 use Rattle.checked.specs.Checked.{solutionBoundsAfter, inverseBoundsAfter}
 use Rattle.checked.specs.Input.{Input, input, problem, short, inRanges}
@@ -114,6 +116,18 @@ module _ (I : Input) (B b′ d′ x′ H w′ : List ℤ) (E L : List ℕ) (hA :
       (λ i. natAbs (at (I .tolerance) i)) (λ i. natAbs (at d′ i)) (vectorOf (I .guess)) (vectorOf x′)
       (matrixOf (I .inverse) (I .n)) (matrixOf H (I .n)) (λ i. natAbs (at (I .weights) i)) (λ i. natAbs (at w′ i)) matrices hb tolerances hx inverses weighted
 
+  margin-here : (m : ℕ) → m < I .n → margin (problem I) m ≡ margin (problem J) m
+  margin-here =
+      margin-same (I .n) (I .s) (I .t) (matrixOf (I .matrix) (I .n)) (matrixOf B (I .n)) (vectorOf (I .right)) (vectorOf b′)
+      (λ i. natAbs (at (I .tolerance) i)) (λ i. natAbs (at d′ i)) (vectorOf (I .guess)) (vectorOf x′)
+      (matrixOf (I .inverse) (I .n)) (matrixOf H (I .n)) (λ i. natAbs (at (I .weights) i)) (λ i. natAbs (at w′ i)) matrices hb tolerances hx inverses weighted
+
+  columns-here : (i : ℕ) → i < I .n * I .n → exceeds (columnOf (problem I) (i / I .n)) (i % I .n) ≡ exceeds (columnOf (problem J) (i / I .n)) (i % I .n)
+  columns-here =
+      columns-same (I .n) (I .s) (I .t) (matrixOf (I .matrix) (I .n)) (matrixOf B (I .n)) (vectorOf (I .right)) (vectorOf b′)
+      (λ i. natAbs (at (I .tolerance) i)) (λ i. natAbs (at d′ i)) (vectorOf (I .guess)) (vectorOf x′)
+      (matrixOf (I .inverse) (I .n)) (matrixOf H (I .n)) (λ i. natAbs (at (I .weights) i)) (λ i. natAbs (at w′ i)) matrices hb tolerances hx inverses weighted
+
   answer-same : short I ≡ false → short J ≡ false → answer I ≡ answer J
   answer-same e f = go (inRanges I) refl
     where
@@ -123,16 +137,32 @@ module _ (I : Input) (B b′ d′ x′ H w′ : List ℤ) (E L : List ℕ) (hA :
 
 -- ---- any two inputs that agree
 module _ (I J : Input) (a : Agree I J) where
-  abbrev K : Input
-  K = input (I .n) (I .s) (I .t) (J .matrix) (J .right) (J .tolerance) (J .guess) (J .inverse) (J .weights) (J .solutionBounds) (J .inverseBounds)
+  -- J with the n, s and t of I, which are its own
+  abbrev pub like : Input
+  like = input (I .n) (I .s) (I .t) (J .matrix) (J .right) (J .tolerance) (J .guess) (J .inverse) (J .weights) (J .solutionBounds) (J .inverseBounds)
 
-  K-is : K ≡ J
-  K-is = rw (a .n, a .s, a .t)
+  pub like-is : like ≡ J
+  like-is = rw (a .n, a .s, a .t)
+
+  pub like-ranges : inRanges I ≡ inRanges like
+  like-ranges = ranges-same I (J .matrix) (J .right) (J .tolerance) (J .guess) (J .inverse) (J .weights) (J .solutionBounds) (J .inverseBounds) (a .matrix) (a .right) (a .tolerance) (a .guess) (a .inverse) (a .weights)
+
+  pub like-margin : (m : ℕ) → m < I .n → margin (problem I) m ≡ margin (problem like) m
+  like-margin = margin-here I (J .matrix) (J .right) (J .tolerance) (J .guess) (J .inverse) (J .weights) (J .solutionBounds) (J .inverseBounds) (a .matrix) (a .right) (a .tolerance) (a .guess) (a .inverse) (a .weights)
+
+  pub like-columns : (i : ℕ) → i < I .n * I .n → exceeds (columnOf (problem I) (i / I .n)) (i % I .n) ≡ exceeds (columnOf (problem like) (i / I .n)) (i % I .n)
+  like-columns = columns-here I (J .matrix) (J .right) (J .tolerance) (J .guess) (J .inverse) (J .weights) (J .solutionBounds) (J .inverseBounds) (a .matrix) (a .right) (a .tolerance) (a .guess) (a .inverse) (a .weights)
+
+  pub like-bound : (i : ℕ) → i < I .n → bound (problem I) i ≡ bound (problem like) i
+  like-bound = solution-here I (J .matrix) (J .right) (J .tolerance) (J .guess) (J .inverse) (J .weights) (J .solutionBounds) (J .inverseBounds) (a .matrix) (a .right) (a .tolerance) (a .guess) (a .inverse) (a .weights)
+
+  pub like-inverse : (i j : ℕ) → i < I .n → j < I .n → inverseBound (problem I) i j ≡ inverseBound (problem like) i j
+  like-inverse = inverse-here I (J .matrix) (J .right) (J .tolerance) (J .guess) (J .inverse) (J .weights) (J .solutionBounds) (J .inverseBounds) (a .matrix) (a .right) (a .tolerance) (a .guess) (a .inverse) (a .weights)
 
   pub same-answer : answer I ≡ answer J
   same-answer =
       answer-same I (J .matrix) (J .right) (J .tolerance) (J .guess) (J .inverse) (J .weights) (J .solutionBounds) (J .inverseBounds) (a .matrix) (a .right) (a .tolerance) (a .guess) (a .inverse) (a .weights)
-      (a .long) (a .long′) ∙ ap answer K-is
+      (a .long) (a .long′) ∙ ap answer like-is
 
   module _ (e : answer I ≡ []) where
     few : I .n ≤ 32
@@ -141,26 +171,25 @@ module _ (I J : Input) (a : Agree I J) where
     some : 0 < I .n
     some = fit-of I (a .long) (accepted-usable I e .inside) .some
 
-    long : Long K
-    long = long-of K (a .long′)
+    long : Long like
+    long = long-of like (a .long′)
 
     pub same-solution : (i : ℕ) → i < I .n → getD (solutionBoundsAfter I) i 0 ≡ getD (solutionBoundsAfter J) i 0
-    same-solution i l = here ∙ ap (λ (X : Input). getD (solutionBoundsAfter X) i 0) K-is
+    same-solution i l = here ∙ ap (λ (X : Input). getD (solutionBoundsAfter X) i 0) like-is
       where
-        here : getD (solutionBoundsAfter I) i 0 ≡ getD (solutionBoundsAfter K) i 0
+        here : getD (solutionBoundsAfter I) i 0 ≡ getD (solutionBoundsAfter like) i 0
         here =
-            rw (solution-written I e, solution-written K (ap answer K-is ∙ sym same-answer ∙ e))
+            rw (solution-written I e, solution-written like (ap answer like-is ∙ sym same-answer ∙ e))
             (front-at (I .solutionBounds) (bound (problem I)) 0 (I .n) i l (omega (arith, few, long-of I (a .long) .solution))
-            ∙ solution-here I (J .matrix) (J .right) (J .tolerance) (J .guess) (J .inverse) (J .weights) (J .solutionBounds) (J .inverseBounds) (a .matrix) (a .right) (a .tolerance) (a .guess) (a .inverse) (a .weights) i l
-            ∙ sym (front-at (J .solutionBounds) (bound (problem K)) 0 (I .n) i l (omega (arith, few, long .solution))))
+            ∙ like-bound i l
+            ∙ sym (front-at (J .solutionBounds) (bound (problem like)) 0 (I .n) i l (omega (arith, few, long .solution))))
 
     pub same-inverse : (k : ℕ) → k < I .n * I .n → getD (inverseBoundsAfter I) k 0 ≡ getD (inverseBoundsAfter J) k 0
-    same-inverse k l = here ∙ ap (λ (X : Input). getD (inverseBoundsAfter X) k 0) K-is
+    same-inverse k l = here ∙ ap (λ (X : Input). getD (inverseBoundsAfter X) k 0) like-is
       where
-        here : getD (inverseBoundsAfter I) k 0 ≡ getD (inverseBoundsAfter K) k 0
+        here : getD (inverseBoundsAfter I) k 0 ≡ getD (inverseBoundsAfter like) k 0
         here =
-            rw (inverse-written I e, inverse-written K (ap answer K-is ∙ sym same-answer ∙ e))
+            rw (inverse-written I e, inverse-written like (ap answer like-is ∙ sym same-answer ∙ e))
             (front-at (I .inverseBounds) (λ (x : ℕ). inverseBound (problem I) (x / I .n) (x % I .n)) 0 (I .n * I .n) k l (omega (arith, square few, long-of I (a .long) .inverses))
-            ∙ inverse-here I (J .matrix) (J .right) (J .tolerance) (J .guess) (J .inverse) (J .weights) (J .solutionBounds) (J .inverseBounds) (a .matrix) (a .right) (a .tolerance) (a .guess) (a .inverse) (a .weights)
-            (k / I .n) (k % I .n) (div-lt-iff-lt-mul some .1 l) (mod-lt k some)
-            ∙ sym (front-at (J .inverseBounds) (λ (x : ℕ). inverseBound (problem K) (x / I .n) (x % I .n)) 0 (I .n * I .n) k l (omega (arith, square few, long .inverses))))
+            ∙ like-inverse (k / I .n) (k % I .n) (div-lt-iff-lt-mul some .1 l) (mod-lt k some)
+            ∙ sym (front-at (J .inverseBounds) (λ (x : ℕ). inverseBound (problem like) (x / I .n) (x % I .n)) 0 (I .n * I .n) k l (omega (arith, square few, long .inverses))))
