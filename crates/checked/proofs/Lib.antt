@@ -5,6 +5,7 @@ pub mod Fit
 pub mod Contract
 pub mod Statements
 pub mod Agreement
+pub mod Agreed
 pub mod Before
 pub mod Tightened
 pub mod Largest

@@ -17,7 +17,7 @@ use Rattle.enclosure.specs.Reckoning.{bound}
 use Rattle.checked.specs.Agree.{Agree}
 use Rattle.checked.specs.Input.{Input, problem}
 use Rattle.checked.specs.Order.{answer}
-use Rattle.checked.proofs.Agreement.{like, like-is, like-bound, same-answer}
+use Rattle.checked.proofs.Agreed.{like, like-is, like-bound, same-answer}
 use Rattle.common.specs.declared.Common.{Common}
 use Rattle.common.specs.Proposals.{Proposals, proposals, sameEquations, mostSteps, tooWide}
 use Rattle.common.specs.Ends.{maxℤ, minℤ, finer, inSteps, lowEnd, highEnd}

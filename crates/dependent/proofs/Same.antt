@@ -25,7 +25,7 @@ use Rattle.enclosure.specs.Problem.{columnOf, S}
 use Rattle.enclosure.specs.Reckoning.{margin, marginFails, allowedResidual, exceeds, sizesWith, boundFrom, boundWith, bound}
 use Rattle.checked.specs.Input.{problem}
 use Rattle.checked.specs.Order.{answer}
-use Rattle.checked.proofs.Agreement.{like, like-is, like-ranges, like-margin, like-columns, like-bound, same-answer}
+use Rattle.checked.proofs.Agreed.{like, like-is, like-ranges, like-margin, like-columns, like-bound, same-answer}
 use Rattle.dependent.specs.Nets.{Nets, nets, Attached, attached, couplingOf}
 use Rattle.dependent.specs.Reckoning.{ownProblem, dependentResidual, dependentSlack, dependentExceeds, dependentBound}
 use Rattle.dependent.specs.Order.{dependentShort, dependentInRanges, dependentTests, dependentAnswer, ofNet, jointAnswer}

@@ -15,7 +15,7 @@ use Rattle.rules.proofs.Verdicts.{accepted-new}
 use Rattle.enclosure.specs.Reckoning.{bound, inverseBound}
 use Rattle.checked.specs.Input.{Input, problem}
 use Rattle.checked.specs.Agree.{Agree}
-use Rattle.checked.proofs.Agreement.{like, like-bound, like-inverse}
+use Rattle.checked.proofs.Agreed.{like, like-bound, like-inverse}
 use Rattle.checked.proofs.Fit.{Fit, fit-of}
 use Rattle.checked.proofs.Lengths.{long-of}
 use Rattle.checked.proofs.Statements.{accepted-usable}
