@@ -6,6 +6,7 @@ pub mod Contract
 pub mod Statements
 pub mod Agreement
 pub mod Answers01
+pub mod Agreed
 pub mod Before
 pub mod Tightened
 pub mod Limits01
