@@ -5,6 +5,7 @@
 
 An index is a usize: a parameter, a field, a result or a length of that type, a loop's variable, a name that stands in the brackets of an element, and what these are given to.
 A product is at fault where it stands in such brackets, is given to an index, or has an index as a factor; a shift to the left counts as one, and so does a method that multiplies.
+The end of a loop's range is a count of terms and not a place: a product is right there, and nowhere else in a loop's head.
 A number becomes an index only as a parameter by its name: no other cast to usize, so that no product of numbers, a call's or a local's, becomes a place. Contracts and comments are not code."""
 
 import re
@@ -12,7 +13,7 @@ import sys
 from pathlib import Path
 from typing import NamedTuple
 
-CRATES = ["integer", "linear", "raised_rows", "reckoning", "symmetry", "differences", "margins", "residuals", "row_sums", "slacks", "ratios", "bounds", "inverse_bounds", "checker", "couplings"]
+CRATES = ["integer", "linear", "rules", "raised_rows", "reckoning", "symmetry", "differences", "margins", "residuals", "row_sums", "slacks", "ratios", "bounds", "inverse_bounds", "checker", "couplings", "weight_steps", "lower_half", "observation", "gathering", "equations"]
 
 TOKEN = re.compile(r"[A-Za-z_]\w*|\d\w*|::|=>|->|\.\.=|\.\.|<<=?|[-+*/%&|^]=|[-+*/%&|^<>=!]=?|[()\[\]{};:,.@#'\"«»]")
 OPEN, CLOSE = "([{", ")]}"
@@ -79,6 +80,17 @@ def is_binary(tokens, at):
 
 def products(tokens):
     return [at for at, token in enumerate(tokens) if token in ("*", "<<") and is_binary(tokens, at)]
+
+
+def counts(body):
+    """The places of the tokens that stand in the end of a loop's range."""
+    inside = set()
+    for at, token in enumerate(body):
+        if token == "for":
+            opened, dots = body.index("{", at), [k for k in range(at, len(body)) if body[k] in ("..", "..=")]
+            if dots and dots[0] < opened:
+                inside |= set(range(dots[0] + 1, opened))
+    return inside
 
 
 def left_of(tokens, at):
@@ -185,7 +197,7 @@ class Reader:
         for name, sign, value in self.given(body):
             if name in names and (sign in ("*=", "<<=") or products(value)):
                 yield f"given to an index: {name} {sign} {' '.join(value)}"
-        for at in products(body):
+        for at in set(products(body)) - counts(body):
             left, right = left_of(body, at), right_of(body, at + 1)
             if self.is_index(left, names) or self.is_index(right, names):
                 yield f"a factor is an index: {' '.join(left)} * {' '.join(right)}"

@@ -12,6 +12,7 @@ RIGHT = {
     "in a comment": "// i * n\nfn f(i: usize) -> usize { i }",
     "a parameter made an index": "fn f(xs: &[i64], n: u32) -> i64 { let size = n as usize; xs[size] }",
     "a shift of numbers": "fn f(s: u32) -> u64 { 1u64 << s }",
+    "a count of terms": "fn f(xs: &[i64], n: usize) -> i64 { let mut sum = 0; for i in 0..n * n { sum += xs[i]; } sum }",
     "behind a reference": "fn f(x: &u64, i: usize) -> u64 { return *x; }",
 }
 
@@ -39,6 +40,9 @@ WRONG = {
     "a field that is cast": "struct Row { start: u64 } fn f(row: Row, start: u32) -> i64 { get(row.start as usize) }",
     "a length": "fn f(xs: &[i64]) -> usize { xs.len() * 2 }",
     "a field": "struct Row { start: usize } fn f(row: Row) -> u64 { get(row.start * 3) }",
+    "the start of a loop's range": "fn f(xs: &[i64], m: usize, n: usize) -> i64 { let mut sum = 0; for i in m * n..1024 { sum += xs[i]; } sum }",
+    "a place in a loop of counted terms": "fn f(xs: &[i64], m: usize, n: usize) -> i64 { let mut sum = 0; for j in 0..n * n { sum += xs[m * n]; } sum }",
+    "handed on in a loop of counted terms": "fn f(xs: &[i64], m: usize, n: usize) -> i64 { let mut sum = 0; for j in 0..n * n { sum += get(xs, m * n); } sum }",
     "a result": "fn next(i: u32) -> usize { 0 } fn f(i: u32) -> u64 { get(next(i) * 3) }",
 }
 
@@ -53,6 +57,10 @@ WRONG_HERE = {
     "a place across the diagonal": ("symmetry/src/lib.rt", "        down += n;", "        down = (j + 1) * n + i;"),
     "a row of p": ("bounds/src/lib.rt", "out[m] = magnitude(row_dot(rows, m, row, residuals, 0, 0, n))", "out[m] = magnitude(row_dot(rows, m, m * (n + 1), residuals, 0, 0, n))"),
     "a size across the columns": ("inverse_bounds/src/lib.rt", "        across += n;", "        across = (m + 1) * n + j;"),
+    "a term of the search's sums": ("weight_steps/src/lib.rt", "        place += n;", "        place = (j + 1) * n + m;"),
+    "a term handed on in the search": ("weight_steps/src/lib.rt", "weigh_at(sum, sizes, n, m, place, weights[j], j)", "weigh_at(sum, sizes, n, m, j * n + m, weights[j], j)"),
+    "a row that is filled out": ("lower_half/src/lib.rt", "        to += n;", "        to = (i + 1) * n;"),
+    "a row of the equations": ("equations/src/lib.rt", "store_row(sums, width, matrix, start)", "store_row(sums, width, matrix, i * n)"),
     "where a limit is written": ("bounds/src/lib.rt", "        dst[place] = column[i];", "        dst[start + i * stride] = column[i];"),
 }
 

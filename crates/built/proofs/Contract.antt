@@ -9,14 +9,14 @@ use lib.Dec.{leb, ltb}
 use lib.IntN.{ℤ, pos}
 use lib.ListN.{length}
 use Rattle.linear.proofs.Written.{written-ext}
-use Rattle.rules.specs.Order.{ifAccepted}
+use Rattle.rules.specs.Order.{ifAccepted, orElse}
 use Rattle.rules.specs.Range.{inRange}
 use Rattle.rules.specs.declared.Kind.the-variants as kind
 use Rattle.rules.proofs.Verdicts.{nothing-is-not}
 use Rattle.observation.specs.declared.Built.{Built}
 use Rattle.observation.specs.declared.Observation.{Observation}
 use Rattle.observation.specs.Distinct.{builtMatrix, builtRight, weightAt, gain}
-use Rattle.observation.specs.Order.{saidBuilt, andThen, observationsSay, buildAnswer}
+use Rattle.observation.specs.Order.{saidBuilt, observationsSay, buildAnswer}
 use Rattle.gathering.proofs.Whole.{gatheredOf, Whole, whole}
 use Rattle.equations.specs.declared.Layout.{Layout}
 use Rattle.equations.specs.Written.{widthOf, matrixWritten, rightWritten}
@@ -26,7 +26,7 @@ use Rattle.equations.proofs.Places.{rows-ext}
 use Rattle.built.specs.BuiltAs.{shortFor, BuiltAs}
 
 -- 8 first, then 3 for n, 3 for a list above 256, then the lines
-finally : (s z m : Bool) (lines : List ℕ) → cond s (8 ∷ []) (andThen (cond (z && m) [] (3 ∷ [])) lines) ≡ andThen (cond s (8 ∷ []) (cond (not z) (3 ∷ []) (cond (not m) (3 ∷ []) []))) lines
+finally : (s z m : Bool) (lines : List ℕ) → cond s (8 ∷ []) (orElse (cond (z && m) [] (3 ∷ [])) lines) ≡ orElse (cond s (8 ∷ []) (cond (not z) (3 ∷ []) (cond (not m) (3 ∷ []) []))) lines
 finally true z m lines = refl
 finally false true true lines = refl
 finally false true false lines = refl
@@ -48,7 +48,7 @@ module _ (n : ℕ) (ls : List Observation) (layout : Layout) (a b : List ℤ) wh
   says =
       ap (saidFinally (shortFor layout a b)) (w .says)
       ∙ finally (shortFor layout a b) (inRange kind.Size (pos n)) (leb (length ls) 256) (observationsSay n [] ls)
-      ∙ ap (λ (m : Bool). andThen (cond (shortFor layout a b) (8 ∷ []) (cond (not (inRange kind.Size (pos n))) (3 ∷ []) (cond m (3 ∷ []) []))) (observationsSay n [] ls)) (many (length ls))
+      ∙ ap (λ (m : Bool). orElse (cond (shortFor layout a b) (8 ∷ []) (cond (not (inRange kind.Size (pos n))) (3 ∷ []) (cond m (3 ∷ []) []))) (observationsSay n [] ls)) (many (length ls))
 
   -- where nothing is said in the end, nothing was said of the lines
   lines-silent : (s : Bool) (t : List ℕ) → cond s (8 ∷ []) t ≡ [] → t ≡ []

@@ -1,5 +1,5 @@
 -- What the matrix list holds after `build` in the lower layout (document 02, Paper 10).
---   HeldHalf, held-half — the numbers at their places in the half, every other place as before
+--   held-half — the numbers at their places in the half, every other place as before
 --   half-is-square — filled out, the half is what the square layout gives on the first n × n places; the right sides are the same
 --   same-refusals — where both layouts find their lists long enough, or both too short, they say the same
 --   half-in-check-ranges — never is it the built half or right side that makes a check answer 3
@@ -15,26 +15,21 @@ use Rattle.integer.specs.Finite.{sumℕ}
 use Rattle.linear.specs.Slice.{at}
 use Rattle.rules.specs.Range.{allInRange}
 use Rattle.rules.specs.declared.Kind.the-variants as kind
-use Rattle.lower_half.specs.Half.{lowerPlace, halfPlace, halfCount, filledOut}
+use Rattle.lower_half.specs.Half.{lowerPlace, halfPlace, filledOut}
 use Rattle.lower_half.proofs.Places.{some-row, place-lower, place-swap}
 use Rattle.lower_half.proofs.Filling.{filled-at}
 use Rattle.observation.specs.declared.Built.{Built}
 use Rattle.observation.specs.declared.Observation.{Observation}
-use Rattle.observation.specs.Distinct.{builtMatrix, builtRight}
+use Rattle.observation.specs.Distinct.{builtMatrix}
 use Rattle.observation.specs.Order.{saidBuilt, buildAnswer}
 use Rattle.observation.proofs.Net.{symmetric}
 use Rattle.equations.specs.declared.Layout.the-variants.{Square, Lower}
 use Rattle.equations.specs.Written.{widthOf, matrixWritten}
 use Rattle.equations.proofs.Layouts.{rows-at, rows-else, lower-start}
 use Rattle.built.specs.BuiltAs.{shortFor, BuiltAs}
+use Rattle.built.specs.Held.{HeldHalf}
 use Rattle.built.proofs.Ends.{matrix-room}
 use Rattle.built.proofs.Held.{new-matrix, fitting, few-rows, right-held, right-rest, right-in-check-range, matrix-in-check-range, held}
-
-pub record HeldHalf (n : ℕ) (ls : List Observation) (h b h′ b′ : List ℤ) : Type 0 where
-  pub matrix : (i j : ℕ) → i < n → j < n → at h′ (halfPlace i j) ≡ builtMatrix ls i j
-  pub right : (i : ℕ) → i < n → at b′ i ≡ builtRight ls i
-  pub matrix-rest : (p : ℕ) → halfCount n ≤ p → at h′ p ≡ at h p
-  pub right-rest : (p : ℕ) → n ≤ p → at b′ p ≡ at b p
 
 -- row i of the lower half starts at i·(i + 1)/2
 start-is : (n i : ℕ) → sumℕ i (widthOf Lower n) ≡ i * (i + 1) / 2

@@ -1,7 +1,7 @@
 -- What the two lists hold after `build`.
 --   untouched — on a refusal both lists are as before;  new-matrix, new-right — where the equations are built, the lists with them written
 --   right-held, right-rest — the right sides at their places, every other place as before
---   Held, held — in the square layout: the numbers at their places, every other place as before
+--   held — in the square layout: the numbers at their places, every other place as before
 --   in-check-ranges — (d) never is it the built matrix or right side that makes a check answer 3
 --   repeated-built — (b) a copy of a line anywhere gives the same two lists
 use mathlib.Core.Path.{_≡_, sym, ap, subst, _∙_}
@@ -35,12 +35,7 @@ use Rattle.built.proofs.Ends.{matrix-room, long-right}
 use Rattle.equations.proofs.Layouts.{square-start, square-at, square-else}
 use Rattle.equations.proofs.Places.{rows-ext}
 use Rattle.built.specs.BuiltAs.{shortFor, BuiltAs}
-
-pub record Held (n : ℕ) (ls : List Observation) (a b a′ b′ : List ℤ) : Type 0 where
-  pub matrix : (i j : ℕ) → i < n → j < n → at a′ (i * n + j) ≡ builtMatrix ls i j
-  pub right : (i : ℕ) → i < n → at b′ i ≡ builtRight ls i
-  pub matrix-rest : (p : ℕ) → n * n ≤ p → at a′ p ≡ at a p
-  pub right-rest : (p : ℕ) → n ≤ p → at b′ p ≡ at b p
+use Rattle.built.specs.Held.{Held}
 
 module _ (n : ℕ) (ls : List Observation) (layout : Layout) (a b : List ℤ) {r : Built} {a′ b′ : List ℤ} (built : BuiltAs n ls layout a b r a′ b′) where
   pub untouched : {k : ℕ} {ks : List ℕ} → saidBuilt r ≡ k ∷ ks → (a′ ≡ a) × (b′ ≡ b)

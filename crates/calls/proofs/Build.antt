@@ -25,8 +25,9 @@ use Rattle.lower_half.specs.Half.{filledOut}
 use Rattle.equations.specs.declared.Layout.{Layout}
 use Rattle.equations.specs.declared.Layout.the-variants.{Square, Lower}
 use Rattle.built.specs.BuiltAs.{shortFor}
-use Rattle.built.proofs.Held.{Held, held, untouched, in-check-ranges}
-use Rattle.built.proofs.Halves.{HeldHalf, held-half, half-is-square}
+use Rattle.built.specs.Held.{Held, HeldHalf}
+use Rattle.built.proofs.Held.{held, untouched, in-check-ranges}
+use Rattle.built.proofs.Halves.{held-half, half-is-square}
 use Rattle.calls.specs.Build.{BuildExported}
 use Rattle.calls.proofs.Meaning.{zero-said}
 

@@ -1,36 +1,20 @@
--- The rest of each list is not read: inputs that agree on the places used get the same answer and the same limits.
---   checked-same — what the reckoning says of two problems that agree on the first n numbers
---   same-answer — what is said;  same-solution, same-inverse — the limits that are written
-use mathlib.Core.Path.{_≡_, refl, sym, ap, _∙_}
-use mathlib.Core.Bool.{Bool, true, false}
-use mathlib.Core.List.{List, []}
-use Prim.Native.Nat.{ℕ, zero, suc, _+_, _*_, _/_, _%_, _≤_, _<_}
+-- The reckoning uses only the first n numbers of each list: what it says of two problems that agree on them.
+--   columns-same — the test of 7 at a place
+--   checked-same — what is said of 5, 6 and 7
+--   inverse-same — the limits of the inverse
+use mathlib.Core.Path.{_≡_, refl, ap}
+use Prim.Native.Nat.{ℕ, zero, suc, _*_, _/_, _%_, _<_}
 use native.Mathlib.Omega.{arith}
 use native.Mathlib.Nat.{mod-lt, div-lt-iff-lt-mul}
-use lib.IntN.{ℤ, pos, natAbs}
-use lib.ListN.{getD}
+use lib.IntN.{ℤ, pos}
 use lib.Signed.{leZ}
 use Rattle.integer.proofs.Search.{first-ext}
 use Rattle.linear.specs.Matrix.{Vec, Mat, column, identity}
-use Rattle.linear.specs.Slice.{at, vectorOf, matrixOf}
-use Rattle.linear.proofs.Places.{place, square}
-use Rattle.linear.proofs.Written.{front-at}
-use Rattle.rules.specs.declared.Kind.the-variants as kind
-use Rattle.rules.proofs.AllInRange.{all-ext}
 use Rattle.enclosure.specs.Problem.{Problem, columnOf}
-use Rattle.enclosure.specs.Reckoning.{marginFails, exceeds, bound, inverseBound}
+use Rattle.enclosure.specs.Reckoning.{marginFails, exceeds, inverseBound}
 use Rattle.enclosure.proofs.Agreement.{margin-same, exceeds-same, bound-same}
-use Rattle.checked.specs.Checked.{solutionBoundsAfter, inverseBoundsAfter}
-use Rattle.checked.specs.Input.{Input, input, problem, short, inRanges}
-use Rattle.checked.specs.Order.{checkedOf, answer}
-use Rattle.checked.specs.Agree.{Agree}
-use Rattle.checked.proofs.Contract.{answer-range, answer-ready}
-use Rattle.checked.proofs.Fit.{fit-of}
-use Rattle.checked.proofs.Lengths.{Long, long-of}
-use Rattle.checked.proofs.Statements.{accepted-usable}
-use Rattle.checked.proofs.Written.{solution-written, inverse-written}
+use Rattle.checked.specs.Order.{checkedOf}
 
--- ---- problems of the same n, s and t
 module _ (n s t : ℕ) (A A′ : Mat) (b b′ : Vec) (d d′ : ℕ → ℕ) (X X′ : Vec) (G G′ : Mat) (w w′ : ℕ → ℕ) (hA : (i j : ℕ) → i < n → j < n → A i j ≡ A′ i j)
     (hb : (i : ℕ) → i < n → b i ≡ b′ i) (hd : (i : ℕ) → i < n → d i ≡ d′ i) (hX : (i : ℕ) → i < n → X i ≡ X′ i) (hG : (i j : ℕ) → i < n → j < n → G i j ≡ G′ i j) (hw : (i : ℕ) → i < n → w i ≡ w′ i) where
   abbrev P : Problem
@@ -49,7 +33,7 @@ module _ (n s t : ℕ) (A A′ : Mat) (b b′ : Vec) (d d′ : ℕ → ℕ) (X X
       go zero l = absurd (omega arith)
       go (suc n) l = omega arith
 
-  columns-same : (i : ℕ) → i < n * n → exceeds (columnOf P (i / n)) (i % n) ≡ exceeds (columnOf Q (i / n)) (i % n)
+  pub columns-same : (i : ℕ) → i < n * n → exceeds (columnOf P (i / n)) (i % n) ≡ exceeds (columnOf Q (i / n)) (i % n)
   columns-same i l =
       let j = i / n in
       let lj : i / n < n = div-lt-iff-lt-mul (some-of i l) .1 l in
@@ -66,101 +50,3 @@ module _ (n s t : ℕ) (A A′ : Mat) (b b′ : Vec) (d d′ : ℕ → ℕ) (X X
   pub inverse-same : (i j : ℕ) → i < n → j < n → inverseBound P i j ≡ inverseBound Q i j
   inverse-same i j li lj =
       bound-same n t t A A′ (column identity j) (column identity j) (λ k. 0) (λ k. 0) (column G j) (column G′ j) G G′ w w′ hA (λ k lk. refl) (λ k lk. refl) (λ k lk. hG k j lk lj) hG hw i li
-
--- ---- inputs of the same n, s and t
-module _ (I : Input) (B b′ d′ x′ H w′ : List ℤ) (E L : List ℕ) (hA : (k : ℕ) → k < I .n * I .n → at (I .matrix) k ≡ at B k) (hb : (k : ℕ) → k < I .n → at (I .right) k ≡ at b′ k)
-    (hd : (k : ℕ) → k < I .n → at (I .tolerance) k ≡ at d′ k) (hx : (k : ℕ) → k < I .n → at (I .guess) k ≡ at x′ k) (hG : (k : ℕ) → k < I .n * I .n → at (I .inverse) k ≡ at H k) (hw : (k : ℕ) → k < I .n → at (I .weights) k ≡ at w′ k) where
-  abbrev J : Input
-  J = input (I .n) (I .s) (I .t) B b′ d′ x′ H w′ E L
-
-  matrices : (i j : ℕ) → i < I .n → j < I .n → matrixOf (I .matrix) (I .n) i j ≡ matrixOf B (I .n) i j
-  matrices i j li lj = hA (i * I .n + j) (place li lj)
-
-  inverses : (i j : ℕ) → i < I .n → j < I .n → matrixOf (I .inverse) (I .n) i j ≡ matrixOf H (I .n) i j
-  inverses i j li lj = hG (i * I .n + j) (place li lj)
-
-  weighted : (i : ℕ) → i < I .n → natAbs (at (I .weights) i) ≡ natAbs (at w′ i)
-  weighted i l = ap natAbs (hw i l)
-
-  tolerances : (i : ℕ) → i < I .n → natAbs (at (I .tolerance) i) ≡ natAbs (at d′ i)
-  tolerances i l = ap natAbs (hd i l)
-
-  ranges-same : inRanges I ≡ inRanges J
-  ranges-same =
-      rw (
-        all-ext kind.Matrix (I .n * I .n) (at (I .matrix)) (at B) hA,
-        all-ext kind.Right (I .n) (at (I .right)) (at b′) hb,
-        all-ext kind.Tolerance (I .n) (at (I .tolerance)) (at d′) hd,
-        all-ext kind.Guess (I .n) (at (I .guess)) (at x′) hx,
-        all-ext kind.Inverse (I .n * I .n) (at (I .inverse)) (at H) hG,
-        all-ext kind.Weight (I .n) (at (I .weights)) (at w′) hw,
-      )
-
-  solution-here : (i : ℕ) → i < I .n → bound (problem I) i ≡ bound (problem J) i
-  solution-here =
-      bound-same (I .n) (I .s) (I .t) (matrixOf (I .matrix) (I .n)) (matrixOf B (I .n)) (vectorOf (I .right)) (vectorOf b′)
-      (λ i. natAbs (at (I .tolerance) i)) (λ i. natAbs (at d′ i)) (vectorOf (I .guess)) (vectorOf x′)
-      (matrixOf (I .inverse) (I .n)) (matrixOf H (I .n)) (λ i. natAbs (at (I .weights) i)) (λ i. natAbs (at w′ i)) matrices hb tolerances hx inverses weighted
-
-  inverse-here : (i j : ℕ) → i < I .n → j < I .n → inverseBound (problem I) i j ≡ inverseBound (problem J) i j
-  inverse-here =
-      inverse-same (I .n) (I .s) (I .t) (matrixOf (I .matrix) (I .n)) (matrixOf B (I .n)) (vectorOf (I .right)) (vectorOf b′)
-      (λ i. natAbs (at (I .tolerance) i)) (λ i. natAbs (at d′ i)) (vectorOf (I .guess)) (vectorOf x′)
-      (matrixOf (I .inverse) (I .n)) (matrixOf H (I .n)) (λ i. natAbs (at (I .weights) i)) (λ i. natAbs (at w′ i)) matrices hb tolerances hx inverses weighted
-
-  checked-here : checkedOf (problem I) ≡ checkedOf (problem J)
-  checked-here =
-      checked-same (I .n) (I .s) (I .t) (matrixOf (I .matrix) (I .n)) (matrixOf B (I .n)) (vectorOf (I .right)) (vectorOf b′)
-      (λ i. natAbs (at (I .tolerance) i)) (λ i. natAbs (at d′ i)) (vectorOf (I .guess)) (vectorOf x′)
-      (matrixOf (I .inverse) (I .n)) (matrixOf H (I .n)) (λ i. natAbs (at (I .weights) i)) (λ i. natAbs (at w′ i)) matrices hb tolerances hx inverses weighted
-
-  answer-same : short I ≡ false → short J ≡ false → answer I ≡ answer J
-  answer-same e f = go (inRanges I) refl
-    where
-      go : (x : Bool) → inRanges I ≡ x → answer I ≡ answer J
-      go true h = answer-ready I e h ∙ checked-here ∙ sym (answer-ready J f (sym ranges-same ∙ h))
-      go false h = answer-range I e h ∙ sym (answer-range J f (sym ranges-same ∙ h))
-
--- ---- any two inputs that agree
-module _ (I J : Input) (a : Agree I J) where
-  abbrev K : Input
-  K = input (I .n) (I .s) (I .t) (J .matrix) (J .right) (J .tolerance) (J .guess) (J .inverse) (J .weights) (J .solutionBounds) (J .inverseBounds)
-
-  K-is : K ≡ J
-  K-is = rw (a .n, a .s, a .t)
-
-  pub same-answer : answer I ≡ answer J
-  same-answer =
-      answer-same I (J .matrix) (J .right) (J .tolerance) (J .guess) (J .inverse) (J .weights) (J .solutionBounds) (J .inverseBounds) (a .matrix) (a .right) (a .tolerance) (a .guess) (a .inverse) (a .weights)
-      (a .long) (a .long′) ∙ ap answer K-is
-
-  module _ (e : answer I ≡ []) where
-    few : I .n ≤ 32
-    few = fit-of I (a .long) (accepted-usable I e .inside) .few
-
-    some : 0 < I .n
-    some = fit-of I (a .long) (accepted-usable I e .inside) .some
-
-    long : Long K
-    long = long-of K (a .long′)
-
-    pub same-solution : (i : ℕ) → i < I .n → getD (solutionBoundsAfter I) i 0 ≡ getD (solutionBoundsAfter J) i 0
-    same-solution i l = here ∙ ap (λ (X : Input). getD (solutionBoundsAfter X) i 0) K-is
-      where
-        here : getD (solutionBoundsAfter I) i 0 ≡ getD (solutionBoundsAfter K) i 0
-        here =
-            rw (solution-written I e, solution-written K (ap answer K-is ∙ sym same-answer ∙ e))
-            (front-at (I .solutionBounds) (bound (problem I)) 0 (I .n) i l (omega (arith, few, long-of I (a .long) .solution))
-            ∙ solution-here I (J .matrix) (J .right) (J .tolerance) (J .guess) (J .inverse) (J .weights) (J .solutionBounds) (J .inverseBounds) (a .matrix) (a .right) (a .tolerance) (a .guess) (a .inverse) (a .weights) i l
-            ∙ sym (front-at (J .solutionBounds) (bound (problem K)) 0 (I .n) i l (omega (arith, few, long .solution))))
-
-    pub same-inverse : (k : ℕ) → k < I .n * I .n → getD (inverseBoundsAfter I) k 0 ≡ getD (inverseBoundsAfter J) k 0
-    same-inverse k l = here ∙ ap (λ (X : Input). getD (inverseBoundsAfter X) k 0) K-is
-      where
-        here : getD (inverseBoundsAfter I) k 0 ≡ getD (inverseBoundsAfter K) k 0
-        here =
-            rw (inverse-written I e, inverse-written K (ap answer K-is ∙ sym same-answer ∙ e))
-            (front-at (I .inverseBounds) (λ (x : ℕ). inverseBound (problem I) (x / I .n) (x % I .n)) 0 (I .n * I .n) k l (omega (arith, square few, long-of I (a .long) .inverses))
-            ∙ inverse-here I (J .matrix) (J .right) (J .tolerance) (J .guess) (J .inverse) (J .weights) (J .solutionBounds) (J .inverseBounds) (a .matrix) (a .right) (a .tolerance) (a .guess) (a .inverse) (a .weights)
-            (k / I .n) (k % I .n) (div-lt-iff-lt-mul some .1 l) (mod-lt k some)
-            ∙ sym (front-at (J .inverseBounds) (λ (x : ℕ). inverseBound (problem K) (x / I .n) (x % I .n)) 0 (I .n * I .n) k l (omega (arith, square few, long .inverses))))

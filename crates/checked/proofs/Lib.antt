@@ -5,8 +5,11 @@ pub mod Fit
 pub mod Contract
 pub mod Statements
 pub mod Agreement
+pub mod Answers01
+pub mod Agreed
 pub mod Before
 pub mod Tightened
+pub mod Limits01
 pub mod Largest
 pub mod Table
 pub mod Heights

@@ -1,4 +1,4 @@
--- Two inputs whose lists are long enough and agree on the places used: they are answered alike (proofs/Agreement), so the rest of each
+-- Two inputs whose lists are long enough and agree on the places used: they are answered alike (proofs/Agreed), so the rest of each
 -- list is not read.
 use mathlib.Core.Bool.{false}
 use mathlib.Core.Path.{_≡_}

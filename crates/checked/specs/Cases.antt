@@ -2,20 +2,19 @@
 -- and h become 6, row 1; j becomes 7, column 2 row 1"), and rows with tolerances (Paper 5). Rows and columns count from 1, as there.
 --   Claim   — a limit that 01 states: of the solution, or of a number of the inverse
 --   Row, row — a proposal, what is said of it (nothing: accepted), and the limits that are written
---   LimitRow, limitRow — a row and the limits that 01 states for it
 --   single, variant, twice — rows of a common shape, without tolerance; fileWith — the whole file's, with tolerances;  a to k, rows — the rows of the table
 --   weightedFile — the whole file with weights 3 and 1: dividing first and multiplying by the weight afterwards would give 3 for 1
 --   skewed d b c g — A = (4 0 / 1 4), whose sums are 4 and 5 along its rows, 5 and 4 down its columns and 9 in all, with the residuals b and c of the guess,
 --     the slack d in the first row, and −4·g and −g for the residuals of the inverse's second column
 --   rowSumRows — that row, and rows whose residual is at and above the sum along its row (Paper 9), of the guess and of the inverse, worked out by hand
---   limitRows — what 01 states for those of its cases that Paper 9 refuses: limits that are still true ("Limits already in the register remain true")
 --   tolerant d s — A = 1, b = 0 with the tolerance d: the limit is d·S, and 6 comes of slack alone;  summed a — A = a with a residual of a and a slack of
 --     63·2^19: the two are 2^25 together for a = 2^19;  toleranceRows — rows of these shapes, and the whole file with tolerances 1 and 2, worked out by hand
 --   unwritten — what stands in the limit lists before the check
 --   inputOf — the row's numbers in lists that are long enough
---   claimed, allClaimed — a limit, all limits that a row states are what the lists hold after the check
---   defined, allDefined — the same by the definitions of the limits, which do not know of a refusal;  limitsHold, allLimitsHold — of a row, of all rows
---   sameNumbers — two lists of numbers are equal;  rowHolds, allRowsHold — a row, all rows of the table hold
+--   claimed n E L, allClaimed n E L — a limit, all limits that a row states are what the lists E and L hold, of n equations
+--   sameNumbers — two lists of numbers are equal
+--   holdsBy says E L, allHoldBy says E L — a row, all rows hold by a check that says this and leaves the two limit lists E and L
+--   rowHolds, allRowsHold — they hold by the check on lists
 use mathlib.Core.Bool.{Bool, true, false, _&&_}
 use mathlib.Core.List.{List, [], _∷_}
 use Prim.Native.Nat.{ℕ, _+_, _*_, _-_, _^_}
@@ -23,9 +22,7 @@ use lib.Dec.{eqb}
 use lib.IntN.{ℤ, pos, negsuc}
 use lib.ListN.{getD, replicate}
 use Rattle.enclosure.specs.Example.{padded}
-use Rattle.enclosure.specs.Problem.{Problem}
-use Rattle.enclosure.specs.Reckoning.{bound, inverseBound}
-use Rattle.checked.specs.Input.{Input, input, problem}
+use Rattle.checked.specs.Input.{Input, input}
 use Rattle.checked.specs.Order.{answer}
 use Rattle.checked.specs.Checked.{solutionBoundsAfter, inverseBoundsAfter}
 
@@ -60,13 +57,6 @@ row n s t A b d X G w says bounds = record {
   says = says;
   bounds = bounds;
 }
-
-pub record LimitRow : Type 0 where
-  pub of : Row
-  pub bounds : List Claim
-
-abbrev pub limitRow : Row → List Claim → LimitRow
-limitRow r bounds = record { of = r; bounds = bounds }
 
 -- n = 1, b = 0, w = 1
 abbrev pub single : ℤ → ℕ → ℕ → ℤ → ℤ → List ℕ → List Claim → Row
@@ -146,16 +136,6 @@ rowSumRows =
     ∷ skewed (pos 0) (pos 0) (pos 0) (pos 2) (7 ∷ 2 ∷ 1 ∷ []) []
     ∷ []
 
-abbrev pub limitRows : List LimitRow
-limitRows =
-    limitRow a (solution 1 0 ∷ inverse 1 1 3 ∷ [])
-    ∷ limitRow b (solution 1 0 ∷ inverse 1 1 21 ∷ [])
-    ∷ limitRow f (solution 1 4 ∷ solution 2 4 ∷ [])
-    ∷ limitRow g (solution 1 4 ∷ solution 2 2 ∷ [])
-    ∷ limitRow h (solution 1 32 ∷ [])
-    ∷ limitRow j (inverse 1 2 33 ∷ inverse 2 2 33 ∷ [])
-    ∷ []
-
 abbrev pub tolerant : ℤ → ℕ → List ℕ → List Claim → Row
 tolerant d s = row 1 s 4 (pos 1 ∷ []) (pos 0 ∷ []) (d ∷ []) (pos 0 ∷ []) (pos 16 ∷ []) (pos 1 ∷ [])
 
@@ -185,28 +165,13 @@ inputOf r =
     input (r .n) (r .s) (r .t) (padded (r .A)) (padded (r .b)) (padded (r .d)) (padded (r .X)) (padded (r .G)) (padded (r .w))
     (replicate 32 unwritten) (replicate 1024 unwritten)
 
-abbrev pub claimed : Input → Claim → Bool
-claimed I (solution i bound) = eqb (getD (solutionBoundsAfter I) (i - 1) 0) bound
-claimed I (inverse i j bound) = eqb (getD (inverseBoundsAfter I) ((i - 1) * I .n + (j - 1)) 0) bound
+abbrev pub claimed : ℕ → List ℕ → List ℕ → Claim → Bool
+claimed n E L (solution i bound) = eqb (getD E (i - 1) 0) bound
+claimed n E L (inverse i j bound) = eqb (getD L ((i - 1) * n + (j - 1)) 0) bound
 
-abbrev pub allClaimed : Input → List Claim → Bool
-allClaimed I [] = true
-allClaimed I (x ∷ xs) = claimed I x && allClaimed I xs
-
-abbrev pub defined : Problem → Claim → Bool
-defined P (solution i limit) = eqb (bound P (i - 1)) limit
-defined P (inverse i j limit) = eqb (inverseBound P (i - 1) (j - 1)) limit
-
-abbrev pub allDefined : Problem → List Claim → Bool
-allDefined P [] = true
-allDefined P (x ∷ xs) = defined P x && allDefined P xs
-
-abbrev pub limitsHold : LimitRow → Bool
-limitsHold r = allDefined (problem (inputOf (r .of))) (r .bounds)
-
-abbrev pub allLimitsHold : List LimitRow → Bool
-allLimitsHold [] = true
-allLimitsHold (r ∷ rs) = limitsHold r && allLimitsHold rs
+abbrev pub allClaimed : ℕ → List ℕ → List ℕ → List Claim → Bool
+allClaimed n E L [] = true
+allClaimed n E L (x ∷ xs) = claimed n E L x && allClaimed n E L xs
 
 abbrev pub sameNumbers : List ℕ → List ℕ → Bool
 sameNumbers [] [] = true
@@ -214,9 +179,15 @@ sameNumbers [] (y ∷ ys) = false
 sameNumbers (x ∷ xs) [] = false
 sameNumbers (x ∷ xs) (y ∷ ys) = eqb x y && sameNumbers xs ys
 
+abbrev pub holdsBy : (Input → List ℕ) → (Input → List ℕ) → (Input → List ℕ) → Row → Bool
+holdsBy says E L r = sameNumbers (says (inputOf r)) (r .says) && allClaimed (r .n) (E (inputOf r)) (L (inputOf r)) (r .bounds)
+
+abbrev pub allHoldBy : (Input → List ℕ) → (Input → List ℕ) → (Input → List ℕ) → List Row → Bool
+allHoldBy says E L [] = true
+allHoldBy says E L (r ∷ rs) = holdsBy says E L r && allHoldBy says E L rs
+
 abbrev pub rowHolds : Row → Bool
-rowHolds r = sameNumbers (answer (inputOf r)) (r .says) && allClaimed (inputOf r) (r .bounds)
+rowHolds = holdsBy answer solutionBoundsAfter inverseBoundsAfter
 
 abbrev pub allRowsHold : List Row → Bool
-allRowsHold [] = true
-allRowsHold (r ∷ rs) = rowHolds r && allRowsHold rs
+allRowsHold = allHoldBy answer solutionBoundsAfter inverseBoundsAfter

@@ -4,5 +4,6 @@ pub mod Checked
 pub mod Stated
 pub mod Cases
 pub mod Before
+pub mod Cases01
 pub mod Tightened
 pub mod Agree

@@ -1,6 +1,6 @@
 -- The refusals of a check on lists in 01's order: 8, 3, 5, 6, 7.
 --   firstMargin P   — the lowest row whose margin is 0 or less; n where there is none
---   firstResidual P — the lowest row whose residual with its slack is too large; n where there is none
+--   firstResidual P — the lowest row whose residual is too large, with its slack above 2^25 or without it above the sum along its row; n where there is none
 --   firstInversePlace P — the lowest column, then its lowest row, of a residual of the inverse that is too large: column · n + row;
 --     n · n where there is none
 --   reckoned n m k i — 5 at row m, 6 at row k, 7 at place i;  reckonedOf P — at the first of each

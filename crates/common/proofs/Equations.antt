@@ -3,19 +3,18 @@
 --   same-of, of-same   — the test of the equations, and its record
 --   exchanged-same     — in the other order
 --   right-carried, solution-carried, at-b-carried — a right side within the tolerances, an exact solution of one, and one of b itself
-use mathlib.Core.Path.{_≡_, refl, sym, ap, _∙_}
+use mathlib.Core.Path.{_≡_, sym, ap, _∙_}
 use mathlib.Core.Bool.{true}
 use mathlib.Core.List.{List}
-use Prim.Native.Nat.{ℕ, zero, suc, _*_, _<_}
-use native.Mathlib.Omega.{arith}
+use Prim.Native.Nat.{ℕ, _*_, _<_}
 use borrow.Author.Tests.{eqb-true, eq-eqb}
 use lib.Dec.{eqb}
 use lib.IntN.{ℤ, _*ℤ_}
-use Rattle.integer.proofs.Search.{upto}
 use Rattle.integer.proofs.Sum.{sum-ext}
 use Rattle.linear.specs.Matrix.{Vec, apply}
 use Rattle.linear.specs.Slice.{at, matrixOf}
 use Rattle.linear.proofs.Places.{place}
+use Rattle.rules.proofs.Every.{every-at, every-in}
 use Rattle.rules.proofs.Ranges.{both, both-left, both-right}
 use Rattle.enclosure.specs.Demand.{RightSide, ExactSolution, ExactSolutionOf}
 use Rattle.checked.specs.Input.{Input, problem}
@@ -27,15 +26,11 @@ use Rattle.common.specs.Stated.{SameEquations}
 -- ---- the test
 all-same : (n : ℕ) (f g : ℕ → ℤ) → allSame n f g ≡ true → (k : ℕ) → k < n → f k ≡ g k
 unfolding allSame
-all-same zero f g e k l = absurd (omega arith)
-all-same (suc n) f g e k l =
-    upto (λ (j : ℕ). f j ≡ g j) n k l (all-same n f g (both-right (sameNumber (f n) (g n)) _ e)) (same-number (f n) (g n) (both-left _ _ e))
+all-same n f g e k l = same-number (f k) (g k) (every-at n (λ (i : ℕ). sameNumber (f i) (g i)) e k l)
 
 same-all : (n : ℕ) (f g : ℕ → ℤ) → ((k : ℕ) → k < n → f k ≡ g k) → allSame n f g ≡ true
 unfolding allSame
-same-all zero f g h = refl
-same-all (suc n) f g h =
-    both (ap (λ (z : ℤ). sameNumber z (g n)) (h n (omega arith)) ∙ number-same (g n)) (same-all n f g (λ k l. h k (omega arith)))
+same-all n f g h = every-in n (λ (i : ℕ). sameNumber (f i) (g i)) (λ k l. ap (λ (z : ℤ). sameNumber z (g k)) (h k l) ∙ number-same (g k))
 
 module _ (I J : Input) where
   pub same-of : sameEquations I J ≡ true → SameEquations I J

@@ -4,5 +4,6 @@ pub mod Contains
 pub mod Contract
 pub mod Statements
 pub mod Exchanged
+pub mod Unread
 pub mod Sizes
 pub mod Cases

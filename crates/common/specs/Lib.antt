@@ -3,4 +3,5 @@ pub mod Ends
 pub mod Answer
 pub mod Stated
 pub mod Promised
+pub mod Agree
 pub mod Cases

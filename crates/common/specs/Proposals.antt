@@ -8,13 +8,13 @@
 --     differ
 --   mostSteps — 2^36, the largest size of a guess
 --   tooWide I — a solution limit of I is above 2^36, in its own steps
-use mathlib.Core.Bool.{Bool, true, _&&_, _||_}
+use mathlib.Core.Bool.{Bool, _&&_, _||_}
 use mathlib.Core.List.{List}
-use Prim.Native.Nat.{ℕ, zero, suc, _*_, _^_}
+use Prim.Native.Nat.{ℕ, _*_, _^_}
 use lib.Dec.{eqb, ltb}
 use lib.IntN.{ℤ}
 use lib.ListN.{length, replicate}
-use Rattle.integer.specs.Finite.{largest}
+use Rattle.integer.specs.Finite.{largest, every}
 use Rattle.linear.specs.Slice.{at}
 use Rattle.rules.specs.Range.{shortColumn}
 use Rattle.enclosure.specs.Reckoning.{bound}
@@ -39,8 +39,7 @@ abbrev pub shortIntervals : Proposals → Bool
 shortIntervals Q = shortColumn (length (Q .low)) || shortColumn (length (Q .high))
 
 unfoldable pub allSame : ℕ → (ℕ → ℤ) → (ℕ → ℤ) → Bool
-allSame zero f g = true
-allSame (suc n) f g = sameNumber (f n) (g n) && allSame n f g
+allSame n f g = every n (λ (i : ℕ). sameNumber (f i) (g i))
 
 -- 02: "New 20, if size, matrix, right side or tolerances differ"
 abbrev pub sameEquations : Input → Input → Bool

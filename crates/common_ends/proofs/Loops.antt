@@ -6,8 +6,6 @@ use mathlib.Core.Bool.{Bool, true, false, _&&_, _||_}
 use mathlib.Core.List.{List}
 use Prim.Native.Nat.{ℕ, _+_, _≤_, _<_, _^_, max}
 use native.Mathlib.Omega.{arith}
-use native.Mathlib.Nat.{le-antisymm}
-use native.Mathlib.Numerals.{add-one}
 use borrow.Author.Tests.{ltb-true, ltb-false, lt-ltb, le-ltb}
 use lib.Dec.{ltb}
 use lib.IntN.{ℤ}
@@ -15,20 +13,22 @@ use Rattle.integer.specs.Finite.{largest}
 use Rattle.integer.proofs.Search.{largest-none, largest-next, largest-end, largest-at}
 use Rattle.linear.specs.Reach.{ColumnList}
 use Rattle.integer.specs.Same.{sameNumber}
+use Rattle.rules.proofs.Every.{every-none, every-next, every-end}
 use Rattle.common.specs.Proposals.{allSame, mostSteps}
 use Rattle.common_ends.specs.Met.{limitAt, wideLimits, Fitting}
 
 module _ (f g : ℕ → ℤ) where
   pub same-none : allSame 0 f g ≡ true
   unfolding allSame
-  same-none = refl
+  same-none = every-none (λ (i : ℕ). sameNumber (f i) (g i))
 
   pub same-next : (n : ℕ) → allSame (n + 1) f g ≡ (sameNumber (f n) (g n) && allSame n f g)
   unfolding allSame
-  same-next n = ap (λ (k : ℕ). allSame k f g) (add-one n)
+  same-next n = every-next n (λ (i : ℕ). sameNumber (f i) (g i))
 
   pub same-end : {i n : ℕ} → i ≤ n → n ≤ i → allSame i f g ≡ allSame n f g
-  same-end p q = ap (λ (k : ℕ). allSame k f g) (le-antisymm p q)
+  unfolding allSame
+  same-end = every-end (λ (i : ℕ). sameNumber (f i) (g i))
 
 pub last-decides : {a b c d r : Bool} → a ≡ true → b ≡ true → c ≡ true → r ≡ d → r ≡ (a && (b && (c && d)))
 last-decides x y z e = rw (x, y, z) e

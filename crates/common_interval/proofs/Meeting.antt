@@ -35,8 +35,8 @@ use Rattle.common.specs.Proposals.{Proposals, shortIntervals, sameEquations, mo
 use Rattle.common.proofs.Contract.{long-low, long-high, common-wide, common-found}
 use Rattle.common.proofs.Equations.{same-of}
 use Rattle.common_ends.specs.Met.{limitAt, wideLimits, lowsOf, highsOf, Met, too-wide, narrow}
-use Rattle.common_interval.specs.Checks.{ProposalChecked}
-use Rattle.common_interval.specs.declared.CheckedProposal.{CheckedProposal}
+use Rattle.held_check.specs.Held.{HeldAs}
+use Rattle.held_check.specs.declared.Held.{Held}
 
 module _ (Q : Proposals) where
   pub short-low : length (Q .low) < 32 → shortIntervals Q ≡ true
@@ -48,12 +48,12 @@ module _ (Q : Proposals) where
   pub long-both : 32 ≤ length (Q .low) → 32 ≤ length (Q .high) → shortIntervals Q ≡ false
   long-both l h = neither (le-ltb (length (Q .low)) 32 l) (le-ltb (length (Q .high)) 32 h)
 
-module _ (I : Input) (c : CheckedProposal) (x : ProposalChecked I c) where
+module _ (I : Input) (c : Held) (x : HeldAs I c) where
   pub said-refused : (r : Refusal) → c .outcome ≡ Refused r → said (Refused r) ≡ answer I
-  said-refused r e = ap said (sym e) ∙ x .checked .says
+  said-refused r e = ap said (sym e) ∙ x .says
 
   pub said-accepted : c .outcome ≡ Accepted → answer I ≡ []
-  said-accepted e = sym (x .checked .says) ∙ ap said e
+  said-accepted e = sym (x .says) ∙ ap said e
 
 module _ (I : Input) (a : answer I ≡ []) where
   pub fit : Fit I
@@ -62,9 +62,9 @@ module _ (I : Input) (a : answer I ≡ []) where
   pub long : Long I
   long = long-of I (accepted-usable I a .long)
 
-  pub limit-is : (c : CheckedProposal) → ProposalChecked I c → (i : ℕ) → i < I .n → limitAt (c .solution) i ≡ bound (problem I) i
+  pub limit-is : (c : Held) → HeldAs I c → (i : ℕ) → i < I .n → limitAt (c .solution) i ≡ bound (problem I) i
   limit-is c x i l =
-      ap (λ (E : List ℕ). getD E i 0) (x .checked .solution-bounds ∙ solution-written I a)
+      ap (λ (E : List ℕ). getD E i 0) (x .solution-bounds ∙ solution-written I a)
       ∙ front-at (I .solutionBounds) (bound (problem I)) 0 (I .n) i l (omega (arith, fit .few, fit .solution-long))
 
 pub equations-ready : (I J : Input) → answer I ≡ [] → answer J ≡ [] →
@@ -85,7 +85,7 @@ meeting-ready Q e a b s =
       ((f .solution-scale, g .solution-scale), (f .guess, subst (λ (n : ℕ). ColumnList (Q .second .guess) n (2 ^ 36)) (sym (same-of (Q .first) (Q .second) s .n)) (g .guess))),
     )
 
-module _ (Q : Proposals) (c d : CheckedProposal) (x : ProposalChecked (Q .first) c) (y : ProposalChecked (Q .second) d) (e : shortIntervals Q ≡ false)
+module _ (Q : Proposals) (c d : Held) (x : HeldAs (Q .first) c) (y : HeldAs (Q .second) d) (e : shortIntervals Q ≡ false)
     (a : answer (Q .first) ≡ []) (b : answer (Q .second) ≡ []) (s : sameEquations (Q .first) (Q .second) ≡ true) where
   abbrev I : Input
   I = Q .first

@@ -1,51 +1,11 @@
 // Two proposals for the same equations: each height's common interval (document 02, Paper 13).
 ghost use Rattle.common.specs.Answer.{CommonAs};
 ghost use Rattle.common.specs.Proposals.{proposal, proposals};
-ghost use Rattle.common_interval.specs.Checks.{ProposalChecked};
-use checker::check;
 use common::Common;
 use common_ends::are_equations_same;
 use common_ends::meet;
+use held_check::check_held;
 use rules::Outcome;
-
-// What the check of a proposal says, and its solution limits.
-pub struct CheckedProposal {
-    pub outcome: Outcome,
-    pub solution: [u64; 32],
-}
-
-// The check of one proposal, with lists of its own for the limits.
-fn check_proposal(
-    n: u32,
-    s: u32,
-    t: u32,
-    matrix: &[i64],
-    right: &[i64],
-    tolerance: &[i64],
-    guess: &[i64],
-    inverse: &[i64],
-    weights: &[i64],
-) -> CheckedProposal
-    ensures { λ r. ⌜ ProposalChecked (proposal n s t (now (matrix .entry)) (now (right .entry)) (now (tolerance .entry))
-        (now (guess .entry)) (now (inverse .entry)) (now (weights .entry))) r ⌝ }
-{
-    let mut solution = [0u64; 32];
-    let mut inverse_bounds = [0u64; 1024];
-    let outcome = check(
-        n,
-        s,
-        t,
-        matrix,
-        right,
-        tolerance,
-        guess,
-        inverse,
-        weights,
-        &mut solution,
-        &mut inverse_bounds,
-    );
-    CheckedProposal { outcome, solution }
-}
 
 // The common interval of each height, in the finer of the two steps. Order: 8 for an interval list, the first proposal, the second, 20, 21; a refusal leaves
 // both interval lists as they were.
@@ -82,7 +42,7 @@ pub fn common_interval(
     if high.len() < 32 {
         return Common::TooShort;
     }
-    let first = check_proposal(
+    let first = check_held(
         n1,
         s1,
         t1,
@@ -97,7 +57,7 @@ pub fn common_interval(
     match said1 {
         Outcome::Refused(refusal) => Common::First(refusal),
         Outcome::Accepted => {
-            let second = check_proposal(
+            let second = check_held(
                 n2,
                 s2,
                 t2,

@@ -1,26 +1,20 @@
 -- What a file's lines gave is what its forms give, so what is delivered for the collected numbers is delivered for the file.
---   wide, narrow, held-numbers, held-tolerances — the collected numbers that count are those that the forms give
+--   numbers, tolerances — the collected numbers that count are those that the forms give
 --   ready         — what a delivery asks of the collected numbers
 --   held-said, held-open — what is said of them is said of the file
 --   file-delivered, file-refused — the contract of `convert_file`, where every line is accepted and where one is refused
 use mathlib.Core.Path.{_≡_, refl, sym, ap, subst, _∙_}
 use mathlib.Core.Bool.{Bool, true, false}
 use mathlib.Core.List.{List, [], _∷_}
-use Prim.Native.Nat.{ℕ, suc, _+_, _*_, _-_, _<_}
-use native.Mathlib.Omega.{arith}
+use Prim.Native.Nat.{ℕ}
 use lib.Dec.{ltb}
-use lib.IntN.{pos, natAbs}
-use lib.ListN.{length, getD}
+use lib.ListN.{length}
 use Rattle.integer.specs.Finite.{largest}
 use Rattle.integer.proofs.Search.{largest-ext}
 use Rattle.rules.specs.Refusal.{said, numberOf, valuesOf}
 use Rattle.rules.specs.declared.Outcome.the-variants.{Accepted, Refused}
 use Rattle.rules.specs.declared.Refusal.{Refusal}
-use Rattle.form.specs.Form.{Form}
-use Rattle.lent_lists.specs.Slot.{Slot, Matrix, Right, Tolerance, Guess, Inverse, Weight, width}
-use Rattle.lent_lists.specs.Lists.{listOf}
 use Rattle.given_forms.specs.Progress.{ended}
-use Rattle.line_runs.specs.Given.{valueFrom}
 use Rattle.line_runs.specs.Holds.{InRange}
 use Rattle.line_runs.specs.Lines.{linesOf}
 use Rattle.line_runs.specs.Read.{readingOf}
@@ -35,25 +29,11 @@ use Rattle.old_edition.specs.declared.Converted.the-variants as converted
 use Rattle.old_edition.specs.Converted.{someTolerance, convertAnswer, Delivered, ConvertedAs, ConvertedAt}
 use Rattle.old_edition.specs.File.{oldFile, newFile}
 use Rattle.old_edition.specs.Numbers.{SameNumbers, SameTolerances}
+use Rattle.old_edition.proofs.Limits.{held-numbers, held-tolerances}
 use Rattle.old_edition.proofs.Same.{same-numbers}
 use Rattle.old_edition.proofs.Stated.{said-of-line, said-open, said-complete}
 use Rattle.conversion.specs.Written.{heldBy}
 use Rattle.converter.specs.Held.{InRangeAtEnd, heldAnswer}
-
--- ---- the collected numbers
-module _ (c : Collected) (fs : List Form) (h : FromForms fs (stateOf c)) where
-  abbrev n : ℕ
-  n = c .loader .n
-
-  wide : (s : Slot) → width s n ≡ n → (i j : ℕ) → i < n → j < n → getD (listOf s (stateOf c .lists)) (i * n + j) (pos 0) ≡ valueFrom fs s (suc i) j
-  wide s w i j li lj =
-      let place : (suc i - 1) * width s n + j ≡ i * n + j = let f : suc i - 1 ≡ i = omega arith in rw (w, f) in
-      subst (λ (k : ℕ). getD (listOf s (stateOf c .lists)) k (pos 0) ≡ valueFrom fs s (suc i) j) place (h .values s (suc i) j (omega arith) (omega arith) (rw w lj))
-
-  narrow : (s : Slot) → width s n ≡ 1 → (i : ℕ) → i < n → getD (listOf s (stateOf c .lists)) i (pos 0) ≡ valueFrom fs s (suc i) 0
-  narrow s w i li =
-      let place : (suc i - 1) * width s n + 0 ≡ i = rw w (omega arith) in
-      subst (λ (k : ℕ). getD (listOf s (stateOf c .lists)) k (pos 0) ≡ valueFrom fs s (suc i) 0) place (h .values s (suc i) 0 (omega arith) (omega arith) (rw w (omega arith)))
 
 module _ (file : List ℕ) {c : Collected} (read : ReadAs file c) (e : c .outcome ≡ Accepted) where
   quiet : readingOf file .said ≡ []
@@ -69,29 +49,18 @@ module _ (file : List ℕ) {c : Collected} (read : ReadAs file c) (e : c .outcom
     given : FromForms (forms (linesOf file)) (stateOf c)
     given = subst (λ (u : State). FromForms (forms (linesOf file)) u) (sym (read .state)) (from file quiet end)
 
-    held-numbers : SameNumbers (heldBy c) (problemIn file)
-    held-numbers =
-        let fs = forms (linesOf file) in
-        record {
-          size = given .size;
-          solution = given .scales .0;
-          inverse-scale = given .scales .1;
-          matrix = wide c fs given Matrix refl;
-          right = narrow c fs given Right refl;
-          guess = narrow c fs given Guess refl;
-          inverse = wide c fs given Inverse refl;
-          weights = λ i l. ap natAbs (narrow c fs given Weight refl i l);
-        }
+    numbers : SameNumbers (heldBy c) (problemIn file)
+    numbers = held-numbers (stateOf c) (forms (linesOf file)) given
 
-    held-tolerances : SameTolerances (heldBy c) (problemIn file)
-    held-tolerances i l = ap natAbs (narrow c (forms (linesOf file)) given Tolerance refl i l)
+    tolerances : SameTolerances (heldBy c) (problemIn file)
+    tolerances = held-tolerances (stateOf c) (forms (linesOf file)) given
 
     same-text : oldFile (heldBy c) ≡ newFile file
-    same-text = same-numbers (heldBy c) (problemIn file) held-numbers
+    same-text = same-numbers (heldBy c) (problemIn file) numbers
 
     same-tolerance : someTolerance (heldBy c) ≡ someTolerance (problemIn file)
     same-tolerance =
-        ap (ltb 0) (largest-ext (heldBy c .n) (heldBy c .d) (problemIn file .d) held-tolerances ∙ ap (λ (k : ℕ). largest k (problemIn file .d)) (held-numbers .size))
+        ap (ltb 0) (largest-ext (heldBy c .n) (heldBy c .d) (problemIn file .d) tolerances ∙ ap (λ (k : ℕ). largest k (problemIn file .d)) (numbers .size))
 
     held-said : (room : ℕ) → heldAnswer c room ≡ convertAnswer file room
     held-said room = rw (z, same-tolerance, same-text) (sym (said-complete file room whole))

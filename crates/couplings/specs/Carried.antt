@@ -1,7 +1,8 @@
 -- What a dependent net takes over from the main net, from lists; cited by contracts inside. C stands row after row, `marks` numbers a row.
 --   baseFrom marks base coupling guess k — a base less row k of C times the main net's guess
---   limitCap — 2^25 + 1: a limit counts for so much at most in the code's slack, so that the sum fits. The definition's slack is exact; the law `capped-test`
---     of proofs/Cap says that both are above what is allowed alike, and `capped-equal` that they are equal where neither is
+--   limitCap — 2^25 + 1: a larger limit counts as this in the code's slack, so that the sum fits. The slack of the definitions has no such cap. By the laws of
+--     proofs/Cap a residual with the one slack is above 2^25 exactly where it is with the other (`capped-test`), and where it is not the two slacks are equal
+--     (`capped-equal`)
 --   cappedSum marks coupling limits k — the sum over j of |C_kj|·min(E_j, 2^25 + 1)
 use mathlib.Core.List.{List}
 use Prim.Native.Nat.{ℕ, _+_, _*_, min}

@@ -2,7 +2,7 @@
 --   nets-hold — one theorem for all rows, computed
 use mathlib.Core.Path.{_≡_, refl}
 use mathlib.Core.Bool.{true}
-use Rattle.integer.specs.Finite.{sum, sumℕ, largest, first}
+use Rattle.integer.specs.Finite.{sum, sumℕ, largest, first, every}
 use Rattle.integer.specs.Quotient.{ceilDiv}
 use Rattle.linear.specs.Matrix.{apply, product, identity}
 use Rattle.linear.specs.Written.{written}
@@ -14,5 +14,5 @@ use Rattle.dependent.specs.Order.{dependentAnswer, jointAnswer}
 use Rattle.dependent.specs.Cases.{netsRows, allNetsHold}
 
 pub nets-hold : allNetsHold netsRows ≡ true
-unfolding sum sumℕ largest first ceilDiv apply product identity ranges rangeOf inRange allInRange defect load margin residual rowSum exceeds sizesWith boundFrom boundWith bound written answer dependentResidual dependentSlack dependentAnswer jointAnswer
+unfolding sum sumℕ largest first ceilDiv apply product identity ranges rangeOf inRange allInRange defect load margin residual rowSum exceeds sizesWith boundFrom boundWith bound written answer dependentResidual dependentSlack dependentAnswer jointAnswer every
 nets-hold = refl

@@ -2,27 +2,32 @@
 --   accepted-here — both nets are accepted;  encloses-here — and their limits enclose
 --   near₁, near₂, solved — the right sides 9/3 and 1/1 are within the tolerances, and 3 and 7 are their joint solution
 --   limits-here, reached — the limits are 48 and 112, and that joint solution lies just so far from both guesses, so that no smaller slack would do
+--   bothElse, both-agree — the same nets in lists with a 7 at every place past those used agree with them
 --   apart-here, apart-sums, apart-said — with C = 0 the nets are uncoupled, the guess meets Paper 9's sums, and both are accepted
 use mathlib.Core.Path.{_≡_, refl}
-use mathlib.Core.List.{[]}
+use mathlib.Core.List.{List, [], _∷_, _++_}
 use Prim.Native.Nat.{ℕ, zero, suc, _*_, _<_}
 use native.Mathlib.Omega.{arith}
 use lib.Dec.{lit≤}
-use lib.IntN.{pos, natAbs, _-ℤ_, _*ℤ_}
-use Rattle.integer.specs.Finite.{sum, sumℕ, largest, first}
+use Rattle.integer.specs.Finite.{sum, sumℕ, largest, first, every}
+use lib.IntN.{ℤ, pos, negsuc, natAbs, _-ℤ_, _*ℤ_}
+use lib.ListN.{replicate}
 use Rattle.integer.specs.Quotient.{ceilDiv}
 use Rattle.linear.specs.Matrix.{apply, product, identity}
 use Rattle.rules.specs.Range.{ranges, rangeOf, inRange, allInRange}
 use Rattle.enclosure.specs.Demand.{RightSide}
 use Rattle.enclosure.specs.Problem.{S}
 use Rattle.enclosure.specs.Reckoning.{defect, load, margin, residual, rowSum, exceeds, sizesWith, boundFrom, boundWith, bound, inverseBound}
+use Rattle.checked.specs.Agree.{Agree}
+use Rattle.checked.specs.Input.{Input, input}
 use Rattle.checked.specs.Order.{answer}
-use Rattle.dependent.specs.Nets.{attached}
+use Rattle.dependent.specs.Nets.{Nets, nets, attached}
 use Rattle.dependent.specs.Reckoning.{dependentResidual, dependentSlack, dependentBound}
 use Rattle.dependent.specs.Order.{dependentAnswer, jointAnswer}
 use Rattle.dependent.specs.Joint.{mainProblem, dependentProblem, JointSolution, EnclosesBoth}
 use Rattle.dependent.specs.Uncoupled.{Uncoupled, MeetsSums}
-use Rattle.dependent.specs.Example.{both, apart, farRight₁, farRight₂, farHeight₁, farHeight₂}
+use Rattle.dependent.specs.Agree.{AgreeingNets}
+use Rattle.dependent.specs.Example.{oneMark, both, apart, farRight₁, farRight₂, farHeight₁, farHeight₂}
 use Rattle.dependent.proofs.Joint.{encloses-both}
 
 only : (Q : ℕ → Type 0) → Q 0 → (i : ℕ) → i < 1 → Q i
@@ -30,7 +35,7 @@ only Q a zero l = a
 only Q a (suc i) l = absurd (omega arith)
 
 pub accepted-here : jointAnswer both ≡ []
-unfolding jointAnswer answer dependentAnswer dependentResidual dependentSlack bound boundWith boundFrom sizesWith exceeds rowSum residual margin load defect product apply identity sum sumℕ largest first ceilDiv allInRange inRange rangeOf ranges
+unfolding jointAnswer answer dependentAnswer dependentResidual dependentSlack bound boundWith boundFrom sizesWith exceeds rowSum residual margin load defect product apply identity sum sumℕ largest first ceilDiv allInRange inRange rangeOf ranges every
 accepted-here = refl
 
 pub encloses-here : EnclosesBoth both (bound (mainProblem both)) (inverseBound (mainProblem both)) (dependentBound (attached both)) (inverseBound (dependentProblem both))
@@ -63,5 +68,35 @@ unfolding residual rowSum apply sum sumℕ
 apart-sums = only _ refl
 
 pub apart-said : jointAnswer apart ≡ []
-unfolding jointAnswer answer dependentAnswer dependentResidual dependentSlack bound boundWith boundFrom sizesWith exceeds rowSum residual margin load defect product apply identity sum sumℕ largest first ceilDiv allInRange inRange rangeOf ranges
+unfolding jointAnswer answer dependentAnswer dependentResidual dependentSlack bound boundWith boundFrom sizesWith exceeds rowSum residual margin load defect product apply identity sum sumℕ largest first ceilDiv allInRange inRange rangeOf ranges every
 apart-said = refl
+
+-- ---- other numbers past the places used
+abbrev followed : List ℤ → List ℤ
+followed xs = xs ++ replicate 1024 (pos 7)
+
+abbrev oneMarkElse : ℤ → Input
+oneMarkElse tolerance =
+    input 1 4 4 (followed (pos 1 ∷ [])) (followed (pos 0 ∷ [])) (followed (tolerance ∷ [])) (followed (pos 0 ∷ [])) (followed (pos 16 ∷ []))
+    (followed (pos 1 ∷ [])) (replicate 32 5) (replicate 1024 5)
+
+abbrev pub bothElse : Nets
+bothElse = nets (oneMarkElse (pos 3)) (oneMarkElse (pos 1)) (followed (negsuc 1 ∷ []))
+
+mark-agrees : (d : ℤ) → Agree (oneMark d) (oneMarkElse d)
+mark-agrees d = record {
+  n = refl;
+  s = refl;
+  t = refl;
+  long = refl;
+  long′ = refl;
+  matrix = only _ refl;
+  right = only _ refl;
+  tolerance = only _ refl;
+  guess = only _ refl;
+  inverse = only _ refl;
+  weights = only _ refl;
+}
+
+pub both-agree : AgreeingNets both bothElse
+both-agree = record { main = mark-agrees (pos 3); dependent = mark-agrees (pos 1); long = refl; long′ = refl; coupling = only _ refl }

@@ -3,6 +3,9 @@ pub mod Joint
 pub mod Limits
 pub mod Statements
 pub mod Contract
+pub mod Largest
+pub mod Same
+pub mod Unread
 pub mod Uncoupled
 pub mod Instance
 pub mod Cases

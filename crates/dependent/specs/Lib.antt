@@ -3,6 +3,7 @@ pub mod Reckoning
 pub mod Order
 pub mod Joint
 pub mod Together
+pub mod Agree
 pub mod Attached
 pub mod Stated
 pub mod Uncoupled

@@ -1,6 +1,7 @@
 -- The enclosure, once, with a slack σ: if |(A·e)_k − q·r_k| ≤ q·σ_k for every row k, all margins are above 0 and w_i·P_m ≤ E_i·g_m with
 -- P_m = sizesWith P r σ m = |(G·r)_m| + Σ_j |G_mj|·σ_j, then |e_i| ≤ q·E_i. Document 01's is σ = 0.
 --   apply-defect — T·e = D·e + G·(A·e)
+--   image-near   — what is within q·σ of q·r is carried by G to within q·Σ |G|·σ of q·G·r
 --   enclosed     — the theorem
 use mathlib.Core.Path.{_≡_, sym, ap}
 use Prim.Native.Nat.{ℕ, _+_, _*_, _≤_, _<_}
@@ -36,25 +37,26 @@ end-arith u v g wi wm q P E h k l o p =
     let x : u * g * wm ≤ q * E * g * wm = omega (arith, mul-le-mul-right g h, mul-le-mul-right wi k, mul-le-mul-right (q * wm) l) in
     le-of-mul-le-mul-right (le-of-mul-le-mul-right x o) p
 
+pub split : (y z : ℤ) → natAbs y ≤ natAbs (y -ℤ z) + natAbs z
+split y z = omega (arith, abs-+ (y -ℤ z) z, ap natAbs (-ℤ-+ℤ-cancel y z))
+
 apart : (x y z : ℤ) → natAbs (x +ℤ y) ≤ natAbs x + (natAbs (y -ℤ z) + natAbs z)
 apart x y z = omega (arith, abs-+ x y, split y z)
-  where
-    split : (y z : ℤ) → natAbs y ≤ natAbs (y -ℤ z) + natAbs z
-    split y z = omega (arith, abs-+ (y -ℤ z) z, ap natAbs (-ℤ-+ℤ-cancel y z))
+
+-- y within q·σ of q·r: |G·y − q·G·r| ≤ q·Σ |G|·σ
+pub image-near : (P : Problem) (q : ℕ) (y r : Vec) (σ : ℕ → ℕ) → ((k : ℕ) → k < P .n → natAbs (y k -ℤ pos q *ℤ r k) ≤ q * σ k) →
+    (m : ℕ) → natAbs (apply (P .n) (P .G) y m -ℤ pos q *ℤ apply (P .n) (P .G) r m) ≤ q * sumℕ (P .n) (λ (j : ℕ). natAbs (P .G m j) * σ j)
+image-near P q y r σ h m =
+    let δ : Vec = λ k. y k -ℤ pos q *ℤ r k in
+    let x : ℕ → ℕ = λ j. natAbs (P .G m j) * natAbs (δ j) in
+    let z : ℕ → ℕ = λ j. natAbs (P .G m j) * σ j in
+    let s : sumℕ (P .n) x ≤ sumℕ (P .n) (λ (j : ℕ). z j * q) =
+    sumℕ-mono (P .n) x (λ (j : ℕ). z j * q) (λ j l. omega (arith, mul-le-mul-left (natAbs (P .G m j)) (h j l))) in
+    rw (← apply-scale (P .n) (P .G) (pos q) r m, ← apply-sub (P .n) (P .G) y (λ (k : ℕ). pos q *ℤ r k) m)
+    (omega (arith, abs-apply (P .n) (P .G) δ m, s, sumℕ-* (P .n) q z))
 
 module _ (P : Problem) (q : ℕ) (e r : Vec) (σ : ℕ → ℕ)
     (he : (k : ℕ) → k < P .n → natAbs (apply (P .n) (P .A) e k -ℤ pos q *ℤ r k) ≤ q * σ k) where
-  -- |G·(A·e) − q·G·r| ≤ q·Σ |G|·σ
-  slack : (m : ℕ) → natAbs (apply (P .n) (P .G) (apply (P .n) (P .A) e) m -ℤ pos q *ℤ apply (P .n) (P .G) r m) ≤ q * sumℕ (P .n) (λ (j : ℕ). natAbs (P .G m j) * σ j)
-  slack m =
-      let δ : Vec = λ k. apply (P .n) (P .A) e k -ℤ pos q *ℤ r k in
-      let x : ℕ → ℕ = λ j. natAbs (P .G m j) * natAbs (δ j) in
-      let y : ℕ → ℕ = λ j. natAbs (P .G m j) * σ j in
-      let s : sumℕ (P .n) x ≤ sumℕ (P .n) (λ (j : ℕ). y j * q) =
-      sumℕ-mono (P .n) x (λ (j : ℕ). y j * q) (λ j l. omega (arith, mul-le-mul-left (natAbs (P .G m j)) (he j l))) in
-      rw (← apply-scale (P .n) (P .G) (pos q) r m, ← apply-sub (P .n) (P .G) (apply (P .n) (P .A) e) (λ (k : ℕ). pos q *ℤ r k) m)
-      (omega (arith, abs-apply (P .n) (P .G) δ m, s, sumℕ-* (P .n) q y))
-
   -- T·|e_m| ≤ Σ |D_mj|·|e_j| + q·P_m
   row : (m : ℕ) → m < P .n → T P * natAbs (e m) ≤ sumℕ (P .n) (λ (j : ℕ). natAbs (defect P m j) * natAbs (e j)) + q * sizesWith P r σ m
   unfolding sizesWith
@@ -67,7 +69,7 @@ module _ (P : Problem) (q : ℕ) (e r : Vec) (σ : ℕ → ℕ)
         simp abs-* at (ap natAbs (apply-defect P e m h)),
         apart x y z,
         abs-* (pos q) (apply (P .n) (P .G) r m),
-        slack m,
+        image-near P q (apply (P .n) (P .A) e) r σ he m,
         abs-apply (P .n) (defect P) e m,
       )
 

@@ -1,4 +1,6 @@
 -- Neither half of demand 3 is empty: the whole file of document 01 meets the hypotheses of both, and a problem with a tolerance those of the first.
+--   each — what holds of 0 and 1 holds of all below 2
+--   file-worked  — D, the margins, r and p of the whole file are those that 01 writes out
 --   file-rounded — it is a rounded exact proposal;  file-sound — so it is sound;  file-encloses — and its limits enclose
 --   file-heights — any exact solution of it is (16/11, 9/11)
 --   loose-right, loose-exact — 9/3 is a right side of `loose`, at the corner of its tolerance, and 3 its exact solution
@@ -7,6 +9,8 @@
 --   loose-file-bounds — both limits of `looseFile`, which has two rows, unlike tolerances and a residual, are 17: 4 + 4·16 + 1·32 over 14 is less than 8, and
 --     1 + 1·16 + 6·32 over 13 a little above 16
 --   loose-file-right, loose-file-exact — a right side at a corner of these tolerances, and its exact solution
+--   loose-file-steep, loose-file-v — of source 002's theorem: its second row is the one where |p| with its slack over the margin is largest, and v is 209 over
+--     13·S at both places;  loose-29 — for the right side at the corner of `loose`, (2.9) is an equation, so that no smaller v meets it
 use mathlib.Core.Path.{_≡_, refl}
 use Prim.Native.Nat.{ℕ, zero, suc, _*_, _<_}
 use native.Mathlib.Omega.{arith}
@@ -17,14 +21,14 @@ use Rattle.integer.specs.Quotient.{ceilDiv}
 use Rattle.linear.specs.Matrix.{Vec, apply, product, identity}
 use Rattle.exact_solution.specs.Determined.{Same}
 use Rattle.enclosure.specs.Demand.{ExactSolution, ExactSolutionOf, RightSide, RoundedExact, Sound, Encloses, sumOfSizes}
-use Rattle.enclosure.specs.Example.{file, exact, exactInverse, loose, farRight, farHeight, looseFile, cornerRight, cornerHeight}
-use Rattle.enclosure.specs.Problem.{S}
-use Rattle.enclosure.specs.Reckoning.{defect, load, margin, residual, rowSum, exceeds, sizesWith, boundFrom, boundWith, bound, inverseBound}
+use Rattle.enclosure.specs.Problem.{S, T}
+use Rattle.enclosure.specs.Reckoning.{defect, load, margin, residual, rowSum, exceeds, sizesWith, sizes, boundFrom, boundWith, bound, inverseBound}
+use Rattle.enclosure.specs.Schroeder.{image, u0, u1, v, Steep}
+use Rattle.enclosure.specs.Example.{file, FileWorked, exact, exactInverse, loose, farRight, farHeight, looseFile, cornerRight, cornerHeight}
 use Rattle.enclosure.proofs.Acceptance.{rounded-sound}
 use Rattle.enclosure.proofs.Demands.{encloses}
 
--- both indices below 2
-each : (Q : ℕ → Type 0) → Q 0 → Q 1 → (i : ℕ) → i < 2 → Q i
+pub each : (Q : ℕ → Type 0) → Q 0 → Q 1 → (i : ℕ) → i < 2 → Q i
 each Q a b zero l = a
 each Q a b (suc zero) l = b
 each Q a b (suc (suc i)) l = absurd (omega arith)
@@ -33,6 +37,10 @@ each₂ : (Q : ℕ → ℕ → Type 0) → Q 0 0 → Q 0 1 → Q 1 0 → Q 1 1 �
 each₂ Q a b c d zero j l = each (Q 0) a b j
 each₂ Q a b c d (suc zero) j l = each (Q 1) c d j
 each₂ Q a b c d (suc (suc i)) j l = absurd (omega arith)
+
+pub file-worked : FileWorked
+unfolding defect load margin residual image product apply identity sum sumℕ
+file-worked = record { D = each₂ _ refl refl refl refl; g = each _ refl refl; r = each _ refl refl; p = each _ refl refl }
 
 pub file-rounded : RoundedExact file exact 11 exactInverse 11
 unfolding apply product identity sum sumℕ rowSum sumOfSizes
@@ -95,3 +103,16 @@ loose-file-right = record { positive = lit≤ tt; near = each _ (lit≤ tt) (lit
 pub loose-file-exact : ExactSolutionOf looseFile cornerRight 1 cornerHeight 11
 unfolding apply sum
 loose-file-exact = record { positive = lit≤ tt; solves = each _ refl refl }
+
+-- ---- source 002's theorem
+pub loose-file-steep : Steep looseFile 1
+unfolding apply product identity sum sumℕ defect load margin residual sizesWith sizes
+loose-file-steep = record { below = lit< tt; most = each _ (lit≤ tt) (lit≤ tt) }
+
+pub loose-file-v : (i : ℕ) → i < 2 → v looseFile 1 i ≡ 209
+unfolding apply product identity sum sumℕ defect load margin residual sizesWith sizes
+loose-file-v = each _ refl refl
+
+pub loose-29 : natAbs (margin loose 0) * natAbs (u0 loose 3 0 -ℤ u1 loose farRight 3 0) ≡ 3 * (T loose * v loose 0 0)
+unfolding apply product identity sum sumℕ defect load margin residual sizesWith sizes u0 u1
+loose-29 = refl

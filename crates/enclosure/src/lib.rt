@@ -1,1 +1,1 @@
-// Definitions and theorems only; the code of the reckoning stands in the crates reckoning and bounds.
+// Definitions and theorems only. The code of the reckoning stands in the crates from `raised_rows` to `inverse_bounds`, which `checker` calls.

@@ -136,6 +136,12 @@ fn width_of(layout: Layout, n: usize, i: usize) -> usize
     }
 }
 
+fn count_of(n: u32) -> usize
+    ensures { λ r. ⌜ r ≡ n ⌝ }
+{
+    n as usize
+}
+
 // Writes the equations of the kept lines, row after row.
 pub fn write_equations(g: Gathered, layout: Layout, matrix: &mut [i64], right: &mut [i64])
     requires { ⌜ Ready g ⌝ }
@@ -143,7 +149,7 @@ pub fn write_equations(g: Gathered, layout: Layout, matrix: &mut [i64], right: &
     ensures { λ _. ⌜ (now (matrix .exit) ≡ matrixWritten layout (g .n) (keptMatrix g) (now (matrix .entry)))
         × (now (right .exit) ≡ rightWritten (g .n) (keptRight g) (now (right .entry))) ⌝ }
 {
-    let n = g.n as usize;
+    let n = count_of(g.n);
     let mut start = 0;
     for i in 0..n {
         let row = row_of(g, (i + 1) as u32);

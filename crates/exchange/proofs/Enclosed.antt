@@ -22,7 +22,7 @@ use Rattle.exchange.specs.Hands.{Hands, AllBetween}
 use Rattle.exchange.proofs.Promises.{within-between}
 
 module _ (P : Problem) (E : ℕ → ℕ) (I : Outgoing) (h : Hands P E I) {r : Outcome} {low high : List Float} (c : IntervalsOf I r low high) (ok : said r ≡ []) where
-  limits-between : (N : Vec) (q : ℕ) → InLimits P E N q → AllBetween (P .n) low high N q
+  pub limits-between : (N : Vec) (q : ℕ) → InLimits P E N q → AllBetween (P .n) low high N q
   limits-between N q w i l = within-between I c ok i (rw (h .n) l) (N i) q (rw (h .s, h .guess i l, h .bounds i l) (w i l))
 
   module _ {L : ℕ → ℕ → ℕ} (e : Encloses P E L) where

@@ -8,11 +8,12 @@ use mathlib.Core.Path.{_≡_, refl, sym, ap, ap₂, _∙_, subst}
 use mathlib.Core.List.{List, [], _∷_}
 use Prim.Native.Nat.{ℕ, zero, suc, _+_, _<_, _^_}
 use native.Mathlib.Omega.{arith}
-use lib.Dec.{lit<, lit≤}
+use lib.Dec.{T, lit<, lit≤}
 use lib.IntN.{ℤ, pos, negsuc}
 use lib.ListN.{getD, replicate}
-use lib.Ieee.{Float, nan, binary64, ofBits}
+use lib.Ieee.{Float, nan, binary64, fits, ofBits}
 use lib.Ieee.Bits.{ofBits-fits}
+use Rattle.integer.specs.Finite.{every}
 use Rattle.linear.specs.Slice.{at}
 use Rattle.integer.specs.Quotient.{roundDiv}
 use Rattle.rules.specs.Range.{ranges, rangeOf, inRange, allInRange}
@@ -31,25 +32,28 @@ use Rattle.doubles.specs.Units.{whole, plusZero}
 use Rattle.doubles.proofs.Steps.{guess-nearest}
 use Rattle.interval.specs.Interval.{Outward, Returned}
 use Rattle.interval.proofs.Heights.{outward}
-use Rattle.exchange.specs.Lists.{doubleAt, every}
+use Rattle.exchange.specs.Lists.{doubleAt}
 use Rattle.exchange.specs.Inward.{Incoming, incoming, inwardAnswer, guessesAfter, GuessesOf}
 use Rattle.exchange.specs.Outward.{Outgoing, outgoing, outwardAnswer, endsIn, lowsAfter, highsAfter, IntervalsOf}
 use Rattle.exchange.specs.Hands.{Hands, AllBetween}
 use Rattle.exchange.specs.declared.Guessed.the-variants as guessed
 use Rattle.exchange.proofs.Enclosed.{encloses-between, checked-between-at-b}
-use Rattle.exchange.proofs.Inward.{after-at}
+use Rattle.exchange.proofs.Inward.{after-at, each-double}
+use Rattle.exchange.proofs.Inward as inward
+use Rattle.exchange.proofs.Lists.{every-in}
 use Rattle.exchange.proofs.Outward.{low-after, high-after, said-nothing, reckonable}
 use Rattle.exchange.proofs.Promises.{comes-back}
 use Rattle.exchange.proofs.Taken.{numbers-taken, checked-taken, guesses-taken}
 
-inward-accepts : (I : Incoming) → inwardAnswer I ≡ [] → GuessesOf I guessed.Accepted (guessesAfter I)
-inward-accepts I e = record {
+inward-accepts : (I : Incoming) → ((i : ℕ) → T (fits binary64 (doubleAt (I .values) i))) → inwardAnswer I ≡ [] → GuessesOf I guessed.Accepted (guessesAfter I)
+inward-accepts I held e = record {
   says = sym e;
   guesses = refl;
+  doubles = λ n. each-double I held (every-in (I .n) _ (inward.said-nothing I .0 e .2));
   nearest = λ n i l. subst (Nearest (I .s) (doubleAt (I .values) i)) (sym (after-at I e i l)) (guess-nearest (I .s) (doubleAt (I .values) i));
 }
 
-outward-accepts : (I : Outgoing) → outwardAnswer I ≡ [] → IntervalsOf I outcome.Accepted (lowsAfter I) (highsAfter I)
+pub outward-accepts : (I : Outgoing) → outwardAnswer I ≡ [] → IntervalsOf I outcome.Accepted (lowsAfter I) (highsAfter I)
 outward-accepts I e = record {
   says = sym e;
   lows = refl;
@@ -108,15 +112,23 @@ given-accepted : inwardAnswer given ≡ []
 unfolding inwardAnswer every hasGuess guessFor whole ofBits roundDiv inRange rangeOf ranges
 given-accepted = refl
 
+given-held : (i : ℕ) → T (fits binary64 (doubleAt (given .values) i))
+unfolding fits
+given-held = go 32
+  where
+    go : (n i : ℕ) → T (fits binary64 (doubleAt (replicate n two-and-a-half) i))
+    go zero i = tt
+    go (suc n) zero = ofBits-fits binary64 4612811918334230528
+    go (suc n) (suc i) = go n i
+
 abbrev pub back : Outgoing
 back = outgoing 1 1 (guessesAfter given) (replicate 32 0) zeros zeros
 
 pub goes-and-comes : (at (guessesAfter given) 0 ≡ pos 5) × Returned 1 (pos 5) two-and-a-half (endsIn (lowsAfter back) (highsAfter back) 0)
 unfolding whole ofBits
 goes-and-comes =
-    let g = inward-accepts given given-accepted in
-    comes-back given g refl (outward-accepts back (guesses-taken given g refl (replicate 32 0) zeros zeros (lit≤ tt) (lit≤ tt) (lit≤ tt) (only _ (lit≤ tt)))) refl 0 (lit< tt) refl (pos 5)
-    (record { held = ofBits-fits binary64 4612811918334230528; finite = tt }) refl
+    let g = inward-accepts given given-held given-accepted in
+    comes-back given g refl (outward-accepts back (guesses-taken given g refl (replicate 32 0) zeros zeros (lit≤ tt) (lit≤ tt) (lit≤ tt) (only _ (lit≤ tt)))) refl 0 (lit< tt) refl (pos 5) refl
 
 -- ---- each refusal, and the ends of the ranges
 abbrev zero-guesses : List ℤ

@@ -1,6 +1,7 @@
 -- Doubles in: the contract of `guesses_of`, case by case, and that each refusal is said exactly where its case holds.
 --   Ready, ready — input that passes 8 and 3 can be read and written
 --   in-short, in-range, in-none, in-all — the contract where 8, 3, 19 and nothing is said
+--   each-double — each of the first n is a finite double where each has a guess, in a list of doubles
 --   said-8, said-3, said-19, said-nothing — 8, 3, 19 and nothing are said exactly where 02 says so
 --   zero-accepted — by the number alone: 0 is said where nothing is
 --   after-at, after-else — the guess list after the call: its first n places where nothing is said, and every other place as before;  after-length — its length
@@ -11,8 +12,11 @@ use mathlib.Core.Logic.{_↔_}
 use Prim.Native.Nat.{ℕ, _≤_, _<_}
 use native.Mathlib.Omega.{arith}
 use borrow.Author.Tests.{ltb-false, not-true, not-false}
+use lib.Dec.{T}
 use lib.IntN.{ℤ, pos}
 use lib.ListN.{getD, length}
+use lib.Ieee.{binary64, fits}
+use lib.Ieee.Scale.{finite}
 use Rattle.linear.specs.Slice.{at}
 use Rattle.linear.specs.Written.{written}
 use Rattle.linear.proofs.Written.{written-length, front-at, front-else}
@@ -24,11 +28,12 @@ use Rattle.rules.proofs.Ranges.{both-left, both-right, neither-left, neither-ri
 use Rattle.rules.proofs.Tests.{said-exactly, none-said, silent}
 use Rattle.rules.proofs.Verdicts.{accepted-new, accepted-old, nothing-is-not}
 use Rattle.doubles.specs.Guess.{guessFor, hasGuess, Nearest}
+use Rattle.doubles.specs.Units.{Double}
 use Rattle.doubles.proofs.Steps.{guess-nearest}
 use Rattle.exchange.specs.Lists.{doubleAt, exchangeSizes}
 use Rattle.exchange.specs.Inward.{Incoming, shortIncoming, allHaveGuess, inwardOrder, inwardAnswer, guessesAfter, GuessesOf}
 use Rattle.exchange.specs.declared.Guessed.the-variants.{Accepted, Refused, NoGuess}
-use Rattle.exchange.proofs.Lists.{every-at, every-in, every-fails, every-not}
+use Rattle.rules.proofs.Every.{every-at, every-in, every-fails, every-not}
 
 pub record Ready (I : Incoming) : Type 0 where
   pub values : I .n ≤ length (I .values)
@@ -65,22 +70,29 @@ module _ (I : Incoming) where
   -- ---- the contract
   pub in-short : shortIncoming I ≡ true → GuessesOf I (Refused TooShort) (I .guess)
   unfolding guessesAfter
-  in-short e = record { says = sym (answer-8 e); guesses = sym (accepted-old _ _ (answer-8 e)); nearest = λ n. absurd (nothing-is-not n) }
+  in-short e = record { says = sym (answer-8 e); guesses = sym (accepted-old _ _ (answer-8 e)); doubles = λ n. absurd (nothing-is-not n); nearest = λ n. absurd (nothing-is-not n) }
 
   pub in-range : shortIncoming I ≡ false → exchangeSizes (I .n) (I .s) ≡ false → GuessesOf I (Refused OutOfRange) (I .guess)
   unfolding guessesAfter
-  in-range e f = record { says = sym (answer-3 e f); guesses = sym (accepted-old _ _ (answer-3 e f)); nearest = λ n. absurd (nothing-is-not n) }
+  in-range e f = record { says = sym (answer-3 e f); guesses = sym (accepted-old _ _ (answer-3 e f)); doubles = λ n. absurd (nothing-is-not n); nearest = λ n. absurd (nothing-is-not n) }
 
   pub in-none : shortIncoming I ≡ false → exchangeSizes (I .n) (I .s) ≡ true → allHaveGuess I ≡ false → GuessesOf I NoGuess (I .guess)
   unfolding guessesAfter
-  in-none e f g = record { says = sym (answer-19 e f g); guesses = sym (accepted-old _ _ (answer-19 e f g)); nearest = λ n. absurd (nothing-is-not n) }
+  in-none e f g = record { says = sym (answer-19 e f g); guesses = sym (accepted-old _ _ (answer-19 e f g)); doubles = λ n. absurd (nothing-is-not n); nearest = λ n. absurd (nothing-is-not n) }
 
-  pub in-all : {after : List ℤ} → shortIncoming I ≡ false → exchangeSizes (I .n) (I .s) ≡ true → allHaveGuess I ≡ true →
+  pub each-double : ((i : ℕ) → T (fits binary64 (doubleAt (I .values) i))) → allHaveGuess I ≡ true → (i : ℕ) → i < I .n → Double (doubleAt (I .values) i)
+  unfolding hasGuess
+  each-double held g i l =
+      let x = doubleAt (I .values) i in
+      record { held = held i; finite = subst T (sym (both-left (finite x) (inRange kind.Guess (guessFor (I .s) x)) (every-at (I .n) _ g i l))) tt }
+
+  pub in-all : {after : List ℤ} → ((i : ℕ) → T (fits binary64 (doubleAt (I .values) i))) → shortIncoming I ≡ false → exchangeSizes (I .n) (I .s) ≡ true → allHaveGuess I ≡ true →
       after ≡ written (I .guess) 0 1 (λ (i : ℕ). guessFor (I .s) (doubleAt (I .values) i)) (I .n) → GuessesOf I Accepted after
   unfolding guessesAfter
-  in-all e f g w = record {
+  in-all held e f g w = record {
     says = sym (answer-0 e f g);
     guesses = w ∙ sym (accepted-new _ _ (answer-0 e f g));
+    doubles = λ n. each-double held g;
     nearest = λ n i l. subst (Nearest (I .s) (doubleAt (I .values) i)) (sym (ap (λ (xs : List ℤ). at xs i) w ∙ front-at (I .guess) _ (pos 0) (I .n) i l (ready e f .guess))) (guess-nearest (I .s) (doubleAt (I .values) i));
   }
 

@@ -1,4 +1,3 @@
-pub mod Lists
 pub mod Inward
 pub mod Outward
 pub mod Unread

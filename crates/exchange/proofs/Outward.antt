@@ -29,7 +29,7 @@ use Rattle.interval.specs.Interval.{Outward}
 use Rattle.interval.proofs.Heights.{outward}
 use Rattle.exchange.specs.Lists.{doubleAt, exchangeSizes}
 use Rattle.exchange.specs.Outward.{Outgoing, shortOutgoing, boundsInRange, outgoingInRanges, outwardOrder, outwardAnswer, endsAt, lowsAfter, highsAfter, IntervalsOf, Reckonable}
-use Rattle.exchange.proofs.Lists.{every-at}
+use Rattle.rules.proofs.Every.{every-at}
 
 pub record Ready (I : Outgoing) : Type 0 where
   pub guess : I .n ≤ length (I .guess)

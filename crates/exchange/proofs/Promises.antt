@@ -68,13 +68,13 @@ guess-at I c ok i l = ap (λ (xs : List ℤ). at xs i) (c .guesses) ∙ inward.a
 
 pub comes-back : (I : Incoming) {a : Guessed} {guess : List ℤ} → GuessesOf I a guess → saidGuessed a ≡ [] →
     {bounds : List ℕ} {r : Outcome} {low₀ high₀ low high : List Float} → IntervalsOf (outgoing (I .n) (I .s) guess bounds low₀ high₀) r low high → said r ≡ [] →
-    (i : ℕ) → i < I .n → getD bounds i 0 ≡ 0 → (x : ℤ) → Double (doubleAt (I .values) i) → Steps (I .s) x (doubleAt (I .values) i) →
+    (i : ℕ) → i < I .n → getD bounds i 0 ≡ 0 → (x : ℤ) → Steps (I .s) x (doubleAt (I .values) i) →
     (at guess i ≡ x) × Returned (I .s) x (doubleAt (I .values) i) (endsIn low high i)
-comes-back I {a} {guess} g yes′ {bounds} {r} {low₀} {high₀} {low} {high} c ok i l e x d w =
+comes-back I {a} {guess} g yes′ {bounds} {r} {low₀} {high₀} {low} {high} c ok i l e x w =
     let y = doubleAt (I .values) i in
     let O = outgoing (I .n) (I .s) guess bounds low₀ high₀ in
     let is : at guess i ≡ x = guess-at I g yes′ i l ∙ guess-whole (I .s) y x w in
-    (is, round-trip (I .s) x y (scale O c ok i l) d w (endsIn low high i) (rw (is, e) at (c .outward ok i l)))
+    (is, round-trip (I .s) x y (scale O c ok i l) (g .doubles yes′ i l) w (endsIn low high i) (rw (is, e) at (c .outward ok i l)))
 
 -- ---- wider limits
 pub never-narrower : (I J : Outgoing) {r r′ : Outcome} {low high low′ high′ : List Float} → IntervalsOf I r low high → said r ≡ [] → IntervalsOf J r′ low′ high′ → said r′ ≡ [] →

@@ -1,6 +1,7 @@
 -- What the other calls hand back is never refused outward.
 --   numbers-taken — numbers in their ranges, in lists long enough, pass 8 and 3
---   checked-taken — so do the guesses and the limits of an accepted check
+--   written-taken — so do the guesses of a usable input with limits of at most 2^60 that were written for it
+--   checked-taken — so those of an accepted check
 --   guesses-taken — and the guesses of an accepted call inward, with limits of at most 2^60
 --   steps-taken   — inward: a double that is a whole number of steps in the range of a guess gives one
 use mathlib.Core.Path.{_≡_, refl, sym, ap, _∙_}
@@ -27,6 +28,7 @@ use Rattle.enclosure.specs.Reckoning.{bound}
 use Rattle.checked.specs.Input.{Input, problem}
 use Rattle.checked.specs.Order.{answer}
 use Rattle.checked.specs.Checked.{Checked}
+use Rattle.checked.specs.Stated.{Usable}
 use Rattle.checked.proofs.Contract.{answer-ready}
 use Rattle.checked.proofs.Fit.{fit-of}
 use Rattle.checked.proofs.Largest.{solution-size}
@@ -42,7 +44,7 @@ use Rattle.exchange.specs.Inward.{Incoming, saidGuessed, inwardAnswer, G
 use Rattle.exchange.specs.Outward.{outgoing, outwardAnswer}
 use Rattle.exchange.specs.declared.Guessed.{Guessed}
 use Rattle.exchange.proofs.Inward as inward
-use Rattle.exchange.proofs.Lists.{every-in}
+use Rattle.rules.proofs.Every.{every-in}
 use Rattle.exchange.proofs.Outward as outward
 use Rattle.exchange.proofs.Promises.{guess-at}
 
@@ -73,17 +75,22 @@ module _ (n s : ℕ) (guess : List ℤ) (bounds : List ℕ) (low high : List Flo
             (both (all-in kind.Guess n (at guess) (λ i l. in-guess (at guess i) (x i l))) (every-in n _ (λ i l. le-leb (getD bounds i 0) (2 ^ 60) (e i l)))),
       )
 
+pub written-taken : (J : Input) → Usable J → (f : ℕ → ℕ) {E : List ℕ} → E ≡ written (J .solutionBounds) 0 1 f (J .n) → ((i : ℕ) → i < J .n → f i ≤ 2 ^ 60) →
+    (low high : List Float) → 32 ≤ length low → 32 ≤ length high → outwardAnswer (outgoing (J .n) (J .s) (J .guess) E low high) ≡ []
+written-taken J u f {E} e small low high hl hh =
+    let fit = fit-of J (u .long) (u .inside) in
+    let long : length E ≡ length (J .solutionBounds) = ap length e ∙ written-length (J .solutionBounds) 0 1 f (J .n) in
+    let at-place : (i : ℕ) → i < J .n → getD E i 0 ≡ f i = λ i l. rw e (front-at (J .solutionBounds) f 0 (J .n) i l (omega (arith, fit .few, fit .solution-long))) in
+    numbers-taken (J .n) (J .s) (J .guess) E low high (fit .some) (fit .few) (fit .solution-scale) (long-of J (u .long) .guess) (omega (arith, long, fit .solution-long)) hl hh (fit .guess .within .size)
+    (λ i l. rw (at-place i l) (small i l))
+
 pub checked-taken : (J : Input) {a : Outcome} {E L : List ℕ} → Checked J a E L → said a ≡ [] → (low high : List Float) → 32 ≤ length low → 32 ≤ length high →
     outwardAnswer (outgoing (J .n) (J .s) (J .guess) E low high) ≡ []
-checked-taken J {a} {E} {L} c ok low high hl hh =
+checked-taken J {a} {E} {L} c ok =
     let none : answer J ≡ [] = sym (c .says) ∙ ok in
     let u = accepted-usable J none in
     let fit = fit-of J (u .long) (u .inside) in
-    let e : E ≡ written (J .solutionBounds) 0 1 (bound (problem J)) (J .n) = c .solution-bounds ∙ limits.solution-written J none in
-    let long : length E ≡ length (J .solutionBounds) = ap length e ∙ written-length (J .solutionBounds) 0 1 (bound (problem J)) (J .n) in
-    let at-place : (i : ℕ) → i < J .n → getD E i 0 ≡ bound (problem J) i = λ i l. rw e (front-at (J .solutionBounds) (bound (problem J)) 0 (J .n) i l (omega (arith, fit .few, fit .solution-long))) in
-    let small : (i : ℕ) → i < J .n → getD E i 0 ≤ 2 ^ 60 = λ i l. rw (at-place i l) (solution-size J fit (sym (answer-ready J (u .long) (u .inside)) ∙ none) i l) in
-    numbers-taken (J .n) (J .s) (J .guess) E low high (fit .some) (fit .few) (fit .solution-scale) (long-of J (u .long) .guess) (omega (arith, long, fit .solution-long)) hl hh (fit .guess .within .size) small
+    written-taken J u (bound (problem J)) (c .solution-bounds ∙ limits.solution-written J none) (solution-size J fit (sym (answer-ready J (u .long) (u .inside)) ∙ none))
 
 pub guesses-taken : (I : Incoming) {a : Guessed} {guess : List ℤ} → GuessesOf I a guess → saidGuessed a ≡ [] →
     (bounds : List ℕ) (low high : List Float) → 32 ≤ length bounds → 32 ≤ length low → 32 ≤ length high → ((i : ℕ) → i < I .n → getD bounds i 0 ≤ 2 ^ 60) →

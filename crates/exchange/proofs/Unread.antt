@@ -20,7 +20,7 @@ use Rattle.interval.specs.declared.Interval.{Interval}
 use Rattle.exchange.specs.Lists.{doubleAt, exchangeSizes}
 use Rattle.exchange.specs.Inward.{Incoming, incoming, shortIncoming, inwardAnswer, guessesAfter}
 use Rattle.exchange.specs.Outward.{Outgoing, outgoing, shortOutgoing, outwardAnswer, lowsAfter, highsAfter}
-use Rattle.exchange.proofs.Lists.{every-ext}
+use Rattle.rules.proofs.Every.{every-ext}
 use Rattle.exchange.proofs.Inward.{after-at}
 use Rattle.exchange.proofs.Outward.{low-after, high-after}
 

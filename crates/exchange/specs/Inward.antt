@@ -7,7 +7,8 @@
 --   allHaveGuess I — each of the first n doubles is finite and gives a guess in its range; 19 where not
 --   inwardOrder I — the tests in their order, 8, 3, 19;  inwardAnswer I — what is said of them
 --   guessesAfter I — the guess list after the call: the first n guesses where nothing is said, the rest as before; all as before on a refusal
---   GuessesOf — the contract of `guesses_of`: what is said, the list, and each guess in 02's words
+--   GuessesOf — the contract of `guesses_of`: what is said, the list, and where nothing is said each guess in 02's words, of a finite double, so that `whole`
+--     is its exact value
 use mathlib.Core.Bool.{Bool, not, _||_}
 use mathlib.Core.List.{List, [], _∷_}
 use mathlib.Core.Path.{_≡_}
@@ -15,13 +16,15 @@ use Prim.Native.Nat.{ℕ, _<_}
 use lib.IntN.{ℤ}
 use lib.ListN.{length}
 use lib.Ieee.{Float}
+use Rattle.integer.specs.Finite.{every}
 use Rattle.linear.specs.Slice.{at}
 use Rattle.linear.specs.Written.{written}
 use Rattle.rules.specs.Order.{Test, number, verdict, ifAccepted}
 use Rattle.rules.specs.Range.{shortColumn}
 use Rattle.rules.specs.Refusal.{numberOf, valuesOf}
 use Rattle.doubles.specs.Guess.{guessFor, hasGuess, Nearest}
-use Rattle.exchange.specs.Lists.{doubleAt, every, exchangeSizes}
+use Rattle.exchange.specs.Lists.{doubleAt, exchangeSizes}
+use Rattle.doubles.specs.Units.{Double}
 use Rattle.exchange.specs.declared.Guessed.{Guessed}
 use Rattle.exchange.specs.declared.Guessed.the-variants.{Accepted, Refused, NoGuess}
 
@@ -61,4 +64,5 @@ guessesAfter I = ifAccepted (inwardAnswer I) (written (I .guess) 0 1 (λ (i : �
 pub record GuessesOf (I : Incoming) (r : Guessed) (guess : List ℤ) : Type 0 where
   pub says : saidGuessed r ≡ inwardAnswer I
   pub guesses : guess ≡ guessesAfter I
+  pub doubles : saidGuessed r ≡ [] → (i : ℕ) → i < I .n → Double (doubleAt (I .values) i)
   pub nearest : saidGuessed r ≡ [] → (i : ℕ) → i < I .n → Nearest (I .s) (doubleAt (I .values) i) (at guess i)

@@ -18,6 +18,7 @@ use lib.Dec.{leb}
 use lib.IntN.{ℤ, natAbs}
 use lib.ListN.{getD, length}
 use lib.Ieee.{Float}
+use Rattle.integer.specs.Finite.{every}
 use Rattle.linear.specs.Slice.{at}
 use Rattle.linear.specs.Written.{written}
 use Rattle.rules.specs.Order.{Test, number, verdict, ifAccepted}
@@ -27,7 +28,7 @@ use Rattle.rules.specs.declared.Kind.the-variants as kind
 use Rattle.rules.specs.declared.Outcome.{Outcome}
 use Rattle.interval.specs.Interval.{intervalOf, Outward}
 use Rattle.interval.specs.declared.Interval.{Interval}
-use Rattle.exchange.specs.Lists.{doubleAt, every, exchangeSizes}
+use Rattle.exchange.specs.Lists.{doubleAt, exchangeSizes}
 
 pub record Outgoing : Type 0 where
   pub n : ℕ

@@ -1,20 +1,21 @@
 -- A file that has come to its end: what the check says of the lists, and what is reported, is what the file's forms give.
+--   wide, narrow — the numbers of a matrix list, and of a column list, are those that the forms give
 --   checked-forms, reported-forms — what the reckoning says of the lists, and the report, are those of the problem that the forms give
 --   some, fine, heavy — n is above 0, t at most 20, every weight at least 1
---   ranges-hold, answer-forms — no complete file gives 3, and its check says what the reckoning says
+--   answer-forms — no complete file gives 3, and its check says what the reckoning says
 use mathlib.Core.Path.{_≡_, refl, sym, ap, _∙_, subst}
-use mathlib.Core.Bool.{true, false}
+use mathlib.Core.Bool.{false}
 use mathlib.Core.List.{List}
 use Prim.Native.Nat.{ℕ, suc, _+_, _*_, _-_, _≤_, _<_}
 use native.Mathlib.Omega.{arith}
 use lib.IntN.{pos, natAbs}
-use lib.ListN.{getD}
+use lib.ListN.{getD, replicate}
 use Rattle.rules.specs.declared.Kind.the-variants as kind
 use Rattle.rules.proofs.AllInRange.{all-at}
-use Rattle.rules.proofs.Ranges.{both, size-range, inverse-scale-range, weight-range}
+use Rattle.rules.proofs.Ranges.{size-range, inverse-scale-range, weight-range}
 use Rattle.linear.specs.Slice.{at, vectorOf, matrixOf}
 use Rattle.enclosure.specs.Problem.{Problem}
-use Rattle.checked.specs.Input.{problem, short, inRanges}
+use Rattle.checked.specs.Input.{problem, short}
 use Rattle.checked.specs.Order.{answer, checkedOf}
 use Rattle.checked.proofs.Contract.{answer-ready}
 use Rattle.form.specs.Form.{Form}
@@ -23,6 +24,7 @@ use Rattle.lent_lists.specs.Lists.{listOf}
 use Rattle.line_runs.specs.Run.{State}
 use Rattle.line_runs.specs.Given.{valueFrom}
 use Rattle.line_runs.specs.Holds.{InRange}
+use Rattle.line_runs.proofs.Check.{inside}
 use Rattle.line_runs.proofs.End.{FromForms}
 use Rattle.file_check.specs.Problem.{problemFrom}
 use Rattle.file_check.specs.Judged.{reportedOf}
@@ -34,12 +36,12 @@ module _ (u : State) (fs : List Form) (from : FromForms fs u) where
   abbrev n : ℕ
   n = u .loader .n
 
-  wide : (s : Slot) → width s n ≡ n → (i j : ℕ) → i < n → j < n → getD (listOf s (u .lists)) (i * n + j) (pos 0) ≡ valueFrom fs s (suc i) j
+  pub wide : (s : Slot) → width s n ≡ n → (i j : ℕ) → i < n → j < n → getD (listOf s (u .lists)) (i * n + j) (pos 0) ≡ valueFrom fs s (suc i) j
   wide s w i j li lj =
       let place : (suc i - 1) * width s n + j ≡ i * n + j = let f : suc i - 1 ≡ i = omega arith in rw (w, f) in
       subst (λ (k : ℕ). getD (listOf s (u .lists)) k (pos 0) ≡ valueFrom fs s (suc i) j) place (from .values s (suc i) j (omega arith) (omega arith) (rw w lj))
 
-  narrow : (s : Slot) → width s n ≡ 1 → (i : ℕ) → i < n → getD (listOf s (u .lists)) i (pos 0) ≡ valueFrom fs s (suc i) 0
+  pub narrow : (s : Slot) → width s n ≡ 1 → (i : ℕ) → i < n → getD (listOf s (u .lists)) i (pos 0) ≡ valueFrom fs s (suc i) 0
   narrow s w i li =
       let place : (suc i - 1) * width s n + 0 ≡ i = rw w (omega arith) in
       subst (λ (k : ℕ). getD (listOf s (u .lists)) k (pos 0) ≡ valueFrom fs s (suc i) 0) place (from .values s (suc i) 0 (omega arith) (omega arith) (rw w (omega arith)))
@@ -74,7 +76,7 @@ module _ (u : State) (fs : List Form) (from : FromForms fs u) where
         let k : i < n = rw (from .size) l in
         rw (sym (narrow Weight refl i k)) (weight-range (at (u .lists .weights) i) (all-at kind.Weight n (at (u .lists .weights)) (h .weights) i k) .0)
 
-  checked-forms : checkedOf (problem (inputAt u)) ≡ checkedOf (problemFrom fs)
+  pub checked-forms : checkedOf (problem (inputAt u)) ≡ checkedOf (problemFrom fs)
   checked-forms =
       checked-same n (u .loader .s) (u .loader .t) (matrixOf (u .lists .matrix) n) (given .A) (vectorOf (u .lists .right)) (given .b) (λ i. natAbs (at (u .lists .tolerance) i)) (given .d) (vectorOf (u .lists .guess)) (given .X)
       (matrixOf (u .lists .inverse) n) (given .G) (λ i. natAbs (at (u .lists .weights) i)) (given .w)
@@ -88,10 +90,5 @@ module _ (u : State) (fs : List Form) (from : FromForms fs u) where
       (wide Matrix refl) (narrow Right refl) (λ i l. ap natAbs (narrow Tolerance refl i l)) (narrow Guess refl) (wide Inverse refl) (λ i l. ap natAbs (narrow Weight refl i l))
       ∙ ap reportedOf given-is
 
-  module _ (h : InRange u) (long : short (inputAt u) ≡ false) where
-    ranges-hold : inRanges (inputAt u) ≡ true
-    ranges-hold =
-        both (both (h .size) (both (h .solution) (h .inverse-scale))) (both (h .matrix) (both (h .right) (both (h .tolerance) (both (h .guess) (both (h .inverse) (h .weights))))))
-
-    pub answer-forms : answer (inputAt u) ≡ checkedOf (problemFrom fs)
-    answer-forms = answer-ready (inputAt u) long ranges-hold ∙ checked-forms
+  pub answer-forms : InRange u → short (inputAt u) ≡ false → answer (inputAt u) ≡ checkedOf (problemFrom fs)
+  answer-forms h long = answer-ready (inputAt u) long (inside u (replicate 32 0) (replicate 1024 0) h) ∙ checked-forms

@@ -6,16 +6,16 @@
 use mathlib.Core.List.{List}
 use Prim.Native.Nat.{ℕ}
 use lib.ListN.{replicate}
-use Rattle.checked.specs.Input.{Input, input, problem}
+use Rattle.checked.specs.Input.{Input, problem}
 use Rattle.loader_order.specs.Through.{answerThrough, CheckedThrough}
 use Rattle.line_runs.specs.Run.{State}
+use Rattle.line_runs.specs.Holds.{inputOf}
 use Rattle.refusal.specs.Refused.{printed}
 use Rattle.file_check.specs.declared.CheckedFile.{CheckedFile}
 use Rattle.file_check.specs.Judged.{reportedOf, lineOr}
 
 abbrev pub inputAt : State → Input
-inputAt u =
-    input (u .loader .n) (u .loader .s) (u .loader .t) (u .lists .matrix) (u .lists .right) (u .lists .tolerance) (u .lists .guess) (u .lists .inverse) (u .lists .weights) (replicate 32 0) (replicate 1024 0)
+inputAt u = inputOf u (replicate 32 0) (replicate 1024 0)
 
 abbrev pub CheckedAs : State → CheckedFile → Type 0
 CheckedAs u r = CheckedThrough (u .loader .stage) (inputAt u) (r .outcome) (r .solution) (r .inverse)

@@ -1,7 +1,7 @@
 -- Laws of the parts of a line: words, and numbers after single spaces.
 --   Then s a w b — where b is no place past the end of s, w stands at the place a and ends at b; parts are joined by `then`
---   word-then, number-then, head-then, others-then — each part that is read, in this form
---   word-spelled, others-spelled, head-spelled     — each part that is spelled, read at its place
+--   word-then, number-then, head-then — each part that is read, in this form;  proofs/Lists has the others of a list
+--   word-spelled, head-spelled — each part that is spelled, read at its place
 use mathlib.Core.Path.{_≡_, refl, sym, ap, ap₂, _∙_, subst}
 use mathlib.Core.Bool.{Bool, true, false, cond}
 use mathlib.Core.List.{List, [], _∷_, _++_, append-nil, append-assoc}

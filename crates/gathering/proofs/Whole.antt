@@ -13,6 +13,7 @@ use lib.Dec.{leb}
 use lib.IntN.{ℤ, pos, _+ℤ_, +ℤ-idl}
 use lib.ListN.{length, getD, length-replicate}
 use Rattle.integer.proofs.Sum.{sum-none}
+use Rattle.rules.specs.Order.{orElse}
 use Rattle.rules.specs.Range.{inRange}
 use Rattle.rules.specs.declared.Kind.the-variants as kind
 use Rattle.rules.specs.declared.Refusal.the-variants.{OutOfRange}
@@ -22,7 +23,7 @@ use Rattle.observation.specs.declared.Built.the-variants.{Done, Refused}
 use Rattle.gathering.specs.declared.Gathered.{Gathered}
 use Rattle.observation.specs.declared.Observation.{Observation}
 use Rattle.observation.specs.Line.{noObservation}
-use Rattle.observation.specs.Order.{saidBuilt, andThen, observationsSay}
+use Rattle.observation.specs.Order.{saidBuilt, observationsSay}
 use Rattle.observation.specs.Distinct.{distinct, total}
 use Rattle.gathering.specs.Gathered.{taken, added, gathered, few, opened, keptAt, keptSum, Proper, ReadyWhenDone}
 use Rattle.observation.specs.Stated.{Passes}
@@ -68,7 +69,7 @@ module _ (n : ℕ) (ls : List Observation) where
   gatheredOf = gathered (opened n (length ls)) ls (few (length ls))
 
   pub record Whole : Type 0 where
-    pub says : saidBuilt (gatheredOf .told) ≡ andThen (cond (inRange kind.Size (pos n) && leb (length ls) 256) [] (3 ∷ [])) (observationsSay n [] ls)
+    pub says : saidBuilt (gatheredOf .told) ≡ orElse (cond (inRange kind.Size (pos n) && leb (length ls) 256) [] (3 ∷ [])) (observationsSay n [] ls)
     pub size : gatheredOf .n ≡ n
     pub sound : ReadyWhenDone gatheredOf
     pub sums : saidBuilt (gatheredOf .told) ≡ [] → (f : Observation → ℤ) → keptSum f gatheredOf ≡ total f (distinct ls)

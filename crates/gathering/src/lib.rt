@@ -50,7 +50,7 @@ fn is_refused(told: Built) -> bool
 }
 
 // The adder: a line more, by the tests in their order, where no line before it is refused; after a refusal no line is looked at. A line whose key is new is kept.
-// All in one function, for handing the state on to another copies it whole.
+// The kept lines are searched here: a function of its own for that would be handed a copy of all 256 for every line. `refuse` copies them once for a build.
 pub fn add_observation(mut g: Gathered, l: Observation) -> Gathered
     ensures { λ r. ⌜ r ≡ added g l ⌝ }
 {

@@ -20,7 +20,7 @@ use Rattle.checked.specs.Checked.{Checked}
 use Rattle.checked.specs.Input.{Input, short}
 use Rattle.checked.specs.Order.{answer}
 use Rattle.checked.specs.Agree.{Agree}
-use Rattle.checked.proofs.Agreement.{same-answer, same-solution, same-inverse}
+use Rattle.checked.proofs.Agreed.{same-answer, same-solution, same-inverse}
 use Rattle.checked.proofs.Contract.{answer-range}
 use Rattle.checked.proofs.Statements.{accepted-usable}
 use Rattle.lower_half.specs.Half.{halfPlace, shortHalf, filledOut}

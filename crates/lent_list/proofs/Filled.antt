@@ -2,6 +2,7 @@
 --   place-given, place-open, end-room, end-filled — the list at one place, and an end, as the code meets them
 --   length-filled — the list keeps its length
 --   filled-given, filled-one, filled-past — a weight that was given stays; one that was not is 1; no place from n on changes
+--   filled-all — where every weight was given the list stays as it is
 use mathlib.Core.Path.{_≡_, refl, sym, _∙_}
 use mathlib.Core.Bool.{Bool, true, false, not, cond}
 use mathlib.Core.List.{List}
@@ -82,6 +83,11 @@ filled-given (suc n) z l i h = go (ℕ-discrete i n) ∙ filled-given n z l i h
     go : Dec (i ≡ n) → getD (filledAt z n (filled n z l)) i (pos 0) ≡ getD (filled n z l) i (pos 0)
     go (yes e) = rw e (at-given z n (filled n z l) (rw e at h))
     go (no e) = at-other z n (filled n z l) i e
+
+pub filled-all : (n z : ℕ) (l : List ℤ) → ((i : ℕ) → i < n → hasPlace z i ≡ true) → filled n z l ≡ l
+unfolding filled
+filled-all zero z l h = refl
+filled-all (suc n) z l h = rw (h n (omega arith)) (filled-all n z l (λ i m. h i (omega arith)))
 
 pub filled-one : (n z : ℕ) (l : List ℤ) (i : ℕ) → hasPlace z i ≡ false → i < n → n ≤ length l → getD (filled n z l) i (pos 0) ≡ pos 1
 unfolding filled

@@ -2,7 +2,8 @@
 --   length-put  — a line leaves the lengths of the lists
 --   run-long, lists-long — lists that are long enough stay so, and at an accepted end they are
 --   enough      — with limit lists that are long enough too, a check does not say 8
---   end-answers — the check answers accepted, 5, 6 or 7 only
+--   reckons, end-answers — the check answers accepted, 5, 6 or 7 only
+--   inside      — nor 3, where every number is in its range
 use mathlib.Core.Path.{_≡_, refl, _∙_}
 use mathlib.Core.Bool.{Bool, true, false, cond}
 use mathlib.Core.List.{List, [], _∷_}
@@ -27,7 +28,7 @@ use Rattle.lent_list.specs.Filled.{closedWeights}
 use Rattle.lent_list.proofs.Filled.{length-filled}
 use Rattle.lent_lists.proofs.Lists.{Long, long}
 use Rattle.given_forms.specs.Progress.{setOf, ended}
-use Rattle.checked.specs.Input.{Input, input, problem, inRanges}
+use Rattle.checked.specs.Input.{problem, inRanges}
 use Rattle.checked.specs.Input as checker
 use Rattle.checked.specs.Order.{reckoned, firstMargin, firstResidual, firstInversePlace}
 use Rattle.checked.proofs.Contract.{answer-ready}
@@ -37,7 +38,7 @@ use Rattle.loader.specs.Taken.{listsWith}
 use Rattle.loader.proofs.Accepted.{accepted-form}
 use Rattle.loader_order.proofs.Through.{answer-ended}
 use Rattle.line_runs.specs.Run.{State, fromNew, step, run, Accepts}
-use Rattle.line_runs.specs.Holds.{InRange, ReckoningSays, accepted, margin, residual, inverseResidual}
+use Rattle.line_runs.specs.Holds.{inputOf, InRange, ReckoningSays, accepted, margin, residual, inverseResidual}
 use Rattle.line_runs.proofs.End.{in-range}
 
 -- ---- lengths
@@ -78,7 +79,7 @@ lists-long l (line ∷ lines) a e =
     run-long (fromNew l) (line ∷ lines) a (r .1 .long)
 
 -- ---- the check
-reckons : (n m k i : ℕ) → ReckoningSays (verdict (reckoned n m k i))
+pub reckons : (n m k i : ℕ) → ReckoningSays (verdict (reckoned n m k i))
 reckons n m k i = go (ltb m n) (ltb k n) (ltb i (n * n))
   where
     go : (a b c : Bool) → ReckoningSays (cond a (5 ∷ (m + 1) ∷ []) (cond b (6 ∷ (k + 1) ∷ []) (cond c (7 ∷ (i / n + 1) ∷ (i % n + 1) ∷ []) [])))
@@ -87,16 +88,12 @@ reckons n m k i = go (ltb m n) (ltb k n) (ltb i (n * n))
     go false false true = inverseResidual (i / n + 1) (i % n + 1)
     go false false false = accepted
 
-abbrev pub inputOf : State → List ℕ → List ℕ → Input
-inputOf u E L =
-    input (u .loader .n) (u .loader .s) (u .loader .t) (u .lists .matrix) (u .lists .right) (u .lists .tolerance) (u .lists .guess) (u .lists .inverse) (u .lists .weights) E L
-
 pub enough : (u : State) (E L : List ℕ) → shortLists (u .lists) ≡ false → 32 ≤ length E → 1024 ≤ length L → checker.short (inputOf u E L) ≡ false
 enough u E L s e l =
     let h : Long (u .lists) = long (u .lists) s in
     rw (le-ltb _ 1024 (h .matrix), le-ltb _ 32 (h .right), le-ltb _ 32 (h .tolerance), le-ltb _ 32 (h .guess), le-ltb _ 1024 (h .inverse), le-ltb _ 32 (h .weights), le-ltb _ 32 e, le-ltb _ 1024 l)
 
-inside : (u : State) (E L : List ℕ) → InRange u → inRanges (inputOf u E L) ≡ true
+pub inside : (u : State) (E L : List ℕ) → InRange u → inRanges (inputOf u E L) ≡ true
 inside u E L h = both (both (h .size) (both (h .solution) (h .inverse-scale))) (both (h .matrix) (both (h .right) (both (h .tolerance) (both (h .guess) (both (h .inverse) (h .weights))))))
 
 module _ (l : Lists) (lines : List (List ℕ)) (a : Accepts (fromNew l) lines) (e : ended (run (fromNew l) lines .loader .stage) ≡ true) (E L : List ℕ) (few : 32 ≤ length E) (many : 1024 ≤ length L) where

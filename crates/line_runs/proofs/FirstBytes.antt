@@ -1,7 +1,7 @@
 -- The first 65,536 bytes of a file decide what comes of its lines: at most 163 lines are accepted, each of at most 320 bytes and its line feed.
 --   length-cut, drop-take — the first line of a file's first N bytes, and what follows it
 --   long-line  — lines above 320 bytes are refused alike
---   Cut, cut   — a file's first N bytes are the whole file, or both are refused alike, where N is large enough for the lines that may still be accepted
+--   Cut        — a file's first N bytes are the whole file, or both are refused alike, where N is large enough for the lines that may still be accepted
 --   first-bytes — so it is with the first 65,536 bytes, from the start
 use mathlib.Core.Path.{_≡_, refl, sym, ap, _∙_}
 use mathlib.Core.Bool.{Bool, true, false, cond}

@@ -1,7 +1,6 @@
 -- A run of accepted lines holds exactly what its lines' forms give.
 --   collected  — every one of their forms is held at the end
---   found      — what is given at the end, and was not at the fromNew, was given by one of the lines, and has that line's numbers
---   size-from, scales-from — n, s and t are those of problem and scale
+--   found      — what is given at the end, and was not at the start, was given by one of the lines, and has that line's numbers
 use mathlib.Core.Path.{_≡_, refl, sym, ap, subst, _∙_}
 use mathlib.Core.Bool.{Bool, true, false}
 use mathlib.Core.List.{List, [], _∷_}

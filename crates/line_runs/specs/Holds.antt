@@ -3,6 +3,7 @@
 --                  given; the accepted end.  HoldsSize, HoldsScale, HoldsPart, HoldsItem — by the kind of form, vs being its numbers by list
 --   kindFor s    — what the numbers of the list s stand for
 --   cell l n s i j — its number j, from 0, for the number i, from 1, in lists of a system of n equations
+--   inputOf u E L — what the loader and its lists hand to a check, with the limit lists E and L
 --   InRange u    — every number that a check uses is in its range
 --   ReckoningSays w — w is nothing, 5, 6 or 7
 use mathlib.Core.Bool.{true}
@@ -14,6 +15,7 @@ use lib.ListN.{getD}
 use Rattle.rules.specs.Range.{inRange, allInRange}
 use Rattle.rules.specs.declared.Kind.{Kind}
 use Rattle.rules.specs.declared.Kind.the-variants as kind
+use Rattle.checked.specs.Input.{Input, input}
 use Rattle.form.specs.Form.{Form}
 use Rattle.form_values.specs.Item.{itemOf, placed}
 use Rattle.form_values.specs.declared.Item.{Item}
@@ -59,6 +61,10 @@ HoldsItem End vs u = ended (u .loader .stage) ≡ true
 
 abbrev pub HoldsForm : Form → State → Type 0
 HoldsForm f u = HoldsItem (itemOf f) (λ (s : Slot). valuesFor s f) u
+
+abbrev pub inputOf : State → List ℕ → List ℕ → Input
+inputOf u E L =
+    input (u .loader .n) (u .loader .s) (u .loader .t) (u .lists .matrix) (u .lists .right) (u .lists .tolerance) (u .lists .guess) (u .lists .inverse) (u .lists .weights) E L
 
 pub record InRange (u : State) : Type 0 where
   pub size : inRange kind.Size (pos (u .loader .n)) ≡ true

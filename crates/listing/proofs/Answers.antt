@@ -8,7 +8,7 @@ use Prim.Native.Nat.{ℕ, _+_, _*_, _/_, _%_}
 use native.Mathlib.Omega.{arith}
 use lib.Dec.{ltb}
 use lib.ListN.{getD}
-use Rattle.rules.specs.Order.{verdict, ifAccepted}
+use Rattle.rules.specs.Order.{verdict, ifAccepted, orElse}
 use Rattle.enclosure.specs.Problem.{Problem}
 use Rattle.checked.specs.Order.{firstMargin, firstResidual, firstInversePlace, reckoned, checkedOf}
 use Rattle.lent_lists.specs.Lists.{shortLists}
@@ -22,7 +22,7 @@ use Rattle.line_runs.specs.Lines.{linesOf}
 use Rattle.line_runs.specs.Read.{Reading, readFrom, zeros, readingOf}
 use Rattle.listing.specs.Answers.{Alone, too-long, no-form, out-of-range, wrong-count, too-early, repeated, after-end, Answers, of-line, margin, residual, inverse-residual, missing, not-ended}
 use Rattle.listing.specs.Answers as answers
-use Rattle.listing.specs.Listing.{problemIn, orElse, answerOf}
+use Rattle.listing.specs.Listing.{problemIn, answerOf}
 use Rattle.listing.proofs.Entire.{zeros-long}
 
 -- ---- a line

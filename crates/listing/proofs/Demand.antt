@@ -9,7 +9,7 @@ use mathlib.Core.Bool.{Bool, true, false, cond}
 use mathlib.Core.List.{List, [], _∷_}
 use Prim.Native.Nat.{ℕ}
 use Rattle.linear.specs.Matrix.{Vec, Mat}
-use Rattle.rules.proofs.Verdicts.{nothing-is-not}
+use Rattle.rules.proofs.Verdicts.{nothing-is-not, else-none}
 use Rattle.enclosure.specs.Reckoning.{bound, inverseBound}
 use Rattle.enclosure.specs.Demand.{Encloses, OneHeight, RoundedExact}
 use Rattle.enclosure.proofs.Acceptance.{rounded-sound}
@@ -23,21 +23,13 @@ use Rattle.line_runs.specs.Lines.{linesOf}
 use Rattle.line_runs.specs.Read.{readingOf}
 use Rattle.file_check.specs.Judged.{reportedOf}
 use Rattle.file_check.proofs.Forms.{some, fine, heavy}
-use Rattle.listing.specs.Listing.{problemIn, orElse, Complete, answerOf, listingOf}
+use Rattle.listing.specs.Listing.{problemIn, Complete, answerOf, listingOf}
 use Rattle.listing.proofs.Entire.{answer-judged, listing-from, from, inside}
 
 -- ---- nothing said, part by part
 nothing-printed : (line : ℕ) (l : List ℕ) → printed line l ≡ [] → l ≡ []
 nothing-printed line [] e = refl
 nothing-printed line (k ∷ vs) e = absurd (nothing-is-not e)
-
-nothing-first : (l m : List ℕ) → orElse l m ≡ [] → l ≡ []
-nothing-first [] m e = refl
-nothing-first (k ∷ vs) m e = absurd (nothing-is-not e)
-
-nothing-second : (l m : List ℕ) → orElse l m ≡ [] → m ≡ []
-nothing-second [] m e = e
-nothing-second (k ∷ vs) m e = absurd (nothing-is-not e)
 
 nothing-open : (b : Bool) (l : List ℕ) → cond b l (15 ∷ []) ≡ [] → (b ≡ true) × (l ≡ [])
 nothing-open true l e = (refl, e)
@@ -53,8 +45,9 @@ module _ (file : List ℕ) where
   accepted-parts e =
       let R = readingOf file in
       let later = cond (ended (R .state .loader .stage)) (checkedOf (problemIn file)) (15 ∷ []) in
-      let l = nothing-printed (R .line) (R .said) (nothing-first (printed (R .line) (R .said)) (printed 0 later) e) in
-      let c = nothing-open (ended (R .state .loader .stage)) (checkedOf (problemIn file)) (nothing-printed 0 later (nothing-second (printed (R .line) (R .said)) (printed 0 later) e)) in
+      let none = else-none (printed (R .line) (R .said)) (printed 0 later) e in
+      let l = nothing-printed (R .line) (R .said) (none .0) in
+      let c = nothing-open (ended (R .state .loader .stage)) (checkedOf (problemIn file)) (nothing-printed 0 later (none .1)) in
       record { complete = record { lines = l; end = c .0 }; quiet = c .1 }
 
   pub file-reported : answerOf file ≡ [] → listingOf file ≡ reportedOf (problemIn file)

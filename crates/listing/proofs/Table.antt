@@ -8,7 +8,7 @@ use mathlib.Core.Bool.{Bool, true, false, _&&_}
 use mathlib.Core.List.{List, [], _∷_}
 use Prim.Native.Nat.{ℕ}
 use lib.IntN.{pos, negsuc}
-use Rattle.integer.specs.Finite.{sum, sumℕ, largest, first}
+use Rattle.integer.specs.Finite.{sum, sumℕ, largest, first, every}
 use Rattle.integer.specs.Quotient.{ceilDiv, roundDiv}
 use Rattle.linear.specs.Matrix.{apply, product, identity}
 use Rattle.integer.proofs.Search.{clash}
@@ -46,7 +46,7 @@ use Rattle.listing.proofs.Entire.{zeros-long, listing-from, answer-judg
 use Rattle.listing.proofs.WithOnes.{not-in-none}
 
 pub cases-hold : tableHolds table ≡ true
-unfolding check.answer solutionBoundsAfter inverseBoundsAfter written bound boundWith boundFrom sizesWith exceeds rowSum residual margin load defect product apply identity sum sumℕ largest first ceilDiv roundDiv entryBound allInRange inRange rangeOf ranges
+unfolding check.answer solutionBoundsAfter inverseBoundsAfter written bound boundWith boundFrom sizesWith exceeds rowSum residual margin load defect product apply identity sum sumℕ largest first ceilDiv roundDiv entryBound allInRange inRange rangeOf ranges every
 cases-hold = refl
 
 -- a file whose lines spell forms that are accepted, an end last

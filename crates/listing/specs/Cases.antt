@@ -9,6 +9,7 @@ use mathlib.Core.List.{List, [], _∷_, _++_, map}
 use Prim.Native.Nat.{ℕ}
 use lib.Dec.{eqb}
 use lib.IntN.{ℤ, pos, negsuc}
+use Rattle.integer.specs.Same.{sameNumber}
 use Rattle.checked.specs.Cases as check
 use Rattle.form.specs.Form.{bytes}
 use Rattle.entry.specs.Entry.{entryValue, entryBound}
@@ -18,16 +19,10 @@ pub data TableRow : Type 0 where
   entry : (x : ℤ) (s : ℕ) (v : ℤ) → TableRow
   limited : (x : ℤ) (s e : ℕ) (v : ℤ) (limit : ℕ) → TableRow
 
-abbrev pub sameInteger : ℤ → ℤ → Bool
-sameInteger (pos a) (pos b) = eqb a b
-sameInteger (pos a) (negsuc b) = eqb 0 1
-sameInteger (negsuc a) (pos b) = eqb 0 1
-sameInteger (negsuc a) (negsuc b) = eqb a b
-
 abbrev pub tableRowHolds : TableRow → Bool
 tableRowHolds (checked r) = check.rowHolds r
-tableRowHolds (entry x s v) = sameInteger (entryValue s x) v
-tableRowHolds (limited x s e v limit) = sameInteger (entryValue s x) v && eqb (entryBound s x e) limit
+tableRowHolds (entry x s v) = sameNumber (entryValue s x) v
+tableRowHolds (limited x s e v limit) = sameNumber (entryValue s x) v && eqb (entryBound s x e) limit
 
 -- X = −24, s = 4: entry −2
 abbrev pub l : TableRow

@@ -13,7 +13,7 @@ use Prim.Native.Nat.{ℕ, _≤_}
 use lib.ListN.{length, take, drop}
 use Rattle.enclosure.specs.Problem.{Problem}
 use Rattle.checked.specs.Order.{checkedOf}
-use Rattle.rules.specs.Order.{ifAccepted}
+use Rattle.rules.specs.Order.{orElse}
 use Rattle.given_forms.specs.Progress.{ended}
 use Rattle.line_runs.specs.Run.{forms}
 use Rattle.refusal.specs.Refused.{printed}
@@ -28,9 +28,6 @@ abbrev pub problemIn : List ℕ → Problem
 problemIn file = problemFrom (forms (linesOf file))
 
 -- nothing said of the lines: the rest
-abbrev pub orElse : List ℕ → List ℕ → List ℕ
-orElse said rest = ifAccepted said rest said
-
 pub record Complete (file : List ℕ) : Type 0 where
   pub lines : readingOf file .said ≡ []
   pub end : ended (readingOf file .state .loader .stage) ≡ true

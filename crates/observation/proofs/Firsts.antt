@@ -7,14 +7,14 @@ use mathlib.Core.List.{List, [], _∷_, _++_}
 use Prim.Native.Nat.{ℕ}
 use borrow.Author.Tests.{eqb-true}
 use lib.Dec.{T, eqb}
-use Rattle.rules.proofs.Verdicts.{nothing-is-not}
+use Rattle.rules.specs.Order.{orElse}
+use Rattle.rules.proofs.Verdicts.{nothing-is-not, else-none}
 use Rattle.rules.proofs.Ranges.{both-left, both-right}
 use Rattle.observation.specs.declared.Observation.{Observation}
 use Rattle.observation.specs.Line.{sameContents, clashes}
-use Rattle.observation.specs.Order.{observationSays, andThen, observationsSay}
+use Rattle.observation.specs.Order.{observationSays, observationsSay}
 use Rattle.integer.specs.Among.{Among, here, there}
 use Rattle.observation.proofs.Members.{line-same}
-use Rattle.observation.proofs.Lines.{then-none}
 
 -- ---- the lines before a line
 pub onto : List Observation → List Observation → List Observation
@@ -43,7 +43,7 @@ onto-front (x ∷ xs) es (there i) = onto-front xs (x ∷ es) i
 pub skip-lines : (n : ℕ) (es xs zs : List Observation) → observationsSay n es xs ≡ [] → observationsSay n es (xs ++ zs) ≡ observationsSay n (onto xs es) zs
 unfolding observationsSay onto
 skip-lines n es [] zs e = refl
-skip-lines n es (x ∷ xs) zs e = let t = then-none (observationSays n es x) (observationsSay n (x ∷ es) xs) e in rw (t .0) (skip-lines n (x ∷ es) xs zs (t .1))
+skip-lines n es (x ∷ xs) zs e = let t = else-none (observationSays n es x) (observationsSay n (x ∷ es) xs) e in rw (t .0) (skip-lines n (x ∷ es) xs zs (t .1))
 
 -- ---- the first line that is refused
 pub record First (n : ℕ) (es ls : List Observation) : Type 0 where
@@ -59,7 +59,7 @@ unfolding observationsSay onto
 first-line n es [] e = absurd (nothing-is-not (sym e))
 first-line n es (l ∷ ls) {k} {ks} e = go (observationSays n es l) refl e (λ q. first-line n (l ∷ es) ls q)
   where
-    go : (w : List ℕ) → observationSays n es l ≡ w → andThen w (observationsSay n (l ∷ es) ls) ≡ k ∷ ks → (observationsSay n (l ∷ es) ls ≡ k ∷ ks → First n (l ∷ es) ls) → First n es (l ∷ ls)
+    go : (w : List ℕ) → observationSays n es l ≡ w → orElse w (observationsSay n (l ∷ es) ls) ≡ k ∷ ks → (observationsSay n (l ∷ es) ls ≡ k ∷ ks → First n (l ∷ es) ls) → First n es (l ∷ ls)
     go (j ∷ js) p q ih = record { before = []; line = l; rest = ls; parts = refl; passed = refl; says = p ∙ sym (rw p) }
     go [] p q ih =
         let f = ih q in

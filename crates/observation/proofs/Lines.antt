@@ -11,17 +11,13 @@ use borrow.Author.Tests.{not-false, eqb-false, ne-eqb, ltb-false, le-ltb}
 use lib.ListN.{length}
 use Rattle.rules.specs.Order.{verdict}
 use Rattle.rules.proofs.Tests.{none-said, silent}
-use Rattle.rules.proofs.Verdicts.{nothing-is-not}
+use Rattle.rules.proofs.Verdicts.{else-none}
 use Rattle.observation.specs.declared.Observation.{Observation}
 use Rattle.observation.specs.Line.{clashes}
-use Rattle.observation.specs.Order.{observationOrder, observationSays, andThen, observationsSay, openOrder, buildAnswer}
+use Rattle.observation.specs.Order.{observationOrder, observationSays, observationsSay, openOrder, buildAnswer}
 use Rattle.integer.specs.Among.{Among, here, there}
 use Rattle.observation.specs.Stated.{Passes, Fits, Admitted}
 use Rattle.observation.proofs.Members.{no-clash, clash-free, nobody}
-
-pub then-none : (a b : List ℕ) → andThen a b ≡ [] → (a ≡ []) × (b ≡ [])
-then-none [] b e = (refl, e)
-then-none (k ∷ ks) b e = absurd (nothing-is-not e)
 
 pub record After (n : ℕ) (earlier ls : List Observation) : Type 0 where
   pub good : (l : Observation) → Among l ls → Passes n l
@@ -40,7 +36,7 @@ line-good n earlier l g c = silent (observationOrder n earlier l) (g .inside, (n
 pub after : (n : ℕ) (earlier ls : List Observation) → observationsSay n earlier ls ≡ [] → After n earlier ls
 unfolding observationsSay
 after n earlier [] e = record { good = λ l i. nobody i; apart = λ d l i j k. nobody j; one = λ l m i j k. nobody i }
-after n earlier (l ∷ ls) e = go (good-line n earlier l (then-none _ _ e .0)) (after n (l ∷ earlier) ls (then-none (observationSays n earlier l) _ e .1))
+after n earlier (l ∷ ls) e = go (good-line n earlier l (else-none _ _ e .0)) (after n (l ∷ earlier) ls (else-none (observationSays n earlier l) _ e .1))
   where
     go : Passes n l × (clashes earlier l ≡ false) → After n (l ∷ earlier) ls → After n earlier (l ∷ ls)
     go g r = record {
@@ -99,7 +95,7 @@ module _ (n : ℕ) (ls : List Observation) (short : Bool) where
   pub builds-fits : buildAnswer n ls short ≡ [] → Admitted n (length ls) short × Fits n ls
   unfolding buildAnswer
   builds-fits e =
-      let t = then-none (verdict (openOrder n (length ls) short)) (observationsSay n [] ls) e in
+      let t = else-none (verdict (openOrder n (length ls) short)) (observationsSay n [] ls) e in
       (usable n (length ls) short (t .0), lines-fit n ls (t .1))
 
   pub usable-answer : Admitted n (length ls) short → buildAnswer n ls short ≡ observationsSay n [] ls

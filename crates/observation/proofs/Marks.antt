@@ -1,8 +1,7 @@
--- What one line adds to a whole row, and to the whole diagonal.
---   mark-inside — the marks of a line whose numbers are in range are 0 to n;  weight-inside, difference-inside — its weight is at most 64, its difference at most 2 ^ 16 in size
+-- What one line adds to the whole diagonal.
+--   Inside, inside — the marks of a line whose numbers are in range are 0 to n, its weight is at most 64, its difference at most 2 ^ 16 in size
 --   pick      — of the numbers v 1, .., v n only v m is left by the test for m, where v 0 is 0
 --   line-diagonal — a line is twice on the diagonal, the fixed mark counted in
---   line-row  — a line's part of A·h, where the heights fit it
 use mathlib.Core.Path.{_≡_, refl, sym, ap, subst, _∙_}
 use mathlib.Core.Bool.{Bool, true, false, cond, _&&_, _||_}
 use Prim.Native.Nat.{ℕ, zero, suc, _+_, _≤_, _^_}

@@ -1,5 +1,5 @@
 -- Theorem (b): in a list that builds, a copy of any of its lines at any place changes nothing.
---   Same, repeated — the longer list builds, with the same matrix and the same right side, while it is at most 256 long
+--   repeated — the longer list builds, with the same matrix and the same right side, while it is at most 256 long
 use mathlib.Core.Path.{_≡_, sym, subst}
 use mathlib.Core.Bool.{Bool}
 use mathlib.Core.List.{List, [], _∷_, _++_}
@@ -7,19 +7,15 @@ use Prim.Native.Nat.{ℕ, _+_, _≤_}
 use lib.ListN.{length}
 use Rattle.observation.specs.declared.Observation.{Observation}
 use Rattle.observation.specs.Order.{buildAnswer}
-use Rattle.observation.specs.Distinct.{weightAt, gain, builtMatrix, builtRight}
+use Rattle.observation.specs.Distinct.{weightAt, gain}
+use Rattle.observation.specs.Repeated.{SameBuilt}
 use Rattle.integer.specs.Among.{Among}
 use Rattle.observation.proofs.Members.{joined}
 use Rattle.observation.proofs.Lines.{builds-fits, fits-builds}
 use Rattle.observation.proofs.Repeat.{repeated-total}
 
-pub record Same (n : ℕ) (ls ms : List Observation) (short : Bool) : Type 0 where
-  pub builds : buildAnswer n ms short ≡ []
-  pub matrix : (i j : ℕ) → builtMatrix ms i j ≡ builtMatrix ls i j
-  pub right : (i : ℕ) → builtRight ms i ≡ builtRight ls i
-
 pub repeated : (n : ℕ) (short : Bool) (l : Observation) (xs ys : List Observation) → buildAnswer n (xs ++ ys) short ≡ [] → Among l (xs ++ ys) → length (xs ++ l ∷ ys) ≤ 256 →
-    Same n (xs ++ ys) (xs ++ l ∷ ys) short
+    SameBuilt n (xs ++ ys) (xs ++ l ∷ ys) short
 repeated n short l xs ys e i few =
     let t = builds-fits n (xs ++ ys) short e in
     let u = t .0 in

@@ -1,7 +1,6 @@
 -- What is said of a list of field lines (document 02, Paper 3): 8, 3 for n, 3 for a list above 256, then line by line 3, 16, 17.
 --   saidBuilt b — what an answer says, in the documents' numbers; nothing where the equations are built
 --   observationOrder n earlier l — the tests of the line l after the lines `earlier`;  observationSays — what is said of it
---   andThen first rest — what is said first, and the rest where that is nothing
 --   observationsSay n earlier ls — what is said of the lines ls, in order: the first refusal ends it
 --   openOrder n k short — the tests before any line: n, the count k of lines, and whether a lent list is too short, which depends on the layout (built/specs/BuiltAs)
 --   buildAnswer n ls short — what is said of all
@@ -11,7 +10,7 @@ use Prim.Native.Nat.{ℕ}
 use lib.Dec.{ltb}
 use lib.IntN.{pos}
 use lib.ListN.{length}
-use Rattle.rules.specs.Order.{Test, number, verdict, ifAccepted}
+use Rattle.rules.specs.Order.{Test, number, verdict, orElse}
 use Rattle.rules.specs.Range.{inRange}
 use Rattle.rules.specs.Refusal.{numberOf, valuesOf}
 use Rattle.rules.specs.declared.Kind.the-variants as kind
@@ -33,17 +32,14 @@ observationOrder n earlier l = number 3 (outsideRange n l) ∷ number 16 (sameMa
 abbrev pub observationSays : ℕ → List Observation → Observation → List ℕ
 observationSays n earlier l = verdict (observationOrder n earlier l)
 
-abbrev pub andThen : List ℕ → List ℕ → List ℕ
-andThen first rest = ifAccepted first rest first
-
 -- 02: "Lines are taken in order and the first refusal ends the build with both lists untouched."
 unfoldable pub observationsSay : ℕ → List Observation → List Observation → List ℕ
 observationsSay n earlier [] = []
-observationsSay n earlier (l ∷ ls) = andThen (observationSays n earlier l) (observationsSay n (l ∷ earlier) ls)
+observationsSay n earlier (l ∷ ls) = orElse (observationSays n earlier l) (observationsSay n (l ∷ earlier) ls)
 
 -- 02: "8 comes first, then 3 for n." "A list above 256 is 3, before any line."
 abbrev pub openOrder : ℕ → ℕ → Bool → List Test
 openOrder n k short = number 8 short ∷ number 3 (not (inRange kind.Size (pos n))) ∷ number 3 (ltb 256 k) ∷ []
 
 unfoldable pub buildAnswer : ℕ → List Observation → Bool → List ℕ
-buildAnswer n ls short = andThen (verdict (openOrder n (length ls) short)) (observationsSay n [] ls)
+buildAnswer n ls short = orElse (verdict (openOrder n (length ls) short)) (observationsSay n [] ls)

@@ -3,7 +3,7 @@
 --   After r fs      — the forms fs are taken by any loader that was given the forms up to the rank r
 --   part-ends, parts-end, end-ends — the forms of a part by rising i, and of part after part, before forms that come to an end; the end
 --   reached-none, forms-taken — the forms of a problem, from the start
---   file-complete, file-complete-old — so its file is complete at a new loader, and at one of the old edition
+--   file-complete, file-reading, file-complete-old — so its file is complete at a new loader; at one of the old edition it is read alike, and complete too
 use mathlib.Core.Path.{_≡_, refl, subst}
 use mathlib.Core.List.{List, [], _∷_}
 use Prim.Native.Nat.{ℕ, zero, suc, _+_, _*_, _≤_, _<_}
@@ -24,12 +24,13 @@ use Rattle.loader.specs.Taken.{fresh, after}
 use Rattle.line_runs.proofs.Sound.{fresh-empty}
 use Rattle.spelled_lines.proofs.Forms.{passed-problem, passed-scale, passed-part, passed-end}
 use Rattle.listing.specs.Listing.{Complete}
-use Rattle.old_edition.specs.Edition.{CompleteOld}
+use Rattle.line_runs.specs.Read.{readingOf}
+use Rattle.old_edition.specs.Edition.{readingOfOld, CompleteOld}
 use Rattle.old_edition.specs.File.{formFor, rising, partsThen, oldForms, oldFile}
 use Rattle.old_edition.specs.Numbers.{NumbersInRange}
 use Rattle.old_edition.proofs.Numbers.{item-for, old-for, miscounted-for, outside-for}
 use Rattle.old_edition.proofs.Reached.{rank, Reached, reached-next, reached-part, reached-all, reached-old}
-use Rattle.old_edition.proofs.Taken.{PassesOld, Takes, now-complete, old-complete}
+use Rattle.old_edition.proofs.Taken.{PassesOld, Takes, now-complete, old-reading, old-complete}
 
 module _ (P : Problem) (w : NumbersInRange P) where
   size : (1 ≤ P .n) × (P .n ≤ 32)
@@ -113,6 +114,9 @@ module _ (P : Problem) (w : NumbersInRange P) where
 
   pub file-complete : Complete (oldFile P)
   file-complete = now-complete (oldForms P) forms-taken
+
+  pub file-reading : readingOfOld (oldFile P) ≡ readingOf (oldFile P)
+  file-reading = old-reading (oldForms P) forms-taken
 
   pub file-complete-old : CompleteOld (oldFile P)
   file-complete-old = old-complete (oldForms P) forms-taken

@@ -2,6 +2,7 @@
 --   natural-weight, used, square, in-range-forms — the numbers that the forms of a state in its ranges give are in their ranges
 --   in-range-file — the numbers of a complete file's problem are in their ranges
 --   new-complete, new-complete-old — the new file is complete, and so it is for the desk of the old edition
+--   new-reading   — the desk of the old edition says of it and holds after it what the loader in force does
 --   new-size      — it has at most 21,300 bytes
 --   equal-answer, equal-listing — where all tolerances are 0 it has the same answer, and the same listing, byte for byte
 --   equal-check, equal-bound, equal-inverse-bound — and the same check: what is said, and every limit
@@ -36,10 +37,10 @@ use Rattle.file_check.specs.Problem.{problemFrom}
 use Rattle.file_check.specs.Judged.{lineOr}
 use Rattle.listing.specs.Listing.{problemIn, Complete, answerOf, listingOf}
 use Rattle.listing.proofs.Entire.{answer-judged, listing-from, from, inside}
-use Rattle.old_edition.specs.Edition.{CompleteOld}
+use Rattle.old_edition.specs.Edition.{readingOfOld, CompleteOld}
 use Rattle.old_edition.specs.File.{newFile}
 use Rattle.old_edition.specs.Numbers.{SameNumbers, SameTolerances, NumbersInRange}
-use Rattle.old_edition.proofs.Ends.{file-complete, file-complete-old}
+use Rattle.old_edition.proofs.Ends.{file-complete, file-reading, file-complete-old}
 use Rattle.old_edition.proofs.Same.{same-check, same-report, same-bound, same-inverse-bound}
 use Rattle.old_edition.proofs.Size.{old-size}
 use Rattle.old_edition.proofs.Values.{same-file, no-tolerance}
@@ -94,6 +95,9 @@ module _ (file : List ℕ) (c : Complete file) where
 
   pub new-complete-old : CompleteOld (newFile file)
   new-complete-old = file-complete-old P in-range-file
+
+  pub new-reading : readingOfOld (newFile file) ≡ readingOf (newFile file)
+  new-reading = file-reading P in-range-file
 
   pub new-size : length (newFile file) ≤ 21300
   new-size = old-size P in-range-file

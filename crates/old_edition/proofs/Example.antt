@@ -1,6 +1,7 @@
 -- Files that are converted, and one that is not: no theorem on converted files is of none.
 --   whole-new, shuffled-new — the new file of 01's whole file is that file, computed byte by byte, and so is that of its shuffled copy
 --   shuffled-converted, shuffled-too-small — for a buffer that is just as long it is converted, for one that is a byte shorter it is not
+--   shuffled-accepted-01 — 01's own check accepts what the desk of 01 holds after the new file
 --   unbounded-refused, unbounded-converted, unbounded-new — a file whose check says 5 is converted
 --   tolerant-refused — a file with a tolerance is 22, whatever the room
 --   longest-in-range, longest-size — a problem in range whose file has 21,300 bytes: the bound of `old-size` is reached
@@ -8,7 +9,7 @@
 use mathlib.Core.Path.{_≡_, refl, ap, _∙_}
 use mathlib.Core.Bool.{true, false}
 use mathlib.Core.List.{List, [], _∷_}
-use Prim.Native.Nat.{ℕ, _<_}
+use Prim.Native.Nat.{ℕ, _≤_, _<_}
 use lib.Dec.{lit≤}
 use lib.IntN.{pos, negsuc}
 use lib.ListN.{length}
@@ -17,6 +18,7 @@ use Rattle.linear.specs.Matrix.{apply, product, identity}
 use Rattle.rules.specs.Range.{ranges, rangeOf, inRange}
 use Rattle.enclosure.specs.Problem.{Problem}
 use Rattle.enclosure.specs.Reckoning.{defect, load, margin, residual, rowSum, exceeds}
+use Rattle.checked.specs.Before.{answer01}
 use Rattle.checked.specs.Order.{checkedOf}
 use Rattle.numeral.specs.Decimal.{digits, decimal, numeral}
 use Rattle.numeral.specs.Numeral.{runAt, sizeAt, numberAt}
@@ -38,14 +40,16 @@ use Rattle.listing.specs.Cases.{wholeFile, tolerantFile}
 use Rattle.listing.specs.Listing.{problemIn, Complete, answerOf}
 use Rattle.listing.proofs.Demand.{accepted-parts}
 use Rattle.listing.proofs.Entire.{answer-judged}
-use Rattle.listing.proofs.Table.{complete-is, wholeForms, whole-spelled}
+use Rattle.listing.proofs.Table.{complete-is, answer-is, wholeForms, whole-spelled}
 use Rattle.listing.proofs.Tolerant.{tolerant-accepted}
 use Rattle.old_edition.specs.Cases.{shuffledFile, unboundedFile, unboundedNew, longest}
 use Rattle.old_edition.specs.Converted.{someTolerance, convertAnswer}
 use Rattle.old_edition.specs.File.{numbersAlong, rising, oldForms, oldFile, newFile}
 use Rattle.old_edition.specs.Numbers.{NumbersInRange}
+use Rattle.old_edition.specs.Promised.{deskInput}
 use Rattle.old_edition.specs.Stated.{tolerance, too-small, converted}
 use Rattle.old_edition.proofs.Ends.{file-complete}
+use Rattle.old_edition.proofs.Promises.{same-limits}
 use Rattle.old_edition.proofs.Same.{again}
 use Rattle.old_edition.proofs.Stated.{none-above, stated-said, always-fits}
 use Rattle.old_edition.proofs.Values.{no-tolerance}
@@ -109,6 +113,15 @@ shuffled-converted =
 
 pub shuffled-too-small : convertAnswer shuffledFile 171 ≡ 22 ∷ []
 shuffled-too-small = stated-said shuffledFile 171 (too-small shuffled-complete (rw shuffled-new (lit≤ tt)))
+
+shuffled-checked : checkedOf (problemFrom shuffledForms) ≡ []
+unfolding valueFrom sizeFrom scalesFrom exceeds rowSum residual margin load defect product apply identity sum sumℕ first
+shuffled-checked = refl
+
+pub shuffled-accepted-01 : (E L : List ℕ) → 32 ≤ length E → 1024 ≤ length L → answer01 (deskInput wholeFile E L) ≡ []
+shuffled-accepted-01 E L few many =
+    let a = same-limits shuffledFile 172 shuffled-converted E L few many .accepts (answer-is shuffledFile shuffledForms shuffled-spelled shuffled-passes shuffled-checked) in
+    rw shuffled-new at a
 
 -- ---- a file whose check is refused
 abbrev unboundedForms : List Form

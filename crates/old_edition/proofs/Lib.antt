@@ -6,6 +6,7 @@ pub mod Values
 pub mod Same
 pub mod Size
 pub mod Equal
+pub mod Limits
 pub mod Orders
 pub mod Stated
 pub mod Promises

@@ -3,32 +3,33 @@
 --   old-desk     — "Some offices can read only what 01 describes": the desk of 01 accepts every line of the new file, end among them
 --   new-count    — its forms are problem, scale and end, and 5n others
 --   equal-checks — "The old and new file lead to equal checks": what is said, every limit, and the listing
+--   same-limits  — the desk of 01 holds the file's numbers after the new file, and 01's own check of them finds the same limits
 --   again        — "Converting a converted file gives equal bytes": it is converted, and the new file is that file
 --   alike        — "two files with equal numbers give equal bytes": where one is converted, so is the other, if it is complete and has no tolerance
 --   new-fits     — the new file has at most 21,300 bytes, so there is always room for it in 32,768
 use mathlib.Core.Path.{_≡_, sym, ap, _∙_}
 use mathlib.Core.List.{List, [], _∷_}
-use Prim.Native.Nat.{ℕ, zero, suc, _+_, _*_, _≤_, _<_}
+use Prim.Native.Nat.{ℕ, zero, suc, _+_, _*_, _≤_}
 use native.Mathlib.Nat.{suc-mul}
 use native.Mathlib.Omega.{arith}
 use lib.ListN.{length}
 use Rattle.rules.proofs.Verdicts.{nothing-is-not}
 use Rattle.enclosure.specs.Demand.{NoTolerance}
 use Rattle.enclosure.specs.Problem.{Problem}
-use Rattle.enclosure.specs.Reckoning.{bound, inverseBound}
-use Rattle.checked.specs.Order.{checkedOf}
 use Rattle.form.specs.Form.{Form, end}
 use Rattle.form_values.specs.declared.Part.{Part}
 use Rattle.form_values.specs.declared.Part.the-variants.{Row, Right, Guess, Inverse, Weight}
 use Rattle.line_runs.specs.Lines.{linesOf}
 use Rattle.line_runs.specs.Run.{forms}
-use Rattle.listing.specs.Listing.{problemIn, Complete, answerOf, listingOf}
+use Rattle.listing.specs.Listing.{problemIn, Complete}
 use Rattle.old_edition.specs.Converted.{convertAnswer}
 use Rattle.old_edition.specs.Edition.{CompleteOld}
 use Rattle.old_edition.specs.File.{formFor, rising, partsThen, oldForms, newFile}
 use Rattle.old_edition.specs.Numbers.{SameNumbers}
+use Rattle.old_edition.specs.Promised.{EqualChecks, SameLimits}
 use Rattle.old_edition.specs.Stated.{ConvertStated, line-refused, not-ended, tolerance, too-small, converted}
 use Rattle.old_edition.proofs.Equal.{new-complete, new-complete-old, new-size, equal-answer, equal-listing, equal-check, equal-bound, equal-inverse-bound}
+use Rattle.old_edition.proofs.Limits as limits
 use Rattle.old_edition.proofs.Orders.{equal-bytes}
 use Rattle.old_edition.proofs.Same as same
 use Rattle.old_edition.proofs.Stated.{convert-stated, stated-said}
@@ -61,14 +62,6 @@ stated-nothing (tolerance c i l h) e = absurd (nothing-is-not e)
 stated-nothing (too-small c l) e = absurd (nothing-is-not e)
 stated-nothing (converted c z l) e = record { complete = c; untolerant = z; fits = l }
 
-pub record EqualChecks (file other : List ℕ) : Type 0 where
-  pub check : checkedOf (problemIn other) ≡ checkedOf (problemIn file)
-  pub size : problemIn other .n ≡ problemIn file .n
-  pub bounds : (i : ℕ) → i < problemIn other .n → bound (problemIn other) i ≡ bound (problemIn file) i
-  pub inverse-bounds : (i j : ℕ) → i < problemIn other .n → j < problemIn other .n → inverseBound (problemIn other) i j ≡ inverseBound (problemIn file) i j
-  pub answer : answerOf other ≡ answerOf file
-  pub listing : listingOf other ≡ listingOf file
-
 module _ (file : List ℕ) (room : ℕ) (e : convertAnswer file room ≡ []) where
   convertible : Convertible file room
   convertible = stated-nothing (convert-stated file room) e
@@ -94,6 +87,9 @@ module _ (file : List ℕ) (room : ℕ) (e : convertAnswer file room ≡ []) whe
         answer = equal-answer file c z;
         listing = equal-listing file c z;
       }
+
+  pub same-limits : (E L : List ℕ) → 32 ≤ length E → 1024 ≤ length L → SameLimits file (newFile file) E L
+  same-limits = limits.same-limits file (convertible .complete) (convertible .untolerant)
 
   pub same-again : newFile (newFile file) ≡ newFile file
   same-again = same.again (problemIn file)

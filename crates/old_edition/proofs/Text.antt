@@ -1,5 +1,5 @@
 -- What the program prints of a file.
---   text-refused, text-complete — the line of a line's refusal; where every line is accepted, what the tests after it say, or the new file
+--   text-is        — the text, from what is said;  text-refused — the line of a line's refusal
 --   answer-numbers — the numbers of the refusal's line, from what is said and the number of the line
 --   first-bytes    — the first 65,536 bytes decide any file: the program may read into one buffer of that size
 --   never-too-small — for a complete file without tolerance the program prints the new file: its buffer of 32,768 bytes is long enough

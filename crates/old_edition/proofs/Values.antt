@@ -1,8 +1,8 @@
 -- What the forms of a problem give is the problem, but for its tolerances, which they do not have.
---   values-for   — the number that the form of a row gives to a list
 --   value-own, value-else — the numbers of a list, from the forms of its own part, and from what follows the forms of another part
---   once-each, value-parts — every part stands there once, and its numbers are there
+--   value-parts  — from the forms of parts, where that of the list is one of them
 --   value-from   — the numbers of every list, from the forms of a problem
+--   forms-of     — the forms of a problem's file
 --   size-from, same-forms, same-file — the problem that the forms, or the file, of P give has the numbers of P;  no-tolerance — and no tolerance
 use mathlib.Core.Path.{_≡_, refl, sym, ap, subst, _∙_}
 use mathlib.Core.Bool.{Bool, true, false, cond}
@@ -29,12 +29,12 @@ use Rattle.line_runs.specs.Lines.{linesOf}
 use Rattle.line_runs.specs.Run.{forms}
 use Rattle.line_runs.proofs.Marks.{hits, once}
 use Rattle.line_runs.proofs.Passing.{forms-spelled}
+use Rattle.spelled_lines.proofs.Text.{lines-of}
 use Rattle.file_check.specs.Problem.{problemFrom}
 use Rattle.listing.specs.Listing.{problemIn}
 use Rattle.old_edition.specs.File.{formFor, rising, partsThen, oldForms, oldFile}
 use Rattle.old_edition.specs.Numbers.{SameNumbers}
 use Rattle.old_edition.proofs.Numbers.{item-for, row-at}
-use Rattle.old_edition.proofs.Taken.{lines-of}
 
 -- ---- the forms of the part of the list s, by rising i, before others
 module _ (P : Problem) (q : Part) (rest : List Form) (j : ℕ) where

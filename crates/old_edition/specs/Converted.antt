@@ -18,14 +18,14 @@ use Prim.Native.Nat.{ℕ}
 use lib.Dec.{ltb}
 use lib.ListN.{length, drop}
 use Rattle.integer.specs.Finite.{largest}
-use Rattle.rules.specs.Order.{Test, number, verdict, ifAccepted}
+use Rattle.rules.specs.Order.{Test, number, verdict, ifAccepted, orElse}
 use Rattle.rules.specs.Refusal.{numberOf, valuesOf}
 use Rattle.enclosure.specs.Problem.{Problem}
 use Rattle.given_forms.specs.Progress.{ended}
 use Rattle.line_runs.specs.Read.{readingOf}
 use Rattle.refusal.specs.Refused.{printed}
 use Rattle.file_check.specs.Judged.{lineOr}
-use Rattle.listing.specs.Listing.{problemIn, orElse}
+use Rattle.listing.specs.Listing.{problemIn}
 use Rattle.old_edition.specs.declared.Conversion.{Conversion}
 use Rattle.old_edition.specs.declared.Converted.{Converted}
 use Rattle.old_edition.specs.declared.Converted.the-variants.{Length, Refused, NotConvertible}

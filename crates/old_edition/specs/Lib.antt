@@ -3,4 +3,5 @@ pub mod Numbers
 pub mod Converted
 pub mod Edition
 pub mod Stated
+pub mod Promised
 pub mod Cases

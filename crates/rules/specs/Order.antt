@@ -3,6 +3,7 @@
 --   number k b — a refusal that gives its number alone
 --   verdict — what the first test that holds says; nothing where none holds
 --   ifAccepted — the new where nothing is said, the old where a refusal is
+--   orElse said rest — what is said, or the rest where that is nothing
 use mathlib.Core.Bool.{Bool, cond}
 use mathlib.Core.List.{List, [], _∷_}
 use Prim.Native.Nat.{ℕ}
@@ -21,3 +22,6 @@ verdict (t ∷ ts) = cond (t .holds) (t .says) (verdict ts)
 abbrev pub ifAccepted {ℓ} : {A : Type ℓ} → List ℕ → A → A → A
 ifAccepted [] new old = new
 ifAccepted (k ∷ ks) new old = old
+
+abbrev pub orElse : List ℕ → List ℕ → List ℕ
+orElse said rest = ifAccepted said rest said

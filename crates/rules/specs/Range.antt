@@ -7,13 +7,14 @@
 --   inRange k z — z is a number of that kind's range
 --   allInRange k n f — f 0, .., f (n − 1) all are
 --   shortMatrix k, shortColumn k — 8: a lent matrix list, or column list, of k numbers is too short
-use mathlib.Core.Bool.{Bool, true, _&&_}
+use mathlib.Core.Bool.{Bool, _&&_}
 use mathlib.Core.List.{List, [], _∷_}
-use Prim.Native.Nat.{ℕ, zero, suc}
+use Prim.Native.Nat.{ℕ}
 use lib.Dec.{ltb}
 use lib.IntN.{ℤ, pos, negsuc}
 use lib.ListN.{getD}
 use lib.Signed.{leZ}
+use Rattle.integer.specs.Finite.{every}
 use Rattle.rules.specs.declared.Kind.{Kind}
 use Rattle.rules.specs.declared.Kind.the-variants.{Size, SolutionScale, InverseScale, Matrix, Right, Guess, Inverse, Weight, Allowance, Tolerance, Key, Mark, Difference, LineWeight}
 use Rattle.rules.specs.declared.Range.{Range}
@@ -62,8 +63,7 @@ unfoldable pub inRange : Kind → ℤ → Bool
 inRange k z = leZ (rangeOf k .lowest) z && leZ z (rangeOf k .highest)
 
 unfoldable pub allInRange : Kind → ℕ → (ℕ → ℤ) → Bool
-allInRange k zero f = true
-allInRange k (suc n) f = inRange k (f n) && allInRange k n f
+allInRange k n f = every n (λ (i : ℕ). inRange k (f i))
 
 abbrev pub shortMatrix : ℕ → Bool
 shortMatrix k = ltb k 1024

@@ -25,7 +25,7 @@ fn is_row_symmetric(xs: &[i64], i: usize, start: usize, n: usize) -> bool
     true
 }
 
-// Whether a matrix is symmetric; what is true is so.
+// Whether a matrix is symmetric. The contract says what is used: where the answer is true, it is.
 fn is_symmetric(xs: &[i64], n: usize) -> bool
     requires { ⌜ (n ≤ 32) × (n * n ≤ length (now xs)) ⌝ }
     ensures { λ r. ⌜ (r ≡ true → Symmetric (now (xs .entry)) n) ⌝ }

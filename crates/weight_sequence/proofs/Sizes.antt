@@ -1,5 +1,5 @@
 -- The sums |D|·w of a problem in 01's ranges stay within 64 bits.
---   load-size, load-fits — u ≤ 2^60 + 2^35 for weights of at most 1,024;  tried-load — for each list of the sequence
+--   load-size — u ≤ 2^60 + 2^35 for weights of at most 1,024;  tried-load — for each list of the sequence
 use Prim.Native.Nat.{ℕ, _+_, _*_, _^_, _≤_, _<_}
 use native.Mathlib.Nat.{mul-le-mul, mul-le-mul-right, le-trans}
 use lib.IntN.{natAbs}

@@ -5,6 +5,7 @@ ghost use lib.Dec.{leb, eqb};
 ghost use lib.IntN.{natAbs};
 ghost use lib.ListN.{getD};
 ghost use Rattle.integer.specs.Finite.{first, largest};
+ghost use Rattle.linear.specs.Place.{Carried};
 ghost use Rattle.linear.specs.Reach.{MatrixList};
 ghost use Rattle.reckoning.specs.Arrays.{Begins};
 ghost use Rattle.reckoning.specs.Parts.{columnResidual};
@@ -41,6 +42,24 @@ fn weigh(sum: u64, d: u64, w: u64) -> u64
     sum + d * w
 }
 
+// Term j of a sum, where d is number m of column j of |D|, by way of the place that was carried to it.
+fn weigh_at(
+    sum: u64,
+    sizes: &[u64; 1024],
+    n: usize,
+    m: usize,
+    place: usize,
+    w: u64,
+    j: usize,
+) -> u64
+    requires { ⌜ Carried m n j place ⌝ }
+    requires { ⌜ (j * n + m < 1024) × (getD (now sizes) (j * n + m) 0 ≤ 2 ^ 46) ⌝ }
+    requires { ⌜ (sum ≤ 2 ^ 62) × (w ≤ 1024) ⌝ }
+    ensures { λ r. ⌜ r ≡ sum + getD (now (sizes .entry)) (j * n + m) 0 * w ⌝ }
+{
+    weigh(sum, sizes[place], w)
+}
+
 // The sum over j of |D_mj|·w_j; the place is carried from column to column.
 fn load_of(sizes: &[u64; 1024], weights: &[u64; 32], n: usize, m: usize) -> u64
     requires { ⌜ (n ≤ 32) × (m < n) ⌝ }
@@ -50,7 +69,7 @@ fn load_of(sizes: &[u64; 1024], weights: &[u64; 32], n: usize, m: usize) -> u64
     let mut sum: u64 = 0;
     let mut place = m;
     for j in 0..n {
-        sum = weigh(sum, sizes[place], weights[j]);
+        sum = weigh_at(sum, sizes, n, m, place, weights[j], j);
         place += n;
     }
     sum

@@ -26,7 +26,7 @@ module _ (c : tie.After-enum-told) where
   e = c .before .before .before
 
   first-said : answer (Q (e .before .before) .first) ≡ []
-  first-said = said-accepted (Q (e .before .before) .first) _ (c .before .before .check-proposal .ensures) (c .enum-told .given .1)
+  first-said = said-accepted (Q (e .before .before) .first) _ (c .before .before .check-held .ensures) (c .enum-told .given .1)
 
 module _ (c : tie.After-enum-told2) where
   abbrev a : tie.After-enum-told
@@ -36,7 +36,7 @@ module _ (c : tie.After-enum-told2) where
   s = a .before .before .before .before .before
 
   second-said : answer (Q s .second) ≡ []
-  second-said = said-accepted (Q s .second) _ (c .before .before .check-proposal2 .ensures) (c .enum-told2 .given .1)
+  second-said = said-accepted (Q s .second) _ (c .before .before .check-held2 .ensures) (c .enum-told2 .given .1)
 
 same : (c : tie.Then3) → sameEquations (Q (s (c .before .before)) .first) (Q (s (c .before .before)) .second) ≡ true
 same c = sym (c .before .are-equations-same .ensures) ∙ c .if3 .taken
@@ -50,8 +50,8 @@ returns c = common-short (Q (c .before)) (short-low (Q (c .before)) (c .if1 .tak
 returns-2 : tie.Need-returns-2
 returns-2 c = let q = Q (c .before .before) in common-short q (short-high q (c .before .if1 .left) (c .if2 .taken))
 
-check-proposal-requires : tie.Need-check-proposal-requires
-check-proposal-requires c κs = search needs
+check-held-requires : tie.Need-check-held-requires
+check-held-requires c κs = search needs
 
 enum-known-said1 : tie.Need-enum-known-said1
 enum-known-said1 c = search needs
@@ -59,8 +59,8 @@ enum-known-said1 c = search needs
 enum-told : tie.Need-enum-told
 enum-told c = search needs
 
-check-proposal-requires-2 : tie.Need-check-proposal-requires-2
-check-proposal-requires-2 c κs = search needs
+check-held-requires-2 : tie.Need-check-held-requires-2
+check-held-requires-2 c κs = search needs
 
 enum-known-said2 : tie.Need-enum-known-said2
 enum-known-said2 c = search needs
@@ -88,13 +88,13 @@ returns-3 c =
     let m = c .before .before in
     let t = m .before .before .before .before .before in
     let b = t .before .before in
-    common-met (Q (s b)) _ _ (a b .before .before .check-proposal .ensures) (b .before .before .check-proposal2 .ensures) (long (e (a b))) (first-said (a b)) (second-said b) (same t) (m .meet .ensures)
+    common-met (Q (s b)) _ _ (a b .before .before .check-held .ensures) (b .before .before .check-held2 .ensures) (long (e (a b))) (first-said (a b)) (second-said b) (same t) (m .meet .ensures)
 
 returns-4 : tie.Need-returns-4
 returns-4 c =
     let k = c .before in
     let p = k .before .before in
-    common-first (Q (p .before .before .before)) (long (p .before)) _ (said-refused (Q (p .before .before .before) .first) _ (p .check-proposal .ensures) _ (k .said1 .given .1))
+    common-first (Q (p .before .before .before)) (long (p .before)) _ (said-refused (Q (p .before .before .before) .first) _ (p .check-held .ensures) _ (k .said1 .given .1))
 
 returns-5 : tie.Need-returns-5
 returns-5 c =
@@ -102,7 +102,7 @@ returns-5 c =
     let p = k .before .before in
     let b = p .before in
     let q = Q (e b .before .before) in
-    common-second q (long (e b)) (first-said b) _ (said-refused (q .second) _ (p .check-proposal2 .ensures) _ (k .said2 .given .1))
+    common-second q (long (e b)) (first-said b) _ (said-refused (q .second) _ (p .check-held2 .ensures) _ (k .said2 .given .1))
 
 returns-6 : tie.Need-returns-6
 returns-6 c =
@@ -115,10 +115,10 @@ common-interval-spec =
     (tie.spec
     returns
     returns-2
-    check-proposal-requires
+    check-held-requires
     enum-known-said1
     enum-told
-    check-proposal-requires-2
+    check-held-requires-2
     enum-known-said2
     enum-told-2
     are-equations-same-requires

@@ -25,11 +25,22 @@ Inv-loop g layout matrix₀ right₀ n start₀ i₀ matrix right start i =
 abbrev μ-loop : tie.MeasureT-loop
 μ-loop g layout matrix₀ right₀ n start₀ i₀ matrix right start i = n - i
 
-cast-n : tie.Need-cast-n Inv-loop μ-loop
-cast-n c = search needs
+count-of-requires : tie.Need-count-of-requires Inv-loop μ-loop
+count-of-requires c κs = search needs
 
 loop-holds : tie.Need-loop-holds Inv-loop μ-loop
 loop-holds c = (search needs, sym (sumℕ-none _), search needs, search needs, sym (rows-none _ _ _), sym (written-none _ _ 1 _))
+
+-- What is asked at the start, of the size as it was counted.
+module _ (c : tie.After-count-of Inv-loop μ-loop) where
+  size : c .count-of .result ≤ 32
+  size = rw (c .count-of .ensures) (c .before .pre .0 .size)
+
+  room : sumℕ (c .count-of .result) (widthOf (c .before .args .layout) (c .count-of .result)) ≤ length (c .before .args .matrix .now)
+  room = rw (c .count-of .ensures) (c .before .pre .1 .0)
+
+  right-room : c .count-of .result ≤ length (c .before .args .right .now)
+  right-room = rw (c .count-of .ensures) (c .before .pre .1 .1)
 
 add-row-of : tie.Need-add-row-of Inv-loop μ-loop
 add-row-of c = search needs
@@ -39,18 +50,18 @@ cast-row-of c = search needs
 
 row-of-requires : tie.Need-row-of-requires Inv-loop μ-loop
 row-of-requires c κs =
-    let s = c .before .before .before in
-    (omega (arith, c .loop-test .taken, s .pre .0 .size), s .pre .0)
+    let s = c .before .before in
+    (omega (arith, c .loop-test .taken, size s), s .before .pre .0)
 
 width-of-requires : tie.Need-width-of-requires Inv-loop μ-loop
-width-of-requires c κs = (c .before .before .before .before .before .pre .0 .size, c .before .before .loop-test .taken)
+width-of-requires c κs = (size (c .before .before .before .before), c .before .before .loop-test .taken)
 
 store-row-requires : tie.Need-store-row-requires Inv-loop μ-loop
 store-row-requires c κs =
-    let s = c .before .before .before .before .before .before .before in
+    let s = c .before .before .before .before .before .before in
     let l = c .before .before .before .before .before .loop in
     let w = c .before .width-of .ensures in
-    let e = row-room (s .args .layout) (s .args .g .n) (l .i) (l .inv .1) (w .0) (c .before .before .before .before .loop-test .taken) (s .pre .1 .0) in
+    let e = row-room (s .before .args .layout) (s .count-of .result) (l .i) (l .inv .1) (w .0) (c .before .before .before .before .loop-test .taken) (room s) in
     (w .1, omega (arith, e, l .inv .2))
 
 mul-b : tie.Need-mul-b Inv-loop μ-loop
@@ -58,17 +69,17 @@ mul-b c = search needs
 
 slice-set-from-b : tie.Need-slice-set-from-b Inv-loop μ-loop
 slice-set-from-b c =
-    let s = c .before .before .before .before .before .before .before .before .before .before in
+    let s = c .before .before .before .before .before .before .before .before .before in
     let l = c .before .before .before .before .before .before .before .before .loop in
-    omega (arith, c .before .before .before .before .before .before .before .loop-test .taken, l .inv .3, s .pre .1 .1)
+    omega (arith, c .before .before .before .before .before .before .before .loop-test .taken, l .inv .3, right-room s)
 
 add-start : tie.Need-add-start Inv-loop μ-loop
 add-start c =
-    let s = c .before .before .before .before .before .before .before .before .before .before in
+    let s = c .before .before .before .before .before .before .before .before .before in
     let l = c .before .before .before .before .before .before .before .before .loop in
     let w = c .before .before .before .before .width-of .ensures in
-    let e : l .start + c .before .before .before .before .width-of .result ≤ length (s .args .matrix .now) =
-    row-room (s .args .layout) (s .args .g .n) (l .i) (l .inv .1) (w .0) (c .before .before .before .before .before .before .before .loop-test .taken) (s .pre .1 .0) in
+    let e : l .start + c .before .before .before .before .width-of .result ≤ length (s .before .args .matrix .now) =
+    row-room (s .before .args .layout) (s .count-of .result) (l .i) (l .inv .1) (w .0) (c .before .before .before .before .before .before .before .loop-test .taken) (room s) in
     search needs
 
 add-i : tie.Need-add-i Inv-loop μ-loop
@@ -79,19 +90,19 @@ loop-less c = search needs
 
 loop-again : tie.Need-loop-again Inv-loop μ-loop
 loop-again c =
-    let s = c .before .before .before .before .before .before .before .before .before .before in
+    let s = c .before .before .before .before .before .before .before .before .before in
     let l = c .before .before .before .before .before .before .before .before .loop in
     let w = c .before .before .before .before .width-of .ensures in
     let o = c .before .before .before .before .before .before .row-of in
     let r = c .before .before .store-row .ensures in
     let f : SFits w64 (o .result .right) = search needs in (
       search needs,
-      row-start (s .args .layout) (s .args .g .n) (l .i) (l .inv .1) (w .0),
-      row-length (s .args .layout) (s .args .g .n) (l .i) (l .inv .1) (w .0) _ (keptMatrix (s .args .g)) (s .args .matrix .now) (l .matrix) r (l .inv .2),
+      row-start (s .before .args .layout) (s .count-of .result) (l .i) (l .inv .1) (w .0),
+      row-length (s .before .args .layout) (s .count-of .result) (l .i) (l .inv .1) (w .0) _ (keptMatrix (s .before .args .g)) (s .before .args .matrix .now) (l .matrix) r (l .inv .2),
       simp length-set (l .inv .3),
-      row-written (s .args .layout) (s .args .g .n) (l .i) (l .inv .1) (w .0) _ (keptMatrix (s .args .g)) (s .args .matrix .now) (l .matrix) r
-          (λ j b. row-matrix (s .args .g) (l .i) (o .ensures) j (omega (arith, b, w .1))) (l .inv .4),
-      written-more _ _ 1 _ (l .i) (l .inv .5) (omega arith) (toZ-ofZ w64 (o .result .right) f ∙ row-right (s .args .g) (l .i) (o .ensures)),
+      row-written (s .before .args .layout) (s .count-of .result) (l .i) (l .inv .1) (w .0) _ (keptMatrix (s .before .args .g)) (s .before .args .matrix .now) (l .matrix) r
+          (λ j b. row-matrix (s .before .args .g) (l .i) (o .ensures) j (omega (arith, b, w .1))) (l .inv .4),
+      written-more _ _ 1 _ (l .i) (l .inv .5) (omega arith) (toZ-ofZ w64 (o .result .right) f ∙ row-right (s .before .args .g) (l .i) (o .ensures)),
     )
 
 same-length : tie.Need-same-length Inv-loop μ-loop
@@ -101,7 +112,9 @@ same-length-2 : tie.Need-same-length-2 Inv-loop μ-loop
 same-length-2 c = search needs
 
 returns : tie.Need-returns Inv-loop μ-loop
-returns c = (c .before .loop .inv .4 ∙ rows-end _ _ _ (c .before .loop .inv .0) (c .loop-test .left), c .before .loop .inv .5 ∙ written-end _ _ 1 _ (c .before .loop .inv .0) (c .loop-test .left))
+returns c =
+    let l = c .before .loop in
+    rw (sym (c .before .before .count-of .ensures)) (l .inv .4 ∙ rows-end _ _ _ (l .inv .0) (c .loop-test .left), l .inv .5 ∙ written-end _ _ 1 _ (l .inv .0) (c .loop-test .left))
 
 pub write-equations-spec : {M : Type 1} → statement M
 write-equations-spec =
@@ -109,7 +122,7 @@ write-equations-spec =
     (tie.spec
     Inv-loop
     μ-loop
-    cast-n
+    count-of-requires
     loop-holds
     add-row-of
     cast-row-of

@@ -47,7 +47,7 @@ returns-3 : tie.Need-returns-3
 returns-3 c =
     let t = c .before .before .before in
     let s = t .before .before in
-    in-all (I (s .before .before .before .before .before)) (long (s .before .before)) (sized s) (have t) (c .before .write-guesses .ensures)
+    in-all (I (s .before .before .before .before .before)) (s .before .before .before .before .shared-slice-known .given) (long (s .before .before)) (sized s) (have t) (c .before .write-guesses .ensures)
 
 returns-4 : tie.Need-returns-4
 returns-4 c =

@@ -9,7 +9,7 @@ use Rattle.linear.specs.Written.{written}
 use Rattle.linear.proofs.Written.{written-none, written-more, written-end, written-length}
 use Rattle.doubles.specs.Guess.{guessFor}
 use Rattle.exchange.specs.Lists.{doubleAt}
-use Rattle.exchange.proofs.Lists.{every-at}
+use Rattle.rules.proofs.Every.{every-at}
 use borrow.Author.Needs.{needs}
 use Rattle.exchange.proofs.write_guesses.Statement.{statement}
 use Rattle.exchange.proofs.write_guesses.Tie as tie

@@ -5,13 +5,15 @@ use native.Mathlib.Nat.{mul-le-mul}
 use lib.ListN.{getD}
 use Rattle.integer.specs.Finite.{sumℕ}
 use Rattle.integer.proofs.Sum.{sumℕ-none, sumℕ-next, sumℕ-end, sumℕ≤}
+use Rattle.linear.specs.Place.{Carried}
+use Rattle.linear.proofs.Carried.{carried-first, carried-next, column-place}
 use Rattle.linear.proofs.Places.{place, square}
 use borrow.Author.Needs.{needs}
 use Rattle.weight_steps.proofs.load_of.Statement.{statement}
 use Rattle.weight_steps.proofs.load_of.Tie as tie
 
 abbrev Inv-loop : tie.InvT-loop
-Inv-loop sizes weights n m sum₀ place₀ j₀ sum place j = (j ≤ n) × ((place ≡ j * n + m) × (sum ≡ sumℕ j (λ (k : ℕ). getD sizes (k * n + m) 0 * getD weights k 0)))
+Inv-loop sizes weights n m sum₀ place₀ j₀ sum place j = (j ≤ n) × (Carried m n j place × (sum ≡ sumℕ j (λ (k : ℕ). getD sizes (k * n + m) 0 * getD weights k 0)))
 
 abbrev μ-loop : tie.MeasureT-loop
 μ-loop sizes weights n m sum₀ place₀ j₀ sum place j = n - j
@@ -20,37 +22,37 @@ sized : (s : tie.Start Inv-loop μ-loop) (j : ℕ) → j < s .args .n → getD (
 sized s j l = mul-le-mul (s .pre .1 .0 .each _ (place l (s .pre .0 .1))) (s .pre .1 .1 .each j l)
 
 module _ (c : tie.In-loop Inv-loop μ-loop) where
-  inside : c .before .loop .place < c .before .before .args .n * c .before .before .args .n
-  inside = rw (c .before .loop .inv .1 .0) (place (c .loop-test .taken) (c .before .before .pre .0 .1))
+  inside : c .before .loop .j * c .before .before .args .n + c .before .before .args .m < c .before .before .args .n * c .before .before .args .n
+  inside = place (c .loop-test .taken) (c .before .before .pre .0 .1)
 
-  short : c .before .loop .place < 1024
+  short : c .before .loop .j * c .before .before .args .n + c .before .before .args .m < 1024
   short = omega (arith, inside, square (c .before .before .pre .0 .0))
 
 loop-holds : tie.Need-loop-holds Inv-loop μ-loop
-loop-holds c = (omega arith, (omega arith, sym (sumℕ-none _)))
+loop-holds c = (omega arith, (carried-first _ _, sym (sumℕ-none _)))
 
-mul-weigh : tie.Need-mul-weigh Inv-loop μ-loop
-mul-weigh c = omega (arith, short c)
+mul-weigh-at : tie.Need-mul-weigh-at Inv-loop μ-loop
+mul-weigh-at c = search needs
 
-element-copy-out-weigh : tie.Need-element-copy-out-weigh Inv-loop μ-loop
-element-copy-out-weigh c = short c
+element-copy-out-weigh-at : tie.Need-element-copy-out-weigh-at Inv-loop μ-loop
+element-copy-out-weigh-at c = search needs
 
-mul-weigh-2 : tie.Need-mul-weigh-2 Inv-loop μ-loop
-mul-weigh-2 c = search needs
-
-element-copy-out-weigh-2 : tie.Need-element-copy-out-weigh-2 Inv-loop μ-loop
-element-copy-out-weigh-2 c = search needs
-
-weigh-requires : tie.Need-weigh-requires Inv-loop μ-loop
-weigh-requires c κs =
-    let t = c .before .before in
+weigh-at-requires : tie.Need-weigh-at-requires Inv-loop μ-loop
+weigh-at-requires c κs =
+    let t = c .before in
     let s = t .before .before in (
-      omega (arith, t .before .loop .inv .1 .1, sumℕ≤ (t .before .loop .j) (2 ^ 56) _ (λ k l. sized s k (omega arith))),
-      (s .pre .1 .0 .each _ (inside t), s .pre .1 .1 .each _ (t .loop-test .taken)),
+      t .before .loop .inv .1 .0,
+      (
+        (short t, s .pre .1 .0 .each _ (inside t)),
+        (
+          omega (arith, t .before .loop .inv .1 .1, sumℕ≤ (t .before .loop .j) (2 ^ 56) _ (λ k l. sized s k (omega arith))),
+          s .pre .1 .1 .each _ (t .loop-test .taken),
+        ),
+      ),
     )
 
 add-place : tie.Need-add-place Inv-loop μ-loop
-add-place c = omega (arith, short (c .before .before .before))
+add-place c = let t = c .before .before in omega (arith, column-place (t .before .loop .inv .1 .0), short t)
 
 add-j : tie.Need-add-j Inv-loop μ-loop
 add-j c = search needs
@@ -60,8 +62,8 @@ loop-less c = search needs
 
 loop-again : tie.Need-loop-again Inv-loop μ-loop
 loop-again c =
-    let l = c .before .before .before .before .loop in
-    (omega arith, (omega arith, (rw (l .inv .1 .0, l .inv .1 .1) at (c .weigh .ensures)) ∙ sym (sumℕ-next _ _)))
+    let l = c .before .before .before .loop in
+    (omega arith, (carried-next (l .inv .1 .0), (rw (l .inv .1 .1) at (c .weigh-at .ensures)) ∙ sym (sumℕ-next _ _)))
 
 returns : tie.Need-returns Inv-loop μ-loop
 returns c = c .before .loop .inv .1 .1 ∙ sumℕ-end _ (c .before .loop .inv .0) (c .loop-test .left)
@@ -73,11 +75,9 @@ load-of-spec =
     Inv-loop
     μ-loop
     loop-holds
-    mul-weigh
-    element-copy-out-weigh
-    mul-weigh-2
-    element-copy-out-weigh-2
-    weigh-requires
+    mul-weigh-at
+    element-copy-out-weigh-at
+    weigh-at-requires
     add-place
     add-j
     loop-less

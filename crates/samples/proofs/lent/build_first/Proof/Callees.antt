@@ -1,6 +1,6 @@
 -- What `build_first` calls, and its end.
 --   Build — the contract of `build`;  to-build — what it is passed;  asked-build — what it asks
---   typed-array, typed-line — machine values have their types;  halved — a slice of lines can be lent in part
+--   typed-array — machine values have their types;  halved — a slice of lines can be lent in part
 --   exits — the end of the walk
 use mathlib.Core.Path.{_≡_, refl}
 use Prim.Native.Nat.{ℕ, _<_, _^_}

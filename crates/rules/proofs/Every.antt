@@ -1,4 +1,4 @@
--- Laws of `every` (specs/Lists), and of a list with its first n places written.
+-- Laws of `every` (integer/specs/Finite).
 --   every-none, every-next, every-end — at none, at n + 1 and at the end, for loops
 --   every-at, every-in — each one holds, and the converse;  every-fails, every-not — one does not, and the converse
 --   every-ext — equal tests are alike
@@ -9,9 +9,9 @@ use native.Mathlib.Nat.{le-antisymm}
 use native.Mathlib.Numerals.{add-one}
 use native.Mathlib.Omega.{arith}
 use lib.Dec.{T}
+use Rattle.integer.specs.Finite.{every}
 use Rattle.integer.proofs.Search.{upto}
 use Rattle.rules.proofs.Ranges.{both, both-left, both-right}
-use Rattle.exchange.specs.Lists.{every}
 
 pub every-none : (p : ℕ → Bool) → every 0 p ≡ true
 unfolding every
