@@ -1,0 +1,5 @@
+pub mod Cases
+pub mod Peak
+pub mod Contract
+pub mod Promises
+pub mod Unread
