@@ -1,0 +1,4 @@
+pub mod Good
+pub mod Lists
+pub mod TwoNets
+pub mod Example
