@@ -1,25 +1,25 @@
 -- No statement on good limits is empty: the whole file of document 01, with and without tolerances, and a net with an exact guess.
---   whole-good  — its limits are good;  whole-own — its own factor is 19 / 13, that of its second row
---   whole-fine  — it is a rounded exact proposal with 3·9 ≤ 2·16, so its limits are 0 or 1
+--   whole-good — its limits are good;  whole-own — its own factor is 19 / 13, that of its second row
+--   whole-fine — it is a rounded exact proposal with 3·9 ≤ 2·16, so its limits are 0 or 1
 --   loose-good — with the tolerances 1 and 2
---   mark-exact, mark-zero — 1·x = 0 with the guess 0 and no tolerance: the guess is exact, and its limit is 0
-use mathlib.Core.Path.{_≡_, refl}
+--   only — what holds of 0 holds of all below 1
+--   mark — 1·x = 0 with the guess 0 and no tolerance, both steps 1/16, inverse 16/16;  mark-exact, mark-zero — that guess is exact, and its limit is 0
+use mathlib.Core.List.{List, [], _∷_}
+use mathlib.Core.Path.{_≡_, refl, subst}
 use Prim.Native.Nat.{ℕ, _<_}
+use native.Mathlib.Omega.{arith}
 use lib.Dec.{lit≤}
-use lib.IntN.{pos}
+use lib.IntN.{ℤ, pos}
 use Rattle.integer.specs.Finite.{sum, sumℕ}
 use Rattle.linear.specs.Matrix.{apply, product, identity}
 use Rattle.enclosure.specs.Demand.{Margins, sumOfSizes}
 use Rattle.enclosure.specs.Example.{file, exact, exactInverse, looseFile}
-use Rattle.enclosure.specs.Problem.{Problem}
+use Rattle.enclosure.specs.Problem.{Problem, problemOf}
 use Rattle.enclosure.specs.Reckoning.{defect, load, margin, rowSum, bound, inverseBound}
 use Rattle.enclosure.proofs.Instance.{each, file-rounded, file-sound}
 use Rattle.enclosure.proofs.QualityInstance.{file-factor}
-use Rattle.checked.specs.Input.{problem}
-use Rattle.dependent.specs.Example.{oneMark}
 use Rattle.good_limits.specs.Good.{OwnFactor, ExactGuess, FineRounded, OneStep, Good}
 use Rattle.good_limits.proofs.Good.{good}
-use Rattle.good_limits.proofs.Example.{only}
 
 pub whole-good : Good file (bound file) (inverseBound file)
 whole-good = good file (lit≤ tt) (each _ (lit≤ tt) (lit≤ tt)) (file-sound .margins)
@@ -40,8 +40,14 @@ unfolding apply product identity sum sumℕ defect load margin
 loose-good = good looseFile (lit≤ tt) (each _ (lit≤ tt) (lit≤ tt)) (each _ refl refl)
 
 -- ---- an exact guess
+abbrev one : ℕ → List ℤ
+one k = pos k ∷ []
+
 abbrev mark : Problem
-mark = problem (oneMark (pos 0))
+mark = problemOf 1 4 4 (one 1) (one 0) (one 0) (one 0) (one 16) (one 1)
+
+pub only : (Q : ℕ → Type 0) → Q 0 → (i : ℕ) → i < 1 → Q i
+only Q x i l = let e : 0 ≡ i = omega arith in subst Q e x
 
 pub mark-exact : ExactGuess mark
 unfolding apply sum

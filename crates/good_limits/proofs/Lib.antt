@@ -1,7 +1,2 @@
 pub mod Good
-pub mod Lists
-pub mod File
-pub mod Calls
-pub mod TwoNets
-pub mod Example
 pub mod Instance

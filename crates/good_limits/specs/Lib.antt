@@ -1,4 +1,1 @@
 pub mod Good
-pub mod Lists
-pub mod TwoNets
-pub mod Example

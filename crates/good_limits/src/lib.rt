@@ -1,1 +1,1 @@
-// How good the limits of an accepted check are, for every way in: definitions and theorems, no code.
+// How good limits are, of one problem and its proposal: definitions and theorems, no code.

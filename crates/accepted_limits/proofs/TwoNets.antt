@@ -25,10 +25,10 @@ use Rattle.dependent.specs.declared.CheckedNets.{CheckedNets}
 use Rattle.dependent.proofs.Statements.{own-fit, passed-of, joint-main, joint-dependent}
 use Rattle.calls.specs.TwoNets.{DependentExported}
 use Rattle.calls.proofs.TwoNets.{together-zero}
 use Rattle.good_limits.specs.Good.{Good}
-use Rattle.good_limits.specs.TwoNets.{inSteps, GoodNets}
+use Rattle.accepted_limits.specs.TwoNets.{inSteps, GoodNets}
 use Rattle.good_limits.proofs.Good.{good, good-as}
-use Rattle.good_limits.proofs.Lists.{written-good, accepted-good}
+use Rattle.accepted_limits.proofs.Lists.{written-good, accepted-good}
 
 module _ (D : Attached) where
   steps-residual : (k : ℕ) → residual (inSteps D) k ≡ dependentResidual D k

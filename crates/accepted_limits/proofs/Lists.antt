@@ -1,4 +1,4 @@
--- Accepted checks on lists, square, by half and through a loader, leave good limits (specs/Good).
+-- Accepted checks on lists, square, by half and through a loader, leave good limits (good_limits/specs/Good).
 --   written-good — good limits, once written into two lists;  accepted-good — those of an accepted check
 --   checked-good, half-good, through-good — after an accepted check of each contract
 --   checked-one-step, half-one-step, through-one-step — a rounded exact proposal with 3·Σ|A_ij| ≤ 2·T is accepted, with limits of 0 or 1
@@ -29,9 +29,9 @@ use Rattle.given_forms.specs.Progress.{ended}
 use Rattle.given_forms.specs.declared.Stage.{Stage}
 use Rattle.loader_order.specs.Through.{answerThrough, solutionBoundsThrough, inverseBoundsThrough, CheckedThrough}
 use Rattle.loader_order.proofs.Through.{answer-ended}
 use Rattle.good_limits.specs.Good.{FineRounded, Good}
-use Rattle.good_limits.specs.Lists.{GoodLists, OneStepLists}
+use Rattle.accepted_limits.specs.Lists.{GoodLists, OneStepLists}
 use Rattle.good_limits.proofs.Good.{good, good-as}
 
 pub written-good : (P : Problem) (E₀ : ℕ → ℕ) (L₀ : ℕ → ℕ → ℕ) (oldE oldL : List ℕ) → P .n ≤ 32 → 32 ≤ length oldE → 1024 ≤ length oldL → {E L : List ℕ} →
     E ≡ written oldE 0 1 E₀ (P .n) → L ≡ written oldL 0 1 (λ (k : ℕ). L₀ (k / P .n) (k % P .n)) (P .n * P .n) →

@@ -1,4 +1,4 @@
--- Where a call for other languages says 0, the limits that it leaves are good (specs/Good).
+-- Where a call for other languages says 0, the limits that it leaves are good (good_limits/specs/Good).
 --   zero-good, half-zero-good, reported-good — `kodarfi_check`, `kodarfi_check_half`, `kodarfi_listing`
 --   zero-one-step, half-zero-one-step, reported-one-step — a rounded exact proposal with 3·Σ|A_ij| ≤ 2·T gets 0, and limits of 0 or 1
 use mathlib.Core.Bool.{true, false}
@@ -17,10 +17,10 @@ use Rattle.calls.specs.Exported.{CheckExported, ListingExported}
 use Rattle.calls.specs.Half.{HalfExported}
 use Rattle.calls.proofs.Meaning.{zero-said, zero-answer}
 use Rattle.calls.proofs.Half.{half-zero}
 use Rattle.good_limits.specs.Good.{FineRounded, OneStep, Good}
-use Rattle.good_limits.specs.Lists.{GoodLists, OneStepLists}
-use Rattle.good_limits.proofs.Lists.{checked-good, checked-one-step, half-good, half-one-step}
-use Rattle.good_limits.proofs.File.{file-good, file-one-step}
+use Rattle.accepted_limits.specs.Lists.{GoodLists, OneStepLists}
+use Rattle.accepted_limits.proofs.Lists.{checked-good, checked-one-step, half-good, half-one-step}
+use Rattle.accepted_limits.proofs.File.{file-good, file-one-step}
 
 first-of : {l m : List ℕ} → l ≡ m → getD l 0 0 ≡ getD m 0 0
 first-of e = ap (λ (l : List ℕ). getD l 0 0) e

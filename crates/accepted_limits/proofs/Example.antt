@@ -1,10 +1,9 @@
 -- Of joint solutions the limits of a dependent net are not good in this sense: two nets where none comes near (specs/Example).
 --   fork-accepted — both are accepted;  fork-limits — the limits are 48, and 144 twice;  fork-factor — the dependent net's own factor is 16 / 16
---   only — what holds of 0 holds of all below 1
 --   joint-near    — every joint solution of right sides within the tolerances lies within 48 steps of the guesses of the dependent net
 --   joint-not-far — so none has a row for these limits (`FarRow`), with that factor
 use mathlib.Core.List.{[]}
-use mathlib.Core.Path.{_≡_, refl, ap, subst, _∙_}
+use mathlib.Core.Path.{_≡_, refl, ap, _∙_}
 use Prim.Native.Nat.{ℕ, _+_, _*_, _≤_, _<_}
 use native.Mathlib.Omega.{arith}
 use lib.Dec.{lit≤}
@@ -28,8 +27,9 @@ use Rattle.dependent.specs.Nets.{attached}
 use Rattle.dependent.specs.Reckoning.{dependentResidual, dependentSlack, dependentBound}
 use Rattle.dependent.specs.Order.{dependentAnswer, jointAnswer}
 use Rattle.dependent.specs.Joint.{C₂₁, mainProblem, dependentProblem, JointSolution}
 use Rattle.good_limits.specs.Good.{OwnFactor, FarRow}
-use Rattle.good_limits.specs.Example.{fork}
+use Rattle.good_limits.proofs.Instance.{only}
+use Rattle.accepted_limits.specs.Example.{fork}
 
 pub fork-accepted : jointAnswer fork ≡ []
 unfolding jointAnswer answer dependentAnswer dependentResidual dependentSlack bound boundWith boundFrom sizesWith exceeds rowSum residual margin load defect product apply identity sum sumℕ largest first ceilDiv allInRange inRange rangeOf ranges
@@ -58,9 +58,6 @@ gone z ρ h = abs-zero z (rw (is z) (simp zz (omega (arith, simp zz at (rw (is z
 
 from-zero : (z : ℤ) (q : ℕ) → natAbs (pos 16 *ℤ z -ℤ pos q *ℤ pos 0) ≡ 16 * natAbs z
 from-zero z q = rw (is z) (simp zz (omega arith))
-
-pub only : (Q : ℕ → Type 0) → Q 0 → (i : ℕ) → i < 1 → Q i
-only Q x i l = let e : 0 ≡ i = omega arith in subst Q e x
 
 module _ (β₁ : Vec) (ρ₁ : ℕ) (β₂ : Vec) (ρ₂ : ℕ) (s₁ : RightSide (mainProblem fork) β₁ ρ₁) (s₂ : RightSide (dependentProblem fork) β₂ ρ₂)
     (N₁ N₂ : Vec) (q : ℕ) (x : JointSolution fork β₁ ρ₁ β₂ ρ₂ N₁ N₂ q) where
