@@ -7,7 +7,6 @@ use mathlib.Core.Path.{_≡_, sym, ap, _∙_}
 use Prim.Native.Nat.{ℕ}
 use lib.ListN.{getD, length}
 use Rattle.linear.specs.Matrix.{Vec, Mat}
-use Rattle.rules.specs.Refusal.{said}
 use Rattle.enclosure.specs.Reckoning.{bound, inverseBound}
 use Rattle.checked.specs.Input.{Input, problem, short, inRanges}
 use Rattle.lower_half.specs.Half.{shortHalf}

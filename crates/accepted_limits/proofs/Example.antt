@@ -1,7 +1,7 @@
 -- Of joint solutions the limits of a dependent net are not good in this sense: two nets where none comes near (specs/Example).
 --   fork-accepted — both are accepted;  fork-limits — the limits are 48, and 144 twice;  fork-factor — the dependent net's own factor is 16 / 16
 --   joint-near    — every joint solution of right sides within the tolerances lies within 48 steps of the guesses of the dependent net
---   joint-not-far — so none has a row for these limits (`FarRow`), with that factor
+--   joint-not-far — so none has a row for these limits (`NeverFar`), with that factor
 use mathlib.Core.List.{[]}
 use mathlib.Core.Path.{_≡_, refl, ap, _∙_}
 use Prim.Native.Nat.{ℕ, _+_, _*_, _≤_, _<_}
@@ -19,7 +19,7 @@ use Rattle.rules.specs.Range.{ranges, rangeOf, inRange, allInRange}
 use Rattle.exact_solution.proofs.Existence.{free}
 use Rattle.enclosure.specs.Demand.{RightSide}
 use Rattle.enclosure.specs.Reckoning.{defect, load, margin, residual, rowSum, exceeds, sizesWith, boundFrom, boundWith, bound}
-use Rattle.enclosure.specs.Quality.{trueError}
+use Rattle.enclosure.specs.Quality.{trueError, NeverFar}
 use Rattle.enclosure.proofs.Demands.{encloses}
 use Rattle.enclosure.proofs.Instance.{each}
 use Rattle.checked.specs.Order.{answer}
@@ -27,7 +27,7 @@ use Rattle.dependent.specs.Nets.{attached}
 use Rattle.dependent.specs.Reckoning.{dependentResidual, dependentSlack, dependentBound}
 use Rattle.dependent.specs.Order.{dependentAnswer, jointAnswer}
 use Rattle.dependent.specs.Joint.{C₂₁, mainProblem, dependentProblem, JointSolution}
-use Rattle.good_limits.specs.Good.{OwnFactor, FarRow}
+use Rattle.good_limits.specs.Good.{OwnFactor}
 use Rattle.good_limits.proofs.Instance.{only}
 use Rattle.accepted_limits.specs.Example.{fork}
 
@@ -44,7 +44,7 @@ unfolding apply product identity sum sumℕ defect load margin
 fork-factor = record { row = 0; below = lit≤ tt; above-is = refl; under-is = refl; every-row = record { positive = lit≤ tt; rows = each _ (lit≤ tt) (lit≤ tt) } }
 
 -- ---- joint solutions
--- 2·x + y + z = 0 and x + y + z = 0, with z within 48·q/16
+-- 2·x + y + z = 0 and x + y + z = 0 give x = 0 and y = −z
 apart : (x y z : ℤ) → pos 0 +ℤ pos 2 *ℤ x +ℤ pos 1 *ℤ y +ℤ (pos 0 +ℤ pos 1 *ℤ z) ≡ pos 0 → pos 0 +ℤ pos 1 *ℤ x +ℤ pos 1 *ℤ y +ℤ (pos 0 +ℤ pos 1 *ℤ z) ≡ pos 0 →
     (natAbs x ≡ 0) × (natAbs y ≡ natAbs z)
 apart x y z e f =
@@ -82,7 +82,7 @@ module _ (β₁ : Vec) (ρ₁ : ℕ) (β₂ : Vec) (ρ₂ : ℕ) (s₁ : RightSi
       each (λ (i : ℕ). trueError (dependentProblem fork) N₂ q i ≤ q * 48) (rw (from-zero (N₂ 0) q) (omega (arith, heights .0)))
       (rw (from-zero (N₂ 1) q) (omega (arith, heights .1, main-near)))
 
-  pub joint-not-far : FarRow (dependentProblem fork) 16 16 (dependentBound (attached fork)) N₂ q → ⊥
+  pub joint-not-far : NeverFar (dependentProblem fork) 16 16 (dependentBound (attached fork)) N₂ q → ⊥
   joint-not-far r =
       let P = dependentProblem fork in
       let e : ℕ = trueError P N₂ q (r .row) in

@@ -4,7 +4,7 @@
 --   checked-one-step, half-one-step, through-one-step — a rounded exact proposal with 3·Σ|A_ij| ≤ 2·T is accepted, with limits of 0 or 1
 use mathlib.Core.Path.{_≡_, refl, sym, _∙_}
 use mathlib.Core.Bool.{Bool, true, false}
-use mathlib.Core.List.{List, [], _∷_}
+use mathlib.Core.List.{List, []}
 use Prim.Native.Nat.{ℕ, _+_, _*_, _/_, _%_, _≤_}
 use native.Mathlib.Omega.{arith}
 use lib.ListN.{getD, length}

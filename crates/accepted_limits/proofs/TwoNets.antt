@@ -4,15 +4,14 @@
 --   together-good — two accepted nets;  together-zero-good — where `kodarfi_check_dependent` says 0
 use mathlib.Core.List.{List, [], _∷_}
 use mathlib.Core.Path.{_≡_, refl, sym, ap, _∙_}
-use Prim.Native.Nat.{ℕ, _+_, _*_, _<_}
+use Prim.Native.Nat.{ℕ}
 use native.Mathlib.Omega.{arith}
 use lib.IntN.{pos, _-ℤ_, _*ℤ_}
-use lib.ListN.{getD}
 use Rattle.integer.proofs.Ring.{one-*}
 use Rattle.linear.specs.Matrix.{apply}
 use Rattle.linear.proofs.Slack.{slack-ext}
 use Rattle.rules.proofs.Verdicts.{accepted-new, nothing-is-not}
-use Rattle.enclosure.specs.Problem.{Problem, S}
+use Rattle.enclosure.specs.Problem.{S}
 use Rattle.enclosure.specs.Reckoning.{defect, load, margin, residual, slack, sizesWith, boundWith, bound, inverseBound}
 use Rattle.enclosure.specs.Demand.{Margins}
 use Rattle.enclosure.proofs.Bounds.{bound-ext}

@@ -12,7 +12,7 @@ use lib.Dec.{lit≤}
 use lib.IntN.{ℤ, pos}
 use Rattle.integer.specs.Finite.{sum, sumℕ}
 use Rattle.linear.specs.Matrix.{apply, product, identity}
-use Rattle.enclosure.specs.Demand.{Margins, sumOfSizes}
+use Rattle.enclosure.specs.Demand.{sumOfSizes}
 use Rattle.enclosure.specs.Example.{file, exact, exactInverse, looseFile}
 use Rattle.enclosure.specs.Problem.{Problem, problemOf}
 use Rattle.enclosure.specs.Reckoning.{defect, load, margin, rowSum, bound, inverseBound}
