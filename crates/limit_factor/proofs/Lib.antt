@@ -3,3 +3,4 @@ pub mod Peak
 pub mod Contract
 pub mod Promises
 pub mod Unread
+pub mod Limits
