@@ -14,7 +14,7 @@ def asked(request, weights):
 
 
 def by_search(rng):
-    """A problem of the searches, with the weights found, the list after it, 1 everywhere, or any: margins above 0 and not."""
+    """A problem of the searches, mostly with the weights found, else with 1 everywhere or any weights: margins above 0 and not."""
     request = searched(rng)
     found = WeightSearch().find(request)
     good = [1] * request.n if isinstance(found, Refusal) else found.weights
