@@ -4,7 +4,7 @@
 --   answer-short, answer-range, answer-low, answer-given — what is said
 --   factor-any, any-factor — a factor of the problem without a scale, right side, tolerance and guess is one with any, and the other way
 --   quality-short, quality-range, quality-low, quality-given — the contract where 8 is said, where 3 is, where 5 is, and where there is a factor
-use mathlib.Core.Path.{_≡_, refl, sym, ap, _∙_}
+use mathlib.Core.Path.{_≡_, refl, sym, _∙_}
 use mathlib.Core.Bool.{true, false}
 use mathlib.Core.List.{List, [], _∷_}
 use Prim.Native.Nat.{ℕ, _+_, _*_, _≤_, _<_}

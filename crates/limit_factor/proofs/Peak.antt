@@ -6,18 +6,18 @@
 --   peak-ext      — equal numbers have the same peak
 --   steepest-row  — the row of a problem whose margins are above 0
 --   peak-factor, peak-least — the problem's two numbers are a factor, and none is smaller
-use mathlib.Core.Path.{_≡_, refl, sym, ap, _∙_}
-use mathlib.Core.Bool.{Bool, true, false}
+use mathlib.Core.Path.{_≡_, ap}
+use mathlib.Core.Bool.{true, false}
 use Prim.Native.Nat.{ℕ, _+_, _*_, _≤_, _<_}
 use native.Mathlib.Omega.{arith}
 use native.Mathlib.Nat.{mul-le-mul-right, lt-of-mul-lt-mul-right, le-antisymm}
 use borrow.Author.Tests.{lt-ltb, le-ltb, ltb-false, le-leb, lt-leb, leb-true}
-use lib.Dec.{leb, ltb}
+use lib.Dec.{leb}
 use lib.IntN.{natAbs}
 use Rattle.integer.specs.Finite.{first}
 use Rattle.integer.specs.Steepest.{Steepest}
 use Rattle.integer.proofs.Steepest.{steepest-one, steepest-stays, steepest-moves, steepest-of}
-use Rattle.integer.proofs.Search.{Searched, found, nowhere, searched, clash, upto, first-is, first-never, first-past, first-ext}
+use Rattle.integer.proofs.Search.{Searched, found, nowhere, searched, clash, first-is, first-never, first-past, first-ext}
 use Rattle.enclosure.specs.Problem.{Problem}
 use Rattle.enclosure.specs.Reckoning.{margin}
 use Rattle.enclosure.specs.Demand.{Margins}

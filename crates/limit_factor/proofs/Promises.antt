@@ -4,10 +4,10 @@
 --   zero-given     — by the number alone: 0 is said where there is a factor
 --   parts-fit      — the numerator is below 2^31 and the denominator at most 2^30, so the product of one row's and another's is below 2^62
 --   accepted-given — of every accepted check there is a factor
-use mathlib.Core.Path.{_≡_, refl, sym, subst, _∙_}
+use mathlib.Core.Path.{_≡_, refl, sym, subst}
 use mathlib.Core.Bool.{Bool, true, false}
-use mathlib.Core.List.{List, [], _∷_}
-use Prim.Native.Nat.{ℕ, _+_, _*_, _^_, _≤_, _<_}
+use mathlib.Core.List.{List, []}
+use Prim.Native.Nat.{ℕ, _*_, _^_, _≤_, _<_}
 use native.Mathlib.Omega.{arith}
 use native.Mathlib.Nat.{mul-le-mul, pow-le-pow-right}
 use borrow.Author.Tests.{le-ltb}

@@ -1,4 +1,4 @@
-use mathlib.Core.Path.{_≡_, ap, _∙_}
+use mathlib.Core.Path.{ap, _∙_}
 use Prim.Native.Nat.{ℕ, _<_}
 use native.Mathlib.Omega.{arith}
 use lib.IntN.{natAbs}
@@ -9,7 +9,6 @@ use Rattle.limit_factor.specs.Peak.{spread}
 use Rattle.limit_factor.specs.Inquiry.{Inquiry, inquiry, inquiryProblem}
 use Rattle.limit_factor.proofs.Contract.{FitInquiry, fit-of, quality-low, quality-given}
 use Rattle.quality.proofs.Rows.{full-small, low-is, under, margin-is, above, spread-is, row-is}
-use borrow.Author.Needs.{needs}
 use Rattle.quality.proofs.rate.Statement.{statement}
 use Rattle.quality.proofs.rate.Tie as tie
 
