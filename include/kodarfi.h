@@ -290,6 +290,28 @@ uint32_t kodarfi_convert(const uint8_t *file, size_t file_len,
                          size_t *written,
                          uint64_t places[2]);
 
+/* How far the limits of a proposal can lie above true errors: the factor.
+ *
+ * n, t and the lists are as in kodarfi_check, and none is written. Of row m let load be the sum over j of |D_mj| * weights[j], for D = 2^t * I less inverse
+ * times matrix, and margin 2^t * weights[m] less the load, which must be above 0.
+ *
+ * The answer is 0 where every margin is: then *numerator / *denominator is the largest of (2^t * weights[m] + load) / margin over all rows, and the two are
+ * those of the lowest row where it is largest, below 2^31 and not reduced. They are a factor of every check of the same n, t, matrix, inverse and weights,
+ * whatever its scale, right side, tolerances and guess, and no smaller one is; of every accepted check there is one. Where a check is accepted, there are heights,
+ * exact for a right side within the tolerances, and among them one such that each limit is at most the factor times that height's true error, times the
+ * ratio of the two weights, rounded up. Else the answer is the number of the first refusal in this order, and *numerator and *denominator are as before:
+ *
+ *   8   a list is too short                                 places: 0, 0
+ *   3   n, t or a number that is used is outside its range          0, 0
+ *   5   a margin is 0 or less                                       row, 0
+ */
+uint32_t kodarfi_quality(uint32_t n, uint32_t t,
+                         const int64_t *matrix, size_t matrix_len,
+                         const int64_t *inverse, size_t inverse_len,
+                         const int64_t *weights, size_t weights_len,
+                         uint64_t *numerator, uint64_t *denominator,
+                         uint64_t places[2]);
+
 #ifdef __cplusplus
 }
 #endif

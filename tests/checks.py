@@ -1,5 +1,5 @@
 """What must hold of a printed listing whatever the second implementation says: document 01's exact solution and inverse, the exact height and the entry,
-for every right side within the tolerances (02, Paper 5), in whole numbers over q; residuals within the sums along their rows (Paper 9)."""
+for every right side within the tolerances (02, Paper 5), in whole numbers over q; residuals within the sums along their rows (Paper 9); and limits that are never far above a true error (never_far.py)."""
 
 import random
 import re
@@ -7,6 +7,7 @@ from fractions import Fraction
 
 from exact import inverse_of, inverse_within, is_exact_inverse, is_rounded_exact, product, solution_over, solution_within, within_tolerances
 from net import net_of
+from never_far import statements as how_good
 
 SOLUTION = re.compile(rb"\(solution \d+ \((-?\d+) (\d+)\)\)")
 ENTRY = re.compile(rb"\(entry \d+ \((-?\d+) (\d+)\)\)")
@@ -79,6 +80,7 @@ def statements(net, q, H, listing):
     yield "a right side is not within the tolerances", all(within_tolerances(net, *right) for right in rights)
     yield "the exact solution of a right side within the tolerances lies outside its limits", all(solution_within(net, *other, E) for other in others)
     yield "the exact height of a right side within the tolerances lies outside the limit of its entry", all(entries_cover(*other, entries) for other in others)
+    yield from how_good(net, q, H, E, L)
 
 
 def residuals_within_rows(net):

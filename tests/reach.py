@@ -56,6 +56,7 @@ class Reach:
         if is_accepted(listing):
             self.sizes[problem.n] += 1
             self.add_entries(net, listing)
+            self.add_limits(net, listing)
         else:
             self.refusals[int(listing.split()[1])] += 1
         if net is not None:
@@ -85,6 +86,15 @@ class Reach:
             if limit > before:
                 self.edges["limit with rounding above 0" if X > 0 else "limit with rounding below 0"] += 1
                 self.edges["height beyond E/S"] += abs(N - q * V) > q * before
+
+    def add_limits(self, net, listing):
+        """Files of which never_far.py says more than of others: rounded proposals with limits of 0 or 1 alone, limits of 0, and limits above 1 that the right
+        sides bring about."""
+        limits = limits_in(listing)
+        self.edges["rounded with 3·Σ|A| at most 2T"] += 3 * size_sum(net) <= 2 * 2**net.t and is_rounded_exact(net)
+        self.edges["limits of 0"] += not any(limits)
+        self.edges["limits above 1 with tolerances"] += max(limits) > 1 and any(net.tolerance)
+        self.edges["limits above 1 without tolerances"] += max(limits) > 1 and not any(net.tolerance)
 
     def add_changed(self, file, loaded):
         """Files of which something else is said than in 01's order, by the word of the refused line and the number before; no line but that may be told of."""
@@ -129,6 +139,8 @@ class Reach:
             yield f"margin {value}", self.edges[f"margin {value}"], 10
         for kind in ("limit with rounding above 0", "limit with rounding below 0", "height beyond E/S"):
             yield kind, self.edges[kind], 50
+        for kind in ("rounded with 3·Σ|A| at most 2T", "limits of 0", "limits above 1 with tolerances", "limits above 1 without tolerances"):
+            yield kind, self.edges[kind], 20
         for given in ("no", "some", "all"):
             for said in ("accepted", "refused"):
                 yield f"{given} weights given, {said}", self.weights[given, said], 20

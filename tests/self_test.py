@@ -6,6 +6,7 @@ from pathlib import Path
 
 import cases_01
 import examples_002
+import never_far
 from checks import faults, is_accepted, net_from
 from generate import Case
 from net import file_of, lines_of, net_of
@@ -89,7 +90,8 @@ def printed_errors_outside(listing, net, errors):
 
 def test_checks(count):
     """The statements of checks.py tell by themselves a version that writes no limits, one that refuses all, one whose entry does not cover its rounding,
-    those whose limits leave out tolerances, and those that hold residuals to no sum or to a smaller one."""
+    those whose limits leave out tolerances, those that hold residuals to no sum or to a smaller one, and those whose limits are too large, or 0 where they
+    should not be."""
     whole, half = cases_01.whole_file(), cases_01.one(4, 4, 2, 1, 8, 8)
     signs = net_of(4, 4, [[1, 1], [0, 1]], [5, 1], [64, 16], [[16, -16], [0, 16]], [1, 1])
     told_by = {"no limits written": whole, "all proposals refused": whole, "entry limit without the rounding": half}
@@ -103,6 +105,18 @@ def test_checks(count):
         problem = Program().load(file_of(lines_of(net)))
         right, told = (faults(net_from(problem), version.printed(problem)) for version in (Program(), (PRINTING | SLACKENED | HELD)[name]))
         count.test(f"checks on '{name}'", right if told else ["not told"])
+    for name, net, sentence in (
+        ("limits of 2^60", whole.with_(tolerance=[1, 2]), never_far.FAR),
+        ("slack in the columns of the inverse", whole.with_(tolerance=[1, 2]), never_far.FAR_COLUMN),
+        ("limits of 2^60", whole, never_far.ROUNDED),
+        ("limits rounded down", whole, never_far.ZERO),
+        ("limits rounded down", whole, never_far.ZERO_COLUMN),
+        ("limits one too high", half, never_far.EXACT),
+        ("limits one too high", half, never_far.EXACT_COLUMN),
+    ):
+        problem = Program().load(file_of(lines_of(net)))
+        right, told = (faults(net_from(problem), version.printed(problem)) for version in (Program(), (PRINTING | SLACKENED | HELD)[name]))
+        count.test(f"checks on '{name}': {sentence}", right if sentence in told else ["not told"])
 
 
 def wrong_program(name):

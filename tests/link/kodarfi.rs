@@ -143,4 +143,13 @@ extern "C" {
         written: *mut usize,
         places: *mut u64,
     ) -> u32;
+
+    pub fn kodarfi_quality(
+        n: u32, t: u32,
+        matrix: *const i64, matrix_len: usize,
+        inverse: *const i64, inverse_len: usize,
+        weights: *const i64, weights_len: usize,
+        numerator: *mut u64, denominator: *mut u64,
+        places: *mut u64,
+    ) -> u32;
 }

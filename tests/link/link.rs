@@ -1,5 +1,5 @@
 //! The library linked from Rust, each of its calls beside what the second implementation says, and the checks on lists, the search for weights, the
-//! builder, the calls with doubles, the check of two nets and the common intervals beside versions in Rust.
+//! builder, the calls with doubles, the check of two nets, the common intervals and the factor of limits beside versions in Rust.
 //!
 //!   link FOLDER [PART]   on what the emitters wrote into FOLDER; with PART, a name of the list below, that part alone, up to the first test that fails
 //!
@@ -18,6 +18,7 @@ mod halves;
 mod kodarfi;
 mod lists;
 mod numbers;
+mod quality;
 mod reckoning;
 mod test_builds;
 mod test_common;
@@ -25,6 +26,7 @@ mod test_dependent;
 mod test_doubles;
 mod test_halves;
 mod test_lists;
+mod test_quality;
 mod test_weights;
 mod weights;
 
@@ -32,7 +34,7 @@ use count::Count;
 use std::process::exit;
 
 /// The parts of the test: the name, what an emitter wrote for it, and the test on these bytes.
-const PARTS: [(&str, &str, fn(&mut Count, &[u8])); 10] = [
+const PARTS: [(&str, &str, fn(&mut Count, &[u8])); 11] = [
     ("entries", "entries.txt", entries::test_entries),
     ("weights", "weights.txt", test_weights::test_weights),
     ("builds", "builds.txt", test_builds::test_builds),
@@ -41,6 +43,7 @@ const PARTS: [(&str, &str, fn(&mut Count, &[u8])); 10] = [
     ("dependent", "pairs.txt", test_dependent::test_dependent),
     ("common", "common.txt", test_common::test_common),
     ("conversions", "conversions.bin", conversions::test_conversions),
+    ("quality", "quality.txt", test_quality::test_quality),
     ("files", "files.bin", files::test_files),
     ("lists", "nets.txt", test_lists::test_lists),
 ];

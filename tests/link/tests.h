@@ -41,4 +41,7 @@ void test_common(FILE *pairs);
 /* kodarfi_convert on the conversions of tests/emit_conversions.py. */
 void test_conversions(FILE *conversions);
 
+/* kodarfi_quality on the calls of tests/emit_quality.py. */
+void test_quality(FILE *inquiries);
+
 #endif

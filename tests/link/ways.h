@@ -177,6 +177,27 @@
     X(conversions, line_in_places)              \
     X(conversions, count_of_13_lost)            \
     X(conversions, said_3_for_22)               \
+    /* kodarfi_quality */                       \
+    X(quality, rate_smallest)                   \
+    X(quality, rate_last_of_equal)              \
+    X(quality, rate_smallest_margin)            \
+    X(quality, rate_whole_quotients)            \
+    X(quality, rate_products_of_32_bits)        \
+    X(quality, rate_without_load)               \
+    X(quality, rate_parts_exchanged)            \
+    X(quality, rate_with_sign)                  \
+    X(quality, rate_by_a_g)                     \
+    X(quality, rate_weights_of_1)               \
+    X(quality, rate_weight_0_taken)             \
+    X(quality, rate_weight_1025_taken)          \
+    X(quality, rate_short_weights_taken)        \
+    X(quality, rate_reads_past_n)               \
+    X(quality, rate_margin_0_good)              \
+    X(quality, rate_row_from_0)                 \
+    X(quality, rate_row_left_out)               \
+    X(quality, refused_factor_written)          \
+    X(quality, refused_margin_written)          \
+    X(quality, rate_places_left)                \
     /* kodarfi_listing: file */                 \
     X(files, first_4096_bytes)                  \
     X(files, last_line_needs_feed)              \

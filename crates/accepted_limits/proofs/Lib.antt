@@ -1,0 +1,5 @@
+pub mod Lists
+pub mod File
+pub mod Calls
+pub mod TwoNets
+pub mod Example

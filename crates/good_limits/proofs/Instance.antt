@@ -1,0 +1,58 @@
+-- No statement on good limits is empty: the whole file of document 01, with and without tolerances, and a net with an exact guess.
+--   whole-good — its limits are good;  whole-own — its own factor is 19 / 13, that of its second row
+--   whole-fine — it is a rounded exact proposal with 3·9 ≤ 2·16, so its limits are 0 or 1
+--   loose-good — with the tolerances 1 and 2
+--   only — what holds of 0 holds of all below 1
+--   mark — 1·x = 0 with the guess 0 and no tolerance, both steps 1/16, inverse 16/16;  mark-exact, mark-zero — that guess is exact, and its limit is 0
+use mathlib.Core.List.{List, [], _∷_}
+use mathlib.Core.Path.{_≡_, refl, subst}
+use Prim.Native.Nat.{ℕ, _<_}
+use native.Mathlib.Omega.{arith}
+use lib.Dec.{lit≤}
+use lib.IntN.{ℤ, pos}
+use Rattle.integer.specs.Finite.{sum, sumℕ}
+use Rattle.linear.specs.Matrix.{apply, product, identity}
+use Rattle.enclosure.specs.Demand.{sumOfSizes}
+use Rattle.enclosure.specs.Example.{file, exact, exactInverse, looseFile}
+use Rattle.enclosure.specs.Problem.{Problem, problemOf}
+use Rattle.enclosure.specs.Reckoning.{defect, load, margin, rowSum, bound, inverseBound}
+use Rattle.enclosure.proofs.Instance.{each, file-rounded, file-sound}
+use Rattle.enclosure.proofs.QualityInstance.{file-factor}
+use Rattle.good_limits.specs.Good.{OwnFactor, ExactGuess, FineRounded, OneStep, Good}
+use Rattle.good_limits.proofs.Good.{good}
+
+pub whole-good : Good file (bound file) (inverseBound file)
+whole-good = good file (lit≤ tt) (each _ (lit≤ tt) (lit≤ tt)) (file-sound .margins)
+
+pub whole-own : OwnFactor file 19 13
+unfolding apply product identity sum sumℕ defect load margin
+whole-own = record { row = 1; below = lit≤ tt; above-is = refl; under-is = refl; every-row = file-factor }
+
+pub whole-fine : FineRounded file exact 11 exactInverse 11
+unfolding sumℕ rowSum sumOfSizes
+whole-fine = record { rounded = file-rounded; fine = lit≤ tt }
+
+pub whole-one-step : OneStep 2 (bound file) (inverseBound file)
+whole-one-step = whole-good .one-step exact 11 exactInverse 11 whole-fine
+
+pub loose-good : Good looseFile (bound looseFile) (inverseBound looseFile)
+unfolding apply product identity sum sumℕ defect load margin
+loose-good = good looseFile (lit≤ tt) (each _ (lit≤ tt) (lit≤ tt)) (each _ refl refl)
+
+-- ---- an exact guess
+abbrev one : ℕ → List ℤ
+one k = pos k ∷ []
+
+abbrev mark : Problem
+mark = problemOf 1 4 4 (one 1) (one 0) (one 0) (one 0) (one 16) (one 1)
+
+pub only : (Q : ℕ → Type 0) → Q 0 → (i : ℕ) → i < 1 → Q i
+only Q x i l = let e : 0 ≡ i = omega arith in subst Q e x
+
+pub mark-exact : ExactGuess mark
+unfolding apply sum
+mark-exact = record { solves = record { positive = lit≤ tt; solves = only _ refl }; no-tolerance = only _ refl }
+
+pub mark-zero : bound mark 0 ≡ 0
+unfolding apply product identity sum sumℕ defect load margin
+mark-zero = good mark (lit≤ tt) (only _ (lit≤ tt)) (only _ refl) .solution .exact-zero mark-exact 0 (lit≤ tt)

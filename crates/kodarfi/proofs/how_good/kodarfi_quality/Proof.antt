@@ -1,0 +1,45 @@
+use Rattle.limit_factor.specs.Answer.{saidQuality}
+use Rattle.reply.proofs.Told.{told-alone}
+use borrow.Author.Needs.{needs}
+use Rattle.kodarfi.proofs.how_good.kodarfi_quality.Statement.{statement}
+use Rattle.kodarfi.proofs.how_good.kodarfi_quality.Tie as tie
+
+quality-requires : tie.Need-quality-requires
+quality-requires c κs = search needs
+
+numerator-or-requires : tie.Need-numerator-or-requires
+numerator-or-requires c κs = search needs
+
+denominator-or-requires : tie.Need-denominator-or-requires
+denominator-or-requires c κs = search needs
+
+quality-reply-requires : tie.Need-quality-reply-requires
+quality-reply-requires c κs = search needs
+
+tell-requires : tie.Need-tell-requires
+tell-requires c κs = search needs
+
+returns : tie.Need-returns
+returns c =
+    let r = c .before .before in
+    let d = r .before in
+    let o = d .before .before in
+    let k = o .before .before in
+    record {
+      answer = k .quality .result;
+      holds = k .quality .ensures;
+      told = told-alone (saidQuality (k .quality .result)) (c .tell .ensures) (r .quality-reply .ensures);
+      numerator-is = o .numerator-or .ensures;
+      denominator-is = d .denominator-or .ensures;
+    }
+
+pub kodarfi-quality-spec : {M : Type 1} → statement M
+kodarfi-quality-spec =
+    tie.close
+    (tie.spec
+    quality-requires
+    numerator-or-requires
+    denominator-or-requires
+    quality-reply-requires
+    tell-requires
+    returns)

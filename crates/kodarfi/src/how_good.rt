@@ -1,0 +1,28 @@
+// The factor of a proposal's limits.
+ghost use Rattle.limit_factor.specs.Inquiry.{inquiry};
+ghost use Rattle.calls.specs.Quality.{QualityExported};
+use quality::quality;
+use quality_reply::denominator_or;
+use quality_reply::numerator_or;
+use quality_reply::quality_reply;
+use reply::tell;
+
+// How far the limits of a proposal can lie above true errors: `quality::quality`.
+#[no_mangle]
+pub extern "C" fn kodarfi_quality(
+    n: u32,
+    t: u32,
+    matrix: &[i64],
+    inverse: &[i64],
+    weights: &[i64],
+    numerator: &mut u64,
+    denominator: &mut u64,
+    places: &mut [u64; 2],
+) -> u32
+    ensures { λ r. ⌜ QualityExported (inquiry n t (now (matrix .entry)) (now (inverse .entry)) (now (weights .entry))) (now (numerator .entry)) (now (denominator .entry)) r (now (places .exit)) (now (numerator .exit)) (now (denominator .exit)) ⌝ }
+{
+    let found = quality(n, t, matrix, inverse, weights);
+    *numerator = numerator_or(found, *numerator);
+    *denominator = denominator_or(found, *denominator);
+    tell(quality_reply(found), places)
+}

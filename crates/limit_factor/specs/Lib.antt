@@ -1,0 +1,5 @@
+pub mod Peak
+pub mod Inquiry
+pub mod Answer
+pub mod Stated
+pub mod Cases

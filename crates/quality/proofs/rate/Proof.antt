@@ -1,0 +1,110 @@
+use mathlib.Core.Path.{ap, _∙_}
+use Prim.Native.Nat.{ℕ, _<_}
+use native.Mathlib.Omega.{arith}
+use lib.IntN.{natAbs}
+use Rattle.integer.proofs.Search.{first-past}
+use Rattle.enclosure.specs.Demand.{Margins}
+use Rattle.enclosure.specs.Reckoning.{margin, marginFails}
+use Rattle.limit_factor.specs.Peak.{spread}
+use Rattle.limit_factor.specs.Inquiry.{Inquiry, inquiry, inquiryProblem}
+use Rattle.limit_factor.proofs.Contract.{FitInquiry, fit-of, quality-low, quality-given}
+use Rattle.quality.proofs.Rows.{full-small, low-is, under, margin-is, above, spread-is, row-is}
+use Rattle.quality.proofs.rate.Statement.{statement}
+use Rattle.quality.proofs.rate.Tie as tie
+
+abbrev Q : tie.Start → Inquiry
+Q s = let a = s .args in inquiry (a .n) (a .t) (a .matrix .now) (a .inverse .now) (a .weights .now)
+
+fit : (s : tie.Start) → FitInquiry (Q s)
+fit s = fit-of (Q s) (s .pre .0) (s .pre .1)
+
+-- where no margin is 0
+none-low : (c : tie.Else1) → Margins (inquiryProblem (Q (c .before .before .before)))
+none-low c =
+    let m = c .before .before in
+    let P = inquiryProblem (Q (m .before)) in
+    first-past (P .n) (marginFails P) (omega (arith, c .if1 .left, low-is (Q (m .before)) (m .margins-for .ensures) (c .before .first-zero .ensures)))
+
+margins-for-requires : tie.Need-margins-for-requires
+margins-for-requires c κs = let f = fit c in ((f .scale, f .few), (f .matrix, (f .inverse, f .weights)))
+
+first-zero-requires : tie.Need-first-zero-requires
+first-zero-requires c κs = fit (c .before) .few
+
+cast-t12 : tie.Need-cast-t12
+cast-t12 c = record { fits = omega (arith, c .if1 .taken, fit (c .before .before .before) .few) }
+
+add-t13 : tie.Need-add-t13
+add-t13 c = record { fits = omega (arith, c .if1 .taken, fit (c .before .before .before) .few) }
+
+returns : tie.Need-returns
+returns c =
+    let m = c .before .before in
+    let s = m .before in
+    quality-low (Q s) (s .pre .0) (s .pre .1) _ (low-is (Q s) (m .margins-for .ensures) (c .before .first-zero .ensures)) (c .if1 .taken)
+
+spreads-of-requires : tie.Need-spreads-of-requires
+spreads-of-requires c κs =
+    let m = c .before .before .before in
+    let f = fit (m .before) in
+    ((f .scale, f .few), (f .weights, under (Q (m .before)) (m .margins-for .ensures)))
+
+peak-of-requires : tie.Need-peak-of-requires
+peak-of-requires c κs =
+    let i = c .before .before .before .before in
+    let m = i .before .before in
+    let s = m .before in
+    let f = fit s in (
+      (f .some, f .few),
+      (
+        λ k l. omega (arith, full-small (Q s) f k l, c .before .before .spreads-of .ensures .each k l),
+        λ k l. (above (Q s) (m .margins-for .ensures) (none-low i) k l, omega (arith, full-small (Q s) f k l, under (Q s) (m .margins-for .ensures) k l)),
+      ),
+    )
+
+row-small : (c : tie.After-peak-of) → c .peak-of .result < 32
+row-small c = omega (arith, c .peak-of .ensures .0, fit (c .before .before .before .before .before .before .before .before) .few)
+
+mul-t18 : tie.Need-mul-t18
+mul-t18 c = record { fits = omega (arith, row-small c) }
+
+array-read-t21 : tie.Need-array-read-t21
+array-read-t21 c = row-small c
+
+mul-t22 : tie.Need-mul-t22
+mul-t22 c = record { fits = omega (arith, row-small c) }
+
+array-read-t25 : tie.Need-array-read-t25
+array-read-t25 c = row-small c
+
+returns-2 : tie.Need-returns-2
+returns-2 c =
+    let i = c .before .before .before .before .before in
+    let m = i .before .before in
+    let s = m .before in
+    let P = inquiryProblem (Q s) in
+    let h = none-low i in
+    let hm = m .margins-for .ensures in
+    let hs = c .before .before .before .spreads-of .ensures in
+    let l = c .peak-of .ensures .0 in
+    let row = c .peak-of .ensures .1 ∙ row-is (Q s) hm h hs in
+    quality-given (Q s) (s .pre .0) (s .pre .1) _ (low-is (Q s) hm (i .before .first-zero .ensures)) (i .if1 .left)
+    (spread-is (Q s) hm h hs _ l ∙ ap (spread P) row)
+    (margin-is (Q s) hm h _ l ∙ ap (λ (k : ℕ). natAbs (margin P k)) row)
+
+pub rate-spec : {M : Type 1} → statement M
+rate-spec =
+    tie.close
+    (tie.spec
+    margins-for-requires
+    first-zero-requires
+    cast-t12
+    add-t13
+    returns
+    spreads-of-requires
+    peak-of-requires
+    mul-t18
+    array-read-t21
+    mul-t22
+    array-read-t25
+    returns-2)

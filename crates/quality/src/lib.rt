@@ -1,0 +1,126 @@
+// The factor of a proposal's limits: how far a limit can lie above a true error.
+ghost use mathlib.Core.Path.{_≡_};
+ghost use mathlib.Core.Bool.{true, false};
+ghost use mathlib.Core.List.{[]};
+ghost use Prim.Native.Nat.{ℕ, _*_, _-_, _≤_, _<_, _^_};
+ghost use lib.Dec.{ltb};
+ghost use lib.IntN.{natAbs};
+ghost use lib.ListN.{getD};
+ghost use Rattle.linear.specs.Slice.{at};
+ghost use Rattle.linear.specs.Reach.{ColumnList, MatrixList};
+ghost use Rattle.enclosure.specs.Problem.{problemOf};
+ghost use Rattle.reckoning.specs.Arrays.{Begins};
+ghost use Rattle.reckoning.specs.Parts.{cutMargin};
+ghost use Rattle.limit_factor.specs.Peak.{peak};
+ghost use Rattle.limit_factor.specs.Inquiry.{inquiry, inquiryShort, inquiryInRanges};
+ghost use Rattle.limit_factor.specs.Answer.{QualityAs};
+use differences::inverse_residuals_of;
+use integer::magnitude;
+use integer::power;
+use limit_factor::Quality;
+use margins::first_zero;
+use margins::margins_of;
+use raised_rows::ROWS_LENGTH;
+use raised_rows::raise_rows;
+use ranges::are_lists_in_range;
+use ranges::are_sizes_in_range;
+use ranges::is_short;
+use rules::Refusal;
+use symmetry::are_symmetric;
+
+mod ranges;
+
+// The margins of all rows, 0 where one is 0 or less, as a check works them out.
+fn margins_for(t: u32, matrix: &[i64], inverse: &[i64], weights: &[i64], n: usize) -> [u64; 32]
+    requires { ⌜ (t ≤ 20) × (n ≤ 32) ⌝ }
+    requires { ⌜ MatrixList (now matrix) n ⌝ }
+    requires { ⌜ MatrixList (now inverse) n ⌝ }
+    requires { ⌜ ColumnList (now weights) n 1024 ⌝ }
+    ensures { λ r. ⌜ Begins 0 r n
+        (cutMargin (problemOf n 0 t (now (matrix .entry)) [] [] [] (now (inverse .entry)) (now (weights .entry)))) ⌝ }
+{
+    let mut rows = [0u64; ROWS_LENGTH];
+    raise_rows(&mut rows, inverse, n);
+    let columns = inverse_residuals_of(t, matrix, &rows, n);
+    let mirrored = are_symmetric(matrix, inverse, n);
+    margins_of(t, matrix, inverse, &columns, mirrored, weights, n)
+}
+
+// T·w and the load of a row from its margin g, which is T·w less the load.
+fn spread_of(t: u32, w: i64, g: u64) -> u64
+    requires { ⌜ (t ≤ 20) × ((natAbs w ≤ 1024) × (g ≤ 2 ^ t * natAbs w)) ⌝ }
+    ensures { λ r. ⌜ r ≡ 2 * (2 ^ t * natAbs w) - g ⌝ }
+{
+    2 * (power(t) * magnitude(w)) - g
+}
+
+// The same of all rows.
+fn spreads_of(t: u32, weights: &[i64], margins: &[u64; 32], n: usize) -> [u64; 32]
+    requires { ⌜ (t ≤ 20) × (n ≤ 32) ⌝ }
+    requires { ⌜ ColumnList (now weights) n 1024 ⌝ }
+    requires { ⌜ ((m : ℕ) → m < n → getD (now margins) m 0 ≤ 2 ^ t * natAbs (at (now weights) m)) ⌝ }
+    ensures { λ r. ⌜ Begins 0 r n (λ (m : ℕ). 2 * (2 ^ t * natAbs (at (now (weights .entry)) m)) - getD (now (margins .entry)) m 0) ⌝ }
+{
+    let mut out = [0u64; 32];
+    for m in 0..n {
+        out[m] = spread_of(t, weights[m], margins[m]);
+    }
+    out
+}
+
+// Whether p / g is larger than spread / margin, by products.
+fn is_steeper(spread: u64, margin: u64, p: u64, g: u64) -> bool
+    requires { ⌜ (spread ≤ 2 ^ 31) × (g ≤ 2 ^ 31) ⌝ }
+    requires { ⌜ (p ≤ 2 ^ 31) × (margin ≤ 2 ^ 31) ⌝ }
+    ensures { λ r. ⌜ r ≡ ltb (spread * g) (p * margin) ⌝ }
+{
+    spread * g < p * margin
+}
+
+// The lowest row where spreads / margins is largest.
+fn peak_of(spreads: &[u64; 32], margins: &[u64; 32], n: usize) -> usize
+    requires { ⌜ (0 < n) × (n ≤ 32) ⌝ }
+    requires { ⌜ ((m : ℕ) → m < n → getD (now spreads) m 0 ≤ 2 ^ 31) ⌝ }
+    requires { ⌜ ((m : ℕ) → m < n → (0 < getD (now margins) m 0) × (getD (now margins) m 0 ≤ 2 ^ 31)) ⌝ }
+    ensures { λ r. ⌜ (r < n) × (r ≡ peak n (λ (m : ℕ). getD (now (spreads .entry)) m 0) (λ (m : ℕ). getD (now (margins .entry)) m 0)) ⌝ }
+{
+    let mut k = 0;
+    for m in 1..n {
+        if is_steeper(spreads[k], margins[k], spreads[m], margins[m]) {
+            k = m;
+        }
+    }
+    k
+}
+
+// The factor of an inquiry that passes 8 and 3.
+fn rate(n: usize, t: u32, matrix: &[i64], inverse: &[i64], weights: &[i64]) -> Quality
+    requires { ⌜ inquiryShort (inquiry n t (now matrix) (now inverse) (now weights)) ≡ false ⌝ }
+    requires { ⌜ inquiryInRanges (inquiry n t (now matrix) (now inverse) (now weights)) ≡ true ⌝ }
+    ensures { λ r. ⌜ QualityAs (inquiry n t (now (matrix .entry)) (now (inverse .entry)) (now (weights .entry))) r ⌝ }
+{
+    let margins = margins_for(t, matrix, inverse, weights, n);
+    let low = first_zero(margins, n);
+    if low < n {
+        return Quality::Refused(Refusal::Margin(low as u32 + 1));
+    }
+    let spreads = spreads_of(t, weights, &margins, n);
+    let k = peak_of(&spreads, &margins, n);
+    Quality::Factor(spreads[k], margins[k])
+}
+
+// The largest (T·w_m + load_m) / margin_m over all rows. Order 8, 3, 5; no list is written.
+pub fn quality(n: u32, t: u32, matrix: &[i64], inverse: &[i64], weights: &[i64]) -> Quality
+    ensures { λ r. ⌜ QualityAs (inquiry n t (now (matrix .entry)) (now (inverse .entry)) (now (weights .entry))) r ⌝ }
+{
+    if is_short(matrix.len(), inverse.len(), weights.len()) {
+        return Quality::Refused(Refusal::TooShort);
+    }
+    if are_sizes_in_range(n, t) {
+        let size = n as usize;
+        if are_lists_in_range(size, matrix, inverse, weights) {
+            return rate(size, t, matrix, inverse, weights);
+        }
+    }
+    Quality::Refused(Refusal::OutOfRange)
+}
