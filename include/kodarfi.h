@@ -1,17 +1,87 @@
 /* The calls that the library libkodarfi.a gives to C and C++.
  *
- * Each answers every input: numbers, bytes and lengths may be anything. What C's types cannot say is the caller's part: no pointer is null; a pointer
- * with a length after it leads to as many numbers or bytes as that length says, and any other to as many as its comment says; nothing that is written
- * (a pointer without const) overlaps anything else of the same call. Calls keep no state, take at most 112 kilobytes of
- * stack and no other memory, and may run at the same time.
+ * Each answers every input: numbers, bytes and lengths may be anything. What C's types cannot say is the caller's part: a pointer with a length
+ * after it leads to as many numbers or bytes as that length says, and any other to as many as its comment says; nothing that is written
+ * (a pointer without const) overlaps anything else of the same call. A pointer may be null where the length after it is 0, as an empty std::vector
+ * hands it; no other may. Calls keep no state, take at most KODARFI_STACK_MAX bytes of stack and no other memory, and may run at the same time.
  *
  * Each gives the papers' number of the first refusal, 0 where nothing is refused. One that has `places` writes them in any case: the row, column,
- * count or line that goes with the refusal, 0 where there is none. Rows, columns and lines count from 1. */
+ * count or line that goes with the refusal, 0 where there is none. Rows, columns and lines count from 1.
+ *
+ * What the numbers mean, and their ranges; a number that is used and outside its range is 3:
+ *
+ *   n                  1 to 32           equations, and marks whose height is sought
+ *   s, t               0 to 20           S = 2^s solution steps and T = 2^t inverse steps make one unit
+ *   matrix, A          -2^20 to 2^20     the equations A * x = b, in whole units; so is half
+ *   right, b           -2^30 to 2^30     their right sides, in whole units
+ *   tolerance, d       0 to 2^20         how far each right side may lie from the true one, in whole units
+ *   guess, X           -2^36 to 2^36     the proposed heights, in solution steps: X means X/S units
+ *   inverse, G         -2^20 to 2^20     the proposed inverse of A, in inverse steps: G means G/T
+ *   weights, w         1 to 1,024        one for each row; 1 everywhere where the solver supplies none
+ *   coupling, C        -2^20 to 2^20     what a dependent net takes from the main net's heights
+ *   allowance          1 to 64           how many lists of weights may be tried
+ *   solution_bounds, inverse_bounds      written, 0 to 2^60: limits of X in solution steps and of G in inverse steps; kodarfi_intervals reads them
+ *
+ * How to choose s and t. Take the largest t at which every number of the inverse, times 2^t, stays within 2^20 in size: the exact solution and inverse
+ * rounded to nearest steps, with weights of 1 and no tolerances, are always accepted where the sizes |A_ij| of the whole matrix add up to less than
+ * 2 * 2^t, and no limit is above 1 where three times this sum is at most 2 * 2^t. Take the smallest s whose step, 2^-s of a unit, is as fine as the
+ * heights are wanted: a guess must stay within 2^36 steps, and a tolerance d takes d * 2^s of the 2^25 that 6 allows. */
 #ifndef KODARFI_H
 #define KODARFI_H
 
 #include <stddef.h>
 #include <stdint.h>
+
+/* The lengths of lists and buffers: of a matrix, a column, a matrix by its lower half, a listing; the longest file that kodarfi_convert writes; how many
+ * field lines a build takes; and how many bytes of a file decide its answer, so that no more need be read. */
+#define KODARFI_MATRIX_LENGTH 1024
+#define KODARFI_COLUMN_LENGTH 32
+#define KODARFI_HALF_LENGTH 528
+#define KODARFI_LISTING_LENGTH 32768
+#define KODARFI_CONVERTED_LENGTH 21300
+#define KODARFI_OBSERVATIONS_MAX 256
+#define KODARFI_FILE_LENGTH 65536
+
+/* The ends of the ranges: the highest number of each kind, and the highest size where numbers may be below 0. */
+#define KODARFI_N_MAX 32
+#define KODARFI_SCALE_MAX 20
+#define KODARFI_MATRIX_MAX 1048576
+#define KODARFI_RIGHT_MAX 1073741824
+#define KODARFI_TOLERANCE_MAX 1048576
+#define KODARFI_GUESS_MAX INT64_C(68719476736)
+#define KODARFI_INVERSE_MAX 1048576
+#define KODARFI_WEIGHT_MAX 1024
+#define KODARFI_ALLOWANCE_MAX 64
+#define KODARFI_BOUND_MAX UINT64_C(1152921504606846976)
+#define KODARFI_KEY_MAX 65535
+#define KODARFI_DIFFERENCE_MAX 65536
+#define KODARFI_LINE_WEIGHT_MAX 64
+
+/* The most bytes of stack that a call takes, 112 kilobytes. */
+#define KODARFI_STACK_MAX 114688
+
+/* What an answer says: the papers' numbers. docs/refusals.tsv has each in words, with what to do. */
+#define KODARFI_ACCEPTED 0
+#define KODARFI_TOO_LONG 1          /* a line above 320 bytes */
+#define KODARFI_NO_FORM 2           /* a line that is none of the eight forms */
+#define KODARFI_OUT_OF_RANGE 3      /* a number outside its range */
+#define KODARFI_WRONG_COUNT 4       /* a row or inverse list with other than n numbers */
+#define KODARFI_MARGIN 5            /* a margin of 0 or less */
+#define KODARFI_RESIDUAL 6          /* a residual of the guess too large */
+#define KODARFI_INVERSE_RESIDUAL 7  /* a residual of the inverse too large */
+#define KODARFI_TOO_SHORT 8         /* a list too short */
+#define KODARFI_TOO_EARLY 11        /* a form before problem or scale */
+#define KODARFI_REPEATED 12         /* a form given already */
+#define KODARFI_MISSING 13          /* forms are missing at the end */
+#define KODARFI_AFTER_END 14        /* a line after the end */
+#define KODARFI_NOT_ENDED 15        /* no end */
+#define KODARFI_SAME_MARK 16        /* a field line from a mark to the same mark */
+#define KODARFI_OTHER_CONTENTS 17   /* a key met before with other contents */
+#define KODARFI_NONE_GOOD 18        /* none of the allowed lists of weights is good */
+#define KODARFI_NO_GUESS 19         /* a double that gives no guess */
+#define KODARFI_DIFFERENT 20        /* two proposals for different equations */
+#define KODARFI_TOO_WIDE 21         /* a limit above 2^36 */
+#define KODARFI_NOT_CONVERTIBLE 22  /* a tolerance above 0, or a buffer too short */
 
 #ifdef __cplusplus
 extern "C" {
@@ -118,7 +188,10 @@ uint32_t kodarfi_find_weights(uint32_t n, uint32_t t,
                               uint64_t places[2]);
 
 /* A field line (document 02, Paper 3): its key (1 to 65,535), the marks that it leads from and to (0 to n; 0 is the fixed mark of height 0), the difference
- * of height in whole units (-65,536 to 65,536) and its weight (1 to 64). */
+ * of height in whole units (-65,536 to 65,536) and its weight (1 to 64).
+ *
+ * For bindings outside C: 32 bytes, aligned to 8; key stands at byte 0, from at 4, to at 8, difference at 16 and weight at 24. Bytes 12 to 15 and 28 to
+ * 31 may hold anything. */
 struct kodarfi_observation {
     uint32_t key;
     uint32_t from;
@@ -276,8 +349,9 @@ uint32_t kodarfi_common(uint32_t n1, uint32_t s1, uint32_t t1,
  *
  * The answer is 0 where every line of the file is accepted, its end among them, all tolerances are 0 and the new file fits: then the first *written bytes of out are
  * the new file (problem, scale, rows, right sides, guesses, inverse rows and all n weights, each kind by rising i, then end, each line with its line feed), and the
- * others are as before. No new file has more than 21,300 bytes. It is accepted by document 01's rules, gives the same listing as the file, and is its own new file.
- * Else the answer is the number of the refusal, and out and *written are as before:
+ * others are as before. No new file has more than 21,300 bytes. The desk of document 01 accepts every line of it; a file whose check is refused with 5, 6 or 7 is
+ * converted too. The new file has the same listing as the file, and is its own new file. Else the answer is the number of the refusal, and out and *written are as
+ * before:
  *
  *   1 to 4, 11, 12, 14   of the first line that is refused     places: 0, 0
  *   13                   forms are missing at the end                  how many, 0
