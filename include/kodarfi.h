@@ -8,6 +8,8 @@
  * Each gives the papers' number of the first refusal, 0 where nothing is refused. One that has `places` writes them in any case: the row, column,
  * count or line that goes with the refusal, 0 where there is none. Rows, columns and lines count from 1.
  *
+ * kodarfi_net.h has these calls on one struct with lists of full length, and the numbers in words.
+ *
  * What the numbers mean, and their ranges; a number that is used and outside its range is 3:
  *
  *   n                  1 to 32           equations, and marks whose height is sought

@@ -2,7 +2,8 @@
 
   python3 tests/header.py FOLDER   the library is FOLDER/libkodarfi.a; the last line is 'N passed, M failed'
 
-Constants, ranges, the layout of a field line and null pointers by header/header.c, .cpp and below; the stack of every call by header/stack.c.
+Constants, ranges, the layout of a field line and null pointers by header/header.c, .cpp and below; the stack of every call by header/stack.c; the calls on whole
+nets by header/net.c; the numbers in words by header/words.c beside docs/refusals.tsv.
 Named wrong versions of the headers, and of calls, must each be told by the program that is named with it."""
 
 import ctypes
@@ -19,6 +20,7 @@ HERE = ROOT / "tests" / "header"
 INCLUDE = ROOT / "include"
 STRICT = ["-O1", "-Wall", "-Wextra", "-pedantic", "-Werror"]
 STANDARDS = {"c99": "cc", "c11": "cc", "c++11": "c++", "c++17": "c++"}
+NET = "kodarfi_net.h"
 EXAMPLES = str(ROOT / "examples" / "refused")
 PATIENCE = 120
 
@@ -27,6 +29,8 @@ PROGRAMS = {
     "header": ("header.c", "c99", [EXAMPLES]),
     "header++": ("header.cpp", "c++11", []),
     "stack": ("stack.c", "c99", []),
+    "net": ("net.c", "c99", []),
+    "words": ("words.c", "c99", []),
 }
 
 # Wrong headers: the program that must tell it, the file, a text in it and another text for it. Every constant is tried one off, too (off_by_one).
@@ -36,6 +40,40 @@ WRONG_HEADERS = {
     "from after to": ("header", "kodarfi.h", "    uint32_t from;\n    uint32_t to;\n", "    uint32_t to;\n    uint32_t from;\n"),
     "a weight before the difference": ("header", "kodarfi.h", "    int64_t difference;\n    uint32_t weight;\n", "    uint32_t weight;\n    int64_t difference;\n"),
     "a difference of 32 bits": ("header", "kodarfi.h", "int64_t difference;", "int32_t difference;"),
+    "right sides for tolerances": ("net", NET, "KODARFI_COLUMN_((net)->right), KODARFI_COLUMN_((net)->tolerance)", "KODARFI_COLUMN_((net)->tolerance), KODARFI_COLUMN_((net)->right)"),
+    "guesses for tolerances": ("net", NET, "KODARFI_COLUMN_((net)->tolerance), KODARFI_COLUMN_((net)->guess)", "KODARFI_COLUMN_((net)->guess), KODARFI_COLUMN_((net)->tolerance)"),
+    "guesses for weights": ("net", NET, "KODARFI_MATRIX_((net)->inverse), KODARFI_COLUMN_((net)->weights)", "KODARFI_MATRIX_((net)->inverse), KODARFI_COLUMN_((net)->guess)"),
+    "the matrix for the inverse": ("net", NET, "kodarfi_check(net->n, net->s, net->t, KODARFI_MATRIX_(net->matrix)", "kodarfi_check(net->n, net->s, net->t, KODARFI_MATRIX_(net->inverse)"),
+    "s for t": ("net", NET, "kodarfi_check(net->n, net->s, net->t,", "kodarfi_check(net->n, net->t, net->s,"),
+    "a short list": ("net", NET, "#define KODARFI_COLUMN_(list) (list), KODARFI_COLUMN_LENGTH", "#define KODARFI_COLUMN_(list) (list), 31"),
+    "a half of 527": ("net", NET, "net->half, KODARFI_HALF_LENGTH, KODARFI_PROPOSAL_", "net->half, KODARFI_HALF_LENGTH - 1, KODARFI_PROPOSAL_"),
+    "a half filled out on one side": ("net", NET, "net->matrix[i * half->n + j] = net->matrix[j * half->n + i] =", "net->matrix[i * half->n + j] ="),
+    "a half filled out in rows of 32": ("net", NET, "net->matrix[i * half->n + j] =", "net->matrix[i * 32 + j] ="),
+    "tolerances not filled out": ("net", NET, "    memcpy(net->tolerance, half->tolerance, sizeof net->tolerance);\n", ""),
+    "weights of 0": ("net", NET, "net->weights[i] = 1;", "net->weights[i] = 0;"),
+    "the main net for the dependent one": ("net", NET, "KODARFI_MATRIX_(dependent->matrix)", "KODARFI_MATRIX_(main_net->matrix)"),
+    "limits of two nets exchanged": ("net", NET, "KODARFI_BOUNDS_(main_bounds), dependent->n", "KODARFI_BOUNDS_(dependent_bounds), dependent->n"),
+    "no net": ("net", NET, "&refusal->net, refusal->places);\n}", "(uint32_t[1]){0}, refusal->places);\n}"),
+    "the coarser steps": ("net", NET, "first->s > second->s ?", "first->s < second->s ?"),
+    "ends of two proposals exchanged": ("net", NET, "KODARFI_COLUMN_(intervals->low),\n", "KODARFI_COLUMN_(intervals->high),\n"),
+    "steps on a refusal": ("net", NET, "if (refusal->number == KODARFI_ACCEPTED) intervals->s", "intervals->s"),
+    "an old refusal": ("net", NET, "    memset(refusal, 0, sizeof *refusal);\n", ""),
+    "ends of doubles exchanged": ("net", NET, "KODARFI_COLUMN_(ends->low)", "KODARFI_COLUMN_(ends->high)"),
+    "inverse limits for heights": ("net", NET, "KODARFI_COLUMN_(bounds->solution), KODARFI_COLUMN_(ends->low)", "KODARFI_COLUMN_(bounds->inverse), KODARFI_COLUMN_(ends->low)"),
+    "the matrix for the inverse of a search": ("net", NET, "KODARFI_MATRIX_(net->inverse), allowance", "KODARFI_MATRIX_(net->matrix), allowance"),
+    "an allowance of 64": ("net", NET, "KODARFI_MATRIX_(net->inverse), allowance", "KODARFI_MATRIX_(net->inverse), 64"),
+    "a line less": ("net", NET, "kodarfi_build(net->n, lines, count,", "kodarfi_build(net->n, lines, count ? count - 1 : 0,"),
+    "a line left among the places": ("net", NET, "        refusal->places[0] = 0;\n", ""),
+    "a line for 13": ("net", NET, "    case KODARFI_AFTER_END:\n", "    case KODARFI_AFTER_END:\n    case KODARFI_MISSING:\n"),
+    "no line for 12": ("net", NET, "    case KODARFI_REPEATED:\n", ""),
+    "a byte less to convert into": ("net", NET, "KODARFI_CONVERTED_LENGTH, &converted", "64, &converted"),
+    "a text past its buffer": ("words", NET, "(text_len) - (so_far) : 0", "(text_len) - (so_far) + 1 : 0"),
+    "row and column exchanged in words": ("words", NET, "places[0], places[1])", "places[1], places[0])"),
+    "another net in words": ("words", NET, 'refusal->net == 1 ? "first"', 'refusal->net == 2 ? "first"'),
+    "no line in words": ("words", NET, 'if (refusal->line)', 'if (0)'),
+    "expected and to do exchanged": ("words", NET, "words->what, words->expected, words->to_do);", "words->what, words->to_do, words->expected);"),
+    "a word less": ("words", "kodarfi_text.h", "a lent list too short", "a list too short"),
+    "a row less": ("words", "kodarfi_text.h", "{18, ", "{98, "),
 }
 
 # Wrong calls: the program that must tell it, the call, and what it does in place of the real one.
@@ -65,6 +103,19 @@ def off_by_one():
             yield f"{name} is {wrong}", ("header", "kodarfi.h", f"#define {name} ", f"#define {name} {wrong} + 0 * ")
 
 
+def are_words(printed):
+    """What header/words.c prints, beside the table: every row of it and no other, and the texts of a few refusals."""
+    lines = [line.split("\t") for line in (ROOT / "docs" / "refusals.tsv").read_text().replace("`", "").splitlines()[1:]]
+    table = {line[0]: line[1:4] for line in lines}
+    rows = [line.split("\t")[1:] for line in printed.splitlines() if line.startswith("row\t")]
+    texts = dict(line.split("\t")[1:] for line in printed.splitlines() if line.startswith("text\t"))
+    where = {"2": ", line 17", "5": ", row 3", "6": ", the second of the two, row 4", "7": ", the first of the two, column 5, row 6", "8": "", "13": ", 9 missing", "16": "", "20": "",
+             "3": ", the second of the two"}
+    expected = {number: f"refused with {number}{place}: {table[number][0]}\\n  expected: {table[number][1]}\\n  to do: {table[number][2]}\\n" for number, place in where.items()}
+    expected |= {"0": f"{table['0'][0]}\\n  concluded: {table['0'][1]}\\n  to do: {table['0'][2]}\\n", "999": "refused with 999\\n"}
+    return rows == [[number, *table[number]] for number in table] and texts == expected
+
+
 class Workshop:
     """A temporary folder with the programs, and headers to edit."""
 
@@ -87,12 +138,14 @@ class Workshop:
         closing = re.fullmatch(r"(\d+) passed, (\d+) failed", done.stdout.rstrip("\n").rpartition("\n")[2])
         if not closing or (done.returncode == 0) != (closing[2] == "0") or int(closing[1]) == 0:
             return 0, 1, done.stdout
+        if name == "words" and not are_words(done.stdout):
+            return 0, 1, done.stdout
         return int(closing[1]), int(closing[2]), done.stdout
 
     def edited(self, file, old, new):
         """A folder with the headers, one of them edited."""
         folder = Path(tempfile.mkdtemp(dir=self.folder))
-        for header in INCLUDE.iterdir():
+        for header in INCLUDE.glob("*.h"):
             text = header.read_text()
             if header.name == file:
                 if old not in text:
@@ -204,9 +257,14 @@ def python_results(workshop):
 def text_results():
     """What can be read off the header alone."""
     header, stack = (INCLUDE / "kodarfi.h").read_text(), (HERE / "stack.c").read_text()
-    calls = re.findall(r"^uint32_t (kodarfi_\w+)\(", header, re.M)
+    calls = re.findall(r"^(?:uint32_t|void) (kodarfi_\w+)\(", header, re.M)
     measured = re.findall(r'\{"(kodarfi_\w+)", ', stack)
     yield "every call is measured by header/stack.c", sorted(calls) == sorted(measured)
+    made = subprocess.run([sys.executable, str(ROOT / "docs" / "refusals_to_c.py")], capture_output=True, text=True, timeout=PATIENCE)
+    yield "kodarfi_text.h is made from docs/refusals.tsv", made.returncode == 0 and made.stdout == (INCLUDE / "kodarfi_text.h").read_text()
+    numbers = {int(line.split("\t")[0]) for line in (ROOT / "docs" / "refusals.tsv").read_text().splitlines()[1:]}
+    named = {int(number) for number in re.findall(r"^#define KODARFI_[A-Z_]+ (\d+)(?=\n| +/\*)", header[header.index("/* What an answer says") :], re.M)}
+    yield "the table has a row for every number of the header", numbers == named
     yield "the listing's length is its buffer's", re.findall(r"uint8_t listing\[(\d+)\]", header) == [str(constants()["KODARFI_LISTING_LENGTH"])]
     tables = [ROOT / "crates" / name for name in ("rules/src/lib.rt",)]
     ranges = set(re.findall(r"highest: (\d+)", tables[0].read_text()))
@@ -216,13 +274,13 @@ def text_results():
 
 def results(workshop):
     """What is tested, and whether it holds."""
-    for header in sorted(path.name for path in INCLUDE.iterdir()):
+    for header in sorted(path.name for path in INCLUDE.glob("*.h")):
         for standard in STANDARDS:
             yield f"{header} compiles as {standard}", compiles_alone(workshop, header, standard)
     for name in PROGRAMS:
         path = workshop.build(name)
         passed, failed, said = workshop.run(name, path) if path else (0, 1, "does not compile")
-        print(said, end="")
+        print("".join(line for line in said.splitlines(True) if not line.startswith(("row\t", "text\t"))), end="")
         yield f"{name}: {passed} tests", failed == 0
     yield from text_results()
     yield from python_results(workshop)

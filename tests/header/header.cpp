@@ -1,8 +1,9 @@
 // The headers from C++11: constants where a constant is asked for, and empty vectors, whose data may be null.
-#include "kodarfi.h"
+#include "kodarfi_net.h"
 
 #include <cstdint>
 #include <cstdio>
+#include <string>
 #include <vector>
 
 static_assert(sizeof(kodarfi_observation) == 32 && alignof(kodarfi_observation) == 8, "the layout that the header tells");
@@ -34,6 +35,22 @@ int main() {
     std::size_t written = 0;
     std::uint64_t places[2];
     test("an empty file", said(kodarfi_listing(no_bytes.data(), no_bytes.size(), listing.data(), &written, places)) == said(KODARFI_NOT_ENDED) && written == 17);
+    // document 01's whole file, as a net
+    static kodarfi_net net;
+    static kodarfi_bounds bounds;
+    kodarfi_refusal refusal;
+    kodarfi_net_clear(&net, 2, 4, 4);
+    const std::int64_t numbers[6][2] = {{4, -1}, {-1, 3}, {4, 1}, {1, 6}, {5, 1}, {23, 13}};
+    for (int j = 0; j < 2; ++j) {
+        net.matrix[j] = numbers[0][j], net.matrix[2 + j] = numbers[1][j];
+        net.inverse[j] = numbers[2][j], net.inverse[2 + j] = numbers[3][j];
+        net.right[j] = numbers[4][j], net.guess[j] = numbers[5][j];
+    }
+    test("a net", kodarfi_net_check(&net, &bounds, &refusal) == KODARFI_ACCEPTED && bounds.solution[0] == 1 && bounds.solution[1] == 1 && bounds.inverse[3] == 1);
+    net.guess[0] = 20;
+    char text[2048];
+    test("a poor guess", kodarfi_net_check(&net, &bounds, &refusal) == KODARFI_RESIDUAL && refusal.places[0] == 1);
+    test("its words", kodarfi_text(&refusal, text, sizeof text) < sizeof text && std::string(text).find("refused with 6, row 1: ") == 0);
     std::printf("%u passed, %u failed\n", passed, failed);
     return failed != 0;
 }
