@@ -34,6 +34,12 @@
 #include <stddef.h>
 #include <stdint.h>
 
+/* The version of this header, and of the library beside it; libkodarfi.so.MAJOR is the shared one's name. */
+#define KODARFI_VERSION "3.0.0"
+#define KODARFI_VERSION_MAJOR 3
+#define KODARFI_VERSION_MINOR 0
+#define KODARFI_VERSION_PATCH 0
+
 /* The lengths of lists and buffers: of a matrix, a column, a matrix by its lower half, a listing; the longest file that kodarfi_convert writes; how many
  * field lines a build takes; and how many bytes of a file decide its answer, so that no more need be read. */
 #define KODARFI_MATRIX_LENGTH 1024

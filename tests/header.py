@@ -256,6 +256,10 @@ def python_results(workshop):
 
 def text_results():
     """What can be read off the header alone."""
+    version = (ROOT / "VERSION").read_text()
+    yield "the version is three numbers", re.fullmatch(r"\d+\.\d+\.\d+\n", version)
+    yield "the header has the version", f'#define KODARFI_VERSION "{version.strip()}"\n' in (INCLUDE / "kodarfi.h").read_text()
+    yield "the newest version of CHANGELOG.md", re.search(r"(?m)^## (\S+)$", (ROOT / "CHANGELOG.md").read_text())[1] == version.strip()
     header, stack = (INCLUDE / "kodarfi.h").read_text(), (HERE / "stack.c").read_text()
     calls = re.findall(r"^(?:uint32_t|void) (kodarfi_\w+)\(", header, re.M)
     measured = re.findall(r'\{"(kodarfi_\w+)", ', stack)

@@ -32,6 +32,12 @@ static uint32_t checked(const struct lists *of) {
                          written_list(solution_bounds, 6), lengths[6], written_list(inverse_bounds, 7), lengths[7], places);
 }
 
+static void test_version(void) {
+    char version[32];
+    snprintf(version, sizeof version, "%d.%d.%d", KODARFI_VERSION_MAJOR, KODARFI_VERSION_MINOR, KODARFI_VERSION_PATCH);
+    test("the version by its parts", strcmp(version, KODARFI_VERSION) == 0);
+}
+
 static void test_lengths(void) {
     set_lengths();
     test("lists of full length are long enough", checked(&net) == KODARFI_ACCEPTED);
@@ -272,6 +278,7 @@ static void test_nulls(void) {
 int main(int argc, char **argv) {
     if (argc != 2) return 2;
     make_large(&net, TRIANGLE, 0, 0);
+    test_version();
     test_lengths();
     test_ranges();
     test_other_ranges();
