@@ -6,6 +6,7 @@
 
 The last line is 'N passed, M failed'."""
 
+import hashlib
 import os
 import subprocess
 import sys
@@ -48,10 +49,14 @@ WRONG = {
     "any output taken": ("a tolerance", """if [[ $ended$said == '0(problem '*$'\\n(end)\\n' ]]; then""", "if true; then"),
     "no such file taken for an empty one": ("no such file", """  [ -e "$file" ] || fail "$name: no such file"\n""", """  [ -e "$file" ] || exec </dev/null\n"""),
     "two files taken": ("two files", """[ ${#names[@]} -le 1 ] || misused "one file at a time"\n""", ""),
-    "an option taken for a name": ("no such option", """    no-?*) misused "there is no option $word" ;;\n""", ""),
-    "the last line feed lost": ("standard input", "said=${said%.}\n", "said=${said%.}\nkept=$said\n", """printf '%s' "$said" 2>""", """printf '%s' "${said%$'\\n'}" 2>"""),
-    "help on standard error": ("help", "no--help) help 2>/dev/null ||", "no--help) help >&2 ||"),
-    "a program that fails taken": ("a program that fails", """  fail "$name: ${said%$'\\n'}"\n""", "  converted=0\n"),
+    "an option taken for a name": ("no such option", """      no-?*) own_option "$word" || misused "there is no option $word" ;;\n""", ""),
+    "the last line feed lost": ("standard input", """hand_out "$said" "$name"\n""", """hand_out "${said%$'\\n'}" "$name"\n"""),
+    "help on standard error": ("help", """hand_out "$help"; exit 0""", """echo "$help" >&2; exit 0"""),
+    "another program's version": ("a version beside the program", """[ "${lines[1]}" = "$(digest "$program" 2>/dev/null)" ]""", "true"),
+    "-h is a file": ("help by -h", "no-h | no--help)", "no--help)"),
+    "a gone reader is a fault": ("a reader that has gone", """[[ $trouble == *'Broken pipe'* ]] || fail""", "fail"),
+    "a full output is a gone reader": ("a full output", """[[ $trouble == *'Broken pipe'* ]] || fail""", "true || fail"),
+    "a program that fails taken": ("a program that fails", """    fail "$name: ${said%$'\\n'}"\n""", "    converted=0\n"),
 }
 
 
@@ -60,11 +65,13 @@ class Room:
 
     def __init__(self, folder, program, change=()):
         self.folder = Path(folder)
-        text = (ROOT / "convert").read_text()
+        (self.folder / "scripts").mkdir()
+        texts = {name: (ROOT / name).read_text() for name in ("convert", "scripts/door.sh")}
         for old, new in zip(change[::2], change[1::2]):
-            assert old in text, old
-            text = text.replace(old, new)
-        (self.folder / "convert").write_text(text)
+            assert any(old in text for text in texts.values()), old
+            texts = {name: text.replace(old, new) for name, text in texts.items()}
+        for name, text in texts.items():
+            (self.folder / name).write_text(text)
         (self.folder / "convert").chmod(0o755)
         (self.folder / "crates").mkdir()
         (self.folder / "crates.txt").write_text("")
@@ -79,12 +86,17 @@ class Room:
         path.chmod(0o755)
 
     def run(self, *words, text=b""):
-        done = subprocess.run(["./convert", *words], cwd=self.folder, input=text, capture_output=True, timeout=60, check=False)
+        done = subprocess.run(["./convert", *words], cwd=self.folder, input=text, capture_output=True, timeout=600, check=False)
+        return done.returncode, done.stdout, done.stderr
+
+    def shell(self, command):
+        """The same of a command of bash."""
+        done = subprocess.run(["bash", "-c", command], cwd=self.folder, stdin=subprocess.DEVNULL, capture_output=True, timeout=600, check=False)
         return done.returncode, done.stdout, done.stderr
 
     def alone(self, **options):
         """The program by itself, without the script."""
-        return subprocess.run([str(self.folder / "target/bin/convert")], stderr=subprocess.PIPE, timeout=60, check=False, **options)
+        return subprocess.run([str(self.folder / "target/bin/convert")], stderr=subprocess.PIPE, timeout=600, check=False, **options)
 
 
 def long_input(room):
@@ -95,7 +107,7 @@ def long_input(room):
         with subprocess.Popen(["cat"], stdin=file, stdout=subprocess.PIPE) as writer:
             done = room.alone(stdin=writer.stdout, stdout=subprocess.PIPE)
             writer.stdout.close()
-            return (done.stdout, writer.wait(timeout=60)) == (b"(refused 14 (14))\n", 0)
+            return (done.stdout, writer.wait(timeout=600)) == (b"(refused 14 (14))\n", 0)
 
 
 def unread_input(room):
@@ -110,6 +122,19 @@ def unwritten_output(room):
     """Standard output that takes nothing."""
     with open("/dev/full", "wb") as full:
         return room.alone(input=WHOLE, stdout=full).stderr == b"convert: the file could not be written\n"
+
+
+def versioned(room):
+    """What was written beside the program when it was built is told, and nothing of another program."""
+    program = room.folder / "target/bin/convert"
+    noted = room.folder / "target/bin/convert.version"
+    digest = hashlib.sha256(program.read_bytes()).hexdigest()
+    told = []
+    for beside in (digest, "0" * 64):
+        noted.write_text(f"version 3, commit abc, kit k\n{beside}\nnames\n")
+        told.append(room.run("--version")[1])
+    noted.unlink()
+    return told == [b"convert: version 3, commit abc, kit k\n", room.run("--version")[1]]
 
 
 def failing(room):
@@ -134,6 +159,11 @@ TESTS = {
     "two files": lambda room: room.run("whole.txt", "whole.txt")[:2] == (2, b""),
     "no such option": lambda room: room.run("-tolerance")[:2] == (2, b""),
     "help": lambda room: room.run("--help")[:1] + (b"usage: convert [FILE]" in room.run("--help")[1],) == (0, True),
+    "help by -h": lambda room: room.run("-h") == room.run("--help"),
+    "a version that is not known": lambda room: room.run("--version") == (0, b"convert: commit unknown, kit unknown: the program was not built by ./convert\n", b""),
+    "a version beside the program": versioned,
+    "a full output": lambda room: room.shell("./convert whole.txt >/dev/full") == (2, b"", b"convert: whole.txt: standard output could not be written\n"),
+    "a reader that has gone": lambda room: room.shell("./convert whole.txt | exec true; echo ${PIPESTATUS[0]}") == (0, b"0\n", b""),
     "a program that fails": failing,
     "standard output of the program": lambda room: room.alone(input=WHOLE, stdout=subprocess.PIPE).stdout == WHOLE,
     "a long input": long_input,

@@ -4,8 +4,8 @@ import shlex
 import subprocess
 from typing import NamedTuple
 
-# Seconds until a program has run too long.
-LONGEST_RUN = 20
+# Seconds until a program hangs: far above what a slow machine takes.
+LONGEST_RUN = 600
 
 
 class Ran(NamedTuple):

@@ -70,7 +70,7 @@ def cut_faults(script):
     if not PROGRAM.is_file():
         return ["there is no target/bin/samples: run the gate first"]
     fills, fits = (script + b"\xfet" + b"x" * (length - len(script) - 3) + b"\xff" for length in (BUFFER, BUFFER - 1))
-    run = lambda text: subprocess.run([str(PROGRAM)], input=text, capture_output=True, timeout=60)
+    run = lambda text: subprocess.run([str(PROGRAM)], input=text, capture_output=True, timeout=600)
     filled, fitted = run(fills), run(fits)
     wrong = [] if filled.stdout == b"" and filled.stderr else ["a script that fills the buffer is run, or refused in silence"]
     return wrong + ([] if fitted.stdout.endswith(b"x") else ["a script that does not fill the buffer is not run to its end"])

@@ -5,7 +5,9 @@ import os
 from checks import faults, net_from
 from second.program import Program
 
+from office.building import newer_source
 from office.calls import REFUSED, WHOLE, listing_of
+from office.room import failed
 
 NAMES = ("north/net.txt", "south/net.txt", "south/old/net.txt", "net.txt")
 
@@ -66,6 +68,32 @@ def failed_writing_is_2(room):
     return status == 2 and out.decode().splitlines()[-1] == "1 accepted, 0 refused, 1 failed"
 
 
+def full_disk_is_told_once(room):
+    """No file takes a byte, which a limit of the shell does as a full disk does: one line, whatever the number of nets, and all have failed."""
+    for number in range(9):
+        room.write(f"nets/{number}", (room.root / WHOLE).read_bytes())
+    status, out, err = room.shell("trap '' XFSZ; ulimit -f 0; ./batch nets listings")
+    return (status, out.splitlines()[-1], err.count(b"\n")) == (2, b"0 accepted, 0 refused, 9 failed", 1) and b"listings: a listing could not be written" in err
+
+
+def lost_report_is_2(room):
+    """A report that cannot be written, whatever was judged, and help; a closed output is seen before anything is judged. A reader that has gone is no fault."""
+    room.write("nets/net.txt", (room.root / WHOLE).read_bytes())
+    room.write("others/net.txt", (room.root / REFUSED).read_bytes())
+    lost = [room.shell(f"./batch {words} >/dev/full") for words in ("nets a", "others b", "--help", "-h")]
+    lost += [room.shell(f"./batch {words} >&-") for words in ("nets c", "--help")]
+    gone = [room.shell(f"./batch {words} | exec true; echo ${{PIPESTATUS[0]}}") for words in ("nets d", "others e", "--help")]
+    return all(failed(answer, "could not be written") for answer in lost) and not (room.root / "c").exists() and gone == [(0, b"0\n", b""), (0, b"1\n", b""), (0, b"0\n", b"")]
+
+
+def as_built_is_said_once(room):
+    for number in range(3):
+        room.write(f"nets/{number}", (room.root / WHOLE).read_bytes())
+    newer_source(room)
+    status, out, err = room.shell("KODARFI_AS_BUILT=1 ./batch nets listings", rt=False)
+    return (status, out, err.count(b"\n")) == (0, b"3 accepted, 0 refused, 0 failed\n", 1) and b"as it was built" in err
+
+
 def unseen_folder_is_2(room):
     room.write("nets/net.txt", (room.root / WHOLE).read_bytes())
     room.write("nets/closed/net.txt", b"")
@@ -93,7 +121,7 @@ def nothing_to_judge_is_2(room):
     answers = [room.run(*words, script="batch") for words in wrong]
     room.put_program("exit 3")
     answers.append(room.run("nets", "listings", script="batch"))
-    told = all(status == 2 and out == b"" and b"batch: " in err for status, out, err in answers)
+    told = all(failed(answer, "batch: ") for answer in answers[:-1]) and answers[-1][:2] == (2, b"") and answers[-1][2].endswith(b"batch: nothing can be judged\n")
     return told and listings(room, "old") == {"net.txt": b"(refused 15 (0))\n"} and listings(room) == {}
 
 
@@ -141,6 +169,6 @@ def field_lines_to_listing(room):
 
 
 TESTS = (
-    keeps_folders, counts_and_names_what_is_not_accepted, status_tells_the_worst, failed_writing_is_2, unseen_folder_is_2, program_that_dies_is_2,
+    keeps_folders, counts_and_names_what_is_not_accepted, status_tells_the_worst, failed_writing_is_2, full_disk_is_told_once, lost_report_is_2, as_built_is_said_once, unseen_folder_is_2, program_that_dies_is_2,
     nothing_to_judge_is_2, shows_progress, many_machines_list_the_same, machine_that_does_not_answer_is_2, field_lines_to_listing,
 )

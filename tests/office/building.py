@@ -1,10 +1,12 @@
 """When ./register builds the program, and what it says where it cannot. A stand-in for rt tells each call (room.py)."""
 
+import fcntl
 import os
+import subprocess
 import time
 
 from office.calls import REFUSED, WHOLE, listing_of
-from office.room import LONG_AGO, SOURCE, ended, failed
+from office.room import LONG_AGO, ROOT, SOURCE, ended, failed
 
 ASKED = ["check register"]
 
@@ -41,8 +43,8 @@ def first_uses_at_once_build_once(room):
 
 
 def newer_source_builds_again(room):
-    """Once, whichever of the sources it is; a folder's time is that of its last name."""
-    for name in (SOURCE, "crates.txt", "crates/register/src"):
+    """Once, whichever of the sources it is."""
+    for name in (SOURCE, "crates.txt"):
         older_program(room)
         (room.root / "calls").unlink(missing_ok=True)
         if not (refuses(room) and refuses(room) and room.calls() == ASKED):
@@ -70,7 +72,76 @@ def progress_is_a_line_a_crate(room):
     older_program(room)
     _, out, err = room.run(REFUSED)
     lines = err.decode().splitlines()
-    return out == b"(refused 2 (5))\n" and lines[1:] == ["rt: integer proved (1 s)", "rt: register proved (1 s)"] and "is newer than the program" in lines[0]
+    crates = len(below("register"))
+    return out == b"(refused 2 (5))\n" and lines[1:] == [f"register: 1 of {crates} crates", f"register: 2 of {crates} crates"] and "is newer than the program" in lines[0]
+
+
+def below(name):
+    """A crate and all crates of crates.txt that it depends on."""
+    lines = (line.split(":") for line in (ROOT / "crates.txt").read_text().splitlines() if ":" in line and not line.startswith("#"))
+    needs = {crate: rest.split() for crate, rest in lines}
+    return {name}.union(*(below(crate) for crate in needs[name] if crate in needs))
+
+
+def waiting_is_told_at_once(room):
+    """While another call holds the lock, before it gives it back."""
+    room.put_program().unlink()
+    with open(room.root / "crates.txt") as lock:
+        fcntl.flock(lock, fcntl.LOCK_EX)
+        process = room.start(REFUSED, stderr=subprocess.STDOUT)
+        told = process.stdout.readline()
+        fcntl.flock(lock, fcntl.LOCK_UN)
+    status, rest, _ = ended(process)
+    return b"another call is building" in told and status == 1 and rest.endswith(b"(refused 2 (5))\n") and room.calls() == ASKED
+
+
+EDITORS_FILES = (".main.rt.swp", "main.rt~", "#main.rt#", ".#main.rt", "main.rt.bak", "notes.txt")
+
+
+def editors_files_are_no_sources(room):
+    """Beside the sources, with rt and without, after a building by the script; and without rt where the program came otherwise."""
+    put = lambda: [room.write(f"{SOURCE.rsplit('/', 1)[0]}/{name}", "") for name in EDITORS_FILES]
+    put()
+    otherwise = refuses(room, rt=False)
+    older_program(room)
+    built = refuses(room)
+    [path.unlink() for path in put()]
+    put()
+    return otherwise and built and refuses(room) and room.run(REFUSED, rt=False) == (1, b"(refused 2 (5))\n", b"") and room.calls() == ASKED
+
+
+def gone_source_builds_again(room):
+    older_program(room)
+    more = room.write("crates/register/src/more.rt", "")
+    built = refuses(room)
+    more.unlink()
+    return built and refuses(room) and refuses(room) and room.calls() == 2 * ASKED
+
+
+def as_built_is_told(room):
+    """Where it is asked for, the program that is there judges though a source is newer, with rt and without; nothing can be asked of none."""
+    newer_source(room)
+    for rt in (True, False):
+        status, out, err = room.shell(f"KODARFI_AS_BUILT=1 ./register {REFUSED}", rt=rt)
+        if (status, out, err.count(b"\n")) != (1, b"(refused 2 (5))\n", 1) or f"{SOURCE} is newer than the program".encode() not in err or b"as it was built" not in err:
+            return False
+    silent = room.shell(f"KODARFI_AS_BUILT=silent ./register {REFUSED}", rt=False) == (1, b"(refused 2 (5))\n", b"")
+    room.put_program().unlink()
+    return silent and failed(room.shell(f"KODARFI_AS_BUILT=1 ./register {REFUSED}", rt=False), "not built") and room.calls() == []
+
+
+def rt_has_its_files_in_memory(room):
+    """Where there is room, by a stand-in for df, and a folder from which programs run; it is gone afterwards. Else they are where they were."""
+    can = room.shell("f=$(mktemp -p /dev/shm) && echo '#!/bin/sh' >$f && chmod 700 $f && $f; s=$?; rm -f $f; exit $s")[0] == 0
+    found = []
+    for size in (9_000_000, 9_000):
+        room.write("with-rt/df", f"#!/bin/sh\necho head\necho shm 1 1 {size}\n").chmod(0o755)
+        older_program(room)
+        (room.root / "folder").unlink(missing_ok=True)
+        good = room.shell(f"TMPDIR=/var/tmp ./register {REFUSED}")[0] == 1
+        folder = (room.root / "folder").read_text().strip()
+        found.append((good, folder.startswith("/dev/shm/"), folder == "/var/tmp", os.path.exists(folder)))
+    return found == [(True, can, not can, not can), (True, False, True, True)]
 
 
 def old_program_without_rt_is_2(room):
@@ -120,5 +191,6 @@ def nothing_is_built_for_a_mistake(room):
 TESTS = (
     good_program_is_not_built, first_use_builds, first_uses_at_once_build_once, newer_source_builds_again, source_changed_while_building_builds_again,
     building_leaves_the_input, progress_is_a_line_a_crate, old_program_without_rt_is_2, no_program_without_rt_is_2,
-    old_program_without_a_right_to_write_is_2, failed_build_is_2, build_without_a_program_is_2, nothing_is_built_for_a_mistake,
+    old_program_without_a_right_to_write_is_2, waiting_is_told_at_once, editors_files_are_no_sources, gone_source_builds_again, as_built_is_told,
+    rt_has_its_files_in_memory, failed_build_is_2, build_without_a_program_is_2, nothing_is_built_for_a_mistake,
 )

@@ -7,7 +7,7 @@ import subprocess
 import generate
 import given
 
-from office.room import PROGRAM, failed
+from office.room import PROGRAM, ended, failed
 
 WHOLE = "examples/whole-file.txt"
 REFUSED = "examples/refused/2-two-spaces.txt"
@@ -85,13 +85,49 @@ def full_output_is_2(room):
     return all(failed(room.shell(f"./register {words} >/dev/full"), "could not be written") for words in (WHOLE, REFUSED, "--help", "--version"))
 
 
-def closed_pipe_is_2(room):
-    """The reader of the pipe has gone before the listing is written."""
-    reader, writer = os.pipe()
-    os.close(reader)
-    answer = room.run(WHOLE, stdout=writer)
-    os.close(writer)
-    return failed(answer, "could not be written")
+def gone_reader_is_no_fault(room):
+    """The reader of the pipe has gone before the listing is written: the status tells what was judged, and nothing is said, whether a signal would kill or is ignored."""
+    for words, status in ((WHOLE, 0), (REFUSED, 1), ("--help", 0), ("--version", 0)):
+        for first in ("", "trap '' PIPE; "):
+            reader, writer = os.pipe()
+            os.close(reader)
+            answer = ended(room.started(["bash", "-c", f"{first}./register {words}"], True, {"stdout": writer}))
+            os.close(writer)
+            if answer != (status, b"", b""):
+                return False
+    return True
+
+
+def explains_without_a_temporary_folder(room):
+    """Neither a folder nor room for temporary files is needed."""
+    plain = room.run("--explain", REFUSED)
+    return plain[:2] == (1, b"(refused 2 (5))\n") and room.shell(f"TMPDIR=/nowhere ./register --explain {REFUSED}") == plain
+
+
+def copied_away_is_2(room):
+    """One line, and no folder is made: for the script alone, and with what it shares."""
+    for folder, names in (("alone", ("register", "convert")), ("beside", ("register", "convert", "scripts"))):
+        (room.root / folder).mkdir()
+        for name in names:
+            room.shell(f"cp -r {name} {folder}")
+        for name in ("register", "convert"):
+            for words in ((REFUSED,), ("--version",), ()):
+                if not failed(room.run(*words, script=f"{folder}/{name}"), "is no checkout"):
+                    return False
+        if sorted(path.name for path in (room.root / folder).iterdir()) != sorted(names):
+            return False
+    return room.calls() == []
+
+
+def installed_needs_no_checkout(room):
+    """A script with its program and what it shares in ../lib/kodarfi judges, explains and tells its version; without the program it says so."""
+    room.shell("mkdir -p away/bin away/lib/kodarfi && cp register away/bin && cp scripts/door.sh docs/explain.awk docs/refusals.tsv program away/lib/kodarfi")
+    room.shell("cd away/lib/kodarfi && mv program register && printf 'version 3, commit c, kit k\\n%s\\nnames\\n' $(sha256sum <register | cut -d ' ' -f 1) >register.version")
+    script = "away/bin/register"
+    judged = room.run(WHOLE, script=script, rt=False) == room.run(WHOLE) and room.run("--explain", REFUSED, script=script, rt=False) == room.run("--explain", REFUSED)
+    told = room.run("--version", script=script, rt=False) == (0, b"register: version 3, commit c, kit k\n", b"")
+    (room.root / "away/lib/kodarfi/register").unlink()
+    return judged and told and failed(room.run(WHOLE, script=script), "install it again") and sorted(path.name for path in (room.root / "away").iterdir()) == ["bin", "lib"]
 
 
 def status_stays_without_standard_error(room):
@@ -128,16 +164,68 @@ def help_needs_no_program(room):
     return (status, err, room.calls()) == (0, b"", []) and out.startswith(b"usage: register [--explain] [FILE]\n")
 
 
-def version_tells_commit_and_kit(room):
-    """In a clone the commit, and that something was changed since; elsewhere that it is not known."""
-    for command in ("git init -q .", "git add register", "git -c user.name=a -c user.email=b commit -qm c"):
+def short_help_is_help(room):
+    return all(room.run("-h", script=script) == room.run("--help", script=script) and room.run("-h", script=script)[0] == 0 for script in ("register", "convert", "batch"))
+
+
+# A stand-in for git: the folder is a clone, its commit is in the file `at`, and `changed` is there where a source is not the commit's.
+GIT = """#!/bin/sh
+case "$*" in
+  *--show-toplevel) [ -e at ] && pwd -P ;;
+  *'--short HEAD') cat at ;;
+  *status*crates*) [ ! -e changed ] || echo ' M crates/register/src/main.rt' ;;
+  *) exit 1 ;;
+esac
+"""
+
+
+def version_after(room, *commands):
+    """What --version prints after commands of a shell and a use of the program."""
+    for command in commands:
         room.shell(command)
-    commit = room.shell("git rev-parse --short HEAD")[1].decode().strip()
-    clean = room.run("--version") == (0, f"register: commit {commit}, kit kit-of-the-tests\n".encode(), b"")
-    room.shell("echo >>register && rm -rf target")
-    changed = room.run("--version")[1] == f"register: commit {commit}-dirty, kit kit-of-the-tests\n".encode()
-    room.shell("rm -rf .git")
-    return clean and changed and room.run("--version", rt=False)[1].startswith(b"register: commit unknown, kit unknown") and room.calls() == []
+    room.run(REFUSED)
+    return room.run("--version")[1].decode().removeprefix("register: ").removesuffix("\n")
+
+
+def version_tells_what_was_built(room):
+    """The commit, whether a source was changed, and the kit, all of the time of building: what is checked out afterwards does not count. Elsewhere it is unknown."""
+    room.write("with-rt/git", GIT).chmod(0o755)
+    again = "touch -d @0 target/bin/register"
+    return [
+        version_after(room),
+        version_after(room, "echo abc >at", again),
+        version_after(room, "echo def >at; sed -i s/kit-of/other-kit-of/ with-rt/rt; touch changed"),
+        version_after(room, again),
+        version_after(room, "rm changed; echo 1.2 >VERSION", again),
+        version_after(room, "cp program other; echo >>other; mv other target/bin/register"),
+        version_after(room, "rm at VERSION", again),
+        version_after(room, "rm target/bin/register program"),
+    ] == [
+        "commit unknown, kit unknown: the program was not built by ./register",
+        "commit abc, kit kit-of-the-tests",
+        "commit abc, kit kit-of-the-tests",
+        "commit def-dirty, kit other-kit-of-the-tests",
+        "version 1.2, commit def, kit other-kit-of-the-tests",
+        "commit unknown, kit unknown: the program was not built by ./register",
+        "commit unknown, kit other-kit-of-the-tests",
+        "commit unknown, kit unknown: the program is not built yet",
+    ]
+
+
+def commit_is_that_of_git(room):
+    """By git itself, where there is one: the sources alone make it dirty, an editor's files and documents do not, and a clone around the folder is another's."""
+    commit = lambda: room.shell("here=$(pwd -P); . scripts/door.sh; commit")[1].decode().strip()
+    if room.shell("command -v git")[0] != 0:
+        return commit() == "unknown"
+    room.shell("git init -q . && git add . && git -c user.name=a -c user.email=b commit -qm c")
+    clean = room.shell("git rev-parse --short HEAD")[1].decode().strip()
+    found = []
+    for command in ("touch crates/register/src/.main.rt.swp; echo >>README.md", "echo >crates/register/src/more.rt", "rm crates/register/src/more.rt; echo >>crates.txt"):
+        room.shell(command)
+        found.append(commit())
+    room.shell("mkdir inner && cp -r scripts crates crates.txt inner")
+    found.append(room.shell("cd inner; here=$(pwd -P); . scripts/door.sh; commit")[1].decode().strip())
+    return len(clean) > 5 and found == [clean, f"{clean}-dirty", f"{clean}-dirty", "unknown"]
 
 
 def works_through_a_link(room):
@@ -152,6 +240,6 @@ def works_through_a_link(room):
 TESTS = (
     accepted_is_0, refused_is_1, standard_output_is_the_programs, reads_standard_input, reads_what_follows_two_dashes, missing_file_is_2, dangling_link_is_2,
     folder_is_2, folder_on_standard_input_is_2, unreadable_file_is_2, closed_input_is_2, file_needs_no_input, closed_output_is_2, full_output_is_2,
-    closed_pipe_is_2, status_stays_without_standard_error, program_without_a_listing_is_2, wrong_use_is_2, help_needs_no_program,
-    version_tells_commit_and_kit, works_through_a_link,
+    gone_reader_is_no_fault, explains_without_a_temporary_folder, copied_away_is_2, installed_needs_no_checkout, status_stays_without_standard_error, program_without_a_listing_is_2, wrong_use_is_2, help_needs_no_program,
+    short_help_is_help, version_tells_what_was_built, commit_is_that_of_git, works_through_a_link,
 )

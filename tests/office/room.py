@@ -11,12 +11,13 @@ ROOT = Path(__file__).resolve().parent.parent.parent
 PROGRAM = ROOT / "target" / "bin" / "register"
 SOURCE = "crates/register/src/main.rt"
 LONG_AGO = 1_000_000_000
-PATIENCE = 60
+PATIENCE = 600
 
 # The stand-in for rt: tells each call, says so where two of them build at once, reads its input, and puts the program into place.
 RT = """#!/bin/sh
 [ "$1" = version ] && { echo kit-of-the-tests; exit; }
 echo "$*" >>calls
+echo "$TMPDIR" >folder
 mkdir building || echo "two at once" >>calls
 cat >/dev/null
 sleep 0.2
@@ -31,11 +32,20 @@ echo "rt: register proved (1 s)"
 """
 
 
+def open_folder():
+    """A temporary folder that another user can pass through, since some tests are those of another user: $TMPDIR where it is one."""
+    for folder in (tempfile.gettempdir(), "/tmp", "/var/tmp"):
+        path = Path(folder).resolve()
+        if all(part.stat().st_mode & 0o001 for part in (path, *path.parents)) and os.access(path, os.W_OK):
+            return str(path)
+    return None
+
+
 def shadowed_path(folder):
     """The tools of this machine without rt: a folder that has rt is replaced by links to what else is in it."""
     path = []
     for number, entry in enumerate(filter(None, os.environ["PATH"].split(":"))):
-        if Path(entry, "rt").exists():
+        if os.path.exists(os.path.join(entry, "rt")):
             shadow = folder / f"tools-{number}"
             shadow.mkdir()
             for tool in Path(entry).iterdir():
@@ -50,13 +60,13 @@ class Room:
     """`edits` are triples of a file, a text in it and another text for it."""
 
     def __init__(self, edits=()):
-        self.outside = tempfile.TemporaryDirectory()
+        self.outside = tempfile.TemporaryDirectory(dir=open_folder())
         os.chmod(self.outside.name, 0o755)
         self.root = Path(self.outside.name) / "the repository"
         self.root.mkdir()
-        for name in ("register", "batch", "crates.txt", "README.md"):
+        for name in ("register", "convert", "batch", "crates.txt", "README.md"):
             shutil.copy(ROOT / name, self.root)
-        for name in ("docs", "examples", "crates/register/src"):
+        for name in ("docs", "examples", "scripts", "crates/register/src"):
             shutil.copytree(ROOT / name, self.root / name)
         for name, old, new in edits:
             text = (self.root / name).read_text()
@@ -123,9 +133,9 @@ class Room:
             options["stdin"] = subprocess.PIPE
         return ended(self.start(*arguments, **options), text)
 
-    def shell(self, command):
+    def shell(self, command, rt=True):
         """The same of a command of bash, which may close what it likes."""
-        return ended(self.started(["bash", "-c", command], True, {}))
+        return ended(self.started(["bash", "-c", command], rt, {}))
 
 
 def ended(process, text=None):

@@ -1,7 +1,6 @@
 """What is told in words: --explain, and the documents beside the table of refusals and --help."""
 
 import re
-import subprocess
 
 from office.calls import WHOLE
 from office.room import ROOT
@@ -119,7 +118,7 @@ def manual_has_the_help(room):
     """Every paragraph and every option of the help, word for word."""
     manual = re.sub(r"\\f[BIR]", "", (room.root / "docs/register.1").read_text())
     manual = " ".join(re.sub(r"(?m)^\.\S+ ?", "", manual).replace("\\-", "-").split())
-    text = re.sub(r"(?m)^(usage:)? +(register|--|\d )", r"\n\n\2", help_text(room)).replace("usage: ", "").replace("Exit status:", "")
+    text = re.sub(r"(?m)^(usage:)? +(register|--|-h|\d )", r"\n\n\2", help_text(room)).replace("usage: ", "").replace("Exit status:", "")
     paragraphs = [" ".join(paragraph.split()) for paragraph in text.split("\n\n")]
     return len(paragraphs) > 8 and all(paragraph in manual for paragraph in paragraphs)
 
@@ -139,14 +138,7 @@ def count_lines(path):
     return path.read_bytes().count(b"\n") if path.exists() else 0
 
 
-def readme_names_the_kit(room):
-    """The kit whose logic is trusted is the one that proves."""
-    kit, logic = re.fullmatch(r"(\S+) logic (\S+)\n", subprocess.run(["rt", "version"], capture_output=True, text=True, check=True).stdout).groups()
-    return f"kit `{kit}`, logic `{logic}`" in (room.root / "README.md").read_text()
-
-
 TESTS = (
     examples_give_their_lines, every_example_is_told, format_has_the_table, explains_every_example, explains_an_accepted_file, explains_what_is_read_once,
     quotes_no_control_bytes, quotes_a_long_line_in_part, names_many_missing_forms_in_part, readme_has_the_help, manual_has_the_help, readme_counts_lines,
-    readme_names_the_kit,
 )
