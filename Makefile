@@ -1,0 +1,45 @@
+# What README tells, by name. `make` and `make lib` need the kit (`rt`); `make install` takes what is built, and builds only what is missing.
+#   make            the programs, target/bin/register and convert
+#   make lib        the library, target/staticlib/libkodarfi.a, and target/lib/libkodarfi.so, the shared one
+#   make check      the gate
+#   make install    all of it under DESTDIR/PREFIX; make uninstall takes it away again
+SHELL := /bin/bash
+PREFIX := /usr/local
+DESTDIR :=
+VERSION := $(shell cat VERSION)
+SONAME := libkodarfi.so.$(firstword $(subst ., ,$(VERSION)))
+PROGRAMS := target/bin/register target/bin/convert
+ARCHIVE := target/staticlib/libkodarfi.a
+SHARED := target/lib/libkodarfi.so.$(VERSION)
+
+.PHONY: programs lib check install uninstall
+.DELETE_ON_ERROR:
+
+programs:
+	rt check $(notdir $(PROGRAMS))
+	@here=$(CURDIR) && . scripts/door.sh && from=$$(commit) && for program in $(PROGRAMS); do note_version $$program "$$from"; done
+
+lib:
+	rt staticlib kodarfi
+	@$(MAKE) --no-print-directory $(SHARED)
+
+check:
+	bash .ci/run
+
+install: $(PROGRAMS) $(ARCHIVE) $(SHARED)
+	@scripts/install '$(DESTDIR)' '$(PREFIX)'
+
+uninstall:
+	@scripts/install --remove '$(DESTDIR)' '$(PREFIX)'
+
+$(PROGRAMS):
+	@$(MAKE) --no-print-directory programs
+
+$(ARCHIVE):
+	rt staticlib kodarfi
+
+$(SHARED): $(ARCHIVE) VERSION
+	mkdir -p $(@D)
+	cc -shared -Wl,-soname,$(SONAME) -Wl,--whole-archive $(ARCHIVE) -Wl,--no-whole-archive -o $@
+	ln -sf $(@F) $(@D)/$(SONAME)
+	ln -sf $(SONAME) $(@D)/libkodarfi.so
