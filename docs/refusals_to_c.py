@@ -19,7 +19,7 @@ HEAD = """/* The papers' numbers in words, for C and C++: docs/refusals.tsv as d
 #include <stddef.h>
 #include <stdint.h>
 
-/* A row of the table: what a number says, what was expected (of 0: what may be concluded), and what to do. */
+/* A row of the table: what a number says, what was expected (of 0: what may be concluded), and what to do for whoever wrote what is refused. */
 struct kodarfi_words {
     uint32_t number;
     const char *what, *expected, *to_do;
@@ -48,8 +48,7 @@ def literal(cell):
 
 def header():
     lines = [line.split("\t") for line in TABLE.read_text().splitlines()]
-    columns = [lines[0].index(name) for name in ("Number", "Case", "Expected", "What to do")]
-    rows = [[line[column] for column in columns] for line in lines[1:]]
+    rows = [line[:4] for line in lines[1:]]
     return HEAD + "".join(f"        {{{number}, {literal(what)},\n         {literal(expected)},\n         {literal(to_do)}}},\n" for number, what, expected, to_do in rows) + FOOT
 
 

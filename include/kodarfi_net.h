@@ -232,7 +232,7 @@ static inline uint32_t kodarfi_file_convert(const uint8_t *file, size_t file_len
 #define KODARFI_WRITE_(so_far, text, text_len, ...) \
     ((so_far) + (size_t)snprintf((so_far) < (text_len) ? (text) + (so_far) : NULL, (so_far) < (text_len) ? (text_len) - (so_far) : 0, __VA_ARGS__))
 
-/* A refusal in the plain words of docs/refusals.tsv: three lines, what and where, what was expected, what to do; of 0, what may be concluded.
+/* A refusal in the plain words of docs/refusals.tsv: three lines, what and where, what was expected, what whoever wrote it may do; of 0, what may be concluded.
  *
  * Writes at most text_len bytes, the last of them 0, as snprintf does, and gives how many bytes the whole text has without the 0; 2,048 bytes are enough.
  * Text of the table alone: kodarfi_words(number). */
@@ -251,7 +251,7 @@ static inline size_t kodarfi_text(const struct kodarfi_refusal *refusal, char *t
     if (refusal->number == KODARFI_INVERSE_RESIDUAL) length = KODARFI_WRITE_(length, text, text_len, ", column %" PRIu64 ", row %" PRIu64, places[0], places[1]);
     if (refusal->number == KODARFI_MISSING) length = KODARFI_WRITE_(length, text, text_len, ", %" PRIu64 " missing", places[0]);
     if (!words) return KODARFI_WRITE_(length, text, text_len, "\n");
-    return KODARFI_WRITE_(length, text, text_len, ": %s\n  expected: %s\n  to do: %s\n", words->what, words->expected, words->to_do);
+    return KODARFI_WRITE_(length, text, text_len, ": %s\n  expected: %s\n  for whoever wrote it: %s\n", words->what, words->expected, words->to_do);
 }
 
 #undef KODARFI_COLUMN_

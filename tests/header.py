@@ -111,7 +111,7 @@ def are_words(printed):
     texts = dict(line.split("\t")[1:] for line in printed.splitlines() if line.startswith("text\t"))
     where = {"2": ", line 17", "5": ", row 3", "6": ", the second of the two, row 4", "7": ", the first of the two, column 5, row 6", "8": "", "13": ", 9 missing", "16": "", "20": "",
              "3": ", the second of the two"}
-    expected = {number: f"refused with {number}{place}: {table[number][0]}\\n  expected: {table[number][1]}\\n  to do: {table[number][2]}\\n" for number, place in where.items()}
+    expected = {number: f"refused with {number}{place}: {table[number][0]}\\n  expected: {table[number][1]}\\n  for whoever wrote it: {table[number][2]}\\n" for number, place in where.items()}
     expected |= {"0": f"{table['0'][0]}\\n  concluded: {table['0'][1]}\\n  to do: {table['0'][2]}\\n", "999": "refused with 999\\n"}
     return rows == [[number, *table[number]] for number in table] and texts == expected
 

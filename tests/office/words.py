@@ -7,20 +7,73 @@ from office.room import ROOT
 
 EXAMPLE = re.compile(r"`([^`]+)`: `([^`]+)`")
 
-# For each example: what --explain quotes of it.
-QUOTED = {
-    "1-long-row-twice": "line 3 is \"(row 1 (1000000 ", "2-two-spaces": "line 5 is \"(right 1  5)\"", "2-leading-zero": "line 5 is \"(right 1 05)\"",
-    "2-minus-zero": "line 5 is \"(right 1 -0)\"", "2-empty-list": "line 3 is \"(row 1 ())\"", "2-row-twice": "line 3 is \"(row 1 (4 -1))(row 1 (4 -1))\"",
-    "2-right-list-of-three": "line 5 is \"(right 1 (5 3 1))\"", "3-large-tolerance": "line 5 is \"(right 1 (5 1048577))\"",
-    "6-tolerance-for-fine-steps": "equation 1 is \"(row 1 (1))\" and \"(right 1 (0 33))\"", "12-tolerance-added": "line 7 is \"(right 1 (5 1))\"",
-    "2-empty-line": "line 3 is \"\"", "2-carriage-returns": "line 1 is \"(problem 2)^M\"", "3-weight-of-0": "line 11 is \"(weight 1 0)\"",
-    "3-place-above-n": "line 6 is \"(right 3 1)\"", "3-more-than-32-marks": "line 1 is \"(problem 33)\"", "4-short-row": "line 3 is \"(row 1 (4))\"",
-    "5-inverse-of-0": "row 1 of the inverse is \"(inverse 1 (0))\"", "5-coarse-steps": "row 1 of the inverse is \"(inverse 1 (0))\"",
-    "6-poor-guess": "equation 1 is \"(row 1 (4 -1))\" and \"(right 1 5)\"",
-    "7-poor-inverse": "column 2 of the inverse does not fit equation 1, which is \"(row 1 (4 -1))\"",
-    "11-row-before-scale": "line 2 is \"(row 1 (4 -1))\"", "12-right-side-twice": "line 6 is \"(right 1 5)\"", "12-damaged-copy": "line 5 is \"(row 1 (4))\"", "13-two-missing": "guess 2, inverse 1 are missing",
-    "14-line-after-end": "line 14 is \"\"", "15-no-end": "the last line is \"(weight 2 1)\"", "15-empty-file": "the file is empty",
+# For each example: what --explain quotes of it, and the fault that it names, where there is one.
+TOLD = {
+    "1-long-row-twice": ("line 3 is \"(row 1 (1000000 ", "it has 338 bytes\n"),
+    "2-two-spaces": ("line 5 is \"(right 1  5)\"", "two spaces stand at character 9, where one belongs"),
+    "2-leading-zero": ("line 5 is \"(right 1 05)\"", "the number 05 has a leading zero"),
+    "2-minus-zero": ("line 5 is \"(right 1 -0)\"", "-0 is no number"),
+    "2-empty-list": ("line 3 is \"(row 1 ())\"", "its list is empty"),
+    "2-row-twice": ("line 3 is \"(row 1 (4 -1))(row 1 (4 -1))\"", "a second form stands after the first, at character 15"),
+    "2-right-list-of-three": ("line 5 is \"(right 1 (5 3 1))\"", "its list has 3 numbers, and there should be 2, b and its tolerance d"),
+    "2-empty-line": ("line 3 is \"\"", "it is empty"),
+    "2-carriage-returns": ("line 1 is \"(problem 2)\"", "it ends with a carriage return"),
+    "2-byte-order-mark": ("line 1 is \"(problem 2)\"", "it begins with a byte order mark"),
+    "2-unicode-minus": ("line 3 is \"(row 1 (4 ?1))\"", "a minus sign or dash that is not the - of ASCII stands at character 11"),
+    "2-decimals": ("line 5 is \"(right 1 5.0)\"", "a number with a decimal point stands at character 10"),
+    "2-commas": ("line 3 is \"(row 1 (4,-1))\"", "a comma stands at character 10"),
+    "2-tab": ("line 5 is \"(right 1?5)\"", "a tab stands at character 9"),
+    "2-trailing-space": ("line 2 is \"(scale 4 4) \"", "a space stands after its last bracket"),
+    "2-capitals": ("line 4 is \"(Row 2 (-1 3))\"", "the word Row has capital letters"),
+    "3-weight-of-0": ("line 11 is \"(weight 1 0)\"", "the weight w is 0\n  expected: w: 1 to 1,024\n"),
+    "3-place-above-n": ("line 6 is \"(right 3 1)\"", "the place i is 3\n  expected: i: 1 to n, and n is 2\n"),
+    "3-more-than-32-marks": ("line 1 is \"(problem 33)\"", "the number of marks n is 33\n  expected: n: 1 to 32\n"),
+    "3-large-tolerance": ("line 5 is \"(right 1 (5 1048577))\"", "the tolerance d is 1048577\n  expected: d: 0 to 1,048,576\n"),
+    "3-large-number-in-a-row": ("line 3 is \"(row 1 (4 -1048577))\"", "number 2 of the row is -1048577\n  expected: a: -1,048,576 to 1,048,576\n"),
+    "4-short-row": ("line 3 is \"(row 1 (4))\"", "its list has 1 number, and there should be 2"),
+    "4-long-inverse": ("line 10 is \"(inverse 2 (1 6 0))\"", "its list has 3 numbers, and there should be 2"),
+    "5-inverse-of-0": ("row 1 of the inverse is \"(inverse 1 (0))\"", ""), "5-coarse-steps": ("row 1 of the inverse is \"(inverse 1 (0))\"", ""),
+    "5-rows-exchanged": ("row 1 of the inverse is \"(inverse 1 (4 1))\"", ""),
+    "6-poor-guess": ("equation 1 is \"(row 1 (4 -1))\" and \"(right 1 5)\"", ""), "6-wrong-sign": ("equation 1 is \"(row 1 (4 -1))\" and \"(right 1 -5)\"", ""),
+    "6-tolerance-for-fine-steps": ("equation 1 is \"(row 1 (1))\" and \"(right 1 (0 33))\"", ""),
+    "7-poor-inverse": ("column 2 of the inverse does not fit equation 1, which is \"(row 1 (4 -1))\"", ""),
+    "11-row-before-scale": ("line 2 is \"(row 1 (4 -1))\"", "no scale stands before it"),
+    "12-right-side-twice": ("line 6 is \"(right 1 5)\"", "line 5 gave it first, as \"(right 1 5)\", and the two are the same"),
+    "12-damaged-copy": ("line 5 is \"(row 1 (4))\"", "line 3 gave it first, as \"(row 1 (4 -1))\", and the two differ"),
+    "12-tolerance-added": ("line 7 is \"(right 1 (5 1))\"", "line 5 gave it first, as \"(right 1 5)\", and the two differ"),
+    "13-two-missing": ("guess 2, inverse 1 are missing", ""), "14-line-after-end": ("line 14 is \"\"", "the end is line 13"),
+    "15-no-end": ("the last line is \"(weight 2 1)\"", ""), "15-empty-file": ("the file is empty", ""),
 }
+
+# For each line after problem and scale: the number, the fault and what was expected.
+FAULTS = {
+    b"(height 1 2)": (2, '"height" is none of the words', "a form, as docs/FORMAT.md has them"),
+    b"(row 1 4 -1)": (2, "its numbers after i do not stand in brackets of their own", "(row i (a .. a))"),
+    b"(row (4 -1))": (2, "before its list stand 0 numbers, and there should be 1, i", "(row i (a .. a))"),
+    b"(right (5 0))": (2, "before its list stand 0 numbers, and there should be 1, i", "(right i b) or (right i (b d))"),
+    b"(right 1 (5 0) 1)": (2, "more stands after its list, at character 15", "(right i b) or (right i (b d))"),
+    b"(right 1)": (2, "it has 1 number, and there should be 2", "(right i b) or (right i (b d))"),
+    b"(weight 1 (1))": (2, "it has a list, and its form has none", "(weight i w)"),
+    b"(end 1)": (2, "it has 1 number, and there should be 0", "(end)"),
+    b"(guess 1 +5)": (2, "the number +5 has a plus sign", "(guess i X)"),
+    b"(guess 1 5e3)": (2, '"5e3" is no whole number', "(guess i X)"),
+    b"(guess 1 5": (2, "a closing bracket is missing", "(guess i X)"),
+    b"guess 1 5": (2, "it does not begin with an opening round bracket", "(guess i X)"),
+    b" (guess 1 5)": (2, "a space stands before its first bracket", "(guess i X)"),
+    b"(row 1 ( 4 -1))": (2, "a space is missing, or one too many, beside the bracket at character 8", "(row i (a .. a))"),
+    b"(guess 1 5) ; north": (2, "more stands after its last bracket, at character 12", "(guess i X)"),
+    b"(guess\xc2\xa01 5)": (2, "a space that is not the one of ASCII stands at character 7", "(guess i X)"),
+    b"(guess 1 5)\x00": (2, "a control byte of value 0 stands at character 12", "(guess i X)"),
+    b"(guess 1 " + b"9" * 60 + b")": (3, "the guess X is " + "9" * 40 + "..", "X: -2^36 to 2^36"),
+    b"(guess 1 -68719476737)": (3, "the guess X is -68719476737", "X: -2^36 to 2^36"),
+    b"(right 1 1073741825)": (3, "the right side b is 1073741825", "b: -2^30 to 2^30"),
+    b"(inverse 0 (1 2))": (3, "the place i is 0", "i: 1 to n, and n is 2"),
+    b"(inverse 1 (1 -1048577 3))": (3, "number 2 of the row of the inverse is -1048577", "g: -1,048,576 to 1,048,576"),
+    b"(scale 0 0)": (12, 'line 2 gave it first, as "(scale 4 4)", and the two differ', "problem and scale once, and each i once of each kind"),
+    b"(right 2 7)\n(right 2 (7 0))": (12, 'line 3 gave it first, as "(right 2 7)", and the two have the same numbers', "problem and scale once, and each i once of each kind"),
+}
+
+CLERKS_PART = "enter nothing, change nothing in the file, and send it"
 
 
 def table(room):
@@ -66,19 +119,50 @@ def explained(room, path):
     number = re.match(rb"\(refused (\d+)", out)
     row = table(room)[number.group(1).decode() if number else "0"]
     words = err.decode()
-    has_row = all(cell.replace("`", "") in words for cell in row[1:4])
-    return words if (status, out) == plain[:2] and plain[2] == b"" and has_row and str(path) in words else ""
+    cells = row[1:2] + row[3:4] if row[0] in ("2", "3") else row[1:4] # of a line that is no form, and of a number, just what was expected of it
+    has_row = all(cell.replace("`", "") in words for cell in cells)
+    to_whom = row[0] == "0" or f"to do: {CLERKS_PART} with these lines to whoever wrote it\n  for whoever wrote it: {row[3].replace('`', '')}\n" in words
+    return words if (status, out) == plain[:2] and plain[2] == b"" and has_row and to_whom and str(path) in words else ""
 
 
 def explains_every_example(room):
-    """The line is quoted, and what was expected and what to do are told."""
+    """The line is quoted and its fault named, and what was expected and what to do are told, to the clerk and to whoever wrote the file."""
     told = {path.stem: explained(room, path) for number, path, _ in examples(room) if number != "0"}
-    return told.keys() == QUOTED.keys() and all(f"found: {quoted}" in told[name] for name, quoted in QUOTED.items())
+    quoted = all(f"found: {line}" in told[name] and (f"  fault: {fault}" in told[name] if fault else "fault:" not in told[name]) for name, (line, fault) in TOLD.items())
+    return told.keys() == TOLD.keys() and quoted
+
+
+def names_the_very_fault(room):
+    """Of lines that are wrong in other ways; and what was expected of that line, and nothing else."""
+    for line, (number, fault, expected) in FAULTS.items():
+        _, out, err = room.run("--explain", text=b"(problem 2)\n(scale 4 4)\n" + line + b"\n")
+        if not out.startswith(f"(refused {number} (".encode()) or f"  fault: {fault}".encode() not in err or f"  expected: {expected}\n".encode() not in err:
+            print(line, err)
+            return False
+    return True
+
+
+def field_comes_first(room):
+    """With 5, 6 and 7, which a damaged equation can give."""
+    return all(table(room)[number][3].startswith("first compare rows and right sides with the field") for number in "567")
+
+
+def clerk_is_told_the_same(room):
+    """CLERK says of a refused file what --explain says, and of a file without tolerances; it begins with what is entered."""
+    text = (room.root / "docs/CLERK.md").read_text()
+    note = "the limits are about solving these equations alone, and not about the measuring"
+    heading, first = text.split("\n\n")[:2]
+    entered = first.startswith("**What is entered** are the entry lines") and "fixed mark" in first and "names or units" in first and heading.startswith("# ")
+    return entered and CLERKS_PART in text and note in text and note in (room.root / "docs/FORMAT.md").read_text()
 
 
 def explains_an_accepted_file(room):
-    words = explained(room, room.root / WHOLE)
-    return "is accepted" in words and "concluded: every exact height" in words and "expected:" not in words
+    """With a tolerance and without, or with tolerances of 0, which is said."""
+    words, tolerant = explained(room, room.root / WHOLE), explained(room, room.root / "examples/tolerance.txt")
+    zero = room.write("zero.txt", (room.root / WHOLE).read_bytes().replace(b"(right 1 5)", b"(right 1 (5 0))"))
+    note = "the file gives no tolerance, so the limits are about solving these equations alone, and not about the measuring"
+    told = [note in text for text in (words, tolerant, explained(room, zero))] == [True, False, True]
+    return told and all("is accepted" in text and "concluded: every exact height" in text and "expected:" not in text for text in (words, tolerant))
 
 
 def explains_what_is_read_once(room):
@@ -91,7 +175,7 @@ def explains_what_is_read_once(room):
 
 def quotes_no_control_bytes(room):
     _, out, err = room.run("--explain", text=b"(problem 2)\n\x1b[31m\x00\t\xff(end)\n")
-    return out == b"(refused 2 (2))\n" and b'line 2 is "^[[31m^@^IM-^?(end)"\n' in err
+    return out == b"(refused 2 (2))\n" and b'line 2 is "?[31m???(end)"\n' in err
 
 
 def quotes_a_long_line_in_part(room):
@@ -139,6 +223,6 @@ def count_lines(path):
 
 
 TESTS = (
-    examples_give_their_lines, every_example_is_told, format_has_the_table, explains_every_example, explains_an_accepted_file, explains_what_is_read_once,
+    examples_give_their_lines, every_example_is_told, format_has_the_table, explains_every_example, names_the_very_fault, field_comes_first, clerk_is_told_the_same, explains_an_accepted_file, explains_what_is_read_once,
     quotes_no_control_bytes, quotes_a_long_line_in_part, names_many_missing_forms_in_part, readme_has_the_help, manual_has_the_help, readme_counts_lines,
 )
