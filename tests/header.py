@@ -254,6 +254,20 @@ def python_results(workshop):
     yield "no lists from Python", build(2, None, 0, None, 0, None, 0) == 8
 
 
+def example_results(workshop):
+    """examples/net.c prints its heights, and where a line has another's key, says so in words."""
+    source = (ROOT / "examples" / "net.c").read_text()
+    damaged = source.replace("{3, 0, 2, 829, 1}}", "{3, 0, 2, 830, 1}}")
+    expected = (0, "mark 1 lies between 1202.799 and 1206.801 mm\nmark 2 lies between 826.199 and 830.201 mm\n", ""), (1, "", "refused with 17")
+    for name, text, (status, out, err) in ("examples/net.c", source, expected[0]), ("examples/net.c with a damaged line", damaged, expected[1]):
+        path = workshop.folder / "example.c"
+        path.write_text(text)
+        command = ["cc", "-std=c99", *STRICT, f"-I{INCLUDE}", str(path), workshop.library, "-o", str(workshop.folder / "example")]
+        compiled = subprocess.run(command, timeout=PATIENCE).returncode == 0
+        done = compiled and subprocess.run([str(workshop.folder / "example")], capture_output=True, text=True, timeout=PATIENCE)
+        yield name, done and (done.returncode, done.stdout, done.stderr[: len(err) or None]) == (status, out, err)
+
+
 def text_results():
     """What can be read off the header alone."""
     version = (ROOT / "VERSION").read_text()
@@ -288,6 +302,7 @@ def results(workshop):
         yield f"{name}: {passed} tests", failed == 0
     yield from text_results()
     yield from python_results(workshop)
+    yield from example_results(workshop)
     for name, (program, file, old, new) in {**WRONG_HEADERS, **dict(off_by_one())}.items():
         yield f"wrong header '{name}' is told by {program}", workshop.tells(program, workshop.edited(file, old, new))
     for name, wrong in WRONG_CALLS.items():
