@@ -4,39 +4,42 @@
 #   make check      the gate
 #   make install    all of it under DESTDIR/PREFIX; make uninstall takes it away again
 SHELL := /bin/bash
-PREFIX := /usr/local
-DESTDIR :=
+PREFIX ?= /usr/local
+DESTDIR ?=
+export PREFIX DESTDIR
 VERSION := $(shell cat VERSION)
 SONAME := libkodarfi.so.$(firstword $(subst ., ,$(VERSION)))
 PROGRAMS := target/bin/register target/bin/convert
 ARCHIVE := target/staticlib/libkodarfi.a
 SHARED := target/lib/libkodarfi.so.$(VERSION)
+# rt with a temporary folder in memory, where there is room for one
+RT := here=$$(pwd); . scripts/door.sh; memory=$$(memory_folder 1); trap 'rm -rf "$$memory"' EXIT; from=$$(commit); TMPDIR=$${memory:-$${TMPDIR:-/tmp}} rt
 
 .PHONY: programs lib check install uninstall
 .DELETE_ON_ERROR:
+.NOTPARALLEL:
 
 programs:
-	rt check $(notdir $(PROGRAMS))
-	@here=$(CURDIR) && . scripts/door.sh && from=$$(commit) && for program in $(PROGRAMS); do note_version $$program "$$from"; done
+	@$(RT) check $(notdir $(PROGRAMS)) && for program in $(PROGRAMS); do note_version $$program "$$from"; done
 
 lib:
-	rt staticlib kodarfi
+	@$(RT) staticlib kodarfi
 	@$(MAKE) --no-print-directory $(SHARED)
 
 check:
 	bash .ci/run
 
 install: $(PROGRAMS) $(ARCHIVE) $(SHARED)
-	@scripts/install '$(DESTDIR)' '$(PREFIX)'
+	@scripts/install "$$DESTDIR" "$$PREFIX"
 
 uninstall:
-	@scripts/install --remove '$(DESTDIR)' '$(PREFIX)'
+	@scripts/install --remove "$$DESTDIR" "$$PREFIX"
 
 $(PROGRAMS):
 	@$(MAKE) --no-print-directory programs
 
 $(ARCHIVE):
-	rt staticlib kodarfi
+	@$(RT) staticlib kodarfi
 
 $(SHARED): $(ARCHIVE) VERSION
 	mkdir -p $(@D)

@@ -37,7 +37,7 @@ class Checkout:
         self.outside = tempfile.TemporaryDirectory()
         self.folder = Path(self.outside.name)
         self.folder.chmod(0o755)
-        self.root = self.folder / "checkout"
+        self.root = self.folder / "the checkout"
         self.prefix = self.folder / "prefix"
         for part in PARTS:
             (self.root / part).parent.mkdir(parents=True, exist_ok=True)
@@ -72,7 +72,7 @@ class Checkout:
         return done.returncode, done.stdout, done.stderr
 
     def make(self, *words, rt=True, **options):
-        return self.run("make", "-C", self.root, *words, path=str(self.folder / "tools") if rt else "", **options)
+        return self.run("make", "--no-print-directory", "-C", self.root, *words, path=str(self.folder / "tools") if rt else "", **options)
 
     def install(self, *words):
         return self.make("install", *(words or (f"PREFIX={self.prefix}",)), rt=False)[0] == 0
