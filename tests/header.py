@@ -116,17 +116,55 @@ def are_words(printed):
     return rows == [[number, *table[number]] for number in table] and texts == expected
 
 
+def prototypes():
+    """The calls of the header: result, name, and each parameter by type and name."""
+    text = re.sub(r"/\*.*?\*/", "", (INCLUDE / "kodarfi.h").read_text(), flags=re.S)
+    for result, name, parameters in re.findall(r"^(uint32_t|void) (kodarfi_\w+)\(([^)]*)\);", text, re.M):
+        split = [re.fullmatch(r"(.*?[ *])(\w+)(\[\d+\])?", " ".join(parameter.split())) for parameter in parameters.split(",")]
+        yield result, name, [((parts[1] + ("*" if parts[3] else "")).replace(" ", ""), parts[2]) for parts in split]
+
+
+def argument(kind, name, index):
+    """What a call is handed for a parameter, in header/stack.c's words: by its name where it is read, else a place of its own to write to."""
+    base, which = name.rstrip("12"), "other" if name.endswith("2") else "net"
+    if name.endswith("_len"):
+        lengths = {"matrix": 1024, "inverse": 1024, "inverse_bounds": 1024, "coupling": 1024, "half": 528, "observations": 256, "file": "file_len", "line": "line_len", "out": "sizeof out"}
+        return str(lengths.get(name[:-4].rstrip("12"), 32))
+    if kind == "uint32_t" and base in ("n", "s", "t") or kind == "constint64_t*" and base in ("matrix", "right", "tolerance", "guess", "inverse", "weights"):
+        return f"{which}.{base}"
+    read = {"constint64_t*half": "half", "constint64_t*coupling": "coupling", "constuint64_t*bounds": "read_bounds", "constdouble*values": "values", "constuint8_t*file": "file",
+            "conststructkodarfi_observation*observations": "lines", "constuint8_t*line": "line", "constuint32_t*loader": "ended_loader()", "uint32_t*loader": "begun_loader()",
+            "uint32_tallowance": "64", "int64_tguess": "24", "uint64_tbound": "10", "uint64_t*places": "places"}
+    written = {"int64_t*": f"numbers[{index}]", "uint64_t*": f"bounds[{index}]", "double*": f"doubles[{index}]", "uint8_t*": "out", "size_t*": "&written", "uint32_t*": f"&words[{index}]"}
+    return read.get(kind + name) or written[kind]
+
+
+def write_calls(path):
+    """CALLS for header/stack.c."""
+    runs, rows = [], []
+    for result, name, parameters in prototypes():
+        arguments, counts = [], {}
+        for kind, parameter in parameters:
+            arguments.append(argument(kind, parameter, counts.get(kind, 0)))
+            counts[kind] = counts.get(kind, 0) + 1
+        called = f"{name}({', '.join(arguments)});"
+        runs.append(f"static void run_{name}(void) {{ number = {called} }}\n" if result == "uint32_t" else f"static void run_{name}(void) {{ {called} number = 0; }}\n")
+        rows.append(f'    {{"{name}", run_{name}}},\n')
+    path.write_text("".join(runs) + "\nstatic const struct call {\n    const char *name;\n    void (*run)(void);\n} CALLS[] = {\n" + "".join(rows) + "};\n")
+
+
 class Workshop:
     """A temporary folder with the programs, and headers to edit."""
 
     def __init__(self, library, folder):
         self.library, self.folder = str(library), Path(folder)
+        write_calls(self.folder / "calls.h")
 
     def build(self, name, include=INCLUDE, extra=(), warnings=STRICT):
         """The path of a program, None where it does not compile."""
         source, standard, _ = PROGRAMS[name]
         path = self.folder / f"program-{name}"
-        command = [STANDARDS[standard], f"-std={standard}", *warnings, f"-I{include}", f"-I{HERE}", str(HERE / source), *extra, self.library, "-o", str(path)]
+        command = [STANDARDS[standard], f"-std={standard}", *warnings, f"-I{include}", f"-I{HERE}", f"-I{self.folder}", str(HERE / source), *extra, self.library, "-o", str(path)]
         done = subprocess.run(command, capture_output=True, text=True, timeout=PATIENCE)
         if done.returncode:
             print(done.stderr[:2000])
@@ -274,10 +312,8 @@ def text_results():
     yield "the version is three numbers", re.fullmatch(r"\d+\.\d+\.\d+\n", version)
     yield "the header has the version", f'#define KODARFI_VERSION "{version.strip()}"\n' in (INCLUDE / "kodarfi.h").read_text()
     yield "the newest version of CHANGELOG.md", re.search(r"(?m)^## (\S+)$", (ROOT / "CHANGELOG.md").read_text())[1] == version.strip()
-    header, stack = (INCLUDE / "kodarfi.h").read_text(), (HERE / "stack.c").read_text()
-    calls = re.findall(r"^(?:uint32_t|void) (kodarfi_\w+)\(", header, re.M)
-    measured = re.findall(r'\{"(kodarfi_\w+)", ', stack)
-    yield "every call is measured by header/stack.c", sorted(calls) == sorted(measured)
+    header = (INCLUDE / "kodarfi.h").read_text()
+    yield "every call's parameters are read", len(list(prototypes())) == len(re.findall(r"(?m)^\w+ kodarfi_\w+\(", header)) > 0
     made = subprocess.run([sys.executable, str(ROOT / "docs" / "refusals_to_c.py")], capture_output=True, text=True, timeout=PATIENCE)
     yield "kodarfi_text.h is made from docs/refusals.tsv", made.returncode == 0 and made.stdout == (INCLUDE / "kodarfi_text.h").read_text()
     numbers = {int(line.split("\t")[0]) for line in (ROOT / "docs" / "refusals.tsv").read_text().splitlines()[1:]}

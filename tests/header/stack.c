@@ -38,65 +38,32 @@ static size_t stack_of(void (*call)(void)) {
     return (size_t)(begin - (room + lowest));
 }
 
+/* What the calls are handed; header.py writes CALLS, every call of the header with these by the names of its parameters. */
 static struct lists net, other;
-static uint64_t solution_bounds[32], inverse_bounds[1024], other_solution_bounds[32], other_inverse_bounds[1024], places[2];
-static int64_t coupling[1024], half[528], matrix[1024], right[32], weights[32], low[32], high[32], value;
-static double values[32], low_ends[32], high_ends[32];
+static int64_t coupling[1024], half[528], numbers[16][1024];
+static uint64_t bounds[16][1024], read_bounds[1024], places[2];
+static double values[32], doubles[16][32];
 static struct kodarfi_observation lines[256];
-static uint8_t file[65536], out[65536];
-static size_t file_len, written;
-static uint64_t value_bound;
-static uint32_t number, which;
+static uint8_t file[65536], out[65536], line[512];
+static size_t file_len, line_len, written;
+static uint32_t number, words[16];
 
-static void check(void) {
-    number = kodarfi_check(net.n, net.s, net.t, net.matrix, 1024, net.right, 32, net.tolerance, 32, net.guess, 32, net.inverse, 1024, net.weights, 32,
-                           solution_bounds, 32, inverse_bounds, 1024, places);
+/* A loader that was given problem and scale, and one that was given all. */
+static inline uint32_t *begun_loader(void) {
+    static uint32_t loader[9];
+    const uint32_t numbers_of[9] = {2, net.n, net.s, net.t, 0, 0, 0, 0, 0};
+    memcpy(loader, numbers_of, sizeof loader);
+    return loader;
 }
 
-static void check_half(void) {
-    number = kodarfi_check_half(net.n, net.s, net.t, half, 528, net.right, 32, net.tolerance, 32, net.guess, 32, net.inverse, 1024, net.weights, 32,
-                                solution_bounds, 32, inverse_bounds, 1024, places);
+static inline const uint32_t *ended_loader(void) {
+    static uint32_t loader[9];
+    const uint32_t numbers_of[9] = {3, net.n, net.s, net.t, UINT32_MAX, UINT32_MAX, UINT32_MAX, UINT32_MAX, UINT32_MAX};
+    memcpy(loader, numbers_of, sizeof loader);
+    return loader;
 }
 
-static void listing(void) { number = kodarfi_listing(file, file_len, out, &written, places); }
-
-static void entry(void) { number = kodarfi_entry(24, 10, 4, &value, &value_bound, places); }
-
-static void find_weights(void) {
-    number = kodarfi_find_weights(net.n, net.t, net.matrix, 1024, net.inverse, 1024, 64, weights, 32, &which, places);
-}
-
-static void build(void) { number = kodarfi_build(32, lines, 256, matrix, 1024, right, 32); }
-
-static void build_half(void) { number = kodarfi_build_half(32, lines, 256, matrix, 1024, right, 32); }
-
-static void guesses(void) { number = kodarfi_guesses(32, 20, values, 32, low, 32, places); }
-
-static void intervals(void) { number = kodarfi_intervals(32, 20, net.guess, 32, solution_bounds, 32, low_ends, 32, high_ends, 32, places); }
-
-static void check_dependent(void) {
-    number = kodarfi_check_dependent(net.n, net.s, net.t, net.matrix, 1024, net.right, 32, net.tolerance, 32, net.guess, 32, net.inverse, 1024, net.weights, 32,
-                                     solution_bounds, 32, inverse_bounds, 1024, other.n, other.s, other.t, other.matrix, 1024, coupling, 1024, other.right, 32,
-                                     other.tolerance, 32, other.guess, 32, other.inverse, 1024, other.weights, 32, other_solution_bounds, 32,
-                                     other_inverse_bounds, 1024, &which, places);
-}
-
-static void common(void) {
-    number = kodarfi_common(net.n, net.s, net.t, net.matrix, 1024, net.right, 32, net.tolerance, 32, net.guess, 32, net.inverse, 1024, net.weights, 32, other.n,
-                            other.s, other.t, other.matrix, 1024, other.right, 32, other.tolerance, 32, other.guess, 32, other.inverse, 1024, other.weights, 32,
-                            low, 32, high, 32, &which, places);
-}
-
-static void convert(void) { number = kodarfi_convert(file, file_len, out, sizeof out, &written, places); }
-
-static const struct call {
-    const char *name;
-    void (*run)(void);
-} CALLS[] = {
-    {"kodarfi_check", check}, {"kodarfi_check_half", check_half}, {"kodarfi_listing", listing}, {"kodarfi_entry", entry},
-    {"kodarfi_find_weights", find_weights}, {"kodarfi_build", build}, {"kodarfi_build_half", build_half}, {"kodarfi_guesses", guesses},
-    {"kodarfi_intervals", intervals}, {"kodarfi_check_dependent", check_dependent}, {"kodarfi_common", common}, {"kodarfi_convert", convert},
-};
+#include "calls.h"
 
 /* The measure itself is tried on two functions that fill their own bytes. */
 static void fill_all_but_a_page(void) {
@@ -115,7 +82,9 @@ static void test_measure(void) {
     test("what takes more than the most is told", more > KODARFI_STACK_MAX && more <= KODARFI_STACK_MAX + 4096);
 }
 
-static size_t most[sizeof CALLS / sizeof *CALLS];
+enum { COUNT = sizeof CALLS / sizeof *CALLS };
+
+static size_t most[COUNT];
 
 static void measure(unsigned k) {
     const size_t bytes = stack_of(CALLS[k].run);
@@ -124,9 +93,9 @@ static void measure(unsigned k) {
 
 /* Measures every call where nothing is refused, so that it goes all the way; a half wants a symmetric inverse, and a conversion no tolerance. */
 static void measure_accepted(bool is_symmetric, bool is_exact) {
-    for (unsigned k = 0; k < sizeof CALLS / sizeof *CALLS; k++) {
+    for (unsigned k = 0; k < COUNT; k++) {
         measure(k);
-        const bool is_refused = (CALLS[k].run == check_half && !is_symmetric) || (CALLS[k].run == convert && !is_exact);
+        const bool is_refused = (!is_symmetric && strcmp(CALLS[k].name, "kodarfi_check_half") == 0) || (!is_exact && strstr(CALLS[k].name, "convert"));
         test(CALLS[k].name, is_refused || number == 0);
     }
 }
@@ -149,6 +118,7 @@ int main(void) {
         make_large(&other, shape, way & 2 ? 1 : 0, way & 4 ? 1 : 0);
         for (uint32_t i = 0; i < 32; i++) half[i * (i + 1) / 2 + i] = coupling[i * 32 + 31 - i] = 1;
         file_len = write_file(file, &net);
+        line_len = (size_t)(write_list((char *)line, "inverse", 0, net.inverse, net.n) - (char *)line) - 1;
         measure_accepted(shape == DIAGONAL, !(way & 4));
     }
     /* refused as late as can be, and the longest file */
@@ -156,8 +126,8 @@ int main(void) {
     net.inverse[0] = 0;
     values[31] = 1e300;
     lines[255].key = 1;
-    for (unsigned k = 0; k < sizeof CALLS / sizeof *CALLS; k++) measure(k);
-    for (unsigned k = 0; k < sizeof CALLS / sizeof *CALLS; k++) {
+    for (unsigned k = 0; k < COUNT; k++) measure(k);
+    for (unsigned k = 0; k < COUNT; k++) {
         printf("%s takes %zu bytes of stack\n", CALLS[k].name, most[k]);
         test(CALLS[k].name, most[k] > 0 && most[k] <= KODARFI_STACK_MAX);
     }
