@@ -62,6 +62,10 @@ WRONG_HEADERS = {
     "inverse limits for heights": ("net", NET, "KODARFI_COLUMN_(bounds->solution), KODARFI_COLUMN_(ends->low)", "KODARFI_COLUMN_(bounds->inverse), KODARFI_COLUMN_(ends->low)"),
     "the matrix for the inverse of a search": ("net", NET, "KODARFI_MATRIX_(net->inverse), allowance", "KODARFI_MATRIX_(net->matrix), allowance"),
     "an allowance of 64": ("net", NET, "KODARFI_MATRIX_(net->inverse), allowance", "KODARFI_MATRIX_(net->inverse), 64"),
+    "the line before": ("net", NET, "    return refused;\n", "    return good;\n"),
+    "a line where n is refused": ("net", NET, " || n < 1 || n > KODARFI_N_MAX) return 0;", ") return 0;"),
+    "a line where the list is too long": ("net", NET, "if (count > KODARFI_OBSERVATIONS_MAX || n < 1", "if (n < 1"),
+    "no line by halves": ("net", NET, "net->half, KODARFI_HALF_LENGTH, KODARFI_COLUMN_(net->right));\n    if (refusal->number != KODARFI_ACCEPTED)", "net->half, KODARFI_HALF_LENGTH, KODARFI_COLUMN_(net->right));\n    if (0)"),
     "a line less": ("net", NET, "kodarfi_build(net->n, lines, count,", "kodarfi_build(net->n, lines, count ? count - 1 : 0,"),
     "a line left among the places": ("net", NET, "        refusal->places[0] = 0;\n", ""),
     "a line for 13": ("net", NET, "    case KODARFI_AFTER_END:\n", "    case KODARFI_AFTER_END:\n    case KODARFI_MISSING:\n"),
@@ -79,10 +83,12 @@ WRONG_HEADERS = {
 # Wrong calls: the program that must tell it, the call, and what it does in place of the real one.
 BUILD = "uint32_t n, const struct kodarfi_observation *lines, size_t count, int64_t *matrix, size_t matrix_len, int64_t *right, size_t right_len"
 ENTRY = "int64_t guess, uint64_t bound, uint32_t s, int64_t *value, uint64_t *value_bound, uint64_t places[2]"
+GUESSES = "uint32_t n, uint32_t s, const double *values, size_t values_len, int64_t *guess, size_t guess_len, uint64_t places[2]"
 BUILD_REAL, ENTRY_REAL = "n, lines, count, matrix, matrix_len, right, right_len", "guess, bound, s, value, value_bound, places"
 WRONG_CALLS = {
     "the first line is read where there is none": ("header", "kodarfi_build", BUILD, BUILD_REAL, "if (lines[0].key == 0) n = n + 1 - 1;"),
     "no lines are no equations": ("header++", "kodarfi_build", BUILD, BUILD_REAL, "if (!lines) return 8;"),
+    "a null list is read": ("stack", "kodarfi_guesses", GUESSES, "n, s, values, values_len, guess, guess_len, places", "if (values[0] != values[0]) n = n + 1 - 1;"),
     "a call of 120 kilobytes": ("stack", "kodarfi_entry", ENTRY, ENTRY_REAL, "volatile char room[120 * 1024]; for (size_t k = 0; k < sizeof room; k++) room[k] = 1;"),
 }
 
@@ -140,17 +146,21 @@ def argument(kind, name, index):
 
 
 def write_calls(path):
-    """CALLS for header/stack.c."""
-    runs, rows = [], []
+    """CALLS for header/stack.c, every call, and NULLS, the same with each of its lists null and of length 0, and with all of them so."""
+    runs, calls, nulls = [], [], []
     for result, name, parameters in prototypes():
         arguments, counts = [], {}
         for kind, parameter in parameters:
             arguments.append(argument(kind, parameter, counts.get(kind, 0)))
             counts[kind] = counts.get(kind, 0) + 1
-        called = f"{name}({', '.join(arguments)});"
-        runs.append(f"static void run_{name}(void) {{ number = {called} }}\n" if result == "uint32_t" else f"static void run_{name}(void) {{ {called} number = 0; }}\n")
-        rows.append(f'    {{"{name}", run_{name}}},\n')
-    path.write_text("".join(runs) + "\nstatic const struct call {\n    const char *name;\n    void (*run)(void);\n} CALLS[] = {\n" + "".join(rows) + "};\n")
+        lists = [index for index, (_, parameter) in enumerate(parameters) if parameter.endswith("_len")]
+        for empty in [[], *([index] for index in lists), lists] if lists else [[]]:
+            handed = ["NULL" if index + 1 in empty else "0" if index in empty else text for index, text in enumerate(arguments)]
+            run = f"run_{len(runs)}"
+            called = f"{name}({', '.join(handed)});"
+            runs.append(f"static void {run}(void) {{ {'number = ' if result == 'uint32_t' else ''}{called}{'' if result == 'uint32_t' else ' number = 0;'} }}\n")
+            (nulls if empty else calls).append(f'    {{"{name}", {run}}},\n')
+    path.write_text(f"{''.join(runs)}\nstatic const struct call {{\n    const char *name;\n    void (*run)(void);\n}} CALLS[] = {{\n{''.join(calls)}}}, NULLS[] = {{\n{''.join(nulls)}}};\n")
 
 
 class Workshop:
@@ -296,7 +306,7 @@ def example_results(workshop):
     """examples/net.c prints its heights, and where a line has another's key, says so in words."""
     source = (ROOT / "examples" / "net.c").read_text()
     damaged = source.replace("{3, 0, 2, 829, 1}}", "{3, 0, 2, 830, 1}}")
-    expected = (0, "mark 1 lies between 1202.799 and 1206.801 mm\nmark 2 lies between 826.199 and 830.201 mm\n", ""), (1, "", "refused with 17")
+    expected = (0, "mark 1 lies between 1202.799 and 1206.801 mm\nmark 2 lies between 826.199 and 830.201 mm\n", ""), (1, "", "refused with 17, line 4: ")
     for name, text, (status, out, err) in ("examples/net.c", source, expected[0]), ("examples/net.c with a damaged line", damaged, expected[1]):
         path = workshop.folder / "example.c"
         path.write_text(text)

@@ -144,17 +144,32 @@ static void test_pair(const struct kodarfi_net *first, const struct kodarfi_net 
     compare("two proposals", common, kodarfi_net_common(first, second, &given.common, &given.refusal));
 }
 
+/* The first line at which a list is refused, line by line. */
+static uint64_t refused_at(uint32_t n, const struct kodarfi_observation *lines, size_t count) {
+    int64_t matrix[1024], right[32];
+    if (n < 1 || n > 32 || count > 256) return 0;
+    for (size_t k = 1; k <= count; k++) {
+        if (kodarfi_build(n, lines, k, matrix, 1024, right, 32)) return k;
+    }
+    return 0;
+}
+
 static void test_builds(const struct kodarfi_net *net, const struct kodarfi_half_net *half) {
-    struct kodarfi_observation lines[8];
-    const size_t count = chance(8);
+    struct kodarfi_observation lines[300];
+    const size_t count = chance(30) ? chance(20) : 257;
     for (size_t k = 0; k < count; k++) {
-        const struct kodarfi_observation line = {1 + chance(30), chance(2), chance(9) ? 1 + chance(1) : 0, between(-9, 9), 1 + chance(4)};
+        const uint32_t from = chance(1);
+        const struct kodarfi_observation line = {1 + chance(400), from, chance(9) ? 1 - from : 2, between(-9, 9), 1 + chance(4)};
         lines[k] = line;
     }
+    if (count && chance(3) == 0) lines[chance((uint32_t)count - 1)].weight = 0;
+    if (count && chance(3) == 0) lines[chance((uint32_t)count - 1)].from = lines[0].to;
     struct answer *const e = &expected;
     clear(net, half);
+    e->refusal.line = refused_at(net->n, lines, count);
     compare("build", kodarfi_build(net->n, lines, count, e->net.matrix, 1024, e->net.right, 32), kodarfi_net_build(&given.net, lines, count, &given.refusal));
     clear(net, half);
+    e->refusal.line = refused_at(half->n, lines, count);
     compare("build by halves", kodarfi_build_half(half->n, lines, count, e->half.half, 528, e->half.right, 32),
             kodarfi_half_net_build(&given.half, lines, count, &given.refusal));
 }

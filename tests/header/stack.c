@@ -1,4 +1,5 @@
-/* The stack that each call takes, at n = 32: it runs on a stack of its own that is painted, and the lowest byte that has lost its paint tells how deep it came.
+/* The stack that each call takes, at n = 32, and null pointers in each of its lists. For the stack it runs on a stack of its own that is painted, and the lowest
+ * byte that has lost its paint tells how deep it came.
  *
  * The last line is 'N passed, M failed'. */
 #define _GNU_SOURCE
@@ -38,7 +39,7 @@ static size_t stack_of(void (*call)(void)) {
     return (size_t)(begin - (room + lowest));
 }
 
-/* What the calls are handed; header.py writes CALLS, every call of the header with these by the names of its parameters. */
+/* What the calls are handed; header.py writes CALLS and NULLS, every call of the header with these by the names of its parameters. */
 static struct lists net, other;
 static int64_t coupling[1024], half[528], numbers[16][1024];
 static uint64_t bounds[16][1024], read_bounds[1024], places[2];
@@ -127,6 +128,12 @@ int main(void) {
     values[31] = 1e300;
     lines[255].key = 1;
     for (unsigned k = 0; k < COUNT; k++) measure(k);
+    /* a null pointer is harmless where the length after it is 0: each call comes back */
+    for (unsigned k = 0; k < sizeof NULLS / sizeof *NULLS; k++) {
+        number = UINT32_MAX;
+        NULLS[k].run();
+        test(NULLS[k].name, number != UINT32_MAX);
+    }
     for (unsigned k = 0; k < COUNT; k++) {
         printf("%s takes %zu bytes of stack\n", CALLS[k].name, most[k]);
         test(CALLS[k].name, most[k] > 0 && most[k] <= KODARFI_STACK_MAX);
