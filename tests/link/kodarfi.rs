@@ -143,4 +143,31 @@ extern "C" {
         written: *mut usize,
         places: *mut u64,
     ) -> u32;
+
+    pub fn kodarfi_loader_new(loader: *mut u32);
+
+    pub fn kodarfi_loader_take(
+        loader: *mut u32,
+        line: *const u8, line_len: usize,
+        matrix: *mut i64, matrix_len: usize,
+        right: *mut i64, right_len: usize,
+        tolerance: *mut i64, tolerance_len: usize,
+        guess: *mut i64, guess_len: usize,
+        inverse: *mut i64, inverse_len: usize,
+        weights: *mut i64, weights_len: usize,
+        places: *mut u64,
+    ) -> u32;
+
+    pub fn kodarfi_loader_check(
+        loader: *const u32,
+        matrix: *const i64, matrix_len: usize,
+        right: *const i64, right_len: usize,
+        tolerance: *const i64, tolerance_len: usize,
+        guess: *const i64, guess_len: usize,
+        inverse: *const i64, inverse_len: usize,
+        weights: *const i64, weights_len: usize,
+        solution_bounds: *mut u64, solution_bounds_len: usize,
+        inverse_bounds: *mut u64, inverse_bounds_len: usize,
+        places: *mut u64,
+    ) -> u32;
 }

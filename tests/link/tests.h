@@ -41,4 +41,7 @@ void test_common(FILE *pairs);
 /* kodarfi_convert on the conversions of tests/emit_conversions.py. */
 void test_conversions(FILE *conversions);
 
+/* kodarfi_loader_new, kodarfi_loader_take and kodarfi_loader_check on the steps of tests/emit_loader.py. */
+void test_loader(FILE *steps);
+
 #endif

@@ -7,3 +7,6 @@ pub mod Half
 pub mod TwoNets
 pub mod TwoProposals
 pub mod Conversion
+pub mod Loader
+pub mod LoaderRuns
+pub mod LoaderListing
