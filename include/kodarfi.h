@@ -290,6 +290,14 @@ uint32_t kodarfi_convert(const uint8_t *file, size_t file_len,
                          size_t *written,
                          uint64_t places[2]);
 
+/* The same, and *line is the number of the first line of the file that is refused, from 1, 0 where none is: so with 0, 15 and 22. Everything else is as
+ * kodarfi_convert has it. */
+uint32_t kodarfi_convert_line(const uint8_t *file, size_t file_len,
+                              uint8_t *out, size_t out_len,
+                              size_t *written,
+                              uint64_t places[2],
+                              uint64_t *line);
+
 /* The loader (document 01's desk): a file's lines one at a time, as they come.
  *
  * A loader is nine numbers that the caller keeps from call to call, beside the six lists that the lines' numbers go into; they can be copied and sent.

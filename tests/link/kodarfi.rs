@@ -144,6 +144,14 @@ extern "C" {
         places: *mut u64,
     ) -> u32;
 
+    pub fn kodarfi_convert_line(
+        file: *const u8, file_len: usize,
+        out: *mut u8, out_len: usize,
+        written: *mut usize,
+        places: *mut u64,
+        line: *mut u64,
+    ) -> u32;
+
     pub fn kodarfi_loader_new(loader: *mut u32);
 
     pub fn kodarfi_loader_take(

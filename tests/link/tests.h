@@ -38,7 +38,7 @@ void test_dependent(FILE *pairs);
 /* kodarfi_common on the pairs of tests/emit_common.py. */
 void test_common(FILE *pairs);
 
-/* kodarfi_convert on the conversions of tests/emit_conversions.py. */
+/* kodarfi_convert and kodarfi_convert_line on the conversions of tests/emit_conversions.py. */
 void test_conversions(FILE *conversions);
 
 /* kodarfi_loader_new, kodarfi_loader_take and kodarfi_loader_check on the steps of tests/emit_loader.py. */

@@ -177,6 +177,13 @@
     X(conversions, line_in_places)              \
     X(conversions, count_of_13_lost)            \
     X(conversions, said_3_for_22)               \
+    /* kodarfi_convert_line */                   \
+    X(conversions, line_left_where_none)        \
+    X(conversions, line_of_13_lost)             \
+    X(conversions, convert_lines_from_0)        \
+    X(conversions, line_for_open)               \
+    X(conversions, line_for_22)                 \
+    X(conversions, written_beside_line)         \
     /* kodarfi_loader_new, _take, _check */      \
     X(loader, new_sets_left)                    \
     X(loader, guess_for_inverse_set)            \

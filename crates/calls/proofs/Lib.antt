@@ -7,6 +7,7 @@ pub mod Half
 pub mod TwoNets
 pub mod TwoProposals
 pub mod Conversion
+pub mod RefusedLine
 pub mod Loader
 pub mod LoaderRuns
 pub mod LoaderListing
