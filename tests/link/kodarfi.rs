@@ -76,6 +76,22 @@ extern "C" {
         right: *mut i64, right_len: usize,
     ) -> u32;
 
+    pub fn kodarfi_build_line(
+        n: u32,
+        observations: *const Observation, observations_len: usize,
+        matrix: *mut i64, matrix_len: usize,
+        right: *mut i64, right_len: usize,
+        line: *mut u64,
+    ) -> u32;
+
+    pub fn kodarfi_build_half_line(
+        n: u32,
+        observations: *const Observation, observations_len: usize,
+        half: *mut i64, half_len: usize,
+        right: *mut i64, right_len: usize,
+        line: *mut u64,
+    ) -> u32;
+
     pub fn kodarfi_guesses(
         n: u32, s: u32,
         values: *const f64, values_len: usize,

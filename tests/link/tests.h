@@ -23,7 +23,7 @@ void test_entries(FILE *entries);
 /* kodarfi_find_weights on the searches of tests/emit_weights.py. */
 void test_weights(FILE *searches);
 
-/* kodarfi_build and kodarfi_build_half on the lists of tests/emit_builds.py. */
+/* kodarfi_build, kodarfi_build_half, kodarfi_build_line and kodarfi_build_half_line on the lists of tests/emit_builds.py. */
 void test_builds(FILE *builds);
 
 /* kodarfi_guesses and kodarfi_intervals on the calls of tests/emit_doubles.py. */

@@ -177,6 +177,14 @@
     X(conversions, line_in_places)              \
     X(conversions, count_of_13_lost)            \
     X(conversions, said_3_for_22)               \
+    /* kodarfi_build_line, _half_line */         \
+    X(builds, build_line_of_8)                  \
+    X(builds, build_line_of_list)               \
+    X(builds, build_line_of_distinct)           \
+    X(builds, build_lines_from_0)               \
+    X(builds, build_line_of_last)               \
+    X(builds, build_line_left)                  \
+    X(builds, build_half_line_at_1024)          \
     /* kodarfi_convert_line */                   \
     X(conversions, line_left_where_none)        \
     X(conversions, line_of_13_lost)             \

@@ -2,6 +2,7 @@ pub mod Meaning
 pub mod Covered
 pub mod Weights
 pub mod Build
+pub mod BuildLine
 pub mod Doubles
 pub mod Half
 pub mod TwoNets

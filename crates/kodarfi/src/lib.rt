@@ -26,6 +26,7 @@ mod line_by_line;
 mod old_files;
 mod two_nets;
 mod two_proposals;
+mod which_line;
 mod with_doubles;
 
 // The check on lists: `checker::check`.
