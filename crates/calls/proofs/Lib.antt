@@ -12,3 +12,4 @@ pub mod RefusedLine
 pub mod Loader
 pub mod LoaderRuns
 pub mod LoaderListing
+pub mod LoaderShape

@@ -81,7 +81,7 @@ unfolding run
 turns-kept none = record { accepts = tt; state = refl }
 turns-kept (next {lines = lines} {numbers} {w′} {l′} x t) = kept-before (kept lines numbers) (stateOf (loaderOf w′) l′) x (turns-kept t)
 
-kept-all : {w : List ℕ} {l : Lists} {lines : List (List ℕ)} {numbers w′ : List ℕ} {l′ : Lists} → Turns w l lines numbers w′ l′ → AllZero numbers
+pub kept-all : {w : List ℕ} {l : Lists} {lines : List (List ℕ)} {numbers w′ : List ℕ} {l′ : Lists} → Turns w l lines numbers w′ l′ → AllZero numbers
     → kept lines numbers ≡ lines
 kept-all none z = refl
 kept-all (next {line = line} {number = number} {lines = lines} {numbers} x t) z = rw (eq-eqb number 0 (z .0)) (ap (λ (ls : List (List ℕ)). line ∷ ls) (kept-all t (z .1)))
