@@ -372,6 +372,87 @@ uint32_t kodarfi_convert(const uint8_t *file, size_t file_len,
                          size_t *written,
                          uint64_t places[2]);
 
+/* The same, and *line is the number of the first field line that is refused, from 1, 0 where none is: so with 0 and 8, and with 3 for n or for more than 256
+ * lines. Everything else is as kodarfi_build and kodarfi_build_half have it. */
+uint32_t kodarfi_build_line(uint32_t n,
+                            const struct kodarfi_observation *observations, size_t observations_len,
+                            int64_t *matrix, size_t matrix_len,
+                            int64_t *right, size_t right_len,
+                            uint64_t *line);
+uint32_t kodarfi_build_half_line(uint32_t n,
+                                 const struct kodarfi_observation *observations, size_t observations_len,
+                                 int64_t *half, size_t half_len,
+                                 int64_t *right, size_t right_len,
+                                 uint64_t *line);
+
+/* The same, and *line is the number of the first line of the file that is refused, from 1, 0 where none is: so with 0, 15 and 22. Everything else is as
+ * kodarfi_convert has it. */
+uint32_t kodarfi_convert_line(const uint8_t *file, size_t file_len,
+                              uint8_t *out, size_t out_len,
+                              size_t *written,
+                              uint64_t places[2],
+                              uint64_t *line);
+
+/* The loader (document 01's desk): a file's lines one at a time, as they come.
+ *
+ * A loader is nine numbers that the caller keeps from call to call, beside the six lists that the lines' numbers go into; they can be copied and sent.
+ * kodarfi_loader_new makes them a loader that was given nothing, whatever they were: nine times 0. They are how far the loader has come (0: nothing given,
+ * 1: problem, 2: scale, 3: an accepted end), then n, s and t, each 0 until it is given, and then the rows, right sides, guesses, inverse rows and weights that
+ * were given, the number i at bit i - 1.
+ *
+ * Any nine numbers are a loader: a first number above 3 is read as 0, and every other is read as it stands. Only one that these calls have made since
+ * kodarfi_loader_new has been given what it says. kodarfi_loader_new refuses nothing, and so it gives no number. */
+void kodarfi_loader_new(uint32_t loader[9]);
+
+/* A loader takes one line, without its line feed.
+ *
+ * matrix and inverse have at least 1,024 numbers and the other lists at least 32; where a program takes a file's lines, the lists are the same from line to line.
+ *
+ * The answer is 0 where the line is accepted. A problem then puts n into the loader and a scale s and t, with no list touched; any other form but an end puts its
+ * numbers at their own places in its list, as kodarfi_check has them, and the loader counts it as given. A right side without tolerance puts 0 into tolerance. An
+ * end puts 1 into each of the first n weights that was not given. No other number of the lists is changed. Else the answer is the number of the first refusal
+ * in this order, and the loader and all six lists are as before, whatever the loader was; a refused line is as if it had not been handed over:
+ *
+ *   8    a list is too short                                             places: 0, 0
+ *   14   an end was accepted before                                              0, 0
+ *   1    the line has more than 320 bytes                                        0, 0
+ *   2    it is none of the forms, spelled exactly                                0, 0
+ *   11   it comes before problem, or before scale                                0, 0
+ *   3    its i is not 1 to n; or the loader's own n is not 1 to 32               0, 0
+ *   12   its form was given before: problem, scale, or this kind and i           0, 0
+ *   3    another number of it is outside its range                               0, 0
+ *   4    a row or an inverse row has other than n numbers                        0, 0
+ *   13   it is an end, and forms are missing                                     how many, 0
+ */
+uint32_t kodarfi_loader_take(uint32_t loader[9],
+                             const uint8_t *line, size_t line_len,
+                             int64_t *matrix, size_t matrix_len,
+                             int64_t *right, size_t right_len,
+                             int64_t *tolerance, size_t tolerance_len,
+                             int64_t *guess, size_t guess_len,
+                             int64_t *inverse, size_t inverse_len,
+                             int64_t *weights, size_t weights_len,
+                             uint64_t places[2]);
+
+/* The check of what a loader was given, on the lists as they are now.
+ *
+ * The answer, the places and both lists of limits are those of kodarfi_check with the loader's n, s and t, and with one more refusal, right after 8:
+ *
+ *   15   no end was accepted     places: 0, 0
+ *
+ * Where the lines were taken by this loader since kodarfi_loader_new, with these lists and no other hand on either, and the lists of limits are long enough, the
+ * answer after an accepted end and its places are those of kodarfi_listing for a file of the accepted lines: 0, 5, 6 or 7. */
+uint32_t kodarfi_loader_check(const uint32_t loader[9],
+                              const int64_t *matrix, size_t matrix_len,
+                              const int64_t *right, size_t right_len,
+                              const int64_t *tolerance, size_t tolerance_len,
+                              const int64_t *guess, size_t guess_len,
+                              const int64_t *inverse, size_t inverse_len,
+                              const int64_t *weights, size_t weights_len,
+                              uint64_t *solution_bounds, size_t solution_bounds_len,
+                              uint64_t *inverse_bounds, size_t inverse_bounds_len,
+                              uint64_t places[2]);
+
 #ifdef __cplusplus
 }
 #endif

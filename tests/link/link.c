@@ -46,6 +46,7 @@ static const struct part {
     {"dependent", "pairs.txt", test_dependent},
     {"common", "common.txt", test_common},
     {"conversions", "conversions.bin", test_conversions},
+    {"loader", "loader.txt", test_loader},
     {"files", "files.bin", test_files},
     {"lists", "nets.txt", test_lists},
 };

@@ -17,6 +17,7 @@ mod files;
 mod halves;
 mod kodarfi;
 mod lists;
+mod loader;
 mod numbers;
 mod reckoning;
 mod test_builds;
@@ -32,7 +33,7 @@ use count::Count;
 use std::process::exit;
 
 /// The parts of the test: the name, what an emitter wrote for it, and the test on these bytes.
-const PARTS: [(&str, &str, fn(&mut Count, &[u8])); 10] = [
+const PARTS: [(&str, &str, fn(&mut Count, &[u8])); 11] = [
     ("entries", "entries.txt", entries::test_entries),
     ("weights", "weights.txt", test_weights::test_weights),
     ("builds", "builds.txt", test_builds::test_builds),
@@ -41,6 +42,7 @@ const PARTS: [(&str, &str, fn(&mut Count, &[u8])); 10] = [
     ("dependent", "pairs.txt", test_dependent::test_dependent),
     ("common", "common.txt", test_common::test_common),
     ("conversions", "conversions.bin", conversions::test_conversions),
+    ("loader", "loader.txt", loader::test_loader),
     ("files", "files.bin", files::test_files),
     ("lists", "nets.txt", test_lists::test_lists),
 ];

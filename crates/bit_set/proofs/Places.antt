@@ -1,7 +1,7 @@
 -- Laws of sets of places.
 --   has-same, has-other — the place i is in the set with it; every other place is in it as before;  has-none — the number 0 is the empty set
 --   lacking-with — with a place below n that it lacked, a set lacks one place fewer;  lacking-≤ — it lacks at most n
---   lacking-all  — the empty set lacks all n places;  lacking-none — a set that lacks none has every place below n
+--   lacking-all  — the empty set lacks all n places;  lacking-none, none-lacking — a set lacks none exactly where it has every place below n
 use mathlib.Core.Path.{_≡_, refl, sym, ap, subst, _∙_}
 use mathlib.Core.Bool.{Bool, true, false, cond}
 use Prim.Native.Nat.{ℕ, zero, suc, _+_, max, _-_, _/_, _%_, _^_, _≤_, _<_}
@@ -109,3 +109,8 @@ lacking-none x n e i l = go (hasPlace x i) refl (sumℕ-at n (λ (j : ℕ). cond
     go : (t : Bool) → hasPlace x i ≡ t → cond t 0 1 ≤ sumℕ n (λ (j : ℕ). cond (hasPlace x j) 0 1) → t ≡ true
     go true p q = refl
     go false p q = absurd (omega arith)
+
+pub none-lacking : (x n : ℕ) → ((i : ℕ) → i < n → hasPlace x i ≡ true) → lacking x n ≡ 0
+unfolding lacking sumℕ
+none-lacking x zero h = refl
+none-lacking x (suc n) h = rw (h n (omega arith), none-lacking x n (λ i l. h i (omega arith)))

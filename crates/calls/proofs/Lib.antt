@@ -2,8 +2,14 @@ pub mod Meaning
 pub mod Covered
 pub mod Weights
 pub mod Build
+pub mod BuildLine
 pub mod Doubles
 pub mod Half
 pub mod TwoNets
 pub mod TwoProposals
 pub mod Conversion
+pub mod RefusedLine
+pub mod Loader
+pub mod LoaderRuns
+pub mod LoaderListing
+pub mod LoaderShape

@@ -6,3 +6,4 @@ pub mod Half
 pub mod TwoNets
 pub mod TwoProposals
 pub mod Conversion
+pub mod Loader

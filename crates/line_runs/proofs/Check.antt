@@ -2,7 +2,7 @@
 --   length-put  — a line leaves the lengths of the lists
 --   run-long, lists-long — lists that are long enough stay so, and at an accepted end they are
 --   enough      — with limit lists that are long enough too, a check does not say 8
---   end-answers — the check answers accepted, 5, 6 or 7 only
+--   reckons, end-answers — the check answers accepted, 5, 6 or 7 only
 use mathlib.Core.Path.{_≡_, refl, _∙_}
 use mathlib.Core.Bool.{Bool, true, false, cond}
 use mathlib.Core.List.{List, [], _∷_}
@@ -78,7 +78,7 @@ lists-long l (line ∷ lines) a e =
     run-long (fromNew l) (line ∷ lines) a (r .1 .long)
 
 -- ---- the check
-reckons : (n m k i : ℕ) → ReckoningSays (verdict (reckoned n m k i))
+pub reckons : (n m k i : ℕ) → ReckoningSays (verdict (reckoned n m k i))
 reckons n m k i = go (ltb m n) (ltb k n) (ltb i (n * n))
   where
     go : (a b c : Bool) → ReckoningSays (cond a (5 ∷ (m + 1) ∷ []) (cond b (6 ∷ (k + 1) ∷ []) (cond c (7 ∷ (i / n + 1) ∷ (i % n + 1) ∷ []) [])))

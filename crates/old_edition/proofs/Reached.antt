@@ -2,23 +2,23 @@
 --   rank p k      — the place of the form of the part p for the number k in that order
 --   Reached n r d — at the scaled loader d, of n equations, the forms up to the rank r were given, and no other
 --   done-next, reached-next — one form more;  reached-part — from one part to the next
---   none-lacking, total-none — where every part's form was given for every i from 1 to n, none is lacking
---   rank-below, all-there, reached-all, reached-old — so it is after the last part: nothing is missing, by the count in force and by 01's
+--   total-none — where no part lacks a form, the sum is 0;  rank-below, all-there, reached-all, reached-old — so it is after the last part: nothing is missing,
+--                   by the count in force and by 01's
 use mathlib.Core.Path.{_≡_, refl, subst, _∙_}
 use mathlib.Core.Bool.{true, false}
 use mathlib.Core.List.{List, [], _∷_}
-use Prim.Native.Nat.{ℕ, zero, suc, _+_, _*_, _-_, _≤_, _<_}
+use Prim.Native.Nat.{ℕ, suc, _+_, _*_, _-_, _≤_, _<_}
 use native.Mathlib.Decide.{ℕ-discrete}
 use native.Mathlib.Omega.{arith}
 use lib.IntN.{pos}
 use lib.ListN.{length, length-set}
-use Rattle.integer.specs.Finite.{sumℕ}
 use Rattle.form_values.specs.Item.{partIndex}
 use Rattle.form_values.specs.declared.Item.the-variants.{Of}
 use Rattle.form_values.specs.declared.Part.{Part}
 use Rattle.form_values.specs.declared.Part.the-variants.{Row, Right, Guess, Inverse, Weight}
 use Rattle.form_values.proofs.Capped.{part-same}
-use Rattle.bit_set.specs.Places.{hasPlace, lacking}
+use Rattle.bit_set.specs.Places.{lacking}
+use Rattle.bit_set.proofs.Places.{none-lacking}
 use Rattle.given_forms.specs.Before.{counted01, missing01}
 use Rattle.given_forms.specs.Progress.{setOf, counted, totalOver, given, marked, missing, scaled, ended}
 use Rattle.loader.specs.declared.Loader.{Loader}
@@ -70,11 +70,6 @@ module _ (n : ℕ) (few : n ≤ 32) where
   }
 
 -- ---- nothing is missing
-none-lacking : (x n : ℕ) → ((i : ℕ) → i < n → hasPlace x i ≡ true) → lacking x n ≡ 0
-unfolding lacking sumℕ
-none-lacking x zero h = refl
-none-lacking x (suc n) h = rw (h n (omega arith), none-lacking x n (λ i l. h i (omega arith)))
-
 total-none : (ps : List Part) (f : Part → ℕ) → ((q : Part) → f q ≡ 0) → totalOver ps f ≡ 0
 total-none [] f h = refl
 total-none (q ∷ ps) f h = omega (arith, h q, total-none ps f h)

@@ -2,9 +2,9 @@
 --   PassesOld d f — no test refuses the form f at the loader d, and it is a form of 01 that 01's count does not refuse either
 --   Takes d fs    — the forms fs are such, each at the loader after those before it, and the last is an end
 --   now-complete, old-complete — a file of such forms is complete at a new loader, and at one of the old edition
-use mathlib.Core.Path.{_≡_, refl, sym, ap, _∙_}
+use mathlib.Core.Path.{_≡_, refl, sym, _∙_}
 use mathlib.Core.Bool.{true, false}
-use mathlib.Core.List.{List, [], _∷_, append-nil}
+use mathlib.Core.List.{List, [], _∷_}
 use mathlib.Core.Option.{some}
 use Prim.Native.Nat.{ℕ, _+_}
 use native.Mathlib.Omega.{arith}
@@ -21,14 +21,13 @@ use Rattle.loader_order.proofs.Said.{Passed}
 use Rattle.loader.specs.declared.Loader.{Loader}
 use Rattle.loader.specs.Taken.{fresh, after, listsWith}
 use Rattle.loader.proofs.Exact.{formCase}
-use Rattle.line_runs.specs.Lines.{linesOf}
 use Rattle.line_runs.specs.Read.{Reading, readFrom, zeros}
 use Rattle.line_runs.specs.Run.{State, fromNew, step}
 use Rattle.line_runs.proofs.Passing.{spelled, step-long}
 use Rattle.line_runs.proofs.Read.{read-none, read-accepted}
 use Rattle.spelled_lines.specs.Ones.{textOf}
 use Rattle.spelled_lines.proofs.Accepts.{spelled-length, accepts-spelled, spelled-accepted}
-use Rattle.spelled_lines.proofs.Text.{lines-text}
+use Rattle.spelled_lines.proofs.Text.{lines-of}
 use Rattle.listing.specs.Listing.{Complete}
 use Rattle.listing.proofs.Entire.{zeros-long}
 use Rattle.old_edition.specs.Edition.{isOld, readingOld, answerOld, loaderOld, listsOld, stepOld, readOld, CompleteOld}
@@ -108,9 +107,6 @@ take-old k u (f ∷ fs) long t =
     (take-old (k + 1) (stepOld u (spell f)) fs (old-long k u f (spelled fs) long (t .0) (t .1 .0)) (rw (old-loader k u f (spelled fs) long (t .0) (t .1 .0)) (t .1 .1)))
 
 -- ---- a file of such forms
-pub lines-of : (fs : List Form) → linesOf (textOf fs) ≡ spelled fs
-lines-of fs = ap linesOf (sym (append-nil (textOf fs))) ∙ lines-text fs [] ∙ unfold linesOf in append-nil (spelled fs)
-
 module _ (fs : List Form) (t : Takes fresh fs) where
   pub now-complete : Complete (textOf fs)
   now-complete = let w = take-now 0 (fromNew zeros) fs zeros-long t in record { lines = rw (lines-of fs) (w .0); end = rw (lines-of fs) (w .1) }

@@ -29,12 +29,12 @@ use Rattle.line_runs.specs.Lines.{linesOf}
 use Rattle.line_runs.specs.Run.{forms}
 use Rattle.line_runs.proofs.Marks.{hits, once}
 use Rattle.line_runs.proofs.Passing.{forms-spelled}
+use Rattle.spelled_lines.proofs.Text.{lines-of}
 use Rattle.file_check.specs.Problem.{problemFrom}
 use Rattle.listing.specs.Listing.{problemIn}
 use Rattle.old_edition.specs.File.{formFor, rising, partsThen, oldForms, oldFile}
 use Rattle.old_edition.specs.Numbers.{SameNumbers}
 use Rattle.old_edition.proofs.Numbers.{item-for, row-at}
-use Rattle.old_edition.proofs.Taken.{lines-of}
 
 -- ---- the forms of the part of the list s, by rising i, before others
 module _ (P : Problem) (q : Part) (rest : List Form) (j : ℕ) where

@@ -1,11 +1,11 @@
 -- The lines of texts, one after another.
 --   wholeLines s — every line of the text s has its line feed
 --   lines-whole  — the lines of such a text and of another after it
---   lines-feed, lines-text — the lines of forms written one after another are their spellings
+--   lines-feed, lines-text, lines-of — the lines of forms written one after another are their spellings
 --   last-line    — every text that is not empty is whole lines and then one line
 use mathlib.Core.Path.{_≡_, refl, sym, ap, subst, _∙_}
 use mathlib.Core.Bool.{Bool, true, false, cond}
-use mathlib.Core.List.{List, [], _∷_, _++_}
+use mathlib.Core.List.{List, [], _∷_, _++_, append-nil}
 use Prim.Native.Nat.{ℕ, suc}
 use borrow.Author.Tests.{ne-eqb}
 use lib.Dec.{T, eqb}
@@ -67,6 +67,9 @@ lines-text (f ∷ fs) rest =
     ap linesOf (append-assoc (spell f) (10 ∷ textOf fs) rest)
     ∙ lines-feed (spell f) (textOf fs ++ rest) (spell-no-feed f)
     ∙ ap (λ (ls : List (List ℕ)). spell f ∷ ls) (lines-text fs rest)
+
+pub lines-of : (fs : List Form) → linesOf (textOf fs) ≡ spelled fs
+lines-of fs = ap linesOf (sym (append-nil (textOf fs))) ∙ lines-text fs [] ∙ unfold linesOf in append-nil (spelled fs)
 
 -- ---- the last line
 pub record Split (s : List ℕ) : Type 0 where

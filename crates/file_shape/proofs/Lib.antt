@@ -1,0 +1,15 @@
+pub mod Marks
+pub mod Fits
+pub mod Takes
+pub mod Middle
+pub mod Forms
+pub mod Loader
+pub mod Lines
+pub mod Complete
+pub mod Answers
+pub mod Same
+pub mod Orders
+pub mod Once
+pub mod Chosen
+pub mod Unweighted
+pub mod Missing

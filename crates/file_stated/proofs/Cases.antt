@@ -1,0 +1,49 @@
+-- The statements on files are not empty: the table of specs/Cases, computed line by line, and 01's whole file.
+--   cases-said, margin-said, cases-stated — what is said of each file of the table, and that it has its stated case;  whole-stated — 01's whole file is accepted
+use mathlib.Core.Path.{_≡_, refl, ap}
+use mathlib.Core.List.{List, [], _∷_}
+use lib.ListN.{take}
+use Rattle.integer.specs.Finite.{sum, sumℕ, first}
+use Rattle.linear.specs.Matrix.{apply, product, identity}
+use Rattle.rules.specs.Range.{ranges, rangeOf, inRange}
+use Rattle.enclosure.specs.Reckoning.{defect, load, margin, residual, rowSum, exceeds}
+use Rattle.numeral.specs.Numeral.{runAt, sizeAt, numberAt}
+use Rattle.form.specs.Form.{bytes}
+use Rattle.form.specs.List.{allInside}
+use Rattle.form.specs.Reading.{reading, starts, wordAt, orWord, firstOf, headAt, othersAt}
+use Rattle.bit_set.specs.Places.{withPlace, lacking}
+use Rattle.lent_list.specs.Filled.{filled}
+use Rattle.given_forms.specs.Progress.{missing, misplaced}
+use Rattle.loader.specs.Answer.{lineAnswer}
+use Rattle.loader.specs.Taken.{loaderAfter, listsAfter}
+use Rattle.line_runs.specs.Given.{valueFrom, sizeFrom, scalesFrom}
+use Rattle.line_runs.specs.Lines.{linesOf}
+use Rattle.line_runs.specs.Read.{readFrom, zeros}
+use Rattle.line_runs.specs.Run.{forms}
+use Rattle.listing.specs.Cases.{wholeFile}
+use Rattle.listing.specs.Listing.{answerOf, listingOf}
+use Rattle.listing.proofs.Meaning.{begins-bounds}
+use Rattle.listing.proofs.Table.{whole-file}
+use Rattle.file_stated.specs.Cases.{FileCase, fileCases, CasesStated}
+use Rattle.file_stated.specs.Stated.{FileStated}
+use Rattle.file_stated.proofs.Stated.{file-exactly}
+
+abbrev CasesSaid : List FileCase → Type 0
+CasesSaid [] = Unit
+CasesSaid (c ∷ cs) = (answerOf (c .file) ≡ c .says) × CasesSaid cs
+
+cases-said : CasesSaid fileCases
+unfolding answerOf readFrom lineAnswer loaderAfter listsAfter zeros linesOf forms reading starts wordAt orWord firstOf headAt othersAt runAt sizeAt numberAt missing misplaced filled withPlace lacking allInside sum sumℕ first inRange rangeOf ranges valueFrom sizeFrom scalesFrom margin load defect product apply identity residual rowSum exceeds
+cases-said = (refl, (refl, (refl, (refl, (refl, (refl, (refl, tt)))))))
+
+stated-cases : (cs : List FileCase) → CasesSaid cs → CasesStated cs
+stated-cases [] h = tt
+stated-cases (c ∷ cs) h = (file-exactly (c .file) (c .says) .0 (h .0), stated-cases cs (h .1))
+
+pub cases-stated : CasesStated fileCases
+cases-stated = stated-cases fileCases cases-said
+
+pub whole-stated : FileStated wholeFile []
+whole-stated =
+    let b : take 8 (listingOf wholeFile) ≡ bytes "(bounds " = ap (take 8) whole-file in
+    file-exactly wholeFile [] .0 (begins-bounds wholeFile b)

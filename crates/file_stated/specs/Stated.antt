@@ -1,0 +1,38 @@
+-- What is said of a file, each refusal written out, in the numbers of the refusal's line (01: "It stops at its first refusal"): that of the first line that is
+-- refused, 15, and the check's. Nothing here reads a line: that it is one of the eight forms is told by its spelling.
+--   afterForm u f   — the loader and the lists u after the form f
+--   Taken u lines v — at u the lines are accepted, one after another, and leave v: each is the spelling of a form
+--   FileStated file w — the case that is stated for w;  `Stated` is that of a check on lists (checked/specs/Stated), `inputAt` what a loader and its lists hand to it
+use mathlib.Core.Bool.{true, false}
+use mathlib.Core.List.{List, [], _∷_, _++_}
+use mathlib.Core.Path.{_≡_}
+use Prim.Native.Nat.{ℕ, _+_}
+use lib.ListN.{length}
+use Rattle.checked.specs.Stated.{Stated}
+use Rattle.form.specs.Form.{Form, spell}
+use Rattle.form_values.specs.Item.{itemOf}
+use Rattle.given_forms.specs.Progress.{ended}
+use Rattle.loader.specs.Taken.{after, listsWith}
+use Rattle.line_runs.specs.Lines.{linesOf}
+use Rattle.line_runs.specs.Read.{zeros}
+use Rattle.line_runs.specs.Run.{State, fromNew}
+use Rattle.line_stated.specs.Stated.{LineStated}
+use Rattle.refusal.specs.Refused.{printed}
+use Rattle.file_check.specs.Shown.{inputAt}
+
+abbrev pub afterForm : State → Form → State
+afterForm u f = record { loader = after (u .loader) (itemOf f); lists = listsWith (u .loader) f (u .lists) }
+
+pub data Taken : State → List (List ℕ) → State → Type 0 where
+  none : {u : State} → Taken u [] u
+  next : {u v : State} (f : Form) (lines : List (List ℕ)) → LineStated (u .loader) (u .lists) (spell f) [] → Taken (afterForm u f) lines v → Taken u (spell f ∷ lines) v
+
+pub data FileStated (file : List ℕ) : List ℕ → Type 0 where
+  -- 1 to 4 and 11 to 14: the first line that is refused, with its number from 1, or what the refusal gives
+  line-refused : (first : List (List ℕ)) (line : List ℕ) (rest : List (List ℕ)) (u : State) (k : ℕ) (vs : List ℕ) →
+      linesOf file ≡ first ++ (line ∷ rest) → Taken (fromNew zeros) first u → LineStated (u .loader) (u .lists) line (k ∷ vs) →
+      FileStated file (printed (length first + 1) (k ∷ vs))
+  -- 15: every line is accepted, and none is an end
+  not-ended : (u : State) → Taken (fromNew zeros) (linesOf file) u → ended (u .loader .stage) ≡ false → FileStated file (15 ∷ 0 ∷ [])
+  -- 5, 6 and 7, and acceptance: every line is accepted, the last is an end, and the check says it of the numbers given
+  checked : (u : State) (w : List ℕ) → Taken (fromNew zeros) (linesOf file) u → ended (u .loader .stage) ≡ true → Stated (inputAt u) w → FileStated file (printed 0 w)

@@ -1,0 +1,96 @@
+-- The statements on lines are not empty: the table of specs/Cases, computed line by line, and cases at lists that are too short and at a loader with its own n out of range.
+--   CasesSaid, cases-said, alike, stated-cases, cases-stated — what is said of each line of the table, and that it has its stated case
+--   short-stated — 8;  forged-row, forged-blank — 3 for a form with its i in 1 to n; 2 as at any loader
+use mathlib.Core.Path.{_≡_, refl, _∙_}
+use mathlib.Core.Bool.{true, false}
+use mathlib.Core.List.{List, [], _∷_}
+use Prim.Native.Nat.{ℕ}
+use Rattle.integer.specs.Finite.{sumℕ}
+use Rattle.integer.proofs.Search.{clash}
+use Rattle.rules.specs.Range.{ranges, rangeOf, inRange}
+use Rattle.numeral.specs.Numeral.{runAt, sizeAt, numberAt}
+use Rattle.form.specs.Form.{bytes}
+use Rattle.form.specs.List.{allInside}
+use Rattle.form.specs.Reading.{reading, starts, wordAt, orWord, firstOf, headAt, othersAt}
+use Rattle.bit_set.specs.Places.{withPlace, lacking}
+use Rattle.lent_lists.specs.Lists.{Lists, shortLists}
+use Rattle.given_forms.specs.Progress.{missing, misplaced}
+use Rattle.loader.specs.declared.Loader.{Loader}
+use Rattle.loader.specs.Answer.{lineAnswer}
+use Rattle.loader.specs.Taken.{fresh}
+use Rattle.line_runs.specs.Read.{zeros}
+use Rattle.line_stated.specs.Cases.{LineCase, given, lineCases, CasesStated, shortOnes, forged}
+use Rattle.line_stated.specs.Stated.{LineStated, too-short, OwnSize, OtherStated}
+use Rattle.line_stated.proofs.Stated.{exactly, other-exactly}
+
+abbrev CasesSaid : List LineCase → Type 0
+CasesSaid [] = Unit
+CasesSaid (c ∷ cs) = (OwnSize (given fresh (c .before)) × (lineAnswer (given fresh (c .before)) zeros (c .line) ≡ c .says)) × CasesSaid cs
+
+-- a new loader has no n yet
+at-first : OwnSize fresh
+at-first e = clash false e refl
+
+cases-said : CasesSaid lineCases
+unfolding lineAnswer zeros reading starts wordAt orWord firstOf headAt othersAt runAt sizeAt numberAt missing misplaced withPlace lacking allInside sumℕ inRange rangeOf ranges
+cases-said =
+    let own : true ≡ true → true ≡ true = λ e. e in (
+      (own, refl),
+      (
+        (own, refl),
+        (
+          (at-first, refl),
+          (
+            (own, refl),
+            (
+              (at-first, refl),
+              (
+                (at-first, refl),
+                (
+                  (own, refl),
+                  (
+                    (own, refl),
+                    (
+                      (own, refl),
+                      ((own, refl), ((own, refl), ((own, refl), ((own, refl), ((at-first, refl), ((own, refl), ((own, refl), ((own, refl), tt)))))))),
+                    ),
+                  ),
+                ),
+              ),
+            ),
+          ),
+        ),
+      ),
+    )
+
+forged-said : (lineAnswer forged zeros (bytes "(row 1 (4))") ≡ 3 ∷ []) × (lineAnswer forged zeros [] ≡ 2 ∷ [])
+unfolding lineAnswer zeros reading starts wordAt orWord firstOf headAt othersAt runAt sizeAt numberAt misplaced allInside inRange rangeOf ranges
+forged-said = (refl, refl)
+
+module _ (l : Lists) (enough : shortLists l ≡ false) where
+  -- lists that are long enough are all one
+  alike : (d : Loader) (line : List ℕ) → lineAnswer d l line ≡ lineAnswer d zeros line
+  unfolding lineAnswer
+  alike d line = let z : shortLists zeros ≡ false = unfold zeros in refl in rw (enough, z)
+
+  stated-cases : (cs : List LineCase) → CasesSaid cs → CasesStated l cs
+  stated-cases [] h = tt
+  stated-cases (c ∷ cs) h =
+      let d = given fresh (c .before) in
+      (exactly d l (c .line) (h .0 .0) (c .says) .0 (alike d (c .line) ∙ h .0 .1), stated-cases cs (h .1))
+
+  pub cases-stated : CasesStated l lineCases
+  cases-stated = stated-cases lineCases cases-said
+
+  forged-stated : {line w : List ℕ} → lineAnswer forged zeros line ≡ w → OtherStated forged l line w
+  unfolding inRange rangeOf ranges
+  forged-stated {line} {w} e = other-exactly forged l line refl refl w .0 (alike forged line ∙ e)
+
+  pub forged-row : OtherStated forged l (bytes "(row 1 (4))") (3 ∷ [])
+  forged-row = forged-stated (forged-said .0)
+
+  pub forged-blank : OtherStated forged l [] (2 ∷ [])
+  forged-blank = forged-stated (forged-said .1)
+
+pub short-stated : LineStated fresh shortOnes [] (8 ∷ [])
+short-stated = too-short refl

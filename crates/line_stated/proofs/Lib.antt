@@ -1,0 +1,4 @@
+pub mod Said
+pub mod Stated
+pub mod Taken
+pub mod Cases

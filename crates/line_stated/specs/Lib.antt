@@ -1,0 +1,3 @@
+pub mod Stated
+pub mod Taken
+pub mod Cases
