@@ -159,37 +159,16 @@ static inline uint32_t kodarfi_net_common(const struct kodarfi_net *first, const
     return refusal->number;
 }
 
-/* The first line of a refused list, 0 where it is refused for n or for its length. Lines are taken in order, so it is the last line of the shortest beginning
- * that is refused. */
-static inline uint64_t kodarfi_refused_line(uint32_t n, const struct kodarfi_observation *lines, size_t count) {
-    int64_t half[KODARFI_HALF_LENGTH], right[KODARFI_COLUMN_LENGTH];
-    size_t good = 0, refused = count;
-    if (count > KODARFI_OBSERVATIONS_MAX || n < 1 || n > KODARFI_N_MAX) return 0;
-    while (refused - good > 1) {
-        const size_t middle = good + (refused - good) / 2;
-        if (kodarfi_build_half(n, lines, middle, half, KODARFI_HALF_LENGTH, KODARFI_COLUMN_(right)) == KODARFI_ACCEPTED) {
-            good = middle;
-        } else {
-            refused = middle;
-        }
-    }
-    return refused;
-}
-
-/* Equations from the field lines, for the net's n: kodarfi_build. Writes matrix and right; where a line is refused, refusal->line is its number. */
+/* Equations from the field lines, for the net's n: kodarfi_build_line. Writes matrix and right; where a line is refused, refusal->line is its number. */
 static inline uint32_t kodarfi_net_build(struct kodarfi_net *net, const struct kodarfi_observation *lines, size_t count, struct kodarfi_refusal *refusal) {
     kodarfi_refusal_clear(refusal);
-    refusal->number = kodarfi_build(net->n, lines, count, KODARFI_MATRIX_(net->matrix), KODARFI_COLUMN_(net->right));
-    if (refusal->number != KODARFI_ACCEPTED) refusal->line = kodarfi_refused_line(net->n, lines, count);
-    return refusal->number;
+    return refusal->number = kodarfi_build_line(net->n, lines, count, KODARFI_MATRIX_(net->matrix), KODARFI_COLUMN_(net->right), &refusal->line);
 }
 
-/* By halves: kodarfi_build_half. Writes half and right. */
+/* By halves: kodarfi_build_half_line. Writes half and right. */
 static inline uint32_t kodarfi_half_net_build(struct kodarfi_half_net *net, const struct kodarfi_observation *lines, size_t count, struct kodarfi_refusal *refusal) {
     kodarfi_refusal_clear(refusal);
-    refusal->number = kodarfi_build_half(net->n, lines, count, net->half, KODARFI_HALF_LENGTH, KODARFI_COLUMN_(net->right));
-    if (refusal->number != KODARFI_ACCEPTED) refusal->line = kodarfi_refused_line(net->n, lines, count);
-    return refusal->number;
+    return refusal->number = kodarfi_build_half_line(net->n, lines, count, net->half, KODARFI_HALF_LENGTH, KODARFI_COLUMN_(net->right), &refusal->line);
 }
 
 /* Weights for the net's matrix and inverse: kodarfi_find_weights. Writes weights and *tried. */
@@ -243,10 +222,10 @@ static inline uint32_t kodarfi_file_listing(const uint8_t *file, size_t file_len
     return refusal->number;
 }
 
-/* A file for the old edition: kodarfi_convert. */
+/* A file for the old edition: kodarfi_convert_line. Where a line is refused, refusal->line is its number. */
 static inline uint32_t kodarfi_file_convert(const uint8_t *file, size_t file_len, struct kodarfi_converted_bytes *converted, struct kodarfi_refusal *refusal) {
     kodarfi_refusal_clear(refusal);
-    return refusal->number = kodarfi_convert(file, file_len, converted->bytes, KODARFI_CONVERTED_LENGTH, &converted->length, refusal->places);
+    return refusal->number = kodarfi_convert_line(file, file_len, converted->bytes, KODARFI_CONVERTED_LENGTH, &converted->length, refusal->places, &refusal->line);
 }
 
 /* Writes what stands after `so far` bytes of a text, as snprintf does, and gives how many bytes the text then has. */

@@ -302,9 +302,10 @@ static void test_files(void) {
         before = converted;
         memcpy(direct, converted.bytes, sizeof direct);
         written = converted.length;
-        const uint32_t expected_number = kodarfi_convert(file, length, direct, sizeof direct, &written, places);
+        uint64_t line = 0;
+        const uint32_t expected_number = kodarfi_convert_line(file, length, direct, sizeof direct, &written, places, &line);
         const uint32_t new_number = kodarfi_file_convert(file, length, &converted, &refusal);
-        test("a conversion", new_number == expected_number && refusal.number == new_number && refusal.net == 0 && refusal.places[0] == places[0] && refusal.places[1] == 0);
+        test("a conversion", new_number == expected_number && refusal.number == new_number && refusal.net == 0 && refusal.line == line && refusal.places[0] == places[0] && refusal.places[1] == 0);
         test("what it writes", converted.length == written && memcmp(converted.bytes, direct, sizeof direct) == 0 && (new_number == 0 || memcmp(&converted, &before, sizeof before) == 0));
     }
 }
