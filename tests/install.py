@@ -56,6 +56,10 @@ class Checkout:
             if old not in text:
                 raise ValueError(f"{name} has no text {old!r}")
             (self.root / name).write_text(text.replace(old, new))
+        # whatever the umask was when it was cloned, others may read it
+        for path in [self.root, *self.root.rglob("*")]:
+            mode = path.stat().st_mode
+            path.chmod(mode | (0o555 if path.is_dir() or mode & 0o100 else 0o444))
         (self.folder / "tools").mkdir()
         (self.folder / "tools" / "rt").write_text(RT)
         (self.folder / "tools" / "rt").chmod(0o755)
@@ -368,6 +372,7 @@ def main():
     if missing:
         print(f"FAILED there is no {missing[0]}\n0 passed, 1 failed")
         return 1
+    os.umask(0o022)
     every = list(results())
     wrong = [name for name, good in every if not good]
     for name in wrong:
