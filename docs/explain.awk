@@ -128,19 +128,18 @@ function fault_of_line() {
 function numbers(count) { return count " number" (count == 1 ? "" : "s") }
 
 # 12: where the form was given first, and whether both say the same.
-function repeated(    count, old, k, now, before) {
-  count = take_apart(text)
+function repeated(    old, told) {
+  take_apart(text)
   old = form[key()]
-  now = given[key()]
-  before = "line " now " gave it first, as " quoted(old) ", and the two "
-  if (old == text) return before "are the same"
-  for (k = 1; k <= count; k++) here[k] = part[k]
-  if (part[1] == "right" && count == 3) here[++count] = 0
-  now = take_apart(old)
-  if (part[1] == "right" && now == 3) part[++now] = 0
-  if (now != count) return before "differ"
-  for (k = 1; k <= count; k++) if (here[k] != part[k]) return before "differ"
-  return before "have the same numbers"
+  told = "line " given[key()] " gave it first, as " quoted(old) ", and the two "
+  return told (old == text ? "are the same" : meaning(old) == meaning(text) ? "have the same numbers" : "differ")
+}
+
+# The word and the numbers of a form, with the tolerance of 0 that a right side by itself has.
+function meaning(text,    count, k, words) {
+  count = take_apart(text)
+  for (k = 1; k <= count; k++) words = words " " part[k]
+  return words (part[1] == "right" && count == 3 ? " 0" : "")
 }
 
 # 3: the first number outside its range, i before the others; the ranges are those of the table.

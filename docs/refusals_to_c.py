@@ -26,7 +26,7 @@ struct kodarfi_words {
 };
 
 /* The row of a number, null where there is none. */
-static inline const struct kodarfi_words *kodarfi_words(uint32_t number) {
+static inline const struct kodarfi_words *kodarfi_words_of(uint32_t number) {
     static const struct kodarfi_words ROWS[] = {
 """
 FOOT = """    };

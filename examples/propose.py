@@ -88,6 +88,9 @@ def forms(matrix, right):
 
 
 def main():
+    if sys.argv[1:2] in (["-h"], ["--help"]):
+        print(__doc__)
+        return
     try:
         text = open(sys.argv[1]).read() if len(sys.argv) > 1 else sys.stdin.read()
     except OSError as error:

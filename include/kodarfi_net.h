@@ -235,9 +235,9 @@ static inline uint32_t kodarfi_file_convert(const uint8_t *file, size_t file_len
 /* A refusal in the plain words of docs/refusals.tsv: three lines, what and where, what was expected, what whoever wrote it may do; of 0, what may be concluded.
  *
  * Writes at most text_len bytes, the last of them 0, as snprintf does, and gives how many bytes the whole text has without the 0; 2,048 bytes are enough.
- * Text of the table alone: kodarfi_words(number). */
+ * Text of the table alone: kodarfi_words_of(number). */
 static inline size_t kodarfi_text(const struct kodarfi_refusal *refusal, char *text, size_t text_len) {
-    const struct kodarfi_words *const words = kodarfi_words(refusal->number);
+    const struct kodarfi_words *const words = kodarfi_words_of(refusal->number);
     const uint64_t *const places = refusal->places;
     size_t length = 0;
     if (refusal->number == KODARFI_ACCEPTED) {

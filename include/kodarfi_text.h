@@ -12,7 +12,7 @@ struct kodarfi_words {
 };
 
 /* The row of a number, null where there is none. */
-static inline const struct kodarfi_words *kodarfi_words(uint32_t number) {
+static inline const struct kodarfi_words *kodarfi_words_of(uint32_t number) {
     static const struct kodarfi_words ROWS[] = {
         {0, "accepted: nothing is refused",
          "every exact height of the file's equations, for every right side within the tolerances, lies within the limits of the solution lines, in solution steps, and within those of the entry lines, in whole units; every exact inverse lies within those of the inverse lines, in inverse steps",

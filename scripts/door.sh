@@ -1,4 +1,4 @@
-# What ./register and ./convert share, as functions: what is said where nothing can be done, the words of a call, the file that is read, the program with
+# What ./register, ./convert and ./batch share, as functions: what is said where nothing can be done, the words of a call, the file that is read, the program with
 # its version, and its building. A script sets `me`, the name of itself and of its program, and `here`, its folder, and calls `lay_out`.
 # The gate takes memory_folder, commit and note_version from here.
 
@@ -174,8 +174,8 @@ show_progress() {
 # Builds the program, one at a time: whoever waited for the lock looks again. It gets the time at which its building
 # began, so that a source that was changed meanwhile is newer, and the lowest time where the building failed.
 build() {
-  local reason=$1 began from memory
-  command -v rt >/dev/null 2>&1 || fail "$reason, and the tool 'rt' that builds it is missing"
+  local reason=$1 began from
+  command -v rt >/dev/null 2>&1 || fail "$reason, and the tool 'rt' that builds it is missing$([ ! -x "$program" ] || echo '; with KODARFI_AS_BUILT=1 in the environment it is taken as it was built')"
   mkdir -p "$here/target" 2>/dev/null
   [ -w "$here/target" ] || fail "$reason, and there is no right to write to $here/target"
   exec 3<"$here/crates.txt"
@@ -186,7 +186,7 @@ build() {
   reason=$(reason_to_build)
   if [ -n "$reason" ]; then
     echo "$me: $reason: building it, which takes some minutes" >&2
-    began=$(date +%s.%N) from=$(commit) memory=$(memory_folder 1)
+    began=$(date +%s.%N) from=$(commit) memory=$(memory_folder 2)
     trap '[ -z "$memory" ] || rm -rf "$memory"' EXIT
     if ! (set -o pipefail; cd "$here" && TMPDIR=${memory:-${TMPDIR:-/tmp}} rt check "$me" </dev/null 3<&- | show_progress); then
       touch -d @0 "$program" 2>/dev/null

@@ -9,7 +9,7 @@ enum { ENOUGH = 2048 };
 
 static void print_rows(void) {
     for (uint32_t number = 0; number < 1000; number++) {
-        const struct kodarfi_words *const words = kodarfi_words(number);
+        const struct kodarfi_words *const words = kodarfi_words_of(number);
         if (!words) continue;
         test("the row of its number", words->number == number);
         printf("row\t%" PRIu32 "\t%s\t%s\t%s\n", number, words->what, words->expected, words->to_do);

@@ -2,6 +2,7 @@
 
 import fcntl
 import os
+import shutil
 import subprocess
 import time
 
@@ -80,7 +81,11 @@ def below(name):
     """A crate and all crates of crates.txt that it depends on."""
     lines = (line.split(":") for line in (ROOT / "crates.txt").read_text().splitlines() if ":" in line and not line.startswith("#"))
     needs = {crate: rest.split() for crate, rest in lines}
-    return {name}.union(*(below(crate) for crate in needs[name] if crate in needs))
+    found, more = set(), {name}
+    while more:
+        found |= more
+        more = {crate for one in more for crate in needs[one] if crate in needs} - found
+    return found
 
 
 def waiting_is_told_at_once(room):
@@ -131,17 +136,21 @@ def as_built_is_told(room):
 
 
 def rt_has_its_files_in_memory(room):
-    """Where there is room, by a stand-in for df, and a folder from which programs run; it is gone afterwards. Else they are where they were."""
+    """Where there is room, by a stand-in for df, and a folder from which programs run; it is gone afterwards, after a failure too. Else they are where they were."""
     can = room.shell("f=$(mktemp -p /dev/shm) && echo '#!/bin/sh' >$f && chmod 700 $f && $f; s=$?; rm -f $f; exit $s")[0] == 0
     found = []
-    for size in (9_000_000, 9_000):
+    for size in (9_000_000, 9_000, 9_000_000):
         room.write("with-rt/df", f"#!/bin/sh\necho head\necho shm 1 1 {size}\n").chmod(0o755)
         older_program(room)
         (room.root / "folder").unlink(missing_ok=True)
-        good = room.shell(f"TMPDIR=/var/tmp ./register {REFUSED}")[0] == 1
+        status = room.shell(f"TMPDIR=/var/tmp ./register {REFUSED}")[0]
         folder = (room.root / "folder").read_text().strip()
-        found.append((good, folder.startswith("/dev/shm/"), folder == "/var/tmp", os.path.exists(folder)))
-    return found == [(True, can, not can, not can), (True, False, True, True)]
+        found.append((status, folder.startswith("/dev/shm/"), folder == "/var/tmp", os.path.exists(folder)))
+        if folder.startswith("/dev/shm/tmp."):
+            shutil.rmtree(folder, ignore_errors=True)
+        if size == 9_000:
+            room.write("broken", "")
+    return found == [(1, can, not can, not can), (1, False, True, True), (2, can, not can, not can)]
 
 
 def old_program_without_rt_is_2(room):

@@ -7,7 +7,7 @@ import subprocess
 import generate
 import given
 
-from office.room import PROGRAM, ended, failed
+from office.room import PROGRAM, ROOT, ended, failed
 
 WHOLE = "examples/whole-file.txt"
 REFUSED = "examples/refused/2-two-spaces.txt"
@@ -165,7 +165,12 @@ def help_needs_no_program(room):
 
 
 def short_help_is_help(room):
-    return all(room.run("-h", script=script) == room.run("--help", script=script) and room.run("-h", script=script)[0] == 0 for script in ("register", "convert", "batch"))
+    """Of every script that a user starts."""
+    for name in (".ci/run", "bench/run", "tests/link/run"):
+        room.write(name, (ROOT / name).read_bytes()).chmod(0o755)
+    scripts = ("./register", "./convert", "./batch", ".ci/run", "bench/run", "tests/link/run", "python3 examples/propose.py")
+    told = [[room.shell(f"{script} {word}") for word in ("-h", "--help")] for script in scripts]
+    return all(short == full and short[0] == 0 and len(short[1]) > 100 and short[2] == b"" for short, full in told)
 
 
 # A stand-in for git: the folder is a clone, its commit is in the file `at`, and `changed` is there where a source is not the commit's.

@@ -60,6 +60,7 @@ class Room:
     """`edits` are triples of a file, a text in it and another text for it."""
 
     def __init__(self, edits=()):
+        os.umask(0o022)
         self.outside = tempfile.TemporaryDirectory(dir=open_folder())
         os.chmod(self.outside.name, 0o755)
         self.root = Path(self.outside.name) / "the repository"
@@ -74,6 +75,7 @@ class Room:
                 raise ValueError(f"{name} has no text {old!r}")
             (self.root / name).write_text(text.replace(old, new))
         for place in self.root.rglob("*"):
+            place.chmod(place.stat().st_mode | (0o555 if place.is_dir() or os.access(place, os.X_OK) else 0o444))
             os.utime(place, (LONG_AGO, LONG_AGO))
         (self.root / "target" / "bin").mkdir(parents=True)
         shutil.copy(PROGRAM, self.root / "program")
@@ -124,6 +126,7 @@ class Room:
     def started(self, command, rt, options):
         settings = {"cwd": self.root, "stdin": subprocess.DEVNULL, "stdout": subprocess.PIPE, "stderr": subprocess.PIPE} | options
         environment = os.environ | {"PATH": self.with_rt if rt else self.without_rt, "LC_ALL": "C"}
+        environment.pop("KODARFI_AS_BUILT", None)
         default = lambda: signal.signal(signal.SIGPIPE, signal.SIG_DFL)
         return subprocess.Popen(command, env=environment, preexec_fn=default, start_new_session=True, **settings)
 

@@ -136,7 +136,7 @@ def names_the_very_fault(room):
     """Of lines that are wrong in other ways; and what was expected of that line, and nothing else."""
     for line, (number, fault, expected) in FAULTS.items():
         _, out, err = room.run("--explain", text=b"(problem 2)\n(scale 4 4)\n" + line + b"\n")
-        if not out.startswith(f"(refused {number} (".encode()) or f"  fault: {fault}".encode() not in err or f"  expected: {expected}\n".encode() not in err:
+        if not out.startswith(f"(refused {number} (".encode()) or f"  fault: {fault}".encode() not in err or f"  expected: {expected}\n".encode() not in err or CLERKS_PART.encode() not in err:
             print(line, err)
             return False
     return True
@@ -154,6 +154,16 @@ def clerk_is_told_the_same(room):
     heading, first = text.split("\n\n")[:2]
     entered = first.startswith("**What is entered** are the entry lines") and "fixed mark" in first and "names or units" in first and heading.startswith("# ")
     return entered and CLERKS_PART in text and note in text and note in (room.root / "docs/FORMAT.md").read_text()
+
+
+def dropped_tolerance_gives_smaller_limits(room):
+    """CLERK's example of what an edit by a clerk does: without its last right side the file is accepted with limits of 1, without the first one with 5."""
+    lines = (room.root / "examples/refused/12-tolerance-added.txt").read_bytes().splitlines(keepends=True)
+    limits = []
+    for place in (6, 4):
+        listing = room.run(text=b"".join(lines[:place] + lines[place + 1 :]))[1].decode()
+        limits.append(re.findall(r"\(solution \d+ \(\d+ (\d+)\)\)", listing))
+    return limits == [["1", "1"], ["5", "5"]] and "accepted with limits of 1, where 5 was meant" in (room.root / "docs/CLERK.md").read_text()
 
 
 def explains_an_accepted_file(room):
@@ -223,6 +233,7 @@ def count_lines(path):
 
 
 TESTS = (
-    examples_give_their_lines, every_example_is_told, format_has_the_table, explains_every_example, names_the_very_fault, field_comes_first, clerk_is_told_the_same, explains_an_accepted_file, explains_what_is_read_once,
+    examples_give_their_lines, every_example_is_told, format_has_the_table, explains_every_example, names_the_very_fault, field_comes_first, clerk_is_told_the_same, dropped_tolerance_gives_smaller_limits,
+    explains_an_accepted_file, explains_what_is_read_once,
     quotes_no_control_bytes, quotes_a_long_line_in_part, names_many_missing_forms_in_part, readme_has_the_help, manual_has_the_help, readme_counts_lines,
 )
