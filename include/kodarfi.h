@@ -234,6 +234,19 @@ uint32_t kodarfi_build_half(uint32_t n,
                             int64_t *half, size_t half_len,
                             int64_t *right, size_t right_len);
 
+/* Either of the two, and *line is the number of the first field line that is refused, from 1, 0 where none is: so with 0 and 8, and with 3 for n or for more than 256
+ * lines. Everything else is as kodarfi_build and kodarfi_build_half have it. */
+uint32_t kodarfi_build_line(uint32_t n,
+                            const struct kodarfi_observation *observations, size_t observations_len,
+                            int64_t *matrix, size_t matrix_len,
+                            int64_t *right, size_t right_len,
+                            uint64_t *line);
+uint32_t kodarfi_build_half_line(uint32_t n,
+                                 const struct kodarfi_observation *observations, size_t observations_len,
+                                 int64_t *half, size_t half_len,
+                                 int64_t *right, size_t right_len,
+                                 uint64_t *line);
+
 /* Doubles in (document 02, Paper 11): a solver's heights as guesses, for S = 2^s solution steps a unit.
  *
  * n and s as in kodarfi_check; values and guess have at least 32 numbers each, of which the first n are used. No other number is read or written.
@@ -371,19 +384,6 @@ uint32_t kodarfi_convert(const uint8_t *file, size_t file_len,
                          uint8_t *out, size_t out_len,
                          size_t *written,
                          uint64_t places[2]);
-
-/* The same, and *line is the number of the first field line that is refused, from 1, 0 where none is: so with 0 and 8, and with 3 for n or for more than 256
- * lines. Everything else is as kodarfi_build and kodarfi_build_half have it. */
-uint32_t kodarfi_build_line(uint32_t n,
-                            const struct kodarfi_observation *observations, size_t observations_len,
-                            int64_t *matrix, size_t matrix_len,
-                            int64_t *right, size_t right_len,
-                            uint64_t *line);
-uint32_t kodarfi_build_half_line(uint32_t n,
-                                 const struct kodarfi_observation *observations, size_t observations_len,
-                                 int64_t *half, size_t half_len,
-                                 int64_t *right, size_t right_len,
-                                 uint64_t *line);
 
 /* The same, and *line is the number of the first line of the file that is refused, from 1, 0 where none is: so with 0, 15 and 22. Everything else is as
  * kodarfi_convert has it. */

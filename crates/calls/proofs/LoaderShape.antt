@@ -24,7 +24,7 @@ use Rattle.line_runs.proofs.Passing.{spelled, forms-spelled}
 use Rattle.refusal.specs.Refused.{printed}
 use Rattle.spelled_lines.specs.Ones.{textOf}
 use Rattle.file_check.specs.Problem.{problemFrom}
-use Rattle.file_shape.specs.Shape.{Shape, Spells, fed}
+use Rattle.file_shape.specs.Shape.{Shape, fed}
 use Rattle.file_shape.proofs.Answers.{shape-answer, shape-accepted}
 use Rattle.file_shape.proofs.Loader.{ShapedLines, shape-ends, ends-shape}
 use Rattle.reply.specs.Told.{Told}
