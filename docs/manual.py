@@ -71,6 +71,9 @@ def manual(name):
 
 
 def main():
+    if sys.argv[1:2] in (["-h"], ["--help"]):
+        print(__doc__)
+        return 0
     try:
         if sys.argv[1:] == ["--write"]:
             for name in PAGES:

@@ -53,6 +53,9 @@ def header():
 
 
 def main():
+    if sys.argv[1:2] in (["-h"], ["--help"]):
+        print(__doc__)
+        return 0
     if sys.argv[1:] not in ([], ["--write"]):
         print(f"usage: {sys.argv[0]} [--write]", file=sys.stderr)
         return 2

@@ -321,6 +321,13 @@ def manual_is_the_help(checkout):
     return True
 
 
+def help_is_told(checkout):
+    """By the scripts beside the programs, with -h as with --help."""
+    scripts = ([checkout.root / "scripts/install"], [sys.executable, checkout.root / "docs/manual.py"], [sys.executable, checkout.root / "docs/refusals_to_c.py"])
+    told = [[checkout.run(*script, word) for word in ("-h", "--help")] for script in scripts]
+    return all(short == long and short[0] == 0 and len(short[1]) > 100 and short[2] == "" for short, long in told)
+
+
 def manual_tells_the_version(checkout):
     return all(f'"Kodarfi {(ROOT / "VERSION").read_text().strip()}"' in (checkout.root / "docs" / f"{name}.1").read_text() for name in NAMES)
 
@@ -329,7 +336,7 @@ TESTS = (
     make_builds_the_programs, install_builds_nothing, installed_files_can_be_read, umask_does_not_matter, programs_need_no_checkout, programs_tell_their_version,
     batch_needs_no_checkout, program_of_batch_is_built_and_installed, works_through_a_link, c_program_by_pkg_config, pkg_config_file_tells_the_version, uninstall_leaves_nothing,
     uninstall_leaves_what_is_not_its_own, destdir_is_only_where_files_go, failure_is_one_line, full_disk_can_be_cleared, manual_is_the_help,
-    manual_tells_the_version,
+    manual_tells_the_version, help_is_told,
 )
 
 INSTALL = "scripts/install"
@@ -357,6 +364,7 @@ WRONG = {
     "a failed copy is passed over": (INSTALL, '2>/dev/null || fail "$base$prefix/$place cannot be written"', "2>/dev/null", full_disk_can_be_cleared),
     "a part of a path is a path": (INSTALL, "[[ $2 == /* && ", "[[ ", failure_is_one_line),
     "any name in the list is removed": (INSTALL, '|| fail "$list is damaged: $name"', "|| :", failure_is_one_line),
+    "no help": (INSTALL, "case ${1-} in -h | --help)", "case ${1-} in --help)", help_is_told),
     "another help in the manual": ("docs/convert.1", "old edition", "new edition", manual_is_the_help),
     "an option less in the manual": ("docs/batch.1", "\n.B \\-\\-jobs N\n", "\n.B \\-\\-job N\n", manual_is_the_help),
 }
