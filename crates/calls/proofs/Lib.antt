@@ -10,6 +10,7 @@ pub mod TwoProposals
 pub mod Conversion
 pub mod RefusedLine
 pub mod Loader
+pub mod LoaderNumbers
 pub mod LoaderRuns
 pub mod LoaderListing
 pub mod LoaderShape
