@@ -1,17 +1,95 @@
 /* The calls that the library libkodarfi.a gives to C and C++.
  *
- * Each answers every input: numbers, bytes and lengths may be anything. What C's types cannot say is the caller's part: no pointer is null; a pointer
- * with a length after it leads to as many numbers or bytes as that length says, and any other to as many as its comment says; nothing that is written
- * (a pointer without const) overlaps anything else of the same call. Calls keep no state, take at most 112 kilobytes of
- * stack and no other memory, and may run at the same time.
+ * Each answers every input: numbers, bytes and lengths may be anything. What C's types cannot say is the caller's part: a pointer with a length
+ * after it leads to as many numbers or bytes as that length says, and any other to as many as its comment says; nothing that is written
+ * (a pointer without const) overlaps anything else of the same call. A pointer may be null where the length after it is 0, as an empty std::vector
+ * hands it; no other may. Calls keep no state, take at most KODARFI_STACK_MAX bytes of stack and no other memory, and may run at the same time.
  *
  * Each gives the papers' number of the first refusal, 0 where nothing is refused. One that has `places` writes them in any case: the row, column,
- * count or line that goes with the refusal, 0 where there is none. Rows, columns and lines count from 1. */
+ * count or line that goes with the refusal, 0 where there is none. Rows, columns and lines count from 1.
+ *
+ * kodarfi_net.h has these calls on one struct with lists of full length, and the numbers in words.
+ *
+ * What the numbers mean, and their ranges; a number that is used and outside its range is 3:
+ *
+ *   n                  1 to 32           equations, and marks whose height is sought
+ *   s, t               0 to 20           S = 2^s solution steps and T = 2^t inverse steps make one unit
+ *   matrix, A          -2^20 to 2^20     the equations A * x = b, in whole units; so is half
+ *   right, b           -2^30 to 2^30     their right sides, in whole units
+ *   tolerance, d       0 to 2^20         how far each right side may lie from the true one, in whole units
+ *   guess, X           -2^36 to 2^36     the proposed heights, in solution steps: X means X/S units
+ *   inverse, G         -2^20 to 2^20     the proposed inverse of A, in inverse steps: G means G/T
+ *   weights, w         1 to 1,024        one for each row; 1 everywhere where the solver supplies none
+ *   coupling, C        -2^20 to 2^20     what a dependent net takes from the main net's heights
+ *   allowance          1 to 64           how many lists of weights may be tried
+ *   solution_bounds, inverse_bounds      written, 0 to 2^60: limits of X in solution steps and of G in inverse steps; kodarfi_intervals reads them
+ *
+ * How to choose s and t. Take the largest t at which every number of the inverse, times 2^t, stays within 2^20 in size: the exact solution and inverse
+ * rounded to nearest steps, with weights of 1 and no tolerances, are always accepted where the sizes |A_ij| of the whole matrix add up to less than
+ * 2 * 2^t, and no limit is above 1 where three times this sum is at most 2 * 2^t. Take the smallest s whose step, 2^-s of a unit, is as fine as the
+ * heights are wanted: a guess must stay within 2^36 steps, and a tolerance d takes d * 2^s of the 2^25 that 6 allows. */
 #ifndef KODARFI_H
 #define KODARFI_H
 
 #include <stddef.h>
 #include <stdint.h>
+
+/* The version of this header, and of the library beside it; libkodarfi.so.MAJOR is the shared one's name. */
+#define KODARFI_VERSION "3.0.0"
+#define KODARFI_VERSION_MAJOR 3
+#define KODARFI_VERSION_MINOR 0
+#define KODARFI_VERSION_PATCH 0
+
+/* The lengths of lists and buffers: of a matrix, a column, a matrix by its lower half, a listing; the longest file that kodarfi_convert writes; how many
+ * field lines a build takes; and how many bytes of a file decide its answer, so that no more need be read. */
+#define KODARFI_MATRIX_LENGTH 1024
+#define KODARFI_COLUMN_LENGTH 32
+#define KODARFI_HALF_LENGTH 528
+#define KODARFI_LISTING_LENGTH 32768
+#define KODARFI_CONVERTED_LENGTH 21300
+#define KODARFI_OBSERVATIONS_MAX 256
+#define KODARFI_FILE_LENGTH 65536
+
+/* The ends of the ranges: the highest number of each kind, and the highest size where numbers may be below 0. */
+#define KODARFI_N_MAX 32
+#define KODARFI_SCALE_MAX 20
+#define KODARFI_MATRIX_MAX 1048576
+#define KODARFI_RIGHT_MAX 1073741824
+#define KODARFI_TOLERANCE_MAX 1048576
+#define KODARFI_GUESS_MAX INT64_C(68719476736)
+#define KODARFI_INVERSE_MAX 1048576
+#define KODARFI_WEIGHT_MAX 1024
+#define KODARFI_ALLOWANCE_MAX 64
+#define KODARFI_BOUND_MAX UINT64_C(1152921504606846976)
+#define KODARFI_KEY_MAX 65535
+#define KODARFI_DIFFERENCE_MAX 65536
+#define KODARFI_LINE_WEIGHT_MAX 64
+
+/* The most bytes of stack that a call takes, 112 kilobytes. */
+#define KODARFI_STACK_MAX 114688
+
+/* What an answer says: the papers' numbers. docs/refusals.tsv has each in words, with what to do. */
+#define KODARFI_ACCEPTED 0
+#define KODARFI_TOO_LONG 1          /* a line above 320 bytes */
+#define KODARFI_NO_FORM 2           /* a line that is none of the eight forms */
+#define KODARFI_OUT_OF_RANGE 3      /* a number outside its range */
+#define KODARFI_WRONG_COUNT 4       /* a row or inverse list with other than n numbers */
+#define KODARFI_MARGIN 5            /* a margin of 0 or less */
+#define KODARFI_RESIDUAL 6          /* a residual of the guess too large */
+#define KODARFI_INVERSE_RESIDUAL 7  /* a residual of the inverse too large */
+#define KODARFI_TOO_SHORT 8         /* a list too short */
+#define KODARFI_TOO_EARLY 11        /* a form before problem or scale */
+#define KODARFI_REPEATED 12         /* a form given already */
+#define KODARFI_MISSING 13          /* forms are missing at the end */
+#define KODARFI_AFTER_END 14        /* a line after the end */
+#define KODARFI_NOT_ENDED 15        /* no end */
+#define KODARFI_SAME_MARK 16        /* a field line from a mark to the same mark */
+#define KODARFI_OTHER_CONTENTS 17   /* a key met before with other contents */
+#define KODARFI_NONE_GOOD 18        /* none of the allowed lists of weights is good */
+#define KODARFI_NO_GUESS 19         /* a double that gives no guess */
+#define KODARFI_DIFFERENT 20        /* two proposals for different equations */
+#define KODARFI_TOO_WIDE 21         /* a limit above 2^36 */
+#define KODARFI_NOT_CONVERTIBLE 22  /* a tolerance above 0, or a buffer too short */
 
 #ifdef __cplusplus
 extern "C" {
@@ -118,7 +196,10 @@ uint32_t kodarfi_find_weights(uint32_t n, uint32_t t,
                               uint64_t places[2]);
 
 /* A field line (document 02, Paper 3): its key (1 to 65,535), the marks that it leads from and to (0 to n; 0 is the fixed mark of height 0), the difference
- * of height in whole units (-65,536 to 65,536) and its weight (1 to 64). */
+ * of height in whole units (-65,536 to 65,536) and its weight (1 to 64).
+ *
+ * For bindings outside C: 32 bytes, aligned to 8; key stands at byte 0, from at 4, to at 8, difference at 16 and weight at 24. Bytes 12 to 15 and 28 to
+ * 31 may hold anything. */
 struct kodarfi_observation {
     uint32_t key;
     uint32_t from;
@@ -152,6 +233,19 @@ uint32_t kodarfi_build_half(uint32_t n,
                             const struct kodarfi_observation *observations, size_t observations_len,
                             int64_t *half, size_t half_len,
                             int64_t *right, size_t right_len);
+
+/* Either of the two, and *line is the number of the first field line that is refused, from 1, 0 where none is: so with 0 and 8, and with 3 for n or for more than 256
+ * lines. Everything else is as kodarfi_build and kodarfi_build_half have it. */
+uint32_t kodarfi_build_line(uint32_t n,
+                            const struct kodarfi_observation *observations, size_t observations_len,
+                            int64_t *matrix, size_t matrix_len,
+                            int64_t *right, size_t right_len,
+                            uint64_t *line);
+uint32_t kodarfi_build_half_line(uint32_t n,
+                                 const struct kodarfi_observation *observations, size_t observations_len,
+                                 int64_t *half, size_t half_len,
+                                 int64_t *right, size_t right_len,
+                                 uint64_t *line);
 
 /* Doubles in (document 02, Paper 11): a solver's heights as guesses, for S = 2^s solution steps a unit.
  *
@@ -276,8 +370,9 @@ uint32_t kodarfi_common(uint32_t n1, uint32_t s1, uint32_t t1,
  *
  * The answer is 0 where every line of the file is accepted, its end among them, all tolerances are 0 and the new file fits: then the first *written bytes of out are
  * the new file (problem, scale, rows, right sides, guesses, inverse rows and all n weights, each kind by rising i, then end, each line with its line feed), and the
- * others are as before. No new file has more than 21,300 bytes. It is accepted by document 01's rules, gives the same listing as the file, and is its own new file.
- * Else the answer is the number of the refusal, and out and *written are as before:
+ * others are as before. No new file has more than 21,300 bytes. The desk of document 01 accepts every line of it; a file whose check is refused with 5, 6 or 7 is
+ * converted too. The new file has the same listing as the file, and is its own new file. Else the answer is the number of the refusal, and out and *written are as
+ * before:
  *
  *   1 to 4, 11, 12, 14   of the first line that is refused     places: 0, 0
  *   13                   forms are missing at the end                  how many, 0
@@ -289,6 +384,14 @@ uint32_t kodarfi_convert(const uint8_t *file, size_t file_len,
                          uint8_t *out, size_t out_len,
                          size_t *written,
                          uint64_t places[2]);
+
+/* The same, and *line is the number of the first line of the file that is refused, from 1, 0 where none is: so with 0, 15 and 22. Everything else is as
+ * kodarfi_convert has it. */
+uint32_t kodarfi_convert_line(const uint8_t *file, size_t file_len,
+                              uint8_t *out, size_t out_len,
+                              size_t *written,
+                              uint64_t places[2],
+                              uint64_t *line);
 
 /* How far the limits of a proposal can lie above true errors: the factor.
  *
@@ -311,6 +414,66 @@ uint32_t kodarfi_quality(uint32_t n, uint32_t t,
                          const int64_t *weights, size_t weights_len,
                          uint64_t *numerator, uint64_t *denominator,
                          uint64_t places[2]);
+
+/* The loader (document 01's desk): a file's lines one at a time, as they come.
+ *
+ * A loader is nine numbers that the caller keeps from call to call, beside the six lists that the lines' numbers go into; they can be copied and sent.
+ * kodarfi_loader_new makes them a loader that was given nothing, whatever they were: nine times 0. They are how far the loader has come (0: nothing given,
+ * 1: problem, 2: scale, 3: an accepted end), then n, s and t, each 0 until it is given, and then the rows, right sides, guesses, inverse rows and weights that
+ * were given, the number i at bit i - 1.
+ *
+ * Any nine numbers are a loader: a first number above 3 is read as 0, and every other is read as it stands. Only one that these calls have made since
+ * kodarfi_loader_new has been given what it says. kodarfi_loader_new refuses nothing, and so it gives no number. */
+void kodarfi_loader_new(uint32_t loader[9]);
+
+/* A loader takes one line, without its line feed.
+ *
+ * matrix and inverse have at least 1,024 numbers and the other lists at least 32; where a program takes a file's lines, the lists are the same from line to line.
+ *
+ * The answer is 0 where the line is accepted. A problem then puts n into the loader and a scale s and t, with no list touched; any other form but an end puts its
+ * numbers at their own places in its list, as kodarfi_check has them, and the loader counts it as given. A right side without tolerance puts 0 into tolerance. An
+ * end puts 1 into each of the first n weights that was not given. No other number of the lists is changed. Else the answer is the number of the first refusal
+ * in this order, and the loader and all six lists are as before, whatever the loader was; a refused line is as if it had not been handed over:
+ *
+ *   8    a list is too short                                             places: 0, 0
+ *   14   an end was accepted before                                              0, 0
+ *   1    the line has more than 320 bytes                                        0, 0
+ *   2    it is none of the forms, spelled exactly                                0, 0
+ *   11   it comes before problem, or before scale                                0, 0
+ *   3    its i is not 1 to n; or the loader's own n is not 1 to 32               0, 0
+ *   12   its form was given before: problem, scale, or this kind and i           0, 0
+ *   3    another number of it is outside its range                               0, 0
+ *   4    a row or an inverse row has other than n numbers                        0, 0
+ *   13   it is an end, and forms are missing                                     how many, 0
+ */
+uint32_t kodarfi_loader_take(uint32_t loader[9],
+                             const uint8_t *line, size_t line_len,
+                             int64_t *matrix, size_t matrix_len,
+                             int64_t *right, size_t right_len,
+                             int64_t *tolerance, size_t tolerance_len,
+                             int64_t *guess, size_t guess_len,
+                             int64_t *inverse, size_t inverse_len,
+                             int64_t *weights, size_t weights_len,
+                             uint64_t places[2]);
+
+/* The check of what a loader was given, on the lists as they are now.
+ *
+ * The answer, the places and both lists of limits are those of kodarfi_check with the loader's n, s and t, and with one more refusal, right after 8:
+ *
+ *   15   no end was accepted     places: 0, 0
+ *
+ * Where the lines were taken by this loader since kodarfi_loader_new, with these lists and no other hand on either, and the lists of limits are long enough, the
+ * answer after an accepted end and its places are those of kodarfi_listing for a file of the accepted lines: 0, 5, 6 or 7. */
+uint32_t kodarfi_loader_check(const uint32_t loader[9],
+                              const int64_t *matrix, size_t matrix_len,
+                              const int64_t *right, size_t right_len,
+                              const int64_t *tolerance, size_t tolerance_len,
+                              const int64_t *guess, size_t guess_len,
+                              const int64_t *inverse, size_t inverse_len,
+                              const int64_t *weights, size_t weights_len,
+                              uint64_t *solution_bounds, size_t solution_bounds_len,
+                              uint64_t *inverse_bounds, size_t inverse_bounds_len,
+                              uint64_t places[2]);
 
 #ifdef __cplusplus
 }

@@ -4,7 +4,7 @@
   python3 tests/emit_builds.py --self-test                  they meet every case, tell every version of wrong_builds.py, and agree with the other tests' nets
 
 Each build is: n, how many lines, 0 for a square and 1 for a lower half (02, Paper 10), and the two lengths that the call is told; then the lines, five
-numbers each; then the refusal's number, 0 where the equations are built; and then, where they are, the numbers of the matrix, n × n or n(n + 1)/2, and the n
+numbers each; then the refusal's number, 0 where the equations are built, and the refused line, 0 where there is none; and then, where they are, the numbers of the matrix, n × n or n(n + 1)/2, and the n
 right sides."""
 
 import random
@@ -54,9 +54,9 @@ def written(call):
     yield [call.n, len(call.lines), (SQUARE, LOWER).index(call.layout), *call.lengths]
     yield from call.lines
     if isinstance(answer, Refusal):
-        yield [answer.number]
+        yield [answer.number, Builder().refused_line(call)]
     else:
-        yield [0]
+        yield [0, 0]
         yield answer.matrix
         yield answer.right
 

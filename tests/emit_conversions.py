@@ -5,8 +5,9 @@
                                                                old file and the new one alike
   python3 tests/emit_conversions.py --self-test                the files meet every case, tell every version of wrong_conversions.py, and the new files are files of 01
 
-Each conversion is a line with six numbers: the length of the file, that of the buffer, the number of the refusal (0 where it is converted), the two values that
-it gives (0 where there is none), and the length of the new file (0 on a refusal); then the bytes of the file and those of the new one."""
+Each conversion is a line with seven numbers: the length of the file, that of the buffer, the number of the refusal (0 where it is converted), the two values that
+it gives (0 where there is none), the line that is refused (0 where none is), and the length of the new file (0 on a refusal); then the bytes of the file and those
+of the new one."""
 
 import argparse
 import random
@@ -79,7 +80,7 @@ def conversions(seed, files):
 def emit(seed, files):
     for file, room in conversions(seed, files):
         numbers, text = answered(Converter().convert(file, room))
-        sys.stdout.buffer.write(joined([len(file), room, *numbers, len(text)]).encode() + b"\n" + file + text)
+        sys.stdout.buffer.write(joined([len(file), room, *numbers, Program().refused_line(file), len(text)]).encode() + b"\n" + file + text)
 
 
 def case_of(file, room, converted):

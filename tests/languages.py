@@ -1,7 +1,9 @@
-"""The library in each language: the compile lines of README's section "Linking" are run as they stand there, and each program lists files.
+"""The library in each language: the compile lines of README's section "Linking" are run as they stand there, each program lists files, and those with a
+loader take lines as they are typed.
 
   python3 tests/languages.py   after `rt staticlib kodarfi`; the last line is 'N passed, M failed'"""
 
+import select
 import subprocess
 import sys
 import tempfile
@@ -23,6 +25,27 @@ FILES = (
     (b"", b"(refused 15 (0))\n", 1),
     (EXAMPLE + b"\0\n", b"(refused 14 (14))\n", 1),
     (b"x" * 1000000, b"(refused 1 (1))\n", 1),
+)
+LOADERS = {
+    "C": ["target/loader-c"],
+    "Python": ["python3", "examples/loader.py", "target/libkodarfi.so"],
+}
+SOLUTION = b"(solution 1 (23 1))\n(solution 2 (13 1))\n"
+# what is typed, what is answered and the exit status
+TYPED = (
+    (EXAMPLE, SOLUTION, 0),
+    (EXAMPLE[:-1], SOLUTION, 0),
+    (b"", b"the check is refused: 15 (0 0)\n", 1),
+    (b"x" * 1000000, b"line 1 is refused: 1 (0)\nthe check is refused: 15 (0 0)\n", 1),
+    (EXAMPLE.replace(b"(guess 1 23)", b"(guess 1 2300)"), b"the check is refused: 6 (1 0)\n", 1),
+    (
+        EXAMPLE.replace(b"(row 2 (-1 3))\n", b"(row 2 (-1))\n(row 2 (-1 3))\n(row 1 (4 -1))\n")
+        .replace(b"(guess 1 23)\n", b"(guess 3 23)\n(guess  1 23)\n\n(guess 1 23)\n(end)\n")
+        + b"(weight 1 1)\n\0",
+        b"".join(b"line %d is refused: %s (%d)\n" % said for said in ((4, b"4", 0), (6, b"12", 0), (9, b"3", 0), (10, b"2", 0), (11, b"2", 0), (13, b"13", 3), (20, b"14", 0), (21, b"14", 0)))
+        + SOLUTION,
+        0,
+    ),
 )
 # programs that a test must tell, by what is wrong in them
 WRONG = {
@@ -63,10 +86,44 @@ def tells_a_missing_file(program):
     return done is not None and (done[0], done[2]) == (b"", 2)
 
 
+def answers(program, typed, answer, status):
+    done = subprocess.run(program, cwd=ROOT, input=typed, capture_output=True, timeout=600)
+    return (done.stdout, done.stderr, done.returncode) == (answer, b"", status)
+
+
+def answers_at_once(program):
+    """Whether a refused line is answered before another is typed, and what follows it is taken."""
+    with subprocess.Popen(program, cwd=ROOT, stdin=subprocess.PIPE, stdout=subprocess.PIPE) as run:
+        run.stdin.write(b"(problem)\n")
+        run.stdin.flush()
+        is_there = select.select([run.stdout], [], [], 600)[0] != []
+        answer = run.stdout.readline() if is_there else b""
+        run.stdin.write(EXAMPLE)
+        run.stdin.close()
+        rest = run.stdout.read()
+    return (answer, rest, run.returncode) == (b"line 1 is refused: 2 (0)\n", SOLUTION, 0)
+
+
+def tells_a_full_disk(program):
+    with open("/dev/full", "wb") as full:
+        done = [subprocess.run(program, cwd=ROOT, input=typed, stdout=full, stderr=subprocess.PIPE, timeout=600) for typed in (EXAMPLE, b"x\n")]
+    return all(run.returncode == 2 and run.stderr.count(b"\n") == 1 for run in done)
+
+
+def loader_results():
+    for language, program in LOADERS.items():
+        for index, lines in enumerate(TYPED):
+            yield f"{language}: lines {index}", answers(program, *lines)
+        yield f"{language}: each line as it is typed", answers_at_once(program)
+        yield f"{language}: a full disk", tells_a_full_disk(program)
+    stops = ["sh", "-c", "head -n 3 | target/loader-c"]
+    yield "a program that stops at a refused line is told", not all(answers(stops, *lines) for lines in TYPED)
+
+
 def results():
     """What is tested, and whether it holds."""
     lines = compile_lines()
-    yield "one compile line a language", len(lines) == len(PROGRAMS)
+    yield "one compile line a language, and one for the loader", len(lines) == len(PROGRAMS) + 1
     for line in lines:
         yield line, compiles(line)
     right = {language: [lists(program, *file) for file in FILES] for language, program in PROGRAMS.items()}
@@ -74,6 +131,7 @@ def results():
         for index, holds in enumerate(right[language]):
             yield f"{language}: file {index}", holds
         yield f"{language}: a missing file", all(right[language]) and tells_a_missing_file(program)
+    yield from loader_results()
     for wrong, program in WRONG.items():
         yield f"a program that {wrong} is told", all(right["C"]) and not all(lists(program, *file) for file in FILES)
 

@@ -35,6 +35,7 @@ bool read_build(FILE *file, struct build *x, struct build_answer *answer) {
     for (size_t i = 0; i < x->count; i++) read_line(file, &x->lines[i]);
     set_before(answer);
     answer->number = (uint32_t)next_number(file);
+    answer->line = (uint64_t)next_number(file);
     if (answer->number != 0) return true;
     for (uint32_t i = 0; i < (x->is_half ? x->n * (x->n + 1) / 2 : x->n * x->n); i++) answer->matrix[i] = next_number(file);
     for (uint32_t i = 0; i < x->n; i++) answer->right[i] = next_number(file);

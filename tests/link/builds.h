@@ -17,9 +17,10 @@ struct build {
     struct kodarfi_observation lines[LINES];
 };
 
-/* What it leaves. */
+/* What it leaves, and which line is refused, 0 where none is. */
 struct build_answer {
     uint32_t number;
+    uint64_t line;
     int64_t matrix[1024], right[32];
 };
 

@@ -9,11 +9,11 @@
 
 enum { LONGEST_CONVERTED = 1 << 18, ROOM = 1 << 15 };
 
-/* What a conversion is handed, and what is right: the number, the two values, and the new file. */
+/* What a conversion is handed, and what is right: the number, the two values, the refused line, and the new file. */
 struct conversion {
     size_t file_len, room, length;
     uint32_t number;
-    uint64_t places[2];
+    uint64_t places[2], line;
     uint8_t file[LONGEST_CONVERTED], text[ROOM];
 };
 

@@ -76,6 +76,22 @@ extern "C" {
         right: *mut i64, right_len: usize,
     ) -> u32;
 
+    pub fn kodarfi_build_line(
+        n: u32,
+        observations: *const Observation, observations_len: usize,
+        matrix: *mut i64, matrix_len: usize,
+        right: *mut i64, right_len: usize,
+        line: *mut u64,
+    ) -> u32;
+
+    pub fn kodarfi_build_half_line(
+        n: u32,
+        observations: *const Observation, observations_len: usize,
+        half: *mut i64, half_len: usize,
+        right: *mut i64, right_len: usize,
+        line: *mut u64,
+    ) -> u32;
+
     pub fn kodarfi_guesses(
         n: u32, s: u32,
         values: *const f64, values_len: usize,
@@ -150,6 +166,41 @@ extern "C" {
         inverse: *const i64, inverse_len: usize,
         weights: *const i64, weights_len: usize,
         numerator: *mut u64, denominator: *mut u64,
+        places: *mut u64,
+    ) -> u32;
+
+    pub fn kodarfi_convert_line(
+        file: *const u8, file_len: usize,
+        out: *mut u8, out_len: usize,
+        written: *mut usize,
+        places: *mut u64,
+        line: *mut u64,
+    ) -> u32;
+
+    pub fn kodarfi_loader_new(loader: *mut u32);
+
+    pub fn kodarfi_loader_take(
+        loader: *mut u32,
+        line: *const u8, line_len: usize,
+        matrix: *mut i64, matrix_len: usize,
+        right: *mut i64, right_len: usize,
+        tolerance: *mut i64, tolerance_len: usize,
+        guess: *mut i64, guess_len: usize,
+        inverse: *mut i64, inverse_len: usize,
+        weights: *mut i64, weights_len: usize,
+        places: *mut u64,
+    ) -> u32;
+
+    pub fn kodarfi_loader_check(
+        loader: *const u32,
+        matrix: *const i64, matrix_len: usize,
+        right: *const i64, right_len: usize,
+        tolerance: *const i64, tolerance_len: usize,
+        guess: *const i64, guess_len: usize,
+        inverse: *const i64, inverse_len: usize,
+        weights: *const i64, weights_len: usize,
+        solution_bounds: *mut u64, solution_bounds_len: usize,
+        inverse_bounds: *mut u64, inverse_bounds_len: usize,
         places: *mut u64,
     ) -> u32;
 }

@@ -47,6 +47,7 @@ static const struct part {
     {"common", "common.txt", test_common},
     {"conversions", "conversions.bin", test_conversions},
     {"quality", "quality.txt", test_quality},
+    {"loader", "loader.txt", test_loader},
     {"files", "files.bin", test_files},
     {"lists", "nets.txt", test_lists},
 };

@@ -17,6 +17,7 @@ mod files;
 mod halves;
 mod kodarfi;
 mod lists;
+mod loader;
 mod numbers;
 mod quality;
 mod reckoning;
@@ -44,6 +45,7 @@ const PARTS: [(&str, &str, fn(&mut Count, &[u8])); 11] = [
     ("common", "common.txt", test_common::test_common),
     ("conversions", "conversions.bin", conversions::test_conversions),
     ("quality", "quality.txt", test_quality::test_quality),
+    ("loader", "loader.txt", loader::test_loader),
     ("files", "files.bin", files::test_files),
     ("lists", "nets.txt", test_lists::test_lists),
 ];

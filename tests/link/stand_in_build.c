@@ -82,3 +82,32 @@ uint32_t kodarfi_build(uint32_t n, const line *lines, size_t count, int64_t *mat
     for (unsigned i = 0; i < kept; i++) add_line(&distinct[i], n, matrix, right);
     return 0;
 }
+
+/* The number of the first refused line of a list that is refused for a line, by the ways that it can be wrong. */
+static uint64_t refused_line(uint32_t n, const line *lines, size_t count, bool is_short) {
+    static line distinct[MOST_LINES];
+    unsigned kept = 0;
+    if (is_short) return is_wrong(build_line_of_8) ? 1 : 0;
+    if (n < 1 || n > MOST || count > MOST_LINES) return is_wrong(build_line_of_list) ? 1 : 0;
+    for (size_t i = 0; i < count; i++) {
+        const unsigned at = place_of(distinct, kept, lines[i].key);
+        if (line_says(&lines[i], at < kept ? &distinct[at] : NULL, n)) return is_wrong(build_line_of_distinct) ? kept + 1 : is_wrong(build_lines_from_0) ? i : i + 1;
+        if (at == kept) distinct[kept++] = lines[i];
+    }
+    return is_wrong(build_line_of_last) ? count : 0;
+}
+
+static void write_refused_line(uint32_t n, const line *lines, size_t count, bool is_short, uint64_t *line) {
+    const uint64_t found = refused_line(n, lines, count, is_short);
+    if (found > 0 || !is_wrong(build_line_left)) *line = found;
+}
+
+uint32_t kodarfi_build_line(uint32_t n, const line *lines, size_t count, int64_t *matrix, size_t matrix_len, int64_t *right, size_t right_len, uint64_t *refused) {
+    write_refused_line(n, lines, count, matrix_len < 1024 || right_len < 32, refused);
+    return kodarfi_build(n, lines, count, matrix, matrix_len, right, right_len);
+}
+
+uint32_t kodarfi_build_half_line(uint32_t n, const line *lines, size_t count, int64_t *half, size_t half_len, int64_t *right, size_t right_len, uint64_t *refused) {
+    write_refused_line(n, lines, count, half_len < (is_wrong(build_half_line_at_1024) ? 1024 : 528) || right_len < 32, refused);
+    return kodarfi_build_half(n, lines, count, half, half_len, right, right_len);
+}

@@ -23,7 +23,7 @@ void test_entries(FILE *entries);
 /* kodarfi_find_weights on the searches of tests/emit_weights.py. */
 void test_weights(FILE *searches);
 
-/* kodarfi_build and kodarfi_build_half on the lists of tests/emit_builds.py. */
+/* kodarfi_build, kodarfi_build_half, kodarfi_build_line and kodarfi_build_half_line on the lists of tests/emit_builds.py. */
 void test_builds(FILE *builds);
 
 /* kodarfi_guesses and kodarfi_intervals on the calls of tests/emit_doubles.py. */
@@ -38,10 +38,13 @@ void test_dependent(FILE *pairs);
 /* kodarfi_common on the pairs of tests/emit_common.py. */
 void test_common(FILE *pairs);
 
-/* kodarfi_convert on the conversions of tests/emit_conversions.py. */
+/* kodarfi_convert and kodarfi_convert_line on the conversions of tests/emit_conversions.py. */
 void test_conversions(FILE *conversions);
 
 /* kodarfi_quality on the calls of tests/emit_quality.py. */
 void test_quality(FILE *inquiries);
+
+/* kodarfi_loader_new, kodarfi_loader_take and kodarfi_loader_check on the steps of tests/emit_loader.py. */
+void test_loader(FILE *steps);
 
 #endif

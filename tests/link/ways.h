@@ -198,6 +198,39 @@
     X(quality, refused_factor_written)          \
     X(quality, refused_margin_written)          \
     X(quality, rate_places_left)                \
+    /* kodarfi_build_line, _half_line */         \
+    X(builds, build_line_of_8)                  \
+    X(builds, build_line_of_list)               \
+    X(builds, build_line_of_distinct)           \
+    X(builds, build_lines_from_0)               \
+    X(builds, build_line_of_last)               \
+    X(builds, build_line_left)                  \
+    X(builds, build_half_line_at_1024)          \
+    /* kodarfi_convert_line */                   \
+    X(conversions, line_left_where_none)        \
+    X(conversions, line_of_13_lost)             \
+    X(conversions, convert_lines_from_0)        \
+    X(conversions, line_for_open)               \
+    X(conversions, line_for_22)                 \
+    X(conversions, written_beside_line)         \
+    /* kodarfi_loader_new, _take, _check */      \
+    X(loader, new_sets_left)                    \
+    X(loader, guess_for_inverse_set)            \
+    X(loader, weight_set_left)                  \
+    X(loader, end_not_kept)                     \
+    X(loader, end_leaves_weights)               \
+    X(loader, tolerance_left)                   \
+    X(loader, refused_written_back)             \
+    X(loader, refused_line_clears)              \
+    X(loader, refused_line_written)             \
+    X(loader, loader_count_lost)                \
+    X(loader, line_counted)                     \
+    X(loader, above_three_ended)                \
+    X(loader, loader_places_left)               \
+    X(loader, checked_before_end)               \
+    X(loader, end_before_short)                 \
+    X(loader, said_11_for_15)                   \
+    X(loader, loader_scales_exchanged)          \
     /* kodarfi_listing: file */                 \
     X(files, first_4096_bytes)                  \
     X(files, last_line_needs_feed)              \

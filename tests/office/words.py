@@ -98,7 +98,8 @@ def every_example_is_told(room):
     told = [(number, path.name, line) for number, path, line in examples(room) if number != "0"]
     numbered = all(name.split("-")[0] == number and line.startswith(f"(refused {number} (") for number, name, line in told)
     files = sorted(path.name for path in (room.root / "examples/refused").iterdir())
-    return numbered and sorted(name for _, name, _ in told) == files and {number for number, _, _ in told} == set(table(room)) - {"Number", "0", "8"}
+    of_files = {number for number, row in table(room).items() if number not in ("Number", "0") and " alone: " not in row[4]}
+    return numbered and sorted(name for _, name, _ in told) == files and {number for number, _, _ in told} == of_files
 
 
 def format_has_the_table(room):

@@ -55,10 +55,9 @@ class Equations(NamedTuple):
 class Builder:
     def build(self, call):
         """The equations, or the refusal: "8 comes first, then 3 for n. [..] A list above 256 is 3, before any line." """
-        if any(told < least for told, least in zip(call.lengths, self.least(call.layout))):
-            return Refusal(8)
-        if not is_within("problem", [call.n]) or len(call.lines) > MOST:
-            return Refusal(3)
+        number = self.refused_first(call)
+        if number:
+            return Refusal(number)
         kept = {}
         for line in call.lines:
             number = self.refused(call.n, kept, line)
@@ -67,6 +66,21 @@ class Builder:
             self.keep(kept, line)
         equations = self.equations(call.n, list(kept.values()))
         return equations._replace(matrix=self.laid_out(call.layout, call.n, equations.matrix))
+
+    def refused_first(self, call):
+        """What is said before any line; 0 where nothing is."""
+        if any(told < least for told, least in zip(call.lengths, self.least(call.layout))):
+            return 8
+        return 3 if not is_within("problem", [call.n]) or len(call.lines) > MOST else 0
+
+    def refused_line(self, call):
+        """The number, from 1, of the first line that is refused; 0 where none is, or where the call is refused before any line."""
+        kept = {}
+        for number, line in enumerate(() if self.refused_first(call) else call.lines, 1):
+            if self.refused(call.n, kept, line):
+                return number
+            self.keep(kept, line)
+        return 0
 
     def least(self, layout):
         """02, Paper 10: "8 for a list under 528", where the half is built."""

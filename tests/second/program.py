@@ -38,6 +38,11 @@ class Program:
                 return Refusal(refusal.number, (number,)) if refusal.number in WITH_LINE else refusal
         return self.problem(loader) if loader.ended else Refusal(15, (0,))
 
+    def refused_line(self, file):
+        """The number, from 1, of the first line that is refused; 0 where none is."""
+        loader = self.loader(self.rules)
+        return next((number for number, line in enumerate(self.lines(file), 1) if loader.take(line) is not None), 0)
+
     def lines(self, file):
         return lines_of(file)
 

@@ -8,7 +8,7 @@ use Prim.Native.Nat.{ℕ, _+_, _*_, _≤_, _<_}
 use native.Mathlib.Omega.{arith}
 use lib.Dec.{lit≤}
 use lib.IntN.{ℤ, pos, natAbs, _+ℤ_, _-ℤ_, _*ℤ_}
-use Rattle.integer.specs.Finite.{sum, sumℕ, largest, first}
+use Rattle.integer.specs.Finite.{sum, sumℕ, largest, first, every}
 use Rattle.integer.specs.Quotient.{ceilDiv}
 use Rattle.integer.proofs.Absolute.{abs-zero}
 use Rattle.integer.proofs.Difference.{is, zz}
@@ -32,7 +32,7 @@ use Rattle.good_limits.proofs.Instance.{only}
 use Rattle.accepted_limits.specs.Example.{fork}
 
 pub fork-accepted : jointAnswer fork ≡ []
-unfolding jointAnswer answer dependentAnswer dependentResidual dependentSlack bound boundWith boundFrom sizesWith exceeds rowSum residual margin load defect product apply identity sum sumℕ largest first ceilDiv allInRange inRange rangeOf ranges
+unfolding jointAnswer answer dependentAnswer dependentResidual dependentSlack bound boundWith boundFrom sizesWith exceeds rowSum residual margin load defect product apply identity sum sumℕ largest first ceilDiv allInRange inRange rangeOf ranges every
 fork-accepted = refl
 
 pub fork-limits : (bound (mainProblem fork) 0 ≡ 48) × ((i : ℕ) → i < 2 → dependentBound (attached fork) i ≡ 144)

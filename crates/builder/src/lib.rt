@@ -14,7 +14,7 @@ use observation::Built;
 use observation::Observation;
 
 // The lines one after the other; of a list above 256 none is looked at.
-fn gather(observations: &[Observation], start: Gathered) -> Gathered
+pub fn gather(observations: &[Observation], start: Gathered) -> Gathered
     ensures { λ r. ⌜ r ≡ gathered start (now (observations .entry)) (few (length (now (observations .entry)))) ⌝ }
 {
     let mut g = start;

@@ -1,4 +1,5 @@
 -- The contract of `build`, from what was gathered and finished.
+--   many  — a list above 256, by either test
 --   built — the contract
 use mathlib.Core.Path.{_≡_, refl, sym, ap, _∙_}
 use mathlib.Core.Bool.{Bool, true, false, not, cond, _&&_}
@@ -32,7 +33,7 @@ finally false true true lines = refl
 finally false true false lines = refl
 finally false false m lines = refl
 
-many : (k : ℕ) → not (leb k 256) ≡ ltb 256 k
+pub many : (k : ℕ) → not (leb k 256) ≡ ltb 256 k
 many k = go (leb k 256) refl
   where
     go : (b : Bool) → leb k 256 ≡ b → not b ≡ ltb 256 k

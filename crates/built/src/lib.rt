@@ -22,7 +22,7 @@ fn is_short_as(layout: Layout, matrix: usize) -> bool
 }
 
 // 8: whether a list of one of these lengths is too short.
-fn is_short(layout: Layout, matrix: usize, right: usize) -> bool
+pub fn is_short(layout: Layout, matrix: usize, right: usize) -> bool
     ensures { λ r. ⌜ r ≡ shortAs layout matrix || shortColumn right ⌝ }
 {
     is_short_as(layout, matrix) | (right < 32)

@@ -2,9 +2,16 @@ pub mod Meaning
 pub mod Covered
 pub mod Weights
 pub mod Build
+pub mod BuildLine
 pub mod Doubles
 pub mod Half
 pub mod TwoNets
 pub mod TwoProposals
 pub mod Conversion
 pub mod Quality
+pub mod RefusedLine
+pub mod Loader
+pub mod LoaderNumbers
+pub mod LoaderRuns
+pub mod LoaderListing
+pub mod LoaderShape

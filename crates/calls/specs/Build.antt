@@ -1,6 +1,7 @@
 -- What the exported builder says and leaves.
 --   BuildExported — the contract of `kodarfi_build` and `kodarfi_build_half`, each with its layout: the number of an answer that `BuiltAs`, the contract of
 --                   `builder::build`, holds of, 0 where the equations are built; both lists as there
+--   BuildLineExported — that of `kodarfi_build_line` and `kodarfi_build_half_line`: the same, and the line that is refused
 use mathlib.Core.List.{List}
 use mathlib.Core.Path.{_≡_}
 use Prim.Native.Nat.{ℕ}
@@ -9,10 +10,15 @@ use lib.ListN.{getD}
 use Rattle.observation.specs.declared.Built.{Built}
 use Rattle.observation.specs.declared.Observation.{Observation}
 use Rattle.observation.specs.Order.{saidBuilt}
+use Rattle.observation.specs.Refused.{buildLine}
 use Rattle.equations.specs.declared.Layout.{Layout}
-use Rattle.built.specs.BuiltAs.{BuiltAs}
+use Rattle.built.specs.BuiltAs.{shortFor, BuiltAs}
 
 pub record BuildExported (n : ℕ) (ls : List Observation) (layout : Layout) (matrix right : List ℤ) (number : ℕ) (newMatrix newRight : List ℤ) : Type 0 where
   pub answer : Built
   pub built : BuiltAs n ls layout matrix right answer newMatrix newRight
   pub number-is : number ≡ getD (saidBuilt answer) 0 0
+
+pub record BuildLineExported (n : ℕ) (ls : List Observation) (layout : Layout) (matrix right : List ℤ) (number : ℕ) (newMatrix newRight : List ℤ) (line : ℕ) : Type 0 where
+  pub exported : BuildExported n ls layout matrix right number newMatrix newRight
+  pub line-is : line ≡ buildLine n ls (shortFor layout matrix right)

@@ -27,6 +27,7 @@ use Rattle.checked.specs.Stated.{Usable}
 use Rattle.checked.specs.Checked.{Checked, solutionAfter, inverseAfter, solutionBoundsAfter, inverseBoundsAfter}
 use Rattle.checked.proofs.Contract.{checked-ready, answer-ready}
 use Rattle.checked.proofs.Table.{fileInput, file-usable, file-rounded-here, file-accepted}
+use Rattle.rules.proofs.Every.{every-in}
 use Rattle.doubles.specs.Guess.{guessFor, hasGuess, Nearest}
 use Rattle.doubles.specs.Units.{whole, plusZero}
 use Rattle.doubles.proofs.Steps.{guess-nearest}
@@ -40,7 +41,6 @@ use Rattle.exchange.specs.declared.Guessed.the-variants as guessed
 use Rattle.exchange.proofs.Enclosed.{encloses-between, checked-between-at-b}
 use Rattle.exchange.proofs.Inward.{after-at, each-double}
 use Rattle.exchange.proofs.Inward as inward
-use Rattle.exchange.proofs.Lists.{every-in}
 use Rattle.exchange.proofs.Outward.{low-after, high-after, said-nothing, reckonable}
 use Rattle.exchange.proofs.Promises.{comes-back}
 use Rattle.exchange.proofs.Taken.{numbers-taken, checked-taken, guesses-taken}

@@ -2,9 +2,9 @@
 --   taken-outside, taken-same, taken-clash, taken-again, taken-new — 3, 16, 17, a line met before, a line with a new key
 --   added-done, added-refused — where nothing is said yet, and where something is
 --   opened-as — before any line
-use mathlib.Core.Path.{_≡_}
+use mathlib.Core.Path.{_≡_, ap, _∙_}
 use mathlib.Core.Bool.{Bool, true, false, cond, _&&_}
-use Prim.Native.Nat.{ℕ, _<_, _≤_}
+use Prim.Native.Nat.{ℕ, _+_, _<_, _≤_, min}
 use borrow.Author.Tests.{lt-ltb, le-ltb, eq-eqb, ne-eqb}
 use lib.Dec.{eqb, leb}
 use lib.IntN.{pos}
@@ -18,7 +18,7 @@ use Rattle.observation.specs.declared.Built.the-variants.{Done, Refused, SameMa
 use Rattle.gathering.specs.declared.Gathered.{Gathered}
 use Rattle.observation.specs.declared.Observation.{Observation}
 use Rattle.observation.specs.Line.{noObservation, outsideRange, sameContents}
-use Rattle.gathering.specs.Gathered.{places, keyAt, refusedAs, kept, taken, added, opened, isRefused}
+use Rattle.gathering.specs.Gathered.{places, keyAt, withLines, refusedAs, kept, taken, added, opened, isRefused}
 
 module _ (g : Gathered) (l : Observation) {r : Gathered} where
   pub taken-outside : outsideRange (g .n) l ≡ true → r ≡ refusedAs g (Refused OutOfRange) → r ≡ taken g l
@@ -42,15 +42,15 @@ module _ (g : Gathered) (l : Observation) {r : Gathered} where
     unfolding taken
     taken-new m e = rw (o, ne-eqb _ _ s, ← p, ← q, le-ltb at end m) e
 
-  pub added-done : isRefused (g .told) ≡ false → r ≡ taken g l → r ≡ added g l
+  pub added-done : isRefused (g .told) ≡ false → {k : ℕ} → k ≡ min (g .lines + 1) 256 → r ≡ taken (withLines g k) l → r ≡ added g l
   unfolding added
-  added-done d e = rw d e
+  added-done d h e = rw d (e ∙ ap (λ (j : ℕ). taken (withLines g j) l) h)
 
 pub added-refused : (g : Gathered) (l : Observation) → isRefused (g .told) ≡ true → g ≡ added g l
 unfolding added
 added-refused g l d = rw d
 
 pub opened-as : (n k : ℕ) {b : Bool} {t : Built} → b ≡ inRange kind.Size (pos n) → cond (b && leb k 256) Done (Refused OutOfRange) ≡ t →
-    record { n = n; count = 0; seen = replicate 256 noObservation; told = t } ≡ opened n k
+    record { n = n; count = 0; lines = 0; seen = replicate 256 noObservation; told = t } ≡ opened n k
 unfolding opened
 opened-as n k e d = rw (← e, d)

@@ -5,7 +5,7 @@
 use mathlib.Core.Path.{_≡_, sym, ap, subst, _∙_}
 use mathlib.Core.Bool.{false}
 use mathlib.Core.List.{List, [], _∷_}
-use Prim.Native.Nat.{ℕ, suc, _+_, _≤_, _<_}
+use Prim.Native.Nat.{ℕ, suc, _+_, _≤_, _<_, min}
 use native.Mathlib.Omega.{arith}
 use borrow.Author.Tests.{lt-ltb}
 use lib.IntN.{ℤ, _+ℤ_, +ℤ-idr}
@@ -20,7 +20,7 @@ use Rattle.gathering.specs.declared.Gathered.{Gathered}
 use Rattle.observation.specs.declared.Observation.{Observation}
 use Rattle.observation.specs.Line.{noObservation, hasKey}
 use Rattle.observation.specs.Order.{saidBuilt, observationSays}
-use Rattle.gathering.specs.Gathered.{places, refusedAs, kept, added, keptAt, keptSum}
+use Rattle.gathering.specs.Gathered.{places, counted, refusedAs, kept, added, keptAt, keptSum}
 use Rattle.integer.specs.Among.{Among, here, there}
 use Rattle.observation.specs.Stated.{Passes}
 use Rattle.observation.proofs.Members.{key-here, key-none, clash-free, either}
@@ -38,21 +38,25 @@ pub record Follows (n : ℕ) (es : List Observation) (g : Gathered) : Type 0 whe
   pub done : g .told ≡ Done
   pub long : length (g .seen) ≡ 256
   pub few : g .count ≤ 256
+  pub lines : g .lines ≡ length es
   pub among : (p : ℕ) → p < g .count → Among (keptAt g p) es
   pub met : (e : Observation) → Among e es → Met g e
   pub one : (d e : Observation) → Among d es → Among e es → d .key ≡ e .key → d ≡ e
   pub good : (e : Observation) → Among e es → Passes n e
 
 pub data Step (n : ℕ) (es : List Observation) (g : Gathered) (l : Observation) : Type 0 where
-  refused : (t : Built) (k : ℕ) (ks : List ℕ) → saidBuilt t ≡ k ∷ ks → added g l ≡ refusedAs g t → observationSays n es l ≡ saidBuilt t → Step n es g l
+  refused : (t : Built) (k : ℕ) (ks : List ℕ) → saidBuilt t ≡ k ∷ ks → added g l ≡ refusedAs (counted g) t → observationSays n es l ≡ saidBuilt t → Step n es g l
   passed : observationSays n es l ≡ [] → Follows n (l ∷ es) (added g l) → ((f : Observation → ℤ) → keptSum f (added g l) ≡ keptSum f g +ℤ share f es l) → added g l .count ≤ suc (g .count) → Step n es g l
 
-module _ (n : ℕ) (es : List Observation) (g : Gathered) (l : Observation) (fol : Follows n es g) (room : g .count < 256) where
+module _ (n : ℕ) (es : List Observation) (g : Gathered) (l : Observation) (fol : Follows n es g) (room : g .count < 256) (early : g .lines < 256) where
   pub all : g .count ≡ places (g .count)
   all = omega (arith, fol .few)
 
+  next : min (g .lines + 1) 256 ≡ length (l ∷ es)
+  next = omega (arith, fol .lines)
+
   -- ---- a line met before, with the same contents
-  pub again : (i : ℕ) → i < g .count → keptAt g i ≡ l → Passes n l → added g l ≡ g → Step n es g l
+  pub again : (i : ℕ) → i < g .count → keptAt g i ≡ l → Passes n l → added g l ≡ counted g → Step n es g l
   again i b e good a =
       passed (line-good n es l good (clash-free es l (λ d j k. fol .one d l j in-es k)))
       (subst (Follows n (l ∷ es)) (sym a) (record {
@@ -60,8 +64,9 @@ module _ (n : ℕ) (es : List Observation) (g : Gathered) (l : Observation) (fol
         done = fol .done;
         long = fol .long;
         few = fol .few;
+        lines = next;
         among = λ p h. there (fol .among p h);
-        met = λ d j. either j (λ p. record { place = i; below = b; is = e ∙ sym p }) (fol .met d);
+        met = λ d j. either j (λ p. record { place = i; below = b; is = e ∙ sym p }) (λ k. let m = fol .met d k in record { place = m .place; below = m .below; is = m .is });
         one = λ x y j k. fol .one x y (own x j) (own y k);
         good = λ x j. fol .good x (own x j);
       }))
@@ -76,9 +81,9 @@ module _ (n : ℕ) (es : List Observation) (g : Gathered) (l : Observation) (fol
 
   -- ---- a line whose key is new
   abbrev pub grown : Gathered
-  grown = record { n = g .n; count = g .count + 1; seen = set (g .seen) (g .count) l; told = g .told }
+  grown = record { n = g .n; count = g .count + 1; lines = min (g .lines + 1) 256; seen = set (g .seen) (g .count) l; told = g .told }
 
-  pub kept-as : kept g l ≡ grown
+  pub kept-as : kept (counted g) l ≡ grown
   unfolding kept
   kept-as = rw (← all, lt-ltb (g .count) 256 room)
 
@@ -96,6 +101,7 @@ module _ (n : ℕ) (es : List Observation) (g : Gathered) (l : Observation) (fol
         done = fol .done;
         long = length-set (g .seen) (g .count) l ∙ fol .long;
         few = omega arith;
+        lines = next;
         among = λ p b. upto (λ (q : ℕ). Among (keptAt grown q) (l ∷ es)) (g .count) p (omega arith) (λ q c. rw (old q c) (there (fol .among q c))) (rw last here);
         met = λ d j. either j (λ p. record { place = g .count; below = omega arith; is = last ∙ sym p }) (λ k. let m = fol .met d k in record { place = m .place; below = omega (arith, m .below); is = old (m .place) (m .below) ∙ m .is });
         one = one;

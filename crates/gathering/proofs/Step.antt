@@ -13,13 +13,13 @@ use Rattle.observation.specs.declared.Built.the-variants.{Refused, SameMark, Ot
 use Rattle.gathering.specs.declared.Gathered.{Gathered}
 use Rattle.observation.specs.declared.Observation.{Observation}
 use Rattle.observation.specs.Line.{outsideRange, sameMark, sameContents, hasKey}
-use Rattle.gathering.specs.Gathered.{keyAt, isRefused, taken, added, keptAt}
+use Rattle.gathering.specs.Gathered.{keyAt, counted, isRefused, taken, added, keptAt}
 use Rattle.observation.specs.Stated.{Passes}
 use Rattle.gathering.proofs.Adding.{taken-outside, taken-same, taken-clash, taken-again, taken-new, added-done}
 use Rattle.observation.proofs.Members.{same-line, line-same, has-line, clash-here}
 use Rattle.gathering.proofs.Follows.{Follows, Step, refused, all, kept-as, again, new}
 
-module _ (n : ℕ) (es : List Observation) (g : Gathered) (l : Observation) (fol : Follows n es g) (room : g .count < 256) where
+module _ (n : ℕ) (es : List Observation) (g : Gathered) (l : Observation) (fol : Follows n es g) (room : g .count < 256) (early : g .lines < 256) where
   -- ---- which of them
   abbrev test : ℕ → Bool
   test i = eqb (keyAt (g .seen) i) (l .key)
@@ -30,8 +30,8 @@ module _ (n : ℕ) (es : List Observation) (g : Gathered) (l : Observation) (fol
       own : {b : Bool} → outsideRange n l ≡ b → outsideRange (g .n) l ≡ b
       own p = rw (fol .size) p
 
-      taken-is : {r : Gathered} → r ≡ taken g l → added g l ≡ r
-      taken-is e = sym (added-done g l (ap isRefused (fol .done)) e)
+      taken-is : {r : Gathered} → r ≡ taken (counted g) l → added g l ≡ r
+      taken-is e = sym (added-done g l (ap isRefused (fol .done)) refl e)
 
       search : Passes n l → Searched (g .count) test → Step n es g l
       search good (found i b e p h) = contents (sameContents (keptAt g i) l) refl
@@ -40,12 +40,12 @@ module _ (n : ℕ) (es : List Observation) (g : Gathered) (l : Observation) (fol
           key = eqb-true (keyAt (g .seen) i) (l .key) p
 
           contents : (c : Bool) → sameContents (keptAt g i) l ≡ c → Step n es g l
-          contents true c = again n es g l fol room i b (same-line (keptAt g i) l key c) good (taken-is (taken-again g l (own (good .inside)) (good .apart) (all n es g l fol room) (sym e) b c refl))
+          contents true c = again n es g l fol room early i b (same-line (keptAt g i) l key c) good (taken-is (taken-again (counted g) l (own (good .inside)) (good .apart) (all n es g l fol room early) (sym e) b c refl))
           contents false c =
-              refused OtherContents 17 [] refl (taken-is (taken-clash g l (own (good .inside)) (good .apart) (all n es g l fol room) (sym e) b c refl))
+              refused OtherContents 17 [] refl (taken-is (taken-clash (counted g) l (own (good .inside)) (good .apart) (all n es g l fol room early) (sym e) b c refl))
               (rw (good .inside, ne-eqb (l .«from») (l .to) (good .apart), clash-here es l (keptAt g i) (fol .among i b) key (λ q. clash (sameContents l l) (line-same l) (rw q at c))))
       search good (nowhere e h) =
-          new n es g l fol room good (none (hasKey es (l .key)) refl) (taken-is (sym (kept-as n es g l fol room) ∙ taken-new g l (own (good .inside)) (good .apart) (all n es g l fol room) refl (omega arith) refl))
+          new n es g l fol room early good (none (hasKey es (l .key)) refl) (taken-is (sym (kept-as n es g l fol room early) ∙ taken-new (counted g) l (own (good .inside)) (good .apart) (all n es g l fol room early) refl (omega arith) refl))
         where
           none : (c : Bool) → hasKey es (l .key) ≡ c → c ≡ false
           none false c = refl
@@ -55,6 +55,6 @@ module _ (n : ℕ) (es : List Observation) (g : Gathered) (l : Observation) (fol
               absurd (clash (test (m .place)) (eq-eqb (keyAt (g .seen) (m .place)) (l .key) (ap (λ (z : Observation). z .key) (m .is) ∙ x .key)) (h (m .place) (m .below)))
 
       at : (o : Bool) → outsideRange n l ≡ o → (s : Bool) → sameMark l ≡ s → Step n es g l
-      at true o s p = refused (Refused OutOfRange) 3 [] refl (taken-is (taken-outside g l (own o) refl)) (rw o)
-      at false o true p = refused SameMark 16 [] refl (taken-is (taken-same g l (own o) (eqb-true (l .«from») (l .to) p) refl)) (rw (o, p))
+      at true o s p = refused (Refused OutOfRange) 3 [] refl (taken-is (taken-outside (counted g) l (own o) refl)) (rw o)
+      at false o true p = refused SameMark 16 [] refl (taken-is (taken-same (counted g) l (own o) (eqb-true (l .«from») (l .to) p) refl)) (rw (o, p))
       at false o false p = search (record { inside = o; apart = eqb-false (l .«from») (l .to) p }) (searched (g .count) test)

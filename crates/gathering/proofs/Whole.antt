@@ -13,7 +13,7 @@ use lib.Dec.{leb}
 use lib.IntN.{ℤ, pos, _+ℤ_, +ℤ-idl}
 use lib.ListN.{length, getD, length-replicate}
 use Rattle.integer.proofs.Sum.{sum-none}
-use Rattle.rules.specs.Order.{orElse}
+use Rattle.rules.specs.Order.{ifAccepted, orElse}
 use Rattle.rules.specs.Range.{inRange}
 use Rattle.rules.specs.declared.Kind.the-variants as kind
 use Rattle.rules.specs.declared.Refusal.the-variants.{OutOfRange}
@@ -24,8 +24,9 @@ use Rattle.gathering.specs.declared.Gathered.{Gathered}
 use Rattle.observation.specs.declared.Observation.{Observation}
 use Rattle.observation.specs.Line.{noObservation}
 use Rattle.observation.specs.Order.{saidBuilt, observationsSay}
+use Rattle.observation.specs.Refused.{refusedFrom}
 use Rattle.observation.specs.Distinct.{distinct, total}
-use Rattle.gathering.specs.Gathered.{taken, added, gathered, few, opened, keptAt, keptSum, Proper, ReadyWhenDone}
+use Rattle.gathering.specs.Gathered.{counted, taken, added, lineOf, gathered, few, opened, keptAt, keptSum, Proper, ReadyWhenDone}
 use Rattle.observation.specs.Stated.{Passes}
 use Rattle.observation.proofs.Marks.{inside}
 use Rattle.observation.proofs.Members.{nobody}
@@ -36,7 +37,7 @@ use Rattle.gathering.proofs.Gathering.{folded, gathered-folded, old, Ou
 still-at : (g : Gathered) (ls : List Observation) (k : ℕ) {j : ℕ} {js : List ℕ} → saidBuilt (g .told) ≡ j ∷ js → gathered g ls k ≡ g
 unfolding gathered added
 still-at g ls zero e = refl
-still-at g ls (suc k) e = ap (λ (z : Gathered). added z (getD ls k noObservation)) (still-at g ls k e) ∙ old (g .told) (taken g (getD ls k noObservation)) g e
+still-at g ls (suc k) e = ap (λ (z : Gathered). added z (getD ls k noObservation)) (still-at g ls k e) ∙ old (g .told) (taken (counted g) (getD ls k noObservation)) g e
 
 few-all : (k : ℕ) → k ≤ 256 → few k ≡ k
 unfolding few
@@ -46,6 +47,10 @@ none-yet : (n k : ℕ) → k ≤ 256 → opened n k .count + k ≤ 256
 unfolding opened
 none-yet n k h = omega arith
 
+none-looked : (n k : ℕ) → k ≤ 256 → opened n k .lines + k ≤ 256
+unfolding opened
+none-looked n k h = omega arith
+
 begun : (n k : ℕ) → opened n k .told ≡ Done → Follows n [] (opened n k)
 unfolding opened
 begun n k d = record {
@@ -53,6 +58,7 @@ begun n k d = record {
   done = d;
   long = length-replicate 256 noObservation;
   few = omega arith;
+  lines = refl;
   among = λ p b. absurd (omega arith);
   met = λ e i. nobody i;
   one = λ x y i j k. nobody i;
@@ -70,6 +76,7 @@ module _ (n : ℕ) (ls : List Observation) where
 
   pub record Whole : Type 0 where
     pub says : saidBuilt (gatheredOf .told) ≡ orElse (cond (inRange kind.Size (pos n) && leb (length ls) 256) [] (3 ∷ [])) (observationsSay n [] ls)
+    pub line : lineOf gatheredOf ≡ ifAccepted (cond (inRange kind.Size (pos n) && leb (length ls) 256) [] (3 ∷ [])) (refusedFrom n 0 [] ls) 0
     pub size : gatheredOf .n ≡ n
     pub sound : ReadyWhenDone gatheredOf
     pub sums : saidBuilt (gatheredOf .told) ≡ [] → (f : Observation → ℤ) → keptSum f gatheredOf ≡ total f (distinct ls)
@@ -87,6 +94,7 @@ module _ (n : ℕ) (ls : List Observation) where
           let s : saidBuilt (gatheredOf .told) ≡ 3 ∷ [] = ap (λ (z : Gathered). saidBuilt (z .told)) r ∙ ap saidBuilt t in
           record {
             says = s ∙ sym (rw e);
+            line = ap lineOf r ∙ (unfold opened in rw e);
             size = ap (λ (z : Gathered). z .n) r ∙ (unfold opened in refl);
             sound = record { ready = λ d. absurd (nothing-is-not (sym s ∙ ap saidBuilt d)) };
             sums = λ d. absurd (nothing-is-not (sym s ∙ d));
@@ -96,10 +104,11 @@ module _ (n : ℕ) (ls : List Observation) where
           let k = leb-true (length ls) 256 (both-right (inRange kind.Size (pos n)) (leb (length ls) 256) e) in
           let z = size-range n (both-left (inRange kind.Size (pos n)) (leb (length ls) 256) e) in
           let r : gatheredOf ≡ folded (opened n (length ls)) ls = ap (gathered (opened n (length ls)) ls) (few-all (length ls) k) ∙ gathered-folded (opened n (length ls)) ls in
-          let o = gathers n [] ls (opened n (length ls)) (begun n (length ls) t) (none-yet n (length ls) k) in
+          let o = gathers n [] ls (opened n (length ls)) (begun n (length ls) t) (none-yet n (length ls) k) (none-looked n (length ls) k) in
           let w : Outcome n [] ls (opened n (length ls)) gatheredOf = subst (Outcome n [] ls (opened n (length ls))) (sym r) o in
           record {
             says = w .says ∙ sym (rw e);
+            line = w .line ∙ ap (λ (j : ℕ). refusedFrom n j [] ls) none-before ∙ sym (rw e);
             size = w .size;
             sound = record {
               ready = λ d.
@@ -114,6 +123,9 @@ module _ (n : ℕ) (ls : List Observation) where
             sums = λ d f. w .sums d f ∙ ap (λ (x : ℤ). x +ℤ total f (distinct ls)) (none f) ∙ +ℤ-idl (total f (distinct ls));
           }
         where
+          none-before : opened n (length ls) .lines ≡ 0
+          none-before = unfold opened in refl
+
           none : (f : Observation → ℤ) → keptSum f (opened n (length ls)) ≡ pos 0
           none f = unfold opened in sum-none (λ (p : ℕ). f (keptAt (opened n (length ls)) p))
 

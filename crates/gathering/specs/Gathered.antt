@@ -1,6 +1,7 @@
 -- What the adder does, line by line; cited by the contracts of the code alone. The contract of the builder does not speak of it.
 --   places c, keyAt seen i — the count of kept lines, at most 256; the key of a kept line
 --   metAt g l   — the first kept line that has the key of l
+--   withLines g k, counted g — g with k lines looked at, and with one more;  lineOf g — the number, from 1, of the line that is refused; 0 where none is
 --   refusedAs g t — g with t said;  kept g l — g with the line l kept
 --   isRefused t — something is said;  whenDone t new old — new where nothing is said, else old
 --   taken g l, added g l — a line more, where nothing is said yet, and whatever was said
@@ -35,12 +36,18 @@ abbrev pub metAt : Gathered → Observation → ℕ
 metAt g l = first (places (g .count)) (λ (i : ℕ). eqb (keyAt (g .seen) i) (l .key))
 
 unfoldable pub refusedAs : Gathered → Built → Gathered
-refusedAs g t = record { n = g .n; count = g .count; seen = g .seen; told = t }
+refusedAs g t = record { n = g .n; count = g .count; lines = g .lines; seen = g .seen; told = t }
+
+abbrev pub withLines : Gathered → ℕ → Gathered
+withLines g k = record { n = g .n; count = g .count; lines = k; seen = g .seen; told = g .told }
+
+abbrev pub counted : Gathered → Gathered
+counted g = withLines g (min (g .lines + 1) 256)
 
 unfoldable pub kept : Gathered → Observation → Gathered
 kept g l =
     cond (ltb (places (g .count)) 256)
-    (record { n = g .n; count = places (g .count) + 1; seen = set (g .seen) (places (g .count)) l; told = g .told }) g
+    (record { n = g .n; count = places (g .count) + 1; lines = g .lines; seen = set (g .seen) (places (g .count)) l; told = g .told }) g
 
 unfoldable pub taken : Gathered → Observation → Gathered
 taken g l =
@@ -60,7 +67,10 @@ abbrev pub whenDone : Built → Gathered → Gathered → Gathered
 whenDone t new old = cond (isRefused t) old new
 
 unfoldable pub added : Gathered → Observation → Gathered
-added g l = whenDone (g .told) (taken g l) g
+added g l = whenDone (g .told) (taken (counted g) l) g
+
+abbrev pub lineOf : Gathered → ℕ
+lineOf g = cond (isRefused (g .told)) (g .lines) 0
 
 unfoldable pub gathered : Gathered → List Observation → ℕ → Gathered
 gathered g ls zero = g
@@ -73,6 +83,7 @@ unfoldable pub opened : ℕ → ℕ → Gathered
 opened n k = record {
   n = n;
   count = 0;
+  lines = 0;
   seen = replicate 256 noObservation;
   told = cond (inRange kind.Size (pos n) && leb k 256) Done (Refused OutOfRange);
 }

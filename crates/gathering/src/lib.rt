@@ -1,6 +1,7 @@
 // The adder (document 02, Paper 3): field lines are taken one after the other, and those whose key is new are kept.
 ghost use mathlib.Core.Path.{_≡_};
-ghost use Rattle.gathering.specs.Gathered.{places, refusedAs, isRefused, added, opened, few};
+ghost use Prim.Native.Nat.{_+_, min};
+ghost use Rattle.gathering.specs.Gathered.{places, refusedAs, isRefused, added, opened, few, lineOf};
 use integer::first_or;
 use observation::Built;
 use observation::Observation;
@@ -10,10 +11,11 @@ use rules::Kind;
 use rules::Refusal;
 use rules::is_natural_in_range;
 
-// The lines taken so far: those whose key no earlier line has come first in `seen`, `count` of them.
+// The lines taken so far: those whose key no earlier line has come first in `seen`, `count` of them. `lines` of them were looked at, the refused one among them.
 pub struct Gathered {
     pub n: u32,
     pub count: usize,
+    pub lines: usize,
     pub seen: [Observation; 256],
     pub told: Built,
 }
@@ -25,6 +27,13 @@ fn places_of(count: usize) -> usize
     if count < 256 { count } else { 256 }
 }
 
+// How many lines are looked at with one more; never above 256.
+fn next_line(lines: usize) -> usize
+    ensures { λ r. ⌜ r ≡ min (lines + 1) 256 ⌝ }
+{
+    if lines < 256 { lines + 1 } else { 256 }
+}
+
 fn refuse(g: Gathered, told: Built) -> Gathered
     ensures { λ r. ⌜ r ≡ refusedAs g told ⌝ }
 {
@@ -32,6 +41,7 @@ fn refuse(g: Gathered, told: Built) -> Gathered
     Gathered {
         n: g.n,
         count: g.count,
+        lines: g.lines,
         seen,
         told,
     }
@@ -58,6 +68,7 @@ pub fn add_observation(mut g: Gathered, l: Observation) -> Gathered
     if is_refused(told) {
         return g;
     }
+    g.lines = next_line(g.lines);
     if is_outside_range(l, g.n) {
         return refuse(g, Built::Refused(Refusal::OutOfRange));
     }
@@ -106,6 +117,7 @@ pub fn open(n: u32, lines: usize) -> Gathered
         return Gathered {
             n,
             count: 0,
+            lines: 0,
             seen,
             told: Built::Done,
         };
@@ -113,7 +125,16 @@ pub fn open(n: u32, lines: usize) -> Gathered
     Gathered {
         n,
         count: 0,
+        lines: 0,
         seen,
         told: Built::Refused(Refusal::OutOfRange),
     }
+}
+
+// The number, from 1, of the line that is refused; 0 where none is.
+pub fn line_of(g: Gathered) -> usize
+    ensures { λ r. ⌜ r ≡ lineOf g ⌝ }
+{
+    let told = g.told;
+    if is_refused(told) { g.lines } else { 0 }
 }

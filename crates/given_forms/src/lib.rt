@@ -6,6 +6,7 @@ ghost use Prim.Native.Nat.{_≤_};
 ghost use Rattle.rules.specs.Refusal.{said};
 ghost use Rattle.form_values.specs.Item.{placed};
 ghost use Rattle.given_forms.specs.Progress.{setOf, given, marked, missing, sized, scaled, ended, early, misplaced, repeated, incomplete};
+ghost use Rattle.given_forms.specs.StageNumber.{stageNumber, stageOf};
 use form_values::Item;
 use form_values::Part;
 use rules::Kind;
@@ -18,6 +19,34 @@ pub enum Stage {
     Sized,
     Scaled,
     Ended,
+}
+
+// The number of a stage.
+pub fn stage_number(stage: Stage) -> u32
+    ensures { λ r. ⌜ r ≡ stageNumber stage ⌝ }
+{
+    match stage {
+        Stage::Start => 0,
+        Stage::Sized => 1,
+        Stage::Scaled => 2,
+        Stage::Ended => 3,
+    }
+}
+
+// The stage of a number; one above 3 is that of no stage, and stands for nothing given.
+pub fn stage_of(number: u32) -> Stage
+    ensures { λ r. ⌜ r ≡ stageOf number ⌝ }
+{
+    if number == 1 {
+        return Stage::Sized;
+    }
+    if number == 2 {
+        return Stage::Scaled;
+    }
+    if number == 3 {
+        return Stage::Ended;
+    }
+    Stage::Start
 }
 
 fn is_sized(stage: Stage) -> bool

@@ -23,9 +23,11 @@ use weight_search::find_weights;
 
 mod half_matrix;
 mod how_good;
+mod line_by_line;
 mod old_files;
 mod two_nets;
 mod two_proposals;
+mod which_line;
 mod with_doubles;
 
 // The check on lists: `checker::check`.

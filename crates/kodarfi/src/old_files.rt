@@ -1,8 +1,9 @@
 // Files for offices on the old edition (document 02, Paper 14).
-ghost use Rattle.calls.specs.Conversion.{ConvertExported};
+ghost use Rattle.calls.specs.Conversion.{ConvertExported, ConvertLineExported};
 use conversion_reply::converted_reply;
 use conversion_reply::length_or;
 use converter::convert;
+use converter::convert_file;
 use reply::tell;
 
 // A file as one of the old edition: `converter::convert`.
@@ -16,6 +17,24 @@ pub extern "C" fn kodarfi_convert(
     ensures { λ r. ⌜ ConvertExported (now (file .entry)) (now (out .entry)) (now (written .entry)) r (now (places .exit)) (now (out .exit)) (now (written .exit)) ⌝ }
 {
     let converted = convert(file, out);
+    *written = length_or(converted, *written);
+    tell(converted_reply(converted), places)
+}
+
+// The same, and the number of the line where one is refused: `converter::convert_file`.
+#[no_mangle]
+pub extern "C" fn kodarfi_convert_line(
+    file: &[u8],
+    out: &mut [u8],
+    written: &mut usize,
+    places: &mut [u64; 2],
+    line: &mut u64,
+) -> u32
+    ensures { λ r. ⌜ ConvertLineExported (now (file .entry)) (now (out .entry)) (now (written .entry)) r (now (places .exit)) (now (out .exit)) (now (written .exit)) (now (line .exit)) ⌝ }
+{
+    let conversion = convert_file(file, out);
+    let converted = conversion.answer;
+    *line = conversion.line;
     *written = length_or(converted, *written);
     tell(converted_reply(converted), places)
 }

@@ -88,11 +88,11 @@ pub whole-spelled : linesOf wholeFile ≡ spelled wholeForms
 unfolding linesOf spell numerals numeral decimal digits
 whole-spelled = refl
 
-whole-passes : passes fresh wholeForms ≡ true
+pub whole-passes : passes fresh wholeForms ≡ true
 unfolding passes formSaid spell numerals numeral decimal digits missing misplaced withPlace lacking allInside sumℕ inRange rangeOf ranges
 whole-passes = refl
 
-whole-checked : checkedOf (problemFrom wholeForms) ≡ []
+pub whole-checked : checkedOf (problemFrom wholeForms) ≡ []
 unfolding valueFrom sizeFrom scalesFrom exceeds rowSum residual margin load defect product apply identity sum sumℕ first
 whole-checked = refl
 

@@ -8,3 +8,4 @@ pub mod Accepted
 pub mod Alike
 pub mod Count
 pub mod Ended
+pub mod Numbers

@@ -2,3 +2,4 @@ pub mod Answer
 pub mod Taken
 pub mod Decided
 pub mod Before
+pub mod Numbers

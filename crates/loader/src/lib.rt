@@ -8,6 +8,7 @@ ghost use Rattle.lent_lists.specs.Lists.{lists};
 ghost use Rattle.given_forms.specs.Progress.{ended};
 ghost use Rattle.loader_order.specs.Through.{CheckedThrough};
 ghost use Rattle.loader.specs.Taken.{fresh, after, TakenAs};
+ghost use Rattle.loader.specs.Numbers.{numbersOf, loaderOf};
 ghost use Rattle.loader.specs.Decided.{saidIn, fits, refusedBy, DecidedIn, DecidedAs};
 use form::Numbers;
 use form_values::Item;
@@ -52,6 +53,39 @@ impl Loader {
             t: 0,
             stage: Stage::Start,
             sets: [0; 5],
+        }
+    }
+
+    // The loader in nine numbers, for callers that cannot hold the struct.
+    pub fn numbers(self) -> [u32; 9]
+        ensures { λ r. ⌜ r ≡ numbersOf self ⌝ }
+    {
+        let stage = self.stage;
+        let sets = self.sets;
+        [
+            given_forms::stage_number(stage),
+            self.n,
+            self.s,
+            self.t,
+            sets[0],
+            sets[1],
+            sets[2],
+            sets[3],
+            sets[4],
+        ]
+    }
+
+    // The loader that nine numbers stand for, whatever they are.
+    pub fn from_numbers(numbers: [u32; 9]) -> Loader
+        ensures { λ r. ⌜ r ≡ loaderOf numbers ⌝ }
+    {
+        let sets = [numbers[4], numbers[5], numbers[6], numbers[7], numbers[8]];
+        Loader {
+            n: numbers[1],
+            s: numbers[2],
+            t: numbers[3],
+            stage: given_forms::stage_of(numbers[0]),
+            sets: sets,
         }
     }
 

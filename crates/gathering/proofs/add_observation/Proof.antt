@@ -23,6 +23,9 @@ is-refused-requires c κs = search needs
 returns : tie.Need-returns Inv-loop μ-loop
 returns c = added-refused _ _ (sym (c .before .is-refused .ensures) ∙ c .if1 .taken)
 
+next-line-requires : tie.Need-next-line-requires Inv-loop μ-loop
+next-line-requires c κs = search needs
+
 is-outside-range-requires : tie.Need-is-outside-range-requires Inv-loop μ-loop
 is-outside-range-requires c κs = search needs
 
@@ -31,7 +34,7 @@ refuse-requires c κs = search needs
 
 returns-2 : tie.Need-returns-2 Inv-loop μ-loop
 returns-2 c =
-    added-done _ _ (sym (c .before .before .before .before .is-refused .ensures) ∙ c .before .before .before .if1 .left)
+    added-done _ _ (sym (c .before .before .before .before .before .is-refused .ensures) ∙ c .before .before .before .before .if1 .left) (c .before .before .before .next-line .ensures)
     (taken-outside _ _ (sym (c .before .before .is-outside-range .ensures) ∙ c .before .if2 .taken) (c .refuse .ensures))
 
 refuse-requires-2 : tie.Need-refuse-requires-2 Inv-loop μ-loop
@@ -40,7 +43,7 @@ refuse-requires-2 c κs = search needs
 returns-3 : tie.Need-returns-3 Inv-loop μ-loop
 returns-3 c =
     let b = c .before .before .before in
-    added-done _ _ (sym (b .before .before .before .is-refused .ensures) ∙ b .before .before .if1 .left)
+    added-done _ _ (sym (b .before .before .before .before .is-refused .ensures) ∙ b .before .before .before .if1 .left) (b .before .before .next-line .ensures)
     (taken-same _ _ (sym (b .before .is-outside-range .ensures) ∙ b .if2 .left) (c .before .if3 .taken) (c .refuse2 .ensures))
 
 places-of-requires : tie.Need-places-of-requires Inv-loop μ-loop
@@ -82,7 +85,7 @@ returns-4 c =
     let v = x .before .loop .inv in
     let p = x .before .before in
     let t = p .before .before .before in
-    added-done _ _ (sym (t .before .before .before .is-refused .ensures) ∙ t .before .before .if1 .left)
+    added-done _ _ (sym (t .before .before .before .before .is-refused .ensures) ∙ t .before .before .before .if1 .left) (t .before .before .next-line .ensures)
     (taken-again _ _ (sym (t .before .is-outside-range .ensures) ∙ t .if2 .left) (p .before .if3 .left) (p .places-of .ensures)
     (v .2 ∙ first-end _ (v .0) (x .loop-test .left)) (c .before .before .before .if4 .taken) (sym (c .before .has-contents .ensures) ∙ c .if5 .taken) refl)
 
@@ -95,7 +98,7 @@ returns-5 c =
     let v = x .before .loop .inv in
     let p = x .before .before in
     let t = p .before .before .before in
-    added-done _ _ (sym (t .before .before .before .is-refused .ensures) ∙ t .before .before .if1 .left)
+    added-done _ _ (sym (t .before .before .before .before .is-refused .ensures) ∙ t .before .before .before .if1 .left) (t .before .before .next-line .ensures)
     (taken-clash _ _ (sym (t .before .is-outside-range .ensures) ∙ t .if2 .left) (p .before .if3 .left) (p .places-of .ensures)
     (v .2 ∙ first-end _ (v .0) (x .loop-test .left)) (c .before .before .before .before .if4 .taken) (sym (c .before .before .has-contents .ensures) ∙ c .before .if5 .left) (c .refuse3 .ensures))
 
@@ -114,7 +117,7 @@ returns-6 c =
     let v = x .before .loop .inv in
     let p = x .before .before in
     let t = p .before .before .before in
-    added-done _ _ (sym (t .before .before .before .is-refused .ensures) ∙ t .before .before .if1 .left)
+    added-done _ _ (sym (t .before .before .before .before .is-refused .ensures) ∙ t .before .before .before .if1 .left) (t .before .before .next-line .ensures)
     (taken-new _ _ (sym (t .before .is-outside-range .ensures) ∙ t .if2 .left) (p .before .if3 .left) (p .places-of .ensures)
     (v .2 ∙ first-end _ (v .0) (x .loop-test .left)) (c .before .if4 .left) (unfold kept in rw (← (p .places-of .ensures), lt-ltb _ 256 (c .if6 .taken))))
 
@@ -124,7 +127,7 @@ returns-7 c =
     let v = x .before .loop .inv in
     let p = x .before .before in
     let t = p .before .before .before in
-    added-done _ _ (sym (t .before .before .before .is-refused .ensures) ∙ t .before .before .if1 .left)
+    added-done _ _ (sym (t .before .before .before .before .is-refused .ensures) ∙ t .before .before .before .if1 .left) (t .before .before .next-line .ensures)
     (taken-new _ _ (sym (t .before .is-outside-range .ensures) ∙ t .if2 .left) (p .before .if3 .left) (p .places-of .ensures)
     (v .2 ∙ first-end _ (v .0) (x .loop-test .left)) (c .before .if4 .left) (unfold kept in rw (← (p .places-of .ensures), le-ltb _ 256 (c .if6 .left))))
 
@@ -136,6 +139,7 @@ add-observation-spec =
     μ-loop
     is-refused-requires
     returns
+    next-line-requires
     is-outside-range-requires
     refuse-requires
     returns-2

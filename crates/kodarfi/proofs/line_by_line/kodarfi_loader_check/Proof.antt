@@ -1,0 +1,37 @@
+use Rattle.rules.specs.Refusal.{said}
+use Rattle.reply.proofs.Told.{told-alone}
+use borrow.Author.Needs.{needs}
+use Rattle.kodarfi.proofs.line_by_line.kodarfi_loader_check.Statement.{statement}
+use Rattle.kodarfi.proofs.line_by_line.kodarfi_loader_check.Tie as tie
+
+check-requires : tie.Need-check-requires
+check-requires c κs = search needs
+
+outcome-reply-requires : tie.Need-outcome-reply-requires
+outcome-reply-requires c κs = search needs
+
+tell-requires : tie.Need-tell-requires
+tell-requires c κs = search needs
+
+same-length : tie.Need-same-length
+same-length c = search needs
+
+same-length-2 : tie.Need-same-length-2
+same-length-2 c = search needs
+
+returns : tie.Need-returns
+returns c =
+    let r = c .before .before in
+    let k = r .before .before .before .before .before in
+    record { outcome = k .check .result; checked = k .check .ensures; told = told-alone (said (k .check .result)) (c .tell .ensures) (r .outcome-reply .ensures) }
+
+pub kodarfi-loader-check-spec : {M : Type 1} → statement M
+kodarfi-loader-check-spec =
+    tie.close
+    (tie.spec
+    check-requires
+    outcome-reply-requires
+    tell-requires
+    same-length
+    same-length-2
+    returns)

@@ -1,0 +1,53 @@
+use Rattle.rules.specs.Refusal.{said}
+use Rattle.reply.proofs.Told.{told-alone}
+use borrow.Author.Needs.{needs}
+use Rattle.kodarfi.proofs.line_by_line.kodarfi_loader_take.Statement.{statement}
+use Rattle.kodarfi.proofs.line_by_line.kodarfi_loader_take.Tie as tie
+
+take-requires : tie.Need-take-requires
+take-requires c κs = search needs
+
+outcome-reply-requires : tie.Need-outcome-reply-requires
+outcome-reply-requires c κs = search needs
+
+tell-requires : tie.Need-tell-requires
+tell-requires c κs = search needs
+
+same-length : tie.Need-same-length
+same-length c = search needs
+
+same-length-2 : tie.Need-same-length-2
+same-length-2 c = search needs
+
+same-length-3 : tie.Need-same-length-3
+same-length-3 c = search needs
+
+same-length-4 : tie.Need-same-length-4
+same-length-4 c = search needs
+
+same-length-5 : tie.Need-same-length-5
+same-length-5 c = search needs
+
+same-length-6 : tie.Need-same-length-6
+same-length-6 c = search needs
+
+returns : tie.Need-returns
+returns c =
+    let r = c .before .before in
+    let k = r .before .before .before .before .before .before .before in
+    record { outcome = k .take .result; taken = k .take .ensures; told = told-alone (said (k .take .result)) (c .tell .ensures) (r .outcome-reply .ensures) }
+
+pub kodarfi-loader-take-spec : {M : Type 1} → statement M
+kodarfi-loader-take-spec =
+    tie.close
+    (tie.spec
+    take-requires
+    outcome-reply-requires
+    tell-requires
+    same-length
+    same-length-2
+    same-length-3
+    same-length-4
+    same-length-5
+    same-length-6
+    returns)
