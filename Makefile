@@ -1,5 +1,5 @@
 # What README tells, by name. `make` and `make lib` need the kit (`rt`); `make install` takes what is built, and builds only what is missing.
-#   make            the programs, target/bin/register and convert, and batch where it is one (programs/batch)
+#   make            the programs, target/bin/register, convert and batch
 #   make lib        the library, target/staticlib/libkodarfi.a, and target/lib/libkodarfi.so, the shared one
 #   make check      the gate
 #   make install    all of it under DESTDIR/PREFIX; make uninstall takes it away again
@@ -10,8 +10,7 @@ export PREFIX DESTDIR
 VERSION := $(shell cat VERSION)
 SONAME := libkodarfi.so.$(firstword $(subst ., ,$(VERSION)))
 PROVED := target/bin/register target/bin/convert
-BATCH := $(wildcard programs/batch/*.c)
-PROGRAMS := $(PROVED) $(if $(BATCH),target/bin/batch)
+PROGRAMS := $(PROVED) target/bin/batch
 ARCHIVE := target/staticlib/libkodarfi.a
 SHARED := target/lib/libkodarfi.so.$(VERSION)
 # rt with a temporary folder in memory, where there is room for one
@@ -23,10 +22,8 @@ RT := here=$$(pwd); . scripts/door.sh; memory=$$(memory_folder 1); trap 'rm -rf 
 
 programs:
 	@$(RT) check $(notdir $(PROVED)) && for program in $(PROVED); do note_version $$program "$$from"; done
-ifneq ($(BATCH),)
 	@$(RT) staticlib kodarfi
 	@$(MAKE) --no-print-directory target/bin/batch
-endif
 
 lib:
 	@$(RT) staticlib kodarfi
@@ -47,9 +44,8 @@ $(PROVED):
 $(ARCHIVE):
 	@$(RT) staticlib kodarfi
 
-target/bin/batch: $(BATCH) $(wildcard programs/batch/*.h include/*.h) $(ARCHIVE)
-	cc -std=c11 -O2 -Iinclude $(BATCH) $(ARCHIVE) -o $@.new && mv -f $@.new $@
-	@me=batch here=$$(pwd); . scripts/door.sh; parts=(programs/batch include); note_version $@ "$$(commit)"
+target/bin/batch: $(wildcard programs/batch/* include/*.h) $(ARCHIVE)
+	@me=batch here=$$(pwd); . scripts/door.sh; parts=(programs/batch include); link_batch $@ && note_version $@ "$$(commit)"
 
 $(SHARED): $(ARCHIVE) VERSION
 	mkdir -p $(@D)

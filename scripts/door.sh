@@ -67,12 +67,22 @@ open_input() {
   { : 3>&1; } 2>/dev/null || fail "$name: $unwritten"
 }
 
-# The sources: find's words for their names, so that an editor's own files are none.
-is_source=('(' -name '[!.#]*.rt' -o -name '[!.#]*.antt' -o -name crates.txt ')')
+# The sources: find's words for their names, so that an editor's own files are none. A script whose program is made of more than its own crate says so by
+# `crate`, the crate that is proved for it, `parts`, the folders beside crates/ that are read, and make_program.
+is_source=('(' -name '[!.#]*.rt' -o -name '[!.#]*.antt' -o -name '[!.#]*.[ch]' -o -name crates.txt ')')
+crate=$me parts=()
+make_program() {
+  rt check "$me"
+}
+
+# link_batch PROGRAM: the program of ./batch from its sources and the library, once that is proved.
+link_batch() {
+  mkdir -p target/bin && cc -std=c11 -O2 -Iinclude programs/batch/*.c target/staticlib/libkodarfi.a -o "$1.new" && mv -f "$1.new" "$1"
+}
 
 # The names of all sources, as one number.
 names_digest() {
-  (cd "$here" && find crates.txt crates -type f "${is_source[@]}" | LC_ALL=C sort | sha256sum | cut -d ' ' -f 1)
+  (cd "$here" && find crates.txt crates "${parts[@]}" -type f "${is_source[@]}" | LC_ALL=C sort | sha256sum | cut -d ' ' -f 1)
 }
 
 # Prints a fresh folder in memory that others may pass through, where there is one with $1 gigabytes of room from which programs can be run.
@@ -104,7 +114,7 @@ open_folder() {
 commit() {
   local commit changed git=(env -u GIT_DIR -u GIT_WORK_TREE -u GIT_INDEX_FILE git -C "$here")
   [ "$("${git[@]}" rev-parse --show-toplevel 2>/dev/null)" = "$here" ] && commit=$("${git[@]}" rev-parse --short HEAD 2>/dev/null) || { echo unknown; return; }
-  changed=$("${git[@]}" status --porcelain --untracked-files=all -- crates.txt ':(glob)crates/**/[!.#]*.rt' ':(glob)crates/**/[!.#]*.antt' 2>/dev/null) || changed=yes
+  changed=$("${git[@]}" status --porcelain --untracked-files=all -- crates.txt ':(glob)crates/**/[!.#]*.rt' ':(glob)crates/**/[!.#]*.antt' "${parts[@]}" 2>/dev/null) || changed=yes
   echo "$commit${changed:+-dirty}"
 }
 
@@ -144,7 +154,7 @@ reason_to_build() {
   if [ ! -x "$program" ]; then
     echo "the program is not built"
   elif [ $is_installed = no ]; then
-    newer=$(cd "$here" && find crates.txt crates -newer "$program" '(' -type d -printf '%p/\n' -o "${is_source[@]}" -print -quit ')') || newer='a source that cannot be read'
+    newer=$(cd "$here" && find crates.txt crates "${parts[@]}" -newer "$program" '(' -type d -printf '%p/\n' -o "${is_source[@]}" -print -quit ')') || newer='a source that cannot be read'
     newer=${newer##*$'\n'}
     if [[ $newer == */ ]]; then
       if names=$(noted 2); then
@@ -159,7 +169,7 @@ reason_to_build() {
 
 # How many crates are proved for the program: it and what it depends on.
 count_crates() {
-  awk -v wanted="$me" '
+  awk -v wanted="$crate" '
     /^[a-z]/ { name = $1; sub(/:.*/, "", name); sub(/^[^:]*:/, ""); needs[name] = $0 }
     function walk(name,    count, part, k) {
       if (name in seen || !(name in needs)) return
@@ -200,9 +210,9 @@ build() {
     echo "$me: $reason: building it, which takes some minutes" >&2
     began=$(date +%s.%N) from=$(commit) memory=$(memory_folder 2)
     trap '[ -z "$memory" ] || rm -rf "$memory"' EXIT
-    if ! (set -o pipefail; cd "$here" && TMPDIR=${memory:-$(open_folder)} rt check "$me" </dev/null 3<&- | show_progress); then
+    if ! (set -o pipefail; cd "$here" && TMPDIR=${memory:-$(open_folder)} make_program </dev/null 3<&- | show_progress); then
       touch -d @0 "$program" 2>/dev/null
-      fail "$reason, and building it failed: 'rt check $me' in $here tells more"
+      fail "$reason, and building it failed: 'rt check $crate' in $here tells more"
     fi
     [ -x "$program" ] || fail "the program was not built; remove the folder $here/target and try again"
     [ "$from" = "$(commit)" ] || from=${from%-dirty}-dirty

@@ -6,6 +6,7 @@ Each test has a copy of the checkout, without the crates, and a stand-in for rt.
 Named wrong versions of Makefile and scripts must each be told by the test that is named with it."""
 
 import contextlib
+import functools
 import io
 import os
 import re
@@ -20,7 +21,7 @@ from office.room import open_folder
 
 ROOT = Path(__file__).resolve().parent.parent
 NAMES = ("register", "convert", "batch")
-PARTS = ("Makefile", "VERSION", "CHANGELOG.md", "README.md", *NAMES, "docs", "examples", "include", "scripts", "target/bin", "target/staticlib")
+PARTS = ("Makefile", "VERSION", "CHANGELOG.md", "README.md", *NAMES, "docs", "examples", "include", "programs", "scripts", "target/bin", "target/staticlib")
 PATIENCE = 600
 LISTING = "\n".join(WHOLE_LISTING) + "\n"
 
@@ -29,6 +30,13 @@ RT = """#!/bin/sh
 [ "$1" = version ] && { echo kit-of-the-tests; exit; }
 echo "$*" >>"$CALLS"
 """
+
+
+@functools.cache
+def built_batch():
+    """The program of ./batch, built once by make."""
+    subprocess.run(["make", "--no-print-directory", "-C", ROOT, "target/bin/batch"], check=True, capture_output=True)
+    return ROOT / "target" / "bin" / "batch"
 
 
 class Checkout:
@@ -40,12 +48,13 @@ class Checkout:
         self.folder.chmod(0o755)
         self.root = self.folder / "the checkout"
         self.prefix = self.folder / "prefix"
-        for part in (*PARTS, *(["programs"] if (ROOT / "programs").exists() else [])):
+        for part in PARTS:
             (self.root / part).parent.mkdir(parents=True, exist_ok=True)
             if (ROOT / part).is_dir():
                 shutil.copytree(ROOT / part, self.root / part, ignore=shutil.ignore_patterns("__pycache__"))
             else:
                 shutil.copy2(ROOT / part, self.root / part)
+        shutil.copy2(built_batch(), self.root / "target/bin/batch")
         # a checkout has crates; none is built here
         (self.root / "crates").mkdir()
         (self.root / "crates.txt").write_text("")
@@ -105,10 +114,10 @@ def make_builds_the_programs(checkout):
     if any(checkout.make(*words)[0] for words in ((), ("lib",), ("check",))):
         return False
     calls = (checkout.folder / "calls").read_text().splitlines()
-    noted = [(checkout.root / "target/bin" / f"{name}.version").read_text().split("\n")[0] for name in ("register", "convert")]
+    noted = [(checkout.root / "target/bin" / f"{name}.version").read_text().split("\n")[0] for name in NAMES]
     version = (ROOT / "VERSION").read_text().strip()
     # the library is linked into batch, where that is a program
-    built = ["check register convert"] + ["staticlib kodarfi"] * (ROOT / "programs/batch").exists()
+    built = ["check register convert", "staticlib kodarfi"]
     return calls == built + ["staticlib kodarfi"] and all(line == f"version {version}, commit unknown, kit kit-of-the-tests" for line in noted)
 
 
@@ -126,7 +135,7 @@ def installed_files_can_be_read(checkout):
         return False
     tree = checkout.tree()
     modes = {name: mode & 0o777 for name, (is_link, mode, _) in tree.items() if not is_link}
-    runs = {f"bin/{name}" for name in NAMES} | {"lib/kodarfi/register", "lib/kodarfi/convert"}
+    runs = {f"bin/{name}" for name in NAMES} | {f"lib/kodarfi/{name}" for name in NAMES}
     expected = runs | {f"share/man/man1/{name}.1" for name in NAMES} | {f"include/{name}.h" for name in ("kodarfi", "kodarfi_net", "kodarfi_text")}
     expected |= {"lib/libkodarfi.a", "lib/pkgconfig/kodarfi.pc", "share/doc/kodarfi/FORMAT.md", "share/doc/kodarfi/CHANGELOG.md", "share/doc/kodarfi/examples/listing.c"}
     return expected <= set(modes) and all(mode & 0o444 == 0o444 for mode in modes.values()) and all(modes[name] == 0o755 for name in runs)
@@ -161,7 +170,7 @@ def programs_tell_their_version(checkout):
     if checkout.make()[0] or not checkout.install():
         return False
     shutil.rmtree(checkout.root)
-    return all(checkout.installed(name, "--version") == (0, f"{name}: version {version}, commit unknown, kit kit-of-the-tests\n", "") for name in ("register", "convert"))
+    return all(checkout.installed(name, "--version") == (0, f"{name}: version {version}, commit unknown, kit kit-of-the-tests\n", "") for name in NAMES)
 
 
 def batch_needs_no_checkout(checkout):
@@ -350,8 +359,7 @@ WRONG = {
     "programs of the checkout": (INSTALL, 'echo "755 lib/kodarfi/$name target/bin/$name"', ":", programs_need_no_checkout),
     "no words": (INSTALL, "docs/explain.awk docs/refusals.tsv; do", "docs/explain.awk; do", programs_need_no_checkout),
     "no version beside the program": (INSTALL, '[ ! -f "target/bin/$name.version" ] || echo', "true || echo", programs_tell_their_version),
-    "no batch": (INSTALL, "for name in register convert batch; do\n    echo", "for name in register convert; do\n    echo", batch_needs_no_checkout),
-    "the program of batch is left": (INSTALL, "|| [ -d programs/batch ] || continue", "|| continue", program_of_batch_is_built_and_installed),
+    "no batch": (INSTALL, "for name in register convert batch; do\n    echo \"755 lib", "for name in register convert; do\n    echo \"755 lib", batch_needs_no_checkout),
     "scripts that cannot be run": (INSTALL, 'echo "755 bin/$name $name"', 'echo "644 bin/$name $name"', installed_files_can_be_read),
     "the umask decides": (INSTALL, "umask 022\n", "", umask_does_not_matter),
     "DESTDIR in the pkg-config file": (INSTALL, "prefix=$prefix\n", "prefix=$base$prefix\n", destdir_is_only_where_files_go),

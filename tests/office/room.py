@@ -67,7 +67,7 @@ class Room:
         self.root.mkdir()
         for name in ("register", "convert", "batch", "crates.txt", "README.md"):
             shutil.copy(ROOT / name, self.root)
-        for name in ("docs", "examples", "scripts", "crates/register/src"):
+        for name in ("docs", "examples", "scripts", "include", "programs", "crates/register/src"):
             shutil.copytree(ROOT / name, self.root / name)
         for name, old, new in edits:
             text = (self.root / name).read_text()

@@ -1,0 +1,63 @@
+/* A process that judges the nets it is sent: for each a head and a name in, a result out. */
+#define _GNU_SOURCE
+#include "batch.h"
+
+#include <errno.h>
+#include <fcntl.h>
+#include <signal.h>
+#include <stdlib.h>
+#include <string.h>
+#include <sys/prctl.h>
+#include <sys/stat.h>
+#include <unistd.h>
+
+/* A net that cannot be read has no listing, not an old one either; but where all nets have gone, nothing is taken away and the batch stops. */
+static void remove_old(const struct folders *folders, const char *name, struct result *result) {
+    struct stat status;
+    if (fstat(folders->nets, &status) < 0 || status.st_nlink == 0) {
+        result->number = STOPPED;
+        result->largest = ENOENT;
+    } else {
+        unlinkat(folders->listings, name, 0);
+    }
+}
+
+static void judge_one(const struct folders *folders, const char *own, const char *name, struct result *result) {
+    static uint8_t bytes[FILE_BYTES], listing[LISTING_BYTES];
+    size_t length, written;
+    if (!read_net(folders, name, bytes, &length, result)) {
+        remove_old(folders, name, result);
+        return;
+    }
+    judge(bytes, length, listing, &written, result);
+    place(folders, own, name, listing, written, result);
+}
+
+/* The words are written where the net is refused and they are not there yet. */
+static void explain_one(const struct folders *folders, const char *own, const char *name, const struct result *result) {
+    struct stat status;
+    if (folders->explained < 0 || result->number == 0 || result->number >= STOPPED) return;
+    if (result->is_kept && fstatat(folders->explained, name, &status, AT_SYMLINK_NOFOLLOW) == 0) return;
+    explain(folders, own, name);
+}
+
+void work(const struct folders *folders, int number, int in, int out) {
+    struct { struct result old; uint32_t is_done, length; } head;
+    char own[16], *name = NULL;
+    size_t room = 0;
+    snprintf(own, sizeof own, "%d", number);
+    signal(SIGINT, SIG_IGN);
+    signal(SIGTERM, SIG_IGN);
+    prctl(PR_SET_PDEATHSIG, SIGKILL);
+    while (read_all(in, &head, sizeof head)) {
+        if (head.length + 1 > room) name = must(realloc(name, room = head.length + 1));
+        if (!read_all(in, name, head.length)) break;
+        name[head.length] = 0;
+        struct result result = head.old;
+        if (head.is_done && is_unchanged(folders, name, &head.old)) result.is_kept = 1;
+        else judge_one(folders, own, name, &result);
+        explain_one(folders, own, name, &result);
+        if (!write_all(out, &result, sizeof result)) break;
+    }
+    _exit(0);
+}
