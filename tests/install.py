@@ -25,9 +25,10 @@ PARTS = ("Makefile", "VERSION", "CHANGELOG.md", "README.md", *NAMES, "docs", "ex
 PATIENCE = 600
 LISTING = "\n".join(WHOLE_LISTING) + "\n"
 
-# The stand-in for rt: everything is proved and built already.
+# The stand-in for rt: everything is proved and built already, and the archive is written anew when it is asked for.
 RT = """#!/bin/sh
 [ "$1" = version ] && { echo kit-of-the-tests; exit; }
+[ "$1" != staticlib ] || touch target/staticlib/libkodarfi.a
 echo "$*" >>"$CALLS"
 """
 
