@@ -5,10 +5,11 @@
  * (a pointer without const) overlaps anything else of the same call. A pointer may be null where the length after it is 0, as an empty std::vector
  * hands it; no other may. Calls keep no state, take at most KODARFI_STACK_MAX bytes of stack and no other memory, and may run at the same time.
  *
- * Each gives the papers' number of the first refusal, 0 where nothing is refused. One that has `places` writes them in any case: the row, column,
- * count or line that goes with the refusal, 0 where there is none. Rows, columns and lines count from 1.
+ * Each gives the papers' number of the first refusal, 0 where nothing is refused; kodarfi_loader_new alone, which refuses nothing, gives none. One that
+ * has `places` writes them in any case: the row, column, count or line that goes with the refusal, 0 where there is none. Rows, columns and lines count
+ * from 1.
  *
- * kodarfi_net.h has these calls on one struct with lists of full length, and the numbers in words.
+ * kodarfi_net.h has the calls on nets and files with lists of full length in one struct, and the numbers in words.
  *
  * What the numbers mean, and their ranges; a number that is used and outside its range is 3:
  *
