@@ -334,6 +334,10 @@ def text_results():
     ranges = set(re.findall(r"highest: (\d+)", tables[0].read_text()))
     kinds = [name for name in constants() if name.endswith("_MAX") and name not in ("KODARFI_STACK_MAX", "KODARFI_OBSERVATIONS_MAX", "KODARFI_BOUND_MAX")]
     yield "the ranges are those of the table", {str(constants()[name]) for name in kinds} == ranges
+    words = next(line.split("\t")[2] for line in (ROOT / "docs" / "refusals.tsv").read_text().splitlines() if line.startswith("3\t"))
+    ends = {name: constants()[name] for name in [*kinds, "KODARFI_OBSERVATIONS_MAX"]}
+    told = set(re.findall(r"[\d,^]*\d", words))
+    yield "the words of 3 tell every range", all({f"{end:,}", f"2^{end.bit_length() - 1}"} & told for end in ends.values())
 
 
 def results(workshop):
