@@ -263,9 +263,8 @@ def uninstall_leaves_what_is_not_its_own(checkout):
 
 
 def destdir_is_only_where_files_go(checkout):
-    """A package is made so: what it says is of PREFIX."""
+    """A package is made so: what it says is of PREFIX, and a folder that was made for it goes with it."""
     stage = checkout.folder / "stage"
-    stage.mkdir()
     words = (f"DESTDIR={stage}", "PREFIX=/opt/kodarfi")
     if not checkout.install(*words):
         return False
@@ -273,7 +272,7 @@ def destdir_is_only_where_files_go(checkout):
     told = (checkout.prefix / "lib/pkgconfig/kodarfi.pc").read_text().startswith("prefix=/opt/kodarfi\n")
     nowhere = all(str(stage).encode() not in contents for _, _, contents in checkout.tree().values())
     runs = checkout.installed("register", checkout.prefix / "share/doc/kodarfi/examples/whole-file.txt")[0] == 0
-    return told and nowhere and runs and checkout.uninstall(*words) and list(stage.iterdir()) == []
+    return told and nowhere and runs and checkout.uninstall(*words) and not stage.exists()
 
 
 def is_one_line(answer, *words):
@@ -364,6 +363,7 @@ WRONG = {
     "scripts that cannot be run": (INSTALL, 'echo "755 bin/$name $name"', 'echo "644 bin/$name $name"', installed_files_can_be_read),
     "the umask decides": (INSTALL, "umask 022\n", "", umask_does_not_matter),
     "DESTDIR in the pkg-config file": (INSTALL, "prefix=$prefix\n", "prefix=$base$prefix\n", destdir_is_only_where_files_go),
+    "DESTDIR is left": (INSTALL, '[ -z "$base" ] || [ -e "$base" ] || echo /', ":", destdir_is_only_where_files_go),
     "no version in the pkg-config file": (INSTALL, "Version: $version", "Version: 1", pkg_config_file_tells_the_version),
     "headers are left": (INSTALL, 'mapfile -t names < <(LC_ALL=C sort -r -- "$list")', 'mapfile -t names < <(LC_ALL=C sort -r -- "$list" | grep -v include/)', uninstall_leaves_nothing),
     "folders are left": (INSTALL, '[[ $name != */ ]] || rmdir', "true || rmdir", uninstall_leaves_nothing),
