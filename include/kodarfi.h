@@ -42,7 +42,7 @@
 #define KODARFI_VERSION_PATCH 0
 
 /* The lengths of lists and buffers: of a matrix, a column, a matrix by its lower half, a listing; the longest file that kodarfi_convert writes; how many
- * field lines a build takes; and how many bytes of a file decide its answer, so that no more need be read. */
+ * field lines a build takes; how many bytes of a file decide its answer, so that no more need be read; a loader, and the longest line that is not 1. */
 #define KODARFI_MATRIX_LENGTH 1024
 #define KODARFI_COLUMN_LENGTH 32
 #define KODARFI_HALF_LENGTH 528
@@ -50,6 +50,8 @@
 #define KODARFI_CONVERTED_LENGTH 21300
 #define KODARFI_OBSERVATIONS_MAX 256
 #define KODARFI_FILE_LENGTH 65536
+#define KODARFI_LOADER_LENGTH 9
+#define KODARFI_LINE_LENGTH 320
 
 /* The ends of the ranges: the highest number of each kind, and the highest size where numbers may be below 0. */
 #define KODARFI_N_MAX 32
