@@ -131,11 +131,12 @@ class Refused(Exception):
     places   two numbers: a row; column and row; a count; 0 where none is named
     line     the line of a file or of a list of field lines, from 1; 0 where none is named
     net      of two nets or proposals the one that it is of, 1 or 2; 0 where there is one, or where it is of neither
-    what, expected, to_do   the plain words: what is wrong, what was expected, and what whoever wrote it may do"""
+    what, expected, to_do   the plain words: what is wrong, what was expected, and what whoever wrote it may do
+    note     more of what is wrong, where there is more to say"""
 
-    def __init__(self, number: int, places: Sequence[int] = (0, 0), line: int = 0, net: int = 0) -> None:
-        super().__init__(number, tuple(places), line, net)
-        self.number, self.places, self.line, self.net = number, (places[0], places[1]), line, net
+    def __init__(self, number: int, places: Sequence[int] = (0, 0), line: int = 0, net: int = 0, note: str = "") -> None:
+        super().__init__(number, tuple(places), line, net, note)
+        self.number, self.places, self.line, self.net, self.note = number, (places[0], places[1]), line, net, note
         self.what, self.expected, self.to_do = WORDS[number] if number in WORDS else ("", "", "")
 
     def where(self) -> str:
@@ -152,7 +153,7 @@ class Refused(Exception):
 
     def __str__(self) -> str:
         """One line: number, place and what is wrong."""
-        return f"refused with {', '.join(filter(None, (str(self.number), self.where())))}: {self.what}"
+        return f"refused with {', '.join(filter(None, (str(self.number), self.where())))}: {'; '.join(filter(None, (self.what, self.note)))}"
 
     def text(self) -> str:
         """Three lines: what and where, what was expected, what to do."""
@@ -160,7 +161,7 @@ class Refused(Exception):
 
     def form(self) -> str:
         """The line that a listing has: (refused NUMBER (..))."""
-        places = self.places if self.number == 7 else (self.line or self.places[0],)
+        places = self.places if self.number == 7 else self.places[:1] if self.number == 13 else (self.line or self.places[0],)
         return f"(refused {self.number} ({' '.join(map(str, places))}))"
 
 

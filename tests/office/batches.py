@@ -1,7 +1,4 @@
-"""The script ./batch: how its program is built and called (tests/batch has the program itself), and the example from field lines to listing."""
-
-from checks import faults, net_from
-from second.program import Program
+"""The script ./batch: how its program is built and called (tests/batch has the program itself)."""
 
 from office.room import failed
 
@@ -58,14 +55,4 @@ def lost_help_is_2(room):
     return all(failed(answer, "could not be written") for answer in lost) and room.shell("./batch --help | exec true; echo ${PIPESTATUS[0]}") == (0, b"0\n", b"")
 
 
-def field_lines_to_listing(room):
-    """README's pipe, as it stands there: the file is the one beside the field lines, accepted, and no limit is wrong."""
-    town = room.root / "examples/town"
-    command = next(line for line in (room.root / "README.md").read_text().split("\n") if "propose.py" in line and line.startswith("    "))
-    status, out, err = room.shell(command.strip().split("   ")[0])
-    made = room.shell("python3 examples/propose.py <examples/town/field.txt")[1]
-    files = (status, out, err, made) == (0, (town / "listing.txt").read_bytes(), b"", (town / "net.txt").read_bytes())
-    return files and faults(net_from(Program().load(made)), out) == []
-
-
-TESTS = (builds_at_first_use, failed_build_is_2, version_tells_what_was_built, lost_help_is_2, field_lines_to_listing)
+TESTS = (builds_at_first_use, failed_build_is_2, version_tells_what_was_built, lost_help_is_2)

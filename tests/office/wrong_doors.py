@@ -77,5 +77,4 @@ WRONG = {
     "the program's own sources do not count": (BATCH, "parts=(programs/batch include)", "parts=()", batches.builds_at_first_use),
     "a batch with an old program": (BATCH, "rt staticlib kodarfi && link_batch", "rt staticlib kodarfi; link_batch", batches.failed_build_is_2),
     "a batch's help is lost": (BATCH, 'hand_out "$help"', 'echo "$help"', batches.lost_help_is_2),
-    "another solver": ("examples/propose.py", "right[mark - 1] += sign", "right[mark - 1] -= sign", batches.field_lines_to_listing),
 }

@@ -9,14 +9,14 @@ import tempfile
 from pathlib import Path
 
 sys.dont_write_bytecode = True
-sys.path[:0] = [str(Path(__file__).resolve().parent.parent), str(Path(__file__).resolve().parent.parent.parent / "examples")]
+sys.path.insert(0, str(Path(__file__).resolve().parent.parent))
 
 from office.room import open_folder
-from package import beside, shape
+from package import beside, commands, shape
 from package.loaded import SHARED, SOURCES, Package, copied
 from package.mutants import MUTANTS
 
-TESTS = (*shape.TESTS, *beside.TESTS)
+TESTS = (*shape.TESTS, *beside.TESTS, *commands.TESTS)
 
 
 def holds(test, folder):
