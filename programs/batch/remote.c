@@ -11,6 +11,8 @@
 #include <inttypes.h>
 #include <stdlib.h>
 #include <string.h>
+#include <signal.h>
+#include <sys/prctl.h>
 #include <sys/random.h>
 #include <sys/wait.h>
 #include <unistd.h>
@@ -119,6 +121,7 @@ static void receive(const struct folders *folders, const char *token, const char
         if (result.number == FAILED) continue;
         note_done(name, &result);
         flush_journal(folders);
+        progress_there(&result);
     }
     free(piece);
     free(name);
@@ -144,6 +147,8 @@ static pid_t start_parallel(const char *machines, const char *jobs, const char *
     words[count++] = "--judge-there";
     pid_t child = fork();
     if (child == 0) {
+        prctl(PR_SET_PDEATHSIG, SIGTERM);
+        setenv("PARALLEL_SSH", "ssh -o BatchMode=yes -o ConnectTimeout=10 -o ServerAliveInterval=5 -o ServerAliveCountMax=3", 0);
         if (dup2(in, 0) < 0 || dup2(out, 1) < 0) _exit(127);
         execvp("parallel", (char *const *)words);
         _exit(127);
@@ -165,7 +170,10 @@ void run_remote(const struct folders *folders, const char *machines, const char 
         close(from[0]);
         close(from[1]);
         close(to[0]);
-        send_nets(folders, token, fdopen(to[1], "w"));
+        prctl(PR_SET_PDEATHSIG, SIGKILL);
+        struct folders quiet = *folders;
+        quiet.is_quiet = true;
+        send_nets(&quiet, token, fdopen(to[1], "w"));
     }
     if (sender < 0) fail("no process for other machines: %s", strerror(errno));
     close(to[0]);
@@ -174,6 +182,7 @@ void run_remote(const struct folders *folders, const char *machines, const char 
     FILE *in = must(fdopen(from[0], "r"));
     receive(folders, token, version, in);
     fclose(in);
+    if (signal_met) kill(parallel, SIGTERM), kill(parallel, SIGTERM);
     while (waitpid(sender, NULL, 0) < 0 && errno == EINTR) {}
     while (waitpid(parallel, &status, 0) < 0 && errno == EINTR) {}
     if (WIFEXITED(status) && WEXITSTATUS(status) == 127) fail("the tool 'parallel' (GNU parallel) is missing");
