@@ -119,6 +119,8 @@ def run(name: str, words: List[str]) -> int:
         put(f"usage: python3 -m kodarfi {name} {COMMANDS[name].files}\n\n{COMMANDS[name].tells}; python3 -m kodarfi --help tells more\n".encode())
         return 0
     files, allowance = words_of(name, words)
+    if "-" in files and sys.stdin is not None and sys.stdin.isatty():
+        say(f"{name}: reading standard input to its end")
     names = " and ".join(map(shown, files))
     length = FIELD_LENGTH + 1 if name == "build" else FILE_LENGTH
     texts = [read(file, length) for file in files]

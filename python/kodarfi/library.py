@@ -64,8 +64,8 @@ CALLS: Dict[str, List[type]] = {
 
 
 def places_to_look() -> Iterator[str]:
-    """Where a shared object may be, in order: what the environment names and nothing else; the checkout that this package stands in; beside
-    an installed Python or under /usr/local; wherever the system's loader looks."""
+    """Where a shared object may be, in order: what the environment names and nothing else; the checkout that this package stands in; the lib
+    folder of Python's own prefix and of /usr/local; wherever the system's loader looks."""
     named = os.environ.get(VARIABLE)
     if named:
         yield os.path.abspath(named)
@@ -73,7 +73,7 @@ def places_to_look() -> Iterator[str]:
     checkout = Path(__file__).resolve().parent.parent.parent
     if (checkout / "include" / "kodarfi.h").is_file():
         yield str(checkout / "target" / "lib" / "libkodarfi.so")
-    for prefix in dict.fromkeys((os.path.dirname(os.path.dirname(os.path.abspath(sys.executable))), "/usr/local")):
+    for prefix in dict.fromkeys((sys.prefix, sys.base_prefix, "/usr/local")):
         yield os.path.join(prefix, "lib", NAME)
     yield NAME
 

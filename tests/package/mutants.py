@@ -17,6 +17,7 @@ MUTANTS = {
     "an example that is refused": ("__init__.py", "guess=[25, 22]", "guess=[25, 220]", shape.example_of_the_documentation_runs),
     "the environment is not heeded": ("library.py", "    if named:\n", "    if False:\n", shape.library_is_found),
     "the checkout is not looked at": ("library.py", 'yield str(checkout / "target" / "lib" / "libkodarfi.so")', "pass", shape.library_is_found),
+    "Python's own prefix is not looked at": ("library.py", "(sys.prefix, sys.base_prefix, ", "(", shape.library_is_found),
     "the system is not asked": ("library.py", "    yield NAME\n", "", shape.library_is_found),
     "an older library will do": ("library.py", "        call = getattr(library, name)\n", "        call = getattr(library, name, None)\n        if call is None:\n            continue\n", shape.library_is_found),
     "nobody says how to build it": ("library.py", "HOW = f\"build it by 'make lib'", "HOW = f\"build it", shape.library_is_found),

@@ -2,6 +2,7 @@
 
 import ast
 import ctypes
+import importlib.metadata
 import importlib.util
 import inspect
 import re
@@ -58,8 +59,12 @@ def sources(package):
     return sorted((package.folder / "kodarfi").glob("*.py"))
 
 
+# The modules of Python that the package uses.
+OWN = {"csv", "ctypes", "dataclasses", "itertools", "operator", "os", "pathlib", "re", "signal", "sys", "typing"}
+
+
 def syntax_is_that_of_3_9(package):
-    """And nothing is imported that Python does not have itself."""
+    """And nothing is imported but modules that Python has itself."""
     names = set()
     for source in sources(package):
         tree = ast.parse(source.read_text(encoding="utf-8"), str(source), feature_version=(3, 9))
@@ -68,7 +73,7 @@ def syntax_is_that_of_3_9(package):
                 return False
             names |= {alias.name.split(".")[0] for alias in node.names} if isinstance(node, ast.Import) else set()
             names |= {node.module.split(".")[0]} if isinstance(node, ast.ImportFrom) and not node.level else set()
-    return len(sources(package)) >= 5 and names <= set(getattr(sys, "stdlib_module_names", names))
+    return len(sources(package)) >= 5 and names <= OWN
 
 
 def words_are_the_tables(package):
@@ -127,7 +132,10 @@ def library_is_found(package):
 
         none = said(checkout / "python", KODARFI_LIBRARY="")
         is_installed = Path("/usr/local/lib/libkodarfi.so.3").exists()
-        before = (is_installed or tells(none, b"there is no libkodarfi.so.3")) and said(checkout / "python", KODARFI_LIBRARY="", LD_LIBRARY_PATH=str(root / "installed")) == FOUND
+        (root / "prefix" / "lib").mkdir(parents=True)
+        (root / "prefix" / "lib" / "libkodarfi.so.3").symlink_to(SHARED)
+        in_prefix = package.python("-c", f"import sys\nsys.prefix = {str(root / 'prefix')!r}\n{USE}", env=package.environment(PYTHONPATH=str(checkout / "python"), KODARFI_LIBRARY=""), cwd=folder)
+        before = in_prefix == (0, FOUND, b"") and (is_installed or tells(none, b"there is no libkodarfi.so.3")) and said(checkout / "python", KODARFI_LIBRARY="", LD_LIBRARY_PATH=str(root / "installed")) == FOUND
         (checkout / "target" / "lib").mkdir(parents=True)
         (checkout / "target" / "lib" / "libkodarfi.so").symlink_to(SHARED)
         return (
@@ -145,15 +153,26 @@ BY_PIP = ("-m", "pip", "install", "--quiet", "--no-build-isolation", "--no-deps"
 BY_SETUPTOOLS = ("-W", "ignore", "-c", "import setuptools; setuptools.setup()", "--quiet", "build")
 
 
-def installs_by_pip(package):
-    """Into a folder of its own, without the net. Where pip lacks what it needs, setuptools lays the package out as pip would; where that is missing too,
-    nothing is tried. Either is said."""
+def missing_for_pip():
+    """What pip needs to install the package without the net and is not here: setuptools that reads pyproject.toml, pip, wheel."""
     with warnings.catch_warnings():
         warnings.simplefilter("ignore")
         missing = [name for name in ("setuptools", "pip", "wheel") if not importlib.util.find_spec(name)]
+        is_old = "setuptools" not in missing and int(importlib.metadata.version("setuptools").split(".")[0]) < 61
+    return ["setuptools", *missing] if is_old else missing
+
+
+def is_installable():
+    return "setuptools" not in missing_for_pip()
+
+
+def installs_by_pip(package):
+    """Into a folder of its own, without the net. Where pip lacks what it needs, setuptools lays the package out as pip would; where that is missing too,
+    nothing is tried. Either is said."""
+    missing = missing_for_pip()
     if missing and package.folder == SOURCES:
-        print(f"package: {missing[0]} is missing here, and pip install was not tried{'' if 'setuptools' in missing else ', but setuptools alone'}")
-    if "setuptools" in missing:
+        print(f"package: {missing[0]} is missing here, or too old, and pip install was not tried{', but setuptools alone' if is_installable() else ''}")
+    if not is_installable():
         return True
     with tempfile.TemporaryDirectory(dir=open_folder()) as folder:
         source, to = Path(folder) / "python", Path(folder) / "installed"
