@@ -112,6 +112,7 @@ def another_user():
 
 def make_builds_the_programs(checkout):
     """By the kit, and their version is noted; make lib makes archive and shared object; make check is the gate."""
+    (checkout.root / "target/bin/batch").unlink()
     if any(checkout.make(*words)[0] for words in ((), ("lib",), ("check",))):
         return False
     calls = (checkout.folder / "calls").read_text().splitlines()
@@ -168,6 +169,7 @@ def programs_need_no_checkout(checkout):
 
 def programs_tell_their_version(checkout):
     version = (ROOT / "VERSION").read_text().strip()
+    (checkout.root / "target/bin/batch").unlink()
     if checkout.make()[0] or not checkout.install():
         return False
     shutil.rmtree(checkout.root)
