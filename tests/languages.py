@@ -56,8 +56,8 @@ WRONG = {
 
 
 def compile_lines():
-    """The indented lines of the section."""
-    section = (ROOT / "README.md").read_text().split("\n## Linking\n")[1].split("\n## ")[0]
+    """The indented lines of the section, after the sentence that says of them that they are run."""
+    section = (ROOT / "README.md").read_text().split("\n## Linking\n")[1].split("\n## ")[0].split("The gate runs these lines as they stand")[1]
     return [line.strip() for line in section.split("\n") if line.startswith("    ")]
 
 
