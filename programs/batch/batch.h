@@ -88,8 +88,8 @@ void work(const struct folders *folders, int number, int in, int out);
 void run_pool(const struct folders *folders, unsigned workers, void (*finished)(const char *name, const struct result *result));
 extern volatile int signal_met;
 
-/* remote.c: sends what is not done to other machines, and puts into place what comes back. */
-void run_remote(const struct folders *folders, const char *machines, const char *jobs, const char *script, const char *version);
+/* remote.c: sends what is not done to other machines, and puts into place what comes back; whether all did. */
+bool run_remote(const struct folders *folders, const char *machines, const char *jobs, const char *script, const char *version);
 void judge_there(const char *version);
 
 /* report.c */

@@ -202,8 +202,9 @@ int main(int count, char **words) {
     if (signal_met) break_off();
     if (names == 0) fail("%s: no file in it", folders.nets_name);
     start_report(names, options.summary);
-    for (int round = 0; options.machines && round < 2 && !signal_met; round++) {
-        run_remote(&folders, options.machines, options.jobs, script, version);
+    bool is_all = !options.machines;
+    for (int round = 0; !is_all && round < 2 && !signal_met; round++) {
+        is_all = run_remote(&folders, options.machines, options.jobs, script, version);
         sort_journal(&folders);
     }
     run_pool(&folders, options.jobs && !options.machines ? (unsigned)atoi(options.jobs) : processors(), report);

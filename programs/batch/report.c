@@ -161,7 +161,8 @@ static void end_summary(void) {
 int end_report(bool all_seen, const char *nets_name) {
     if (is_moving) dprintf(2, "\r\033[K");
     end_summary();
-    if (kept) say("%" PRIu64 " of these were judged before, and have not changed since", kept);
+    if (there) say("%" PRIu64 " of these were judged by other machines", there);
+    if (kept > there) say("%" PRIu64 " of these were judged before, and have not changed since", kept - there);
     if (!all_seen) print("failed: a folder under %s that cannot be read\n", shown(nets_name));
     print("%" PRIu64 " accepted, %" PRIu64 " refused, %" PRIu64 " failed\n", accepted, refused, failures);
     if (fflush(stdout) && errno != EPIPE) is_unwritten = true;
