@@ -37,7 +37,6 @@ def empty(*folders):
 
 
 def timed(command, **options):
-    os.sync()  # what was written before is not this one's
     began = time.monotonic()
     subprocess.run(command, check=True, stdout=subprocess.DEVNULL, **options)
     return time.monotonic() - began
