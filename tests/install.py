@@ -334,7 +334,7 @@ def manual_is_the_help(checkout):
 
 def help_is_told(checkout):
     """By the scripts beside the programs, with -h as with --help."""
-    scripts = ([checkout.root / "scripts/install"], [sys.executable, checkout.root / "docs/manual.py"], [sys.executable, checkout.root / "docs/refusals_to_c.py"])
+    scripts = ([checkout.root / "scripts/install"], [sys.executable, checkout.root / "docs/manual.py"], [sys.executable, checkout.root / "docs/refusals_to_c.py"], [sys.executable, checkout.root / "docs/refusals_to_python.py"])
     told = [[checkout.run(*script, word) for word in ("-h", "--help")] for script in scripts]
     return all(short == long and short[0] == 0 and len(short[1]) > 100 and short[2] == "" for short, long in told)
 
