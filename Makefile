@@ -23,7 +23,7 @@ RT := here=$$(pwd); . scripts/door.sh; memory=$$(memory_folder 1); trap 'rm -rf 
 programs:
 	@$(RT) check $(notdir $(PROVED)) && for program in $(PROVED); do note_version $$program "$$from"; done
 	@$(RT) staticlib kodarfi
-	@$(MAKE) --no-print-directory target/bin/batch
+	@$(MAKE) --no-print-directory -W $(ARCHIVE) target/bin/batch
 
 lib:
 	@$(RT) staticlib kodarfi

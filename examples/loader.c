@@ -5,8 +5,8 @@
 #include <inttypes.h>
 #include <stdio.h>
 
-/* A line of 321 bytes is refused, and so is every longer one: the rest is not kept. */
-enum { KEPT = 321 };
+/* A line one byte longer than the longest is refused, and so is every longer one: the rest is not kept. */
+enum { KEPT = KODARFI_LINE_LENGTH + 1 };
 
 static int64_t matrix[1024], right[32], tolerance[32], guess[32], inverse[1024], weights[32];
 static uint64_t solution_bounds[32], inverse_bounds[1024];
@@ -27,7 +27,7 @@ static int failed(const char *what) {
 }
 
 int main(void) {
-    uint32_t loader[9];
+    uint32_t loader[KODARFI_LOADER_LENGTH];
     uint64_t places[2];
     uint8_t line[KEPT];
     size_t length;

@@ -65,6 +65,10 @@ def main():
         print("usage: loader.py LIBRARY", file=sys.stderr)
         return 2
     signal.signal(signal.SIGINT, signal.SIG_DFL)  # whoever types may stop at any line
+    for name, stream in ("input", sys.stdin), ("output", sys.stdout):
+        if stream is None:
+            print(f"standard {name}: closed", file=sys.stderr)
+            return 2
     try:
         return load(Loader(ctypes.CDLL(os.path.abspath(sys.argv[1]))), sys.stdin.buffer)
     except (OSError, AttributeError) as error:

@@ -5,10 +5,11 @@
  * (a pointer without const) overlaps anything else of the same call. A pointer may be null where the length after it is 0, as an empty std::vector
  * hands it; no other may. Calls keep no state, take at most KODARFI_STACK_MAX bytes of stack and no other memory, and may run at the same time.
  *
- * Each gives the papers' number of the first refusal, 0 where nothing is refused. One that has `places` writes them in any case: the row, column,
- * count or line that goes with the refusal, 0 where there is none. Rows, columns and lines count from 1.
+ * Each gives the papers' number of the first refusal, 0 where nothing is refused; kodarfi_loader_new alone, which refuses nothing, gives none. One that
+ * has `places` writes them in any case: the row, column, count or line that goes with the refusal, 0 where there is none. Rows, columns and lines count
+ * from 1.
  *
- * kodarfi_net.h has these calls on one struct with lists of full length, and the numbers in words.
+ * kodarfi_net.h has the calls on nets and files with lists of full length in one struct, and the numbers in words.
  *
  * What the numbers mean, and their ranges; a number that is used and outside its range is 3:
  *
@@ -41,7 +42,7 @@
 #define KODARFI_VERSION_PATCH 0
 
 /* The lengths of lists and buffers: of a matrix, a column, a matrix by its lower half, a listing; the longest file that kodarfi_convert writes; how many
- * field lines a build takes; and how many bytes of a file decide its answer, so that no more need be read. */
+ * field lines a build takes; how many bytes of a file decide its answer, so that no more need be read; a loader, and the longest line that is not 1. */
 #define KODARFI_MATRIX_LENGTH 1024
 #define KODARFI_COLUMN_LENGTH 32
 #define KODARFI_HALF_LENGTH 528
@@ -49,6 +50,8 @@
 #define KODARFI_CONVERTED_LENGTH 21300
 #define KODARFI_OBSERVATIONS_MAX 256
 #define KODARFI_FILE_LENGTH 65536
+#define KODARFI_LOADER_LENGTH 9
+#define KODARFI_LINE_LENGTH 320
 
 /* The ends of the ranges: the highest number of each kind, and the highest size where numbers may be below 0. */
 #define KODARFI_N_MAX 32

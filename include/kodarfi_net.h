@@ -64,6 +64,11 @@ struct kodarfi_ends {
     double low[KODARFI_COLUMN_LENGTH], high[KODARFI_COLUMN_LENGTH];
 };
 
+/* How far limits can lie above true errors: numerator / denominator, at least 1. */
+struct kodarfi_factor {
+    uint64_t numerator, denominator;
+};
+
 /* A listing, and a file for the old edition: the first `length` bytes. */
 struct kodarfi_listing_bytes {
     size_t length;
@@ -178,6 +183,13 @@ static inline uint32_t kodarfi_net_find_weights(struct kodarfi_net *net, uint32_
                                                   tried, refusal->places);
 }
 
+/* The factor of the limits that the net's matrix, inverse and weights give, whatever the rest: kodarfi_quality. */
+static inline uint32_t kodarfi_net_quality(const struct kodarfi_net *net, struct kodarfi_factor *factor, struct kodarfi_refusal *refusal) {
+    kodarfi_refusal_clear(refusal);
+    return refusal->number = kodarfi_quality(net->n, net->t, KODARFI_MATRIX_(net->matrix), KODARFI_MATRIX_(net->inverse), KODARFI_COLUMN_(net->weights),
+                                             &factor->numerator, &factor->denominator, refusal->places);
+}
+
 /* A solver's heights as guesses, for the net's n and s: kodarfi_guesses. Writes guess. */
 static inline uint32_t kodarfi_net_guesses(struct kodarfi_net *net, const struct kodarfi_heights *heights, struct kodarfi_refusal *refusal) {
     kodarfi_refusal_clear(refusal);
@@ -204,7 +216,8 @@ static inline uint32_t kodarfi_half_net_intervals(const struct kodarfi_half_net 
                                                KODARFI_COLUMN_(ends->high), refusal->places);
 }
 
-/* The listing of a file: kodarfi_listing. It is written whatever the answer is; where a line is refused, refusal->line is its number. */
+/* The listing of a file: kodarfi_listing. It is written whatever the answer is; where a line is refused, refusal->line is its number, but for an end that is
+ * refused with 13, whose line a listing does not name. */
 static inline uint32_t kodarfi_file_listing(const uint8_t *file, size_t file_len, struct kodarfi_listing_bytes *listing, struct kodarfi_refusal *refusal) {
     kodarfi_refusal_clear(refusal);
     refusal->number = kodarfi_listing(file, file_len, listing->bytes, &listing->length, refusal->places);
@@ -222,7 +235,7 @@ static inline uint32_t kodarfi_file_listing(const uint8_t *file, size_t file_len
     return refusal->number;
 }
 
-/* A file for the old edition: kodarfi_convert_line. Where a line is refused, refusal->line is its number. */
+/* A file for the old edition: kodarfi_convert_line. Where a line is refused, with 13 too, refusal->line is its number. */
 static inline uint32_t kodarfi_file_convert(const uint8_t *file, size_t file_len, struct kodarfi_converted_bytes *converted, struct kodarfi_refusal *refusal) {
     kodarfi_refusal_clear(refusal);
     return refusal->number = kodarfi_convert_line(file, file_len, converted->bytes, KODARFI_CONVERTED_LENGTH, &converted->length, refusal->places, &refusal->line);

@@ -24,7 +24,7 @@ static inline const struct kodarfi_words *kodarfi_words_of(uint32_t number) {
          "(problem n), (scale s t), (row i (a .. a)), (right i b) or (right i (b d)), (guess i X), (inverse i (g .. g)), (weight i w) or (end), with small letters, single spaces and whole numbers",
          "write the file anew in ASCII, each line as its form is spelled and ended by a line feed alone; the rules of spelling are in docs/FORMAT.md"},
         {3, "a number outside its range, i above n included",
-         "n: 1 to 32; s, t: 0 to 20; i: 1 to n; a, g: -1,048,576 to 1,048,576; b: -2^30 to 2^30; d: 0 to 1,048,576; X: -2^36 to 2^36; w: 1 to 1,024",
+         "n: 1 to 32; s, t: 0 to 20; i: 1 to n; a, g: -1,048,576 to 1,048,576; b: -2^30 to 2^30; d: 0 to 1,048,576; X: -2^36 to 2^36; w: 1 to 1,024; for calls also C: as a, an allowance: 1 to 64, and of a field line key: 1 to 65,535, marks: 0 to n, difference: -65,536 to 65,536, weight: 1 to 64, at most 256 lines",
          "look up the number that is meant; where that is it, scale the equations, or take a smaller s for X and a smaller t for g; a net of more than 32 marks has to be divided"},
         {4, "a row or inverse list with other than n numbers",
          "n numbers, one for each mark",

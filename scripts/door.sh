@@ -211,7 +211,7 @@ build() {
     began=$(date +%s.%N) from=$(commit) memory=$(memory_folder 2)
     trap '[ -z "$memory" ] || rm -rf "$memory"' EXIT
     if ! (set -o pipefail; cd "$here" && TMPDIR=${memory:-$(open_folder)} make_program </dev/null 3<&- | show_progress); then
-      touch -d @0 "$program" 2>/dev/null
+      touch -c -d @0 "$program" 2>/dev/null
       fail "$reason, and building it failed: 'rt check $crate' in $here tells more"
     fi
     [ -x "$program" ] || fail "the program was not built; remove the folder $here/target and try again"

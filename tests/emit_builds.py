@@ -21,9 +21,6 @@ from systems import usual
 from systems.field import damaged, halved, listed, town
 from wrong_builds import BUILT
 
-sys.path.append(str(Path(__file__).resolve().parent.parent / "examples"))
-import propose  # noqa: E402
-
 BUILDS = 2000
 ENOUGH = 20
 
@@ -110,11 +107,7 @@ def cases_of(call, answer):
 
 def beside_others():
     """What is wrong beside the nets of the other tests: the town's equations, and the matrices of levelling nets."""
-    lines = propose.field_lines(Path(__file__).resolve().parent.parent.joinpath("examples/town/field.txt").read_text())
-    matrix, right = propose.equations(lines)
     built = Builder().build(town())
-    if (built.matrix, built.right) != ([value for row in matrix for value in row], right):
-        yield "the town's equations differ"
     net = Path(__file__).resolve().parent.parent.joinpath("examples/town/net.txt").read_text()
     if not all(f"(row {i + 1} ({joined(built.matrix[i * 8 : i * 8 + 8])}))" in net and f"(right {i + 1} {built.right[i]})" in net for i in range(8)):
         yield "the town's file has other equations"

@@ -62,6 +62,8 @@ WRONG_HEADERS = {
     "ends of doubles exchanged": ("net", NET, "KODARFI_COLUMN_(ends->low)", "KODARFI_COLUMN_(ends->high)"),
     "inverse limits for heights": ("net", NET, "KODARFI_COLUMN_(bounds->solution), KODARFI_COLUMN_(ends->low)", "KODARFI_COLUMN_(bounds->inverse), KODARFI_COLUMN_(ends->low)"),
     "the matrix for the inverse of a search": ("net", NET, "KODARFI_MATRIX_(net->inverse), allowance", "KODARFI_MATRIX_(net->matrix), allowance"),
+    "the matrix for the inverse of a factor": ("net", NET, "KODARFI_MATRIX_(net->inverse), KODARFI_COLUMN_(net->weights),\n", "KODARFI_MATRIX_(net->matrix), KODARFI_COLUMN_(net->weights),\n"),
+    "a factor upside down": ("net", NET, "&factor->numerator, &factor->denominator", "&factor->denominator, &factor->numerator"),
     "an allowance of 64": ("net", NET, "KODARFI_MATRIX_(net->inverse), allowance", "KODARFI_MATRIX_(net->inverse), 64"),
     "no line of a build": ("net", NET, "KODARFI_COLUMN_(net->right), &refusal->line)", "KODARFI_COLUMN_(net->right), (uint64_t[1]){0})"),
     "no line of a conversion": ("net", NET, "refusal->places, &refusal->line)", "refusal->places, (uint64_t[1]){0})"),
@@ -332,6 +334,10 @@ def text_results():
     ranges = set(re.findall(r"highest: (\d+)", tables[0].read_text()))
     kinds = [name for name in constants() if name.endswith("_MAX") and name not in ("KODARFI_STACK_MAX", "KODARFI_OBSERVATIONS_MAX", "KODARFI_BOUND_MAX")]
     yield "the ranges are those of the table", {str(constants()[name]) for name in kinds} == ranges
+    words = next(line.split("\t")[2] for line in (ROOT / "docs" / "refusals.tsv").read_text().splitlines() if line.startswith("3\t"))
+    ends = {name: constants()[name] for name in [*kinds, "KODARFI_OBSERVATIONS_MAX"]}
+    told = set(re.findall(r"[\d,^]*\d", words))
+    yield "the words of 3 tell every range", all({f"{end:,}", f"2^{end.bit_length() - 1}"} & told for end in ends.values())
 
 
 def results(workshop):

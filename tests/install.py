@@ -25,9 +25,10 @@ PARTS = ("Makefile", "VERSION", "CHANGELOG.md", "README.md", *NAMES, "docs", "ex
 PATIENCE = 600
 LISTING = "\n".join(WHOLE_LISTING) + "\n"
 
-# The stand-in for rt: everything is proved and built already.
+# The stand-in for rt: everything is proved and built already, and the archive is written anew when it is asked for.
 RT = """#!/bin/sh
 [ "$1" = version ] && { echo kit-of-the-tests; exit; }
+[ "$1" != staticlib ] || touch target/staticlib/libkodarfi.a
 echo "$*" >>"$CALLS"
 """
 
@@ -111,6 +112,7 @@ def another_user():
 
 def make_builds_the_programs(checkout):
     """By the kit, and their version is noted; make lib makes archive and shared object; make check is the gate."""
+    (checkout.root / "target/bin/batch").unlink()
     if any(checkout.make(*words)[0] for words in ((), ("lib",), ("check",))):
         return False
     calls = (checkout.folder / "calls").read_text().splitlines()
@@ -167,6 +169,7 @@ def programs_need_no_checkout(checkout):
 
 def programs_tell_their_version(checkout):
     version = (ROOT / "VERSION").read_text().strip()
+    (checkout.root / "target/bin/batch").unlink()
     if checkout.make()[0] or not checkout.install():
         return False
     shutil.rmtree(checkout.root)
@@ -262,9 +265,8 @@ def uninstall_leaves_what_is_not_its_own(checkout):
 
 
 def destdir_is_only_where_files_go(checkout):
-    """A package is made so: what it says is of PREFIX."""
+    """A package is made so: what it says is of PREFIX, and a folder that was made for it goes with it."""
     stage = checkout.folder / "stage"
-    stage.mkdir()
     words = (f"DESTDIR={stage}", "PREFIX=/opt/kodarfi")
     if not checkout.install(*words):
         return False
@@ -272,7 +274,7 @@ def destdir_is_only_where_files_go(checkout):
     told = (checkout.prefix / "lib/pkgconfig/kodarfi.pc").read_text().startswith("prefix=/opt/kodarfi\n")
     nowhere = all(str(stage).encode() not in contents for _, _, contents in checkout.tree().values())
     runs = checkout.installed("register", checkout.prefix / "share/doc/kodarfi/examples/whole-file.txt")[0] == 0
-    return told and nowhere and runs and checkout.uninstall(*words) and list(stage.iterdir()) == []
+    return told and nowhere and runs and checkout.uninstall(*words) and not stage.exists()
 
 
 def is_one_line(answer, *words):
@@ -332,7 +334,7 @@ def manual_is_the_help(checkout):
 
 def help_is_told(checkout):
     """By the scripts beside the programs, with -h as with --help."""
-    scripts = ([checkout.root / "scripts/install"], [sys.executable, checkout.root / "docs/manual.py"], [sys.executable, checkout.root / "docs/refusals_to_c.py"])
+    scripts = ([checkout.root / "scripts/install"], [sys.executable, checkout.root / "docs/manual.py"], [sys.executable, checkout.root / "docs/refusals_to_c.py"], [sys.executable, checkout.root / "docs/refusals_to_python.py"])
     told = [[checkout.run(*script, word) for word in ("-h", "--help")] for script in scripts]
     return all(short == long and short[0] == 0 and len(short[1]) > 100 and short[2] == "" for short, long in told)
 
@@ -363,6 +365,7 @@ WRONG = {
     "scripts that cannot be run": (INSTALL, 'echo "755 bin/$name $name"', 'echo "644 bin/$name $name"', installed_files_can_be_read),
     "the umask decides": (INSTALL, "umask 022\n", "", umask_does_not_matter),
     "DESTDIR in the pkg-config file": (INSTALL, "prefix=$prefix\n", "prefix=$base$prefix\n", destdir_is_only_where_files_go),
+    "DESTDIR is left": (INSTALL, '[ -z "$base" ] || [ -e "$base" ] || echo /', ":", destdir_is_only_where_files_go),
     "no version in the pkg-config file": (INSTALL, "Version: $version", "Version: 1", pkg_config_file_tells_the_version),
     "headers are left": (INSTALL, 'mapfile -t names < <(LC_ALL=C sort -r -- "$list")', 'mapfile -t names < <(LC_ALL=C sort -r -- "$list" | grep -v include/)', uninstall_leaves_nothing),
     "folders are left": (INSTALL, '[[ $name != */ ]] || rmdir', "true || rmdir", uninstall_leaves_nothing),

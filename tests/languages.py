@@ -56,8 +56,8 @@ WRONG = {
 
 
 def compile_lines():
-    """The indented lines of the section."""
-    section = (ROOT / "README.md").read_text().split("\n## Linking\n")[1].split("\n## ")[0]
+    """The indented lines of the section, after the sentence that says of them that they are run."""
+    section = (ROOT / "README.md").read_text().split("\n## Linking\n")[1].split("\n## ")[0].split("The gate runs these lines as they stand")[1]
     return [line.strip() for line in section.split("\n") if line.startswith("    ")]
 
 
@@ -110,12 +110,20 @@ def tells_a_full_disk(program):
     return all(run.returncode == 2 and run.stderr.count(b"\n") == 1 for run in done)
 
 
+def tells_a_closed_stream(program, closed):
+    """Where standard input or output is closed: one line and status 2."""
+    done = subprocess.run(["sh", "-c", f'exec "$@" {closed}', "sh", *program], cwd=ROOT, input=EXAMPLE, capture_output=True, timeout=600)
+    return (done.stdout, done.returncode) == (b"", 2) and done.stderr.startswith(b"standard ") and done.stderr.count(b"\n") == 1
+
+
 def loader_results():
     for language, program in LOADERS.items():
         for index, lines in enumerate(TYPED):
             yield f"{language}: lines {index}", answers(program, *lines)
         yield f"{language}: each line as it is typed", answers_at_once(program)
         yield f"{language}: a full disk", tells_a_full_disk(program)
+        yield f"{language}: a closed input", tells_a_closed_stream(program, "<&-")
+        yield f"{language}: a closed output", tells_a_closed_stream(program, ">&-")
     stops = ["sh", "-c", "head -n 3 | target/loader-c"]
     yield "a program that stops at a refused line is told", not all(answers(stops, *lines) for lines in TYPED)
 

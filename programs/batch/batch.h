@@ -27,7 +27,8 @@ struct result {
     uint64_t places[2];
     uint64_t largest;  /* the largest limit of an entry, where the net is accepted */
     uint32_t number;   /* the papers' number of the refusal, 0 where the net is accepted, FAILED where nothing could be judged */
-    uint32_t is_kept;  /* 1 where this was found in the journal and still holds */
+    uint16_t is_kept;  /* 1 where this was found in the journal and still holds */
+    uint16_t is_bare;  /* 1 where plain words were asked for and could not be written */
 };
 #define FAILED UINT32_MAX
 /* No more can be written: the batch stops. `largest` is then the error's number. */
@@ -38,12 +39,15 @@ struct folders {
     const char *nets_name, *listings_name, *explained_name; /* as the caller gave them; explained_name is NULL where none was given */
     char *state_name;                                       /* LISTINGS.batch */
     int nets, listings, state, explained;
+    bool is_quiet; /* nothing is said of a net that fails: another process says it */
     const char *register_path; /* the script that explains a refusal */
 };
 
 _Noreturn void fail(const char *format, ...) __attribute__((format(printf, 1, 2)));
 void say(const char *format, ...) __attribute__((format(printf, 1, 2)));
 void *must(void *memory);
+/* Ends as the signal that was met asks for; what is done stays done. */
+_Noreturn void break_off(void);
 /* A name without control bytes, for people; the buffer is the function's own. */
 const char *shown(const char *name);
 
@@ -72,7 +76,7 @@ bool read_net(const struct folders *folders, const char *name, uint8_t *bytes, s
 void judge(const uint8_t *bytes, size_t length, uint8_t *listing, size_t *written, struct result *result);
 bool read_listing(const uint8_t *listing, size_t length, struct result *result);
 void place(const struct folders *folders, const char *own, const char *name, const uint8_t *listing, size_t length, struct result *result);
-void explain(const struct folders *folders, const char *own, const char *name);
+bool explain(const struct folders *folders, const char *own, const char *name);
 bool is_unchanged(const struct folders *folders, const char *name, const struct result *old);
 bool write_all(int file, const void *bytes, size_t length);
 bool read_all(int file, void *bytes, size_t length);
@@ -84,14 +88,16 @@ void work(const struct folders *folders, int number, int in, int out);
 void run_pool(const struct folders *folders, unsigned workers, void (*finished)(const char *name, const struct result *result));
 extern volatile int signal_met;
 
-/* remote.c: sends what is not done to other machines, and puts into place what comes back. */
-void run_remote(const struct folders *folders, const char *machines, const char *jobs, const char *script, const char *version);
+/* remote.c: sends what is not done to other machines, and puts into place what comes back; whether all did. */
+bool run_remote(const struct folders *folders, const char *machines, const char *jobs, const char *script, const char *version);
 void judge_there(const char *version);
 
 /* report.c */
 void start_report(uint64_t count, const char *summary);
 void report(const char *name, const struct result *result);
 void progress(void);
+/* A net that another machine has judged: for the progress alone. */
+void progress_there(const struct result *result);
 int end_report(bool all_seen, const char *nets_name);
 
 #endif

@@ -4,11 +4,11 @@
  *   about     which folder the nets are in, which version wrote the listings, the number of the last run, and the first run whose lines count, a line each
  *   names     the names of this run's nets, sorted
  *   done      what earlier runs left in `journal`, sorted by name and run
- *   journal   a line for each net that this run has judged: name, run, size, time, number, two places, largest limit, a tab between
+ *   journal   a line for each net that this run has judged: name, run, size, time, number, two places, largest limit and a point, a tab between
  *   0, 1, ..  what a worker is writing, before it is renamed
  *
- * A line is written whole after its listing has its name. One that a kill has torn has no line feed, or not every field, and is passed over: the net is
- * judged again, with the same listing. */
+ * A line is written whole after its listing has its name. One that a kill has torn lacks its point (`sort` gives it a line feed), and is passed over: the net
+ * is judged again, with the same listing. */
 #define _GNU_SOURCE
 #include "batch.h"
 
@@ -53,6 +53,7 @@ void sort_file(const struct folders *folders, const char *const *from, const cha
     while (waitpid(child, &status, 0) < 0) {
         if (errno != EINTR) fail("sorting: %s", strerror(errno));
     }
+    if (status && signal_met) break_off();
     if (WIFEXITED(status) && WEXITSTATUS(status) == 127) fail("the tool 'sort' is missing");
     if (status) fail("%s: the names could not be sorted", folders->state_name);
     if (renameat(folders->state, "sorted", folders->state, to) < 0) fail("%s: %s", folders->state_name, strerror(errno));
@@ -129,9 +130,41 @@ void open_state(struct folders *folders, const char *version, bool is_fresh) {
     free(nets);
 }
 
+/* The next line that was not torn. */
+static bool read_whole(char **line, size_t *room, FILE *from) {
+    ssize_t length;
+    while ((length = getline(line, room, from)) > 0 && (length < 3 || strcmp(*line + length - 3, "\t.\n"))) {}
+    return length > 0;
+}
+
+/* Keeps of `done` the last whole line of each name, so that it does not grow from run to run. */
+static void keep_last(const struct folders *folders) {
+    FILE *from = open_file(folders, "done", O_RDONLY, "r"), *to = open_file(folders, "sorted", O_WRONLY | O_CREAT | O_TRUNC, "w");
+    if (!from || !to) fail("%s: %s", folders->state_name, strerror(errno));
+    char *line = NULL, *next = NULL;
+    size_t line_room = 0, next_room = 0;
+    bool is_line = read_whole(&line, &line_room, from);
+    while (is_line) {
+        bool is_next = read_whole(&next, &next_room, from);
+        size_t name = strcspn(line, "\t");
+        if (!is_next || strncmp(line, next, name + 1)) fputs(line, to);
+        char *old = line;
+        size_t old_room = line_room;
+        line = next, line_room = next_room, next = old, next_room = old_room;
+        is_line = is_next;
+    }
+    free(line);
+    free(next);
+    bool is_read = !ferror(from);
+    fclose(from);
+    if (fflush(to) || ferror(to) || fclose(to) || !is_read) fail("%s: %s", folders->state_name, strerror(errno));
+    if (renameat(folders->state, "sorted", folders->state, "done") < 0) fail("%s: %s", folders->state_name, strerror(errno));
+}
+
 void sort_journal(const struct folders *folders) {
     close_journal();
     sort_file(folders, (const char *const[]){"done", "journal", NULL}, "done");
+    keep_last(folders);
     journal = open_file(folders, "journal", O_WRONLY | O_CREAT | O_TRUNC | O_APPEND, "a");
     if (!journal) fail("%s: %s", folders->state_name, strerror(errno));
     setvbuf(journal, NULL, _IOFBF, 1 << 16);
@@ -144,7 +177,7 @@ void close_journal(void) {
 
 void note_done(const char *name, const struct result *result) {
     escape(name, journal);
-    fprintf(journal, "\t%010lu\t%" PRId64 "\t%" PRId64 "\t%" PRId64 "\t%" PRIu32 "\t%" PRIu64 "\t%" PRIu64 "\t%" PRIu64 "\n", run, result->size, result->seconds,
+    fprintf(journal, "\t%010lu\t%" PRId64 "\t%" PRId64 "\t%" PRId64 "\t%" PRIu32 "\t%" PRIu64 "\t%" PRIu64 "\t%" PRIu64 "\t.\n", run, result->size, result->seconds,
             result->nanoseconds, result->number, result->places[0], result->places[1], result->largest);
 }
 
@@ -166,9 +199,8 @@ static bool next_line(struct done *done) {
         char *tab = strchr(done->line, '\t');
         struct result *r = &done->result;
         memset(r, 0, sizeof *r);
-        int end = 0;
-        if (tab && sscanf(tab, "\t%lu\t%" SCNd64 "\t%" SCNd64 "\t%" SCNd64 "\t%" SCNu32 "\t%" SCNu64 "\t%" SCNu64 "\t%" SCNu64 "%n", &done->run, &r->size, &r->seconds,
-                          &r->nanoseconds, &r->number, &r->places[0], &r->places[1], &r->largest, &end) == 8 && tab[end] == '\n') {
+        if (tab && sscanf(tab, "\t%lu\t%" SCNd64 "\t%" SCNd64 "\t%" SCNd64 "\t%" SCNu32 "\t%" SCNu64 "\t%" SCNu64 "\t%" SCNu64, &done->run, &r->size, &r->seconds,
+                          &r->nanoseconds, &r->number, &r->places[0], &r->places[1], &r->largest) == 8) {
             *tab = 0;
             return true;
         }

@@ -81,8 +81,28 @@ static bool is_below(int folder, int other) {
     return is_found;
 }
 
+/* Nothing but listings and nets stands in their folders: a net may have any name. */
 static void keep_outside(const struct folders *folders, int folder, const char *name) {
     if (is_below(folder, folders->listings)) fail("%s is in %s, where a net may have any name; name a place outside it", shown(name), folders->listings_name);
+    if (is_below(folder, folders->nets)) fail("%s is in %s, where it would be a net or in the place of one; name a place outside it", shown(name), folders->nets_name);
+    if (is_below(folder, folders->state)) fail("%s is in %s, which a batch keeps for itself; name a place outside it", shown(name), folders->state_name);
+}
+
+/* The folder itself, or the nearest above it that is there. */
+static int nearest(const char *name) {
+    char *path = must(strdup(name)), *slash;
+    int folder;
+    while ((folder = open(path, O_RDONLY | O_DIRECTORY | O_CLOEXEC)) < 0 && (slash = strrchr(path, '/')) && slash != path) *slash = 0;
+    if (folder < 0) folder = open_folder(path[0] == '/' ? "/" : ".");
+    free(path);
+    return folder;
+}
+
+/* The words stand under the nets' names: where nets or listings are below, one could come to stand in the place of another file. */
+static void keep_apart(const struct folders *folders) {
+    if (is_below(folders->nets, folders->explained) || is_below(folders->listings, folders->explained)) {
+        fail("%s has the nets or the listings in it; name a folder for the words alone", shown(folders->explained_name));
+    }
 }
 
 static int folder_of(const char *file) {
@@ -100,8 +120,14 @@ static void open_folders(struct folders *folders, const struct options *options)
     while (length > 1 && folders->listings_name[length - 1] == '/') length--;
     if (asprintf(&folders->state_name, "%.*s.batch", (int)length, folders->listings_name) < 0) fail("no memory");
     folders->state = make_folder(folders->state_name);
-    folders->explained = folders->explained_name ? make_folder(folders->explained_name) : -1;
-    if (folders->explained >= 0) keep_outside(folders, folders->explained, folders->explained_name);
+    folders->explained = -1;
+    if (folders->explained_name) {
+        int above = nearest(folders->explained_name);
+        keep_outside(folders, above, folders->explained_name);
+        close(above);
+        folders->explained = make_folder(folders->explained_name);
+        keep_apart(folders);
+    }
     if (options->summary) {
         int folder = folder_of(options->summary);
         keep_outside(folders, folder, options->summary);
@@ -119,9 +145,12 @@ static const char *value_of(char **words, int *at, const char *what) {
 static void read_words(char **words, struct options *options, struct folders *folders) {
     const char *names[2] = {NULL, NULL};
     int count = 0;
+    bool only_names = false;
     for (int at = 1; words[at]; at++) {
         const char *word = words[at];
-        if (!strcmp(word, "--jobs")) options->jobs = value_of(words, &at, "a number");
+        if (only_names) count < 2 ? (void)(names[count++] = word) : (void)count++;
+        else if (!strcmp(word, "--")) only_names = true;
+        else if (!strcmp(word, "--jobs")) options->jobs = value_of(words, &at, "a number");
         else if (!strcmp(word, "--sshlogin")) options->machines = value_of(words, &at, "machines");
         else if (!strcmp(word, "--explain-to")) folders->explained_name = value_of(words, &at, "a folder");
         else if (!strcmp(word, "--summary")) options->summary = value_of(words, &at, "a file");
@@ -170,18 +199,16 @@ int main(int count, char **words) {
     open_state(&folders, version, options.is_fresh);
     bool all_seen = write_names(&folders);
     uint64_t names = count_names(&folders);
+    if (signal_met) break_off();
     if (names == 0) fail("%s: no file in it", folders.nets_name);
-    for (int round = 0; options.machines && round < 2 && !signal_met; round++) {
-        run_remote(&folders, options.machines, options.jobs, script, version);
+    start_report(names, options.summary);
+    bool is_all = !options.machines;
+    for (int round = 0; !is_all && round < 2 && !signal_met; round++) {
+        is_all = run_remote(&folders, options.machines, options.jobs, script, version);
         sort_journal(&folders);
     }
-    start_report(names, options.summary);
     run_pool(&folders, options.jobs && !options.machines ? (unsigned)atoi(options.jobs) : processors(), report);
+    if (signal_met) break_off();
     close_journal();
-    if (signal_met) {
-        say("broken off; what is done stays done, start the batch again to go on");
-        signal(signal_met, SIG_DFL);
-        raise(signal_met);
-    }
     return end_report(all_seen, folders.nets_name);
 }

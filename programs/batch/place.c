@@ -36,7 +36,7 @@ bool read_all(int file, void *bytes, size_t length) {
 }
 
 static bool failed(const struct folders *folders, const char *name, const char *reason, struct result *result) {
-    say("%s/%s: %s", folders->nets_name, shown(name), reason);
+    if (!folders->is_quiet) say("%s/%s: %s", folders->nets_name, shown(name), reason);
     result->number = FAILED;
     return false;
 }
@@ -48,7 +48,7 @@ bool read_net(const struct folders *folders, const char *name, uint8_t *bytes, s
     if (fstatat(folders->nets, name, &status, 0) < 0) return failed(folders, name, errno == ENOENT ? "no such file" : strerror(errno), result);
     if (!S_ISREG(status.st_mode)) return failed(folders, name, S_ISDIR(status.st_mode) ? "a folder, not a file" : "not a file", result);
     int file = openat(folders->nets, name, O_RDONLY | O_NONBLOCK | O_NOCTTY | O_CLOEXEC);
-    if (file < 0) return failed(folders, name, errno == EACCES ? "no right to read it" : strerror(errno), result);
+    if (file < 0) return failed(folders, name, errno == EACCES ? "no right to read it" : errno == ENOENT ? "no such file" : strerror(errno), result);
     ssize_t got = fstat(file, &status);
     *length = 0;
     while (got >= 0 && *length < FILE_BYTES) {
@@ -142,9 +142,16 @@ static void stop_or_fail(const struct folders *folders, const char *name, int er
     }
 }
 
+/* A new file under the worker's own name. One that is there is of a batch that was killed, and a process of it may still be writing to it: it is left to that. */
+static int open_own(const struct folders *folders, const char *own) {
+    int file = openat(folders->state, own, O_RDWR | O_CREAT | O_EXCL | O_CLOEXEC, 0666);
+    if (file >= 0 || errno != EEXIST || unlinkat(folders->state, own, 0) < 0) return file;
+    return openat(folders->state, own, O_RDWR | O_CREAT | O_EXCL | O_CLOEXEC, 0666);
+}
+
 /* Writes the listing under a name of the worker's own and renames it: there is never a part of one. */
 void place(const struct folders *folders, const char *own, const char *name, const uint8_t *listing, size_t length, struct result *result) {
-    int file = openat(folders->state, own, O_WRONLY | O_CREAT | O_TRUNC | O_CLOEXEC, 0666);
+    int file = open_own(folders, own);
     bool is_written = file >= 0 && write_all(file, listing, length);
     int error = errno;
     if (file >= 0 && close(file) < 0 && is_written) is_written = false, error = errno;
@@ -172,12 +179,20 @@ static bool run_explain(const struct folders *folders, const char *name, int wor
     return child > 0 && WIFEXITED(status) && WEXITSTATUS(status) == 1;
 }
 
-/* The plain words for a refused net, put into place as a listing is. */
-void explain(const struct folders *folders, const char *own, const char *name) {
-    int words = openat(folders->state, own, O_WRONLY | O_CREAT | O_TRUNC | O_CLOEXEC, 0666);
-    bool is_explained = words >= 0 && run_explain(folders, name, words);
+/* Whether a file ends with a line feed, as words do that were written to their end. */
+static bool is_ended(int file) {
+    char last = 0;
+    off_t end = lseek(file, 0, SEEK_END);
+    return end > 0 && pread(file, &last, 1, end - 1) == 1 && last == '\n';
+}
+
+/* The plain words for a refused net, put into place as a listing is; false where they could not be. */
+bool explain(const struct folders *folders, const char *own, const char *name) {
+    int words = open_own(folders, own);
+    bool is_explained = words >= 0 && run_explain(folders, name, words) && is_ended(words);
     if (words >= 0) close(words);
-    if (is_explained && rename_to(folders->state, own, folders->explained, name)) return;
+    if (is_explained && rename_to(folders->state, own, folders->explained, name)) return true;
     say("%s/%s: the plain words could not be written", folders->explained_name, shown(name));
     unlinkat(folders->state, own, 0);
+    return false;
 }

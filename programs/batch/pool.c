@@ -16,7 +16,7 @@
 #include <sys/wait.h>
 #include <unistd.h>
 
-enum { CHUNK = 64, EACH = 2, MOST_WORKERS = 256 };
+enum { CHUNK = 32, EACH = 2, MOST_WORKERS = 256 }; /* 64 answers are 3,584 bytes, and every pipe takes 4,096 */
 
 volatile int signal_met;
 
@@ -50,8 +50,11 @@ struct pool {
 
 static const struct folders *of_gone;
 
-/* A net that is no longer there has no listing. */
+/* A net that is no longer there has no listing, and no words; one in a folder that cannot be read is there. */
 static void remove_gone(const char *name) {
+    struct stat status;
+    if (fstatat(of_gone->nets, name, &status, AT_SYMLINK_NOFOLLOW) == 0 || (errno != ENOENT && errno != ENOTDIR)) return;
+    if (of_gone->explained >= 0) unlinkat(of_gone->explained, name, 0);
     if (unlinkat(of_gone->listings, name, 0) == 0) say("%s/%s: no longer there; its listing is removed", of_gone->nets_name, shown(name));
 }
 

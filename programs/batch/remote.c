@@ -1,4 +1,4 @@
-/* Other machines, through GNU parallel: each runs this program with --judge-there on chunks of 50 nets.
+/* Other machines, through GNU parallel: each runs this program with --judge-there on nets of 8 megabytes at a time.
  *
  * A net goes out as a line: a token of this batch, the place of its name in `names`, the file's size and time, and its first 65,536 bytes in base64. It comes
  * back between two zero bytes: the same four words, the program's identity, a line feed and the listing. Whatever else a machine says is passed over. What does
@@ -11,6 +11,9 @@
 #include <inttypes.h>
 #include <stdlib.h>
 #include <string.h>
+#include <signal.h>
+#include <sys/mman.h>
+#include <sys/prctl.h>
 #include <sys/random.h>
 #include <sys/wait.h>
 #include <unistd.h>
@@ -61,7 +64,7 @@ void judge_there(const char *version) {
 }
 
 /* This machine's part: what is not done, a line each, into the pipe to parallel. */
-static void send_nets(const struct folders *folders, const char *token, FILE *out) {
+static void send_nets(const struct folders *folders, const char *token, FILE *out, uint64_t *sent) {
     static uint8_t bytes[FILE_BYTES];
     FILE *names = fdopen(openat(folders->state, "names", O_RDONLY | O_CLOEXEC), "r");
     struct done *done = open_done(folders);
@@ -78,6 +81,7 @@ static void send_nets(const struct folders *folders, const char *token, FILE *ou
         write_base64(bytes, length, out);
         putc('\n', out);
         if (ferror(out)) break;
+        ++*sent;
     }
     _exit(fclose(out) != 0);
 }
@@ -92,7 +96,9 @@ static bool name_at(FILE *names, intmax_t place, char **name, size_t *room) {
     return true;
 }
 
-static void receive(const struct folders *folders, const char *token, const char *version, FILE *in) {
+/* How many nets came back. */
+static uint64_t receive(const struct folders *folders, const char *token, const char *version, FILE *in) {
+    uint64_t received = 0;
     FILE *names = fdopen(openat(folders->state, "names", O_RDONLY | O_CLOEXEC), "r");
     char *piece = NULL, *name = NULL;
     size_t room = 0, name_room = 0;
@@ -119,10 +125,13 @@ static void receive(const struct folders *folders, const char *token, const char
         if (result.number == FAILED) continue;
         note_done(name, &result);
         flush_journal(folders);
+        progress_there(&result);
+        received++;
     }
     free(piece);
     free(name);
     if (names) fclose(names);
+    return received;
 }
 
 /* The script's path as one word of a shell. */
@@ -135,7 +144,7 @@ static char *quoted(const char *path) {
 }
 
 static pid_t start_parallel(const char *machines, const char *jobs, const char *script, int in, int out) {
-    const char *words[16] = {"parallel", "--pipe", "-N", "50"};
+    const char *words[16] = {"parallel", "--pipe", "--block", "8M"};
     int count = 4;
     if (jobs) words[count++] = "--jobs", words[count++] = jobs;
     words[count++] = "--sshlogin";
@@ -144,6 +153,8 @@ static pid_t start_parallel(const char *machines, const char *jobs, const char *
     words[count++] = "--judge-there";
     pid_t child = fork();
     if (child == 0) {
+        prctl(PR_SET_PDEATHSIG, SIGTERM);
+        setenv("PARALLEL_SSH", "ssh -o BatchMode=yes -o ConnectTimeout=10 -o ServerAliveInterval=5 -o ServerAliveCountMax=3", 0);
         if (dup2(in, 0) < 0 || dup2(out, 1) < 0) _exit(127);
         execvp("parallel", (char *const *)words);
         _exit(127);
@@ -151,10 +162,12 @@ static pid_t start_parallel(const char *machines, const char *jobs, const char *
     return child;
 }
 
-void run_remote(const struct folders *folders, const char *machines, const char *jobs, const char *script, const char *version) {
+bool run_remote(const struct folders *folders, const char *machines, const char *jobs, const char *script, const char *version) {
     uint64_t random = 0;
     char token[40];
     int to[2], from[2], status;
+    uint64_t *sent = mmap(NULL, sizeof *sent, PROT_READ | PROT_WRITE, MAP_SHARED | MAP_ANONYMOUS, -1, 0);
+    if (sent == MAP_FAILED) fail("no memory");
     if (getrandom(&random, sizeof random, 0) < 0) random = (uint64_t)getpid();
     snprintf(token, sizeof token, "net-%016" PRIx64, random);
     if (pipe2(to, O_CLOEXEC) < 0 || pipe2(from, O_CLOEXEC) < 0) fail("no pipe to other machines: %s", strerror(errno));
@@ -165,16 +178,23 @@ void run_remote(const struct folders *folders, const char *machines, const char 
         close(from[0]);
         close(from[1]);
         close(to[0]);
-        send_nets(folders, token, fdopen(to[1], "w"));
+        prctl(PR_SET_PDEATHSIG, SIGKILL);
+        struct folders quiet = *folders;
+        quiet.is_quiet = true;
+        send_nets(&quiet, token, fdopen(to[1], "w"), sent);
     }
     if (sender < 0) fail("no process for other machines: %s", strerror(errno));
     close(to[0]);
     close(to[1]);
     close(from[1]);
     FILE *in = must(fdopen(from[0], "r"));
-    receive(folders, token, version, in);
+    uint64_t received = receive(folders, token, version, in);
     fclose(in);
+    if (signal_met) kill(parallel, SIGTERM), kill(parallel, SIGTERM);
     while (waitpid(sender, NULL, 0) < 0 && errno == EINTR) {}
     while (waitpid(parallel, &status, 0) < 0 && errno == EINTR) {}
     if (WIFEXITED(status) && WEXITSTATUS(status) == 127) fail("the tool 'parallel' (GNU parallel) is missing");
+    bool is_all = received >= *sent;
+    munmap(sent, sizeof *sent);
+    return is_all;
 }

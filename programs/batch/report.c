@@ -12,7 +12,7 @@
 #include <time.h>
 #include <unistd.h>
 
-static uint64_t accepted, refused, failures, kept, count;
+static uint64_t accepted, refused, failures, kept, bare, count, there, there_refused;
 static struct timespec began, told;
 static bool is_moving, is_unwritten;
 static FILE *summary;
@@ -43,6 +43,16 @@ _Noreturn void fail(const char *format, ...) {
     va_end(words);
     close_journal();
     if (summary_part) unlink(summary_part);
+    _exit(2);
+}
+
+void break_off(void) {
+    close_journal();
+    if (is_moving) dprintf(2, "\r\033[K");
+    if (summary_part) unlink(summary_part);
+    say("broken off; what is done stays done, start the batch again to go on");
+    signal(signal_met, SIG_DFL);
+    raise(signal_met);
     _exit(2);
 }
 
@@ -104,6 +114,7 @@ static void summarize(const char *name, const struct result *r) {
 
 void report(const char *name, const struct result *r) {
     kept += r->is_kept;
+    bare += r->is_bare;
     if (r->number == FAILED) {
         failures++;
         print("failed %s\n", shown(name));
@@ -118,17 +129,24 @@ void report(const char *name, const struct result *r) {
 }
 
 /* On a terminal one line that moves, four times a second; elsewhere a line every ten seconds. */
-void progress(void) {
+static void show_progress(uint64_t done, uint64_t refusals) {
     double since = seconds_since(&told), all = seconds_since(&began);
     if (since < (is_moving ? 0.25 : 10)) return;
-    uint64_t done = accepted + refused + failures;
     double rate = all > 0 ? (double)done / all : 0;
     char line[200];
-    snprintf(line, sizeof line, "%" PRIu64 " of %" PRIu64 ", %.0f a second, %" PRIu64 " refused, %" PRIu64 " failed, %.0f s left", done, count, rate, refused, failures,
+    snprintf(line, sizeof line, "%" PRIu64 " of %" PRIu64 ", %.0f a second, %" PRIu64 " refused, %" PRIu64 " failed, %.0f s left", done, count, rate, refusals, failures,
              rate > 0 ? (double)(count - done) / rate : 0);
     clock_gettime(CLOCK_MONOTONIC, &told);
     if (is_moving) dprintf(2, "\r\033[K%s", line);
     else say("%s", line);
+}
+
+void progress(void) { show_progress(accepted + refused + failures, refused); }
+
+void progress_there(const struct result *r) {
+    there++;
+    there_refused += r->number != 0;
+    show_progress(there, there_refused);
 }
 
 static void end_summary(void) {
@@ -143,10 +161,11 @@ static void end_summary(void) {
 int end_report(bool all_seen, const char *nets_name) {
     if (is_moving) dprintf(2, "\r\033[K");
     end_summary();
-    if (kept) say("%" PRIu64 " of these were judged before, and have not changed since", kept);
+    if (there) say("%" PRIu64 " of these were judged by other machines", there);
+    if (kept > there) say("%" PRIu64 " of these were judged before, and have not changed since", kept - there);
     if (!all_seen) print("failed: a folder under %s that cannot be read\n", shown(nets_name));
     print("%" PRIu64 " accepted, %" PRIu64 " refused, %" PRIu64 " failed\n", accepted, refused, failures);
     if (fflush(stdout) && errno != EPIPE) is_unwritten = true;
     if (is_unwritten) fail("standard output could not be written");
-    return failures || !all_seen ? 2 : refused ? 1 : 0;
+    return failures || bare || !all_seen ? 2 : refused ? 1 : 0;
 }

@@ -73,7 +73,7 @@ static void walk_folder(struct walk *walk, int file, size_t length) {
     }
     if (!is_same(&status, &walk->listings) && !is_same(&status, &walk->state)) {
         const struct dirent *entry;
-        for (errno = 0; (entry = readdir(folder)); errno = 0) {
+        for (errno = 0; !signal_met && (entry = readdir(folder)); errno = 0) {
             if (strcmp(entry->d_name, ".") && strcmp(entry->d_name, "..")) walk_entry(walk, dirfd(folder), length, entry);
         }
         if (errno) {

@@ -11,13 +11,14 @@
 #include <sys/stat.h>
 #include <unistd.h>
 
-/* A net that cannot be read has no listing, not an old one either; but where all nets have gone, nothing is taken away and the batch stops. */
+/* A net that cannot be read has no listing, not an old one either. But one that was there when the names were written, and now is not, keeps it: the next run
+ * sees what is there then. Where all nets have gone, the batch stops. */
 static void remove_old(const struct folders *folders, const char *name, struct result *result) {
     struct stat status;
     if (fstat(folders->nets, &status) < 0 || status.st_nlink == 0) {
         result->number = STOPPED;
         result->largest = ENOENT;
-    } else {
+    } else if (fstatat(folders->nets, name, &status, AT_SYMLINK_NOFOLLOW) == 0 || (errno != ENOENT && errno != ENOTDIR)) {
         unlinkat(folders->listings, name, 0);
     }
 }
@@ -33,12 +34,12 @@ static void judge_one(const struct folders *folders, const char *own, const char
     place(folders, own, name, listing, written, result);
 }
 
-/* The words are written where the net is refused and they are not there yet. */
-static void explain_one(const struct folders *folders, const char *own, const char *name, const struct result *result) {
+/* The words are written where the net is refused and they are not there yet; those of a net that is not refused any more are removed. */
+static void explain_one(const struct folders *folders, const char *own, const char *name, struct result *result) {
     struct stat status;
-    if (folders->explained < 0 || result->number == 0 || result->number >= STOPPED) return;
-    if (result->is_kept && fstatat(folders->explained, name, &status, AT_SYMLINK_NOFOLLOW) == 0) return;
-    explain(folders, own, name);
+    if (folders->explained < 0 || result->number == STOPPED) return;
+    if (result->number == 0 || result->number == FAILED) unlinkat(folders->explained, name, 0);
+    else if (!result->is_kept || fstatat(folders->explained, name, &status, AT_SYMLINK_NOFOLLOW) < 0 || !S_ISREG(status.st_mode)) result->is_bare = !explain(folders, own, name);
 }
 
 void work(const struct folders *folders, int number, int in, int out) {

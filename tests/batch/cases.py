@@ -12,7 +12,7 @@ import subprocess
 import threading
 import time
 
-from batch.nets import REFUSED, WHOLE, listing_of, odd_files, odd_places, some_files
+from batch.nets import LARGE, REFUSED, WHOLE, listing_of, odd_files, odd_places, some_files
 from batch.sandbox import another_user
 
 
@@ -37,8 +37,9 @@ def lists_as_register_does(box):
     files = odd_files()
     write_nets(box, files)
     odd_places(box.root / "nets")
+    (box.root / "nets/link").symlink_to("north/net.txt")
     box.run("nets", "listings")
-    return box.files() == {name: listing_of(file) for name, file in files.items()}
+    return box.files() == {name: listing_of(file) for name, file in (files | {"link": WHOLE}).items()}
 
 
 def reports_what_is_not_accepted(box):
@@ -89,6 +90,24 @@ def unseen_folder_is_2(box):
     return status == 2 and out == ["failed: a folder under nets that cannot be read", "1 accepted, 0 refused, 0 failed"]
 
 
+def unseen_folder_keeps_its_listings(box):
+    """Nets in a folder that cannot be read are not gone."""
+    box.write("nets/net", WHOLE)
+    box.write("nets/closed/net", WHOLE)
+    for folder in ("listings", "listings.batch"):
+        (box.root / folder).mkdir()
+        (box.root / folder).chmod(0o777)
+    first = box.run("nets", "listings", **another_user())[0]
+    (box.root / "nets/closed").chmod(0)
+    status, _, err = box.run("nets", "listings", **another_user())
+    return first == 0 and status == 2 and set(box.files()) == {"net", "closed/net"} and "no longer there" not in err
+
+
+def names_may_begin_with_a_dash(box):
+    box.write("-nets/net", WHOLE)
+    return box.run("--jobs", 1, "--", "-nets", "--listings")[0] == 0 and set(box.files("--listings")) == {"net"}
+
+
 def place_that_is_taken_fails(box):
     """A listing that was written stands where the folder of another should."""
     box.write("nets/a", WHOLE)
@@ -110,10 +129,14 @@ def nothing_to_judge_is_2(box):
     wrong = [
         ("nowhere", "a"), ("empty", "a"), ("nets", "old"), ("nets",), ("nets", "a", "b"), ("--what", "nets", "a"), ("--jobs", "0", "nets", "a"), ("--jobs", "x", "nets", "a"),
         ("--jobs",), ("--summary", "a/table", "nets", "a"), ("--explain-to", "a/words", "nets", "a"), ("nets/net", "a"),
+        ("--summary", "nets/net", "nets", "a"), ("--summary", "a.batch/done", "nets", "a"), ("--explain-to", "nets", "nets", "a"), ("--explain-to", "nets/words", "nets", "a"),
+        ("--explain-to", ".", "nets", "a"), ("--", "--fresh", "nets", "a"),
     ]
+    box.write("nets/refused", REFUSED)
     answers = [box.run(*words) for words in wrong]
-    alone = all(status == 2 and not out and err.startswith("batch: ") and err.count("\n") == 1 for status, out, err in answers)
-    return alone and box.files("old") == {"net": b"(refused 15 (0))\n"} and box.files("a") == {}
+    alone = all(status == 2 and not out and err.startswith("batch: ") and err.count("\n") == 1 for status, out, err in answers) and "no batch wrote it" in answers[2][2]
+    nets = box.files("nets") == {"net": WHOLE, "refused": REFUSED}
+    return alone and nets and box.files("old") == {"net": b"(refused 15 (0))\n"} and box.files("a") == {}
 
 
 def lost_report_is_2(box):
@@ -123,7 +146,7 @@ def lost_report_is_2(box):
         status, _, err = box.run("nets", "full", stdout=full)
     is_full = status == 2 and err == "batch: standard output could not be written\n"
     status, _, err = box.run("nets", "closed", stdout=None, before=lambda: os.close(1))
-    is_closed = status == 2 and err == "batch: standard output could not be written\n"
+    is_closed = status == 2 and err == "batch: standard output could not be written\n" and not (box.root / "closed").exists()
     reader, writer = os.pipe()
     os.close(reader)
     status, _, err = box.run("nets", "gone", stdout=writer)
@@ -139,13 +162,14 @@ def numbers_of(box, folder="listings"):
 
 def goes_on_where_it_was(box):
     """What has not changed is left alone; what has another size or another time is judged again, and what has gone loses its listing."""
-    write_nets(box, {"a": WHOLE, "b": WHOLE, "c": REFUSED, "d": WHOLE, "e/f": WHOLE})
+    write_nets(box, {"a": WHOLE, "b": WHOLE, "c": REFUSED, "d": WHOLE, "e/f": WHOLE, "z": WHOLE})
     first = box.run("nets", "listings")
     before = numbers_of(box)
     box.write("nets/b", REFUSED)
     touched = box.root / "nets/c"
     os.utime(touched, (1, 1))
     (box.root / "nets/d").unlink()
+    (box.root / "nets/z").unlink()
     box.write("nets/g", WHOLE)
     keeper = [os.open(path, os.O_RDONLY) for path in (box.root / "listings").rglob("*") if path.is_file()]
     status, out, err = box.run("nets", "listings")
@@ -248,36 +272,57 @@ def kills_lose_nothing(box):
 
 
 def torn_journal_is_no_harm(box):
-    """A line of the journal that was cut, at each of its bytes: the net is judged again."""
-    write_nets(box, {"a": WHOLE, "b": REFUSED})
-    box.run("nets", "listings")
+    """A line of the journal that was cut, at each of its bytes: the net is judged again, and the table says what it said."""
+    write_nets(box, {"a": REFUSED, "b": LARGE})
+    box.run("--summary", "table", "nets", "listings")
+    wanted = (box.root / "table").read_bytes()
     journal = box.root / "listings.batch" / "journal"
     text = journal.read_bytes()
-    for end in range(0, len(text), 3):
+    for end in range(len(text)):
         (box.root / "listings.batch" / "done").unlink(missing_ok=True)
         journal.write_bytes(text[:end])
-        if box.run("nets", "listings")[1] != ["(refused 2 (5)) b", "1 accepted, 1 refused, 0 failed"]:
+        report = box.run("--summary", "table", "nets", "listings")[1]
+        if report != ["(refused 2 (5)) a", "1 accepted, 1 refused, 0 failed"] or (box.root / "table").read_bytes() != wanted:
             return False
     return True
 
 
+def state_does_not_grow(box):
+    """Judged again and again, a batch keeps one line for each net, and one more for each of the last run."""
+    write_nets(box, {"a": WHOLE, "b": REFUSED})
+    for _ in range(5):
+        box.run("--fresh", "nets", "listings")
+    return sum((box.root / "listings.batch" / name).read_bytes().count(b"\n") for name in ("done", "journal")) == 4
+
+
+def writer_that_is_left_does_no_harm(box):
+    """A process of a batch that was killed still writes to the file that it had open: no listing is touched by it."""
+    write_nets(box, some_files(60))
+    held = [open(box.write(f"listings.batch/{number}", b""), "wb", buffering=0) for number in range(4)]
+    status = box.run("--jobs", 4, "nets", "listings")[0]
+    for file in held:
+        file.write(b"what is left")
+        file.close()
+    return status == 1 and box.files() == listings_of(60)
+
+
 def interrupt_stops_and_goes_on(box):
     write_nets(box, some_files(3000))
-    process = box.start("nets", "listings")
+    process = box.start("--summary", "table", "nets", "listings", stdout=subprocess.DEVNULL)
     while not (box.root / "listings/0").exists() and process.poll() is None:
         time.sleep(0.001)
     process.send_signal(signal.SIGINT)
     _, err = process.communicate(timeout=600)
+    if (box.root / "table.part").exists():
+        return False
     broken = process.returncode == -signal.SIGINT and b"start the batch again to go on" in err
     return (broken or process.returncode == 1) and box.run("nets", "listings")[0] == 1 and box.files() == listings_of(3000)
 
 
-def dead_worker_is_replaced(box):
-    write_nets(box, some_files(3000))
-    with open(box.root / "report", "wb") as report:
-        process = box.start("--jobs", 2, "nets", "listings", stdout=report)
+def kill_workers(box, process, most):
+    """Kills workers once listings are there; how many."""
     killed = 0
-    while process.poll() is None and killed < 3:
+    while process.poll() is None and killed < most:
         try:
             children = open(f"/proc/{process.pid}/task/{process.pid}/children").read().split()
             if children and (box.root / "listings/0").exists():
@@ -286,7 +331,20 @@ def dead_worker_is_replaced(box):
                 time.sleep(0.02)
         except OSError:
             continue  # it has ended meanwhile
-    process.communicate(timeout=600)
+    return killed
+
+
+def dead_worker_is_replaced(box):
+    """A batch that was over before a worker could be killed is run again."""
+    write_nets(box, some_files(3000))
+    killed = 0
+    while not killed:
+        for name in ("listings", "listings.batch"):
+            shutil.rmtree(box.root / name, ignore_errors=True)
+        with open(box.root / "report", "wb") as report:
+            process = box.start("--jobs", 2, "nets", "listings", stdout=report)
+        killed = kill_workers(box, process, 3)
+        process.communicate(timeout=600)
     lines = (box.root / "report").read_text().splitlines()
     in_order = lines[:-1] == sorted(lines[:-1], key=lambda line: line.split(")) ")[-1])
     return process.returncode == 1 and box.files() == listings_of(3000) and in_order and lines[-1].endswith(" 0 failed")
@@ -294,7 +352,7 @@ def dead_worker_is_replaced(box):
 
 def full_disk_is_one_line(box):
     """No byte more can be written: one line, status 2; with room again the batch goes on."""
-    write_nets(box, some_files(60) | {"large": WHOLE})
+    write_nets(box, {"a": LARGE, "b": LARGE, "c": REFUSED})
 
     def no_room():
         signal.signal(signal.SIGXFSZ, signal.SIG_IGN)
@@ -303,16 +361,18 @@ def full_disk_is_one_line(box):
     box.run("nets", "other")
     status, out, err = box.run("nets", "listings", before=no_room)
     stopped = status == 2 and err.count("\n") == 1 and not any(line.endswith("failed") for line in out[-1:])
-    part = all(listings_of(60).get(name, listing_of(WHOLE)) == listing for name, listing in box.files().items())
+    part = all(box.files("other")[name] == listing for name, listing in box.files().items())
     return stopped and part and box.run("nets", "listings")[0] == 1 and box.files() == box.files("other")
 
 
 def vanished_folder_is_2(box):
-    """NETS or LISTINGS are taken away while they are judged: one line and status 2, or all was done before."""
+    """NETS or LISTINGS are taken away while they are judged: status 2, with one line where nothing is left, or one for each net that went while the folder was there;
+    or all was done before."""
     good = True
     for folder in ("nets", "listings"):
         write_nets(box, some_files(3000))
-        process = box.start("nets", "listings")
+        with open(box.root / "report", "wb") as report:
+            process = box.start("nets", "listings", stdout=report)
         while not (box.root / "listings/0").exists() and process.poll() is None:
             time.sleep(0.001)
         (box.root / folder).rename(box.root / "away")
@@ -320,10 +380,22 @@ def vanished_folder_is_2(box):
             shutil.rmtree(box.root / "away", ignore_errors=True)
         _, err = process.communicate(timeout=600)
         lines = err.decode().splitlines()
-        good &= process.returncode == 1 or (process.returncode == 2 and "what is done stays done" in lines[-1])
+        singly = folder == "nets" and all(line.endswith(": no such file") for line in lines)
+        good &= process.returncode == 1 or (process.returncode == 2 and (singly or "what is done stays done" in lines[-1]))
         for name in ("nets", "listings", "listings.batch"):
             shutil.rmtree(box.root / name, ignore_errors=True)
     return good
+
+
+def net_that_goes_meanwhile_keeps_its_listing(box):
+    """Found, and gone when it is its turn: it has failed, and what the run before had finished stays until the next."""
+    write_nets(box, {"a": WHOLE, "b": WHOLE})
+    box.run("nets", "listings")
+    sort = shutil.which("sort")
+    box.write("tools/sort", f'#!/bin/sh\ncase " $* " in *" found "*) rm -f ../nets/a ;; esac\nexec {sort} "$@"\n'.encode()).chmod(0o755)
+    status, out, _ = box.run("nets", "listings", path=box.root / "tools")
+    kept = set(box.files()) == {"a", "b"}
+    return status == 2 and out[0] == "failed a" and kept and box.run("nets", "listings")[0] == 0 and set(box.files()) == {"b"}
 
 
 def shows_progress_on_a_terminal(box):
@@ -361,25 +433,46 @@ def summary_is_a_table(box):
 def explains_refused_nets(box):
     write_nets(box, {"a": WHOLE, "b/c": REFUSED})
     for _ in range(2):
-        box.run("--explain-to", "words", "nets", "listings")
+        status, _, err = box.run("--explain-to", "words", "nets", "listings")
         words = box.files("words")
-        if set(words) != {"b/c"} or not words["b/c"].startswith(b"register: nets/b/c is refused with 2"):
+        if status != 1 or "words/a" in err or set(words) != {"b/c"} or not words["b/c"].startswith(b"register: nets/b/c is refused with 2"):
             return False
         shutil.rmtree(box.root / "words")
     return True
 
 
+def words_are_of_the_present(box):
+    """A net that is accepted now, cannot be read, or has gone has no words; words that cannot be written are status 2."""
+    write_nets(box, {"a": REFUSED, "b": REFUSED, "c": REFUSED, "d": REFUSED})
+    first = box.run("--explain-to", "words", "nets", "listings")[0], set(box.files("words"))
+    box.write("nets/a", WHOLE)
+    (box.root / "nets/b").unlink()
+    (box.root / "nets/c").unlink()
+    (box.root / "nets/c").symlink_to("nowhere")
+    box.run("--explain-to", "words", "nets", "listings")
+    second = set(box.files("words"))
+    (box.root / "nets/c").unlink()
+    box.write("taken/d/file", b"")
+    status, _, err = box.run("--explain-to", "taken", "nets", "listings")
+    return first == (1, {"a", "b", "c", "d"}) and second == {"d"} and status == 2 and "taken/d: the plain words could not be written" in err
+
+
 def memory_does_not_grow(box):
-    """The largest part of memory that the process itself holds, on a few nets and on many."""
+    """The most memory that the process itself held, in kilobytes, on some nets and on many."""
     most = []
-    for count in (300, 12000):
+    for count in (3000, 15000):
         folder = box.root / f"nets-{count}"
         folder.mkdir()
         for number in range(count):
             (folder / f"a rather long name for a net {number}").write_bytes(b"")
         process = box.start(folder.name, f"listings-{count}", stdout=subprocess.DEVNULL)
-        most.append(os.wait4(process.pid, 0)[2].ru_maxrss)
-    return most[1] < most[0] + 512
+        held = 0
+        while process.poll() is None:
+            with open(f"/proc/{process.pid}/status") as status:
+                held = max([held, *(int(line.split()[1]) for line in status if line.startswith("VmHWM:"))])
+            time.sleep(0.002)
+        most.append(held)
+    return most[1] < most[0] + 256
 
 
 # A stand-in for GNU parallel: one machine that says this and that between its listings.
@@ -387,6 +480,8 @@ PARALLEL = r"""#!/bin/bash
 echo "$*" >>asked
 printf 'Welcome!\n\0a[$(touch owned)]\0(bounds 1)\n(end)\n\0more\0net-0 0 0 0 0 x\n(bounds 1)\n(end)\n\0'
 eval "${*: -2}"
+version=$(echo 'net-0 0 0 0 0 ' | eval "${*: -2}" | tr '\0' '\n' | grep -x '[0-9a-f]\{16\}')
+printf '\0net-0 0 0 0 0 %s\n(bounds 1)\n(entry 1 (1 1))\n(end)\n\0' "$version"
 echo Goodbye
 """
 
@@ -415,7 +510,8 @@ def machine_that_dies_loses_nothing(box):
     silent = "#!/bin/sh\ncat >/dev/null\nexit 255\n"
     torn = "#!/bin/bash\neval \"${*: -2}\" | head -c 5000\n"
     other = "#!/bin/bash\neval \"${*: -2}\" | sed 's/^\\(net-[^ ]* [0-9]* [0-9]* [0-9]* [0-9]*\\) [0-9a-f]*$/\\1 0/; s/^\\(.*net-[^ ]* [0-9]* [0-9]* [0-9]* [0-9]*\\) [0-9a-f]*$/\\1 0/'\n"
-    for number, script in enumerate((dying, silent, torn, other)):
+    endless = "#!/bin/bash\neval \"${*: -2}\" | sed '/^(end)$/d'\n"
+    for number, script in enumerate((dying, silent, torn, other, endless)):
         status, _, err = box.run("--sshlogin", "host", "nets", f"listings-{number}", path=stand_in(box, script))
         if status != 1 or box.files(f"listings-{number}") != listings_of(120):
             return False
@@ -445,9 +541,11 @@ def no_parallel_is_2(box):
 
 
 TESTS = (
-    lists_as_register_does, reports_what_is_not_accepted, status_is_the_worst, unreadable_net_fails, unseen_folder_is_2, place_that_is_taken_fails, nothing_to_judge_is_2,
+    lists_as_register_does, reports_what_is_not_accepted, status_is_the_worst, unreadable_net_fails, unseen_folder_is_2, unseen_folder_keeps_its_listings, names_may_begin_with_a_dash,
+    place_that_is_taken_fails, nothing_to_judge_is_2,
     lost_report_is_2, goes_on_where_it_was, size_counts_where_the_time_is_the_same, lost_listing_is_written_again, net_that_fails_loses_its_listing,
     fresh_and_another_version_judge_all, other_nets_are_refused, listings_may_stand_below_the_nets, two_at_once, kills_lose_nothing, torn_journal_is_no_harm,
-    interrupt_stops_and_goes_on, dead_worker_is_replaced, full_disk_is_one_line, vanished_folder_is_2, shows_progress_on_a_terminal, summary_is_a_table,
-    explains_refused_nets, memory_does_not_grow, many_machines_list_the_same, machine_that_dies_loses_nothing, real_parallel_lists_the_same, no_parallel_is_2,
+    state_does_not_grow, writer_that_is_left_does_no_harm,    interrupt_stops_and_goes_on, dead_worker_is_replaced, full_disk_is_one_line, vanished_folder_is_2,
+    net_that_goes_meanwhile_keeps_its_listing, shows_progress_on_a_terminal, summary_is_a_table,
+    explains_refused_nets, words_are_of_the_present, memory_does_not_grow, many_machines_list_the_same, machine_that_dies_loses_nothing, real_parallel_lists_the_same, no_parallel_is_2,
 )

@@ -9,6 +9,7 @@ import generate
 from batch.sandbox import REGISTER, ROOT
 
 WHOLE = (ROOT / "examples" / "whole-file.txt").read_bytes()
+LARGE = generate.case("batches", 46).file  # 9,347 bytes, accepted, with a largest limit of several digits
 REFUSED = (ROOT / "examples" / "refused" / "2-two-spaces.txt").read_bytes()
 
 
@@ -17,7 +18,7 @@ def odd_files():
     rng = random.Random(5)
     files = {
         "north/net.txt": WHOLE, "south/net.txt": REFUSED, "south/old/net.txt": WHOLE, "net.txt": b"", "-it's a\n\"net\" $x": WHOLE, "back\\slash\ttab": REFUSED,
-        "huge": WHOLE * 2000, "binary": bytes(rng.randrange(256) for _ in range(70000)), "no line feed": WHOLE.rstrip(b"\n"), ".batch": WHOLE, "names": REFUSED,
+        "huge": WHOLE * 2000, "binary": bytes(rng.randrange(256) for _ in range(70000)), "no line feed": WHOLE.rstrip(b"\n"), ".batch": WHOLE, "names": REFUSED, "large": LARGE,
     }
     for number in range(40):
         files[f"by chance/{number}"] = generate.case("batch", number).file

@@ -72,7 +72,7 @@ class Sandbox:
         """Status, lines of standard output, standard error."""
         process = self.start(*words, **options)
         out, err = process.communicate(timeout=600)
-        return process.returncode, (out or b"").decode().splitlines(), (err or b"").decode(errors="replace")
+        return process.returncode, (out or b"").decode(errors="replace").splitlines(), (err or b"").decode(errors="replace")
 
     def files(self, folder="listings"):
         """Every file under a folder, by its name there."""

@@ -55,6 +55,23 @@ static void test_lengths(void) {
     }
 }
 
+/* A loader has so many numbers, and a line one byte longer than the longest is 1. */
+static void test_loader(void) {
+    static struct lists lists;
+    static const uint8_t line[KODARFI_LINE_LENGTH + 1];
+    uint32_t loader[2 * KODARFI_LOADER_LENGTH];
+    unsigned cleared = 0;
+    memset(loader, 7, sizeof loader);
+    kodarfi_loader_new(loader);
+    while (cleared < 2 * KODARFI_LOADER_LENGTH && loader[cleared] == 0) cleared++;
+    test("the length of a loader", cleared == KODARFI_LOADER_LENGTH);
+    for (unsigned more = 0; more < 2; more++) {
+        const uint32_t number = kodarfi_loader_take(loader, line, KODARFI_LINE_LENGTH + more, lists.matrix, 1024, lists.right, 32, lists.tolerance, 32, lists.guess, 32,
+                                                    lists.inverse, 1024, lists.weights, 32, places);
+        test("the longest line", number == (more ? KODARFI_TOO_LONG : KODARFI_NO_FORM));
+    }
+}
+
 /* Whether a check with this number in place of another says 3. */
 static bool is_outside(int64_t *place, int64_t number) {
     const int64_t before = *place;
@@ -280,6 +297,7 @@ int main(int argc, char **argv) {
     make_large(&net, TRIANGLE, 0, 0);
     test_version();
     test_lengths();
+    test_loader();
     test_ranges();
     test_other_ranges();
     test_lines();

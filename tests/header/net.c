@@ -90,6 +90,7 @@ struct answer {
     struct kodarfi_ends ends;
     struct kodarfi_net net;
     struct kodarfi_half_net half;
+    struct kodarfi_factor factor;
     uint32_t tried;
 };
 
@@ -181,6 +182,13 @@ static void test_weights(const struct kodarfi_net *net, const struct kodarfi_hal
     compare("weights", number, kodarfi_net_find_weights(&given.net, allowance, &given.tried, &given.refusal));
 }
 
+static void test_quality(const struct kodarfi_net *net, const struct kodarfi_half_net *half) {
+    clear(net, half);
+    const uint32_t number = kodarfi_quality(net->n, net->t, net->matrix, 1024, net->inverse, 1024, net->weights, 32, &expected.factor.numerator, &expected.factor.denominator,
+                                            expected.refusal.places);
+    compare("the factor", number, kodarfi_net_quality(net, &given.factor, &given.refusal));
+}
+
 static void test_doubles(const struct kodarfi_net *net, const struct kodarfi_half_net *half) {
     struct kodarfi_heights heights;
     for (uint32_t i = 0; i < 32; i++) heights.heights[i] = (double)between(-100000, 100000) / 7;
@@ -236,6 +244,7 @@ static void test_nets(void) {
         test_check(&net, &half);
         test_builds(&net, &half);
         test_weights(&net, &half);
+        test_quality(&net, &half);
         test_doubles(&net, &half);
         make_net(&other, false, chance(2) == 0);
         if (chance(3)) other.s = net.s;

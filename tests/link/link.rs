@@ -35,7 +35,7 @@ use count::Count;
 use std::process::exit;
 
 /// The parts of the test: the name, what an emitter wrote for it, and the test on these bytes.
-const PARTS: [(&str, &str, fn(&mut Count, &[u8])); 11] = [
+const PARTS: &[(&str, &str, fn(&mut Count, &[u8]))] = &[
     ("entries", "entries.txt", entries::test_entries),
     ("weights", "weights.txt", test_weights::test_weights),
     ("builds", "builds.txt", test_builds::test_builds),

@@ -1,7 +1,4 @@
-"""The script ./batch: how its program is built and called (tests/batch has the program itself), and the example from field lines to listing."""
-
-from checks import faults, net_from
-from second.program import Program
+"""The script ./batch: how its program is built and called (tests/batch has the program itself)."""
 
 from office.room import failed
 
@@ -18,7 +15,9 @@ uint32_t kodarfi_listing(const uint8_t *file, size_t length, uint8_t *out, size_
 C
 cc -c stand_in.c -o stand_in.o && ar rcs target/staticlib/libkodarfi.a stand_in.o
 [ ! -e broken ] || { echo "rt: kodarfi NOT PROVED"; exit 1; }
-echo "rt: kodarfi proved (1 s)"
+echo "library std: modules loaded=0" >&2
+echo "rt: kodarfi proved (1 s)" >&2
+[ "$1" = staticlib ] || { mkdir -p target/bin; printf '#!/bin/sh\necho "(refused 15 (0))"\n' >target/bin/register; chmod 755 target/bin/register; }
 """
 
 
@@ -37,7 +36,7 @@ def builds_at_first_use(room):
     source.write_text(source.read_text() + "\n")
     newer = room.run("nets", "listings", script="batch")
     answers = [(status, out) for status, out, _ in (first, again, newer)] == [(1, b"(refused 15 (0)) net\n0 accepted, 1 refused, 0 failed\n")] * 3
-    said = b"batch: the program is not built: building it" in first[2] and b"building" not in again[2] and b"main.c is newer than the program" in newer[2]
+    said = b"batch: the program is not built: building it" in first[2] and b"batch: 1 of " in first[2] and b"library" not in first[2] and b"building" not in again[2] and b"main.c is newer than the program" in newer[2]
     return answers and said and room.calls() == ["staticlib kodarfi"] * 2
 
 
@@ -53,19 +52,27 @@ def version_tells_what_was_built(room):
     return status == 0 and out.startswith(b"batch: ") and b"kit kit-of-the-tests" in out
 
 
+def help_stands_anywhere(room):
+    """But not where a word belongs to the option before it, or after --."""
+    helped = [room.run(*words, script="batch") for words in (("nets", "out", "-h"), ("--fresh", "--help"), ("--jobs", "2", "nets", "--version"))]
+    prepared(room)
+    others = [room.run(*words, script="batch") for words in (("--jobs", "-h", "nets", "out"), ("--", "-h", "out"))]
+    told = all(status == 0 and out and not err for status, out, err in helped)
+    return told and all(status == 2 and not out for status, out, _ in others)
+
+
+def words_are_words_alone(room):
+    """Where ./register is not built it is built before, and nothing of that is among the words."""
+    prepared(room)
+    (room.root / "target/bin/register").unlink(missing_ok=True)
+    status, _, err = room.run("--explain-to", "words", "nets", "listings", script="batch")
+    words = (room.root / "words/net").read_bytes() if status == 1 else b""
+    return status == 1 and words.startswith(b"register: nets/net is refused with 15") and b"building" not in words and b"register: the program is not built" in err
+
+
 def lost_help_is_2(room):
     lost = [room.shell(f"./batch {word} {to}") for word in ("--help", "-h", "--version") for to in (">/dev/full", ">&-")]
     return all(failed(answer, "could not be written") for answer in lost) and room.shell("./batch --help | exec true; echo ${PIPESTATUS[0]}") == (0, b"0\n", b"")
 
 
-def field_lines_to_listing(room):
-    """README's pipe, as it stands there: the file is the one beside the field lines, accepted, and no limit is wrong."""
-    town = room.root / "examples/town"
-    command = next(line for line in (room.root / "README.md").read_text().split("\n") if "propose.py" in line and line.startswith("    "))
-    status, out, err = room.shell(command.strip().split("   ")[0])
-    made = room.shell("python3 examples/propose.py <examples/town/field.txt")[1]
-    files = (status, out, err, made) == (0, (town / "listing.txt").read_bytes(), b"", (town / "net.txt").read_bytes())
-    return files and faults(net_from(Program().load(made)), out) == []
-
-
-TESTS = (builds_at_first_use, failed_build_is_2, version_tells_what_was_built, lost_help_is_2, field_lines_to_listing)
+TESTS = (builds_at_first_use, failed_build_is_2, version_tells_what_was_built, help_stands_anywhere, words_are_words_alone, lost_help_is_2)

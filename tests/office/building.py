@@ -186,6 +186,15 @@ def failed_build_is_2(room):
     return refuses(room) and room.calls() == 3 * ASKED
 
 
+def failed_first_build_leaves_nothing(room):
+    """Where there was no program there is none afterwards, and --version says so."""
+    room.put_program().unlink()
+    (room.root / "program").unlink()
+    room.write("broken", "")
+    status = room.run(REFUSED)[0]
+    return status == 2 and not (room.root / "target/bin/register").exists() and b"not built yet" in room.run("--version")[1]
+
+
 def build_without_a_program_is_2(room):
     room.put_program().unlink()
     (room.root / "program").unlink()
@@ -204,5 +213,5 @@ TESTS = (
     good_program_is_not_built, first_use_builds, first_uses_at_once_build_once, newer_source_builds_again, source_changed_while_building_builds_again,
     building_leaves_the_input, progress_is_a_line_a_crate, old_program_without_rt_is_2, no_program_without_rt_is_2,
     old_program_without_a_right_to_write_is_2, waiting_is_told_at_once, editors_files_are_no_sources, gone_source_builds_again, as_built_is_told,
-    rt_has_its_files_in_memory, failed_build_is_2, build_without_a_program_is_2, nothing_is_built_for_a_mistake,
+    rt_has_its_files_in_memory, failed_build_is_2, failed_first_build_leaves_nothing, build_without_a_program_is_2, nothing_is_built_for_a_mistake,
 )

@@ -1,6 +1,6 @@
 -- Where a call for other languages says 0, the limits that it leaves are good (good_limits/specs/Good).
---   zero-good, half-zero-good, reported-good — `kodarfi_check`, `kodarfi_check_half`, `kodarfi_listing`
---   zero-one-step, half-zero-one-step, reported-one-step — a rounded exact proposal with 3·Σ|A_ij| ≤ 2·T gets 0, and limits of 0 or 1
+--   zero-good, half-zero-good, through-zero-good, reported-good — `kodarfi_check`, `kodarfi_check_half`, `kodarfi_loader_check`, `kodarfi_listing`
+--   zero-one-step, half-zero-one-step, through-zero-one-step, reported-one-step — a rounded exact proposal with 3·Σ|A_ij| ≤ 2·T gets 0, and limits of 0 or 1
 use mathlib.Core.Bool.{true, false}
 use mathlib.Core.List.{List}
 use mathlib.Core.Path.{_≡_, sym, ap, _∙_}
@@ -11,14 +11,17 @@ use Rattle.enclosure.specs.Reckoning.{bound, inverseBound}
 use Rattle.checked.specs.Input.{Input, problem, short, inRanges}
 use Rattle.lower_half.specs.Half.{shortHalf}
 use Rattle.half.specs.Checked.{filledInput}
+use Rattle.given_forms.specs.Progress.{ended}
+use Rattle.given_forms.specs.declared.Stage.{Stage}
 use Rattle.listing.specs.Listing.{problemIn, Complete}
 use Rattle.calls.specs.Exported.{CheckExported, ListingExported}
 use Rattle.calls.specs.Half.{HalfExported}
+use Rattle.calls.specs.Loader.{LoaderCheckExported}
 use Rattle.calls.proofs.Meaning.{zero-said, zero-answer}
 use Rattle.calls.proofs.Half.{half-zero}
 use Rattle.good_limits.specs.Good.{FineRounded, OneStep, Good}
 use Rattle.accepted_limits.specs.Lists.{GoodLists, OneStepLists}
-use Rattle.accepted_limits.proofs.Lists.{checked-good, checked-one-step, half-good, half-one-step}
+use Rattle.accepted_limits.proofs.Lists.{checked-good, checked-one-step, half-good, half-one-step, through-good, through-one-step}
 use Rattle.accepted_limits.proofs.File.{file-good, file-one-step}
 
 first-of : {l m : List ℕ} → l ≡ m → getD l 0 0 ≡ getD m 0 0
@@ -41,6 +44,15 @@ module _ {H : Input} {number : ℕ} {places E L : List ℕ} (x : HalfExported H 
       FineRounded (problem (filledInput H)) N q G q′ → (number ≡ 0) × OneStepLists (filledInput H) E L
   half-zero-one-step N q G q′ h s r y =
       let (a, b) = half-one-step H (x .outcome) E L (x .checked) N q G q′ h s r y in (x .told .number-is ∙ first-of a, b)
+
+module _ {stage : Stage} {I : Input} {number : ℕ} {places E L : List ℕ} (x : LoaderCheckExported stage I number places E L) where
+  pub through-zero-good : number ≡ 0 → GoodLists I E L
+  through-zero-good e = through-good stage I (x .outcome) E L (x .checked) (zero-said (x .outcome) (sym (x .told .number-is) ∙ e))
+
+  pub through-zero-one-step : (N : Vec) (q : ℕ) (H : Mat) (q′ : ℕ) → short I ≡ false → ended stage ≡ true → inRanges I ≡ true → FineRounded (problem I) N q H q′ →
+      (number ≡ 0) × OneStepLists I E L
+  through-zero-one-step N q H q′ s d r y =
+      let (a, b) = through-one-step stage I (x .outcome) E L (x .checked) N q H q′ s d r y in (x .told .number-is ∙ first-of a, b)
 
 module _ {file old : List ℕ} {number : ℕ} {places new : List ℕ} {written : ℕ} (x : ListingExported file old number places new written) where
   pub reported-good : number ≡ 0 → Good (problemIn file) (bound (problemIn file)) (inverseBound (problemIn file))

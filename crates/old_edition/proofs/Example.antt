@@ -46,7 +46,7 @@ use Rattle.old_edition.specs.Cases.{shuffledFile, unboundedFile, unbound
 use Rattle.old_edition.specs.Converted.{someTolerance, convertAnswer}
 use Rattle.old_edition.specs.File.{numbersAlong, rising, oldForms, oldFile, newFile}
 use Rattle.old_edition.specs.Numbers.{NumbersInRange}
-use Rattle.old_edition.specs.Promised.{deskInput}
+use Rattle.old_edition.specs.Promised.{inputOld}
 use Rattle.old_edition.specs.Stated.{tolerance, too-small, converted}
 use Rattle.old_edition.proofs.Ends.{file-complete}
 use Rattle.old_edition.proofs.Promises.{same-limits}
@@ -118,7 +118,7 @@ shuffled-checked : checkedOf (problemFrom shuffledForms) ≡ []
 unfolding valueFrom sizeFrom scalesFrom exceeds rowSum residual margin load defect product apply identity sum sumℕ first
 shuffled-checked = refl
 
-pub shuffled-accepted-01 : (E L : List ℕ) → 32 ≤ length E → 1024 ≤ length L → answer01 (deskInput wholeFile E L) ≡ []
+pub shuffled-accepted-01 : (E L : List ℕ) → 32 ≤ length E → 1024 ≤ length L → answer01 (inputOld wholeFile E L) ≡ []
 shuffled-accepted-01 E L few many =
     let a = same-limits shuffledFile 172 shuffled-converted E L few many .accepts (answer-is shuffledFile shuffledForms shuffled-spelled shuffled-passes shuffled-checked) in
     rw shuffled-new at a

@@ -1,6 +1,6 @@
 -- What 02's Paper 14 promises of a file and its new file, and what an office on the old edition finds with the new file.
 --   EqualChecks file other — "The old and new file lead to equal checks": what is said, every limit, and the listing
---   deskInput file E L — what the desk of document 01 hands to a check after the file, with the limit lists E and L
+--   inputOld file E L — what the desk of document 01 hands to a check after the file, with the limit lists E and L
 --   SameLimits file other E L — the desk of 01 holds, after the file `other`, the numbers of `file`; 01's own check of them (checked/specs/Before) accepts wherever
 --     the rules in force accept `file`, and wherever it accepts, the limits that it writes are those of the rules in force
 use mathlib.Core.List.{List, []}
@@ -24,12 +24,12 @@ pub record EqualChecks (file other : List ℕ) : Type 0 where
   pub answer : answerOf other ≡ answerOf file
   pub listing : listingOf other ≡ listingOf file
 
-abbrev pub deskInput : List ℕ → List ℕ → List ℕ → Input
-deskInput file E L = inputOf (readingOfOld file .state) E L
+abbrev pub inputOld : List ℕ → List ℕ → List ℕ → Input
+inputOld file E L = inputOf (readingOfOld file .state) E L
 
 pub record SameLimits (file other E L : List ℕ) : Type 0 where
-  pub numbers : SameNumbers (problem (deskInput other E L)) (problemIn file)
-  pub accepts : answerOf file ≡ [] → answer01 (deskInput other E L) ≡ []
-  pub bounds : answer01 (deskInput other E L) ≡ [] → (i : ℕ) → i < problemIn file .n → getD (solutionAfter01 (deskInput other E L)) i 0 ≡ bound (problemIn file) i
-  pub inverse-bounds : answer01 (deskInput other E L) ≡ [] → (i j : ℕ) → i < problemIn file .n → j < problemIn file .n →
-      getD (inverseAfter01 (deskInput other E L)) (i * problemIn file .n + j) 0 ≡ inverseBound (problemIn file) i j
+  pub numbers : SameNumbers (problem (inputOld other E L)) (problemIn file)
+  pub accepts : answerOf file ≡ [] → answer01 (inputOld other E L) ≡ []
+  pub bounds : answer01 (inputOld other E L) ≡ [] → (i : ℕ) → i < problemIn file .n → getD (solutionAfter01 (inputOld other E L)) i 0 ≡ bound (problemIn file) i
+  pub inverse-bounds : answer01 (inputOld other E L) ≡ [] → (i j : ℕ) → i < problemIn file .n → j < problemIn file .n →
+      getD (inverseAfter01 (inputOld other E L)) (i * problemIn file .n + j) 0 ≡ inverseBound (problemIn file) i j

@@ -14,23 +14,34 @@ ghost use Rattle.reckoning.specs.Parts.{cutMargin};
 ghost use Rattle.limit_factor.specs.Peak.{peak};
 ghost use Rattle.limit_factor.specs.Inquiry.{inquiry, inquiryShort, inquiryInRanges};
 ghost use Rattle.limit_factor.specs.Answer.{QualityAs};
-use differences::inverse_residuals_of;
 use integer::magnitude;
 use integer::power;
 use limit_factor::Quality;
 use margins::first_zero;
-use margins::margins_of;
-use raised_rows::ROWS_LENGTH;
-use raised_rows::raise_rows;
 use ranges::are_lists_in_range;
 use ranges::are_sizes_in_range;
 use ranges::is_short;
 use rules::Refusal;
-use symmetry::are_symmetric;
+use weight_steps::defect_sizes;
+use weight_steps::loads_of;
+use weight_steps::margins_from;
 
 mod ranges;
 
-// The margins of all rows, 0 where one is 0 or less, as a check works them out.
+// The first n weights.
+fn weights_of(weights: &[i64], n: usize) -> [u64; 32]
+    requires { ⌜ n ≤ 32 ⌝ }
+    requires { ⌜ ColumnList (now weights) n 1024 ⌝ }
+    ensures { λ r. ⌜ Begins 0 r n (λ (m : ℕ). natAbs (at (now (weights .entry)) m)) ⌝ }
+{
+    let mut out = [0u64; 32];
+    for m in 0..n {
+        out[m] = magnitude(weights[m]);
+    }
+    out
+}
+
+// The margins of all rows, 0 where one is 0 or less.
 fn margins_for(t: u32, matrix: &[i64], inverse: &[i64], weights: &[i64], n: usize) -> [u64; 32]
     requires { ⌜ (t ≤ 20) × (n ≤ 32) ⌝ }
     requires { ⌜ MatrixList (now matrix) n ⌝ }
@@ -39,11 +50,10 @@ fn margins_for(t: u32, matrix: &[i64], inverse: &[i64], weights: &[i64], n: usiz
     ensures { λ r. ⌜ Begins 0 r n
         (cutMargin (problemOf n 0 t (now (matrix .entry)) [] [] [] (now (inverse .entry)) (now (weights .entry)))) ⌝ }
 {
-    let mut rows = [0u64; ROWS_LENGTH];
-    raise_rows(&mut rows, inverse, n);
-    let columns = inverse_residuals_of(t, matrix, &rows, n);
-    let mirrored = are_symmetric(matrix, inverse, n);
-    margins_of(t, matrix, inverse, &columns, mirrored, weights, n)
+    let sizes = defect_sizes(t, matrix, inverse, n);
+    let list = weights_of(weights, n);
+    let loads = loads_of(&sizes, &list, n);
+    margins_from(t, &loads, &list, n)
 }
 
 // T·w and the load of a row from its margin g, which is T·w less the load.

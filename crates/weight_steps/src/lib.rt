@@ -98,7 +98,7 @@ fn cut(t: u32, w: u64, load: u64) -> u64
 }
 
 // The margins of all rows.
-fn margins_from(t: u32, loads: &[u64; 32], weights: &[u64; 32], n: usize) -> [u64; 32]
+pub fn margins_from(t: u32, loads: &[u64; 32], weights: &[u64; 32], n: usize) -> [u64; 32]
     requires { ⌜ (t ≤ 20) × (n ≤ 32) ⌝ }
     requires { ⌜ Below (now weights) n 1024 ⌝ }
     ensures { λ r. ⌜ Begins 0 r n (storedMargin t (now (loads .entry)) (now (weights .entry))) ⌝ }

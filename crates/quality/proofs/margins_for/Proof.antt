@@ -1,57 +1,52 @@
-use Prim.Native.Nat.{ℕ, _*_, _/_, _%_}
-use lib.Dec.{lit≤}
-use lib.IntN.{pos}
-use Rattle.enclosure.specs.Problem.{columnOf}
-use Rattle.enclosure.specs.Reckoning.{residual}
-use Rattle.reckoning.specs.Arrays.{Begins}
-use Rattle.reckoning.specs.Parts.{rowsPart, columnResidual}
-use Rattle.reckoning.proofs.Columns.{in-square}
+use mathlib.Core.Path.{ap₂, _∙_}
+use mathlib.Core.List.{[]}
+use Prim.Native.Nat.{ℕ, _*_, _-_, _^_}
+use lib.IntN.{natAbs}
+use Rattle.linear.specs.Slice.{at}
+use Rattle.enclosure.specs.Problem.{problemOf}
+use Rattle.reckoning.specs.Parts.{cutMargin}
 use Rattle.reckoning.proofs.Filled.{begins-as}
-use Rattle.reckoning.proofs.Sizes.{raisable}
-use Rattle.differences.proofs.Product.{residual-of-rows}
+use Rattle.weight_steps.specs.Steps.{Below, storedMargin}
+use Rattle.weight_steps.proofs.Stored.{sizes-at, sizes-below, load-is}
 use borrow.Author.Needs.{needs}
 use Rattle.quality.proofs.margins_for.Statement.{statement}
 use Rattle.quality.proofs.margins_for.Tie as tie
 
--- the residuals from the raised rows are those of the inverse
-residuals-are : (c : tie.After-inverse-residuals-of) →
-    let s = c .before .before .before .before .before in
-    Begins (pos 0) (c .inverse-residuals-of .result) (s .args .n * s .args .n) (λ (i : ℕ). columnResidual (s .args .n) (s .args .t) (s .args .matrix .now) (s .args .inverse .now) (i / s .args .n) (i % s .args .n))
-residuals-are c =
-    let r = c .before .before .before in
-    let a = r .before .before .args in
-    begins-as (pos 0) (λ (i : ℕ). residual (columnOf (rowsPart (a .n) (a .t) (a .matrix .now) (r .raise-rows .last .0)) (i / a .n)) (i % a .n)) (λ (i : ℕ). columnResidual (a .n) (a .t) (a .matrix .now) (a .inverse .now) (i / a .n) (i % a .n))
-    (λ i l. residual-of-rows (a .n) (a .t) (a .matrix .now) (r .raise-rows .ensures) (i / a .n) (i % a .n) (in-square (a .n) i l .0) (in-square (a .n) i l .1))
-    (c .inverse-residuals-of .ensures)
+defect-sizes-requires : tie.Need-defect-sizes-requires
+defect-sizes-requires c κs = search needs
 
-slice-aggregate-raise-rows : tie.Need-slice-aggregate-raise-rows
-slice-aggregate-raise-rows c = search needs
+weights-of-requires : tie.Need-weights-of-requires
+weights-of-requires c κs = search needs
 
-raise-rows-requires : tie.Need-raise-rows-requires
-raise-rows-requires c κs = let p = c .before .pre in ((p .0 .1, lit≤ tt), raisable (p .1 .1 .0))
+-- the weights are at most 1,024
+weights-below : (c : tie.After-weights-of) → Below (c .weights-of .result) (c .before .before .args .n) 1024
+weights-below c = record { each = λ m l. rw (c .weights-of .ensures .each m l) (c .before .before .pre .1 .1 .1 .within .size m l) }
 
-inverse-residuals-of-requires : tie.Need-inverse-residuals-of-requires
-inverse-residuals-of-requires c κs = search needs
+loads-of-requires : tie.Need-loads-of-requires
+loads-of-requires c κs =
+    let w = c .before .before in
+    let s = w .before .before in
+    let a = s .args in
+    let p = s .pre in
+    (p .0 .1, (sizes-below (a .n) (a .t) (a .matrix .now) (a .inverse .now) (p .0 .0) (p .0 .1) (p .1 .0) (p .1 .1 .0) (w .before .defect-sizes .ensures), weights-below w))
 
-are-symmetric-requires : tie.Need-are-symmetric-requires
-are-symmetric-requires c κs = search needs
-
-margins-of-requires : tie.Need-margins-of-requires
-margins-of-requires c κs =
-    let k = c .before .before in
-    let p = k .before .before .before .before .before .pre in
-    (p .0, (p .1 .0, (p .1 .1 .0, (residuals-are k, (c .before .are-symmetric .ensures, p .1 .1 .1)))))
+margins-from-requires : tie.Need-margins-from-requires
+margins-from-requires c κs = let w = c .before .before .before .before .before in (w .before .before .pre .0, weights-below w)
 
 returns : tie.Need-returns
-returns c = c .margins-of .ensures
+returns c =
+    let l = c .before .before .before in
+    let w = l .before .before .before in
+    let d = w .before in
+    let p = d .before .pre in
+    let a = d .before .args in
+    let P = problemOf (a .n) 0 (a .t) (a .matrix .now) [] [] [] (a .inverse .now) [] in
+    begins-as 0 (storedMargin (a .t) (l .loads-of .result) (w .weights-of .result)) (cutMargin (problemOf (a .n) 0 (a .t) (a .matrix .now) [] [] [] (a .inverse .now) (a .weights .now)))
+    (λ m lm. ap₂ (λ (x y : ℕ). 2 ^ a .t * x - y) (w .weights-of .ensures .each m lm)
+    (l .loads-of .ensures .each m lm
+    ∙ load-is P (λ (k : ℕ). natAbs (at (a .weights .now) k)) (w .weights-of .ensures) (d .defect-sizes .result)
+    (sizes-at (a .n) (a .t) (a .matrix .now) (a .inverse .now) (p .0 .0) (p .0 .1) (p .1 .0) (p .1 .1 .0) (d .defect-sizes .ensures)) m lm))
+    (c .margins-from .ensures)
 
 pub margins-for-spec : {M : Type 1} → statement M
-margins-for-spec =
-    tie.close
-    (tie.spec
-    slice-aggregate-raise-rows
-    raise-rows-requires
-    inverse-residuals-of-requires
-    are-symmetric-requires
-    margins-of-requires
-    returns)
+margins-for-spec = tie.close (tie.spec defect-sizes-requires weights-of-requires loads-of-requires margins-from-requires returns)

@@ -1,0 +1,70 @@
+"""Times a batch beside a program that reads the same files and writes as many bytes (copied.c), in turns, on this folder's file system and from a warm cache.
+
+  python3 bench/batched.py BATCH COPIED FOLDER [COUNT]
+
+FOLDER gets COUNT files, else 5,000, of levelling nets of n = 32 as offices send them (`office` of tests/systems/timed.py). Both have as many processes as there are
+processors. Each round begins without listings; a ratio is that of the clock's times within a round, and of 7 rounds the middle one counts."""
+
+import os
+import random
+import shutil
+import subprocess
+import sys
+import time
+from pathlib import Path
+
+ROOT = Path(__file__).resolve().parent.parent
+sys.path.insert(0, str(ROOT / "tests"))
+
+from net import file_of, lines_of
+from systems.timed import office
+
+ROUNDS, KINDS, IN_A_FOLDER = 7, 100, 1000
+
+
+def write_nets(folder, count):
+    rng = random.Random(1)
+    files = [file_of(lines_of(office(rng, 32))) for _ in range(min(KINDS, count))]
+    for number in range(count):
+        place = folder / f"{number // IN_A_FOLDER}" / f"{number}.txt"
+        place.parent.mkdir(parents=True, exist_ok=True)
+        place.write_bytes(files[number % len(files)])
+
+
+def empty(*folders):
+    for folder in folders:
+        shutil.rmtree(folder, ignore_errors=True)
+
+
+def timed(command, **options):
+    began = time.monotonic()
+    subprocess.run(command, check=True, stdout=subprocess.DEVNULL, **options)
+    return time.monotonic() - began
+
+
+def main():
+    batch, copied, folder = map(Path, sys.argv[1:4])
+    count = int(sys.argv[4]) if len(sys.argv) > 4 else 5000
+    nets, listings, state, copies = (folder / name for name in ("nets", "listings", "listings.batch", "copies"))
+    empty(nets, listings, state, copies)
+    write_nets(nets, count)
+    names = "".join(f"{path}\n" for path in sorted(nets.rglob("*.txt"))).encode()
+    environment = os.environ | {"KODARFI_BATCH": str(batch), "KODARFI_REGISTER": str(ROOT / "register")}
+    processes = len(os.sched_getaffinity(0))
+    rounds = []
+    for number in range(ROUNDS + 1):
+        empty(listings, state, copies)
+        copies.mkdir()
+        judged = timed([batch, "--jobs", str(processes), nets, listings], env=environment)
+        length = sum(path.stat().st_size for path in listings.rglob("*.txt")) // count
+        moved = timed([copied, str(processes), str(length), copies], input=names)
+        if number:  # the first warms the cache
+            rounds.append((judged / moved, judged, moved))
+    ratio, judged, moved = sorted(rounds)[ROUNDS // 2]
+    lowest, highest = min(rounds)[0], max(rounds)[0]
+    print(f"{count} files, {processes} processes: batch {count / judged:.0f} a second, read and written alone {count / moved:.0f} a second, ratio {ratio:.2f} ({lowest:.2f} to {highest:.2f})")
+    empty(nets, listings, state, copies)
+
+
+if __name__ == "__main__":
+    main()
