@@ -45,7 +45,7 @@ $(ARCHIVE):
 	@$(RT) staticlib kodarfi
 
 target/bin/batch: $(wildcard programs/batch/* include/*.h) $(ARCHIVE)
-	@me=batch here=$$(pwd); . scripts/door.sh; parts=(programs/batch include); link_batch $@ && note_version $@ "$$(commit)"
+	@me=batch here=$$(pwd); . scripts/door.sh; beside=(programs/batch include); link_batch $@ && note_version $@ "$$(commit)"
 
 $(SHARED): $(ARCHIVE) VERSION
 	mkdir -p $(@D)

@@ -68,9 +68,9 @@ open_input() {
 }
 
 # The sources: find's words for their names, so that an editor's own files are none. A script whose program is made of more than its own crate says so by
-# `crate`, the crate that is proved for it, `parts`, the folders beside crates/ that are read, and make_program.
+# `crate`, the crate that is proved for it, `beside`, the folders beside crates/ that are read, and make_program.
 is_source=('(' -name '[!.#]*.rt' -o -name '[!.#]*.antt' -o -name '[!.#]*.[ch]' -o -name crates.txt ')')
-crate=$me parts=()
+crate=$me beside=()
 make_program() {
   rt check "$me"
 }
@@ -82,7 +82,7 @@ link_batch() {
 
 # The names of all sources, as one number.
 names_digest() {
-  (cd "$here" && find crates.txt crates "${parts[@]}" -type f "${is_source[@]}" | LC_ALL=C sort | sha256sum | cut -d ' ' -f 1)
+  (cd "$here" && find crates.txt crates "${beside[@]}" -type f "${is_source[@]}" | LC_ALL=C sort | sha256sum | cut -d ' ' -f 1)
 }
 
 # Prints a fresh folder in memory that others may pass through, where there is one with $1 gigabytes of room from which programs can be run.
@@ -114,7 +114,7 @@ open_folder() {
 commit() {
   local commit changed git=(env -u GIT_DIR -u GIT_WORK_TREE -u GIT_INDEX_FILE git -C "$here")
   [ "$("${git[@]}" rev-parse --show-toplevel 2>/dev/null)" = "$here" ] && commit=$("${git[@]}" rev-parse --short HEAD 2>/dev/null) || { echo unknown; return; }
-  changed=$("${git[@]}" status --porcelain --untracked-files=all -- crates.txt ':(glob)crates/**/[!.#]*.rt' ':(glob)crates/**/[!.#]*.antt' "${parts[@]}" 2>/dev/null) || changed=yes
+  changed=$("${git[@]}" status --porcelain --untracked-files=all -- crates.txt ':(glob)crates/**/[!.#]*.rt' ':(glob)crates/**/[!.#]*.antt' "${beside[@]}" 2>/dev/null) || changed=yes
   echo "$commit${changed:+-dirty}"
 }
 
@@ -154,7 +154,7 @@ reason_to_build() {
   if [ ! -x "$program" ]; then
     echo "the program is not built"
   elif [ $is_installed = no ]; then
-    newer=$(cd "$here" && find crates.txt crates "${parts[@]}" -newer "$program" '(' -type d -printf '%p/\n' -o "${is_source[@]}" -print -quit ')') || newer='a source that cannot be read'
+    newer=$(cd "$here" && find crates.txt crates "${beside[@]}" -newer "$program" '(' -type d -printf '%p/\n' -o "${is_source[@]}" -print -quit ')') || newer='a source that cannot be read'
     newer=${newer##*$'\n'}
     if [[ $newer == */ ]]; then
       if names=$(noted 2); then

@@ -33,8 +33,8 @@ pub extern "C" fn kodarfi_convert_line(
     ensures { λ r. ⌜ ConvertLineExported (now (file .entry)) (now (out .entry)) (now (written .entry)) r (now (places .exit)) (now (out .exit)) (now (written .exit)) (now (line .exit)) ⌝ }
 {
     let conversion = convert_file(file, out);
-    let converted = conversion.answer;
+    let answer = conversion.answer;
     *line = conversion.line;
-    *written = length_or(converted, *written);
-    tell(converted_reply(converted), places)
+    *written = length_or(answer, *written);
+    tell(converted_reply(answer), places)
 }
