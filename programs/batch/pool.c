@@ -24,7 +24,7 @@ struct chunk {
     char *names[CHUNK];
     struct { struct result old; uint32_t is_done, length; } heads[CHUNK];
     struct result results[CHUNK];
-    unsigned count, answered, deaths;
+    unsigned count, answered, deaths, died_at; /* how many workers died at net number died_at, one after another */
     int worker;
 };
 
@@ -168,6 +168,7 @@ static void replace(struct pool *pool, unsigned k) {
     while (waitpid(worker->process, &status, 0) < 0 && errno == EINTR) {}
     worker->process = 0;
     struct chunk *chunk = worker->count ? chunk_at(pool, worker->chunks[0]) : NULL;
+    if (chunk && chunk->died_at != chunk->answered) chunk->deaths = 0, chunk->died_at = chunk->answered;
     if (chunk && ++chunk->deaths > 1) {
         struct result none = {.number = FAILED};
         say("%s/%s: a worker ended by signal %d while judging it", pool->folders->nets_name, shown(chunk->names[chunk->answered]), WIFSIGNALED(status) ? WTERMSIG(status) : 0);

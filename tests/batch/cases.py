@@ -540,8 +540,6 @@ def no_parallel_is_2(box):
     return process.returncode == 2 and process.stderr == b"batch: the tool 'parallel' (GNU parallel) is missing\n"
 
 
-dead_worker_is_replaced.tries = 6
-
 TESTS = (
     lists_as_register_does, reports_what_is_not_accepted, status_is_the_worst, unreadable_net_fails, unseen_folder_is_2, unseen_folder_keeps_its_listings, names_may_begin_with_a_dash,
     place_that_is_taken_fails, nothing_to_judge_is_2,

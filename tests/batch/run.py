@@ -18,12 +18,8 @@ from office.room import open_folder
 
 
 def holds(test, program):
-    """Whether a test holds, in one of its tries: where workers are killed by chance, two may die at one net, which has then failed, as it should."""
-    for _ in range(getattr(test, "tries", 1)):
-        with Sandbox(program) as box:
-            if test(box):
-                return True
-    return False
+    with Sandbox(program) as box:
+        return test(box)
 
 
 def results(names):
