@@ -1,6 +1,6 @@
 //! Nets damaged by chance.
 
-use crate::nets::{Net, COLUMN};
+use crate::nets::{Net, COLUMN, UNREAD};
 
 /// Numbers by chance that are the same in every run (splitmix).
 pub struct Chance(pub u64);
@@ -28,23 +28,42 @@ impl Chance {
 /// One number of one list, among those in use or past them.
 fn change_number(net: &mut Net, chance: &mut Chance, value: i64) {
     let n = (net.n as usize).min(COLUMN);
-    let list = &mut net.lists[chance.below(6) as usize];
-    let used = if list.len() > COLUMN { n * n } else { n };
-    let range = if chance.below(4) == 0 { list.len() } else { used };
+    let which = chance.below(6) as usize;
+    let used = if which == 0 || which == 4 { n * n } else { n };
+    let range = if chance.below(4) == 0 { net.lists[which].len() } else { used };
     if range > 0 {
-        list[chance.below(range as u64) as usize] = value;
+        net.lists[which][chance.below(range as u64) as usize] = value;
+    }
+}
+
+/// A size that is out of range, at an end of its range, or the same but for a bit that a narrower argument loses.
+fn other_size(size: u32, ends: &[u32], chance: &mut Chance) -> u32 {
+    match chance.below(4) {
+        0 => size ^ chance.pick(&[1 << 8, 1 << 16, 1 << 31]),
+        _ => chance.pick(ends),
+    }
+}
+
+/// A list that is too short, or longer than it need be.
+fn other_length(net: &mut Net, chance: &mut Chance) {
+    let which = chance.below(8) as usize;
+    let length = net.lengths[which];
+    if which < 6 && chance.below(4) == 0 {
+        let longer = net.lists[which].len() + 256;
+        net.lengths[which] = longer;
+        net.lists[which].resize(longer, UNREAD);
+    } else {
+        net.lengths[which] = chance.pick(&[length.saturating_sub(1), length / 2, 0]);
     }
 }
 
 pub fn damage(net: &mut Net, chance: &mut Chance) {
+    const SCALES: &[u32] = &[0, 1, 19, 20, 21, 63, 64, u32::MAX];
     match chance.below(9) {
-        0 => {
-            let length = &mut net.lengths[chance.below(8) as usize];
-            *length = chance.pick(&[length.saturating_sub(1), *length / 2, 0]);
-        }
-        1 => net.n = chance.pick(&[0, 1, 2, 31, 32, 33, u32::MAX]),
-        2 => net.s = chance.pick(&[0, 1, 19, 20, 21, 63, 64, u32::MAX]),
-        3 => net.t = chance.pick(&[0, 1, 19, 20, 21, 63, 64, u32::MAX]),
+        0 => other_length(net, chance),
+        1 => net.n = other_size(net.n, &[0, 1, 2, 31, 32, 33, u32::MAX], chance),
+        2 => net.s = other_size(net.s, SCALES, chance),
+        3 => net.t = other_size(net.t, SCALES, chance),
         4 => {
             let value = chance.odd_number();
             change_number(net, chance, value);

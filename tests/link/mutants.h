@@ -11,6 +11,7 @@
     /* kodarfi_check */                          \
     X(check, right_and_tolerance_exchanged)      \
     X(check, places_of_32_bits)                  \
+    X(check, length_of_limits_unread)            \
     /* kodarfi_check_half */                     \
     X(half, limits_of_32_bits)                   \
     X(half, half_number_of_8_bits)               \

@@ -16,6 +16,7 @@ uint32_t kodarfi_check(uint32_t n, uint32_t s, uint32_t t, const int64_t *matrix
                        size_t inverse_len, const int64_t *weights, size_t weights_len, uint64_t *solution_bounds, size_t solution_bounds_len,
                        uint64_t *inverse_bounds, size_t inverse_bounds_len, uint64_t places[2]) {
     if (is_mutant(right_and_tolerance_exchanged)) EXCHANGE(const int64_t *, right, tolerance);
+    if (is_mutant(length_of_limits_unread)) solution_bounds_len = COLUMN;
     const uint32_t number = real_kodarfi_check(n, s, t, matrix, matrix_len, right, right_len, tolerance, tolerance_len, guess, guess_len, inverse,
                                                inverse_len, weights, weights_len, solution_bounds, solution_bounds_len, inverse_bounds,
                                                inverse_bounds_len, places);
