@@ -6,20 +6,31 @@
 
 static char *input, *at, *end;
 
-static void stop(const char *what) {
-    fprintf(stderr, "%s\n", what);
+void stop(const char *what) {
+    fprintf(stderr, "the replay stops: %s\n", what);
     exit(2);
+}
+
+/* All bytes of a file; none where it cannot be read. */
+static char *bytes_of(FILE *file, size_t *length) {
+    if (!file || fseek(file, 0, SEEK_END) != 0) return NULL;
+    const long size = ftell(file);
+    char *const bytes = size < 0 ? NULL : malloc((size_t)size + 1);
+    rewind(file);
+    *length = bytes ? fread(bytes, 1, (size_t)size, file) : 0;
+    return *length == (size_t)size ? bytes : NULL;
 }
 
 void open_input(const char *folder, const char *name) {
     char path[4096];
+    size_t length;
     snprintf(path, sizeof path, "%s/%s", folder, name);
     FILE *const file = fopen(path, "rb");
-    if (!file || fseek(file, 0, SEEK_END) != 0) stop(path);
-    const long length = ftell(file);
-    at = input = length < 0 ? NULL : malloc((size_t)length + 1);
-    rewind(file);
-    if (!input || fread(input, 1, (size_t)length, file) != (size_t)length) stop(path);
+    at = input = bytes_of(file, &length);
+    if (!input) {
+        perror(path);
+        exit(2);
+    }
     end = input + length;
     fclose(file);
 }

@@ -6,7 +6,10 @@
 #include <stddef.h>
 #include <stdint.h>
 
-/* Opens a file of a folder; stops the program where it cannot be read. */
+/* Ends the program with this line: what an emitter wrote cannot be replayed. */
+_Noreturn void stop(const char *what);
+
+/* Opens a file of a folder. */
 void open_input(const char *folder, const char *name);
 void close_input(void);
 

@@ -2,8 +2,6 @@
 
 #include "input.h"
 
-#include <stdio.h>
-#include <stdlib.h>
 #include <string.h>
 
 /* A guard is as long as a column, so that a list written one column past its end stays in it. */
@@ -18,10 +16,7 @@ static uint64_t sentinel(size_t at) {
 }
 
 static void guard(size_t words) {
-    if (words > MOST_WORDS - used) {
-        fprintf(stderr, "a call is too large\n");
-        exit(2);
-    }
+    if (words > MOST_WORDS - used) stop("a call is too large");
     for (const size_t end = used + words; used < end; used++) held[used] = sentinel(used);
 }
 

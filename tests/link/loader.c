@@ -47,6 +47,7 @@ static void expect_changes(void) {
     for (unsigned k = 0; k < NUMBERS; k++) expect_half(&loader[k]);
     for (uint64_t changes = next_number(); changes > 0; changes--) {
         const uint64_t list = next_number(), place = next_number();
+        if (list >= LISTS || place >= length_of((unsigned)list)) stop("a change is at no place of a list");
         expect_words(&lists[list][place], 1);
     }
 }

@@ -4,8 +4,6 @@
 #include "lent.h"
 #include "tests.h"
 
-#include <stdlib.h>
-
 enum { LONGEST = KODARFI_LISTING_LENGTH };
 
 /* The right answer, which stands before the bytes: the number, both places, the refused line of a conversion, and the bytes that are written. */
@@ -21,7 +19,7 @@ static const uint8_t *next_file(size_t file_len, struct answer *x) {
     uint8_t *const file = lend(file_len);
     end_numbers();
     next_bytes(file, file_len);
-    if (x->written > LONGEST) exit(2);
+    if (x->written > LONGEST) stop("a listing or a new file is too long");
     next_bytes(x->text, x->written);
     return file;
 }
