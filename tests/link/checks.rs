@@ -46,30 +46,33 @@ impl Tolerant {
     }
 }
 
-/// Emitted calls, which the version in Rust answers alike, and damaged ones, which it answers alone.
+/// Emitted calls, which the version in Rust answers alike.
 pub fn replay_checks(replay: &mut Replay) {
-    let (mut chance, mut damaged, mut tolerant, mut tolerant_damaged) = (Chance(1), Vec::new(), Tolerant::default(), Tolerant::default());
+    let (mut nets, mut tolerant) = (Vec::new(), Tolerant::default());
     while !replay.input.at_end() {
         let net = read_net(&mut replay.input, false);
         let right = read_outcome(&mut replay.input, net.n);
         replay.test("check in Rust", check(&net) == right);
         replay_check(replay, "check", &net, false, &right);
         tolerant.add(&net, right.number);
-        for _ in 0..DAMAGES {
-            let mut other = net.clone();
-            (0..=chance.below(2)).for_each(|_| damage(&mut other, &mut chance));
-            damaged.push(other);
-        }
+        nets.push(net);
     }
     replay.test_reach("check", NUMBERS);
-    for net in &damaged {
-        let right = check(net);
-        replay_check(replay, "check, damaged", net, false, &right);
-        tolerant_damaged.add(net, right.number);
+    tolerant.test_reach(replay);
+    replay_damaged(replay, &nets);
+}
+
+/// Damaged calls, of which the version in Rust says what is right.
+fn replay_damaged(replay: &mut Replay, nets: &[Net]) {
+    let (mut chance, mut tolerant) = (Chance(1), Tolerant::default());
+    for mut net in nets.iter().flat_map(|net| [net; DAMAGES]).cloned() {
+        (0..=chance.below(2)).for_each(|_| damage(&mut net, &mut chance));
+        let right = check(&net);
+        replay_check(replay, "check, damaged", &net, false, &right);
+        tolerant.add(&net, right.number);
     }
     replay.test_reach("check, damaged", NUMBERS);
     tolerant.test_reach(replay);
-    tolerant_damaged.test_reach(replay);
 }
 
 pub fn replay_halves(replay: &mut Replay) {
