@@ -9,7 +9,7 @@
 bool next_call(void);
 void end_call(const char *what, uint32_t number);
 
-/* That each of these answers was right often enough in the calls so far; 0 ends the list. The count begins anew. */
+/* That each of these answers, the first of them 0, was right often enough in the calls so far; another 0 ends the list. The count begins anew. */
 void test_reach(const char *what, const unsigned *numbers);
 
 void replay_checks(void);
