@@ -20,9 +20,9 @@ static uint32_t reckon_plainly(const struct system *y, bounds_of_column *bounds_
     sum_rows(y, sums);
     difference(y->n, y->T, y->G, y->A, D);
     if ((places[0] = failing_margin(y, D, g)) != 0) return 5;
-    if ((places[0] = failing_residual(y, is_above, sums, r)) != 0) return 6;
+    if ((places[0] = failing_residual(y, sums, r)) != 0) return 6;
     difference(y->n, y->T, y->A, y->G, R);
-    if (failing_inverse(y, is_above, sums, R, 1, y->n, places)) return 7;
+    if (failing_inverse(y, sums, R, 1, y->n, places)) return 7;
     for (uint32_t m = 0; m < y->n; m++) p[m] = size_of(dot(y->n, y->G + m * y->n, r, 1));
     add_slacks(y, p);
     bounds_of(y->n, y->w, p, g, column);
@@ -39,11 +39,6 @@ static uint32_t reckon_quick(const struct system *y, uint64_t *solution_bounds, 
     return reckon_plainly(y, quick_bounds, solution_bounds, inverse_bounds, places);
 }
 
-static uint32_t reckon_sparse(const struct system *y, uint64_t *solution_bounds, uint64_t *inverse_bounds, uint64_t places[2]) {
-    const bool is_mirrored = is_symmetric(y->n, y->A) && is_symmetric(y->n, y->G);
-    return sparse_reckon(y, is_above, is_mirrored, is_mirrored, sparse_bounds, solution_bounds, inverse_bounds, places);
-}
-
 CHECK(native_check_naive, reckon_naive)
 CHECK(native_check_quick, reckon_quick)
-CHECK(native_check_sparse, reckon_sparse)
+CHECK(native_check_sparse, sparse_reckon)

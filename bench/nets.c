@@ -30,14 +30,14 @@ static void read_bounds(FILE *file, uint64_t *limits, uint32_t count) {
     for (uint32_t i = 0; i < count; i++) limits[i] = (uint64_t)next_number(file);
 }
 
-static bool read_call(FILE *file, bool is_half, struct net *net, struct outcome *expected) {
+bool read_net(FILE *file, struct net *net, struct outcome *expected) {
     uint32_t count;
     if (fscanf(file, "%" SCNu32, &count) != 1) return false;
     uint32_t *const sizes[] = {&net->n, &net->s, &net->t};
     size_t *const lengths[] = {&net->matrix_len, &net->right_len, &net->tolerance_len, &net->guess_len, &net->inverse_len, &net->weights_len, &net->solution_len, &net->bounds_len};
     for (uint32_t i = 0; i < 3; i++) *sizes[i] = (uint32_t)next_number(file);
     for (uint32_t i = 0; i < 8; i++) *lengths[i] = (size_t)next_number(file);
-    read_numbers(file, net->matrix, is_half ? count * (count + 1) / 2 : count * count, MATRIX);
+    read_numbers(file, net->matrix, count * count, MATRIX);
     read_numbers(file, net->right, count, COLUMN);
     read_numbers(file, net->tolerance, count, COLUMN);
     read_numbers(file, net->guess, count, COLUMN);
@@ -52,14 +52,6 @@ static bool read_call(FILE *file, bool is_half, struct net *net, struct outcome 
         read_bounds(file, expected->inverse, net->n * net->n);
     }
     return true;
-}
-
-bool read_net(FILE *file, struct net *net, struct outcome *expected) {
-    return read_call(file, false, net, expected);
-}
-
-bool read_half(FILE *file, struct net *net, struct outcome *expected) {
-    return read_call(file, true, net, expected);
 }
 
 void run_check(check_on_lists *check, const struct net *net, struct outcome *outcome) {

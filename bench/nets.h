@@ -30,9 +30,6 @@ struct outcome {
 /* Reads a call and the outcome that stands after it; false at the end of the file. */
 bool read_net(FILE *file, struct net *net, struct outcome *expected);
 
-/* The same of a call as tests/emit_halves.py writes it: its matrix begins with the lower half. */
-bool read_half(FILE *file, struct net *net, struct outcome *expected);
-
 /* The outcome of a check on cleared limits; the places hold other numbers before. */
 void run_check(check_on_lists *check, const struct net *net, struct outcome *outcome);
 

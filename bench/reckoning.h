@@ -21,9 +21,6 @@ struct system {
     const int64_t *A, *b, *d, *X, *G, *w;
 };
 
-/* Whether a residual of row k, of the guess or of a column of the inverse, is refused, by its size, its slack and the sum of |a| along its row. */
-typedef bool is_refused(const struct system *y, uint32_t k, bool of_guess, int64_t size, int64_t slack, int64_t sum);
-
 /* The limits of one column from its sizes |p_m|, the margins and the weights. */
 typedef void bounds_of_column(uint32_t n, const int64_t *w, const int64_t *p, const int64_t *g, uint64_t *bounds);
 
@@ -73,8 +70,7 @@ static inline uint32_t failing_margin(const struct system *y, const int64_t *D, 
 }
 
 /* 02, Paper 5: "size of residual plus slack is above 2^25"; Paper 9: "the residual of row m, without slack, may be at most the sum of |a| along that row". */
-static inline bool is_above(const struct system *y, uint32_t k, bool of_guess, int64_t size, int64_t slack, int64_t sum) {
-    (void)y, (void)k, (void)of_guess;
+static inline bool is_above(int64_t size, int64_t slack, int64_t sum) {
     return size + slack > LARGEST_RESIDUAL || size > sum;
 }
 
@@ -87,21 +83,20 @@ static inline void sum_rows(const struct system *y, int64_t *sums) {
 }
 
 /* r = S * b - A * X, with the slack S * d. Gives the lowest row whose residual is refused, from 1, or 0. */
-static inline uint32_t failing_residual(const struct system *y, is_refused *refused, const int64_t *sums, int64_t *r) {
+static inline uint32_t failing_residual(const struct system *y, const int64_t *sums, int64_t *r) {
     uint32_t failing = 0;
     for (uint32_t k = y->n; k-- > 0;) {
         r[k] = y->S * y->b[k] - dot(y->n, y->A + k * y->n, y->X, 1);
-        if (refused(y, k, true, size_of(r[k]), y->S * y->d[k], sums[k])) failing = k + 1;
+        if (is_above(size_of(r[k]), y->S * y->d[k], sums[k])) failing = k + 1;
     }
     return failing;
 }
 
 /* Residual k of column j of the inverse is at j * across + k * down. Gives the lowest column, then its lowest row, whose residual is refused. */
-static inline bool failing_inverse(const struct system *y, is_refused *refused, const int64_t *sums, const int64_t *R, size_t across, size_t down,
-                                   uint64_t places[2]) {
+static inline bool failing_inverse(const struct system *y, const int64_t *sums, const int64_t *R, size_t across, size_t down, uint64_t places[2]) {
     for (uint32_t j = 0; j < y->n; j++) {
         for (uint32_t k = 0; k < y->n; k++) {
-            if (refused(y, k, false, size_of(R[j * across + k * down]), 0, sums[k])) {
+            if (is_above(size_of(R[j * across + k * down]), 0, sums[k])) {
                 places[0] = j + 1;
                 places[1] = k + 1;
                 return true;

@@ -9,9 +9,6 @@ enum { RAISED = MOST * (MOST + 1) };
 #define RAISED_BY ((int64_t)1 << 25)
 #define SMALL_SUM ((int64_t)1 << 33)
 
-/* The limits of one column from its sizes, the margins, each margin divided by the largest weight, and the weights. */
-typedef void bounds_by_caps(uint32_t n, const int64_t *w, const int64_t *p, const int64_t *g, const int64_t *caps, uint64_t *bounds);
-
 /* n numbers, a stride apart and of at most 2^25 in size, raised above 0, and their sum after them. */
 static inline void raise_row(size_t n, const int64_t *x, size_t stride, uint64_t *out) {
     uint64_t sum = 0;
@@ -60,7 +57,9 @@ static inline bool is_symmetric(size_t n, const int64_t *x) {
     return same;
 }
 
-/* Where every size is at most its cap the limits are all 1, or all 0 where every size is 0. Else the steepest row is found by products where these fit, and
+/* The limits of one column from its sizes, the margins, and each margin divided by the largest weight, its cap.
+ *
+ * Where every size is at most its cap the limits are all 1, or all 0 where every size is 0. Else the steepest row is found by products where these fit, and
  * by quotients where not. */
 static inline void sparse_bounds(uint32_t n, const int64_t *w, const int64_t *p, const int64_t *g, const int64_t *caps, uint64_t *bounds) {
     bool is_flat = true;
@@ -95,47 +94,46 @@ static inline void sizes_from(size_t known, size_t n, const uint64_t *rows, cons
     for (size_t m = known; m < n; m++) p[m] = size_of(row_dot(n, rows + m * (n + 1), residuals));
 }
 
-/* From the raised rows of G and the residuals, column after column; where `is_half` the sizes of a column before its diagonal are read across the columns
- * before it. */
-static inline void write_columns(const struct system *y, const uint64_t *rows, const int64_t *R, bool is_half, const int64_t *g, const int64_t *caps,
-                                 bounds_by_caps *bounds_of, uint64_t *bounds) {
+/* From the raised rows of G and the residuals, column after column; where A and G are symmetric the sizes of a column before its diagonal are read across the
+ * columns before it. */
+static inline void write_columns(const struct system *y, const uint64_t *rows, const int64_t *R, bool is_mirrored, const int64_t *g, const int64_t *caps,
+                                 uint64_t *bounds) {
     const size_t n = y->n;
     uint64_t residuals[RAISED], column[MOST];
     int64_t P[PLACES];
     raise_rows(n, R, n, 1, residuals);
     for (size_t j = 0; j < n; j++) {
-        const size_t known = is_half ? j : 0;
+        const size_t known = is_mirrored ? j : 0;
         for (size_t m = 0; m < known; m++) P[j * n + m] = P[m * n + j];
         sizes_from(known, n, rows, residuals + j * (n + 1), P + j * n);
-        bounds_of(y->n, y->w, P + j * n, g, caps, column);
+        sparse_bounds(y->n, y->w, P + j * n, g, caps, column);
         for (size_t i = 0; i < n; i++) bounds[i * n + j] = column[i];
     }
 }
 
-/* Where `is_read`, D row after row is read as the residuals of the inverse, column after column; `is_half` as in write_columns. Both are right where A and G
- * are symmetric. */
-static inline uint32_t sparse_reckon(const struct system *y, is_refused *refused, bool is_read, bool is_half, bounds_by_caps *bounds_of, uint64_t *solution_bounds,
-                                     uint64_t *inverse_bounds, uint64_t places[2]) {
+/* Where A and G are symmetric, D row after row is the residuals of the inverse, column after column. */
+static inline uint32_t sparse_reckon(const struct system *y, uint64_t *solution_bounds, uint64_t *inverse_bounds, uint64_t places[2]) {
     const size_t n = y->n;
+    const bool is_mirrored = is_symmetric(n, y->A) && is_symmetric(n, y->G);
     uint64_t rows[RAISED], columns[RAISED], raised[MOST + 1], column[MOST];
     int64_t R[PLACES], D[PLACES], g[MOST], caps[MOST], r[MOST], p[MOST], sums[MOST];
     sum_rows(y, sums);
     raise_rows(n, y->G, n, 1, rows);
     differences(n, y->T, y->A, n, 1, rows, R);
-    if (!is_read) {
+    if (!is_mirrored) {
         raise_rows(n, y->G, 1, n, columns);
         differences(n, y->T, y->A, 1, n, columns, D);
     }
-    if ((places[0] = failing_margin(y, is_read ? R : D, g)) != 0) return 5;
-    if ((places[0] = failing_residual(y, refused, sums, r)) != 0) return 6;
-    if (failing_inverse(y, refused, sums, R, n, 1, places)) return 7;
+    if ((places[0] = failing_margin(y, is_mirrored ? R : D, g)) != 0) return 5;
+    if ((places[0] = failing_residual(y, sums, r)) != 0) return 6;
+    if (failing_inverse(y, sums, R, n, 1, places)) return 7;
     cap_margins(y, g, caps);
     raise_row(n, r, 1, raised);
     sizes_from(0, n, rows, raised, p);
     add_slacks(y, p);
-    bounds_of(y->n, y->w, p, g, caps, column);
+    sparse_bounds(y->n, y->w, p, g, caps, column);
     memcpy(solution_bounds, column, n * sizeof *column);
-    write_columns(y, rows, R, is_half, g, caps, bounds_of, inverse_bounds);
+    write_columns(y, rows, R, is_mirrored, g, caps, inverse_bounds);
     return 0;
 }
 

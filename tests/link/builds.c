@@ -1,43 +1,71 @@
-#include "builds.h"
-
+/* kodarfi_build, kodarfi_build_half, kodarfi_build_line and kodarfi_build_half_line. */
+#include "input.h"
+#include "lent.h"
 #include "nets.h"
+#include "tests.h"
 
-#include <inttypes.h>
-#include <stdlib.h>
+/* A list of field lines, and the right answer. */
+struct build {
+    uint32_t n, answer;
+    bool is_half;
+    size_t count, matrix_len, right_len, used;
+    const struct kodarfi_observation *lines;
+    uint64_t line, matrix[MATRIX], right[COLUMN];
+};
 
-static int64_t next_number(FILE *file) {
-    int64_t number;
-    if (fscanf(file, "%" SCNd64, &number) == 1) return number;
-    fprintf(stderr, "a build stops in its middle\n");
-    exit(2);
+/* The field lines; their padding holds sentinels. */
+static const struct kodarfi_observation *lend_lines(size_t count) {
+    struct kodarfi_observation *const lines = lend(count * sizeof *lines);
+    for (struct kodarfi_observation *line = lines; line < lines + count; line++) {
+        line->key = (uint32_t)next_number();
+        line->from = (uint32_t)next_number();
+        line->to = (uint32_t)next_number();
+        line->difference = (int64_t)next_number();
+        line->weight = (uint32_t)next_number();
+    }
+    return lines;
 }
 
-void set_before(struct build_answer *answer) {
-    for (int i = 0; i < MATRIX; i++) answer->matrix[i] = INT64_C(-1234567890123456789) + i;
-    for (int i = 0; i < COLUMN; i++) answer->right[i] = INT64_C(1234567890123456789) + i;
+static void next_build(struct build *x) {
+    x->n = (uint32_t)next_number();
+    x->count = next_number();
+    x->is_half = next_number() != 0;
+    x->matrix_len = next_number();
+    x->right_len = next_number();
+    x->lines = lend_lines(x->count);
+    x->answer = (uint32_t)next_number();
+    x->line = next_number();
+    x->used = x->answer == 0 ? x->n : 0;
+    next_words(x->matrix, x->is_half ? x->used * (x->used + 1) / 2 : x->used * x->used);
+    next_words(x->right, x->used);
 }
 
-static void read_line(FILE *file, struct kodarfi_observation *line) {
-    line->key = (uint32_t)next_number(file);
-    line->from = (uint32_t)next_number(file);
-    line->to = (uint32_t)next_number(file);
-    line->difference = next_number(file);
-    line->weight = (uint32_t)next_number(file);
+static void replay_build(const struct build *x, bool with_line) {
+    int64_t *const matrix = lend(MATRIX * sizeof *matrix), *const right = lend(COLUMN * sizeof *right);
+    uint32_t *const number = lend(sizeof *number);
+    uint64_t *const line = lend(sizeof *line);
+    expect_unchanged();
+    expect_bytes(number, &x->answer, sizeof x->answer);
+    expect_bytes(matrix, x->matrix, 8 * (x->is_half ? x->used * (x->used + 1) / 2 : x->used * x->used));
+    expect_bytes(right, x->right, 8 * x->used);
+    if (with_line) {
+        expect_bytes(line, &x->line, sizeof x->line);
+        *number = (x->is_half ? kodarfi_build_half_line : kodarfi_build_line)(x->n, x->lines, x->count, matrix, x->matrix_len, right, x->right_len, line);
+    } else {
+        *number = (x->is_half ? kodarfi_build_half : kodarfi_build)(x->n, x->lines, x->count, matrix, x->matrix_len, right, x->right_len);
+    }
+    end_call(with_line ? "build with its line" : "build", x->answer);
 }
 
-bool read_build(FILE *file, struct build *x, struct build_answer *answer) {
-    if (fscanf(file, "%" SCNu32, &x->n) != 1) return false;
-    x->count = (size_t)next_number(file);
-    x->is_half = next_number(file) != 0;
-    x->matrix_len = (size_t)next_number(file);
-    x->right_len = (size_t)next_number(file);
-    if (x->count > LINES) exit(2);
-    for (size_t i = 0; i < x->count; i++) read_line(file, &x->lines[i]);
-    set_before(answer);
-    answer->number = (uint32_t)next_number(file);
-    answer->line = (uint64_t)next_number(file);
-    if (answer->number != 0) return true;
-    for (uint32_t i = 0; i < (x->is_half ? x->n * (x->n + 1) / 2 : x->n * x->n); i++) answer->matrix[i] = next_number(file);
-    for (uint32_t i = 0; i < x->n; i++) answer->right[i] = next_number(file);
-    return true;
+void replay_builds(void) {
+    static const unsigned NUMBERS[] = {0, 3, 8, 16, 17, 0};
+    static struct build x;
+    while (next_call()) {
+        next_build(&x);
+        const size_t before = lent_now();
+        replay_build(&x, false);
+        take_back(before);
+        replay_build(&x, true);
+    }
+    test_reach("build", NUMBERS);
 }

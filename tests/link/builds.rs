@@ -1,137 +1,62 @@
-//! The builder: what it is handed and leaves, the library's, a version in 128-bit numbers, and the lists of tests/emit_builds.py.
+//! kodarfi_build, kodarfi_build_half, kodarfi_build_line and kodarfi_build_half_line.
 
-use crate::halves::HALF;
+use crate::input::Input;
 use crate::kodarfi::{kodarfi_build, kodarfi_build_half, kodarfi_build_half_line, kodarfi_build_line, Observation};
-use crate::lists::{lower, whole, COLUMN, MATRIX};
-use crate::numbers::Numbers;
-use std::collections::HashMap;
+use crate::nets::{COLUMN, MATRIX};
+use crate::replay::Replay;
 
-/// What a build is handed, for a square or for its lower half; the lengths of the two lists are those it is told.
-#[derive(Clone)]
-pub struct Build {
-    pub n: u32,
-    pub lines: Vec<Observation>,
-    pub is_half: bool,
-    pub lengths: [usize; 2],
+/// A list of field lines, and the right answer: the number, the refused line, and where they are built the equations.
+struct Build {
+    n: u32,
+    is_half: bool,
+    lengths: [usize; 2],
+    lines: Vec<Observation>,
+    answer: u32,
+    line: u64,
+    matrix: Vec<i64>,
+    right: Vec<i64>,
 }
 
-/// What a build leaves: the number, the refused line, 0 where none is, and both lists.
-#[derive(PartialEq, Debug)]
-pub struct Built {
-    pub number: u32,
-    pub line: u64,
-    pub matrix: Vec<i64>,
-    pub right: Vec<i64>,
+fn read_line(input: &mut Input) -> Observation {
+    Observation { key: input.word(), from: input.word(), to: input.word(), difference: input.number() as i64, weight: input.word() }
 }
 
-impl Built {
-    /// Both lists as they are before a build, with another number at each place.
-    fn refused(number: u32, line: u64) -> Built {
-        let from = |start: i64, length: usize| (0..length as i64).map(|i| start + i).collect();
-        Built { number, line, matrix: from(-987654321987654321, MATRIX), right: from(987654321987654321, COLUMN) }
-    }
-
-    fn equations(matrix: &[i64], right: &[i64]) -> Built {
-        let mut built = Built::refused(0, 0);
-        built.matrix[..matrix.len()].copy_from_slice(matrix);
-        built.right[..right.len()].copy_from_slice(right);
-        built
-    }
+fn read_build(input: &mut Input) -> Build {
+    let (n, count, is_half, lengths) = (input.word(), input.length(), input.number() == 1, input.lengths());
+    let lines = (0..count).map(|_| read_line(input)).collect();
+    let (answer, line) = (input.word(), input.number());
+    let used = if answer == 0 { n as usize } else { 0 };
+    let matrix = input.signed(if is_half { used * (used + 1) / 2 } else { used * used });
+    Build { n, is_half, lengths, lines, answer, line, matrix, right: input.signed(used) }
 }
 
-/// The library's builder, safe: no length is above that of its list. By the call that gives the line, and by the one that does not, which must leave the same; where
-/// it does not, the number is that of no refusal.
-pub fn library_build(build: &Build) -> Built {
-    let (mut out, mut plain) = (Built::refused(0, u64::MAX), Built::refused(0, 0));
-    let library = if build.is_half { kodarfi_build_half } else { kodarfi_build };
-    let with_line = if build.is_half { kodarfi_build_half_line } else { kodarfi_build_line };
-    plain.number = unsafe {
-        library(
-            build.n,
-            build.lines.as_ptr(), build.lines.len(),
-            plain.matrix.as_mut_ptr(), build.lengths[0],
-            plain.right.as_mut_ptr(), build.lengths[1],
-        )
+fn replay_build(replay: &mut Replay, x: &Build, with_line: bool) {
+    let lent = &mut replay.lent;
+    lent.anew();
+    let lines = lent.lend_list(&x.lines);
+    let (matrix, right, number, line) = (lent.lend(MATRIX), lent.lend(COLUMN), lent.lend(1), lent.lend(1));
+    lent.expect_unchanged();
+    lent.expect(number, &[x.answer]);
+    lent.expect(matrix, &x.matrix);
+    lent.expect(right, &x.right);
+    let (observations, matrix, right) = (lent.pointer(lines).cast_const(), lent.pointer(matrix), lent.pointer(right));
+    let [matrix_len, right_len] = x.lengths;
+    lent.list(number)[0] = if with_line {
+        lent.expect(line, &[x.line]);
+        let library = if x.is_half { kodarfi_build_half_line } else { kodarfi_build_line };
+        unsafe { library(x.n, observations, x.lines.len(), matrix, matrix_len, right, right_len, lent.pointer(line)) }
+    } else {
+        let library = if x.is_half { kodarfi_build_half } else { kodarfi_build };
+        unsafe { library(x.n, observations, x.lines.len(), matrix, matrix_len, right, right_len) }
     };
-    out.number = unsafe {
-        with_line(
-            build.n,
-            build.lines.as_ptr(), build.lines.len(),
-            out.matrix.as_mut_ptr(), build.lengths[0],
-            out.right.as_mut_ptr(), build.lengths[1],
-            &mut out.line,
-        )
-    };
-    plain.line = out.line;
-    if plain != out {
-        out.number = u32::MAX;
+    replay.end_call(if with_line { "build with its line" } else { "build" }, x.answer);
+}
+
+pub fn replay_builds(replay: &mut Replay) {
+    while !replay.input.at_end() {
+        let build = read_build(&mut replay.input);
+        replay_build(replay, &build, false);
+        replay_build(replay, &build, true);
     }
-    out
-}
-
-fn in_range(line: &Observation, n: u32) -> bool {
-    (1..=65535).contains(&line.key)
-        && line.from <= n
-        && line.to <= n
-        && (-65536..=65536).contains(&line.difference)
-        && (1..=64).contains(&line.weight)
-}
-
-/// The lower half of a square, row after row.
-fn lower_half(n: usize, square: &[i64]) -> Vec<i64> {
-    (0..n).flat_map(|i| square[i * n..=i * n + i].to_vec()).collect()
-}
-
-/// Document 02, Papers 3 and 10.
-pub fn build(build: &Build) -> Built {
-    if build.lengths[0] < if build.is_half { HALF } else { MATRIX } || build.lengths[1] < COLUMN {
-        return Built::refused(8, 0);
-    }
-    if !(1..=32).contains(&build.n) || build.lines.len() > 256 {
-        return Built::refused(3, 0);
-    }
-    let n = build.n as usize;
-    let (mut matrix, mut right) = (vec![0i128; n * n], vec![0i128; n]);
-    let mut met: HashMap<u32, Observation> = HashMap::new();
-    for (line, number) in build.lines.iter().zip(1..) {
-        if !in_range(line, build.n) {
-            return Built::refused(3, number);
-        }
-        if line.from == line.to {
-            return Built::refused(16, number);
-        }
-        match met.insert(line.key, *line) {
-            Some(earlier) if earlier == *line => continue,
-            Some(_) => return Built::refused(17, number),
-            None => {}
-        }
-        let (weight, product) = (line.weight as i128, line.weight as i128 * line.difference as i128);
-        for (mark, other, sign) in [(line.from as usize, line.to as usize, -1), (line.to as usize, line.from as usize, 1)] {
-            if mark > 0 {
-                matrix[(mark - 1) * (n + 1)] += weight;
-                right[mark - 1] += sign * product;
-                if other > 0 {
-                    matrix[(mark - 1) * n + other - 1] -= weight;
-                }
-            }
-        }
-    }
-    let narrow = |numbers: Vec<i128>| numbers.into_iter().map(|number| i64::try_from(number).expect("a small sum")).collect::<Vec<i64>>();
-    let (square, right) = (narrow(matrix), narrow(right));
-    Built::equations(&if build.is_half { lower_half(n, &square) } else { square }, &right)
-}
-
-fn read_line(numbers: &mut Numbers) -> Observation {
-    Observation { key: numbers.one(), from: numbers.one(), to: numbers.one(), difference: numbers.one(), weight: numbers.one() }
-}
-
-/// The next build and what it leaves; None at the end.
-pub fn read_build(numbers: &mut Numbers) -> Option<(Build, Built)> {
-    let n: u32 = numbers.next()?;
-    let [count, layout, matrix, right]: [usize; 4] = numbers.array();
-    let build = Build { n, lines: (0..count).map(|_| read_line(numbers)).collect(), is_half: layout == 1, lengths: [matrix, right] };
-    let (size, number, line) = (n as usize, numbers.one(), numbers.one());
-    let used = if build.is_half { lower(size) } else { whole(size) };
-    let built = if number == 0 { Built::equations(&numbers.list(used), &numbers.list(size)) } else { Built::refused(number, line) };
-    Some((build, built))
+    replay.test_reach("build", &[0, 3, 8, 16, 17]);
 }

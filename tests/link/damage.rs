@@ -1,6 +1,6 @@
-//! Systems damaged by chance.
+//! Nets damaged by chance.
 
-use crate::lists::{Lengths, Net, COLUMN};
+use crate::nets::{Net, COLUMN, UNREAD};
 
 /// Numbers by chance that are the same in every run (splitmix).
 pub struct Chance(pub u64);
@@ -14,7 +14,7 @@ impl Chance {
         (z ^ (z >> 31)) % end
     }
 
-    pub fn pick<T: Copy>(&mut self, from: &[T]) -> T {
+    fn pick<T: Copy>(&mut self, from: &[T]) -> T {
         from[self.below(from.len() as u64) as usize]
     }
 
@@ -25,50 +25,45 @@ impl Chance {
     }
 }
 
-fn list_of<'a>(net: &'a mut Net, which: u64) -> &'a mut Vec<i64> {
-    match which {
-        0 => &mut net.matrix,
-        1 => &mut net.inverse,
-        2 => &mut net.right,
-        3 => &mut net.tolerance,
-        4 => &mut net.guess,
-        _ => &mut net.weights,
-    }
-}
-
-fn shorten(lengths: &mut Lengths, chance: &mut Chance) {
-    let length = match chance.below(8) {
-        0 => &mut lengths.matrix,
-        1 => &mut lengths.right,
-        2 => &mut lengths.tolerance,
-        3 => &mut lengths.guess,
-        4 => &mut lengths.inverse,
-        5 => &mut lengths.weights,
-        6 => &mut lengths.solution,
-        _ => &mut lengths.bounds,
-    };
-    *length = chance.pick(&[length.saturating_sub(1), *length / 2, 0]);
-}
-
 /// One number of one list, among those in use or past them.
 fn change_number(net: &mut Net, chance: &mut Chance, value: i64) {
     let n = (net.n as usize).min(COLUMN);
-    let which = chance.below(6);
-    let list = list_of(net, which);
-    let used = if which < 2 { n * n } else { n };
-    let range = if chance.below(4) == 0 { list.len() } else { used };
+    let which = chance.below(6) as usize;
+    let used = if which == 0 || which == 4 { n * n } else { n };
+    let range = if chance.below(4) == 0 { net.lists[which].len() } else { used };
     if range > 0 {
-        let at = chance.below(range as u64) as usize;
-        list[at] = value;
+        net.lists[which][chance.below(range as u64) as usize] = value;
+    }
+}
+
+/// A size that is out of range, at an end of its range, or the same but for a bit that a narrower argument loses.
+fn other_size(size: u32, ends: &[u32], chance: &mut Chance) -> u32 {
+    match chance.below(4) {
+        0 => size ^ chance.pick(&[1 << 8, 1 << 16, 1 << 31]),
+        _ => chance.pick(ends),
+    }
+}
+
+/// A list that is too short, or longer than it need be.
+fn other_length(net: &mut Net, chance: &mut Chance) {
+    let which = chance.below(8) as usize;
+    let length = net.lengths[which];
+    if which < 6 && chance.below(4) == 0 {
+        let longer = net.lists[which].len() + 256;
+        net.lengths[which] = longer;
+        net.lists[which].resize(longer, UNREAD);
+    } else {
+        net.lengths[which] = chance.pick(&[length.saturating_sub(1), length / 2, 0]);
     }
 }
 
 pub fn damage(net: &mut Net, chance: &mut Chance) {
+    const SCALES: &[u32] = &[0, 1, 19, 20, 21, 63, 64, u32::MAX];
     match chance.below(9) {
-        0 => shorten(&mut net.lengths, chance),
-        1 => net.n = chance.pick(&[0, 1, 2, 31, 32, 33, u32::MAX]),
-        2 => net.s = chance.pick(&[0, 1, 19, 20, 21, 63, 64, u32::MAX]),
-        3 => net.t = chance.pick(&[0, 1, 19, 20, 21, 63, 64, u32::MAX]),
+        0 => other_length(net, chance),
+        1 => net.n = other_size(net.n, &[0, 1, 2, 31, 32, 33, u32::MAX], chance),
+        2 => net.s = other_size(net.s, SCALES, chance),
+        3 => net.t = other_size(net.t, SCALES, chance),
         4 => {
             let value = chance.odd_number();
             change_number(net, chance, value);
@@ -77,8 +72,8 @@ pub fn damage(net: &mut Net, chance: &mut Chance) {
             let value = 1 + chance.below(1024) as i64;
             change_number(net, chance, value);
         }
-        6 => net.weights[0] = 1 + chance.below(1024) as i64,
-        7 => net.tolerance[0] = chance.pick(&[-1, 0, 1, 2, 31, 32, 33, 1 << 10, 1 << 20, (1 << 20) + 1]),
-        _ => net.guess[0] = net.guess[0].saturating_add(chance.pick(&[-2, -1, 1, 2])),
+        6 => net.lists[5][0] = 1 + chance.below(1024) as i64,
+        7 => net.lists[2][0] = chance.pick(&[-1, 0, 1, 2, 31, 32, 33, 1 << 10, 1 << 20, (1 << 20) + 1]),
+        _ => net.lists[3][0] = net.lists[3][0].saturating_add(chance.pick(&[-2, -1, 1, 2])),
     }
 }

@@ -1,14 +1,20 @@
-/* The library linked from C, each of its calls beside what the second implementation says.
+/* The replay in C: each call that the emitters wrote is made to the library, and all that it was lent is compared with what the oracle says, each list, each
+ * place and each sentinel.
  *
  *   link FOLDER [PART]   on what the emitters wrote into FOLDER; with PART, a name of the list below, that part alone, up to the first test that fails
  *
  * The last line is 'N passed, M failed'. */
+#include "input.h"
+#include "lent.h"
 #include "tests.h"
 
+#include <stdio.h>
 #include <stdlib.h>
 #include <string.h>
 
-static unsigned passed, failed;
+enum { ANSWERS = 32, ENOUGH = 20 };
+
+static unsigned passed, failed, calls, met[ANSWERS];
 static bool stops;
 
 static int close_count(void) {
@@ -16,7 +22,7 @@ static int close_count(void) {
     return failed != 0;
 }
 
-void test(const char *what, unsigned index, bool holds) {
+static void test(const char *what, unsigned index, bool holds) {
     if (holds) {
         passed++;
         return;
@@ -26,50 +32,54 @@ void test(const char *what, unsigned index, bool holds) {
     if (stops) exit(close_count());
 }
 
-void test_reach(const char *what, const unsigned *met, const unsigned *numbers, unsigned count) {
-    printf("%s:", what);
-    for (unsigned k = 0; k < count; k++) printf(" %u: %u", numbers[k], met[numbers[k]]);
-    printf("\n");
-    for (unsigned k = 0; k < count; k++) test(what, numbers[k], met[numbers[k]] >= 20);
+bool next_call(void) {
+    lend_anew();
+    return !at_end();
 }
 
-/* The parts of the test: the name, what an emitter wrote for it, and the test on this file. */
+void end_call(const char *what, uint32_t number) {
+    test(what, calls++, is_as_expected());
+    met[number % ANSWERS]++;
+}
+
+void test_reach(const char *what, const unsigned *numbers) {
+    printf("%u calls of %s:", calls, what);
+    do {
+        printf(" %u: %u", *numbers, met[*numbers]);
+        test(what, *numbers, met[*numbers] >= ENOUGH);
+    } while (*++numbers != 0);
+    printf("\n");
+    memset(met, 0, sizeof met);
+    calls = 0;
+}
+
+/* The parts: the name, what an emitter wrote for it, and the replay. */
 static const struct part {
     const char *name, *file;
-    void (*test)(FILE *);
+    void (*replay)(void);
 } PARTS[] = {
-    {"entries", "entries.txt", test_entries},
-    {"weights", "weights.txt", test_weights},
-    {"builds", "builds.txt", test_builds},
-    {"doubles", "doubles.txt", test_doubles},
-    {"halves", "halves.txt", test_halves},
-    {"dependent", "pairs.txt", test_dependent},
-    {"common", "common.txt", test_common},
-    {"conversions", "conversions.bin", test_conversions},
-    {"quality", "quality.txt", test_quality},
-    {"loader", "loader.txt", test_loader},
-    {"files", "files.bin", test_files},
-    {"lists", "nets.txt", test_lists},
+    {"check", "nets.txt", replay_checks},
+    {"half", "halves.txt", replay_halves},
+    {"dependent", "pairs.txt", replay_dependent},
+    {"common", "common.txt", replay_common},
+    {"entry", "entries.txt", replay_entries},
+    {"weights", "weights.txt", replay_weights},
+    {"quality", "quality.txt", replay_quality},
+    {"build", "builds.txt", replay_builds},
+    {"doubles", "doubles.txt", replay_doubles},
+    {"listing", "files.bin", replay_files},
+    {"convert", "conversions.bin", replay_conversions},
+    {"loader", "loader.txt", replay_loader},
 };
-
-static void run(const struct part *part, const char *folder) {
-    char path[4096];
-    snprintf(path, sizeof path, "%s/%s", folder, part->file);
-    FILE *const file = fopen(path, "rb");
-    if (!file) {
-        perror(path);
-        exit(2);
-    }
-    part->test(file);
-    fclose(file);
-}
 
 /* Runs all parts, or the one with this name; gives how many were run. */
 static unsigned run_parts(const char *folder, const char *only) {
     unsigned count = 0;
-    for (unsigned k = 0; k < sizeof PARTS / sizeof *PARTS; k++) {
-        if (only && strcmp(only, PARTS[k].name) != 0) continue;
-        run(&PARTS[k], folder);
+    for (const struct part *part = PARTS; part < PARTS + sizeof PARTS / sizeof *PARTS; part++) {
+        if (only && strcmp(only, part->name) != 0) continue;
+        open_input(folder, part->file);
+        part->replay();
+        close_input();
         count++;
     }
     return count;

@@ -1,53 +1,40 @@
-//! The library linked from Rust, each of its calls beside what the second implementation says, and the checks on lists, the search for weights, the
-//! builder, the calls with doubles, the check of two nets, the common intervals and the factor of limits beside versions in Rust.
+//! The replay in Rust: each call that the emitters wrote is made to the library, and all that it was lent is compared with what the oracle says, each list,
+//! each place and each sentinel. The check on lists, damaged calls included, is compared with a version in Rust too.
 //!
 //!   link FOLDER [PART]   on what the emitters wrote into FOLDER; with PART, a name of the list below, that part alone, up to the first test that fails
 //!
 //! The last line is 'N passed, M failed'.
 
 mod builds;
-mod common;
-mod conversions;
-mod count;
+mod checks;
 mod damage;
-mod dependent;
-mod doubles;
-mod entries;
-mod files;
-mod halves;
+mod input;
 mod kodarfi;
-mod lists;
+mod lent;
 mod loader;
+mod nets;
 mod numbers;
-mod quality;
 mod reckoning;
-mod test_builds;
-mod test_common;
-mod test_dependent;
-mod test_doubles;
-mod test_halves;
-mod test_lists;
-mod test_quality;
-mod test_weights;
-mod weights;
+mod replay;
+mod texts;
 
-use count::Count;
+use replay::{Count, Replay};
 use std::process::exit;
 
-/// The parts of the test: the name, what an emitter wrote for it, and the test on these bytes.
-const PARTS: &[(&str, &str, fn(&mut Count, &[u8]))] = &[
-    ("entries", "entries.txt", entries::test_entries),
-    ("weights", "weights.txt", test_weights::test_weights),
-    ("builds", "builds.txt", test_builds::test_builds),
-    ("doubles", "doubles.txt", test_doubles::test_doubles),
-    ("halves", "halves.txt", test_halves::test_halves),
-    ("dependent", "pairs.txt", test_dependent::test_dependent),
-    ("common", "common.txt", test_common::test_common),
-    ("conversions", "conversions.bin", conversions::test_conversions),
-    ("quality", "quality.txt", test_quality::test_quality),
-    ("loader", "loader.txt", loader::test_loader),
-    ("files", "files.bin", files::test_files),
-    ("lists", "nets.txt", test_lists::test_lists),
+/// The parts: the name, what an emitter wrote for it, and the replay.
+const PARTS: &[(&str, &str, fn(&mut Replay))] = &[
+    ("check", "nets.txt", checks::replay_checks),
+    ("half", "halves.txt", checks::replay_halves),
+    ("dependent", "pairs.txt", checks::replay_dependent),
+    ("common", "common.txt", checks::replay_common),
+    ("entry", "entries.txt", numbers::replay_entries),
+    ("weights", "weights.txt", numbers::replay_weights),
+    ("quality", "quality.txt", numbers::replay_quality),
+    ("build", "builds.txt", builds::replay_builds),
+    ("doubles", "doubles.txt", numbers::replay_doubles),
+    ("listing", "files.bin", texts::replay_files),
+    ("convert", "conversions.bin", texts::replay_conversions),
+    ("loader", "loader.txt", loader::replay_loader),
 ];
 
 fn bytes_of(folder: &str, name: &str) -> Vec<u8> {
@@ -69,8 +56,8 @@ fn main() {
         }
     };
     let mut count = Count::new(only.is_some());
-    for (_, file, test) in PARTS.iter().filter(|(name, ..)| only.is_none_or(|part| part == name)) {
-        test(&mut count, &bytes_of(folder, file));
+    for (_, file, replay) in PARTS.iter().filter(|(name, ..)| only.is_none_or(|part| part == name)) {
+        replay(&mut Replay::of(&bytes_of(folder, file), &mut count));
     }
     count.close()
 }

@@ -1,35 +1,146 @@
-//! Numbers as the emitters write them, read one after another.
+//! kodarfi_entry, kodarfi_find_weights, kodarfi_quality, kodarfi_guesses and kodarfi_intervals.
 
-use std::str::{from_utf8, FromStr, SplitAsciiWhitespace};
+use crate::kodarfi::{kodarfi_entry, kodarfi_find_weights, kodarfi_guesses, kodarfi_intervals, kodarfi_quality};
+use crate::nets::{COLUMN, MATRIX, UNREAD};
+use crate::replay::Replay;
 
-pub struct Numbers<'a>(SplitAsciiWhitespace<'a>);
-
-impl<'a> Numbers<'a> {
-    pub fn of(bytes: &'a [u8]) -> Numbers<'a> {
-        Numbers(from_utf8(bytes).expect("a list of numbers").split_ascii_whitespace())
+pub fn replay_entries(replay: &mut Replay) {
+    while !replay.input.at_end() {
+        let (input, lent) = (&mut replay.input, &mut replay.lent);
+        lent.anew();
+        let (guess, bound, s) = (input.number() as i64, input.number(), input.word());
+        let (answer, entry, entry_bound) = (input.word(), input.number() as i64, input.number());
+        let (number, value, value_bound, places) = (lent.lend(1), lent.lend(1), lent.lend(1), lent.lend(2));
+        lent.expect_unchanged();
+        lent.expect(number, &[answer]);
+        lent.expect(places, &[0, 0]);
+        if answer == 0 {
+            lent.expect(value, &[entry]);
+            lent.expect(value_bound, &[entry_bound]);
+        }
+        lent.list(number)[0] = unsafe { kodarfi_entry(guess, bound, s, lent.pointer(value), lent.pointer(value_bound), lent.pointer(places)) };
+        replay.end_call("entry", answer);
     }
+    replay.test_reach("entry", &[0, 3]);
+}
 
-    /// The next number; None at the end.
-    pub fn next<T: FromStr>(&mut self) -> Option<T> {
-        self.0.next().map(|word| word.parse().ok().expect("a number"))
+pub fn replay_weights(replay: &mut Replay) {
+    while !replay.input.at_end() {
+        let (input, lent) = (&mut replay.input, &mut replay.lent);
+        lent.anew();
+        let (count, n, t, allowance) = (input.length(), input.word(), input.word(), input.word());
+        let [matrix_len, inverse_len, weights_len] = input.lengths();
+        let matrix = lent.lend_list(&input.filled(count * count, MATRIX, UNREAD));
+        let inverse = lent.lend_list(&input.filled(count * count, MATRIX, UNREAD));
+        let (answer, lists, _first_good) = (input.word(), input.word(), input.word());
+        let (number, tried, weights, places) = (lent.lend(1), lent.lend(1), lent.lend(COLUMN), lent.lend(2));
+        lent.expect_unchanged();
+        lent.expect(number, &[answer]);
+        lent.expect(places, &[0, 0]);
+        if answer == 0 {
+            lent.expect(tried, &[lists]);
+            lent.expect(weights, &input.signed(n as usize));
+        }
+        lent.list(number)[0] = unsafe {
+            kodarfi_find_weights(
+                n, t,
+                lent.pointer(matrix), matrix_len,
+                lent.pointer(inverse), inverse_len,
+                allowance,
+                lent.pointer(weights), weights_len,
+                lent.pointer(tried), lent.pointer(places),
+            )
+        };
+        replay.end_call("search for weights", answer);
     }
+    replay.test_reach("search for weights", &[0, 3, 8, 18]);
+}
 
-    pub fn one<T: FromStr>(&mut self) -> T {
-        self.next().expect("another number")
+pub fn replay_quality(replay: &mut Replay) {
+    while !replay.input.at_end() {
+        let (input, lent) = (&mut replay.input, &mut replay.lent);
+        lent.anew();
+        let (count, n, t) = (input.length(), input.word(), input.word());
+        let [matrix_len, inverse_len, weights_len] = input.lengths();
+        let matrix = lent.lend_list(&input.filled(count * count, MATRIX, UNREAD));
+        let inverse = lent.lend_list(&input.filled(count * count, MATRIX, UNREAD));
+        let weights = lent.lend_list(&input.filled(count, COLUMN, UNREAD));
+        let (answer, row, factor) = (input.word(), input.number(), input.places());
+        let (number, numerator, denominator, places) = (lent.lend(1), lent.lend(1), lent.lend(1), lent.lend(2));
+        lent.expect_unchanged();
+        lent.expect(number, &[answer]);
+        lent.expect(places, &[row, 0]);
+        if answer == 0 {
+            lent.expect(numerator, &factor[..1]);
+            lent.expect(denominator, &factor[1..]);
+        }
+        lent.list(number)[0] = unsafe {
+            kodarfi_quality(
+                n, t,
+                lent.pointer(matrix), matrix_len,
+                lent.pointer(inverse), inverse_len,
+                lent.pointer(weights), weights_len,
+                lent.pointer(numerator), lent.pointer(denominator), lent.pointer(places),
+            )
+        };
+        replay.end_call("factor of limits", answer);
     }
+    replay.test_reach("factor of limits", &[0, 3, 5, 8]);
+}
 
-    pub fn array<T: FromStr, const COUNT: usize>(&mut self) -> [T; COUNT] {
-        std::array::from_fn(|_| self.one())
-    }
+/// Doubles are lent and compared as their bits: minus zero is not plus zero.
+fn replay_guesses(replay: &mut Replay) {
+    let (input, lent) = (&mut replay.input, &mut replay.lent);
+    lent.anew();
+    let (n, s, [values_len, guess_len]) = (input.word(), input.word(), input.lengths());
+    let values = lent.lend_list(&input.numbers(COLUMN));
+    let answer = input.word();
+    let (number, guess, places) = (lent.lend(1), lent.lend(COLUMN), lent.lend(2));
+    lent.expect_unchanged();
+    lent.expect(number, &[answer]);
+    lent.expect(places, &[0, 0]);
+    lent.expect(guess, &input.signed(if answer == 0 { n as usize } else { 0 }));
+    lent.list(number)[0] =
+        unsafe { kodarfi_guesses(n, s, lent.pointer(values).cast(), values_len, lent.pointer(guess), guess_len, lent.pointer(places)) };
+    replay.end_call("guesses of doubles", answer);
+}
 
-    pub fn list<T: FromStr>(&mut self, count: usize) -> Vec<T> {
-        (0..count).map(|_| self.one()).collect()
-    }
+fn replay_intervals(replay: &mut Replay) {
+    let (input, lent) = (&mut replay.input, &mut replay.lent);
+    lent.anew();
+    let (n, s, [guess_len, bounds_len, low_len, high_len]) = (input.word(), input.word(), input.lengths());
+    let (guess, bounds) = (lent.lend_list(&input.signed(COLUMN)), lent.lend_list(&input.numbers(COLUMN)));
+    let answer = input.word();
+    let (number, low, high, places) = (lent.lend(1), lent.lend(COLUMN), lent.lend(COLUMN), lent.lend(2));
+    lent.expect_unchanged();
+    lent.expect(number, &[answer]);
+    lent.expect(places, &[0, 0]);
+    let found = if answer == 0 { n as usize } else { 0 };
+    lent.expect(low, &input.numbers(found));
+    lent.expect(high, &input.numbers(found));
+    lent.list(number)[0] = unsafe {
+        kodarfi_intervals(
+            n, s,
+            lent.pointer(guess), guess_len,
+            lent.pointer(bounds), bounds_len,
+            lent.pointer(low).cast(), low_len,
+            lent.pointer(high).cast(), high_len,
+            lent.pointer(places),
+        )
+    };
+    replay.end_call("intervals as doubles", answer);
+}
 
-    /// A list that begins with so many numbers and is filled up to its full length.
-    pub fn filled(&mut self, count: usize, length: usize, fill: i64) -> Vec<i64> {
-        let mut list = self.list(count);
-        list.resize(length, fill);
-        list
+/// All calls inward come before the first one outward.
+pub fn replay_doubles(replay: &mut Replay) {
+    let mut is_outward = false;
+    while !replay.input.at_end() {
+        let was_outward = is_outward;
+        is_outward = replay.input.number() == 1;
+        if is_outward != was_outward {
+            replay.test_reach("guesses of doubles", &[0, 3, 8, 19]);
+        }
+        if is_outward { replay_intervals(replay) } else { replay_guesses(replay) }
     }
+    replay.test_reach("intervals as doubles", &[0, 3, 8]);
 }

@@ -1,7 +1,8 @@
 //! Document 01's check on lists, with the tolerances of 02's Paper 5 and the row sums of its Paper 9, in 128-bit numbers.
-use crate::lists::{Net, Outcome, COLUMN, MATRIX};
 
-pub struct System {
+use crate::nets::{Net, Outcome, COLUMN, MATRIX};
+
+struct System {
     n: usize,
     steps: i128,
     inverse_steps: i128,
@@ -21,30 +22,29 @@ fn rows(list: &[i64], n: usize) -> Vec<Vec<i128>> {
     list[..n * n].chunks(n).map(wide).collect()
 }
 
-pub fn all_within(list: &[i64], size: i64) -> bool {
+fn all_within(list: &[i64], size: i64) -> bool {
     list.iter().all(|v| (-size..=size).contains(v))
 }
 
 /// 8: "A lent list too short."
-pub fn too_short(net: &Net) -> bool {
-    let told = &net.lengths;
-    let matrices = [told.matrix, told.inverse, told.bounds];
-    let columns = [told.right, told.tolerance, told.guess, told.weights, told.solution];
-    matrices.iter().any(|&l| l < MATRIX) || columns.iter().any(|&l| l < COLUMN)
+fn too_short(net: &Net) -> bool {
+    let [matrix, right, tolerance, guess, inverse, weights, solution, bounds] = net.lengths;
+    [matrix, inverse, bounds].iter().any(|&l| l < MATRIX) || [right, tolerance, guess, weights, solution].iter().any(|&l| l < COLUMN)
 }
 
 /// 3: "A number outside its range".
-pub fn out_of_range(net: &Net) -> bool {
+fn out_of_range(net: &Net) -> bool {
     if !(1..=32).contains(&net.n) || net.s > 20 || net.t > 20 {
         return true;
     }
     let n = net.n as usize;
-    !(all_within(&net.matrix[..n * n], 1 << 20)
-        && all_within(&net.right[..n], 1 << 30)
-        && net.tolerance[..n].iter().all(|d| (0..=1 << 20).contains(d))
-        && all_within(&net.guess[..n], 1 << 36)
-        && all_within(&net.inverse[..n * n], 1 << 20)
-        && net.weights[..n].iter().all(|w| (1..=1024).contains(w)))
+    let [matrix, right, tolerance, guess, inverse, weights] = &net.lists;
+    !(all_within(&matrix[..n * n], 1 << 20)
+        && all_within(&right[..n], 1 << 30)
+        && tolerance[..n].iter().all(|d| (0..=1 << 20).contains(d))
+        && all_within(&guess[..n], 1 << 36)
+        && all_within(&inverse[..n * n], 1 << 20)
+        && weights[..n].iter().all(|w| (1..=1024).contains(w)))
 }
 
 fn dot(left: &[i128], right: &[i128]) -> i128 {
@@ -56,18 +56,19 @@ fn column(matrix: &[Vec<i128>], j: usize) -> Vec<i128> {
 }
 
 impl System {
-    pub fn of(net: &Net) -> System {
+    fn of(net: &Net) -> System {
         let n = net.n as usize;
+        let [matrix, right, tolerance, guess, inverse, weights] = &net.lists;
         System {
             n,
             steps: 1 << net.s,
             inverse_steps: 1 << net.t,
-            a: rows(&net.matrix, n),
-            b: wide(&net.right[..n]),
-            d: wide(&net.tolerance[..n]),
-            x: wide(&net.guess[..n]),
-            g: rows(&net.inverse, n),
-            w: wide(&net.weights[..n]),
+            a: rows(matrix, n),
+            b: wide(&right[..n]),
+            d: wide(&tolerance[..n]),
+            x: wide(&guess[..n]),
+            g: rows(inverse, n),
+            w: wide(&weights[..n]),
         }
     }
 
@@ -83,7 +84,7 @@ impl System {
     }
 
     /// S·b − A·X.
-    pub fn guess_residual(&self) -> Vec<i128> {
+    fn guess_residual(&self) -> Vec<i128> {
         self.residual(self.steps, &self.b, &self.x)
     }
 
@@ -93,7 +94,7 @@ impl System {
     }
 
     /// S·d_k for each row.
-    pub fn slacks(&self) -> Vec<i128> {
+    fn slacks(&self) -> Vec<i128> {
         self.d.iter().map(|d| self.steps * d).collect()
     }
 
@@ -122,39 +123,31 @@ impl System {
 }
 
 pub fn check(net: &Net) -> Outcome {
-    let refused = Outcome::untouched;
     if too_short(net) {
-        return refused(8, [0, 0]);
+        return Outcome::refused(8, [0, 0]);
     }
     if out_of_range(net) {
-        return refused(3, [0, 0]);
+        return Outcome::refused(3, [0, 0]);
     }
-    let system = System::of(net);
-    reckon(&system, &system.guess_residual(), &system.slacks(), &system.row_sums())
+    reckon(&System::of(net))
 }
 
-/// 5, 6, 7 and the limits, by the residuals of the guess, their slacks and the sums to which they are held.
-pub fn reckon(system: &System, residual: &[i128], slacks: &[i128], sums: &[i128]) -> Outcome {
-    let refused = Outcome::untouched;
+/// 5, 6, 7 and the limits.
+fn reckon(system: &System) -> Outcome {
     let n = system.n;
+    let (residual, slacks, sums, none) = (system.guess_residual(), system.slacks(), system.row_sums(), vec![0; n]);
     let margins: Vec<i128> = (0..n).map(|m| system.margin(m)).collect();
     if let Some(m) = margins.iter().position(|&g| g <= 0) {
-        return refused(5, [m as u64 + 1, 0]);
+        return Outcome::refused(5, [m as u64 + 1, 0]);
     }
-    if let Some(k) = system.above(residual, slacks, sums) {
-        return refused(6, [k as u64 + 1, 0]);
+    if let Some(k) = system.above(&residual, &slacks, &sums) {
+        return Outcome::refused(6, [k as u64 + 1, 0]);
     }
-    let (none, row_sums) = (vec![0; n], system.row_sums());
     let columns: Vec<Vec<i128>> = (0..n).map(|j| system.inverse_residual(j)).collect();
-    if let Some((j, k)) = columns.iter().enumerate().find_map(|(j, r)| Some((j, system.above(r, &none, &row_sums)?))) {
-        return refused(7, [j as u64 + 1, k as u64 + 1]);
+    if let Some((j, k)) = columns.iter().enumerate().find_map(|(j, r)| Some((j, system.above(r, &none, &sums)?))) {
+        return Outcome::refused(7, [j as u64 + 1, k as u64 + 1]);
     }
-    let mut out = refused(0, [0, 0]);
-    out.solution[..n].copy_from_slice(&system.bounds(residual, slacks, &margins));
-    for (j, residual) in columns.iter().enumerate() {
-        for (i, bound) in system.bounds(residual, &none, &margins).into_iter().enumerate() {
-            out.inverse[i * n + j] = bound;
-        }
-    }
-    out
+    let limits: Vec<Vec<u64>> = columns.iter().map(|residual| system.bounds(residual, &none, &margins)).collect();
+    let inverse = (0..n * n).map(|at| limits[at % n][at / n]).collect();
+    Outcome { number: 0, places: [0, 0], solution: system.bounds(&residual, &slacks, &margins), inverse }
 }

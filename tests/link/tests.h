@@ -1,50 +1,28 @@
-/* The parts of the test in C, each on what an emitter wrote, and how they count. */
+/* The parts of the replay in C, each on what one emitter wrote, and how they count. */
 #ifndef TESTS_H
 #define TESTS_H
 
 #include <stdbool.h>
-#include <stdio.h>
+#include <stdint.h>
 
-/* Counts a test; the first that fail are named. */
-void test(const char *what, unsigned index, bool holds);
+/* Begins the replay of an emitter's next call, and ends it: where all that was lent is as expected it has passed. The number is the right answer. */
+bool next_call(void);
+void end_call(const char *what, uint32_t number);
 
-/* Counts as tests that each of these numbers was met often enough, and prints how often; met has a place for each. */
-void test_reach(const char *what, const unsigned *met, const unsigned *numbers, unsigned count);
+/* That each of these answers, the first of them 0, was right often enough in the calls so far; another 0 ends the list. The count begins anew. */
+void test_reach(const char *what, const unsigned *numbers);
 
-/* kodarfi_check on the calls of tests/emit.py. */
-void test_lists(FILE *nets);
-
-/* kodarfi_listing on the files of tests/emit_files.py. */
-void test_files(FILE *files);
-
-/* kodarfi_entry on the lines of tests/emit_entries.py. */
-void test_entries(FILE *entries);
-
-/* kodarfi_find_weights on the searches of tests/emit_weights.py. */
-void test_weights(FILE *searches);
-
-/* kodarfi_build, kodarfi_build_half, kodarfi_build_line and kodarfi_build_half_line on the lists of tests/emit_builds.py. */
-void test_builds(FILE *builds);
-
-/* kodarfi_guesses and kodarfi_intervals on the calls of tests/emit_doubles.py. */
-void test_doubles(FILE *exchanges);
-
-/* kodarfi_check_half on the calls of tests/emit_halves.py. */
-void test_halves(FILE *halves);
-
-/* kodarfi_check_dependent on the pairs of tests/emit_dependent.py. */
-void test_dependent(FILE *pairs);
-
-/* kodarfi_common on the pairs of tests/emit_common.py. */
-void test_common(FILE *pairs);
-
-/* kodarfi_convert and kodarfi_convert_line on the conversions of tests/emit_conversions.py. */
-void test_conversions(FILE *conversions);
-
-/* kodarfi_quality on the calls of tests/emit_quality.py. */
-void test_quality(FILE *inquiries);
-
-/* kodarfi_loader_new, kodarfi_loader_take and kodarfi_loader_check on the steps of tests/emit_loader.py. */
-void test_loader(FILE *steps);
+void replay_checks(void);
+void replay_halves(void);
+void replay_dependent(void);
+void replay_common(void);
+void replay_entries(void);
+void replay_weights(void);
+void replay_quality(void);
+void replay_builds(void);
+void replay_doubles(void);
+void replay_files(void);
+void replay_conversions(void);
+void replay_loader(void);
 
 #endif

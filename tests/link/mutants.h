@@ -1,0 +1,84 @@
+/* The mutants of the library's calls that only a test of the binary interface can detect, one a line, each after the part of the replay that must detect it.
+ * The environment's MUTANT names one of them; without it each call passes through to the library. */
+#ifndef MUTANTS_H
+#define MUTANTS_H
+
+#include "kodarfi.h"
+
+#include <stdbool.h>
+
+#define MUTANTS(X)                               \
+    /* kodarfi_check */                          \
+    X(check, right_and_tolerance_exchanged)      \
+    X(check, places_of_32_bits)                  \
+    X(check, length_of_limits_unread)            \
+    /* kodarfi_check_half */                     \
+    X(half, limits_of_32_bits)                   \
+    X(half, half_number_of_8_bits)               \
+    /* kodarfi_check_dependent */                \
+    X(dependent, coupling_and_matrix_exchanged)  \
+    X(dependent, net_not_written)                \
+    /* kodarfi_common */                         \
+    X(common, low_written_on_refusal)            \
+    X(common, high_not_written)                  \
+    /* kodarfi_entry */                          \
+    X(entry, guess_of_32_bits)                   \
+    X(entry, value_and_bound_exchanged)          \
+    /* kodarfi_find_weights */                   \
+    X(weights, tried_not_written)                \
+    X(weights, scale_and_allowance_exchanged)    \
+    /* kodarfi_quality */                        \
+    X(quality, numerator_of_32_bits)             \
+    /* kodarfi_build */                          \
+    X(build, fields_packed)                      \
+    /* kodarfi_build_half */                     \
+    X(build, right_sides_not_written)            \
+    /* kodarfi_build_line */                     \
+    X(build, line_of_32_bits)                    \
+    /* kodarfi_build_half_line */                \
+    X(build, half_length_in_bytes)               \
+    /* kodarfi_guesses */                        \
+    X(doubles, values_of_32_bits)                \
+    /* kodarfi_intervals */                      \
+    X(doubles, low_written_past_n)               \
+    X(doubles, guesses_of_32_bits_without_sign)  \
+    /* kodarfi_listing */                        \
+    X(listing, listing_ended_by_zero)            \
+    X(listing, written_of_32_bits)               \
+    /* kodarfi_convert */                        \
+    X(convert, byte_past_the_buffer)             \
+    /* kodarfi_convert_line */                   \
+    X(convert, places_and_line_exchanged)        \
+    /* kodarfi_loader_new */                     \
+    X(loader, ninth_number_left)                 \
+    /* kodarfi_loader_take */                    \
+    X(loader, line_and_its_length_exchanged)     \
+    X(loader, guess_written_for_tolerance)       \
+    /* kodarfi_loader_check */                   \
+    X(loader, lengths_exchanged)
+
+#define NAMED(part, name) name,
+enum mutant { NO_MUTANT, MUTANTS(NAMED) };
+#undef NAMED
+
+/* Whether this is the mutant that is tried. */
+bool is_mutant(enum mutant mutant);
+
+/* Exchanges two variables. */
+#define EXCHANGE(type, a, b)       \
+    do {                           \
+        type const exchanged = a;  \
+        a = b;                     \
+        b = exchanged;             \
+    } while (0)
+
+/* Puts the numbers of a list of 64 bits behind each other as numbers of 32 bits. */
+void narrow(uint64_t *list, size_t count);
+
+/* Leaves of a place what a write of 32 bits would: the upper half as it was before. */
+void keep_upper_half(uint64_t *place, uint64_t before);
+
+/* The calls of the library itself. */
+#define REAL(name) extern __typeof__(kodarfi_##name) real_kodarfi_##name
+
+#endif
