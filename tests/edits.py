@@ -3,12 +3,12 @@
   python3 tests/edits.py --write       writes docs/EDITS.md from these logs
   python3 tests/edits.py --check       docs/EDITS.md tells every edit, what it breaks and where these logs say that it was refused,
                                        and docs/PROMISES.md names every edit and no other; the last line is 'N passed, M failed'
-  python3 tests/edits.py --self-test   the check on made-up documents, right and then wrong in each way of edits_self_test.py"""
+  python3 tests/edits.py --self-test   the check on made-up documents, right and then with each mutant of edits_self_test.py"""
 
 import re
 import sys
-from pathlib import Path
 
+from common.mutated import ROOT, close, main
 from refused_at import refused_at
 
 HEAD = """# The must-fail edits
@@ -90,21 +90,13 @@ class Documents:
         yield from (f"docs/PROMISES.md names {name}, which is no edit" for name in sorted(named - self.edits.keys()))
 
 
-def check(documents):
-    faults = list(documents.faults())
-    for fault in faults:
-        print("FAILED", fault)
-    print(f"{max(0, 2 * len(documents.edits) - len(faults))} passed, {len(faults)} failed")
-    return int(bool(faults) or not documents.edits)
-
-
-def main():
-    documents = Documents(Path(__file__).resolve().parent.parent)
+def run():
+    documents = Documents(ROOT)
     if sys.argv[1:] == ["--write"]:
         documents.table_path.write_text(documents.table())
         return 0
     if sys.argv[1:] == ["--check"]:
-        return check(documents)
+        return close(2 * len(documents.edits), documents.faults())
     if sys.argv[1:] == ["--self-test"]:
         from edits_self_test import self_test
 
@@ -114,4 +106,4 @@ def main():
 
 
 if __name__ == "__main__":
-    sys.exit(main())
+    main(run)

@@ -1,8 +1,9 @@
-"""The test of edits.py: a made-up repository of three edits whose documents are right, and then wrong in one named way each."""
+"""The test of edits.py: a made-up repository of three edits whose documents are right, and then a named mutant each."""
 
 import tempfile
 from pathlib import Path
 
+from common.mutated import close
 from edits import Documents
 
 PROOF = """returns : tie.Need-returns
@@ -88,12 +89,12 @@ def change(root, path, text):
     (root / path).rename(root / "gone")
 
 
-def is_told(wrong, *how):
-    """Whether the check tells the documents that are wrong in one way."""
+def is_detected(mutate, *how):
+    """Whether the check finds a fault in the documents with a mutant."""
     with tempfile.TemporaryDirectory() as folder:
         root = Path(folder)
         made_up(root)
-        wrong(root, *how)
+        mutate(root, *how)
         documents = Documents(root)
         return not documents.edits or bool(list(documents.faults()))
 
@@ -109,9 +110,6 @@ def right_faults():
 
 def self_test():
     failed = [f"right documents: {fault}" for fault in right_faults()]
-    failed += [f"'{name}' is not told" for name, how in EXCHANGED.items() if not is_told(exchange, *how)]
-    failed += [f"'{name}' is not told" for name, how in CHANGED.items() if not is_told(change, *how)]
-    for text in failed:
-        print("FAILED", text)
-    print(f"{max(0, 1 + len(EXCHANGED) + len(CHANGED) - len(failed))} passed, {len(failed)} failed")
-    return int(bool(failed))
+    failed += [f"'{name}' is not detected" for name, how in EXCHANGED.items() if not is_detected(exchange, *how)]
+    failed += [f"'{name}' is not detected" for name, how in CHANGED.items() if not is_detected(change, *how)]
+    return close(1 + len(EXCHANGED) + len(CHANGED), failed)

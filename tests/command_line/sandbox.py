@@ -1,4 +1,4 @@
-"""A folder laid out as the repository is, with the scripts to test, the built program and a stand-in for rt."""
+"""A folder laid out as the repository is, with the scripts to test, their programs and a stand-in for rt."""
 
 import os
 import shutil
@@ -7,8 +7,11 @@ import subprocess
 import tempfile
 from pathlib import Path
 
-ROOT = Path(__file__).resolve().parent.parent.parent
-PROGRAM = ROOT / "target" / "bin" / "register"
+from common.mutated import ROOT, edit, open_folder
+
+BUILT = ROOT / "target" / "bin"
+PROGRAMS = ("register", "convert")
+PROGRAM = BUILT / "register"
 SOURCE = "crates/register/src/main.rt"
 LONG_AGO = 1_000_000_000
 PATIENCE = 600
@@ -32,15 +35,6 @@ echo "rt: register proved (1 s)"
 """
 
 
-def open_folder():
-    """A temporary folder that another user can pass through, since some tests are those of another user: $TMPDIR where it is one."""
-    for folder in (tempfile.gettempdir(), "/tmp", "/var/tmp"):
-        path = Path(folder).resolve()
-        if all(part.stat().st_mode & 0o001 for part in (path, *path.parents)) and os.access(path, os.W_OK):
-            return str(path)
-    return None
-
-
 def shadowed_path(folder):
     """The tools of this machine without rt: a folder that has rt is replaced by links to what else is in it."""
     path = []
@@ -56,10 +50,10 @@ def shadowed_path(folder):
     return ":".join(path)
 
 
-class Room:
-    """`edits` are triples of a file, a text in it and another text for it."""
+class Sandbox:
+    """`edits` are those of mutated.py; `programs` is the folder with the two programs, or stand-ins for them."""
 
-    def __init__(self, edits=()):
+    def __init__(self, edits=(), programs=BUILT):
         os.umask(0o022)
         self.outside = tempfile.TemporaryDirectory(dir=open_folder())
         os.chmod(self.outside.name, 0o755)
@@ -69,18 +63,16 @@ class Room:
             shutil.copy(ROOT / name, self.root)
         for name in ("docs", "examples", "scripts", "include", "programs", "crates/register/src"):
             shutil.copytree(ROOT / name, self.root / name)
-        for name, old, new in edits:
-            text = (self.root / name).read_text()
-            if text.count(old) < 1:
-                raise ValueError(f"{name} has no text {old!r}")
-            (self.root / name).write_text(text.replace(old, new))
+        (self.root / "target" / "bin").mkdir(parents=True)
+        for name in PROGRAMS:
+            shutil.copy(Path(programs) / name, self.root / "target" / "bin")
+        edit(self.root, edits)
         for place in self.root.rglob("*"):
             place.chmod(place.stat().st_mode | (0o555 if place.is_dir() or os.access(place, os.X_OK) else 0o444))
             os.utime(place, (LONG_AGO, LONG_AGO))
-        (self.root / "target" / "bin").mkdir(parents=True)
-        shutil.copy(PROGRAM, self.root / "program")
-        self.put_program()
-        (self.root / "with-rt").mkdir()
+        for name in PROGRAMS:
+            os.utime(self.root / "target" / "bin" / name)
+        shutil.copy(self.root / "target" / "bin" / "register", self.root / "program")
         self.write("with-rt/rt", RT).chmod(0o755)
         self.without_rt = shadowed_path(Path(self.outside.name))
         self.with_rt = f"{self.root / 'with-rt'}:{self.without_rt}"
@@ -97,9 +89,9 @@ class Room:
         path.write_bytes(text if isinstance(text, bytes) else text.encode())
         return path
 
-    def put_program(self, script=None):
-        """The built program, or a script in its place."""
-        target = self.root / "target" / "bin" / "register"
+    def put_program(self, script=None, name="register"):
+        """The program as it was, or a script in its place."""
+        target = self.root / "target" / "bin" / name
         if script is None:
             shutil.copy(self.root / "program", target)
         else:
@@ -112,14 +104,8 @@ class Room:
         path = self.root / "calls"
         return path.read_text().splitlines() if path.exists() else []
 
-    def another_user(self):
-        """What makes a call one of a user without every right."""
-        if os.geteuid() != 0:
-            return {}
-        return {"user": 65534, "group": 65534, "extra_groups": []}
-
     def start(self, *arguments, rt=True, script="register", **options):
-        """Starts a script of the room; signals are as a shell would have them."""
+        """Starts a script of the sandbox; signals are as a shell would have them."""
         command = [str(self.root / script), *map(str, arguments)]
         return self.started(command, rt, options)
 

@@ -1,0 +1,190 @@
+"""tests/run and .ci/run on made-up parts, and tests/README.md beside the registry, with mutants of them all.
+
+  python3 tests/command_line/runner.py   needs nothing built; the last line is 'N passed, M failed'"""
+
+import os
+import re
+import shutil
+import subprocess
+import sys
+import tempfile
+from pathlib import Path
+
+sys.path.insert(0, str(Path(__file__).resolve().parent.parent))
+
+from common.mutated import ROOT, edit, main, report, results, tests_of
+
+RUN, GATE, PARTS, README = "tests/run", ".ci/run", "tests/parts.sh", "tests/README.md"
+GOOD = "good | proofs | sh | - | echo '3 passed, 0 failed' | what is good"
+MORE = "more | native | sh | - | cat; echo '4 passed, 0 failed' | what is more"
+LAST = "last | python | sh | - | echo '5 passed, 0 failed' | what is last"
+
+
+class Box:
+    """A folder with the two scripts, what they read, and a stand-in for rt that proves six crates."""
+
+    def __init__(self, edits=()):
+        self.outside = tempfile.TemporaryDirectory()
+        self.root = Path(self.outside.name)
+        for name in (RUN, GATE, PARTS, README, "tests/registry", "scripts/door.sh"):
+            (self.root / name).parent.mkdir(exist_ok=True)
+            shutil.copy(ROOT / name, self.root / name)
+        for call in (ROOT / "tests" / "calls").glob("*/"):
+            (self.root / "tests" / "calls" / call.name).mkdir(parents=True)
+        edit(self.root, edits)
+        self.rt("echo '6 passed, 0 failed'")
+
+    def __enter__(self):
+        return self
+
+    def __exit__(self, *_):
+        self.outside.cleanup()
+
+    def rt(self, script):
+        path = self.root / "tools" / "rt"
+        path.parent.mkdir(exist_ok=True)
+        path.write_text(f"#!/bin/sh\n{script}\n")
+        path.chmod(0o755)
+
+    def registry(self, *lines):
+        (self.root / "tests" / "registry").write_text("# a head\nbuilt thing | target/thing | make thing\n" + "".join(f"{line}\n" for line in lines))
+
+    def shell(self, command):
+        """Status, lines of standard output and of standard error of a command of bash."""
+        environment = os.environ | {"PATH": f"{self.root / 'tools'}:{os.environ['PATH']}", "LC_ALL": "C", "TMPDIR": str(self.root)}
+        done = subprocess.run(["bash", "-c", command], cwd=self.root, env=environment, input="input\n", capture_output=True, text=True, timeout=600, check=False)
+        return done.returncode, done.stdout.splitlines(), done.stderr.splitlines()
+
+
+def is_one_line(answer, status, *words):
+    return answer[0] == status and len(answer[2]) == 1 and all(word in answer[2][0] for word in words)
+
+
+def has_failed(sandbox, command, *words, tools="sh", built="-"):
+    """Whether a part with this command fails, beside a good one, in both scripts: one line says so, and the sum and the status tell."""
+    sandbox.registry(GOOD, f"bad | proofs | {tools} | {built} | {command} | what is bad")
+    ran, gate = sandbox.shell("tests/run"), sandbox.shell("bash .ci/run")
+    return is_one_line(ran, 1, "bad: ", *words) and is_one_line(gate, 1, "bad: ", *words) and (ran[1][-1].split()[0], gate[1][-1].split()[0]) == ("3", "9")
+
+
+def parts_add_up(box):
+    """All of them, or those that are named; none reads what the caller's input has."""
+    box.registry(GOOD, MORE)
+    every, one, two = box.shell("tests/run"), box.shell("tests/run more"), box.shell("tests/run more good")
+    names = [[line for line in answer[1] if line.startswith("== ")] for answer in (every, one, two)]
+    added = [(status, out[-1], err) for status, out, err in (every, one, two)] == [(0, "7 passed, 0 failed", []), (0, "4 passed, 0 failed", []), (0, "7 passed, 0 failed", [])]
+    return added and "input" not in every[1] and names == [["== good", "== more", "== times"], ["== more", "== times"], ["== more", "== good", "== times"]]
+
+
+def gate_adds_up(box):
+    """The proofs and the parts of every lane; its last lines are the times, the time of all and the sum."""
+    box.registry(GOOD, MORE, LAST)
+    status, out, err = box.shell("bash .ci/run")
+    at = out.index("== times")
+    times = [re.sub(r"\d+ s", "s", " ".join(line.split())) for line in out[at + 3 :]]
+    expected = ["proofs s 6 passed 0 failed", "good s 3 passed 0 failed", "more s 4 passed 0 failed", "last s 5 passed 0 failed", "all: s", "18 passed, 0 failed"]
+    box.rt("exit 1")
+    return (status, err, times) == (0, [], expected) and is_one_line(box.shell("bash .ci/run"), 1, "proofs: no closing line")
+
+
+def unknown_name_runs_nothing(box):
+    box.registry("good | proofs | sh | - | touch ran; echo '3 passed, 0 failed' | what is good")
+    answers = [box.shell(f"tests/run {words}") for words in ("good goods", "''", "--what")]
+    return all(answer[:2] == (2, []) for answer in answers) and is_one_line(answers[0], 2, "there is no part 'goods'", "--list") and not (box.root / "ran").exists()
+
+
+def failed_part_has_failed(box):
+    box.registry(GOOD, "bad | proofs | sh | - | echo '2 passed, 1 failed'; exit 1 | what is bad")
+    answers = [box.shell("tests/run"), box.shell("bash .ci/run")]
+    return [(status, out[-1], err) for status, out, err in answers] == [(1, "5 passed, 1 failed", []), (1, "11 passed, 1 failed", [])]
+
+
+def crash_has_failed(box):
+    return has_failed(box, "exit 3", "no closing line", "exit status 3")
+
+
+def missing_closing_line_has_failed(box):
+    return has_failed(box, "echo '3 passed, 0 failed'; echo all is well", "no closing line", "exit status 0")
+
+
+def killed_part_has_failed(box):
+    return has_failed(box, "kill -9 $$", "no closing line", "killed by signal 9")
+
+
+def status_without_a_failure_has_failed(box):
+    box.registry(GOOD, "bad | proofs | sh | - | echo '3 passed, 0 failed'; exit 4 | what is bad")
+    return is_one_line(box.shell("tests/run"), 1, "bad: no failure in its closing line", "exit status 4")
+
+
+def failure_without_a_status_has_failed(box):
+    box.registry(GOOD, "bad | proofs | sh | - | echo '3 passed, 2 failed' | what is bad")
+    answer = box.shell("tests/run")
+    return is_one_line(answer, 1, "bad: 2 failed", "exit status is 0") and answer[1][-1] == "6 passed, 2 failed"
+
+
+def part_without_tests_has_failed(box):
+    return has_failed(box, "echo '0 passed, 0 failed'", "no failure in its closing line, with 0 passed")
+
+
+def missing_tool_has_failed(box):
+    return has_failed(box, "echo '1 passed, 0 failed'", "the tool 'no-such-tool' is missing", tools="sh no-such-tool")
+
+
+def missing_build_has_failed(box):
+    """Until it is built."""
+    fails = has_failed(box, "echo '1 passed, 0 failed'", "target/thing is not built: 'make thing' builds it", built="thing")
+    return fails and box.shell("mkdir target; touch target/thing; tests/run bad")[:2][1][-1] == "1 passed, 0 failed"
+
+
+def unwritten_output_is_2(box):
+    """The gate, which takes long, looks for a closed output first."""
+    box.registry(GOOD)
+    box.rt("touch proved; echo '6 passed, 0 failed'")
+    early = is_one_line(box.shell("bash .ci/run >&-"), 2, "standard output could not be written") and not (box.root / "proved").exists()
+    commands = [f"{command} {to}" for command in ("tests/run", "tests/run --list", "bash .ci/run") for to in (">/dev/full", ">&-")]
+    return early and all(is_one_line(box.shell(command), 2, "standard output could not be written") for command in commands)
+
+
+def damaged_registry_is_2(box):
+    for lines in ((GOOD, "short | proofs | sh | - | true"), (GOOD, GOOD), ("built x | y", GOOD)):
+        box.registry(*lines)
+        if not all(is_one_line(box.shell(command), 2, "tests/registry: line ") for command in ("tests/run", "bash .ci/run")):
+            return False
+    return True
+
+
+def readme_has_the_list(box):
+    status, out, err = box.shell("tests/run --list")
+    return (status, err) == (0, []) and len(out) > 20 and "\n".join(["", *out, ""]) in (box.root / README).read_text()
+
+
+def every_call_has_a_line(box):
+    """Each folder of tests/calls is named by a command, and each command of the emitter names a folder."""
+    commands = re.findall(r"tests/emit\.py (\w+)", (box.root / "tests" / "registry").read_text())
+    return {path.name for path in (box.root / "tests").glob("calls/*/")} == set(commands)
+
+
+MUTANTS = {
+    "any last line will do": (PARTS, "    said=\"no closing line", "    passed=1 failed=0 unsaid=\"no closing line", missing_closing_line_has_failed),
+    "a signal is a status": (PARTS, 'echo "killed by signal $(($2 - 128))"', 'echo "exit status $2"', killed_part_has_failed),
+    "a status is not looked at": (PARTS, '{ [ "$2" -ne 0 ] || ', "{ ", status_without_a_failure_has_failed),
+    "a failure with status 0 in silence": (PARTS, 'said="$failed failed, and', 'unsaid="$failed failed, and', failure_without_a_status_has_failed),
+    "no tests will do": (PARTS, '|| [ "$passed" -eq 0 ]; }', "; }", part_without_tests_has_failed),
+    "the first tool is enough": (PARTS, "for tool in $1; do", "for tool in ${1%% *}; do", missing_tool_has_failed),
+    "nothing must be built": (PARTS, '|| [ -e "$file" ] ||', "|| true ||", missing_build_has_failed),
+    "a part reads the caller's input": (PARTS, ' </dev/null 2>&1 |', " 2>&1 |", parts_add_up),
+    "a failure leaves the status": (PARTS, '[ "$failed" -eq 0 ] && [ "$passed" -gt 0 ]', '[ "$passed" -gt 0 ]', failed_part_has_failed),
+    "a name twice": (PARTS, " || seen[$1]++", "", damaged_registry_is_2),
+    "a field less": (PARTS, "NF != (/^built / ? 3 : 6)", "NF < 3", damaged_registry_is_2),
+    "an unknown name is passed over": (RUN, "|| fail \"there is no part", "|| : \"there is no part", unknown_name_runs_nothing),
+    "a full output is no matter": (RUN, 'hand_out "== $name"$', "printf '%s' \"== $name\"$", unwritten_output_is_2),
+    "a closed output is no matter": (GATE, '{ : >&1; } 2>/dev/null || fail "$unwritten"\n', "", unwritten_output_is_2),
+    "one part alone": (RUN, "for name; do\n  hand_out", "for name in \"$1\"; do\n  hand_out", parts_add_up),
+    "the gate forgets the proofs": (GATE, 'add_up proofs "${names[@]}"', 'add_up "${names[@]}"', gate_adds_up),
+    "the gate forgets a lane": (GATE, "grep -vx proofs", "grep -vx -e proofs -e native", gate_adds_up),
+    "README's own list": (README, "\n| places | ", "\n| place | ", readme_has_the_list),
+    "a call without a line": ("tests/registry", "\nplaces | ", "\nextra | proofs | python3 | - | python3 tests/emit.py no_such_call --self-test | nothing\nplaces | ", every_call_has_a_line),
+}
+
+if __name__ == "__main__":
+    main(lambda: report(results(list(tests_of(sys.modules[__name__])), MUTANTS, Box, sys.argv[1:])))
