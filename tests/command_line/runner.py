@@ -178,7 +178,7 @@ MUTANTS = {
     "a field less": (PARTS, "NF != (/^built / ? 3 : 6)", "NF < 3", damaged_registry_is_2),
     "an unknown name is passed over": (RUN, "|| fail \"there is no part", "|| : \"there is no part", unknown_name_runs_nothing),
     "a full output is no matter": (RUN, 'hand_out "== $name"$', "printf '%s' \"== $name\"$", unwritten_output_is_2),
-    "a closed output is no matter": (GATE, '{ : >&1; } 2>/dev/null || fail "$unwritten"\n', "", unwritten_output_is_2),
+    "a closed output is no matter": (GATE, '{ : 3>&1; } 2>/dev/null || fail "$unwritten"\n', "", unwritten_output_is_2),
     "one part alone": (RUN, "for name; do\n  hand_out", "for name in \"$1\"; do\n  hand_out", parts_add_up),
     "the gate forgets the proofs": (GATE, 'add_up proofs "${names[@]}"', 'add_up "${names[@]}"', gate_adds_up),
     "the gate forgets a lane": (GATE, "grep -vx proofs", "grep -vx -e proofs -e native", gate_adds_up),
