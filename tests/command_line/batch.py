@@ -46,7 +46,7 @@ def failed_build_is_2(box):
     return (status, out) == (2, b"") and b"building it failed" in err.splitlines()[-1] and not (box.root / "listings").exists()
 
 
-def version_tells_what_was_built(box):
+def version_says_what_was_built(box):
     prepared(box).run("nets", "listings", script="batch")
     status, out, _ = box.run("--version", script="batch")
     return status == 0 and out.startswith(b"batch: ") and b"kit kit-of-the-tests" in out
@@ -57,8 +57,8 @@ def help_stands_anywhere(box):
     helped = [box.run(*words, script="batch") for words in (("nets", "out", "-h"), ("--fresh", "--help"), ("--jobs", "2", "nets", "--version"))]
     prepared(box)
     others = [box.run(*words, script="batch") for words in (("--jobs", "-h", "nets", "out"), ("--", "-h", "out"))]
-    told = all(status == 0 and out and not err for status, out, err in helped)
-    return told and all(status == 2 and not out for status, out, _ in others)
+    said = all(status == 0 and out and not err for status, out, err in helped)
+    return said and all(status == 2 and not out for status, out, _ in others)
 
 
 def words_are_words_alone(box):

@@ -89,16 +89,16 @@ def below(name):
     return found
 
 
-def waiting_is_told_at_once(box):
+def waiting_is_said_at_once(box):
     """While another call holds the lock, before it gives it back."""
     box.put_program().unlink()
     with open(box.root / "crates.txt") as lock:
         fcntl.flock(lock, fcntl.LOCK_EX)
         process = box.start(REFUSED, stderr=subprocess.STDOUT)
-        told = process.stdout.readline()
+        said = process.stdout.readline()
         fcntl.flock(lock, fcntl.LOCK_UN)
     status, rest, _ = ended(process)
-    return b"another call is building" in told and status == 1 and rest.endswith(b"(refused 2 (5))\n") and box.calls() == ASKED
+    return b"another call is building" in said and status == 1 and rest.endswith(b"(refused 2 (5))\n") and box.calls() == ASKED
 
 
 EDITORS_FILES = (".main.rt.swp", "main.rt~", "#main.rt#", ".#main.rt", "main.rt.bak", "notes.txt")
@@ -124,7 +124,7 @@ def gone_source_builds_again(box):
     return built and refuses(box) and refuses(box) and box.calls() == 2 * ASKED
 
 
-def as_built_is_told(box):
+def as_built_is_said(box):
     """Where it is asked for, the program that is there judges though a source is newer, with rt and without; nothing can be asked of none."""
     newer_source(box)
     for rt in (True, False):

@@ -28,7 +28,7 @@ def refused_is_1(box):
 def standard_output_is_the_programs(box):
     """To the byte, and the status says what it is."""
     files = [case.file for case in random.Random(1).sample(list(given.cases()), 50)]
-    files += [generate.case("door", index).file for index in range(50)]
+    files += [generate.case("command line", index).file for index in range(50)]
     for file in files:
         listing = listing_of(file)
         if box.run(text=file) != (int(listing.startswith(b"(refused ")), listing, b""):
@@ -125,9 +125,9 @@ def installed_needs_no_checkout(box):
     box.shell("cd away/lib/kodarfi && mv program register && printf 'version 3, commit c, kit k\\n%s\\nnames\\n' $(sha256sum <register | cut -d ' ' -f 1) >register.version")
     script = "away/bin/register"
     judged = box.run(WHOLE, script=script, rt=False) == box.run(WHOLE) and box.run("--explain", REFUSED, script=script, rt=False) == box.run("--explain", REFUSED)
-    told = box.run("--version", script=script, rt=False) == (0, b"register: version 3, commit c, kit k\n", b"")
+    said = box.run("--version", script=script, rt=False) == (0, b"register: version 3, commit c, kit k\n", b"")
     (box.root / "away/lib/kodarfi/register").unlink()
-    return judged and told and failed(box.run(WHOLE, script=script), "install it again") and sorted(path.name for path in (box.root / "away").iterdir()) == ["bin", "lib"]
+    return judged and said and failed(box.run(WHOLE, script=script), "install it again") and sorted(path.name for path in (box.root / "away").iterdir()) == ["bin", "lib"]
 
 
 def status_stays_without_standard_error(box):
@@ -151,7 +151,7 @@ def program_without_a_listing_is_2(box):
 
 
 def wrong_use_is_2(box):
-    """It is told before anything else: neither a file nor the program is looked at."""
+    """It is said before anything else: neither a file nor the program is looked at."""
     box.put_program("kill -9 $$").unlink()
     wrong = ("--what",), ("-x",), (WHOLE, REFUSED), (WHOLE, "--what"), ("--explain", WHOLE, "--", WHOLE)
     answers = [box.run(*words) for words in wrong]
@@ -166,11 +166,11 @@ def help_needs_no_program(box):
 
 def short_help_is_help(box):
     """Of every script that a user starts."""
-    for name in (".ci/run", "bench/run", "tests/link/run"):
+    for name in (".ci/run", "bench/run", "tests/run", "tests/link/run"):
         box.write(name, (ROOT / name).read_bytes()).chmod(0o755)
-    scripts = ("./register", "./convert", "./batch", ".ci/run", "bench/run", "tests/link/run")
-    told = [[box.shell(f"{script} {word}") for word in ("-h", "--help")] for script in scripts]
-    return all(short == full and short[0] == 0 and len(short[1]) > 100 and short[2] == b"" for short, full in told)
+    scripts = ("./register", "./convert", "./batch", ".ci/run", "bench/run", "tests/run", "tests/link/run")
+    said = [[box.shell(f"{script} {word}") for word in ("-h", "--help")] for script in scripts]
+    return all(short == full and short[0] == 0 and len(short[1]) > 100 and short[2] == b"" for short, full in said)
 
 
 # A stand-in for git: the folder is a clone, its commit is in the file `at`, and `changed` is there where a source is not the commit's.
@@ -192,7 +192,7 @@ def version_after(box, *commands):
     return box.run("--version")[1].decode().removeprefix("register: ").removesuffix("\n")
 
 
-def version_tells_what_was_built(box):
+def version_says_what_was_built(box):
     """The commit, whether a source was changed, and the kit, all of the time of building: what is checked out afterwards does not count. Elsewhere it is unknown."""
     box.write("with-rt/git", GIT).chmod(0o755)
     again = "touch -d @0 target/bin/register"

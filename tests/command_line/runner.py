@@ -12,7 +12,7 @@ from pathlib import Path
 
 sys.path.insert(0, str(Path(__file__).resolve().parent.parent))
 
-from common.mutated import ROOT, edit, main, report, results, tests_of
+from common.mutated import ROOT, edit, main, named, report, results, tests_of
 
 RUN, GATE, PARTS, README = "tests/run", ".ci/run", "tests/parts.sh", "tests/README.md"
 GOOD = "good | proofs | sh | - | echo '3 passed, 0 failed' | what is good"
@@ -60,11 +60,30 @@ def is_one_line(answer, status, *words):
     return answer[0] == status and len(answer[2]) == 1 and all(word in answer[2][0] for word in words)
 
 
-def has_failed(sandbox, command, *words, tools="sh", built="-"):
-    """Whether a part with this command fails, beside a good one, in both scripts: one line says so, and the sum and the status tell."""
+def has_failed(sandbox, command, count, *words, tools="sh", built="-"):
+    """Whether a part with this command fails so many times, beside a good one, in both scripts: one line says why, and the sum and the status tell."""
     sandbox.registry(GOOD, f"bad | proofs | {tools} | {built} | {command} | what is bad")
-    ran, gate = sandbox.shell("tests/run"), sandbox.shell("bash .ci/run")
-    return is_one_line(ran, 1, "bad: ", *words) and is_one_line(gate, 1, "bad: ", *words) and (ran[1][-1].split()[0], gate[1][-1].split()[0]) == ("3", "9")
+    answers = sandbox.shell("tests/run"), sandbox.shell("bash .ci/run")
+    return all(is_one_line(answer, 1, "bad: ", *words) and answer[1][-1].endswith(f" passed, {count} failed") for answer in answers)
+
+
+def missing_build(sandbox):
+    """It fails until it is built."""
+    fails = has_failed(sandbox, "echo '1 passed, 0 failed'", 1, "target/thing is not built: 'make thing' builds it", built="thing")
+    return fails and sandbox.shell("mkdir target; touch target/thing; tests/run bad")[1][-1] == "1 passed, 0 failed"
+
+
+# Parts that have failed, by what is wrong with them.
+BAD = named("a bad part", {
+    "crashes": lambda box: has_failed(box, "exit 3", 1, "no closing line", "exit status 3"),
+    "has no closing line": lambda box: has_failed(box, "echo '3 passed, 0 failed'; echo all is well", 1, "no closing line", "exit status 0"),
+    "is killed": lambda box: has_failed(box, "kill -9 $$", 1, "no closing line", "killed by signal 9"),
+    "tells no failure": lambda box: has_failed(box, "echo '3 passed, 0 failed'; exit 4", 1, "no failure in its closing line", "exit status 4"),
+    "tells no status": lambda box: has_failed(box, "echo '3 passed, 2 failed'", 2, "2 failed, and its exit status is 0"),
+    "has no tests": lambda box: has_failed(box, "echo '0 passed, 0 failed'", 1, "no failure in its closing line, with 0 passed"),
+    "has no tool": lambda box: has_failed(box, "echo '1 passed, 0 failed'", 1, "the tool 'no-such-tool' is missing", tools="sh no-such-tool"),
+    "is not built": missing_build,
+})
 
 
 def parts_add_up(box):
@@ -99,43 +118,6 @@ def failed_part_has_failed(box):
     return [(status, out[-1], err) for status, out, err in answers] == [(1, "5 passed, 1 failed", []), (1, "11 passed, 1 failed", [])]
 
 
-def crash_has_failed(box):
-    return has_failed(box, "exit 3", "no closing line", "exit status 3")
-
-
-def missing_closing_line_has_failed(box):
-    return has_failed(box, "echo '3 passed, 0 failed'; echo all is well", "no closing line", "exit status 0")
-
-
-def killed_part_has_failed(box):
-    return has_failed(box, "kill -9 $$", "no closing line", "killed by signal 9")
-
-
-def status_without_a_failure_has_failed(box):
-    box.registry(GOOD, "bad | proofs | sh | - | echo '3 passed, 0 failed'; exit 4 | what is bad")
-    return is_one_line(box.shell("tests/run"), 1, "bad: no failure in its closing line", "exit status 4")
-
-
-def failure_without_a_status_has_failed(box):
-    box.registry(GOOD, "bad | proofs | sh | - | echo '3 passed, 2 failed' | what is bad")
-    answer = box.shell("tests/run")
-    return is_one_line(answer, 1, "bad: 2 failed", "exit status is 0") and answer[1][-1] == "6 passed, 2 failed"
-
-
-def part_without_tests_has_failed(box):
-    return has_failed(box, "echo '0 passed, 0 failed'", "no failure in its closing line, with 0 passed")
-
-
-def missing_tool_has_failed(box):
-    return has_failed(box, "echo '1 passed, 0 failed'", "the tool 'no-such-tool' is missing", tools="sh no-such-tool")
-
-
-def missing_build_has_failed(box):
-    """Until it is built."""
-    fails = has_failed(box, "echo '1 passed, 0 failed'", "target/thing is not built: 'make thing' builds it", built="thing")
-    return fails and box.shell("mkdir target; touch target/thing; tests/run bad")[:2][1][-1] == "1 passed, 0 failed"
-
-
 def unwritten_output_is_2(box):
     """The gate, which takes long, looks for a closed output first."""
     box.registry(GOOD)
@@ -165,13 +147,13 @@ def every_call_has_a_line(box):
 
 
 MUTANTS = {
-    "any last line will do": (PARTS, "    said=\"no closing line", "    passed=1 failed=0 unsaid=\"no closing line", missing_closing_line_has_failed),
-    "a signal is a status": (PARTS, 'echo "killed by signal $(($2 - 128))"', 'echo "exit status $2"', killed_part_has_failed),
-    "a status is not looked at": (PARTS, '{ [ "$2" -ne 0 ] || ', "{ ", status_without_a_failure_has_failed),
-    "a failure with status 0 in silence": (PARTS, 'said="$failed failed, and', 'unsaid="$failed failed, and', failure_without_a_status_has_failed),
-    "no tests will do": (PARTS, '|| [ "$passed" -eq 0 ]; }', "; }", part_without_tests_has_failed),
-    "the first tool is enough": (PARTS, "for tool in $1; do", "for tool in ${1%% *}; do", missing_tool_has_failed),
-    "nothing must be built": (PARTS, '|| [ -e "$file" ] ||', "|| true ||", missing_build_has_failed),
+    "any last line will do": (PARTS, "    said=\"no closing line", "    passed=1 failed=0 unsaid=\"no closing line", BAD["has no closing line"]),
+    "a signal is a status": (PARTS, 'echo "killed by signal $(($2 - 128))"', 'echo "exit status $2"', BAD["is killed"]),
+    "a status is not looked at": (PARTS, '{ [ "$2" -ne 0 ] || ', "{ ", BAD["tells no failure"]),
+    "a failure with status 0 in silence": (PARTS, 'said="$failed failed, and', 'unsaid="$failed failed, and', BAD["tells no status"]),
+    "no tests will do": (PARTS, '|| [ "$passed" -eq 0 ]; }', "; }", BAD["has no tests"]),
+    "the first tool is enough": (PARTS, "for tool in $1; do", "for tool in ${1%% *}; do", BAD["has no tool"]),
+    "nothing must be built": (PARTS, '|| [ -e "$file" ] ||', "|| true ||", BAD["is not built"]),
     "a part reads the caller's input": (PARTS, ' </dev/null 2>&1 |', " 2>&1 |", parts_add_up),
     "a failure leaves the status": (PARTS, '[ "$failed" -eq 0 ] && [ "$passed" -gt 0 ]', '[ "$passed" -gt 0 ]', failed_part_has_failed),
     "a name twice": (PARTS, " || seen[$1]++", "", damaged_registry_is_2),
@@ -187,4 +169,4 @@ MUTANTS = {
 }
 
 if __name__ == "__main__":
-    main(lambda: report(results(list(tests_of(sys.modules[__name__])), MUTANTS, Box, sys.argv[1:])))
+    main(lambda: report(results([*BAD.values(), *tests_of(sys.modules[__name__])], MUTANTS, Box, sys.argv[1:])))

@@ -16,7 +16,7 @@ SOURCE = "crates/register/src/main.rt"
 LONG_AGO = 1_000_000_000
 PATIENCE = 600
 
-# The stand-in for rt: tells each call, says so where two of them build at once, reads its input, and puts the program into place.
+# The stand-in for rt: writes down each call, says so where two of them build at once, reads its input, and puts the program into place.
 RT = """#!/bin/sh
 [ "$1" = version ] && { echo kit-of-the-tests; exit; }
 echo "$*" >>calls

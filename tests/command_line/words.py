@@ -1,4 +1,4 @@
-"""What is told in words: --explain, and the documents beside the table of refusals and --help."""
+"""What is said in words: --explain, and the documents beside the table of refusals and --help."""
 
 import re
 
@@ -8,7 +8,7 @@ from common.mutated import ROOT
 EXAMPLE = re.compile(r"`([^`]+)`: `([^`]+)`")
 
 # For each example: what --explain quotes of it, and the fault that it names, where there is one.
-TOLD = {
+EXPLAINED = {
     "1-long-row-twice": ("line 3 is \"(row 1 (1000000 ", "it has 338 bytes\n"),
     "2-two-spaces": ("line 5 is \"(right 1  5)\"", "two spaces stand at character 9, where one belongs"),
     "2-leading-zero": ("line 5 is \"(right 1 05)\"", "the number 05 has a leading zero"),
@@ -93,23 +93,23 @@ def examples_give_their_lines(box):
     return all(box.run(path)[1].decode().split("\n")[0] == line for _, path, line in examples(box))
 
 
-def every_example_is_told(box):
+def every_example_is_in_the_table(box):
     """Each file of examples/refused stands in the table, and each refusal that a file can meet has one there, with its number."""
-    told = [(number, path.name, line) for number, path, line in examples(box) if number != "0"]
-    numbered = all(name.split("-")[0] == number and line.startswith(f"(refused {number} (") for number, name, line in told)
+    said = [(number, path.name, line) for number, path, line in examples(box) if number != "0"]
+    numbered = all(name.split("-")[0] == number and line.startswith(f"(refused {number} (") for number, name, line in said)
     files = sorted(path.name for path in (box.root / "examples/refused").iterdir())
     of_files = {number for number, row in table(box).items() if number not in ("Number", "0") and " alone: " not in row[4]}
-    return numbered and sorted(name for _, name, _ in told) == files and {number for number, _, _ in told} == of_files
+    return numbered and sorted(name for _, name, _ in said) == files and {number for number, _, _ in said} == of_files
 
 
 def format_has_the_table(box):
     """FORMAT's table of refusals is docs/refusals.tsv, row for row and cell for cell; of an accepted file it says the same."""
     text = (box.root / "docs/FORMAT.md").read_text()
-    told = [line.strip("|").split("|") for line in text.split("\n") if re.match(r"\| (Number|\d+) \|", line)]
+    said = [line.strip("|").split("|") for line in text.split("\n") if re.match(r"\| (Number|\d+) \|", line)]
     rows = [row for number, row in table(box).items() if number != "0"]
     accepted = table(box)["0"]
     sentences = [accepted[2][0].upper() + accepted[2][1:] + ".", accepted[3][0].upper() + accepted[3][1:] + "."]
-    return [[cell.strip() for cell in row] for row in told] == rows and all(sentence in text.replace("\n", " ") for sentence in sentences)
+    return [[cell.strip() for cell in row] for row in said] == rows and all(sentence in text.replace("\n", " ") for sentence in sentences)
 
 
 def explained(box, path):
@@ -126,10 +126,10 @@ def explained(box, path):
 
 
 def explains_every_example(box):
-    """The line is quoted and its fault named, and what was expected and what to do are told, to the clerk and to whoever wrote the file."""
-    told = {path.stem: explained(box, path) for number, path, _ in examples(box) if number != "0"}
-    quoted = all(f"found: {line}" in told[name] and (f"  fault: {fault}" in told[name] if fault else "fault:" not in told[name]) for name, (line, fault) in TOLD.items())
-    return told.keys() == TOLD.keys() and quoted
+    """The line is quoted and its fault named, and what was expected and what to do are said, to the clerk and to whoever wrote the file."""
+    said = {path.stem: explained(box, path) for number, path, _ in examples(box) if number != "0"}
+    quoted = all(f"found: {line}" in said[name] and (f"  fault: {fault}" in said[name] if fault else "fault:" not in said[name]) for name, (line, fault) in EXPLAINED.items())
+    return said.keys() == EXPLAINED.keys() and quoted
 
 
 def names_the_very_fault(box):
@@ -147,7 +147,7 @@ def field_comes_first(box):
     return all(table(box)[number][3].startswith("first compare rows and right sides with the field") for number in "567")
 
 
-def clerk_is_told_the_same(box):
+def clerk_reads_the_same(box):
     """CLERK says of a refused file what --explain says, and of a file without tolerances; it begins with what is entered."""
     text = (box.root / "docs/CLERK.md").read_text()
     note = "the limits are about solving these equations alone, and not about the measuring"
@@ -171,16 +171,16 @@ def explains_an_accepted_file(box):
     words, tolerant = explained(box, box.root / WHOLE), explained(box, box.root / "examples/tolerance.txt")
     zero = box.write("zero.txt", (box.root / WHOLE).read_bytes().replace(b"(right 1 5)", b"(right 1 (5 0))"))
     note = "the file gives no tolerance, so the limits are about solving these equations alone, and not about the measuring"
-    told = [note in text for text in (words, tolerant, explained(box, zero))] == [True, False, True]
-    return told and all("is accepted" in text and "concluded: every exact height" in text and "expected:" not in text for text in (words, tolerant))
+    said = [note in text for text in (words, tolerant, explained(box, zero))] == [True, False, True]
+    return said and all("is accepted" in text and "concluded: every exact height" in text and "expected:" not in text for text in (words, tolerant))
 
 
 def explains_what_is_read_once(box):
     """From a pipe, which is read to its end though the first bytes decide: its writer meets no closed end. The line quoted is the one that was judged."""
     writer = "{ printf '(problem 2)\n(scale 4 4)\n(row 1 (4 -1)) \n'; head -c 3000000 /dev/zero; echo $? >written; }"
     status, out, err = box.shell(f"{writer} | ./register --explain")
-    told = b"standard input is refused with 2" in err and b'line 3 is "(row 1 (4 -1)) "\n' in err
-    return (status, out, told) == (1, b"(refused 2 (3))\n", True) and (box.root / "written").read_text() == "0\n"
+    said = b"standard input is refused with 2" in err and b'line 3 is "(row 1 (4 -1)) "\n' in err
+    return (status, out, said) == (1, b"(refused 2 (3))\n", True) and (box.root / "written").read_text() == "0\n"
 
 
 def quotes_no_control_bytes(box):
@@ -221,11 +221,11 @@ def readme_counts_lines(box):
     """The reading list names files that are there, with their lines, and the sum of them."""
     listed = re.findall(r"(?m)^\| `(\S+/specs/\S+\.antt)` \| (\d+) \|", (box.root / "README.md").read_text())
     counted = [(name, str(count_lines(ROOT / "crates" / name))) for name, _ in listed]
-    for (name, told), (_, lines) in zip(listed, counted):
-        if told != lines:
-            print(f"README.md: {name} has {lines} lines, not {told}")
+    for (name, said), (_, lines) in zip(listed, counted):
+        if said != lines:
+            print(f"README.md: {name} has {lines} lines, not {said}")
     together = re.search(r"(?m)^\| together \| (\d+) \|", (box.root / "README.md").read_text())
-    return len(listed) > 40 and listed == counted and int(together.group(1)) == sum(int(told) for _, told in listed)
+    return len(listed) > 40 and listed == counted and int(together.group(1)) == sum(int(said) for _, said in listed)
 
 
 def count_lines(path):

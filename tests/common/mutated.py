@@ -48,6 +48,13 @@ def tests_of(*modules):
                 yield function
 
 
+def named(module, tests):
+    """Tests by name, of a module; each gets its name."""
+    for name, test in tests.items():
+        test.__name__ = f"{module}: {name}"
+    return tests
+
+
 def holds(test, box):
     """Whether a test holds in the box that a context manager makes."""
     try:

@@ -27,7 +27,7 @@ STRICT = ["-O1", "-Wall", "-Wextra", "-pedantic-errors"]
 STANDARDS = {"c99": "cc", "c11": "cc", "c++11": "c++", "c++17": "c++"}
 EXAMPLES = str(ROOT / "examples" / "refused")
 
-# The programs: source, language standard, what they are told.
+# The programs: source, language standard, arguments.
 PROGRAMS = {
     "header": ("header.c", "c99", [EXAMPLES]),
     "header++": ("header.cpp", "c++11", []),
