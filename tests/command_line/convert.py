@@ -21,13 +21,13 @@ def version_beside_the_program(sandbox):
         sandbox.write("target/bin/convert.version", f"version 3, commit abc, kit k\n{beside}\nnames\n")
         said.append(run(sandbox, "--version")[1])
     (sandbox.root / "target/bin/convert.version").unlink()
-    return said == [b"version 3, commit abc, kit k\n", run(sandbox, "--version")[1]]
+    return said == [b"convert: version 3, commit abc, kit k\n", run(sandbox, "--version")[1]]
 
 
 def program_that_cannot_read(sandbox):
     """It is replaced by one that says so."""
     sandbox.put_program("printf 'convert: the input could not be read\\n' >&2\n", name="convert")
-    return run(sandbox, FILE) == (2, b"", f"{FILE}: the input could not be read\n".encode())
+    return run(sandbox, FILE) == (2, b"", f"convert: {FILE}: the input could not be read\n".encode())
 
 
 def with_tolerance(sandbox, *words):
@@ -44,15 +44,15 @@ TESTS = named("convert", {
     "a tolerance": lambda box: with_tolerance(box, "--") == (1, b"(refused 22 (0))\n", b""),
     "a refused line": lambda box: run(box, text=b"(problem 2)\n(row 1 (1 1))\n") == (1, b"(refused 11 (2))\n", b""),
     "an empty input": lambda box: run(box) == (1, b"(refused 15 (0))\n", b""),
-    "no such file": lambda box: run(box, "none.txt") == (2, b"", b"none.txt: no such file\n"),
-    "a folder": lambda box: run(box, "crates") == (2, b"", b"crates: a folder, not a file\n"),
+    "no such file": lambda box: run(box, "none.txt") == (2, b"", b"convert: none.txt: no such file\n"),
+    "a folder": lambda box: run(box, "crates") == (2, b"", b"convert: crates: a folder, not a file\n"),
     "two files": lambda box: run(box, FILE, FILE)[:2] == (2, b""),
     "no such option": lambda box: with_tolerance(box)[:2] == (2, b""),
     "help": lambda box: run(box, "--help")[1].startswith(b"usage: convert [FILE]"),
     "help by -h": lambda box: run(box, "-h") == run(box, "--help") and run(box, "-h")[0] == 0,
-    "a version that is not known": lambda box: run(box, "--version") == (0, b"commit unknown, kit unknown: the program was not built by ./convert\n", b""),
+    "a version that is not known": lambda box: run(box, "--version") == (0, b"convert: commit unknown, kit unknown: the program was not built by ./convert\n", b""),
     "a version beside the program": version_beside_the_program,
-    "a full output": lambda box: failed(box.shell(f"./convert {FILE} >/dev/full"), f"{FILE}: standard output could not be written"),
+    "a full output": lambda box: failed(box.shell(f"./convert {FILE} >/dev/full"), f"convert: {FILE}: standard output could not be written"),
     "a reader that has gone": lambda box: box.shell(f"./convert {FILE} | exec true; echo ${{PIPESTATUS[0]}}") == (0, b"0\n", b""),
     "a program that cannot read": program_that_cannot_read,
 })
