@@ -1,5 +1,5 @@
 # The parts of tests/registry, as functions for .ci/run and tests/run: read, run by one rule, and added up. A script sets `me` and `logs`, a folder, and has
-# scripts/door.sh.
+# scripts/command_line.sh.
 
 # Reads the registry: `parts` gets a line for each part, its fields divided by tabs, `names` their names, and `builds` a line for each thing that is built.
 read_registry() {

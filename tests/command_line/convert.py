@@ -57,7 +57,7 @@ TESTS = named("convert", {
     "a program that cannot read": program_that_cannot_read,
 })
 
-CONVERT, SHARED = "convert", "scripts/door.sh"
+CONVERT, SHARED = "convert", "scripts/command_line.sh"
 MUTANTS = {
     "refused with status 0": (CONVERT, "  converted=1\n", "  converted=0\n", TESTS["a refused line"]),
     "converted with status 1": (CONVERT, "  converted=0\n", "  converted=1\n", TESTS["a file by its name"]),

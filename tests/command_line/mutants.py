@@ -2,7 +2,7 @@
 
 from command_line import batch, building, register, words
 
-REGISTER, SHARED, BATCH, EXPLAIN = "register", "scripts/door.sh", "batch", "docs/explain.awk"
+REGISTER, SHARED, BATCH, EXPLAIN = "register", "scripts/command_line.sh", "batch", "docs/explain.awk"
 
 MUTANTS = {
     "every listing is 0": (REGISTER, 'exit "$judged"', "exit 0", register.refused_is_1),

@@ -121,7 +121,7 @@ def copied_away_is_2(box):
 
 def installed_needs_no_checkout(box):
     """A script with its program and what it shares in ../lib/kodarfi judges, explains and tells its version; without the program it says so."""
-    box.shell("mkdir -p away/bin away/lib/kodarfi && cp register away/bin && cp scripts/door.sh docs/explain.awk docs/refusals.tsv program away/lib/kodarfi")
+    box.shell("mkdir -p away/bin away/lib/kodarfi && cp register away/bin && cp scripts/command_line.sh docs/explain.awk docs/refusals.tsv program away/lib/kodarfi")
     box.shell("cd away/lib/kodarfi && mv program register && printf 'version 3, commit c, kit k\\n%s\\nnames\\n' $(sha256sum <register | cut -d ' ' -f 1) >register.version")
     script = "away/bin/register"
     judged = box.run(WHOLE, script=script, rt=False) == box.run(WHOLE) and box.run("--explain", REFUSED, script=script, rt=False) == box.run("--explain", REFUSED)
@@ -219,7 +219,7 @@ def version_says_what_was_built(box):
 
 def commit_is_that_of_git(box):
     """By git itself, where there is one: the sources alone make it dirty, an editor's files and documents do not, and a clone around the folder is another's."""
-    commit = lambda: box.shell("here=$(pwd -P); . scripts/door.sh; commit")[1].decode().strip()
+    commit = lambda: box.shell("here=$(pwd -P); . scripts/command_line.sh; commit")[1].decode().strip()
     if box.shell("command -v git")[0] != 0:
         return commit() == "unknown"
     box.shell("git init -q . && git add . && git -c user.name=a -c user.email=b commit -qm c")
@@ -229,7 +229,7 @@ def commit_is_that_of_git(box):
         box.shell(command)
         found.append(commit())
     box.shell("mkdir inner && cp -r scripts crates crates.txt inner")
-    found.append(box.shell("cd inner; here=$(pwd -P); . scripts/door.sh; commit")[1].decode().strip())
+    found.append(box.shell("cd inner; here=$(pwd -P); . scripts/command_line.sh; commit")[1].decode().strip())
     return len(clean) > 5 and found == [clean, f"{clean}-dirty", f"{clean}-dirty", "unknown"]
 
 

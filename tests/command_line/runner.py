@@ -20,17 +20,23 @@ MORE = "more | native | sh | - | cat; echo '4 passed, 0 failed' | what is more"
 LAST = "last | python | sh | - | echo '5 passed, 0 failed' | what is last"
 
 
+def calls(root):
+    """The calls that have tests of their own, by their folders."""
+    return {path.parent.name for path in (root / "tests").glob("calls/*/oracle.py")}
+
+
 class Box:
     """A folder with the two scripts, what they read, and a stand-in for rt that proves six crates."""
 
     def __init__(self, edits=()):
         self.outside = tempfile.TemporaryDirectory()
         self.root = Path(self.outside.name)
-        for name in (RUN, GATE, PARTS, README, "tests/registry", "scripts/door.sh"):
+        for name in (RUN, GATE, PARTS, README, "tests/registry", "scripts/command_line.sh"):
             (self.root / name).parent.mkdir(exist_ok=True)
             shutil.copy(ROOT / name, self.root / name)
-        for call in (ROOT / "tests" / "calls").glob("*/"):
-            (self.root / "tests" / "calls" / call.name).mkdir(parents=True)
+        for call in calls(ROOT):
+            (self.root / "tests" / "calls" / call).mkdir(parents=True)
+            (self.root / "tests" / "calls" / call / "oracle.py").touch()
         edit(self.root, edits)
         self.rt("echo '6 passed, 0 failed'")
 
@@ -143,7 +149,7 @@ def readme_has_the_list(box):
 def every_call_has_a_line(box):
     """Each folder of tests/calls is named by a command, and each command of the emitter names a folder."""
     commands = re.findall(r"tests/emit\.py (\w+)", (box.root / "tests" / "registry").read_text())
-    return {path.name for path in (box.root / "tests").glob("calls/*/")} == set(commands)
+    return calls(box.root) == set(commands)
 
 
 MUTANTS = {
