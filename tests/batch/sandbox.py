@@ -4,10 +4,10 @@ import os
 import shutil
 import signal
 import subprocess
-import tempfile
 from pathlib import Path
 
-from common.mutated import ROOT, NoText, edit, open_folder
+from common.box import Box
+from common.mutated import ROOT, NoText, edit
 
 SOURCES = ROOT / "programs" / "batch"
 ARCHIVE = ROOT / "target" / "staticlib" / "libkodarfi.a"
@@ -27,29 +27,12 @@ def compile_program(folder, edits=()):
     return program
 
 
-class Sandbox:
+class Sandbox(Box):
     """A fresh folder with nets to write and a program to run."""
 
     def __init__(self, program):
+        super().__init__()
         self.program = program
-        self.outside = tempfile.TemporaryDirectory(dir=open_folder())
-        os.chmod(self.outside.name, 0o755)
-        self.root = Path(self.outside.name)
-
-    def __enter__(self):
-        return self
-
-    def __exit__(self, *_):
-        for place in self.root.rglob("*"):
-            if place.is_dir() and not place.is_symlink():
-                place.chmod(0o755)
-        self.outside.cleanup()
-
-    def write(self, name, data):
-        path = self.root / name
-        path.parent.mkdir(parents=True, exist_ok=True)
-        path.write_bytes(data)
-        return path
 
     def start(self, *words, path=None, **options):
         settings = {"stdin": subprocess.DEVNULL, "stdout": subprocess.PIPE, "stderr": subprocess.PIPE, "cwd": self.root} | options

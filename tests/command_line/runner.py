@@ -2,17 +2,19 @@
 
   python3 tests/command_line/runner.py   needs nothing built; the last line is 'N passed, M failed'"""
 
+import contextlib
+import io
 import os
 import re
-import shutil
+import shlex
 import subprocess
 import sys
-import tempfile
 from pathlib import Path
 
 sys.path.insert(0, str(Path(__file__).resolve().parent.parent))
 
-from common.mutated import ROOT, edit, main, named, report, results, tests_of
+from common.box import Box
+from common.mutated import ROOT, main, named, report, results, tests_of
 
 RUN, GATE, PARTS, README = "tests/run", ".ci/run", "tests/parts.sh", "tests/README.md"
 GOOD = "good | proofs | sh | - | echo '3 passed, 0 failed' | what is good"
@@ -25,35 +27,19 @@ def calls(root):
     return {path.parent.name for path in (root / "tests").glob("calls/*/oracle.py")}
 
 
-class Box:
-    """A folder with the two scripts, what they read, and a stand-in for rt that proves six crates."""
+class Scripts(Box):
+    """The two scripts, what they read, and a stand-in for rt that proves six crates."""
 
     def __init__(self, edits=()):
-        self.outside = tempfile.TemporaryDirectory()
-        self.root = Path(self.outside.name)
-        for name in (RUN, GATE, PARTS, README, "tests/registry", "scripts/command_line.sh"):
-            (self.root / name).parent.mkdir(exist_ok=True)
-            shutil.copy(ROOT / name, self.root / name)
-        for call in calls(ROOT):
-            (self.root / "tests" / "calls" / call).mkdir(parents=True)
-            (self.root / "tests" / "calls" / call / "oracle.py").touch()
-        edit(self.root, edits)
+        names = [RUN, GATE, PARTS, README, "tests/registry", "scripts/command_line.sh", *(f"tests/calls/{call}" for call in calls(ROOT))]
+        super().__init__(edits, names)
         self.rt("echo '6 passed, 0 failed'")
 
-    def __enter__(self):
-        return self
-
-    def __exit__(self, *_):
-        self.outside.cleanup()
-
     def rt(self, script):
-        path = self.root / "tools" / "rt"
-        path.parent.mkdir(exist_ok=True)
-        path.write_text(f"#!/bin/sh\n{script}\n")
-        path.chmod(0o755)
+        self.write("tools/rt", f"#!/bin/sh\n{script}\n", 0o755)
 
     def registry(self, *lines):
-        (self.root / "tests" / "registry").write_text("# a head\nbuilt thing | target/thing | make thing\n" + "".join(f"{line}\n" for line in lines))
+        self.write("tests/registry", "# a head\nbuilt thing | target/thing | make thing\n" + "".join(f"{line}\n" for line in lines))
 
     def shell(self, command):
         """Status, lines of standard output and of standard error of a command of bash."""
@@ -152,6 +138,17 @@ def every_call_has_a_line(box):
     return calls(box.root) == set(commands)
 
 
+def mutants_are_counted(box):
+    """By mutated.py: a mutant that its test does not detect has failed, and so has a test that raises; an edit that does not fit is no mutant."""
+    tests = named("made up", {"sees": lambda edits: not edits, "is blind": lambda edits: True, "raises": lambda edits: 1 // 0})
+    change = ("thing", "old", "new")
+    with contextlib.redirect_stdout(io.StringIO()):
+        found = [good for _, good in results(tests.values(), {name: (*change, test) for name, test in tests.items()}, contextlib.nullcontext)]
+    script = "import sys; sys.path.insert(0, sys.argv[1]); from common.mutated import *; main(lambda: report([('a', True), ('b', False)]) and edit('.', [('tests/run', 'no such text', '')]))"
+    status, out, err = box.shell(f"{sys.executable} -c {shlex.quote(script)} {shlex.quote(str(ROOT / 'tests'))}")
+    return found == [True, True, False, True, False, True] and (status, err) == (1, []) and out[:2] == ["FAILED b", "1 passed, 1 failed"] and out[3] == "0 passed, 1 failed"
+
+
 MUTANTS = {
     "any last line will do": (PARTS, "    said=\"no closing line", "    passed=1 failed=0 unsaid=\"no closing line", BAD["has no closing line"]),
     "a signal is a status": (PARTS, 'echo "killed by signal $(($2 - 128))"', 'echo "exit status $2"', BAD["is killed"]),
@@ -175,4 +172,4 @@ MUTANTS = {
 }
 
 if __name__ == "__main__":
-    main(lambda: report(results([*BAD.values(), *tests_of(sys.modules[__name__])], MUTANTS, Box, sys.argv[1:])))
+    main(lambda: report(results([*BAD.values(), *tests_of(sys.modules[__name__])], MUTANTS, Scripts, sys.argv[1:])))

@@ -4,14 +4,15 @@ import os
 import shutil
 import signal
 import subprocess
-import tempfile
 from pathlib import Path
 
-from common.mutated import ROOT, edit, open_folder
+from common.box import Box
+from common.mutated import ROOT
 
 BUILT = ROOT / "target" / "bin"
 PROGRAMS = ("register", "convert")
 PROGRAM = BUILT / "register"
+NAMES = ("register", "convert", "batch", "crates.txt", "README.md", "docs", "examples", "scripts", "include", "programs", "crates/register/src")
 SOURCE = "crates/register/src/main.rt"
 LONG_AGO = 1_000_000_000
 PATIENCE = 600
@@ -50,44 +51,20 @@ def shadowed_path(folder):
     return ":".join(path)
 
 
-class Sandbox:
-    """`edits` are those of mutated.py; `programs` is the folder with the two programs, or stand-ins for them."""
+class Sandbox(Box):
+    """`programs` is the folder with the two programs, or with stand-ins for them."""
 
     def __init__(self, edits=(), programs=BUILT):
         os.umask(0o022)
-        self.outside = tempfile.TemporaryDirectory(dir=open_folder())
-        os.chmod(self.outside.name, 0o755)
-        self.root = Path(self.outside.name) / "the repository"
-        self.root.mkdir()
-        for name in ("register", "convert", "batch", "crates.txt", "README.md"):
-            shutil.copy(ROOT / name, self.root)
-        for name in ("docs", "examples", "scripts", "include", "programs", "crates/register/src"):
-            shutil.copytree(ROOT / name, self.root / name)
-        (self.root / "target" / "bin").mkdir(parents=True)
-        for name in PROGRAMS:
-            shutil.copy(Path(programs) / name, self.root / "target" / "bin")
-        edit(self.root, edits)
-        for place in self.root.rglob("*"):
-            place.chmod(place.stat().st_mode | (0o555 if place.is_dir() or os.access(place, os.X_OK) else 0o444))
-            os.utime(place, (LONG_AGO, LONG_AGO))
+        super().__init__(edits, NAMES, "the repository", {f"target/bin/{name}": Path(programs) / name for name in PROGRAMS})
+        for path in self.root.rglob("*"):
+            os.utime(path, (LONG_AGO, LONG_AGO))
         for name in PROGRAMS:
             os.utime(self.root / "target" / "bin" / name)
         shutil.copy(self.root / "target" / "bin" / "register", self.root / "program")
-        self.write("with-rt/rt", RT).chmod(0o755)
-        self.without_rt = shadowed_path(Path(self.outside.name))
+        self.write("with-rt/rt", RT, 0o755)
+        self.without_rt = shadowed_path(self.folder)
         self.with_rt = f"{self.root / 'with-rt'}:{self.without_rt}"
-
-    def __enter__(self):
-        return self
-
-    def __exit__(self, *_):
-        self.outside.cleanup()
-
-    def write(self, name, text):
-        path = self.root / name
-        path.parent.mkdir(parents=True, exist_ok=True)
-        path.write_bytes(text if isinstance(text, bytes) else text.encode())
-        return path
 
     def put_program(self, script=None, name="register"):
         """The program as it was, or a script in its place."""

@@ -90,8 +90,11 @@ def report(found):
         count, failed = count + 1, failed + (not good)
         if not good:
             print("FAILED", name, flush=True)
+    if count == 0:
+        print("FAILED no test was run: there is none of that name")
+        count = failed = 1
     print(f"{count - failed} passed, {failed} failed", flush=True)
-    return int(failed > 0 or count == 0)
+    return int(failed > 0)
 
 
 def close(count, faults):
@@ -101,10 +104,14 @@ def close(count, faults):
 
 
 def main(run, *needed):
-    """Ends a script with the exit status of `run`, or with one line where what it needs is not built, a mutant does not fit, or a file or standard output fails."""
+    """Ends a script with the exit status of `run`, or with one line where what it needs is not built, a mutant does not fit, or a file or standard output fails.
+    With -h it prints the script's own head."""
     if sys.stdout is None:
         sys.exit(f"{sys.argv[0]}: standard output is closed")
     try:
+        if sys.argv[1:2] in (["-h"], ["--help"]):
+            print(sys.modules["__main__"].__doc__, flush=True)
+            sys.exit(0)
         missing = [str(path) for path in needed if not Path(path).exists()]
         sys.exit(close(1, [f"{missing[0]} is not built"]) if missing else run())
     except NoText as error:

@@ -1,12 +1,10 @@
 """A copy of the checkout, without the crates, with a stand-in for rt and a folder to install into."""
 
 import functools
-import shutil
 import subprocess
-import tempfile
-from pathlib import Path
 
-from common.mutated import ROOT, edit, open_folder
+from common.box import Box
+from common.mutated import ROOT
 
 NAMES = ("register", "convert", "batch")
 PARTS = ("Makefile", "VERSION", "CHANGELOG.md", "README.md", *NAMES, "docs", "examples", "include", "programs", "scripts", "target/bin", "target/staticlib")
@@ -27,41 +25,16 @@ def built_batch():
     return ROOT / "target" / "bin" / "batch"
 
 
-class Checkout:
-    """A copy of the checkout in a fresh folder. `edits` are those of mutated.py."""
+class Checkout(Box):
+    """It has crates, none of which is built here, and a gate."""
 
     def __init__(self, edits=()):
-        self.outside = tempfile.TemporaryDirectory(dir=open_folder())
-        self.folder = Path(self.outside.name)
-        self.folder.chmod(0o755)
-        self.root = self.folder / "the checkout"
+        super().__init__(edits, PARTS, "the checkout", {"target/bin/batch": built_batch()})
         self.prefix = self.folder / "prefix"
-        for part in PARTS:
-            (self.root / part).parent.mkdir(parents=True, exist_ok=True)
-            if (ROOT / part).is_dir():
-                shutil.copytree(ROOT / part, self.root / part, ignore=shutil.ignore_patterns("__pycache__"))
-            else:
-                shutil.copy2(ROOT / part, self.root / part)
-        shutil.copy2(built_batch(), self.root / "target/bin/batch")
-        # a checkout has crates; none is built here
+        self.write("crates.txt", "")
+        self.write(".ci/run", "echo the gate\n")
+        self.write("../tools/rt", RT, 0o755)
         (self.root / "crates").mkdir()
-        (self.root / "crates.txt").write_text("")
-        (self.root / ".ci").mkdir()
-        (self.root / ".ci" / "run").write_text("echo the gate\n")
-        edit(self.root, edits)
-        # whatever the umask was when it was cloned, others may read it
-        for path in [self.root, *self.root.rglob("*")]:
-            mode = path.stat().st_mode
-            path.chmod(mode | (0o555 if path.is_dir() or mode & 0o100 else 0o444))
-        (self.folder / "tools").mkdir()
-        (self.folder / "tools" / "rt").write_text(RT)
-        (self.folder / "tools" / "rt").chmod(0o755)
-
-    def __enter__(self):
-        return self
-
-    def __exit__(self, *_):
-        self.outside.cleanup()
 
     def run(self, *command, path="", cwd=None, **options):
         """Status, standard output and standard error; the environment has the system's PATH, and what is asked for."""
