@@ -5,16 +5,16 @@ from command_line import batch, building, register, words
 REGISTER, SHARED, BATCH, EXPLAIN = "register", "scripts/command_line.sh", "batch", "docs/explain.awk"
 
 MUTANTS = {
-    "every listing is 0": (REGISTER, 'exit "$judged"', "exit 0", register.refused_is_1),
+    "every listing is 0": (REGISTER, 'exit "$judged"', "exit 0", register.TESTS["refused is 1"]),
     "a last line feed is lost": (REGISTER, 'hand_out "$said"', 'hand_out "$(printf %s "$said")"', register.standard_output_is_the_programs),
-    "a folder is handed to the program": (SHARED, '[ ! -d "$file" ]', "true", register.folder_is_2),
-    "a failed read is a refusal": (SHARED, "fail \"$name: ${said%$'\\n'}\"", "exit 1", register.folder_on_standard_input_is_2),
-    "a closed input is an empty file": (SHARED, "{ : 3<&0; } 2>/dev/null ||", "{ : 3<&0; } 2>/dev/null || exec </dev/null ||", register.closed_input_is_2),
-    "a failed write is not looked at": (SHARED, "[[ $trouble == *'Broken pipe'* ]] ||", "true ||", register.full_output_is_2),
+    "a folder is handed to the program": (SHARED, '[ ! -d "$file" ]', "true", register.TESTS["folder is 2"]),
+    "a failed read is a refusal": (SHARED, "fail \"$name: ${said%$'\\n'}\"", "exit 1", register.TESTS["folder on standard input is 2"]),
+    "a closed input is an empty file": (SHARED, "{ : 3<&0; } 2>/dev/null ||", "{ : 3<&0; } 2>/dev/null || exec </dev/null ||", register.TESTS["closed input is 2"]),
+    "a failed write is not looked at": (SHARED, "[[ $trouble == *'Broken pipe'* ]] ||", "true ||", register.TESTS["full output is 2"]),
     "a reader that has gone is a fault": (SHARED, "[[ $trouble == *'Broken pipe'* ]] ||", "", register.gone_reader_is_no_fault),
     "the input is kept in a file": (REGISTER, "| base64 -w 0)", "| { f=$(mktemp) && base64 -w 0 >\"$f\" && cat \"$f\" && rm \"$f\"; })", register.explains_without_a_temporary_folder),
     "a closed pipe kills": (REGISTER, "trap '' PIPE", ":", register.gone_reader_is_no_fault),
-    "the file is not named": (SHARED, '"$name: no such file"', '"no such file"', register.missing_file_is_2),
+    "the file is not named": (SHARED, '"$name: no such file"', '"no such file"', register.TESTS["missing file is 2"]),
     "a program's status is not looked at": (SHARED, 'exit "$ended"\n', "exit 0\n", register.program_without_a_listing_is_2),
     "half a listing is one": (REGISTER, "*$'\\n(end)\\n' ]]", "* ]]", register.program_without_a_listing_is_2),
     "two refusals are one": (REGISTER, "\\\\)\\\\)\\n$'", "\\\\)\\\\)\\n'", register.program_without_a_listing_is_2),

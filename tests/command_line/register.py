@@ -7,7 +7,7 @@ import subprocess
 import generate
 import given
 from command_line.sandbox import PROGRAM, ended, failed
-from common.mutated import ROOT, another_user
+from common.mutated import ROOT, another_user, named
 
 WHOLE = "examples/whole-file.txt"
 REFUSED = "examples/refused/2-two-spaces.txt"
@@ -17,12 +17,17 @@ def listing_of(file):
     return subprocess.run([PROGRAM], input=file, capture_output=True, check=True).stdout
 
 
-def accepted_is_0(box):
-    return box.run(WHOLE) == (0, listing_of((box.root / WHOLE).read_bytes()), b"")
-
-
-def refused_is_1(box):
-    return box.run(REFUSED) == (1, b"(refused 2 (5))\n", b"")
+TESTS = named("register", {
+    "accepted is 0": lambda box: box.run(WHOLE) == (0, listing_of((box.root / WHOLE).read_bytes()), b""),
+    "refused is 1": lambda box: box.run(REFUSED) == (1, b"(refused 2 (5))\n", b""),
+    "missing file is 2": lambda box: failed(box.run("nets/a.txt"), "nets/a.txt: no such file"),
+    "folder is 2": lambda box: failed(box.run("examples"), "examples: a folder"),
+    "folder on standard input is 2": lambda box: all(failed(box.shell(f"./register {option} <examples"), "standard input: the input could not be read") for option in ("", "--explain")),
+    "closed input is 2": lambda box: all(failed(box.shell(f"./register {option} <&-"), "standard input is closed") for option in ("", "-", "--explain")),
+    "file needs no input": lambda box: box.shell(f"./register {REFUSED} <&-") == (1, b"(refused 2 (5))\n", b""),
+    "closed output is 2": lambda box: all(failed(box.shell(f"./register {words} >&-"), "could not be written") for words in (WHOLE, "--help", "--version")),
+    "full output is 2": lambda box: all(failed(box.shell(f"./register {words} >/dev/full"), "could not be written") for words in (WHOLE, REFUSED, "--help", "--version")),
+})
 
 
 def standard_output_is_the_programs(box):
@@ -46,43 +51,15 @@ def reads_what_follows_two_dashes(box):
     return box.run("--", "--help") == (1, b"(refused 2 (5))\n", b"")
 
 
-def missing_file_is_2(box):
-    return failed(box.run("nets/a.txt"), "nets/a.txt: no such file")
-
-
 def dangling_link_is_2(box):
     (box.root / "link.txt").symlink_to("nowhere")
     return failed(box.run("link.txt"), "link.txt: no such file")
-
-
-def folder_is_2(box):
-    return failed(box.run("examples"), "examples: a folder")
-
-
-def folder_on_standard_input_is_2(box):
-    return all(failed(box.shell(f"./register {option} <examples"), "standard input: the input could not be read") for option in ("", "--explain"))
 
 
 def unreadable_file_is_2(box):
     path = box.write("locked.txt", "(problem 1)\n")
     path.chmod(0)
     return failed(box.run("locked.txt", **another_user()), "locked.txt: no right to read it")
-
-
-def closed_input_is_2(box):
-    return all(failed(box.shell(f"./register {option} <&-"), "standard input is closed") for option in ("", "-", "--explain"))
-
-
-def file_needs_no_input(box):
-    return box.shell(f"./register {REFUSED} <&-") == (1, b"(refused 2 (5))\n", b"")
-
-
-def closed_output_is_2(box):
-    return all(failed(box.shell(f"./register {words} >&-"), "could not be written") for words in (WHOLE, "--help", "--version"))
-
-
-def full_output_is_2(box):
-    return all(failed(box.shell(f"./register {words} >/dev/full"), "could not be written") for words in (WHOLE, REFUSED, "--help", "--version"))
 
 
 def gone_reader_is_no_fault(box):

@@ -17,7 +17,7 @@ from common.mutated import main, open_folder, report, results, tests_of
 
 
 def on_programs():
-    tests = [*tests_of(register, building, words, batch), *convert.TESTS.values(), *program.TESTS]
+    tests = [*register.TESTS.values(), *tests_of(register, building, words, batch), *convert.TESTS.values(), *program.TESTS]
     return report(results(tests, mutants.MUTANTS, Sandbox, sys.argv[1:]))
 
 
