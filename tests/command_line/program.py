@@ -10,7 +10,7 @@ import tempfile
 from pathlib import Path
 
 from command_line.sandbox import PATIENCE, PROGRAMS
-from common.mutated import ROOT
+from common.mutated import ROOT, named
 from common.whole_file import LISTING, WHOLE
 
 ANSWERS = {"register": LISTING, "convert": WHOLE}
@@ -66,18 +66,8 @@ def failed_write_is_said(box, name):
         return run(box, name, input=WHOLE, stdout=full).stderr.decode() == UNWRITTEN[name] and answers(box, name)
 
 
-def of_program(test, name):
-    """The test of one program, as a function of a box."""
-
-    def of_box(box):
-        return test(box, name)
-
-    of_box.__name__ = f"{name}_{test.__name__}"
-    return of_box
-
-
 BOTH = (answers, reads_a_slow_pipe, reads_to_the_end, empty_file_is_15, failed_read_is_said, failed_write_is_said)
-TESTS = [of_program(test, name) for name in PROGRAMS for test in BOTH]
+TESTS = named("program", {f"{name} {test.__name__}": lambda box, test=test, name=name: test(box, name) for name in PROGRAMS for test in BOTH})
 
 # Python does not start on an input that cannot be read, so it gets another.
 STAND_IN = """#!/bin/sh
@@ -124,4 +114,6 @@ def mutants_of(name):
     }
 
 
-MUTANTS = {f"{name} {what}": (f"target/bin/{name}", old, new, of_program(test, name)) for name in PROGRAMS for what, (old, new, test) in mutants_of(name).items()}
+MUTANTS = {
+    f"{name} {what}": (f"target/bin/{name}", old, new, TESTS[f"{name} {test.__name__}"]) for name in PROGRAMS for what, (old, new, test) in mutants_of(name).items()
+}

@@ -17,14 +17,14 @@ from common.mutated import main, open_folder, report, results, tests_of
 
 
 def on_programs():
-    tests = [*register.TESTS.values(), *tests_of(register, building, words, batch), *convert.TESTS.values(), *program.TESTS]
+    tests = [*register.TESTS.values(), *tests_of(register, building, words, batch), *convert.TESTS.values(), *program.TESTS.values()]
     return report(results(tests, mutants.MUTANTS, Sandbox, sys.argv[1:]))
 
 
 def on_stand_ins():
     with tempfile.TemporaryDirectory(dir=open_folder()) as folder:
         program.write_stand_ins(folder)
-        tests = [*convert.TESTS.values(), *program.TESTS]
+        tests = [*convert.TESTS.values(), *program.TESTS.values()]
         return report(results(tests, {**convert.MUTANTS, **program.MUTANTS}, lambda edits: Sandbox(edits, folder)))
 
 
