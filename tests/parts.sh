@@ -48,8 +48,9 @@ part() {
   local name=$1 log=$logs/$1.log began said passed=0 failed=1
   began=$(date +%s) said=$(lacking "$2" "$3")
   if [ -z "$said" ]; then
-    bash -c "$4" </dev/null 2>&1 | if [[ " ${shown-} " == *" $name "* ]]; then tee "$log" 2>/dev/null; else cat >"$log"; fi
+    bash -c "$4" </dev/null 2>&1 | { if [[ " ${shown-} " == *" $name "* ]]; then tee "$log"; else cat >"$log"; fi; } 2>/dev/null
     judge "$name" "${PIPESTATUS[0]}"
+    [ -d "$logs" ] || exit # the script was killed meanwhile, and took its folder away
   fi
   [ -z "$said" ] || echo "$name: $said" | tee -a "$log" >&2
   echo "$passed $failed $(($(date +%s) - began))" >"$logs/$name.sum"

@@ -7,8 +7,10 @@ import io
 import os
 import re
 import shlex
+import signal
 import subprocess
 import sys
+import time
 from pathlib import Path
 
 sys.path.insert(0, str(Path(__file__).resolve().parent.parent))
@@ -41,11 +43,15 @@ class Scripts(Box):
     def registry(self, *lines):
         self.write("tests/registry", "# a head\nbuilt thing | target/thing | make thing\n" + "".join(f"{line}\n" for line in lines))
 
+    def start(self, *command):
+        environment = os.environ | {"PATH": f"{self.root / 'tools'}:{os.environ['PATH']}", "LC_ALL": "C", "TMPDIR": str(self.root)}
+        return subprocess.Popen(command, cwd=self.root, env=environment, stdin=subprocess.PIPE, stdout=subprocess.PIPE, stderr=subprocess.PIPE, text=True)
+
     def shell(self, command):
         """Status, lines of standard output and of standard error of a command of bash."""
-        environment = os.environ | {"PATH": f"{self.root / 'tools'}:{os.environ['PATH']}", "LC_ALL": "C", "TMPDIR": str(self.root)}
-        done = subprocess.run(["bash", "-c", command], cwd=self.root, env=environment, input="input\n", capture_output=True, text=True, timeout=600, check=False)
-        return done.returncode, done.stdout.splitlines(), done.stderr.splitlines()
+        process = self.start("bash", "-c", command)
+        out, err = process.communicate("input\n", timeout=600)
+        return process.returncode, out.splitlines(), err.splitlines()
 
 
 def is_one_line(answer, status, *words):
@@ -119,6 +125,19 @@ def unwritten_output_is_2(box):
     return early and all(is_one_line(box.shell(command), 2, "standard output could not be written") for command in commands)
 
 
+def killed_gate_ends(box):
+    """With nothing said, its folders taken away, and no further part begun."""
+    box.registry("first | native | sh | - | touch begun; while [ -e begun ]; do sleep 0.1; done | what is first", "second | native | sh | - | touch second | what is second")
+    gate = box.start("bash", GATE)
+    while not (box.root / "begun").exists() and gate.poll() is None:
+        time.sleep(0.01)
+    gate.terminate()
+    gate.wait(timeout=600)
+    (box.root / "begun").unlink()
+    _, err = gate.communicate(timeout=600)
+    return (gate.returncode, err) == (-signal.SIGTERM, "") and not (box.root / "second").exists() and not list(box.root.glob("tmp.*"))
+
+
 def damaged_registry_is_2(box):
     for lines in ((GOOD, "short | proofs | sh | - | true"), (GOOD, GOOD), ("built x | y", GOOD)):
         box.registry(*lines)
@@ -159,6 +178,7 @@ MUTANTS = {
     "nothing must be built": (PARTS, '|| [ -e "$file" ] ||', "|| true ||", BAD["is not built"]),
     "a part reads the caller's input": (PARTS, ' </dev/null 2>&1 |', " 2>&1 |", parts_add_up),
     "a failure leaves the status": (PARTS, '[ "$failed" -eq 0 ] && [ "$passed" -gt 0 ]', '[ "$passed" -gt 0 ]', failed_part_has_failed),
+    "parts of a gate that was killed": (PARTS, '    [ -d "$logs" ] || exit', "    :", killed_gate_ends),
     "a name twice": (PARTS, " || seen[$1]++", "", damaged_registry_is_2),
     "a field less": (PARTS, "NF != (/^built / ? 3 : 6)", "NF < 3", damaged_registry_is_2),
     "an unknown name is passed over": (RUN, "|| fail \"there is no part", "|| : \"there is no part", unknown_name_runs_nothing),
