@@ -4,8 +4,13 @@
 # Reads the registry: `parts` gets a line for each part, its fields divided by tabs, `names` their names, and `builds` a line for each thing that is built.
 read_registry() {
   local wrong
-  wrong=$(awk -F ' +[|] +' '/^(#|$)/ { next } NF != (/^built / ? 3 : 6) || seen[$1]++ { print NR; exit }' tests/registry) || fail "tests/registry cannot be read"
-  [ -z "$wrong" ] || fail "tests/registry: line $wrong has not the fields that its head tells, or a name for the second time"
+  wrong=$(awk -F ' +[|] +' '
+    /^(#|$)/ { next }
+    NF != (/^built / ? 3 : 6) || seen[$1]++ { print NR; exit }
+    /^built / { built[substr($1, 7)]; next }
+    { count = split($4, words, " "); for (k = 1; k <= count; k++) if (words[k] != "-" && !(words[k] in built)) { print NR; exit } }' tests/registry 2>/dev/null) ||
+    fail "tests/registry cannot be read"
+  [ -z "$wrong" ] || fail "tests/registry: line $wrong has not the fields that its head tells, a name for the second time, or something built that no line before it names"
   mapfile -t parts < <(awk -F ' +[|] +' -v OFS='\t' '!/^(#|$|built )/ { $1 = $1; print }' tests/registry)
   names=("${parts[@]%%$'\t'*}")
   mapfile -t builds < <(awk -F ' +[|] +' -v OFS='\t' '/^built / { sub(/^built /, ""); $1 = $1; print }' tests/registry)

@@ -139,11 +139,11 @@ def killed_gate_ends(box):
 
 
 def damaged_registry_is_2(box):
-    for lines in ((GOOD, "short | proofs | sh | - | true"), (GOOD, GOOD), ("built x | y", GOOD)):
+    for lines in ((GOOD, "short | proofs | sh | - | true"), (GOOD, GOOD), ("built x | y", GOOD), ("other | proofs | sh | thing things | true | what is other",)):
         box.registry(*lines)
         if not all(is_one_line(box.shell(command), 2, "tests/registry: line ") for command in ("tests/run", "bash .ci/run")):
             return False
-    return True
+    return all(is_one_line(box.shell(f"rm -f tests/registry; {command}"), 2, "tests/registry cannot be read") for command in ("tests/run", "bash .ci/run"))
 
 
 def readme_has_the_list(box):
@@ -180,6 +180,7 @@ MUTANTS = {
     "a failure leaves the status": (PARTS, '[ "$failed" -eq 0 ] && [ "$passed" -gt 0 ]', '[ "$passed" -gt 0 ]', failed_part_has_failed),
     "parts of a gate that was killed": (PARTS, '    [ -d "$logs" ] || exit', "    :", killed_gate_ends),
     "a name twice": (PARTS, " || seen[$1]++", "", damaged_registry_is_2),
+    "anything may be built": (PARTS, "&& !(words[k] in built)", "&& 0", damaged_registry_is_2),
     "a field less": (PARTS, "NF != (/^built / ? 3 : 6)", "NF < 3", damaged_registry_is_2),
     "an unknown name is passed over": (RUN, "|| fail \"there is no part", "|| : \"there is no part", unknown_name_runs_nothing),
     "a full output is no matter": (RUN, 'hand_out "== $name"$', "printf '%s' \"== $name\"$", unwritten_output_is_2),
