@@ -14,7 +14,7 @@ PROGRAMS := $(PROVED) target/bin/batch
 ARCHIVE := target/staticlib/libkodarfi.a
 SHARED := target/lib/libkodarfi.so.$(VERSION)
 # rt with a temporary folder in memory, where there is room for one
-RT := here=$$(pwd); . scripts/door.sh; memory=$$(memory_folder 1); trap 'rm -rf "$$memory"' EXIT; from=$$(commit); TMPDIR=$${memory:-$${TMPDIR:-/tmp}} rt
+RT := here=$$(pwd); . scripts/command_line.sh; memory=$$(memory_folder 1); trap 'rm -rf "$$memory"' EXIT; from=$$(commit); TMPDIR=$${memory:-$${TMPDIR:-/tmp}} rt
 
 .PHONY: programs lib check install uninstall
 .DELETE_ON_ERROR:
@@ -45,7 +45,7 @@ $(ARCHIVE):
 	@$(RT) staticlib kodarfi
 
 target/bin/batch: $(wildcard programs/batch/* include/*.h) $(ARCHIVE)
-	@me=batch here=$$(pwd); . scripts/door.sh; beside=(programs/batch include); link_batch $@ && note_version $@ "$$(commit)"
+	@me=batch here=$$(pwd); . scripts/command_line.sh; beside=(programs/batch include); link_batch $@ && note_version $@ "$$(commit)"
 
 $(SHARED): $(ARCHIVE) VERSION
 	mkdir -p $(@D)

@@ -3,12 +3,14 @@
   python3 docs/manual.py --write   writes all three
   python3 docs/manual.py NAME      prints one
 
-The gate compares them (tests/install.py)."""
+The gate compares them (tests/install/run.py)."""
 
 import re
 import subprocess
 import sys
 from pathlib import Path
+
+from refusals import hand_out
 
 ROOT = Path(__file__).resolve().parent.parent
 # What each does, in one line.
@@ -70,25 +72,22 @@ def manual(name):
     return page(name, done.stdout)
 
 
-def main():
-    if sys.argv[1:2] in (["-h"], ["--help"]):
-        print(__doc__)
-        return 0
+def main(words):
     try:
-        if sys.argv[1:] == ["--write"]:
+        if words[:1] in (["-h"], ["--help"]):
+            hand_out(f"{__doc__}\n")
+        elif words == ["--write"]:
             for name in PAGES:
                 (ROOT / "docs" / f"{name}.1").write_text(manual(name))
-        elif len(sys.argv) == 2 and sys.argv[1] in PAGES:
-            sys.stdout.write(manual(sys.argv[1]))
-            sys.stdout.flush()
+        elif len(words) == 1 and words[0] in PAGES:
+            hand_out(manual(words[0]))
         else:
-            print("usage: manual.py --write, or manual.py register | convert | batch", file=sys.stderr)
-            return 2
-    except (OSError, subprocess.SubprocessError) as error:
+            raise ValueError("usage: manual.py --write, or manual.py register | convert | batch")
+    except (OSError, ValueError, subprocess.SubprocessError) as error:
         print(f"manual.py: {error}", file=sys.stderr)
         return 2
     return 0
 
 
 if __name__ == "__main__":
-    sys.exit(main())
+    sys.exit(main(sys.argv[1:]))

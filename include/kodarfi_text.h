@@ -1,4 +1,4 @@
-/* The papers' numbers in words, for C and C++: docs/refusals.tsv as docs/refusals_to_c.py writes it. Not to be edited here. */
+/* The papers' numbers in words, for C and C++: docs/refusals.tsv as docs/refusals.py writes it. Not to be edited here. */
 #ifndef KODARFI_TEXT_H
 #define KODARFI_TEXT_H
 

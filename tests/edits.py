@@ -1,14 +1,14 @@
 """The must-fail edits in the documents, beside the logs that a run of the gate leaves in target/must-fail.
 
   python3 tests/edits.py --write       writes docs/EDITS.md from these logs
-  python3 tests/edits.py --check       docs/EDITS.md tells every edit, what it breaks and where these logs say that it was refused,
+  python3 tests/edits.py --check       docs/EDITS.md lists every edit, what it breaks and where these logs say that it was refused,
                                        and docs/PROMISES.md names every edit and no other; the last line is 'N passed, M failed'
-  python3 tests/edits.py --self-test   the check on made-up documents, right and then wrong in each way of edits_self_test.py"""
+  python3 tests/edits.py --self-test   the check on made-up documents, right and then with each mutant of edits_self_test.py"""
 
 import re
 import sys
-from pathlib import Path
 
+from common.mutated import ROOT, close, main
 from refused_at import refused_at
 
 HEAD = """# The must-fail edits
@@ -49,7 +49,7 @@ class Documents:
             lines += [self.row(name) for name in self.edits if name.startswith(crate + "/")]
         return "\n".join(lines) + "\n"
 
-    def told(self):
+    def listed(self):
         """The rows of docs/EDITS.md by edit."""
         crate, rows = None, {}
         for line in self.table_path.read_text().split("\n"):
@@ -75,36 +75,28 @@ class Documents:
 
     def faults(self):
         """What is wrong, a sentence each."""
-        told, named = self.told(), self.named()
+        listed, named = self.listed(), self.named()
         for name in self.edits:
             if self.refused_at(name) is None:
                 yield f"target/must-fail has no log of {name} (run the gate first), or it names no fact that fails, or the proof does not fit the code"
-            elif name not in told:
-                yield f"docs/EDITS.md does not tell {name}"
-            elif told[name] != self.row(name):
-                yield f"docs/EDITS.md says {told[name]}, the edit and its log say {self.row(name)}"
-        yield from (f"docs/EDITS.md tells {name}, which is no edit" for name in told if name not in self.edits)
-        others = set(self.table_path.read_text().split("\n")) - set(self.table().split("\n")) - set(told.values())
+            elif name not in listed:
+                yield f"docs/EDITS.md does not list {name}"
+            elif listed[name] != self.row(name):
+                yield f"docs/EDITS.md says {listed[name]}, the edit and its log say {self.row(name)}"
+        yield from (f"docs/EDITS.md lists {name}, which is no edit" for name in listed if name not in self.edits)
+        others = set(self.table_path.read_text().split("\n")) - set(self.table().split("\n")) - set(listed.values())
         yield from (f"docs/EDITS.md has a line that is no row: {line}" for line in sorted(others))
         yield from (f"docs/PROMISES.md does not name {name}" for name in self.edits if name not in named)
         yield from (f"docs/PROMISES.md names {name}, which is no edit" for name in sorted(named - self.edits.keys()))
 
 
-def check(documents):
-    faults = list(documents.faults())
-    for fault in faults:
-        print("FAILED", fault)
-    print(f"{max(0, 2 * len(documents.edits) - len(faults))} passed, {len(faults)} failed")
-    return int(bool(faults) or not documents.edits)
-
-
-def main():
-    documents = Documents(Path(__file__).resolve().parent.parent)
+def run():
+    documents = Documents(ROOT)
     if sys.argv[1:] == ["--write"]:
         documents.table_path.write_text(documents.table())
         return 0
     if sys.argv[1:] == ["--check"]:
-        return check(documents)
+        return close(2 * len(documents.edits), documents.faults())
     if sys.argv[1:] == ["--self-test"]:
         from edits_self_test import self_test
 
@@ -114,4 +106,4 @@ def main():
 
 
 if __name__ == "__main__":
-    sys.exit(main())
+    main(run)

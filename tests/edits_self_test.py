@@ -1,8 +1,7 @@
-"""The test of edits.py: a made-up repository of three edits whose documents are right, and then wrong in one named way each."""
+"""The test of edits.py: a made-up repository of three edits whose documents are right, and then a named mutant each."""
 
-import tempfile
-from pathlib import Path
-
+from common.box import Box
+from common.mutated import edit, report, results
 from edits import Documents
 
 PROOF = """returns : tie.Need-returns
@@ -31,87 +30,55 @@ RIGHT = {
 
 PROMISES = "| Promise | Edits |\n|---|---|\n| sums | sum/other_sign, too_large |\n| bytes | text/no_proof_file |\n"
 
-# Text of the documents exchanged for other text.
-EXCHANGED = {
-    "a made-up cell": ("EDITS.md", "`total/Proof.antt`, `returns` |", "`total/Proof.antt`, `returns-2` |"),
-    "a made-up file": ("EDITS.md", "`total/Proof.antt`, `returns` |", "`other/Proof.antt`, `returns` |"),
-    "a side condition left out": ("EDITS.md", "; first at `total/Proof.antt`, `add-result`", ""),
-    "a side condition for the promise": ("EDITS.md", "`Law.antt`, `total-even`; first at", "only at"),
-    "another purpose": ("EDITS.md", "what too_large breaks", "what it breaks"),
-    "a row left out": ("EDITS.md", "| other_sign |", "| other |"),
-    "a line that is no row": ("EDITS.md", "## text", "=======\n## text"),
-    "an edit not promised": ("PROMISES.md", ", too_large", ""),
-    "a promise of no edit": ("PROMISES.md", "too_large", "too_large, too_small"),
-}
-
-# Files taken away or given other text.
-CHANGED = {
-    "no log": ("target/must-fail/sum/other_sign/.log", None),
-    "a log of another fact": ("target/must-fail/sum/other_sign/.log", "/r/sum/other_sign/proofs/Law.antt:1:1: error: `total-even`: expected type"),
-    "a log that names no fact": ("target/must-fail/sum/other_sign/.log", "logic=not-proved"),
-    "a proof that does not fit": (
-        "target/must-fail/sum/other_sign/.log",
-        "/r/sum/other_sign/proofs/total/Proof.antt:1:1: error: `returns`: module `Tie` has no `Need-returns` that can be named",
-    ),
-    "no edits": ("crates", None),
+LOG = "target/must-fail/sum/other_sign/.log"
+FACT = "/proofs/total/Proof.antt:1:1: error: `returns`: no proof was found\nlogic=not-proved"
+MUTANTS = {
+    "a made-up cell": ("docs/EDITS.md", "`total/Proof.antt`, `returns` |", "`total/Proof.antt`, `returns-2` |"),
+    "a made-up file": ("docs/EDITS.md", "`total/Proof.antt`, `returns` |", "`other/Proof.antt`, `returns` |"),
+    "a side condition left out": ("docs/EDITS.md", "; first at `total/Proof.antt`, `add-result`", ""),
+    "a side condition for the promise": ("docs/EDITS.md", "`Law.antt`, `total-even`; first at", "only at"),
+    "another purpose": ("docs/EDITS.md", "what too_large breaks", "what it breaks"),
+    "a row left out": ("docs/EDITS.md", "| other_sign |", "| other |"),
+    "a line that is no row": ("docs/EDITS.md", "## text", "=======\n## text"),
+    "an edit not promised": ("docs/PROMISES.md", ", too_large", ""),
+    "a promise of no edit": ("docs/PROMISES.md", "too_large", "too_large, too_small"),
+    "no log": (LOG, "", None),
+    "a log of another fact": (LOG, FACT, "/proofs/Law.antt:1:1: error: `total-even`: expected type"),
+    "a log that names no fact": (LOG, FACT, "\nlogic=not-proved"),
+    "a proof that does not fit": (LOG, FACT, "/proofs/total/Proof.antt:1:1: error: `returns`: module `Tie` has no `Need-returns` that can be named"),
+    "no edits": ("crates", "", None),
 }
 
 
-def write(root, path, text):
-    (root / path).parent.mkdir(parents=True, exist_ok=True)
-    (root / path).write_text(text)
+class Repository(Box):
+    """The made-up repository with its documents right, then with edits; one to nothing takes the file or folder away."""
+
+    def __init__(self, edits=()):
+        super().__init__()
+        for name, log in LOGS.items():
+            crate, must_fail = name.split("/")
+            folder = f"target/must-fail/{name}"
+            self.write(f"crates/{crate}/must-fail/{must_fail}.edit", f"what {must_fail} breaks\nfile: src/lib.rt\n")
+            self.write(f"{folder}/src/lib.rt", "// Text.\npub fn put() {}\n")
+            self.write(f"{folder}/proofs/total/Proof.antt", PROOF)
+            self.write(f"{folder}/proofs/Law.antt", "total-even : Even total\ntotal-even = refl\n")
+            self.write(f"{folder}/.log", "\n".join(log).replace("%s", str(self.root / folder)))
+        self.write("docs/PROMISES.md", PROMISES)
+        self.write("docs/EDITS.md", Documents(self.root).table())
+        for name, old, new in edits:
+            if new is None:
+                (self.root / name).rename(self.root / "gone")
+            else:
+                edit(self.root, [(name, old, new)])
 
 
-def made_up(root):
-    """The repository with its documents right."""
-    for name, log in LOGS.items():
-        crate, edit = name.split("/")
-        folder = f"target/must-fail/{name}"
-        write(root, f"crates/{crate}/must-fail/{edit}.edit", f"what {edit} breaks\nfile: src/lib.rt\n")
-        write(root, f"{folder}/src/lib.rt", "// Text.\npub fn put() {}\n")
-        write(root, f"{folder}/proofs/total/Proof.antt", PROOF)
-        write(root, f"{folder}/proofs/Law.antt", "total-even : Even total\ntotal-even = refl\n")
-        write(root, f"{folder}/.log", "\n".join(log) % ((str(root / folder),) * "\n".join(log).count("%s")))
-    write(root, "docs/PROMISES.md", PROMISES)
-    write(root, "docs/EDITS.md", Documents(root).table())
-
-
-def exchange(root, document, old, new):
-    path = root / "docs" / document
-    assert path.read_text().count(old) == 1
-    path.write_text(path.read_text().replace(old, new))
-
-
-def change(root, path, text):
-    if text is not None:
-        return write(root, path, text)
-    (root / path).rename(root / "gone")
-
-
-def is_told(wrong, *how):
-    """Whether the check tells the documents that are wrong in one way."""
-    with tempfile.TemporaryDirectory() as folder:
-        root = Path(folder)
-        made_up(root)
-        wrong(root, *how)
-        documents = Documents(root)
-        return not documents.edits or bool(list(documents.faults()))
-
-
-def right_faults():
-    with tempfile.TemporaryDirectory() as folder:
-        root = Path(folder)
-        made_up(root)
-        documents = Documents(root)
-        wrong = [f"{name} is refused at {documents.refused_at(name)}" for name in RIGHT if documents.refused_at(name) != RIGHT[name]]
-        return wrong + list(documents.faults())
+def documents_are_right(box):
+    documents = Documents(box.root)
+    faults = [f"{name} is refused at {documents.refused_at(name)}" for name in RIGHT if documents.refused_at(name) != RIGHT[name]]
+    faults += documents.faults()
+    print("".join(f"{fault}\n" for fault in faults), end="")
+    return documents.edits and not faults
 
 
 def self_test():
-    failed = [f"right documents: {fault}" for fault in right_faults()]
-    failed += [f"'{name}' is not told" for name, how in EXCHANGED.items() if not is_told(exchange, *how)]
-    failed += [f"'{name}' is not told" for name, how in CHANGED.items() if not is_told(change, *how)]
-    for text in failed:
-        print("FAILED", text)
-    print(f"{max(0, 1 + len(EXCHANGED) + len(CHANGED) - len(failed))} passed, {len(failed)} failed")
-    return int(bool(failed))
+    return report(results([documents_are_right], {name: (*change, documents_are_right) for name, change in MUTANTS.items()}, Repository))

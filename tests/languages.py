@@ -5,14 +5,12 @@ loader take lines as they are typed.
 
 import select
 import subprocess
-import sys
 import tempfile
-from pathlib import Path
 
-from cases_01 import WHOLE_LISTING
+from common.mutated import ROOT, main, report
+from common.whole_file import LISTING
+from common.whole_file import WHOLE as EXAMPLE
 
-ROOT = Path(__file__).parent.parent
-EXAMPLE = (ROOT / "examples" / "whole-file.txt").read_bytes()
 PROGRAMS = {
     "C": ["target/listing-c"],
     "C++": ["target/listing-c++"],
@@ -21,7 +19,7 @@ PROGRAMS = {
 }
 # a file's bytes, its listing and the exit status
 FILES = (
-    (EXAMPLE, ("\n".join(WHOLE_LISTING) + "\n").encode(), 0),
+    (EXAMPLE, LISTING, 0),
     (b"", b"(refused 15 (0))\n", 1),
     (EXAMPLE + b"\0\n", b"(refused 14 (14))\n", 1),
     (b"x" * 1000000, b"(refused 1 (1))\n", 1),
@@ -47,8 +45,8 @@ TYPED = (
         0,
     ),
 )
-# programs that a test must tell, by what is wrong in them
-WRONG = {
+# mutants: programs that the tests must detect, by what is wrong in them
+MUTANTS = {
     "prints the file": ["cat"],
     "has status 0 for a refused file": ["sh", "-c", 'target/listing-c "$1"; exit 0', "sh"],
     "prints nothing": ["sh", "-c", 'target/listing-c "$1" >/dev/null', "sh"],
@@ -125,7 +123,7 @@ def loader_results():
         yield f"{language}: a closed input", tells_a_closed_stream(program, "<&-")
         yield f"{language}: a closed output", tells_a_closed_stream(program, ">&-")
     stops = ["sh", "-c", "head -n 3 | target/loader-c"]
-    yield "a program that stops at a refused line is told", not all(answers(stops, *lines) for lines in TYPED)
+    yield "a program that stops at a refused line is detected", not all(answers(stops, *lines) for lines in TYPED)
 
 
 def results():
@@ -140,18 +138,9 @@ def results():
             yield f"{language}: file {index}", holds
         yield f"{language}: a missing file", all(right[language]) and tells_a_missing_file(program)
     yield from loader_results()
-    for wrong, program in WRONG.items():
-        yield f"a program that {wrong} is told", all(right["C"]) and not all(lists(program, *file) for file in FILES)
-
-
-def main():
-    found = list(results())
-    failed = [name for name, holds in found if not holds]
-    for name in failed:
-        print("failed:", name)
-    print(f"{len(found) - len(failed)} passed, {len(failed)} failed")
-    return int(bool(failed))
+    for mutant, program in MUTANTS.items():
+        yield f"a program that {mutant} is detected", all(right["C"]) and not all(lists(program, *file) for file in FILES)
 
 
 if __name__ == "__main__":
-    sys.exit(main())
+    main(lambda: report(results()), ROOT / "target" / "staticlib" / "libkodarfi.a")

@@ -1,7 +1,7 @@
 """No place is multiplied out: the sources of the reckoning's crates have no product in an index (document 02, Paper 4).
 
   python3 tests/places.py               reads src/ of these crates; the last line is 'N passed, M failed', a function each
-  python3 tests/places.py --self-test   the same reader on right sources, and on wrong ones by name (places_self_test.py)
+  python3 tests/places.py --self-test   the same reader on right sources, and on mutants by name (places_self_test.py)
 
 An index is a usize: a parameter, a field, a result or a length of that type, a loop's variable, a name that stands in the brackets of an element, and what these are given to.
 A product is at fault where it stands in such brackets, is given to an index, or has an index as a factor; a shift to the left counts as one, and so does a method that multiplies.
@@ -10,8 +10,9 @@ A number becomes an index only as a parameter by its name: no other cast to usiz
 
 import re
 import sys
-from pathlib import Path
 from typing import NamedTuple
+
+from common.mutated import ROOT, close, main
 
 CRATES = ["integer", "linear", "rules", "raised_rows", "reckoning", "symmetry", "differences", "margins", "residuals", "row_sums", "slacks", "ratios", "bounds", "inverse_bounds", "checker", "couplings", "weight_steps", "lower_half", "observation", "gathering", "equations"]
 
@@ -212,8 +213,6 @@ class Reader:
         return [f"{name}, {function.name}: {fault}" for name in self.sources for function in self.functions[name] for fault in self.faults(function)]
 
 
-ROOT = Path(__file__).resolve().parent.parent
-
 
 def sources(crates=CRATES):
     """The text of every source of the crates, by its path."""
@@ -227,7 +226,7 @@ def not_read():
     return sorted(name for name in beneath if any(any(functions(code(text))) for text in sources([name]).values()))
 
 
-def main():
+def run():
     if sys.argv[1:] == ["--self-test"]:
         from places_self_test import self_test
 
@@ -239,11 +238,8 @@ def main():
     faults = reader.all_faults()
     faults += [f"crates/{crate}/src has no function" for crate in CRATES if not any(reader.functions[name] for name in reader.functions if name.startswith(crate + "/"))]
     faults += [f"crates/{crate}/src has functions that the sums can call, and is not read" for crate in not_read()]
-    for fault in faults:
-        print("FAILED", fault)
-    print(f"{max(0, sum(map(len, reader.functions.values())) - len(faults))} passed, {len(faults)} failed")
-    return int(bool(faults))
+    return close(sum(map(len, reader.functions.values())), faults)
 
 
 if __name__ == "__main__":
-    sys.exit(main())
+    main(run)

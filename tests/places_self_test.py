@@ -1,5 +1,6 @@
-"""The test of places.py: right functions, wrong ones by name, and the project's own sources with one place multiplied out."""
+"""The test of places.py: right functions, mutants by name, and the project's own sources with one place multiplied out."""
 
+from common.mutated import close
 from places import Reader, sources
 
 RIGHT = {
@@ -16,7 +17,7 @@ RIGHT = {
     "behind a reference": "fn f(x: &u64, i: usize) -> u64 { return *x; }",
 }
 
-WRONG = {
+MUTANTS = {
     "in brackets": "fn f(xs: &[i64], i: usize, n: usize) -> i64 { xs[i * n] }",
     "in brackets, beside a sum": "fn f(xs: &[i64], i: u64, n: u64) -> i64 { xs[3 + i * n] }",
     "in a name that stands in brackets": "fn f(xs: &[i64], a: u64, b: u64) -> i64 { let place = a * b; xs[place] }",
@@ -47,7 +48,7 @@ WRONG = {
 }
 
 # The project's own sources: a file, its text and the text with a place multiplied out.
-WRONG_HERE = {
+MUTANTS_HERE = {
     "a term of the guess's residual": ("linear/src/lib.rt", "add_product(sum, a[at_a], x[at_x])", "add_product(sum, a[p + j * s], x[at_x])"),
     "a term of raised rows": ("raised_rows/src/lib.rt", "        at_b += 1;", "        at_b = q + (k + 1) * 1;"),
     "the start of a raised row": ("raised_rows/src/lib.rt", "        place += n + 1;", "        place = (i + 1) * (n + 1);"),
@@ -71,14 +72,11 @@ def faults(text):
 
 def self_test():
     failed = [f"at fault, and should not be: {name}" for name, text in RIGHT.items() if faults(text)]
-    failed += [f"not told: {name}" for name, text in WRONG.items() if not faults(text)]
+    failed += [f"not detected: {name}" for name, text in MUTANTS.items() if not faults(text)]
     here = sources()
-    for name, (path, old, new) in WRONG_HERE.items():
+    for name, (path, old, new) in MUTANTS_HERE.items():
         if here[path].count(old) != 1:
-            failed.append(f"{path} does not have once what is to be made wrong: {name}")
+            failed.append(f"{path} does not have once what is to be changed: {name}")
         elif not Reader({**here, path: here[path].replace(old, new)}).all_faults():
-            failed.append(f"not told: {name}")
-    for fault in failed:
-        print("FAILED", fault)
-    print(f"{len(RIGHT) + len(WRONG) + len(WRONG_HERE) - len(failed)} passed, {len(failed)} failed")
-    return int(bool(failed))
+            failed.append(f"not detected: {name}")
+    return close(len(RIGHT) + len(MUTANTS) + len(MUTANTS_HERE), failed)

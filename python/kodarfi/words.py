@@ -1,4 +1,4 @@
-"""The papers' numbers in words: docs/refusals.tsv as docs/refusals_to_python.py writes it. Not to be edited here."""
+"""The papers' numbers in words: docs/refusals.tsv as docs/refusals.py writes it. Not to be edited here."""
 
 from typing import Dict, NamedTuple
 

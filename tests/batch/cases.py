@@ -13,7 +13,7 @@ import threading
 import time
 
 from batch.nets import LARGE, REFUSED, WHOLE, listing_of, odd_files, odd_places, some_files
-from batch.sandbox import another_user
+from common.mutated import another_user
 
 
 listed = functools.cache(listing_of)

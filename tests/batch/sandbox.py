@@ -4,56 +4,35 @@ import os
 import shutil
 import signal
 import subprocess
-import tempfile
 from pathlib import Path
 
-from office.room import open_folder
+from common.box import Box
+from common.mutated import ROOT, NoText, edit
 
-ROOT = Path(__file__).resolve().parent.parent.parent
 SOURCES = ROOT / "programs" / "batch"
 ARCHIVE = ROOT / "target" / "staticlib" / "libkodarfi.a"
 REGISTER = ROOT / "target" / "bin" / "register"
 
 
 def compile_program(folder, edits=()):
-    """Builds the program in a folder; `edits` are triples of a file, a text in it and another text for it."""
+    """Builds the program in a folder; `edits` are those of mutated.py."""
     sources = Path(folder) / "sources"
     shutil.rmtree(sources, ignore_errors=True)
     shutil.copytree(SOURCES, sources)
-    for name, old, new in edits:
-        text = (sources / name).read_text()
-        if text.count(old) < 1:
-            raise ValueError(f"{name} has no text {old!r}")
-        (sources / name).write_text(text.replace(old, new))
+    edit(sources, edits)
     program = Path(folder) / "batch"
     command = ["cc", "-std=c11", "-O1", "-w", f"-I{ROOT / 'include'}", *sorted(sources.glob("*.c")), ARCHIVE, "-o", program]
-    subprocess.run(command, check=True)
+    if subprocess.run(command, check=False).returncode:
+        raise NoText(f"the program does not compile with the edits {edits}")
     return program
 
 
-class Sandbox:
+class Sandbox(Box):
     """A fresh folder with nets to write and a program to run."""
 
     def __init__(self, program):
+        super().__init__()
         self.program = program
-        self.outside = tempfile.TemporaryDirectory(dir=open_folder())
-        os.chmod(self.outside.name, 0o755)
-        self.root = Path(self.outside.name)
-
-    def __enter__(self):
-        return self
-
-    def __exit__(self, *_):
-        for place in self.root.rglob("*"):
-            if place.is_dir() and not place.is_symlink():
-                place.chmod(0o755)
-        self.outside.cleanup()
-
-    def write(self, name, data):
-        path = self.root / name
-        path.parent.mkdir(parents=True, exist_ok=True)
-        path.write_bytes(data)
-        return path
 
     def start(self, *words, path=None, **options):
         settings = {"stdin": subprocess.DEVNULL, "stdout": subprocess.PIPE, "stderr": subprocess.PIPE, "cwd": self.root} | options
@@ -78,8 +57,3 @@ class Sandbox:
         """Every file under a folder, by its name there."""
         root = self.root / folder
         return {str(path.relative_to(root)): path.read_bytes() for path in root.rglob("*") if path.is_file() and not path.is_symlink()}
-
-
-def another_user():
-    """What makes a call one of a user without every right."""
-    return {"user": 65534, "group": 65534, "extra_groups": []} if os.geteuid() == 0 else {}

@@ -79,8 +79,8 @@ static void fill_all(void) {
 
 static void test_measure(void) {
     const size_t less = stack_of(fill_all_but_a_page), more = stack_of(fill_all);
-    test("what takes less than the most is told", less >= KODARFI_STACK_MAX - 4096 && less <= KODARFI_STACK_MAX);
-    test("what takes more than the most is told", more > KODARFI_STACK_MAX && more <= KODARFI_STACK_MAX + 4096);
+    test("what takes less than the most is detected", less >= KODARFI_STACK_MAX - 4096 && less <= KODARFI_STACK_MAX);
+    test("what takes more than the most is detected", more > KODARFI_STACK_MAX && more <= KODARFI_STACK_MAX + 4096);
 }
 
 enum { COUNT = sizeof CALLS / sizeof *CALLS };

@@ -1,4 +1,4 @@
-/* The numbers in words (include/kodarfi_text.h, kodarfi_text of include/kodarfi_net.h): prints every row for tests/header.py, which has the table, and tries the
+/* The numbers in words (include/kodarfi_text.h, kodarfi_text of include/kodarfi_net.h): prints every row for texts.py, which has the table, and tries the
  * writing into a buffer. The last line is 'N passed, M failed'. */
 #include "count.h"
 #include "kodarfi_net.h"

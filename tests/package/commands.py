@@ -9,9 +9,9 @@ from pathlib import Path
 
 import generate
 from checks import entries_in, faults, net_from
+from common.mutated import open_folder
 from exact import inverse_of, product
 from net import file_of, lines_of, right_line
-from office.room import open_folder
 from second.common import CommonInterval, Pair, Proposal
 from second.doubles import Doubles, Outward
 from second.field_lines import Build, Builder, FieldLine

@@ -7,7 +7,8 @@ import subprocess
 import sys
 from pathlib import Path
 
-ROOT = Path(__file__).resolve().parent.parent.parent
+from common.mutated import ROOT, edit
+
 SOURCES = ROOT / "python"
 SHARED = ROOT / "target" / "lib" / "libkodarfi.so"
 
@@ -45,14 +46,9 @@ class Package:
 
 
 def copied(folder, edits=()):
-    """The package's sources in another folder; `edits` are triples of a file, a text in it and another text for it."""
+    """The package's sources in another folder, with the edits of mutated.py."""
     to = Path(folder) / "python"
     shutil.rmtree(to, ignore_errors=True)
     shutil.copytree(SOURCES, to, ignore=shutil.ignore_patterns("__pycache__", "build", "*.egg-info"))
-    for name, old, new in edits:
-        path = to / "kodarfi" / name
-        text = path.read_text(encoding="utf-8")
-        if text.count(old) != 1:
-            raise ValueError(f"{name} has the text {old!r} {text.count(old)} times")
-        path.write_text(text.replace(old, new), encoding="utf-8")
+    edit(to / "kodarfi", edits)
     return to

@@ -12,8 +12,7 @@ import tempfile
 import warnings
 from pathlib import Path
 
-from office.room import open_folder
-
+from common.mutated import open_folder
 from package.loaded import ROOT, SHARED, SOURCES
 
 HEADER = (ROOT / "include" / "kodarfi.h").read_text()
@@ -77,7 +76,7 @@ def syntax_is_that_of_3_9(package):
 
 
 def words_are_the_tables(package):
-    made = subprocess.run([sys.executable, ROOT / "docs" / "refusals_to_python.py"], capture_output=True, check=True).stdout
+    made = subprocess.run([sys.executable, ROOT / "docs" / "refusals.py", "--python"], capture_output=True, check=True).stdout
     refused = package.calls.Refused(7, (3, 4))
     words = refused.text().split("\n")
     said = (words[0], refused.form()) == (f"refused with 7, column 3, row 4: {refused.what}", "(refused 7 (3 4))") and len(words) == 3 and refused.to_do in words[2]

@@ -29,7 +29,7 @@ hand_out() {
 lay_out() {
   if [ -f "$here/crates.txt" ] && [ -d "$here/crates" ]; then
     is_installed=no program=$here/target/bin/$me texts=$here/docs
-  elif [ -f "$here/../lib/kodarfi/door.sh" ]; then
+  elif [ -f "$here/../lib/kodarfi/command_line.sh" ]; then
     is_installed=yes program=$here/../lib/kodarfi/$me texts=$here/../lib/kodarfi
   else
     fail "$here is no checkout: leave the script where it is, and call it through a link or by its path"

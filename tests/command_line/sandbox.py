@@ -1,19 +1,23 @@
-"""A folder laid out as the repository is, with the scripts to test, the built program and a stand-in for rt."""
+"""A folder laid out as the repository is, with the scripts to test, their programs and a stand-in for rt."""
 
 import os
 import shutil
 import signal
 import subprocess
-import tempfile
 from pathlib import Path
 
-ROOT = Path(__file__).resolve().parent.parent.parent
-PROGRAM = ROOT / "target" / "bin" / "register"
+from common.box import Box
+from common.mutated import ROOT
+
+BUILT = ROOT / "target" / "bin"
+PROGRAMS = ("register", "convert")
+PROGRAM = BUILT / "register"
+NAMES = ("register", "convert", "batch", "crates.txt", "README.md", "docs", "examples", "scripts", "include", "programs", "crates/register/src")
 SOURCE = "crates/register/src/main.rt"
 LONG_AGO = 1_000_000_000
 PATIENCE = 600
 
-# The stand-in for rt: tells each call, says so where two of them build at once, reads its input, and puts the program into place.
+# The stand-in for rt: writes down each call, says so where two of them build at once, reads its input, and puts the program into place.
 RT = """#!/bin/sh
 [ "$1" = version ] && { echo kit-of-the-tests; exit; }
 echo "$*" >>calls
@@ -32,15 +36,6 @@ echo "rt: register proved (1 s)"
 """
 
 
-def open_folder():
-    """A temporary folder that another user can pass through, since some tests are those of another user: $TMPDIR where it is one."""
-    for folder in (tempfile.gettempdir(), "/tmp", "/var/tmp"):
-        path = Path(folder).resolve()
-        if all(part.stat().st_mode & 0o001 for part in (path, *path.parents)) and os.access(path, os.W_OK):
-            return str(path)
-    return None
-
-
 def shadowed_path(folder):
     """The tools of this machine without rt: a folder that has rt is replaced by links to what else is in it."""
     path = []
@@ -56,50 +51,24 @@ def shadowed_path(folder):
     return ":".join(path)
 
 
-class Room:
-    """`edits` are triples of a file, a text in it and another text for it."""
+class Sandbox(Box):
+    """`programs` is the folder with the two programs, or with stand-ins for them."""
 
-    def __init__(self, edits=()):
+    def __init__(self, edits=(), programs=BUILT):
         os.umask(0o022)
-        self.outside = tempfile.TemporaryDirectory(dir=open_folder())
-        os.chmod(self.outside.name, 0o755)
-        self.root = Path(self.outside.name) / "the repository"
-        self.root.mkdir()
-        for name in ("register", "convert", "batch", "crates.txt", "README.md"):
-            shutil.copy(ROOT / name, self.root)
-        for name in ("docs", "examples", "scripts", "include", "programs", "crates/register/src"):
-            shutil.copytree(ROOT / name, self.root / name)
-        for name, old, new in edits:
-            text = (self.root / name).read_text()
-            if text.count(old) < 1:
-                raise ValueError(f"{name} has no text {old!r}")
-            (self.root / name).write_text(text.replace(old, new))
-        for place in self.root.rglob("*"):
-            place.chmod(place.stat().st_mode | (0o555 if place.is_dir() or os.access(place, os.X_OK) else 0o444))
-            os.utime(place, (LONG_AGO, LONG_AGO))
-        (self.root / "target" / "bin").mkdir(parents=True)
-        shutil.copy(PROGRAM, self.root / "program")
-        self.put_program()
-        (self.root / "with-rt").mkdir()
-        self.write("with-rt/rt", RT).chmod(0o755)
-        self.without_rt = shadowed_path(Path(self.outside.name))
+        super().__init__(edits, NAMES, "the repository", {f"target/bin/{name}": Path(programs) / name for name in PROGRAMS})
+        for path in self.root.rglob("*"):
+            os.utime(path, (LONG_AGO, LONG_AGO))
+        for name in PROGRAMS:
+            os.utime(self.root / "target" / "bin" / name)
+        shutil.copy(self.root / "target" / "bin" / "register", self.root / "program")
+        self.write("with-rt/rt", RT, 0o755)
+        self.without_rt = shadowed_path(self.folder)
         self.with_rt = f"{self.root / 'with-rt'}:{self.without_rt}"
 
-    def __enter__(self):
-        return self
-
-    def __exit__(self, *_):
-        self.outside.cleanup()
-
-    def write(self, name, text):
-        path = self.root / name
-        path.parent.mkdir(parents=True, exist_ok=True)
-        path.write_bytes(text if isinstance(text, bytes) else text.encode())
-        return path
-
-    def put_program(self, script=None):
-        """The built program, or a script in its place."""
-        target = self.root / "target" / "bin" / "register"
+    def put_program(self, script=None, name="register"):
+        """The program as it was, or a script in its place."""
+        target = self.root / "target" / "bin" / name
         if script is None:
             shutil.copy(self.root / "program", target)
         else:
@@ -112,14 +81,8 @@ class Room:
         path = self.root / "calls"
         return path.read_text().splitlines() if path.exists() else []
 
-    def another_user(self):
-        """What makes a call one of a user without every right."""
-        if os.geteuid() != 0:
-            return {}
-        return {"user": 65534, "group": 65534, "extra_groups": []}
-
     def start(self, *arguments, rt=True, script="register", **options):
-        """Starts a script of the room; signals are as a shell would have them."""
+        """Starts a script of the sandbox; signals are as a shell would have them."""
         command = [str(self.root / script), *map(str, arguments)]
         return self.started(command, rt, options)
 

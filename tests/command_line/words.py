@@ -1,14 +1,14 @@
-"""What is told in words: --explain, and the documents beside the table of refusals and --help."""
+"""What is said in words: --explain, and the documents beside the table of refusals and --help."""
 
 import re
 
-from office.calls import WHOLE
-from office.room import ROOT
+from command_line.register import WHOLE
+from common.mutated import ROOT
 
 EXAMPLE = re.compile(r"`([^`]+)`: `([^`]+)`")
 
 # For each example: what --explain quotes of it, and the fault that it names, where there is one.
-TOLD = {
+EXPLAINED = {
     "1-long-row-twice": ("line 3 is \"(row 1 (1000000 ", "it has 338 bytes\n"),
     "2-two-spaces": ("line 5 is \"(right 1  5)\"", "two spaces stand at character 9, where one belongs"),
     "2-leading-zero": ("line 5 is \"(right 1 05)\"", "the number 05 has a leading zero"),
@@ -76,48 +76,48 @@ FAULTS = {
 CLERKS_PART = "enter nothing, change nothing in the file, and send it"
 
 
-def table(room):
+def table(sandbox):
     """The rows of docs/refusals.tsv by number."""
-    rows = [line.split("\t") for line in (room.root / "docs/refusals.tsv").read_text().splitlines()]
+    rows = [line.split("\t") for line in (sandbox.root / "docs/refusals.tsv").read_text().splitlines()]
     return {row[0]: row for row in rows}
 
 
-def examples(room):
+def examples(sandbox):
     """Every example of the table: number, file, first line of its listing."""
-    for number, row in table(room).items():
+    for number, row in table(sandbox).items():
         for name, line in EXAMPLE.findall(row[4]):
-            yield number, room.root / "examples/refused" / name, line
+            yield number, sandbox.root / "examples/refused" / name, line
 
 
-def examples_give_their_lines(room):
-    return all(room.run(path)[1].decode().split("\n")[0] == line for _, path, line in examples(room))
+def examples_give_their_lines(box):
+    return all(box.run(path)[1].decode().split("\n")[0] == line for _, path, line in examples(box))
 
 
-def every_example_is_told(room):
+def every_example_is_in_the_table(box):
     """Each file of examples/refused stands in the table, and each refusal that a file can meet has one there, with its number."""
-    told = [(number, path.name, line) for number, path, line in examples(room) if number != "0"]
-    numbered = all(name.split("-")[0] == number and line.startswith(f"(refused {number} (") for number, name, line in told)
-    files = sorted(path.name for path in (room.root / "examples/refused").iterdir())
-    of_files = {number for number, row in table(room).items() if number not in ("Number", "0") and " alone: " not in row[4]}
-    return numbered and sorted(name for _, name, _ in told) == files and {number for number, _, _ in told} == of_files
+    said = [(number, path.name, line) for number, path, line in examples(box) if number != "0"]
+    numbered = all(name.split("-")[0] == number and line.startswith(f"(refused {number} (") for number, name, line in said)
+    files = sorted(path.name for path in (box.root / "examples/refused").iterdir())
+    of_files = {number for number, row in table(box).items() if number not in ("Number", "0") and " alone: " not in row[4]}
+    return numbered and sorted(name for _, name, _ in said) == files and {number for number, _, _ in said} == of_files
 
 
-def format_has_the_table(room):
+def format_has_the_table(box):
     """FORMAT's table of refusals is docs/refusals.tsv, row for row and cell for cell; of an accepted file it says the same."""
-    text = (room.root / "docs/FORMAT.md").read_text()
-    told = [line.strip("|").split("|") for line in text.split("\n") if re.match(r"\| (Number|\d+) \|", line)]
-    rows = [row for number, row in table(room).items() if number != "0"]
-    accepted = table(room)["0"]
+    text = (box.root / "docs/FORMAT.md").read_text()
+    said = [line.strip("|").split("|") for line in text.split("\n") if re.match(r"\| (Number|\d+) \|", line)]
+    rows = [row for number, row in table(box).items() if number != "0"]
+    accepted = table(box)["0"]
     sentences = [accepted[2][0].upper() + accepted[2][1:] + ".", accepted[3][0].upper() + accepted[3][1:] + "."]
-    return [[cell.strip() for cell in row] for row in told] == rows and all(sentence in text.replace("\n", " ") for sentence in sentences)
+    return [[cell.strip() for cell in row] for row in said] == rows and all(sentence in text.replace("\n", " ") for sentence in sentences)
 
 
-def explained(room, path):
+def explained(box, path):
     """The listing with --explain is the listing without, and the words have the table's row; gives the words and the row."""
-    status, out, err = room.run("--explain", path)
-    plain = room.run(path)
+    status, out, err = box.run("--explain", path)
+    plain = box.run(path)
     number = re.match(rb"\(refused (\d+)", out)
-    row = table(room)[number.group(1).decode() if number else "0"]
+    row = table(box)[number.group(1).decode() if number else "0"]
     words = err.decode()
     cells = row[1:2] + row[3:4] if row[0] in ("2", "3") else row[1:4] # of a line that is no form, and of a number, just what was expected of it
     has_row = all(cell.replace("`", "") in words for cell in cells)
@@ -125,115 +125,108 @@ def explained(room, path):
     return words if (status, out) == plain[:2] and plain[2] == b"" and has_row and to_whom and str(path) in words else ""
 
 
-def explains_every_example(room):
-    """The line is quoted and its fault named, and what was expected and what to do are told, to the clerk and to whoever wrote the file."""
-    told = {path.stem: explained(room, path) for number, path, _ in examples(room) if number != "0"}
-    quoted = all(f"found: {line}" in told[name] and (f"  fault: {fault}" in told[name] if fault else "fault:" not in told[name]) for name, (line, fault) in TOLD.items())
-    return told.keys() == TOLD.keys() and quoted
+def explains_every_example(box):
+    """The line is quoted and its fault named, and what was expected and what to do are said, to the clerk and to whoever wrote the file."""
+    said = {path.stem: explained(box, path) for number, path, _ in examples(box) if number != "0"}
+    quoted = all(f"found: {line}" in said[name] and (f"  fault: {fault}" in said[name] if fault else "fault:" not in said[name]) for name, (line, fault) in EXPLAINED.items())
+    return said.keys() == EXPLAINED.keys() and quoted
 
 
-def names_the_very_fault(room):
+def names_the_very_fault(box):
     """Of lines that are wrong in other ways; and what was expected of that line, and nothing else."""
     for line, (number, fault, expected) in FAULTS.items():
-        _, out, err = room.run("--explain", text=b"(problem 2)\n(scale 4 4)\n" + line + b"\n")
+        _, out, err = box.run("--explain", text=b"(problem 2)\n(scale 4 4)\n" + line + b"\n")
         if not out.startswith(f"(refused {number} (".encode()) or f"  fault: {fault}".encode() not in err or f"  expected: {expected}\n".encode() not in err or CLERKS_PART.encode() not in err:
             print(line, err)
             return False
     return True
 
 
-def field_comes_first(room):
+def field_comes_first(box):
     """With 5, 6 and 7, which a damaged equation can give."""
-    return all(table(room)[number][3].startswith("first compare rows and right sides with the field") for number in "567")
+    return all(table(box)[number][3].startswith("first compare rows and right sides with the field") for number in "567")
 
 
-def clerk_is_told_the_same(room):
+def clerk_reads_the_same(box):
     """CLERK says of a refused file what --explain says, and of a file without tolerances; it begins with what is entered."""
-    text = (room.root / "docs/CLERK.md").read_text()
+    text = (box.root / "docs/CLERK.md").read_text()
     note = "the limits are about solving these equations alone, and not about the measuring"
     heading, first = text.split("\n\n")[:2]
     entered = first.startswith("**What is entered** are the entry lines") and "fixed mark" in first and "names or units" in first and heading.startswith("# ")
-    return entered and CLERKS_PART in text and note in text and note in (room.root / "docs/FORMAT.md").read_text()
+    return entered and CLERKS_PART in text and note in text and note in (box.root / "docs/FORMAT.md").read_text()
 
 
-def dropped_tolerance_gives_smaller_limits(room):
+def dropped_tolerance_gives_smaller_limits(box):
     """CLERK's example of what an edit by a clerk does: without its last right side the file is accepted with limits of 1, without the first one with 5."""
-    lines = (room.root / "examples/refused/12-tolerance-added.txt").read_bytes().splitlines(keepends=True)
+    lines = (box.root / "examples/refused/12-tolerance-added.txt").read_bytes().splitlines(keepends=True)
     limits = []
     for place in (6, 4):
-        listing = room.run(text=b"".join(lines[:place] + lines[place + 1 :]))[1].decode()
+        listing = box.run(text=b"".join(lines[:place] + lines[place + 1 :]))[1].decode()
         limits.append(re.findall(r"\(solution \d+ \(\d+ (\d+)\)\)", listing))
-    return limits == [["1", "1"], ["5", "5"]] and "accepted with limits of 1, where 5 was meant" in (room.root / "docs/CLERK.md").read_text()
+    return limits == [["1", "1"], ["5", "5"]] and "accepted with limits of 1, where 5 was meant" in (box.root / "docs/CLERK.md").read_text()
 
 
-def explains_an_accepted_file(room):
+def explains_an_accepted_file(box):
     """With a tolerance and without, or with tolerances of 0, which is said."""
-    words, tolerant = explained(room, room.root / WHOLE), explained(room, room.root / "examples/tolerance.txt")
-    zero = room.write("zero.txt", (room.root / WHOLE).read_bytes().replace(b"(right 1 5)", b"(right 1 (5 0))"))
+    words, tolerant = explained(box, box.root / WHOLE), explained(box, box.root / "examples/tolerance.txt")
+    zero = box.write("zero.txt", (box.root / WHOLE).read_bytes().replace(b"(right 1 5)", b"(right 1 (5 0))"))
     note = "the file gives no tolerance, so the limits are about solving these equations alone, and not about the measuring"
-    told = [note in text for text in (words, tolerant, explained(room, zero))] == [True, False, True]
-    return told and all("is accepted" in text and "concluded: every exact height" in text and "expected:" not in text for text in (words, tolerant))
+    said = [note in text for text in (words, tolerant, explained(box, zero))] == [True, False, True]
+    return said and all("is accepted" in text and "concluded: every exact height" in text and "expected:" not in text for text in (words, tolerant))
 
 
-def explains_what_is_read_once(room):
+def explains_what_is_read_once(box):
     """From a pipe, which is read to its end though the first bytes decide: its writer meets no closed end. The line quoted is the one that was judged."""
     writer = "{ printf '(problem 2)\n(scale 4 4)\n(row 1 (4 -1)) \n'; head -c 3000000 /dev/zero; echo $? >written; }"
-    status, out, err = room.shell(f"{writer} | ./register --explain")
-    told = b"standard input is refused with 2" in err and b'line 3 is "(row 1 (4 -1)) "\n' in err
-    return (status, out, told) == (1, b"(refused 2 (3))\n", True) and (room.root / "written").read_text() == "0\n"
+    status, out, err = box.shell(f"{writer} | ./register --explain")
+    said = b"standard input is refused with 2" in err and b'line 3 is "(row 1 (4 -1)) "\n' in err
+    return (status, out, said) == (1, b"(refused 2 (3))\n", True) and (box.root / "written").read_text() == "0\n"
 
 
-def quotes_no_control_bytes(room):
-    _, out, err = room.run("--explain", text=b"(problem 2)\n\x1b[31m\x00\t\xff(end)\n")
+def quotes_no_control_bytes(box):
+    _, out, err = box.run("--explain", text=b"(problem 2)\n\x1b[31m\x00\t\xff(end)\n")
     return out == b"(refused 2 (2))\n" and b'line 2 is "?[31m???(end)"\n' in err
 
 
-def quotes_a_long_line_in_part(room):
+def quotes_a_long_line_in_part(box):
     """A line of 30,000 bytes, before the end of what is kept and past it."""
-    lines = [room.run("--explain", text=b"(problem 2)\n" + b"x" * length)[2] for length in (30_000, 100_000)]
+    lines = [box.run("--explain", text=b"(problem 2)\n" + b"x" * length)[2] for length in (30_000, 100_000)]
     return all(err.count(b"x") < 200 and b'line 2 is "xxx' in err and b'x .."\n' in err for err in lines)
 
 
-def names_many_missing_forms_in_part(room):
-    _, _, err = room.run("--explain", text=b"(problem 32)\n(scale 4 4)\n(right 2 1)\n(end)\n(row 1 (1))\n")
+def names_many_missing_forms_in_part(box):
+    _, _, err = box.run("--explain", text=b"(problem 32)\n(scale 4 4)\n(right 2 1)\n(end)\n(row 1 (1))\n")
     return b"row 1, row 2, row 3, row 4, row 5, row 6, row 7, row 8 and 119 more are missing" in err
 
 
-def help_text(room):
-    return room.run("--help")[1].decode()
+def help_text(sandbox):
+    return sandbox.run("--help")[1].decode()
 
 
-def readme_has_the_help(room):
-    indented = "".join(f"    {line}".rstrip() + "\n" for line in help_text(room).rstrip("\n").split("\n"))
-    return len(indented) > 500 and indented in (room.root / "README.md").read_text()
+def readme_has_the_help(box):
+    indented = "".join(f"    {line}".rstrip() + "\n" for line in help_text(box).rstrip("\n").split("\n"))
+    return len(indented) > 500 and indented in (box.root / "README.md").read_text()
 
 
-def manual_has_the_help(room):
+def manual_has_the_help(box):
     """Every paragraph and every option of the help, word for word."""
-    manual = re.sub(r"\\f[BIR]", "", (room.root / "docs/register.1").read_text())
+    manual = re.sub(r"\\f[BIR]", "", (box.root / "docs/register.1").read_text())
     manual = " ".join(re.sub(r"(?m)^\.\S+ ?", "", manual).replace("\\-", "-").split())
-    text = re.sub(r"(?m)^(usage:)? +(register|--|-h|\d )", r"\n\n\2", help_text(room)).replace("usage: ", "").replace("Exit status:", "")
+    text = re.sub(r"(?m)^(usage:)? +(register|--|-h|\d )", r"\n\n\2", help_text(box)).replace("usage: ", "").replace("Exit status:", "")
     paragraphs = [" ".join(paragraph.split()) for paragraph in text.split("\n\n")]
     return len(paragraphs) > 8 and all(paragraph in manual for paragraph in paragraphs)
 
 
-def readme_counts_lines(room):
+def readme_counts_lines(box):
     """The reading list names files that are there, with their lines, and the sum of them."""
-    listed = re.findall(r"(?m)^\| `(\S+/specs/\S+\.antt)` \| (\d+) \|", (room.root / "README.md").read_text())
+    listed = re.findall(r"(?m)^\| `(\S+/specs/\S+\.antt)` \| (\d+) \|", (box.root / "README.md").read_text())
     counted = [(name, str(count_lines(ROOT / "crates" / name))) for name, _ in listed]
-    for (name, told), (_, lines) in zip(listed, counted):
-        if told != lines:
-            print(f"README.md: {name} has {lines} lines, not {told}")
-    together = re.search(r"(?m)^\| together \| (\d+) \|", (room.root / "README.md").read_text())
-    return len(listed) > 40 and listed == counted and int(together.group(1)) == sum(int(told) for _, told in listed)
+    for (name, said), (_, lines) in zip(listed, counted):
+        if said != lines:
+            print(f"README.md: {name} has {lines} lines, not {said}")
+    together = re.search(r"(?m)^\| together \| (\d+) \|", (box.root / "README.md").read_text())
+    return len(listed) > 40 and listed == counted and int(together.group(1)) == sum(int(said) for _, said in listed)
 
 
 def count_lines(path):
     return path.read_bytes().count(b"\n") if path.exists() else 0
-
-
-TESTS = (
-    examples_give_their_lines, every_example_is_told, format_has_the_table, explains_every_example, names_the_very_fault, field_comes_first, clerk_is_told_the_same, dropped_tolerance_gives_smaller_limits,
-    explains_an_accepted_file, explains_what_is_read_once,
-    quotes_no_control_bytes, quotes_a_long_line_in_part, names_many_missing_forms_in_part, readme_has_the_help, manual_has_the_help, readme_counts_lines,
-)
