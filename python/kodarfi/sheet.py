@@ -61,9 +61,9 @@ body { max-width: 48rem; margin: 2rem auto; padding: 0 1rem; background: var(--p
 h1 { font-size: 1.35rem; font-weight: 600; overflow-wrap: anywhere; }
 .table { overflow-x: auto; }
 table { border-collapse: collapse; width: 100%; }
-th, td { padding: 0.3rem 0.7rem; border-bottom: 1px solid var(--rule); text-align: left; vertical-align: baseline; }
+th, td { padding: 0.3rem 0.6rem; border-bottom: 1px solid var(--rule); text-align: left; vertical-align: baseline; }
 th { color: var(--faint); font-weight: 600; }
-td.name { overflow-wrap: anywhere; }
+td.name { overflow-wrap: break-word; }
 .number { text-align: right; white-space: nowrap; font-variant-numeric: tabular-nums; }
 dl { color: var(--faint); font-size: 0.85rem; }
 dt { float: left; clear: left; margin-right: 0.5rem; }

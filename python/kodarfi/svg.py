@@ -15,7 +15,7 @@ svg { --paper: #fff; --ink: #1a1a1a; --line: #9aa0a8; --faint: #50555c; --ring: 
 text { font: 13px system-ui, "DejaVu Sans", sans-serif; fill: var(--ink); text-anchor: middle; paint-order: stroke; stroke: var(--paper); stroke-width: 3px; stroke-linejoin: round; }
 .paper { fill: var(--paper); } .dot { fill: var(--ink); }
 .line { stroke: var(--line); stroke-width: 1.4; } .ring { fill: var(--ring); fill-opacity: 0.13; stroke: var(--ring); stroke-width: 1.2; }
-.weight { font-size: 11px; fill: var(--faint); } .left { text-anchor: start; } .heading { font-size: 16px; font-weight: 600; }
+.weight { font-size: 11px; fill: var(--faint); } .left { text-anchor: start; } .right { text-anchor: end; } .heading { font-size: 16px; font-weight: 600; }
 .refused.line { stroke: var(--red); stroke-width: 2; } .refused.dot, text.refused { fill: var(--red); }
 """
 
@@ -69,8 +69,10 @@ def _words(drawing: Drawing) -> List[str]:
     for (_, weight), box in zip(drawing.picture.joined, drawing.placed.weights):
         if box is not None:
             made += _text([weight], "weight", (box.left + box.right) / 2, box.top, SMALL + 3)
-    for mark, box in zip(drawing.picture.marks, drawing.placed.labels):
-        made += _text(mark.label, "refused" if mark.is_refused else "label", (box.left + box.right) / 2, box.top)
+    for mark, (x, _), box in zip(drawing.picture.marks, drawing.points, drawing.placed.labels):
+        kind = "refused" if mark.is_refused else "label"
+        side, at = ("left", box.left) if box.left > x else ("right", box.right) if box.right < x else ("middle", (box.left + box.right) / 2)
+        made += _text(mark.label, f"{kind} {side}", at, box.top)
     return made
 
 
