@@ -41,6 +41,8 @@ def width_of(text: str, size: float) -> float:
 def crosses(segment: Segment, box: Box) -> bool:
     """Whether a line passes through a box."""
     (x, y), (to_x, to_y) = segment
+    if (x < box.left and to_x < box.left) or (x > box.right and to_x > box.right) or (y < box.top and to_y < box.top) or (y > box.bottom and to_y > box.bottom):
+        return False
     enter, leave = 0.0, 1.0
     for step, low, high in ((to_x - x, box.left - x, box.right - x), (to_y - y, box.top - y, box.bottom - y)):
         if step == 0:
@@ -53,7 +55,9 @@ def crosses(segment: Segment, box: Box) -> bool:
 
 
 def _cost(box: Box, taken: List[Box], lines: List[Segment]) -> float:
-    return CLASH * len([one for one in taken if one.meets(box)]) + CROSSED * len([one for one in lines if crosses(one, box)])
+    """Lines count only where nothing else is in the way."""
+    clashes = len([one for one in taken if one.meets(box)])
+    return CLASH * clashes if clashes else CROSSED * len([one for one in lines if crosses(one, box)])
 
 
 def _best(boxes: Iterable[Box], taken: List[Box], lines: List[Segment]) -> Tuple[float, Box]:

@@ -7,7 +7,7 @@ from typing import List, Tuple
 Point = Tuple[float, float]
 Pair = Tuple[int, int]
 
-ROUNDS = 120
+ROUNDS = 80
 
 
 def steps_apart(count: int, pairs: List[Pair]) -> List[List[int]]:

@@ -1,6 +1,6 @@
 """Named mutants of the package: a file, a text in it, another text, and the test that must detect it."""
 
-from package import beside, commands, hanging, shape
+from package import beside, commands, hanging, pages, region, shape
 
 MUTANTS = {
     "a call without its last list": ("library.py", '"kodarfi_quality": [_U32, _U32, *_SIGNED * 3,', '"kodarfi_quality": [_U32, _U32, *_SIGNED * 2,', shape.types_are_the_headers),
@@ -73,7 +73,7 @@ MUTANTS = {
     "coarse inverse steps": ("propose.py", "FINEST_S, FINEST_T = 10, 20", "FINEST_S, FINEST_T = 10, 8", commands.proposals_are_good),
     "a guess without its rounding": ("propose.py", "    residual = _residual(matrix, base, guess)\n    return [X +", "    return [0] * len(guess)\n    residual = _residual(matrix, base, guess)\n    return [X +", commands.proposals_are_good),
     "no room for tolerances": ("propose.py", "s = _finest(fits, max(net.tolerance), LARGEST_RESIDUAL - rounding)", "s = fits", commands.wide_tolerances_leave_room),
-    "no room for heights": ("propose.py", "fits = _finest(FINEST_S, max(map(abs, heights)), LARGEST_GUESS)", "fits = FINEST_S", commands.wide_tolerances_leave_room),
+    "no room for heights": ("propose.py", "fits = _finest(finest_s, max(map(abs, heights)), LARGEST_GUESS)", "fits = finest_s", commands.wide_tolerances_leave_room),
     "a proposal that is there is read": ("forms.py", "if not line.startswith(PROPOSED):", "if line:", commands.wide_tolerances_leave_room),
     "missing rows are 0": ("forms.py", "    if missing:\n", "    if False:\n", commands.what_cannot_be_proposed_is_told),
     "open heights are proposed": ("propose.py", "<= smallest:", "< 0:", commands.what_cannot_be_proposed_is_told),
@@ -110,4 +110,36 @@ MUTANTS = {
     "the wrong file is named": ("commands.py", "    except TextError as error:\n        error.file = 1\n        raise\n    except Refused", "    except Refused", hanging.what_is_wrong_with_two_nets_is_told),
     "an entry of another steps": ("forms.py", "entries = [entry(X, E, proposal.s)", "entries = [entry(X, E, proposal.s and proposal.s - 1)", hanging.listings_of_two_nets),
     "steps as fine as ever": ("propose.py", "fits = _finest(finest_s, max", "fits = _finest(FINEST_S, max", hanging.coarse_steps_leave_room),
+    "limits of a tenth less": ("forms.py", "entries = [entry(X, E, proposal.s)", "entries = [entry(X, E * 9 // 10, proposal.s)", region.region_lies_within_its_limits),
+    "other words than the page's": ("field.py", "the main net has the marks main:1 to main:", "the main net has marks up to main:", region.page_prints_what_it_says),
+    "a page with other heights": ("propose.py", "return [X + round(", "return [X + 2 * 2**9 + round(", region.page_says_what_is_so),
+    "a sheet's limit without the solution's": ("sheet.py", "entries = [entry(X, E, proposal.s)", "entries = [entry(X, 0 * E, proposal.s)", pages.sheets_say_what_listings_say),
+    "names as they are in HTML": ("sheet.py", "{escape(row.name)}", "{row.name}", pages.sheets_say_what_listings_say),
+    "the fixed mark as it is in HTML": ("sheet.py", "{escape(one.fixed)}", "{one.fixed}", pages.sheets_say_what_listings_say),
+    "the unit as it is in HTML": ("sheet.py", "unit = escape(one.unit)", "unit = one.unit", pages.sheets_say_what_listings_say),
+    "the hash of other bytes": ("sheet.py", "hashlib.sha256(file)", "hashlib.sha256(file.strip())", pages.sheets_say_what_listings_say),
+    "a page for light screens alone": ("sheet.py", "@media (prefers-color-scheme: dark)", "@media (prefers-color-scheme: light)", pages.sheets_say_what_listings_say),
+    "names of another net": ("names.py", "    if other:\n", "    if False:\n", pages.names_are_read),
+    "marks without a name": ("names.py", "    if missing:\n", "    if False:\n", pages.names_are_read),
+    "two marks of one name": ("names.py", "if what != UNIT and name in (", "if False and name in (", pages.names_are_read),
+    "letters that only look alike": ("names.py", 'unicodedata.normalize("NFC", " ".join(given.split()))', '" ".join(given.split())', pages.names_are_read),
+    "names that turn the line around": ("names.py", "    if not name.isprintable():\n", "    if False:\n", pages.names_are_read),
+    "names of any length": ("names.py", "    if len(name) > NAME_LENGTH:\n", "    if False:\n", pages.names_are_read),
+    "the header's order is not heeded": ("names.py", "dict(zip(map(str.lower, cells(header, between)), found))", "dict(zip(COLUMNS, found))", pages.names_are_read),
+    "the later of two names": ("names.py", "        if what in found:\n", "        if False:\n", pages.names_are_read),
+    "weights with the matrix's sign": ("draw.py", "(-matrix[i][j], -matrix[j][i])", "(matrix[i][j], matrix[j][i])", pages.pictures_show_the_net),
+    "no lines to the fixed mark": ("draw.py", "for i, row in enumerate(matrix) if sum(row)]", "for i, row in enumerate(matrix) if False]", pages.pictures_show_the_net),
+    "rings of one size": ("draw.py", "LARGEST_RING * (mark.limit or 0) / largest", "LARGEST_RING * bool(mark.limit)", pages.pictures_show_the_net),
+    "names as they are in SVG": ("svg.py", "<title>{escape(text)}</title>", "<title>{text}</title>", pages.pictures_show_the_net),
+    "labels as they are in SVG": ("svg.py", "kind, escape(line), x=x", "kind, line, x=x", pages.pictures_show_the_net),
+    "labels at the first place": ("labels.py", "cost, _, box = min(costs)", "cost, _, box = costs[0]", pages.nothing_lies_over_another),
+    "pictures as small as can be": ("draw.py", "has_room = not placed.clashes and", "has_room = True or", pages.nothing_lies_over_another),
+    "letters half as wide": ("labels.py", "0.58 * (len(text) - wide)", "0.29 * (len(text) - wide)", pages.nothing_lies_over_another),
+    "weights over labels": ("labels.py", "    taken = rings + labels\n", "    taken = list(rings)\n", pages.nothing_lies_over_another),
+    "the column in red": ("draw.py", "judged.places[judged.number == 7]", "judged.places[0]", pages.a_refused_row_is_red),
+    "a refused row's lines as others": ("svg.py", 'kind = "refused line" if one.marks[i].is_refused or one.marks[j].is_refused else "line"', 'kind = "line"', pages.a_refused_row_is_red),
+    "a picture of what is refused has status 0": ("__main__.py", "        put(error.picture)\n", "        put(error.picture)\n        return 0\n", pages.a_refused_row_is_red),
+    "a picture by chance": ("layout.py", "by_number = list(range(count))", "by_number = sorted(range(count), key=lambda mark: hash(str(mark)))", pages.pictures_are_always_the_same),
+    "HTML for any command": ("__main__.py", 'elif word == "--html" and word in command.files:', 'elif word == "--html":', pages.pages_as_filters),
+    "steps of any scale": ("__main__.py", '(name == "scale" and int(word) > high)', "False", pages.pages_as_filters),
 }
