@@ -7,7 +7,8 @@ from typing import List, Tuple
 Point = Tuple[float, float]
 Pair = Tuple[int, int]
 
-ROUNDS = 80
+ROUNDS, OFF_ROUNDS = 80, 12
+GAP = 0.22  # of a line's length
 
 
 def steps_apart(count: int, pairs: List[Pair]) -> List[List[int]]:
@@ -74,6 +75,36 @@ def _settled(order: List[int], apart: List[List[int]]) -> List[Point]:
     return places
 
 
+def _away(mark: Point, start: Point, end: Point) -> Point:
+    """How far a mark is to move so that it lies at least GAP from a line that is not its own."""
+    along_x, along_y = end[0] - start[0], end[1] - start[1]
+    length = along_x * along_x + along_y * along_y
+    from_x, from_y = mark[0] - start[0], mark[1] - start[1]
+    at = (from_x * along_x + from_y * along_y) / length if length > 1e-9 else 0.0
+    if not 0.0 < at < 1.0:
+        return 0.0, 0.0
+    x, y = from_x - at * along_x, from_y - at * along_y
+    distance = sqrt(x * x + y * y)
+    if distance >= GAP:
+        return 0.0, 0.0
+    if distance < 1e-6:
+        x, y, distance = -along_y, along_x, sqrt(length)
+        return GAP * x / distance, GAP * y / distance
+    return (GAP - distance) * x / distance, (GAP - distance) * y / distance
+
+
+def _off_the_lines(places: List[Point], pairs: List[Pair]) -> List[Point]:
+    """The places with marks moved off lines that only pass by: such a line would look as if it ended there."""
+    moved = list(places)
+    for _ in range(OFF_ROUNDS):
+        for mark in range(len(moved)):
+            for i, j in pairs:
+                if mark not in (i, j):
+                    x, y = _away(moved[mark], moved[i], moved[j])
+                    moved[mark] = moved[mark][0] + x, moved[mark][1] + y
+    return moved
+
+
 def positions(count: int, pairs: List[Pair]) -> List[Point]:
     """A place for each mark, a line being about 1 long: the best of a few beginnings. The first mark lies at the left."""
     apart = steps_apart(count, pairs)
@@ -81,5 +112,6 @@ def positions(count: int, pairs: List[Pair]) -> List[Point]:
     by_steps = sorted(by_number, key=lambda mark: (apart[0][mark], mark))
     by_ends = sorted(by_number, key=lambda mark: (apart[0][mark] - apart[by_steps[-1]][mark], mark))
     found = min((_settled(order, apart) for order in (by_number, by_steps, by_ends)), key=lambda places: _stress(places, apart))
+    found = _off_the_lines(found, pairs)
     middle = (min(x for x, _ in found) + max(x for x, _ in found)) / 2
     return [(-x, y) for x, y in found] if found[0][0] > middle else found

@@ -1,18 +1,15 @@
-"""The commands sheet and draw: what a page and a picture say beside the listing and the equations; names; and every kind of bad input."""
+"""The command sheet: what a page says beside the listing; names files; and every kind of bad input of sheet and draw."""
 
 import hashlib
 import random
 import re
-import xml.etree.ElementTree as Tree
 from html.parser import HTMLParser
 
 from checks import entries_in
 from second.program import Program
 
-from package.commands import ROOT, WHOLE, acted, book, command, equations, problems
+from package.commands import ROOT, WHOLE, acted, book, command, equations
 
-REGION = ROOT / "examples" / "region"
-NAMES = (REGION / "names.txt").read_bytes()
 VERSION = (ROOT / "VERSION").read_text().strip()
 MADE_OF = ("Brücke", "<b>&amp;", 'O"Neil\'s', "Große Röder, Nordpfeiler", "駅前", "St. Ærø & Sønner", "x" * 40, "]]>", "Höhe 5 m")
 WHOLE_NAMES = b"unit mm\n0 Church door\n1 Town hall\n2 Mill\n"
@@ -138,120 +135,6 @@ def names_are_read(package):
     return all(words in told(text) for text, words in BAD_NAMES[:-1]) and commas and quoted
 
 
-SVG = "{http://www.w3.org/2000/svg}"
-
-
-class Drawn:
-    """A picture's elements by their kind."""
-
-    def __init__(self, picture):
-        self.root = Tree.fromstring(picture)
-        self.of = lambda tag, kind: [one for one in self.root.iter(SVG + tag) if kind in one.get("class", "").split()]
-        self.place = lambda one: (float(one.get("cx")), float(one.get("cy")))
-
-    def title(self, one):
-        return one.find(SVG + "title").text
-
-
-def pictures_show_the_net(package):
-    """A mark each at a place of its own, a line for each joined pair with its weight, both from the field lines, and rings in proportion to the limits."""
-    for file, marks, unit, lines in files(package):
-        entries = entries_in(Program().listing(file))
-        for named in (None, names_text(unit, marks)):
-            drawn = Drawn(acted(package, "draw", *filter(None, (file, named))))
-            label = lambda mark: f"{mark} {(marks[mark] if named else '' if mark else 'fixed mark')}".strip()
-            pairs = {}
-            for line in {line.key: line for line, _ in lines}.values():
-                pair = tuple(sorted((line.start, line.to)))
-                pairs[pair] = pairs.get(pair, 0) + line.weight
-            weights = sorted(f"weight {weight}, {label(i)} to {label(j)}" for (i, j), weight in pairs.items())
-            dots = drawn.of("circle", "dot")[: len(entries)]
-            rings = {drawn.place(one): float(one.get("r")) for one in drawn.of("circle", "ring")}
-            largest = max(limit for _, limit in entries)
-            scaled = all(abs(rings.get(drawn.place(dot), 0.0) - (30 * limit / largest if largest else 0)) < 0.06 for dot, (_, limit) in zip(dots, entries))
-            if sorted(map(drawn.title, drawn.of("line", "line"))) != weights or [drawn.title(dot) for dot in dots] != [label(mark) for mark in range(1, len(marks))]:
-                return False
-            places = {drawn.place(dot) for dot in dots}
-            ends = {(float(one.get(f"x{k}")), float(one.get(f"y{k}"))) for one in drawn.of("line", "line") for k in (1, 2)}
-            words = [one.text for one in drawn.of("text", "label")]
-            if not scaled or len(places) != len(entries) or not places <= ends or len(drawn.of("polygon", "dot")) != 1 or any(f"{V} ± {limit}" not in words for V, limit in entries):
-                return False
-            if drawn.of("line", "refused") or not (f"a limit of {largest} {unit if named else 'units'}, the largest" in Tree.tostring(drawn.root, "unicode", "text") or not largest):
-                return False
-    return True
-
-
-def shapes():
-    """Nets of 3 to 32 marks as pairs of marks: chains, rings, stars, grids and meshes."""
-    for n in (3, 12, 32):
-        rng = random.Random(n)
-        yield n, [(i, i + 1) for i in range(n)] + [(0, n)]
-        yield n, [(0, i) for i in range(1, n + 1)]
-        yield n, [(i, j) for i in range(n + 1) for j in (i + 1, i + 6) if j <= n and (j != i + 1 or j % 6)]
-        yield n, sorted({tuple(sorted(rng.sample(range(n + 1), 2))) for _ in range(n)} | {(max(0, i - rng.randint(1, 4)), i) for i in range(1, n + 1)})
-
-
-def nothing_lies_over_another(package):
-    """No label or weight over another or over a mark, with long names too; every label is there, and lies beside its mark."""
-    draw = __import__("kodarfi.draw", fromlist=["arranged"])
-    for n, pairs in shapes():
-        rng = random.Random(n)
-        marks = [draw.Mark([f"{mark} Große Röder, Nordpf", "links der Straße", "12345 ± 67"][mark % 2 :], "", rng.randint(1, 60), False) for mark in range(n + 1)]
-        drawing = draw.arranged(draw.Picture("", marks, [(pair, str(rng.randint(1, 64))) for pair in pairs], "mm", ""))
-        boxes = [*drawing.placed.labels, *(box for box in drawing.placed.weights if box)]
-        clash = any(apart(one, other) is False for at, one in enumerate(boxes) for other in boxes[:at])
-        over = any(box.left < x < box.right and box.top < y < box.bottom for box in boxes for x, y in drawing.points)
-        narrow = any(box.right - box.left < 6.5 * max(map(len, mark.label)) or box.bottom - box.top < 14 * len(mark.label) for mark, box in zip(marks, drawing.placed.labels))
-        far = any(abs((box.left + box.right) / 2 - x) > (box.right - box.left) / 2 + 45 or abs((box.top + box.bottom) / 2 - y) > (box.bottom - box.top) / 2 + 45 for box, (x, y) in zip(drawing.placed.labels, drawing.points))
-        if drawing.placed.clashes or clash or over or narrow or far or drawing.placed.weights.count(None) > len(pairs) // 8:
-            return False
-    return True
-
-
-def apart(one, other):
-    return one.right <= other.left or other.right <= one.left or one.bottom <= other.top or other.bottom <= one.top
-
-
-def a_refused_row_is_red(package):
-    """The picture of a file that is refused with 5, 6 or 7 has the row's mark and lines in red and says why; its status is 1. Any equations can be drawn."""
-    met = set()
-    for file, problem in problems():
-        listing = Program().listing(file)
-        answer = pictured(package, file)
-        drawn = Drawn(answer[0])
-        refused = re.match(rb"\(refused (\d) \((\d+)(?: (\d+))?\)\)", listing)
-        met.add(int(refused.group(1)) if refused else 0)
-        red = [drawn.title(one) for one in drawn.of("circle", "refused")]
-        row = int(refused.group(3) or refused.group(2)) if refused else 0
-        at_row = {drawn.title(one) for one in drawn.of("line", "line") if re.search(rf", {row} to | to {row}$", drawn.title(one))} if row else set()
-        if red != ([str(row)] if row else []) or {drawn.title(one) for one in drawn.of("line", "refused")} != at_row or (answer[1] is None) != (refused is None):
-            return False
-        if refused and (drawn.of("circle", "ring") or f"refused with {refused.group(1).decode()}, " not in " ".join(one.text for one in drawn.of("text", "refused"))):
-            return False
-    poor = ROOT / "examples" / "refused" / "6-poor-guess.txt"
-    status, out, err = command(package, "draw", poor)
-    broken = command(package, "draw", ROOT / "examples" / "refused" / "15-no-end.txt")
-    told = status == 1 and out.startswith(b"<svg ") and err.count(b"\n") == 1 and f"draw: {poor}: refused with 6, row ".encode() in err
-    return met >= {0, 5, 6} and told and broken[:2] == (1, b"(refused 15 (0))\n") and broken[2].count(b"\n") == 1
-
-
-def pictured(package, file):
-    """The picture, and what is refused."""
-    commands = __import__("kodarfi.commands", fromlist=["COMMANDS"])
-    try:
-        return commands.COMMANDS["draw"].act(commands.Given([file])), None
-    except commands.Pictured as one:
-        return one.picture, one.refused
-
-
-def pictures_are_always_the_same(package):
-    """In every process, whatever order Python keeps sets in; for light and dark screens and for paper."""
-    region = acted(package, "propose", acted(package, "build", (REGION / "main.txt").read_bytes()))
-    here = acted(package, "draw", region, NAMES)
-    again = [package.python("-m", "kodarfi", "draw", "-", REGION / "names.txt", input=region, env=package.environment(PYTHONHASHSEED=seed)) for seed in ("1", "2")]
-    return again == [(0, here, b"")] * 2 and all(word in here for word in (b"prefers-color-scheme: dark", b"@media print"))
-
-
 def pages_as_filters(package):
     """Statuses and one line for what cannot be read, written or judged."""
     on, whole, named = "python3 -m kodarfi", "examples/whole-file.txt", "<(printf '%s\\n' 'unit mm' '0 a' '1 b' '2 c')"
@@ -272,6 +155,4 @@ def pages_as_filters(package):
     )  # fmt: skip
 
 
-TESTS = (
-    sheets_say_what_listings_say, names_are_read, pictures_show_the_net, nothing_lies_over_another, a_refused_row_is_red, pictures_are_always_the_same, pages_as_filters,
-)  # fmt: skip
+TESTS = (sheets_say_what_listings_say, names_are_read, pages_as_filters)
