@@ -117,7 +117,8 @@ def _by_the_builder(n: int, book: FieldBook) -> Tuple[Optional[Net], Optional[_R
         return build(n, lines), None
     except Refused as refused:
         if not refused.line:
-            raise Refused(3, note="no field line" if not lines else f"{len(lines)} field lines, and {LINES_MAX} at most" if n > 0 else "no mark but the fixed one") from None
+            count = f"{len(lines)} field lines, and {LINES_MAX} at most" if n > 0 else "no mark but the fixed one"
+            raise Refused(3, note=count if lines else "no field line") from None
         outside = refused.number == 16 and any(mark is not None for mark in book.joined[refused.line - 1])
         return None, (refused.line, refused.number, "no end of it is a mark of the dependent net" if outside else "")
 

@@ -72,7 +72,8 @@ def _weighted(proposal: Proposal, sizes: List[int], checked: Callable[[Proposal]
     """The proposal with weights of 1 or in proportion to how far each height can lie from its guess, whichever the library gives the smaller entry limits
     in sum; where it refuses both, with weights that the library finds, if it finds any."""
     changed = lambda weights: Proposal(proposal.net, proposal.s, proposal.t, proposal.guess, proposal.inverse, weights)
-    tried = [(limits, at, one) for at, one in enumerate((proposal, changed(_in_proportion(sizes)))) for limits in [_entry_limits(one, checked)] if limits is not None]
+    both = proposal, changed(_in_proportion(sizes))
+    tried = [(limits, at, one) for at, one in enumerate(both) for limits in [_entry_limits(one, checked)] if limits is not None]
     if tried:
         return min(tried)[2]
     try:

@@ -56,7 +56,12 @@ def text(one: Page) -> str:
 STYLE = """
 :root { color-scheme: light dark; --paper: #fff; --ink: #1a1a1a; --faint: #5a5a5a; --rule: #c8c8c8; }
 @media (prefers-color-scheme: dark) { :root { --paper: #16181c; --ink: #ececec; --faint: #a8a8a8; --rule: #45484e; } }
-@media print { :root { --paper: #fff; --ink: #000; --faint: #333; --rule: #999; } body { margin: 0; } thead { display: table-header-group; } tr { break-inside: avoid; } }
+@media print {
+  :root { --paper: #fff; --ink: #000; --faint: #333; --rule: #999; }
+  body { margin: 0; }
+  thead { display: table-header-group; }
+  tr { break-inside: avoid; }
+}
 body { max-width: 48rem; margin: 2rem auto; padding: 0 1rem; background: var(--paper); color: var(--ink); font: 1rem/1.45 system-ui, sans-serif; }
 h1 { font-size: 1.35rem; font-weight: 600; overflow-wrap: anywhere; }
 .table { overflow-x: auto; }
@@ -76,7 +81,8 @@ def html(one: Page) -> str:
     """The page as HTML, in one file that needs nothing else."""
     unit = escape(one.unit)
     title = f"Heights above the fixed mark {escape(one.fixed)}"
-    head = "".join(f'<th scope="col" class="{kind}">{what}</th>' for kind, what in (("number", "mark"), ("name", "name"), ("number", "height"), ("number", "limit")))
+    columns = (("number", "mark"), ("name", "name"), ("number", "height"), ("number", "limit"))
+    head = "".join(f'<th scope="col" class="{kind}">{what}</th>' for kind, what in columns)
     rows = [
         f'<tr><td class="number">{row.mark}</td><td class="name">{escape(row.name)}</td>'
         f'<td class="number">{row.value} {unit}</td><td class="number">{row.limit} {unit}</td></tr>'

@@ -5,14 +5,15 @@ from html import escape
 from typing import List, Sequence
 
 from .draw import DOT, LARGEST_RING, LEADING, SMALL, TEXT, Drawing, Picture, arranged
-from .labels import Box
+from .labels import Box, width_of
 
-MARGIN, NARROWEST, HEAD_TEXT = 16.0, 440.0, 16.0
+MARGIN, NARROWEST, HEAD_TEXT, BESIDE_RING = 16.0, 440.0, 16.0, 2 * LARGEST_RING + 10
 STYLE = """
 svg { --paper: #fff; --ink: #1a1a1a; --line: #9aa0a8; --faint: #50555c; --ring: #1f6feb; --red: #c62828; }
 @media (prefers-color-scheme: dark) { svg { --paper: #16181c; --ink: #ececec; --line: #6b7280; --faint: #b8bec8; --ring: #6ea8ff; --red: #ff6b6b; } }
 @media print { svg { --paper: #fff; --ink: #000; --line: #888; --faint: #333; --ring: #1f6feb; --red: #c62828; } }
-text { font: 13px system-ui, "DejaVu Sans", sans-serif; fill: var(--ink); text-anchor: middle; paint-order: stroke; stroke: var(--paper); stroke-width: 3px; stroke-linejoin: round; }
+text { font: 13px system-ui, "DejaVu Sans", sans-serif; fill: var(--ink); text-anchor: middle; }
+text { paint-order: stroke; stroke: var(--paper); stroke-width: 3px; stroke-linejoin: round; }
 .paper { fill: var(--paper); } .dot { fill: var(--ink); }
 .line { stroke: var(--line); stroke-width: 1.4; } .ring { fill: var(--ring); fill-opacity: 0.13; stroke: var(--ring); stroke-width: 1.2; }
 .weight { font-size: 11px; fill: var(--faint); } .left { text-anchor: start; } .right { text-anchor: end; } .heading { font-size: 16px; font-weight: 600; }
@@ -82,27 +83,29 @@ def _extent(drawing: Drawing) -> Box:
     return Box(min(box.left for box in boxes), min(box.top for box in boxes), max(box.right for box in boxes), max(box.bottom for box in boxes))
 
 
-def _legend(drawing: Drawing, left: float, top: float) -> List[str]:
+def _meaning(drawing: Drawing) -> List[str]:
     """What rings and numbers mean."""
     one = drawing.picture
+    limits = [mark.limit for mark in one.marks if mark.limit is not None]
     hidden = drawing.placed.weights.count(None)
-    said = ["numbers on lines: weights" + (f"; {hidden} have no room, and are shown under the pointer" if hidden else "")]
-    largest = max((mark.limit or 0 for mark in one.marks), default=0)
-    if any(mark.limit is not None for mark in one.marks):
-        said.insert(0, f"at each mark: height ± limit, in {one.unit}" if one.unit else "")
-    if not largest:
-        return _text(said, "weight left", left, top)
+    said = [f"at each mark: height ± limit, in {one.unit}"] if limits else []
+    said += [f"a ring of this size: a limit of {max(limits)} {one.unit}, the largest; others in scale"] if any(limits) else []
+    return said + ["numbers on lines: weights" + (f"; of {hidden} there is no room, and they are shown under the pointer" if hidden else "")]
+
+
+def _legend(drawing: Drawing, left: float, top: float) -> List[str]:
+    if not any(drawing.radii):
+        return _text(_meaning(drawing), "weight left", left, top)
     x, y = left + LARGEST_RING, top + LARGEST_RING
     ring = [_element("circle", "ring", cx=x, cy=y, r=LARGEST_RING), _element("circle", "dot", cx=x, cy=y, r=DOT)]
-    said.insert(1, f"a ring of this size: a limit of {largest} {one.unit}, the largest; others in scale")
-    return ring + _text(said, "weight left", left + 2 * LARGEST_RING + 10, top + 8)
+    return ring + _text(_meaning(drawing), "weight left", left + BESIDE_RING, top + 8)
 
 
 def svg(one: Picture) -> str:
     """The whole picture."""
     drawing = arranged(one)
     extent = _extent(drawing)
-    width = max(NARROWEST, extent.right - extent.left)
+    width = max(NARROWEST, extent.right - extent.left, *(BESIDE_RING + width_of(line, SMALL) for line in _meaning(drawing)))
     heading = textwrap.wrap(one.heading, int(width / (0.58 * HEAD_TEXT)))
     refused = textwrap.wrap(one.refused, int(width / (0.58 * TEXT)))
     above = 22.0 * len(heading) + LEADING * len(refused) + 10

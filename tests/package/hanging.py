@@ -5,15 +5,10 @@ from fractions import Fraction
 from math import ceil
 
 import joint
-from checks import entries_in, net_from
-from exact import product
 from second.dependent import DependentCheck, Nets, PairBounds
-from second.field_lines import Build, Builder, FieldLine
-from second.program import Program
-from second.reckoning import Problem
-from systems.usual import levelling_lines
 
 from package.commands import FIELD, ROOT, TOWN, WHOLE, acted, book, command, equations
+from package.commands import Build, Builder, FieldLine, Problem, Program, entries_in, levelling_lines, net_from, product
 
 PAIRS = 10
 MAIN_FILE = ROOT / "examples" / "whole-file.txt"
@@ -164,7 +159,10 @@ SUBURBS = (
     (b"", "(refused 3 (0))"),
 )
 # What is no mark of a main net, nor a number; main:1 is none where there is no main net.
-UNREADABLE = (b"7 mian:1 1 10 2\n", b"7 main:-1 1 10 2\n", b"7 Main:1 1 10 2\n", b"7 main:1.0 1 10 2\n", b"main:7 0 1 10 1\n", b"7 main: 1 1 10 2\n", b"7 m1 1 10 2\n", b"7 main:1 1 main:1 2\n")
+UNREADABLE = (
+    b"7 mian:1 1 10 2\n", b"7 main:-1 1 10 2\n", b"7 Main:1 1 10 2\n", b"7 main:1.0 1 10 2\n", b"main:7 0 1 10 1\n", b"7 main: 1 1 10 2\n", b"7 m1 1 10 2\n",
+    b"7 main:1 1 main:1 2\n",
+)  # fmt: skip
 
 
 def suburbs_are_judged_by_their_lines(package):
@@ -214,7 +212,8 @@ def coarse_steps_leave_room(package):
     """What the main net's limits add to the slack has to fit beside the residual: propose --scale makes the steps for it."""
     fine, coarse = Hung(package, WIDE, scale=10), Hung(package, WIDE)
     made = command(package, "propose", "--scale", "6", input=coarse.main)
-    return acted(package, "dependent", fine.file, fine.text()) == "(refused 6 (6))" and made == (0, coarse.file, b"") and isinstance(acted(package, "dependent", coarse.file, coarse.text()), bytes)
+    refused, accepted = (acted(package, "dependent", hung.file, hung.text()) for hung in (fine, coarse))
+    return refused == "(refused 6 (6))" and made == (0, coarse.file, b"") and isinstance(accepted, bytes)
 
 
 TESTS = (

@@ -4,10 +4,7 @@ import random
 import re
 import xml.etree.ElementTree as Tree
 
-from checks import entries_in
-from second.program import Program
-
-from package.commands import ROOT, acted, command, problems
+from package.commands import ROOT, Program, acted, command, entries_in, problems
 from package.sheets import files, names_text
 
 REGION = ROOT / "examples" / "region"
@@ -42,15 +39,17 @@ def pictures_show_the_net(package):
             dots = drawn.of("circle", "dot")[: len(entries)]
             rings = {drawn.place(one): float(one.get("r")) for one in drawn.of("circle", "ring")}
             largest = max(limit for _, limit in entries)
-            scaled = all(abs(rings.get(drawn.place(dot), 0.0) - (30 * limit / largest if largest else 0)) < 0.06 for dot, (_, limit) in zip(dots, entries))
-            if sorted(map(drawn.title, drawn.of("line", "line"))) != weights or [drawn.title(dot) for dot in dots] != [label(mark) for mark in range(1, len(marks))]:
+            radius = lambda limit: 30 * limit / largest if largest else 0
+            scaled = all(abs(rings.get(drawn.place(dot), 0.0) - radius(limit)) < 0.06 for dot, (_, limit) in zip(dots, entries))
+            if sorted(map(drawn.title, drawn.of("line", "line"))) != weights or list(map(drawn.title, dots)) != list(map(label, range(1, len(marks)))):
                 return False
             places = {drawn.place(dot) for dot in dots}
             ends = {(float(one.get(f"x{k}")), float(one.get(f"y{k}"))) for one in drawn.of("line", "line") for k in (1, 2)}
             words = [one.text for one in drawn.of("text", "label")]
-            if not scaled or len(places) != len(entries) or not places <= ends or len(drawn.of("polygon", "dot")) != 1 or any(f"{V} ± {limit}" not in words for V, limit in entries):
+            if not scaled or len(places) != len(entries) or not places <= ends or len(drawn.of("polygon", "dot")) != 1:
                 return False
-            if drawn.of("line", "refused") or not (f"a limit of {largest} {unit if named else 'units'}, the largest" in Tree.tostring(drawn.root, "unicode", "text") or not largest):
+            legend = f"a limit of {largest} {unit if named else 'units'}, the largest" in Tree.tostring(drawn.root, "unicode", "text")
+            if drawn.of("line", "refused") or legend != (largest > 0) or any(f"{V} ± {limit}" not in words for V, limit in entries):
                 return False
     return True
 
@@ -71,13 +70,15 @@ def nothing_lies_over_another(package):
     draw = __import__("kodarfi.draw", fromlist=["arranged"])
     for n, pairs in shapes():
         rng = random.Random(n)
-        marks = [draw.Mark([f"{mark} Große Röder, Nordpf", "links der Straße", "12345 ± 67"][mark % 2 :], "", rng.randint(1, 60), False) for mark in range(n + 1)]
+        label = lambda mark: [f"{mark} Große Röder, Nordpf", "links der Straße", "12345 ± 67"][mark % 2 :]
+        marks = [draw.Mark(label(mark), "", rng.randint(1, 60), False) for mark in range(n + 1)]
         drawing = draw.arranged(draw.Picture("", marks, [(pair, str(rng.randint(1, 64))) for pair in pairs], "mm", ""))
         boxes = [*drawing.placed.labels, *(box for box in drawing.placed.weights if box)]
         clash = any(apart(one, other) is False for at, one in enumerate(boxes) for other in boxes[:at])
         over = any(box.left < x < box.right and box.top < y < box.bottom for box in boxes for x, y in drawing.points)
-        narrow = any(box.right - box.left < 6.5 * max(map(len, mark.label)) or box.bottom - box.top < 14 * len(mark.label) for mark, box in zip(marks, drawing.placed.labels))
-        far = any(abs((box.left + box.right) / 2 - x) > (box.right - box.left) / 2 + 45 or abs((box.top + box.bottom) / 2 - y) > (box.bottom - box.top) / 2 + 45 for box, (x, y) in zip(drawing.placed.labels, drawing.points))
+        placed = list(zip(marks, drawing.placed.labels, drawing.points))
+        narrow = any(box.right - box.left < 6.5 * max(map(len, mark.label)) or box.bottom - box.top < 14 * len(mark.label) for mark, box, _ in placed)
+        far = any(not (box.left - 45 < x < box.right + 45 and box.top - 45 < y < box.bottom + 45) for _, box, (x, y) in placed)
         near = any(passes(drawing.points[mark], drawing.points[i], drawing.points[j]) for mark in range(n + 1) for i, j in pairs if mark not in (i, j))
         if drawing.placed.clashes or clash or over or narrow or far or drawing.placed.weights.count(None) > len(pairs) // 8 or (near and len(pairs) < 60):
             return False
@@ -106,10 +107,11 @@ def a_refused_row_is_red(package):
         met.add(int(refused.group(1)) if refused else 0)
         red = [drawn.title(one) for one in drawn.of("circle", "refused")]
         row = int(refused.group(3) or refused.group(2)) if refused else 0
-        at_row = {drawn.title(one) for one in drawn.of("line", "line") if re.search(rf", {row} to | to {row}$", drawn.title(one))} if row else set()
-        if red != ([str(row)] if row else []) or {drawn.title(one) for one in drawn.of("line", "refused")} != at_row or (answer[1] is None) != (refused is None):
+        at_row = {title for title in map(drawn.title, drawn.of("line", "line")) if row and re.search(rf", {row} to | to {row}$", title)}
+        if red != ([str(row)] if row else []) or set(map(drawn.title, drawn.of("line", "refused"))) != at_row or (answer[1] is None) != (refused is None):
             return False
-        if refused and (drawn.of("circle", "ring") or f"refused with {refused.group(1).decode()}, " not in " ".join(one.text for one in drawn.of("text", "refused"))):
+        words = " ".join(one.text for one in drawn.of("text", "refused"))
+        if refused and (drawn.of("circle", "ring") or f"refused with {refused.group(1).decode()}, " not in words):
             return False
     poor = ROOT / "examples" / "refused" / "6-poor-guess.txt"
     status, out, err = command(package, "draw", poor)
@@ -131,7 +133,8 @@ def pictures_are_always_the_same(package):
     """In every process, whatever order Python keeps sets in; for light and dark screens and for paper."""
     region = acted(package, "propose", acted(package, "build", (REGION / "main.txt").read_bytes()))
     here = acted(package, "draw", region, NAMES)
-    again = [package.python("-m", "kodarfi", "draw", "-", REGION / "names.txt", input=region, env=package.environment(PYTHONHASHSEED=seed)) for seed in ("1", "2")]
+    settings = [{"input": region, "env": package.environment(PYTHONHASHSEED=seed)} for seed in ("1", "2")]
+    again = [command(package, "draw", "-", REGION / "names.txt", **options) for options in settings]
     return again == [(0, here, b"")] * 2 and all(word in here for word in (b"prefers-color-scheme: dark", b"@media print"))
 
 

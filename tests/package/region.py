@@ -7,10 +7,7 @@ from fractions import Fraction
 from functools import lru_cache
 from pathlib import Path
 
-from exact import inverse_of, product
-from office.room import open_folder
-
-from package.commands import ROOT, acted
+from package.commands import ROOT, acted, inverse_of, open_folder, product
 from package.hanging import limits_of
 
 REGION = ROOT / "examples" / "region"
@@ -115,7 +112,8 @@ def printed(package):
         both = limits_of(text)
         if len(both) != 2 or not text.startswith(acted(package, "check", main)):
             return {}
-        found.update((mark, (*entry, Fraction(X, 2**10))) for one, part in zip(both, ("main", name)) for mark, entry, X in zip(marks_of(part), one.entries, one.guess))
+        for one, part in zip(both, ("main", name)):
+            found.update((mark, (*entry, Fraction(X, 2**10))) for mark, entry, X in zip(marks_of(part), one.entries, one.guess))
     return found
 
 
@@ -146,7 +144,8 @@ def page_says_what_is_so(package):
     moves = {mark: abs(at_once()[mark] - joint()[mark][0]) for mark in REGION_MARKS}
     most = lambda *names: max((moves[mark], mark) for mark in marks_of(*names))
     (main, main_mark), (other, other_mark) = most("main"), most(*SUBURBS)
-    words = f"at most {float(main):.2f} (mark {main_mark[1]} of the main net) and the others by at most {float(other):.2f} (mark {other_mark[1]} of the {other_mark[0]})"
+    words = f"at most {float(main):.2f} (mark {main_mark[1]} of the main net) and the others by at most {float(other):.2f} "
+    words += f"(mark {other_mark[1]} of the {other_mark[0]})"
     within = all(abs(at_once()[mark] - V) <= limit for mark, (V, limit, _) in printed(package).items())
     lines = [line.strip() for line in page.split("\n") if line.startswith("    200")]
     shown = len(lines) == 2 and set(lines) <= set((REGION / "east.txt").read_text().split("\n"))
@@ -172,7 +171,8 @@ def page_prints_what_it_says(package):
         (Path(folder) / "target").mkdir()
         (Path(folder) / "examples").symlink_to(ROOT / "examples")
         told = commands_in(PAGE.read_text(encoding="utf-8"))
-        said = [subprocess.run(["bash", "-c", command], cwd=folder, env=package.environment(), stdout=subprocess.PIPE, stderr=subprocess.STDOUT, text=True).stdout for command, _ in told]
+        settings = {"cwd": folder, "env": package.environment(), "stdout": subprocess.PIPE, "stderr": subprocess.STDOUT, "text": True}
+        said = [subprocess.run(["bash", "-c", command], **settings).stdout for command, _ in told]
         return len(told) == 7 and said == [lines for _, lines in told]
 
 

@@ -5,10 +5,7 @@ import random
 import re
 from html.parser import HTMLParser
 
-from checks import entries_in
-from second.program import Program
-
-from package.commands import ROOT, WHOLE, acted, book, command, equations
+from package.commands import GOOD, ROOT, WHOLE, Program, acted, book, command, entries_in, equations
 
 VERSION = (ROOT / "VERSION").read_text().strip()
 MADE_OF = ("Brücke", "<b>&amp;", 'O"Neil\'s', "Große Röder, Nordpfeiler", "駅前", "St. Ærø & Sønner", "x" * 40, "]]>", "Höhe 5 m")
@@ -73,7 +70,8 @@ def sheets_say_what_listings_say(package):
             return False
         if [line.split(": ")[-1] for line in lines[-3:-1]] != source or not text.endswith("\n") or any(line != line.rstrip() for line in lines):
             return False
-        if cells.wrong or cells.open or cells.texts("td") != [cell for row in rows for cell in row] or cells.texts("h1") != [title] or cells.texts("title") != [title] or cells.texts("dd") != source:
+        said = cells.texts("h1"), cells.texts("title"), cells.texts("td"), cells.texts("dd")
+        if cells.wrong or cells.open or said != ([title], [title], [cell for row in rows for cell in row], source):
             return False
         style = cells.texts("style")[0]
         if not all(word in style for word in ("prefers-color-scheme: dark", "@media print", "color-scheme: light dark")):
@@ -135,15 +133,23 @@ def names_are_read(package):
     return all(words in told(text) for text, words in BAD_NAMES[:-1]) and commas and quoted
 
 
+MISUSED = (
+    ("sheet", GOOD), ("sheet", "-", "-"), ("draw", "--html", GOOD), ("sheet", "--html"), ("dependent", GOOD), ("propose", "--scale", "21"), ("propose", "--scale", "x"),
+    ("draw", GOOD, GOOD, GOOD), ("dependent", "--main", GOOD, GOOD),
+)  # fmt: skip
+
+
 def pages_as_filters(package):
     """Statuses and one line for what cannot be read, written or judged."""
     on, whole, named = "python3 -m kodarfi", "examples/whole-file.txt", "<(printf '%s\\n' 'unit mm' '0 a' '1 b' '2 c')"
     one = lambda answer, status, *words: answer[0] == status and answer[1] == b"" and answer[2].count(b"\n") == 1 and all(word in answer[2] for word in words)
-    full = [package.shell(f"{on} {words} >/dev/full") for words in (f"sheet {whole} {named}", f"sheet --html {whole} {named}", f"draw {whole}", f"draw examples/refused/6-poor-guess.txt", f"dependent {whole} examples/town/field.txt")]
+    drawn = f"draw {whole}", "draw examples/refused/6-poor-guess.txt"
+    written = f"sheet {whole} {named}", f"sheet --html {whole} {named}", *drawn, f"dependent {whole} examples/town/field.txt"
+    full = [package.shell(f"{on} {words} >/dev/full") for words in written]
     gone = package.shell(f"{{ sleep 0.2; {on} draw {whole}; echo $? >&2; }} | exec true")
     refused = command(package, "sheet", ROOT / "examples" / "refused" / "5-inverse-of-0.txt", "-", input=WHOLE_NAMES)
     binary = command(package, "draw", input=b"\x89PNG\r\n\x00\xff" * 9000)
-    mistakes = [command(package, *words) for words in (("sheet", ROOT / whole), ("sheet", "-", "-"), ("draw", "--html", ROOT / whole), ("sheet", "--html"), ("dependent", ROOT / whole), ("propose", "--scale", "21"), ("propose", "--scale", "x"))]
+    mistakes = [command(package, *words) for words in MISUSED]
     return (
         all(one(answer, 2, b"standard output could not be written") for answer in full)
         and gone == (0, b"", b"0\n")
