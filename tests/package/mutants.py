@@ -143,4 +143,5 @@ MUTANTS = {
     "HTML for any command": ("__main__.py", 'elif word == "--html" and word in command.files:', 'elif word == "--html":', sheets.pages_as_filters),
     "steps of any scale": ("__main__.py", '(name == "scale" and int(word) > high)', "False", sheets.pages_as_filters),
     "lines through marks": ("layout.py", "found = _off_the_lines(found, pairs)", "found = list(found)", pictures.nothing_lies_over_another),
+    "C with weights of 1": ("field.py", "rows[own - 1][mark - 1] -= line.weight", "rows[own - 1][mark - 1] -= 1", hanging.true_heights_lie_within_the_limits),
 }
