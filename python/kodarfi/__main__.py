@@ -3,16 +3,15 @@
 import os
 import signal
 import sys
-from typing import List, Tuple
+from typing import Dict, List, Tuple
 
-from . import __version__, field
-from .commands import COMMANDS, Given, Unmade
-from .forms import FILE_LENGTH
+from . import __version__
+from .commands import COMMANDS, Given, Pictured, Unmade
 from .library import LibraryMissing
 from .nets import Refused
+from .texts import TEXT_LENGTH, TextError
 
-FIELD_LENGTH = 2**20
-HELP = """usage: python3 -m kodarfi COMMAND [FILE]
+HELP = """usage: python3 -m kodarfi COMMAND [FILE] ..
        python3 -m kodarfi --help
        python3 -m kodarfi --version
 
@@ -26,7 +25,14 @@ difference, weight and perhaps a reading limit; or it is CSV whose first line na
 columns. Equations and files are forms as docs/FORMAT.md has them. common prints
 (common n s) and lines (interval i (low high)) in steps of 2^s to a unit, intervals the same
 with doubles in units, quality (quality p q), the factor p/q; docs/FIELD-LINES.md tells of
-field lines and their tolerances.
+field lines and their tolerances. propose takes the finest solution steps that fit, at most
+2^S to a unit, 2^10 where S is left out.
+
+For dependent, MAIN is the main net's file, and FIELD has the dependent net's lines, where
+main:7 is mark 7 of the main net and a number alone a mark of the net itself; docs/LARGE-NETS.md
+tells more. NAMES has lines of a mark's number and its name, 0 for the fixed mark, and a line
+of the word unit and the unit's name; or it is CSV whose first line is mark,name. Where draw
+meets a row that is refused, it still prints the picture, with a status of 1.
 
 Exit status:
   0   made, or accepted
@@ -86,53 +92,73 @@ def help_text() -> str:
     return HELP.format(commands="\n".join(f"  {name + ' ' + command.files:<{width}}   {command.tells}" for name, command in COMMANDS.items()))
 
 
-def words_of(name: str, words: List[str]) -> Tuple[List[str], int]:
-    """The files that a command is called with, and its allowance."""
-    usage, files, allowance = f"usage: python3 -m kodarfi {name} {COMMANDS[name].files}", [], 64
+# Options with a number: what it is called, and its range.
+NUMBERED = {"--allowance": ("allowance", 1, 64), "--scale": ("scale", 0, 20)}
+
+
+def number_of(option: str, word: str, usage: str) -> Dict[str, int]:
+    """An option's number. One outside its range is the library's to refuse, where there is a call that does."""
+    name, low, high = NUMBERED[option]
+    is_whole = word.isascii() and word.isdigit() and len(word) < 10
+    if not is_whole or (name == "scale" and int(word) > high):
+        raise Failure(f"the {name} is a whole number, {low} to {high}, not {shown(word)}; {usage}")
+    return {name: int(word)}
+
+
+def words_of(name: str, words: List[str]) -> Tuple[List[str], Given]:
+    """The files that a command is called with, and its options."""
+    command = COMMANDS[name]
+    usage, files, given = f"usage: python3 -m kodarfi {name} {command.files}", [], Given([])
     rest = list(words)
     while rest:
         word = rest.pop(0)
         if word == "--":
             files += rest
             break
-        if word == "--allowance" and name == "weights" and rest:
-            number = rest.pop(0)
-            if not (number.isascii() and number.isdigit() and len(number) < 10):
-                raise Failure(f"the allowance is a whole number, 1 to 64, not {shown(number)}; {usage}")
-            allowance = int(number)
+        if word in NUMBERED and word in command.files and rest:
+            given = given._replace(**number_of(word, rest.pop(0), usage))
+        elif word == "--html" and word in command.files:
+            given = given._replace(is_html=True)
         elif word.startswith("-") and word != "-":
             raise Failure(f"there is no option {shown(word)}; {usage}")
         else:
             files.append(word)
-    if name == "common":
-        if len(files) != 2:
-            raise Failure(f"two files; {usage}")
-        if files == ["-", "-"]:
-            raise Failure(f"standard input is one file; {usage}")
-    elif len(files) > 1:
-        raise Failure(f"one file at a time; {usage}")
-    return files or ["-"], allowance
+    files = files if files or command.least else ["-"]
+    if not command.least <= len(files) <= len(command.lengths):
+        raise Failure(f"{'two files' if command.least else 'one file at a time' if len(command.lengths) == 1 else 'two files at most'}; {usage}")
+    if files.count("-") > 1:
+        raise Failure(f"standard input is one file; {usage}")
+    return files, given
+
+
+def texts_of(name: str, files: List[str]) -> List[bytes]:
+    """The bytes of a command's files, as many of each as it needs."""
+    if "-" in files and sys.stdin is not None and sys.stdin.isatty():
+        say(f"{name}: reading standard input to its end")
+    texts = [read(file, length) for file, length in zip(files, COMMANDS[name].lengths)]
+    for file, text in zip(files, texts):
+        if len(text) > TEXT_LENGTH:
+            raise Failure(f"{shown(file)}: more than {TEXT_LENGTH:,} bytes")
+    return texts
 
 
 def run(name: str, words: List[str]) -> int:
     if set(words) & {"-h", "--help"} and "--" not in words:
         put(f"usage: python3 -m kodarfi {name} {COMMANDS[name].files}\n\n{COMMANDS[name].tells}; python3 -m kodarfi --help tells more\n".encode())
         return 0
-    files, allowance = words_of(name, words)
-    if "-" in files and sys.stdin is not None and sys.stdin.isatty():
-        say(f"{name}: reading standard input to its end")
+    files, given = words_of(name, words)
     names = " and ".join(map(shown, files))
-    length = FIELD_LENGTH + 1 if name == "build" else FILE_LENGTH
-    texts = [read(file, length) for file in files]
-    if len(texts[0]) > FIELD_LENGTH:
-        raise Failure(f"{names}: more than {FIELD_LENGTH:,} bytes")
+    texts = texts_of(name, files)
     try:
-        put(COMMANDS[name].act(Given(texts, allowance)))
+        put(COMMANDS[name].act(given._replace(files=texts)))
         return 0
-    except field.FieldError as error:
-        raise Failure(f"{names}: {error}") from None
+    except TextError as error:
+        raise Failure(f"{shown(files[error.file])}: {error}") from None
     except Unmade as error:
         say(f"{name}: {names}: {error}")
+    except Pictured as error:
+        put(error.picture)
+        say(f"{name}: {names}: {error.refused}")
     except Refused as refused:
         put(f"{refused.form()}\n".encode())
         if name != "check":

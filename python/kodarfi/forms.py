@@ -2,8 +2,9 @@
 
 from typing import Callable, List
 
+from .calls import entry
 from .loader import Loader
-from .nets import Net, Proposal, Refused
+from .nets import Limits, Net, Proposal, Refused
 
 # The bytes of a file that decide its answer (KODARFI_FILE_LENGTH): no more need be read.
 FILE_LENGTH = 65536
@@ -81,4 +82,15 @@ def proposal_text(proposal: Proposal) -> bytes:
     lines += [f"(guess {i} {X})" for i, X in enumerate(proposal.guess, 1)]
     lines += [f"(inverse {i} ({_list(row)}))" for i, row in enumerate(proposal.inverse, 1)]
     lines += [f"(weight {i} {w})" for i, w in enumerate(proposal.weights, 1)]
+    return _file(lines + ["(end)"])
+
+
+def listing_text(proposal: Proposal, limits: Limits) -> bytes:
+    """An accepted proposal's listing, as ./register prints one."""
+    heights = list(zip(proposal.guess, limits.solution))
+    entries = [entry(X, E, proposal.s) for X, E in heights]
+    lines = [f"(bounds {proposal.net.n})"]
+    lines += [f"(solution {i} ({X} {E}))" for i, (X, E) in enumerate(heights, 1)]
+    lines += [f"(entry {i} ({V} {limit}))" for i, (V, limit) in enumerate(entries, 1)]
+    lines += [f"(inverse {i} ({_list(row)}))" for i, row in enumerate(limits.inverse, 1)]
     return _file(lines + ["(end)"])

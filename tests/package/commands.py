@@ -35,11 +35,11 @@ def command(package, *words, **options):
     return package.python("-m", "kodarfi", *words, **options)
 
 
-def acted(package, name, *files, allowance=64):
+def acted(package, name, *files, **options):
     """What a command prints, or what is refused, in this process."""
     commands = __import__("kodarfi.commands", fromlist=["COMMANDS"])
     try:
-        return commands.COMMANDS[name].act(commands.Given(list(files), allowance))
+        return commands.COMMANDS[name].act(commands.Given(list(files), **options))
     except package.calls.Refused as refused:
         return refused.form()
     except commands.Unmade:
@@ -173,7 +173,7 @@ def bad_field_books_are_told(package):
         if (status, out) != (2, b"") or err.count(b"\n") != 1 or words.encode() not in err or not err.startswith(b"build: standard input: "):
             return False
     field = __import__("kodarfi.field", fromlist=["read"])
-    told = lambda text: next((str(error) for error in [raised(field.read, text)] if type(error).__name__ == "FieldError"), "")
+    told = lambda text: next((str(error) for error in [raised(field.read, text)] if type(error).__name__ == "TextError"), "")
     return all(words in told(text) for text, words in UNREADABLE[:-1])
 
 

@@ -12,11 +12,11 @@ sys.dont_write_bytecode = True
 sys.path.insert(0, str(Path(__file__).resolve().parent.parent))
 
 from common.mutated import main, open_folder, report, results
-from package import beside, commands, shape
+from package import beside, commands, hanging, pictures, region, shape, sheets
 from package.loaded import SHARED, SOURCES, Package, copied
 from package.mutants import MUTANTS
 
-TESTS = (*shape.TESTS, *beside.TESTS, *commands.TESTS)
+TESTS = (*shape.TESTS, *beside.TESTS, *commands.TESTS, *hanging.TESTS, *region.TESTS, *sheets.TESTS, *pictures.TESTS)
 
 
 def run():

@@ -59,7 +59,7 @@ def sources(package):
 
 
 # The modules of Python that the package uses.
-OWN = {"csv", "ctypes", "dataclasses", "itertools", "operator", "os", "pathlib", "re", "signal", "sys", "typing"}
+OWN = {"csv", "ctypes", "dataclasses", "hashlib", "html", "itertools", "math", "operator", "os", "pathlib", "re", "signal", "sys", "textwrap", "typing", "unicodedata"}
 
 
 def syntax_is_that_of_3_9(package):
