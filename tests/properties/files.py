@@ -10,12 +10,15 @@ WITH_LINE = (1, 2, 3, 4, 11, 12, 14)
 
 
 def file_of(proposal, rng=None):
-    """A file of a proposal as its lines; with chances, the forms between scale and end in any order, and weights of 1 left out here and there."""
+    """A file of a proposal as its lines; with chances, the forms between scale and end in any order, weights of 1 left out and tolerances of 0 written here
+    and there."""
     lines = proposal_text(proposal).splitlines()
     if rng is None:
         return lines
     inner = [line for line in lines[2:-1] if not (line.startswith(b"(weight ") and line.endswith(b" 1)") and rng.random() < 0.5)]
     rng.shuffle(inner)
+    if rng.random() < 0.3:
+        inner = [re.sub(rb"^\(right (\d+) (-?\d+)\)$", rb"(right \1 (\2 0))", line) for line in inner]
     return [*lines[:2], *inner, lines[-1]]
 
 
@@ -48,7 +51,7 @@ def listing_is_the_checks_limits_and_entries(given):
 
 def order_of_forms_and_weights_of_1_change_no_listing(given):
     """01: "the rest in any order"; Paper 1: "A file without weights whose every line the desk accepts, end among them, and the same file with 1 everywhere, get
-    equal listings"."""
+    equal listings"; Paper 5: "(right i b) means d = 0"."""
     if not given.is_in_range:
         return None
     listing = lambda lines: given.calls.listing(joined(lines)).text
@@ -164,7 +167,7 @@ def converter_refuses_as_the_listing(given):
     refused, converted = given.calls.listing(file).refused, outcome(given.calls.convert, file)
     if refused is None or refused.number in (5, 6, 7):
         return not isinstance(converted, No)
-    return converted._replace(line=converted.line if refused.number in WITH_LINE else 0) == refusal(refused)
+    return isinstance(converted, No) and converted._replace(line=converted.line if refused.number in WITH_LINE else 0) == refusal(refused)
 
 
 PROPERTIES = (

@@ -10,6 +10,14 @@ def open_above(real, first, second):
     return Common(found.s, [(low, high - 1) for low, high in found.intervals])
 
 
+def closed_at_2_36(real, first, second):
+    """A limit of 2^36 itself is too wide."""
+    found = real(first, second)
+    if max(high - low for low, high in found.intervals) >= 2**37:
+        raise Refused(21)
+    return found
+
+
 def coarser_steps(real, first, second):
     found, s = real(first, second), min(first.s, second.s)
     return Common(s, [(low >> (found.s - s), -(-high >> (found.s - s))) for low, high in found.intervals])
@@ -57,6 +65,7 @@ def slack_without_main_tolerances(real, main, dependent, coupling):
 
 MUTANTS = {
     "a common interval that is open above": ("common", open_above, pairs.common_with_itself_is_its_own_interval),
+    "a limit of 2^36 is too wide": ("common", closed_at_2_36, pairs.common_with_itself_is_its_own_interval),
     "the coarser of the two steps": ("common", coarser_steps, pairs.common_is_in_the_finer_steps),
     "the middle of the common interval": ("common", middle, pairs.common_interval_contains_the_height),
     "the first's lower end, the second's upper": ("common", lower_of_first_upper_of_second, pairs.common_is_the_same_in_either_order),

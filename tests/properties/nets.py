@@ -31,6 +31,9 @@ class Case(NamedTuple):
 
 def case_at(seed: int, index: int) -> Case:
     rng = Random(f"{seed} {index}")
+    if rng.random() < 0.02:
+        proposal = broad(rng)
+        return Case(seed, index, [], proposal, inverse_of(proposal.net.matrix))
     n = rng.randint(1, 6) if rng.random() < 0.985 else rng.randint(7, 32)
     lines = field_lines(rng, n) if rng.random() < 0.6 else []
     matrix, right = equations(n, lines) if lines else system(rng, n)
@@ -126,6 +129,12 @@ def tolerances(rng, n, s):
         return [0] * n
     most = min(LARGEST, 2 ** rng.randint(0, 25 if rng.random() < 0.05 else max(0, 24 - s)))
     return [rng.randint(0, most) if rng.random() < 0.7 else 0 for _ in range(n)]
+
+
+def broad(rng):
+    """An exact proposal whose first limit is 2^36, or a little beside it, by its tolerances."""
+    guess, d = [rng.randint(-9, 9), rng.randint(-9, 9)], rng.choice((0, 0, 1, 2**20))
+    return Proposal(Net([[1, 2**20], [0, 1]], [guess[0] + 2**20 * guess[1], guess[1]], [d, rng.choice((2**16, 2**16, 2**16 - 1))]), 0, 0, guess, [[1, -(2**20)], [0, 1]])
 
 
 def spoiled(rng, proposal):

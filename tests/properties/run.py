@@ -92,11 +92,11 @@ def tried(properties, indices, seed):
 
 
 def detected(cases, call, mutant, each):
-    """Whether a property detects a mutant on one of the nets."""
+    """Whether a property detects a mutant on one of the nets: it does not hold, or a call refuses. Any other error would be the mutant's own."""
     from given import Given, calls
 
     called = calls(**{call: partial(mutant, getattr(calls(), call))})
-    return any(holds(each, Given(case, called)) not in (None, True) for case in cases)
+    return any(good is False or str(good).startswith("Refused: ") for good in (holds(each, Given(case, called)) for case in cases))
 
 
 def results(properties, indices, seed):
