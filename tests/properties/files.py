@@ -2,19 +2,14 @@
 
 import re
 
-from given import No, changed, outcome, refusal
+from given import No, outcome, refusal
 from kodarfi import Limits
-from kodarfi.forms import proposal_text
 
 WITH_LINE = (1, 2, 3, 4, 11, 12, 14)
 
 
-def file_of(proposal, rng=None):
-    """A file of a proposal as its lines; with chances, the forms between scale and end in any order, weights of 1 left out and tolerances of 0 written here
-    and there."""
-    lines = proposal_text(proposal).splitlines()
-    if rng is None:
-        return lines
+def mixed(rng, lines):
+    """The lines with the forms between scale and end in any order, weights of 1 left out and tolerances of 0 written here and there."""
     inner = [line for line in lines[2:-1] if not (line.startswith(b"(weight ") and line.endswith(b" 1)") and rng.random() < 0.5)]
     rng.shuffle(inner)
     if rng.random() < 0.3:
@@ -37,7 +32,7 @@ def damaged(rng, lines):
 def listing_is_the_checks_limits_and_entries(given):
     """01: "Bounds carries n. Solution: guess and limit. Entry: V and its limit. Inverse: the limits of row i."; or "one line, (refused 5 (1))"."""
     proposal, n = given.proposal, given.proposal.net.n
-    listing = given.calls.listing(joined(file_of(proposal)))
+    listing = given.calls.listing(joined(given.lines))
     if not given.is_in_range:
         return listing.refused is not None and listing.refused.number == 3 and listing.refused.line > 0
     if not given.is_accepted:
@@ -55,7 +50,7 @@ def order_of_forms_and_weights_of_1_change_no_listing(given):
     if not given.is_in_range:
         return None
     listing = lambda lines: given.calls.listing(joined(lines)).text
-    return listing(file_of(given.proposal, given.case.chance("any order"))) == listing(file_of(given.proposal))
+    return listing(mixed(given.case.chance("any order"), given.lines)) == listing(given.lines)
 
 
 def taken_by_a_loader(calls, lines):
@@ -71,7 +66,7 @@ def taken_by_a_loader(calls, lines):
 def loader_is_the_listing(given):
     """01: "A desk collects forms line by line .. a program reads a file from standard input and prints one listing" and "stops at its first refusal"."""
     rng = given.case.chance("loader")
-    lines = damaged(rng, file_of(given.proposal, rng))
+    lines = damaged(rng, mixed(rng, given.lines))
     listing, taken = given.calls.listing(joined(lines)), taken_by_a_loader(given.calls, lines)
     if listing.refused is not None:
         return taken == refusal(listing.refused)
@@ -83,7 +78,7 @@ def refused_line_leaves_the_loader(given):
     if not given.is_in_range:
         return None
     rng = given.case.chance("refused line")
-    lines, loader = file_of(given.proposal, rng), given.calls.Loader()
+    lines, loader = mixed(rng, given.lines), given.calls.Loader()
     at = rng.randrange(2, len(lines) - 1)
     for line in lines[:at]:
         loader.take(line)
@@ -103,7 +98,7 @@ def pasted_form_is_12(given):
     if not given.is_in_range:
         return None
     rng = given.case.chance("pasted")
-    lines = file_of(given.proposal, rng)
+    lines = mixed(rng, given.lines)
     at = rng.randrange(len(lines) - 1)
     line = lines[at]
     copy = rng.choice((line, with_digits(line), line[:-2] + b" 0))" if line.startswith((b"(row", b"(inverse")) else line))
@@ -116,54 +111,49 @@ def missing_forms_are_counted_out_of_4n(given):
     if not given.is_in_range:
         return None
     rng = given.case.chance("missing")
-    lines = file_of(given.proposal, rng)
+    lines = mixed(rng, given.lines)
     kept = [line for line in lines[2:-1] if rng.random() < 0.7]
     missing = 4 * given.proposal.net.n - sum(not line.startswith(b"(weight") for line in kept)
     refused = given.calls.listing(joined(lines[:2] + kept + lines[-1:])).refused
     return refusal(refused) == No(13, (missing, 0)) if missing else None
 
 
-def without_tolerance(given):
-    return changed(given.proposal, tolerance=[0] * given.proposal.net.n) if given.is_in_range else None
-
-
 def converted_file_has_the_same_listing(given):
     """Paper 14: "The old and new file lead to equal checks"."""
-    proposal = without_tolerance(given)
-    if proposal is None:
+    if not given.is_in_range:
         return None
-    file = joined(file_of(proposal, given.case.chance("converted")))
+    file = joined(mixed(given.case.chance("converted"), given.lines_without_tolerance))
     return given.calls.listing(given.calls.convert(file)).text == given.calls.listing(file).text
 
 
 def converted_file_converts_to_itself(given):
     """Paper 14: "Converting a converted file gives equal bytes"."""
-    proposal = without_tolerance(given)
-    new = given.calls.convert(joined(file_of(proposal, given.case.chance("again")))) if proposal else None
-    return given.calls.convert(new) == new if proposal else None
+    if not given.is_in_range:
+        return None
+    new = given.calls.convert(joined(mixed(given.case.chance("again"), given.lines_without_tolerance)))
+    return given.calls.convert(new) == new
 
 
 def equal_numbers_convert_to_equal_bytes(given):
     """Paper 14: "two files with equal numbers give equal bytes": "problem, scale, rows, right sides without tolerance, guesses, inverse rows and all n weights,
     each kind by rising i, then end"."""
-    proposal = without_tolerance(given)
-    if proposal is None:
+    if not given.is_in_range:
         return None
-    file = joined(file_of(proposal))
-    return given.calls.convert(joined(file_of(proposal, given.case.chance("equal")))) == file == given.calls.convert(file[:-1])
+    lines = given.lines_without_tolerance
+    return given.calls.convert(joined(mixed(given.case.chance("equal"), lines))) == joined(lines) == given.calls.convert(joined(lines)[:-1])
 
 
 def tolerance_is_not_converted(given):
     """Paper 14: "New 22, after them, if any tolerance is above 0"."""
     if not given.is_in_range or not any(given.proposal.net.tolerance):
         return None
-    return outcome(given.calls.convert, joined(file_of(given.proposal))) == No(22)
+    return outcome(given.calls.convert, joined(given.lines)) == No(22)
 
 
 def converter_refuses_as_the_listing(given):
     """Paper 14: "The desk's refusals first, and 15 where the file stops before an end"; 5, 6 and 7 are a check's."""
     rng = given.case.chance("refused file")
-    file = joined(damaged(rng, file_of(changed(given.proposal, tolerance=[0] * given.proposal.net.n), rng)))
+    file = joined(damaged(rng, mixed(rng, given.lines_without_tolerance)))
     refused, converted = given.calls.listing(file).refused, outcome(given.calls.convert, file)
     if refused is None or refused.number in (5, 6, 7):
         return not isinstance(converted, No)

@@ -1,17 +1,19 @@
 """What a property is handed: a net by chance and the package's calls, or those of a mutant.
 
-  Calls      every function of the package, the loader, and the shared object itself, which is handed lists as they are
+  calls      every function of the package, the loader, and the calls of the shared object, which are handed lists as they are
   Given      a case with the calls, and what several properties ask of it
-  outcome    what a call gives, or what it refuses"""
+  outcome    what a call gives, or what it refuses, as a No
+  changed    a proposal with other numbers"""
 
 from functools import cached_property
 from types import SimpleNamespace
-from typing import Any, NamedTuple, Tuple
+from typing import Any, List, NamedTuple, Tuple
 
 import kodarfi
 from kodarfi import Limits, Net, Proposal, Refused
+from kodarfi.forms import proposal_text
 from kodarfi.library import CALLS, library
-from nets import Case
+from nets import Case, another, hung
 
 NAMES = [
     "build", "build_half", "check", "check_dependent", "check_half", "common", "convert", "entry", "find_weights", "guesses", "intervals", "listing", "quality", "Loader",
@@ -69,6 +71,27 @@ class Given:
     @property
     def is_in_range(self) -> bool:
         return self.checked != No(3)
+
+    @cached_property
+    def second(self) -> Any:
+        """Another proposal for the same equations and its limits, where both are accepted."""
+        proposal = another(self.case, self.case.chance("second")) if self.is_accepted else None
+        limits = outcome(self.calls.check, proposal) if proposal else None
+        return (proposal, limits) if isinstance(limits, Limits) else None
+
+    @cached_property
+    def dependent(self) -> Any:
+        """A net that hangs from this one, its coupling and its exact inverse; for every other case."""
+        return hung(self.case, self.case.chance("dependent")) if self.case.index % 2 == 0 else None
+
+    @cached_property
+    def lines(self) -> List[bytes]:
+        """The proposal's file, each kind by rising i."""
+        return proposal_text(self.proposal).splitlines()
+
+    @cached_property
+    def lines_without_tolerance(self) -> List[bytes]:
+        return proposal_text(changed(self.proposal, tolerance=[0] * self.proposal.net.n)).splitlines() if any(self.proposal.net.tolerance) else self.lines
 
     @cached_property
     def found(self) -> Any:

@@ -4,10 +4,9 @@ import ctypes
 from array import array
 from itertools import chain
 
-from files import file_of, joined
+from files import joined
 from given import changed
 from kodarfi.library import Observation
-from nets import hung
 
 MATRIX, COLUMN, HALF = 1024, 32, 528
 # What the rest of a list holds: a number outside every range.
@@ -117,7 +116,9 @@ def refused_search_leaves_the_weights(given):
 
 def refused_dependent_check_leaves_four_lists(given):
     """Paper 8: "A refusal says which net it is of, and either net's leaves the limit lists of both"."""
-    main, (dependent, coupling, _) = given.proposal, hung(given.case, given.case.chance("four lists"))
+    if given.dependent is None:
+        return None
+    main, (dependent, coupling, _) = given.proposal, given.dependent
     n, s, t, matrix, length, *rest = lent(dependent)
     c = signed(flat(coupling), MATRIX)
     words = [*lent(main), *limits(), n, s, t, matrix, length, *c, *rest, *limits(), which(), places()]
@@ -150,7 +151,7 @@ def conversion_leaves_the_rest_of_its_buffer(given):
     buffer is shorter than the new file; nothing is written"."""
     if not given.is_in_range:
         return None
-    file = joined(file_of(given.proposal))
+    file = joined(given.lines)
     tolerant, short = any(given.proposal.net.tolerance), given.case.chance("buffer").random() < 0.3
     length = len(file) - 1 if short else len(file) + 9
     out, written = (ctypes.c_uint8 * length)(*b"~" * length), (ctypes.c_size_t * 1)(5)

@@ -3,7 +3,6 @@
 from exact import corners, is_within, product
 from given import No, changed, outcome
 from kodarfi import Common, Limits
-from nets import another, hung
 
 
 def common_with_itself_is_its_own_interval(given):
@@ -16,19 +15,11 @@ def common_with_itself_is_its_own_interval(given):
     return common == (No(21) if max(limits) > 2**36 else Common(proposal.s, [(X - E, X + E) for X, E in zip(proposal.guess, limits)]))
 
 
-def two_proposals(given, name):
-    """Two accepted proposals for the same equations, with their limits; None where there are none."""
-    second = another(given.case, given.case.chance(name)) if given.is_accepted else None
-    limits = outcome(given.calls.check, second) if second else None
-    return (given.proposal, given.checked.solution, second, limits.solution) if isinstance(limits, Limits) else None
-
-
 def common_is_in_the_finer_steps(given):
     """Paper 13: "each height's common interval, in the finer of the two steps: the larger lower end and the smaller upper end"."""
-    two = two_proposals(given, "finer")
-    if two is None:
+    if given.second is None:
         return None
-    first, E1, second, E2 = two
+    first, E1, second, E2 = given.proposal, given.checked.solution, given.second[0], given.second[1].solution
     s = max(first.s, second.s)
     ends = lambda one, E, sign: [(X + sign * e) << (s - one.s) for X, e in zip(one.guess, E)]
     low, high = [list(zip(ends(first, E1, sign), ends(second, E2, sign))) for sign in (-1, 1)]
@@ -38,8 +29,7 @@ def common_is_in_the_finer_steps(given):
 
 def common_interval_contains_the_height(given):
     """Paper 13: "It contains the exact height for every right side within the tolerance, and its lower end is never above its upper"."""
-    two = two_proposals(given, "contains")
-    common = outcome(given.calls.common, two[0], two[2]) if two else No(21)
+    common = outcome(given.calls.common, given.proposal, given.second[0]) if given.second else No(21)
     if common == No(21):
         return None
     q, H = given.exact
@@ -49,8 +39,8 @@ def common_interval_contains_the_height(given):
 
 def common_is_the_same_in_either_order(given):
     """The header of kodarfi_common: "The two in the other order give the same intervals"."""
-    two = two_proposals(given, "order")
-    return outcome(given.calls.common, two[0], two[2]) == outcome(given.calls.common, two[2], two[0]) if two else None
+    two = (given.proposal, given.second[0]) if given.second else None
+    return outcome(given.calls.common, *two) == outcome(given.calls.common, *two[::-1]) if two else None
 
 
 def other_equations_are_20(given):
@@ -67,17 +57,11 @@ def other_equations_are_20(given):
     return outcome(given.calls.common, proposal, other) == outcome(given.calls.common, other, proposal) == No(20)
 
 
-def dependent_net(given, name, share=3):
-    """A dependent net by chance, for one case in so many."""
-    return hung(given.case, given.case.chance(name)) if given.case.index % share == 0 else None
-
-
 def main_net_is_refused_as_by_its_check(given):
     """Paper 8: "The main net is checked first and its refusals given .. A refusal says which net it is of"; its limits are those of its check."""
-    net = dependent_net(given, "main")
-    if net is None:
+    if given.dependent is None:
         return None
-    dependent, coupling, _ = net
+    dependent, coupling, _ = given.dependent
     both = outcome(given.calls.check_dependent, given.proposal, dependent, coupling)
     if not given.is_accepted:
         return both == given.checked._replace(net=1)
@@ -87,10 +71,9 @@ def main_net_is_refused_as_by_its_check(given):
 def dependent_net_without_coupling_is_its_own_check(given):
     """Papers 8 and 9: "then the hung net in the usual order"; with C = 0 its residual and slack are those of its own check, but "The heights of a hung net keep
     Paper 8's test only; its inverse columns take the new condition"."""
-    net = dependent_net(given, "uncoupled", 2)
-    if net is None or not given.is_accepted:
+    if given.dependent is None or not given.is_accepted:
         return None
-    dependent = net[0]
+    dependent = given.dependent[0]
     checked = outcome(given.calls.check, dependent)
     zero = [[0] * given.proposal.net.n for _ in range(dependent.net.n)]
     both = outcome(given.calls.check_dependent, given.proposal, dependent, zero)
@@ -108,9 +91,9 @@ def whole_main_heights_move_the_right_side(given):
     """Paper 8: "a hung net has equations A2·u2 = b2 − C·u1": where the main net's limits are 0 and its heights whole, it is the net without coupling whose right
     side is b2 − C·u1."""
     proposal, limits = given.proposal, given.checked
-    if not given.is_accepted or any(limits.solution) or any(X % 2**proposal.s for X in proposal.guess):
+    if given.dependent is None or not given.is_accepted or any(limits.solution) or any(X % 2**proposal.s for X in proposal.guess):
         return None
-    dependent, coupling, _ = hung(given.case, given.case.chance("whole"))
+    dependent, coupling, _ = given.dependent
     moved = product(coupling, [X >> proposal.s for X in proposal.guess])
     right = [b - m for b, m in zip(dependent.net.right, moved)]
     if max(map(abs, right)) > 2**30:
@@ -122,10 +105,9 @@ def whole_main_heights_move_the_right_side(given):
 
 def heights_of_both_nets_are_within_limits(given):
     """Paper 8: "Acceptance of both must show that every exact solution of the two nets together lies within both lists of limits, tolerances included"."""
-    net = dependent_net(given, "both", 2)
-    if net is None or not given.is_accepted:
+    if given.dependent is None or not given.is_accepted:
         return None
-    dependent, coupling, exact = net
+    dependent, coupling, exact = given.dependent
     both = outcome(given.calls.check_dependent, given.proposal, dependent, coupling)
     if isinstance(both, No):
         return None

@@ -18,8 +18,14 @@ ROOT = Path(__file__).resolve().parent.parent.parent
 SHARED = ROOT / "target" / "lib" / "libkodarfi.so"
 sys.path.insert(0, str(ROOT / "python"))
 
-MUTANT_NETS, LEAST_SHARE, MOST_NETS = 1000, 100, 10**9
-USAGE = "usage: python3 tests/properties/run.py [--nets N | --net I] [--seed S] [PROPERTY..]"
+from given import Given, calls
+from mutants import MUTANTS
+from nets import case_at
+from properties import PROPERTIES
+
+COMMAND = "python3 tests/properties/run.py"
+USAGE = f"usage: {COMMAND} [--nets N | --net I] [--seed S] [PROPERTY..]"
+MUTANT_NETS, LEAST_SHARE, LARGEST = 1000, 100, 10**9
 
 
 class Failure(Exception):
@@ -37,24 +43,29 @@ def put(line):
 
 
 def words_of(words):
-    """Options by name, and the names of properties."""
-    numbers, names, rest = {"--nets": 10000, "--seed": 1, "--net": None}, [], list(words)
+    """The numbers that are given by name, and the names of properties."""
+    numbers, names, rest = {}, [], list(words)
     while rest:
         word = rest.pop(0)
-        if word in numbers:
-            number = rest.pop(0) if rest else ""
-            if not (number.isascii() and number.isdigit() and int(number[:12]) <= MOST_NETS and len(number) < 12):
-                raise Failure(f"{word} takes a whole number, at most {MOST_NETS:,}; {USAGE}")
-            numbers[word] = int(number)
-        elif word.startswith("-"):
-            raise Failure(f"there is no option {printable(word)}; {USAGE}")
-        else:
+        if word in ("--nets", "--seed", "--net"):
+            numbers[word] = whole(word, rest.pop(0) if rest else "")
+        elif word in PROPERTIES:
             names.append(word)
-    return numbers["--nets"], numbers["--seed"], numbers["--net"], names
+        else:
+            raise Failure(f"there is no {'option' if word.startswith('-') else 'property'} {one_line(word)}; {USAGE}")
+    if "--nets" in numbers and "--net" in numbers or numbers.get("--nets") == 0:
+        raise Failure(f"one net or more, or one by its index; {USAGE}")
+    return numbers, names
 
 
-def printable(word):
-    return "".join(letter if letter.isprintable() else "?" for letter in word)
+def whole(option, word):
+    if not (word.isascii() and word.isdigit() and len(word) < 12 and int(word) <= LARGEST):
+        raise Failure(f"{option} takes a whole number, at most {LARGEST:,}; {USAGE}")
+    return int(word)
+
+
+def one_line(text):
+    return "".join(letter if letter.isprintable() else "?" for letter in " ".join(str(text).split()))
 
 
 def holds(each, given):
@@ -62,78 +73,78 @@ def holds(each, given):
     try:
         return each(given)
     except Exception as error:
-        return " ".join(f"{type(error).__name__}: {error}".split())
+        return one_line(f"{type(error).__name__}: {error}")
 
 
 class Tally:
     """How often a property applied, how often it failed, and where first."""
 
     def __init__(self):
-        self.applied, self.failed, self.first = 0, 0, ""
+        self.applied, self.failed, self.first, self.told = 0, 0, 0, ""
 
     def add(self, index, good):
         self.applied += good is not None
         if good is not None and good is not True:
-            self.first = self.first if self.failed else f"net {index}{'' if good is False else f' ({good})'}"
+            if not self.failed:
+                self.first, self.told = index, "" if good is False else f" ({good})"
             self.failed += 1
 
 
-def tried(properties, indices, seed):
+def tallies(properties, indices, seed):
     """A tally of each property over nets."""
-    from given import Given, calls
-    from nets import case_at
-
-    real, tallies = calls(), {name: Tally() for name in properties}
+    real, found = calls(), {name: Tally() for name in properties}
     for index in indices:
         given = Given(case_at(seed, index), real)
         for name, each in properties.items():
-            tallies[name].add(index, holds(each, given))
-    return tallies
+            found[name].add(index, holds(each, given))
+    return found
+
+
+def property_results(properties, indices, seed):
+    """A line for each property, with whether it held and was met often enough."""
+    least = len(indices) // LEAST_SHARE
+    for name, tally in tallies(properties, indices, seed).items():
+        if tally.failed:
+            yield f"{name}: {tally.failed} of {tally.applied} nets{tally.told}; the first again: {COMMAND} --seed {seed} --net {tally.first} {name}", False
+        elif tally.applied < least:
+            yield f"{name}: {tally.applied} nets, fewer than {least}", False
+        else:
+            yield f"{name}: {tally.applied} nets", True
 
 
 def detected(cases, call, mutant, each):
     """Whether a property detects a mutant on one of the nets: it does not hold, or a call refuses. Any other error would be the mutant's own."""
-    from given import Given, calls
-
     called = calls(**{call: partial(mutant, getattr(calls(), call))})
     return any(good is False or str(good).startswith("Refused: ") for good in (holds(each, Given(case, called)) for case in cases))
 
 
-def results(properties, indices, seed):
-    """What passed and what failed: lines, each with whether all is well."""
-    least = len(indices) // LEAST_SHARE
-    for name, tally in tried(properties, indices, seed).items():
-        again = f"; again: python3 tests/properties/run.py --seed {seed} --net {tally.first.split()[1]} {name}" if tally.failed else ""
-        told = f"failed on {tally.failed} of {tally.applied} nets, first on {tally.first}{again}" if tally.failed else f"{tally.applied} nets"
-        few = f", fewer than {least}" if tally.applied < least else ""
-        yield f"{name}: {told}{few}", not tally.failed and not few
-    if len(indices) > 1:
-        yield from mutant_results(properties, seed)
-
-
 def mutant_results(properties, seed):
-    from mutants import MUTANTS
-    from nets import case_at
-
+    """A line for each mutant of the properties, with whether it is detected, and for each property that has none."""
     cases = [case_at(seed, index) for index in range(MUTANT_NETS)]
     for name, (call, mutant, each) in MUTANTS.items():
         if each.__name__ in properties:
-            yield f"mutant '{name}' of {call}: {each.__name__}", detected(cases, call, mutant, each)
+            yield f"mutant '{name}' of {call}, by {each.__name__}", detected(cases, call, mutant, each)
+    for name in set(properties) - {each.__name__ for _, _, each in MUTANTS.values()}:
+        yield f"{name} has no mutant", False
+
+
+def results(properties, numbers):
+    seed, net = numbers.get("--seed", 1), numbers.get("--net")
+    yield from property_results(properties, range(numbers.get("--nets", 10000)) if net is None else [net], seed)
+    if net is None:
+        yield from mutant_results(properties, seed)
 
 
 def run(words):
-    nets, seed, net, names = words_of(words)
-    if not SHARED.exists() and not os.environ.get("KODARFI_LIBRARY"):
+    if words in (["-h"], ["--help"]):
+        put(__doc__)
+        return 0
+    numbers, names = words_of(words)
+    if not SHARED.exists():
         raise Failure(f"there is no {SHARED}: make lib")
-    os.environ.setdefault("KODARFI_LIBRARY", str(SHARED))
-    from properties import PROPERTIES
-
-    unknown = [name for name in names if name not in PROPERTIES]
-    if unknown:
-        raise Failure(f"there is no property {printable(unknown[0])}; {USAGE}")
-    chosen = {name: each for name, each in PROPERTIES.items() if not names or name in names}
+    os.environ["KODARFI_LIBRARY"] = str(SHARED)
     passed = failed = 0
-    for line, good in results(chosen, range(nets) if net is None else [net], seed):
+    for line, good in results({name: each for name, each in PROPERTIES.items() if not names or name in names}, numbers):
         passed, failed = passed + good, failed + (not good)
         put(("" if good else "FAILED ") + line)
     put(f"{passed} passed, {failed} failed")
@@ -146,7 +157,7 @@ def main():
         return run(sys.argv[1:])
     except (Failure, OSError) as error:
         try:
-            os.write(2, f"properties: {' '.join(str(error).split())}\n".encode("utf-8", "replace"))
+            os.write(2, f"properties: {one_line(error)}\n".encode("utf-8", "replace"))
         except OSError:
             pass
         return 2
