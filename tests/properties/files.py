@@ -2,7 +2,7 @@
 
 import re
 
-from given import No, outcome, refusal
+from given import No, outcome, refusal, sentence
 from kodarfi import Limits
 
 WITH_LINE = (1, 2, 3, 4, 11, 12, 14)
@@ -25,10 +25,13 @@ def damaged(rng, lines):
     """A file with something wrong in it, or with nothing wrong."""
     at = rng.randrange(len(lines))
     line = lines[at]
-    other = rng.choice((line, b"", line + b" ", line.replace(b" ", b"  ", 1), line.replace(b"1", b"99999999999", 1), line[:-2] + b" 1))", b"(end)", b"(" * 321, line.replace(b" ", b" 0", 1)))
-    return rng.choice((lines, lines[:at] + lines[at + 1 :], lines[:at] + [other] + lines[at:], lines[:at] + [other] + lines[at + 1 :], lines[:at], lines + [other]))
+    spaced, spelled = line.replace(b" ", b"  ", 1), line.replace(b" ", b" 0", 1)
+    other = rng.choice((line, b"", line + b" ", spaced, spelled, line.replace(b"1", b"99999999999", 1), line[:-2] + b" 1))", b"(end)", b"(" * 321))
+    before, after = lines[:at], lines[at + 1 :]
+    return rng.choice((lines, before, before + after, [*before, other, line, *after], [*before, other, *after], [*lines, other]))
 
 
+@sentence
 def listing_is_the_checks_limits_and_entries(given):
     """01: "Bounds carries n. Solution: guess and limit. Entry: V and its limit. Inverse: the limits of row i."; or "one line, (refused 5 (1))"."""
     proposal, n = given.proposal, given.proposal.net.n
@@ -44,6 +47,7 @@ def listing_is_the_checks_limits_and_entries(given):
     return listing.refused is None and listing.text == joined([line.encode() for line in [*lines, "(end)"]])
 
 
+@sentence
 def order_of_forms_and_weights_of_1_change_no_listing(given):
     """01: "the rest in any order"; Paper 1: "A file without weights whose every line the desk accepts, end among them, and the same file with 1 everywhere, get
     equal listings"; Paper 5: "(right i b) means d = 0"."""
@@ -63,6 +67,7 @@ def taken_by_a_loader(calls, lines):
     return outcome(loader.check)
 
 
+@sentence
 def loader_is_the_listing(given):
     """01: "A desk collects forms line by line .. a program reads a file from standard input and prints one listing" and "stops at its first refusal"."""
     rng = given.case.chance("loader")
@@ -73,6 +78,7 @@ def loader_is_the_listing(given):
     return isinstance(taken, Limits) and [int(line.split()[-1][:-2]) for line in listing.text.splitlines() if line.startswith(b"(solution ")] == taken.solution
 
 
+@sentence
 def refused_line_leaves_the_loader(given):
     """01: "A refused line leaves the desk as before the call, and its lists"."""
     if not given.is_in_range:
@@ -83,7 +89,8 @@ def refused_line_leaves_the_loader(given):
     for line in lines[:at]:
         loader.take(line)
     before = loader.numbers, loader.proposal()
-    wrong = rng.choice((rng.choice(lines[:at]), lines[at] + b" ", b"(" * 321, with_digits(lines[at]), b"(row 1 (%s))" % b" ".join([b"1"] * (given.proposal.net.n + 1))))
+    long_row = b"(row 1 (%s))" % b" ".join([b"1"] * (given.proposal.net.n + 1))
+    wrong = rng.choice((rng.choice(lines[:at]), lines[at] + b" ", b"(" * 321, with_digits(lines[at]), long_row))
     return isinstance(outcome(loader.take, wrong), No) and before == (loader.numbers, loader.proposal())
 
 
@@ -92,6 +99,7 @@ def with_digits(line):
     return re.sub(rb"\d+(\)+)$", rb"99999999999999\1", line)
 
 
+@sentence
 def pasted_form_is_12(given):
     """Paper 6: "The answers that change are exactly each 3 or 4 for a kind and i given already, i in range, and each 3 for a second problem or scale form: they
     become 12." """
@@ -106,6 +114,7 @@ def pasted_form_is_12(given):
     return refusal(given.calls.listing(joined(lines[:place] + [copy] + lines[place:])).refused) == No(12, line=place + 1)
 
 
+@sentence
 def missing_forms_are_counted_out_of_4n(given):
     """Paper 1: "The count of forms still missing is now out of 4n"."""
     if not given.is_in_range:
@@ -118,6 +127,7 @@ def missing_forms_are_counted_out_of_4n(given):
     return refusal(refused) == No(13, (missing, 0)) if missing else None
 
 
+@sentence
 def converted_file_has_the_same_listing(given):
     """Paper 14: "The old and new file lead to equal checks"."""
     if not given.is_in_range:
@@ -126,6 +136,7 @@ def converted_file_has_the_same_listing(given):
     return given.calls.listing(given.calls.convert(file)).text == given.calls.listing(file).text
 
 
+@sentence
 def converted_file_converts_to_itself(given):
     """Paper 14: "Converting a converted file gives equal bytes"."""
     if not given.is_in_range:
@@ -134,6 +145,7 @@ def converted_file_converts_to_itself(given):
     return given.calls.convert(new) == new
 
 
+@sentence
 def equal_numbers_convert_to_equal_bytes(given):
     """Paper 14: "two files with equal numbers give equal bytes": "problem, scale, rows, right sides without tolerance, guesses, inverse rows and all n weights,
     each kind by rising i, then end"."""
@@ -143,6 +155,7 @@ def equal_numbers_convert_to_equal_bytes(given):
     return given.calls.convert(joined(mixed(given.case.chance("equal"), lines))) == joined(lines) == given.calls.convert(joined(lines)[:-1])
 
 
+@sentence
 def tolerance_is_not_converted(given):
     """Paper 14: "New 22, after them, if any tolerance is above 0"."""
     if not given.is_in_range or not any(given.proposal.net.tolerance):
@@ -150,6 +163,7 @@ def tolerance_is_not_converted(given):
     return outcome(given.calls.convert, joined(given.lines)) == No(22)
 
 
+@sentence
 def converter_refuses_as_the_listing(given):
     """Paper 14: "The desk's refusals first, and 15 where the file stops before an end"; 5, 6 and 7 are a check's."""
     rng = given.case.chance("refused file")
@@ -158,10 +172,3 @@ def converter_refuses_as_the_listing(given):
     if refused is None or refused.number in (5, 6, 7):
         return not isinstance(converted, No)
     return isinstance(converted, No) and converted._replace(line=converted.line if refused.number in WITH_LINE else 0) == refusal(refused)
-
-
-PROPERTIES = (
-    listing_is_the_checks_limits_and_entries, order_of_forms_and_weights_of_1_change_no_listing, loader_is_the_listing, refused_line_leaves_the_loader,
-    pasted_form_is_12, missing_forms_are_counted_out_of_4n, converted_file_has_the_same_listing, converted_file_converts_to_itself,
-    equal_numbers_convert_to_equal_bytes, tolerance_is_not_converted, converter_refuses_as_the_listing,
-)  # fmt: skip

@@ -3,11 +3,12 @@
   calls      every function of the package, the loader, and the calls of the shared object, which are handed lists as they are
   Given      a case with the calls, and what several properties ask of it
   outcome    what a call gives, or what it refuses, as a No
-  changed    a proposal with other numbers"""
+  changed    a proposal with other numbers
+  sentence   notes a function as a property, among SENTENCES"""
 
 from functools import cached_property
 from types import SimpleNamespace
-from typing import Any, List, NamedTuple, Tuple
+from typing import Any, Callable, List, NamedTuple, Tuple
 
 import kodarfi
 from kodarfi import Limits, Net, Proposal, Refused
@@ -16,8 +17,15 @@ from kodarfi.library import CALLS, library
 from nets import Case, another, hung
 
 NAMES = [
-    "build", "build_half", "check", "check_dependent", "check_half", "common", "convert", "entry", "find_weights", "guesses", "intervals", "listing", "quality", "Loader",
+    "Loader", "build", "build_half", "check", "check_dependent", "check_half", "common", "convert", "entry", "find_weights", "guesses", "intervals", "listing",
+    "quality",
 ]  # fmt: skip
+SENTENCES: List[Callable] = []
+
+
+def sentence(each: Callable) -> Callable:
+    SENTENCES.append(each)
+    return each
 
 
 class No(NamedTuple):
@@ -48,9 +56,8 @@ def outcome(call, *words):
 
 def changed(proposal: Proposal, **other: Any) -> Proposal:
     """A proposal with other numbers of its own or of its net."""
-    net = proposal.net
-    parts = {"matrix": net.matrix, "right": net.right, "tolerance": net.tolerance, **{name: getattr(proposal, name) for name in ("s", "t", "guess", "inverse", "weights")}, **other}
-    return Proposal(Net(parts.pop("matrix"), parts.pop("right"), parts.pop("tolerance")), **parts)
+    parts = {**vars(proposal.net), **vars(proposal), **other}
+    return Proposal(Net(parts["matrix"], parts["right"], parts["tolerance"]), *[parts[name] for name in ("s", "t", "guess", "inverse", "weights")])
 
 
 class Given:

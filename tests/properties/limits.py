@@ -4,9 +4,10 @@ from fractions import Fraction
 from math import copysign, inf, nextafter
 
 from exact import corners, is_within, product
-from given import No, changed, outcome
+from given import No, changed, outcome, sentence
 
 
+@sentence
 def exact_solution_is_within_limits(given):
     """Paper 5: "An accepted limit then holds for the exact solution of every right side, in fractions, that differs from b by at most d in each place"."""
     if not given.is_accepted or given.exact is None:
@@ -15,6 +16,7 @@ def exact_solution_is_within_limits(given):
     return all(is_within(2**proposal.s, q, product(H, right), proposal.guess, given.checked.solution) for right in corners(proposal.net, H))
 
 
+@sentence
 def exact_inverse_is_within_limits(given):
     """01: "Its number H_ij lies within the limit L of its place if |T·H_ij − q·G_ij| is at most q·L"."""
     if not given.is_accepted or given.exact is None:
@@ -23,11 +25,11 @@ def exact_inverse_is_within_limits(given):
     return all(is_within(2**proposal.t, q, *rows) for rows in zip(H, proposal.inverse, given.checked.inverse))
 
 
-def is_rounded(given, times):
-    """Rounded to nearest steps, in range, with weights 1, no tolerances and the sizes of the matrix, taken so often, at most 2T less one."""
+def is_rounded(given, fits):
+    """Whether a proposal is rounded to nearest steps, in range, with weights 1 and no tolerances, and the sizes of its matrix, summed, fit 2T."""
     (q, H), proposal = given.exact, given.proposal
     sizes = sum(abs(a) for row in proposal.net.matrix for a in row)
-    if any(proposal.net.tolerance) or set(proposal.weights) != {1} or not given.is_in_range or not times(sizes, 2 ** (proposal.t + 1)):
+    if any(proposal.net.tolerance) or set(proposal.weights) != {1} or not given.is_in_range or not fits(sizes, 2 ** (proposal.t + 1)):
         return False
     N, ones = product(H, proposal.net.right), [1] * proposal.net.n
     double = lambda column: [2 * x for x in column]
@@ -36,13 +38,16 @@ def is_rounded(given, times):
     )
 
 
+@sentence
 def rounded_exact_proposal_is_accepted(given):
-    """01, demand 3: "Rounded to nearest steps" with weights 1 and "|A_ij| over all i and j, with a sum below 2T. The checker accepts"."""
+    """01: "Rounded to nearest steps"; README: "A rounded exact proposal with a two-sided inverse, all tolerances 0, weights 1 and Σ|A_ij| < 2T is always
+    accepted"."""
     if given.exact is None or not is_rounded(given, lambda sizes, twice: sizes < twice):
         return None
     return given.is_accepted
 
 
+@sentence
 def rounded_exact_proposal_has_limits_of_0_or_1(given):
     """README: "Such a rounded exact proposal with 3·Σ|A_ij| ≤ 2T gets limits of 0 or 1"."""
     if given.exact is None or not is_rounded(given, lambda sizes, twice: 3 * sizes <= twice):
@@ -50,6 +55,7 @@ def rounded_exact_proposal_has_limits_of_0_or_1(given):
     return given.is_accepted and max(given.checked.solution + [L for row in given.checked.inverse for L in row]) <= 1
 
 
+@sentence
 def limit_of_0_says_that_the_guess_is_exact(given):
     """README: "a limit of 0 says that the guess, or the column, is exact"; where it is exact, and without tolerance, all its limits are 0."""
     if not given.is_accepted or given.exact is None:
@@ -62,6 +68,7 @@ def limit_of_0_says_that_the_guess_is_exact(given):
     )
 
 
+@sentence
 def near_guess_is_never_6_nor_near_inverse_7(given):
     """Paper 9: "a guess within one step of the exact solution everywhere always meets this", for the guess and for inverse columns."""
     if given.exact is None or not given.is_in_range or (not given.is_accepted and given.checked.number == 5):
@@ -73,11 +80,13 @@ def near_guess_is_never_6_nor_near_inverse_7(given):
     return not (near and number == 6) and not (near_inverse and number == 7) if near or near_inverse else None
 
 
+@sentence
 def accepted_matrix_has_an_inverse(given):
     """Paper 12: "for every accepted problem .. the matrix has an inverse on both sides"."""
     return None if given.exact else not given.is_accepted
 
 
+@sentence
 def half_is_the_square_entry(given):
     """Paper 10: "its outcome for every input equals that of the square entry on the filled-out matrix, refusals and written limits included"."""
     matrix = given.proposal.net.matrix
@@ -87,6 +96,7 @@ def half_is_the_square_entry(given):
     return outcome(given.calls.check_half, half) == square
 
 
+@sentence
 def ends_are_the_nearest_doubles_outward(given):
     """Paper 11: "the largest double not above (X − E)/S and the smallest not below (X + E)/S, zero always plus zero"."""
     proposal, rng = given.proposal, given.case.chance("ends")
@@ -99,6 +109,7 @@ def ends_are_the_nearest_doubles_outward(given):
     return plus and all(low <= down < nextafter(low, inf) and nextafter(high, -inf) < up <= high for (low, high), (down, up) in zip(ends, exact))
 
 
+@sentence
 def exact_height_is_between_the_doubles(given):
     """Paper 11: "Where X and E are guess and limit of an accepted check, the exact height lies between them"."""
     if not given.is_accepted or given.exact is None:
@@ -108,6 +119,7 @@ def exact_height_is_between_the_doubles(given):
     return all(low <= N <= high for right in corners(proposal.net, H) for N, (low, high) in zip(product(H, right), ends))
 
 
+@sentence
 def guesses_come_back_from_doubles(given):
     """Paper 11: "A double becomes a guess by rounding its exact value times S to a nearest whole number, halves away from zero": a guess that went out as a
     double is the same again, and in steps of a unit it is 01's V, "X/S rounded to a whole unit, halves away from zero"."""
@@ -119,6 +131,7 @@ def guesses_come_back_from_doubles(given):
     return calls.guesses(heights, proposal.s) == proposal.guess and calls.guesses(heights, 0) == entries
 
 
+@sentence
 def exact_height_is_within_the_entry(given):
     """Paper 2: "The exact height is to be shown within the entry limit of the entry, as it is of the guess"."""
     if not given.is_accepted or given.exact is None:
@@ -129,6 +142,7 @@ def exact_height_is_within_the_entry(given):
     return all(is_within(1, q, product(H, right), values, limits) for right in corners(proposal.net, H))
 
 
+@sentence
 def factor_is_there_where_margins_are(given):
     """The header of kodarfi_quality: "The answer is 0 where every margin is" above 0, and "of every accepted check there is one"; 5 with the check's row."""
     if not given.is_in_range:
@@ -137,6 +151,7 @@ def factor_is_there_where_margins_are(given):
     return factor == given.checked if not given.is_accepted and given.checked.number == 5 else not isinstance(factor, No)
 
 
+@sentence
 def factor_is_that_of_a_row(given):
     """The header: "(2^t * weights[m] + load) / margin", whose sum is 2 * 2^t * weights[m] of a row, "below 2^31 and not reduced"; a load is never below 0."""
     factor = outcome(given.calls.quality, given.proposal)
@@ -146,6 +161,7 @@ def factor_is_that_of_a_row(given):
     return sum(factor) in rows and 0 < factor.denominator <= factor.numerator < 2**31
 
 
+@sentence
 def limits_are_never_far_above_an_error(given):
     """The header: "there are heights, exact for a right side within the tolerances, and among them one such that each limit is at most the factor times that
     height's true error, times the ratio of the two weights, rounded up"."""
@@ -164,6 +180,7 @@ def not_far(limits, weights, up, down, errors):
     return any(all(not E or (E - 1) * down * weights[m] < up * error * w for E, w in zip(limits, weights)) for m, error in enumerate(errors))
 
 
+@sentence
 def inverse_limits_are_never_far_above_an_error(given):
     """README, after that sentence: "The same holds of each column of the inverse"."""
     if not given.is_accepted or given.exact is None:
@@ -172,11 +189,3 @@ def inverse_limits_are_never_far_above_an_error(given):
     up, down = given.calls.quality(proposal)
     errors = [[abs(2**proposal.t * h - q * g) for h, g in zip(*columns)] for columns in zip(zip(*H), zip(*proposal.inverse))]
     return all(not_far(L, proposal.weights, up, down * q, error) for L, error in zip(zip(*given.checked.inverse), errors))
-
-
-PROPERTIES = (
-    exact_solution_is_within_limits, exact_inverse_is_within_limits, rounded_exact_proposal_is_accepted, rounded_exact_proposal_has_limits_of_0_or_1,
-    limit_of_0_says_that_the_guess_is_exact, near_guess_is_never_6_nor_near_inverse_7, accepted_matrix_has_an_inverse, half_is_the_square_entry,
-    ends_are_the_nearest_doubles_outward, exact_height_is_between_the_doubles, guesses_come_back_from_doubles, exact_height_is_within_the_entry,
-    factor_is_there_where_margins_are, factor_is_that_of_a_row, limits_are_never_far_above_an_error, inverse_limits_are_never_far_above_an_error,
-)  # fmt: skip

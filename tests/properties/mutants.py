@@ -1,15 +1,13 @@
 """Named wrong versions of the calls, each with the property that must detect it: a call, what stands in for it, handed the real one first, and the property."""
 
-import files
-import limits
-import lines
-import lists
-import mutants_files
-import mutants_lists
-import mutants_pairs
 from fractions import Fraction
 from math import gcd
 
+import limits
+import lines
+import mutants_files
+import mutants_lists
+import mutants_pairs
 from given import changed
 from kodarfi import Entry, Factor, Found, Limits, Net, Refused, check
 
@@ -158,7 +156,8 @@ MUTANTS = {
     "lists are counted from 0": ("find_weights", tried_from_0, lines.tried_is_the_place_of_the_first_good_list),
     "weights that a larger allowance changes": ("find_weights", twice_as_large, lines.larger_allowance_finds_the_same_list),
     "tolerances are left out": ("check", no_tolerances, limits.exact_solution_is_within_limits),
-    "limits of column 1 for every column": ("check", with_limits(inverse=lambda rows: [[row[0]] * len(row) for row in rows]), limits.exact_inverse_is_within_limits),
+    "limits of column 1 for every column": (
+        "check", with_limits(inverse=lambda rows: [[row[0]] * len(row) for row in rows]), limits.exact_inverse_is_within_limits),
     "limits rounded down": ("check", with_limits(lambda E: max(0, E - 1)), limits.limit_of_0_says_that_the_guess_is_exact),
     "limits rounded up once more": ("check", with_limits(lambda E: E + 1), limits.rounded_exact_proposal_has_limits_of_0_or_1),
     "limits of 2^60 everywhere": ("check", with_limits(lambda E: 2**60), limits.limits_are_never_far_above_an_error),

@@ -16,7 +16,8 @@ def columns_for_rows(real, file):
     lines = found.text.splitlines()
     rows = [re.findall(rb"\d+", line)[1:] for line in lines if line.startswith(b"(inverse ")]
     printed = [b"(inverse %d (%s))" % (i, b" ".join(column)) for i, column in enumerate(zip(*rows), 1)]
-    return found if found.refused else Listing(b"\n".join([line for line in lines[:-1] if not line.startswith(b"(inverse ")] + printed + lines[-1:]) + b"\n", None)
+    others = [line for line in lines[:-1] if not line.startswith(b"(inverse ")]
+    return found if found.refused else Listing(files.joined(others + printed + lines[-1:]), None)
 
 
 def missing_weights(file):

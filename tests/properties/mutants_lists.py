@@ -38,6 +38,7 @@ def line_end(real, file, length, out, *words):
 SOLUTION, COMMON_LOW = 15, 30
 MUTANTS = {
     "limits cleared before the check": ("kodarfi_check", writes_refused(SOLUTION), lists.refused_check_leaves_its_lists),
+    "limits cleared before the loader is asked": ("kodarfi_loader_check", writes_refused(13), lists.refused_check_of_a_loader_leaves_the_limits),
     "a limit past the last": ("kodarfi_check", one_too_many, lists.rest_is_neither_read_nor_written),
     "a list one short will do": ("kodarfi_check", one_short_will_do, lists.short_list_is_8_before_all),
     "a matrix cleared before the lines are looked at": ("kodarfi_build", writes_refused(3), lists.refused_build_leaves_its_lists),
@@ -45,5 +46,7 @@ MUTANTS = {
     "the main net's limits are written first": ("kodarfi_check_dependent", writes_refused(SOLUTION), lists.refused_dependent_check_leaves_four_lists),
     "ends are written before the equations are compared": ("kodarfi_common", writes_refused(COMMON_LOW), lists.refused_common_leaves_the_intervals),
     "guesses up to the one that is refused": ("kodarfi_guesses", writes_refused(4), lists.refused_doubles_leave_their_lists),
+    "a numerator of a refused factor": ("kodarfi_quality", writes_refused(8), lists.refused_factor_and_entry_leave_their_numbers),
+    "a value of a refused entry": ("kodarfi_entry", writes_refused(3), lists.refused_factor_and_entry_leave_their_numbers),
     "a byte after the new file": ("kodarfi_convert", line_end, lists.conversion_leaves_the_rest_of_its_buffer),
 }

@@ -45,7 +45,7 @@ def refused_of_the_second(real, *words):
         raise Refused(refused.number, refused.places, net=2) from None
 
 
-def row_sums_asked_of_dependent_heights(real, main, dependent, coupling):
+def row_sums_asked(real, main, dependent, coupling):
     try:
         check(dependent)
     except Refused as refused:
@@ -71,7 +71,7 @@ MUTANTS = {
     "the first's lower end, the second's upper": ("common", lower_of_first_upper_of_second, pairs.common_is_the_same_in_either_order),
     "tolerances are not compared": ("common", tolerances_not_compared, pairs.other_equations_are_20),
     "every refusal is of the dependent net": ("check_dependent", refused_of_the_second, pairs.main_net_is_refused_as_by_its_check),
-    "the row's sum is asked of dependent heights": ("check_dependent", row_sums_asked_of_dependent_heights, pairs.dependent_net_without_coupling_is_its_own_check),
+    "the row's sum is asked of dependent heights": ("check_dependent", row_sums_asked, pairs.dependent_net_without_coupling_is_its_own_check),
     "the coupling is added": ("check_dependent", coupling_added, pairs.whole_main_heights_move_the_right_side),
     "the main net's tolerances are no slack": ("check_dependent", slack_without_main_tolerances, pairs.heights_of_both_nets_are_within_limits),
 }

@@ -134,7 +134,8 @@ def tolerances(rng, n, s):
 def broad(rng):
     """An exact proposal whose first limit is 2^36, or a little beside it, by its tolerances."""
     guess, d = [rng.randint(-9, 9), rng.randint(-9, 9)], rng.choice((0, 0, 1, 2**20))
-    return Proposal(Net([[1, 2**20], [0, 1]], [guess[0] + 2**20 * guess[1], guess[1]], [d, rng.choice((2**16, 2**16, 2**16 - 1))]), 0, 0, guess, [[1, -(2**20)], [0, 1]])
+    net = Net([[1, LARGEST], [0, 1]], [guess[0] + LARGEST * guess[1], guess[1]], [d, rng.choice((2**16, 2**16, 2**16 - 1))])
+    return Proposal(net, 0, 0, guess, [[1, -LARGEST], [0, 1]])
 
 
 def spoiled(rng, proposal):
