@@ -189,7 +189,7 @@ def conversion_leaves_the_rest_of_its_buffer(given):
     file = joined(given.lines)
     tolerant, short = any(given.proposal.net.tolerance), given.case.chance("buffer").random() < 0.3
     length = len(file) - 1 if short else len(file) + 9
-    out, written = (ctypes.c_uint8 * length)(*b"~" * length), (ctypes.c_size_t * 1)(5)
+    out, written = (ctypes.c_uint8 * length).from_buffer_copy(b"~" * length), (ctypes.c_size_t * 1)(5)
     number = given.calls.kodarfi_convert(file, len(file), out, length, written, places())
     if tolerant or short:
         return number == 22 and bytes(out) == b"~" * length and written[0] == 5

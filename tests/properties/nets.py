@@ -34,7 +34,7 @@ def case_at(seed: int, index: int) -> Case:
     if rng.random() < 0.02:
         proposal = broad(rng)
         return Case(seed, index, [], proposal, inverse_of(proposal.net.matrix))
-    n = rng.randint(1, 6) if rng.random() < 0.995 else rng.randint(7, 32)
+    n = rng.randint(1, 6) if rng.random() < 0.99 else rng.randint(7, 32)
     lines = field_lines(rng, n) if rng.random() < 0.6 else []
     matrix, right = equations(n, lines) if lines else system(rng, n)
     exact = inverse_of(matrix)
