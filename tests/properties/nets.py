@@ -66,7 +66,7 @@ def field_lines(rng, n):
     difference = lambda start, to: heights[to] - heights[start] if agree else rng.randint(-2 * largest, 2 * largest)
     line = lambda start, to: FieldLine(next(keys), start, to, difference(start, to), rng.randint(1, heaviest))
     joined = [(rng.randrange(mark), mark) for mark in range(1, n + 1)]
-    if n > 1 and rng.random() < 0.12:
+    if n > 1 and rng.random() < 0.2:
         joined.pop(rng.randrange(n))
     joined += [tuple(rng.sample(range(n + 1), 2)) for _ in range(rng.randint(0, n + 3))]
     rng.shuffle(joined)
@@ -75,14 +75,16 @@ def field_lines(rng, n):
 
 
 def system(rng, n):
-    """Equations of no levelling net: any, or with a large diagonal, or triangular with large numbers beside it; some with rows exchanged."""
+    """Equations of no levelling net: any, or with a large diagonal, or triangular with large numbers beside it; some with rows exchanged, or with one twice."""
     size = 2 ** rng.choice((1, 2, 3, 6, 10, 20))
-    kind = rng.choice(("any", "large", "triangle", "triangle"))
+    kind = rng.choice(("any", "large", "triangle", "triangle", "triangle"))
     matrix = [[rng.randint(-size, size) if kind != "triangle" or j > i else 0 for j in range(n)] for i in range(n)]
     if kind != "any":
         matrix = [[a // n if i != j else rng.choice((-1, 1)) * (size if kind == "large" else 1) for j, a in enumerate(row)] for i, row in enumerate(matrix)]
     if rng.random() < 0.2:
         rng.shuffle(matrix)
+    if n > 1 and rng.random() < 0.06:
+        matrix[0] = list(matrix[1])
     most = rng.choice((9, 999, 2**30))
     return matrix, [rng.randint(-most, most) for _ in range(n)]
 
