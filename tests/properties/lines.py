@@ -80,17 +80,20 @@ def field_lines_lead_to_common_intervals(given):
     """Papers 3, 7, 11 and 13 one after the other: equations that are built are in range, weights that are found leave no margin of 0 or less, guess and limits
     of an accepted check go out as doubles, and with itself it has a common interval unless a limit is above 2^36."""
     calls, proposal = given.calls, given.proposal
-    if not (given.case.lines and given.is_in_range and isinstance(given.found, Found)):
+    if not (given.case.lines and given.is_in_range):
         return None
     net = calls.build(proposal.net.n, given.case.lines)
-    mine = changed(proposal, matrix=net.matrix, right=net.right, weights=given.found.weights)
+    found = outcome(calls.find_weights, net.matrix, proposal.inverse, proposal.t, 64)
+    if not isinstance(found, Found):
+        return None if found == No(18) else False
+    mine = changed(proposal, matrix=net.matrix, right=net.right, weights=found.weights)
     limits = outcome(calls.check, mine)
     if not isinstance(limits, Limits):
         return limits.number in (6, 7)
-    if len(calls.intervals(mine.guess, limits.solution, mine.s)) != net.n:
-        return False
-    common = outcome(calls.common, mine, mine)
-    return common == No(21) if max(limits.solution) > 2**36 else common.intervals == [(X - E, X + E) for X, E in zip(mine.guess, limits.solution)]
+    ends, S = [(X - E, X + E) for X, E in zip(mine.guess, limits.solution)], 2**mine.s
+    doubles, common = calls.intervals(mine.guess, limits.solution, mine.s), outcome(calls.common, mine, mine)
+    inside = len(doubles) == net.n and all(low * S <= down and up <= high * S for (low, high), (down, up) in zip(doubles, ends))
+    return inside and (common == No(21) if max(limits.solution) > 2**36 else common.intervals == ends)
 
 
 @sentence
