@@ -16,8 +16,8 @@ from pathlib import Path
 ROOT = Path(__file__).resolve().parent.parent
 sys.path.insert(0, str(ROOT / "tests"))
 
-from net import file_of, lines_of
-from systems.timed import office
+from common.net import file_of, lines_of
+from common.systems.timed import office
 
 ROUNDS, KINDS, IN_A_FOLDER = 7, 100, 1000
 

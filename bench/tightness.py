@@ -18,11 +18,11 @@ from pathlib import Path
 
 sys.path.insert(0, str(Path(__file__).resolve().parent.parent / "tests"))
 
-from exact import inverse_of, product
-from never_far import factor_of, flat
-from second.program import Program
-from second.reckoning import Bounds, Problem, Reckoning
-from systems.timed import office
+from calls.check.oracle import Bounds, Problem, Reckoning
+from calls.listing.oracle import Program
+from common.exact import inverse_of, product
+from common.never_far import factor_of, flat
+from common.systems.timed import office
 
 HEAVIEST = 1024
 LARGEST_TOLERANCE = 8

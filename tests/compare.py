@@ -12,13 +12,12 @@ import shutil
 import sys
 import time
 
-import generate
-import given
-from checks import faults, net_from
-from outside import Ran, outside
+from calls.listing.oracle import Program
+from common import generate, given
+from common.checks import faults, net_from
+from common.outside import Ran, outside
+from common.rules import Refusal
 from reach import ENOUGH_FILES, Reach
-from second.program import Program
-from second.refusal import Refusal
 from self_test import Telling, test_checks, test_given, test_programs
 
 

@@ -21,7 +21,7 @@ STAND_IN = f"""#!/usr/bin/env python3
 import os
 import sys
 sys.path.insert(0, {str(ROOT / "tests")!r})
-from second.converter import Converter, printed
+from calls.convert.oracle import Converter, printed
 try:
     file = sys.stdin.buffer.read()
 except OSError:

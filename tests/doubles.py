@@ -17,10 +17,10 @@ from collections import Counter
 from fractions import Fraction
 from pathlib import Path
 
-from exchanged import IN, OUT, damaged_inward, damaged_outward, inward, met_inward, met_outward, of_bits, outward
-from second.doubles import Doubles
-from second.refusal import Refusal
-from wrong_doubles import INWARD, OUTWARD
+from calls.doubles.mutants import INWARD, OUTWARD
+from calls.doubles.oracle import Doubles
+from common.exchanged import IN, OUT, damaged_inward, damaged_outward, inward, met_inward, met_outward, of_bits, outward
+from common.rules import Refusal
 
 CASES, SELF_TEST_CALLS, ENOUGH = 1000000, 4000, 100
 PLACES = 40

@@ -13,15 +13,14 @@ import random
 import sys
 from collections import Counter
 
-import cases_01
-from damage.lists import call_of, damaged
-from generate import WHOLE, made
-from net import joined
-from second.lists import check
-from second.reckoning import Bounds, Reckoning
-from systems import timed, usual
-from systems.shaped import SHAPES, shaped
-from wrong_shapes import RIGHT, SHAPED
+from calls.check.mutants import RIGHT, SHAPED
+from calls.check.oracle import Bounds, Reckoning, check
+from common import cases_01
+from common.damage.lists import call_of, damaged
+from common.generate import WHOLE, made
+from common.net import joined
+from common.systems import timed, usual
+from common.systems.shaped import SHAPES, shaped
 
 # A damaged system that may be reckoned, and one that wrong versions reckon too, has at most so many equations: reckoning takes its time.
 MOST_DAMAGED = 10

@@ -12,14 +12,14 @@ import sys
 from collections import Counter
 from pathlib import Path
 
+from calls.build.mutants import BUILT
+from calls.build.oracle import LEAST, LOWER, MOST, SQUARE, Builder
+from calls.half.oracle import HALF, HalfEntry
+from common.net import joined
+from common.rules import Refusal
+from common.systems import usual
+from common.systems.field import damaged, halved, listed, town
 from emitter import run
-from net import joined
-from second.field_lines import LEAST, LOWER, MOST, SQUARE, Builder
-from second.half import HALF, HalfEntry
-from second.refusal import Refusal
-from systems import usual
-from systems.field import damaged, halved, listed, town
-from wrong_builds import BUILT
 
 BUILDS = 2000
 ENOUGH = 20

@@ -15,15 +15,14 @@ from fractions import Fraction
 from itertools import product as choices
 from typing import NamedTuple
 
-from damage.lists import UNREAD, call_of, damaged
+from calls.check.oracle import COLUMN, FULL, Problem
+from calls.common.mutants import COMMON
+from calls.common.oracle import CommonInterval, Intervals, Pair, Proposal, outcome
+from common.damage.lists import UNREAD, call_of, damaged
+from common.exact import inverse_of, product
+from common.rules import Refusal
+from common.systems.paired import TABLE
 from emitter import run
-from exact import inverse_of, product
-from second.common import CommonInterval, Intervals, Pair, Proposal, outcome
-from second.lists import COLUMN, FULL
-from second.reckoning import Problem
-from second.refusal import Refusal
-from systems.paired import TABLE
-from wrong_common import COMMON
 
 PAIRS = 700
 ENOUGH = 20

@@ -14,18 +14,16 @@ import random
 import sys
 from collections import Counter
 
-import damage
-import given
-from generate import arranged, thinned
-from net import file_of, joined, lines_of
-from outside import outside
-from second.converter import ROOM, Converter, answered, printed
-from second.program import Program
-from second.refusal import Refusal
-from second.rules import Rules
-from systems import edge, ends, rows, usual
-from systems.tolerant import respelt, tolerated
-from wrong_conversions import CONVERTED
+from calls.convert.mutants import CONVERTED
+from calls.convert.oracle import ROOM, Converter, answered, printed
+from calls.listing.oracle import Program
+from common import damage, given
+from common.generate import arranged, thinned
+from common.net import file_of, joined, lines_of
+from common.outside import outside
+from common.rules import Refusal, Rules
+from common.systems import edge, ends, rows, usual
+from common.systems.tolerant import respelt, tolerated
 
 FILES = 400
 ENOUGH = 20

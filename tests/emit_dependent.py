@@ -12,15 +12,15 @@ import sys
 from collections import Counter
 from typing import NamedTuple
 
-from damage.pairs import PairCall, damaged, pair_call_of
+from calls.check.oracle import Bounds, Reckoning, check
+from calls.dependent.mutants import HUNG, UNSOUND
+from calls.dependent.oracle import DependentCheck, NetRefusal
+from common.damage.pairs import PairCall, damaged, pair_call_of
+from common.format import is_within
+from common.joint import faults
+from common.rules import Refusal
+from common.systems.dependent import RESIDUAL, pair_of
 from emitter import run
-from joint import faults
-from second.dependent import DependentCheck, NetRefusal
-from second.lists import check, is_within
-from second.reckoning import Bounds, Reckoning
-from second.refusal import Refusal
-from systems.dependent import RESIDUAL, pair_of
-from wrong_dependent import HUNG, UNSOUND
 
 PAIRS = 480
 # Damaged pairs have at most so many equations each: reckoning takes its time.

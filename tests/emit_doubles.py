@@ -9,11 +9,11 @@ import argparse
 import sys
 from itertools import islice
 
+from calls.doubles.oracle import Doubles
+from common.exchanged import bits_of
+from common.net import joined
+from common.rules import Refusal
 from doubles import calls
-from exchanged import bits_of
-from net import joined
-from second.doubles import Doubles
-from second.refusal import Refusal
 
 
 def written_in(call):

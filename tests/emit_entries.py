@@ -8,7 +8,7 @@ import argparse
 import itertools
 import random
 
-from second.program import Program
+from calls.listing.oracle import Program
 
 LARGEST_GUESS, LARGEST_SCALE = 2**36, 20
 BY_CHANCE = 20000

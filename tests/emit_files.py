@@ -11,15 +11,13 @@ wrong version stands before the five numbers."""
 
 import sys
 
-import cases_01
-import generate
-import given
+from calls.listing.mutants import program
+from calls.listing.oracle import Program
+from calls.loader.mutants import READING
+from common import cases_01, generate, given
+from common.format import lines_of as split
+from common.net import file_of, joined, lines_of
 from emit import accepted, options
-from net import file_of, joined, lines_of
-from second.format import lines_of as split
-from second.program import Program
-from wrong import program
-from wrong_reading import READING
 
 # Of the whole files of the sequence one in so many: the damaged ones are read, the whole ones reckoned too, which takes longer.
 WHOLE_ONE_IN = 7

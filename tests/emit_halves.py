@@ -10,15 +10,15 @@ import sys
 from collections import Counter
 from typing import NamedTuple
 
-from damage.lists import Call
+from calls.check.oracle import Bounds, check
+from calls.half.mutants import HALVED
+from calls.half.oracle import HALF, HalfEntry, lower_half
+from common.damage.lists import Call
+from common.format import is_within
+from common.rules import Refusal
+from common.systems.halves import damaged, halved, system
 from emit import answer_lines
 from emitter import run
-from second.half import HALF, HalfEntry, lower_half
-from second.lists import check, is_within
-from second.reckoning import Bounds
-from second.refusal import Refusal
-from systems.halves import damaged, halved, system
-from wrong_halves import HALVED
 
 NETS = 600
 # A damaged system has at most so many equations: reckoning takes its time.

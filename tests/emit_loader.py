@@ -15,15 +15,12 @@ import random
 import sys
 from collections import Counter
 
-import generate
-import given
-from net import joined
-from second.format import PLACED, lines_of, read_form
-from second.lists import COLUMN, KINDS, MATRIX, check
-from second.lists import FULL as FULL_LENGTHS
-from second.loader import Loader
-from second.reckoning import Problem
-from second.refusal import Refusal
+from calls.check.oracle import COLUMN, FULL as FULL_LENGTHS, KINDS, MATRIX, Problem, check
+from calls.loader.oracle import Loader
+from common import generate, given
+from common.format import PLACED, lines_of, read_form
+from common.net import joined
+from common.rules import Refusal
 
 FILES = 250
 ENOUGH = 20

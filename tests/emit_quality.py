@@ -12,12 +12,12 @@ import sys
 from collections import Counter
 from math import ceil, sqrt
 
-from damage.lists import UNREAD
+from calls.quality.mutants import RATED
+from calls.quality.oracle import Quality
+from common.damage.lists import UNREAD
+from common.rules import Refusal
+from common.systems.rated import damaged, filled, rated
 from emitter import run
-from second.quality import Quality
-from second.refusal import Refusal
-from systems.rated import damaged, filled, rated
-from wrong_quality import RATED
 
 PROBLEMS = 800
 ENOUGH = 20

@@ -13,12 +13,12 @@ from collections import Counter
 from math import ceil, sqrt
 from typing import NamedTuple
 
-from damage.lists import UNREAD, odd_number
+from calls.weights.mutants import SEARCHED
+from calls.weights.oracle import FULL, Request, WeightSearch, place_within
+from common.damage.lists import UNREAD, odd_number
+from common.rules import Refusal
+from common.systems.searched import late, searched
 from emitter import run
-from second.refusal import Refusal
-from second.weights import FULL, Request, WeightSearch, place_within
-from systems.searched import late, searched
-from wrong_weights import SEARCHED
 
 PROBLEMS = 800
 MOST = 65

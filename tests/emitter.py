@@ -3,7 +3,7 @@
 import argparse
 import sys
 
-from net import joined
+from common.net import joined
 
 
 def run(counted, count, calls, written, self_test):

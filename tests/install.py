@@ -16,7 +16,7 @@ import sys
 import tempfile
 from pathlib import Path
 
-from cases_01 import WHOLE_LISTING
+from common.cases_01 import WHOLE_LISTING
 from office.room import open_folder
 
 ROOT = Path(__file__).resolve().parent.parent

@@ -9,7 +9,7 @@ import sys
 import tempfile
 from pathlib import Path
 
-from cases_01 import WHOLE_LISTING
+from common.cases_01 import WHOLE_LISTING
 
 ROOT = Path(__file__).parent.parent
 EXAMPLE = (ROOT / "examples" / "whole-file.txt").read_bytes()

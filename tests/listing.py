@@ -2,6 +2,6 @@
 
 import sys
 
-from second.program import Program
+from calls.listing.oracle import Program
 
 sys.stdout.buffer.write(Program().listing(sys.stdin.buffer.read()))

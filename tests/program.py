@@ -9,8 +9,8 @@ import sys
 import tempfile
 from pathlib import Path
 
-import wrong_programs as wrong
-from cases_01 import WHOLE_LISTING
+from common import mutant_programs as wrong
+from common.cases_01 import WHOLE_LISTING
 
 ROOT = Path(__file__).resolve().parent.parent
 REGISTER = Path(sys.argv[1]) if len(sys.argv) > 1 else ROOT / "register"

@@ -3,15 +3,14 @@
 from collections import Counter
 from dataclasses import replace
 
-from checks import entries_in, is_accepted, limits_in
-from exact import inverse_of, is_rounded_exact, product, size_sum
+from calls.check.oracle import Reckoning
+from calls.listing.oracle import Program
+from common.checks import entries_in, is_accepted, limits_in
+from common.exact import inverse_of, is_rounded_exact, product, size_sum
+from common.format import lines_of
+from common.rules import IN_FORCE, Refusal
 from reach_row_sums import RowSumReach
 from reach_tolerances import ToleranceReach
-from second.format import lines_of
-from second.program import Program
-from second.reckoning import Reckoning
-from second.refusal import Refusal
-from second.rules import IN_FORCE
 
 ENOUGH_FILES = 2000
 REFUSALS = (1, 2, 3, 4, 5, 6, 7, 11, 12, 13, 14, 15)

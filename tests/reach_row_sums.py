@@ -4,11 +4,10 @@ import re
 from collections import Counter
 from dataclasses import replace
 
-from checks import is_accepted
-from second.program import Program
-from second.reckoning import Reckoning
-from second.refusal import Refusal
-from second.rules import IN_FORCE
+from calls.check.oracle import Reckoning
+from calls.listing.oracle import Program
+from common.checks import is_accepted
+from common.rules import IN_FORCE, Refusal
 
 ACCEPTED = Refusal(0)
 NUMBERS = re.compile(rb"\d+")

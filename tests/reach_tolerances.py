@@ -4,12 +4,11 @@ import re
 from collections import Counter
 from dataclasses import replace
 
-from checks import is_accepted, limits_in
-from second.format import RANGES, lines_of
-from second.program import Program
-from second.reckoning import Reckoning
-from second.refusal import Refusal
-from second.rules import IN_FORCE
+from calls.check.oracle import Reckoning
+from calls.listing.oracle import Program
+from common.checks import is_accepted, limits_in
+from common.format import RANGES, lines_of
+from common.rules import IN_FORCE, Refusal
 
 
 class ToleranceUnknown(Program):

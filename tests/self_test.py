@@ -4,19 +4,17 @@ import shlex
 import sys
 from pathlib import Path
 
-import cases_01
-import examples_002
-import never_far
-from checks import faults, is_accepted, net_from
-from generate import Case
-from net import file_of, lines_of, net_of
-from outside import outside
+from calls.listing.mutants import PRINTING
+from calls.listing.oracle import Program
+from calls.loader.mutants import READING
+from common import cases_01, examples_002, never_far
+from common.checks import faults, is_accepted, net_from
+from common.generate import Case
+from common.mutant_programs import BESIDE_THE_LISTING
+from common.net import file_of, lines_of, net_of
+from common.outside import outside
+from common.rules import Refusal
 from reach_row_sums import RowSumsUnknown
-from second.program import Program
-from second.refusal import Refusal
-from wrong import PRINTING
-from wrong_programs import BESIDE_THE_LISTING
-from wrong_reading import READING
 from wrong_row_sums import HELD
 from wrong_tolerances import SLACKENED, TOLERATED
 
@@ -121,7 +119,7 @@ def test_checks(count):
 
 def wrong_program(name):
     """The command that runs one of wrong_programs.py."""
-    return shlex.join([sys.executable, str(Path(__file__).with_name("wrong_programs.py")), name])
+    return shlex.join([sys.executable, str(Path(__file__).with_name("common") / "mutant_programs.py"), name])
 
 
 def test_programs(count, problems_of):

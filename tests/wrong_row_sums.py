@@ -3,10 +3,9 @@
 from dataclasses import replace
 from math import inf
 
-from second.reckoning import Reckoning, transposed
-from second.refusal import Refusal
-from second.rules import IN_FORCE
-from wrong import program, reckoning
+from calls.check.oracle import Reckoning, transposed
+from calls.listing.mutants import program, reckoning
+from common.rules import IN_FORCE, Refusal
 
 
 def sums_by(rule):

@@ -4,12 +4,12 @@ import re
 from dataclasses import replace
 from operator import mul
 
-from second.format import LIST, NUMBER, Form, is_in_range, read_form
-from second.loader import Loader
-from second.reckoning import LARGEST_RESIDUAL, Reckoning, times
-from second.rules import IN_FORCE
-from wrong import program, reckoning, residuals_by
-from wrong_reading import loader, ranged, reading, substituted
+from calls.check.oracle import LARGEST_RESIDUAL, Reckoning, times
+from calls.listing.mutants import program, reckoning, residuals_by
+from calls.loader.mutants import loader, ranged, reading, substituted
+from calls.loader.oracle import Loader
+from common.format import LIST, NUMBER, Form, is_in_range, read_form
+from common.rules import IN_FORCE
 
 RIGHT_LIST = re.compile(rb"\(right (" + NUMBER + rb") \((" + LIST + rb")\)\)")
 

@@ -4,8 +4,7 @@ import os
 import random
 import subprocess
 
-import generate
-import given
+from common import generate, given
 
 from office.room import PROGRAM, ROOT, ended, failed
 

@@ -9,22 +9,23 @@ import emit_dependent
 import emit_entries
 import emit_quality
 import emit_weights
-import exchanged
-import generate
-import given
-from damage.lists import call_of, damaged
-from exact import inverse_of, product
-from second import doubles, field_lines, half, quality, weights
-from second.common import CommonInterval, Intervals
-from second.converter import Converter
-from second.dependent import DependentCheck, NetRefusal
-from second.field_lines import LOWER, Builder
-from second.format import lines_of
-from second.lists import FULL, check
-from second.loader import Loader
-from second.program import WITH_LINE, Program
-from second.reckoning import Reckoning
-from second.refusal import Refusal
+from calls.build import oracle as field_lines
+from calls.build.oracle import LOWER, Builder
+from calls.check.oracle import FULL, Reckoning, check
+from calls.common.oracle import CommonInterval, Intervals
+from calls.convert.oracle import Converter
+from calls.dependent.oracle import DependentCheck, NetRefusal
+from calls.doubles import oracle as doubles
+from calls.half import oracle as half
+from calls.listing.oracle import WITH_LINE, Program
+from calls.loader.oracle import Loader
+from calls.quality import oracle as quality
+from calls.weights import oracle as weights
+from common import exchanged, generate, given
+from common.damage.lists import call_of, damaged
+from common.exact import inverse_of, product
+from common.format import lines_of
+from common.rules import Refusal
 
 NETS, PAIRS, SEARCHES, BUILDS, DOUBLES, FILES = 120, 90, 60, 200, 300, 120
 

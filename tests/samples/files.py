@@ -2,11 +2,11 @@
 
 import random
 
-import given
-from generate import arranged
-from net import file_of, lines_of
-from second.program import Program
-from systems import edge, ends, rows, tolerant, usual
+from calls.listing.oracle import Program
+from common import given
+from common.generate import arranged
+from common.net import file_of, lines_of
+from common.systems import edge, ends, rows, tolerant, usual
 
 # Files of given.py by the names under which they are stored.
 GIVEN = {

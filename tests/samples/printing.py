@@ -1,6 +1,6 @@
 """How the program `samples` prints an answer, and the loader that it has; and the wrong ways that its stored output must tell, by name."""
 
-from second.loader import Loader
+from calls.loader.oracle import Loader
 
 
 class Printing:

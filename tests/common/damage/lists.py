@@ -1,0 +1,85 @@
+"""Calls of the check on lists, damaged: lengths, n, s and t, numbers at the ends of ranges, other guesses, tolerances and weights."""
+
+from typing import NamedTuple
+
+from calls.check.oracle import FULL, Lengths, Problem
+
+# Stands in the lists past the numbers given.
+UNREAD = -(2**63)
+
+# Lists by their place in a call.
+TOLERANCE, GUESS, WEIGHTS = (FULL._fields.index(name) for name in ("tolerance", "guess", "weights"))
+
+
+class Call(NamedTuple):
+    """What a call is handed: the first count × count or count numbers of each list, and what it is told of them."""
+
+    count: int
+    n: int
+    s: int
+    t: int
+    lengths: Lengths
+    lists: tuple
+
+    def problem(self):
+        filled = lambda numbers, length: list(numbers) + [UNREAD] * (length - len(numbers))
+        return Problem(self.n, self.s, self.t, *(filled(numbers, length) for numbers, length in zip(self.lists, FULL)))
+
+    def with_number(self, which, at, value):
+        numbers = list(self.lists[which])
+        numbers[at] = value
+        return self._replace(lists=(*self.lists[:which], numbers, *self.lists[which + 1 :]))
+
+
+def call_of(net):
+    flat = lambda rows: [value for row in rows for value in row]
+    lists = flat(net.matrix), list(net.right), list(net.tolerance), list(net.guess), flat(net.inverse), list(net.weights)
+    return Call(net.n, net.n, net.s, net.t, FULL, lists)
+
+
+def shortened(rng, call):
+    """One list too short, by one or by more."""
+    which = rng.randrange(len(FULL))
+    length = rng.choice((FULL[which] - 1, FULL[which] - 1, FULL[which] // 2, 0))
+    return call._replace(lengths=FULL._replace(**{FULL._fields[which]: length}))
+
+
+def resized(rng, call):
+    """Another n, s or t: good, at the ends of its range, and past them up to a machine word's."""
+    value = rng.choice((0, 1, 2, 19, 20, 21, 31, 32, 33, 63, 64, 2**32 - 1))
+    return call._replace(**{rng.choice("nst"): value})
+
+
+def odd_number(rng):
+    bound = rng.choice((0, 1, 1024, 2**20, 2**25, 2**30, 2**36, 2**63 - 2)) + rng.choice((-1, 0, 1))
+    return rng.choice((bound, -bound))
+
+
+def renumbered(rng, call):
+    """A number of any list another: at the end of a range, or one that keeps most systems good."""
+    which = rng.randrange(len(call.lists))
+    value = rng.choice((odd_number(rng), rng.randint(1, 1024)))
+    return call.with_number(which, rng.randrange(len(call.lists[which])), value)
+
+
+def shifted(rng, call):
+    """A guess a few steps further."""
+    at = rng.randrange(call.count)
+    return call.with_number(GUESS, at, call.lists[GUESS][at] + rng.choice((-3, -2, -1, 1, 2, 3)))
+
+
+def tolerated(rng, call):
+    """A tolerance another, good, at the ends of its range or one beyond."""
+    value = rng.choice((-1, 0, 1, 2, 31, 32, 33, 2**20, 2**20 + 1, rng.randint(0, 2 ** rng.randint(0, 20))))
+    return call.with_number(TOLERANCE, rng.randrange(call.count), value)
+
+
+def reweighed(rng, call):
+    return call.with_number(WEIGHTS, rng.randrange(call.count), rng.randint(1, 1024))
+
+
+def damaged(rng, call):
+    """One or two damages."""
+    for _ in range(rng.choice((1, 2))):
+        call = rng.choice((shortened, resized, renumbered, renumbered, shifted, tolerated, reweighed))(rng, call)
+    return call
