@@ -2,6 +2,7 @@
 
 from typing import NamedTuple
 
+from calls.listing.oracle import Program, without
 from common.net import Net, file_of, lines_of, net_of
 
 
@@ -108,3 +109,11 @@ def agrees(case, listing):
 
 def file(case):
     return file_of(lines_of(case.net))
+
+
+def tests():
+    """The cases give the lines they say, and by the rules before Paper 9 those that 01 states."""
+    for program, cases in ((Program(), CASES + PAPERS), (without("residuals_within_row_sums"), CASES_01)):
+        for case in cases:
+            listing = program.listing(file(case))
+            yield f"case {case.name}", [] if agrees(case, listing) else [repr(listing)]

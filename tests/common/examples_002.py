@@ -7,8 +7,10 @@ error after 2 steps no. 1, 2 and 4."""
 from fractions import Fraction
 from typing import NamedTuple
 
+from calls.listing.oracle import Program, without
+from common.checks import is_accepted, limits_in
 from common.exact import inverse_of, nearest, product
-from common.net import net_of
+from common.net import file_of, lines_of, net_of
 
 # Nine decimals are printed, the last one not always rounded to nearest.
 UNIT = Fraction(1, 10**9)
@@ -154,3 +156,27 @@ def nets():
                         name = f"002 example {example.name}, guess {count}, steps {s} {t}, {way.__name__}, {label}"
                         net = net_of(s, t, example.matrix, example.right, guess, way(example, T), weights)
                         yield name, net, example.errors.get(count), first_line(example, count, s, way)
+
+
+def printed_errors_outside(listing, net, errors):
+    """Printed errors beyond their limits, a step allowed for the rounding of guess and table."""
+    if not is_accepted(listing):
+        return [repr(listing)]
+    return [
+        f"error {i + 1} outside its limit"
+        for i, (printed, limit) in enumerate(zip(errors or (), limits_in(listing)))
+        if printed is not None and abs(printed) * 2**net.s > (limit + 1) * 10**9
+    ]
+
+
+def tests():
+    """The listing of each example begins as it should, and the errors that 002 prints lie within the limits, which don't know of a refusal for a poor guess or
+    inverse."""
+    before = without("residuals_within_row_sums")
+    for example in EXAMPLES:
+        yield f"002 example {example.name}", [f"printed error {place}" for place in table_differences(example)]
+    for name, net, errors, first_line in nets():
+        file = file_of(lines_of(net))
+        listing = Program().listing(file)
+        begins = [] if listing.startswith(f"{first_line}\n".encode()) else [repr(listing)]
+        yield name, begins + printed_errors_outside(before.listing(file), net, errors)

@@ -1,8 +1,9 @@
-"""Wrong programs, by name: they do as ./register does but for one thing, and the tests of a program's run must tell each.
+"""Mutant programs, by name: they do as ./register does but for one thing, and the tests of a program's run must detect each.
 
-  python3 tests/wrong_programs.py NAME [FILE]   runs one: on a file, or on standard input"""
+  python3 tests/common/mutant_programs.py NAME [FILE]   runs one: on a file, or on standard input"""
 
 import os
+import shlex
 import signal
 import sys
 from pathlib import Path
@@ -10,6 +11,7 @@ from pathlib import Path
 sys.path.insert(0, str(Path(__file__).resolve().parent.parent))
 
 from calls.listing.oracle import Program
+from common.outside import outside
 
 UNREAD = b"register: the input could not be read\n"
 UNWRITTEN = b"register: the listing could not be written\n"
@@ -91,9 +93,20 @@ def hides_a_failed_write(path):
     put(*((UNREAD, 2) if file is None else (Program().listing(file),)))
 
 
-# Programs that compare.py must tell, and those that program.py must.
+# Programs that tests/compare.py must detect, and those that tests/program.py must.
 BESIDE_THE_LISTING = (dies, fails, complains, dies_first)
 AS_RUN = (is_not_built, hides_a_failed_read, takes_a_failed_read_for_the_end, stops_reading, hides_a_failed_write)
+
+
+
+def tests():
+    """A program that prints the right listing and goes wrong beside it is detected by its run, with a report and with a refusal."""
+    for file in (Path(__file__).resolve().parents[2].joinpath("examples/whole-file.txt").read_bytes(), b"x\n"):
+        for program in (right, *BESIDE_THE_LISTING):
+            run = outside(shlex.join([sys.executable, __file__, program.__name__]))
+            differences = run(file).differences(Program().listing(file))
+            yield f"program '{program.__name__}'", differences if program is right else [] if differences else ["not detected"]
+
 
 if __name__ == "__main__":
     named = {program.__name__: program for program in (right, *BESIDE_THE_LISTING, *AS_RUN)}

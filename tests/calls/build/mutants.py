@@ -1,13 +1,15 @@
-"""Wrong versions of the second implementation's builder, by name. Each breaks one rule of 02's Paper 3 or 10; the builds must tell every one of them."""
+"""Mutants of the builder, by name. Each breaks one rule of 02's Paper 3 or 10."""
+
+from functools import partial
 
 from calls.build.oracle import LEAST, LOWER, MOST, SQUARE, Builder
 from calls.half.oracle import lower_half
 from common.format import is_within
 from common.rules import Refusal
+from common.suite import mutant
 
 
-def builder(**parts):
-    return type("WrongBuilder", (Builder,), parts)()
+builder = partial(mutant, Builder)
 
 
 def compared(*places):
@@ -120,7 +122,7 @@ def diagonal_twice(n, matrix):
     return lower_half(n, [2 * number if place // n == place % n else number for place, number in enumerate(matrix)])
 
 
-BUILT = {
+MUTANTS = {
     "a repeated key counted twice": builder(keep=keep_twice),
     "a repeated line refused": refused_by(repeat_refused),
     "from not compared": compared(1, 2, 3),

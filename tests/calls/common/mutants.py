@@ -1,12 +1,14 @@
-"""Wrong versions of the second implementation's common intervals, by name. Each breaks one rule of 02's Paper 13; the pairs must tell every one of them."""
+"""Mutants of the common intervals, by name. Each breaks one rule of 02's Paper 13."""
+
+from functools import partial
 
 from calls.check.oracle import COLUMN
 from calls.common.oracle import WIDEST, CommonInterval, Said, outcome
 from common.rules import Refusal
+from common.suite import mutant
 
 
-def common(**parts):
-    return type("WrongCommon", (CommonInterval,), parts)()
+common = partial(mutant, CommonInterval)
 
 
 def ends_by(rule):
@@ -22,7 +24,7 @@ def same_by(rule):
 
 
 def alike(*names):
-    """Versions that compare only these of the lists, as far as they are used."""
+    """Mutants that compare only these of the lists, as far as they are used."""
 
     def is_same(self, a, b):
         n = a.n
@@ -44,7 +46,7 @@ def without_size(self, a, b):
 
 
 def said_by(rule):
-    """A version that changes what is said, and leaves what is found."""
+    """A mutant that changes what is said, and leaves what is found."""
 
     def find(self, pair):
         found = CommonInterval.find(self, pair)
@@ -65,7 +67,7 @@ def in_finest(pair, proposal, limit):
     return limit << (finest(pair) - proposal.problem.s) > WIDEST
 
 
-COMMON = {
+MUTANTS = {
     "the coarser step": common(scale=lambda self, pair: min(pair.first.problem.s, pair.second.problem.s)),
     "the first proposal's step": common(scale=lambda self, pair: pair.first.problem.s),
     "the second proposal's step": common(scale=lambda self, pair: pair.second.problem.s),

@@ -1,13 +1,15 @@
-"""Wrong versions of the second implementation's converter, by name. Each breaks one rule of 02's Paper 14; the files must tell every one of them."""
+"""Mutants of the converter, by name. Each breaks one rule of 02's Paper 14."""
+
+from functools import partial
 
 from calls.convert.oracle import Converter
 from calls.listing.oracle import Program
 from common.format import lines_of, read_form
 from common.rules import Refusal
+from common.suite import mutant
 
 
-def converter(**parts):
-    return type("WrongConverter", (Converter,), parts)()
+converter = partial(mutant, Converter)
 
 
 def lines_by(rule):
@@ -84,7 +86,7 @@ def instead(number, other):
     return converter(convert=convert)
 
 
-CONVERTED = {
+MUTANTS = {
     "weights left out where all are 1": lines_by(without_ones),
     "only the weights that were given": text_by(weights_given),
     "lines in the order they came": text_by(in_order_given),

@@ -1,21 +1,21 @@
-"""Wrong versions of the second implementation's check of a net and one hung from it, by name. Each breaks one rule of 02's Paper 8 or 9; the calls must tell
-every one of them."""
+"""Mutants of the check of a net and one hung from it, by name. Each breaks one rule of 02's Paper 8 or 9."""
+
+from functools import partial
 
 from calls.check.oracle import FULL, MATRIX, Bounds, Reckoning, check, times
 from calls.dependent.oracle import DEPENDENT, MAIN, DependentCheck, DependentReckoning, NetRefusal, PairBounds
 from common.rules import Refusal
+from common.suite import mutant
 
 CAP = 2**25
 
 
+whole = partial(mutant, DependentCheck)
+
+
 def dependent(**parts):
     """A check whose reckoning of the hung net has these parts."""
-    return type("WrongDependent", (DependentCheck,), {"reckoning": type("WrongReckoning", (DependentReckoning,), parts)})()
-
-
-def whole(**parts):
-    """A check with these parts."""
-    return type("WrongCheck", (DependentCheck,), parts)()
+    return whole(reckoning=type("Mutant", (DependentReckoning,), parts))
 
 
 def slacked(term):
@@ -110,7 +110,7 @@ def not_capped(self, system):
     return [signed_64(sum(abs(c) * E for c, E in zip(row, self.E1))) + slack for row, slack in zip(self.C, Reckoning.slacks(self, system))]
 
 
-HUNG = {
+MUTANTS = {
     "slack of the tolerance alone": dependent(slacks=Reckoning.slacks),
     "slack of C alone": dependent(slacks=lambda self, system: [sum(abs(c) * E for c, E in zip(row, self.E1)) for row in self.C]),
     "no slack": dependent(slacks=lambda self, system: [0] * system.n),

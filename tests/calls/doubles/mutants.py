@@ -1,20 +1,20 @@
-"""Wrong versions of the second implementation's doubles in and out, by name. Each breaks one rule of 02's Paper 11; the calls must tell every one of them.
+"""Mutants of doubles in and out, by name. Each breaks one rule of 02's Paper 11.
 
-A version that takes every subnormal as 0 is not among them: with at most 2^20 steps to a unit a subnormal's guess is 0, so no call can tell it."""
+A mutant that takes every subnormal as 0 is not among them: with at most 2^20 steps to a unit a subnormal's guess is 0, so no call can detect it."""
 
 import math
+from functools import partial
 
 from calls.doubles.oracle import Doubles
 from common.format import is_within
 from common.rules import Refusal
+from common.suite import mutant
 
-
-def version(**parts):
-    return type("WrongDoubles", (Doubles,), parts)()
+version = partial(mutant, Doubles)
 
 
 def rounded_by(rule):
-    """A version whose guess is rule(numerator, denominator)."""
+    """A mutant whose guess is rule(numerator, denominator)."""
     return version(nearest=lambda self, numerator, denominator: rule(numerator, denominator))
 
 
@@ -35,12 +35,12 @@ def toward_zero(numerator, denominator):
 
 
 def guessed(rule):
-    """A version whose guess of a double is rule(x, the right guess)."""
+    """A mutant whose guess of a double is rule(x, the right guess)."""
     return version(guess=lambda self, x, s: rule(x, Doubles.guess(self, x, s)))
 
 
 def ended(rule):
-    """A version whose pair is rule(x, e, s, low, high)."""
+    """A mutant whose pair is rule(x, e, s, low, high)."""
     return version(interval=lambda self, x, e, s: rule(x, e, s, *Doubles.interval(self, x, e, s)))
 
 
@@ -49,7 +49,7 @@ def minus_zero(end, steps):
 
 
 def order(*numbers):
-    """A version that tests in another order, inward."""
+    """A mutant that tests in another order, inward."""
 
     def guesses(self, call):
         holds = {

@@ -1,13 +1,15 @@
-"""Wrong versions of the second implementation's check by half the matrix, by name. Each breaks one rule of 02's Paper 10; the calls must tell every one."""
+"""Mutants of the check by half the matrix, by name. Each breaks one rule of 02's Paper 10."""
+
+from functools import partial
 
 from calls.check.oracle import Bounds, check
 from calls.half.oracle import LEAST, HalfEntry, lower_half
 from common.format import is_within
 from common.rules import Refusal
+from common.suite import mutant
 
 
-def entry(**parts):
-    return type("WrongEntry", (HalfEntry,), parts)()
+entry = partial(mutant, HalfEntry)
 
 
 def placed(place):
@@ -63,7 +65,7 @@ def mirrored_bounds(problem, lengths, right):
     return right._replace(inverse=[[rows[max(i, j)][min(i, j)] for j in range(problem.n)] for i in range(problem.n)])
 
 
-HALVED = {
+MUTANTS = {
     "the upper half read": placed(upper),
     "stride 32": placed(lambda n, i, j: 32 * i + j),
     "stride n": placed(lambda n, i, j: n * i + j),

@@ -1,9 +1,9 @@
 """Document 01's program: a file to its listing."""
 
-from fractions import Fraction
-from math import ceil, floor
+from dataclasses import replace
 
 from calls.check.oracle import KINDS, Problem, Reckoning
+from calls.entry.oracle import Entry
 from calls.loader.oracle import Loader
 from common.format import lines_of
 from common.rules import IN_FORCE, Refusal
@@ -12,10 +12,9 @@ from common.rules import IN_FORCE, Refusal
 WITH_LINE = (1, 2, 3, 4, 11, 12, 14)
 
 
-class Program:
+class Program(Entry):
     loader = Loader
     reckoning = Reckoning
-    rules = IN_FORCE
 
     def listing(self, file):
         """01: It stops at its first refusal and prints one line. Else it prints the report."""
@@ -64,12 +63,12 @@ class Program:
             "(end)",
         ]
 
-    def entry(self, X, S):
-        """V: "X/S rounded to a whole unit, halves away from zero"."""
-        size = floor(Fraction(abs(X), S) + Fraction(1, 2))
-        return -size if X < 0 else size
 
-    def entry_bound(self, X, E, S):
-        """01: its limit is E/S rounded up. 02, Paper 2: (E + |X − S·V|)/S rounded up."""
-        rounding = abs(X - S * self.entry(X, S)) if self.rules.entry_covers_rounding else 0
-        return ceil(Fraction(E + rounding, S))
+def under(rules):
+    """The program under other rules."""
+    return type("Program", (Program,), {"rules": rules})()
+
+
+def without(rule):
+    """The program before the paper that this rule is of."""
+    return under(replace(IN_FORCE, **{rule: False}))

@@ -1,16 +1,16 @@
-"""Wrong versions of the second implementation that read a file otherwise, by name; each breaks one rule of document 01 or 02."""
+"""Mutants of a loader, by name. READING, as parts of a program, read a file otherwise than document 01 and 02's Papers 1 and 6 say, and the files must detect them
+(calls/listing); MUTANTS leave other numbers or lists behind."""
 
 import re
 from dataclasses import replace
 
-from calls.listing.mutants import program
-from calls.loader.oracle import Loader
+from calls.loader.oracle import ENDED, Loader, Numbered
 from common.format import RANGES, Form, is_in_range, lines_of, read_form
 from common.rules import IN_FORCE
 
 
 def loader(**parts):
-    return program(loader=type("WrongLoader", (Loader,), parts))
+    return dict(loader=type("Mutant", (Loader,), parts))
 
 
 def any_kind_missing(self):
@@ -93,7 +93,7 @@ def ones_where(test):
 
 
 LOADED = {
-    "01's order": program(rules=replace(IN_FORCE, repetition_before_values=False)),
+    "01's order": dict(rules=replace(IN_FORCE, repetition_before_values=False)),
     "12 before 3 for i, i by its size": before_place(abs),
     "12 before 3 for i, i by its last five bits": before_place(lambda i: (i - 1) % 32 + 1),
     "12 after 3 for values": before("3_for_values", "12"),
@@ -107,7 +107,7 @@ LOADED = {
     "14 after 2": loader(REPETITION_FIRST=("1", "2", "14", *Loader.REPETITION_FIRST[3:])),
     "2 before 1": before("2", "1"),
     "place i counted once for all kinds": loader(missing=any_kind_missing),
-    "missing out of 5n": program(rules=replace(IN_FORCE, weights_may_be_left_out=False)),
+    "missing out of 5n": dict(rules=replace(IN_FORCE, weights_may_be_left_out=False)),
     "weights left out and counted": loader(COUNTED=Loader.ALL_COUNTED),
     "missing of the inverse forgotten": loader(COUNTED=("row", "right", "guess")),
     "ones over given weights": loader(close=ones_where(lambda self, i: True)),
@@ -180,11 +180,11 @@ READ = {
     "64-bit numbers wrap": wrapped(64),
     "32-bit places wrap": loader(read=lambda self, text: (form := read_form(text)) and form._replace(place=form.place and form.place % 2**32)),
     "a long numeral is 2": loader(read=long_is_none),
-    "a last line without line feed lost": program(lines=lambda self, file: file.split(b"\n")[:-1]),
-    "an empty line after the last line feed": program(lines=lambda self, file: file.split(b"\n")),
-    "empty lines skipped": program(lines=lambda self, file: [line for line in lines_of(file) if line]),
-    "stops at the end": program(lines=until_end),
-    "carriage return ends a line": program(lines=lambda self, file: lines_of(file.replace(b"\r", b"\n"))),
+    "a last line without line feed lost": dict(lines=lambda self, file: file.split(b"\n")[:-1]),
+    "an empty line after the last line feed": dict(lines=lambda self, file: file.split(b"\n")),
+    "empty lines skipped": dict(lines=lambda self, file: [line for line in lines_of(file) if line]),
+    "stops at the end": dict(lines=until_end),
+    "carriage return ends a line": dict(lines=lambda self, file: lines_of(file.replace(b"\r", b"\n"))),
 }
 
 
@@ -198,7 +198,7 @@ def narrowed(kind, lowest, highest):
     return ranged(lambda of, number: lowest <= number <= highest if of == kind else is_in_range(of, number))
 
 
-def range_versions():
+def range_mutants():
     """For each kind the range one too narrow and one too wide at either end."""
     for kind, (lowest, highest) in RANGES.items():
         yield f"{kind} range without its lowest", narrowed(kind, lowest + 1, highest)
@@ -208,4 +208,30 @@ def range_versions():
             yield f"{kind} range one higher", narrowed(kind, lowest, highest + 1)
 
 
-READING = {**LOADED, **READ, **dict(range_versions())}
+READING = {**LOADED, **READ, **dict(range_mutants())}
+
+
+def numbered(**parts):
+    return type("Mutant", (Numbered,), parts)
+
+
+def read_back(self, refusal):
+    """A refused line leaves the numbers of the loader that it was read as, and not the very numbers."""
+    return [self.stage, *self.numbers[1:]]
+
+
+def old_tolerance(self, at, right, tolerance=None):
+    Loader.accept_right(self, at, right, self.lists["tolerance"][at] if tolerance is None else tolerance)
+
+
+MUTANTS = {
+    "a first number above 3 is an end": numbered(stage_of=lambda self, number: min(number, ENDED)),
+    "a refused line is read and written back": numbered(left=read_back),
+    "an own n out of range is not tested": numbered(refusal_3_for_i=Loader.refusal_3_for_i),
+    "an end leaves the weights": numbered(close=lambda self: None),
+    "a right side without tolerance leaves the old one": numbered(accept_right=old_tolerance),
+    "weights count as missing": numbered(counted=lambda self: self.ALL_COUNTED),
+    "values before repetition": numbered(order=lambda self: self.VALUES_FIRST),
+    "a given form is given again": numbered(refusal_12=lambda self, line: None),
+    "a line after the end is taken": numbered(refusal_14=lambda self, line: None),
+}

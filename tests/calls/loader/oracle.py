@@ -1,10 +1,13 @@
-"""Document 01's desk: it collects forms line by line and fills the lists."""
+"""Document 01's desk: it collects forms line by line and fills the lists; and the loader of the library, nine numbers beside six lists, step by step."""
 
 from functools import cached_property
 
-from calls.check.oracle import COLUMN, KINDS, MATRIX
+from calls.check.oracle import COLUMN, FULL, KINDS, MATRIX, Problem, check
 from common.format import LONGEST_LINE, PLACED, is_in_range, read_form
 from common.rules import IN_FORCE, Refusal
+
+# How far a loader has come.
+NOTHING, SIZED, SCALED, ENDED = range(4)
 
 
 class Line:
@@ -136,3 +139,87 @@ class Loader:
         for i in range(1, self.n + 1):
             if ("weight", i) not in self.given:
                 self.lists["weight"][i - 1] = 1
+
+
+def before(which, place):
+    """What a list holds before a loader is new."""
+    return (which * 4099 + place * 31 + 7) % 2001 - 1000
+
+
+def lists_before():
+    return {kind: [before(which, place) for place in range(MATRIX if kind in ("row", "inverse") else COLUMN)] for which, kind in enumerate(KINDS)}
+
+
+class Numbered(Loader):
+    """The loader that nine numbers stand for: how far it has come, n, s and t, and the sets of what was given, a bit for each i."""
+
+    def __init__(self, numbers, lists):
+        super().__init__()
+        self.stage = self.stage_of(numbers[0])
+        self.numbers = list(numbers)
+        self.lists = lists
+        n, s, t, *sets = numbers[1:]
+        self.n = n if self.stage >= SIZED else None
+        self.s, self.t = (s, t) if self.stage >= SCALED else (None, None)
+        self.ended = self.stage == ENDED
+        self.given = {(kind, i + 1) for kind, bits in zip(PLACED, sets) for i in range(32) if bits >> i & 1}
+        self.given |= {(word, None) for word, stage in (("problem", SIZED), ("scale", SCALED)) if self.stage >= stage}
+
+    def stage_of(self, number):
+        return number if number <= ENDED else NOTHING
+
+    def refusal_3_for_i(self, line):
+        """An own n out of range, which no file gives, is 3 of every form."""
+        return () if self.n is not None and not 1 <= self.n <= COLUMN else super().refusal_3_for_i(line)
+
+    def accept(self, form):
+        super().accept(form)
+        if form.kind == "problem":
+            self.numbers[:2] = SIZED, self.n
+        elif form.kind == "scale":
+            self.numbers[:4] = SCALED, self.n, self.s, self.t
+        elif form.kind == "end":
+            self.numbers[0] = ENDED
+        else:
+            self.numbers[4 + PLACED.index(form.kind)] |= 1 << (form.place - 1)
+
+    def left(self, refusal):
+        """The nine numbers after a line."""
+        return self.numbers
+
+
+class Steps:
+    """The steps of one loader after another; `loader` is what they are right of."""
+
+    def __init__(self, loader=Numbered):
+        self.loader = loader
+        self.new()
+
+    def new(self):
+        self.numbers, self.lists = [0] * 9, lists_before()
+        return [0], b""
+
+    def set(self, numbers):
+        self.numbers = list(numbers)
+        return [1, *numbers], b""
+
+    def line(self, text, short):
+        old = {kind: list(numbers) for kind, numbers in self.lists.items()}
+        loader = self.loader(self.numbers, self.lists)
+        refusal = Refusal(8) if short else loader.take(text)
+        self.numbers = list(self.numbers) if short else loader.left(refusal)
+        changed = [
+            (which, place, new) for which, kind in enumerate(KINDS) for place, (was, new) in enumerate(zip(old[kind], self.lists[kind])) if was != new
+        ]
+        said = (0, 0) if refusal is None else (refusal.number, *(*refusal.values, 0)[:1])
+        return [2, short, len(text), *said, *self.numbers, len(changed), *(number for change in changed for number in change)], text
+
+    def check(self, short):
+        loader = self.loader(self.numbers, self.lists)
+        lengths = FULL if not short else FULL._replace(**{FULL._fields[short - 1]: FULL[short - 1] - 1})
+        if short or not loader.ended:
+            answer = Refusal(8 if short else 15)
+        else:
+            answer = check(Problem(*self.numbers[1:4], *(self.lists[kind] for kind in KINDS)), lengths)
+        said = (answer.number, *answer.values, 0, 0)[:3] if isinstance(answer, Refusal) else (0, 0, 0)
+        return [3, short, *said], b""

@@ -1,18 +1,18 @@
-"""Wrong versions of the second implementation's factor of a proposal's limits, by name. The inquiries must tell every one of them."""
+"""Mutants of the factor of a proposal's limits, by name."""
 
+from functools import partial
 from math import gcd
 
 from calls.check.oracle import Reckoning
 from calls.quality.oracle import FULL, Factor, Quality
 from common.rules import Refusal
+from common.suite import mutant
 
-
-def rating(**parts):
-    return type("WrongQuality", (Quality,), parts)()
+rating = partial(mutant, Quality)
 
 
 def reckoned(**parts):
-    return rating(reckoning=type("WrongReckoning", (Reckoning,), parts))
+    return rating(reckoning=type("Mutant", (Reckoning,), parts))
 
 
 def chosen_by(key):
@@ -25,7 +25,7 @@ def changed(rule):
     return rating(chosen=lambda self, rows: rule(Quality.chosen(self, rows)))
 
 
-def told(rule):
+def said_by(rule):
     """One that says rule(the refusal) for a refusal."""
 
     def rate(self, inquiry):
@@ -80,7 +80,7 @@ def to_32_bits(self, rows):
     return best
 
 
-RATED = {
+MUTANTS = {
     "the smallest quotient": chosen_by(lambda row: -row.numerator / row.denominator),
     "the last of equal rows": rating(chosen=last_of_equal),
     "the first row": rating(chosen=lambda self, rows: rows[0]),
@@ -98,8 +98,8 @@ RATED = {
     "weights of 1": rating(rows=lambda self, inquiry: Quality.rows(self, inquiry._replace(weights=[1] * inquiry.n))),
     "a margin of 0 good": reckoned(is_margin_good=lambda self, margin: margin >= 0),
     "5 with the last row": reckoned(failing_margin=last_failing),
-    "5 counted from 0": told(lambda said: Refusal(5, (said.values[0] - 1,)) if said.number == 5 else said),
-    "5 without a row": told(lambda said: Refusal(said.number)),
+    "5 counted from 0": said_by(lambda said: Refusal(5, (said.values[0] - 1,)) if said.number == 5 else said),
+    "5 without a row": said_by(lambda said: Refusal(said.number)),
     "a weight of 0 taken": ranged("weights", 0, 1024),
     "a weight of 1,025 taken": ranged("weights", 1, 1025),
     "t of 21 taken": ranged("t", 0, 21),

@@ -1,12 +1,13 @@
-"""Wrong versions of the second implementation's search for weights, by name. Each breaks one rule of 02's Paper 7; the searches must tell every one of them."""
+"""Mutants of the search for weights, by name. Each breaks one rule of 02's Paper 7."""
+
+from functools import partial
 
 from calls.check.oracle import Reckoning
 from calls.weights.oracle import Found, WeightSearch
 from common.rules import Refusal
+from common.suite import mutant
 
-
-def search(**parts):
-    return type("WrongSearch", (WeightSearch,), parts)()
+search = partial(mutant, WeightSearch)
 
 
 def next_by(rule):
@@ -57,7 +58,7 @@ def ranged(lowest, highest):
     return search(find=find)
 
 
-SEARCHED = {
+MUTANTS = {
     "a shift of each row by its own count": search(next=lambda self, loads: [(load >> self.bits(load)) + 1 for load in loads]),
     "one bit more than needed": bits_to(511),
     "the largest to 1,024": bits_to(1024),

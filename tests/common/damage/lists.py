@@ -1,5 +1,6 @@
 """Calls of the check on lists, damaged: lengths, n, s and t, numbers at the ends of ranges, other guesses, tolerances and weights."""
 
+from math import ceil, sqrt
 from typing import NamedTuple
 
 from calls.check.oracle import FULL, Lengths, Problem
@@ -9,6 +10,17 @@ UNREAD = -(2**63)
 
 # Lists by their place in a call.
 TOLERANCE, GUESS, WEIGHTS = (FULL._fields.index(name) for name in ("tolerance", "guess", "weights"))
+
+
+def filled(numbers, length):
+    """A list at its full length, UNREAD past the numbers given."""
+    return list(numbers) + [UNREAD] * (length - len(numbers))
+
+
+def rows_given(matrices, column=()):
+    """The least count k such that UNREAD stands past the first k × k numbers of each matrix and the first k of a column."""
+    given = lambda numbers: max((at + 1 for at, number in enumerate(numbers) if number != UNREAD), default=0)
+    return max(given(column), *(ceil(sqrt(given(numbers))) for numbers in matrices))
 
 
 class Call(NamedTuple):
@@ -22,7 +34,6 @@ class Call(NamedTuple):
     lists: tuple
 
     def problem(self):
-        filled = lambda numbers, length: list(numbers) + [UNREAD] * (length - len(numbers))
         return Problem(self.n, self.s, self.t, *(filled(numbers, length) for numbers, length in zip(self.lists, FULL)))
 
     def with_number(self, which, at, value):

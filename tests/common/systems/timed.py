@@ -1,8 +1,12 @@
 """Accepted systems whose check is timed: levelling nets as offices send them, dense matrices without symmetry, and rough proposals for levelling nets."""
 
+import random
+
+from calls.check.oracle import Bounds, Reckoning
+from common.damage.lists import call_of
 from common.exact import nearest
 from common.net import frozen
-from common.systems.usual import fitting_right, fitting_t, levelling_matrix, proposal, repeated, within_a_step
+from common.systems.usual import fitting_right, fitting_t, levelling, levelling_matrix, proposal, repeated, within_a_step
 
 
 def halves_up(_):
@@ -35,3 +39,18 @@ def dense(rng, n):
 def rough(rng, n):
     """A levelling net whose proposal is within a step of the exact one and so without symmetry, weights of 1 to 3."""
     return repeated(lambda: made(rng, levelling_matrix(rng, n, rng.choice((1, 4, 64))), [rng.randint(1, 3) for _ in range(n)], within_a_step))
+
+
+KINDS = {"levelling": levelling, "office": office, "dense": dense, "rough": rough}
+
+
+def accepted(seed, sizes, each, make):
+    """Nets that are accepted, so many of each size."""
+    for n in sizes:
+        rng = random.Random(f"sizes {seed}/{n}")
+        found = 0
+        while found < each:
+            net = make(rng, n)
+            if isinstance(Reckoning().check(call_of(net).problem()), Bounds):
+                found += 1
+                yield net

@@ -20,6 +20,12 @@ def levelling_matrix(rng, n, heaviest):
     return frozen([built.matrix[i * n : i * n + n] for i in range(n)])
 
 
+def mirrored(matrix):
+    """A matrix with each number above the diagonal that below it."""
+    places = range(len(matrix))
+    return frozen([[matrix[max(i, j)][min(i, j)] for j in places] for i in places])
+
+
 def general_matrix(rng, n):
     """A matrix without symmetry: full or thin, its numbers of up to 14 binary digits, its diagonal heavy or not."""
     largest = 2 ** rng.randint(1, 14)

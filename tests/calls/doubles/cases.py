@@ -1,9 +1,19 @@
-"""Calls of 02's Paper 11 by chance: doubles to become guesses, and guesses with limits to become pairs of doubles. What they must meet is counted."""
+"""Doubles in and out (02, Paper 11) by chance: doubles to become guesses, and guesses with limits to become pairs of doubles; and damaged calls.
+
+So many calls inward are written, and as many outward. A call inward is: 0, n and s, the two lengths that it is told, the bits of 32 doubles, the refusal's number
+(0 where accepted), and where it is 0 the n guesses. A call outward is: 1, n and s, the four lengths, 32 guesses and 32 limits, the refusal's number, and where it
+is 0 the bits of n low ends and of n high ends."""
 
 import math
+import random
 import struct
+from fractions import Fraction
+from itertools import islice
 
-from calls.doubles.oracle import Inward, Outward
+from calls.doubles.mutants import INWARD, OUTWARD
+from calls.doubles.oracle import Doubles, Inward, Outward
+from common.rules import Refusal
+from common.suite import Suite
 
 LARGEST = 2**36
 ODD_DOUBLES = (math.inf, -math.inf, math.nan, 1e300, -1.7e308)
@@ -58,13 +68,13 @@ def size_and_scale(rng):
     return rng.choice((32, 32, rng.randint(1, 32))), rng.randrange(21)
 
 
-def inward(rng, second):
+def inward(rng, oracle):
     """A call whose first n doubles all give guesses, with others past them."""
     n, s = size_and_scale(rng)
     values = []
     while len(values) < n:
         x = rng.choice(KINDS_IN)(rng, s)
-        if second.guess(x, s) is not None:
+        if oracle.guess(x, s) is not None:
             values.append(x)
     rest = [rng.choice(ODD_DOUBLES) for _ in range(32 - n)]
     return Inward(n, s, values + rest)
@@ -136,7 +146,7 @@ def damaged_outward(rng, call):
     return call._replace(**{name: numbers})
 
 
-def met_inward(x, s):
+def inward_coverage(x, s):
     """What one double that gives a guess is a case of."""
     numerator, denominator = x.as_integer_ratio()
     steps, rest = divmod(abs(numerator) << s, denominator)
@@ -154,7 +164,7 @@ def met_inward(x, s):
         yield "a power of two"
 
 
-def met_outward(x, e, low, high):
+def outward_coverage(x, e, low, high):
     """What one height is a case of."""
     if e == 0:
         yield "the limit 0"
@@ -172,5 +182,82 @@ def met_outward(x, e, low, high):
         yield "a high end at a power of two"
 
 
-IN = ("plus zero", "minus zero", "a subnormal", "a half of an even step", "a half of an odd step", "a whole number of steps", "2^36 steps", "a power of two")
-OUT = ("the limit 0", "the limit 2^60", "a guess of 2^36 in size", "an end of 0", "both ends below 0", "ends that are one double", "a high end at a power of two")
+def calls(seed, way):
+    """Without end, in or out: three calls in four that are accepted, and damaged ones."""
+    rng, oracle = random.Random(f"doubles {way} {seed}"), Doubles()
+    while True:
+        call = inward(rng, oracle) if way == "in" else outward(rng)
+        if rng.randrange(4):
+            yield call
+        else:
+            yield damaged_inward(rng, call) if way == "in" else damaged_outward(rng, call)
+
+
+def generate(seed, count):
+    for way in ("in", "out"):
+        yield from islice(calls(seed, way), count)
+
+
+def is_inward(call):
+    return isinstance(call, Inward)
+
+
+def answered(oracle, call):
+    return oracle.guesses(call) if is_inward(call) else oracle.intervals(call)
+
+
+def write(call, answer):
+    yield [0 if is_inward(call) else 1, call.n, call.s, *call.lengths]
+    yield from (map(bits_of, call.values),) if is_inward(call) else (call.guess, call.bounds)
+    if isinstance(answer, Refusal):
+        yield [answer.number]
+    else:
+        yield [0, *answer] if is_inward(call) else [0, *(bits_of(low) for low, _ in answer), *(bits_of(high) for _, high in answer)]
+
+
+IN = ("accepted", "refused 3", "refused 8", "refused 19", "plus zero", "minus zero", "a subnormal", "a half of an even step", "a half of an odd step")
+IN += ("a whole number of steps", "2^36 steps", "a power of two")
+OUT = ("accepted", "refused 3", "refused 8", "the limit 0", "the limit 2^60", "a guess of 2^36 in size", "an end of 0", "both ends below 0")
+OUT += ("ends that are one double", "a high end at a power of two")
+REQUIRED = dict.fromkeys((*(f"in: {name}" for name in IN), *(f"out: {name}" for name in OUT)), 100)
+
+
+def names_of(call, answer):
+    if isinstance(answer, Refusal):
+        yield f"refused {answer.number}"
+        return
+    yield "accepted"
+    if is_inward(call):
+        yield from (name for x in call.values[: call.n] for name in inward_coverage(x, call.s))
+    else:
+        yield from (name for x, e, ends in zip(call.guess, call.bounds, answer) for name in outward_coverage(x, e, *ends))
+
+
+def coverage(call, answer):
+    way = "in" if is_inward(call) else "out"
+    return (f"{way}: {name}" for name in names_of(call, answer))
+
+
+def faults(rng, call, answer):
+    """The ends in the paper's words, by fractions: each on its side, and the next double not."""
+    for x, e, (low, high) in () if is_inward(call) or isinstance(answer, Refusal) else zip(call.guess, call.bounds, answer):
+        under, over = Fraction(x - e, 2**call.s), Fraction(x + e, 2**call.s)
+        is_low_good = Fraction(low) <= under < Fraction(math.nextafter(low, math.inf))
+        is_high_good = Fraction(math.nextafter(high, -math.inf)) < over <= Fraction(high)
+        if not (is_low_good and is_high_good) or "-0.0" in (str(low), str(high)):
+            yield f"ends of {x} and {e} with s = {call.s}"
+
+
+def differs(mutant, call, answer):
+    """An answer in which minus zero is not plus zero."""
+    return str(answered(mutant, call)) != str(answer)
+
+
+SUITE = Suite(
+    count=1500, tested_count=6000, seed="2", generate=generate, write=write, coverage=coverage, required=REQUIRED, faults=faults,
+    answer=lambda call: answered(Doubles(), call),
+    mutants=(
+        ({f"in: {name}": mutant for name, mutant in INWARD.items()}, lambda mutant, call, answer: is_inward(call) and differs(mutant, call, answer)),
+        ({f"out: {name}": mutant for name, mutant in OUTWARD.items()}, lambda mutant, call, answer: not is_inward(call) and differs(mutant, call, answer)),
+    ),
+)

@@ -1,9 +1,17 @@
-"""Inquiries for the factor of a proposal's limits, by chance: problems whose margins are above 0 and others, with weights of several kinds."""
+"""Calls for the factor of a proposal's limits, by chance: problems whose margins are above 0 and others, with weights of several kinds; and damaged ones.
 
-from calls.quality.oracle import FULL, Inquiry
+Each is written as a count k, n and t, and the three lengths that the call is told; then k × k numbers of the matrix and of the inverse and k weights, after
+which each list is filled with UNREAD; then the refusal's number (0 where there is a factor), its row (0 where it has none), and numerator and denominator (0
+where refused)."""
+
+import random
+
+from calls.quality.mutants import MUTANTS
+from calls.quality.oracle import FULL, Inquiry, Quality
 from calls.weights.oracle import WeightSearch
-from common.damage.lists import UNREAD, odd_number
+from common.damage.lists import filled, odd_number, rows_given
 from common.rules import Refusal
+from common.suite import Suite
 from common.systems.searched import searched, with_defect
 
 FEW = (1, 2, 2, 3, 3, 4, 5, 6, 8, 12)
@@ -61,18 +69,6 @@ def largest_numbers(rng):
 FAMILIES = (by_search, by_search, by_search, diagonal, near_0, near_0, largest_numbers)
 
 
-def rated(rng):
-    return rng.choice(FAMILIES)(rng)
-
-
-def filled(inquiry):
-    """The lists at their full length, UNREAD past what is given."""
-    fill = lambda numbers, length: list(numbers) + [UNREAD] * (length - len(numbers))
-    return inquiry._replace(
-        matrix=fill(inquiry.matrix, FULL.matrix), inverse=fill(inquiry.inverse, FULL.inverse), weights=fill(inquiry.weights, FULL.weights)
-    )
-
-
 def damaged(rng, inquiry):
     """One thing changed: a length, n, t, a number in use, or one past those."""
     n, kind = inquiry.n, rng.randrange(6)
@@ -89,3 +85,55 @@ def damaged(rng, inquiry):
     at = rng.randrange(min(used, len(numbers) - 1), len(numbers)) if kind == 3 else rng.randrange(used)
     numbers[at] = rng.choice((0, 1, 2, 1024, 1025, -1)) if name == "weights" and kind > 3 else odd_number(rng)
     return inquiry._replace(**{name: numbers})
+
+
+def generate(seed, count):
+    for index in range(count):
+        rng = random.Random(f"quality {seed}/{index}")
+        inquiry = rng.choice(FAMILIES)(rng)
+        inquiry = inquiry._replace(**{name: filled(getattr(inquiry, name), length) for name, length in FULL._asdict().items()})
+        yield inquiry
+        yield damaged(rng, inquiry)
+
+
+def write(inquiry, answer):
+    count = rows_given((inquiry.matrix, inquiry.inverse), inquiry.weights)
+    yield [count, inquiry.n, inquiry.t, *inquiry.lengths]
+    yield inquiry.matrix[: count * count]
+    yield inquiry.inverse[: count * count]
+    yield inquiry.weights[:count]
+    yield [answer.number, *(answer.values or (0,)), 0, 0] if isinstance(answer, Refusal) else [0, 0, *answer]
+
+
+REQUIRED = dict.fromkeys(
+    (
+        *("row 1", "the last row", "a row between", "equal rows", "a factor of 1", "a margin of 1", "a numerator of 2^30 or more"),
+        *("5 in row 1", "5 in a later row", "refused 3", "refused 8"),
+    ),
+    20,
+)
+
+
+def coverage(inquiry, answer):
+    if isinstance(answer, Refusal):
+        yield f"refused {answer.number}" if answer.number != 5 else "5 in row 1" if answer.values == (1,) else "5 in a later row"
+        return
+    rows = Quality().rows(inquiry)
+    row = rows.index(answer)
+    if len(rows) > 2:
+        yield "row 1" if row == 0 else "the last row" if row == len(rows) - 1 else "a row between"
+    if any((a, c) != answer and a * answer.denominator == answer.numerator * c for a, c in rows):
+        yield "equal rows"
+    if answer.numerator == answer.denominator:
+        yield "a factor of 1"
+    if answer.denominator == 1:
+        yield "a margin of 1"
+    if answer.numerator >= 2**30:
+        yield "a numerator of 2^30 or more"
+
+
+SUITE = Suite(
+    count=800, generate=generate, write=write, coverage=coverage, required=REQUIRED,
+    answer=Quality().rate,
+    mutants=((MUTANTS, lambda mutant, inquiry, answer: mutant.rate(inquiry) != answer),),
+)
