@@ -1,4 +1,4 @@
-/* Calls of the check on lists as tests/emit.py writes them. */
+/* Calls of the check on lists as tests/emit.py check writes them. */
 #ifndef NETS_H
 #define NETS_H
 
@@ -30,7 +30,7 @@ struct outcome {
 /* Reads a call and the outcome that stands after it; false at the end of the file. */
 bool read_net(FILE *file, struct net *net, struct outcome *expected);
 
-/* The same of a call as tests/emit_halves.py writes it: its matrix begins with the lower half. */
+/* The same of a call as tests/emit.py half writes it: its matrix begins with the lower half. */
 bool read_half(FILE *file, struct net *net, struct outcome *expected);
 
 /* The outcome of a check on cleared limits; the places hold other numbers before. */

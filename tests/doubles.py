@@ -77,20 +77,20 @@ def expected_out(answer):
     return number, (0, 0), after("d", [low for low, _ in ends], ENDS_BEFORE), after("d", [high for _, high in ends], ENDS_BEFORE)
 
 
-WAYS = {"in": (Library.guesses, expected_in), "out": (Library.intervals, expected_out)}
+DIRECTIONS = {"in": (Library.guesses, expected_in), "out": (Library.intervals, expected_out)}
 
 
-def compare(library, way, seed, heights, tally):
-    """Calls of one way, until so many heights were in those that are accepted."""
-    (call_of, expected), met, done = WAYS[way], Counter(), 0
-    for index, call in enumerate(calls(seed, way)):
+def compare(library, direction, seed, heights, tally):
+    """Calls in one direction, until so many heights were in those that are accepted."""
+    (call_of, expected), met, done = DIRECTIONS[direction], Counter(), 0
+    for index, call in enumerate(calls(seed, direction)):
         answer = SUITE.answer(call)
-        tally.test(f"{way}, call {index}", [] if call_of(library, call) == expected(answer) else ["another answer, or another list"])
+        tally.test(f"{direction}, call {index}", [] if call_of(library, call) == expected(answer) else ["another answer, or another list"])
         met.update(SUITE.coverage(call, answer))
         done += 0 if isinstance(answer, Refusal) else call.n
         if done >= heights:
             break
-    tally.test_coverage({name: least for name, least in SUITE.required.items() if name.startswith(f"{way}:")}, met, index + 1)
+    tally.test_coverage({name: least for name, least in SUITE.required.items() if name.startswith(f"{direction}:")}, met, index + 1)
 
 
 def main():
@@ -101,8 +101,8 @@ def main():
     options, tally = parser.parse_args(), Tally()
     with tempfile.TemporaryDirectory() as out:
         library = Library(library_in(options.folder, out))
-        for way in WAYS:
-            compare(library, way, options.seed, options.heights, tally)
+        for direction in DIRECTIONS:
+            compare(library, direction, options.seed, options.heights, tally)
     return tally.close()
 
 

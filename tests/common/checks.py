@@ -1,4 +1,4 @@
-"""What must hold of a printed listing whatever the second implementation says: document 01's exact solution and inverse, the exact height and the entry,
+"""What must hold of a printed listing whatever the oracle says: document 01's exact solution and inverse, the exact height and the entry,
 for every right side within the tolerances (02, Paper 5), in whole numbers over q; residuals within the sums along their rows (Paper 9); and limits that are never far above a true error (never_far.py)."""
 
 import random
@@ -39,13 +39,13 @@ def faults(net, listing):
     return [text for text, holds in statements(net, q, H, listing) if not holds]
 
 
-def near_faults(net, told):
+def near_faults(net, refused):
     """02, Paper 9: "a guess within one step of the exact solution everywhere always meets this": no 6 for a row without tolerance, nor 7 for such a column."""
-    exact = inverse_of(net.matrix) if told else None
+    exact = inverse_of(net.matrix) if refused else None
     if exact is None:
         return []
-    (q, H), place = exact, int(told.group(2)) - 1
-    if told.group(1) == b"6":
+    (q, H), place = exact, int(refused.group(2)) - 1
+    if refused.group(1) == b"6":
         near = net.tolerance[place] == 0 and solution_within(net, q, product(H, net.right), [1] * net.n)
         return ["refused with 6, though the guess is within a step"] if near else []
     near = all(abs(2**net.t * h[place] - q * g[place]) <= q for h, g in zip(H, net.inverse))

@@ -183,7 +183,7 @@ def row_sums():
 
 
 def row_sum_orders():
-    """02, Paper 9: both tests of a residual in several rows and columns: the lowest that fails either is told, and 6 before 7."""
+    """02, Paper 9: both tests of a residual in several rows and columns: the lowest that fails either is given, and 6 before 7."""
     unit = lambda guess, tolerance: net_of(20, 20, [[1, 0], [0, 1]], [0, 0], guess, [[2**20, 0], [0, 2**20]], [1, 1]).with_(tolerance=tolerance)
     for sign in (1, -1):
         for guess, tolerance in (((2, 0), (0, 33)), ((0, 2), (33, 0)), ((2, 2**25 + 1), (0, 0)), ((2**25 + 1, 2), (0, 0)), ((1, 2), (33, 0)), ((0, 2), (0, 33))):

@@ -1,4 +1,4 @@
-"""What must hold of an accepted net and one hung from it, whatever the second implementation says (02, Paper 8): "every exact solution of the two nets together
+"""What must hold of an accepted net and one hung from it, whatever the oracle says (02, Paper 8): "every exact solution of the two nets together
 lies within both lists of limits, tolerances included". The joint systems are solved exactly, for right sides within the tolerances. Both inverses lie within
 theirs."""
 

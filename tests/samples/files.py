@@ -1,4 +1,4 @@
-"""Sample files by name, and their listings by the second implementation."""
+"""Sample files by name, and their listings by the oracle."""
 
 import random
 
@@ -107,7 +107,6 @@ def stored():
 
 def entries(printing):
     """Each name and its file as two commands of the script, with what the program prints of them."""
-    second = Program()
     for name, file in stored():
         yield b"\xfet" + name.encode() + b"\n", name + "\n"
-        yield b"\xfef" + file, second.listing(file).decode()
+        yield b"\xfef" + file, Program().listing(file).decode()

@@ -25,7 +25,7 @@ def capped(number):
     return max(-CAP, min(CAP, number))
 
 
-def told(line, printing):
+def described(line, printing):
     """What a line is, as the program prints it. A tolerance of 0 is not printed, given or not."""
     if len(line) > 320:
         return f"refused {printing.refused(1)}"
@@ -158,4 +158,4 @@ def lines():
 def entries(printing):
     """Each line as a command of the script, with what the program prints of it."""
     for line in lines():
-        yield b"\xfel" + line, told(line, printing) + "\n"
+        yield b"\xfel" + line, described(line, printing) + "\n"

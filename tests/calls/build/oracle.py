@@ -70,7 +70,7 @@ class Builder:
 
     def refused_first(self, call):
         """What is said before any line; 0 where nothing is."""
-        if any(told < least for told, least in zip(call.lengths, self.least(call.layout))):
+        if any(length < least for length, least in zip(call.lengths, self.least(call.layout))):
             return 8
         return 3 if not is_within("problem", [call.n]) or len(call.lines) > MOST else 0
 

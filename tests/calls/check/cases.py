@@ -224,13 +224,13 @@ def coverage(sent, answer):
         yield sent.shape
 
 
-def differs(version, sent, answer):
-    return bool(sent.net) and sent.net.n <= MOST_DAMAGED and version().check(sent.call.problem()) != answer
+def differs(reckoning, sent, answer):
+    return bool(sent.net) and sent.net.n <= MOST_DAMAGED and reckoning().check(sent.call.problem()) != answer
 
 
 def faults(rng, sent, answer):
     """Other ways to the same numbers give the same."""
-    return (f"'{name}' differs" for name, version in AGREEING.items() if differs(version, sent, answer))
+    return (f"'{name}' differs" for name, reckoning in AGREEING.items() if differs(reckoning, sent, answer))
 
 
 SUITE = Suite(

@@ -233,7 +233,7 @@ FULL = Lengths()
 
 def check(problem, lengths=FULL):
     """The bounds of an accepted call, or the refusal of another."""
-    if any(told < least for told, least in zip(lengths, FULL)):
+    if any(length < least for length, least in zip(lengths, FULL)):
         return Refusal(8)
     return Reckoning().check(problem) if is_in_range(problem) else Refusal(3)
 

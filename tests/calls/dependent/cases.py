@@ -10,7 +10,7 @@ from typing import NamedTuple
 from calls.check.cases import answer_lines
 from calls.check.oracle import MATRIX, Bounds, Reckoning, check
 from calls.dependent.mutants import MUTANTS, UNSOUND
-from calls.dependent.oracle import MAIN, DependentCheck, NetRefusal, Nets, Told
+from calls.dependent.oracle import MAIN, DependentCheck, NetRefusal, Nets, Lengths
 from common import joint
 from common.damage import lists
 from common.damage.lists import Call, call_of, filled, odd_number
@@ -34,8 +34,8 @@ class PairCall(NamedTuple):
     def nets(self):
         return Nets(self.main.problem(), self.dependent.problem(), filled(self.coupling, MATRIX))
 
-    def told(self):
-        return Told(self.main.lengths, self.dependent.lengths, self.coupling_length)
+    def lengths(self):
+        return Lengths(self.main.lengths, self.dependent.lengths, self.coupling_length)
 
     def used(self):
         """How many numbers of C are in use."""
@@ -231,8 +231,8 @@ def faults(rng, sent, answer):
         yield from joint.faults(rng, sent.pair, answer)
 
 
-def reckon(version, sent):
-    return version.check(sent.call.nets(), sent.call.told())
+def reckon(oracle, sent):
+    return oracle.check(sent.call.nets(), sent.call.lengths())
 
 
 def is_left(mutant, sent, answer):

@@ -41,49 +41,49 @@ def placed(place):
 
 
 def answered(rule):
-    """A check whose answer is rule(nets, told, what is right)."""
-    return whole(check=lambda self, nets, told=None: rule(nets, told, DependentCheck().check(nets, told)))
+    """A check whose answer is rule(nets, lengths, what is right)."""
+    return whole(check=lambda self, nets, lengths=None: rule(nets, lengths, DependentCheck().check(nets, lengths)))
 
 
 def refused_as(rule):
     """A check that changes a refusal of the hung net by rule(net, refusal)."""
-    return answered(lambda nets, told, right: rule(*right) if isinstance(right, NetRefusal) else right)
+    return answered(lambda nets, lengths, right: rule(*right) if isinstance(right, NetRefusal) else right)
 
 
-def capped_limits(nets, told, right):
+def capped_limits(nets, lengths, right):
     """The main net's limits at most 2^25 + 1."""
     if isinstance(right, NetRefusal):
         return right
     return right._replace(main=right.main._replace(solution=[min(E, CAP + 1) for E in right.main.solution]))
 
 
-def lists_first(nets, told, right):
+def lists_first(nets, lengths, right):
     """8 of either net before anything else."""
-    main = check(nets.main, told.main)
-    if main != Refusal(8) and DependentCheck().is_short(told):
+    main = check(nets.main, lengths.main)
+    if main != Refusal(8) and DependentCheck().is_short(lengths):
         return NetRefusal(DEPENDENT, Refusal(8))
     return right
 
 
-def ranges_first(nets, told, right):
+def ranges_first(nets, lengths, right):
     """The hung net's 8 and 3 before the main net's 5, 6 and 7."""
     if right.__class__ is NetRefusal and right.net == MAIN and right.refusal.number in (5, 6, 7):
-        if DependentCheck().is_short(told):
+        if DependentCheck().is_short(lengths):
             return NetRefusal(DEPENDENT, Refusal(8))
         if not DependentCheck().is_in_range(nets):
             return NetRefusal(DEPENDENT, Refusal(3))
     return right
 
 
-def alone(nets, told, right):
+def alone(nets, lengths, right):
     """The hung net as a net by itself where C is all zeros, Paper 9's row sums included."""
     if any(any(row) for row in DependentCheck().rows(nets)) if right.__class__ is PairBounds else True:
         return right
-    net = check(nets.dependent, told.dependent)
+    net = check(nets.dependent, lengths.dependent)
     return PairBounds(right.main, net) if isinstance(net, Bounds) else NetRefusal(DEPENDENT, net)
 
 
-def read_past(nets, told, right):
+def read_past(nets, lengths, right):
     """The number after those of C in use is tested too."""
     at = nets.main.n * nets.dependent.n
     return NetRefusal(DEPENDENT, Refusal(3)) if right.__class__ is PairBounds and at < MATRIX and abs(nets.coupling[at]) > 2**20 else right
@@ -130,7 +130,7 @@ MUTANTS = {
     "unequal s passed": range_without("s"),
     "C's range not tested": range_without("C"),
     "a number past C read": answered(read_past),
-    "a short C taken": whole(is_short=lambda self, told: any(length < least for length, least in zip(told.dependent, FULL))),
+    "a short C taken": whole(is_short=lambda self, lengths: any(length < least for length, least in zip(lengths.dependent, FULL))),
     "row sums for its heights": dependent(guess_sums=Reckoning.guess_sums),
     "no row sums for its columns": dependent(column_sums=lambda self, system: [float("inf")] * system.n),
     "slack for its columns": dependent(column_slacks=lambda self, system: self.slacks(system)),

@@ -18,7 +18,7 @@ class Nets(NamedTuple):
     coupling: list
 
 
-class Told(NamedTuple):
+class Lengths(NamedTuple):
     """The lengths that a call is told."""
 
     main: tuple = FULL
@@ -61,24 +61,24 @@ class DependentReckoning(Reckoning):
 class DependentCheck:
     reckoning = DependentReckoning
 
-    def check(self, nets, told=Told()):
+    def check(self, nets, lengths=Lengths()):
         """02: "The main net is checked first and its refusals given; then the hung net in the usual order"."""
-        main = check(nets.main, told.main)
+        main = check(nets.main, lengths.main)
         if isinstance(main, Refusal):
             return NetRefusal(MAIN, main)
-        dependent = self.dependent(nets, told, main)
+        dependent = self.dependent(nets, lengths, main)
         return NetRefusal(DEPENDENT, dependent) if isinstance(dependent, Refusal) else PairBounds(main, dependent)
 
-    def dependent(self, nets, told, main):
+    def dependent(self, nets, lengths, main):
         """02: "C under 3 and 8 with its matrix, unequal s under 3"."""
-        if self.is_short(told):
+        if self.is_short(lengths):
             return Refusal(8)
         if not self.is_in_range(nets):
             return Refusal(3)
         return self.reckoning(self.rows(nets), nets.main.guess[: nets.main.n], main.solution).check(nets.dependent)
 
-    def is_short(self, told):
-        return any(length < least for length, least in zip(told.dependent, FULL)) or told.coupling < MATRIX
+    def is_short(self, lengths):
+        return any(length < least for length, least in zip(lengths.dependent, FULL)) or lengths.coupling < MATRIX
 
     def is_in_range(self, nets):
         main, dependent, coupling = nets

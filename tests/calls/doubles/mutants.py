@@ -10,12 +10,12 @@ from common.format import is_within
 from common.rules import Refusal
 from common.suite import mutant
 
-version = partial(mutant, Doubles)
+doubles = partial(mutant, Doubles)
 
 
 def rounded_by(rule):
     """A mutant whose guess is rule(numerator, denominator)."""
-    return version(nearest=lambda self, numerator, denominator: rule(numerator, denominator))
+    return doubles(nearest=lambda self, numerator, denominator: rule(numerator, denominator))
 
 
 def to_even(numerator, denominator):
@@ -36,12 +36,12 @@ def toward_zero(numerator, denominator):
 
 def guessed(rule):
     """A mutant whose guess of a double is rule(x, the right guess)."""
-    return version(guess=lambda self, x, s: rule(x, Doubles.guess(self, x, s)))
+    return doubles(guess=lambda self, x, s: rule(x, Doubles.guess(self, x, s)))
 
 
 def ended(rule):
     """A mutant whose pair is rule(x, e, s, low, high)."""
-    return version(interval=lambda self, x, e, s: rule(x, e, s, *Doubles.interval(self, x, e, s)))
+    return doubles(interval=lambda self, x, e, s: rule(x, e, s, *Doubles.interval(self, x, e, s)))
 
 
 def minus_zero(end, steps):
@@ -60,11 +60,11 @@ def order(*numbers):
         found = next((number for number in numbers if holds[number]()), None)
         return Refusal(found) if found else Doubles.guesses(self, call)
 
-    return version(guesses=guesses)
+    return doubles(guesses=guesses)
 
 
 def scaled(s):
-    return version(are_sizes_in_range=lambda self, call: is_within("problem", [call.n]) and call.s <= s)
+    return doubles(are_sizes_in_range=lambda self, call: is_within("problem", [call.n]) and call.s <= s)
 
 
 INWARD = {
@@ -77,13 +77,13 @@ INWARD = {
     "an infinity as the end of the range": guessed(lambda x, steps: math.copysign(2**36, x) if math.isinf(x) else steps),
     "no number as 0": guessed(lambda x, steps: 0 if math.isnan(x) else steps),
     "2^36 refused": guessed(lambda x, steps: None if steps is not None and abs(steps) == 2**36 else steps),
-    "2^36 + 1/2 taken": version(is_guess=lambda self, steps: abs(steps) <= 2**36 + 1),
-    "a guess out of range at its end": version(guess=lambda self, x, s: Doubles.guess(self, x, s) if not math.isfinite(x) else max(-(2**36), min(2**36, Doubles.nearest(self, x.as_integer_ratio()[0] << s, x.as_integer_ratio()[1])))),
-    "units for steps": version(guess=lambda self, x, s: Doubles.guess(self, x, 0)),
-    "past n read": version(guesses=lambda self, call: Doubles.guesses(self, call._replace(n=call.n + 1)) if call.n < 32 else Doubles.guesses(self, call)),
+    "2^36 + 1/2 taken": doubles(is_guess=lambda self, steps: abs(steps) <= 2**36 + 1),
+    "a guess out of range at its end": doubles(guess=lambda self, x, s: Doubles.guess(self, x, s) if not math.isfinite(x) else max(-(2**36), min(2**36, Doubles.nearest(self, x.as_integer_ratio()[0] << s, x.as_integer_ratio()[1])))),
+    "units for steps": doubles(guess=lambda self, x, s: Doubles.guess(self, x, 0)),
+    "past n read": doubles(guesses=lambda self, call: Doubles.guesses(self, call._replace(n=call.n + 1)) if call.n < 32 else Doubles.guesses(self, call)),
     "19 before 3": order(8, 19, 3),
     "3 before 8": order(3, 8, 19),
-    "19 said as 3": version(guesses=lambda self, call: Refusal(3) if Doubles.guesses(self, call) == Refusal(19) else Doubles.guesses(self, call)),
+    "19 said as 3": doubles(guesses=lambda self, call: Refusal(3) if Doubles.guesses(self, call) == Refusal(19) else Doubles.guesses(self, call)),
     "a scale of 21 taken": scaled(21),
 }
 
@@ -98,11 +98,11 @@ OUTWARD = {
     "minus zero as high": ended(lambda x, e, s, low, high: (low, minus_zero(high, x + e))),
     "ends exchanged below 0": ended(lambda x, e, s, low, high: (high, low) if high < 0 else (low, high)),
     "rounded toward zero below 0": ended(lambda x, e, s, low, high: (-Doubles().below(e - x, s) if x < e else low, high)),
-    "ends of the guess alone": version(interval=lambda self, x, e, s: Doubles.interval(self, x, 0, s)),
-    "steps for units": version(interval=lambda self, x, e, s: Doubles.interval(self, x, e, 0)),
-    "a limit above 2^60 taken": version(is_bound=lambda self, e: True),
-    "the limit 2^60 refused": version(is_bound=lambda self, e: e < 2**60),
-    "past n read": version(intervals=lambda self, call: Doubles.intervals(self, call._replace(n=call.n + 1)) if call.n < 32 else Doubles.intervals(self, call)),
-    "3 before 8": version(intervals=lambda self, call: Refusal(3) if Doubles.intervals(self, call._replace(lengths=(32,) * 4)) == Refusal(3) else Doubles.intervals(self, call)),
+    "ends of the guess alone": doubles(interval=lambda self, x, e, s: Doubles.interval(self, x, 0, s)),
+    "steps for units": doubles(interval=lambda self, x, e, s: Doubles.interval(self, x, e, 0)),
+    "a limit above 2^60 taken": doubles(is_bound=lambda self, e: True),
+    "the limit 2^60 refused": doubles(is_bound=lambda self, e: e < 2**60),
+    "past n read": doubles(intervals=lambda self, call: Doubles.intervals(self, call._replace(n=call.n + 1)) if call.n < 32 else Doubles.intervals(self, call)),
+    "3 before 8": doubles(intervals=lambda self, call: Refusal(3) if Doubles.intervals(self, call._replace(lengths=(32,) * 4)) == Refusal(3) else Doubles.intervals(self, call)),
     "a scale of 21 taken": scaled(21),
 }

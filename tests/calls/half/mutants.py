@@ -23,8 +23,8 @@ def filled(rule):
     return entry(filled_out=lambda self, n, half: [rule(self.rows(n, half), i, j) for i in range(n) for j in range(n)])
 
 
-def least(length):
-    return entry(is_short=lambda self, lengths: any(told < enough for told, enough in zip(lengths, LEAST._replace(matrix=length))))
+def least(half):
+    return entry(is_short=lambda self, lengths: any(length < enough for length, enough in zip(lengths, LEAST._replace(matrix=half))))
 
 
 def answered(rule):

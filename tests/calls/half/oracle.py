@@ -23,7 +23,7 @@ class HalfEntry:
         return self.square(problem._replace(matrix=self.filled_out(problem.n, problem.matrix)))
 
     def is_short(self, lengths):
-        return any(told < least for told, least in zip(lengths, LEAST))
+        return any(length < least for length, least in zip(lengths, LEAST))
 
     def square(self, problem):
         return check(problem)

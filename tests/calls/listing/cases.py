@@ -209,7 +209,7 @@ def prints_otherwise(mutant, case, answer):
 
 
 def others():
-    """The listings that the documents print, and what tells wrong listings and wrong programs by itself."""
+    """The listings that the documents print, and mutants of listings and of programs that are detected without other files."""
     yield from cases_01.tests()
     yield from examples_002.tests()
     yield from by_statements()

@@ -215,7 +215,7 @@ def programs(*tables):
 
 
 READING = programs(of_loader.READING, TOLERATED, CUT)
-PRINTING = programs({name: dict(reckoning=version) for name, version in RECKONED.items()}, ENTERED, SLACKENED, HELD)
+PRINTING = programs({name: dict(reckoning=reckoned) for name, reckoned in RECKONED.items()}, ENTERED, SLACKENED, HELD)
 
 
 def by_statements():
@@ -241,5 +241,5 @@ def by_statements():
     )
     for name, net, sentence in (*((name, net, None) for name, net in detected_by.items()), *sentences):
         problem = Program().load(file_of(lines_of_net(net)))
-        right, found = (faults(net_from(problem), version.printed(problem)) for version in (Program(), PRINTING[name]))
+        right, found = (faults(net_from(problem), program.printed(problem)) for program in (Program(), PRINTING[name]))
         yield f"statements on '{name}'", right if (sentence in found if sentence else found) else ["not detected"]

@@ -50,7 +50,7 @@ class Quality:
         return Refusal(5, failing) if failing is not None else self.chosen(rows)
 
     def is_short(self, inquiry):
-        return any(told < least for told, least in zip(inquiry.lengths, FULL))
+        return any(length < least for length, least in zip(inquiry.lengths, FULL))
 
     def is_in_range(self, inquiry):
         n, t, matrix, inverse, weights, _ = inquiry

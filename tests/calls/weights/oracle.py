@@ -44,7 +44,7 @@ class WeightSearch:
 
     def find(self, request):
         """The first good list with its place from 1, or the refusal: "8 first, then 3, [..] New 18, after 3"."""
-        if any(told < least for told, least in zip(request.lengths, FULL)):
+        if any(length < least for length, least in zip(request.lengths, FULL)):
             return Refusal(8)
         if not self.is_in_range(request):
             return Refusal(3)
