@@ -1,9 +1,9 @@
 """Small files made by rule and not by chance: document 01's cases, its whole file with one thing changed, and the examples of source 002."""
 
 from common import cases_01, examples_002
-from common.damage.numbers import ENDS, WORDS, with_number
+from common.damage.numbers import WORDS, with_number
 from common.damage.spelling import MISSPELT, WAYS
-from common.format import PLACED
+from common.format import PLACED, RANGES
 from common.generate import Case
 from common.net import file_of, lines_of, net_of
 
@@ -24,7 +24,7 @@ def inserted(at, *lines):
 def at_ends_of_ranges():
     """Every number of every kind at the ends of its range and one beyond."""
     for word in WORDS:
-        line, (low, high) = WHOLE[FIRST[word]], ENDS[word]
+        line, (low, high) = WHOLE[FIRST[word]], RANGES[word]
         for which in {"problem": (0,), "scale": (0, 1), "row": (1, 2), "inverse": (1, 2)}.get(word, (1,)):
             for value in (low - 1, low, high, high + 1):
                 yield f"{word} number {which} is {value}", replaced(FIRST[word], with_number(line, which, value))
@@ -85,7 +85,7 @@ def pasted():
     for word, at in FIRST.items():
         if word not in PLACED:
             continue
-        line, (low, high) = WHOLE[at], ENDS[word]
+        line, (low, high) = WHOLE[at], RANGES[word]
         copies = {"as it is": line, "another number": with_number(line, 1, 7)}
         copies |= {f"number {value}": with_number(line, 1, value) for value in (low - 1, high + 1, 2**64 + 1)}
         copies |= {f"place {i}": with_number(line, 0, i) for i in (-1, 0, 3, 33, 2**32 + 1, 2**64 + 1)}
@@ -110,7 +110,7 @@ def left_out():
 
 def tolerances():
     """02, Paper 5: the whole file's right sides written with a tolerance, one of them or both; numbers at the ends of their ranges; other places; given again."""
-    low, high = ENDS["tolerance"]
+    low, high = RANGES["tolerance"]
     for d in (low - 1, low, 1, 7, high, high + 1, 2**64, 2**64 + 1, -(2**64), 10**290):
         yield f"first {d}", replaced(FIRST["right"], f"(right 1 (5 {d}))")
         yield f"second {d}", replaced(FIRST["right"] + 1, f"(right 2 (1 {d}))")

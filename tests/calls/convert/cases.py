@@ -6,6 +6,7 @@ of the new one."""
 
 import random
 
+from calls.check.oracle import Reckoning
 from calls.convert.mutants import MUTANTS
 from calls.convert.oracle import ROOM, Converter, answered
 from calls.listing.oracle import Program, under
@@ -80,9 +81,8 @@ REQUIRED = {
 def coverage(case, converted):
     file, room = case
     if not isinstance(converted, Refusal):
-        listing = Program().listing(file)
-        number = int(listing.split(b" ")[1]) if listing.startswith(b"(refused ") else 0
-        yield f"converted {number}"
+        checked = Reckoning().check(Program().load(file))
+        yield f"converted {checked.number if isinstance(checked, Refusal) else 0}"
         if len(converted) == room:
             yield "just as long"
     elif converted.number == 22:

@@ -2,7 +2,8 @@
 
 from functools import partial
 
-from calls.convert.oracle import Converter
+from calls.check.oracle import Reckoning
+from calls.convert.oracle import ROOM, Converter
 from calls.listing.oracle import Program
 from common.format import lines_of, read_form
 from common.rules import Refusal
@@ -59,19 +60,14 @@ def weights_given(text, file):
     return b"".join(line + b"\n" for line in text.split(b"\n")[:-1] if not line.startswith(b"(weight ") or key_of(line) in given)
 
 
-def refuses_refused(self, file, room=32768):
+def refuses_refused(self, file, room=ROOM):
     """A file whose check is refused is not converted."""
     right = Converter.convert(self, file, room)
-    if isinstance(right, Refusal):
-        return right
-    listing = Program().listing(file)
-    if not listing.startswith(b"(refused "):
-        return right
-    number, values = listing[len(b"(refused ") : -len(b"))\n")].split(b" (")
-    return Refusal(int(number), tuple(map(int, values.split())))
+    checked = right if isinstance(right, Refusal) else Reckoning().check(Program().load(file))
+    return checked if isinstance(checked, Refusal) else right
 
 
-def unfit_first(self, file, room=32768):
+def unfit_first(self, file, room=ROOM):
     """22 for a buffer that no file fits, before the desk's refusals."""
     return Refusal(22, (0,)) if room < 70 else Converter.convert(self, file, room)
 
@@ -79,7 +75,7 @@ def unfit_first(self, file, room=32768):
 def instead(number, other):
     """A converter that says another number."""
 
-    def convert(self, file, room=32768):
+    def convert(self, file, room=ROOM):
         right = Converter.convert(self, file, room)
         return Refusal(other, right.values) if isinstance(right, Refusal) and right.number == number else right
 

@@ -5,7 +5,8 @@ Each is written as calls/check writes it, with the k(k + 1)/2 numbers of the hal
 import random
 from typing import NamedTuple
 
-from calls.check.cases import answer_lines
+from calls.check.cases import answer_lines, heavy_matrix
+from calls.check.mutants import is_symmetric
 from calls.check.oracle import Bounds, check
 from calls.half.mutants import MUTANTS
 from calls.half.oracle import HALF, LEAST, HalfEntry, lower_half
@@ -45,18 +46,12 @@ def one_off(rng, rows, far):
     return frozen([[moved if (k, l) == (i, j) else number for l, number in enumerate(row)] for k, row in enumerate(rows)])
 
 
-def heavy_matrix(rng, n):
-    """Numbers small beside the diagonal."""
-    large = 2 ** rng.randint(11, 16)
-    return usual.mirrored([[large + rng.randint(0, large) if i == j else rng.randint(-large // n, large // n) for j in range(n)] for i in range(n)])
-
-
 def off_in_matrix(rng, n):
     """The proposal of a matrix that is symmetric but for one number, above the diagonal or below it; small heights, so that the half of it may pass."""
 
     def attempt():
         is_heavy = rng.randrange(3) > 0
-        matrix = one_off(rng, heavy_matrix(rng, n) if is_heavy else usual.levelling_matrix(rng, n, 64), rng.choice((1, 1, 4)))
+        matrix = one_off(rng, heavy_matrix(rng, n, 2 ** rng.randint(11, 16)) if is_heavy else usual.levelling_matrix(rng, n, 64), rng.choice((1, 1, 4)))
         s = rng.randint(0, 6 if is_heavy else 20)
         right = [number >> 10 for number in usual.fitting_right(rng, matrix, s)]
         return usual.proposed(rng, matrix, s, usual.fitting_t(rng, matrix), right, [rng.randint(1, 2) for _ in range(n)])
@@ -173,10 +168,6 @@ def write(sent, answer):
     yield from answer_lines(answer)
 
 
-def is_symmetric(net):
-    return net.matrix == tuple(zip(*net.matrix))
-
-
 REQUIRED = dict.fromkeys(
     (
         *("accepted", "refused 3", "refused 5", "refused 6", "refused 7", "refused 8"),
@@ -191,7 +182,7 @@ REQUIRED = dict.fromkeys(
 def net_coverage(sent, is_accepted):
     """What the system of a call that is not damaged meets."""
     outcome = "accepted" if is_accepted else "refused"
-    if not is_symmetric(sent.net):
+    if not is_symmetric(sent.net.matrix):
         yield "a matrix that is not symmetric"
     if sent.family == "off_in_matrix":
         yield f"A one number off, {outcome}"
@@ -227,9 +218,9 @@ def faults(rng, sent, answer):
     flat, square = HalfEntry().filled_out(net.n, half), [number for row in net.matrix for number in row]
     if not all(flat[(i - 1) * net.n + j - 1] == flat[(j - 1) * net.n + i - 1] == half[i * (i - 1) // 2 + j - 1] for i in places for j in range(1, i + 1)):
         yield "other places than 02's"
-    if (flat == square) != is_symmetric(net):
+    if (flat == square) != is_symmetric(net.matrix):
         yield "a half that is filled out to a matrix that is not symmetric, or another than the symmetric one"
-    if is_symmetric(net) and (lower_half(net.n, square) != half or check(call.problem()._replace(matrix=square)) != answer):
+    if is_symmetric(net.matrix) and (lower_half(net.n, square) != half or check(call.problem()._replace(matrix=square)) != answer):
         yield "not what the square entry answers"
 
 

@@ -3,16 +3,12 @@
 from functools import partial
 from math import gcd
 
-from calls.check.oracle import Reckoning
+from calls.check.mutants import RECKONED
 from calls.quality.oracle import FULL, Factor, Quality
 from common.rules import Refusal
 from common.suite import mutant
 
 rating = partial(mutant, Quality)
-
-
-def reckoned(**parts):
-    return rating(reckoning=type("Mutant", (Reckoning,), parts))
 
 
 def chosen_by(key):
@@ -35,20 +31,8 @@ def said_by(rule):
     return rating(rate=rate)
 
 
-def exchanged(self, system):
-    return Reckoning.defect(self, system._replace(A=system.G, G=system.A))
-
-
-def signed(self, system):
-    return [system.T * system.w[m] - abs(sum(d * w for d, w in zip(row, system.w))) for m, row in enumerate(self.defect(system))]
-
-
 def last_of_equal(self, rows):
     return Quality.chosen(self, rows[::-1])
-
-
-def last_failing(self, margins):
-    return max(((m + 1,) for m, margin in enumerate(margins) if margin <= 0), default=None)
 
 
 def ranged(name, lowest, highest):
@@ -93,11 +77,11 @@ MUTANTS = {
     "numerator and denominator exchanged": changed(lambda factor: Factor(factor.denominator, factor.numerator)),
     "T·w without the load": changed(lambda factor: Factor((factor.numerator + factor.denominator) // 2, factor.denominator)),
     "the load without T·w": changed(lambda factor: Factor((factor.numerator - factor.denominator) // 2, factor.denominator)),
-    "A·G for G·A": reckoned(defect=exchanged),
-    "sums with sign": reckoned(margins=signed),
+    "A·G for G·A": rating(reckoning=RECKONED["A·G for G·A"]),
+    "sums with sign": rating(reckoning=RECKONED["margin of the summed size"]),
     "weights of 1": rating(rows=lambda self, inquiry: Quality.rows(self, inquiry._replace(weights=[1] * inquiry.n))),
-    "a margin of 0 good": reckoned(is_margin_good=lambda self, margin: margin >= 0),
-    "5 with the last row": reckoned(failing_margin=last_failing),
+    "a margin of 0 good": rating(reckoning=RECKONED["margin 0 good"]),
+    "5 with the last row": rating(reckoning=RECKONED["highest failing margin"]),
     "5 counted from 0": said_by(lambda said: Refusal(5, (said.values[0] - 1,)) if said.number == 5 else said),
     "5 without a row": said_by(lambda said: Refusal(said.number)),
     "a weight of 0 taken": ranged("weights", 0, 1024),

@@ -2,20 +2,10 @@
 
 from typing import NamedTuple
 
-from calls.check.oracle import COLUMN, MATRIX, Problem, Reckoning
+from calls.check.oracle import Problem, Reckoning
+from calls.weights.oracle import FULL, Lengths
 from common.format import is_within
 from common.rules import Refusal
-
-
-class Lengths(NamedTuple):
-    """The lengths that a call is told."""
-
-    matrix: int = MATRIX
-    inverse: int = MATRIX
-    weights: int = COLUMN
-
-
-FULL = Lengths()
 
 
 class Inquiry(NamedTuple):

@@ -2,6 +2,7 @@
 
 from functools import partial
 
+from calls.check.mutants import RECKONED, reckoning
 from calls.check.oracle import Reckoning
 from calls.weights.oracle import Found, WeightSearch
 from common.rules import Refusal
@@ -44,10 +45,6 @@ def within(more):
     return found_by(lambda self, request, right: WeightSearch.find(search(is_in_range=lambda self, request: True), request._replace(allowance=request.allowance + more)))
 
 
-def exchanged(self, system):
-    return Reckoning.defect(self, system._replace(A=system.G, G=system.A))
-
-
 def ranged(lowest, highest):
     """A search that takes these allowances too, as if they were the nearest that may be."""
 
@@ -76,8 +73,8 @@ MUTANTS = {
     "one list more": within(1),
     "one list less": within(-1),
     "2 everywhere first": search(first=lambda self, n: [2] * n),
-    "A·G for G·A": search(reckoning=type("Exchanged", (Reckoning,), {"defect": exchanged})),
-    "T·I + G·A": search(reckoning=type("Added", (Reckoning,), {"defect": lambda self, system: Reckoning.defect(self, system._replace(G=[[-g for g in row] for row in system.G]))})),
+    "A·G for G·A": search(reckoning=RECKONED["A·G for G·A"]),
+    "T·I + G·A": search(reckoning=reckoning(defect=lambda self, system: Reckoning.defect(self, system._replace(G=[[-g for g in row] for row in system.G])))),
     "an allowance of 0 taken": ranged(0, 64),
     "an allowance of 65 taken": ranged(1, 65),
     "refused with 5": found_by(lambda self, request, right: Refusal(5, (1,)) if isinstance(right, Refusal) else right),

@@ -2,21 +2,10 @@
 
 import re
 
+from common.format import RANGES
 from common.net import SIZE, file_of
 
 NUMBER = re.compile(r"-?[0-9]+")
-
-# Lowest and highest numbers beside the place i, by word; those of a tolerance, which stands after a right side, by a word of its own.
-ENDS = {
-    "problem": (1, 32),
-    "scale": (0, 20),
-    "row": (-(2**20), 2**20),
-    "right": (-(2**30), 2**30),
-    "tolerance": (0, 2**20),
-    "guess": (-(2**36), 2**36),
-    "inverse": (-(2**20), 2**20),
-    "weight": (1, 1024),
-}
 
 
 def word_of(line):
@@ -42,7 +31,7 @@ def one_of(rng, line):
     """Which number of a line, other than i, and the ends of its range."""
     word = word_of(line)
     which = rng.randrange(0 if word in ("problem", "scale") else 1, len(NUMBER.findall(line)))
-    return which, *ENDS["tolerance" if word == "right" and which == 2 else word]
+    return which, *RANGES["tolerance" if word == "right" and which == 2 else word]
 
 
 def changed_range(rng, line):
@@ -75,7 +64,7 @@ def changed_length(rng, line):
 
 
 # The words of the lines with numbers.
-WORDS = tuple(word for word in ENDS if word != "tolerance")
+WORDS = tuple(word for word in RANGES if word != "tolerance")
 
 
 def with_list(rng, line):
