@@ -14,7 +14,8 @@ from array import array
 from collections import Counter
 from pathlib import Path
 
-from calls.doubles.cases import SUITE, calls, of_bits
+from calls.doubles.cases import SUITE, calls
+from calls.doubles.oracle import of_bits
 from common.rules import Refusal
 from common.suite import Tally
 

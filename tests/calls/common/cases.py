@@ -99,10 +99,9 @@ def narrow_beside(rng):
     weight = rng.choice((64, 128, 256, 512, 1024))
     b = -(2**26 // weight) - rng.choice((0, 0, 1))
     matrix, inverse = [[1, 1024], [1023, 1047553]], [[1047553, -1024], [-1023, 1]]
-    solution = (-1024 * b, b)
     s = rng.randint(0, 4)
     rough = net_of(0, 0, matrix, [0, b], [0, 0], inverse, [1, weight])
-    exact = net_of(s, 0, matrix, [0, b], [2**s * N for N in solution], inverse, [1, 1])
+    exact = net_of(s, 0, matrix, [0, b], [2**s * N for N in (-1024 * b, b)], inverse, [1, 1])
     return rng.choice(((rough, exact), (exact, rough)))
 
 
@@ -129,8 +128,8 @@ class Handed(NamedTuple):
 
 
 def proposal_of(call, fill):
-    filled = lambda numbers, length: tuple(numbers) + (fill,) * (length - len(numbers))
-    problem = Problem(call.n, call.s, call.t, *(filled(numbers, length) for numbers, length in zip(call.lists, FULL)))
+    lists = ((*numbers, *(fill,) * (length - len(numbers))) for numbers, length in zip(call.lists, FULL))
+    problem = Problem(call.n, call.s, call.t, *lists)
     return Proposal(problem, call.lengths._replace(solution=FULL.solution, bounds=FULL.bounds))
 
 
@@ -184,7 +183,7 @@ def coverage(handed, found):
     refused = [isinstance(part, Refusal) for part in either]
     if isinstance(found, Intervals):
         yield "found"
-        yield from found_coverage(pair, found)
+        yield from found_coverage(pair)
     elif found.refusal.number == 8 and found.proposal == 0:
         yield "8 of neither"
     elif found.proposal:
@@ -204,19 +203,18 @@ def coverage(handed, found):
         yield from (name for name, limit in (("a limit of 2^36", 2**36), ("a limit of 2^36 + 1", 2**36 + 1)) if largest == limit)
 
 
-def found_coverage(pair, found):
+def found_coverage(pair):
     first, second = pair.first.problem, pair.second.problem
     if first.s != second.s:
         yield "in other steps"
     if any(first.tolerance[: first.n]):
         yield "with tolerances"
-    if first is second or first == second:
+    if first == second:
         yield "with itself"
     ends = [CommonInterval().ends(proposal) for proposal in pair[:2]]
     if any(a[0] > b[0] and a[1] > b[1] for a, b in zip(*ends)) or any(a[0] < b[0] and a[1] < b[1] for a, b in zip(*ends)):
         yield "lower and upper end of either"
-    finest = max(first.s, second.s)
-    if any(max(outcome(part).solution) << (finest - part.problem.s) > 2**36 for part in pair[:2]):
+    if any(max(outcome(part).solution) << (CommonInterval().scale(pair) - part.problem.s) > 2**36 for part in pair[:2]):
         yield "a limit of 2^36 beside a finer step"
 
 

@@ -37,10 +37,6 @@ class PairCall(NamedTuple):
     def lengths(self):
         return Lengths(self.main.lengths, self.dependent.lengths, self.coupling_length)
 
-    def used(self):
-        """How many numbers of C are in use."""
-        return min(self.main.n * self.dependent.n, MATRIX)
-
 
 def handed(pair):
     return PairCall(call_of(pair.main), call_of(pair.dependent), [number for row in pair.coupling for number in row])
@@ -211,7 +207,7 @@ def coverage(sent, answer):
 
 def differs_alone(call, answer):
     """Whether a hung net whose C is all zeros, and whose guess is within the sums along its rows, is answered otherwise than by itself."""
-    if any(call.coupling[: call.used()]) or answer in (NetRefusal(2, Refusal(3)), NetRefusal(2, Refusal(8))):
+    if any(call.coupling[: call.main.n * call.dependent.n]) or answer in (NetRefusal(2, Refusal(3)), NetRefusal(2, Refusal(8))):
         return False
     main = main_answer(call, answer)
     if isinstance(main, Refusal):

@@ -6,12 +6,11 @@ is 0 the bits of n low ends and of n high ends."""
 
 import math
 import random
-import struct
 from fractions import Fraction
 from itertools import islice
 
 from calls.doubles.mutants import INWARD, OUTWARD
-from calls.doubles.oracle import Doubles, Inward, Outward
+from calls.doubles.oracle import Doubles, Inward, Outward, bits_of, of_bits
 from common.rules import Refusal
 from common.suite import Suite
 
@@ -20,14 +19,6 @@ ODD_DOUBLES = (math.inf, -math.inf, math.nan, 1e300, -1.7e308)
 ODD_SIZES = (0, 33, 2**31, 2**32 - 1)
 ODD_SCALES = (21, 32, 63, 64, 1074, 2**32 - 1)
 SIGN = 1 << 63
-
-
-def of_bits(bits):
-    return struct.unpack("<d", struct.pack("<Q", bits))[0]
-
-
-def bits_of(x):
-    return struct.unpack("<Q", struct.pack("<d", x))[0]
 
 
 def beside(rng, x):
@@ -222,20 +213,16 @@ OUT += ("ends that are one double", "a high end at a power of two")
 REQUIRED = dict.fromkeys((*(f"in: {name}" for name in IN), *(f"out: {name}" for name in OUT)), 100)
 
 
-def names_of(call, answer):
-    if isinstance(answer, Refusal):
-        yield f"refused {answer.number}"
-        return
-    yield "accepted"
-    if is_inward(call):
-        yield from (name for x in call.values[: call.n] for name in inward_coverage(x, call.s))
-    else:
-        yield from (name for x, e, ends in zip(call.guess, call.bounds, answer) for name in outward_coverage(x, e, *ends))
-
-
 def coverage(call, answer):
     way = "in" if is_inward(call) else "out"
-    return (f"{way}: {name}" for name in names_of(call, answer))
+    if isinstance(answer, Refusal):
+        yield f"{way}: refused {answer.number}"
+        return
+    yield f"{way}: accepted"
+    if is_inward(call):
+        yield from (f"in: {name}" for x in call.values[: call.n] for name in inward_coverage(x, call.s))
+    else:
+        yield from (f"out: {name}" for x, e, ends in zip(call.guess, call.bounds, answer) for name in outward_coverage(x, e, *ends))
 
 
 def faults(rng, call, answer):

@@ -1,6 +1,7 @@
 """Document 02, Paper 11: doubles in and out, by exact fractions. Every finite double is a fraction of whole numbers, which Python gives exactly."""
 
 import math
+import struct
 from typing import NamedTuple
 
 from calls.check.oracle import COLUMN
@@ -27,6 +28,14 @@ class Outward(NamedTuple):
     guess: list
     bounds: list
     lengths: tuple = (COLUMN, COLUMN, COLUMN, COLUMN)
+
+
+def of_bits(bits):
+    return struct.unpack("<d", struct.pack("<Q", bits))[0]
+
+
+def bits_of(x):
+    return struct.unpack("<Q", struct.pack("<d", x))[0]
 
 
 def distance(x, steps, s):

@@ -31,7 +31,6 @@ NO_ROW_SUMS = without("residuals_within_row_sums")
 # 02, Paper 9: what may be said where something else was said before: "8, 15, 3 and 5 never change", the first two of which are said of no problem here.
 CHANGES = tuple(f"{before} becomes {now}" for before, now in ((6, 6), (7, 6), (7, 7), (0, 6), (0, 7)))
 
-
 REQUIRED = {
     "accepted": 0.3,
     "at the edge of demand 3's second half": 50,
