@@ -21,7 +21,8 @@ sys.path.insert(0, str(Path(__file__).resolve().parent.parent / "tests"))
 from calls.check.oracle import Bounds, Problem, Reckoning
 from calls.listing.oracle import Program
 from common.exact import inverse_of, product
-from common.never_far import factor_of, flat
+from common.net import flat
+from common.never_far import factor_of
 from common.systems.timed import office
 
 HEAVIEST = 1024

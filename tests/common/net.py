@@ -69,6 +69,11 @@ def lines_of(net):
     ]
 
 
+def flat(rows):
+    """The numbers of rows, row after row."""
+    return [value for row in rows for value in row]
+
+
 def joined(numbers):
     return " ".join(map(str, numbers))
 

@@ -7,9 +7,11 @@ takes the row that decides the limits farther."""
 from fractions import Fraction
 from math import ceil
 
-from calls.check.oracle import Problem, Reckoning
+from calls.check.oracle import Reckoning
 from calls.quality.oracle import Inquiry, Quality
+from common.damage.lists import call_of
 from common.exact import is_rounded_exact, product, size_sum
+from common.net import flat
 
 FAR = "a limit is above the factor times every true error"
 FAR_COLUMN = "a limit of the inverse is above the factor times every true error of its column"
@@ -18,10 +20,6 @@ ZERO = "a limit is 0, though the guess is not exact, a right side has a toleranc
 ZERO_COLUMN = "a limit of the inverse is 0, though its column is not exact or another limit of it is not 0"
 EXACT = "a limit is above 0, though the guess is exact and no right side has a tolerance"
 EXACT_COLUMN = "a limit of the inverse is above 0, though its column is exact"
-
-
-def flat(rows):
-    return [value for row in rows for value in row]
 
 
 def factor_of(net):
@@ -35,9 +33,8 @@ def sign(number):
 
 def corner(net):
     """The right side of which the limits are never far above a true error."""
-    lists = flat(net.matrix), list(net.right), list(net.tolerance), list(net.guess), flat(net.inverse), list(net.weights)
     reckoning = Reckoning()
-    system = reckoning.system(Problem(net.n, net.s, net.t, *lists))
+    system = reckoning.system(call_of(net).problem())
     residuals, margins = reckoning.guess_residual(system), reckoning.margins(system)
     sizes = reckoning.sizes(system, residuals, reckoning.slacks(system))
     row = net.inverse[max(range(net.n), key=lambda m: Fraction(sizes[m], margins[m]))]

@@ -6,6 +6,7 @@ from typing import NamedTuple
 from calls.check.oracle import COLUMN, MATRIX
 from calls.half.oracle import HALF, lower_half
 from common.format import is_within
+from common.net import flat
 from common.rules import Refusal
 
 MOST = 256
@@ -127,4 +128,4 @@ class Builder:
                 right[i - 1] += a * line.weight * line.difference
                 for j, b in row.items():
                     matrix[i - 1][j - 1] += a * line.weight * b
-        return Equations([value for row in matrix for value in row], right)
+        return Equations(flat(matrix), right)

@@ -14,7 +14,7 @@ from common import cases_01
 from common.damage.lists import Call, call_of, damaged
 from common.exact import nearest
 from common.generate import WHOLE, made as made_of
-from common.net import direct_sum, frozen, net_of, relabelled
+from common.net import direct_sum, flat, frozen, net_of, relabelled
 from common.suite import Suite
 from common.systems import edge, usual
 from common.systems.blocks import sign
@@ -195,7 +195,7 @@ def generate(seed, count):
 def answer_lines(answer):
     """The refusal's number with its places, and where accepted the limits."""
     if isinstance(answer, Bounds):
-        return [[0, 0, 0], answer.solution, [limit for row in answer.inverse for limit in row]]
+        return [[0, 0, 0], answer.solution, flat(answer.inverse)]
     return [[answer.number, *answer.values, 0, 0][:3]]
 
 

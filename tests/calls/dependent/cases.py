@@ -15,6 +15,7 @@ from common import joint
 from common.damage import lists
 from common.damage.lists import Call, call_of, filled, odd_number
 from common.format import is_within
+from common.net import flat
 from common.rules import Refusal
 from common.suite import Suite
 from common.systems.dependent import RESIDUAL, pair_of
@@ -39,7 +40,7 @@ class PairCall(NamedTuple):
 
 
 def handed(pair):
-    return PairCall(call_of(pair.main), call_of(pair.dependent), [number for row in pair.coupling for number in row])
+    return PairCall(call_of(pair.main), call_of(pair.dependent), flat(pair.coupling))
 
 
 def coupling_shortened(rng, call):
@@ -84,13 +85,6 @@ DAMAGES = (
 )
 
 
-def damaged(rng, call):
-    """One or two damages, often of both nets."""
-    for _ in range(rng.choice((1, 1, 2))):
-        call = rng.choice(DAMAGES)(rng, call)
-    return call
-
-
 class Sent(NamedTuple):
     """A call, and the pair that it was made of, None where the call is damaged."""
 
@@ -105,7 +99,7 @@ def generate(seed, count):
         call = handed(pair)
         yield Sent(call, pair)
         if max(pair.main.n, pair.dependent.n) <= MOST_DAMAGED:
-            yield from (Sent(damaged(rng, call), None) for _ in range(5))
+            yield from (Sent(lists.damaged(rng, call, DAMAGES, (1, 1, 2)), None) for _ in range(5))
 
 
 def write(sent, answer):

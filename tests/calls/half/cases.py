@@ -10,10 +10,10 @@ from calls.check.mutants import is_symmetric
 from calls.check.oracle import Bounds, check
 from calls.half.mutants import MUTANTS
 from calls.half.oracle import HALF, LEAST, HalfEntry, lower_half
-from common.damage.lists import Call, call_of, odd_number, renumbered, resized, reweighed, shifted, tolerated
+from common.damage.lists import Call, call_of, damaged, odd_number, renumbered, resized, reweighed, shifted, tolerated
 from common.format import is_within
 from common.generate import made
-from common.net import SIZE, frozen
+from common.net import SIZE, flat, frozen
 from common.rules import Refusal
 from common.suite import Suite
 from common.systems import edge, ends, rows, usual
@@ -135,13 +135,6 @@ def past(rng, call):
 DAMAGES = (shortened, shortened, resized, beyond, past, renumbered, shifted, tolerated, reweighed)
 
 
-def damaged(rng, call):
-    """One or two damages."""
-    for _ in range(rng.choice((1, 1, 2))):
-        call = rng.choice(DAMAGES)(rng, call)
-    return call
-
-
 class Sent(NamedTuple):
     """A call, the name of its family, and the system that it was made of, None where the call is damaged."""
 
@@ -158,7 +151,7 @@ def generate(seed, count):
         call = halved(net)
         yield Sent(call, family, net)
         if net.n <= MOST_DAMAGED:
-            yield from (Sent(damaged(rng, call), family, None) for _ in range(4))
+            yield from (Sent(damaged(rng, call, DAMAGES, (1, 1, 2)), family, None) for _ in range(4))
 
 
 def write(sent, answer):
@@ -215,10 +208,10 @@ def faults(rng, sent, answer):
     if net is None:
         return
     half, places = call.lists[MATRIX], range(1, net.n + 1)
-    flat, square = HalfEntry().filled_out(net.n, half), [number for row in net.matrix for number in row]
-    if not all(flat[(i - 1) * net.n + j - 1] == flat[(j - 1) * net.n + i - 1] == half[i * (i - 1) // 2 + j - 1] for i in places for j in range(1, i + 1)):
+    filled, square = HalfEntry().filled_out(net.n, half), flat(net.matrix)
+    if not all(filled[(i - 1) * net.n + j - 1] == filled[(j - 1) * net.n + i - 1] == half[i * (i - 1) // 2 + j - 1] for i in places for j in range(1, i + 1)):
         yield "other places than 02's"
-    if (flat == square) != is_symmetric(net.matrix):
+    if (filled == square) != is_symmetric(net.matrix):
         yield "a half that is filled out to a matrix that is not symmetric, or another than the symmetric one"
     if is_symmetric(net.matrix) and (lower_half(net.n, square) != half or check(call.problem()._replace(matrix=square)) != answer):
         yield "not what the square entry answers"

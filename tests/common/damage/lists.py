@@ -4,6 +4,7 @@ from math import ceil, sqrt
 from typing import NamedTuple
 
 from calls.check.oracle import FULL, Lengths, Problem
+from common.net import flat
 
 # Stands in the lists past the numbers given.
 UNREAD = -(2**63)
@@ -43,7 +44,6 @@ class Call(NamedTuple):
 
 
 def call_of(net):
-    flat = lambda rows: [value for row in rows for value in row]
     lists = flat(net.matrix), list(net.right), list(net.tolerance), list(net.guess), flat(net.inverse), list(net.weights)
     return Call(net.n, net.n, net.s, net.t, FULL, lists)
 
@@ -89,8 +89,11 @@ def reweighed(rng, call):
     return call.with_number(WEIGHTS, rng.randrange(call.count), rng.randint(1, 1024))
 
 
-def damaged(rng, call):
+DAMAGES = (shortened, resized, renumbered, renumbered, shifted, tolerated, reweighed)
+
+
+def damaged(rng, call, damages=DAMAGES, counts=(1, 2)):
     """One or two damages."""
-    for _ in range(rng.choice((1, 2))):
-        call = rng.choice((shortened, resized, renumbered, renumbered, shifted, tolerated, reweighed))(rng, call)
+    for _ in range(rng.choice(counts)):
+        call = rng.choice(damages)(rng, call)
     return call

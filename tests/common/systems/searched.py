@@ -3,6 +3,7 @@
 import random
 
 from calls.weights.oracle import FULL, Request
+from common.net import flat
 from common.systems import usual
 
 SIZE = 2**20
@@ -22,10 +23,6 @@ def unimodular(rng, n):
             for row in inverse:
                 row[j] -= sign * row[i]
     return matrix, inverse
-
-
-def flat(rows):
-    return [value for row in rows for value in row]
 
 
 def with_defect(rng, t, defect):
