@@ -44,9 +44,8 @@ def again(rng, net, s=None):
 def with_tolerances(rng, first, second):
     """Both with tolerances that leave room in either's steps, in some rows; or without."""
     share = rng.choice((0, 0.3, 1))
-    rooms = [min(pair) for pair in zip(tolerant.room(first), tolerant.room(second))]
     within = lambda most: rng.randint(0, min(most, SIZE, 2 ** rng.randint(0, 20))) if most > 0 and rng.random() < share else 0
-    tolerance = [within(most) for most in rooms]
+    tolerance = [within(min(rooms)) for rooms in zip(tolerant.room(first), tolerant.room(second))]
     return first.with_(tolerance=tolerance), second.with_(tolerance=tolerance)
 
 
