@@ -84,18 +84,11 @@ def repeat_refused(self, n, kept, line):
     return Builder.refused(self, n, kept, line) or (17 if line.key in kept else 0)
 
 
-def within(**ends):
-    """A builder with one number's range moved: lines that are out of range by it alone are taken, or those at its end refused."""
+def within(name, lowest, highest):
+    """A builder with one number's range moved: lines that are out of range by it alone are taken, or those at its end refused. 1 is in every range."""
 
     def is_in_range(self, n, line):
-        changed = line
-        for name, (lowest, highest) in ends.items():
-            number = getattr(line, name)
-            if not lowest <= number <= highest:
-                return False
-            near = {"key": (1, 65535), "difference": (-65536, 65536), "weight": (1, 64)}[name]
-            changed = changed._replace(**{name: min(max(number, near[0]), near[1])})
-        return Builder.is_in_range(self, n, changed)
+        return lowest <= getattr(line, name) <= highest and Builder.is_in_range(self, n, line._replace(**{name: 1}))
 
     return builder(is_in_range=is_in_range)
 
@@ -148,14 +141,14 @@ MUTANTS = {
     "an empty list refused": opened_by(lambda call, right: right if call.lines or isinstance(right, Refusal) else Refusal(3)),
     "marks to 32 whatever n is": builder(is_in_range=lambda self, n, line: Builder.is_in_range(self, 32, line)),
     "mark n refused": marks_to(lambda n: n - 1),
-    "a key of 0 taken": within(key=(0, 65535)),
-    "a key of 65,536 taken": within(key=(1, 65536)),
-    "a key of 65,535 refused": within(key=(1, 65534)),
-    "a difference of 65,537 taken": within(difference=(-65536, 65537)),
-    "a difference of −65,536 refused": within(difference=(-65535, 65536)),
-    "a weight of 0 taken": within(weight=(0, 64)),
-    "a weight of 65 taken": within(weight=(1, 65)),
-    "a weight of 64 refused": within(weight=(1, 63)),
+    "a key of 0 taken": within("key", 0, 65535),
+    "a key of 65,536 taken": within("key", 1, 65536),
+    "a key of 65,535 refused": within("key", 1, 65534),
+    "a difference of 65,537 taken": within("difference", -65536, 65537),
+    "a difference of −65,536 refused": within("difference", -65535, 65536),
+    "a weight of 0 taken": within("weight", 0, 64),
+    "a weight of 65 taken": within("weight", 1, 65),
+    "a weight of 64 refused": within("weight", 1, 63),
     "the upper half built": halves_by(lambda n, matrix: [matrix[i * n + j] for i in range(n) for j in range(i, n)]),
     "a half with stride n": halves_by(lambda n, matrix: [number if place % n <= place // n else None for place, number in enumerate(matrix)]),
     "a square built for a half": halves_by(lambda n, matrix: matrix),
