@@ -1,5 +1,6 @@
-"""What must hold of a printed listing whatever the oracle says: document 01's exact solution and inverse, the exact height and the entry,
-for every right side within the tolerances (02, Paper 5), in whole numbers over q; residuals within the sums along their rows (Paper 9); and limits that are never far above a true error (never_far.py)."""
+"""What must hold of a printed listing whatever the oracle says: document 01's exact solution and inverse, the exact height and the entry, for every right
+side within the tolerances (02, Paper 5), in whole numbers over q; residuals within the sums along their rows (Paper 9); and limits that are never far above a
+true error (never_far.py)."""
 
 import random
 import re

@@ -1,9 +1,10 @@
-"""Calls of the check on lists: document 01's cases, systems of every family, damaged ones, and systems by the shape of matrix and inverse, which the check reads
-in different ways: symmetric, nearly symmetric with one number off, sparse, dense, and such that the columns of the inverse have limits of 0, of 1 and above 1.
+"""Calls of the check on lists: document 01's cases, systems of every family, damaged ones, and systems by the shape of matrix and inverse, which the check
+reads in different ways: symmetric, nearly symmetric with one number off, sparse, dense, and such that the columns of the inverse have limits of 0, of 1 and
+above 1.
 
-Each is written as a count k, n s t, and the eight lengths that the call is told; then the numbers of the lists, k × k of the matrix, k of the right side,
-k tolerances, k of the guess, k × k of the inverse and k weights, after which each list is filled with UNREAD; then the refusal's number (0 where accepted)
-with its two places (0 where it names none), and where accepted n solution limits and n × n inverse limits."""
+Each is written as a count k, n s t, and the eight lengths that the call is told; then the numbers of the lists, k × k of the matrix, k of the right side, k
+tolerances, k of the guess, k × k of the inverse and k weights, after which each list is filled with UNREAD; then the refusal's number (0 where accepted) with
+its two places (0 where it names none), and where accepted n solution limits and n × n inverse limits."""
 
 import random
 from typing import NamedTuple

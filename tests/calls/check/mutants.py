@@ -1,5 +1,5 @@
-"""Mutants of the reckoning, by name. RECKONED break one rule of document 01 each, and the files must detect them (calls/listing); MUTANTS go wrong where the shape
-of matrix and inverse matters: whether both are symmetric, which numbers are 0, and whether a column's limits are 0, 1 or above."""
+"""Mutants of the reckoning, by name. RECKONED break one rule of document 01 each, and the files must detect them (calls/listing); MUTANTS go wrong where the
+shape of matrix and inverse matters: whether both are symmetric, which numbers are 0, and whether a column's limits are 0, 1 or above."""
 
 from fractions import Fraction
 from math import ceil, floor

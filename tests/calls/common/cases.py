@@ -1,10 +1,10 @@
-"""Two proposals by chance (02, Paper 13): for the same equations with other steps, roundings and weights, for equations that differ in one place, and with limits
-about 2^36; in the order made and in the other, and damaged.
+"""Two proposals by chance (02, Paper 13): for the same equations with other steps, roundings and weights, for equations that differ in one place, and with
+limits about 2^36; in the order made and in the other, and damaged.
 
-Each pair is written as, of either proposal, a count k, n s t, the six lengths that the call is told and the number that fills each list after those given; then
-k × k numbers of the matrix, k of the right side, k tolerances, k of the guess, k × k of the inverse and k weights; then the lengths of the two interval lists;
-then the refusal's number (0 where the intervals are found), the proposal it is of and its two places (0 where there is none); and where they are found n
-lower and n upper ends."""
+Each pair is written as, of either proposal, a count k, n s t, the six lengths that the call is told and the number that fills each list after those given;
+then k × k numbers of the matrix, k of the right side, k tolerances, k of the guess, k × k of the inverse and k weights; then the lengths of the two interval
+lists; then the refusal's number (0 where the intervals are found), the proposal it is of and its two places (0 where there is none); and where they are found
+n lower and n upper ends."""
 
 import random
 from fractions import Fraction

@@ -1,8 +1,8 @@
 """Conversions (02, Paper 14): files by rule and by chance, each with several lengths of the buffer.
 
-Each is written as a line with seven numbers: the length of the file, that of the buffer, the number of the refusal (0 where it is converted), the two values that
-it gives (0 where there is none), the line that is refused (0 where none is), and the length of the new file (0 on a refusal); then the bytes of the file and those
-of the new one."""
+Each is written as a line with seven numbers: the length of the file, that of the buffer, the number of the refusal (0 where it is converted), the two values
+that it gives (0 where there is none), the line that is refused (0 where none is), and the length of the new file (0 on a refusal); then the bytes of the file
+and those of the new one."""
 
 import random
 

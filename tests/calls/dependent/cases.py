@@ -1,8 +1,9 @@
-"""Calls of the check of a net and one hung from it (02, Paper 8): pairs of every family, as they are and damaged: either net's lists and numbers, C, unequal s.
+"""Calls of the check of a net and one hung from it (02, Paper 8): pairs of every family, as they are and damaged: either net's lists and numbers, C, unequal
+s.
 
-Each is written as, for each net, a count k, n s t, the eight lengths that the call is told, and the lists as calls/check writes them; then how many numbers of C
-are given, the length that the call is told of C, and these numbers, after which it is filled with UNREAD; then the refusal's number (0 where accepted), the net
-that it is of (0 where accepted) and two places, and where accepted the limits, n and n × n of the main net, n and n × n of the other."""
+Each is written as, for each net, a count k, n s t, the eight lengths that the call is told, and the lists as calls/check writes them; then how many numbers
+of C are given, the length that the call is told of C, and these numbers, after which it is filled with UNREAD; then the refusal's number (0 where accepted),
+the net that it is of (0 where accepted) and two places, and where accepted the limits, n and n × n of the main net, n and n × n of the other."""
 
 import random
 from typing import NamedTuple

@@ -1,8 +1,8 @@
 """Doubles in and out (02, Paper 11) by chance: doubles to become guesses, and guesses with limits to become pairs of doubles; and damaged calls.
 
-So many calls inward are written, and as many outward. A call inward is: 0, n and s, the two lengths that it is told, the bits of 32 doubles, the refusal's number
-(0 where accepted), and where it is 0 the n guesses. A call outward is: 1, n and s, the four lengths, 32 guesses and 32 limits, the refusal's number, and where it
-is 0 the bits of n low ends and of n high ends."""
+So many calls inward are written, and as many outward. A call inward is: 0, n and s, the two lengths that it is told, the bits of 32 doubles, the refusal's
+number (0 where accepted), and where it is 0 the n guesses. A call outward is: 1, n and s, the four lengths, 32 guesses and 32 limits, the refusal's number,
+and where it is 0 the bits of n low ends and of n high ends."""
 
 import math
 import random

@@ -43,7 +43,8 @@ def write(case, answer):
     yield [*case, answer.number, 0, 0] if isinstance(answer, Refusal) else [*case, 0, *answer]
 
 
-REQUIRED = dict.fromkeys(("entered", "refused 3", "s of 20", "a guess of 2^36 in size", "a half above 0", "a half below 0", "a limit of 0", "a limit of 2^64 - 1"), 100)
+NAMES = ("entered", "refused 3", "s of 20", "a guess of 2^36 in size", "a half above 0", "a half below 0", "a limit of 0", "a limit of 2^64 - 1")
+REQUIRED = dict.fromkeys(NAMES, 100)
 
 
 def coverage(case, answer):

@@ -1,5 +1,5 @@
-"""Mutants of a register entry, by name, as the parts that differ; the files must detect them too (calls/listing/mutants.py). Each breaks one rule of document 01 or
-of 02's Paper 2."""
+"""Mutants of a register entry, by name, as the parts that differ; the files must detect them too (calls/listing/mutants.py). Each breaks one rule of document
+01 or of 02's Paper 2."""
 
 from fractions import Fraction
 from math import ceil, floor

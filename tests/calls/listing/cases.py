@@ -216,7 +216,8 @@ def others():
 
 
 SUITE = Suite(
-    count=8000, tested_count=2000, generate=generate, answer=answer, write=write, coverage=coverage, required=REQUIRED, faults=faults, others=others, tested=tested,
+    count=8000, generate=generate, answer=answer, write=write, coverage=coverage, required=REQUIRED, faults=faults, others=others,
+    tested=tested, tested_count=2000,
     mutants=((READING, reads_otherwise), (PRINTING, prints_otherwise)),
     of_net=lambda net: Case("net", file_of(lines_of_net(net))),
 )

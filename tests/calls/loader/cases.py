@@ -1,5 +1,5 @@
-"""Sessions at a loader (01: desk): the lines of a file one at a time, past every refusal, at a new loader or at made-up numbers, and checks; the files are those
-of common/given.py and some of the sequence of common/generate.py. Beside them, what files meet of the reading (calls/listing).
+"""Sessions at a loader (01: desk): the lines of a file one at a time, past every refusal, at a new loader or at made-up numbers, and checks; the files are
+those of common/given.py and some of the sequence of common/generate.py. Beside them, what files meet of the reading (calls/listing).
 
 A session is written as steps, each a line of numbers that begins with its kind:
 
@@ -124,7 +124,7 @@ ACCEPTED = Refusal(0)
 OTHERWISE = "an answer changed otherwise by Paper "
 
 # 02, Paper 6: the answers to a line of each word that become 12.
-BECOMES_12 = tuple(f"{number} for a {word} becomes 12" for word in RANGES if word != "tolerance" for number in (3, 4) if number == 3 or word in ("row", "inverse"))
+BECOMES_12 = tuple(f"3 for a {word} becomes 12" for word in RANGES if word != "tolerance") + ("4 for a row becomes 12", "4 for a inverse becomes 12")
 
 # What is wrong with a right side in a list, by what is said of it: 2 for a count, 3 for a number, 12 where it comes again.
 RIGHT_LISTS = ("list of one 2", "list of three 2", "list of more than 32 2", "tolerance below 0 3", "tolerance above 2^20 3", "right side out of range 3", "i out of range 3", "again 12")

@@ -1,5 +1,5 @@
-"""Mutants of a loader, by name. READING, as parts of a program, read a file otherwise than document 01 and 02's Papers 1 and 6 say, and the files must detect them
-(calls/listing); MUTANTS leave other numbers or lists behind."""
+"""Mutants of a loader, by name. READING, as parts of a program, read a file otherwise than document 01 and 02's Papers 1 and 6 say, and the files must detect
+them (calls/listing); MUTANTS leave other numbers or lists behind."""
 
 import re
 from dataclasses import replace
