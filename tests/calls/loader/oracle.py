@@ -146,8 +146,7 @@ def before(which, place):
     return (which * 4099 + place * 31 + 7) % 2001 - 1000
 
 
-def lists_before():
-    return {kind: [before(which, place) for place in range(MATRIX if kind in ("row", "inverse") else COLUMN)] for which, kind in enumerate(KINDS)}
+BEFORE = {kind: [before(which, place) for place in range(MATRIX if kind in ("row", "inverse") else COLUMN)] for which, kind in enumerate(KINDS)}
 
 
 class Numbered(Loader):
@@ -189,14 +188,13 @@ class Numbered(Loader):
 
 
 class Steps:
-    """The steps of one loader after another; `loader` is what they are right of."""
+    """The steps of one loader after another, of which the first is new; `loader` is what they are right of."""
 
     def __init__(self, loader=Numbered):
         self.loader = loader
-        self.new()
 
     def new(self):
-        self.numbers, self.lists = [0] * 9, lists_before()
+        self.numbers, self.lists = [0] * 9, {kind: list(numbers) for kind, numbers in BEFORE.items()}
         return [0], b""
 
     def set(self, numbers):
