@@ -30,7 +30,7 @@ def compare(register, seed, count, tally):
     suite, met, total = listings.SUITE, Counter(), 0
     for case in listings.tested(seed, count):
         answer, ran = suite.answer(case), register(case.file)
-        tally.test(case.name, ran.differences(answer.listing) + suite.faults(None, case, answer._replace(listing=ran.listing)))
+        tally.test(case.name, ran.differences(answer.listing) + suite.faults(total, case, answer._replace(listing=ran.listing)))
         met.update(suite.coverage(case, answer))
         total += 1
     if count >= suite.tested_count:

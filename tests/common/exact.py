@@ -1,6 +1,7 @@
 """Exact solutions and inverses in whole numbers, and document 01's statements about them."""
 
 from functools import lru_cache
+from itertools import product as choices
 from operator import mul
 
 
@@ -93,3 +94,12 @@ def is_rounded_exact(net):
 def size_sum(net):
     """The sum of |A_ij| over all i and j."""
     return sum(abs(a) for row in net.matrix for a in row)
+
+
+def corners(rng, net):
+    """Right sides at the corners of the tolerances and inside them, over a denominator."""
+    most = [[-d, d] if d else [0] for d in net.tolerance]
+    chosen = list(choices(*most)) if net.n <= 4 else [tuple(map(rng.choice, most)) for _ in range(8)]
+    for moves in chosen:
+        yield [b + move for b, move in zip(net.right, moves)], 1
+    yield [7 * b + rng.randint(-7 * d, 7 * d) for b, d in zip(net.right, net.tolerance)], 7

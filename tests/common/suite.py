@@ -1,6 +1,5 @@
 """How the tests of a call are described, and the one loop that tests them: their cases must meet what they are made for, and detect every mutant."""
 
-import random
 from collections import Counter
 from math import ceil
 from typing import Callable, NamedTuple
@@ -22,7 +21,7 @@ class Suite(NamedTuple):
     coverage: Callable  # coverage(case, answer): names of what the case meets
     required: dict  # how often each name must be met; below 1 by which share of the cases, and NEVER
     mutants: tuple  # pairs: mutants by name, and detects(mutant, case, answer)
-    faults: Callable = nothing  # faults(rng, case, answer): what is wrong with an answer whatever the oracle says, a sentence each
+    faults: Callable = nothing  # faults(index, case, answer): what is wrong with an answer whatever the oracle says, a sentence each
     others: Callable = nothing  # others(): tests beside the cases, each a name and what is wrong
     tested: Callable = None  # tested(seed, count): the cases of the self-test, where they are others than those generated
     tested_count: int = None
@@ -80,7 +79,7 @@ def self_test(suite, seed, count):
         answer = suite.answer(case)
         met.update(suite.coverage(case, answer))
         if suite.faults is not nothing:
-            tally.test(f"case {total}", list(suite.faults(random.Random(total), case, answer)))
+            tally.test(f"case {total}", list(suite.faults(total, case, answer)))
         left = [(name, mutant, detects) for name, mutant, detects in left if not is_detected(detects, mutant, case, answer)]
         total += 1
     if count is None or count >= usual:

@@ -117,7 +117,7 @@ def others():
     yield from ((f"levelling net {index}", list(levelling_faults(index))) for index in range(50))
 
 
-def faults(rng, call, answer):
+def faults(index, call, answer):
     """A half, filled out, is what the square layout gives."""
     if call.layout == LOWER and not isinstance(answer, Refusal):
         square = Builder().build(call._replace(layout=SQUARE, lengths=LEAST[SQUARE]))

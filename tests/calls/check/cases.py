@@ -229,7 +229,7 @@ def differs(reckoning, sent, answer):
     return bool(sent.net) and sent.net.n <= MOST_DAMAGED and reckoning().check(sent.call.problem()) != answer
 
 
-def faults(rng, sent, answer):
+def faults(index, sent, answer):
     """Other ways to the same numbers give the same."""
     return (f"'{name}' differs" for name, reckoning in AGREEING.items() if differs(reckoning, sent, answer))
 

@@ -8,14 +8,13 @@ n lower and n upper ends."""
 
 import random
 from fractions import Fraction
-from itertools import product as choices
 from typing import NamedTuple
 
 from calls.check.oracle import COLUMN, FULL, Problem
 from calls.common.mutants import MUTANTS
 from calls.common.oracle import CommonInterval, Intervals, Pair, Proposal, outcome
 from common.damage.lists import UNREAD, call_of, damaged
-from common.exact import inverse_of, product
+from common.exact import corners, inverse_of, product
 from common.net import SIZE, direct_sum, net_of
 from common.rules import Refusal
 from common.suite import Suite
@@ -154,7 +153,14 @@ def generate(seed, count):
         yield spoilt(rng, handed)
 
 
-def write(handed, found):
+def answer(handed):
+    """The pair as the oracle takes it, and what it finds or says."""
+    pair = handed.pair()
+    return pair, CommonInterval().find(pair)
+
+
+def write(handed, answer):
+    _, found = answer
     for call, fill in zip(handed.calls, handed.fills):
         yield [call.count, call.n, call.s, call.t, *call.lengths[:6], fill]
         yield from call.lists
@@ -176,8 +182,8 @@ REQUIRED = dict.fromkeys(
 )
 
 
-def coverage(handed, found):
-    pair = handed.pair()
+def coverage(handed, answer):
+    pair, found = answer
     either = [outcome(proposal) for proposal in pair[:2]]
     refused = [isinstance(part, Refusal) for part in either]
     if isinstance(found, Intervals):
@@ -217,34 +223,25 @@ def found_coverage(pair):
         yield "a limit of 2^36 beside a finer step"
 
 
-def corners(rng, net):
-    """Right sides at the corners of the tolerances and inside them, over a denominator."""
-    most = [[-d, d] if d else [0] for d in net.tolerance]
-    chosen = list(choices(*most)) if net.n <= 4 else [tuple(map(rng.choice, most)) for _ in range(8)]
-    for moves in chosen:
-        yield [b + move for b, move in zip(net.right, moves)], 1
-    yield [7 * b + rng.randint(-7 * d, 7 * d) for b, d in zip(net.right, net.tolerance)], 7
-
-
-def faults(rng, handed, found):
+def faults(index, handed, answer):
     """What the paper says of intervals that are found, whatever else: they hold every exact height, no lower end is above its upper, and the order of the
     proposals is free."""
+    pair, found = answer
     if not handed.nets or not isinstance(found, Intervals):
         return
     net, S = handed.nets[0], 2 ** max(call.s for call in handed.calls)
     q, H = inverse_of(net.matrix)
-    for right, over in corners(rng, net):
+    for right, over in corners(random.Random(index), net):
         heights = [Fraction(N, q * over) for N in product(H, right)]
         if not all(low <= S * height <= high for low, height, high in zip(found.low, heights, found.high)):
             yield "an exact height outside"
     if not all(low <= high for low, high in zip(*found)):
         yield "a lower end above its upper"
-    if CommonInterval().find(handed.exchanged().pair()) != found:
+    if CommonInterval().find(pair._replace(first=pair.second, second=pair.first)) != found:
         yield "in the other order other intervals"
 
 
 SUITE = Suite(
-    count=700, generate=generate, write=write, coverage=coverage, required=REQUIRED, faults=faults,
-    answer=lambda handed: CommonInterval().find(handed.pair()),
-    mutants=((MUTANTS, lambda mutant, handed, found: mutant.find(handed.pair()) != found),),
+    count=700, generate=generate, answer=answer, write=write, coverage=coverage, required=REQUIRED, faults=faults,
+    mutants=((MUTANTS, lambda mutant, handed, answer: mutant.find(answer[0]) != answer[1]),),
 )

@@ -91,7 +91,7 @@ def coverage(case, converted):
         yield f"refused {converted.number}"
 
 
-def faults(rng, case, text):
+def faults(index, case, text):
     """What is wrong with a new file, a sentence each; once for each file."""
     file, room = case
     if isinstance(text, Refusal) or room != ROOM:

@@ -214,12 +214,12 @@ def differs_alone(call, answer):
     return said != alone if is_near else alone not in (said, *(Refusal(6, (k + 1,)) for k in range(call.dependent.n)))
 
 
-def faults(rng, sent, answer):
+def faults(index, sent, answer):
     """What must hold whatever the oracle says: every joint solution lies within the limits."""
     if differs_alone(sent.call, answer):
         yield "C of zeros, and not what the net by itself gets"
     if sent.pair and not isinstance(answer, NetRefusal):
-        yield from joint.faults(rng, sent.pair, answer)
+        yield from joint.faults(random.Random(index), sent.pair, answer)
 
 
 def reckon(oracle, sent):

@@ -202,7 +202,7 @@ def coverage(sent, answer):
         yield "out of range just past the half, accepted"
 
 
-def faults(rng, sent, answer):
+def faults(index, sent, answer):
     """A filled-out matrix is what 02's places give, and a symmetric system is answered as by its square."""
     call, net = sent.call, sent.net
     if net is None:

@@ -193,7 +193,7 @@ def coverage(case, answer):
     yield from reading_coverage(case.file, loaded, listing)
 
 
-def faults(rng, case, answer):
+def faults(index, case, answer):
     return checks.faults(answer.net, answer.listing) if answer.net else []
 
 
