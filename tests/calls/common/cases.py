@@ -237,7 +237,8 @@ def faults(index, handed, answer):
             yield "an exact height outside"
     if not all(low <= high for low, high in zip(*found)):
         yield "a lower end above its upper"
-    if CommonInterval().find(pair._replace(first=pair.second, second=pair.first)) != found:
+    is_as_made = index % 3 == 0  # the next case is the same in the other order
+    if is_as_made and CommonInterval().find(pair._replace(first=pair.second, second=pair.first)) != found:
         yield "in the other order other intervals"
 
 
