@@ -2,7 +2,7 @@
 
   python3 bench/batched.py BATCH COPIED FOLDER [COUNT]
 
-FOLDER gets COUNT files, else 5,000, of levelling nets of n = 32 as offices send them (`office` of tests/systems/timed.py). Both have as many processes as there are
+FOLDER gets COUNT files, else 5,000, of levelling nets of n = 32 as offices send them (`office` of tests/common/systems/timed.py). Both have as many processes as there are
 processors. Each round begins without listings; a ratio is that of the clock's times within a round, and of 7 rounds the middle one counts."""
 
 import os
@@ -16,8 +16,8 @@ from pathlib import Path
 ROOT = Path(__file__).resolve().parent.parent
 sys.path.insert(0, str(ROOT / "tests"))
 
-from net import file_of, lines_of
-from systems.timed import office
+from common.net import file_of, lines_of
+from common.systems.timed import office
 
 ROUNDS, KINDS, IN_A_FOLDER = 7, 100, 1000
 

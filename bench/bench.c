@@ -1,6 +1,6 @@
 /* Microseconds a net for the check on lists, at n = 8, 16 and 32.
  *
- *   bench KIND=FILE..   accepted nets of each kind, as tests/emit.py writes them
+ *   bench KIND=FILE..   accepted nets of each kind, as tests/emit.py check writes them
  *
  * The versions run on the same nets in alternation in one process, each on lists of limits that were not cleared before. Time is processor
  * time. A version's time is the middle one of many rounds, and its ratio to another the middle one of the ratios within a round. */

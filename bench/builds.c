@@ -1,6 +1,6 @@
 /* Microseconds of a build of 256 field lines beside one check on lists, both at n = 32.
  *
- *   builds FILE    accepted calls of the check, as tests/emit.py writes them, of which those with n = 32 are taken
+ *   builds FILE    accepted calls of the check, as tests/emit.py check writes them, of which those with n = 32 are taken
  *
  * Lists by chance of 256 lines, all with keys of their own, so that every key is compared with all before it; builds and checks in alternation in one process.
  * Time is processor time, of many rounds the middle one; the ratio is the middle one of the ratios within a round. */

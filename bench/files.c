@@ -1,6 +1,6 @@
 /* Files a second through the program `register`, at n = 8, 16 and 32.
  *
- *   files FILES FOLDER REGISTER START   accepted files as tests/emit_files.py writes them, a folder to write in, and the two programs
+ *   files FILES FOLDER REGISTER START   accepted files as tests/emit.py listing writes them, a folder to write in, and the two programs
  *
  * The programs are started one after another, each on a file and into a pipe, `register` and `start` in turns; kodarfi_listing is called on the same
  * bytes in this process. Every listing is compared first. Programs are measured by the clock, the call by processor time; each time is the middle

@@ -1,4 +1,4 @@
-/* Files with their listings, as tests/emit_files.py writes them. */
+/* Files with their listings, as tests/emit.py listing writes them. */
 #ifndef LISTED_H
 #define LISTED_H
 

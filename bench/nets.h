@@ -1,4 +1,4 @@
-/* Calls of the check on lists as tests/emit.py writes them. */
+/* Calls of the check on lists as tests/emit.py check writes them. */
 #ifndef NETS_H
 #define NETS_H
 

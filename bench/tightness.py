@@ -4,7 +4,7 @@
   python3 bench/tightness.py [--nets 1000] [--sizes 4,8,16,32] [--seed 1]
   python3 bench/tightness.py --example      the entry limits of one net of 30 marks with a tolerance of 6 in each right side, as docs/FORMAT.md has them
 
-Of each size so many accepted nets, guess and inverse rounded to nearest steps (tests/systems/timed.py): without tolerances, and with a tolerance of 1 to 8 in
+Of each size so many accepted nets, guess and inverse rounded to nearest steps (tests/common/systems/timed.py): without tolerances, and with a tolerance of 1 to 8 in
 each right side, there with weights 1 and with weights in proportion to what decides a limit. The largest true error of a mark is that over all right sides
 within the tolerances: |S·x_i − X_i| + S·Σ|B_ik|·d_k, for the exact solution x and the exact inverse B. Prints three tables; each cell is the middle value, that
 which 95 of 100 do not pass, and the largest."""
@@ -18,11 +18,12 @@ from pathlib import Path
 
 sys.path.insert(0, str(Path(__file__).resolve().parent.parent / "tests"))
 
-from exact import inverse_of, product
-from never_far import factor_of, flat
-from second.program import Program
-from second.reckoning import Bounds, Problem, Reckoning
-from systems.timed import office
+from calls.check.oracle import Bounds, Problem, Reckoning
+from calls.listing.oracle import Program
+from common.exact import inverse_of, product
+from common.net import flat
+from common.never_far import factor_of
+from common.systems.timed import office
 
 HEAVIEST = 1024
 LARGEST_TOLERANCE = 8

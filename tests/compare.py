@@ -1,8 +1,10 @@
-"""Runs a program on many files beside the second implementation: listings byte for byte, nothing on standard error, status 0.
+"""Runs programs on many files beside the oracle: what they print byte for byte, nothing on standard error, status 0.
 
-  python3 tests/compare.py --program target/bin/register [--files 2000] [--seed 1]
-  python3 tests/compare.py --self-test [--files 2000] [--seed 1]   the second implementation beside its wrong versions
-  python3 tests/compare.py --show 17 [--seed 1]                    writes one file: by its number, or by its name in given.py
+  python3 tests/compare.py --program target/bin/register [--files 2000] [--seed 1]                       listings
+  python3 tests/compare.py --program target/bin/register --convert target/bin/convert [--files 400]      new files for the old edition, which the register lists
+                                                                                                         as it lists the old ones
+  python3 tests/compare.py --show 17 [--seed 1]                    writes one file: by its number, or by its name in common/given.py
+  python3 tests/compare.py --list < FILE                           the oracle's listing of a file
 
 The last line is 'N passed, M failed'; the exit status is 0 only where M is 0."""
 
@@ -11,79 +13,38 @@ import shlex
 import shutil
 import sys
 import time
+from collections import Counter
 
-import generate
-import given
-from checks import faults, net_from
-from outside import Ran, outside
-from reach import ENOUGH_FILES, Reach
-from second.program import Program
-from second.refusal import Refusal
-from self_test import Telling, test_checks, test_given, test_programs
-
-
-class Count:
-    """How many tests passed and failed; the first failures are printed."""
-
-    def __init__(self):
-        self.passed = self.failed = 0
-
-    def test(self, name, problems):
-        if not problems:
-            self.passed += 1
-            return
-        self.failed += 1
-        if self.failed <= 20:
-            print(f"FAILED {name}: {'; '.join(problems)}")
-
-    def close(self):
-        print(f"{self.passed} passed, {self.failed} failed")
-        return 0 if self.failed == 0 and self.passed > 0 else 1
+from calls.convert import cases as conversions
+from calls.convert.oracle import Converter, printed
+from calls.listing import cases as listings
+from calls.listing.oracle import Program
+from common import generate, given
+from common.outside import outside
+from common.rules import Refusal
+from common.suite import Tally
 
 
-def all_cases(seed, files):
-    yield from given.cases()
-    for index in range(files):
-        yield generate.case(seed, index)
+def compare(register, seed, count, tally):
+    """Every file through the program."""
+    suite, met, total = listings.SUITE, Counter(), 0
+    for case in listings.tested(seed, count):
+        answer, ran = suite.answer(case), register(case.file)
+        tally.test(case.name, ran.differences(answer.listing) + suite.faults(total, case, answer._replace(listing=ran.listing)))
+        met.update(suite.coverage(case, answer))
+        total += 1
+    if count >= suite.tested_count:
+        tally.test_coverage(suite.required, met, total)
 
 
-def examined(second, run, case):
-    """What is wrong with a program's run on a file, or without a program with the right listing; then what the file holds, its right listing, and its net where
-    it was read to the end."""
-    loaded = second.load(case.file)
-    expected = second.printed(loaded)
-    ran = run(case.file) if run else Ran(expected)
-    problems = ran.differences(expected)
-    if isinstance(loaded, Refusal):
-        return problems, loaded, expected, None
-    net = net_from(loaded)
-    return problems + faults(net, ran.listing), loaded, expected, net
-
-
-def compare(run, seed, files, count, watch=None):
-    """Every file through the program, or through none; `watch` sees each file with what it holds and its right listing."""
-    second, reach = Program(), Reach()
-    for case in all_cases(seed, files):
-        problems, loaded, expected, net = examined(second, run, case)
-        count.test(case.name, problems)
-        reach.add(expected, loaded, net)
-        reach.add_changed(case.file, loaded)
-        reach.add_weights(case.file, loaded, expected)
-        reach.tolerances.add(case.file, loaded, expected)
-        if watch:
-            watch(case, loaded, expected)
-    print(reach.summary())
-    if files >= ENOUGH_FILES:
-        count.test("reach", reach.shortfalls())
-
-
-def self_test(seed, files, count):
-    telling = Telling()
-    test_given(count)
-    test_checks(count)
-    test_programs(count, lambda run, case: examined(Program(), run, case)[0])
-    compare(None, seed, files, count, telling.watch)
-    telling.report(count)
+def compare_conversions(register, convert, seed, count, tally):
+    """The program prints what is right; where that is a new file, the register lists it as it lists the old one."""
+    for index, file in enumerate(conversions.files(seed, count)):
+        expected = Converter().convert(file)
+        problems = convert(file).differences(printed(expected))
+        if not problems and not isinstance(expected, Refusal) and register(file) != register(expected):
+            problems = ["the register lists the new file otherwise"]
+        tally.test(f"file {index}", problems)
 
 
 def file_named(seed, name):
@@ -94,26 +55,30 @@ def file_named(seed, name):
 def arguments():
     parser = argparse.ArgumentParser()
     parser.add_argument("--program", help="the command to test; it reads a file from standard input")
-    parser.add_argument("--files", type=int, default=ENOUGH_FILES)
+    parser.add_argument("--convert", help="the command that converts files")
+    parser.add_argument("--files", type=int)
     parser.add_argument("--seed", default="1")
-    parser.add_argument("--self-test", action="store_true")
     parser.add_argument("--show", metavar="NAME")
+    parser.add_argument("--list", action="store_true")
     return parser.parse_args()
 
 
 def main():
-    options, count, start = arguments(), Count(), time.time()
-    if options.show is not None:
-        sys.stdout.buffer.write(file_named(options.seed, options.show))
+    options, tally, start = arguments(), Tally(), time.time()
+    if options.show is not None or options.list:
+        text = Program().listing(sys.stdin.buffer.read()) if options.list else file_named(options.seed, options.show)
+        sys.stdout.buffer.write(text)
         return 0
-    if options.self_test:
-        self_test(options.seed, options.files, count)
-    elif options.program and shutil.which(shlex.split(options.program)[0]):
-        compare(outside(options.program), options.seed, options.files, count)
+    missing = [f"there is no program '{program}'" for program in (options.program, options.convert) if program and not shutil.which(shlex.split(program)[0])]
+    if missing or not options.program:
+        tally.test("compare", missing or ["give --program"])
+    elif options.convert:
+        count = conversions.SUITE.count if options.files is None else options.files
+        compare_conversions(outside(options.program), outside(options.convert), options.seed, count, tally)
     else:
-        count.test("compare", [f"there is no program '{options.program}'" if options.program else "give --program or --self-test"])
+        compare(outside(options.program), options.seed, listings.SUITE.tested_count if options.files is None else options.files, tally)
     print(f"{time.time() - start:.0f} s")
-    return count.close()
+    return tally.close()
 
 
 if __name__ == "__main__":

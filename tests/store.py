@@ -1,8 +1,8 @@
-"""The stored script of the program `samples` and its stored output (crates/samples/stdin and stdout), from the second implementation.
+"""The stored script of the program `samples` and its stored output (crates/samples/stdin and stdout), from the oracle.
 
   python3 tests/store.py               writes both
   python3 tests/store.py --check       compares them kind by kind, and runs the program on a script that fills its buffer: it prints nothing
-  python3 tests/store.py --self-test   the output tells each wrong way of printing, meets every refusal, and a stored file changed in any kind is told
+  python3 tests/store.py --self-test   the output detects each mutant of the printing, meets every refusal, and a stored file changed in any kind is detected
 
 The last line of the last two is 'N passed, M failed'."""
 
@@ -11,8 +11,9 @@ import subprocess
 import sys
 from pathlib import Path
 
+from common.suite import Tally
 from samples import builds, files, lines, loader
-from samples.printing import WRONG, Printing
+from samples.printing import MUTANTS, Printing
 
 ROOT = Path(__file__).resolve().parent.parent
 FOLDER = ROOT / "crates" / "samples"
@@ -58,13 +59,6 @@ def whole(expected):
     return b"".join(script for _, script, _ in expected), b"".join(output for _, _, output in expected)
 
 
-def closed(failed, count):
-    for text in failed:
-        print("FAILED", text)
-    print(f"{max(0, count - len(failed))} passed, {len(failed)} failed")
-    return int(bool(failed))
-
-
 def cut_faults(script):
     """What is wrong with the program's run on a script that fills its buffer, and beside it on one that just does not."""
     if not PROGRAM.is_file():
@@ -72,31 +66,36 @@ def cut_faults(script):
     fills, fits = (script + b"\xfet" + b"x" * (length - len(script) - 3) + b"\xff" for length in (BUFFER, BUFFER - 1))
     run = lambda text: subprocess.run([str(PROGRAM)], input=text, capture_output=True, timeout=600)
     filled, fitted = run(fills), run(fits)
-    wrong = [] if filled.stdout == b"" and filled.stderr else ["a script that fills the buffer is run, or refused in silence"]
-    return wrong + ([] if fitted.stdout.endswith(b"x") else ["a script that does not fill the buffer is not run to its end"])
+    run_anyway = [] if filled.stdout == b"" and filled.stderr else ["a script that fills the buffer is run, or refused in silence"]
+    return run_anyway + ([] if fitted.stdout.endswith(b"x") else ["a script that does not fill the buffer is not run to its end"])
 
 
 def check():
     stored = [(FOLDER / name).read_bytes() if (FOLDER / name).is_file() else b"" for name in ("stdin", "stdout")]
-    failed = list(faults(list(parts()), *stored)) + cut_faults(stored[0])
-    return closed(failed, 2 * len(KINDS) + 4)
+    tally, expected = Tally(), list(parts())
+    tally.test("stored", list(faults(expected, *stored)))
+    tally.test("buffer", cut_faults(stored[0]))
+    return tally.close()
 
 
 def self_test():
-    expected = list(parts())
+    tally, expected = Tally(), list(parts())
     script, output = whole(expected)
-    failed = list(faults(expected, script, output))
-    failed += [f"'{name}' is not told" for name, printing in WRONG.items() if whole(parts(printing))[1] == output]
+    tally.test("stored", list(faults(expected, script, output)))
+    for name, printing in MUTANTS.items():
+        tally.test(f"mutant '{name}'", ["not detected"] if whole(parts(printing))[1] == output else [])
     met = {int(number) for number in re.findall(rb"^(?:refused |[A-Za-z]: )?(\d+)\b", output, re.MULTILINE)}
-    failed += [f"refusal {number} is not met" for number in sorted(REFUSALS - met)]
+    for number in sorted(REFUSALS):
+        tally.test(f"refusal {number}", [] if number in met else ["not met"])
     changed = {
         "a script without its end": (script[:-1], output),
         "an output without its end": (script, output[:-1]),
         "a script that fills the buffer": (script + b"\xfet" + b"x" * BUFFER, output),
         **{f"a byte of the {name}": (script, output.replace(own, own[:-2] + b"?\n")) for name, _, own in expected},
     }
-    failed += [f"'{name}' is not told" for name, stored in changed.items() if not list(faults(expected, *stored))]
-    return closed(failed, 1 + len(WRONG) + len(REFUSALS) + len(changed))
+    for name, stored in changed.items():
+        tally.test(name, [] if list(faults(expected, *stored)) else ["not detected"])
+    return tally.close()
 
 
 def write():
@@ -107,9 +106,9 @@ def write():
 
 
 def main():
-    ways = {(): write, ("--check",): check, ("--self-test",): self_test}
-    if tuple(sys.argv[1:]) in ways:
-        return ways[tuple(sys.argv[1:])]()
+    commands = {(): write, ("--check",): check, ("--self-test",): self_test}
+    if tuple(sys.argv[1:]) in commands:
+        return commands[tuple(sys.argv[1:])]()
     print(__doc__)
     return 2
 

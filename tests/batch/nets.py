@@ -4,7 +4,7 @@ import os
 import random
 import subprocess
 
-import generate
+from common import generate
 
 from batch.sandbox import REGISTER, ROOT
 

@@ -75,8 +75,8 @@ exec '{python}' - 3<&0 <<'END'
 import os
 import sys
 sys.path.insert(0, {tests!r})
-from second.converter import Converter, printed
-from second.program import Program
+from calls.convert.oracle import Converter, printed
+from calls.listing.oracle import Program
 try:
     with open(3, "rb") as given:
         file = given.read()

@@ -4,8 +4,7 @@ import os
 import random
 import subprocess
 
-import generate
-import given
+from common import generate, given
 from command_line.sandbox import PROGRAM, ended, failed
 from common.mutated import ROOT, another_user, named
 

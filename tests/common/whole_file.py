@@ -1,6 +1,6 @@
 """The whole file of document 01, and its listing."""
 
-from cases_01 import WHOLE_LISTING
+from common.cases_01 import WHOLE_LISTING
 from common.mutated import ROOT
 
 WHOLE = (ROOT / "examples" / "whole-file.txt").read_bytes()

@@ -6,7 +6,7 @@ import re
 import subprocess
 from fractions import Fraction
 
-from exact import inverse_of
+from common.exact import inverse_of
 from header.read import INCLUDE
 
 PATIENCE = 600

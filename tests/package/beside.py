@@ -3,28 +3,31 @@
 import random
 from fractions import Fraction
 
-import emit_builds
-import emit_common
-import emit_dependent
-import emit_entries
-import emit_quality
-import emit_weights
-import exchanged
-import generate
-import given
-from damage.lists import call_of, damaged
-from exact import inverse_of, product
-from second import doubles, field_lines, half, quality, weights
-from second.common import CommonInterval, Intervals
-from second.converter import Converter
-from second.dependent import DependentCheck, NetRefusal
-from second.field_lines import LOWER, Builder
-from second.format import lines_of
-from second.lists import FULL, check
-from second.loader import Loader
-from second.program import WITH_LINE, Program
-from second.reckoning import Reckoning
-from second.refusal import Refusal
+from calls.build import cases as builds
+from calls.build import oracle as field_lines
+from calls.build.oracle import LOWER, Builder
+from calls.check.oracle import FULL, Reckoning, check
+from calls.common import cases as proposals
+from calls.common.oracle import CommonInterval, Intervals
+from calls.convert.oracle import Converter
+from calls.dependent import cases as pairs
+from calls.dependent.oracle import DependentCheck, NetRefusal
+from calls.doubles import cases as exchanges
+from calls.doubles import oracle as doubles
+from calls.entry import cases as entries
+from calls.entry.oracle import Entry
+from calls.half import oracle as half
+from calls.listing.oracle import WITH_LINE, Program
+from calls.loader.oracle import Loader
+from calls.quality import cases as inquiries
+from calls.quality import oracle as quality
+from calls.weights import cases as searches
+from calls.weights import oracle as weights
+from common import generate, given
+from common.damage.lists import call_of, damaged
+from common.exact import inverse_of, product
+from common.format import lines_of
+from common.rules import Refusal
 
 NETS, PAIRS, SEARCHES, BUILDS, DOUBLES, FILES = 120, 90, 60, 200, 300, 120
 
@@ -175,16 +178,16 @@ def loader_is_the_seconds(package):
 
 def entry_is_the_seconds(package):
     odd = [(2**70, 0, 3), (-(2**70), 0, 3), (0, 0, -1), (0, 0, 2**32)]
-    for guess, bound, s in [*emit_entries.ends(), *emit_entries.halves(), *list(emit_entries.by_chance("package"))[:2000], *odd]:
-        number, value, limit = emit_entries.answer(guess, bound, s) if s >= 0 else (3, 0, 0)
-        if said(package.calls.entry, guess, bound, s) != ((3, (0, 0), 0, 0) if number else (value, limit)):
+    for guess, bound, s in [*entries.ends(), *entries.halves(), *entries.by_chance("package", 2000), *odd]:
+        right = Entry().enter(guess, bound, s)
+        if said(package.calls.entry, guess, bound, s) != (refusal(right) if isinstance(right, Refusal) else right):
             return False
     return all(raises(ValueError, package.calls.entry, 0, bound, 3) for bound in (-1, 2**64))
 
 
 def weights_are_the_seconds(package):
     met = set()
-    for request, *_ in emit_weights.searches("package", SEARCHES):
+    for request, *_ in searches.generate("package", SEARCHES):
         if request.lengths != weights.FULL or not 1 <= request.n <= 32:
             continue
         n = request.n
@@ -198,7 +201,7 @@ def weights_are_the_seconds(package):
 
 def build_is_the_seconds(package):
     met = set()
-    for call in emit_builds.builds("package", BUILDS):
+    for call in builds.generate("package", BUILDS):
         if call.lengths != field_lines.LEAST[call.layout]:
             continue
         right = Builder().build(call)
@@ -221,15 +224,15 @@ def doubles_are_the_seconds(package):
     second, met = doubles.Doubles(), set()
     for index in range(DOUBLES):
         rng = random.Random(f"package doubles/{index}")
-        call = exchanged.inward(rng, second)
-        for call in (call, exchanged.damaged_inward(rng, call)):
+        call = exchanges.inward(rng, second)
+        for call in (call, exchanges.damaged_inward(rng, call)):
             if call.lengths == doubles.Inward(0, 0, []).lengths and 0 <= call.n <= 32:
                 right, answer = second.guesses(call), said(package.calls.guesses, call.values[: call.n], call.s)
                 met.add(right.number if isinstance(right, Refusal) else 0)
                 if answer != (refusal(right) if isinstance(right, Refusal) else right):
                     return False
-        call = exchanged.outward(rng)
-        for call in (call, exchanged.damaged_outward(rng, call)):
+        call = exchanges.outward(rng)
+        for call in (call, exchanges.damaged_outward(rng, call)):
             if call.lengths == doubles.Outward(0, 0, [], []).lengths and 0 <= call.n <= 32:
                 right, answer = second.intervals(call), said(package.calls.intervals, call.guess[: call.n], call.bounds[: call.n], call.s)
                 met.add(right.number if isinstance(right, Refusal) else "out")
@@ -240,11 +243,11 @@ def doubles_are_the_seconds(package):
 
 def dependent_is_the_seconds(package):
     met = set()
-    for call, _ in emit_dependent.calls("package", PAIRS):
+    for call, _ in pairs.generate("package", PAIRS):
         one, two = call.main, call.dependent
-        if call.told() != type(call.told())() or (one.n, two.n) != (one.count, two.count) or len(call.coupling) != one.n * two.n:
+        if call.lengths() != type(call.lengths())() or (one.n, two.n) != (one.count, two.count) or len(call.coupling) != one.n * two.n:
             continue
-        right = DependentCheck().check(call.nets(), call.told())
+        right = DependentCheck().check(call.nets(), call.lengths())
         coupling = [call.coupling[i * one.n : (i + 1) * one.n] for i in range(two.n)]
         answer = said(package.calls.check_dependent, proposal_of(package.calls, one), proposal_of(package.calls, two), coupling)
         met.add((right.net, right.refusal.number) if isinstance(right, NetRefusal) else 0)
@@ -258,7 +261,7 @@ def dependent_is_the_seconds(package):
 
 def common_is_the_seconds(package):
     met = set()
-    for handed in emit_common.pairs("package", PAIRS):
+    for handed in proposals.generate("package", PAIRS):
         pair = handed.pair()
         if pair != pair._replace(low=32, high=32) or any(call.lengths[:6] != FULL[:6] or call.n != call.count for call in handed.calls):
             continue
@@ -275,7 +278,7 @@ def common_is_the_seconds(package):
 
 def quality_is_the_seconds(package):
     met = set()
-    for inquiry in emit_quality.inquiries("package", SEARCHES):
+    for inquiry in inquiries.generate("package", SEARCHES):
         n = inquiry.n
         if inquiry.lengths != quality.FULL or not 1 <= n <= 32:
             continue

@@ -7,21 +7,20 @@ import tempfile
 from fractions import Fraction
 from pathlib import Path
 
-import generate
-from checks import entries_in, faults, net_from
+from calls.build.oracle import Build, Builder, FieldLine
+from calls.check.oracle import Problem, check
+from calls.common.oracle import CommonInterval, Pair, Proposal
+from calls.doubles.oracle import Doubles, Outward
+from calls.listing.oracle import Program
+from calls.quality.oracle import Inquiry, Quality
+from calls.weights.oracle import Request, WeightSearch
+from common import generate
+from common.checks import entries_in, faults, net_from
+from common.exact import inverse_of, product
 from common.mutated import open_folder
-from exact import inverse_of, product
-from net import file_of, lines_of, right_line
-from second.common import CommonInterval, Pair, Proposal
-from second.doubles import Doubles, Outward
-from second.field_lines import Build, Builder, FieldLine
-from second.lists import check
-from second.program import Program
-from second.quality import Inquiry, Quality
-from second.reckoning import Problem
-from second.refusal import Refusal
-from second.weights import Request, WeightSearch
-from systems.usual import levelling_lines
+from common.net import file_of, lines_of, right_line
+from common.rules import Refusal
+from common.systems.usual import levelling_lines
 
 from package.loaded import ROOT
 

@@ -4,8 +4,8 @@ import random
 from fractions import Fraction
 from math import ceil
 
-import joint
-from second.dependent import DependentCheck, Nets, PairBounds
+from calls.dependent.oracle import DependentCheck, Nets, PairBounds
+from common import joint
 
 from package.commands import FIELD, ROOT, TOWN, WHOLE, acted, book, command, equations
 from package.commands import Build, Builder, FieldLine, Problem, Program, entries_in, levelling_lines, net_from, product

@@ -2,9 +2,9 @@
 
 import random
 
-from second.field_lines import COLUMN, MATRIX, MOST, Build, Builder, FULL
-from second.refusal import Refusal
-from systems.field import conflicting, listed, of_length, town
+from calls.build.oracle import COLUMN, FULL, MATRIX, MOST, Build, Builder
+from common.rules import Refusal
+from common.systems.field import conflicting, listed, of_length, town
 
 MARK = -7
 # The program reads numbers up to this size.

@@ -1,12 +1,12 @@
-"""Sample files by name, and their listings by the second implementation."""
+"""Sample files by name, and their listings by the oracle."""
 
 import random
 
-import given
-from generate import arranged
-from net import file_of, lines_of
-from second.program import Program
-from systems import edge, ends, rows, tolerant, usual
+from calls.listing.oracle import Program
+from common import given
+from common.generate import arranged
+from common.net import file_of, lines_of
+from common.systems import edge, ends, rows, tolerant, usual
 
 # Files of given.py by the names under which they are stored.
 GIVEN = {
@@ -107,7 +107,6 @@ def stored():
 
 def entries(printing):
     """Each name and its file as two commands of the script, with what the program prints of them."""
-    second = Program()
     for name, file in stored():
         yield b"\xfet" + name.encode() + b"\n", name + "\n"
-        yield b"\xfef" + file, second.listing(file).decode()
+        yield b"\xfef" + file, Program().listing(file).decode()

@@ -1,48 +1,25 @@
-"""Sample lines of the file (document 01, "The file") and what each is.
+"""Sample lines of the file (document 01, "The file") and what each is, by the oracle's reading."""
 
-A second reading that shares no text with the first: one regular expression for each form, and numbers of any size."""
-
-import re
+from common.format import LONGEST_LINE, is_within, read_form
 
 CAP = 2**40
-NUMBER = rb"(0|-?[1-9][0-9]*)"
-NUMBERS = rb"((?:0|-?[1-9][0-9]*)(?: (?:0|-?[1-9][0-9]*))*)"
-# The word of each form with a pattern of what follows it, and the largest size of a number in its list.
-FORMS = (
-    ("problem", rb" " + NUMBER, None),
-    ("scale", rb" " + NUMBER + rb" " + NUMBER, None),
-    ("row", rb" " + NUMBER + rb" \(" + NUMBERS + rb"\)", 2**20),
-    ("right", rb" " + NUMBER + rb" " + NUMBER, None),
-    ("right", rb" " + NUMBER + rb" \(" + NUMBER + rb" " + NUMBER + rb"\)", None),
-    ("guess", rb" " + NUMBER + rb" " + NUMBER, None),
-    ("inverse", rb" " + NUMBER + rb" \(" + NUMBERS + rb"\)", 2**20),
-    ("weight", rb" " + NUMBER + rb" " + NUMBER, None),
-    ("end", rb"", None),
-)
 
 
-def capped(number):
-    return max(-CAP, min(CAP, number))
+def capped(numbers):
+    return [str(max(-CAP, min(CAP, number))) for number in numbers]
 
 
-def told(line, printing):
+def described(line, printing):
     """What a line is, as the program prints it. A tolerance of 0 is not printed, given or not."""
-    if len(line) > 320:
-        return f"refused {printing.refused(1)}"
-    for word, rest, largest in FORMS:
-        found = re.fullmatch(rb"\(" + word.encode() + rest + rb"\)", line)
-        if not found:
-            continue
-        groups = [[int(numeral) for numeral in group.split(b" ")] for group in found.groups()]
-        numbers = groups.pop() if largest else []
-        if word == "right" and groups[2:] == [[0]]:
-            groups.pop()
-        parts = [word, *(str(capped(group[0])) for group in groups)]
-        if numbers:
-            within = all(-largest <= number <= largest for number in numbers)
-            parts += ["of", str(len(numbers)), "in range:" if within else "not in range:", *(str(capped(number)) for number in numbers[:32])]
-        return " ".join(parts)
-    return f"refused {printing.refused(2)}"
+    form = read_form(line) if len(line) <= LONGEST_LINE else None
+    if form is None:
+        return f"refused {printing.refused(2 if len(line) <= LONGEST_LINE else 1)}"
+    place = () if form.place is None else (form.place,)
+    if form.kind in ("row", "inverse"):
+        within = "in range:" if is_within(form.kind, form.values) else "not in range:"
+        return " ".join([form.kind, *capped(place), "of", str(len(form.values)), within, *capped(form.values[:32])])
+    values = form.values[:1] if form.kind == "right" and form.values[1:] == (0,) else form.values
+    return " ".join([form.kind, *capped(place + values)])
 
 
 def heads():
@@ -158,4 +135,4 @@ def lines():
 def entries(printing):
     """Each line as a command of the script, with what the program prints of it."""
     for line in lines():
-        yield b"\xfel" + line, told(line, printing) + "\n"
+        yield b"\xfel" + line, described(line, printing) + "\n"

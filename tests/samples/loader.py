@@ -4,11 +4,10 @@ Every refusal of document 01 is met: 1 to 8 and 11 to 15; its cases a to k are c
 
 import random
 
-from cases_01 import CASES, PAPERS, whole_file
-from net import lines_of
-from second.lists import KINDS, check
-from second.reckoning import Bounds, Problem
-from second.refusal import Refusal
+from calls.check.oracle import KINDS, Bounds, Problem, check
+from common.cases_01 import CASES, PAPERS, whole_file
+from common.net import lines_of
+from common.rules import Refusal
 
 MARK = -7
 SHOWN = 10

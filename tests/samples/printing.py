@@ -1,6 +1,10 @@
-"""How the program `samples` prints an answer, and the loader that it has; and the wrong ways that its stored output must tell, by name."""
+"""How the program `samples` prints an answer, and the loader that it has; and mutants of both that its stored output must detect, by name."""
 
-from second.loader import Loader
+from functools import partial
+
+from calls.loader.mutants import old_tolerance
+from calls.loader.oracle import Loader
+from common.suite import mutant
 
 
 class Printing:
@@ -19,27 +23,24 @@ class Printing:
         return "".join(" " + place for place in places[:count])
 
 
-def wrong(**parts):
-    return type("WrongPrinting", (Printing,), parts)()
+mutated = partial(mutant, Printing)
 
 
-class Leaving(Loader):
-    def accept_right(self, at, right, tolerance=None):
-        Loader.accept_right(self, at, right, self.lists["tolerance"][at] if tolerance is None else tolerance)
+def given_tolerance(self, at, right, tolerance=0):
+    Loader.accept_right(self, at, right, tolerance or self.lists["tolerance"][at])
 
 
-class Keeping(Loader):
-    def accept_right(self, at, right, tolerance=0):
-        Loader.accept_right(self, at, right, tolerance or self.lists["tolerance"][at])
+def loading(accept_right):
+    return mutated(loader=type("Mutant", (Loader,), {"accept_right": accept_right}))
 
 
-WRONG = {
-    "(right i b) leaves the tolerance": wrong(loader=Leaving),
-    "a tolerance of 0 is not written": wrong(loader=Keeping),
-    "3 for a refusal that has no name": wrong(refused=lambda self, number, values=(): Printing.refused(self, number if number in (5, 6, 7, 8) else 3, values)),
-    "0 for a refusal that is no line's": wrong(refused=lambda self, number, values=(): Printing.refused(self, number if number in (1, 2) else 0, values)),
-    "numbers alone": wrong(refused=lambda self, number, values=(): str(number)),
-    "row before column": wrong(refused=lambda self, number, values=(): Printing.refused(self, number, values[::-1])),
-    "all accepted": wrong(said=lambda self, refusal: "accepted"),
-    "limits of a refused check": wrong(limits=lambda self, limits, count: Printing.limits(self, list(limits) + [0] * count, count)),
+MUTANTS = {
+    "(right i b) leaves the tolerance": loading(old_tolerance),
+    "a tolerance of 0 is not written": loading(given_tolerance),
+    "3 for a refusal that has no name": mutated(refused=lambda self, number, values=(): Printing.refused(self, number if number in (5, 6, 7, 8) else 3, values)),
+    "0 for a refusal that is no line's": mutated(refused=lambda self, number, values=(): Printing.refused(self, number if number in (1, 2) else 0, values)),
+    "numbers alone": mutated(refused=lambda self, number, values=(): str(number)),
+    "row before column": mutated(refused=lambda self, number, values=(): Printing.refused(self, number, values[::-1])),
+    "all accepted": mutated(said=lambda self, refusal: "accepted"),
+    "limits of a refused check": mutated(limits=lambda self, limits, count: Printing.limits(self, list(limits) + [0] * count, count)),
 }

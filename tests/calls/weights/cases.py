@@ -1,0 +1,103 @@
+"""Searches for weights (02, Paper 7): problems by chance, each with several allowances, and damaged ones.
+
+Each is written as a count k, n t and the allowance, and the three lengths that the call is told; then k × k numbers of the matrix and of the inverse, after
+which each list is filled with UNREAD; then the refusal's number (0 where a list is found), how many lists were tried (0 where refused) and the place of
+the first good list among the first 65 (0 where none of them is good, or where 8 or 3 is said); and where a list is found its n weights."""
+
+import random
+from typing import NamedTuple
+
+from calls.weights.mutants import MUTANTS
+from calls.weights.oracle import FULL, Found, Request, WeightSearch, place_within
+from common.damage.lists import filled, odd_number, rows_given
+from common.rules import Refusal
+from common.suite import Suite
+from common.systems.searched import late, searched
+
+MOST = 65
+
+# "The first good list is the 1st, 2nd, a later one, the allowance-th and the one after it, and none".
+FOUND = ("the 1st", "the 2nd", "a later one")
+REQUIRED = dict.fromkeys((*FOUND, "the allowance-th", "the one after the allowance", "none", "refused 3", "refused 8"), 20)
+REQUIRED |= {"list 64 of 64": 1, "list 65 of 64": 1}
+
+
+class Search(NamedTuple):
+    """A request, how many rows of its lists are given, and the place of its first good list."""
+
+    request: Request
+    count: int
+    place: int
+
+
+def allowances(rng, place):
+    """One that is enough, those beside the place, and one by chance."""
+    chosen = [64, rng.randint(1, 64), *((place, place + 1, place - 1) if place else ())]
+    return dict.fromkeys(allowance for allowance in chosen if 1 <= allowance <= 64)
+
+
+def damaged(rng, request):
+    """One thing changed: a length, n, t, the allowance, a number in use, or one past those."""
+    n = request.n
+    kind = rng.randrange(6)
+    if kind == 0:
+        which = rng.randrange(3)
+        return request._replace(lengths=FULL._replace(**{FULL._fields[which]: rng.choice((FULL[which] - 1, FULL[which] // 2, 0))}))
+    if kind == 1:
+        return request._replace(n=rng.choice((0, 1, 2, 31, 32, 33, 2**32 - 1)))
+    if kind == 2:
+        return request._replace(t=rng.choice((0, 1, 19, 20, 21, 63, 64, 2**32 - 1)))
+    if kind == 3:
+        return request._replace(allowance=rng.choice((0, 65, 128, 2**32 - 1)))
+    name = rng.choice(("matrix", "inverse"))
+    numbers = list(getattr(request, name))
+    numbers[rng.randrange(n * n) if kind == 4 else rng.randrange(min(n * n, FULL.matrix - 1), FULL.matrix)] = odd_number(rng)
+    return request._replace(**{name: numbers})
+
+
+def generate(seed, count):
+    for index in range(count):
+        rng = random.Random(f"weights {seed}/{index}")
+        request = late(64 + index) if index < 2 else searched(rng)
+        place, rows = place_within(request, MOST), request.n
+        request = request._replace(matrix=filled(request.matrix, FULL.matrix), inverse=filled(request.inverse, FULL.inverse))
+        for allowance in allowances(rng, place):
+            yield Search(request._replace(allowance=allowance), rows, place)
+        for _ in range(2):
+            changed = damaged(rng, request)
+            answer = WeightSearch().find(changed)
+            is_searched = isinstance(answer, Found) or answer.number == 18
+            yield Search(changed, rows_given((changed.matrix, changed.inverse)), place_within(changed, MOST) if is_searched else 0)
+
+
+def write(search, answer):
+    request, used = search.request, search.count**2
+    number, tried, weights = (answer.number, 0, []) if isinstance(answer, Refusal) else (0, *answer)
+    yield [search.count, request.n, request.t, request.allowance, *request.lengths]
+    yield request.matrix[:used]
+    yield request.inverse[:used]
+    yield [number, tried, search.place]
+    yield weights
+
+
+def coverage(search, answer):
+    allowance, place = search.request.allowance, search.place
+    if isinstance(answer, Found):
+        yield FOUND[min(answer.tried, 3) - 1]
+        if answer.tried == allowance > 1:
+            yield "the allowance-th"
+    elif answer.number != 18:
+        yield f"refused {answer.number}"
+    elif place == 0:
+        yield "none"
+    elif place == allowance + 1:
+        yield "the one after the allowance"
+    if place in (64, 65) and allowance == 64:
+        yield f"list {place} of 64"
+
+
+SUITE = Suite(
+    count=800, generate=generate, write=write, coverage=coverage, required=REQUIRED,
+    answer=lambda search: WeightSearch().find(search.request),
+    mutants=((MUTANTS, lambda mutant, search, answer: mutant.find(search.request) != answer),),
+)

@@ -1,0 +1,99 @@
+"""Calls of the check on lists, damaged: lengths, n, s and t, numbers at the ends of ranges, other guesses, tolerances and weights."""
+
+from math import ceil, sqrt
+from typing import NamedTuple
+
+from calls.check.oracle import FULL, Lengths, Problem
+from common.net import flat
+
+# Stands in the lists past the numbers given.
+UNREAD = -(2**63)
+
+# Lists by their place in a call.
+TOLERANCE, GUESS, WEIGHTS = (FULL._fields.index(name) for name in ("tolerance", "guess", "weights"))
+
+
+def filled(numbers, length):
+    """A list at its full length, UNREAD past the numbers given."""
+    return list(numbers) + [UNREAD] * (length - len(numbers))
+
+
+def rows_given(matrices, column=()):
+    """The least count k such that UNREAD stands past the first k × k numbers of each matrix and the first k of a column."""
+    given = lambda numbers: max((at + 1 for at, number in enumerate(numbers) if number != UNREAD), default=0)
+    return max(given(column), *(ceil(sqrt(given(numbers))) for numbers in matrices))
+
+
+class Call(NamedTuple):
+    """What a call is handed: the first count × count or count numbers of each list, and what it is told of them."""
+
+    count: int
+    n: int
+    s: int
+    t: int
+    lengths: Lengths
+    lists: tuple
+
+    def problem(self):
+        return Problem(self.n, self.s, self.t, *(filled(numbers, length) for numbers, length in zip(self.lists, FULL)))
+
+    def with_number(self, which, at, value):
+        numbers = list(self.lists[which])
+        numbers[at] = value
+        return self._replace(lists=(*self.lists[:which], numbers, *self.lists[which + 1 :]))
+
+
+def call_of(net):
+    lists = flat(net.matrix), list(net.right), list(net.tolerance), list(net.guess), flat(net.inverse), list(net.weights)
+    return Call(net.n, net.n, net.s, net.t, FULL, lists)
+
+
+def shortened(rng, call):
+    """One list too short, by one or by more."""
+    which = rng.randrange(len(FULL))
+    length = rng.choice((FULL[which] - 1, FULL[which] - 1, FULL[which] // 2, 0))
+    return call._replace(lengths=FULL._replace(**{FULL._fields[which]: length}))
+
+
+def resized(rng, call):
+    """Another n, s or t: good, at the ends of its range, and past them up to a machine word's."""
+    value = rng.choice((0, 1, 2, 19, 20, 21, 31, 32, 33, 63, 64, 2**32 - 1))
+    return call._replace(**{rng.choice("nst"): value})
+
+
+def odd_number(rng):
+    bound = rng.choice((0, 1, 1024, 2**20, 2**25, 2**30, 2**36, 2**63 - 2)) + rng.choice((-1, 0, 1))
+    return rng.choice((bound, -bound))
+
+
+def renumbered(rng, call):
+    """A number of any list another: at the end of a range, or one that keeps most systems good."""
+    which = rng.randrange(len(call.lists))
+    value = rng.choice((odd_number(rng), rng.randint(1, 1024)))
+    return call.with_number(which, rng.randrange(len(call.lists[which])), value)
+
+
+def shifted(rng, call):
+    """A guess a few steps further."""
+    at = rng.randrange(call.count)
+    return call.with_number(GUESS, at, call.lists[GUESS][at] + rng.choice((-3, -2, -1, 1, 2, 3)))
+
+
+def tolerated(rng, call):
+    """A tolerance another, good, at the ends of its range or one beyond."""
+    value = rng.choice((-1, 0, 1, 2, 31, 32, 33, 2**20, 2**20 + 1, rng.randint(0, 2 ** rng.randint(0, 20))))
+    return call.with_number(TOLERANCE, rng.randrange(call.count), value)
+
+
+def reweighed(rng, call):
+    return call.with_number(WEIGHTS, rng.randrange(call.count), rng.randint(1, 1024))
+
+
+DAMAGES = (shortened, resized, renumbered, renumbered, shifted, tolerated, reweighed)
+
+
+def damaged(rng, call, damages=DAMAGES, counts=(1, 2)):
+    """One or two damages."""
+    for _ in range(rng.choice(counts)):
+        call = rng.choice(damages)(rng, call)
+    return call
