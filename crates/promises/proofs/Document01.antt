@@ -137,10 +137,10 @@ limit-of (Entry v b) z = b
 limit-of (Refused r) z = z
 
 module _ (x : ℤ) (e s : ℕ) (v : ℤ) (b : ℕ) (r : RegisteredAs x e s (Entry v b)) where
-  entered : v ≡ entryValue s x
+  pub entered : v ≡ entryValue s x
   entered = ap (λ (k : Registered). value-of k v) (r .entry refl)
 
-  limited : b ≡ entryBound s x e
+  pub limited : b ≡ entryBound s x e
   limited = ap (λ (k : Registered). limit-of k b) (r .entry refl)
 
 pub entry-rounded : document.EntryRounded
