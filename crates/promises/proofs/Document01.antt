@@ -110,7 +110,7 @@ margin-is P m = refl
 pub margins-above-zero : document.MarginsAboveZero
 margins-above-zero P E L a = accepted-sound P E L a .margins
 
-within : (P : Problem) (k : ℕ) → exceeds P k ≡ false → (natAbs (residual P k) + S P * P .d k ≤ 2 ^ 25) × (natAbs (residual P k) ≤ rowSum P k)
+pub within : (P : Problem) (k : ℕ) → exceeds P k ≡ false → (natAbs (residual P k) + S P * P .d k ≤ 2 ^ 25) × (natAbs (residual P k) ≤ rowSum P k)
 unfolding exceeds
 within P k e =
     (ltb-false _ _ (neither-left (exceedsWith (residual P) (slack P) k) (exceedsRow P k) e), ltb-false _ _ (neither-right (exceedsWith (residual P) (slack P) k) (exceedsRow P k) e))
