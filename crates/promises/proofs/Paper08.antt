@@ -16,7 +16,7 @@ use Rattle.checked.proofs.Statements.{accepted-usable}
 use Rattle.dependent.specs.Nets.{Nets, attached}
 use Rattle.dependent.specs.Order.{saidNets, jointAnswer}
 use Rattle.dependent.specs.Reckoning.{dependentResidual, dependentSlack, dependentBound}
-use Rattle.dependent.specs.Stated.{StatedTogether}
+use Rattle.dependent.specs.Stated.{StatedTogether, of-main, of-dependent}
 use Rattle.dependent.specs.Together.{CheckedTogether}
 use Rattle.dependent.specs.declared.CheckedNets.{CheckedNets}
 use Rattle.dependent.proofs.Largest.{joint-none}
@@ -68,6 +68,10 @@ both-inverse-limits-reckoned J r E₁ L₁ E₂ L₂ x e =
 
 pub joint-enclosed : paper.JointEnclosed
 joint-enclosed J r E₁ L₁ E₂ L₂ x e = x .encloses e .joint
+
+pub refusal-names-net : paper.RefusalNamesNet
+refusal-names-net J r E₁ L₁ E₂ L₂ x k ks =
+    (λ y. x .says ∙ said-of-together J (of-main k ks y), λ y z. x .says ∙ said-of-together J (of-dependent k ks y z))
 
 pub together-refuses-as-stated : paper.TogetherRefusesAsStated
 together-refuses-as-stated J r E₁ L₁ E₂ L₂ x w = (λ e. subst (StatedTogether J) (sym (x .says) ∙ e) (stated-together J), λ y. x .says ∙ said-of-together J y)

@@ -1,5 +1,5 @@
 -- 02, Paper 8. A net hung from another. Net 1 is the main net, net 2 the dependent one.
-use mathlib.Core.List.{List, []}
+use mathlib.Core.List.{List, [], _∷_}
 use mathlib.Core.Logic.{_↔_}
 use mathlib.Core.Path.{_≡_}
 use Prim.Native.Nat.{ℕ, _+_, _*_, _<_}
@@ -11,11 +11,12 @@ use Rattle.linear.specs.Slice.{at}
 use Rattle.enclosure.specs.Demand.{RightSide}
 use Rattle.enclosure.specs.Problem.{S}
 use Rattle.enclosure.specs.Reckoning.{bound, inverseBound, boundWith}
+use Rattle.checked.specs.Stated.{Stated}
 use Rattle.dependent.specs.Joint.{mainProblem, dependentProblem, JointSolution, WithinBoth}
 use Rattle.dependent.specs.Nets.{Nets, attached}
 use Rattle.dependent.specs.Order.{saidNets}
 use Rattle.dependent.specs.Reckoning.{dependentResidual, dependentSlack}
-use Rattle.dependent.specs.Stated.{StatedTogether}
+use Rattle.dependent.specs.Stated.{StatedDependent, StatedTogether}
 use Rattle.dependent.specs.Together.{CheckedTogether}
 use Rattle.dependent.specs.declared.CheckedNets.{CheckedNets}
 use Rattle.promises.specs.Ways.{Refused}
@@ -53,8 +54,13 @@ JointEnclosed =
     (β₁ : Vec) (ρ₁ : ℕ) (β₂ : Vec) (ρ₂ : ℕ) → RightSide (mainProblem J) β₁ ρ₁ → RightSide (dependentProblem J) β₂ ρ₂ →
     (N₁ N₂ : Vec) (q : ℕ) → JointSolution J β₁ ρ₁ β₂ ρ₂ N₁ N₂ q → WithinBoth J (λ (i : ℕ). getD E₁ i 0) (λ (i : ℕ). getD E₂ i 0) N₁ N₂ q
 
--- "The main net is checked first and its refusals given; then the hung net in the usual order, C under 3 and 8 with its matrix, unequal s under 3. A refusal says
--- which net it is of" (`StatedTogether`)
+-- "A refusal says which net it is of"
+abbrev pub RefusalNamesNet : Type 0
+RefusalNamesNet =
+    (J : Nets) (r : CheckedNets) (E₁ L₁ E₂ L₂ : List ℕ) → CheckedTogether J r E₁ L₁ E₂ L₂ → (k : ℕ) (ks : List ℕ) →
+    (Stated (J .main) (k ∷ ks) → saidNets r ≡ 1 ∷ k ∷ ks) × (Stated (J .main) [] → StatedDependent (attached J) (k ∷ ks) → saidNets r ≡ 2 ∷ k ∷ ks)
+
+-- "The main net is checked first and its refusals given; then the hung net in the usual order, C under 3 and 8 with its matrix, unequal s under 3" (`StatedTogether`)
 abbrev pub TogetherRefusesAsStated : Type 0
 TogetherRefusesAsStated =
     (J : Nets) (r : CheckedNets) (E₁ L₁ E₂ L₂ : List ℕ) → CheckedTogether J r E₁ L₁ E₂ L₂ → (w : List ℕ) → (saidNets r ≡ w) ↔ StatedTogether J w
