@@ -26,13 +26,17 @@ use Rattle.loader.specs.Taken.{TakenAs}
 use Rattle.loader.specs.declared.Loader.{Loader}
 use Rattle.loader.specs.declared.Taken.{Taken}
 use Rattle.loader.proofs.Accepted.{accepted-form}
-use Rattle.line_runs.specs.Run.{Made}
+use Rattle.loader.specs.Taken.{fresh}
+use Rattle.line_runs.specs.Run.{State, Made, forms}
+use Rattle.file_shape.specs.Given.{GivenBy}
+use Rattle.file_shape.proofs.Stage.{given-by}
 use Rattle.line_stated.specs.Stated as stated
 use Rattle.line_stated.specs.Stated.{Formed, Unrepeated, LineStated}
 use Rattle.line_stated.proofs.Stated.{made-exactly}
 use Rattle.promises.specs.Lines01.{InTime, notGiven}
 use Rattle.promises.specs.Lines01 as line
 use Rattle.promises.proofs.Demands.{line-refuses-as-stated}
+use Rattle.promises.proofs.Places.{took, own-places, other-places-kept, taken-run}
 
 abbrev Case : Bool → Type 0 → Type 0 → Type 0
 Case true A B = A
@@ -123,3 +127,14 @@ pub accepted-line-puts : line.AcceptedLinePuts
 accepted-line-puts d line l r l′ x e =
     let a = accepted-form d l line (sym (x .says) ∙ e) in
     (a .0, (spelled-read line (a .0) (a .1 .reads), (x .loader ∙ a .1 .loader, x .lists ∙ a .1 .lists)))
+
+pub accepted-line-own-places : line.AcceptedLineOwnPlaces
+accepted-line-own-places d f l r l′ x m e = own-places d f l l′ (took d f l r l′ x e) m
+
+pub accepted-line-changes-no-other : line.AcceptedLineChangesNoOther
+accepted-line-changes-no-other d f l r l′ x e = other-places-kept d f l l′ (took d f l r l′ x e)
+
+pub given-are-forms : line.GivenAreForms
+given-are-forms l lines d l′ t =
+    let r = taken-run fresh l lines d l′ t in
+    subst (λ (u : State). GivenBy (u .loader) (forms lines)) (r .1) (given-by l lines (r .0))

@@ -2,26 +2,33 @@
 -- made (any other: `OtherLineRefusesAsStated` of Demands).
 --   RefusedExactly w holds — a line is answered with w exactly where `holds` is so of the loader, the lists and the line
 --   InTime d l line f — the line is the form f, neither too early nor with its i out of range
+--   Own d f s k — the place k of the list s is one that the form f writes: those of its i, and at an end the weights that were not given
+--   TakenAll d l lines d′ l′ — the lines are taken one after another, each accepted, and leave d′ and l′
 --   notGiven n z p — how many of the forms 1 to n of the part p were not given
 use mathlib.Core.Bool.{Bool, true, false, cond}
 use mathlib.Core.List.{List, [], _∷_}
 use mathlib.Core.Logic.{_↔_, _⊎_}
 use mathlib.Core.Path.{_≡_}
-use Prim.Native.Nat.{ℕ, suc, _+_, _*_, _≤_, _<_}
+use Prim.Native.Nat.{ℕ, suc, _+_, _-_, _*_, _≤_, _<_}
+use lib.IntN.{ℤ, pos, natAbs}
 use lib.ListN.{getD, length}
 use Rattle.integer.specs.Finite.{sumℕ}
 use Rattle.rules.specs.Refusal.{said}
 use Rattle.form.specs.Form.{Form, spell}
 use Rattle.form_values.specs.Item.{itemOf, placed, outside, miscounted}
+use Rattle.form_values.specs.declared.Item.the-variants.{Of, End}
 use Rattle.form_values.specs.declared.Part.{Part}
+use Rattle.form_values.specs.declared.Part.the-variants as part
 use Rattle.form_values.specs.declared.Part.the-variants.{Row, Right, Guess, Inverse}
-use Rattle.lent_lists.specs.Lists.{Lists, shortLists}
+use Rattle.lent_lists.specs.Lists.{Lists, listOf, shortLists}
+use Rattle.lent_lists.specs.Slot.{Slot, Weight, partOf, width, valuesFor}
 use Rattle.given_forms.specs.Progress.{missing, ended, early, repeated, incomplete, given}
 use Rattle.loader_order.specs.Order.{LineCase, lineOrder}
-use Rattle.loader.specs.Taken.{TakenAs, after, listsWith}
+use Rattle.loader.specs.Taken.{TakenAs, fresh, after, listsWith}
 use Rattle.loader.specs.declared.Loader.{Loader}
 use Rattle.loader.specs.declared.Taken.{Taken}
-use Rattle.line_runs.specs.Run.{Made}
+use Rattle.line_runs.specs.Run.{Made, forms}
+use Rattle.file_shape.specs.Given.{GivenBy}
 use Rattle.line_stated.specs.Stated.{Formed, Unrepeated}
 use Rattle.promises.specs.Document01.{numbersOf}
 
@@ -35,6 +42,15 @@ pub record InTime (d : Loader) (l : Lists) (line : List ℕ) (f : Form) : Type 0
 
 abbrev pub notGiven : ℕ → List ℕ → Part → ℕ
 notGiven n z p = sumℕ n (λ (i : ℕ). cond (given z p (suc i)) 0 1)
+
+pub data Own (d : Loader) (f : Form) (s : Slot) (k : ℕ) : Type 0 where
+  of-form : (i : ℤ) → itemOf f ≡ Of (partOf s) i → (natAbs i - 1) * width s (d .n) ≤ k → k < (natAbs i - 1) * width s (d .n) + width s (d .n) → Own d f s k
+  of-end : itemOf f ≡ End → s ≡ Weight → k < d .n → given (d .sets) part.Weight (suc k) ≡ false → Own d f s k
+
+pub data TakenAll : Loader → Lists → List (List ℕ) → Loader → Lists → Type 0 where
+  none : {d : Loader} {l : Lists} → TakenAll d l [] d l
+  next : {d : Loader} {l : Lists} {line : List ℕ} {r : Taken} {l₁ : Lists} {lines : List (List ℕ)} {d′ : Loader} {l′ : Lists} →
+      TakenAs d line l r l₁ → said (r .outcome) ≡ [] → TakenAll (r .loader) l₁ lines d′ l′ → TakenAll d l (line ∷ lines) d′ l′
 
 -- ---- Refused for what was handed in
 -- "1. A line above 320 bytes, its line feed not counted"
@@ -101,3 +117,19 @@ abbrev pub AcceptedLinePuts : Type 0
 AcceptedLinePuts =
     (d : Loader) (line : List ℕ) (l : Lists) (r : Taken) (l′ : Lists) → TakenAs d line l r l′ → said (r .outcome) ≡ [] →
     (f : Form) × ((line ≡ spell f) × ((r .loader ≡ after d (itemOf f)) × (l′ ≡ listsWith d f l)))
+
+-- its own numbers at their own places: number j of the form for i at (i − 1)·width + j (`width` is n for a row, else 1)
+abbrev pub AcceptedLineOwnPlaces : Type 0
+AcceptedLineOwnPlaces =
+    (d : Loader) (f : Form) (l : Lists) (r : Taken) (l′ : Lists) → TakenAs d (spell f) l r l′ → Made d → said (r .outcome) ≡ [] → (s : Slot) (i : ℤ) → itemOf f ≡ Of (partOf s) i →
+    (j : ℕ) → j < width s (d .n) → getD (listOf s l′) ((natAbs i - 1) * width s (d .n) + j) (pos 0) ≡ getD (valuesFor s f) j (pos 0)
+
+-- "and changes no other number in those lists"
+abbrev pub AcceptedLineChangesNoOther : Type 0
+AcceptedLineChangesNoOther =
+    (d : Loader) (f : Form) (l : Lists) (r : Taken) (l′ : Lists) → TakenAs d (spell f) l r l′ → said (r .outcome) ≡ [] → (s : Slot) (k : ℕ) → (Own d f s k → ⊥) →
+    getD (listOf s l′) k (pos 0) ≡ getD (listOf s l) k (pos 0)
+
+-- what the desk holds as given are the forms of the lines that it took, on which 12 and the count of 13 rest (`GivenBy`)
+abbrev pub GivenAreForms : Type 0
+GivenAreForms = (l : Lists) (lines : List (List ℕ)) (d : Loader) (l′ : Lists) → TakenAll fresh l lines d l′ → GivenBy d (forms lines)

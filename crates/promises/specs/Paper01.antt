@@ -14,14 +14,14 @@ use Rattle.loader.specs.Taken.{TakenAs}
 use Rattle.loader.specs.declared.Loader.{Loader}
 use Rattle.loader.specs.declared.Taken.{Taken}
 use Rattle.line_runs.specs.Lines.{linesOf}
-use Rattle.line_runs.specs.Run.{Made, forms}
+use Rattle.line_runs.specs.Run.{forms}
 use Rattle.listing.specs.LeftOut.{OnlyOnes, NoWeights, SameOthers}
 use Rattle.listing.specs.Listing.{Complete, ListedAs}
 
 -- "A weight not given stands for 1, and an accepted end writes 1 into every such place of the lent list": the others stay, and so do the other lists
 abbrev pub EndWritesOnes : Type 0
 EndWritesOnes =
-    (d : Loader) (l : Lists) (r : Taken) (l′ : Lists) → TakenAs d (spell end) l r l′ → Made d → said (r .outcome) ≡ [] → (i : ℕ) →
+    (d : Loader) (l : Lists) (r : Taken) (l′ : Lists) → TakenAs d (spell end) l r l′ → said (r .outcome) ≡ [] → (i : ℕ) →
     (i < d .n → given (d .sets) Weight (suc i) ≡ false → getD (l′ .weights) i (pos 0) ≡ pos 1)
     × ((given (d .sets) Weight (suc i) ≡ true → getD (l′ .weights) i (pos 0) ≡ getD (l .weights) i (pos 0))
     × ((d .n ≤ i → getD (l′ .weights) i (pos 0) ≡ getD (l .weights) i (pos 0))
