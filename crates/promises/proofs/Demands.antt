@@ -2,7 +2,10 @@
 use mathlib.Core.Bool.{Bool, true, false}
 use mathlib.Core.List.{List}
 use mathlib.Core.Path.{_≡_, refl, sym, subst, _∙_}
-use Prim.Native.Nat.{ℕ}
+use Prim.Native.Nat.{ℕ, zero, suc, _<_}
+use native.Mathlib.Omega.{arith}
+use lib.IntN.{ℤ}
+use lib.ListN.{take}
 use Rattle.checked.specs.Checked.{solutionBoundsAfter, inverseBoundsAfter}
 use Rattle.checked.specs.Input.{Input, short}
 use Rattle.checked.specs.Stated.{Stated}
@@ -17,8 +20,17 @@ use Rattle.half.proofs.Promises.{half-stated}
 use Rattle.line_stated.proofs.Stated.{line-exactly, made-exactly}
 use Rattle.line_stated.proofs.Taken.{taken-other}
 use Rattle.file_stated.proofs.Stated.{file-exactly, answered-stated, listed-stated}
-use Rattle.listing.specs.Listing.{answerOf}
-use Rattle.listing.proofs.Demand.{file-reported, exact-accepted}
+use Rattle.enclosure.specs.Reckoning.{bound, inverseBound}
+use Rattle.form.specs.Form.{bytes}
+use Rattle.report.specs.Report.{reportOf}
+use Rattle.report.proofs.OneToOne.{SameShown, report-one}
+use Rattle.line_runs.specs.Lines.{linesOf}
+use Rattle.line_runs.specs.Read.{readingOf}
+use Rattle.line_runs.specs.Run.{forms}
+use Rattle.file_check.proofs.Forms.{some}
+use Rattle.listing.specs.Listing.{problemIn, answerOf}
+use Rattle.listing.proofs.Entire.{from, inside}
+use Rattle.listing.proofs.Demand.{accepted-parts, file-reported, exact-accepted}
 use Rattle.listing.proofs.Meaning.{bounds-begin, answered-none, listed-none, answered-encloses, listed-encloses}
 use Rattle.promises.specs.Demands as demand
 use Rattle.promises.specs.Ways.{Refused, on-lists, through-loader, by-half, of-file, of-listing, StatedThrough, too-short, not-ended, as-on-lists}
@@ -60,6 +72,26 @@ file-shows-limits file old new r x z = x .listed .bytes ∙ file-reported file (
 
 pub listing-shows-limits : demand.ListingShowsLimits
 listing-shows-limits file old new count x b = x .bytes ∙ file-reported file (listed-none x b)
+
+-- an accepted file has a row
+some-row : (file : List ℕ) → answerOf file ≡ [] → 0 < problemIn file .n
+some-row file e =
+    let c = accepted-parts file e .complete in
+    some (readingOf file .state) (forms (linesOf file)) (from file (c .lines) (c .end)) (inside file (c .lines) (c .end))
+
+rows-one : (n s n′ s′ : ℕ) (X X′ : ℕ → ℤ) (E E′ : ℕ → ℕ) (L L′ : ℕ → ℕ → ℕ) → 0 < n → 0 < n′ → reportOf n s X E L ≡ reportOf n′ s′ X′ E′ L′ → SameShown n X E L n′ X′ E′ L′
+rows-one zero s n′ s′ X X′ E E′ L L′ p q e = absurd (omega (arith, p))
+rows-one (suc n) s zero s′ X X′ E E′ L L′ p q e = absurd (omega (arith, q))
+rows-one (suc n) s (suc n′) s′ X X′ E E′ L L′ p q e = report-one n s n′ s′ X X′ E E′ L L′ e
+
+pub equal-listings-equal-limits : demand.EqualListingsEqualLimits
+equal-listings-equal-limits file old new file′ old′ new′ count count′ x y b e =
+    let P = problemIn file in
+    let P′ = problemIn file′ in
+    let b′ : take 8 (take count′ new′) ≡ bytes "(bounds " = subst (λ (l : List ℕ). take 8 l ≡ bytes "(bounds ") e b in
+    let same = sym (listing-shows-limits file old new count x b) ∙ e ∙ listing-shows-limits file′ old′ new′ count′ y b′ in
+    let r = rows-one (P .n) (P .s) (P′ .n) (P′ .s) (P .X) (P′ .X) (bound P) (bound P′) (inverseBound P) (inverseBound P′) (some-row file (listed-none x b)) (some-row file′ (listed-none y b′)) same in
+    (r .size, λ i l. (r .guess i l, r .solution i l), r .inverse)
 
 pub check-refuses-as-stated : demand.CheckRefusesAsStated
 check-refuses-as-stated I r E L x w = (λ e. subst (Stated I) (sym (x .says) ∙ e) (stated I), λ y. x .says ∙ said-of I y)

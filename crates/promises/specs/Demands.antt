@@ -71,6 +71,13 @@ ListingShowsLimits =
     (file old new : List ℕ) (count : ℕ) → ListedAs file old new count → take 8 (take count new) ≡ bytes "(bounds " →
     let P = problemIn file in take count new ≡ reportOf (P .n) (P .s) (P .X) (bound P) (inverseBound P)
 
+-- and these bytes determine the limits: listings of accepted files with equal bytes have equal guesses and limits
+abbrev pub EqualListingsEqualLimits : Type 0
+EqualListingsEqualLimits =
+    (file old new file′ old′ new′ : List ℕ) (count count′ : ℕ) → ListedAs file old new count → ListedAs file′ old′ new′ count′ → take 8 (take count new) ≡ bytes "(bounds " →
+    take count new ≡ take count′ new′ → let P = problemIn file in let P′ = problemIn file′ in
+    (P .n ≡ P′ .n) × ((i : ℕ) → i < P .n → (P .X i ≡ P′ .X i) × (bound P i ≡ bound P′ i)) × ((i j : ℕ) → i < P .n → j < P .n → inverseBound P i j ≡ inverseBound P′ i j)
+
 -- "and each refusal comes in its stated case and in no other": on lists, through a loader, by half the matrix
 abbrev pub CheckRefusesAsStated : Type 0
 CheckRefusesAsStated = (I : Input) (r : Outcome) (E L : List ℕ) → Checked I r E L → (w : List ℕ) → (said r ≡ w) ↔ Stated I w
