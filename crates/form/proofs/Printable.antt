@@ -1,7 +1,7 @@
 -- The bytes of a form's spelling (01: "ASCII lines").
 --   spell-some      — there is one or more
 --   spell-printable — each is 32 to 126, so that no line feed, no other control character and no byte above ASCII is among them
---   spell-no-feed   — none is a line feed
+--   spell-no-feed   — none is a line feed;  one-no-feed, many-no-feed — the same of a line of numbers after any printable opening
 use mathlib.Core.Path.{_≡_, refl}
 use mathlib.Core.Bool.{Bool, true, _&&_}
 use mathlib.Core.List.{List, [], _∷_, _++_}
@@ -19,10 +19,10 @@ use Rattle.form.specs.declared.Word.the-variants.{Problem, Scale, Row, R
 use Rattle.form.specs.Form.{bytes, Form, problem, scale, row, right, rightWithin, guess, inverse, weight, end, numerals, spell}
 use Rattle.form.specs.Reading.{opening}
 
-printable : ℕ → Bool
+unfoldable pub printable : ℕ → Bool
 printable b = leb 32 b && leb b 126
 
-all-printable : List ℕ → Bool
+unfoldable pub all-printable : List ℕ → Bool
 all-printable [] = true
 all-printable (b ∷ bs) = printable b && all-printable bs
 
@@ -134,3 +134,9 @@ no-feed (b ∷ l) e (suc k) h = no-feed l (both-right (printable b) (all-printab
 
 pub spell-no-feed : (f : Form) (k : ℕ) → getD (spell f) k 0 ≡ 10 → ⊥
 spell-no-feed f = no-feed (spell f) (spelled f .all)
+
+pub one-no-feed : (w : List ℕ) → all-printable w ≡ true → (i : ℤ) (k : ℕ) → getD (w ++ numeral i ++ bytes ")") k 0 ≡ 10 → ⊥
+one-no-feed w p i = no-feed (w ++ numeral i ++ bytes ")") (join (join (record { all = p }) (number i)) close-one .all)
+
+pub many-no-feed : (w : List ℕ) → all-printable w ≡ true → (i a : ℤ) (zs : List ℤ) (k : ℕ) → getD (w ++ numeral i ++ bytes " (" ++ numerals a zs ++ bytes "))") k 0 ≡ 10 → ⊥
+many-no-feed w p i a zs = no-feed (w ++ numeral i ++ bytes " (" ++ numerals a zs ++ bytes "))") (many (record { all = p }) i a zs .all)

@@ -28,11 +28,11 @@ use Rattle.bit_set.specs.Places.{hasPlace}
 use Rattle.line_runs.specs.Holds.{cell}
 
 -- ---- a run of stores
-sets-before : (vs l : List ℤ) (k m : ℕ) → m < k → getD (sets l k vs) m (pos 0) ≡ getD l m (pos 0)
+pub sets-before : (vs l : List ℤ) (k m : ℕ) → m < k → getD (sets l k vs) m (pos 0) ≡ getD l m (pos 0)
 sets-before [] l k m h = refl
 sets-before (a ∷ vs) l k m h = sets-before vs (set l k a) (suc k) m (omega arith) ∙ getD-set-other l k m a (pos 0) (λ e. omega arith)
 
-sets-after : (vs l : List ℤ) (k m : ℕ) → k + length vs ≤ m → getD (sets l k vs) m (pos 0) ≡ getD l m (pos 0)
+pub sets-after : (vs l : List ℤ) (k m : ℕ) → k + length vs ≤ m → getD (sets l k vs) m (pos 0) ≡ getD l m (pos 0)
 sets-after [] l k m h = refl
 sets-after (a ∷ vs) l k m h = sets-after vs (set l k a) (suc k) m (omega arith) ∙ getD-set-other l k m a (pos 0) (λ e. omega arith)
 

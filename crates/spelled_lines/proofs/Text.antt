@@ -51,7 +51,7 @@ lines-whole (b ∷ c ∷ s) rest h = go (eqb b 10) (lines-whole (c ∷ s) rest h
     go false e = ap (before b) e ∙ before-both b (linesOf (c ∷ s)) (linesOf rest) (some-line c s)
 
 -- ---- forms as a text
-lines-feed : (l rest : List ℕ) → ((k : ℕ) → getD l k 0 ≡ 10 → ⊥) → linesOf (l ++ (10 ∷ rest)) ≡ l ∷ linesOf rest
+pub lines-feed : (l rest : List ℕ) → ((k : ℕ) → getD l k 0 ≡ 10 → ⊥) → linesOf (l ++ (10 ∷ rest)) ≡ l ∷ linesOf rest
 unfolding linesOf
 lines-feed [] rest h = refl
 lines-feed (b ∷ l) rest h = rw (ne-eqb b 10 (h 0)) (ap (before b) (lines-feed l rest (λ k. h (suc k))))

@@ -1,0 +1,260 @@
+-- The theorems for specs/Document01, a theorem for each statement.
+--   CaseOf I k a b — the case of the refusal k of a check, with the numbers a and b that it gives;  stated-case — what is stated has it
+use mathlib.Core.Bool.{Bool, true, false}
+use mathlib.Core.List.{List, [], _∷_}
+use mathlib.Core.Path.{_≡_, refl, sym, ap, subst, _∙_}
+use Prim.Native.Nat.{ℕ, suc, _+_, _*_, _-_, _/_, _%_, _≤_, _<_, _^_}
+use native.Mathlib.Omega.{arith}
+use borrow.Author.Tests.{le-ltb, ltb-false, ne-eqb}
+use lib.Dec.{eqb}
+use lib.IntN.{ℤ, natAbs}
+use lib.ListN.{getD}
+use Rattle.integer.specs.Finite.{sum}
+use Rattle.linear.specs.Matrix.{product, apply}
+use Rattle.linear.specs.Written.{written}
+use Rattle.linear.proofs.Written.{front-else}
+use Rattle.rules.specs.Order.{ifAccepted}
+use Rattle.rules.specs.Range.{inRange, rangeOf, ranges}
+use Rattle.rules.specs.Refusal.{said}
+use Rattle.rules.specs.declared.Outcome.{Outcome}
+use Rattle.rules.proofs.Ranges.{neither-left, neither-right}
+use Rattle.entry.specs.Entry.{entryValue, entryBound}
+use Rattle.entry.specs.Register.{RegisteredAs}
+use Rattle.entry.specs.declared.Registered.{Registered}
+use Rattle.entry.specs.declared.Registered.the-variants.{Entry, Refused}
+use Rattle.entry.proofs.Limit.{entry-near}
+use Rattle.enclosure.specs.Demand.{Margins, Residuals}
+use Rattle.enclosure.specs.Problem.{Problem, S, columnOf}
+use Rattle.enclosure.specs.Reckoning.{defect, load, margin, marginFails, residual, rowSum, exceeds, exceedsWith, exceedsRow, slack, bound, boundWith, boundFrom, sizesWith, inverseBound}
+use Rattle.checked.specs.Checked.{Checked, solutionBoundsAfter, inverseBoundsAfter}
+use Rattle.checked.specs.Input.{Input, problem, short, inRanges}
+use Rattle.checked.specs.Order.{answer}
+use Rattle.checked.specs.Stated.{Usable, Stated, too-short, out-of-range, margin-low, residual-large, inverse-large, accepted}
+use Rattle.checked.proofs.Agreed.{same-answer, same-solution, same-inverse}
+use Rattle.checked.proofs.Lengths.{long-of}
+use Rattle.given_forms.specs.Progress.{ended}
+use Rattle.file_shape.proofs.Complete.{exactly}
+use Rattle.line_runs.specs.Lines.{before, linesOf}
+use Rattle.spelled_lines.proofs.Text.{lines-feed}
+use Rattle.listing.specs.Listing.{answerOf, listingOf}
+use Rattle.listing.proofs.Answers.{file-answers}
+use Rattle.listing.proofs.Table as table
+use Rattle.promises.specs.Document01.{LongEnough, Lowest}
+use Rattle.promises.specs.Document01 as document
+use Rattle.promises.specs.Ways.{StatedThrough, not-ended, as-on-lists}
+use Rattle.promises.specs.Ways as ways
+use Rattle.promises.proofs.Ways.{accepted-sound}
+use Rattle.promises.proofs.Demands.{limits-reckoned, check-refuses-as-stated, through-refuses-as-stated}
+
+-- ---- The system and its steps
+pub sizes-ranged : document.SizesRanged
+unfolding inRange rangeOf ranges
+sizes-ranged = (λ z. refl, (λ z. refl, λ z. refl))
+
+pub forms-ranged : document.FormsRanged
+unfolding inRange rangeOf ranges
+forms-ranged = (λ z. refl, (λ z. refl, (λ z. refl, (λ z. refl, λ z. refl))))
+
+long-enough : (I : Input) → LongEnough I → short I ≡ false
+long-enough I h =
+    rw (
+      le-ltb _ _ (h .matrix),
+      le-ltb _ _ (h .right),
+      le-ltb _ _ (h .tolerance),
+      le-ltb _ _ (h .guess),
+      le-ltb _ _ (h .inverse),
+      le-ltb _ _ (h .weights),
+      le-ltb _ _ (h .solution),
+      le-ltb _ _ (h .inverses),
+    ) refl
+
+pub lengths-asked : document.LengthsAsked
+lengths-asked I = (λ e. let h = long-of I e in record {
+  matrix = h .matrix;
+  right = h .right;
+  tolerance = h .tolerance;
+  guess = h .guess;
+  inverse = h .inverse;
+  weights = h .weights;
+  solution = h .solution;
+  inverses = h .inverses;
+}, long-enough I)
+
+pub rest-not-read : document.RestNotRead
+rest-not-read I J r r′ E L E′ L′ a x y = (
+  x .says ∙ same-answer I J a ∙ sym (y .says),
+  λ e.
+      let q : answer I ≡ [] = sym (x .says) ∙ e in (
+        λ i l. rw (x .solution-bounds, y .solution-bounds) (same-solution I J a q i l),
+        λ k l. rw (x .inverse-bounds, y .inverse-bounds) (same-inverse I J a q k l),
+      ),
+)
+
+-- places past those written are left, whatever is said
+past : (w xs : List ℕ) (f : ℕ → ℕ) (n i : ℕ) → n ≤ i → getD (ifAccepted w (written xs 0 1 f n) xs) i 0 ≡ getD xs i 0
+past [] xs f n i l = front-else xs f 0 n i l
+past (k ∷ ks) xs f n i l = refl
+
+pub rest-not-written : document.RestNotWritten
+unfolding solutionBoundsAfter inverseBoundsAfter
+rest-not-written I r E L x = (
+  λ i l. rw (x .solution-bounds) (past (answer I) (I .solutionBounds) (bound (problem I)) (I .n) i l),
+  λ k l. rw (x .inverse-bounds) (past (answer I) (I .inverseBounds) (λ (i : ℕ). inverseBound (problem I) (i / I .n) (i % I .n)) (I .n * I .n) k l),
+)
+
+-- ---- The reckoning
+pub margin-is : document.MarginIs
+unfolding margin load defect product apply sum
+margin-is P m = refl
+
+pub margins-above-zero : document.MarginsAboveZero
+margins-above-zero P E L a = accepted-sound P E L a .margins
+
+pub within : (P : Problem) (k : ℕ) → exceeds P k ≡ false → (natAbs (residual P k) + S P * P .d k ≤ 2 ^ 25) × (natAbs (residual P k) ≤ rowSum P k)
+unfolding exceeds
+within P k e =
+    (ltb-false _ _ (neither-left (exceedsWith (residual P) (slack P) k) (exceedsRow P k) e), ltb-false _ _ (neither-right (exceedsWith (residual P) (slack P) k) (exceedsRow P k) e))
+
+pub residuals-small : document.ResidualsSmall
+unfolding residual rowSum apply
+residuals-small P E L a k l = within P k (accepted-sound P E L a .residuals k l)
+
+pub limit-is-largest : document.LimitIsLargest
+unfolding bound boundWith boundFrom sizesWith apply
+limit-is-largest P E L a i l = limits-reckoned P E L a .0 i l
+
+pub inverse-limit-is : document.InverseLimitIs
+inverse-limit-is P E L a i j li lj k lk =
+    let h = within (columnOf P j) k (accepted-sound P E L a .columns j lj k lk) .0 in
+    (limits-reckoned P E L a .1 i j li lj, (refl, (refl, (refl, omega (arith, h)))))
+
+abbrev value-of : Registered → ℤ → ℤ
+value-of (Entry v b) z = v
+value-of (Refused r) z = z
+
+abbrev limit-of : Registered → ℕ → ℕ
+limit-of (Entry v b) z = b
+limit-of (Refused r) z = z
+
+module _ (x : ℤ) (e s : ℕ) (v : ℤ) (b : ℕ) (r : RegisteredAs x e s (Entry v b)) where
+  pub entered : v ≡ entryValue s x
+  entered = ap (λ (k : Registered). value-of k v) (r .entry refl)
+
+  pub limited : b ≡ entryBound s x e
+  limited = ap (λ (k : Registered). limit-of k b) (r .entry refl)
+
+pub entry-rounded : document.EntryRounded
+entry-rounded x e s v b r = rw (entered x e s v b r) (entry-near s x)
+
+pub entry-limited : document.EntryLimited
+unfolding entryBound
+entry-limited x e s v b r = limited x e s v b r ∙ rw (entered x e s v b r) refl
+
+-- ---- The file
+pub lines-ended : document.LinesEnded
+lines-ended line rest h = lines-feed line rest h
+
+pub last-line-unended : document.LastLineUnended
+unfolding linesOf
+last-line-unended b [] h = rw (ne-eqb b 10 (h 0)) refl
+last-line-unended b (c ∷ line) h = rw (ne-eqb b 10 (h 0)) (ap (before b) (last-line-unended c line (λ k. h (suc k))))
+
+pub whole-files-shaped : document.WholeFilesShaped
+whole-files-shaped = exactly
+
+-- ---- Refused for what was handed in
+abbrev LargeInverse : Input → ℕ → ℕ → Type 0
+LargeInverse I j k =
+    Usable I × (Margins (problem I) × (Residuals (problem I) × ((j < I .n) × (((c : ℕ) → c < j → Residuals (columnOf (problem I) c)) × Lowest (I .n) (exceeds (columnOf (problem I) j)) k))))
+
+back : (m : ℕ) → m + 1 - 1 ≡ m
+back m = omega arith
+
+abbrev Case : Bool → Type 0 → Type 0 → Type 0
+Case true A B = A
+Case false A B = B
+
+-- the case of the refusal k of a check, with the numbers that it gives
+abbrev CaseOf : Input → ℕ → ℕ → ℕ → Type 0
+CaseOf I k a b =
+    Case (eqb k 8) (short I ≡ true)
+    (Case (eqb k 3) ((short I ≡ false) × (inRanges I ≡ false))
+    (Case (eqb k 5) (Usable I × Lowest (I .n) (marginFails (problem I)) (a - 1))
+    (Case (eqb k 6) (Usable I × (Margins (problem I) × Lowest (I .n) (exceeds (problem I)) (a - 1)))
+    (Case (eqb k 7) (LargeInverse I (a - 1) (b - 1))
+    Unit))))
+
+stated-case : (I : Input) {w : List ℕ} → Stated I w → CaseOf I (getD w 0 0) (getD w 1 0) (getD w 2 0)
+stated-case I (too-short p) = p
+stated-case I (out-of-range p q) = (p, q)
+stated-case I (margin-low m u l p h) = (u, rw (back m) (record { below = l; here = p; before = h }))
+stated-case I (residual-large k u g l p h) = (u, (g, rw (back k) (record { below = l; here = p; before = h })))
+stated-case I (inverse-large j k u g r lj lk p q h) = rw (back j, back k) (u, (g, (r, (lj, (q, record { below = lk; here = p; before = h })))))
+stated-case I (accepted u x) = tt
+
+module _ (I : Input) (r : Outcome) (E L : List ℕ) (x : Checked I r E L) where
+  case-of : {w : List ℕ} → said r ≡ w → CaseOf I (getD w 0 0) (getD w 1 0) (getD w 2 0)
+  case-of {w} e = stated-case I (check-refuses-as-stated I r E L x w .0 e)
+
+  said-as : {w : List ℕ} → Stated I w → said r ≡ w
+  said-as {w} y = check-refuses-as-stated I r E L x w .1 y
+
+pub short-list-is-8 : document.ShortListIs8
+short-list-is-8 I r E L x = (case-of I r E L x, λ p. said-as I r E L x (too-short p))
+
+pub out-of-range-is-3 : document.OutOfRangeIs3
+out-of-range-is-3 I r E L x = (case-of I r E L x, λ p. said-as I r E L x (out-of-range (p .0) (p .1)))
+
+pub low-margin-is-5 : document.LowMarginIs5
+low-margin-is-5 I r E L x m = (
+  λ e. let c = case-of I r E L x e in (c .0, rw (← back m) (c .1)),
+  λ c. said-as I r E L x (margin-low m (c .0) (c .1 .below) (c .1 .here) (c .1 .before)),
+)
+
+pub large-residual-is-6 : document.LargeResidualIs6
+large-residual-is-6 I r E L x k = (
+  λ e. let c = case-of I r E L x e in (c .0, (c .1 .0, rw (← back k) (c .1 .1))),
+  λ c. said-as I r E L x (residual-large k (c .0) (c .1 .0) (c .1 .1 .below) (c .1 .1 .here) (c .1 .1 .before)),
+)
+
+pub large-inverse-is-7 : document.LargeInverseIs7
+large-inverse-is-7 I r E L x j k = (
+  λ e. let c : LargeInverse I (j + 1 - 1) (k + 1 - 1) = case-of I r E L x e in subst (λ (a : ℕ). LargeInverse I a k) (back j) (subst (λ (b : ℕ). LargeInverse I (j + 1 - 1) b) (back k) c),
+  λ c.
+      let low = c .1 .1 .1 .1 .1 in
+      said-as I r E L x (inverse-large j k (c .0) (c .1 .0) (c .1 .1 .0) (c .1 .1 .1 .0) (low .below) (low .here) (c .1 .1 .1 .1 .0) (low .before)),
+)
+
+-- ---- Refused for how far the desk has come
+never-15 : {I : Input} {w : List ℕ} → Stated I w → w ≡ 15 ∷ [] → ⊥
+never-15 (too-short p) e = let z : _≡_ {A = ℕ} 8 15 = cc in omega (arith, z)
+never-15 (out-of-range p q) e = let z : _≡_ {A = ℕ} 3 15 = cc in omega (arith, z)
+never-15 (margin-low m u l p h) e = let z : _≡_ {A = ℕ} 5 15 = cc in omega (arith, z)
+never-15 (residual-large k u g l p h) e = let z : _≡_ {A = ℕ} 6 15 = cc in omega (arith, z)
+never-15 (inverse-large j k u g r lj lk p q h) e = let z : _≡_ {A = ℕ} 7 15 = cc in omega (arith, z)
+never-15 (accepted u x) e = let z : _≡_ {A = ℕ} 0 15 = ap (λ (l : List ℕ). getD l 0 0) e in omega (arith, z)
+
+pub not-ended-is-15 : document.NotEndedIs15
+not-ended-is-15 s I r E L x =
+    let f = through-refuses-as-stated s I r E L x (15 ∷ []) in
+    (λ e. go (f .0 e) refl, λ c. f .1 (not-ended (c .0) (c .1)))
+  where
+    go : {w : List ℕ} → StatedThrough s I w → w ≡ 15 ∷ [] → (short I ≡ false) × (ended s ≡ false)
+    go (ways.too-short p) e = let z : _≡_ {A = ℕ} 8 15 = cc in absurd (omega (arith, z))
+    go (not-ended p q) e = (p, q)
+    go (as-on-lists w q y) e = absurd (never-15 y e)
+
+pub check-ordered : document.CheckOrdered
+check-ordered s I = refl
+
+pub brackets-filled : document.BracketsFilled
+unfolding listingOf
+brackets-filled file old new count x = (answerOf file, (file-answers file, x .bytes))
+
+-- ---- A whole file
+pub whole-file-listed : document.WholeFileListed
+whole-file-listed old new count x = x .bytes ∙ table.whole-file
+
+-- ---- Marked for proof
+pub cases-hold : document.CasesHold
+cases-hold = table.cases-hold

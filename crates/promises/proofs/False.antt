@@ -1,0 +1,173 @@
+-- The statements of specs/False are false, each by an instance worked out.
+use mathlib.Core.Bool.{true}
+use mathlib.Core.List.{List, [], _∷_, _++_}
+use mathlib.Core.Path.{_≡_, refl, sym, ap, subst, _∙_}
+use Prim.Native.Nat.{ℕ, zero, suc}
+use native.Mathlib.Omega.{arith}
+use lib.Dec.{lit<, lit≤}
+use lib.IntN.{pos, natAbs, _*ℤ_}
+use lib.ListN.{getD, length}
+use Rattle.integer.specs.Finite.{every, sum, sumℕ, largest, first}
+use Rattle.integer.specs.Quotient.{ceilDiv}
+use Rattle.linear.specs.Matrix.{apply, product, identity}
+use Rattle.rules.specs.Range.{ranges, rangeOf, inRange, allInRange}
+use Rattle.rules.specs.declared.Outcome.the-variants as outcome
+use Rattle.rules.specs.declared.Refusal.the-variants.{TooShort, Residual}
+use Rattle.enclosure.specs.Demand.{Margins}
+use Rattle.enclosure.specs.Reckoning.{defect, load, margin, marginFails, residual, rowSum, exceeds, sizesWith, boundFrom, boundWith, bound, inverseBound}
+use Rattle.checked.specs.Cases.{single, skewed, tolerant, inputOf}
+use Rattle.checked.specs.Checked.{Checked, solutionAfter, inverseAfter}
+use Rattle.checked.specs.Input.{Input, input, problem, inRanges}
+use Rattle.checked.specs.Order.{checkedOf, answer}
+use Rattle.checked.specs.Stated.{Stated}
+use Rattle.checked.proofs.Contract.{checked-ready, checked-short}
+use Rattle.checked.proofs.Statements.{stated}
+use Rattle.dependent.specs.Example.{both}
+use Rattle.dependent.specs.Nets.{Nets, nets, attached}
+use Rattle.dependent.specs.Stated.{StatedDependent, too-short}
+use Rattle.dependent.specs.declared.CheckedNets.the-variants.{Dependent}
+use Rattle.dependent.proofs.Contract.{together-dependent}
+use Rattle.dependent.proofs.Instance.{accepted-here}
+use Rattle.dependent.proofs.Largest.{joint-none}
+use Rattle.dependent.proofs.Statements.{said-of-dependent}
+use Rattle.listing.specs.Cases.{wholeFile, wholeListing}
+use Rattle.listing.specs.Listing.{ListedAs}
+use Rattle.listing.proofs.Table.{whole-file}
+use Rattle.promises.specs.Document01.{Lowest}
+use Rattle.promises.specs.False as wrong
+use Rattle.promises.specs.Ways.{on-lists}
+use Rattle.promises.proofs.Ways.{solution-at, inverse-at}
+
+-- ---- A = (4 0 / 1 4) with a poor second column of the inverse is accepted, its first limit is written, and its inverse limits of row 1 are 0 and 2
+abbrev poor : Input
+poor = inputOf (skewed (pos 0) (pos 0) (pos 0) (pos 1) [] [])
+
+abbrev heights : List ℕ
+heights = solutionAfter (checkedOf (problem poor)) poor
+
+abbrev inverses : List ℕ
+inverses = inverseAfter (checkedOf (problem poor)) poor
+
+poor-inside : inRanges poor ≡ true
+unfolding allInRange inRange rangeOf ranges every
+poor-inside = refl
+
+poor-said : checkedOf (problem poor) ≡ []
+unfolding bound boundWith boundFrom sizesWith exceeds rowSum residual margin load defect product apply identity sum sumℕ largest first ceilDiv
+poor-said = refl
+
+poor-limits : (bound (problem poor) 0 ≡ 0) × ((inverseBound (problem poor) 0 0 ≡ 0) × (inverseBound (problem poor) 0 1 ≡ 2))
+unfolding bound boundWith boundFrom sizesWith residual margin load defect product apply identity sum sumℕ largest ceilDiv
+poor-limits = (refl, (refl, refl))
+
+poor-checked : Checked poor outcome.Accepted heights inverses
+poor-checked = checked-ready poor refl poor-inside (sym poor-said) refl refl
+
+pub not-accepted-leaves : wrong.AcceptedLeaves → ⊥
+not-accepted-leaves h =
+    let kept : getD heights 0 0 ≡ getD (poor .solutionBounds) 0 0 =
+    ap (λ (l : List ℕ). getD l 0 0) (h poor outcome.Accepted heights inverses poor-checked refl .0) in
+    let limit : getD heights 0 0 ≡ 0 = solution-at poor outcome.Accepted heights inverses poor-checked refl 0 (lit< tt) ∙ poor-limits .0 in
+    omega (arith, kept, limit)
+
+pub not-first-column-everywhere : wrong.FirstColumnEverywhere → ⊥
+not-first-column-everywhere h =
+    let told = h (problem poor) _ _ (on-lists poor outcome.Accepted heights inverses poor-checked refl) 0 1 (lit< tt) (lit< tt) ∙ poor-limits .1 .0 in
+    let limit = inverse-at poor outcome.Accepted heights inverses poor-checked refl 0 1 (lit< tt) (lit< tt) ∙ poor-limits .1 .1 in
+    let z : _≡_ {A = ℕ} 0 2 = sym told ∙ limit in
+    omega (arith, z)
+
+-- ---- lists that are too short, with a margin of 0
+abbrev lacking : Input
+lacking = input 1 0 0 [] [] [] [] [] [] [] []
+
+lacking-lowest : Lowest 1 (marginFails (problem lacking)) 0
+unfolding margin load defect product apply identity sum sumℕ
+lacking-lowest = record { below = lit< tt; here = refl; before = λ k l. absurd (omega (arith, l)) }
+
+pub not-margin-alone-is-5 : wrong.MarginAloneIs5 → ⊥
+not-margin-alone-is-5 h =
+    let told = h lacking (outcome.Refused TooShort) [] [] (checked-short lacking refl) 0 lacking-lowest in
+    let z : _≡_ {A = ℕ} 8 5 = ap (λ (l : List ℕ). getD l 0 0) told in
+    omega (arith, z)
+
+-- ---- 4·x = 0 with a guess of 2: a margin of 16 and a residual above the sum along its row
+abbrev far : Input
+far = inputOf (single (pos 4) 0 4 (pos 2) (pos 4) [] [])
+
+far-inside : inRanges far ≡ true
+unfolding allInRange inRange rangeOf ranges every
+far-inside = refl
+
+far-said : checkedOf (problem far) ≡ 6 ∷ 1 ∷ []
+unfolding exceeds rowSum residual margin load defect product apply identity sum sumℕ first
+far-said = refl
+
+far-margins : Margins (problem far)
+unfolding margin load defect product apply identity sum sumℕ
+far-margins zero l = refl
+far-margins (suc m) l = absurd (omega (arith, l))
+
+pub not-margins-suffice : wrong.MarginsSuffice → ⊥
+not-margins-suffice h =
+    let x = checked-ready far refl far-inside {r = outcome.Refused (Residual 1)} (sym far-said) refl refl in
+    let z : _≡_ {A = ℕ} 6 0 = ap (λ (l : List ℕ). getD l 0 0) (h far (outcome.Refused (Residual 1)) _ _ x (record { long = refl; inside = far-inside }) far-margins) in
+    omega (arith, z)
+
+-- ---- x = 0 with a tolerance of 3: a limit of 48, and 0 without the tolerance
+abbrev loose : Input
+loose = inputOf (tolerant (pos 3) 4 [] [])
+
+loose-inside : inRanges loose ≡ true
+unfolding allInRange inRange rangeOf ranges every
+loose-inside = refl
+
+loose-said : checkedOf (problem loose) ≡ []
+unfolding bound boundWith boundFrom sizesWith exceeds rowSum residual margin load defect product apply identity sum sumℕ largest first ceilDiv
+loose-said = refl
+
+loose-limit : bound (problem loose) 0 ≡ 48
+unfolding bound boundWith boundFrom sizesWith residual margin load defect product apply identity sum sumℕ largest ceilDiv
+loose-limit = refl
+
+loose-checked : Checked loose outcome.Accepted (solutionAfter (checkedOf (problem loose)) loose) (inverseAfter (checkedOf (problem loose)) loose)
+loose-checked = checked-ready loose refl loose-inside (sym loose-said) refl refl
+
+without : (natAbs (sum 1 (λ (j : ℕ). problem loose .G 0 j *ℤ residual (problem loose) j))) ≡ 0
+unfolding residual apply sum
+without = refl
+
+pub not-limit-without-tolerance : wrong.LimitWithoutTolerance → ⊥
+unfolding largest ceilDiv residual apply sum margin load defect product identity sumℕ
+not-limit-without-tolerance h =
+    let told = h (problem loose) _ _ (on-lists loose outcome.Accepted _ _ loose-checked refl) 0 (lit< tt) in
+    let limit = solution-at loose outcome.Accepted _ _ loose-checked refl 0 (lit< tt) ∙ loose-limit in
+    let z : _≡_ {A = ℕ} 0 48 = sym told ∙ limit in
+    omega (arith, z)
+
+-- ---- a main net that is accepted, and a dependent one whose lists are too short
+abbrev torn : Nets
+torn = nets (both .main) lacking []
+
+main-accepted : answer (both .main) ≡ []
+main-accepted = joint-none both accepted-here .0
+
+pub not-dependent-told-as-main : wrong.DependentToldAsMain → ⊥
+not-dependent-told-as-main h =
+    let short : StatedDependent (attached torn) (8 ∷ []) = too-short refl in
+    let x = together-dependent torn TooShort main-accepted (sym (said-of-dependent (attached torn) short)) in
+    let told = h torn (Dependent TooShort) _ _ _ _ x 8 [] (subst (Stated (both .main)) main-accepted (stated (both .main))) short in
+    let z : _≡_ {A = ℕ} 2 1 = ap (λ (l : List ℕ). getD l 0 0) told in
+    omega (arith, z)
+
+-- ---- the whole file, into a buffer with a byte to spare
+abbrev buffer : List ℕ
+buffer = wholeListing ++ (7 ∷ [])
+
+spare : ListedAs wholeFile buffer buffer (length wholeListing)
+spare = record { size = sym (ap length whole-file); bytes = sym whole-file; others = refl; fits = lit≤ tt }
+
+pub not-listing-one-longer : wrong.ListingOneLonger → ⊥
+not-listing-one-longer h =
+    let told = ap (λ (l : List ℕ). length l) (h buffer buffer (length wholeListing) spare) in
+    omega (arith, told)

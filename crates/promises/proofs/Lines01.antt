@@ -1,0 +1,140 @@
+-- The theorems for specs/Lines01, a theorem for each statement.
+--   CaseOf d l line k — the case of the refusal k of a line, or of acceptance (0);  stated-case — what is stated has it
+use mathlib.Core.Bool.{Bool, true, false, cond}
+use mathlib.Core.List.{List, [], _∷_}
+use mathlib.Core.Logic.{_↔_, _⊎_, inl, inr}
+use mathlib.Core.Path.{_≡_, refl, sym, ap, subst, _∙_}
+use Prim.Native.Nat.{ℕ, _≤_, _<_}
+use native.Mathlib.Numerals.{unary-clauses}
+use native.Mathlib.Omega.{arith}
+use lib.Dec.{eqb}
+use lib.ListN.{getD, length}
+use Rattle.form.specs.Form.{Form, spell}
+use Rattle.form.proofs.Printable.{spell-some, spell-no-feed}
+use Rattle.form.proofs.Spelling.{spelled-read}
+use Rattle.form_values.specs.Item.{itemOf, placed, outside, miscounted}
+use Rattle.form_values.specs.declared.Part.{Part}
+use Rattle.form_values.specs.declared.Part.the-variants.{Row, Right, Guess, Inverse}
+use Rattle.bit_set.specs.Places.{lacking}
+use Rattle.bit_set.proofs.Places.{lacking-≤}
+use Rattle.lent_lists.specs.Lists.{Lists, shortLists}
+use Rattle.given_forms.specs.Progress.{missing, setOf, ended, early, repeated, incomplete}
+use Rattle.loader_order.proofs.Said.{count-13}
+use Rattle.rules.specs.Refusal.{said}
+use Rattle.loader.specs.Answer.{caseOf, lineAnswer}
+use Rattle.loader.specs.Taken.{TakenAs}
+use Rattle.loader.specs.declared.Loader.{Loader}
+use Rattle.loader.specs.declared.Taken.{Taken}
+use Rattle.loader.proofs.Accepted.{accepted-form}
+use Rattle.loader.specs.Taken.{fresh}
+use Rattle.line_runs.specs.Run.{State, Made, forms}
+use Rattle.file_shape.specs.Given.{GivenBy}
+use Rattle.file_shape.proofs.Stage.{given-by}
+use Rattle.line_stated.specs.Stated as stated
+use Rattle.line_stated.specs.Stated.{Formed, Unrepeated, LineStated}
+use Rattle.line_stated.proofs.Stated.{made-exactly}
+use Rattle.promises.specs.Lines01.{InTime, notGiven}
+use Rattle.promises.specs.Lines01 as line
+use Rattle.promises.proofs.Demands.{line-refuses-as-stated}
+use Rattle.promises.proofs.Places.{took, own-places, other-places-kept, taken-run}
+
+abbrev Case : Bool → Type 0 → Type 0 → Type 0
+Case true A B = A
+Case false A B = B
+
+abbrev CaseOf : Loader → Lists → List ℕ → ℕ → Type 0
+CaseOf d l line k =
+    Case (eqb k 8) (shortLists l ≡ true)
+    (Case (eqb k 14) ((shortLists l ≡ false) × (ended (d .stage) ≡ true))
+    (Case (eqb k 1) ((shortLists l ≡ false) × ((ended (d .stage) ≡ false) × (320 < length line)))
+    (Case (eqb k 2) ((shortLists l ≡ false) × ((ended (d .stage) ≡ false) × ((length line ≤ 320) × ((f : Form) → line ≡ spell f → ⊥))))
+    (Case (eqb k 11) ((f : Form) × (Formed d l line f × (early (d .stage) (itemOf f) ≡ true)))
+    (Case (eqb k 3) ((f : Form) × ((InTime d l line f × (placed (d .n) (itemOf f) ≡ false)) ⊎ (Unrepeated d l line f × (outside f ≡ true))))
+    (Case (eqb k 12) ((f : Form) × (InTime d l line f × ((placed (d .n) (itemOf f) ≡ true) × (repeated (d .stage) (d .sets) (itemOf f) ≡ true))))
+    (Case (eqb k 4) ((f : Form) × (Unrepeated d l line f × ((outside f ≡ false) × (miscounted (d .n) f ≡ true))))
+    Unit)))))))
+
+module _ (d : Loader) (l : Lists) (line : List ℕ) where
+  stated-case : {w : List ℕ} → LineStated d l line w → CaseOf d l line (getD w 0 0)
+  stated-case (stated.too-short a) = a
+  stated-case (stated.after-end a b) = (a, b)
+  stated-case (stated.too-long a b c) = (a, (b, c))
+  stated-case (stated.no-form a b c n) = (a, (b, (c, n)))
+  stated-case (stated.too-early f h e) = (f, (h, e))
+  stated-case (stated.i-outside f h t p) = (f, inl (record { formed = h; timely = t }, p))
+  stated-case (stated.again f h t p r) = (f, (record { formed = h; timely = t }, (p, r)))
+  stated-case (stated.value-outside f u o) = (f, inr (u, o))
+  stated-case (stated.wrong-count f u o m) = (f, (u, (o, m)))
+  stated-case (stated.forms-missing f u o m i) = tt
+  stated-case (stated.accepted f u o m i) = tt
+
+module _ (d : Loader) (line : List ℕ) (l : Lists) (r : Taken) (l′ : Lists) (x : TakenAs d line l r l′) (m : Made d) where
+  case-of : {w : List ℕ} → said (r .outcome) ≡ w → CaseOf d l line (getD w 0 0)
+  case-of {w} e = stated-case d l line (line-refuses-as-stated d line l r l′ x m w .0 e)
+
+  said-as : {w : List ℕ} → LineStated d l line w → said (r .outcome) ≡ w
+  said-as {w} y = line-refuses-as-stated d line l r l′ x m w .1 y
+
+pub long-line-is-1 : line.LongLineIs1
+long-line-is-1 d line l r l′ x m = (case-of d line l r l′ x m, λ c. said-as d line l r l′ x m (stated.too-long (c .0) (c .1 .0) (c .1 .1)))
+
+pub no-form-is-2 : line.NoFormIs2
+no-form-is-2 d line l r l′ x m = (case-of d line l r l′ x m, λ c. said-as d line l r l′ x m (stated.no-form (c .0) (c .1 .0) (c .1 .1 .0) (c .1 .1 .1)))
+
+pub no-form-is-empty : line.NoFormIsEmpty
+no-form-is-empty f e = let h = spell-some f in omega (arith, h, ap (λ (s : List ℕ). length s) e)
+
+pub no-form-has-feed : line.NoFormHasFeed
+no-form-has-feed = spell-no-feed
+
+pub outside-is-3 : line.OutsideIs3
+outside-is-3 d line l r l′ x m = (case-of d line l r l′ x m, λ c. said-as d line l r l′ x m (go (c .0) (c .1)))
+  where
+    go : (f : Form) → (InTime d l line f × (placed (d .n) (itemOf f) ≡ false)) ⊎ (Unrepeated d l line f × (outside f ≡ true)) → LineStated d l line (3 ∷ [])
+    go f (inl h) = stated.i-outside f (h .0 .formed) (h .0 .timely) (h .1)
+    go f (inr h) = stated.value-outside f (h .0) (h .1)
+
+pub wrong-count-is-4 : line.WrongCountIs4
+wrong-count-is-4 d line l r l′ x m = (case-of d line l r l′ x m, λ c. said-as d line l r l′ x m (stated.wrong-count (c .0) (c .1 .0) (c .1 .1 .0) (c .1 .1 .1)))
+
+pub short-line-is-8 : line.ShortLineIs8
+short-line-is-8 d line l r l′ x m = (case-of d line l r l′ x m, λ c. said-as d line l r l′ x m (stated.too-short c))
+
+pub early-is-11 : line.EarlyIs11
+early-is-11 d line l r l′ x m = (case-of d line l r l′ x m, λ c. said-as d line l r l′ x m (stated.too-early (c .0) (c .1 .0) (c .1 .1)))
+
+pub repeated-is-12 : line.RepeatedIs12
+repeated-is-12 d line l r l′ x m = (
+  case-of d line l r l′ x m,
+  λ c. said-as d line l r l′ x m (stated.again (c .0) (c .1 .0 .formed) (c .1 .0 .timely) (c .1 .1 .0) (c .1 .1 .1)),
+)
+
+pub missing-is-13 : line.MissingIs13
+unfolding lineAnswer missing lacking
+missing-is-13 d line l r l′ x k e =
+    let c = count-13 (caseOf d l line) (sym (x .says) ∙ e) in
+    let same : (p : Part) → lacking (setOf (d .sets) p) (d .n) ≡ notGiven (d .n) (d .sets) p = λ p. simp unary-clauses refl in
+    let most : (p : Part) → lacking (setOf (d .sets) p) (d .n) ≤ d .n = λ p. lacking-≤ (setOf (d .sets) p) (d .n) in
+    (omega (arith, c, same Row, same Right, same Guess, same Inverse), omega (arith, c, most Row, most Right, most Guess, most Inverse))
+
+pub after-end-is-14 : line.AfterEndIs14
+after-end-is-14 d line l r l′ x m = (case-of d line l r l′ x m, λ c. said-as d line l r l′ x m (stated.after-end (c .0) (c .1)))
+
+pub line-ordered : line.LineOrdered
+line-ordered c = refl
+
+pub accepted-line-puts : line.AcceptedLinePuts
+accepted-line-puts d line l r l′ x e =
+    let a = accepted-form d l line (sym (x .says) ∙ e) in
+    (a .0, (spelled-read line (a .0) (a .1 .reads), (x .loader ∙ a .1 .loader, x .lists ∙ a .1 .lists)))
+
+pub accepted-line-own-places : line.AcceptedLineOwnPlaces
+accepted-line-own-places d f l r l′ x m e = own-places d f l l′ (took d f l r l′ x e) m
+
+pub accepted-line-changes-no-other : line.AcceptedLineChangesNoOther
+accepted-line-changes-no-other d f l r l′ x e = other-places-kept d f l l′ (took d f l r l′ x e)
+
+pub given-are-forms : line.GivenAreForms
+given-are-forms l lines d l′ t =
+    let r = taken-run fresh l lines d l′ t in
+    subst (λ (u : State). GivenBy (u .loader) (forms lines)) (r .1) (given-by l lines (r .0))

@@ -1,0 +1,64 @@
+-- The theorems for specs/Paper07, a theorem for each statement.
+use mathlib.Core.List.{List, []}
+use mathlib.Core.Path.{_≡_, refl, sym, subst, _∙_}
+use Prim.Native.Nat.{ℕ, _+_, _*_}
+use native.Mathlib.Omega.{arith}
+use lib.IntN.{pos, natAbs}
+use Rattle.integer.specs.Finite.{sumℕ, largest}
+use Rattle.linear.proofs.Written.{front-at}
+use Rattle.rules.specs.Range.{inRange, rangeOf, ranges}
+use Rattle.rules.proofs.Verdicts.{accepted-new}
+use Rattle.enclosure.specs.Reckoning.{defect, load}
+use Rattle.weight_sequence.specs.Promised.{SearchStated}
+use Rattle.weight_sequence.specs.Request.{searchProblem}
+use Rattle.weight_sequence.specs.Search.{passed, searchAnswer, weightsAfter}
+use Rattle.weight_sequence.specs.Sequence.{loads, shift, tried}
+use Rattle.weight_sequence.proofs.Bits.{bits-fit, bits-fewest}
+use Rattle.weight_sequence.proofs.Contract.{fit-of}
+use Rattle.weight_sequence.proofs.First.{good-margins, margins-good}
+use Rattle.weight_sequence.proofs.Lists.{tried-first, tried-next}
+use Rattle.weight_sequence.proofs.Promises.{search-stated, said-search, found-usable, count-first, larger-allowance}
+use Rattle.promises.specs.Paper07 as paper
+use Rattle.promises.specs.Ways.{Refused}
+use Rattle.promises.proofs.Ways.{refused-old}
+
+pub begins-with-ones : paper.BeginsWithOnes
+begins-with-ones = tried-first
+
+pub next-list : paper.NextList
+unfolding load defect
+next-list P k =
+    let w = tried P k in
+    (shift P w, (tried-next P k, (bits-fit (largest (P .n) (loads P w)), bits-fewest (largest (P .n) (loads P w)))))
+
+pub good-is-margins : paper.GoodIsMargins
+good-is-margins P w = (good-margins P w, margins-good P w)
+
+pub allowance-ranged : paper.AllowanceRanged
+unfolding inRange rangeOf ranges
+allowance-ranged z = refl
+
+pub reports-place : paper.ReportsPlace
+unfolding weightsAfter
+reports-place Q r weights x e =
+    let z = sym (x .says) ∙ e in
+    let u = found-usable Q z in
+    (
+      count-first Q r weights x e,
+      λ i l. rw (x .weights-are, z) (front-at (Q .weights) (λ (i : ℕ). pos (tried (searchProblem Q) (passed Q) i)) (pos 0) (Q .n) i l (fit-of Q (u .long) (u .inside) .long)),
+    )
+
+pub returns-margins : paper.ReturnsMargins
+returns-margins Q r weights x e = x .margins e
+
+pub larger-allowance-same : paper.LargerAllowance
+larger-allowance-same = larger-allowance
+
+pub search-refuses-as-stated : paper.SearchRefusesAsStated
+search-refuses-as-stated Q r weights x w = (λ e. subst (SearchStated Q) (sym (x .says) ∙ e) (search-stated Q), λ y. x .says ∙ said-search Q y)
+
+pub refused-search-leaves : paper.RefusedSearchLeaves
+unfolding weightsAfter
+refused-search-leaves Q r weights x h =
+    let k : Refused _ = rw (x .says) at h in
+    x .weights-are ∙ refused-old _ _ _ k

@@ -1,0 +1,82 @@
+-- The theorems for specs/Paper08, a theorem for each statement.
+use mathlib.Core.List.{List, []}
+use mathlib.Core.Path.{_≡_, refl, sym, subst, _∙_}
+use Prim.Native.Nat.{ℕ, _+_, _*_, _/_, _%_, _<_}
+use native.Mathlib.Omega.{arith}
+use lib.ListN.{getD}
+use Rattle.integer.specs.Finite.{sum}
+use Rattle.linear.specs.Matrix.{apply}
+use Rattle.linear.proofs.Places.{place, square, place-column, place-row}
+use Rattle.linear.proofs.Written.{front-at}
+use Rattle.enclosure.specs.Reckoning.{bound, inverseBound}
+use Rattle.checked.specs.Checked.{inverseAfter}
+use Rattle.checked.specs.Input.{Input, problem}
+use Rattle.checked.proofs.Fit.{Fit, fit-of}
+use Rattle.checked.proofs.Statements.{accepted-usable}
+use Rattle.dependent.specs.Nets.{Nets, attached}
+use Rattle.dependent.specs.Order.{saidNets, jointAnswer}
+use Rattle.dependent.specs.Reckoning.{dependentResidual, dependentSlack, dependentBound}
+use Rattle.dependent.specs.Stated.{StatedTogether, of-main, of-dependent}
+use Rattle.dependent.specs.Together.{CheckedTogether}
+use Rattle.dependent.specs.declared.CheckedNets.{CheckedNets}
+use Rattle.dependent.proofs.Largest.{joint-none}
+use Rattle.dependent.proofs.Statements.{own-fit, passed-of, stated-together, said-of-together}
+use Rattle.promises.specs.Paper08 as paper
+use Rattle.promises.specs.Ways.{Refused}
+use Rattle.promises.proofs.Ways.{refused-old}
+
+pub dependent-residual-is : paper.DependentResidualIs
+unfolding dependentResidual apply
+dependent-residual-is J k = refl
+
+pub dependent-slack-is : paper.DependentSlackIs
+unfolding dependentSlack
+dependent-slack-is J k = refl
+
+-- the inverse limits that a check wrote, where it is accepted
+inverse-at : (I : Input) → Fit I → (i j : ℕ) → i < I .n → j < I .n → getD (inverseAfter [] I) (i * I .n + j) 0 ≡ inverseBound (problem I) i j
+inverse-at I fit i j li lj =
+    front-at (I .inverseBounds) (λ (k : ℕ). inverseBound (problem I) (k / I .n) (k % I .n)) 0 (I .n * I .n) (i * I .n + j) (place li lj)
+    (omega (arith, square (fit .few), fit .inverse-long))
+    ∙ rw (place-column i j (I .n) lj, place-row i j (I .n) lj)
+
+module _ (J : Nets) (r : CheckedNets) (E₁ L₁ E₂ L₂ : List ℕ) (x : CheckedTogether J r E₁ L₁ E₂ L₂) (e : saidNets r ≡ []) where
+  none : jointAnswer J ≡ []
+  none = sym (x .says) ∙ e
+
+  main-fit : Fit (J .main)
+  main-fit = let u = accepted-usable (J .main) (joint-none J none .0) in fit-of (J .main) (u .long) (u .inside)
+
+  dependent-fit : Fit (J .dependent)
+  dependent-fit = own-fit (attached J) (passed-of (attached J) (joint-none J none .1) .usable)
+
+pub both-limits-reckoned : paper.BothLimitsReckoned
+both-limits-reckoned J r E₁ L₁ E₂ L₂ x e =
+    let f = main-fit J r E₁ L₁ E₂ L₂ x e in
+    let g = dependent-fit J r E₁ L₁ E₂ L₂ x e in
+    let z = none J r E₁ L₁ E₂ L₂ x e in (
+      λ i l. rw (x .main-solution, z) (front-at (J .main .solutionBounds) (bound (problem (J .main))) 0 (J .main .n) i l (omega (arith, f .few, f .solution-long))),
+      λ i l. rw (x .dependent-solution, z) (front-at (J .dependent .solutionBounds) (dependentBound (attached J)) 0 (J .dependent .n) i l (omega (arith, g .few, g .solution-long))),
+    )
+
+pub both-inverse-limits-reckoned : paper.BothInverseLimitsReckoned
+both-inverse-limits-reckoned J r E₁ L₁ E₂ L₂ x e =
+    let z = none J r E₁ L₁ E₂ L₂ x e in (
+      λ i j li lj. rw (x .main-inverse, z) (inverse-at (J .main) (main-fit J r E₁ L₁ E₂ L₂ x e) i j li lj),
+      λ i j li lj. rw (x .dependent-inverse, z) (inverse-at (J .dependent) (dependent-fit J r E₁ L₁ E₂ L₂ x e) i j li lj),
+    )
+
+pub joint-enclosed : paper.JointEnclosed
+joint-enclosed J r E₁ L₁ E₂ L₂ x e = x .encloses e .joint
+
+pub refusal-names-net : paper.RefusalNamesNet
+refusal-names-net J r E₁ L₁ E₂ L₂ x k ks =
+    (λ y. x .says ∙ said-of-together J (of-main k ks y), λ y z. x .says ∙ said-of-together J (of-dependent k ks y z))
+
+pub together-refuses-as-stated : paper.TogetherRefusesAsStated
+together-refuses-as-stated J r E₁ L₁ E₂ L₂ x w = (λ e. subst (StatedTogether J) (sym (x .says) ∙ e) (stated-together J), λ y. x .says ∙ said-of-together J y)
+
+pub refused-together-leaves : paper.RefusedTogetherLeaves
+refused-together-leaves J r E₁ L₁ E₂ L₂ x h =
+    let k : Refused _ = rw (x .says) at h in
+    (x .main-solution ∙ refused-old _ _ _ k, x .main-inverse ∙ refused-old _ _ _ k, x .dependent-solution ∙ refused-old _ _ _ k, x .dependent-inverse ∙ refused-old _ _ _ k)

@@ -1,0 +1,27 @@
+-- The theorems for specs/Paper09, a theorem for each statement.
+use mathlib.Core.Path.{_≡_}
+use Prim.Native.Nat.{ℕ}
+use borrow.Author.Tests.{ltb-false}
+use Rattle.enclosure.specs.Problem.{columnOf}
+use Rattle.enclosure.specs.Reckoning.{rowSum, exceedsRow}
+use Rattle.enclosure.proofs.Tighter.{near-meets}
+use Rattle.checked.proofs.Answers01.{cases-01, cases-05}
+use Rattle.checked.proofs.Table.{cases-hold}
+use Rattle.checked.proofs.Tightened.{still-true}
+use Rattle.promises.specs.Paper09 as paper
+use Rattle.promises.proofs.Ways.{accepted-sound}
+use Rattle.promises.proofs.Document01.{within}
+
+pub column-residuals-small : paper.ColumnResidualsSmall
+unfolding rowSum
+column-residuals-small P E L a j k lj lk = within (columnOf P j) k (accepted-sound P E L a .columns j lj k lk) .1
+
+pub near-meets-sum : paper.NearMeets
+unfolding rowSum
+near-meets-sum P N q x h k l = ltb-false _ _ (near-meets P N q x h k l)
+
+pub cases-become : paper.CasesBecome
+cases-become = (cases-hold, cases-01, cases-05)
+
+pub old-limits-true : paper.OldLimitsTrue
+old-limits-true = still-true

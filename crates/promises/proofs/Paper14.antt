@@ -1,0 +1,45 @@
+-- The theorems for specs/Paper14, a theorem for each statement.
+use mathlib.Core.List.{List, []}
+use mathlib.Core.Path.{_≡_, refl, sym, ap, subst, _∙_}
+use Prim.Native.Nat.{ℕ}
+use lib.ListN.{length}
+use Rattle.old_edition.specs.Converted.{convertAnswer}
+use Rattle.old_edition.specs.File.{newFile, oldForms}
+use Rattle.old_edition.specs.Stated.{ConvertStated}
+use Rattle.old_edition.proofs.Promises.{old-desk, equal-checks, same-again, again, alike}
+use Rattle.old_edition.proofs.Stated.{convert-stated, stated-said}
+use Rattle.promises.specs.Paper14 as paper
+use Rattle.promises.specs.Ways.{Refused}
+use Rattle.promises.proofs.Ways.{refused-old}
+
+pub new-file-is : paper.NewFileIs
+unfolding oldForms
+new-file-is file = refl
+
+pub new-file-written : paper.NewFileWritten
+new-file-written file old new r x e = let z = sym (x .says) ∙ e in (rw (x .size, z) refl, rw (x .bytes, z) refl)
+
+pub old-desk-reads : paper.OldDeskReads
+old-desk-reads file old new r x e = old-desk file (length old) (sym (x .says) ∙ e)
+
+pub checks-equal : paper.ChecksEqual
+checks-equal file old new r x e = equal-checks file (length old) (sym (x .says) ∙ e)
+
+pub converted-again : paper.ConvertedAgain
+converted-again file old new old′ new′ r r′ x e same y =
+    let z = sym (x .says) ∙ e in
+    (y .says ∙ ap (convertAnswer (newFile file)) (sym same) ∙ again file (length old) z, same-again file (length old) z)
+
+pub equal-numbers-equal-bytes : paper.EqualNumbersEqualBytes
+equal-numbers-equal-bytes file other old new old′ new′ r r′ x e c z same long y =
+    let a = alike file (length old) (sym (x .says) ∙ e) other c z same in
+    (y .says ∙ ap (convertAnswer other) (sym long) ∙ a .0, a .1)
+
+pub convert-refuses-as-stated : paper.ConvertRefusesAsStated
+convert-refuses-as-stated file old new r x w =
+    (λ e. subst (ConvertStated file (length old)) (sym (x .says) ∙ e) (convert-stated file (length old)), λ y. x .says ∙ stated-said file (length old) y)
+
+pub refused-conversion-leaves : paper.RefusedConversionLeaves
+refused-conversion-leaves file old new r x h =
+    let k : Refused _ = rw (x .says) at h in
+    x .bytes ∙ refused-old _ _ _ k

@@ -1,0 +1,73 @@
+-- The calls for C: a number and two places that stand for what is said (`Told`), and the promises above for each way in.
+use mathlib.Core.Bool.{true, false}
+use mathlib.Core.List.{List}
+use mathlib.Core.Path.{_≡_}
+use Prim.Native.Nat.{ℕ, _+_, _*_, _≤_}
+use lib.ListN.{getD, length}
+use Rattle.enclosure.specs.Reckoning.{bound, inverseBound}
+use Rattle.checked.specs.Input.{Input, problem}
+use Rattle.checked.specs.Stated.{Stated}
+use Rattle.half.specs.Checked.{filledInput}
+use Rattle.half.specs.Stated.{HalfStated}
+use Rattle.lent_lists.specs.Lists.{Lists, shortLists}
+use Rattle.given_forms.specs.Progress.{ended}
+use Rattle.given_forms.specs.declared.Stage.{Stage}
+use Rattle.loader.specs.Numbers.{numbersOf, loaderOf}
+use Rattle.loader.specs.Taken.{fresh}
+use Rattle.line_runs.specs.Holds.{inputOf}
+use Rattle.line_runs.specs.Lines.{linesOf}
+use Rattle.file_stated.specs.Stated.{FileStated}
+use Rattle.listing.specs.Listing.{problemIn}
+use Rattle.reply.specs.Told.{Told}
+use Rattle.calls.specs.Exported.{CheckExported, ListingExported}
+use Rattle.calls.specs.Half.{HalfExported}
+use Rattle.calls.specs.Loader.{LoaderTakeExported, LoaderCheckExported, Turns, kept}
+use Rattle.promises.specs.Ways.{Accepted, StatedThrough}
+
+-- what number and places stand for has its stated case
+abbrev pub CheckTold : Type 0
+CheckTold = (I : Input) (number : ℕ) (places E L : List ℕ) → CheckExported I number places E L → (w : List ℕ) × (Stated I w × Told w number places)
+
+abbrev pub HalfTold : Type 0
+HalfTold = (H : Input) (number : ℕ) (places E L : List ℕ) → HalfExported H number places E L → (w : List ℕ) × (HalfStated H w × Told w number places)
+
+abbrev pub ThroughTold : Type 0
+ThroughTold =
+    (s : Stage) (I : Input) (number : ℕ) (places E L : List ℕ) → LoaderCheckExported s I number places E L → (w : List ℕ) × (StatedThrough s I w × Told w number places)
+
+abbrev pub ListingTold : Type 0
+ListingTold =
+    (file old : List ℕ) (number : ℕ) (places new : List ℕ) (count : ℕ) → ListingExported file old number places new count → (w : List ℕ) × (FileStated file w × Told w number places)
+
+-- 0 is acceptance and nothing else, so that all that is stated of `Accepted` holds
+abbrev pub CheckZeroAccepted : Type 0
+CheckZeroAccepted =
+    (I : Input) (number : ℕ) (places E L : List ℕ) → CheckExported I number places E L → number ≡ 0 → Accepted (problem I) (λ (i : ℕ). getD E i 0) (λ (i j : ℕ). getD L (i * I .n + j) 0)
+
+abbrev pub HalfZeroAccepted : Type 0
+HalfZeroAccepted =
+    (H : Input) (number : ℕ) (places E L : List ℕ) → HalfExported H number places E L → number ≡ 0 →
+    Accepted (problem (filledInput H)) (λ (i : ℕ). getD E i 0) (λ (i j : ℕ). getD L (i * H .n + j) 0)
+
+abbrev pub ThroughZeroAccepted : Type 0
+ThroughZeroAccepted =
+    (s : Stage) (I : Input) (number : ℕ) (places E L : List ℕ) → LoaderCheckExported s I number places E L → number ≡ 0 →
+    Accepted (problem I) (λ (i : ℕ). getD E i 0) (λ (i j : ℕ). getD L (i * I .n + j) 0)
+
+abbrev pub ListingZeroAccepted : Type 0
+ListingZeroAccepted =
+    (file old : List ℕ) (number : ℕ) (places new : List ℕ) (count : ℕ) → ListingExported file old number places new count → number ≡ 0 →
+    Accepted (problemIn file) (bound (problemIn file)) (inverseBound (problemIn file))
+
+-- a refused line leaves the loader's nine numbers and its lists, whatever the numbers were
+abbrev pub RefusedTakeLeaves : Type 0
+RefusedTakeLeaves =
+    (w line : List ℕ) (l : Lists) (number : ℕ) (places w′ : List ℕ) (l′ : Lists) → LoaderTakeExported w line l number places w′ l′ → (number ≡ 0 → ⊥) → (w′ ≡ w) × (l′ ≡ l)
+
+-- line by line as by the whole file: the lines that were taken with 0 (`kept`), an accepted end and a check give the number and the places of the listing's call
+abbrev pub LineByLineAsListing : Type 0
+LineByLineAsListing =
+    (l : Lists) → shortLists l ≡ false → (lines : List (List ℕ)) (numbers w′ : List ℕ) (l′ : Lists) → Turns (numbersOf fresh) l lines numbers w′ l′ →
+    ended (loaderOf w′ .stage) ≡ true → (file : List ℕ) → linesOf file ≡ kept lines numbers → (E L : List ℕ) → 32 ≤ length E → 1024 ≤ length L →
+    (number : ℕ) (places E′ L′ : List ℕ) → LoaderCheckExported (loaderOf w′ .stage) (inputOf (record { loader = loaderOf w′; lists = l′ }) E L) number places E′ L′ →
+    (old : List ℕ) (listed : ℕ) (shown new : List ℕ) (count : ℕ) → ListingExported file old listed shown new count → (number ≡ listed) × (places ≡ shown)
