@@ -82,6 +82,7 @@ def options(counted):
     parser.add_argument(f"--{counted}", dest="count", type=int)
     parser.add_argument("--sizes", type=int, nargs="*", default=())
     parser.add_argument("--each", type=int, default=50)
+    parser.add_argument("--kind", choices=KINDS, default="levelling")
     return parser
 
 
@@ -120,7 +121,6 @@ def self_test(seed):
 
 def main():
     parser = options("nets")
-    parser.add_argument("--kind", choices=KINDS, default="levelling")
     parser.add_argument("--self-test", action="store_true")
     given = parser.parse_args()
     if given.self_test:

@@ -2,7 +2,7 @@
 
   python3 tests/emit_files.py --files 4000 [--seed 1]      the files of given.py, 01's whole file damaged at every byte, then damaged ones and some whole
                                                            ones of the sequence of generate.py
-  python3 tests/emit_files.py --sizes 8 16 32 --each 50    accepted levelling nets of these sizes
+  python3 tests/emit_files.py --sizes 8 16 32 --each 50    accepted levelling nets of these sizes; with --kind as emit.py
   python3 tests/emit_files.py --wrong                      the files of given.py of which a wrong version says something else, and what it says
 
 Each is a line with five numbers: the length of the file, the number of its refusal (0 where accepted), the two numbers of the refusal's inner
@@ -14,7 +14,7 @@ import sys
 import cases_01
 import generate
 import given
-from emit import accepted, options
+from emit import KINDS, accepted, options
 from net import file_of, joined, lines_of
 from second.format import lines_of as split
 from second.program import Program
@@ -81,7 +81,7 @@ def main():
     given_options = parser.parse_args()
     if given_options.wrong:
         return emit_wrong()
-    nets = accepted(given_options.seed, given_options.sizes, given_options.each)
+    nets = accepted(given_options.seed, given_options.sizes, given_options.each, KINDS[given_options.kind])
     is_counted = given_options.count is not None
     files = mixed(given_options.seed, given_options.count) if is_counted else (file_of(lines_of(net)) for net in nets)
     second = Program()
