@@ -3,7 +3,7 @@
   python3 bench/batched.py BATCH COPIED FOLDER [COUNT]
 
 FOLDER gets COUNT files, else 5,000, of levelling nets of n = 32 as offices send them (`office` of tests/common/systems/timed.py). Both have as many processes as there are
-processors. Each round begins without listings; a ratio is that of the clock's times within a round, and of 7 rounds the middle one counts."""
+processors. Each round begins without listings; a ratio is that of the clock's times within a round, and of 7 rounds the middle one is printed, as table.py reads it."""
 
 import os
 import random
@@ -59,10 +59,8 @@ def main():
         length = sum(path.stat().st_size for path in listings.rglob("*.txt")) // count
         moved = timed([copied, str(processes), str(length), copies], input=names)
         if number:  # the first warms the cache
-            rounds.append((judged / moved, judged, moved))
-    ratio, judged, moved = sorted(rounds)[ROUNDS // 2]
-    lowest, highest = min(rounds)[0], max(rounds)[0]
-    print(f"{count} files, {processes} processes: batch {count / judged:.0f} a second, read and written alone {count / moved:.0f} a second, ratio {ratio:.2f} ({lowest:.2f} to {highest:.2f})")
+            rounds.append(judged / moved)
+    print(f"batch, office\tread and written alone\t32\t{sorted(rounds)[ROUNDS // 2]:.4f}")
     empty(nets, listings, state, copies)
 
 

@@ -3,4 +3,4 @@
 #define QUOTED(x) #x
 #define TEXT(x) QUOTED(x)
 
-__asm__(".text\n.p2align 6\n.skip 64 + " TEXT(PLACE) "\n.globl library_place\nlibrary_place:\n");
+__asm__(".text\n.p2align 6\n.skip 64 + " TEXT(PLACE) "\n");

@@ -3,18 +3,10 @@
 #include <stdlib.h>
 #include <time.h>
 
-static double time_of(clockid_t clock) {
-    struct timespec t;
-    clock_gettime(clock, &t);
-    return (double)t.tv_sec * 1e6 + (double)t.tv_nsec / 1e3;
-}
-
 double processor_time(void) {
-    return time_of(CLOCK_PROCESS_CPUTIME_ID);
-}
-
-double clock_time(void) {
-    return time_of(CLOCK_MONOTONIC);
+    struct timespec t;
+    clock_gettime(CLOCK_PROCESS_CPUTIME_ID, &t);
+    return (double)t.tv_sec * 1e6 + (double)t.tv_nsec / 1e3;
 }
 
 static int by_size(const void *a, const void *b) {

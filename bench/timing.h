@@ -4,9 +4,8 @@
 
 #include <stddef.h>
 
-/* The processor's time of this process, and the time of day. */
+/* The processor's time of this process. */
 double processor_time(void);
-double clock_time(void);
 
 /* The middle one of the numbers, which are sorted by it. */
 double middle_of(double *numbers, size_t count);

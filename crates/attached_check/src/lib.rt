@@ -75,14 +75,16 @@ pub fn check_attached(
                     let tolerances = slacks_of(s, tolerance, size);
                     let slacks = slacks_with(tolerances, coupling, main_limits, marks, size);
                     let sums = row_sums_of(matrix, size);
+                    let allowed = allowed_of(&slacks, &[ALLOWED_RESIDUAL; 32], size);
+                    let allowed_in_columns = allowed_of(&[0u64; 32], &sums, size);
                     return reckon(
                         size,
                         t,
                         matrix,
-                        base,
-                        allowed_of(slacks, [ALLOWED_RESIDUAL; 32], size),
-                        allowed_of([0u64; 32], sums, size),
-                        slacks,
+                        &base,
+                        &allowed,
+                        &allowed_in_columns,
+                        &slacks,
                         guess,
                         inverse,
                         weights,

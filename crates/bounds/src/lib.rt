@@ -16,7 +16,6 @@ ghost use Rattle.reckoning.specs.Rows.{InverseRows};
 ghost use Rattle.ratios.specs.Ratio.{Positive, Caps};
 ghost use Rattle.bounds.specs.Limits.{columnSize, Near, limitsOf};
 use integer::magnitude;
-use raised_rows::ROWS_LENGTH;
 use raised_rows::add_low;
 use raised_rows::lowered_size;
 use raised_rows::raise_row;
@@ -89,27 +88,28 @@ fn add_slacks(sizes: [u64; 32], rows: &[u64], slacks: &[u64; 32], n: usize) -> [
 
 // The limits of the column with these residuals and slacks, from the raised rows of G.
 pub fn column_bounds(
-    rows: &[u64; ROWS_LENGTH],
-    residuals: [i64; 32],
-    slacks: [u64; 32],
-    margins: [u64; 32],
-    caps: [u64; 32],
+    rows: &[u64],
+    residuals: &[i64; 32],
+    slacks: &[u64; 32],
+    margins: &[u64; 32],
+    caps: &[u64; 32],
     weights: &[i64],
     n: usize,
 ) -> [u64; 32]
     requires { ⌜ (0 < n) × (n ≤ 32) ⌝ }
     requires { ⌜ InverseRows (now rows) n ⌝ }
-    requires { ⌜ Near (at residuals) (λ (k : ℕ). getD slacks k 0) n ⌝ }
-    requires { ⌜ Positive margins n ⌝ }
+    requires { ⌜ Near (at (now residuals)) (λ (k : ℕ). getD (now slacks) k 0) n ⌝ }
+    requires { ⌜ Positive (now margins) n ⌝ }
     requires { ⌜ ColumnList (now weights) n 1024 ⌝ }
-    requires { ⌜ Caps caps margins (now weights) n ⌝ }
+    requires { ⌜ Caps (now caps) (now margins) (now weights) n ⌝ }
     ensures { λ r. ⌜ Begins 0 r n
-        (limitsOf n (now (rows .entry)) (at residuals) (λ (k : ℕ). getD slacks k 0) margins (now (weights .entry))) ⌝ }
+        (limitsOf n (now (rows .entry)) (at (now (residuals .entry))) (λ (k : ℕ). getD (now (slacks .entry)) k 0) (now (margins .entry))
+        (now (weights .entry))) ⌝ }
 {
     let mut raised = [0u64; 33];
-    raise_row(&mut raised, 0, &residuals, 0, 1, n);
-    let sizes = add_slacks(sizes_of(rows, &raised, n), rows, &slacks, n);
-    bounds_of(&sizes, &margins, &caps, weights, n)
+    raise_row(&mut raised, 0, residuals, 0, 1, n);
+    let sizes = add_slacks(sizes_of(rows, &raised, n), rows, slacks, n);
+    bounds_of(&sizes, margins, caps, weights, n)
 }
 
 // Writes n limits from a place on, some places apart.

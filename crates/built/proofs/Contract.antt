@@ -44,7 +44,7 @@ module _ (n : ℕ) (ls : List Observation) (layout : Layout) (a b : List ℤ) wh
   w : Whole n ls
   w = whole n ls
 
-  says : saidFinally (shortFor layout a b) (saidBuilt (gatheredOf n ls .told)) ≡ buildAnswer n ls (shortFor layout a b)
+  says : saidFinally (shortFor layout a b) (saidBuilt (gatheredOf n ls .progress .told)) ≡ buildAnswer n ls (shortFor layout a b)
   unfolding buildAnswer
   says =
       ap (saidFinally (shortFor layout a b)) (w .says)
@@ -56,7 +56,7 @@ module _ (n : ℕ) (ls : List Observation) (layout : Layout) (a b : List ℤ) wh
   lines-silent true t e = absurd (nothing-is-not e)
   lines-silent false t e = e
 
-  kept : (t : List ℕ) → t ≡ saidFinally (shortFor layout a b) (saidBuilt (gatheredOf n ls .told)) → {A : Type 0} (new new′ old : A) → (saidBuilt (gatheredOf n ls .told) ≡ [] → new ≡ new′) → ifAccepted t new old ≡ ifAccepted t new′ old
+  kept : (t : List ℕ) → t ≡ saidFinally (shortFor layout a b) (saidBuilt (gatheredOf n ls .progress .told)) → {A : Type 0} (new new′ old : A) → (saidBuilt (gatheredOf n ls .progress .told) ≡ [] → new ≡ new′) → ifAccepted t new old ≡ ifAccepted t new′ old
   kept [] e new new′ old h = h (lines-silent (shortFor layout a b) _ (sym e))
   kept (k ∷ ks) e new new′ old h = refl
 
@@ -65,12 +65,12 @@ module _ (n : ℕ) (ls : List Observation) (layout : Layout) (a b : List ℤ) wh
     says = f .says ∙ says;
     matrix =
         f .matrix
-        ∙ kept (saidBuilt r) (f .says) (matrixWritten layout (gatheredOf n ls .n) (keptMatrix (gatheredOf n ls)) a) (matrixWritten layout n (builtMatrix ls) a) a
+        ∙ kept (saidBuilt r) (f .says) (matrixWritten layout (gatheredOf n ls .progress .n) (keptMatrix (gatheredOf n ls)) a) (matrixWritten layout n (builtMatrix ls) a) a
         (λ e. ap (λ (k : ℕ). matrixWritten layout k (keptMatrix (gatheredOf n ls)) a) (w .size) ∙ rows-ext (widthOf layout n) n (keptMatrix (gatheredOf n ls)) (builtMatrix ls) a (λ i j. w .sums e (weightAt (i + 1) (j + 1))))
         ∙ ap (λ (t : List ℕ). ifAccepted t (matrixWritten layout n (builtMatrix ls) a) a) (f .says ∙ says);
     right =
         f .right
-        ∙ kept (saidBuilt r) (f .says) (rightWritten (gatheredOf n ls .n) (keptRight (gatheredOf n ls)) b) (rightWritten n (builtRight ls) b) b
+        ∙ kept (saidBuilt r) (f .says) (rightWritten (gatheredOf n ls .progress .n) (keptRight (gatheredOf n ls)) b) (rightWritten n (builtRight ls) b) b
         (λ e. ap (λ (k : ℕ). rightWritten k (keptRight (gatheredOf n ls)) b) (w .size) ∙ written-ext b 0 1 (keptRight (gatheredOf n ls)) (builtRight ls) n (λ i m. w .sums e (gain (i + 1))))
         ∙ ap (λ (t : List ℕ). ifAccepted t (rightWritten n (builtRight ls) b) b) (f .says ∙ says);
   }

@@ -40,8 +40,8 @@ module _ (g : Gathered) (layout : Layout) (a b : List ℤ) {s : Bool} (t : s ≡
   pub finish-short : s ≡ true → Finished g layout a b (Refused TooShort) a b
   finish-short e = record { says = rw (← t, e); matrix = refl; right = refl }
 
-  pub finish-done : s ≡ false → g .told ≡ Done → {a′ b′ : List ℤ} → a′ ≡ matrixWritten layout (g .n) (keptMatrix g) a → b′ ≡ rightWritten (g .n) (keptRight g) b → Finished g layout a b Done a′ b′
+  pub finish-done : s ≡ false → g .progress .told ≡ Done → {a′ b′ : List ℤ} → a′ ≡ matrixWritten layout (g .progress .n) (keptMatrix g) a → b′ ≡ rightWritten (g .progress .n) (keptRight g) b → Finished g layout a b Done a′ b′
   finish-done e d p q = record { says = rw (← t, e) (sym (ap saidBuilt d)); matrix = p; right = q }
 
-  pub finish-refused : {k : ℕ} {ks : List ℕ} → s ≡ false → saidBuilt (g .told) ≡ k ∷ ks → Finished g layout a b (g .told) a b
+  pub finish-refused : {k : ℕ} {ks : List ℕ} → s ≡ false → saidBuilt (g .progress .told) ≡ k ∷ ks → Finished g layout a b (g .progress .told) a b
   finish-refused e d = record { says = rw (← t, e); matrix = rw d; right = rw d }

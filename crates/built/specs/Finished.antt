@@ -19,6 +19,6 @@ abbrev pub saidFinally : Bool → List ℕ → List ℕ
 saidFinally short lines = cond short (8 ∷ []) lines
 
 pub record Finished (g : Gathered) (layout : Layout) (a b : List ℤ) (r : Built) (a′ b′ : List ℤ) : Type 0 where
-  pub says : saidBuilt r ≡ saidFinally (shortFor layout a b) (saidBuilt (g .told))
-  pub matrix : a′ ≡ ifAccepted (saidBuilt r) (matrixWritten layout (g .n) (keptMatrix g) a) a
-  pub right : b′ ≡ ifAccepted (saidBuilt r) (rightWritten (g .n) (keptRight g) b) b
+  pub says : saidBuilt r ≡ saidFinally (shortFor layout a b) (saidBuilt (g .progress .told))
+  pub matrix : a′ ≡ ifAccepted (saidBuilt r) (matrixWritten layout (g .progress .n) (keptMatrix g) a) a
+  pub right : b′ ≡ ifAccepted (saidBuilt r) (rightWritten (g .progress .n) (keptRight g) b) b

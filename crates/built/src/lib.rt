@@ -35,7 +35,8 @@ pub fn finish(g: Gathered, layout: Layout, matrix: &mut [i64], right: &mut [i64]
     if is_short(layout, matrix.len(), right.len()) {
         return Built::Refused(Refusal::TooShort);
     }
-    let told = g.told;
+    let progress = g.progress;
+    let told = progress.told;
     match told {
         Built::Done => {
             write_equations(g, layout, matrix, right);

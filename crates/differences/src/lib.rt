@@ -124,7 +124,7 @@ fn number_less(t: u32, m: usize, j: usize, raised: i64, up: u64, down: u64) -> i
 
 // Number m of every column of the differences, from the numbers of the list from place start on.
 fn store_row(
-    out: &mut [i64; 1024],
+    out: &mut [i64],
     t: u32,
     m: usize,
     xs: &[i64],
@@ -133,7 +133,7 @@ fn store_row(
     rows: &[u64],
     n: usize,
 )
-    requires { ⌜ (t ≤ 20) × ((n ≤ 32) × ((m < n) × (start + n * stride < 2 ^ 60))) ⌝ }
+    requires { ⌜ (t ≤ 20) × ((n ≤ 32) × ((m < n) × ((start + n * stride < 2 ^ 60) × (n * n ≤ length (now out))))) ⌝ }
     requires { ⌜ Reach (now xs) start stride n (2 ^ 20) ⌝ }
     requires { ⌜ RaisedRows (now rows) n ⌝ }
     ensures { λ _. ⌜ now (out .exit) ≡ written (now (out .entry)) m n
@@ -148,44 +148,38 @@ fn store_row(
     }
 }
 
-// T·I less the product, column after column.
+// Puts T·I less the product in a list, column after column.
 fn differences_of(
+    out: &mut [i64],
     t: u32,
     xs: &[i64],
     step: usize,
     stride: usize,
-    rows: &[u64; ROWS_LENGTH],
+    rows: &[u64],
     n: usize,
-) -> [i64; 1024]
-    requires { ⌜ (t ≤ 20) × ((n ≤ 32) × ((step ≤ 32) × (stride ≤ 32))) ⌝ }
+)
+    requires { ⌜ (t ≤ 20) × ((n ≤ 32) × ((step ≤ 32) × ((stride ≤ 32) × (n * n ≤ length (now out))))) ⌝ }
     requires { ⌜ ((m : ℕ) → m < n → Reach (now xs) (m * step) stride n (2 ^ 20)) ⌝ }
     requires { ⌜ RaisedRows (now rows) n ⌝ }
-    ensures { λ r. ⌜ Begins (pos 0) r (n * n)
+    ensures { λ _. ⌜ Begins (pos 0) (now (out .exit)) (n * n)
         (λ (i : ℕ). difference n t (now (xs .entry)) step stride (now (rows .entry)) (i / n) (i % n)) ⌝ }
 {
-    let mut out = [0i64; 1024];
     let mut start = 0;
     for m in 0..n {
-        store_row(&mut out, t, m, xs, start, stride, rows, n);
+        store_row(out, t, m, xs, start, stride, rows, n);
         start += step;
     }
-    out
 }
 
-// The residuals T·I − A·G of the inverse, column after column, from the raised rows of G.
-pub fn inverse_residuals_of(
-    t: u32,
-    matrix: &[i64],
-    rows: &[u64; ROWS_LENGTH],
-    n: usize,
-) -> [i64; 1024]
-    requires { ⌜ (t ≤ 20) × (n ≤ 32) ⌝ }
+// Puts the residuals T·I − A·G of the inverse in a list, column after column, from the raised rows of G.
+pub fn inverse_residuals_of(out: &mut [i64], t: u32, matrix: &[i64], rows: &[u64], n: usize)
+    requires { ⌜ (t ≤ 20) × ((n ≤ 32) × (n * n ≤ length (now out))) ⌝ }
     requires { ⌜ MatrixList (now matrix) n ⌝ }
     requires { ⌜ RaisedRows (now rows) n ⌝ }
-    ensures { λ r. ⌜ Begins (pos 0) r (n * n)
+    ensures { λ _. ⌜ Begins (pos 0) (now (out .exit)) (n * n)
         (λ (i : ℕ). residual (columnOf (rowsPart n t (now (matrix .entry)) (now (rows .entry))) (i / n)) (i % n)) ⌝ }
 {
-    differences_of(t, matrix, n, 1, rows, n)
+    differences_of(out, t, matrix, n, 1, rows, n);
 }
 
 // D = T·I − G·A, row after row: its row m is column m of T·I less the product of A and G, each read by columns.
@@ -198,5 +192,7 @@ pub fn defects_of(t: u32, matrix: &[i64], inverse: &[i64], n: usize) -> [i64; 10
 {
     let mut columns = [0u64; ROWS_LENGTH];
     raise_columns(&mut columns, inverse, n);
-    differences_of(t, matrix, 1, n, &columns, n)
+    let mut out = [0i64; 1024];
+    differences_of(&mut out, t, matrix, 1, n, &columns, n);
+    out
 }

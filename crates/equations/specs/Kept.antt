@@ -7,15 +7,14 @@ use mathlib.Core.List.{List}
 use mathlib.Core.Path.{_≡_}
 use Prim.Native.Nat.{ℕ, _+_, _≤_, _^_}
 use lib.IntN.{natAbs, _+ℤ_}
-use lib.ListN.{length, getD}
+use lib.ListN.{length}
 use Rattle.integer.specs.Finite.{sum}
 use Rattle.linear.specs.Matrix.{Vec, Mat}
 use Rattle.linear.specs.Slice.{at}
 use Rattle.observation.specs.declared.Observation.{Observation}
-use Rattle.observation.specs.Line.{noObservation}
 use Rattle.observation.specs.Distinct.{weightAt, gain}
 use Rattle.gathering.specs.declared.Gathered.{Gathered}
-use Rattle.gathering.specs.Gathered.{keptSum}
+use Rattle.gathering.specs.Gathered.{lineAt, keptSum}
 use Rattle.equations.specs.declared.Row.{Row}
 
 abbrev pub keptMatrix : Gathered → Mat
@@ -24,10 +23,10 @@ keptMatrix g i j = keptSum (weightAt (i + 1) (j + 1)) g
 abbrev pub keptRight : Gathered → Vec
 keptRight g i = keptSum (gain (i + 1)) g
 
-pub record RowSums (seen : List Observation) (k p : ℕ) (r : Row) : Type 0 where
+pub record RowSums (seen : List ℕ) (k p : ℕ) (r : Row) : Type 0 where
   pub long : length (r .sums) ≡ 33
-  pub sums : (m : ℕ) → m ≤ 32 → at (r .sums) m ≡ sum p (λ (i : ℕ). weightAt k m (getD seen i noObservation))
-  pub right : r .right ≡ sum p (λ (i : ℕ). gain k (getD seen i noObservation))
+  pub sums : (m : ℕ) → m ≤ 32 → at (r .sums) m ≡ sum p (λ (i : ℕ). weightAt k m (lineAt seen i))
+  pub right : r .right ≡ sum p (λ (i : ℕ). gain k (lineAt seen i))
 
 pub record Grown (k : ℕ) (l : Observation) (r r′ : Row) : Type 0 where
   pub long : length (r′ .sums) ≡ 33

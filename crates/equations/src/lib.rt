@@ -8,10 +8,11 @@ ghost use Rattle.integer.specs.Finite.{sumℕ};
 ghost use Rattle.linear.specs.Slice.{at};
 ghost use Rattle.linear.specs.Written.{written};
 ghost use Rattle.observation.specs.Distinct.{touches};
-ghost use Rattle.gathering.specs.Gathered.{Proper, Ready};
+ghost use Rattle.gathering.specs.Gathered.{Proper, ProperLines, Ready};
 ghost use Rattle.equations.specs.Written.{widthOf, matrixWritten, rightWritten};
 ghost use Rattle.equations.specs.Kept.{SmallRow, RowSums, Grown, keptMatrix, keptRight};
 use gathering::Gathered;
+use gathering::line_at;
 use observation::Observation;
 
 // How a matrix is laid out: row after row, whole rows or the lower half.
@@ -97,18 +98,16 @@ fn grow(row: Row, k: u32, l: Observation) -> Row
 }
 
 // The row of a mark, summed over the kept lines.
-fn row_of(g: Gathered, k: u32) -> Row
-    requires { ⌜ (k ≤ 32) × Ready g ⌝ }
-    ensures { λ r. ⌜ RowSums (g .seen) k (g .count) r ⌝ }
+fn row_of(seen: &[u32; 1280], count: usize, k: u32) -> Row
+    requires { ⌜ (k ≤ 32) × ProperLines (now seen) count ⌝ }
+    ensures { λ r. ⌜ RowSums (now (seen .entry)) k count r ⌝ }
 {
-    let seen = g.seen;
-    let count = g.count;
     let mut row = Row {
         sums: [0i64; 33],
         right: 0,
     };
     for p in 0..count {
-        let l = seen[p];
+        let l = line_at(seen, p);
         if is_at(l, k) {
             row = grow(row, k, l);
         }
@@ -145,14 +144,16 @@ fn count_of(n: u32) -> usize
 // Writes the equations of the kept lines, row after row.
 pub fn write_equations(g: Gathered, layout: Layout, matrix: &mut [i64], right: &mut [i64])
     requires { ⌜ Ready g ⌝ }
-    requires { ⌜ (sumℕ (g .n) (widthOf layout (g .n)) ≤ length (now matrix)) × (g .n ≤ length (now right)) ⌝ }
-    ensures { λ _. ⌜ (now (matrix .exit) ≡ matrixWritten layout (g .n) (keptMatrix g) (now (matrix .entry)))
-        × (now (right .exit) ≡ rightWritten (g .n) (keptRight g) (now (right .entry))) ⌝ }
+    requires { ⌜ (sumℕ (g .progress .n) (widthOf layout (g .progress .n)) ≤ length (now matrix)) × (g .progress .n ≤ length (now right)) ⌝ }
+    ensures { λ _. ⌜ (now (matrix .exit) ≡ matrixWritten layout (g .progress .n) (keptMatrix g) (now (matrix .entry)))
+        × (now (right .exit) ≡ rightWritten (g .progress .n) (keptRight g) (now (right .entry))) ⌝ }
 {
-    let n = count_of(g.n);
+    let progress = g.progress;
+    let seen = g.seen;
+    let n = count_of(progress.n);
     let mut start = 0;
     for i in 0..n {
-        let row = row_of(g, (i + 1) as u32);
+        let row = row_of(&seen, progress.count, (i + 1) as u32);
         let sums = row.sums;
         let width = width_of(layout, n, i);
         store_row(sums, width, matrix, start);

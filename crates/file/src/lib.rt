@@ -4,15 +4,43 @@ ghost use Prim.Native.Nat.{_+_, _≤_};
 ghost use lib.ListN.{length, drop};
 ghost use Rattle.line_runs.specs.Length.{lineLength};
 ghost use Rattle.file.specs.Read.{ReadAs};
+ghost use Rattle.file.specs.Feeds.{Within};
 use loader::Loader;
 use rules::Outcome;
+
+// Whether one of 16 bytes is a line feed: all are compared, so that they can be compared at once.
+fn has_feed(file: &[u8], at: usize) -> bool
+    requires { ⌜ at + 16 ≤ length (now file) ⌝ }
+    ensures { λ r. ⌜ Within (now (file .entry)) at 16 r ⌝ }
+{
+    let mut found = false;
+    for j in 0..16 {
+        found = found | (file[at + j] == 10);
+    }
+    found
+}
+
+// The place from which on the first line feed is near, or the end of the file: before it, 16 bytes at a time, there is none.
+fn skip_blocks(file: &[u8], at: usize) -> usize
+    requires { ⌜ at ≤ length (now file) ⌝ }
+    ensures { λ r. ⌜ (r + lineLength (drop r (now (file .entry))) ≡ at + lineLength (drop at (now (file .entry)))) × (r ≤ length (now (file .entry))) ⌝ }
+{
+    let mut i = at;
+    while i + 16 <= file.len() {
+        if has_feed(file, i) {
+            return i;
+        }
+        i += 16;
+    }
+    i
+}
 
 // The place of the first line feed from a place on, or the end of the file.
 fn line_end(file: &[u8], at: usize) -> usize
     requires { ⌜ at ≤ length (now file) ⌝ }
     ensures { λ r. ⌜ (r ≡ at + lineLength (drop at (now (file .entry)))) × (r ≤ length (now (file .entry))) ⌝ }
 {
-    let mut i = at;
+    let mut i = skip_blocks(file, at);
     while i < file.len() {
         if file[i] == 10 {
             return i;

@@ -1,14 +1,13 @@
 -- Laws of the adder: what is left at each of its ends.
 --   taken-outside, taken-same, taken-clash, taken-again, taken-new — 3, 16, 17, a line met before, a line with a new key
 --   added-done, added-refused — where nothing is said yet, and where something is
---   opened-as — before any line
+--   opened-as — what is said before any line
 use mathlib.Core.Path.{_≡_, ap, _∙_}
 use mathlib.Core.Bool.{Bool, true, false, cond, _&&_}
 use Prim.Native.Nat.{ℕ, _+_, _<_, _≤_, min}
 use borrow.Author.Tests.{lt-ltb, le-ltb, eq-eqb, ne-eqb}
 use lib.Dec.{eqb, leb}
 use lib.IntN.{pos}
-use lib.ListN.{getD, replicate}
 use Rattle.integer.specs.Finite.{first}
 use Rattle.rules.specs.Range.{inRange}
 use Rattle.rules.specs.declared.Kind.the-variants as kind
@@ -17,24 +16,24 @@ use Rattle.observation.specs.declared.Built.{Built}
 use Rattle.observation.specs.declared.Built.the-variants.{Done, Refused, SameMark, OtherContents}
 use Rattle.gathering.specs.declared.Gathered.{Gathered}
 use Rattle.observation.specs.declared.Observation.{Observation}
-use Rattle.observation.specs.Line.{noObservation, outsideRange, sameContents}
-use Rattle.gathering.specs.Gathered.{places, keyAt, withLines, refusedAs, kept, taken, added, opened, isRefused}
+use Rattle.observation.specs.Line.{outsideRange, sameContents}
+use Rattle.gathering.specs.Gathered.{places, keyAt, lineAt, withLines, refusedAs, kept, taken, added, openedAs, isRefused}
 
 module _ (g : Gathered) (l : Observation) {r : Gathered} where
-  pub taken-outside : outsideRange (g .n) l ≡ true → r ≡ refusedAs g (Refused OutOfRange) → r ≡ taken g l
+  pub taken-outside : outsideRange (g .progress .n) l ≡ true → r ≡ refusedAs g (Refused OutOfRange) → r ≡ taken g l
   unfolding taken
   taken-outside o e = rw o e
 
-  pub taken-same : outsideRange (g .n) l ≡ false → l .«from» ≡ l .to → r ≡ refusedAs g SameMark → r ≡ taken g l
+  pub taken-same : outsideRange (g .progress .n) l ≡ false → l .«from» ≡ l .to → r ≡ refusedAs g SameMark → r ≡ taken g l
   unfolding taken
   taken-same o s e = rw (o, eq-eqb _ _ s) e
 
-  module _ {end at : ℕ} (o : outsideRange (g .n) l ≡ false) (s : l .«from» ≡ l .to → ⊥) (p : end ≡ places (g .count)) (q : at ≡ first end (λ (i : ℕ). eqb (keyAt (g .seen) i) (l .key))) where
-    pub taken-again : at < end → sameContents (getD (g .seen) at noObservation) l ≡ true → r ≡ g → r ≡ taken g l
+  module _ {end at : ℕ} (o : outsideRange (g .progress .n) l ≡ false) (s : l .«from» ≡ l .to → ⊥) (p : end ≡ places (g .progress .count)) (q : at ≡ first end (λ (i : ℕ). eqb (keyAt (g .seen) i) (l .key))) where
+    pub taken-again : at < end → sameContents (lineAt (g .seen) at) l ≡ true → r ≡ g → r ≡ taken g l
     unfolding taken
     taken-again m c e = rw (o, ne-eqb _ _ s, ← p, ← q, lt-ltb at end m, c) e
 
-    pub taken-clash : at < end → sameContents (getD (g .seen) at noObservation) l ≡ false → r ≡ refusedAs g OtherContents → r ≡ taken g l
+    pub taken-clash : at < end → sameContents (lineAt (g .seen) at) l ≡ false → r ≡ refusedAs g OtherContents → r ≡ taken g l
     unfolding taken
     taken-clash m c e = rw (o, ne-eqb _ _ s, ← p, ← q, lt-ltb at end m, c) e
 
@@ -42,15 +41,14 @@ module _ (g : Gathered) (l : Observation) {r : Gathered} where
     unfolding taken
     taken-new m e = rw (o, ne-eqb _ _ s, ← p, ← q, le-ltb at end m) e
 
-  pub added-done : isRefused (g .told) ≡ false → {k : ℕ} → k ≡ min (g .lines + 1) 256 → r ≡ taken (withLines g k) l → r ≡ added g l
+  pub added-done : isRefused (g .progress .told) ≡ false → {k : ℕ} → k ≡ min (g .progress .lines + 1) 256 → r ≡ taken (withLines g k) l → r ≡ added g l
   unfolding added
   added-done d h e = rw d (e ∙ ap (λ (j : ℕ). taken (withLines g j) l) h)
 
-pub added-refused : (g : Gathered) (l : Observation) → isRefused (g .told) ≡ true → g ≡ added g l
+pub added-refused : (g : Gathered) (l : Observation) → isRefused (g .progress .told) ≡ true → g ≡ added g l
 unfolding added
 added-refused g l d = rw d
 
-pub opened-as : (n k : ℕ) {b : Bool} {t : Built} → b ≡ inRange kind.Size (pos n) → cond (b && leb k 256) Done (Refused OutOfRange) ≡ t →
-    record { n = n; count = 0; lines = 0; seen = replicate 256 noObservation; told = t } ≡ opened n k
-unfolding opened
+pub opened-as : (n k : ℕ) {b : Bool} {t : Built} → b ≡ inRange kind.Size (pos n) → cond (b && leb k 256) Done (Refused OutOfRange) ≡ t → t ≡ openedAs n k
+unfolding openedAs
 opened-as n k e d = rw (← e, d)

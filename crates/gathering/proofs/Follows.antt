@@ -9,8 +9,7 @@ use Prim.Native.Nat.{ℕ, suc, _+_, _≤_, _<_, min}
 use native.Mathlib.Omega.{arith}
 use borrow.Author.Tests.{lt-ltb}
 use lib.IntN.{ℤ, _+ℤ_, +ℤ-idr}
-use lib.ListN.{length, set, length-set}
-use lib.Seq.{getD-set-same, getD-set-other}
+use lib.ListN.{length}
 use Rattle.integer.specs.Finite.{sum}
 use Rattle.integer.proofs.Search.{upto}
 use Rattle.integer.proofs.Sum.{sum-next, sum-ext}
@@ -18,45 +17,47 @@ use Rattle.observation.specs.declared.Built.{Built}
 use Rattle.observation.specs.declared.Built.the-variants.{Done}
 use Rattle.gathering.specs.declared.Gathered.{Gathered}
 use Rattle.observation.specs.declared.Observation.{Observation}
-use Rattle.observation.specs.Line.{noObservation, hasKey}
+use Rattle.observation.specs.Line.{hasKey}
 use Rattle.observation.specs.Order.{saidBuilt, observationSays}
-use Rattle.gathering.specs.Gathered.{places, counted, refusedAs, kept, added, keptAt, keptSum}
+use Rattle.gathering.specs.Gathered.{places, withLine, together, counted, refusedAs, kept, added, keptAt, keptSum}
 use Rattle.integer.specs.Among.{Among, here, there}
 use Rattle.observation.specs.Stated.{Passes}
 use Rattle.observation.proofs.Members.{key-here, key-none, clash-free, either}
 use Rattle.observation.proofs.Lines.{line-good}
+use Rattle.observation.proofs.Marks.{inside}
 use Rattle.observation.proofs.Repeat.{share, share-met, share-new}
+use Rattle.gathering.proofs.Places.{with-length, with-other, with-same}
 
 -- a line is kept at a place
 pub record Met (g : Gathered) (e : Observation) : Type 0 where
   pub place : ℕ
-  pub below : place < g .count
+  pub below : place < g .progress .count
   pub is : keptAt g place ≡ e
 
 pub record Follows (n : ℕ) (es : List Observation) (g : Gathered) : Type 0 where
-  pub size : g .n ≡ n
-  pub done : g .told ≡ Done
-  pub long : length (g .seen) ≡ 256
-  pub few : g .count ≤ 256
-  pub lines : g .lines ≡ length es
-  pub among : (p : ℕ) → p < g .count → Among (keptAt g p) es
+  pub size : g .progress .n ≡ n
+  pub done : g .progress .told ≡ Done
+  pub long : length (g .seen) ≡ 1280
+  pub few : g .progress .count ≤ 256
+  pub lines : g .progress .lines ≡ length es
+  pub among : (p : ℕ) → p < g .progress .count → Among (keptAt g p) es
   pub met : (e : Observation) → Among e es → Met g e
   pub one : (d e : Observation) → Among d es → Among e es → d .key ≡ e .key → d ≡ e
   pub good : (e : Observation) → Among e es → Passes n e
 
 pub data Step (n : ℕ) (es : List Observation) (g : Gathered) (l : Observation) : Type 0 where
   refused : (t : Built) (k : ℕ) (ks : List ℕ) → saidBuilt t ≡ k ∷ ks → added g l ≡ refusedAs (counted g) t → observationSays n es l ≡ saidBuilt t → Step n es g l
-  passed : observationSays n es l ≡ [] → Follows n (l ∷ es) (added g l) → ((f : Observation → ℤ) → keptSum f (added g l) ≡ keptSum f g +ℤ share f es l) → added g l .count ≤ suc (g .count) → Step n es g l
+  passed : observationSays n es l ≡ [] → Follows n (l ∷ es) (added g l) → ((f : Observation → ℤ) → keptSum f (added g l) ≡ keptSum f g +ℤ share f es l) → added g l .progress .count ≤ suc (g .progress .count) → Step n es g l
 
-module _ (n : ℕ) (es : List Observation) (g : Gathered) (l : Observation) (fol : Follows n es g) (room : g .count < 256) (early : g .lines < 256) where
-  pub all : g .count ≡ places (g .count)
+module _ (n : ℕ) (es : List Observation) (g : Gathered) (l : Observation) (fol : Follows n es g) (room : g .progress .count < 256) (early : g .progress .lines < 256) where
+  pub all : g .progress .count ≡ places (g .progress .count)
   all = omega (arith, fol .few)
 
-  next : min (g .lines + 1) 256 ≡ length (l ∷ es)
+  next : min (g .progress .lines + 1) 256 ≡ length (l ∷ es)
   next = omega (arith, fol .lines)
 
   -- ---- a line met before, with the same contents
-  pub again : (i : ℕ) → i < g .count → keptAt g i ≡ l → Passes n l → added g l ≡ counted g → Step n es g l
+  pub again : (i : ℕ) → i < g .progress .count → keptAt g i ≡ l → Passes n l → added g l ≡ counted g → Step n es g l
   again i b e good a =
       passed (line-good n es l good (clash-free es l (λ d j k. fol .one d l j in-es k)))
       (subst (Follows n (l ∷ es)) (sym a) (record {
@@ -81,17 +82,17 @@ module _ (n : ℕ) (es : List Observation) (g : Gathered) (l : Observation) (fol
 
   -- ---- a line whose key is new
   abbrev pub grown : Gathered
-  grown = record { n = g .n; count = g .count + 1; lines = min (g .lines + 1) 256; seen = set (g .seen) (g .count) l; told = g .told }
+  grown = together (record { n = g .progress .n; count = g .progress .count + 1; lines = min (g .progress .lines + 1) 256; told = g .progress .told }) (withLine (g .seen) (g .progress .count) l)
 
   pub kept-as : kept (counted g) l ≡ grown
   unfolding kept
-  kept-as = rw (← all, lt-ltb (g .count) 256 room)
+  kept-as = rw (← all, lt-ltb (g .progress .count) 256 room)
 
-  old : (p : ℕ) → p < g .count → keptAt grown p ≡ keptAt g p
-  old p h = getD-set-other (g .seen) (g .count) p l noObservation (λ e. omega (arith, e))
+  old : (p : ℕ) → p < g .progress .count → keptAt grown p ≡ keptAt g p
+  old p h = with-other (g .seen) (g .progress .count) l room p (omega arith) (λ e. omega (arith, e))
 
-  last : keptAt grown (g .count) ≡ l
-  last = getD-set-same (g .seen) (g .count) l noObservation (omega (arith, fol .long))
+  last : Passes n l → keptAt grown (g .progress .count) ≡ l
+  last good = with-same (g .seen) (g .progress .count) l (fol .long) room (inside n l (good .inside) .difference)
 
   pub new : Passes n l → hasKey es (l .key) ≡ false → added g l ≡ grown → Step n es g l
   new good h a =
@@ -99,15 +100,15 @@ module _ (n : ℕ) (es : List Observation) (g : Gathered) (l : Observation) (fol
       (subst (Follows n (l ∷ es)) (sym a) (record {
         size = fol .size;
         done = fol .done;
-        long = length-set (g .seen) (g .count) l ∙ fol .long;
+        long = with-length (g .seen) (g .progress .count) l ∙ fol .long;
         few = omega arith;
         lines = next;
-        among = λ p b. upto (λ (q : ℕ). Among (keptAt grown q) (l ∷ es)) (g .count) p (omega arith) (λ q c. rw (old q c) (there (fol .among q c))) (rw last here);
-        met = λ d j. either j (λ p. record { place = g .count; below = omega arith; is = last ∙ sym p }) (λ k. let m = fol .met d k in record { place = m .place; below = omega (arith, m .below); is = old (m .place) (m .below) ∙ m .is });
+        among = λ p b. upto (λ (q : ℕ). Among (keptAt grown q) (l ∷ es)) (g .progress .count) p (omega arith) (λ q c. rw (old q c) (there (fol .among q c))) (rw (last good) here);
+        met = λ d j. either j (λ p. record { place = g .progress .count; below = omega arith; is = last good ∙ sym p }) (λ k. let m = fol .met d k in record { place = m .place; below = omega (arith, m .below); is = old (m .place) (m .below) ∙ m .is });
         one = one;
         good = λ x j. either j (λ p. subst (Passes n) (sym p) good) (fol .good x);
       }))
-      (λ f. ap (keptSum f) a ∙ sum-next (g .count) (λ (p : ℕ). f (keptAt grown p)) ∙ sums f)
+      (λ f. ap (keptSum f) a ∙ sum-next (g .progress .count) (λ (p : ℕ). f (keptAt grown p)) ∙ sums f)
       (rw a (omega arith))
     where
       one : (x y : Observation) → Among x (l ∷ es) → Among y (l ∷ es) → x .key ≡ y .key → x ≡ y
@@ -115,7 +116,7 @@ module _ (n : ℕ) (es : List Observation) (g : Gathered) (l : Observation) (fol
           either i (λ p. either j (λ q. p ∙ sym q) (λ r. absurd (key-none es y h r (sym k ∙ ap (λ (z : Observation). z .key) p))))
           (λ r. either j (λ q. absurd (key-none es x h r (k ∙ ap (λ (z : Observation). z .key) q))) (λ s. fol .one x y r s k))
 
-      sums : (f : Observation → ℤ) → sum (g .count) (λ (p : ℕ). f (keptAt grown p)) +ℤ f (keptAt grown (g .count)) ≡ keptSum f g +ℤ share f es l
+      sums : (f : Observation → ℤ) → sum (g .progress .count) (λ (p : ℕ). f (keptAt grown p)) +ℤ f (keptAt grown (g .progress .count)) ≡ keptSum f g +ℤ share f es l
       sums f =
-          ap (λ (z : ℤ). z +ℤ f (keptAt grown (g .count))) (sum-ext (g .count) (λ (p : ℕ). f (keptAt grown p)) (λ (p : ℕ). f (keptAt g p)) (λ p b. ap f (old p b)))
-          ∙ ap (λ (z : ℤ). keptSum f g +ℤ z) (ap f last ∙ sym (share-new f es l h))
+          ap (λ (z : ℤ). z +ℤ f (keptAt grown (g .progress .count))) (sum-ext (g .progress .count) (λ (p : ℕ). f (keptAt grown p)) (λ (p : ℕ). f (keptAt g p)) (λ p b. ap f (old p b)))
+          ∙ ap (λ (z : ℤ). keptSum f g +ℤ z) (ap f (last good) ∙ sym (share-new f es l h))

@@ -18,7 +18,7 @@ use Rattle.observation.specs.Line.{noObservation}
 use Rattle.observation.specs.Order.{saidBuilt, observationsSay}
 use Rattle.observation.specs.Refused.{refusedFrom}
 use Rattle.observation.specs.Distinct.{distinctAfter, total}
-use Rattle.gathering.specs.Gathered.{counted, refusedAs, isRefused, taken, added, whenDone, lineOf, gathered, few, keptAt, keptSum}
+use Rattle.gathering.specs.Gathered.{saying, counted, refusedAs, isRefused, taken, added, whenDone, lineOf, gathered, few, keptAt, keptSum}
 use Rattle.observation.specs.Stated.{Passes}
 use Rattle.observation.proofs.Repeat.{share, first}
 use Rattle.gathering.proofs.Follows.{Follows, Step, refused, passed}
@@ -46,10 +46,10 @@ old (Refused r) x y e = refl
 old SameMark x y e = refl
 old OtherContents x y e = refl
 
-still : (g : Gathered) (ls : List Observation) {k : ℕ} {ks : List ℕ} → saidBuilt (g .told) ≡ k ∷ ks → folded g ls ≡ g
+still : (g : Gathered) (ls : List Observation) {k : ℕ} {ks : List ℕ} → saidBuilt (g .progress .told) ≡ k ∷ ks → folded g ls ≡ g
 unfolding folded added
 still g [] e = refl
-still g (l ∷ ls) e = ap (λ (z : Gathered). folded z ls) (old (g .told) (taken (counted g) l) g e) ∙ still g ls e
+still g (l ∷ ls) e = ap (λ (z : Gathered). folded z ls) (old (g .progress .told) (taken (counted g) l) g e) ∙ still g ls e
 
 -- ---- the line that is refused
 line-refused : (t : Built) {k : ℕ} {ks : List ℕ} (j : ℕ) → saidBuilt t ≡ k ∷ ks → j < 256 → cond (isRefused t) (min (j + 1) 256) 0 ≡ j + 1
@@ -60,18 +60,18 @@ line-refused OtherContents j e h = omega arith
 
 -- ---- the lines that are left
 pub record Outcome (n : ℕ) (es ls : List Observation) (g r : Gathered) : Type 0 where
-  pub says : saidBuilt (r .told) ≡ observationsSay n es ls
-  pub line : lineOf r ≡ refusedFrom n (g .lines) es ls
-  pub size : r .n ≡ n
-  pub few : saidBuilt (r .told) ≡ [] → r .count ≤ 256
-  pub good : saidBuilt (r .told) ≡ [] → (p : ℕ) → p < r .count → Passes n (keptAt r p)
-  pub sums : saidBuilt (r .told) ≡ [] → (f : Observation → ℤ) → keptSum f r ≡ keptSum f g +ℤ total f (distinctAfter es ls)
+  pub says : saidBuilt (r .progress .told) ≡ observationsSay n es ls
+  pub line : lineOf r ≡ refusedFrom n (g .progress .lines) es ls
+  pub size : r .progress .n ≡ n
+  pub few : saidBuilt (r .progress .told) ≡ [] → r .progress .count ≤ 256
+  pub good : saidBuilt (r .progress .told) ≡ [] → (p : ℕ) → p < r .progress .count → Passes n (keptAt r p)
+  pub sums : saidBuilt (r .progress .told) ≡ [] → (f : Observation → ℤ) → keptSum f r ≡ keptSum f g +ℤ total f (distinctAfter es ls)
 
-pub gathers : (n : ℕ) (es ls : List Observation) (g : Gathered) → Follows n es g → g .count + length ls ≤ 256 → g .lines + length ls ≤ 256 → Outcome n es ls g (folded g ls)
+pub gathers : (n : ℕ) (es ls : List Observation) (g : Gathered) → Follows n es g → g .progress .count + length ls ≤ 256 → g .progress .lines + length ls ≤ 256 → Outcome n es ls g (folded g ls)
 unfolding folded observationsSay refusedFrom
 gathers n es [] g fol room early = record {
   says = ap saidBuilt (fol .done);
-  line = ap (λ (t : Built). cond (isRefused t) (g .lines) 0) (fol .done);
+  line = ap (λ (t : Built). cond (isRefused t) (g .progress .lines) 0) (fol .done);
   size = fol .size;
   few = λ e. fol .few;
   good = λ e p b. fol .good (keptAt g p) (fol .among p b);
@@ -79,23 +79,23 @@ gathers n es [] g fol room early = record {
 }
 gathers n es (l ∷ ls) g fol room early = go (step n es g l fol (omega arith) (omega arith)) (gathers n (l ∷ es) ls (added g l))
   where
-    go : Step n es g l → (Follows n (l ∷ es) (added g l) → added g l .count + length ls ≤ 256 → added g l .lines + length ls ≤ 256 → Outcome n (l ∷ es) ls (added g l) (folded (added g l) ls)) →
+    go : Step n es g l → (Follows n (l ∷ es) (added g l) → added g l .progress .count + length ls ≤ 256 → added g l .progress .lines + length ls ≤ 256 → Outcome n (l ∷ es) ls (added g l) (folded (added g l) ls)) →
         Outcome n es (l ∷ ls) g (folded (added g l) ls)
     go (refused t k ks e a s) ih =
-        let few : g .lines < 256 = omega (arith, early) in
-        let e₁ : saidBuilt (refusedAs (counted g) t .told) ≡ k ∷ ks = unfold refusedAs in e in
+        let few : g .progress .lines < 256 = omega (arith, early) in
+        let e₁ : saidBuilt (refusedAs (counted g) t .progress .told) ≡ k ∷ ks = unfold saying in e in
         let r : folded (added g l) ls ≡ refusedAs (counted g) t = ap (λ (z : Gathered). folded z ls) a ∙ still (refusedAs (counted g) t) ls e₁ in
-        let j : lineOf (refusedAs (counted g) t) ≡ g .lines + 1 = unfold refusedAs in line-refused t (g .lines) e few in
+        let j : lineOf (refusedAs (counted g) t) ≡ g .progress .lines + 1 = unfold saying in line-refused t (g .progress .lines) e few in
         rw r (record {
           says = e₁ ∙ sym (rw (s, e));
           line = j ∙ sym (rw (s, e));
-          size = unfold refusedAs in fol .size;
+          size = unfold saying in fol .size;
           few = λ p. absurd (nothing-is-not (sym e₁ ∙ p));
           good = λ p. absurd (nothing-is-not (sym e₁ ∙ p));
           sums = λ p. absurd (nothing-is-not (sym e₁ ∙ p));
         })
     go (passed s fol′ sum count) ih =
-        let next : added g l .lines ≡ g .lines + 1 = omega (arith, fol′ .lines, fol .lines) in
+        let next : added g l .progress .lines ≡ g .progress .lines + 1 = omega (arith, fol′ .lines, fol .lines) in
         let o = ih fol′ (omega (arith, count, room)) (omega (arith, fol′ .lines, fol .lines, early)) in
         record {
           says = o .says ∙ sym (rw s);

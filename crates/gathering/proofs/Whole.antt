@@ -26,7 +26,7 @@ use Rattle.observation.specs.Line.{noObservation}
 use Rattle.observation.specs.Order.{saidBuilt, observationsSay}
 use Rattle.observation.specs.Refused.{refusedFrom}
 use Rattle.observation.specs.Distinct.{distinct, total}
-use Rattle.gathering.specs.Gathered.{counted, taken, added, lineOf, gathered, few, opened, keptAt, keptSum, Proper, ReadyWhenDone}
+use Rattle.gathering.specs.Gathered.{counted, taken, added, lineOf, gathered, few, openedAs, opening, noLines, opened, keptAt, keptSum, Proper, ReadyWhenDone}
 use Rattle.observation.specs.Stated.{Passes}
 use Rattle.observation.proofs.Marks.{inside}
 use Rattle.observation.proofs.Members.{nobody}
@@ -34,29 +34,29 @@ use Rattle.gathering.proofs.Follows.{Follows}
 use Rattle.gathering.proofs.Gathering.{folded, gathered-folded, old, Outcome, gathers}
 
 -- ---- the whole list
-still-at : (g : Gathered) (ls : List Observation) (k : ℕ) {j : ℕ} {js : List ℕ} → saidBuilt (g .told) ≡ j ∷ js → gathered g ls k ≡ g
+still-at : (g : Gathered) (ls : List Observation) (k : ℕ) {j : ℕ} {js : List ℕ} → saidBuilt (g .progress .told) ≡ j ∷ js → gathered g ls k ≡ g
 unfolding gathered added
 still-at g ls zero e = refl
-still-at g ls (suc k) e = ap (λ (z : Gathered). added z (getD ls k noObservation)) (still-at g ls k e) ∙ old (g .told) (taken (counted g) (getD ls k noObservation)) g e
+still-at g ls (suc k) e = ap (λ (z : Gathered). added z (getD ls k noObservation)) (still-at g ls k e) ∙ old (g .progress .told) (taken (counted g) (getD ls k noObservation)) g e
 
 few-all : (k : ℕ) → k ≤ 256 → few k ≡ k
 unfolding few
 few-all k h = rw (le-leb k 256 h)
 
-none-yet : (n k : ℕ) → k ≤ 256 → opened n k .count + k ≤ 256
-unfolding opened
+none-yet : (n k : ℕ) → k ≤ 256 → opened n k .progress .count + k ≤ 256
+unfolding opening noLines
 none-yet n k h = omega arith
 
-none-looked : (n k : ℕ) → k ≤ 256 → opened n k .lines + k ≤ 256
-unfolding opened
+none-looked : (n k : ℕ) → k ≤ 256 → opened n k .progress .lines + k ≤ 256
+unfolding opening noLines
 none-looked n k h = omega arith
 
-begun : (n k : ℕ) → opened n k .told ≡ Done → Follows n [] (opened n k)
-unfolding opened
+begun : (n k : ℕ) → opened n k .progress .told ≡ Done → Follows n [] (opened n k)
+unfolding opening noLines
 begun n k d = record {
   size = refl;
   done = d;
-  long = length-replicate 256 noObservation;
+  long = length-replicate {A = ℕ} 1280 0;
   few = omega arith;
   lines = refl;
   among = λ p b. absurd (omega arith);
@@ -75,27 +75,27 @@ module _ (n : ℕ) (ls : List Observation) where
   gatheredOf = gathered (opened n (length ls)) ls (few (length ls))
 
   pub record Whole : Type 0 where
-    pub says : saidBuilt (gatheredOf .told) ≡ orElse (cond (inRange kind.Size (pos n) && leb (length ls) 256) [] (3 ∷ [])) (observationsSay n [] ls)
+    pub says : saidBuilt (gatheredOf .progress .told) ≡ orElse (cond (inRange kind.Size (pos n) && leb (length ls) 256) [] (3 ∷ [])) (observationsSay n [] ls)
     pub line : lineOf gatheredOf ≡ ifAccepted (cond (inRange kind.Size (pos n) && leb (length ls) 256) [] (3 ∷ [])) (refusedFrom n 0 [] ls) 0
-    pub size : gatheredOf .n ≡ n
+    pub size : gatheredOf .progress .n ≡ n
     pub sound : ReadyWhenDone gatheredOf
-    pub sums : saidBuilt (gatheredOf .told) ≡ [] → (f : Observation → ℤ) → keptSum f gatheredOf ≡ total f (distinct ls)
+    pub sums : saidBuilt (gatheredOf .progress .told) ≡ [] → (f : Observation → ℤ) → keptSum f gatheredOf ≡ total f (distinct ls)
 
   pub whole : Whole
   whole = go (inRange kind.Size (pos n) && leb (length ls) 256) refl
     where
-      refusal : (c : Bool) → inRange kind.Size (pos n) && leb (length ls) 256 ≡ c → opened n (length ls) .told ≡ cond c Done (Refused OutOfRange)
-      refusal c e = unfold opened in rw e
+      refusal : (c : Bool) → inRange kind.Size (pos n) && leb (length ls) 256 ≡ c → opened n (length ls) .progress .told ≡ cond c Done (Refused OutOfRange)
+      refusal c e = unfold opening openedAs in rw e
 
       go : (c : Bool) → inRange kind.Size (pos n) && leb (length ls) 256 ≡ c → Whole
       go false e =
           let t = refusal false e in
           let r : gatheredOf ≡ opened n (length ls) = still-at (opened n (length ls)) ls (few (length ls)) (ap saidBuilt t) in
-          let s : saidBuilt (gatheredOf .told) ≡ 3 ∷ [] = ap (λ (z : Gathered). saidBuilt (z .told)) r ∙ ap saidBuilt t in
+          let s : saidBuilt (gatheredOf .progress .told) ≡ 3 ∷ [] = ap (λ (z : Gathered). saidBuilt (z .progress .told)) r ∙ ap saidBuilt t in
           record {
             says = s ∙ sym (rw e);
-            line = ap lineOf r ∙ (unfold opened in rw e);
-            size = ap (λ (z : Gathered). z .n) r ∙ (unfold opened in refl);
+            line = ap lineOf r ∙ (unfold opening openedAs in rw e);
+            size = ap (λ (z : Gathered). z .progress .n) r ∙ (unfold opening in refl);
             sound = record { ready = λ d. absurd (nothing-is-not (sym s ∙ ap saidBuilt d)) };
             sums = λ d. absurd (nothing-is-not (sym s ∙ d));
           }
@@ -116,18 +116,17 @@ module _ (n : ℕ) (ls : List Observation) where
                   record {
                     some = rw (w .size) (z .0);
                     size = rw (w .size) (z .1);
-                    few = w .few q;
-                    proper = λ p b. properOf n (keptAt gatheredOf p) (z .1) (w .good q p b);
+                    lines = record { few = w .few q; proper = λ p b. properOf n (keptAt gatheredOf p) (z .1) (w .good q p b) };
                   };
             };
             sums = λ d f. w .sums d f ∙ ap (λ (x : ℤ). x +ℤ total f (distinct ls)) (none f) ∙ +ℤ-idl (total f (distinct ls));
           }
         where
-          none-before : opened n (length ls) .lines ≡ 0
-          none-before = unfold opened in refl
+          none-before : opened n (length ls) .progress .lines ≡ 0
+          none-before = unfold opening in refl
 
           none : (f : Observation → ℤ) → keptSum f (opened n (length ls)) ≡ pos 0
-          none f = unfold opened in sum-none (λ (p : ℕ). f (keptAt (opened n (length ls)) p))
+          none f = unfold opening in sum-none (λ (p : ℕ). f (keptAt (opened n (length ls)) p))
 
 -- ---- for the loop over the lines
 module _ (g : Gathered) (ls : List Observation) where

@@ -1,8 +1,10 @@
 // The adder (document 02, Paper 3): field lines are taken one after the other, and those whose key is new are kept.
 ghost use mathlib.Core.Path.{_≡_};
-ghost use Prim.Native.Nat.{_+_, min};
-ghost use Rattle.gathering.specs.Gathered.{places, refusedAs, isRefused, added, opened, few, lineOf};
-use integer::first_or;
+ghost use Prim.Native.Nat.{ℕ, _+_, _≤_, _<_, _^_, min};
+ghost use lib.Dec.{eqb};
+ghost use lib.IntN.{pos, natAbs, _+ℤ_, _-ℤ_};
+ghost use Rattle.integer.specs.Finite.{first};
+ghost use Rattle.gathering.specs.Gathered.{places, keyAt, lineAt, withLine, together, saying, isRefused, added, openedAs, opening, noLines, few, lineOf};
 use observation::Built;
 use observation::Observation;
 use observation::has_contents;
@@ -11,13 +13,19 @@ use rules::Kind;
 use rules::Refusal;
 use rules::is_natural_in_range;
 
-// The lines taken so far: those whose key no earlier line has come first in `seen`, `count` of them. `lines` of them were looked at, the refused one among them.
-pub struct Gathered {
+// How far the lines are taken: `count` of them are kept, `lines` of them were looked at, the refused one among them.
+pub struct Progress {
     pub n: u32,
     pub count: usize,
     pub lines: usize,
-    pub seen: [Observation; 256],
     pub told: Built,
+}
+
+// The lines taken so far. Those whose key no earlier line has are kept in `seen`, as numbers, because a list of numbers can be lent to the adder: line p has its key
+// at p, its marks at 256 + p and 512 + p, its difference, counted from the lowest one, at 768 + p, and its weight at 1024 + p.
+pub struct Gathered {
+    pub progress: Progress,
+    pub seen: [u32; 1280],
 }
 
 // How many lines are kept; never above 256, whatever the number says.
@@ -34,15 +42,13 @@ fn next_line(lines: usize) -> usize
     if lines < 256 { lines + 1 } else { 256 }
 }
 
-fn refuse(g: Gathered, told: Built) -> Gathered
-    ensures { λ r. ⌜ r ≡ refusedAs g told ⌝ }
+fn refuse(g: Progress, told: Built) -> Progress
+    ensures { λ r. ⌜ r ≡ saying g told ⌝ }
 {
-    let seen = g.seen;
-    Gathered {
+    Progress {
         n: g.n,
         count: g.count,
         lines: g.lines,
-        seen,
         told,
     }
 }
@@ -59,10 +65,64 @@ fn is_refused(told: Built) -> bool
     }
 }
 
+// A difference counted from the lowest one, and back.
+fn from_lowest(difference: i64) -> u32
+    requires { ⌜ natAbs difference ≤ 2 ^ 16 ⌝ }
+    ensures { λ r. ⌜ r ≡ natAbs (difference +ℤ pos 65536) ⌝ }
+{
+    (difference + 65536) as u32
+}
+
+fn difference_of(counted: u32) -> i64
+    ensures { λ r. ⌜ r ≡ pos counted -ℤ pos 65536 ⌝ }
+{
+    counted as i64 - 65536
+}
+
+// The line that is kept at p.
+pub fn line_at(seen: &[u32; 1280], p: usize) -> Observation
+    requires { ⌜ p < 256 ⌝ }
+    ensures { λ r. ⌜ r ≡ lineAt (now (seen .entry)) p ⌝ }
+{
+    let difference = difference_of(seen[768 + p]);
+    Observation {
+        key: seen[p],
+        from: seen[256 + p],
+        to: seen[512 + p],
+        difference,
+        weight: seen[1024 + p],
+    }
+}
+
+// Keeps a line at p.
+fn keep(seen: &mut [u32; 1280], p: usize, l: Observation)
+    requires { ⌜ (p < 256) × (natAbs (l .difference) ≤ 2 ^ 16) ⌝ }
+    ensures { λ _. ⌜ now (seen .exit) ≡ withLine (now (seen .entry)) p l ⌝ }
+{
+    let counted = from_lowest(l.difference);
+    seen[p] = l.key;
+    seen[256 + p] = l.from;
+    seen[512 + p] = l.to;
+    seen[768 + p] = counted;
+    seen[1024 + p] = l.weight;
+}
+
+// Where the first of the kept lines stands that has this key; `end` where none has.
+fn met_at(seen: &[u32; 1280], end: usize, key: u32) -> usize
+    requires { ⌜ end ≤ 256 ⌝ }
+    ensures { λ r. ⌜ r ≡ first end (λ (i : ℕ). eqb (keyAt (now (seen .entry)) i) key) ⌝ }
+{
+    for i in 0..end {
+        if seen[i] == key {
+            return i;
+        }
+    }
+    end
+}
+
 // The adder: a line more, by the tests in their order, where no line before it is refused; after a refusal no line is looked at. A line whose key is new is kept.
-// The kept lines are searched here: a function of its own for that would be handed a copy of all 256 for every line. `refuse` copies them once for a build.
-pub fn add_observation(mut g: Gathered, l: Observation) -> Gathered
-    ensures { λ r. ⌜ r ≡ added g l ⌝ }
+pub fn add_observation(mut g: Progress, seen: &mut [u32; 1280], l: Observation) -> Progress
+    ensures { λ r. ⌜ together r (now (seen .exit)) ≡ added (together g (now (seen .entry))) l ⌝ }
 {
     let told = g.told;
     if is_refused(told) {
@@ -76,20 +136,15 @@ pub fn add_observation(mut g: Gathered, l: Observation) -> Gathered
         return refuse(g, Built::SameMark);
     }
     let end = places_of(g.count);
-    let mut at = 0;
-    for i in 0..end {
-        let kept = g.seen[i];
-        at = first_or(at, i, kept.key == l.key);
-    }
+    let at = met_at(seen, end, l.key);
     if at < end {
-        let met = g.seen[at];
-        if has_contents(met, l) {
+        if has_contents(line_at(seen, at), l) {
             return g;
         }
         return refuse(g, Built::OtherContents);
     }
     if end < 256 {
-        g.seen[end] = l;
+        keep(seen, end, l);
         g.count = end + 1;
     }
     g
@@ -102,39 +157,47 @@ pub fn few_of(lines: usize) -> usize
     if lines <= 256 { lines } else { 0 }
 }
 
-// Before any line: 3 for n, and for a list above 256.
-pub fn open(n: u32, lines: usize) -> Gathered
-    ensures { λ r. ⌜ r ≡ opened n lines ⌝ }
+// What is said before any line: 3 for n, and for a list above 256.
+fn opened_as(n: u32, lines: usize) -> Built
+    ensures { λ r. ⌜ r ≡ openedAs n lines ⌝ }
 {
-    let seen = [Observation {
-        key: 0,
-        from: 0,
-        to: 0,
-        difference: 0,
-        weight: 0,
-    }; 256];
     if is_natural_in_range(Kind::Size, n) & (lines <= 256) {
-        return Gathered {
-            n,
-            count: 0,
-            lines: 0,
-            seen,
-            told: Built::Done,
-        };
+        return Built::Done;
     }
-    Gathered {
+    Built::Refused(Refusal::OutOfRange)
+}
+
+// Before any line.
+pub fn open(n: u32, lines: usize) -> Progress
+    ensures { λ r. ⌜ r ≡ opening n lines ⌝ }
+{
+    let told = opened_as(n, lines);
+    Progress {
         n,
         count: 0,
         lines: 0,
-        seen,
-        told: Built::Refused(Refusal::OutOfRange),
+        told,
     }
+}
+
+// What is kept before any line.
+pub fn no_lines() -> [u32; 1280]
+    ensures { λ r. ⌜ r ≡ noLines ⌝ }
+{
+    [0u32; 1280]
+}
+
+pub fn as_gathered(progress: Progress, seen: [u32; 1280]) -> Gathered
+    ensures { λ r. ⌜ r ≡ together progress seen ⌝ }
+{
+    Gathered { progress, seen }
 }
 
 // The number, from 1, of the line that is refused; 0 where none is.
 pub fn line_of(g: Gathered) -> usize
     ensures { λ r. ⌜ r ≡ lineOf g ⌝ }
 {
-    let told = g.told;
-    if is_refused(told) { g.lines } else { 0 }
+    let progress = g.progress;
+    let told = progress.told;
+    if is_refused(told) { progress.lines } else { 0 }
 }

@@ -16,14 +16,13 @@ ghost use Rattle.bounds.specs.Limits.{columnSize, limitsOf};
 ghost use Rattle.inverse_bounds.specs.Mirrored.{KnownColumns, Mirrored, MirroredProduct};
 use bounds::store;
 use integer::magnitude;
-use raised_rows::ROWS_LENGTH;
 use raised_rows::raise_rows;
 use raised_rows::row_dot;
 use ratios::bounds_of;
 
 // The size of p_m of column j: where column m is one of the first `known`, read there as that of p_j of column m, else worked out.
 fn size_at(
-    list: &[u64; 1024],
+    list: &[u64],
     across: usize,
     known: usize,
     rows: &[u64],
@@ -34,7 +33,7 @@ fn size_at(
     place: usize,
     n: usize,
 ) -> u64
-    requires { ⌜ (n ≤ 32) × ((m < n) × ((j < n) × (known ≤ j))) ⌝ }
+    requires { ⌜ (n ≤ 32) × ((m < n) × ((j < n) × ((known ≤ j) × (n * n ≤ length (now list))))) ⌝ }
     requires { ⌜ Carried j n m across × (Carried 0 (n + 1) m row × Carried 0 (n + 1) j place) ⌝ }
     requires { ⌜ RaisedRows (now rows) n × RaisedRow (now residuals) (j * (n + 1)) n ⌝ }
     requires { ⌜ KnownColumns (now list) n known (now rows) (now residuals) ⌝ }
@@ -49,7 +48,7 @@ fn size_at(
 
 // The sizes of p = G·r for column j, of which the first `known` are read across the columns before it; they are put in the list after these.
 fn column_sizes(
-    list: &mut [u64; 1024],
+    list: &mut [u64],
     known: usize,
     rows: &[u64],
     residuals: &[u64],
@@ -58,7 +57,7 @@ fn column_sizes(
     start: usize,
     n: usize,
 ) -> [u64; 32]
-    requires { ⌜ (n ≤ 32) × ((j < n) × (known ≤ j)) ⌝ }
+    requires { ⌜ (n ≤ 32) × ((j < n) × ((known ≤ j) × (n * n ≤ length (now list)))) ⌝ }
     requires { ⌜ Carried 0 (n + 1) j place × Carried 0 n j start ⌝ }
     requires { ⌜ RaisedRows (now rows) n × RaisedRow (now residuals) (j * (n + 1)) n ⌝ }
     requires { ⌜ KnownColumns (now list) n known (now rows) (now residuals) ⌝ }
@@ -82,37 +81,37 @@ fn column_sizes(
 }
 
 // Writes the limits of all columns of the inverse, row after row, from their residuals, column after column, and the raised rows of G.
-// Where p of the columns is symmetric, half of it is worked out.
+// Where p of the columns is symmetric, half of it is worked out. The raised residuals and the sizes of p are put in two lists for that.
 pub fn store_columns(
     dst: &mut [u64],
-    rows: &[u64; ROWS_LENGTH],
-    residuals: &[i64; 1024],
+    rows: &[u64],
+    residuals: &[i64],
+    raised: &mut [u64],
+    list: &mut [u64],
     mirrored: bool,
-    margins: [u64; 32],
-    caps: [u64; 32],
+    margins: &[u64; 32],
+    caps: &[u64; 32],
     weights: &[i64],
     n: usize,
 )
-    requires { ⌜ (0 < n) × ((n ≤ 32) × (n * n ≤ length (now dst))) ⌝ }
+    requires { ⌜ (0 < n) × ((n ≤ 32) × ((n * n ≤ length (now dst)) × ((n * (n + 1) ≤ length (now raised)) × (n * n ≤ length (now list))))) ⌝ }
     requires { ⌜ InverseRows (now rows) n ⌝ }
     requires { ⌜ ColumnList (now residuals) (n * n) allowedResidual ⌝ }
     requires { ⌜ (mirrored ≡ true → MirroredProduct (now rows) (now residuals) n) ⌝ }
-    requires { ⌜ Positive margins n ⌝ }
+    requires { ⌜ Positive (now margins) n ⌝ }
     requires { ⌜ ColumnList (now weights) n 1024 ⌝ }
-    requires { ⌜ Caps caps margins (now weights) n ⌝ }
+    requires { ⌜ Caps (now caps) (now margins) (now weights) n ⌝ }
     ensures { λ _. ⌜ now (dst .exit) ≡ columnsWritten (now (dst .entry)) n
-        (λ (i j : ℕ). limitsOf n (now (rows .entry)) (λ (k : ℕ). at (now (residuals .entry)) (j * n + k)) (λ (k : ℕ). 0) margins
-        (now (weights .entry)) i) n ⌝ }
+        (λ (i j : ℕ). limitsOf n (now (rows .entry)) (λ (k : ℕ). at (now (residuals .entry)) (j * n + k)) (λ (k : ℕ). 0)
+        (now (margins .entry)) (now (weights .entry)) i) n ⌝ }
 {
-    let mut raised = [0u64; ROWS_LENGTH];
-    raise_rows(&mut raised, residuals, n);
-    let mut list = [0u64; 1024];
+    raise_rows(raised, residuals, n);
     let mut place = 0;
     let mut start = 0;
     for j in 0..n {
         let known = if mirrored { j } else { 0 };
-        let sizes = column_sizes(&mut list, known, rows, &raised, j, place, start, n);
-        let column = bounds_of(&sizes, &margins, &caps, weights, n);
+        let sizes = column_sizes(list, known, rows, raised, j, place, start, n);
+        let column = bounds_of(&sizes, margins, caps, weights, n);
         store(dst, j, n, column, n);
         place += n + 1;
         start += n;

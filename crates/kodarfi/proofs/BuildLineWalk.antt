@@ -45,9 +45,12 @@ use denote.Triple.Walked.{says}
 use Rattle.observation.specs.declared.Observation.{Observation}
 use Rattle.observation.proofs.Observation as T
 use Rattle.gathering.specs.declared.Gathered.{Gathered}
-use Rattle.gathering.specs.Gathered.{gathered, few, opened, ReadyWhenDone}
+use Rattle.gathering.specs.declared.Progress.{Progress}
+use Rattle.gathering.specs.Gathered.{together, gathered, few, opening, noLines, ReadyWhenDone}
 use Rattle.gathering.proofs.Gathered as S
 use Rattle.gathering.proofs.Gathered.Laws as S′
+use Rattle.gathering.proofs.Progress as P
+use Rattle.gathering.proofs.Progress.Laws as P′
 use Rattle.gathering.proofs.Whole.{gatheredOf, whole}
 use Rattle.gathering.proofs.open as open-fn
 use Rattle.gathering.proofs.open.Symbol.{name as #gathering·open}
@@ -160,21 +163,21 @@ module _ {M : Type 1} (𝓤 : URA M) (H : Heap 𝓤) (A : Atoms 𝓤) (W : Given
   asked-open : ent 𝓤 (onEntry 𝓤 H A open-fn.signature tt tt (n, (k, tt)) (vint w32 n ∷ [], (vint w64 k ∷ [], tt))) (Open 𝓤 H A mem run .pre to-open)
   asked-open = qed W (‵ ftrue ∷ ‵ (owns (u32 ∷ usize ∷ []) (n, (k, tt)) (vint w32 n ∷ [], (vint w64 k ∷ [], tt))) ∷ []) ∵ join ! $ frame ! $ done !
 
-  said-open : (s : Gathered) → ent 𝓤 (ensured 𝓤 H A open-fn.ended (open-fn.clauses 𝓤 H A mem run) tt (n, (k, tt)) tt s) (fact 𝓤 (s ≡ opened n k))
-  said-open s = exE 𝓤 _ (λ ws. snd∗ 𝓤 (sem 𝓤 H A (lasts open-fn.ended tt (n, (k, tt)) ws)) (fact 𝓤 (s ≡ opened n k)))
+  said-open : (s : Progress) → ent 𝓤 (ensured 𝓤 H A open-fn.ended (open-fn.clauses 𝓤 H A mem run) tt (n, (k, tt)) tt s) (fact 𝓤 (s ≡ opening n k))
+  said-open s = exE 𝓤 _ (λ ws. snd∗ 𝓤 (sem 𝓤 H A (lasts open-fn.ended tt (n, (k, tt)) ws)) (fact 𝓤 (s ≡ opening n k)))
 
-  abbrev to-all : Gathered → Val → All 𝓤 H A mem run .Ghost
+  abbrev to-all : Progress → Val → All 𝓤 H A mem run .Ghost
   to-all s v = (((κ, tt), (q, tt), tt, (x, (s, tt)), (sl x ∷ [], (v ∷ [], tt))), tt)
 
-  asked-all : (s : Gathered) (v : Val) → ent 𝓤 (onEntry 𝓤 H A all-fn.signature (κ, tt) (q, tt) (x, (s, tt)) (sl x ∷ [], (v ∷ [], tt))) (All 𝓤 H A mem run .pre (to-all s v))
-  asked-all s v = qed W ((‵ (flft κ q) ⊛ ‵ ftrue) ∷ ‵ (owns (ShrSlice (named 0) κ R ∷ S.the-row ∷ []) (x, (s, tt)) (sl x ∷ [], (v ∷ [], tt))) ∷ []) ∵ join ! $ frame ! $ done !
+  asked-all : (s : Progress) (v : Val) → ent 𝓤 (onEntry 𝓤 H A all-fn.signature (κ, tt) (q, tt) (x, (s, tt)) (sl x ∷ [], (v ∷ [], tt))) (All 𝓤 H A mem run .pre (to-all s v))
+  asked-all s v = qed W ((‵ (flft κ q) ⊛ ‵ ftrue) ∷ ‵ (owns (ShrSlice (named 0) κ R ∷ P.the-row ∷ []) (x, (s, tt)) (sl x ∷ [], (v ∷ [], tt))) ∷ []) ∵ join ! $ frame ! $ done !
 
-  said-all : (s g : Gathered) → ent 𝓤 (ensured 𝓤 H A all-fn.ended (all-fn.clauses 𝓤 H A mem run) (κ, tt) (x, (s, tt)) tt g) (fact 𝓤 (g ≡ gathered s (x .now) (few k)))
-  said-all s g = exE 𝓤 _ (λ ws. snd∗ 𝓤 (sem 𝓤 H A (lasts all-fn.ended (κ, tt) (x, (s, tt)) ws)) (fact 𝓤 (g ≡ gathered s (x .now) (few k))))
+  said-all : (s : Progress) (g : Gathered) → ent 𝓤 (ensured 𝓤 H A all-fn.ended (all-fn.clauses 𝓤 H A mem run) (κ, tt) (x, (s, tt)) tt g) (fact 𝓤 (g ≡ gathered (together s noLines) (x .now) (few k)))
+  said-all s g = exE 𝓤 _ (λ ws. snd∗ 𝓤 (sem 𝓤 H A (lasts all-fn.ended (κ, tt) (x, (s, tt)) ws)) (fact 𝓤 (g ≡ gathered (together s noLines) (x .now) (few k))))
 
   -- what was gathered
-  is-whole : (s g : Gathered) → s ≡ opened n k → g ≡ gathered s (x .now) (few k) → g ≡ gatheredOf n (x .now)
-  is-whole s g p e = e ∙ ap (λ (z : Gathered). gathered z (x .now) (few k)) p
+  is-whole : (s : Progress) (g : Gathered) → s ≡ opening n k → g ≡ gathered (together s noLines) (x .now) (few k) → g ≡ gatheredOf n (x .now)
+  is-whole s g p e = e ∙ ap (λ (z : Progress). gathered (together z noLines) (x .now) (few k)) p
 
   is-sound : (g : Gathered) → g ≡ gatheredOf n (x .now) → ReadyWhenDone g
   is-sound g e = subst ReadyWhenDone (sym e) (whole n (x .now) .sound)
@@ -195,14 +198,17 @@ module _ {M : Type 1} (𝓤 : URA M) (H : Heap 𝓤) (A : Atoms 𝓤) (W : Given
   typed : (s : Gathered) (v : Val) → Is S.the-row s (v ∷ []) → Holds (hasTy S′.mir v) × WT v
   typed s v g = LL.lawful S.the-type S′.the-laws 𝓤 H A W .typed s _ g .0
 
+  typed-far : (s : Progress) (v : Val) → Is P.the-row s (v ∷ []) → Holds (hasTy P′.mir v) × WT v
+  typed-far s v g = LL.lawful P.the-type P′.the-laws 𝓤 H A W .typed s _ g .0
+
   module _ (C : Calls 𝓤 H) (Λ : Loops 𝓤 H) (fm : FmC 𝓤 H (W .laws) C) (known-open : Triple 𝓤 (C #gathering·open) (Open 𝓤 H A mem run)) (known-all : Triple 𝓤 (C #builder·gather) (All 𝓤 H A mem run)) (known-fin : Triple 𝓤 (C #build-reply·finish-told) (Fin 𝓤 H A mem run))
       (rx : Room R (length (x .now))) (rm : Room i64 (length (m .now))) (rr : Room i64 (length (r .now))) (Post : Val → SProp 𝓤) (exits : Exits Post) (l₀ l₁ l₂ l₃ l₄ l₅ l₆ l₇ l₈ l₉ l₁₀ l₁₁ l₁₂ l₁₃ l₁₄ : ℕ) where
     abbrev pub En : Env 𝓤 H
-    En = (word, l₀) ∷ (word, l₁) ∷ (lines, l₂) ∷ (list 1, l₃) ∷ (list 2, l₄) ∷ (line-ref, l₅) ∷ (L′.mir, l₆) ∷ (S′.mir, l₇) ∷ (S′.mir, l₈) ∷ (long, l₉) ∷ (again, l₁₀) ∷ (sliceTy again, l₁₁) ∷ (again, l₁₂) ∷ (sliceTy again, l₁₃) ∷ (again, l₁₄) ∷ []
+    En = (word, l₀) ∷ (word, l₁) ∷ (lines, l₂) ∷ (list 1, l₃) ∷ (list 2, l₄) ∷ (line-ref, l₅) ∷ (L′.mir, l₆) ∷ (P′.mir, l₇) ∷ (S′.mir, l₈) ∷ (long, l₉) ∷ (again, l₁₀) ∷ (sliceTy again, l₁₁) ∷ (again, l₁₂) ∷ (sliceTy again, l₁₃) ∷ (again, l₁₄) ∷ []
 
     abbrev pub At : List (Item 𝓤)
     At = ‵ (froom again l₁₄ 0) ∷ ‵ (fdies again l₁₄) ∷ ‵ (froom (sliceTy again) l₁₃ 0) ∷ ‵ (fdies (sliceTy again) l₁₃) ∷ ‵ (froom again l₁₂ 0) ∷ ‵ (fdies again l₁₂) ∷ ‵ (froom (sliceTy again) l₁₁ 0) ∷ ‵ (fdies (sliceTy again) l₁₁) ∷ ‵ (froom again l₁₀ 0) ∷ ‵ (fdies again l₁₀)
-        ∷ ‵ (froom long l₉ 0) ∷ ‵ (fdies long l₉) ∷ ‵ (froom S′.mir l₈ 0) ∷ ‵ (fdies S′.mir l₈) ∷ ‵ (froom S′.mir l₇ 0) ∷ ‵ (fdies S′.mir l₇) ∷ ‵ (fat fullShare L′.mir l₆ 0 (laid lay)) ∷ ‵ (fdies L′.mir l₆)
+        ∷ ‵ (froom long l₉ 0) ∷ ‵ (fdies long l₉) ∷ ‵ (froom S′.mir l₈ 0) ∷ ‵ (fdies S′.mir l₈) ∷ ‵ (froom P′.mir l₇ 0) ∷ ‵ (fdies P′.mir l₇) ∷ ‵ (fat fullShare L′.mir l₆ 0 (laid lay)) ∷ ‵ (fdies L′.mir l₆)
         ∷ ‵ (fat fullShare line-ref l₅ 0 (pt y)) ∷ ‵ (fdies line-ref l₅) ∷ ‵ (fat fullShare (list 2) l₄ 0 (sl r)) ∷ ‵ (fdies (list 2) l₄) ∷ ‵ (fat fullShare (list 1) l₃ 0 (sl m)) ∷ ‵ (fdies (list 1) l₃)
         ∷ ‵ (fat fullShare lines l₂ 0 (sl x)) ∷ ‵ (fdies lines l₂) ∷ ‵ (fat fullShare word l₁ 0 (vint w32 n)) ∷ ‵ (fdies word l₁) ∷ ‵ (froom word l₀ 0) ∷ ‵ (fdies word l₀)
         ∷ (‵ (flft κ q) ⊛ ‵ (flft κ′ q′) ⊛ ‵ (flft κ″ q″) ⊛ ‵ (flft κ‴ q‴) ⊛ ‵ ftrue)
@@ -215,9 +221,9 @@ module _ {M : Type 1} (𝓤 : URA M) (H : Heap 𝓤) (A : Atoms 𝓤) (W : Given
         nothing ! $ owned ! usize (Is usize) (uint-makes 𝓤 H A W w64) k _ (refl, rx .0) $ fjoin ! $ owned ! u32 (Is u32) (uint-makes 𝓤 H A W w32) n _ (refl, nf) $ fjoin ! $ nothing ! $
         use2 W (raw (Open 𝓤 H A mem run .pre to-open)) asked-open $
         calls-at ! fm (Open 𝓤 H A mem run) known-open to-open (and-then ! (load ! (from ! (stop !)) (look ! 27 refl)) (and-then ! (load ! (from ! (stop !)) (look ! 11 refl)) (no-more !))) (λ v.
-        use1 W (later (some (λ (s : Gathered). (‵ ftrue ⊛ ‵ (S.the-row .own s (v ∷ []))) ⊛ raw (ensured 𝓤 H A open-fn.ended (open-fn.clauses 𝓤 H A mem run) tt (n, (k, tt)) tt s)))) (id⊢ 𝓤 _) $ await ! tt $ pick ! (λ s.
-        split ! $ move ! (1 ∷ []) $ use1 W (raw (fact 𝓤 (s ≡ opened n k))) (said-open s) $ heard ! (s ≡ opened n k) (λ p. split ! $ move ! (1 ∷ []) $
-        peeks ! S.the-row (Is S.the-row) (shows 𝓤 H A S.the-row) s (v ∷ []) (λ is₀. land ! (from ! (stop !)) (init ! 16 refl (typed s v is₀)) $ move ! (1 ∷ []) $ drop ! $
+        use1 W (later (some (λ (s : Progress). (‵ ftrue ⊛ ‵ (P.the-row .own s (v ∷ []))) ⊛ raw (ensured 𝓤 H A open-fn.ended (open-fn.clauses 𝓤 H A mem run) tt (n, (k, tt)) tt s)))) (id⊢ 𝓤 _) $ await ! tt $ pick ! (λ s.
+        split ! $ move ! (1 ∷ []) $ use1 W (raw (fact 𝓤 (s ≡ opening n k))) (said-open s) $ heard ! (s ≡ opening n k) (λ p. split ! $ move ! (1 ∷ []) $
+        peeks ! P.the-row (Is P.the-row) (shows 𝓤 H A P.the-row) s (v ∷ []) (λ is₀. land ! (from ! (stop !)) (init ! 16 refl (typed-far s v is₀)) $ move ! (1 ∷ []) $ drop ! $
         -- [what was opened; _14; …; the tokens; what is owned]
         move ! (32 ∷ []) $ fsplit ! $ drop ! $ fsplit ! $ move ! (1 ∷ []) $ fsplit ! $ move ! (1 ∷ []) $ fsplit ! $ move ! (1 ∷ []) $ fsplit ! $ move ! (1 ∷ []) $ drop ! $
         -- [line; right; matrix; lines; what was opened; _14; …; the tokens]
@@ -228,7 +234,7 @@ module _ {M : Type 1} (𝓤 : URA M) (H : Heap 𝓤) (A : Atoms 𝓤) (W : Given
         use2 W (raw (All 𝓤 H A mem run .pre (to-all s v))) (asked-all s v) $
         calls-at ! fm (All 𝓤 H A mem run) known-all (to-all s v) (and-then ! (load ! (from ! (stop !)) (look ! 30 refl)) (and-then ! (load ! (from ! (stop !)) (look ! 20 refl)) (no-more !))) (λ u.
         use1 W (later (some (λ (g : Gathered). ((‵ (flft κ q) ⊛ ‵ ftrue) ⊛ ‵ (S.the-row .own g (u ∷ []))) ⊛ raw (ensured 𝓤 H A all-fn.ended (all-fn.clauses 𝓤 H A mem run) (κ, tt) (x, (s, tt)) tt g)))) (id⊢ 𝓤 _) $ await ! tt $ pick ! (λ g.
-        split ! $ move ! (1 ∷ []) $ use1 W (raw (fact 𝓤 (g ≡ gathered s (x .now) (few k)))) (said-all s g) $ heard ! (g ≡ gathered s (x .now) (few k)) (λ e. split ! $ move ! (1 ∷ []) $
+        split ! $ move ! (1 ∷ []) $ use1 W (raw (fact 𝓤 (g ≡ gathered (together s noLines) (x .now) (few k)))) (said-all s g) $ heard ! (g ≡ gathered (together s noLines) (x .now) (few k)) (λ e. split ! $ move ! (1 ∷ []) $
         peeks ! S.the-row (Is S.the-row) (shows 𝓤 H A S.the-row) g (u ∷ []) (λ is. land ! (from ! (stop !)) (init ! 19 refl (typed g u is)) $
         -- [what was gathered; the token; the others; lines; line; right; matrix; _14; …]
         assigns ! (addr ! (from ! (fld ! refl (hop ! (look-in ! 29 (sub ! 0 refl (whole-part !))) (stop !))))) (from ! (stop !)) (init ! 15 refl (tt, tt)) $

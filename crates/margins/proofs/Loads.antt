@@ -9,11 +9,12 @@ use Prim.Native.Nat.{ℕ, _+_, _*_, _-_, _/_, _%_, _≤_, _<_, _^_}
 use native.Mathlib.Omega.{arith}
 use native.Mathlib.Nat.{mul-le-mul}
 use lib.IntN.{ℤ, pos, natAbs}
+use lib.ListN.{length}
 use Rattle.integer.specs.Finite.{sumℕ}
 use Rattle.integer.proofs.Sum.{sumℕ-ext, sumℕ≤}
 use Rattle.linear.specs.Matrix.{product}
 use Rattle.linear.specs.Slice.{at}
-use Rattle.linear.specs.Reach.{Within, ColumnList, MatrixList}
+use Rattle.linear.specs.Reach.{ColumnList, MatrixList}
 use Rattle.linear.proofs.Places.{place, place-column, place-row}
 use Rattle.enclosure.specs.Problem.{problemOf}
 use Rattle.enclosure.specs.Reckoning.{defect, load, residual}
@@ -41,10 +42,11 @@ module _ (n t : ℕ) (matrix inverse : List ℤ) where
       begins-as (pos 0) (λ (i : ℕ). columnResidual n t matrix inverse (i / n) (i % n)) (λ (i : ℕ). defect (problemOf n 0 t matrix [] [] [] inverse []) (i / n) (i % n))
       (λ i l. residual-defect a g (i / n) (i % n) (in-square n i l .0) (in-square n i l .1)) h
 
-  pub defects-within : {defects : List ℤ} → t ≤ 20 → n ≤ 32 → MatrixList matrix n → MatrixList inverse n → DefectList defects n t matrix inverse →
-      Within defects (n * n) (2 ^ 46)
-  defects-within ht few hm hi h = record {
-    size = λ i l. rw (h .each i l) (defect-size n t matrix inverse ht few hm hi (i / n) (i % n) (in-square n i l .0) (in-square n i l .1));
+  pub defects-within : {defects : List ℤ} → t ≤ 20 → n ≤ 32 → MatrixList matrix n → MatrixList inverse n → n * n ≤ length defects →
+      DefectList defects n t matrix inverse → ColumnList defects (n * n) (2 ^ 46)
+  defects-within ht few hm hi long h = record {
+    long = long;
+    within = record { size = λ i l. rw (h .each i l) (defect-size n t matrix inverse ht few hm hi (i / n) (i % n) (in-square n i l .0) (in-square n i l .1)) };
   }
 
   defect-at : {defects : List ℤ} → DefectList defects n t matrix inverse → (m j : ℕ) → m < n → j < n →
@@ -59,9 +61,9 @@ module _ (n t : ℕ) (matrix inverse : List ℤ) where
       (λ m lm. ap (λ (x : ℕ). 2 ^ t * natAbs (at weights m) - x) (sumℕ-ext n _ _ (λ j lj. ap (λ (z : ℤ). natAbs z * natAbs (at weights j)) (defect-at h m j lm lj))))
 
 -- ---- sizes of the terms
-module _ {defects weights : List ℤ} {n m : ℕ} (d : Within defects (n * n) (2 ^ 46)) (w : ColumnList weights n 1024) (lm : m < n) where
+module _ {defects weights : List ℤ} {n m : ℕ} (d : ColumnList defects (n * n) (2 ^ 46)) (w : ColumnList weights n 1024) (lm : m < n) where
   term-size : (j : ℕ) → j < n → natAbs (at defects (m * n + j)) * natAbs (at weights j) ≤ 2 ^ 56
-  term-size j l = mul-le-mul (d .size (m * n + j) (place lm l)) (w .within .size j l)
+  term-size j l = mul-le-mul (d .within .size (m * n + j) (place lm l)) (w .within .size j l)
 
   pub load-size : {sum : ℕ} (j : ℕ) → n ≤ 32 → j ≤ n → sum ≡ sumℕ j (λ (k : ℕ). natAbs (at defects (m * n + k)) * natAbs (at weights k)) → sum ≤ 2 ^ 62
   load-size j few l e =

@@ -5,11 +5,11 @@ ghost use mathlib.Core.List.{[]};
 ghost use Prim.Native.Nat.{ℕ, _+_, _*_, _-_, _/_, _%_, _≤_, _<_, _^_};
 ghost use lib.Dec.{eqb};
 ghost use lib.IntN.{pos, natAbs};
-ghost use lib.ListN.{getD};
+ghost use lib.ListN.{getD, length};
 ghost use Rattle.integer.specs.Finite.{first};
 ghost use Rattle.linear.specs.Slice.{at};
 ghost use Rattle.linear.specs.Place.{Carried};
-ghost use Rattle.linear.specs.Reach.{Within, ColumnList, MatrixList};
+ghost use Rattle.linear.specs.Reach.{ColumnList, MatrixList};
 ghost use Rattle.reckoning.specs.Arrays.{Begins};
 ghost use Rattle.enclosure.specs.Problem.{problemOf};
 ghost use Rattle.reckoning.specs.Parts.{columnResidual, cutMargin};
@@ -29,9 +29,9 @@ fn weigh(sum: u64, d: i64, w: i64) -> u64
 }
 
 // Term j of a load, where d is number j of the row of D that starts at place row, by way of the place that was carried to it.
-fn weigh_at(sum: u64, defects: &[i64; 1024], row: usize, place: usize, w: i64, j: usize) -> u64
+fn weigh_at(sum: u64, defects: &[i64], row: usize, place: usize, w: i64, j: usize) -> u64
     requires { ⌜ Carried row 1 j place ⌝ }
-    requires { ⌜ (row + j < 1024) × (natAbs (at (now defects) (row + j)) ≤ 2 ^ 46) ⌝ }
+    requires { ⌜ (row + j < length (now defects)) × (natAbs (at (now defects) (row + j)) ≤ 2 ^ 46) ⌝ }
     requires { ⌜ (sum ≤ 2 ^ 62) × (natAbs w ≤ 1024) ⌝ }
     ensures { λ r. ⌜ r ≡ sum + natAbs (at (now (defects .entry)) (row + j)) * natAbs w ⌝ }
 {
@@ -39,9 +39,9 @@ fn weigh_at(sum: u64, defects: &[i64; 1024], row: usize, place: usize, w: i64, j
 }
 
 // The sum over j of |D_mj|·w_j; D stands row after row, row m from place row on.
-fn load_of(defects: &[i64; 1024], weights: &[i64], n: usize, m: usize, row: usize) -> u64
+fn load_of(defects: &[i64], weights: &[i64], n: usize, m: usize, row: usize) -> u64
     requires { ⌜ (n ≤ 32) × ((m < n) × Carried 0 n m row) ⌝ }
-    requires { ⌜ Within (now defects) (n * n) (2 ^ 46) ⌝ }
+    requires { ⌜ ColumnList (now defects) (n * n) (2 ^ 46) ⌝ }
     requires { ⌜ ColumnList (now weights) n 1024 ⌝ }
     ensures { λ r. ⌜ r ≡ loadFrom n (now (defects .entry)) (now (weights .entry)) m ⌝ }
 {
@@ -55,9 +55,9 @@ fn load_of(defects: &[i64; 1024], weights: &[i64], n: usize, m: usize, row: usiz
 }
 
 // The margin of row m, 0 where it is 0 or less.
-fn margin_of(t: u32, defects: &[i64; 1024], weights: &[i64], n: usize, m: usize, row: usize) -> u64
+fn margin_of(t: u32, defects: &[i64], weights: &[i64], n: usize, m: usize, row: usize) -> u64
     requires { ⌜ (t ≤ 20) × ((n ≤ 32) × ((m < n) × Carried 0 n m row)) ⌝ }
-    requires { ⌜ Within (now defects) (n * n) (2 ^ 46) ⌝ }
+    requires { ⌜ ColumnList (now defects) (n * n) (2 ^ 46) ⌝ }
     requires { ⌜ ColumnList (now weights) n 1024 ⌝ }
     ensures { λ r. ⌜ r ≡ 2 ^ t * natAbs (at (now (weights .entry)) m) - loadFrom n (now (defects .entry)) (now (weights .entry)) m ⌝ }
 {
@@ -67,9 +67,9 @@ fn margin_of(t: u32, defects: &[i64; 1024], weights: &[i64], n: usize, m: usize,
 }
 
 // The margins of all rows, from D, row after row.
-fn margins_from(t: u32, defects: &[i64; 1024], weights: &[i64], n: usize) -> [u64; 32]
+fn margins_from(t: u32, defects: &[i64], weights: &[i64], n: usize) -> [u64; 32]
     requires { ⌜ (t ≤ 20) × (n ≤ 32) ⌝ }
-    requires { ⌜ Within (now defects) (n * n) (2 ^ 46) ⌝ }
+    requires { ⌜ ColumnList (now defects) (n * n) (2 ^ 46) ⌝ }
     requires { ⌜ ColumnList (now weights) n 1024 ⌝ }
     ensures { λ r. ⌜ Begins 0 r n
         (λ (m : ℕ). 2 ^ t * natAbs (at (now (weights .entry)) m) - loadFrom n (now (defects .entry)) (now (weights .entry)) m) ⌝ }
@@ -88,12 +88,12 @@ pub fn margins_of(
     t: u32,
     matrix: &[i64],
     inverse: &[i64],
-    columns: &[i64; 1024],
+    columns: &[i64],
     mirrored: bool,
     weights: &[i64],
     n: usize,
 ) -> [u64; 32]
-    requires { ⌜ (t ≤ 20) × (n ≤ 32) ⌝ }
+    requires { ⌜ (t ≤ 20) × ((n ≤ 32) × (n * n ≤ length (now columns))) ⌝ }
     requires { ⌜ MatrixList (now matrix) n ⌝ }
     requires { ⌜ MatrixList (now inverse) n ⌝ }
     requires { ⌜ Begins (pos 0) (now columns) (n * n) (λ (i : ℕ). columnResidual n t (now matrix) (now inverse) (i / n) (i % n)) ⌝ }
@@ -109,9 +109,9 @@ pub fn margins_of(
 }
 
 // The first margin that is 0; n where there is none.
-pub fn first_zero(margins: [u64; 32], n: usize) -> usize
+pub fn first_zero(margins: &[u64; 32], n: usize) -> usize
     requires { ⌜ n ≤ 32 ⌝ }
-    ensures { λ r. ⌜ r ≡ first n (λ (m : ℕ). eqb (getD margins m 0) 0) ⌝ }
+    ensures { λ r. ⌜ r ≡ first n (λ (m : ℕ). eqb (getD (now (margins .entry)) m 0) 0) ⌝ }
 {
     let mut found = 0;
     for m in 0..n {

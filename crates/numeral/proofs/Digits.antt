@@ -19,7 +19,7 @@ use Rattle.numeral.proofs.Decimal.{decimal-small, decimal-induction}
 abbrev pub Stops : List ℕ → Type 0
 Stops t = 10 ≤ digitOf (getD t 0 0)
 
-digit-of : (d : ℕ) → d < 10 → digitOf (48 + d) ≡ d
+pub digit-of : (d : ℕ) → d < 10 → digitOf (48 + d) ≡ d
 digit-of d h = rw (le-ltb (48 + d) 48 (omega arith), lt-ltb (48 + d) 58 (omega arith)) (omega arith)
 
 pub digit-byte : (b : ℕ) → digitOf b < 10 → b ≡ 48 + digitOf b

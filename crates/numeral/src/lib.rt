@@ -30,10 +30,8 @@ pub fn byte_at(s: &[u8], at: usize) -> u8
 fn digit(b: u8) -> u64
     ensures { λ r. ⌜ (r ≡ digitOf b) × (r ≤ 10) ⌝ }
 {
-    if b < b'0' {
-        return 10;
-    }
-    if b < 58 { (b - b'0') as u64 } else { 10 }
+    let d = std::num::wrapping_sub_u8(b, b'0');
+    if d < 10 { d as u64 } else { 10 }
 }
 
 // At most 2^40, so that no further digit wraps.

@@ -69,16 +69,19 @@ long-enough I h =
     ) refl
 
 pub lengths-asked : document.LengthsAsked
-lengths-asked I = (λ e. let h = long-of I e in record {
-  matrix = h .matrix;
-  right = h .right;
-  tolerance = h .tolerance;
-  guess = h .guess;
-  inverse = h .inverse;
-  weights = h .weights;
-  solution = h .solution;
-  inverses = h .inverses;
-}, long-enough I)
+lengths-asked I = (
+  λ e. let h = long-of I e in record {
+    matrix = h .matrix;
+    right = h .right;
+    tolerance = h .tolerance;
+    guess = h .guess;
+    inverse = h .inverse;
+    weights = h .weights;
+    solution = h .solution;
+    inverses = h .inverses;
+  },
+  long-enough I,
+)
 
 pub rest-not-read : document.RestNotRead
 rest-not-read I J r r′ E L E′ L′ a x y = (

@@ -42,8 +42,7 @@ pub reports-place : paper.ReportsPlace
 unfolding weightsAfter
 reports-place Q r weights x e =
     let z = sym (x .says) ∙ e in
-    let u = found-usable Q z in
-    (
+    let u = found-usable Q z in (
       count-first Q r weights x e,
       λ i l. rw (x .weights-are, z) (front-at (Q .weights) (λ (i : ℕ). pos (tried (searchProblem Q) (passed Q) i)) (pos 0) (Q .n) i l (fit-of Q (u .long) (u .inside) .long)),
     )

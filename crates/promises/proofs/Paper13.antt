@@ -18,8 +18,7 @@ pub common-ends : paper.CommonEnds
 unfolding lowAfter highAfter lowEnd highEnd
 common-ends Q r low high x e i l =
     let z = sym (x .says) ∙ e in
-    let c = found-case Q z in
-    (
+    let c = found-case Q z in (
       rw (x .low-is, z) (front-at (Q .low) (lowEnd (Q .first) (Q .second)) (pos 0) (Q .first .n) i l (long-low Q (c .long) (c .first))),
       rw (x .high-is, z) (front-at (Q .high) (highEnd (Q .first) (Q .second)) (pos 0) (Q .first .n) i l (long-high Q (c .long) (c .first))),
     )

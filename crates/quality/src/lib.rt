@@ -110,7 +110,7 @@ fn rate(n: usize, t: u32, matrix: &[i64], inverse: &[i64], weights: &[i64]) -> Q
     ensures { λ r. ⌜ QualityAs (inquiry n t (now (matrix .entry)) (now (inverse .entry)) (now (weights .entry))) r ⌝ }
 {
     let margins = margins_for(t, matrix, inverse, weights, n);
-    let low = first_zero(margins, n);
+    let low = first_zero(&margins, n);
     if low < n {
         return Quality::Refused(Refusal::Margin(low as u32 + 1));
     }

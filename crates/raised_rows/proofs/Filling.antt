@@ -1,7 +1,7 @@
 -- RowsOf as they are filled.
 --   RowPart — k numbers of a row stand from place p on; nothing below p has changed
 --   part-none, part-more, part-end — at none, one number more, and with the sum after them;  part-whole — at the end;  part-sum — the sum so far
---   row-kept — a row below a place that nothing below changes;  row-below, rows-room — where rows end;  rows-none, rows-more, rows-end — for the loop over rows
+--   row-kept — a row below a place that nothing below changes;  row-below, rows-room, rows-fit — where rows end, and how long a list holds them;  rows-none, rows-more, rows-end — for the loop over rows
 use mathlib.Core.List.{List}
 use mathlib.Core.Path.{_≡_, refl, sym, subst, _∙_}
 use Prim.Native.Nat.{ℕ, _+_, _*_, _≤_, _<_, _^_}
@@ -94,6 +94,9 @@ row-below n l = omega (arith, mul-le-mul-right (n + 1) l)
 
 pub rows-room : {i n : ℕ} → i < n → n ≤ 32 → i * (n + 1) + n < 1056
 rows-room {i} {n} l few = omega (arith, row-below n l, square few)
+
+pub rows-fit : {n : ℕ} → n ≤ 32 → n * (n + 1) ≤ 1056
+rows-fit few = omega (arith, square few)
 
 pub rows-none : (xs : List ℕ) (n : ℕ) (f : ℕ → ℕ → ℤ) → RowsOf xs n 0 f
 rows-none xs n f = record { each = λ i l. absurd (omega arith) }

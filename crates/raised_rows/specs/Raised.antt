@@ -8,7 +8,6 @@
 --   RowOf xs p n f — a row that stands for f 0, .., f (n − 1)
 --   RowsOf xs n m f — m such rows one after another, row i for f i 0, .., f i (n − 1)
 --   Kept xs ys p  — as long as before, and the same below place p
---   rowsLength    — how long a list for 32 rows is
 use mathlib.Core.Path.{_≡_}
 use mathlib.Core.List.{List}
 use Prim.Native.Nat.{ℕ, _+_, _*_, _≤_, _<_, _^_}
@@ -19,9 +18,6 @@ use Rattle.linear.specs.Matrix.{Mat}
 
 abbrev pub raisedBy : ℕ
 raisedBy = 2 ^ 25
-
-abbrev pub rowsLength : ℕ
-rowsLength = 32 * 33
 
 unfoldable pub lowered : ℕ → ℤ
 lowered x = pos x -ℤ pos raisedBy

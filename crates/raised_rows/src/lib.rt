@@ -8,7 +8,7 @@ ghost use Rattle.integer.specs.Finite.{sumℕ};
 ghost use Rattle.linear.specs.Slice.{at};
 ghost use Rattle.linear.specs.Place.{Carried};
 ghost use Rattle.linear.specs.Reach.{Reach, ColumnList};
-ghost use Rattle.raised_rows.specs.Raised.{raisedBy, rowsLength, lowered, Small, RaisedRow, rowDot, RowOf, RowsOf, Kept};
+ghost use Rattle.raised_rows.specs.Raised.{raisedBy, lowered, Small, RaisedRow, rowDot, RowOf, RowsOf, Kept};
 ghost use Rattle.raised_rows.specs.Place.{RowsOfMatrix, ColumnsOfMatrix};
 
 // What is added to a number to raise it, 2^25, and its square.
@@ -134,7 +134,7 @@ pub fn raise_row(out: &mut [u64], place: usize, xs: &[i64], start: usize, stride
 
 // Raises n rows of n numbers one after another, each a step after the one before.
 fn raise_all(out: &mut [u64], xs: &[i64], step: usize, stride: usize, n: usize)
-    requires { ⌜ (n ≤ 32) × ((step ≤ 32) × ((stride ≤ 32) × (rowsLength ≤ length (now out)))) ⌝ }
+    requires { ⌜ (n ≤ 32) × ((step ≤ 32) × ((stride ≤ 32) × (n * (n + 1) ≤ length (now out)))) ⌝ }
     requires { ⌜ ((i : ℕ) → i < n → Reach (now xs) (i * step) stride n raisedBy) ⌝ }
     ensures { λ _. ⌜ RowsOf (now (out .exit)) n n (λ (i k : ℕ). at (now (xs .entry)) (i * step + k * stride)) ⌝ }
 {
@@ -149,7 +149,7 @@ fn raise_all(out: &mut [u64], xs: &[i64], step: usize, stride: usize, n: usize)
 
 // Raises the rows of a matrix: row i starts at i·n and has stride 1.
 pub fn raise_rows(out: &mut [u64], xs: &[i64], n: usize)
-    requires { ⌜ (n ≤ 32) × (rowsLength ≤ length (now out)) ⌝ }
+    requires { ⌜ (n ≤ 32) × (n * (n + 1) ≤ length (now out)) ⌝ }
     requires { ⌜ ColumnList (now xs) (n * n) raisedBy ⌝ }
     ensures { λ _. ⌜ RowsOfMatrix (now (out .exit)) n (now (xs .entry)) ⌝ }
 {
@@ -158,7 +158,7 @@ pub fn raise_rows(out: &mut [u64], xs: &[i64], n: usize)
 
 // Raises the columns of a matrix: column j starts at j and has stride n.
 pub fn raise_columns(out: &mut [u64], xs: &[i64], n: usize)
-    requires { ⌜ (n ≤ 32) × (rowsLength ≤ length (now out)) ⌝ }
+    requires { ⌜ (n ≤ 32) × (n * (n + 1) ≤ length (now out)) ⌝ }
     requires { ⌜ ColumnList (now xs) (n * n) raisedBy ⌝ }
     ensures { λ _. ⌜ ColumnsOfMatrix (now (out .exit)) n (now (xs .entry)) ⌝ }
 {

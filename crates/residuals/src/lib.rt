@@ -11,7 +11,6 @@ ghost use Rattle.linear.specs.Reach.{ColumnList, MatrixList};
 ghost use Rattle.enclosure.specs.Reckoning.{allowedResidual};
 ghost use Rattle.reckoning.specs.Arrays.{Begins, firstFrom};
 ghost use Rattle.reckoning.specs.Parts.{residualFrom, aboveAllowed};
-use integer::first_or;
 use integer::power;
 use linear::dot;
 
@@ -48,12 +47,12 @@ fn difference(base: i64, a: &[i64], k: usize, p: usize, x: &[i64], n: usize) -> 
 }
 
 // The residuals of a guess: a base less A·X.
-pub fn residuals_of(base: [i64; 32], matrix: &[i64], guess: &[i64], n: usize) -> [i64; 32]
+pub fn residuals_of(base: &[i64; 32], matrix: &[i64], guess: &[i64], n: usize) -> [i64; 32]
     requires { ⌜ n ≤ 32 ⌝ }
-    requires { ⌜ ColumnList base n (2 ^ 62) ⌝ }
+    requires { ⌜ ColumnList (now base) n (2 ^ 62) ⌝ }
     requires { ⌜ MatrixList (now matrix) n ⌝ }
     requires { ⌜ ColumnList (now guess) n (2 ^ 36) ⌝ }
-    ensures { λ r. ⌜ Begins (pos 0) r n (residualFrom n base (now (matrix .entry)) (now (guess .entry))) ⌝ }
+    ensures { λ r. ⌜ Begins (pos 0) r n (residualFrom n (now (base .entry)) (now (matrix .entry)) (now (guess .entry))) ⌝ }
 {
     let mut out = [0i64; 32];
     let mut row = 0;
@@ -81,13 +80,14 @@ pub fn first_above(residuals: &[i64], start: usize, allowed: &[i64; 32], n: usiz
     requires { ⌜ ColumnList (now allowed) n allowedResidual ⌝ }
     ensures { λ r. ⌜ r ≡ first n (λ (k : ℕ). aboveAllowed (at (now (allowed .entry)) k) (at (now (residuals .entry)) (start + k))) ⌝ }
 {
-    let mut found = 0;
     let mut place = start;
     for k in 0..n {
-        found = first_or(found, k, is_above(allowed[k], residuals[place]));
+        if is_above(allowed[k], residuals[place]) {
+            return k;
+        }
         place += 1;
     }
-    found
+    n
 }
 
 // One step of a search part by part: found, the first below start; next, the first of those from start on.
@@ -99,8 +99,8 @@ fn first_from(found: usize, start: usize, next: usize) -> usize
 }
 
 // The first residual, column after column, that is above what its row allows; n·n where there is none.
-pub fn first_above_in_columns(columns: &[i64; 1024], allowed: &[i64; 32], n: usize) -> usize
-    requires { ⌜ n ≤ 32 ⌝ }
+pub fn first_above_in_columns(columns: &[i64], allowed: &[i64; 32], n: usize) -> usize
+    requires { ⌜ (n ≤ 32) × (n * n ≤ length (now columns)) ⌝ }
     requires { ⌜ ColumnList (now allowed) n allowedResidual ⌝ }
     ensures { λ r. ⌜ r ≡ first (n * n) (λ (i : ℕ). aboveAllowed (at (now (allowed .entry)) (i % n)) (at (now (columns .entry)) i)) ⌝ }
 {

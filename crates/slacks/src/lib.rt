@@ -52,9 +52,9 @@ fn allowed_at(slack: u64, sum: u64) -> i64
 }
 
 // How large each residual may be, row by row.
-pub fn allowed_of(slacks: [u64; 32], sums: [u64; 32], n: usize) -> [i64; 32]
+pub fn allowed_of(slacks: &[u64; 32], sums: &[u64; 32], n: usize) -> [i64; 32]
     requires { ⌜ n ≤ 32 ⌝ }
-    ensures { λ r. ⌜ Begins (pos 0) r n (λ (k : ℕ). allowedBeside (getD slacks k 0) (getD sums k 0)) ⌝ }
+    ensures { λ r. ⌜ Begins (pos 0) r n (λ (k : ℕ). allowedBeside (getD (now (slacks .entry)) k 0) (getD (now (sums .entry)) k 0)) ⌝ }
 {
     let mut out = [0i64; 32];
     for k in 0..n {

@@ -26,7 +26,8 @@ pub fn defect_sizes(t: u32, matrix: &[i64], inverse: &[i64], n: usize) -> [u64; 
 {
     let mut rows = [0u64; ROWS_LENGTH];
     raise_rows(&mut rows, matrix, n);
-    let columns = inverse_residuals_of(t, inverse, &rows, n);
+    let mut columns = [0i64; 1024];
+    inverse_residuals_of(&mut columns, t, inverse, &rows, n);
     let mut out = [0u64; 1024];
     for i in 0..n * n {
         out[i] = magnitude(columns[i]);
@@ -116,7 +117,7 @@ pub fn is_good(t: u32, loads: &[u64; 32], weights: &[u64; 32], n: usize) -> bool
     requires { ⌜ Below (now weights) n 1024 ⌝ }
     ensures { λ r. ⌜ r ≡ leb n (first n (λ (m : ℕ). eqb (storedMargin t (now (loads .entry)) (now (weights .entry)) m) 0)) ⌝ }
 {
-    n <= first_zero(margins_from(t, loads, weights, n), n)
+    n <= first_zero(&margins_from(t, loads, weights, n), n)
 }
 
 fn larger(a: u64, b: u64) -> u64

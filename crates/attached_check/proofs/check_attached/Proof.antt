@@ -82,22 +82,22 @@ coupled c =
 
 -- what is handed to the reckoning
 abbrev place : tie.After-allowed-of2 → tie.Then6
-place z = z .before .before .before .before .before .before .before
+place z = z .before .before .before .before .before .before .before .before .before .before .before
 
 handed : (z : tie.After-allowed-of2) →
     Handed (start6 (place z) .args .marks) (start6 (place z) .args .main-guess .now) (start6 (place z) .args .main-limits) (start6 (place z) .args .coupling .now) (I (start6 (place z)))
-    (z .before .before .before .before .before .before .scaled-right .result) (z .before .before .before .before .before .base-of .result) (z .before .before .before .before .slacks-of .result)
-    (z .before .before .before .slacks-with .result) (z .before .allowed-of .result) (z .before .before .row-sums-of .result) (z .allowed-of2 .result)
+    (z .before .before .before .before .before .before .before .before .before .before .scaled-right .result) (z .before .before .before .before .before .before .before .before .before .base-of .result) (z .before .before .before .before .before .before .before .before .slacks-of .result)
+    (z .before .before .before .before .before .before .before .slacks-with .result) (z .before .before .before .allowed-of .result) (z .before .before .before .before .before .before .row-sums-of .result) (z .allowed-of2 .result)
 handed z = record {
   scaled-long = search needs;
-  scaled = z .before .before .before .before .before .before .scaled-right .ensures;
+  scaled = z .before .before .before .before .before .before .before .before .before .before .scaled-right .ensures;
   base-long = search needs;
-  base = z .before .before .before .before .before .base-of .ensures;
-  own = z .before .before .before .before .slacks-of .ensures;
-  slacks = z .before .before .before .slacks-with .ensures;
+  base = z .before .before .before .before .before .before .before .before .before .base-of .ensures;
+  own = z .before .before .before .before .before .before .before .before .slacks-of .ensures;
+  slacks = z .before .before .before .before .before .before .before .slacks-with .ensures;
   allowed-long = search needs;
-  allowed = z .before .allowed-of .ensures;
-  sums = z .before .before .row-sums-of .ensures;
+  allowed = z .before .before .before .allowed-of .ensures;
+  sums = z .before .before .before .before .before .before .row-sums-of .ensures;
   in-columns-long = search needs;
   in-columns = z .allowed-of2 .ensures;
 }
@@ -160,14 +160,14 @@ row-sums-of-requires c κs =
     let x = fit (c .before .before .before .before) in (x .few, x .matrix)
 
 allowed-of-requires : tie.Need-allowed-of-requires
-allowed-of-requires c κs = fit (c .before .before .before .before .before) .few
+allowed-of-requires c κs = fit (c .before .before .before .before .before .before .before) .few
 
 allowed-of-requires-2 : tie.Need-allowed-of-requires-2
-allowed-of-requires-2 c κs = fit (c .before .before .before .before .before .before) .few
+allowed-of-requires-2 c κs = fit (c .before .before .before .before .before .before .before .before .before .before) .few
 
 reckon-requires : tie.Need-reckon-requires
 reckon-requires c κs =
-    let z = c .before .before in
+    let z = c .before .before .before .before .before .before in
     let t = place z in
     let s = start6 t in workable (s .args .marks) (s .args .main-scale) (s .args .main-guess .now) (s .args .main-limits) (s .args .coupling .now) (I s) (s .pre .0) (s .pre .1) (usable t) (handed z)
 
@@ -180,7 +180,7 @@ same-length-2 c = search needs
 returns-3 : tie.Need-returns-3
 returns-3 c =
     let r = c .before .before .before .before in
-    let z = r .before .before .before in
+    let z = r .before .before .before .before .before .before .before in
     let t = place z in
     let s = start6 t in
     reckoned-attached (s .args .marks) (s .args .main-scale) (s .args .main-guess .now) (s .args .main-limits) (s .args .coupling .now) (I s) (s .pre .0) (s .pre .1) (usable t) (handed z) (r .reckon .ensures)

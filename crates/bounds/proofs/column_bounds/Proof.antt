@@ -13,64 +13,59 @@ use borrow.Author.Needs.{needs}
 use Rattle.bounds.proofs.column_bounds.Statement.{statement}
 use Rattle.bounds.proofs.column_bounds.Tie as tie
 
-long : (s : tie.Start) → length (s .args .t2) ≡ 32
-long s = search needs
+long : (c : tie.After-raise-row-arg) → length (c .before .before .before .args .residuals .now) ≡ 32
+long c = search needs
 
 abbrev start : tie.After-sizes-of → tie.Start
 start c = c .before .before .before .before .before .before .before
 
-row-is : (c : tie.After-sizes-of) → RowOf (c .before .before .before .before .raise-row .last .0) (0 * (start c .args .n + 1)) (start c .args .n) (at (start c .args .t2))
+row-is : (c : tie.After-sizes-of) → RowOf (c .before .before .before .raise-row .last .0) (0 * (start c .args .n + 1)) (start c .args .n) (at (start c .args .residuals .now))
 row-is c =
     let first : 0 * (start c .args .n + 1) ≡ 0 = omega arith in
-    rw first (row-as _ (λ k l. let e : 0 + k * 1 ≡ k = omega arith in rw e) (c .before .before .before .before .raise-row .ensures .0))
+    rw first (row-as _ (λ k l. let e : 0 + k * 1 ≡ k = omega arith in rw e) (c .before .before .before .raise-row .ensures .0))
 
 sizes-are : (c : tie.After-add-slacks) →
-    Begins 0 (c .add-slacks .result) (start (c .before .before .before) .args .n) (sizesWith (inversePart (start (c .before .before .before) .args .n) (start (c .before .before .before) .args .rows .now)) (at (start (c .before .before .before) .args .t2)) (λ (k : ℕ). getD (start (c .before .before .before) .args .t3) k 0))
+    Begins 0 (c .add-slacks .result) (start (c .before) .args .n) (sizesWith (inversePart (start (c .before) .args .n) (start (c .before) .args .rows .now)) (at (start (c .before) .args .residuals .now)) (λ (k : ℕ). getD (start (c .before) .args .slacks .now) k 0))
 sizes-are c =
-    let z = c .before .before .before in
-    slack-sizes (start z .args .n) (start z .pre .1 .0 .rows) (row-is z) (λ (k : ℕ). getD (start z .args .t3) k 0) (z .sizes-of .ensures) (c .add-slacks .ensures)
+    let z = c .before in
+    slack-sizes (start z .args .n) (start z .pre .1 .0 .rows) (row-is z) (λ (k : ℕ). getD (start z .args .slacks .now) k 0) (z .sizes-of .ensures) (c .add-slacks .ensures)
 
 slice-aggregate-raise-row : tie.Need-slice-aggregate-raise-row
 slice-aggregate-raise-row c = search needs
 
-slice-aggregate-raise-row-2 : tie.Need-slice-aggregate-raise-row-2
-slice-aggregate-raise-row-2 c = search needs
-
 raise-row-requires : tie.Need-raise-row-requires
 raise-row-requires c κs =
-    let s = c .before .before in
-    ((s .pre .0 .1, (omega (arith, s .pre .0 .1), omega (arith, s .pre .0 .1))), near-reach (s .pre .1 .1 .0) (omega (arith, s .pre .0 .1, long s)))
+    let s = c .before .before .before in
+    ((s .pre .0 .1, (omega (arith, s .pre .0 .1), omega (arith, s .pre .0 .1))), near-reach (s .pre .1 .1 .0) (omega (arith, s .pre .0 .1, long c)))
 
 slice-aggregate-sizes-of : tie.Need-slice-aggregate-sizes-of
 slice-aggregate-sizes-of c = search needs
 
 sizes-of-requires : tie.Need-sizes-of-requires
 sizes-of-requires c κs =
-    let r = c .before .before .before in
-    let s = r .before .before .before in
+    let r = c .before .before in
+    let s = r .before .before .before .before in
     let first : 0 * (s .args .n + 1) ≡ 0 = omega arith in (s .pre .0 .1, (s .pre .1 .0 .rows, rw first (r .raise-row .ensures .0 .row)))
 
 add-slacks-requires : tie.Need-add-slacks-requires
 add-slacks-requires c κs =
-    let z = c .before .before in
-    let s = start z in
-    (s .pre .0 .1, (s .pre .1 .0 .rows, (slack-near (s .pre .1 .1 .0), image-size (s .args .n) (s .pre .1 .0 .rows) (row-is z) (s .pre .0 .1) (z .sizes-of .ensures))))
+    let s = start c in
+    (s .pre .0 .1, (s .pre .1 .0 .rows, (slack-near (s .pre .1 .1 .0), image-size (s .args .n) (s .pre .1 .0 .rows) (row-is c) (s .pre .0 .1) (c .sizes-of .ensures))))
 
 bounds-of-requires : tie.Need-bounds-of-requires
 bounds-of-requires c κs =
-    let a = c .before .before .before in
-    let s = start (a .before .before .before) in
+    let a = c .before in
+    let s = start (a .before) in
     (s .pre .0, (sized (s .pre .0 .1) (s .pre .1 .0) (s .pre .1 .1 .0) (sizes-are a), s .pre .1 .1 .1))
 
 returns : tie.Need-returns
-returns c = bounds-of-sizes _ _ _ _ _ (sizes-are (c .before .before .before .before)) (c .bounds-of .ensures)
+returns c = bounds-of-sizes _ _ _ _ _ (sizes-are (c .before .before)) (c .bounds-of .ensures)
 
 pub column-bounds-spec : {M : Type 1} → statement M
 column-bounds-spec =
     tie.close
     (tie.spec
     slice-aggregate-raise-row
-    slice-aggregate-raise-row-2
     raise-row-requires
     slice-aggregate-sizes-of
     sizes-of-requires

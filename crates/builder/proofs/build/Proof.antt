@@ -41,14 +41,16 @@ use denote.Exit.{yes}
 use denote.Signature.{plain}
 use Rattle.observation.specs.declared.Built.{Built}
 use Rattle.gathering.specs.declared.Gathered.{Gathered}
+use Rattle.gathering.specs.declared.Progress.{Progress}
 use Rattle.observation.specs.declared.Observation.{Observation}
-use Rattle.gathering.specs.Gathered.{gathered, few, opened}
+use Rattle.gathering.specs.Gathered.{together, gathered, few, opening, noLines}
 use Rattle.observation.proofs.Built as B
 use Rattle.observation.proofs.Built.Laws as B′
 use Rattle.equations.specs.declared.Layout.{Layout}
 use Rattle.equations.proofs.Layout as L
 use Rattle.equations.proofs.Layout.Laws as L′
 use Rattle.gathering.proofs.Gathered as S
+use Rattle.gathering.proofs.Progress as P
 use Rattle.gathering.proofs.open as open-fn
 use Rattle.gathering.proofs.open.Symbol as open-def
 use Rattle.gathering.proofs.open.Symbol.{name as #gathering·open}
@@ -67,7 +69,7 @@ use Rattle.builder.proofs.build.Key.{name as #builder·build}
 use Rattle.builder.proofs.build as self
 use Rattle.builder.proofs.build.Statement as stated
 use Rattle.builder.proofs.build.Code as code
-use Rattle.builder.proofs.build.Proof.Callees.{R, stayed, laid, sl, Open, All, Fin, a as args-of, vals as vals-of, Post as post-of, to-open, asked-open, said-open, to-all, asked-all, said-all, is-whole, is-sound, to-fin, asked-fin, typed, exits}
+use Rattle.builder.proofs.build.Proof.Callees.{R, stayed, laid, sl, Open, All, Fin, a as args-of, vals as vals-of, Post as post-of, to-open, asked-open, said-open, to-all, asked-all, said-all, is-whole, is-sound, to-fin, asked-fin, typed, typed-far, exits}
 
 module _ {M : Type 1} (𝓤 : URA M) (H : Heap 𝓤) (A : Atoms 𝓤) (W : Given 𝓤 H A) (mem : Memory → SProp 𝓤) (run : Routine → Fun 𝓤) (κ κ′ κ″ : Lft) (q q′ q″ : Share)
     (n : ℕ) (x : RefT (List Observation)) (lay : Layout) (m r : RefT (List ℤ)) (nf : n < 2 ^ 32) (lf : Is L.the-row lay (laid lay ∷ [])) where
@@ -100,9 +102,9 @@ module _ {M : Type 1} (𝓤 : URA M) (H : Heap 𝓤) (A : Atoms 𝓤) (W : Given
         nothing ! $ owned ! usize (Is usize) (uint-makes 𝓤 H A W w64) k _ (refl, rx .0) $ fjoin ! $ owned ! u32 (Is u32) (uint-makes 𝓤 H A W w32) n _ (refl, nf) $ fjoin ! $ nothing ! $
         use2 W (raw (Open 𝓤 H A mem run .pre (to-open 𝓤 H A W mem run κ κ′ κ″ q q′ q″ n x lay m r nf lf))) (asked-open 𝓤 H A W mem run κ κ′ κ″ q q′ q″ n x lay m r nf lf) $
         calls-at ! fm (Open 𝓤 H A mem run) known-open (to-open 𝓤 H A W mem run κ κ′ κ″ q q′ q″ n x lay m r nf lf) (and-then ! (load ! (from ! (stop !)) (look ! 23 refl)) (and-then ! (load ! (from ! (stop !)) (look ! 9 refl)) (no-more !))) (λ v.
-        use1 W (later (some (λ (s : Gathered). (‵ ftrue ⊛ ‵ (S.the-row .own s (v ∷ []))) ⊛ raw (ensured 𝓤 H A open-fn.ended (open-fn.clauses 𝓤 H A mem run) tt (n, (k, tt)) tt s)))) (id⊢ 𝓤 _) $ await ! tt $ pick ! (λ s.
-        split ! $ move ! (1 ∷ []) $ use1 W (raw (fact 𝓤 (s ≡ opened n k))) (said-open 𝓤 H A W mem run κ κ′ κ″ q q′ q″ n x lay m r nf lf s) $ heard ! (s ≡ opened n k) (λ p. split ! $ move ! (1 ∷ []) $
-        peeks ! S.the-row (Is S.the-row) (shows 𝓤 H A S.the-row) s (v ∷ []) (λ is₀. land ! (from ! (stop !)) (init ! 14 refl (typed 𝓤 H A W mem run κ κ′ κ″ q q′ q″ n x lay m r nf lf s v is₀)) $ move ! (1 ∷ []) $ drop ! $
+        use1 W (later (some (λ (s : Progress). (‵ ftrue ⊛ ‵ (P.the-row .own s (v ∷ []))) ⊛ raw (ensured 𝓤 H A open-fn.ended (open-fn.clauses 𝓤 H A mem run) tt (n, (k, tt)) tt s)))) (id⊢ 𝓤 _) $ await ! tt $ pick ! (λ s.
+        split ! $ move ! (1 ∷ []) $ use1 W (raw (fact 𝓤 (s ≡ opening n k))) (said-open 𝓤 H A W mem run κ κ′ κ″ q q′ q″ n x lay m r nf lf s) $ heard ! (s ≡ opening n k) (λ p. split ! $ move ! (1 ∷ []) $
+        peeks ! P.the-row (Is P.the-row) (shows 𝓤 H A P.the-row) s (v ∷ []) (λ is₀. land ! (from ! (stop !)) (init ! 14 refl (typed-far 𝓤 H A W mem run κ κ′ κ″ q q′ q″ n x lay m r nf lf s v is₀)) $ move ! (1 ∷ []) $ drop ! $
         -- what each parameter owns: [what was opened; _12; …; the tokens; what is owned]
         move ! (28 ∷ []) $ fsplit ! $ drop ! $ fsplit ! $ move ! (1 ∷ []) $ fsplit ! $ drop ! $ fsplit ! $ move ! (1 ∷ []) $ fsplit ! $ move ! (1 ∷ []) $ drop ! $
         -- [right; matrix; lines; what was opened; _12; …; the tokens]
@@ -113,7 +115,7 @@ module _ {M : Type 1} (𝓤 : URA M) (H : Heap 𝓤) (A : Atoms 𝓤) (W : Given
         use2 W (raw (All 𝓤 H A mem run .pre (to-all 𝓤 H A W mem run κ κ′ κ″ q q′ q″ n x lay m r nf lf s v))) (asked-all 𝓤 H A W mem run κ κ′ κ″ q q′ q″ n x lay m r nf lf s v) $
         calls-at ! fm (All 𝓤 H A mem run) known-all (to-all 𝓤 H A W mem run κ κ′ κ″ q q′ q″ n x lay m r nf lf s v) (and-then ! (load ! (from ! (stop !)) (look ! 25 refl)) (and-then ! (load ! (from ! (stop !)) (look ! 17 refl)) (no-more !))) (λ u.
         use1 W (later (some (λ (g : Gathered). ((‵ (flft κ q) ⊛ ‵ ftrue) ⊛ ‵ (S.the-row .own g (u ∷ []))) ⊛ raw (ensured 𝓤 H A all.ended (all.clauses 𝓤 H A mem run) (κ, tt) (x, (s, tt)) tt g)))) (id⊢ 𝓤 _) $ await ! tt $ pick ! (λ g.
-        split ! $ move ! (1 ∷ []) $ use1 W (raw (fact 𝓤 (g ≡ gathered s (x .now) (few k)))) (said-all 𝓤 H A W mem run κ κ′ κ″ q q′ q″ n x lay m r nf lf s g) $ heard ! (g ≡ gathered s (x .now) (few k)) (λ e. split ! $ move ! (1 ∷ []) $
+        split ! $ move ! (1 ∷ []) $ use1 W (raw (fact 𝓤 (g ≡ gathered (together s noLines) (x .now) (few k)))) (said-all 𝓤 H A W mem run κ κ′ κ″ q q′ q″ n x lay m r nf lf s g) $ heard ! (g ≡ gathered (together s noLines) (x .now) (few k)) (λ e. split ! $ move ! (1 ∷ []) $
         peeks ! S.the-row (Is S.the-row) (shows 𝓤 H A S.the-row) g (u ∷ []) (λ is. land ! (from ! (stop !)) (init ! 16 refl (typed 𝓤 H A W mem run κ κ′ κ″ q q′ q″ n x lay m r nf lf g u is)) $
         -- [what was gathered; the token; the others; lines; right; matrix; _12; …]
         assigns ! (addr ! (from ! (fld ! refl (hop ! (look-in ! 22 (sub ! 0 refl (whole-part !))) (stop !))))) (from ! (stop !)) (init ! 12 refl (tt, tt)) $

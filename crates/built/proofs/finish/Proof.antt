@@ -17,10 +17,10 @@ enum-told c = search needs
 
 write-equations-requires : tie.Need-write-equations-requires
 write-equations-requires c κs =
-    let s = c .before .before .before .before .before .before in
+    let s = c .before .before .before .before .before .before .before in
     let r = s .pre .ready (c .before .before .enum-told .given .1) in
-    let l = sym (c .before .before .before .before .before .is-short .ensures) ∙ c .before .before .before .before .if1 .left in
-    (r, (matrix-room (s .args .layout) (s .args .g .n) (s .args .matrix .now) (s .args .right .now) (r .size) l, omega (arith, r .size, long-right (s .args .layout) (s .args .matrix .now) (s .args .right .now) l)))
+    let l = sym (c .before .before .before .before .before .before .is-short .ensures) ∙ c .before .before .before .before .before .if1 .left in
+    (r, (matrix-room (s .args .layout) (s .args .g .progress .n) (s .args .matrix .now) (s .args .right .now) (r .size) l, omega (arith, r .size, long-right (s .args .layout) (s .args .matrix .now) (s .args .right .now) l)))
 
 enum-told-2 : tie.Need-enum-told-2
 enum-told-2 c = search needs
@@ -40,24 +40,24 @@ same-length-2 c = search needs
 returns-2 : tie.Need-returns-2
 returns-2 c =
     let d = c .before .before .before .before .before in
-    let s = d .before .before .before .before in
+    let s = d .before .before .before .before .before in
     let e = c .before .before .write-equations .ensures in
-    finish-done (s .args .g) (s .args .layout) (s .args .matrix .now) (s .args .right .now) (d .before .before .before .is-short .ensures) (d .before .before .if1 .left) (d .enum-told .given .1) (e .0) (e .1)
+    finish-done (s .args .g) (s .args .layout) (s .args .matrix .now) (s .args .right .now) (d .before .before .before .before .is-short .ensures) (d .before .before .before .if1 .left) (d .enum-told .given .1) (e .0) (e .1)
 
 returns-3 : tie.Need-returns-3
 returns-3 c =
-    let s = c .before .before .before .before in
-    finish-refused (s .args .g) (s .args .layout) (s .args .matrix .now) (s .args .right .now) (c .before .before .before .is-short .ensures) (c .before .before .if1 .left) (ap saidBuilt (c .enum-told2 .given .1))
+    let s = c .before .before .before .before .before in
+    finish-refused (s .args .g) (s .args .layout) (s .args .matrix .now) (s .args .right .now) (c .before .before .before .before .is-short .ensures) (c .before .before .before .if1 .left) (ap saidBuilt (c .enum-told2 .given .1))
 
 returns-4 : tie.Need-returns-4
 returns-4 c =
-    let s = c .before .before .before .before in
-    finish-refused (s .args .g) (s .args .layout) (s .args .matrix .now) (s .args .right .now) (c .before .before .before .is-short .ensures) (c .before .before .if1 .left) (ap saidBuilt (c .enum-told3 .given .1))
+    let s = c .before .before .before .before .before in
+    finish-refused (s .args .g) (s .args .layout) (s .args .matrix .now) (s .args .right .now) (c .before .before .before .before .is-short .ensures) (c .before .before .before .if1 .left) (ap saidBuilt (c .enum-told3 .given .1))
 
 returns-5 : tie.Need-returns-5
 returns-5 c =
-    let s = c .before .before .before .before in
-    finish-refused (s .args .g) (s .args .layout) (s .args .matrix .now) (s .args .right .now) (c .before .before .before .is-short .ensures) (c .before .before .if1 .left) (ap saidBuilt (c .enum-told4 .given .1))
+    let s = c .before .before .before .before .before in
+    finish-refused (s .args .g) (s .args .layout) (s .args .matrix .now) (s .args .right .now) (c .before .before .before .before .is-short .ensures) (c .before .before .before .if1 .left) (ap saidBuilt (c .enum-told4 .given .1))
 
 pub finish-spec : {M : Type 1} → statement M
 finish-spec =

@@ -32,17 +32,20 @@ fit : (c : tie.Then3) → Fit (I (start c))
 fit c = fit-of (I (start c)) (long (c .before .before .before .before)) (within c)
 
 -- what is handed to the reckoning
+abbrev admitted : tie.After-allowed-of2 → tie.Then3
+admitted c = c .before .before .before .before .before .before .before .before .before
+
 handed : (c : tie.After-allowed-of2) →
-    Handed (I (start (c .before .before .before .before .before))) (c .before .before .scaled-right .result) (c .before .allowed-of .result) (c .allowed-of2 .result) (c .before .before .before .before .slacks-of .result) (c .before .before .before .row-sums-of .result)
+    Handed (I (start (admitted c))) (c .before .before .before .before .before .before .scaled-right .result) (c .before .before .before .allowed-of .result) (c .allowed-of2 .result) (c .before .before .before .before .before .before .before .before .slacks-of .result) (c .before .before .before .before .before .before .before .row-sums-of .result)
 handed c = record {
   base-long = search needs;
-  base = c .before .before .scaled-right .ensures;
+  base = c .before .before .before .before .before .before .scaled-right .ensures;
   allowed-long = search needs;
-  allowed = c .before .allowed-of .ensures;
+  allowed = c .before .before .before .allowed-of .ensures;
   in-columns-long = search needs;
   in-columns = c .allowed-of2 .ensures;
-  sums = c .before .before .before .row-sums-of .ensures;
-  slacks = c .before .before .before .before .slacks-of .ensures;
+  sums = c .before .before .before .before .before .before .before .row-sums-of .ensures;
+  slacks = c .before .before .before .before .before .before .before .before .slacks-of .ensures;
 }
 
 is-short-requires : tie.Need-is-short-requires
@@ -72,15 +75,15 @@ scaled-right-requires c κs =
     let x = fit (c .before .before) in ((x .solution-scale, x .few), x .right)
 
 allowed-of-requires : tie.Need-allowed-of-requires
-allowed-of-requires c κs = fit (c .before .before .before) .few
+allowed-of-requires c κs = fit (c .before .before .before .before .before) .few
 
 allowed-of-requires-2 : tie.Need-allowed-of-requires-2
-allowed-of-requires-2 c κs = fit (c .before .before .before .before) .few
+allowed-of-requires-2 c κs = fit (c .before .before .before .before .before .before .before .before) .few
 
 reckon-requires : tie.Need-reckon-requires
 reckon-requires c κs =
-    let z = c .before .before in
-    let t = z .before .before .before .before .before in workable (I (start t)) (long (t .before .before .before .before)) (within t) (handed z)
+    let z = c .before .before .before .before .before .before in
+    let t = admitted z in workable (I (start t)) (long (t .before .before .before .before)) (within t) (handed z)
 
 same-length : tie.Need-same-length
 same-length c = search needs
@@ -91,8 +94,8 @@ same-length-2 c = search needs
 returns-2 : tie.Need-returns-2
 returns-2 c =
     let r = c .before .before .before .before in
-    let z = r .before .before .before in
-    let t = z .before .before .before .before .before in reckoned-checked (I (start t)) (long (t .before .before .before .before)) (within t) (handed z) (r .reckon .ensures)
+    let z = r .before .before .before .before .before .before .before in
+    let t = admitted z in reckoned-checked (I (start t)) (long (t .before .before .before .before)) (within t) (handed z) (r .reckon .ensures)
 
 returns-3 : tie.Need-returns-3
 returns-3 c =

@@ -1,8 +1,8 @@
-use mathlib.Core.Path.{_≡_, refl, sym, _∙_}
+use mathlib.Core.Path.{_≡_, refl, sym, ap, _∙_}
 use Prim.Native.Nat.{ℕ, _+_, _*_, _≤_, _<_, _-_, _^_}
 use native.Mathlib.Omega.{arith}
 use lib.IntN.{ℤ, pos, natAbs, _*ℤ_}
-use lib.ListN.{getD}
+use lib.ListN.{getD, length}
 use mir.Syntax.{w64}
 use mir.Val.{SFits, toZ, ofZ}
 use mir.ValLaws.{toZ-ofZ}
@@ -14,7 +14,7 @@ use Rattle.linear.specs.Place.{Carried}
 use Rattle.linear.specs.Written.{written}
 use Rattle.linear.proofs.Carried.{carried-first, carried-next}
 use Rattle.linear.proofs.Places.{place, square}
-use Rattle.linear.proofs.Written.{written-none, written-more, written-end}
+use Rattle.linear.proofs.Written.{written-none, written-more, written-end, written-length}
 use Rattle.raised_rows.specs.Raised.{raisedBy}
 use Rattle.raised_rows.specs.Place.{raisedPlace}
 use Rattle.differences.specs.Difference.{numberLess}
@@ -53,11 +53,11 @@ module _ (c : tie.After-add-rows Inv-loop μ-loop) where
   low : (i j : ℕ) → i < start .args .n → j < start .args .n → getD (start .args .rows .now) (raisedPlace (start .args .n) i j) 0 ≤ 2 ^ 26
   low i j li lj = start .pre .1 .1 .each i li .small .each j lj
 
--- the place in the array
-in-array : (t : tie.In-loop Inv-loop μ-loop) → (t .before .loop .place < 1024) × (t .before .loop .place + t .before .before .before .before .before .args .n < 2048)
-in-array t =
+-- the place in the list
+in-list : (t : tie.In-loop Inv-loop μ-loop) → (t .before .loop .place < t .before .before .before .before .before .args .n * t .before .before .before .before .before .args .n) × (t .before .loop .place + t .before .before .before .before .before .args .n < 2048)
+in-list t =
     let s = t .before .before .before .before .before in (
-      omega (arith, t .before .loop .inv .1 .0 .is, place (t .loop-test .taken) (s .pre .0 .1 .1 .0), square (s .pre .0 .1 .0)),
+      omega (arith, t .before .loop .inv .1 .0 .is, place (t .loop-test .taken) (s .pre .0 .1 .1 .0)),
       omega (arith, t .before .loop .inv .1 .0 .is, place (t .loop-test .taken) (s .pre .0 .1 .1 .0), square (s .pre .0 .1 .0), s .pre .0 .1 .0),
     )
 
@@ -66,7 +66,7 @@ cast-raised c = search needs
 
 add-rows-requires : tie.Need-add-rows-requires Inv-loop μ-loop
 add-rows-requires c κs =
-    let s = c .before .before in ((s .pre .0 .1 .0, s .pre .0 .1 .1 .1), (s .pre .1 .0, (s .pre .1 .1, (refl, no-sums))))
+    let s = c .before .before in ((s .pre .0 .1 .0, s .pre .0 .1 .1 .1 .0), (s .pre .1 .0, (s .pre .1 .1, (refl, no-sums))))
 
 mul-raised : tie.Need-mul-raised Inv-loop μ-loop
 mul-raised c = rw (total-is c) (raised-fits c)
@@ -103,13 +103,16 @@ number-less-requires c κs =
     )
 
 mul-t27 : tie.Need-mul-t27 Inv-loop μ-loop
-mul-t27 c = omega (arith, in-array (c .before) .0)
+mul-t27 c = omega (arith, in-list (c .before) .0, square (start (c .before .before .before) .pre .0 .1 .0))
 
-element-set-from-out : tie.Need-element-set-from-out Inv-loop μ-loop
-element-set-from-out c = in-array (c .before) .0
+slice-set-from-out : tie.Need-slice-set-from-out Inv-loop μ-loop
+slice-set-from-out c =
+    let t = c .before in
+    let s = start (t .before .before) in
+    omega (arith, in-list t .0, s .pre .0 .1 .1 .1 .1, ap length (t .before .loop .inv .1 .1), written-length (s .args .out .now) (s .args .m) (s .args .n) (λ (i : ℕ). numberLess (s .args .t) (s .args .xs .now) (s .args .start) (s .args .stride) (s .args .rows .now) (s .args .n) (s .args .m) i) (t .before .loop .j))
 
 add-place : tie.Need-add-place Inv-loop μ-loop
-add-place c = omega (arith, in-array (c .before) .1)
+add-place c = omega (arith, in-list (c .before) .1)
 
 add-j : tie.Need-add-j Inv-loop μ-loop
 add-j c = search needs
@@ -129,6 +132,9 @@ loop-again c =
             (read _ (c .number-less .ok) ∙ (rw (raised-is a) at (c .number-less .ensures)) ∙ sums-less (s .args .rows .now) (s .args .n) (X s) (pos (2 ^ s .args .t) *ℤ identity (s .args .m) (l .j)) (a .add-rows .ensures .1) (l .j) (c .before .loop-test .taken)),
       ),
     )
+
+same-length : tie.Need-same-length Inv-loop μ-loop
+same-length c = ap length (c .before .loop .inv .1 .1) ∙ written-length _ _ _ _ (c .before .loop .j)
 
 returns : tie.Need-returns Inv-loop μ-loop
 returns c = c .before .loop .inv .1 .1 ∙ written-end _ _ _ _ (c .before .loop .inv .0) (c .loop-test .left)
@@ -150,9 +156,10 @@ store-row-spec =
     array-read-number-less-2
     number-less-requires
     mul-t27
-    element-set-from-out
+    slice-set-from-out
     add-place
     add-j
     loop-less
     loop-again
+    same-length
     returns)

@@ -1,38 +1,36 @@
-use Rattle.gathering.specs.Gathered.{keptAt}
+use Rattle.observation.specs.declared.Observation.{Observation}
 use Rattle.equations.proofs.Rows.{row-none, row-next, row-end, row-small}
 use Rattle.equations.proofs.Terms.{same-row}
 use Rattle.equations.specs.Kept.{RowSums, Grown}
 use mathlib.Core.Logic.{⊎-elim}
 use mathlib.Core.Path.{sym, subst, _∙_}
+use native.Mathlib.Omega.{arith}
 use Prim.Native.Nat.{_≤_, _-_}
 use borrow.Author.Needs.{needs}
 use Rattle.equations.proofs.row_of.Statement.{statement}
 use Rattle.equations.proofs.row_of.Tie as tie
 
 abbrev Inv-loop : tie.InvT-loop
-Inv-loop k seen count row₀ p₀ row p = (p ≤ count) × RowSums seen k p row
+Inv-loop seen count k row₀ p₀ row p = (p ≤ count) × RowSums seen k p row
 
 abbrev μ-loop : tie.MeasureT-loop
-μ-loop k seen count row₀ p₀ row p = count - p
+μ-loop seen count k row₀ p₀ row p = count - p
 
 loop-holds : tie.Need-loop-holds Inv-loop μ-loop
 loop-holds c = (search needs, row-none _ _)
 
-mul-l : tie.Need-mul-l Inv-loop μ-loop
-mul-l c = search needs
-
-array-copy-out-l : tie.Need-array-copy-out-l Inv-loop μ-loop
-array-copy-out-l c = search needs
+line-at-requires : tie.Need-line-at-requires Inv-loop μ-loop
+line-at-requires c κs = omega (arith, c .loop-test .taken, c .before .before .pre .1 .few)
 
 is-at-requires : tie.Need-is-at-requires Inv-loop μ-loop
 is-at-requires c κs = search needs
 
 grow-requires : tie.Need-grow-requires Inv-loop μ-loop
 grow-requires c κs =
-    let s = c .before .before .before .before .before .before in
+    let s = c .before .before .before .before .before in
     let i = c .before .before .before .before .loop in
-    let b = c .before .before .before .loop-test .taken in
-    ((s .pre .0, (s .pre .1 .proper (i .p) b, row-small (s .args .g) (s .args .k) (s .pre .1) (i .inv .0) (i .inv .1))), sym (c .before .is-at .ensures) ∙ c .if1 .taken)
+    let o = s .pre .1 in
+    ((s .pre .0, (rw (c .before .before .line-at .ensures) (o .proper (i .p) (c .before .before .before .loop-test .taken)), row-small (s .args .seen .now) (s .args .k) o (i .inv .0) (i .inv .1))), sym (c .before .is-at .ensures) ∙ c .if1 .taken)
 
 add-p : tie.Need-add-p Inv-loop μ-loop
 add-p c = search needs
@@ -42,13 +40,15 @@ loop-less c = search needs
 
 loop-again : tie.Need-loop-again Inv-loop μ-loop
 loop-again c =
-    let s = c .before .before .before .before .before .before in
-    let i = c .before .before .before .before .loop in (
+    let s = c .before .before .before .before .before in
+    let i = c .before .before .before .before .loop in
+    let l = c .before .before .line-at .result in (
       search needs,
-      row-next (s .args .g .seen) (s .args .k) (i .p) (i .inv .1)
-          (⊎-elim (λ w. subst (Grown (s .args .k) (keptAt (s .args .g) (i .p)) (i .row)) (sym (w .2)) (w .1 .ensures))
-          (λ w. subst (Grown (s .args .k) (keptAt (s .args .g) (i .p)) (i .row)) (sym (w .1)) (same-row (s .args .k) (keptAt (s .args .g) (i .p)) (sym (c .before .is-at .ensures) ∙ w .0 .left) (i .row) (i .inv .1 .long)))
-          (c .if1 .came)),
+      row-next (s .args .seen .now) (s .args .k) (i .p) (i .inv .1)
+          (subst (λ (z : Observation). Grown (s .args .k) z (i .row) (c .if1 .row)) (c .before .before .line-at .ensures)
+          (⊎-elim (λ w. subst (Grown (s .args .k) l (i .row)) (sym (w .2)) (w .1 .ensures))
+          (λ w. subst (Grown (s .args .k) l (i .row)) (sym (w .1)) (same-row (s .args .k) l (sym (c .before .is-at .ensures) ∙ w .0 .left) (i .row) (i .inv .1 .long)))
+          (c .if1 .came))),
     )
 
 returns : tie.Need-returns Inv-loop μ-loop
@@ -61,8 +61,7 @@ row-of-spec =
     Inv-loop
     μ-loop
     loop-holds
-    mul-l
-    array-copy-out-l
+    line-at-requires
     is-at-requires
     grow-requires
     add-p

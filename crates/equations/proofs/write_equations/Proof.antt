@@ -3,6 +3,7 @@ use mir.ValLaws.{toZ-ofZ}
 use mir.Syntax.{w64}
 use Rattle.equations.proofs.Places.{rows-none, rows-end, row-start, row-room, row-length, row-written}
 use Rattle.equations.proofs.Rows.{row-matrix, row-right}
+use Rattle.gathering.specs.Gathered.{together}
 use Rattle.equations.specs.Kept.{keptMatrix, keptRight}
 use Rattle.equations.specs.Written.{widthOf, rowsWritten}
 use Rattle.integer.proofs.Sum.{sumℕ-none}
@@ -18,12 +19,12 @@ use Rattle.equations.proofs.write_equations.Statement.{statement}
 use Rattle.equations.proofs.write_equations.Tie as tie
 
 abbrev Inv-loop : tie.InvT-loop
-Inv-loop g layout matrix₀ right₀ n start₀ i₀ matrix right start i =
+Inv-loop layout matrix₀ right₀ progress seen n start₀ i₀ matrix right start i =
     (i ≤ n) × (start ≡ sumℕ i (widthOf layout n)) × (length matrix ≡ length matrix₀) × (length right ≡ length right₀)
-    × (matrix ≡ rowsWritten (widthOf layout n) i (keptMatrix g) matrix₀) × (right ≡ written right₀ 0 1 (keptRight g) i)
+    × (matrix ≡ rowsWritten (widthOf layout n) i (keptMatrix (together progress seen)) matrix₀) × (right ≡ written right₀ 0 1 (keptRight (together progress seen)) i)
 
 abbrev μ-loop : tie.MeasureT-loop
-μ-loop g layout matrix₀ right₀ n start₀ i₀ matrix right start i = n - i
+μ-loop layout matrix₀ right₀ progress seen n start₀ i₀ matrix right start i = n - i
 
 count-of-requires : tie.Need-count-of-requires Inv-loop μ-loop
 count-of-requires c κs = search needs
@@ -34,13 +35,13 @@ loop-holds c = (search needs, sym (sumℕ-none _), search needs, search needs, s
 -- What is asked at the start, of the size as it was counted.
 module _ (c : tie.After-count-of Inv-loop μ-loop) where
   size : c .count-of .result ≤ 32
-  size = rw (c .count-of .ensures) (c .before .pre .0 .size)
+  size = rw (c .count-of .ensures) (c .before .before .before .pre .0 .size)
 
-  room : sumℕ (c .count-of .result) (widthOf (c .before .args .layout) (c .count-of .result)) ≤ length (c .before .args .matrix .now)
-  room = rw (c .count-of .ensures) (c .before .pre .1 .0)
+  room : sumℕ (c .count-of .result) (widthOf (c .before .before .before .args .layout) (c .count-of .result)) ≤ length (c .before .before .before .args .matrix .now)
+  room = rw (c .count-of .ensures) (c .before .before .before .pre .1 .0)
 
-  right-room : c .count-of .result ≤ length (c .before .args .right .now)
-  right-room = rw (c .count-of .ensures) (c .before .pre .1 .1)
+  right-room : c .count-of .result ≤ length (c .before .before .before .args .right .now)
+  right-room = rw (c .count-of .ensures) (c .before .before .before .pre .1 .1)
 
 add-row-of : tie.Need-add-row-of Inv-loop μ-loop
 add-row-of c = search needs
@@ -50,18 +51,18 @@ cast-row-of c = search needs
 
 row-of-requires : tie.Need-row-of-requires Inv-loop μ-loop
 row-of-requires c κs =
-    let s = c .before .before in
-    (omega (arith, c .loop-test .taken, size s), s .before .pre .0)
+    let s = c .before .before .before in
+    (omega (arith, c .before .loop-test .taken, size s), s .before .before .before .pre .0 .lines)
 
 width-of-requires : tie.Need-width-of-requires Inv-loop μ-loop
-width-of-requires c κs = (size (c .before .before .before .before), c .before .before .loop-test .taken)
+width-of-requires c κs = (size (c .before .before .before .before .before), c .before .before .before .loop-test .taken)
 
 store-row-requires : tie.Need-store-row-requires Inv-loop μ-loop
 store-row-requires c κs =
-    let s = c .before .before .before .before .before .before in
-    let l = c .before .before .before .before .before .loop in
+    let s = c .before .before .before .before .before .before .before in
+    let l = c .before .before .before .before .before .before .loop in
     let w = c .before .width-of .ensures in
-    let e = row-room (s .before .args .layout) (s .count-of .result) (l .i) (l .inv .1) (w .0) (c .before .before .before .before .loop-test .taken) (room s) in
+    let e = row-room (s .before .before .before .args .layout) (s .count-of .result) (l .i) (l .inv .1) (w .0) (c .before .before .before .before .before .loop-test .taken) (room s) in
     (w .1, omega (arith, e, l .inv .2))
 
 mul-b : tie.Need-mul-b Inv-loop μ-loop
@@ -69,17 +70,17 @@ mul-b c = search needs
 
 slice-set-from-b : tie.Need-slice-set-from-b Inv-loop μ-loop
 slice-set-from-b c =
-    let s = c .before .before .before .before .before .before .before .before .before in
-    let l = c .before .before .before .before .before .before .before .before .loop in
-    omega (arith, c .before .before .before .before .before .before .before .loop-test .taken, l .inv .3, right-room s)
+    let s = c .before .before .before .before .before .before .before .before .before .before in
+    let l = c .before .before .before .before .before .before .before .before .before .loop in
+    omega (arith, c .before .before .before .before .before .before .before .before .loop-test .taken, l .inv .3, right-room s)
 
 add-start : tie.Need-add-start Inv-loop μ-loop
 add-start c =
-    let s = c .before .before .before .before .before .before .before .before .before in
-    let l = c .before .before .before .before .before .before .before .before .loop in
+    let s = c .before .before .before .before .before .before .before .before .before .before in
+    let l = c .before .before .before .before .before .before .before .before .before .loop in
     let w = c .before .before .before .before .width-of .ensures in
-    let e : l .start + c .before .before .before .before .width-of .result ≤ length (s .before .args .matrix .now) =
-    row-room (s .before .args .layout) (s .count-of .result) (l .i) (l .inv .1) (w .0) (c .before .before .before .before .before .before .before .loop-test .taken) (room s) in
+    let e : l .start + c .before .before .before .before .width-of .result ≤ length (s .before .before .before .args .matrix .now) =
+    row-room (s .before .before .before .args .layout) (s .count-of .result) (l .i) (l .inv .1) (w .0) (c .before .before .before .before .before .before .before .before .loop-test .taken) (room s) in
     search needs
 
 add-i : tie.Need-add-i Inv-loop μ-loop
@@ -90,19 +91,19 @@ loop-less c = search needs
 
 loop-again : tie.Need-loop-again Inv-loop μ-loop
 loop-again c =
-    let s = c .before .before .before .before .before .before .before .before .before in
-    let l = c .before .before .before .before .before .before .before .before .loop in
+    let s = c .before .before .before .before .before .before .before .before .before .before in
+    let l = c .before .before .before .before .before .before .before .before .before .loop in
     let w = c .before .before .before .before .width-of .ensures in
     let o = c .before .before .before .before .before .before .row-of in
     let r = c .before .before .store-row .ensures in
     let f : SFits w64 (o .result .right) = search needs in (
       search needs,
-      row-start (s .before .args .layout) (s .count-of .result) (l .i) (l .inv .1) (w .0),
-      row-length (s .before .args .layout) (s .count-of .result) (l .i) (l .inv .1) (w .0) _ (keptMatrix (s .before .args .g)) (s .before .args .matrix .now) (l .matrix) r (l .inv .2),
+      row-start (s .before .before .before .args .layout) (s .count-of .result) (l .i) (l .inv .1) (w .0),
+      row-length (s .before .before .before .args .layout) (s .count-of .result) (l .i) (l .inv .1) (w .0) _ (keptMatrix (s .before .before .before .args .g)) (s .before .before .before .args .matrix .now) (l .matrix) r (l .inv .2),
       simp length-set (l .inv .3),
-      row-written (s .before .args .layout) (s .count-of .result) (l .i) (l .inv .1) (w .0) _ (keptMatrix (s .before .args .g)) (s .before .args .matrix .now) (l .matrix) r
-          (λ j b. row-matrix (s .before .args .g) (l .i) (o .ensures) j (omega (arith, b, w .1))) (l .inv .4),
-      written-more _ _ 1 _ (l .i) (l .inv .5) (omega arith) (toZ-ofZ w64 (o .result .right) f ∙ row-right (s .before .args .g) (l .i) (o .ensures)),
+      row-written (s .before .before .before .args .layout) (s .count-of .result) (l .i) (l .inv .1) (w .0) _ (keptMatrix (s .before .before .before .args .g)) (s .before .before .before .args .matrix .now) (l .matrix) r
+          (λ j b. row-matrix (s .before .before .before .args .g) (l .i) (o .ensures) j (omega (arith, b, w .1))) (l .inv .4),
+      written-more _ _ 1 _ (l .i) (l .inv .5) (omega arith) (toZ-ofZ w64 (o .result .right) f ∙ row-right (s .before .before .before .args .g) (l .i) (o .ensures)),
     )
 
 same-length : tie.Need-same-length Inv-loop μ-loop

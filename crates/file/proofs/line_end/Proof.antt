@@ -14,6 +14,9 @@ Inv-loop file at i₀ i = (i ≤ length file) × (i + lineLength (drop i file) �
 abbrev μ-loop : tie.MeasureT-loop
 μ-loop file at i₀ i = length file - i
 
+skip-blocks-requires : tie.Need-skip-blocks-requires Inv-loop μ-loop
+skip-blocks-requires c κs = search needs
+
 loop-holds : tie.Need-loop-holds Inv-loop μ-loop
 loop-holds c = search needs
 
@@ -21,7 +24,7 @@ shared-slice-read-if1 : tie.Need-shared-slice-read-if1 Inv-loop μ-loop
 shared-slice-read-if1 c = search needs
 
 returns : tie.Need-returns Inv-loop μ-loop
-returns c = omega (arith, length-feed (c .before .before .before .before .args .file .now) (c .before .before .loop-test .taken) (c .if1 .taken))
+returns c = omega (arith, length-feed (c .before .before .before .before .before .before .args .file .now) (c .before .before .loop-test .taken) (c .if1 .taken))
 
 add-i : tie.Need-add-i Inv-loop μ-loop
 add-i c = search needs
@@ -30,10 +33,10 @@ loop-less : tie.Need-loop-less Inv-loop μ-loop
 loop-less c = search needs
 
 loop-again : tie.Need-loop-again Inv-loop μ-loop
-loop-again c = omega (arith, length-byte (c .before .before .before .before .args .file .now) (c .before .before .loop-test .taken) (c .if1 .left))
+loop-again c = omega (arith, length-byte (c .before .before .before .before .before .before .args .file .now) (c .before .before .loop-test .taken) (c .if1 .left))
 
 returns-2 : tie.Need-returns-2 Inv-loop μ-loop
-returns-2 c = omega (arith, length-end (c .before .before .args .file .now) (c .loop-test .left))
+returns-2 c = omega (arith, length-end (c .before .before .before .before .args .file .now) (c .loop-test .left))
 
 pub line-end-spec : {M : Type 1} → statement M
 line-end-spec =
@@ -41,6 +44,7 @@ line-end-spec =
     (tie.spec
     Inv-loop
     μ-loop
+    skip-blocks-requires
     loop-holds
     shared-slice-read-if1
     returns

@@ -1,16 +1,13 @@
-use Rattle.gathering.proofs.Adding.{opened-as}
+use Rattle.gathering.specs.Gathered.{opening}
 use borrow.Author.Needs.{needs}
 use Rattle.gathering.proofs.open.Statement.{statement}
 use Rattle.gathering.proofs.open.Tie as tie
 
-is-natural-in-range-requires : tie.Need-is-natural-in-range-requires
-is-natural-in-range-requires c κs = search needs
+opened-as-requires : tie.Need-opened-as-requires
+opened-as-requires c κs = search needs
 
 returns : tie.Need-returns
-returns c = opened-as _ _ (c .before .is-natural-in-range .ensures) (rw (c .if1 .taken))
-
-returns-2 : tie.Need-returns-2
-returns-2 c = opened-as _ _ (c .before .is-natural-in-range .ensures) (rw (c .if1 .left))
+returns c = unfold opening in rw (c .opened-as .ensures)
 
 pub open-spec : {M : Type 1} → statement M
-open-spec = tie.close (tie.spec is-natural-in-range-requires returns returns-2)
+open-spec = tie.close (tie.spec opened-as-requires returns)

@@ -1,4 +1,4 @@
-use mathlib.Core.Path.{_≡_, refl, sym, _∙_}
+use mathlib.Core.Path.{_≡_, refl, sym, ap, _∙_}
 use Prim.Native.Nat.{ℕ, _+_, _*_, _≤_, _<_, _-_}
 use native.Mathlib.Omega.{arith}
 use lib.ListN.{length, length-set}
@@ -6,11 +6,10 @@ use Rattle.linear.specs.Place.{Carried}
 use Rattle.linear.specs.Written.{written}
 use Rattle.linear.proofs.Carried.{carried-first, carried-next, start-place}
 use Rattle.linear.proofs.Places.{place, square}
-use Rattle.linear.proofs.Written.{written-none, written-more, written-end}
+use Rattle.linear.proofs.Written.{written-none, written-more, written-end, written-length}
 use Rattle.raised_rows.proofs.Filling.{rows-room}
 use Rattle.reckoning.specs.Arrays.{Begins}
 use Rattle.reckoning.proofs.Filled.{begins-none, begins-more, begins-end}
-use Rattle.reckoning.proofs.Sizes.{row-ends}
 use Rattle.bounds.specs.Limits.{columnSize}
 use Rattle.inverse_bounds.proofs.Mirrored.{known-kept}
 use borrow.Author.Needs.{needs}
@@ -29,15 +28,21 @@ abbrev turn : tie.After-size-at Inv-loop μ-loop → tie.In-loop Inv-loop μ-loo
 turn c = c .before .before
 
 abbrev start : tie.In-loop Inv-loop μ-loop → tie.Start Inv-loop μ-loop
-start t = t .before .before .before .before
+start t = t .before .before .before .before .before
 
 -- the place in the list that is written
 module _ (t : tie.In-loop Inv-loop μ-loop) where
   along-is : t .before .loop .along ≡ start t .args .j * start t .args .n + t .before .loop .m * 1
   along-is = omega (arith, t .before .loop .inv .1 .0 .1 .0 .is, start-place (start t .pre .1 .0 .1))
 
-  inside : t .before .loop .along < 1024
-  inside = omega (arith, along-is, row-ends (start t .pre .0 .1 .0) (start t .pre .0 .0), t .loop-test .taken)
+  inside : t .before .loop .along < start t .args .n * start t .args .n
+  inside = omega (arith, along-is, place (start t .pre .0 .1 .0) (t .loop-test .taken))
+
+  below : t .before .loop .along < 1024
+  below = omega (arith, inside, square (start t .pre .0 .0))
+
+  length-here : length (t .before .loop .list) ≡ length (start t .args .list .now)
+  length-here = ap length (t .before .loop .inv .1 .1 .1 .1) ∙ written-length _ _ _ _ (t .before .loop .m)
 
 loop-holds : tie.Need-loop-holds Inv-loop μ-loop
 loop-holds c =
@@ -48,10 +53,10 @@ size-at-requires c κs =
     let t = c .before in
     let l = t .before .loop in
     let p = start t .pre in (
-      (p .0 .0, (t .loop-test .taken, p .0 .1)),
+      (p .0 .0, (t .loop-test .taken, (p .0 .1 .0, (p .0 .1 .1 .0, omega (arith, length-here t, p .0 .1 .1 .1))))),
       (
         (l .inv .1 .0 .0, (l .inv .1 .0 .1 .1, p .1 .0 .0)),
-        (p .1 .1 .0, (known-kept _ (l .m) (p .0 .1 .1) (p .1 .1 .1 .0) (l .inv .1 .1 .1 .1), λ h. p .1 .1 .1 .1 (omega (arith, h)))),
+        (p .1 .1 .0, (known-kept _ (l .m) (p .0 .1 .1 .0) (p .1 .1 .1 .0) (l .inv .1 .1 .1 .1), λ h. p .1 .1 .1 .1 (omega (arith, h)))),
       ),
     )
 
@@ -62,10 +67,12 @@ array-write-out : tie.Need-array-write-out Inv-loop μ-loop
 array-write-out c = search needs
 
 mul-list : tie.Need-mul-list Inv-loop μ-loop
-mul-list c = omega (arith, inside (turn c))
+mul-list c = omega (arith, below (turn c))
 
-element-write-list : tie.Need-element-write-list Inv-loop μ-loop
-element-write-list c = omega (arith, inside (turn c))
+slice-write-list : tie.Need-slice-write-list Inv-loop μ-loop
+slice-write-list c =
+    let t = turn c in
+    omega (arith, inside t, length-here t, start t .pre .0 .1 .1 .1)
 
 add-across : tie.Need-add-across Inv-loop μ-loop
 add-across c =
@@ -74,7 +81,7 @@ add-across c =
     omega (arith, t .before .loop .inv .1 .0 .0 .is, place (t .loop-test .taken) (p .0 .1 .0), square (p .0 .0))
 
 add-along : tie.Need-add-along Inv-loop μ-loop
-add-along c = omega (arith, inside (turn c))
+add-along c = omega (arith, below (turn c))
 
 add-row : tie.Need-add-row Inv-loop μ-loop
 add-row c = search needs
@@ -106,6 +113,9 @@ loop-again c =
       ),
     )
 
+same-length : tie.Need-same-length Inv-loop μ-loop
+same-length c = ap length (c .before .loop .inv .1 .1 .1 .1) ∙ written-length _ _ _ _ (c .before .loop .m)
+
 returns : tie.Need-returns Inv-loop μ-loop
 returns c =
     let i = c .before .loop .inv in
@@ -122,7 +132,7 @@ column-sizes-spec =
     mul-out
     array-write-out
     mul-list
-    element-write-list
+    slice-write-list
     add-across
     add-along
     add-row
@@ -130,4 +140,5 @@ column-sizes-spec =
     add-m
     loop-less
     loop-again
+    same-length
     returns)

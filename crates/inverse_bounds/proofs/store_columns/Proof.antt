@@ -3,7 +3,7 @@ use mathlib.Core.Bool.{true}
 use mathlib.Core.Path.{_≡_, refl, sym, ap, _∙_}
 use Prim.Native.Nat.{ℕ, _+_, _*_, _≤_, _<_, _-_}
 use native.Mathlib.Omega.{arith}
-use lib.Dec.{lit≤}
+use native.Mathlib.Nat.{mul-le-mul-right}
 use lib.ListN.{length}
 use Rattle.linear.specs.Slice.{at}
 use Rattle.linear.specs.Place.{Carried}
@@ -26,26 +26,29 @@ use Rattle.inverse_bounds.proofs.store_columns.Statement.{statement}
 use Rattle.inverse_bounds.proofs.store_columns.Tie as tie
 
 abbrev Inv-loop : tie.InvT-loop
-Inv-loop dst₀ rows residuals mirrored weights n margins caps raised list₀ place₀ start₀ j₀ dst list place start j =
-    (j ≤ n) × ((Carried 0 (n + 1) j place × Carried 0 n j start) × (((length list ≡ 1024) × KnownColumns list n j rows raised) × (dst ≡ columnsWritten dst₀ n (λ (i k : ℕ). limitsOf n rows (λ (a : ℕ). at residuals (k * n + a)) (λ (a : ℕ). 0) margins weights i) j)))
+Inv-loop dst₀ rows residuals raised list₀ mirrored margins caps weights n place₀ start₀ j₀ dst list place start j =
+    (j ≤ n) × ((Carried 0 (n + 1) j place × Carried 0 n j start) × (((length list ≡ length list₀) × KnownColumns list n j rows raised) × (dst ≡ columnsWritten dst₀ n (λ (i k : ℕ). limitsOf n rows (λ (a : ℕ). at residuals (k * n + a)) (λ (a : ℕ). 0) margins weights i) j)))
 
 abbrev μ-loop : tie.MeasureT-loop
-μ-loop dst₀ rows residuals mirrored weights n margins caps raised list₀ place₀ start₀ j₀ dst list place start j = n - j
+μ-loop dst₀ rows residuals raised list₀ mirrored margins caps weights n place₀ start₀ j₀ dst list place start j = n - j
 
 abbrev start : tie.In-loop Inv-loop μ-loop → tie.Start Inv-loop μ-loop
-start t = t .before .before .before .before .before .before .before
+start t = t .before .before .before .before .before .before .before .before .before .before
+
+abbrev raised : tie.In-loop Inv-loop μ-loop → tie.After-raise-rows Inv-loop μ-loop
+raised t = t .before .before .before .before
 
 abbrev F : tie.Start Inv-loop μ-loop → ℕ → ℕ → ℕ
-F s i k = limitsOf (s .args .n) (s .args .rows .now) (λ (a : ℕ). at (s .args .residuals .now) (k * s .args .n + a)) (λ (a : ℕ). 0) (s .args .t5) (s .args .weights .now) i
+F s i k = limitsOf (s .args .n) (s .args .rows .now) (λ (a : ℕ). at (s .args .residuals .now) (k * s .args .n + a)) (λ (a : ℕ). 0) (s .args .margins .now) (s .args .weights .now) i
 
 -- the raised residuals of the column
 row-is : (t : tie.In-loop Inv-loop μ-loop) →
-    RowOf (t .before .before .before .raise-rows .last .0) (t .before .loop .j * (start t .args .n + 1)) (start t .args .n) (λ (k : ℕ). at (start t .args .residuals .now) (t .before .loop .j * start t .args .n + k))
-row-is t = rows-stand (t .before .before .before .raise-rows .ensures) .each (t .before .loop .j) (t .loop-test .taken)
+    RowOf (raised t .raise-rows .last .0) (t .before .loop .j * (start t .args .n + 1)) (start t .args .n) (λ (k : ℕ). at (start t .args .residuals .now) (t .before .loop .j * start t .args .n + k))
+row-is t = rows-stand (raised t .raise-rows .ensures) .each (t .before .loop .j) (t .loop-test .taken)
 
 -- what the sizes hold
 abbrev turn : tie.After-column-sizes Inv-loop μ-loop → tie.In-loop Inv-loop μ-loop
-turn c = c .before .before .before .before .before
+turn c = c .before .before .before .before
 
 sizes-here : (c : tie.After-column-sizes Inv-loop μ-loop) →
     Begins 0 (c .column-sizes .result) (start (turn c) .args .n) (sizesWith (inversePart (start (turn c) .args .n) (start (turn c) .args .rows .now)) (λ (k : ℕ). at (start (turn c) .args .residuals .now) (turn c .before .loop .j * start (turn c) .args .n + k)) (λ (k : ℕ). 0))
@@ -55,44 +58,38 @@ sizes-here c =
 
 -- the list, with this column's sizes
 list-next : (c : tie.After-column-sizes Inv-loop μ-loop) →
-    (length (c .column-sizes .last .0) ≡ 1024)
-    × KnownColumns (c .column-sizes .last .0) (start (turn c) .args .n) (turn c .before .loop .j + 1) (start (turn c) .args .rows .now) (turn c .before .before .before .raise-rows .last .0)
+    (length (c .column-sizes .last .0) ≡ length (start (turn c) .args .list .now))
+    × KnownColumns (c .column-sizes .last .0) (start (turn c) .args .n) (turn c .before .loop .j + 1) (start (turn c) .args .rows .now) (raised (turn c) .raise-rows .last .0)
 list-next c =
     let t = turn c in
     let i = t .before .loop .inv .1 .1 .0 in (
       ap length (c .column-sizes .ensures .1) ∙ written-length _ _ _ _ (start t .args .n) ∙ i .0,
-      known-more (t .before .loop .j) (omega (arith, i .0, row-ends (t .loop-test .taken) (start t .pre .0 .1 .0))) (i .1) (c .column-sizes .ensures .1),
+      known-more (t .before .loop .j) (omega (arith, i .0, mul-le-mul-right (start t .args .n) (t .loop-test .taken), start t .pre .0 .1 .1 .1 .1)) (i .1) (c .column-sizes .ensures .1),
     )
-
-slice-aggregate-raise-rows : tie.Need-slice-aggregate-raise-rows Inv-loop μ-loop
-slice-aggregate-raise-rows c = search needs
 
 raise-rows-requires : tie.Need-raise-rows-requires Inv-loop μ-loop
 raise-rows-requires c κs =
-    let p = c .before .before .before .pre in
-    ((p .0 .1 .0, lit≤ tt), p .1 .1 .0)
+    let p = c .before .before .before .before .before .pre in
+    ((p .0 .1 .0, p .0 .1 .1 .1 .0), p .1 .1 .0)
 
 loop-holds : tie.Need-loop-holds Inv-loop μ-loop
 loop-holds c = (omega arith, ((carried-first _ _, carried-first _ _), ((refl, known-none), sym (columns-none _ _ _))))
 
-slice-aggregate-column-sizes : tie.Need-slice-aggregate-column-sizes Inv-loop μ-loop
-slice-aggregate-column-sizes c = search needs
-
 -- how many columns before it count as known
-known-is : (c : tie.After-raised3 Inv-loop μ-loop) →
-    (c .before .before .before .if1 .known ≤ c .before .before .before .before .before .loop .j)
-    × (0 < c .before .before .before .if1 .known → start (c .before .before .before .before) .args .mirrored ≡ true)
+known-is : (c : tie.After-column-sizes-arg2 Inv-loop μ-loop) →
+    (c .before .before .if1 .known ≤ c .before .before .before .before .loop .j)
+    × (0 < c .before .before .if1 .known → start (c .before .before .before) .args .mirrored ≡ true)
 known-is c =
-    ⊎-elim (λ w. (omega (arith, w .1), λ h. w .0 .taken)) (λ w. (omega (arith, w .1), λ h. absurd (omega (arith, w .1, h)))) (c .before .before .before .if1 .came)
+    ⊎-elim (λ w. (omega (arith, w .1), λ h. w .0 .taken)) (λ w. (omega (arith, w .1), λ h. absurd (omega (arith, w .1, h)))) (c .before .before .if1 .came)
 
 column-sizes-requires : tie.Need-column-sizes-requires Inv-loop μ-loop
 column-sizes-requires c κs =
-    let t = c .before .before .before .before in
+    let t = c .before .before .before in
     let i = t .before .loop .inv in
     let p = start t .pre in
     let k = known-is c in (
-      (p .0 .1 .0, (t .loop-test .taken, k .0)),
-      (i .1 .0, ((p .1 .0 .rows, row-is t .row), (known-fewer (k .0) (i .1 .1 .0 .1), λ h. mirrored-sizes (p .1 .0 .rows) (t .before .before .before .raise-rows .ensures) (p .1 .1 .1 .0 (k .1 h))))),
+      (p .0 .1 .0, (t .loop-test .taken, (k .0, omega (arith, i .1 .1 .0 .0, p .0 .1 .1 .1 .1)))),
+      (i .1 .0, ((p .1 .0 .rows, row-is t .row), (known-fewer (k .0) (i .1 .1 .0 .1), λ h. mirrored-sizes (p .1 .0 .rows) (raised t .raise-rows .ensures) (p .1 .1 .1 .0 (k .1 h))))),
     )
 
 bounds-of-requires : tie.Need-bounds-of-requires Inv-loop μ-loop
@@ -110,7 +107,7 @@ store-requires c κs =
     let l = t .before .loop in
     let s = start t in (
       (omega (arith, s .pre .0 .1 .0), omega (arith, column-ends (t .loop-test .taken) (s .pre .0 .1 .0))),
-      λ k h. omega (arith, place {i = k} {n = s .args .n} (omega (arith, h)) (t .loop-test .taken), ap length (l .inv .1 .1 .1), columns-length (s .args .dst .now) (s .args .n) (F s) (l .j)),
+      λ k h. omega (arith, place {i = k} {n = s .args .n} (omega (arith, h)) (t .loop-test .taken), s .pre .0 .1 .1 .0, ap length (l .inv .1 .1 .1), columns-length (s .args .dst .now) (s .args .n) (F s) (l .j)),
     )
 
 add-place : tie.Need-add-place Inv-loop μ-loop
@@ -152,6 +149,12 @@ loop-again c =
 same-length : tie.Need-same-length Inv-loop μ-loop
 same-length c = ap length (c .before .loop .inv .1 .1 .1) ∙ columns-length _ _ _ (c .before .loop .j)
 
+same-length-2 : tie.Need-same-length-2 Inv-loop μ-loop
+same-length-2 c = search needs
+
+same-length-3 : tie.Need-same-length-3 Inv-loop μ-loop
+same-length-3 c = c .before .loop .inv .1 .1 .0 .0
+
 returns : tie.Need-returns Inv-loop μ-loop
 returns c = c .before .loop .inv .1 .1 .1 ∙ columns-end _ _ _ (c .before .loop .inv .0) (c .loop-test .left)
 
@@ -161,10 +164,8 @@ store-columns-spec =
     (tie.spec
     Inv-loop
     μ-loop
-    slice-aggregate-raise-rows
     raise-rows-requires
     loop-holds
-    slice-aggregate-column-sizes
     column-sizes-requires
     bounds-of-requires
     store-requires
@@ -175,4 +176,6 @@ store-columns-spec =
     loop-less
     loop-again
     same-length
+    same-length-2
+    same-length-3
     returns)

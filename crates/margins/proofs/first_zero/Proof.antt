@@ -10,10 +10,10 @@ use Rattle.margins.proofs.first_zero.Statement.{statement}
 use Rattle.margins.proofs.first_zero.Tie as tie
 
 abbrev Inv-loop : tie.InvT-loop
-Inv-loop n margins found₀ m₀ found m = (m ≤ n) × (found ≡ first m (λ (k : ℕ). eqb (getD margins k 0) 0))
+Inv-loop margins n found₀ m₀ found m = (m ≤ n) × (found ≡ first m (λ (k : ℕ). eqb (getD margins k 0) 0))
 
 abbrev μ-loop : tie.MeasureT-loop
-μ-loop n margins found₀ m₀ found m = n - m
+μ-loop margins n found₀ m₀ found m = n - m
 
 loop-holds : tie.Need-loop-holds Inv-loop μ-loop
 loop-holds c = (omega arith, sym (first-none _))
@@ -21,8 +21,8 @@ loop-holds c = (omega arith, sym (first-none _))
 mul-first-or : tie.Need-mul-first-or Inv-loop μ-loop
 mul-first-or c = search needs
 
-array-read-first-or : tie.Need-array-read-first-or Inv-loop μ-loop
-array-read-first-or c = search needs
+element-copy-out-first-or : tie.Need-element-copy-out-first-or Inv-loop μ-loop
+element-copy-out-first-or c = search needs
 
 first-or-requires : tie.Need-first-or-requires Inv-loop μ-loop
 first-or-requires c κs = search needs
@@ -34,7 +34,7 @@ loop-less : tie.Need-loop-less Inv-loop μ-loop
 loop-less c = search needs
 
 loop-again : tie.Need-loop-again Inv-loop μ-loop
-loop-again c = (omega arith, (rw (c .before .before .loop .inv .1) at (c .first-or .ensures)) ∙ sym (first-next _ _))
+loop-again c = (omega arith, (rw (c .before .before .before .loop .inv .1) at (c .first-or .ensures)) ∙ sym (first-next _ _))
 
 returns : tie.Need-returns Inv-loop μ-loop
 returns c = c .before .loop .inv .1 ∙ first-end _ (c .before .loop .inv .0) (c .loop-test .left)
@@ -47,7 +47,7 @@ first-zero-spec =
     μ-loop
     loop-holds
     mul-first-or
-    array-read-first-or
+    element-copy-out-first-or
     first-or-requires
     add-m
     loop-less

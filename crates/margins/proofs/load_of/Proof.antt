@@ -8,8 +8,7 @@ use Rattle.integer.proofs.Sum.{sumℕ-none, sumℕ-next, sumℕ-end}
 use Rattle.linear.specs.Slice.{at}
 use Rattle.linear.specs.Place.{Carried}
 use Rattle.linear.proofs.Carried.{carried-first, carried-next, start-place}
-use Rattle.linear.proofs.Places.{place}
-use Rattle.reckoning.proofs.Sizes.{row-ends}
+use Rattle.linear.proofs.Places.{place, square}
 use Rattle.margins.proofs.Loads.{load-size}
 use borrow.Author.Needs.{needs}
 use Rattle.margins.proofs.load_of.Statement.{statement}
@@ -26,8 +25,8 @@ module _ (t : tie.In-loop Inv-loop μ-loop) where
   start-is : t .before .before .args .row ≡ t .before .before .args .m * t .before .before .args .n
   start-is = start-place (t .before .before .pre .0 .1 .1)
 
-  place-in : t .before .before .args .row + t .before .loop .j < 1024
-  place-in = let p = t .before .before .pre .0 in omega (arith, start-is, t .loop-test .taken, row-ends (p .1 .0) (p .0))
+  place-in : t .before .before .args .row + t .before .loop .j < t .before .before .args .n * t .before .before .args .n
+  place-in = omega (arith, start-is, place (t .before .before .pre .0 .1 .0) (t .loop-test .taken))
 
 loop-holds : tie.Need-loop-holds Inv-loop μ-loop
 loop-holds c = (omega arith, (carried-first _ _, sym (sumℕ-none _)))
@@ -45,7 +44,7 @@ weigh-at-requires c κs =
     let p = t .before .before .pre in (
       l .inv .1 .0,
       (
-        (place-in t, rw (start-is t) (p .1 .0 .size _ (place (p .0 .1 .0) (t .loop-test .taken)))),
+        (omega (arith, place-in t, p .1 .0 .long), rw (start-is t) (p .1 .0 .within .size _ (place (p .0 .1 .0) (t .loop-test .taken)))),
         (
           load-size (p .1 .0) (p .1 .1) (p .0 .1 .0) (l .j) (p .0 .0) (l .inv .0) (l .inv .1 .1),
           rw (read _ (c .weigh-at-arg .given)) (p .1 .1 .within .size _ (omega (arith, t .loop-test .taken, p .0 .1 .0))),
@@ -54,7 +53,7 @@ weigh-at-requires c κs =
     )
 
 add-place : tie.Need-add-place Inv-loop μ-loop
-add-place c = let t = c .before .before in omega (arith, t .before .loop .inv .1 .0 .is, place-in t)
+add-place c = let t = c .before .before in omega (arith, t .before .loop .inv .1 .0 .is, place-in t, square (t .before .before .pre .0 .0))
 
 add-j : tie.Need-add-j Inv-loop μ-loop
 add-j c = search needs

@@ -1,3 +1,7 @@
+use mathlib.Core.Path.{_≡_}
+use native.Mathlib.Omega.{arith}
+use lib.ListN.{length}
+use Rattle.linear.proofs.Places.{square}
 use Rattle.margins.proofs.Loads.{DefectList, residuals-mirrored, defects-within, defect-margins}
 use borrow.Author.Needs.{needs}
 use Rattle.margins.proofs.margins_of.Statement.{statement}
@@ -10,13 +14,17 @@ mirrored-are c =
     let both = s .pre .1 .1 .1 .1 .0 (c .if1 .taken) in
     residuals-mirrored (s .args .n) (s .args .t) (s .args .matrix .now) (s .args .inverse .now) (both .0) (both .1) (s .pre .1 .1 .1 .0)
 
+-- the length of the array of D
+long : (d : tie.After-defects-of) → length (d .defects-of .result) ≡ 1024
+long d = search needs
+
 margins-from-requires : tie.Need-margins-from-requires
 margins-from-requires c κs =
     let s = c .before in
     let p = s .pre in (
-      p .0,
+      (p .0 .0, p .0 .1 .0),
       (
-        defects-within (s .args .n) (s .args .t) (s .args .matrix .now) (s .args .inverse .now) (p .0 .0) (p .0 .1) (p .1 .0) (p .1 .1 .0) (mirrored-are c),
+        defects-within (s .args .n) (s .args .t) (s .args .matrix .now) (s .args .inverse .now) (p .0 .0) (p .0 .1 .0) (p .1 .0) (p .1 .1 .0) (p .0 .1 .1) (mirrored-are c),
         p .1 .1 .1 .1 .1,
       ),
     )
@@ -29,14 +37,17 @@ returns c =
 defects-of-requires : tie.Need-defects-of-requires
 defects-of-requires c κs = search needs
 
+slice-aggregate-margins-from : tie.Need-slice-aggregate-margins-from
+slice-aggregate-margins-from c = search needs
+
 margins-from-requires-2 : tie.Need-margins-from-requires-2
 margins-from-requires-2 c κs =
     let d = c .before in
     let s = d .before .before in
     let p = s .pre in (
-      p .0,
+      (p .0 .0, p .0 .1 .0),
       (
-        defects-within (s .args .n) (s .args .t) (s .args .matrix .now) (s .args .inverse .now) (p .0 .0) (p .0 .1) (p .1 .0) (p .1 .1 .0) (d .defects-of .ensures),
+        defects-within (s .args .n) (s .args .t) (s .args .matrix .now) (s .args .inverse .now) (p .0 .0) (p .0 .1 .0) (p .1 .0) (p .1 .1 .0) (omega (arith, square (p .0 .1 .0), long d)) (d .defects-of .ensures),
         p .1 .1 .1 .1 .1,
       ),
     )
@@ -50,4 +61,10 @@ returns-2 c =
 pub margins-of-spec : {M : Type 1} → statement M
 margins-of-spec =
     tie.close
-    (tie.spec margins-from-requires returns defects-of-requires margins-from-requires-2 returns-2)
+    (tie.spec
+    margins-from-requires
+    returns
+    defects-of-requires
+    slice-aggregate-margins-from
+    margins-from-requires-2
+    returns-2)

@@ -7,8 +7,8 @@ use Rattle.margins.proofs.weigh_at.Tie as tie
 mul-weigh : tie.Need-mul-weigh
 mul-weigh c = search needs
 
-element-copy-out-weigh : tie.Need-element-copy-out-weigh
-element-copy-out-weigh c = search needs
+shared-slice-copy-out-weigh : tie.Need-shared-slice-copy-out-weigh
+shared-slice-copy-out-weigh c = search needs
 
 weigh-requires : tie.Need-weigh-requires
 weigh-requires c κs =
@@ -18,4 +18,4 @@ returns : tie.Need-returns
 returns c = let s = c .before .before in rw (read _ (c .before .weigh-arg .given), read _ (s .fits .w .sfits), unit-place (s .pre .0)) at (c .weigh .ensures)
 
 pub weigh-at-spec : {M : Type 1} → statement M
-weigh-at-spec = tie.close (tie.spec mul-weigh element-copy-out-weigh weigh-requires returns)
+weigh-at-spec = tie.close (tie.spec mul-weigh shared-slice-copy-out-weigh weigh-requires returns)

@@ -19,9 +19,9 @@ fit : (s : tie.Start) → FitInquiry (Q s)
 fit s = fit-of (Q s) (s .pre .0) (s .pre .1)
 
 -- where no margin is 0
-none-low : (c : tie.Else1) → Margins (inquiryProblem (Q (c .before .before .before)))
+none-low : (c : tie.Else1) → Margins (inquiryProblem (Q (c .before .before .before .before)))
 none-low c =
-    let m = c .before .before in
+    let m = c .before .before .before in
     let P = inquiryProblem (Q (m .before)) in
     first-past (P .n) (marginFails P) (omega (arith, c .if1 .left, low-is (Q (m .before)) (m .margins-for .ensures) (c .before .first-zero .ensures)))
 
@@ -29,30 +29,30 @@ margins-for-requires : tie.Need-margins-for-requires
 margins-for-requires c κs = let f = fit c in ((f .scale, f .few), (f .matrix, (f .inverse, f .weights)))
 
 first-zero-requires : tie.Need-first-zero-requires
-first-zero-requires c κs = fit (c .before) .few
+first-zero-requires c κs = fit (c .before .before) .few
 
-cast-t12 : tie.Need-cast-t12
-cast-t12 c = record { fits = omega (arith, c .if1 .taken, fit (c .before .before .before) .few) }
+cast-t13 : tie.Need-cast-t13
+cast-t13 c = record { fits = omega (arith, c .if1 .taken, fit (c .before .before .before .before) .few) }
 
-add-t13 : tie.Need-add-t13
-add-t13 c = record { fits = omega (arith, c .if1 .taken, fit (c .before .before .before) .few) }
+add-t14 : tie.Need-add-t14
+add-t14 c = record { fits = omega (arith, c .if1 .taken, fit (c .before .before .before .before) .few) }
 
 returns : tie.Need-returns
 returns c =
-    let m = c .before .before in
+    let m = c .before .before .before in
     let s = m .before in
     quality-low (Q s) (s .pre .0) (s .pre .1) _ (low-is (Q s) (m .margins-for .ensures) (c .before .first-zero .ensures)) (c .if1 .taken)
 
 spreads-of-requires : tie.Need-spreads-of-requires
 spreads-of-requires c κs =
-    let m = c .before .before .before in
+    let m = c .before .before .before .before in
     let f = fit (m .before) in
     ((f .scale, f .few), (f .weights, under (Q (m .before)) (m .margins-for .ensures)))
 
 peak-of-requires : tie.Need-peak-of-requires
 peak-of-requires c κs =
     let i = c .before .before .before .before in
-    let m = i .before .before in
+    let m = i .before .before .before in
     let s = m .before in
     let f = fit s in (
       (f .some, f .few),
@@ -63,24 +63,24 @@ peak-of-requires c κs =
     )
 
 row-small : (c : tie.After-peak-of) → c .peak-of .result < 32
-row-small c = omega (arith, c .peak-of .ensures .0, fit (c .before .before .before .before .before .before .before .before) .few)
+row-small c = omega (arith, c .peak-of .ensures .0, fit (c .before .before .before .before .before .before .before .before .before) .few)
 
-mul-t18 : tie.Need-mul-t18
-mul-t18 c = record { fits = omega (arith, row-small c) }
+mul-t19 : tie.Need-mul-t19
+mul-t19 c = record { fits = omega (arith, row-small c) }
 
-array-read-t21 : tie.Need-array-read-t21
-array-read-t21 c = row-small c
+array-read-t22 : tie.Need-array-read-t22
+array-read-t22 c = row-small c
 
-mul-t22 : tie.Need-mul-t22
-mul-t22 c = record { fits = omega (arith, row-small c) }
+mul-t23 : tie.Need-mul-t23
+mul-t23 c = record { fits = omega (arith, row-small c) }
 
-array-read-t25 : tie.Need-array-read-t25
-array-read-t25 c = row-small c
+array-read-t26 : tie.Need-array-read-t26
+array-read-t26 c = row-small c
 
 returns-2 : tie.Need-returns-2
 returns-2 c =
     let i = c .before .before .before .before .before in
-    let m = i .before .before in
+    let m = i .before .before .before in
     let s = m .before in
     let P = inquiryProblem (Q s) in
     let h = none-low i in
@@ -98,13 +98,13 @@ rate-spec =
     (tie.spec
     margins-for-requires
     first-zero-requires
-    cast-t12
-    add-t13
+    cast-t13
+    add-t14
     returns
     spreads-of-requires
     peak-of-requires
-    mul-t18
-    array-read-t21
-    mul-t22
-    array-read-t25
+    mul-t19
+    array-read-t22
+    mul-t23
+    array-read-t26
     returns-2)

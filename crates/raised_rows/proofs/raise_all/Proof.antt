@@ -7,7 +7,7 @@ use Rattle.linear.specs.Slice.{at}
 use Rattle.linear.specs.Place.{Carried}
 use Rattle.linear.proofs.Carried.{start-place, carried-first, carried-next}
 use Rattle.raised_rows.specs.Raised.{RowsOf}
-use Rattle.raised_rows.proofs.Filling.{rows-room, rows-none, rows-more, rows-end}
+use Rattle.raised_rows.proofs.Filling.{row-below, rows-none, rows-more, rows-end}
 use borrow.Author.Needs.{needs}
 use Rattle.raised_rows.proofs.raise_all.Statement.{statement}
 use Rattle.raised_rows.proofs.raise_all.Tie as tie
@@ -35,7 +35,7 @@ raise-row-requires c κs =
         few,
         (
           omega (arith, l .inv .1 .1 .0 .is, steps s (l .i) (l .inv .0), mul-le-mul few (s .pre .0 .1 .1 .0)),
-          omega (arith, l .inv .1 .0 .is, l .inv .1 .1 .1 .0, rows-room t few, s .pre .0 .1 .1 .1),
+          omega (arith, l .inv .1 .0 .is, l .inv .1 .1 .1 .0, row-below (s .args .n) t, s .pre .0 .1 .1 .1),
         ),
       ),
       rw (start-place (l .inv .1 .1 .0)) (s .pre .1 (l .i) t),

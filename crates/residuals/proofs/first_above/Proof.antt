@@ -1,9 +1,9 @@
+use mathlib.Core.Bool.{false}
 use mathlib.Core.Path.{_≡_, sym, _∙_}
-use Prim.Native.Nat.{ℕ, _+_, _≤_, _-_}
+use Prim.Native.Nat.{ℕ, _+_, _≤_, _<_, _-_}
 use native.Mathlib.Omega.{arith}
-use Rattle.integer.specs.Finite.{first}
 use Rattle.integer.proofs.Machine.{read}
-use Rattle.integer.proofs.Search.{first-none, first-next, first-end}
+use Rattle.integer.proofs.Search.{upto, first-is, first-never}
 use Rattle.linear.specs.Slice.{at}
 use Rattle.reckoning.specs.Parts.{aboveAllowed}
 use borrow.Author.Needs.{needs}
@@ -11,14 +11,20 @@ use Rattle.residuals.proofs.first_above.Statement.{statement}
 use Rattle.residuals.proofs.first_above.Tie as tie
 
 abbrev Inv-loop : tie.InvT-loop
-Inv-loop residuals start allowed n found₀ place₀ k₀ found place k =
-    (k ≤ n) × ((place ≡ start + k) × (found ≡ first k (λ (i : ℕ). aboveAllowed (at allowed i) (at residuals (start + i)))))
+Inv-loop residuals start allowed n place₀ k₀ place k =
+    (k ≤ n) × ((place ≡ start + k) × ((i : ℕ) → i < k → aboveAllowed (at allowed i) (at residuals (start + i)) ≡ false))
 
 abbrev μ-loop : tie.MeasureT-loop
-μ-loop residuals start allowed n found₀ place₀ k₀ found place k = n - k
+μ-loop residuals start allowed n place₀ k₀ place k = n - k
+
+-- the test of this turn
+here : (c : tie.After-is-above Inv-loop μ-loop) →
+    c .is-above .result ≡ aboveAllowed (at (c .before .before .before .before .before .args .allowed .now) (c .before .before .before .before .loop .k)) (at (c .before .before .before .before .before .args .residuals .now) (c .before .before .before .before .before .args .start + c .before .before .before .before .loop .k))
+here c =
+    rw (read _ (c .before .before .is-above-arg .given), read _ (c .before .is-above-arg2 .given), c .before .before .before .before .loop .inv .1 .0) at (c .is-above .ensures)
 
 loop-holds : tie.Need-loop-holds Inv-loop μ-loop
-loop-holds c = (omega arith, (omega arith, sym (first-none _)))
+loop-holds c = (omega arith, (omega arith, λ i l. absurd (omega arith)))
 
 mul-is-above : tie.Need-mul-is-above Inv-loop μ-loop
 mul-is-above c = search needs
@@ -36,8 +42,10 @@ is-above-requires : tie.Need-is-above-requires Inv-loop μ-loop
 is-above-requires c κs =
     let t = c .before .before in rw (read _ (c .before .is-above-arg .given)) (t .before .before .pre .1 .within .size (t .before .loop .k) (t .loop-test .taken))
 
-first-or-requires : tie.Need-first-or-requires Inv-loop μ-loop
-first-or-requires c κs = search needs
+returns : tie.Need-returns Inv-loop μ-loop
+returns c =
+    let t = c .before .before .before .before in
+    sym (first-is _ _ (t .before .loop .k) (t .loop-test .taken) (sym (here (c .before)) ∙ c .if1 .taken) (t .before .loop .inv .1 .1))
 
 add-place : tie.Need-add-place Inv-loop μ-loop
 add-place c = search needs
@@ -52,15 +60,11 @@ loop-again : tie.Need-loop-again Inv-loop μ-loop
 loop-again c =
     let l = c .before .before .before .before .before .loop in (
       omega arith,
-      (
-        omega arith,
-        (rw (c .before .is-above .ensures, read _ (c .before .before .before .is-above-arg .given), read _ (c .before .before .is-above-arg2 .given), l .inv .1 .0, l .inv .1 .1) at (c .first-or .ensures))
-            ∙ sym (first-next _ _),
-      ),
+      (omega arith, λ i m. upto _ (l .k) i (omega (arith, m)) (l .inv .1 .1) (sym (here (c .before)) ∙ c .if1 .left)),
     )
 
-returns : tie.Need-returns Inv-loop μ-loop
-returns c = c .before .loop .inv .1 .1 ∙ first-end _ (c .before .loop .inv .0) (c .loop-test .left)
+returns-2 : tie.Need-returns-2 Inv-loop μ-loop
+returns-2 c = sym (first-never _ _ (λ i m. c .before .loop .inv .1 .1 i (omega (arith, m, c .loop-test .left))))
 
 pub first-above-spec : {M : Type 1} → statement M
 first-above-spec =
@@ -74,9 +78,9 @@ first-above-spec =
     mul-is-above-2
     shared-slice-copy-out-is-above
     is-above-requires
-    first-or-requires
+    returns
     add-place
     add-k
     loop-less
     loop-again
-    returns)
+    returns-2)

@@ -2,7 +2,6 @@ use mathlib.Core.Path.{_≡_, sym, _∙_}
 use Prim.Native.Nat.{ℕ, _*_, _%_, _≤_, _-_}
 use native.Mathlib.Omega.{arith}
 use native.Mathlib.Nat.{mul-le-mul-right, le-trans}
-use lib.ListN.{length}
 use Rattle.integer.specs.Finite.{first}
 use Rattle.integer.proofs.Search.{first-end}
 use Rattle.linear.specs.Slice.{at}
@@ -20,29 +19,32 @@ Inv-loop columns allowed n found₀ start₀ j₀ found start j =
 abbrev μ-loop : tie.MeasureT-loop
 μ-loop columns allowed n found₀ start₀ j₀ found start j = n - j
 
-wide : (c : tie.After-first-above-arg Inv-loop μ-loop) → length (c .before .before .before .args .columns .now) ≡ 1024
-wide c = search needs
-
 loop-holds : tie.Need-loop-holds Inv-loop μ-loop
 loop-holds c = (omega arith, (omega arith, sym (first-no-column _ _)))
 
 first-above-requires : tie.Need-first-above-requires Inv-loop μ-loop
 first-above-requires c κs =
-    let t = c .before in
-    let s = t .before .before in
-    let l = t .before .loop in
-    let ends = row-ends (t .loop-test .taken) (s .pre .0) in
-    ((s .pre .0, (omega (arith, ends, l .inv .1 .0, wide c), omega (arith, ends, l .inv .1 .0))), s .pre .1)
+    let s = c .before .before in
+    let l = c .before .loop in (
+      (
+        s .pre .0 .0,
+        (
+          omega (arith, mul-le-mul-right (s .args .n) (c .loop-test .taken), l .inv .1 .0, s .pre .0 .1),
+          omega (arith, row-ends (c .loop-test .taken) (s .pre .0 .0), l .inv .1 .0),
+        ),
+      ),
+      s .pre .1,
+    )
 
 first-from-requires : tie.Need-first-from-requires Inv-loop μ-loop
 first-from-requires c κs =
-    let t = c .before .before in
+    let t = c .before in
     let s = t .before .before in
-    (omega (arith, row-ends (t .loop-test .taken) (s .pre .0), t .before .loop .inv .1 .0), le-trans (first-most _ _ (c .first-above .ensures)) (omega (arith, s .pre .0)))
+    (omega (arith, row-ends (t .loop-test .taken) (s .pre .0 .0), t .before .loop .inv .1 .0), le-trans (first-most _ _ (c .first-above .ensures)) (omega (arith, s .pre .0 .0)))
 
 add-start : tie.Need-add-start Inv-loop μ-loop
 add-start c =
-    let t = c .before .before .before in omega (arith, row-ends (t .loop-test .taken) (t .before .before .pre .0), t .before .loop .inv .1 .0)
+    let t = c .before .before in omega (arith, row-ends (t .loop-test .taken) (t .before .before .pre .0 .0), t .before .loop .inv .1 .0)
 
 add-j : tie.Need-add-j Inv-loop μ-loop
 add-j c = search needs
@@ -52,7 +54,7 @@ loop-less c = search needs
 
 loop-again : tie.Need-loop-again Inv-loop μ-loop
 loop-again c =
-    let t = c .before .before .before in
+    let t = c .before .before in
     let s = t .before .before in
     let l = t .before .loop in (
       omega arith,

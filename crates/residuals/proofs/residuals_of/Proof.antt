@@ -15,11 +15,11 @@ use Rattle.residuals.proofs.residuals_of.Statement.{statement}
 use Rattle.residuals.proofs.residuals_of.Tie as tie
 
 abbrev Inv-loop : tie.InvT-loop
-Inv-loop matrix guess n base out₀ row₀ k₀ out row k =
+Inv-loop base matrix guess n out₀ row₀ k₀ out row k =
     (k ≤ n) × (Carried 0 n k row × ((length out ≡ 32) × Begins (pos 0) out k (residualFrom n base matrix guess)))
 
 abbrev μ-loop : tie.MeasureT-loop
-μ-loop matrix guess n base out₀ row₀ k₀ out row k = n - k
+μ-loop base matrix guess n out₀ row₀ k₀ out row k = n - k
 
 loop-holds : tie.Need-loop-holds Inv-loop μ-loop
 loop-holds c = (omega arith, (carried-first _ _, (refl, begins-none _ _ _)))
@@ -27,8 +27,8 @@ loop-holds c = (omega arith, (carried-first _ _, (refl, begins-none _ _ _)))
 mul-difference : tie.Need-mul-difference Inv-loop μ-loop
 mul-difference c = search needs
 
-array-copy-out-difference : tie.Need-array-copy-out-difference Inv-loop μ-loop
-array-copy-out-difference c = search needs
+element-copy-out-difference : tie.Need-element-copy-out-difference Inv-loop μ-loop
+element-copy-out-difference c = search needs
 
 difference-requires : tie.Need-difference-requires Inv-loop μ-loop
 difference-requires c κs =
@@ -79,7 +79,7 @@ residuals-of-spec =
     μ-loop
     loop-holds
     mul-difference
-    array-copy-out-difference
+    element-copy-out-difference
     difference-requires
     mul-out
     array-set-from-out

@@ -12,10 +12,10 @@ use Rattle.slacks.proofs.allowed_of.Statement.{statement}
 use Rattle.slacks.proofs.allowed_of.Tie as tie
 
 abbrev Inv-loop : tie.InvT-loop
-Inv-loop n slacks sums out₀ k₀ out k = (k ≤ n) × ((length out ≡ 32) × Begins (pos 0) out k (λ (i : ℕ). allowedBeside (getD slacks i 0) (getD sums i 0)))
+Inv-loop slacks sums n out₀ k₀ out k = (k ≤ n) × ((length out ≡ 32) × Begins (pos 0) out k (λ (i : ℕ). allowedBeside (getD slacks i 0) (getD sums i 0)))
 
 abbrev μ-loop : tie.MeasureT-loop
-μ-loop n slacks sums out₀ k₀ out k = n - k
+μ-loop slacks sums n out₀ k₀ out k = n - k
 
 loop-holds : tie.Need-loop-holds Inv-loop μ-loop
 loop-holds c = (omega arith, (refl, begins-none _ _ _))
@@ -23,14 +23,14 @@ loop-holds c = (omega arith, (refl, begins-none _ _ _))
 mul-allowed-at : tie.Need-mul-allowed-at Inv-loop μ-loop
 mul-allowed-at c = search needs
 
-array-read-allowed-at : tie.Need-array-read-allowed-at Inv-loop μ-loop
-array-read-allowed-at c = search needs
+element-copy-out-allowed-at : tie.Need-element-copy-out-allowed-at Inv-loop μ-loop
+element-copy-out-allowed-at c = search needs
 
 mul-allowed-at-2 : tie.Need-mul-allowed-at-2 Inv-loop μ-loop
 mul-allowed-at-2 c = search needs
 
-array-read-allowed-at-2 : tie.Need-array-read-allowed-at-2 Inv-loop μ-loop
-array-read-allowed-at-2 c = search needs
+element-copy-out-allowed-at-2 : tie.Need-element-copy-out-allowed-at-2 Inv-loop μ-loop
+element-copy-out-allowed-at-2 c = search needs
 
 allowed-at-requires : tie.Need-allowed-at-requires Inv-loop μ-loop
 allowed-at-requires c κs = search needs
@@ -49,7 +49,7 @@ loop-less c = search needs
 
 loop-again : tie.Need-loop-again Inv-loop μ-loop
 loop-again c =
-    let l = c .before .before .loop in
+    let l = c .before .before .before .before .loop in
     (omega arith, (simp length-set (l .inv .1 .0), begins-more _ _ _ _ _ (l .inv .1 .1) (omega arith) (read _ (c .allowed-at .ok) ∙ c .allowed-at .ensures)))
 
 returns : tie.Need-returns Inv-loop μ-loop
@@ -63,9 +63,9 @@ allowed-of-spec =
     μ-loop
     loop-holds
     mul-allowed-at
-    array-read-allowed-at
+    element-copy-out-allowed-at
     mul-allowed-at-2
-    array-read-allowed-at-2
+    element-copy-out-allowed-at-2
     allowed-at-requires
     mul-out
     array-set-from-out

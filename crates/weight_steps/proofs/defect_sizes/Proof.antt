@@ -1,11 +1,11 @@
 use mathlib.Core.Path.{_≡_, refl, _∙_}
 use Prim.Native.Nat.{_^_, ℕ, _*_, _/_, _%_, _≤_, _<_, _-_}
 use native.Mathlib.Omega.{arith}
-use lib.Dec.{lit≤}
 use lib.IntN.{natAbs, pos}
 use lib.ListN.{length, length-set, getD}
 use Rattle.integer.proofs.Machine.{read}
 use Rattle.linear.proofs.Places.{square}
+use Rattle.raised_rows.proofs.Filling.{rows-fit}
 use Rattle.reckoning.specs.Arrays.{Begins}
 use Rattle.reckoning.specs.Parts.{columnResidual}
 use Rattle.reckoning.proofs.Columns.{in-square}
@@ -23,20 +23,20 @@ abbrev μ-loop : tie.MeasureT-loop
 μ-loop t matrix inverse n columns out₀ i₀ i-end out i = n * n - i
 
 abbrev start : tie.In-loop Inv-loop μ-loop → tie.Start Inv-loop μ-loop
-start c = c .before .before .before .before .before .before .before
+start c = c .before .before .before .before .before .before .before .before .before
 
 -- the residual of this turn
 module _ (c : tie.In-loop Inv-loop μ-loop) where
-  residual-is : getD (c .before .before .inverse-residuals-of .result) (c .before .loop .i) (pos 0)
+  residual-is : getD (c .before .before .before .inverse-residuals-of .last .0) (c .before .loop .i) (pos 0)
       ≡ columnResidual (start c .args .n) (start c .args .t) (start c .args .inverse .now) (start c .args .matrix .now) (c .before .loop .i / start c .args .n) (c .before .loop .i % start c .args .n)
   residual-is =
       let a = start c .args in
       let i = c .before .loop .i in
       let l = in-square (a .n) i (c .loop-test .taken) in
-      c .before .before .inverse-residuals-of .ensures .each i (c .loop-test .taken)
-      ∙ residual-of-rows (a .n) (a .t) (a .inverse .now) (c .before .before .before .before .before .raise-rows .ensures) (i / a .n) (i % a .n) (l .0) (l .1)
+      c .before .before .before .inverse-residuals-of .ensures .each i (c .loop-test .taken)
+      ∙ residual-of-rows (a .n) (a .t) (a .inverse .now) (c .before .before .before .before .before .before .before .raise-rows .ensures) (i / a .n) (i % a .n) (l .0) (l .1)
 
-  residual-here : natAbs (getD (c .before .before .inverse-residuals-of .result) (c .before .loop .i) (pos 0)) < 2 ^ 63
+  residual-here : natAbs (getD (c .before .before .before .inverse-residuals-of .last .0) (c .before .loop .i) (pos 0)) < 2 ^ 63
   residual-here =
       let s = start c in
       let i = c .before .loop .i in
@@ -51,13 +51,20 @@ slice-aggregate-raise-rows : tie.Need-slice-aggregate-raise-rows Inv-loop μ-loo
 slice-aggregate-raise-rows c = search needs
 
 raise-rows-requires : tie.Need-raise-rows-requires Inv-loop μ-loop
-raise-rows-requires c κs = let p = c .before .pre in ((p .0 .1, lit≤ tt), raisable (p .1 .0))
+raise-rows-requires c κs = let p = c .before .pre in ((p .0 .1, rows-fit (p .0 .1)), raisable (p .1 .0))
+
+slice-aggregate-inverse-residuals-of : tie.Need-slice-aggregate-inverse-residuals-of Inv-loop μ-loop
+slice-aggregate-inverse-residuals-of c = search needs
+
+slice-aggregate-inverse-residuals-of-2 : tie.Need-slice-aggregate-inverse-residuals-of-2 Inv-loop μ-loop
+slice-aggregate-inverse-residuals-of-2 c = search needs
 
 inverse-residuals-of-requires : tie.Need-inverse-residuals-of-requires Inv-loop μ-loop
-inverse-residuals-of-requires c κs = let p = c .before .before .before .before .pre in (p .0, (p .1 .1, c .before .before .raise-rows .ensures .rows))
+inverse-residuals-of-requires c κs =
+    let p = c .before .before .before .before .before .pre in ((p .0 .0, (p .0 .1, square (p .0 .1))), (p .1 .1, c .before .before .before .raise-rows .ensures .rows))
 
 mul-i-end : tie.Need-mul-i-end Inv-loop μ-loop
-mul-i-end c = omega (arith, square (c .before .before .before .before .before .pre .0 .1))
+mul-i-end c = omega (arith, square (c .before .before .before .before .before .before .before .pre .0 .1))
 
 loop-holds : tie.Need-loop-holds Inv-loop μ-loop
 loop-holds c = (omega arith, (refl, begins-none _ _ _))
@@ -105,6 +112,8 @@ defect-sizes-spec =
     μ-loop
     slice-aggregate-raise-rows
     raise-rows-requires
+    slice-aggregate-inverse-residuals-of
+    slice-aggregate-inverse-residuals-of-2
     inverse-residuals-of-requires
     mul-i-end
     loop-holds

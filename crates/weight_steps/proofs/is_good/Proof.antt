@@ -13,7 +13,7 @@ first-zero-requires : tie.Need-first-zero-requires
 first-zero-requires c κs = search needs
 
 returns : tie.Need-returns
-returns c = ap (leb _) (c .first-zero .ensures ∙ first-ext _ _ _ (λ m l. ap (λ (x : ℕ). eqb x 0) (c .before .margins-from .ensures .each m l)))
+returns c = ap (leb _) (c .first-zero .ensures ∙ first-ext _ _ _ (λ m l. ap (λ (x : ℕ). eqb x 0) (c .before .before .margins-from .ensures .each m l)))
 
 pub is-good-spec : {M : Type 1} → statement M
 is-good-spec = tie.close (tie.spec margins-from-requires first-zero-requires returns)

@@ -37,14 +37,17 @@ use denote.Exit.{yes}
 use denote.Signature.{plain}
 use Rattle.observation.specs.declared.Built.{Built}
 use Rattle.gathering.specs.declared.Gathered.{Gathered}
+use Rattle.gathering.specs.declared.Progress.{Progress}
 use Rattle.observation.specs.declared.Observation.{Observation}
-use Rattle.gathering.specs.Gathered.{gathered, few, opened, ReadyWhenDone}
+use Rattle.gathering.specs.Gathered.{together, gathered, few, opening, noLines, ReadyWhenDone}
 use Rattle.observation.proofs.Built as B
 use Rattle.equations.specs.declared.Layout.{Layout}
 use Rattle.equations.proofs.Layout as L
 use Rattle.equations.proofs.Layout.Laws as L′
 use Rattle.gathering.proofs.Gathered as S
 use Rattle.gathering.proofs.Gathered.Laws as S′
+use Rattle.gathering.proofs.Progress as P
+use Rattle.gathering.proofs.Progress.Laws as P′
 use Rattle.observation.proofs.Observation as T
 use Rattle.gathering.proofs.Whole.{gatheredOf, whole}
 use Rattle.gathering.proofs.open as open-fn
@@ -100,21 +103,21 @@ module _ {M : Type 1} (𝓤 : URA M) (H : Heap 𝓤) (A : Atoms 𝓤) (W : Given
   pub asked-open : ent 𝓤 (onEntry 𝓤 H A open-fn.signature tt tt (n, (k, tt)) (vint w32 n ∷ [], (vint w64 k ∷ [], tt))) (Open 𝓤 H A mem run .pre to-open)
   asked-open = qed W (‵ ftrue ∷ ‵ (owns (u32 ∷ usize ∷ []) (n, (k, tt)) (vint w32 n ∷ [], (vint w64 k ∷ [], tt))) ∷ []) ∵ join ! $ frame ! $ done !
 
-  pub said-open : (s : Gathered) → ent 𝓤 (ensured 𝓤 H A open-fn.ended (open-fn.clauses 𝓤 H A mem run) tt (n, (k, tt)) tt s) (fact 𝓤 (s ≡ opened n k))
-  said-open s = exE 𝓤 _ (λ ws. snd∗ 𝓤 (sem 𝓤 H A (lasts open-fn.ended tt (n, (k, tt)) ws)) (fact 𝓤 (s ≡ opened n k)))
+  pub said-open : (s : Progress) → ent 𝓤 (ensured 𝓤 H A open-fn.ended (open-fn.clauses 𝓤 H A mem run) tt (n, (k, tt)) tt s) (fact 𝓤 (s ≡ opening n k))
+  said-open s = exE 𝓤 _ (λ ws. snd∗ 𝓤 (sem 𝓤 H A (lasts open-fn.ended tt (n, (k, tt)) ws)) (fact 𝓤 (s ≡ opening n k)))
 
-  abbrev pub to-all : Gathered → Val → All 𝓤 H A mem run .Ghost
+  abbrev pub to-all : Progress → Val → All 𝓤 H A mem run .Ghost
   to-all s v = (((κ, tt), (q, tt), tt, (x, (s, tt)), (sl x ∷ [], (v ∷ [], tt))), tt)
 
-  pub asked-all : (s : Gathered) (v : Val) → ent 𝓤 (onEntry 𝓤 H A all.signature (κ, tt) (q, tt) (x, (s, tt)) (sl x ∷ [], (v ∷ [], tt))) (All 𝓤 H A mem run .pre (to-all s v))
-  asked-all s v = qed W ((‵ (flft κ q) ⊛ ‵ ftrue) ∷ ‵ (owns (ShrSlice (named 0) κ R ∷ S.the-row ∷ []) (x, (s, tt)) (sl x ∷ [], (v ∷ [], tt))) ∷ []) ∵ join ! $ frame ! $ done !
+  pub asked-all : (s : Progress) (v : Val) → ent 𝓤 (onEntry 𝓤 H A all.signature (κ, tt) (q, tt) (x, (s, tt)) (sl x ∷ [], (v ∷ [], tt))) (All 𝓤 H A mem run .pre (to-all s v))
+  asked-all s v = qed W ((‵ (flft κ q) ⊛ ‵ ftrue) ∷ ‵ (owns (ShrSlice (named 0) κ R ∷ P.the-row ∷ []) (x, (s, tt)) (sl x ∷ [], (v ∷ [], tt))) ∷ []) ∵ join ! $ frame ! $ done !
 
-  pub said-all : (s g : Gathered) → ent 𝓤 (ensured 𝓤 H A all.ended (all.clauses 𝓤 H A mem run) (κ, tt) (x, (s, tt)) tt g) (fact 𝓤 (g ≡ gathered s (x .now) (few k)))
-  said-all s g = exE 𝓤 _ (λ ws. snd∗ 𝓤 (sem 𝓤 H A (lasts all.ended (κ, tt) (x, (s, tt)) ws)) (fact 𝓤 (g ≡ gathered s (x .now) (few k))))
+  pub said-all : (s : Progress) (g : Gathered) → ent 𝓤 (ensured 𝓤 H A all.ended (all.clauses 𝓤 H A mem run) (κ, tt) (x, (s, tt)) tt g) (fact 𝓤 (g ≡ gathered (together s noLines) (x .now) (few k)))
+  said-all s g = exE 𝓤 _ (λ ws. snd∗ 𝓤 (sem 𝓤 H A (lasts all.ended (κ, tt) (x, (s, tt)) ws)) (fact 𝓤 (g ≡ gathered (together s noLines) (x .now) (few k))))
 
   -- what was gathered
-  pub is-whole : (s g : Gathered) → s ≡ opened n k → g ≡ gathered s (x .now) (few k) → g ≡ gatheredOf n (x .now)
-  is-whole s g p e = e ∙ ap (λ (z : Gathered). gathered z (x .now) (few k)) p
+  pub is-whole : (s : Progress) (g : Gathered) → s ≡ opening n k → g ≡ gathered (together s noLines) (x .now) (few k) → g ≡ gatheredOf n (x .now)
+  is-whole s g p e = e ∙ ap (λ (z : Progress). gathered (together z noLines) (x .now) (few k)) p
 
   pub is-sound : (g : Gathered) → g ≡ gatheredOf n (x .now) → ReadyWhenDone g
   is-sound g e = subst ReadyWhenDone (sym e) (whole n (x .now) .sound)
@@ -128,6 +131,9 @@ module _ {M : Type 1} (𝓤 : URA M) (H : Heap 𝓤) (A : Atoms 𝓤) (W : Given
 
   pub typed : (s : Gathered) (v : Val) → Is S.the-row s (v ∷ []) → Holds (hasTy S′.mir v) × WT v
   typed s v g = LL.lawful S.the-type S′.the-laws 𝓤 H A W .typed s _ g .0
+
+  pub typed-far : (s : Progress) (v : Val) → Is P.the-row s (v ∷ []) → Holds (hasTy P′.mir v) × WT v
+  typed-far s v g = LL.lawful P.the-type P′.the-laws 𝓤 H A W .typed s _ g .0
 
   pub exits : (b : Built) (w : Val) (zm zr : List ℤ) → BuiltAs n (x .now) lay (m .now) (r .now) b zm zr → length zm ≡ length (m .now) → length zr ≡ length (r .now)
       → ent 𝓤 (⋆ 𝓤 H A (‵ (B.the-row .own b (w ∷ [])) ∷ (‵ (flft κ′ q′) ⊛ ‵ (flft κ″ q″) ⊛ ‵ ftrue) ∷ ‵ (finally i64 (r .name) zr) ∷ ‵ (finally i64 (m .name) zm) ∷ (‵ (flft κ q) ⊛ ‵ ftrue) ∷ ‵ Lines ∷ [])) (Post w)
