@@ -3,7 +3,6 @@
 import re
 
 from office.calls import WHOLE
-from office.room import ROOT
 
 EXAMPLE = re.compile(r"`([^`]+)`: `([^`]+)`")
 
@@ -217,23 +216,8 @@ def manual_has_the_help(room):
     return len(paragraphs) > 8 and all(paragraph in manual for paragraph in paragraphs)
 
 
-def readme_counts_lines(room):
-    """The reading list names files that are there, with their lines, and the sum of them."""
-    listed = re.findall(r"(?m)^\| `(\S+/specs/\S+\.antt)` \| (\d+) \|", (room.root / "README.md").read_text())
-    counted = [(name, str(count_lines(ROOT / "crates" / name))) for name, _ in listed]
-    for (name, told), (_, lines) in zip(listed, counted):
-        if told != lines:
-            print(f"README.md: {name} has {lines} lines, not {told}")
-    together = re.search(r"(?m)^\| together \| (\d+) \|", (room.root / "README.md").read_text())
-    return len(listed) > 40 and listed == counted and int(together.group(1)) == sum(int(told) for _, told in listed)
-
-
-def count_lines(path):
-    return path.read_bytes().count(b"\n") if path.exists() else 0
-
-
 TESTS = (
     examples_give_their_lines, every_example_is_told, format_has_the_table, explains_every_example, names_the_very_fault, field_comes_first, clerk_is_told_the_same, dropped_tolerance_gives_smaller_limits,
     explains_an_accepted_file, explains_what_is_read_once,
-    quotes_no_control_bytes, quotes_a_long_line_in_part, names_many_missing_forms_in_part, readme_has_the_help, manual_has_the_help, readme_counts_lines,
+    quotes_no_control_bytes, quotes_a_long_line_in_part, names_many_missing_forms_in_part, readme_has_the_help, manual_has_the_help,
 )
