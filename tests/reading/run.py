@@ -10,6 +10,7 @@ README's table "Public calls" and all that crates/kodarfi exports. Those of docu
 nothing, a number or a paper's number behind it, and is cited by no public contract: tables of cases and comparisons with earlier rules.
 Every name of the library that these files import has a meaning in words.tsv or is one of STANDARD."""
 
+import os
 import re
 import sys
 import textwrap
@@ -136,11 +137,17 @@ def main(arguments):
         if arguments == ["--check"]:
             return check(reading, path)
         path.write_text(reading.page())
-    except (Fault, OSError) as fault:
+    except Fault as fault:
         print(f"FAILED reading: {fault}\n0 passed, 1 failed")
         return 1
     return 0
 
 
 if __name__ == "__main__":
-    sys.exit(main(sys.argv[1:]))
+    try:
+        status = main(sys.argv[1:])
+        sys.stdout.flush()
+    except OSError as fault:
+        sys.stderr.write(f"reading: {fault}\n")
+        os._exit(1)
+    sys.exit(status)
