@@ -3,19 +3,22 @@
   python3 tests/names/run.py               the last line is 'N passed, M failed'
   python3 tests/names/run.py --self-test   made-up documents, right and then wrong in each way of self_test.py
 
-Read are README.md, tests/README.md, docs/*.md, include/*.h, and the head comments of crates: the lines of comment before the first other line of each file of specs/, proofs/
-and src/. docs/landings and CHANGELOG.md tell of the past and are not read, nor is docs/EDITS.md, which tests/edits.py compares with the prover's logs. What counts as a citation:
+Read are README.md, tests/README.md, docs/*.md, include/*.h, and the head comments of crates: the lines of comment before the first other line of each file
+of specs/, proofs/ and src/. docs/landings and CHANGELOG.md tell of the past and are not read, nor is docs/EDITS.md, which tests/edits.py compares with the
+prover's logs. What counts as a citation:
 
-1. A file or a folder: a word with a slash that begins with a folder of the repository, or with a crate and specs, proofs, src or must-fail, anywhere; in backquotes also a word
-   that ends like a file of the sources (.antt, .rt, .py, .edit, .awk, .tsv). There must be one whose path ends so; .antt may be left out. In a head comment the crate may be left
-   out, and is its own.
-2. `crate::item`, anywhere: the crate declares it in src/, and `Type::method`, in backquotes: some crate has an impl of the type with it. Of a longer path the last two count.
-3. A name in backquotes, or several with commas or "and" between them, followed by "in", "of" or a bracket and a file of the crates by rule 1: the file declares each of them;
-   after a bracket in a head comment, where the file may be that of its laws, it has each of them.
-4. `File.Name`, in backquotes, where File is a file of promises/specs, and `Name` followed by "of File": Name is declared there. And docs/PROMISES.md names every statement of
-   promises/specs, a theorem of the file of the same name in proofs/ has it as its type, or refutes it (False), and no line of the document is above 200 characters.
-5. A word in backquotes that has the form of a definition or a theorem, lower-case words with hyphens between them or letters with a capital inside: it stands in some source of
-   the repository outside comments and documents.
+1. A file or a folder: a word with a slash that begins with a folder of the repository, or with a crate and specs, proofs, src or must-fail, anywhere; in
+   backquotes also a word that ends like a file of the sources (.antt, .rt, .py, .edit, .awk, .tsv). There must be one whose path ends so; .antt may be left
+   out. In a head comment the crate may be left out, and is its own.
+2. `crate::item`, anywhere: the crate declares it in src/, and `Type::method`, in backquotes: some crate has an impl of the type with it. Of a longer path
+   the first and the last count.
+3. A name in backquotes, or several with commas or "and" between them, followed by "in", "of" or a bracket and a file of the crates by rule 1: the file
+   declares each of them; after a bracket in a head comment, where the file may be that of its laws, it has each of them.
+4. `File.Name`, in backquotes, where File is a file of promises/specs, and `Name` followed by "of File": Name is declared there. And docs/PROMISES.md names
+   every statement of promises/specs, a theorem of the file of the same name in proofs/ has it as its type, or refutes it (False), and no line of the
+   document is above 200 characters.
+5. A word in backquotes that has the form of a definition or a theorem, lower-case words with hyphens between them or letters with a capital inside: it
+   stands in some source of the repository outside the documents, and in crates outside comments.
 
 Words for anything (CRATE, FILE, NAME, PREFIX), stars and what is made by a run (target/) are no citations."""
 
@@ -35,7 +38,7 @@ NAMES = re.compile(r"((?:`[^`\s]+`(?:, | and )?)+) (in |of |\()`?((?:[a-z_]+/)?(
 OF_FILE = re.compile(r"((?:`\w+`(?:, | and )?)+) of (\w+)\b(?!/)")
 FORM = re.compile(r"[a-z][a-z0-9]*(?:-(?:[a-z][a-z0-9]*|[0-9]+))+|[a-z]+[A-Z]\w*|[A-Z][a-z]+[A-Z]\w*")
 SOURCES = {".antt", ".rt", ".py", ".c", ".h", ".cpp", ".rs", ".sh", ".awk", ""}
-MODIFIERS = {"pub", "abbrev", "unfoldable", "data", "record", "fn", "struct", "enum", "const", "def", "class", "extern", '"C"', "irreducible"}
+MODIFIERS = "(?:pub|abbrev|unfoldable|irreducible|data|record|def|class)"
 
 
 def code_of(path):
@@ -61,14 +64,14 @@ def head_of(text):
 
 
 def declares(path, name):
-    """Whether a file declares a name: it begins a line, or stands before the line's colon or first bracket, modifiers aside."""
-    for line in code_of(path).split("\n"):
-        words = re.split(r"[ :=(<{,]", line.strip())
-        while words and words[0] in MODIFIERS:
-            words.pop(0)
-        if words and words[0] == name or re.match(rf"(?:[\w′'-]+ )*{re.escape(name)} (?:[\w′'-]+ )*:", re.sub(r"^\s*(?:pub )?", "", line)):
-            return True
-    return False
+    """Whether a file declares a name: of the proofs' language at the beginning of a line, or on an indented line before its colon; of the code's after its
+    keyword, or as a case of an enum; of any other at the beginning of a line."""
+    code, plain = code_of(path), re.escape(name)
+    if path.suffix == ".rt":
+        return bool(re.search(rf"(?m)\b(?:fn|struct|enum|const|mod) {plain}\b" + (rf"|^    {plain}\b(?:,|\(| \{{)" if name[0].isupper() else ""), code))
+    if re.search(rf"(?m)^ +(?:{MODIFIERS} )*(?:[\w′-]+ )*{plain} (?:[\w′-]+ )*:", code):
+        return True
+    return bool(re.search(rf"(?m)^(?:{MODIFIERS} )*{plain}(?![\w′-])", code))
 
 
 class Repository:

@@ -16,9 +16,12 @@ FILES = {
     "include/made.h": "/* `sums::add_all`, by crates/sums/src/lib.rt */\nint made(void);\n",
     "tests/README.md": "`adds.py` tries sums.\n",
     "tests/adds.py": "def adds():\n    return 1\n",
-    "crates/sums/specs/Sum.antt": "-- Sums, with their laws in proofs/Sum. `sumOf` is theirs.\n--   sumOf n — the sum\nuse Prim.Native.Nat.{ℕ}\n\nabbrev pub sumOf : ℕ → ℕ\nsumOf n = n\n-- `neverCited` here is no head comment\n",
-    "crates/sums/proofs/Sum.antt": "-- Laws of `sumOf` (specs/Sum), for `sums::add_all`.\nuse Prim.Native.Nat.{ℕ}\n\npub sum-zero : ℕ\nsum-zero = 0\n\npub never-far-away : ℕ\nnever-far-away = 0\n",
-    "crates/sums/src/lib.rt": "// Adds: `sumOf` of specs/Sum.antt.\npub struct Adder {\n    sum: u64,\n}\n\nimpl Adder {\n    pub fn put(self) -> u64\n    {\n        0\n    }\n}\n\npub fn add_all(n: u64) -> u64\n{\n    n\n}\n",
+    "crates/sums/specs/Sum.antt": "-- Sums, with their laws in proofs/Sum. `sumOf` is theirs.\n--   sumOf n — the sum\nuse Prim.Native.Nat.{ℕ}\n\n"
+    "abbrev pub sumOf : ℕ → ℕ\nsumOf n = n\n-- `neverCited` here is no head comment\n",
+    "crates/sums/proofs/Sum.antt": "-- Laws of `sumOf` (specs/Sum), for `sums::add_all`.\nuse Prim.Native.Nat.{ℕ}\n\npub sum-zero : ℕ\nsum-zero = 0\n\n"
+    "pub never-far-away : ℕ\nnever-far-away = 0\n",
+    "crates/sums/src/lib.rt": "// Adds: `sumOf` of specs/Sum.antt.\npub struct Adder {\n    sum: u64,\n}\n\nimpl Adder {\n    pub fn put(self) -> u64\n    {\n"
+    "        0\n    }\n}\n\npub fn add_all(n: u64) -> u64\n{\n    called(n)\n}\n",
     "crates/promises/specs/Sums.antt": "-- Sums.\nabbrev pub SumIsSum : Type 0\nSumIsSum = ⊥\n",
     "crates/promises/specs/False.antt": "-- For `SumIsSum` of Sums.\n",
     "crates/promises/proofs/Sums.antt": "-- Theorems of specs/Sums.\npub sum-is-sum : statement.SumIsSum\nsum-is-sum = 0\n",
@@ -33,6 +36,7 @@ WRONG = {
     "a document": ("README.md", "docs/PROMISES.md", "docs/PROMISE.md", "there is no docs/PROMISE.md"),
     "a file in a header": ("include/made.h", "src/lib.rt", "src/main.rt", "there is no crates/sums/src/main.rt"),
     "an item that no source declares": ("README.md", "sums::add_all", "sums::add_some", "declares no add_some"),
+    "an item that is called and not declared": ("README.md", "sums::add_all", "sums::called", "declares no called"),
     "an item of no crate": ("README.md", "`sums::add_all`", "`totals::add_all`", "there is no crate totals"),
     "an item in a header": ("include/made.h", "sums::add_all", "sums::add_each", "declares no add_each"),
     "an item in a head comment": ("crates/sums/proofs/Sum.antt", "sums::add_all", "sums::add_none", "declares no add_none"),

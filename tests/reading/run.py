@@ -4,11 +4,11 @@
   python3 tests/reading/run.py --check       docs/READING.md is what --write would write; the last line is 'N passed, M failed'
   python3 tests/reading/run.py --self-test   the list of made-up sources, right and then changed in each way of self_test.py
 
-Tier 1 is what the `ensures` of the public calls cite, with all that it imports from specs/ and the structs and enums that it takes from src/. The public calls are those of
-README's table "Public calls" and all that crates/kodarfi exports. Those of document 01 come first: the calls of the crates BASE, and the calls for C that README's table
-"Linking" puts above them. Tier 2 are the statements, crates/promises/specs, and what else they import. Tier 3 is what stands in a file whose name is one of CASES, with
-nothing, a number or a paper's number behind it, and is cited by no public contract: tables of cases and comparisons with earlier rules.
-Every name of the library that these files import has a meaning in words.tsv or is one of STANDARD."""
+Tier 1 is what the `ensures` of the public calls cite, with all that it imports from specs/ and the structs and enums that it takes from src/. The public
+calls are those of README's table "Public calls" and all that crates/kodarfi exports. Those of document 01 come first: the calls of the crates BASE, and the
+calls for C that README's table "Linking" puts above them. Tier 2 are the statements, crates/promises/specs, and what else they import. Tier 3 is what
+stands in a file whose name is one of CASES, with nothing, a number or a paper's number behind it, and is cited by no public contract: tables of cases and
+comparisons with earlier rules. Every name of the library that these files import has a meaning in words.tsv or is one of STANDARD."""
 
 import os
 import re
@@ -28,9 +28,10 @@ STANDARD = (
 ).split()
 INTRODUCTION = """# What to read to believe it
 
-Made by `python3 tests/reading/run.py --write` from the `use` lines of the sources, and held to them by the gate. Files are named from `crates/`; each comes after what it imports.
-Beside document 01 and the papers of 02: tier 1 is what the contracts of the public calls cite, tier 2 the statements, sentence by sentence, with the words that only they need, tier 3 tables of cases and
-comparisons with earlier rules. Nothing else of `specs/` is needed to know what is promised; it serves contracts inside the chain. Proofs need not be read.
+Made by `python3 tests/reading/run.py --write` from the `use` lines of the sources, and held to them by the gate. Files are named from `crates/`; each comes
+after what it imports. Beside document 01 and the papers of 02: tier 1 is what the contracts of the public calls cite, tier 2 the statements, sentence by
+sentence, with the words that only they need, tier 3 tables of cases and comparisons with earlier rules. Nothing else of `specs/` is needed to know what is
+promised; it serves contracts inside the chain. Proofs need not be read.
 """
 
 

@@ -1,4 +1,4 @@
-"""The sources as a reader meets them: files of specs/ with what they import, the structs and enums that specs take from the code, and the contracts of public calls."""
+"""The sources as a reader meets them: files of specs/ with what they import, the structs and enums that specs take from the code, the contracts of calls."""
 
 import re
 from pathlib import Path
