@@ -74,7 +74,6 @@ MUTANTS = {
     "an example less": ("docs/refusals.tsv", "; `15-empty-file.txt`: `(refused 15 (0))`", "", words.every_example_is_in_the_table),
     "another status in the manual": ("docs/register.1", "\naccepted\n", "\ngood\n", words.manual_has_the_help),
     "another status in README": ("README.md", "      1   refused", "      3   refused", words.readme_has_the_help),
-    "a digit more in README": ("README.md", "| together | ", "| together | 1", words.readme_counts_lines),
     "the program's own sources do not count": (BATCH, "beside=(programs/batch include)", "beside=()", batch.builds_at_first_use),
     "a batch with an old program": (BATCH, "rt staticlib kodarfi 2>&1 && link_batch", "rt staticlib kodarfi 2>&1; link_batch", batch.failed_build_is_2),
     "a batch's build tells all": (BATCH, "rt staticlib kodarfi 2>&1", "rt staticlib kodarfi", batch.builds_at_first_use),

@@ -3,7 +3,6 @@
 import re
 
 from command_line.register import WHOLE
-from common.mutated import ROOT
 
 EXAMPLE = re.compile(r"`([^`]+)`: `([^`]+)`")
 
@@ -215,18 +214,3 @@ def manual_has_the_help(box):
     text = re.sub(r"(?m)^(usage:)? +(register|--|-h|\d )", r"\n\n\2", help_text(box)).replace("usage: ", "").replace("Exit status:", "")
     paragraphs = [" ".join(paragraph.split()) for paragraph in text.split("\n\n")]
     return len(paragraphs) > 8 and all(paragraph in manual for paragraph in paragraphs)
-
-
-def readme_counts_lines(box):
-    """The reading list names files that are there, with their lines, and the sum of them."""
-    listed = re.findall(r"(?m)^\| `(\S+/specs/\S+\.antt)` \| (\d+) \|", (box.root / "README.md").read_text())
-    counted = [(name, str(count_lines(ROOT / "crates" / name))) for name, _ in listed]
-    for (name, said), (_, lines) in zip(listed, counted):
-        if said != lines:
-            print(f"README.md: {name} has {lines} lines, not {said}")
-    together = re.search(r"(?m)^\| together \| (\d+) \|", (box.root / "README.md").read_text())
-    return len(listed) > 40 and listed == counted and int(together.group(1)) == sum(int(said) for _, said in listed)
-
-
-def count_lines(path):
-    return path.read_bytes().count(b"\n") if path.exists() else 0

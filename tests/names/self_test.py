@@ -1,0 +1,86 @@
+"""Made-up documents and sources, right and then wrong: each wrong name must be told, and nothing else."""
+
+import contextlib
+import io
+import tempfile
+from pathlib import Path
+
+from run import check
+
+FILES = {
+    "README.md": "# Made up\n\n`sums::add_all` adds, as `sumOf` of `sums/specs/Sum.antt` says (`sum-zero` in `sums/proofs/Sum.antt`); `Adder::put` puts.\n"
+    "`python3 tests/adds.py --all` tries it, and docs/PROMISES.md has `never-far-away`. In target/bin/none and `CRATE/must-fail/NAME.edit` nothing is cited.\n",
+    "docs/PROMISES.md": "| Sentence | Statement |\n|---|---|\n| a sum | `Sums.SumIsSum` |\n",
+    "docs/EDITS.md": "`no-such-law` of `sums/specs/None.antt` is the prover's to tell.\n",
+    "docs/landings/first.md": "`sums/specs/Gone.antt` was there, with `old-law`.\n",
+    "include/made.h": "/* `sums::add_all`, by crates/sums/src/lib.rt */\nint made(void);\n",
+    "tests/README.md": "`adds.py` tries sums.\n",
+    "tests/adds.py": "def adds():\n    return 1\n",
+    "crates/sums/specs/Sum.antt": "-- Sums, with their laws in proofs/Sum. `sumOf` is theirs.\n--   sumOf n — the sum\nuse Prim.Native.Nat.{ℕ}\n\n"
+    "abbrev pub sumOf : ℕ → ℕ\nsumOf n = n\n-- `neverCited` here is no head comment\n",
+    "crates/sums/proofs/Sum.antt": "-- Laws of `sumOf` (specs/Sum), for `sums::add_all`.\nuse Prim.Native.Nat.{ℕ}\n\npub sum-zero : ℕ\nsum-zero = 0\n\n"
+    "pub never-far-away : ℕ\nnever-far-away = 0\n",
+    "crates/sums/src/lib.rt": "// Adds: `sumOf` of specs/Sum.antt.\npub struct Adder {\n    sum: u64,\n}\n\nimpl Adder {\n    pub fn put(self) -> u64\n    {\n"
+    "        0\n    }\n}\n\npub fn add_all(n: u64) -> u64\n{\n    called(n)\n}\n",
+    "crates/promises/specs/Sums.antt": "-- Sums.\nabbrev pub SumIsSum : Type 0\nSumIsSum = ⊥\n",
+    "crates/promises/specs/False.antt": "-- For `SumIsSum` of Sums.\n",
+    "crates/promises/proofs/Sums.antt": "-- Theorems of specs/Sums.\npub sum-is-sum : statement.SumIsSum\nsum-is-sum = 0\n",
+}
+
+# name: file, what stands there, what stands there then, what must be told
+WRONG = {
+    "a file that is not there": ("README.md", "sums/proofs/Sum.antt", "sums/proofs/Total.antt", "there is no sums/proofs/Total.antt"),
+    "a file of another folder": ("README.md", "`sums/specs/Sum.antt`", "`sums/src/Sum.antt`", "there is no sums/src/Sum.antt"),
+    "a script that is not there": ("README.md", "tests/adds.py", "tests/added.py", "there is no tests/added.py"),
+    "a bare file": ("tests/README.md", "`adds.py`", "`added.py`", "there is no added.py"),
+    "a document": ("README.md", "docs/PROMISES.md", "docs/PROMISE.md", "there is no docs/PROMISE.md"),
+    "a file in a header": ("include/made.h", "src/lib.rt", "src/main.rt", "there is no crates/sums/src/main.rt"),
+    "an item that no source declares": ("README.md", "sums::add_all", "sums::add_some", "declares no add_some"),
+    "an item that is called and not declared": ("README.md", "sums::add_all", "sums::called", "declares no called"),
+    "an item of no crate": ("README.md", "`sums::add_all`", "`totals::add_all`", "there is no crate totals"),
+    "an item in a header": ("include/made.h", "sums::add_all", "sums::add_each", "declares no add_each"),
+    "an item in a head comment": ("crates/sums/proofs/Sum.antt", "sums::add_all", "sums::add_none", "declares no add_none"),
+    "a method": ("README.md", "Adder::put", "Adder::take", "no crate has an impl of Adder with take"),
+    "a definition of a file": ("README.md", "`sumOf` of", "`sum` of", "sums/specs/Sum.antt declares no sum"),
+    "a theorem of a file": ("README.md", "`sum-zero` in", "`never-far-away`, `sum-one` in", "sums/proofs/Sum.antt declares no sum-one"),
+    "a theorem of the other file": ("README.md", "`sumOf` of", "`sum-zero` of", "sums/specs/Sum.antt declares no sum-zero"),
+    "a theorem by itself": ("README.md", "never-far-away", "never-near", "no source has never-near"),
+    "a definition by itself": ("crates/sums/specs/Sum.antt", "`sumOf` is theirs", "`totalOf` is theirs", "no source has totalOf"),
+    "a file of the own crate": ("crates/sums/specs/Sum.antt", "in proofs/Sum", "in proofs/Total", "there is no crates/sums/proofs/Total"),
+    "a definition of the own crate": ("crates/sums/src/lib.rt", "`sumOf` of", "`sums` of", "specs/Sum.antt declares no sums"),
+    "a statement that is not there": ("docs/PROMISES.md", "| a sum |", "| a sum: `Sums.SumIsLess` |", "promises/specs/Sums.antt states no SumIsLess"),
+    "a statement of another file": ("crates/promises/specs/False.antt", "SumIsSum", "SumIsLess", "promises/specs/Sums.antt states no SumIsLess"),
+    "a statement without a row": ("docs/PROMISES.md", "`Sums.SumIsSum`", "", "it has no Sums.SumIsSum"),
+    "a statement without a theorem": ("crates/promises/proofs/Sums.antt", "statement.SumIsSum", "statement.SumIs", "has no theorem of SumIsSum"),
+    "a long line": ("docs/PROMISES.md", "a sum", "a sum " * 40, "the line has"),
+}
+
+
+def told(folder, change=None):
+    for name, text in FILES.items():
+        path = folder / name
+        path.parent.mkdir(parents=True, exist_ok=True)
+        path.write_text(text.replace(change[1], change[2], 1) if change and change[0] == name else text)
+    said = io.StringIO()
+    with contextlib.redirect_stdout(said):
+        check(folder)
+    return said.getvalue()
+
+
+def self_test():
+    faults = []
+    with tempfile.TemporaryDirectory() as name:
+        said = told(Path(name))
+        if not said.endswith(" passed, 0 failed\n"):
+            faults.append(f"the right documents are refused: {said}")
+        for title, change in WRONG.items():
+            said = told(Path(name), change)
+            if change[1] not in FILES[change[0]] or change[3] not in said or said.count("FAILED") > 2:
+                faults.append(f"{title}: {said}")
+    with tempfile.TemporaryDirectory() as name, contextlib.redirect_stdout(io.StringIO()):
+        if check(Path(name)) == 0:
+            faults.append("no documents at all are taken")
+    for fault in faults:
+        print("FAILED", fault)
+    print(f"{len(WRONG) + 2 - len(faults)} passed, {len(faults)} failed")
+    return int(bool(faults))

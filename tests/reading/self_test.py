@@ -1,0 +1,115 @@
+"""The reading list of made-up sources, right and then wrong: each change must be told by --check, and by what it says."""
+
+import contextlib
+import io
+import tempfile
+from pathlib import Path
+
+from run import Reading, check
+from sources import Fault
+
+FILES = {
+    "README.md": "# Made up\n\n## Public calls\n\n| Call | Guaranteed |\n|---|---|\n| `entry::enter(x) -> Kind` | what it enters |\n"
+    "| `half::fill(x) -> usize` | a half |\n\n"
+    "## Linking\n\n| Call | The call beneath |\n|---|---|\n| `kodarfi_enter` | `entry::enter` |\n| `kodarfi_fill` | `half::fill` |\n\n## Map\n",
+    "crates/entry/specs/Size.antt": "-- Sizes of numbers. Any number.\nuse Prim.Native.Nat.{ℕ}\nuse lib.IntN.{ℤ, natAbs}\n\nabbrev pub sizeOf : ℤ → ℕ\n"
+    "sizeOf z = natAbs z\n",
+    "crates/entry/specs/Entered.antt": "-- What is entered.\nuse Prim.Native.Nat.{ℕ}\nuse Rattle.entry.specs.Size.{sizeOf}\n"
+    "use Rattle.entry.specs.declared.Kind.{Kind}\n",
+    "crates/entry/specs/Inner.antt": "-- Nothing that a contract cites.\nuse Prim.Native.Nat.{ℕ, _+_}\n",
+    "crates/entry/src/lib.rt": "// Entries.\nghost use Rattle.entry.specs.Entered.{EnteredAs};\nghost use Rattle.entry.specs.Inner.{inner};\n\n"
+    "// Of two kinds.\npub enum Kind {\n    One,\n    Two,\n}\n\n"
+    "pub fn enter(x: i64) -> Kind\n    ensures { λ r. ⌜ EnteredAs x r ⌝ }\n{\n    Kind::One\n}\n",
+    "crates/half/specs/Filled.antt": "-- What is filled.\nuse Rattle.entry.specs.Size.{sizeOf}\nuse lib.ListN.{getD}\n",
+    "crates/half/src/lib.rt": "ghost use Rattle.half.specs.Filled.{FilledAs};\n\npub fn fill(x: i64) -> usize\n    ensures { λ r. ⌜ FilledAs x r ⌝ }\n{\n"
+    "    0\n}\n",
+    "crates/kodarfi/src/lib.rt": "ghost use Rattle.entry.specs.Entered.{EnteredAs};\nghost use Rattle.half.specs.Filled.{FilledAs};\n\n"
+    'pub extern "C" fn kodarfi_enter(x: i64) -> u32\n    ensures { λ r. ⌜ EnteredAs x r ⌝ }\n{\n    0\n}\n\n'
+    'pub extern "C" fn kodarfi_fill(x: i64) -> u32\n    ensures { λ r. ⌜ FilledAs x r ⌝ }\n{\n    0\n}\n',
+    "crates/entry/specs/Cases.antt": "-- Two entries.\nuse Rattle.entry.specs.Entered.{EnteredAs}\n",
+    "crates/promises/specs/Lib.antt": "pub mod Paper01\n",
+    "crates/promises/specs/Paper01.antt": "-- 02, Paper 1. Entries.\nuse Rattle.entry.specs.Cases.{cases}\nuse Rattle.half.specs.Stated.{Stated}\n",
+    "crates/half/specs/Stated.antt": "-- Each refusal of a half.\nuse Rattle.half.specs.Filled.{FilledAs}\n",
+    "words.tsv": "natAbs\tthe size of a whole number\ngetD\ta number of a list\n",
+}
+
+# name: file, what stands there, what stands there then, what must be told
+WRONG = {
+    "a line more in a file": ("crates/entry/specs/Size.antt", "sizeOf z = natAbs z\n", "sizeOf z = natAbs z\n\n", "entry/specs/Size.antt` | 7"),
+    "another head": ("crates/half/specs/Filled.antt", "What is filled", "What is left", "What is left"),
+    "a file that a contract needs now": (
+        "crates/entry/specs/Entered.antt", "use Rattle.entry.specs.Size",
+        "use Rattle.entry.specs.Inner.{inner}\nuse Rattle.entry.specs.Size", "Inner.antt",
+    ),
+    "a contract that cites another file": ("crates/entry/src/lib.rt", "⌜ EnteredAs x r ⌝", "⌜ EnteredAs (inner x) r ⌝", "Inner.antt"),
+    "another contract": ("crates/half/src/lib.rt", "⌜ FilledAs x r ⌝", "⌜ FilledAs r x ⌝", "FilledAs r x"),
+    "a case more in an enum": ("crates/entry/src/lib.rt", "    Two,\n", "    Two,\n    Three,\n", "`Kind` | 6"),
+    "a call that is exported and in no table": ("README.md", "| `kodarfi_fill` | `half::fill` |\n", "", "has no row for kodarfi_fill"),
+    "a call in the table that is not there": ("README.md", "`half::fill(x)", "`half::filled(x)", "no public function filled"),
+    "a call without a contract": ("crates/half/src/lib.rt", "    ensures { λ r. ⌜ FilledAs x r ⌝ }\n", "", "has no ensures"),
+    "a call less in the table": ("README.md", "| `half::fill(x) -> usize` | a half |\n", "", "should not have: `half::fill`"),
+    "a file that is not there": ("crates/half/specs/Stated.antt", "specs.Filled", "specs.Field", "half/specs/Field.antt is imported and is not there"),
+    "a struct that is not there": ("crates/entry/specs/Entered.antt", "declared.Kind", "declared.Sort", "declares no Sort"),
+    "a word without a meaning": (
+        "crates/half/specs/Stated.antt", "-- Each refusal of a half.\n",
+        "-- Each refusal of a half.\nuse lib.ListN.{drop}\n", "drop of the library",
+    ),
+    "a word behind a module's": (
+        "crates/half/specs/Stated.antt", "-- Each refusal of a half.\n",
+        "-- Each refusal of a half.\nuse lib.Seq as seq\n-- seq.sets\n", "sets of the library",
+    ),
+    "a meaning of no word": ("words.tsv", "getD\t", "take\tthe first of a list\ngetD\t", "take of words.tsv"),
+    "another meaning": ("words.tsv", "a number of a list", "the last of a list", "the last of a list"),
+    "a case that a contract cites": (
+        "crates/half/specs/Filled.antt", "use lib.ListN",
+        "use Rattle.entry.specs.Cases.{cases}\nuse lib.ListN", "should not have: | Tier 3",
+    ),
+}
+
+
+def page_of(folder, change=None):
+    for name, text in FILES.items():
+        path = folder / name
+        path.parent.mkdir(parents=True, exist_ok=True)
+        path.write_text(text.replace(change[1], change[2], 1) if change and change[0] == name else text)
+    return Reading(folder, (folder / "words.tsv").read_text())
+
+
+def told(folder, change=None):
+    """What --check says of the right page."""
+    said = io.StringIO()
+    with contextlib.redirect_stdout(said):
+        try:
+            check(page_of(folder, change), folder / "READING.md")
+        except Fault as fault:
+            print("FAILED", fault)
+    return said.getvalue()
+
+
+def self_test():
+    faults = []
+    with tempfile.TemporaryDirectory() as name:
+        folder = Path(name)
+        right = page_of(folder)
+        tiers = [[right.sources.path_of(unit) for unit in units] for _, units in right.tiers()]
+        expected = [
+            ["entry/specs/Size.antt", "entry/src/lib.rt", "entry/specs/Entered.antt"], ["half/specs/Filled.antt"], ["half/specs/Stated.antt"],
+            ["promises/specs/Paper01.antt"], ["entry/specs/Cases.antt"],
+        ]
+        if tiers != expected:
+            faults.append(f"the tiers of the made-up sources are {tiers}")
+        page = right.page()
+        (folder / "READING.md").write_text(page)
+        if not told(folder).endswith(" passed, 0 failed\n"):
+            faults.append("the right page is refused")
+        for title, change in WRONG.items():
+            said = told(folder, change)
+            if change[1] not in FILES[change[0]] or "FAILED" not in said or change[3] not in said:
+                faults.append(f"{title}: {said}")
+        (folder / "READING.md").write_text(page.replace("## Tier 2: the statements", "\n## Tier 2: the statements"))
+        if "another order, or not as often" not in told(folder):
+            faults.append("an empty line more is not told")
+    for fault in faults:
+        print("FAILED", fault)
+    print(f"{len(WRONG) + 3 - len(faults)} passed, {len(faults)} failed")
+    return int(bool(faults))
