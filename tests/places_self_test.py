@@ -53,7 +53,7 @@ MUTANTS_HERE = {
     "a term of raised rows": ("raised_rows/src/lib.rt", "        at_b += 1;", "        at_b = q + (k + 1) * 1;"),
     "the start of a raised row": ("raised_rows/src/lib.rt", "        place += n + 1;", "        place = (i + 1) * (n + 1);"),
     "a row of the defect": ("margins/src/lib.rt", "margin_of(t, defects, weights, n, m, row)", "margin_of(t, defects, weights, n, m, m * n)"),
-    "a row of the matrix": ("differences/src/lib.rt", "store_row(&mut out, t, m, xs, start, stride, rows, n)", "store_row(&mut out, t, m, xs, m * step, stride, rows, n)"),
+    "a row of the matrix": ("differences/src/lib.rt", "store_row(out, t, m, xs, start, stride, rows, n)", "store_row(out, t, m, xs, m * step, stride, rows, n)"),
     "a raised row of the inverse": ("differences/src/lib.rt", "        row += n + 1;", "        row = (k + 1) * (n + 1);"),
     "a place across the diagonal": ("symmetry/src/lib.rt", "        down += n;", "        down = (j + 1) * n + i;"),
     "a row of p": ("bounds/src/lib.rt", "out[m] = magnitude(row_dot(rows, m, row, residuals, 0, 0, n))", "out[m] = magnitude(row_dot(rows, m, m * (n + 1), residuals, 0, 0, n))"),

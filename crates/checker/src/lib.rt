@@ -86,7 +86,7 @@ fn reckon_in(
     }
 }
 
-// The same in lists of its own. Filling them takes longer than the rest where n is small, so there are three lengths of them.
+// The same in lists of its own. Filling them takes longer than the rest where n is small, so there are two lengths of them.
 pub fn reckon(
     n: usize,
     t: u32,
@@ -112,30 +112,6 @@ pub fn reckon(
         let mut columns = [0i64; 64];
         let mut raised = [0u64; 72];
         let mut sizes = [0u64; 64];
-        return reckon_in(
-            &mut rows,
-            &mut columns,
-            &mut raised,
-            &mut sizes,
-            n,
-            t,
-            matrix,
-            base,
-            allowed,
-            allowed_in_columns,
-            slacks,
-            guess,
-            inverse,
-            weights,
-            solution_bounds,
-            inverse_bounds,
-        );
-    }
-    if n <= 16 {
-        let mut rows = [0u64; 272];
-        let mut columns = [0i64; 256];
-        let mut raised = [0u64; 272];
-        let mut sizes = [0u64; 256];
         return reckon_in(
             &mut rows,
             &mut columns,

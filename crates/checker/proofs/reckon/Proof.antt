@@ -49,7 +49,7 @@ slice-aggregate-reckon-in-8 : tie.Need-slice-aggregate-reckon-in-8
 slice-aggregate-reckon-in-8 c = search needs
 
 reckon-in-requires-2 : tie.Need-reckon-in-requires-2
-reckon-in-requires-2 c κs = (room (c .before .before .before .before .before .before .if2 .taken), c .before .before .before .before .before .before .before .before .before .before .pre)
+reckon-in-requires-2 c κs = let s = c .before .before .before .before .before .before .before .before .before in (room (s .pre .few), s .pre)
 
 same-length-3 : tie.Need-same-length-3
 same-length-3 c = search needs
@@ -59,30 +59,6 @@ same-length-4 c = search needs
 
 returns-2 : tie.Need-returns-2
 returns-2 c = c .before .before .before .before .before .before .before .before .reckon-in2 .ensures
-
-slice-aggregate-reckon-in-9 : tie.Need-slice-aggregate-reckon-in-9
-slice-aggregate-reckon-in-9 c = search needs
-
-slice-aggregate-reckon-in-10 : tie.Need-slice-aggregate-reckon-in-10
-slice-aggregate-reckon-in-10 c = search needs
-
-slice-aggregate-reckon-in-11 : tie.Need-slice-aggregate-reckon-in-11
-slice-aggregate-reckon-in-11 c = search needs
-
-slice-aggregate-reckon-in-12 : tie.Need-slice-aggregate-reckon-in-12
-slice-aggregate-reckon-in-12 c = search needs
-
-reckon-in-requires-3 : tie.Need-reckon-in-requires-3
-reckon-in-requires-3 c κs = (room (c .before .before .before .before .before .before .before .before .before .before .pre .few), c .before .before .before .before .before .before .before .before .before .before .pre)
-
-same-length-5 : tie.Need-same-length-5
-same-length-5 c = search needs
-
-same-length-6 : tie.Need-same-length-6
-same-length-6 c = search needs
-
-returns-3 : tie.Need-returns-3
-returns-3 c = c .before .before .before .before .before .before .before .before .reckon-in3 .ensures
 
 pub reckon-spec : {M : Type 1} → statement M
 reckon-spec =
@@ -103,12 +79,4 @@ reckon-spec =
     reckon-in-requires-2
     same-length-3
     same-length-4
-    returns-2
-    slice-aggregate-reckon-in-9
-    slice-aggregate-reckon-in-10
-    slice-aggregate-reckon-in-11
-    slice-aggregate-reckon-in-12
-    reckon-in-requires-3
-    same-length-5
-    same-length-6
-    returns-3)
+    returns-2)
