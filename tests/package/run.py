@@ -12,11 +12,11 @@ sys.dont_write_bytecode = True
 sys.path.insert(0, str(Path(__file__).resolve().parent.parent))
 
 from office.room import open_folder
-from package import beside, commands, hanging, pictures, region, shape, sheets
+from package import beside, commands, hanging, pictures, region, registers, shape, sheets, writers
 from package.loaded import SHARED, SOURCES, Package, copied
 from package.mutants import MUTANTS
 
-TESTS = (*shape.TESTS, *beside.TESTS, *commands.TESTS, *hanging.TESTS, *region.TESTS, *sheets.TESTS, *pictures.TESTS)
+TESTS = (*shape.TESTS, *beside.TESTS, *commands.TESTS, *hanging.TESTS, *region.TESTS, *sheets.TESTS, *pictures.TESTS, *registers.TESTS, *writers.TESTS)
 
 
 def holds(test, folder):
