@@ -51,7 +51,8 @@ def forked(act):
         return child
     try:
         status = act()
-    except BaseException:
+    except BaseException as error:
+        os.write(2, f"{type(error).__name__}: {error}\n".encode())
         status = 99
     finally:
         os._exit(status)
@@ -65,13 +66,14 @@ def ended(child):
 
 def called(*words, before=lambda: None, to=None):
     """Status, standard output and standard error of a command. `before` is done first in its process; `to` is where standard output goes."""
+    main = part("__main__").main  # another user may not be allowed to read it
     with tempfile.TemporaryFile() as out, tempfile.TemporaryFile() as err:
 
         def act():
             os.dup2(os.open(to, os.O_WRONLY) if to else out.fileno(), 1)
             os.dup2(err.fileno(), 2)
             before()
-            return part("__main__").main([str(word) for word in words])
+            return main([str(word) for word in words])
 
         status = ended(forked(act))
         for file in (out, err):

@@ -12,7 +12,7 @@ sys.dont_write_bytecode = True
 sys.path.insert(0, str(Path(__file__).resolve().parent.parent))
 
 from office.room import open_folder
-from package import beside, commands, hanging, pictures, region, registers, shape, sheets, writers
+from package import beside, commands, hanging, pictures, region, register_mutants, registers, shape, sheets, writers
 from package.loaded import SHARED, SOURCES, Package, copied
 from package.mutants import MUTANTS
 
@@ -33,7 +33,7 @@ def results(names):
             yield test.__name__, holds(test, SOURCES)
     with tempfile.TemporaryDirectory(dir=open_folder()) as folder:
         os.chmod(folder, 0o755)
-        for name, (file, old, new, test) in MUTANTS.items():
+        for name, (file, old, new, test) in {**MUTANTS, **register_mutants.MUTANTS}.items():
             if (not names or test.__name__ in names) and (test is not shape.installs_by_pip or shape.is_installable()):
                 yield f"mutant '{name}' is detected by {test.__name__}", holds(test, copied(folder, [(file, old, new)])) is not True
 

@@ -145,6 +145,15 @@ def entries_wait_for_another(package):
         return said and read == [] and is_done and names == ["net-50.txt", "net-70.txt"] and faults(register) == []
 
 
+def entries_are_on_the_disk(package):
+    """The register is one file when nobody writes, and what is told is on the disk, its folder's change too."""
+    with folder() as place:
+        register = filled(place / "register.db")
+        with part("register").opened(str(register), "rw") as opened:
+            settings = [opened.execute(f"PRAGMA {name}").fetchone()[0] for name in ("journal_mode", "synchronous")]
+        return settings == ["delete", 3] and os.listdir(place) == ["register.db"]
+
+
 def one_line(answer, status, *words):
     return answer[:2] == (status, b"") and answer[2].count(b"\n") == 1 and all(word in answer[2] for word in words)
 
@@ -213,5 +222,5 @@ def lost_words_lose_no_entry(package):
 
 
 TESTS = (
-    kills_at_any_statement, kills_at_any_moment, writers_at_once_lose_nothing, entries_wait_for_another, what_cannot_be_done_is_told, lost_words_lose_no_entry,
+    kills_at_any_statement, kills_at_any_moment, writers_at_once_lose_nothing, entries_wait_for_another, entries_are_on_the_disk, what_cannot_be_done_is_told, lost_words_lose_no_entry,
 )  # fmt: skip
