@@ -68,17 +68,17 @@ def kills_at_any_moment(package):
         register, told = place / "register.db", 0
         for left in reversed(range(ROUNDS)):
             seen, tell = os.pipe()
-            child = entering(register, range(max(0, told - 3), MANY), tell)
+            begin = max(0, told - 3)
+            child = entering(register, range(begin, MANY), tell)
             os.close(tell)
-            for _ in range(rng.randint(5, MANY // ROUNDS) if left else MANY + 1):
-                os.read(seen, 1)
+            seen_done = sum(len(os.read(seen, 1)) for _ in range(rng.randint(5, MANY // ROUNDS) if left else MANY + 1))
             if left:
                 time.sleep(rng.random() / 300)
                 os.kill(child, signal.SIGKILL)
             status = ended(child)
             os.close(seen)
             found = part("audit").audit(str(register))
-            if status != (KILLED if left else 0) or found.faults or found.nets < told or found.marks != 3 * found.nets:
+            if status not in ((KILLED, 0) if left else (0,)) or found.faults or found.nets < begin + seen_done or found.marks != 3 * found.nets:
                 return False
             told = found.nets
         return rows(register, "SELECT name FROM net ORDER BY number") == [(f"net-{k}.txt",) for k in range(MANY)]
