@@ -121,6 +121,31 @@ def limits_hold_of_joint_solutions(package):
     return True
 
 
+def true_heights_lie_within_the_limits(package):
+    """Readings that err by their reading limits, to either side, from heights by chance: these lie within the entry limits of both nets."""
+    for index in range(8):
+        rng = random.Random(f"package true/{index}")
+        n = {"main": rng.randint(1, 9), "suburb": rng.randint(1, 9)}
+        height = {(net, mark): rng.randint(-9999, 9999) for net in n for mark in range(1, n[net] + 1)}
+        written = lambda net, end: "0" if end is None else str(end[1]) if end[0] == net else f"main:{end[1]}"
+        books = {}
+        for net in n:
+            known = lambda: ("main", rng.randint(1, n["main"])) if net == "suburb" and rng.random() < 0.8 else None
+            end = lambda mark: (net, mark) if mark else known()
+            pairs = [(end(low), end(high), weight) for low, high, weight in levelling_lines(rng, n[net], 8)]
+            lines = []
+            for key, (start, to, weight) in enumerate(pairs, 1):
+                limit = rng.randint(0, 4)
+                read = height.get(to, 0) - height.get(start, 0) + rng.choice((-limit, limit))
+                lines.append(f"{key} {written(net, start)} {written(net, to)} {read} {weight} {limit}\n")
+            books[net] = "".join(lines).encode()
+        main = acted(package, "propose", acted(package, "build", books["main"]))
+        found = limits_of(acted(package, "dependent", main, books["suburb"]))
+        if any(abs(height[net, mark] - V) > limit for net, one in zip(n, found) for mark, (V, limit) in enumerate(one.entries, 1)):
+            return False
+    return True
+
+
 class Printed:
     """A listing's guesses and limits."""
 
@@ -217,6 +242,6 @@ def coarse_steps_leave_room(package):
 
 
 TESTS = (
-    coarse_steps_leave_room, listings_of_two_nets, proposals_of_suburbs_are_good, limits_hold_of_joint_solutions, suburbs_are_judged_by_their_lines,
+    coarse_steps_leave_room, listings_of_two_nets, proposals_of_suburbs_are_good, true_heights_lie_within_the_limits, limits_hold_of_joint_solutions, suburbs_are_judged_by_their_lines,
     what_is_wrong_with_two_nets_is_told,
 )  # fmt: skip

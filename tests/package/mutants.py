@@ -139,8 +139,9 @@ MUTANTS = {
     "the column in red": ("draw.py", "judged.places[judged.number == 7]", "judged.places[0]", pictures.a_refused_row_is_red),
     "a refused row's lines as others": ("svg.py", 'kind = "refused line" if one.marks[i].is_refused or one.marks[j].is_refused else "line"', 'kind = "line"', pictures.a_refused_row_is_red),
     "a picture of what is refused has status 0": ("__main__.py", "        put(error.picture)\n", "        put(error.picture)\n        return 0\n", pictures.a_refused_row_is_red),
-    "a picture by chance": ("layout.py", "by_number = list(range(count))", "by_number = sorted(range(count), key=lambda mark: hash(str(mark)))", pictures.pictures_are_always_the_same),
+    "a picture by chance": ("layout.py", "t = along / len(order)", "t = along / len(order) + hash(str(mark)) % 97 / 97", pictures.pictures_are_always_the_same),
     "HTML for any command": ("__main__.py", 'elif word == "--html" and word in command.files:', 'elif word == "--html":', sheets.pages_as_filters),
     "steps of any scale": ("__main__.py", '(name == "scale" and int(word) > high)', "False", sheets.pages_as_filters),
     "lines through marks": ("layout.py", "found = _off_the_lines(found, pairs)", "found = list(found)", pictures.nothing_lies_over_another),
+    "C with weights of 1": ("field.py", "rows[own - 1][mark - 1] -= line.weight", "rows[own - 1][mark - 1] -= 1", hanging.true_heights_lie_within_the_limits),
 }
