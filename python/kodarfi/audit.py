@@ -30,12 +30,7 @@ def audit(place: str) -> Audit:
     with opened(place, "rw") as register:
         if is_empty(register):
             raise RegisterError("nothing was ever entered there, or all of it is lost")
-        try:
-            return _audited(register)
-        except sqlite3.OperationalError:
-            raise
-        except sqlite3.DatabaseError as error:
-            return Audit(0, 0, "", [f"the database is damaged: {error}"])
+        return _audited(register)
 
 
 def _audited(register: sqlite3.Connection) -> Audit:

@@ -105,9 +105,11 @@ def select(end: str) -> str:
     return f"SELECT {', '.join(Net._fields)} FROM net {end}"
 
 
-def _words(error: sqlite3.Error) -> str:
+def _words(error: Exception) -> str:
     """What is wrong in one line, as a clerk meets it."""
-    said = " ".join(str(error).split())
+    said = shown(" ".join(str(error).split()))
+    if isinstance(error, UnicodeDecodeError) or "malformed" in said:
+        return f"the database is damaged: {said}"
     if "locked" in said:
         return f"another program has held it for {PATIENCE} s: try again when that has ended"
     if "not a database" in said:
@@ -152,7 +154,7 @@ def opened(place: str, mode: str) -> Iterator[sqlite3.Connection]:
             yield register
         finally:
             register.close()
-    except sqlite3.Error as error:
+    except (sqlite3.Error, UnicodeDecodeError) as error:  # SQLite's own words may have a damaged name in them
         raise RegisterError(_words(error)) from None
 
 

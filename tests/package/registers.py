@@ -1,6 +1,7 @@
 """Registers: what is entered beside the second implementation, what is not, that nothing is changed, and what an audit names."""
 
 import hashlib
+import random
 import shutil
 import sqlite3
 from contextlib import closing
@@ -149,6 +150,32 @@ def audits_name_what_does_not_follow(package):
         return faults(register) == [] and faults(changed(register)) == []
 
 
+def damage_is_told(package):
+    """Bytes changed anywhere in the file, and a file cut short: an audit names what does not follow or says that the database is damaged, and whatever it calls
+    clean has every row as it was."""
+    rng, told = random.Random("damage"), {"clean": 0, "faults": 0, "damaged": 0}
+    with folder() as place:
+        register, copy = filled(place / "register.db"), place / "copy.db"
+        good, tables = register.read_bytes(), (SAME + " ORDER BY number", "SELECT * FROM entry ORDER BY net, mark")
+        before = [rows(register, table) for table in tables]
+        index = good.index(sha256(net(2)).encode(), good.index(sha256(net(2)).encode()) + 64)
+        schema = min(good.index(b"CREATE TRIGGER"), good.index(b"CREATE TABLE"))
+        places = [[rng.randrange(len(good)) for _ in range(rng.choice((1, 40)))] for _ in range(150)] + [[rng.randrange(schema, 4096)] for _ in range(40)] + [[index]]
+        for changes in places:
+            damaged = bytearray(good)
+            for at in changes:
+                damaged[at] ^= rng.choice((0x80, 0x85, 1))
+            copy.write_bytes(damaged[: rng.randrange(1, len(good))] if len(changes) > 1 and rng.randrange(9) == 0 else damaged)
+            try:
+                kind = "faults" if faults(copy) else "clean"
+            except part("register").RegisterError:
+                kind = "damaged"
+            told[kind] += 1
+            if kind == "clean" and [rows(copy, table) for table in tables] != before:
+                return False
+        return kind == "faults" and min(told["clean"], told["faults"], told["damaged"]) > 5
+
+
 def audits_look_at_the_triggers(package):
     """One by one, missing and altered; nothing is entered where one is."""
     triggers = [name for name, sql in part("register").SCHEMA.items() if sql.startswith("CREATE TRIGGER")]
@@ -195,5 +222,6 @@ def files_and_corrections(package):
 
 
 TESTS = (
-    entries_follow_from_files, refused_files_are_not_entered, nothing_is_changed_or_removed, audits_name_what_does_not_follow, audits_look_at_the_triggers, files_and_corrections,
+    entries_follow_from_files, refused_files_are_not_entered, nothing_is_changed_or_removed, audits_name_what_does_not_follow, damage_is_told, audits_look_at_the_triggers,
+    files_and_corrections,
 )  # fmt: skip
