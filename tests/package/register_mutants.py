@@ -1,6 +1,6 @@
 """Named mutants of what keeps and audits a register: a file, a text in it, another text, and the test that must detect it."""
 
-from package import registers, writers
+from package import pages, registers, writers
 
 JUDGED = "    if answer.refused:\n        raise answer.refused\n    proposal = forms.read(file)\n    heights = zip(proposal.guess, calls.check(proposal).solution)\n"
 TRUSTED = "    proposal = forms.read(file)\n    heights = zip(proposal.guess, [0] * proposal.net.n)\n"
@@ -65,6 +65,8 @@ MUTANTS = {
     "SQLite's words are always text": ("register.py", "except (sqlite3.Error, UnicodeDecodeError) as error:", "except sqlite3.Error as error:", registers.damage_is_told),
     "the database's own check is left out": ("audit.py", 'if row[0] != "ok"]', "if False]", registers.damage_is_told),
     "an audit with faults has status 0": ("__main__.py", "        put(error.text.encode())\n", "        put(error.text.encode())\n        return 0\n", writers.lost_words_lose_no_entry),
+    "another word than the clerk's page": ("enter.py", "the first of a new register", "the first of a new one", pages.clerks_page_prints_what_it_says),
+    "another word than the office's page": ("audit.py", "by its file\"\n\n\ndef", "by the file\"\n\n\ndef", pages.offices_page_prints_what_it_says),
     "names as they are": ("enter.py", "{shown(net.name)}", "{net.name}", writers.lost_words_lose_no_entry),
     "names in UTF-8 alone": ("enter.py", 'os.fsencode(name).decode("utf-8", "backslashreplace")', "name", writers.lost_words_lose_no_entry),
 }

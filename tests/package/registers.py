@@ -85,7 +85,7 @@ def nothing_is_changed_or_removed(package):
         for statement in (*UPDATES, *OTHERS):
             try:
                 with closing(sqlite3.connect(str(register), isolation_level=None)) as opened:
-                    opened.execute(statement.replace("SELECT 7, number, ", "SELECT 7, ").replace("SELECT NULL, number, ", "SELECT NULL, "))
+                    opened.execute(statement)
             except sqlite3.IntegrityError:
                 continue
             return False
