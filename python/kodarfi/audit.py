@@ -35,10 +35,11 @@ def audit(place: str) -> Audit:
 
 def _audited(register: sqlite3.Connection) -> Audit:
     faults = schema_faults(register)
-    if any(fault.startswith("table ") for fault in faults):
+    if any(fault.startswith(("table net is ", "table entry is ")) for fault in faults):
         return Audit(0, 0, "", faults)  # there is no telling what the columns mean
     faults += [f"the database is damaged: {row[0]}" for row in register.execute("PRAGMA integrity_check(10)") if row[0] != "ok"]
-    faults += [f"net {row[0]!r:.40}: its marks are there, and it is not" for row in register.execute("SELECT DISTINCT net FROM entry WHERE net NOT IN (SELECT number FROM net)")]
+    alone = register.execute("SELECT DISTINCT net FROM entry WHERE net NOT IN (SELECT number FROM net)")
+    faults += [f"net {row[0]!r:.40}: its marks are there, and it is not" for row in alone]
     nets, marks, last, seal, corrected = 0, 0, 0, "", set()  # type: int, int, int, str, Set[Any]
     for net, rows in _nets(register):
         faults += [] if net.number == last + 1 else [f"net {last + 1}: missing, and the next is {net.number}"]

@@ -4,7 +4,8 @@ import os
 import sqlite3
 from typing import NamedTuple, Optional
 
-from .register import APPLICATION, ENTRY, SCHEMA, VERSION, Judged, Net, NotEntered, RegisterError, is_empty, judge, opened, schema_faults, seal_of, select, sha256
+from .register import APPLICATION, ENTRY, SCHEMA, VERSION, Judged, Net, NotEntered, RegisterError
+from .register import is_empty, judge, opened, schema_faults, seal_of, select, sha256
 from .texts import counted, shown
 
 
@@ -16,7 +17,8 @@ class Entered(NamedTuple):
 
 
 def enter(place: str, name: str, file: bytes, corrects: Optional[int] = None) -> Entered:
-    """Enters a file, and makes the register where there is none and nothing is corrected. Refused where the library does not accept the file; nothing is then opened or made."""
+    """Enters a file, and makes the register where there is none and nothing is corrected. Refused where the library does not accept the file: nothing is
+    then opened or made."""
     judged = judge(file)
     with opened(place, "rwc" if corrects is None else "rw") as register:
         register.execute("BEGIN IMMEDIATE")

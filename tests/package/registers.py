@@ -128,7 +128,7 @@ CHANGES = (
     (["DROP TABLE entry"], ["table entry is missing", "trigger entry_in_order is missing", "trigger entry_no_update is missing", "trigger entry_no_delete is missing"]),
     (["ALTER TABLE net ADD COLUMN note TEXT"], ["table net is altered"]),
     (["DROP INDEX net_by_file"], ["index net_by_file is missing"]),
-    (["CREATE TABLE notes (note TEXT)"], ["table notes is none of a register"]),
+    (["CREATE TABLE notes (note TEXT)", "UPDATE net SET n = 2 WHERE number = 2"], ["table notes is none of a register", "net 2: n is 2, and 3 by its file"]),
     (["CREATE TRIGGER aside AFTER INSERT ON entry BEGIN SELECT 1; END"], ["trigger aside is none of a register"]),
 )  # fmt: skip
 
