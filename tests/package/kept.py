@@ -51,8 +51,7 @@ def forked(act):
         return child
     try:
         status = act()
-    except BaseException as error:
-        os.write(2, f"{type(error).__name__}: {error}\n".encode())
+    except BaseException:
         status = 99
     finally:
         os._exit(status)

@@ -179,10 +179,10 @@ def what_cannot_be_done_is_told(package):
         with closing(sqlite3.connect(str(other), isolation_level=None)) as opened:
             opened.execute("PRAGMA journal_mode = WAL"), opened.execute("CREATE TABLE net (a)")
         before = register.read_bytes(), other.read_bytes()
-        os.chmod(register, 0o444), os.chmod(place, 0o755)
+        os.chmod(register, 0o444), os.chmod(place, 0o555)
         read_only = called("enter", register, file, before=as_another_user), called("enter", place / "new.db", file, before=as_another_user)
         audited = called("audit", register, before=as_another_user)
-        os.chmod(register, 0o644)
+        os.chmod(register, 0o644), os.chmod(place, 0o755)
         places = ((place / "no" / "a.db", b"there is no folder"), (no_register, b"not a database"), (other, b"a database of another program"), (place, b"not a file"), ("/dev/full", b"not a file"))
         return (
             all(one_line(called("enter", at, file), 2, f"enter: {at}: ".encode(), word) and one_line(called("audit", at), 2, f"audit: {at}: ".encode(), word) for at, word in places)
