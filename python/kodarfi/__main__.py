@@ -6,10 +6,12 @@ import sys
 from typing import Dict, List, Tuple
 
 from . import __version__
-from .commands import COMMANDS, Given, Pictured, Unmade
+from .audit import Faulty
+from .commands import COMMANDS, REGISTER, Given, Pictured, Unmade
 from .library import LibraryMissing
 from .nets import Refused
-from .texts import TEXT_LENGTH, TextError
+from .register import NotEntered, RegisterError
+from .texts import TEXT_LENGTH, TextError, shown
 
 HELP = """usage: python3 -m kodarfi COMMAND [FILE] ..
        python3 -m kodarfi --help
@@ -34,10 +36,16 @@ tells more. NAMES has lines of a mark's number and its name, 0 for the fixed mar
 of the word unit and the unit's name; or it is CSV whose first line is mark,name. Where draw
 meets a row that is refused, it still prints the picture, with a status of 1.
 
+REGISTER is a database of SQLite that keeps what was entered: enter makes it where there is none,
+and enters a file that the library accepts now, with all its marks, as a net with a number;
+--corrects NET says which net it is a correction of. Nothing there is changed or removed.
+audit judges every file in it again and names what does not follow (docs/CLERK.md).
+
 Exit status:
-  0   made, or accepted
+  0   made, accepted or entered; an audit found nothing wrong
   1   refused: standard output has one line (refused N (..)), and standard error the words;
-      or no proposal can be made, and standard error says why
+      or no proposal can be made, or a register does not take a file, and standard error says why;
+      or an audit found what standard output names
   2   nothing could be judged: a mistake in the call, a file that cannot be read, no library;
       standard error says which
 """
@@ -45,11 +53,6 @@ Exit status:
 
 class Failure(Exception):
     """One line, and a status of 2."""
-
-
-def shown(name: str) -> str:
-    """A file's name without what would break the line."""
-    return "standard input" if name == "-" else "".join(letter if letter.isprintable() else "?" for letter in name)
 
 
 def say(line: str) -> None:
@@ -93,7 +96,7 @@ def help_text() -> str:
 
 
 # Options with a number: what it is called, and its range.
-NUMBERED = {"--allowance": ("allowance", 1, 64), "--scale": ("scale", 0, 20)}
+NUMBERED = {"--allowance": ("allowance", 1, 64), "--scale": ("scale", 0, 20), "--corrects": ("net", 1, 999_999_999)}
 
 
 def number_of(option: str, word: str, usage: str) -> Dict[str, int]:
@@ -125,7 +128,10 @@ def words_of(name: str, words: List[str]) -> Tuple[List[str], Given]:
             files.append(word)
     files = files if files or command.least else ["-"]
     if not command.least <= len(files) <= len(command.lengths):
-        raise Failure(f"{'two files' if command.least else 'one file at a time' if len(command.lengths) == 1 else 'two files at most'}; {usage}")
+        one = "a register" if command.least else "one file at a time"
+        raise Failure(f"{one if len(command.lengths) == 1 else 'two files' if command.least else 'two files at most'}; {usage}")
+    if command.lengths[0] == REGISTER and files[0] == "-":
+        raise Failure(f"a register is a file, and not standard input; {usage}")
     if files.count("-") > 1:
         raise Failure(f"standard input is one file; {usage}")
     return files, given
@@ -135,7 +141,7 @@ def texts_of(name: str, files: List[str]) -> List[bytes]:
     """The bytes of a command's files, as many of each as it needs."""
     if "-" in files and sys.stdin is not None and sys.stdin.isatty():
         say(f"{name}: reading standard input to its end")
-    texts = [read(file, length) for file, length in zip(files, COMMANDS[name].lengths)]
+    texts = [b"" if length == REGISTER else read(file, length) for file, length in zip(files, COMMANDS[name].lengths)]
     for file, text in zip(files, texts):
         if len(text) > TEXT_LENGTH:
             raise Failure(f"{shown(file)}: more than {TEXT_LENGTH:,} bytes")
@@ -150,11 +156,16 @@ def run(name: str, words: List[str]) -> int:
     names = " and ".join(map(shown, files))
     texts = texts_of(name, files)
     try:
-        put(COMMANDS[name].act(given._replace(files=texts)))
+        put(COMMANDS[name].act(given._replace(files=texts, names=files)))
         return 0
     except TextError as error:
         raise Failure(f"{shown(files[error.file])}: {error}") from None
-    except Unmade as error:
+    except RegisterError as error:
+        raise Failure(f"{shown(files[0])}: {error}") from None
+    except (Unmade, NotEntered) as error:
+        say(f"{name}: {names}: {error}")
+    except Faulty as error:
+        put(error.text.encode())
         say(f"{name}: {names}: {error}")
     except Pictured as error:
         put(error.picture)

@@ -1,20 +1,23 @@
 """The commands, from the bytes that each reads to the bytes that it prints. Each has a row of COMMANDS; what is more than a few lines has a module."""
 
-from typing import Callable, Dict, List, NamedTuple, Tuple
+from typing import Callable, Dict, List, NamedTuple, Optional, Sequence, Tuple
 
-from . import calls, draw, field, forms, names, propose, sheet, svg
+from . import audit, calls, draw, enter, field, forms, names, propose, sheet, svg
 from .forms import FILE_LENGTH
 from .nets import Proposal, Refused
 from .texts import TEXT_LENGTH, TextError
 
 
 class Given(NamedTuple):
-    """What a command is given: the bytes of its files, how many lists of weights may be tried, the finest s of a proposal, and whether a page is to be HTML."""
+    """What a command is given: the bytes of its files, how many lists of weights may be tried, the finest s of a proposal, whether a page is to be HTML, the
+    names of its files, and the net that is corrected."""
 
     files: List[bytes]
     allowance: int = 64
     scale: int = propose.FINEST_S
     is_html: bool = False
+    names: Sequence[str] = ()
+    net: Optional[int] = None
 
 
 class Unmade(Exception):
@@ -129,6 +132,14 @@ def make_drawing(given: Given) -> bytes:
         raise Pictured(svg.svg(draw.picture(proposal, named, refused)).encode(), refused) from None
 
 
+def enter_net(given: Given) -> bytes:
+    return enter.told(enter.enter(given.names[0], given.names[1], given.files[1], given.net)).encode()
+
+
+def look_through(given: Given) -> bytes:
+    return audit.look(given.names[0]).encode()
+
+
 def _listed(head: str, lines: List[str]) -> bytes:
     return "".join(line + "\n" for line in (head, *lines, "(end)")).encode()
 
@@ -145,6 +156,8 @@ class Command(NamedTuple):
 
 # One byte more than a text may have shows that it is too long.
 _TEXT = TEXT_LENGTH + 1
+# A register is opened by its command, and not read before.
+REGISTER = 0
 
 COMMANDS: Dict[str, Command] = {
     "build": Command(build, "[FIELD]", "field lines, as text or CSV, to the equations, by the proved builder", (_TEXT,)),
@@ -157,4 +170,6 @@ COMMANDS: Dict[str, Command] = {
     "dependent": Command(dependent, "MAIN FIELD", "the listings of a file and of a net that hangs from it, one after the other", (FILE_LENGTH, _TEXT), 2),
     "sheet": Command(make_sheet, "[--html] FILE NAMES", "an accepted file as a page for the records, text or HTML", (FILE_LENGTH, _TEXT), 2),
     "draw": Command(make_drawing, "[FILE [NAMES]]", "the net of a file as a picture (SVG), a refused row in red", (FILE_LENGTH, _TEXT)),
+    "enter": Command(enter_net, "[--corrects NET] REGISTER FILE", "an accepted file into a register that keeps it", (REGISTER, FILE_LENGTH), 2),
+    "audit": Command(look_through, "REGISTER", "every file of a register judged again, and what does not follow named", (REGISTER,), 1),
 }

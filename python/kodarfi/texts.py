@@ -6,6 +6,16 @@ from typing import List, NamedTuple
 TEXT_LENGTH = 2**20  # bytes; a longer text is told as that
 
 
+def shown(name: str) -> str:
+    """A file's name without what would break the line."""
+    return "standard input" if name == "-" else "".join(letter if letter.isprintable() else "?" for letter in name)
+
+
+def counted(count: int, what: str) -> str:
+    """How many there are of something."""
+    return f"{count} {what}{'' if count == 1 else 's'}"
+
+
 class TextError(ValueError):
     """A text that cannot be read: one line, with the number of the line. `file` is which of a command's files it is of, from 0."""
 

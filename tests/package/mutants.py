@@ -84,7 +84,7 @@ MUTANTS = {
     "tolerances are not written": ("forms.py", 'f"(right {i} ({b} {d}))" if d else ', "", commands.files_are_judged_as_the_second_does),
     "doubles cut short": ("commands.py", "({low!r} {high!r})", "({low:.6g} {high:.6g})", commands.files_are_judged_as_the_second_does),
     "the first file twice": ("commands.py", "found = calls.common(*proposals)", "found = calls.common(proposals[0], proposals[0])", commands.common_ends_are_the_seconds),
-    "a line feed in a name": ("__main__.py", 'letter if letter.isprintable() else "?"', "letter", commands.called_as_a_filter),
+    "a line feed in a name": ("texts.py", 'letter if letter.isprintable() else "?"', "letter", commands.called_as_a_filter),
     "a refused file has status 0": ("__main__.py", "            say(f\"{name}: {names}: {refused}\")\n    return 1", "            say(f\"{name}: {names}: {refused}\")\n    return 0", commands.called_as_a_filter),
     "which of the two is not said": ("commands.py", "refused.line, place, refused.note)", "refused.line, 0, refused.note)", commands.called_as_a_filter_of_two),
     "whoever writes is stopped": ("__main__.py", "            while opened.read(length):\n                pass\n", "", commands.called_as_a_filter),

@@ -12,11 +12,11 @@ sys.dont_write_bytecode = True
 sys.path.insert(0, str(Path(__file__).resolve().parent.parent))
 
 from common.mutated import main, open_folder, report, results
-from package import beside, commands, hanging, pictures, region, shape, sheets
+from package import beside, commands, hanging, pages, pictures, region, register_mutants, registers, shape, sheets, writers
 from package.loaded import SHARED, SOURCES, Package, copied
 from package.mutants import MUTANTS
 
-TESTS = (*shape.TESTS, *beside.TESTS, *commands.TESTS, *hanging.TESTS, *region.TESTS, *sheets.TESTS, *pictures.TESTS)
+TESTS = (*shape.TESTS, *beside.TESTS, *commands.TESTS, *hanging.TESTS, *region.TESTS, *sheets.TESTS, *pictures.TESTS, *registers.TESTS, *writers.TESTS, *pages.TESTS)
 
 
 def run():
@@ -28,7 +28,7 @@ def run():
         def package_of(edits):
             yield Package(copied(folder, edits) if edits else SOURCES)
 
-        mutants = {name: mutant for name, mutant in MUTANTS.items() if mutant[-1] is not shape.installs_by_pip or shape.is_installable()}
+        mutants = {name: mutant for name, mutant in {**MUTANTS, **register_mutants.MUTANTS}.items() if mutant[-1] is not shape.installs_by_pip or shape.is_installable()}
         return report(results(TESTS, mutants, package_of, sys.argv[1:]))
 
 

@@ -59,7 +59,7 @@ def sources(package):
 
 
 # The modules of Python that the package uses.
-OWN = {"csv", "ctypes", "dataclasses", "hashlib", "html", "itertools", "math", "operator", "os", "pathlib", "re", "signal", "sys", "textwrap", "typing", "unicodedata"}
+OWN = {"contextlib", "csv", "ctypes", "dataclasses", "hashlib", "html", "itertools", "math", "operator", "os", "pathlib", "re", "signal", "sqlite3", "sys", "textwrap", "typing", "unicodedata"}
 
 
 def syntax_is_that_of_3_9(package):
