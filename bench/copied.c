@@ -33,7 +33,7 @@ int main(int count, char **words) {
     for (int k = 0; k < processes; k++) {
         if (fork()) continue;
         for (int i = k; i < all; i += processes) {
-            snprintf(to, sizeof to, "%s/%d", words[3], i);
+            snprintf(to, sizeof to, "%s/%d/%d", words[3], i / 1000, i); /* a thousand in a folder, as the nets */
             copy(names[i], to, (size_t)atoi(words[2]));
         }
         _exit(0);

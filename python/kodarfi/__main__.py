@@ -43,7 +43,8 @@ audit judges every file in it again and names what does not follow (docs/CLERK.m
 
 Exit status:
   0   made, accepted or entered; an audit found nothing wrong
-  1   refused: standard output has one line (refused N (..)), and standard error the words;
+  1   refused: standard output has one line (refused N (..)), and standard error the words
+      (but for check, which has the listing alone, as ./register);
       or no proposal can be made, or a register does not take a file, and standard error says why;
       or an audit found what standard output names
   2   nothing could be judged: a mistake in the call, a file that cannot be read, no library;

@@ -86,7 +86,7 @@ def quality(given: Given) -> bytes:
 
 
 def dependent(given: Given) -> bytes:
-    """The main net is judged before the suburb's lines are looked at, as Paper 8 has it."""
+    """The main net is judged before the dependent net's lines are looked at, as Paper 8 has it."""
     try:
         main = forms.read(given.files[0])
         limits = calls.check(main)

@@ -67,36 +67,8 @@ def dies_first(path):
     os.kill(os.getpid(), signal.SIGSEGV)
 
 
-def is_not_built(path):
-    put(b"register: the tool 'rt' is missing\n", 2)
-    sys.exit(1)
-
-
-def hides_a_failed_read(path):
-    file = got(path)
-    if file is not None:
-        answer(file)
-
-
-def takes_a_failed_read_for_the_end(path):
-    answer(got(path) or b"")
-
-
-def stops_reading(path):
-    """The first 65,536 bytes decide a file, but a writer that is cut off takes it for a failure."""
-    with open(path or 0, "rb") as file:
-        answer(file.read(65536))
-
-
-def hides_a_failed_write(path):
-    file = got(path)
-    put(*((UNREAD, 2) if file is None else (Program().listing(file),)))
-
-
-# Programs that tests/compare.py must detect, and those that tests/program.py must.
+# Programs that tests/compare.py must detect.
 BESIDE_THE_LISTING = (dies, fails, complains, dies_first)
-AS_RUN = (is_not_built, hides_a_failed_read, takes_a_failed_read_for_the_end, stops_reading, hides_a_failed_write)
-
 
 
 def tests():
@@ -109,5 +81,5 @@ def tests():
 
 
 if __name__ == "__main__":
-    named = {program.__name__: program for program in (right, *BESIDE_THE_LISTING, *AS_RUN)}
+    named = {program.__name__: program for program in (right, *BESIDE_THE_LISTING)}
     named[sys.argv[1]](sys.argv[2] if len(sys.argv) > 2 else None)

@@ -58,18 +58,18 @@ static const struct part {
     const char *name, *file;
     void (*replay)(void);
 } PARTS[] = {
-    {"check", "nets.txt", replay_checks},
-    {"half", "halves.txt", replay_halves},
-    {"dependent", "pairs.txt", replay_dependent},
-    {"common", "common.txt", replay_common},
-    {"entry", "entries.txt", replay_entries},
-    {"weights", "weights.txt", replay_weights},
-    {"quality", "quality.txt", replay_quality},
-    {"build", "builds.txt", replay_builds},
-    {"doubles", "doubles.txt", replay_doubles},
-    {"listing", "files.bin", replay_files},
-    {"convert", "conversions.bin", replay_conversions},
-    {"loader", "loader.txt", replay_loader},
+    {"check", "check.cases", replay_checks},
+    {"half", "half.cases", replay_halves},
+    {"dependent", "dependent.cases", replay_dependent},
+    {"common", "common.cases", replay_common},
+    {"entry", "entry.cases", replay_entries},
+    {"weights", "weights.cases", replay_weights},
+    {"quality", "quality.cases", replay_quality},
+    {"build", "build.cases", replay_builds},
+    {"doubles", "doubles.cases", replay_doubles},
+    {"listing", "listing.cases", replay_files},
+    {"convert", "convert.cases", replay_conversions},
+    {"loader", "loader.cases", replay_loader},
 };
 
 /* Runs all parts, or the one with this name; gives how many were run. */

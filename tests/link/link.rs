@@ -23,18 +23,18 @@ use std::process::exit;
 
 /// The parts: the name, what an emitter wrote for it, and the replay.
 const PARTS: &[(&str, &str, fn(&mut Replay))] = &[
-    ("check", "nets.txt", checks::replay_checks),
-    ("half", "halves.txt", checks::replay_halves),
-    ("dependent", "pairs.txt", checks::replay_dependent),
-    ("common", "common.txt", checks::replay_common),
-    ("entry", "entries.txt", numbers::replay_entries),
-    ("weights", "weights.txt", numbers::replay_weights),
-    ("quality", "quality.txt", numbers::replay_quality),
-    ("build", "builds.txt", builds::replay_builds),
-    ("doubles", "doubles.txt", numbers::replay_doubles),
-    ("listing", "files.bin", texts::replay_files),
-    ("convert", "conversions.bin", texts::replay_conversions),
-    ("loader", "loader.txt", loader::replay_loader),
+    ("check", "check.cases", checks::replay_checks),
+    ("half", "half.cases", checks::replay_halves),
+    ("dependent", "dependent.cases", checks::replay_dependent),
+    ("common", "common.cases", checks::replay_common),
+    ("entry", "entry.cases", numbers::replay_entries),
+    ("weights", "weights.cases", numbers::replay_weights),
+    ("quality", "quality.cases", numbers::replay_quality),
+    ("build", "build.cases", builds::replay_builds),
+    ("doubles", "doubles.cases", numbers::replay_doubles),
+    ("listing", "listing.cases", texts::replay_files),
+    ("convert", "convert.cases", texts::replay_conversions),
+    ("loader", "loader.cases", loader::replay_loader),
 ];
 
 fn bytes_of(folder: &str, name: &str) -> Vec<u8> {

@@ -1,10 +1,4 @@
-"""Exact solutions and inverses in whole numbers over q, as document 01 has them, and whether they lie within limits.
-
-  inverse_of       q and H with A·H = q·I
-  product          a matrix times a column
-  is_within        |S·N_i − q·X_i| is at most q·E_i for every i
-  nearest          a fraction rounded to a nearest whole number
-  corners          right sides at the ends of the tolerances"""
+"""Exact solutions and inverses in whole numbers over q, as document 01 has them, and whether they lie within limits."""
 
 
 def inverse_of(matrix):
@@ -38,7 +32,7 @@ def nearest(number, q):
 
 
 def is_within(steps, q, exact, guess, limits):
-    """Whether exact/q lies within limits, in steps, of the guess."""
+    """Whether exact/q lies within limits, in steps, of the guess: |S·N_i − q·X_i| is at most q·E_i for every i."""
     return all([abs(steps * N - q * X) <= q * E for N, X, E in zip(exact, guess, limits)])
 
 

@@ -3,7 +3,7 @@
   case_at          the net of a seed and an index
   Case             its field lines, its proposal, its exact inverse, and chances for whoever changes it
   equations        document 02, Paper 3: what field lines build
-  another          another proposal for the same equations
+  changed          a proposal with other numbers
   hung             a net that hangs from a main net, and its coupling"""
 
 from random import Random
@@ -42,6 +42,12 @@ def case_at(seed: int, index: int) -> Case:
     if rng.random() < 0.04:
         proposal = spoiled(rng, proposal)
     return Case(seed, index, lines, proposal, exact)
+
+
+def changed(proposal: Proposal, **other: Any) -> Proposal:
+    """A proposal with other numbers of its own or of its net."""
+    parts = {**vars(proposal.net), **vars(proposal), **other}
+    return Proposal(Net(parts["matrix"], parts["right"], parts["tolerance"]), *[parts[name] for name in ("s", "t", "guess", "inverse", "weights")])
 
 
 def equations(n, lines):
@@ -142,24 +148,14 @@ def broad(rng):
 
 def spoiled(rng, proposal):
     """One number outside its range."""
-    net, n = proposal.net, proposal.net.n
-    i, j = rng.randrange(n), rng.randrange(n)
-    put = lambda column, number: column[:i] + [number] + column[i + 1 :]
-    place = lambda rows, number: [row[:j] + [number] + row[j + 1 :] if m == i else row for m, row in enumerate(rows)]
-    other, size = rng.randrange(7), rng.choice((-1, 1)) * (LARGEST + 1)
-    matrix = place(net.matrix, size) if other == 0 else net.matrix
-    right = put(net.right, 2**30 + 1) if other == 1 else net.right
-    tolerance = put(net.tolerance, rng.choice((-1, LARGEST + 1))) if other == 2 else net.tolerance
-    guess = put(proposal.guess, LARGEST_GUESS + 1) if other == 3 else proposal.guess
-    inverse = place(proposal.inverse, size) if other == 4 else proposal.inverse
-    weights = put(proposal.weights, rng.choice((0, 1025))) if other == 5 else proposal.weights
-    return Proposal(Net(matrix, right, tolerance), 21 if other == 6 else proposal.s, proposal.t, guess, inverse, weights)
-
-
-def another(case: Case, rng) -> Proposal:
-    """Another proposal for the same equations, or the same where these have no solution."""
-    net = case.proposal.net
-    return proposed(rng, net, case.exact, tolerance=net.tolerance) if case.exact else case.proposal
+    numbers = {"matrix": LARGEST + 1, "inverse": -LARGEST - 1, "right": 2**30 + 1, "tolerance": -1, "guess": LARGEST_GUESS + 1, "weights": 0, "s": 21}
+    name, number = rng.choice(list(numbers.items()))
+    i, j = rng.randrange(proposal.net.n), rng.randrange(proposal.net.n)
+    put = lambda column, at, other: column[:at] + [other] + column[at + 1 :]
+    if name == "s":
+        return changed(proposal, s=number)
+    old = getattr(proposal.net if hasattr(proposal.net, name) else proposal, name)
+    return changed(proposal, **{name: put(old, i, put(old[i], j, number) if name in ("matrix", "inverse") else number)})
 
 
 def hung(case: Case, rng):

@@ -10,6 +10,8 @@ tried: a mistake in the call, no library, an output that cannot be written."""
 import os
 import signal
 import sys
+from collections import Counter
+from contextlib import suppress
 from functools import partial
 from pathlib import Path
 
@@ -18,13 +20,13 @@ ROOT = Path(__file__).resolve().parent.parent.parent
 SHARED = ROOT / "target" / "lib" / "libkodarfi.so"
 sys.path.insert(0, str(ROOT / "python"))
 
-from given import Given, calls
+from given import SENTENCES, Given, calls
 from mutants import MUTANTS
 from nets import case_at
-from properties import PROPERTIES
 
 COMMAND = "python3 tests/properties/run.py"
 USAGE = f"usage: {COMMAND} [--nets N | --net I] [--seed S] [PROPERTY..]"
+PROPERTIES = {each.__name__: each for each in SENTENCES}
 MUTANT_NETS, LEAST_SHARE, LARGEST = 1000, 100, 10**9
 
 
@@ -76,40 +78,30 @@ def holds(each, given):
         return one_line(f"{type(error).__name__}: {error}")
 
 
-class Tally:
-    """How often a property applied, how often it failed, and where first."""
-
-    def __init__(self):
-        self.applied, self.failed, self.first, self.told = 0, 0, 0, ""
-
-    def add(self, index, good):
-        self.applied += good is not None
-        if good is not None and good is not True:
-            if not self.failed:
-                self.first, self.told = index, "" if good is False else f" ({good})"
-            self.failed += 1
-
-
 def tallies(properties, indices, seed):
-    """A tally of each property over nets."""
-    real, found = calls(), {name: Tally() for name in properties}
+    """How often each property applied, how often it failed, and where first, with what was told."""
+    real, applied, failed, first = calls(), Counter(), Counter(), {}
     for index in indices:
         given = Given(case_at(seed, index), real)
-        for name, each in properties.items():
-            found[name].add(index, holds(each, given))
-    return found
+        for name, good in [(name, holds(each, given)) for name, each in properties.items()]:
+            applied[name] += good is not None
+            if good is not None and good is not True:
+                failed[name] += 1
+                first.setdefault(name, (index, "" if good is False else f" ({good})"))
+    return applied, failed, first
 
 
 def property_results(properties, indices, seed):
     """A line for each property, with whether it held and was met often enough."""
-    least = len(indices) // LEAST_SHARE
-    for name, tally in tallies(properties, indices, seed).items():
-        if tally.failed:
-            yield f"{name}: {tally.failed} of {tally.applied} nets{tally.told}; the first again: {COMMAND} --seed {seed} --net {tally.first} {name}", False
-        elif tally.applied < least:
-            yield f"{name}: {tally.applied} nets, fewer than {least}", False
+    least, (applied, failed, first) = len(indices) // LEAST_SHARE, tallies(properties, indices, seed)
+    for name in properties:
+        if failed[name]:
+            index, told = first[name]
+            yield f"{name}: {failed[name]} of {applied[name]} nets{told}; the first again: {COMMAND} --seed {seed} --net {index} {name}", False
+        elif applied[name] < least:
+            yield f"{name}: {applied[name]} nets, fewer than {least}", False
         else:
-            yield f"{name}: {tally.applied} nets", True
+            yield f"{name}: {applied[name]} nets", True
 
 
 def detected(cases, call, mutant, each):
@@ -156,10 +148,8 @@ def main():
     try:
         return run(sys.argv[1:])
     except (Failure, OSError) as error:
-        try:
+        with suppress(OSError):
             os.write(2, f"properties: {one_line(error)}\n".encode("utf-8", "replace"))
-        except OSError:
-            pass
         return 2
 
 

@@ -1,14 +1,11 @@
 -- The theorems for specs/Beyond, a theorem for each statement.
-use mathlib.Core.List.{List, []}
-use mathlib.Core.Path.{_≡_, sym, ap, _∙_}
-use Prim.Native.Nat.{ℕ}
+use mathlib.Core.Path.{sym, _∙_}
 use Rattle.limit_factor.proofs.Limits.{factor-far-at-b}
 use Rattle.accepted_limits.proofs.File.{answered-good, listed-good}
 use Rattle.accepted_limits.proofs.Lists.{checked-good, through-good, half-good}
 use Rattle.accepted_limits.proofs.TwoNets.{together-good}
 use Rattle.file_shape.proofs.Answers.{shape-says}
 use Rattle.file_shape.proofs.Same.{same-listing}
-use Rattle.refusal.specs.Reply.{replyOf}
 use Rattle.listing.specs.Listing.{answerOf}
 use Rattle.promises.specs.Beyond as beyond
 use Rattle.promises.specs.Ways.{on-lists, through-loader, by-half, of-file, of-listing}

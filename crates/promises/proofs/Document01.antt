@@ -26,6 +26,7 @@ use Rattle.entry.proofs.Limit.{entry-near}
 use Rattle.enclosure.specs.Demand.{Margins, Residuals}
 use Rattle.enclosure.specs.Problem.{Problem, S, columnOf}
 use Rattle.enclosure.specs.Reckoning.{defect, load, margin, marginFails, residual, rowSum, exceeds, exceedsWith, exceedsRow, slack, bound, boundWith, boundFrom, sizesWith, inverseBound}
+use Rattle.enclosure.proofs.Instance.{file-worked}
 use Rattle.checked.specs.Checked.{Checked, solutionBoundsAfter, inverseBoundsAfter}
 use Rattle.checked.specs.Input.{Input, problem, short, inRanges}
 use Rattle.checked.specs.Order.{answer}
@@ -35,6 +36,8 @@ use Rattle.checked.proofs.Lengths.{long-of}
 use Rattle.given_forms.specs.Progress.{ended}
 use Rattle.file_shape.proofs.Complete.{exactly}
 use Rattle.line_runs.specs.Lines.{before, linesOf}
+use Rattle.form.proofs.Printable.{spell-printable}
+use Rattle.file_stated.proofs.Stated.{file-exactly}
 use Rattle.spelled_lines.proofs.Text.{lines-feed}
 use Rattle.listing.specs.Listing.{answerOf, listingOf}
 use Rattle.listing.proofs.Answers.{file-answers}
@@ -157,6 +160,13 @@ entry-limited x e s v b r = limited x e s v b r ∙ rw (entered x e s v b r) ref
 pub lines-ended : document.LinesEnded
 lines-ended line rest h = lines-feed line rest h
 
+pub no-lines-in-nothing : document.NoLinesInNothing
+unfolding linesOf
+no-lines-in-nothing = refl
+
+pub forms-printable : document.FormsPrintable
+forms-printable = spell-printable
+
 pub last-line-unended : document.LastLineUnended
 unfolding linesOf
 last-line-unended b [] h = rw (ne-eqb b 10 (h 0)) refl
@@ -252,11 +262,14 @@ check-ordered s I = refl
 
 pub brackets-filled : document.BracketsFilled
 unfolding listingOf
-brackets-filled file old new count x = (answerOf file, (file-answers file, x .bytes))
+brackets-filled file old new count x = (answerOf file, file-exactly file (answerOf file) .0 refl, file-answers file, x .bytes)
 
 -- ---- A whole file
 pub whole-file-listed : document.WholeFileListed
 whole-file-listed old new count x = x .bytes ∙ table.whole-file
+
+pub whole-file-worked : document.WholeFileWorked
+whole-file-worked = file-worked
 
 -- ---- Marked for proof
 pub cases-hold : document.CasesHold

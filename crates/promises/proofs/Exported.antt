@@ -1,20 +1,15 @@
 -- The theorems for specs/Exported, a theorem for each statement.
-use mathlib.Core.List.{List, []}
-use mathlib.Core.Path.{_≡_, refl, sym, subst, _∙_}
-use Prim.Native.Nat.{ℕ}
-use lib.ListN.{getD}
+use mathlib.Core.Path.{refl, sym, _∙_}
 use Rattle.rules.specs.Refusal.{said}
-use Rattle.refusal.specs.Reply.{replyOf}
 use Rattle.listing.specs.Listing.{answerOf}
 use Rattle.listing.proofs.Meaning.{bounds-begin}
 use Rattle.file_stated.proofs.Stated.{file-exactly}
-use Rattle.reply.specs.Told.{Told}
 use Rattle.calls.proofs.Half.{half-number, half-zero}
 use Rattle.calls.proofs.Loader.{take-refused}
 use Rattle.calls.proofs.LoaderListing.{turns-listing}
 use Rattle.calls.proofs.Meaning.{zero-said, zero-answer}
 use Rattle.promises.specs.Exported as exported
-use Rattle.promises.specs.Ways.{Accepted, on-lists, through-loader, by-half, of-listing}
+use Rattle.promises.specs.Ways.{on-lists, through-loader, by-half, of-listing}
 use Rattle.promises.proofs.Demands.{check-refuses-as-stated, through-refuses-as-stated}
 
 pub check-told : exported.CheckTold

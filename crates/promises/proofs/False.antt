@@ -1,19 +1,23 @@
 -- The statements of specs/False are false, each by an instance worked out.
-use mathlib.Core.Bool.{true}
+use mathlib.Core.Bool.{true, false}
 use mathlib.Core.List.{List, [], _∷_, _++_}
 use mathlib.Core.Path.{_≡_, refl, sym, ap, subst, _∙_}
-use Prim.Native.Nat.{ℕ, zero, suc}
+use Prim.Native.Nat.{ℕ, zero, suc, _<_}
 use native.Mathlib.Omega.{arith}
 use lib.Dec.{lit<, lit≤}
 use lib.IntN.{pos, natAbs, _*ℤ_}
 use lib.ListN.{getD, length}
+use lib.Signed.{leZ}
 use Rattle.integer.specs.Finite.{every, sum, sumℕ, largest, first}
-use Rattle.integer.specs.Quotient.{ceilDiv}
+use Rattle.integer.specs.Quotient.{ceilDiv, roundDiv}
+use Rattle.integer.proofs.Search.{clash}
 use Rattle.linear.specs.Matrix.{apply, product, identity}
 use Rattle.rules.specs.Range.{ranges, rangeOf, inRange, allInRange}
 use Rattle.rules.specs.declared.Outcome.the-variants as outcome
-use Rattle.rules.specs.declared.Refusal.the-variants.{TooShort, Residual}
-use Rattle.enclosure.specs.Demand.{Margins}
+use Rattle.rules.specs.declared.Refusal.the-variants.{TooShort}
+use Rattle.entry.specs.Entry.{entryValue, entryBound}
+use Rattle.entry.specs.Register.{RegisteredAs}
+use Rattle.entry.specs.declared.Registered.the-variants.{Entry}
 use Rattle.enclosure.specs.Reckoning.{defect, load, margin, marginFails, residual, rowSum, exceeds, sizesWith, boundFrom, boundWith, bound, inverseBound}
 use Rattle.checked.specs.Cases.{single, skewed, tolerant, inputOf}
 use Rattle.checked.specs.Checked.{Checked, solutionAfter, inverseAfter}
@@ -36,7 +40,7 @@ use Rattle.listing.proofs.Table.{whole-file}
 use Rattle.promises.specs.Document01.{Lowest}
 use Rattle.promises.specs.False as wrong
 use Rattle.promises.specs.Ways.{on-lists}
-use Rattle.promises.proofs.Ways.{solution-at, inverse-at}
+use Rattle.promises.proofs.Ways.{solution-at, inverse-at, accepted-sound}
 
 -- ---- A = (4 0 / 1 4) with a poor second column of the inverse is accepted, its first limit is written, and its inverse limits of row 1 are 0 and 2
 abbrev poor : Input
@@ -95,24 +99,20 @@ not-margin-alone-is-5 h =
 abbrev far : Input
 far = inputOf (single (pos 4) 0 4 (pos 2) (pos 4) [] [])
 
-far-inside : inRanges far ≡ true
-unfolding allInRange inRange rangeOf ranges every
-far-inside = refl
-
-far-said : checkedOf (problem far) ≡ 6 ∷ 1 ∷ []
-unfolding exceeds rowSum residual margin load defect product apply identity sum sumℕ first
-far-said = refl
-
-far-margins : Margins (problem far)
+far-margins : (m : ℕ) → m < 1 → leZ (margin (problem far) m) (pos 0) ≡ false
 unfolding margin load defect product apply identity sum sumℕ
 far-margins zero l = refl
 far-margins (suc m) l = absurd (omega (arith, l))
 
+far-exceeds : exceeds (problem far) 0 ≡ true
+unfolding exceeds rowSum residual apply sum sumℕ
+far-exceeds = refl
+
 pub not-margins-suffice : wrong.MarginsSuffice → ⊥
 not-margins-suffice h =
-    let x = checked-ready far refl far-inside {r = outcome.Refused (Residual 1)} (sym far-said) refl refl in
-    let z : _≡_ {A = ℕ} 6 0 = ap (λ (l : List ℕ). getD l 0 0) (h far (outcome.Refused (Residual 1)) _ _ x (record { long = refl; inside = far-inside }) far-margins) in
-    omega (arith, z)
+    let none : ℕ → ℕ = λ (i : ℕ). 0 in
+    let nowhere : ℕ → ℕ → ℕ = λ (i j : ℕ). 0 in
+    clash (exceeds (problem far) 0) far-exceeds (accepted-sound (problem far) none nowhere (h (problem far) none nowhere far-margins) .residuals 0 (lit< tt))
 
 -- ---- x = 0 with a tolerance of 3: a limit of 48, and 0 without the tolerance
 abbrev loose : Input
@@ -170,4 +170,15 @@ spare = record { size = sym (ap length whole-file); bytes = sym whole-file; othe
 pub not-listing-one-longer : wrong.ListingOneLonger → ⊥
 not-listing-one-longer h =
     let told = ap (λ (l : List ℕ). length l) (h buffer buffer (length wholeListing) spare) in
+    omega (arith, told)
+
+-- ---- 8 of 16 steps to a unit: the entry is 1
+half-way : RegisteredAs (pos 8) 0 4 (Entry (entryValue 4 (pos 8)) (entryBound 4 (pos 8) 0))
+unfolding inRange rangeOf ranges
+half-way = record { says = refl; entry = λ e. refl }
+
+pub not-halves-toward-zero : wrong.HalvesTowardZero → ⊥
+unfolding roundDiv
+not-halves-toward-zero h =
+    let told = h (pos 8) 0 4 (entryValue 4 (pos 8)) (entryBound 4 (pos 8) 0) half-way .1 refl in
     omega (arith, told)

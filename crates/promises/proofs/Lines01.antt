@@ -1,15 +1,17 @@
 -- The theorems for specs/Lines01, a theorem for each statement.
 --   CaseOf d l line k — the case of the refusal k of a line, or of acceptance (0);  stated-case — what is stated has it
-use mathlib.Core.Bool.{Bool, true, false, cond}
+use mathlib.Core.Bool.{Bool, true, false}
 use mathlib.Core.List.{List, [], _∷_}
-use mathlib.Core.Logic.{_↔_, _⊎_, inl, inr}
+use mathlib.Core.Logic.{_⊎_, inl, inr}
 use mathlib.Core.Path.{_≡_, refl, sym, ap, subst, _∙_}
 use Prim.Native.Nat.{ℕ, _≤_, _<_}
 use native.Mathlib.Numerals.{unary-clauses}
 use native.Mathlib.Omega.{arith}
+use borrow.Author.Tests.{ltb-true, lt-ltb}
 use lib.Dec.{eqb}
 use lib.ListN.{getD, length}
-use Rattle.form.specs.Form.{Form, spell}
+use Rattle.integer.proofs.Search.{clash}
+use Rattle.form.specs.Form.{Form, problem, scale, row, right, rightWithin, guess, inverse, weight, end, spell}
 use Rattle.form.proofs.Printable.{spell-some, spell-no-feed}
 use Rattle.form.proofs.Spelling.{spelled-read}
 use Rattle.form_values.specs.Item.{itemOf, placed, outside, miscounted}
@@ -32,7 +34,6 @@ use Rattle.file_shape.specs.Given.{GivenBy}
 use Rattle.file_shape.proofs.Stage.{given-by}
 use Rattle.line_stated.specs.Stated as stated
 use Rattle.line_stated.specs.Stated.{Formed, Unrepeated, LineStated}
-use Rattle.line_stated.proofs.Stated.{made-exactly}
 use Rattle.promises.specs.Lines01.{InTime, notGiven}
 use Rattle.promises.specs.Lines01 as line
 use Rattle.promises.proofs.Demands.{line-refuses-as-stated}
@@ -116,6 +117,42 @@ missing-is-13 d line l r l′ x k e =
     let same : (p : Part) → lacking (setOf (d .sets) p) (d .n) ≡ notGiven (d .n) (d .sets) p = λ p. simp unary-clauses refl in
     let most : (p : Part) → lacking (setOf (d .sets) p) (d .n) ≤ d .n = λ p. lacking-≤ (setOf (d .sets) p) (d .n) in
     (omega (arith, c, same Row, same Right, same Guess, same Inverse), omega (arith, c, most Row, most Right, most Guess, most Inverse))
+
+-- only an end can have forms outstanding
+is-end : (n : ℕ) (z : List ℕ) (f : Form) → incomplete n z (itemOf f) ≡ true → (f ≡ end) × (0 < missing n z)
+is-end n z (problem m) e = clash false e refl
+is-end n z (scale s t) e = clash false e refl
+is-end n z (row i a others) e = clash false e refl
+is-end n z (right i b) e = clash false e refl
+is-end n z (rightWithin i b d) e = clash false e refl
+is-end n z (guess i x) e = clash false e refl
+is-end n z (inverse i g others) e = clash false e refl
+is-end n z (weight i w) e = clash false e refl
+is-end n z end e = (refl, ltb-true 0 (missing n z) e)
+
+outstanding : (d : Loader) (l : Lists) (line : List ℕ) (k : ℕ) {w : List ℕ} → LineStated d l line w → w ≡ 13 ∷ k ∷ [] →
+    Unrepeated d l line end × (0 < missing (d .n) (d .sets)) × (k ≡ missing (d .n) (d .sets))
+outstanding d l line k (stated.forms-missing f u o m i) e =
+    let x = is-end (d .n) (d .sets) f i in
+    (subst (λ (g : Form). Unrepeated d l line g) (x .0) u, x .1, sym (ap (λ (v : List ℕ). getD v 1 0) e))
+outstanding d l line k (stated.too-short a) e = let z : _≡_ {A = ℕ} 8 13 = cc in absurd (omega (arith, z))
+outstanding d l line k (stated.after-end a b) e = let z : _≡_ {A = ℕ} 14 13 = cc in absurd (omega (arith, z))
+outstanding d l line k (stated.too-long a b c) e = let z : _≡_ {A = ℕ} 1 13 = cc in absurd (omega (arith, z))
+outstanding d l line k (stated.no-form a b c n) e = let z : _≡_ {A = ℕ} 2 13 = cc in absurd (omega (arith, z))
+outstanding d l line k (stated.too-early f h t) e = let z : _≡_ {A = ℕ} 11 13 = cc in absurd (omega (arith, z))
+outstanding d l line k (stated.i-outside f h t p) e = let z : _≡_ {A = ℕ} 3 13 = cc in absurd (omega (arith, z))
+outstanding d l line k (stated.again f h t p r) e = let z : _≡_ {A = ℕ} 12 13 = cc in absurd (omega (arith, z))
+outstanding d l line k (stated.value-outside f u o) e = let z : _≡_ {A = ℕ} 3 13 = cc in absurd (omega (arith, z))
+outstanding d l line k (stated.wrong-count f u o m) e = let z : _≡_ {A = ℕ} 4 13 = cc in absurd (omega (arith, z))
+outstanding d l line k (stated.accepted f u o m i) e = let z : _≡_ {A = ℕ} 0 13 = ap (λ (v : List ℕ). getD v 0 0) e in absurd (omega (arith, z))
+
+pub outstanding-is-13 : line.OutstandingIs13
+outstanding-is-13 d line l r l′ x m k = (
+  λ e. outstanding d l line k (line-refuses-as-stated d line l r l′ x m (13 ∷ k ∷ []) .0 e) refl,
+  λ c.
+      said-as d line l r l′ x m (stated.forms-missing end (c .0) refl refl (lt-ltb 0 (missing (d .n) (d .sets)) (c .1)))
+      ∙ ap (λ (j : ℕ). 13 ∷ j ∷ []) (sym (c .2)),
+)
 
 pub after-end-is-14 : line.AfterEndIs14
 after-end-is-14 d line l r l′ x m = (case-of d line l r l′ x m, λ c. said-as d line l r l′ x m (stated.after-end (c .0) (c .1)))

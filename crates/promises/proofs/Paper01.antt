@@ -1,6 +1,6 @@
 -- The theorems for specs/Paper01, a theorem for each statement.
-use mathlib.Core.Path.{_≡_, refl, sym, ap, subst, _∙_}
-use Prim.Native.Nat.{ℕ, suc, _-_}
+use mathlib.Core.Path.{_≡_, refl, sym, subst, _∙_}
+use Prim.Native.Nat.{suc, _-_}
 use native.Mathlib.Omega.{arith}
 use Rattle.form.specs.Form.{spell, end}
 use Rattle.form.proofs.Spelling.{read-spelled}

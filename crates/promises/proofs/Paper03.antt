@@ -1,10 +1,7 @@
 -- The theorems for specs/Paper03, a theorem for each statement.
-use mathlib.Core.List.{List}
-use mathlib.Core.Path.{_≡_, refl, sym, subst, _∙_}
-use Prim.Native.Nat.{ℕ}
+use mathlib.Core.Path.{refl, sym, subst, _∙_}
 use Rattle.rules.specs.Range.{inRange, rangeOf, ranges}
 use Rattle.observation.specs.Distinct.{weightAt, gain}
-use Rattle.observation.specs.Order.{buildAnswer}
 use Rattle.observation.specs.Stated.{BuildStated}
 use Rattle.observation.proofs.Statements.{stated, said-of}
 use Rattle.built.specs.BuiltAs.{shortFor}

@@ -1,6 +1,6 @@
 -- The theorem for specs/Paper04.
-use mathlib.Core.Path.{_≡_, _∙_}
-use Prim.Native.Nat.{ℕ, _*_}
+use mathlib.Core.Path.{_∙_}
+use Prim.Native.Nat.{_*_}
 use native.Mathlib.Nat.{mul-one, add-comm}
 use Rattle.promises.specs.Paper04 as paper
 

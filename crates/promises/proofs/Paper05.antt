@@ -1,15 +1,14 @@
 -- The theorems for specs/Paper05, a theorem for each statement.
 use mathlib.Core.Bool.{Bool, true, false, _||_}
-use mathlib.Core.List.{List}
 use mathlib.Core.Logic.{_⊎_, inl, inr}
 use mathlib.Core.Option.{none, some}
-use mathlib.Core.Path.{_≡_, refl, sym, ap, _∙_}
-use Prim.Native.Nat.{ℕ, _+_, _*_, _<_}
+use mathlib.Core.Path.{_≡_, refl, sym, _∙_}
+use Prim.Native.Nat.{ℕ, _<_}
 use native.Mathlib.Omega.{arith}
 use borrow.Author.Tests.{ltb-true, lt-ltb}
 use lib.Dec.{ltb}
 use Rattle.rules.specs.Range.{inRange, rangeOf, ranges}
-use Rattle.form.specs.Form.{Form, spell}
+use Rattle.form.specs.Form.{spell}
 use Rattle.form.proofs.Rights.{right-unread}
 use Rattle.form.proofs.Spelling.{read-spelled}
 use Rattle.enclosure.specs.Reckoning.{rowSum, exceeds}

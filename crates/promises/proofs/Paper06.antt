@@ -1,5 +1,5 @@
 -- The theorems for specs/Paper06, a theorem for each statement.
-use mathlib.Core.Path.{_≡_, sym, ap, _∙_}
+use mathlib.Core.Path.{sym, ap, _∙_}
 use Rattle.form.proofs.Spelling.{spelled-read, read-spelled}
 use Rattle.form.specs.Reading.{reading}
 use Rattle.line_runs.proofs.Changed.{made-changes, becomes-12}

@@ -1,23 +1,20 @@
 -- The theorems for specs/Paper07, a theorem for each statement.
-use mathlib.Core.List.{List, []}
-use mathlib.Core.Path.{_≡_, refl, sym, subst, _∙_}
-use Prim.Native.Nat.{ℕ, _+_, _*_}
-use native.Mathlib.Omega.{arith}
-use lib.IntN.{pos, natAbs}
-use Rattle.integer.specs.Finite.{sumℕ, largest}
+use mathlib.Core.Path.{refl, sym, subst, _∙_}
+use Prim.Native.Nat.{ℕ}
+use lib.IntN.{pos}
+use Rattle.integer.specs.Finite.{largest}
 use Rattle.linear.proofs.Written.{front-at}
 use Rattle.rules.specs.Range.{inRange, rangeOf, ranges}
-use Rattle.rules.proofs.Verdicts.{accepted-new}
 use Rattle.enclosure.specs.Reckoning.{defect, load}
 use Rattle.weight_sequence.specs.Promised.{SearchStated}
 use Rattle.weight_sequence.specs.Request.{searchProblem}
-use Rattle.weight_sequence.specs.Search.{passed, searchAnswer, weightsAfter}
+use Rattle.weight_sequence.specs.Search.{passed, weightsAfter}
 use Rattle.weight_sequence.specs.Sequence.{loads, shift, tried}
 use Rattle.weight_sequence.proofs.Bits.{bits-fit, bits-fewest}
 use Rattle.weight_sequence.proofs.Contract.{fit-of}
 use Rattle.weight_sequence.proofs.First.{good-margins, margins-good}
 use Rattle.weight_sequence.proofs.Lists.{tried-first, tried-next}
-use Rattle.weight_sequence.proofs.Promises.{search-stated, said-search, found-usable, count-first, larger-allowance}
+use Rattle.weight_sequence.proofs.Promises.{search-stated, said-search, found-usable, count-first, none-exactly, larger-allowance}
 use Rattle.promises.specs.Paper07 as paper
 use Rattle.promises.specs.Ways.{Refused}
 use Rattle.promises.proofs.Ways.{refused-old}
@@ -55,6 +52,9 @@ larger-allowance-same = larger-allowance
 
 pub search-refuses-as-stated : paper.SearchRefusesAsStated
 search-refuses-as-stated Q r weights x w = (λ e. subst (SearchStated Q) (sym (x .says) ∙ e) (search-stated Q), λ y. x .says ∙ said-search Q y)
+
+pub none-good-is-18 : paper.NoneGoodIs18
+none-good-is-18 Q r weights x = none-exactly Q r weights x
 
 pub refused-search-leaves : paper.RefusedSearchLeaves
 unfolding weightsAfter

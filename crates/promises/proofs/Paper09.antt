@@ -1,10 +1,8 @@
 -- The theorems for specs/Paper09, a theorem for each statement.
-use mathlib.Core.Path.{_≡_}
-use Prim.Native.Nat.{ℕ}
 use borrow.Author.Tests.{ltb-false}
 use Rattle.enclosure.specs.Problem.{columnOf}
-use Rattle.enclosure.specs.Reckoning.{rowSum, exceedsRow}
-use Rattle.enclosure.proofs.Tighter.{near-meets}
+use Rattle.enclosure.specs.Reckoning.{rowSum}
+use Rattle.enclosure.proofs.Tighter.{near-meets, near-column-meets}
 use Rattle.checked.proofs.Answers01.{cases-01, cases-05}
 use Rattle.checked.proofs.Table.{cases-hold}
 use Rattle.checked.proofs.Tightened.{still-true}
@@ -19,6 +17,10 @@ column-residuals-small P E L a j k lj lk = within (columnOf P j) k (accepted-sou
 pub near-meets-sum : paper.NearMeets
 unfolding rowSum
 near-meets-sum P N q x h k l = ltb-false _ _ (near-meets P N q x h k l)
+
+pub near-column-meets-sum : paper.NearColumnMeets
+unfolding rowSum
+near-column-meets-sum P H q x j lj h k l = ltb-false _ _ (near-column-meets P H q x j lj h k l)
 
 pub cases-become : paper.CasesBecome
 cases-become = (cases-hold, cases-01, cases-05)

@@ -1,9 +1,8 @@
 -- The theorems for specs/Paper10, a theorem for each statement.
-use mathlib.Core.Path.{_≡_, refl, sym, ap, _∙_}
-use Prim.Native.Nat.{ℕ, _+_, _-_, _*_, _/_, _<_}
+use mathlib.Core.Path.{_≡_, sym, ap, _∙_}
+use Prim.Native.Nat.{_+_, _-_, _*_, _/_, _<_}
 use native.Mathlib.Omega.{arith}
 use borrow.Author.Tests.{lt-ltb, le-ltb}
-use lib.IntN.{ℤ}
 use Rattle.linear.specs.Slice.{at}
 use Rattle.lower_half.specs.Half.{halfPlace}
 use Rattle.lower_half.proofs.Filling.{filled-at}

@@ -1,15 +1,15 @@
 -- The theorems for specs/Paper11, a theorem for each statement.
-use mathlib.Core.List.{List, [], _∷_}
+use mathlib.Core.List.{List}
 use mathlib.Core.Logic.{_↔_}
-use mathlib.Core.Path.{_≡_, refl, sym, _∙_}
+use mathlib.Core.Path.{_≡_, sym, _∙_}
 use mathlib.Core.Bool.{true}
 use Prim.Native.Nat.{ℕ}
 use lib.Ieee.{fin}
 use lib.IntN.{pos}
 use Rattle.doubles.proofs.Exact.{minus-zero}
 use Rattle.doubles.proofs.Steps.{guess-zero}
-use Rattle.exchange.specs.Inward.{inwardAnswer, guessesAfter}
-use Rattle.exchange.specs.Outward.{outwardAnswer, lowsAfter, highsAfter}
+use Rattle.exchange.specs.Inward.{guessesAfter}
+use Rattle.exchange.specs.Outward.{lowsAfter, highsAfter}
 use Rattle.exchange.proofs.Enclosed.{encloses-between}
 use Rattle.exchange.proofs.Inward as inward
 use Rattle.exchange.proofs.Outward as outward

@@ -1,5 +1,4 @@
 -- The theorems for specs/Paper12, a theorem for each statement.
-use mathlib.Core.Path.{_≡_}
 use Rattle.enclosure.proofs.Demands.{one-height}
 use Rattle.promises.specs.Paper12 as paper
 use Rattle.promises.proofs.Demands.{accepted-encloses}

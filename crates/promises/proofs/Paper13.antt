@@ -1,10 +1,8 @@
 -- The theorems for specs/Paper13, a theorem for each statement.
-use mathlib.Core.List.{List, []}
-use mathlib.Core.Path.{_≡_, refl, sym, subst, _∙_}
-use Prim.Native.Nat.{ℕ}
+use mathlib.Core.Path.{sym, subst, _∙_}
 use lib.IntN.{pos}
 use Rattle.linear.proofs.Written.{front-at}
-use Rattle.common.specs.Answer.{commonAnswer, lowAfter, highAfter}
+use Rattle.common.specs.Answer.{lowAfter, highAfter}
 use Rattle.common.specs.Ends.{lowEnd, highEnd}
 use Rattle.common.specs.Stated.{CommonStated}
 use Rattle.common.proofs.Contract.{long-low, long-high}

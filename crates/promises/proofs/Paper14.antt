@@ -1,7 +1,5 @@
 -- The theorems for specs/Paper14, a theorem for each statement.
-use mathlib.Core.List.{List, []}
-use mathlib.Core.Path.{_≡_, refl, sym, ap, subst, _∙_}
-use Prim.Native.Nat.{ℕ}
+use mathlib.Core.Path.{refl, sym, ap, subst, _∙_}
 use lib.ListN.{length}
 use Rattle.old_edition.specs.Converted.{convertAnswer}
 use Rattle.old_edition.specs.File.{newFile, oldForms}

@@ -3,9 +3,9 @@
 --   fit, sound, solution-at, inverse-at — an accepted check on lists: its numbers are in range, its problem is sound, and its limits are those of the reckoning
 --   through-lists — an accepted check through a loader is an accepted check on lists;  half-lists — and one by half the matrix that of the matrix filled out
 --   accepted-sound — an accepted problem is sound, whichever way it came
-use mathlib.Core.Bool.{Bool, true, false, cond}
+use mathlib.Core.Bool.{Bool, true, false}
 use mathlib.Core.List.{List, [], _∷_}
-use mathlib.Core.Path.{_≡_, refl, sym, subst, _∙_}
+use mathlib.Core.Path.{_≡_, refl, sym, _∙_}
 use Prim.Native.Nat.{ℕ, _+_, _*_, _/_, _%_, _<_}
 use native.Mathlib.Omega.{arith}
 use lib.ListN.{getD, length}

@@ -38,7 +38,7 @@ use Rattle.listing.specs.Listing.{problemIn, Complete, ListedAs, AnsweredAs}
 use Rattle.promises.specs.Ways.{Refused, Accepted, StatedThrough}
 
 -- ---- Demand 1. That no call stops short, runs on, wraps or reads outside its lists, no contract says: the prover shows it of every function with a body,
--- and no public call has a `requires`.
+-- and no call that others may use has a `requires`.
 -- "no refused call changes a bound, a list or the desk" (the desk is handed to a check by value, so that it cannot change it)
 abbrev pub RefusedCheckLeaves : Type 0
 RefusedCheckLeaves =
@@ -116,7 +116,7 @@ abbrev pub AcceptedEncloses : Type 0
 AcceptedEncloses = (P : Problem) (E : ℕ → ℕ) (L : ℕ → ℕ → ℕ) → Accepted P E L → Encloses P E L
 
 -- second half: a rounded exact proposal with a two-sided inverse, weights 1 and a sum of sizes below 2T (`RoundedExact`) is always accepted; 01: "The second
--- half presumes that no lent list is too short (8) and, through a desk, an accepted end"
+-- half presumes that no lent list is too short (8) and, through a desk, an accepted end"; and numbers in their ranges, since 3 comes before 5, 6 and 7
 abbrev pub CheckAccepts : Type 0
 CheckAccepts =
     (I : Input) (r : Outcome) (E L : List ℕ) → Checked I r E L → short I ≡ false → inRanges I ≡ true →

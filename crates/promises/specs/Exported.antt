@@ -1,4 +1,6 @@
--- The calls for C: a number and two places that stand for what is said (`Told`), and the promises above for each way in.
+-- The calls for C: a number and two places that stand for what is said (`Told`), and the promises above for each way in. The contracts of
+-- the other calls for C (calls/specs: `EntryExported`, `BuildExported`, `SearchExported`, `GuessesExported`, `IntervalsExported`, `DependentExported`, `CommonExported`,
+-- `QualityExported`, `ConvertExported`) have the contract that the papers' statements are over as a field.
 use mathlib.Core.Bool.{true, false}
 use mathlib.Core.List.{List}
 use mathlib.Core.Path.{_≡_}

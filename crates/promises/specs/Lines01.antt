@@ -5,7 +5,7 @@
 --   Own d f s k — the place k of the list s is one that the form f writes: those of its i, and at an end the weights that were not given
 --   TakenAll d l lines d′ l′ — the lines are taken one after another, each accepted, and leave d′ and l′
 --   notGiven n z p — how many of the forms 1 to n of the part p were not given
-use mathlib.Core.Bool.{Bool, true, false, cond}
+use mathlib.Core.Bool.{true, false, cond}
 use mathlib.Core.List.{List, [], _∷_}
 use mathlib.Core.Logic.{_↔_, _⊎_}
 use mathlib.Core.Path.{_≡_}
@@ -14,7 +14,7 @@ use lib.IntN.{ℤ, pos, natAbs}
 use lib.ListN.{getD, length}
 use Rattle.integer.specs.Finite.{sumℕ}
 use Rattle.rules.specs.Refusal.{said}
-use Rattle.form.specs.Form.{Form, spell}
+use Rattle.form.specs.Form.{Form, spell, end}
 use Rattle.form_values.specs.Item.{itemOf, placed, outside, miscounted}
 use Rattle.form_values.specs.declared.Item.the-variants.{Of, End}
 use Rattle.form_values.specs.declared.Part.{Part}
@@ -22,7 +22,7 @@ use Rattle.form_values.specs.declared.Part.the-variants as part
 use Rattle.form_values.specs.declared.Part.the-variants.{Row, Right, Guess, Inverse}
 use Rattle.lent_lists.specs.Lists.{Lists, listOf, shortLists}
 use Rattle.lent_lists.specs.Slot.{Slot, Weight, partOf, width, valuesFor}
-use Rattle.given_forms.specs.Progress.{missing, ended, early, repeated, incomplete, given}
+use Rattle.given_forms.specs.Progress.{missing, ended, early, repeated, given}
 use Rattle.loader_order.specs.Order.{LineCase, lineOrder}
 use Rattle.loader.specs.Taken.{TakenAs, fresh, after, listsWith}
 use Rattle.loader.specs.declared.Loader.{Loader}
@@ -103,6 +103,12 @@ abbrev pub MissingIs13 : Type 0
 MissingIs13 =
     (d : Loader) (line : List ℕ) (l : Lists) (r : Taken) (l′ : Lists) → TakenAs d line l r l′ → (k : ℕ) → said (r .outcome) ≡ 13 ∷ k ∷ [] →
     let c = notGiven (d .n) (d .sets) in (k ≡ c Row + (c Right + (c Guess + c Inverse))) × (k ≤ 4 * d .n)
+
+-- and when it comes: an end, neither too early nor a second time, with forms outstanding
+abbrev pub OutstandingIs13 : Type 0
+OutstandingIs13 =
+    (d : Loader) (line : List ℕ) (l : Lists) (r : Taken) (l′ : Lists) → TakenAs d line l r l′ → Made d → (k : ℕ) →
+    (said (r .outcome) ≡ 13 ∷ k ∷ []) ↔ (Unrepeated d l line end × (0 < missing (d .n) (d .sets)) × (k ≡ missing (d .n) (d .sets)))
 
 -- "14. Any line after an accepted end"
 abbrev pub AfterEndIs14 : Type 0

@@ -1,4 +1,4 @@
--- 02, Paper 1. Weights may be left out.
+-- 02, Paper 1. Weights may be left out. "makes the weight form optional": `Shape` asks a weight once or not at all (`WholeFilesShaped` of Document01).
 use mathlib.Core.Bool.{true, false}
 use mathlib.Core.List.{List, []}
 use mathlib.Core.Path.{_≡_}
@@ -29,7 +29,8 @@ EndWritesOnes =
 
 -- "What the desk remembers as outstanding changes with it. The count of forms still missing is now out of 4n": `MissingIs13` of Lines01
 
--- "A file without weights whose every line the desk accepts, end among them, and the same file with 1 everywhere, get equal listings"
+-- "A file without weights whose every line the desk accepts, end among them, and the same file with 1 everywhere, get equal listings". That with (weight i 1)
+-- for every i put before its end a complete file stays complete is `ones-complete` of listing/proofs/WithOnes
 abbrev pub WithoutWeightsSame : Type 0
 WithoutWeightsSame =
     (file file′ : List ℕ) → let fs = forms (linesOf file) in let gs = forms (linesOf file′) in

@@ -1,11 +1,11 @@
 -- 02, Paper 3. Equations from the field lines. The distinct lines and what each adds: observation/specs/Distinct.
-use mathlib.Core.Bool.{Bool, true, false, cond}
+use mathlib.Core.Bool.{cond}
 use mathlib.Core.List.{List, [], _∷_, _++_}
 use mathlib.Core.Logic.{_↔_}
 use mathlib.Core.Path.{_≡_}
-use Prim.Native.Nat.{ℕ, _+_, _*_, _≤_, _<_, _^_}
+use Prim.Native.Nat.{ℕ, _+_, _*_, _≤_, _<_}
 use lib.Dec.{eqb}
-use lib.IntN.{ℤ, pos, negℤ, _+ℤ_, _-ℤ_, _*ℤ_}
+use lib.IntN.{ℤ, pos, negℤ, _-ℤ_, _*ℤ_}
 use lib.ListN.{length}
 use Rattle.integer.specs.Among.{Among}
 use Rattle.linear.specs.Slice.{at}
@@ -22,7 +22,8 @@ use Rattle.built.specs.Diagonal.{TwiceTheWeight}
 use Rattle.promises.specs.Document01.{RangeIs}
 use Rattle.promises.specs.Ways.{Refused}
 
--- "A field line has a key (1 to 65,535), two marks from and to (0 to n [..]), a difference in whole units (−65,536 to 65,536) and a weight (1 to 64)"
+-- "A field line has a key (1 to 65,535), two marks from and to (0 to n [..]), a difference in whole units (−65,536 to 65,536) and a weight (1 to 64)". A mark is
+-- one of 32 here, and at most n by `outsideRange` of observation/specs/Line; "0 is the fixed mark of height 0": `FitAll` of observation/specs/Heights
 abbrev pub LinesRanged : Type 0
 LinesRanged =
     RangeIs kind.Key (pos 1) (pos 65535) × (RangeIs kind.Mark (pos 0) (pos 32) × (RangeIs kind.Difference (negℤ (pos 65536)) (pos 65536) × RangeIs kind.LineWeight (pos 1) (pos 64)))

@@ -2,10 +2,11 @@
 -- multiplies it out from row and column": no statement of its own, since it is the form of the code; tests/places.py reads the sources for a product in an
 -- index. "Contracts and listings are the same to the last byte": no contract of a call that others may use speaks of a carried place.
 use mathlib.Core.Path.{_≡_}
-use Prim.Native.Nat.{ℕ, _+_, _*_}
+use Prim.Native.Nat.{ℕ, _*_}
 use Rattle.linear.specs.Place.{Carried, placeOf}
 
--- "At each term it is shown to be the place that row and column give": what every term of a sum asks of its place (`Carried`), along row i and down column j
+-- "At each term it is shown to be the place that row and column give": what every term of a sum asks of its place (`Carried`), along row i and down column j. The
+-- loops that sum (`dot` of the crate linear, and those of raised_rows, differences, residuals, margins and bounds) carry such places
 abbrev pub CarriedIsPlace : Type 0
 CarriedIsPlace =
     (n i j k place : ℕ) →

@@ -1,5 +1,5 @@
 -- 02, Paper 7. Weights found by the program. The sequence: weight_sequence/specs/Sequence.
-use mathlib.Core.Bool.{true, false}
+use mathlib.Core.Bool.{true}
 use mathlib.Core.List.{List, [], _∷_}
 use mathlib.Core.Logic.{_↔_}
 use mathlib.Core.Path.{_≡_}
@@ -11,7 +11,7 @@ use Rattle.rules.specs.declared.Kind.the-variants as kind
 use Rattle.enclosure.specs.Demand.{Margins}
 use Rattle.enclosure.specs.Problem.{Problem, problemOf}
 use Rattle.enclosure.specs.Reckoning.{defect}
-use Rattle.weight_sequence.specs.Promised.{SearchStated, PlaceOfFirstGood, allowing}
+use Rattle.weight_sequence.specs.Promised.{SearchStated, UsableRequest, PlaceOfFirstGood, NoGood, allowing}
 use Rattle.weight_sequence.specs.Request.{Request, searchProblem}
 use Rattle.weight_sequence.specs.Search.{saidFound, countOf, passed, FoundAs}
 use Rattle.weight_sequence.specs.Sequence.{good, tried, weighted}
@@ -58,6 +58,9 @@ LargerAllowance =
 -- "(8 first, then 3, also if the allowance is outside 1 to 64. New 18, after 3, if none of the allowed lists is good"
 abbrev pub SearchRefusesAsStated : Type 0
 SearchRefusesAsStated = (Q : Request) (r : Found) (weights : List ℤ) → FoundAs Q r weights → (w : List ℕ) → (saidFound r ≡ w) ↔ SearchStated Q w
+
+abbrev pub NoneGoodIs18 : Type 0
+NoneGoodIs18 = (Q : Request) (r : Found) (weights : List ℤ) → FoundAs Q r weights → (saidFound r ≡ 18 ∷ []) ↔ (UsableRequest Q × NoGood Q)
 
 -- "the weight list is then untouched.)"
 abbrev pub RefusedSearchLeaves : Type 0

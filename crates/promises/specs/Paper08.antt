@@ -21,6 +21,7 @@ use Rattle.dependent.specs.Together.{CheckedTogether}
 use Rattle.dependent.specs.declared.CheckedNets.{CheckedNets}
 use Rattle.promises.specs.Ways.{Refused}
 
+-- "a hung net has equations A2·u2 = b2 − C·u1": `JointSolution` of dependent/specs/Joint. "Demand 3's second half is not asked of a hung net": there is no such statement.
 -- "Its residual is S·b2 − C·X1 − A2·X2", C "row after row without gaps", "one row for each hung mark and one column for each main mark"
 abbrev pub DependentResidualIs : Type 0
 DependentResidualIs =

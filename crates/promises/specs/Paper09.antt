@@ -1,7 +1,7 @@
 -- 02, Paper 9. Poor guesses no longer pass. "6 and 7 take the added condition, in their old places": `LargeResidualIs6`, `LargeInverseIs7` of Document01;
 -- "The 2^25 test with slack also stays": `ResidualWithSlack` of Paper05.
-use mathlib.Core.Bool.{true, false}
-use mathlib.Core.List.{List, []}
+use mathlib.Core.Bool.{true}
+use mathlib.Core.List.{[]}
 use mathlib.Core.Path.{_≡_}
 use Prim.Native.Nat.{ℕ, _+_, _*_, _≤_, _<_}
 use lib.IntN.{ℤ, pos, natAbs, _-ℤ_, _*ℤ_}
@@ -23,11 +23,17 @@ ColumnResidualsSmall =
     (P : Problem) (E : ℕ → ℕ) (L : ℕ → ℕ → ℕ) → Accepted P E L → (j k : ℕ) → j < P .n → k < P .n →
     natAbs (residual (columnOf P j) k) ≤ sumℕ (P .n) (λ (i : ℕ). natAbs (P .A k i))
 
--- "a guess within one step of the exact solution everywhere always meets this", and a column of the inverse within one step of an exact one's
+-- "a guess within one step of the exact solution everywhere always meets this"
 abbrev pub NearMeets : Type 0
 NearMeets =
     (P : Problem) (N : Vec) (q : ℕ) → ExactSolution P N q → ((j : ℕ) → j < P .n → natAbs (pos (S P) *ℤ N j -ℤ pos q *ℤ P .X j) ≤ q) →
     (k : ℕ) → k < P .n → natAbs (residual P k) ≤ sumℕ (P .n) (λ (j : ℕ). natAbs (P .A k j))
+
+-- and so does a column of the inverse within one step of an exact one's
+abbrev pub NearColumnMeets : Type 0
+NearColumnMeets =
+    (P : Problem) (H : Mat) (q : ℕ) → ExactInverse P H q → (j : ℕ) → j < P .n → ((i : ℕ) → i < P .n → natAbs (pos (T P) *ℤ H i j -ℤ pos q *ℤ P .G i j) ≤ q) →
+    (k : ℕ) → k < P .n → natAbs (residual (columnOf P j) k) ≤ sumℕ (P .n) (λ (i : ℕ). natAbs (P .A k i))
 
 -- "Of 01's cases, a and b become 7, column 1 row 1; f, g and h become 6, row 1; j becomes 7, column 2 row 1": `rows` as Paper 9 answers them, `rows01` as 01 does
 abbrev pub CasesBecome : Type 0

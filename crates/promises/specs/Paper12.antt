@@ -1,5 +1,4 @@
 -- 02, Paper 12. The height exists.
-use mathlib.Core.Path.{_≡_}
 use Prim.Native.Nat.{ℕ}
 use Rattle.linear.specs.Matrix.{Vec, Mat}
 use Rattle.exact_solution.specs.Determined.{Solves, Inverse, Same}

@@ -2,9 +2,9 @@
 use mathlib.Core.List.{List, [], _∷_, _++_}
 use mathlib.Core.Logic.{_↔_}
 use mathlib.Core.Path.{_≡_}
-use Prim.Native.Nat.{ℕ, _≤_}
+use Prim.Native.Nat.{ℕ}
 use lib.IntN.{pos}
-use lib.ListN.{length, take, drop}
+use lib.ListN.{length, drop}
 use Rattle.form.specs.Form.{problem, scale, end}
 use Rattle.form_values.specs.declared.Part.the-variants.{Row, Right, Guess, Inverse, Weight}
 use Rattle.enclosure.specs.Demand.{NoTolerance}
@@ -32,7 +32,7 @@ NewFileWritten =
     (file old new : List ℕ) (r : Converted) → ConvertedAs file old new r → saidConverted r ≡ [] →
     (lengthOf r ≡ length (newFile file)) × (new ≡ newFile file ++ drop (length (newFile file)) old)
 
--- it can be read by what 01 describes
+-- "Some offices can read only what 01 describes": it is complete by 01's own rules (`CompleteOld`)
 abbrev pub OldDeskReads : Type 0
 OldDeskReads = (file old new : List ℕ) (r : Converted) → ConvertedAs file old new r → saidConverted r ≡ [] → CompleteOld (newFile file)
 

@@ -126,7 +126,7 @@ def faults(index, call, answer):
 
 
 SUITE = Suite(
-    count=2000, generate=generate, write=write, coverage=coverage, required=REQUIRED, faults=faults, others=others,
+    count=6000, tested_count=2000, generate=generate, write=write, coverage=coverage, required=REQUIRED, faults=faults, others=others,
     answer=Builder().build,
     mutants=((MUTANTS, lambda mutant, call, answer: mutant.build(call) != answer),),
 )

@@ -243,6 +243,6 @@ def faults(index, handed, answer):
 
 
 SUITE = Suite(
-    count=700, generate=generate, answer=answer, write=write, coverage=coverage, required=REQUIRED, faults=faults,
+    count=2800, tested_count=700, generate=generate, answer=answer, write=write, coverage=coverage, required=REQUIRED, faults=faults,
     mutants=((MUTANTS, lambda mutant, handed, answer: mutant.find(answer[0]) != answer[1]),),
 )

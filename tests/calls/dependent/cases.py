@@ -233,7 +233,7 @@ def is_left(mutant, sent, answer):
 
 
 SUITE = Suite(
-    count=480, generate=generate, write=write, coverage=coverage, required=REQUIRED, faults=faults,
+    count=1460, tested_count=480, generate=generate, write=write, coverage=coverage, required=REQUIRED, faults=faults,
     answer=lambda sent: reckon(DependentCheck(), sent),
     mutants=(
         (MUTANTS, lambda mutant, sent, answer: reckon(mutant, sent) != answer),

@@ -218,7 +218,7 @@ def faults(index, sent, answer):
 
 
 SUITE = Suite(
-    count=600, generate=generate, write=write, coverage=coverage, required=REQUIRED, faults=faults,
+    count=1820, tested_count=600, generate=generate, write=write, coverage=coverage, required=REQUIRED, faults=faults,
     answer=lambda sent: HalfEntry().check(sent.call.problem(), sent.call.lengths),
     mutants=((MUTANTS, lambda mutant, sent, answer: sent.call.n <= MOST_DAMAGED and mutant.check(sent.call.problem(), sent.call.lengths) != answer),),
 )

@@ -133,7 +133,7 @@ def coverage(inquiry, answer):
 
 
 SUITE = Suite(
-    count=800, generate=generate, write=write, coverage=coverage, required=REQUIRED,
+    count=2400, tested_count=800, generate=generate, write=write, coverage=coverage, required=REQUIRED,
     answer=Quality().rate,
     mutants=((MUTANTS, lambda mutant, inquiry, answer: mutant.rate(inquiry) != answer),),
 )

@@ -97,7 +97,7 @@ def coverage(search, answer):
 
 
 SUITE = Suite(
-    count=800, generate=generate, write=write, coverage=coverage, required=REQUIRED,
+    count=2420, tested_count=800, generate=generate, write=write, coverage=coverage, required=REQUIRED,
     answer=lambda search: WeightSearch().find(search.request),
     mutants=((MUTANTS, lambda mutant, search, answer: mutant.find(search.request) != answer),),
 )
