@@ -37,8 +37,9 @@ bool next_call(void) {
     return !at_end();
 }
 
-void end_call(const char *what, uint32_t number) {
-    test(what, calls++, is_as_expected());
+void end_call(const char *what, uint32_t said, uint32_t number) {
+    const bool is_left = is_as_expected();
+    test(what, calls++, said == number && is_left);
     met[number % ANSWERS]++;
 }
 

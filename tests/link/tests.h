@@ -5,9 +5,9 @@
 #include <stdbool.h>
 #include <stdint.h>
 
-/* Begins the replay of an emitter's next call, and ends it: where all that was lent is as expected it has passed. The number is the right answer. */
+/* Begins the replay of an emitter's next call, and ends it: where the right number was said, and all that was lent is as expected, it has passed. */
 bool next_call(void);
-void end_call(const char *what, uint32_t number);
+void end_call(const char *what, uint32_t said, uint32_t number);
 
 /* That each of these answers, the first of them 0, was right often enough in the calls so far; another 0 ends the list. The count begins anew. */
 void test_reach(const char *what, const unsigned *numbers);

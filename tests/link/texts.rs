@@ -12,15 +12,14 @@ pub fn replay_files(replay: &mut Replay) {
         let (file_len, answer, right_places, length) = (input.length(), input.word(), input.places(), input.length());
         input.end_numbers();
         let (file, text) = (lent.lend_list(input.bytes(file_len)), input.bytes(length));
-        let (listing, number, written, places) = (lent.lend(LISTING), lent.lend(1), lent.lend(1), lent.lend(2));
+        let (listing, written, places) = (lent.lend(LISTING), lent.lend(1), lent.lend(2));
         lent.expect_unchanged();
-        lent.expect(number, &[answer]);
         lent.expect(places, &right_places);
         lent.expect(written, &[length]);
         lent.expect(listing, text);
-        lent.list(number)[0] =
+        let said =
             unsafe { kodarfi_listing(lent.pointer(file), file_len, lent.pointer(listing), lent.pointer(written), lent.pointer(places)) };
-        replay.end_call("listing", answer);
+        replay.end_call("listing", said, answer);
     }
     replay.test_reach("listing", &[0, 1, 2, 3, 4, 5, 6, 7, 11, 12, 13, 14, 15]);
 }
@@ -39,22 +38,21 @@ fn replay_conversion(replay: &mut Replay, x: &Conversion, with_line: bool) {
     let lent = &mut replay.lent;
     lent.anew();
     let (file, out) = (lent.lend_list(x.file), lent.lend(x.out_len));
-    let (number, written, places, line) = (lent.lend(1), lent.lend(1), lent.lend(2), lent.lend(1));
+    let (written, places, line) = (lent.lend(1), lent.lend(2), lent.lend(1));
     lent.expect_unchanged();
-    lent.expect(number, &[x.answer]);
     lent.expect(places, &x.places);
     lent.expect(out, x.text);
     if x.answer == 0 {
         lent.expect(written, &[x.text.len()]);
     }
     let (from, to, length) = (lent.pointer(file), lent.pointer(out), lent.pointer(written));
-    lent.list(number)[0] = if with_line {
+    let said = if with_line {
         lent.expect(line, &[x.line]);
         unsafe { kodarfi_convert_line(from, x.file.len(), to, x.out_len, length, lent.pointer(places), lent.pointer(line)) }
     } else {
         unsafe { kodarfi_convert(from, x.file.len(), to, x.out_len, length, lent.pointer(places)) }
     };
-    replay.end_call(if with_line { "conversion with its line" } else { "conversion" }, x.answer);
+    replay.end_call(if with_line { "conversion with its line" } else { "conversion" }, said, x.answer);
 }
 
 pub fn replay_conversions(replay: &mut Replay) {

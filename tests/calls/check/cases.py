@@ -203,8 +203,7 @@ def answer_lines(answer):
 
 
 def write(sent, answer):
-    call = sent.call
-    return [[call.count, call.n, call.s, call.t, *call.lengths], *call.lists, *answer_lines(answer)]
+    return [*sent.call.written(), *answer_lines(answer)]
 
 
 def is_of_shape(name, net, answer):

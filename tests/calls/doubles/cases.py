@@ -242,7 +242,7 @@ def differs(mutant, call, answer):
 
 
 SUITE = Suite(
-    count=6000, seed="2", generate=generate, write=write, coverage=coverage, required=REQUIRED, faults=faults,
+    count=50000, tested_count=6000, seed="2", generate=generate, write=write, coverage=coverage, required=REQUIRED, faults=faults,
     answer=lambda call: answered(Doubles(), call),
     mutants=(
         ({f"in: {name}": mutant for name, mutant in INWARD.items()}, lambda mutant, call, answer: is_inward(call) and differs(mutant, call, answer)),

@@ -9,7 +9,7 @@ from typing import NamedTuple
 
 from calls.weights.mutants import MUTANTS
 from calls.weights.oracle import FULL, Found, Request, WeightSearch, place_within
-from common.damage.lists import SCALES, SIZES, filled, odd_number, other_size, rows_given
+from common.damage.lists import SCALES, SIZES, filled, odd_number, other_size, rows_given, shorter
 from common.rules import Refusal
 from common.suite import Suite
 from common.systems.searched import late, searched
@@ -41,8 +41,7 @@ def damaged(rng, request):
     n = request.n
     kind = rng.randrange(6)
     if kind == 0:
-        which = rng.randrange(3)
-        return request._replace(lengths=FULL._replace(**{FULL._fields[which]: rng.choice((FULL[which] - 1, FULL[which] // 2, 0))}))
+        return request._replace(lengths=shorter(rng, FULL))
     if kind == 1:
         return request._replace(n=other_size(rng, request.n, SIZES))
     if kind == 2:

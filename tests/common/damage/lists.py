@@ -40,6 +40,10 @@ class Call(NamedTuple):
     def problem(self):
         return Problem(self.n, self.s, self.t, *(filled(numbers, length) for numbers, length in zip(self.lists, FULL)))
 
+    def written(self):
+        """As the emitters write it: what it is told, then its lists."""
+        return [[self.count, self.n, self.s, self.t, *self.lengths], *self.lists]
+
     def with_number(self, which, at, value):
         numbers = list(self.lists[which])
         numbers[at] = value
@@ -51,11 +55,14 @@ def call_of(net):
     return Call(net.n, net.n, net.s, net.t, FULL, lists)
 
 
+def shorter(rng, lengths, first=0):
+    """These lengths with one, from `first` on, too short, by one or by more."""
+    which = rng.randrange(first, len(lengths))
+    return lengths._replace(**{lengths._fields[which]: rng.choice((lengths[which] - 1, lengths[which] - 1, lengths[which] // 2, 0))})
+
+
 def shortened(rng, call):
-    """One list too short, by one or by more."""
-    which = rng.randrange(len(FULL))
-    length = rng.choice((FULL[which] - 1, FULL[which] - 1, FULL[which] // 2, 0))
-    return call._replace(lengths=FULL._replace(**{FULL._fields[which]: length}))
+    return call._replace(lengths=shorter(rng, FULL))
 
 
 def other_size(rng, size, others):
