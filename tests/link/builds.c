@@ -1,8 +1,5 @@
 /* kodarfi_build, kodarfi_build_half, kodarfi_build_line and kodarfi_build_half_line. */
-#include "input.h"
-#include "lent.h"
-#include "nets.h"
-#include "tests.h"
+#include "replay.h"
 
 /* A list of field lines, and the right answer. */
 struct build {

@@ -1,8 +1,5 @@
 /* kodarfi_check, kodarfi_check_half, kodarfi_check_dependent and kodarfi_common. */
-#include "input.h"
-#include "lent.h"
-#include "nets.h"
-#include "tests.h"
+#include "replay.h"
 
 static void replay_check(const char *what, bool is_half) {
     static const unsigned NUMBERS[] = {0, 3, 5, 6, 7, 8, 0};

@@ -4,9 +4,7 @@
  *   link FOLDER [PART]   on what the emitters wrote into FOLDER; with PART, a name of the list below, that part alone, up to the first test that fails
  *
  * The last line is 'N passed, M failed'. */
-#include "input.h"
-#include "lent.h"
-#include "tests.h"
+#include "replay.h"
 
 #include <stdio.h>
 #include <stdlib.h>

@@ -1,8 +1,5 @@
 /* kodarfi_loader_new, kodarfi_loader_take and kodarfi_loader_check. */
-#include "input.h"
-#include "lent.h"
-#include "nets.h"
-#include "tests.h"
+#include "replay.h"
 
 enum { NEW_LOADER, SET_NUMBERS, TAKE_LINE, CHECK_LOADER };
 enum { NUMBERS = KODARFI_LOADER_LENGTH, LISTS = 6, LENGTHS = 8 };

@@ -4,6 +4,7 @@
 #define MUTANTS_H
 
 #include "kodarfi.h"
+#include "real.h" /* the calls of the library itself, which tests/link/run declares */
 
 #include <stdbool.h>
 
@@ -102,8 +103,5 @@ void narrow(uint64_t *list, size_t count);
 
 /* Leaves of a place what a write of 32 bits would: the upper half as it was before. */
 void keep_upper_half(uint64_t *place, uint64_t before);
-
-/* The calls of the library itself. */
-#define REAL(name) extern __typeof__(kodarfi_##name) real_kodarfi_##name
 
 #endif

@@ -1,8 +1,5 @@
 /* kodarfi_entry, kodarfi_find_weights, kodarfi_quality, kodarfi_guesses and kodarfi_intervals. */
-#include "input.h"
-#include "lent.h"
-#include "nets.h"
-#include "tests.h"
+#include "replay.h"
 
 static const uint64_t NO_PLACES[2];
 

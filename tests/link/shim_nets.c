@@ -3,12 +3,6 @@
 
 #include <string.h>
 
-REAL(check);
-REAL(check_half);
-REAL(check_dependent);
-REAL(common);
-REAL(loader_check);
-
 enum { COLUMN = KODARFI_COLUMN_LENGTH };
 
 uint32_t kodarfi_check(SIZES(), READ(int64_t, matrix), COLUMNS(), LIMITS(), uint64_t places[2]) {

@@ -3,16 +3,6 @@
 
 #include <string.h>
 
-REAL(entry);
-REAL(find_weights);
-REAL(quality);
-REAL(guesses);
-REAL(intervals);
-REAL(build);
-REAL(build_half);
-REAL(build_line);
-REAL(build_half_line);
-
 enum { COLUMN = KODARFI_COLUMN_LENGTH, LINES = 1024 };
 
 uint32_t kodarfi_entry(int64_t guess, uint64_t bound, uint32_t s, int64_t *value, uint64_t *value_bound, uint64_t places[2]) {

@@ -1,12 +1,6 @@
 /* The calls on files and lines, passed through to the library, with their mutants. */
 #include "mutants.h"
 
-REAL(listing);
-REAL(convert);
-REAL(convert_line);
-REAL(loader_new);
-REAL(loader_take);
-
 uint32_t kodarfi_listing(READ(uint8_t, file), uint8_t listing[32768], size_t *written, uint64_t places[2]) {
     const uint64_t before = *written;
     const uint32_t number = real_kodarfi_listing(HAND(file), listing, written, places);

@@ -1,8 +1,5 @@
 /* kodarfi_listing, kodarfi_convert and kodarfi_convert_line. */
-#include "input.h"
-#include "kodarfi.h"
-#include "lent.h"
-#include "tests.h"
+#include "replay.h"
 
 enum { LONGEST = KODARFI_LISTING_LENGTH };
 
