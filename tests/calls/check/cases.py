@@ -27,7 +27,7 @@ MOST_DAMAGED = 10
 DAMAGES = 6
 # So many systems of shapes, each shape in its turn, and in the self-test so many others.
 OF_SHAPES = 270
-OTHERS = 1200
+OTHERS = 500
 
 # Rounding to nearest steps, so that equal numbers stay equal, and within a step.
 ROUNDINGS = (halves_up, usual.within_a_step)
