@@ -84,9 +84,7 @@ pub fn replay_halves(replay: &mut Replay) {
 }
 
 pub fn replay_dependent(replay: &mut Replay) {
-    while !replay.input.at_end() {
-        let (input, lent) = (&mut replay.input, &mut replay.lent);
-        lent.anew();
+    replay.each("check of a dependent net", NUMBERS, |input, lent| {
         let (a, b) = (read_net(input, false), read_net(input, false));
         let [given, coupling_len] = input.lengths();
         let coupling = lent.lend_list(&input.filled(given, MATRIX, UNREAD));
@@ -117,15 +115,12 @@ pub fn replay_dependent(replay: &mut Replay) {
                 lent.pointer(net), lent.pointer(places),
             )
         };
-        replay.end_call("check of a dependent net", said, answer);
-    }
-    replay.test_reach("check of a dependent net", NUMBERS);
+        (said, answer)
+    });
 }
 
 pub fn replay_common(replay: &mut Replay) {
-    while !replay.input.at_end() {
-        let (input, lent) = (&mut replay.input, &mut replay.lent);
-        lent.anew();
+    replay.each("common intervals", &[0, 3, 5, 6, 7, 8, 20, 21], |input, lent| {
         let (a, b) = (read_proposal(input), read_proposal(input));
         let [low_len, high_len] = input.lengths();
         let (answer, of_proposal, right_places) = (input.word(), input.word(), input.places());
@@ -149,7 +144,6 @@ pub fn replay_common(replay: &mut Replay) {
                 lent.pointer(proposal), lent.pointer(places),
             )
         };
-        replay.end_call("common intervals", said, answer);
-    }
-    replay.test_reach("common intervals", &[0, 3, 5, 6, 7, 8, 20, 21]);
+        (said, answer)
+    });
 }

@@ -8,9 +8,7 @@ use crate::replay::Replay;
 const NO_NUMBER: u64 = 0x7ff8_0000_dead_beef;
 
 pub fn replay_entries(replay: &mut Replay) {
-    while !replay.input.at_end() {
-        let (input, lent) = (&mut replay.input, &mut replay.lent);
-        lent.anew();
+    replay.each("entry", &[0, 3], |input, lent| {
         let (guess, bound, s) = (input.number() as i64, input.number(), input.word());
         let (answer, entry, entry_bound) = (input.word(), input.number() as i64, input.number());
         let (value, value_bound, places) = (lent.lend(1), lent.lend(1), lent.lend(2));
@@ -21,15 +19,12 @@ pub fn replay_entries(replay: &mut Replay) {
             lent.expect(value_bound, &[entry_bound]);
         }
         let said = unsafe { kodarfi_entry(guess, bound, s, lent.pointer(value), lent.pointer(value_bound), lent.pointer(places)) };
-        replay.end_call("entry", said, answer);
-    }
-    replay.test_reach("entry", &[0, 3]);
+        (said, answer)
+    });
 }
 
 pub fn replay_weights(replay: &mut Replay) {
-    while !replay.input.at_end() {
-        let (input, lent) = (&mut replay.input, &mut replay.lent);
-        lent.anew();
+    replay.each("search for weights", &[0, 3, 8, 18], |input, lent| {
         let (count, n, t, allowance) = (input.length(), input.word(), input.word(), input.word());
         let [matrix_len, inverse_len, weights_len] = input.lengths();
         let matrix = lent.lend_list(&input.filled(count * count, MATRIX, UNREAD));
@@ -52,15 +47,12 @@ pub fn replay_weights(replay: &mut Replay) {
                 lent.pointer(tried), lent.pointer(places),
             )
         };
-        replay.end_call("search for weights", said, answer);
-    }
-    replay.test_reach("search for weights", &[0, 3, 8, 18]);
+        (said, answer)
+    });
 }
 
 pub fn replay_quality(replay: &mut Replay) {
-    while !replay.input.at_end() {
-        let (input, lent) = (&mut replay.input, &mut replay.lent);
-        lent.anew();
+    replay.each("factor of limits", &[0, 3, 5, 8], |input, lent| {
         let (count, n, t) = (input.length(), input.word(), input.word());
         let [matrix_len, inverse_len, weights_len] = input.lengths();
         let matrix = lent.lend_list(&input.filled(count * count, MATRIX, UNREAD));
@@ -83,9 +75,8 @@ pub fn replay_quality(replay: &mut Replay) {
                 lent.pointer(numerator), lent.pointer(denominator), lent.pointer(places),
             )
         };
-        replay.end_call("factor of limits", said, answer);
-    }
-    replay.test_reach("factor of limits", &[0, 3, 5, 8]);
+        (said, answer)
+    });
 }
 
 /// Doubles are lent and compared as their bits: minus zero is not plus zero.

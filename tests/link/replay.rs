@@ -60,6 +60,16 @@ impl<'a> Replay<'a> {
         self.met[number as usize % ANSWERS] += 1;
     }
 
+    /// Replays calls up to the input's end: `call` reads, lends and makes one, and gives what was said and what is right. Each of these answers must be met.
+    pub fn each(&mut self, what: &str, numbers: &[usize], call: impl Fn(&mut Input<'a>, &mut Lent) -> (u32, u32)) {
+        while !self.input.at_end() {
+            self.lent.anew();
+            let (said, right) = call(&mut self.input, &mut self.lent);
+            self.end_call(what, said, right);
+        }
+        self.test_reach(what, numbers);
+    }
+
     /// A test of the call that is replayed.
     pub fn test(&mut self, what: &str, holds: bool) {
         self.count.test(what, self.calls, holds);

@@ -6,9 +6,7 @@ use crate::replay::Replay;
 const LISTING: usize = 32768;
 
 pub fn replay_files(replay: &mut Replay) {
-    while !replay.input.at_end() {
-        let (input, lent) = (&mut replay.input, &mut replay.lent);
-        lent.anew();
+    replay.each("listing", &[0, 1, 2, 3, 4, 5, 6, 7, 11, 12, 13, 14, 15], |input, lent| {
         let (file_len, answer, right_places, length) = (input.length(), input.word(), input.places(), input.length());
         input.end_numbers();
         let (file, text) = (lent.lend_list(input.bytes(file_len)), input.bytes(length));
@@ -19,9 +17,8 @@ pub fn replay_files(replay: &mut Replay) {
         lent.expect(listing, text);
         let said =
             unsafe { kodarfi_listing(lent.pointer(file), file_len, lent.pointer(listing), lent.pointer(written), lent.pointer(places)) };
-        replay.end_call("listing", said, answer);
-    }
-    replay.test_reach("listing", &[0, 1, 2, 3, 4, 5, 6, 7, 11, 12, 13, 14, 15]);
+        (said, answer)
+    });
 }
 
 /// A file, the length of the buffer, and the right answer: the number, both places, the refused line and the new file.
