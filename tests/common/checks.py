@@ -58,6 +58,10 @@ def limits_in(listing):
     return [int(limit) for _, limit in SOLUTION.findall(listing)]
 
 
+def inverse_limits_in(listing):
+    return [[int(limit) for limit in row.split()] for row in INVERSE.findall(listing)]
+
+
 def entries_in(listing):
     """Each entry of a report with its limit."""
     return [(int(V), int(limit)) for V, limit in ENTRY.findall(listing)]
@@ -66,7 +70,7 @@ def entries_in(listing):
 def statements(net, q, H, listing):
     """Sentences that say what is wrong, each with whether all is well."""
     E, entries = limits_in(listing), entries_in(listing)
-    L = [[int(limit) for limit in row.split()] for row in INVERSE.findall(listing)]
+    L = inverse_limits_in(listing)
     yield "the elimination is wrong", net.n > 8 or is_exact_inverse(net.matrix, q, H)
     yield "not n limits and n × n limits", len(E) == net.n and [len(row) for row in L] == [net.n] * net.n
     yield "the exact solution lies outside its limits", solution_within(net, q, product(H, net.right), E)

@@ -1,4 +1,4 @@
-/* What include/kodarfi.h says beside its calls: lengths, ranges, numbers of refusals, the layout of a field line, and null pointers with a length of 0.
+/* What include/kodarfi.h says beside its calls: lengths, ranges, numbers of refusals, and the layout of a field line.
  *
  *   header EXAMPLES   the folder examples/refused
  *
@@ -12,9 +12,8 @@
 static struct lists net;
 static uint64_t solution_bounds[KODARFI_COLUMN_LENGTH], inverse_bounds[KODARFI_MATRIX_LENGTH], places[2];
 
-/* The lengths that a check is told, in the order of its lists; where one is 0 and `nulls` is set, the pointer is null. */
+/* The lengths that a check is told, in the order of its lists. */
 static size_t lengths[8];
-static bool nulls;
 
 static void set_lengths(void) {
     const size_t matrix = KODARFI_MATRIX_LENGTH, column = KODARFI_COLUMN_LENGTH;
@@ -22,14 +21,9 @@ static void set_lengths(void) {
     memcpy(lengths, full, sizeof lengths);
 }
 
-static const int64_t *read_list(const int64_t *list, unsigned k) { return nulls && lengths[k] == 0 ? NULL : list; }
-
-static uint64_t *written_list(uint64_t *list, unsigned k) { return nulls && lengths[k] == 0 ? NULL : list; }
-
 static uint32_t checked(const struct lists *of) {
-    return kodarfi_check(of->n, of->s, of->t, read_list(of->matrix, 0), lengths[0], read_list(of->right, 1), lengths[1], read_list(of->tolerance, 2), lengths[2],
-                         read_list(of->guess, 3), lengths[3], read_list(of->inverse, 4), lengths[4], read_list(of->weights, 5), lengths[5],
-                         written_list(solution_bounds, 6), lengths[6], written_list(inverse_bounds, 7), lengths[7], places);
+    return kodarfi_check(of->n, of->s, of->t, of->matrix, lengths[0], of->right, lengths[1], of->tolerance, lengths[2], of->guess, lengths[3], of->inverse,
+                         lengths[4], of->weights, lengths[5], solution_bounds, lengths[6], inverse_bounds, lengths[7], places);
 }
 
 static void test_version(void) {
@@ -260,38 +254,6 @@ static void test_files(void) {
     test("the listing's buffer", out[KODARFI_LISTING_LENGTH] == 7);
 }
 
-/* A null pointer is harmless where the length after it is 0. */
-static void test_nulls(void) {
-    nulls = true;
-    for (unsigned k = 0; k < 8; k++) {
-        set_lengths();
-        lengths[k] = 0;
-        test("a null list of a check", checked(&net) == KODARFI_TOO_SHORT && places[0] == 0 && places[1] == 0);
-    }
-    memset(lengths, 0, sizeof lengths);
-    test("a check of nulls", checked(&net) == KODARFI_TOO_SHORT);
-    nulls = false;
-    set_lengths();
-    uint32_t which = 9;
-    test("a half of nulls", kodarfi_check_half(1, 0, 0, NULL, 0, NULL, 0, NULL, 0, NULL, 0, NULL, 0, NULL, 0, NULL, 0, NULL, 0, places) == KODARFI_TOO_SHORT);
-    test("a search of nulls", kodarfi_find_weights(1, 0, NULL, 0, NULL, 0, 1, NULL, 0, &which, places) == KODARFI_TOO_SHORT && which == 9);
-    test("a build of nulls", kodarfi_build(1, NULL, 0, NULL, 0, NULL, 0) == KODARFI_TOO_SHORT && kodarfi_build_half(1, NULL, 0, NULL, 0, NULL, 0) == KODARFI_TOO_SHORT);
-    int64_t matrix[KODARFI_MATRIX_LENGTH] = {5}, right[KODARFI_COLUMN_LENGTH] = {6};
-    test("a build of no lines", kodarfi_build(1, NULL, 0, matrix, 1024, right, 32) == 0 && matrix[0] == 0 && right[0] == 0);
-    matrix[0] = right[0] = 5;
-    test("a build by halves of no lines", kodarfi_build_half(1, NULL, 0, matrix, 528, right, 32) == 0 && matrix[0] == 0 && right[0] == 0);
-    test("guesses of nulls", kodarfi_guesses(1, 0, NULL, 0, NULL, 0, places) == KODARFI_TOO_SHORT);
-    test("intervals of nulls", kodarfi_intervals(1, 0, NULL, 0, NULL, 0, NULL, 0, NULL, 0, places) == KODARFI_TOO_SHORT);
-    test("two nets of nulls", kodarfi_check_dependent(1, 0, 0, NULL, 0, NULL, 0, NULL, 0, NULL, 0, NULL, 0, NULL, 0, NULL, 0, NULL, 0, 1, 0, 0, NULL, 0, NULL, 0, NULL,
-                                                      0, NULL, 0, NULL, 0, NULL, 0, NULL, 0, NULL, 0, NULL, 0, &which, places) == KODARFI_TOO_SHORT && which == 1);
-    test("two proposals of nulls", kodarfi_common(1, 0, 0, NULL, 0, NULL, 0, NULL, 0, NULL, 0, NULL, 0, NULL, 0, 1, 0, 0, NULL, 0, NULL, 0, NULL, 0, NULL, 0, NULL, 0,
-                                                  NULL, 0, NULL, 0, NULL, 0, &which, places) == KODARFI_TOO_SHORT && which == 0);
-    test("an empty file", kodarfi_listing(NULL, 0, out, &written, places) == KODARFI_NOT_ENDED && written == 17);
-    test("a conversion of nulls", kodarfi_convert(NULL, 0, NULL, 0, &written, places) == KODARFI_NOT_ENDED && written == 17);
-    const size_t longest = write_longest(file);
-    test("a conversion into null", kodarfi_convert(file, longest, NULL, 0, &written, places) == KODARFI_NOT_CONVERTIBLE && written == 17);
-}
-
 int main(int argc, char **argv) {
     if (argc != 2) return 2;
     make_large(&net, TRIANGLE, 0, 0);
@@ -306,6 +268,5 @@ int main(int argc, char **argv) {
     test_common_numbers();
     test_file_numbers(argv[1]);
     test_files();
-    test_nulls();
     return close_count();
 }

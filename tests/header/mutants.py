@@ -57,7 +57,7 @@ ENTRY = "int64_t guess, uint64_t bound, uint32_t s, int64_t *value, uint64_t *va
 GUESSES = "uint32_t n, uint32_t s, const double *values, size_t values_len, int64_t *guess, size_t guess_len, uint64_t places[2]"
 BUILD_REAL, ENTRY_REAL = "n, lines, count, matrix, matrix_len, right, right_len", "guess, bound, s, value, value_bound, places"
 CALLS = {
-    "the first line is read where there is none": ("header", "kodarfi_build", BUILD, BUILD_REAL, "if (lines[0].key == 0) n = n + 1 - 1;"),
+    "the first line is read where there is none": ("stack", "kodarfi_build", BUILD, BUILD_REAL, "if (lines[0].key == 0) n = n + 1 - 1;"),
     "no lines are no equations": ("header++", "kodarfi_build", BUILD, BUILD_REAL, "if (!lines) return 8;"),
     "a null list is read": ("stack", "kodarfi_guesses", GUESSES, "n, s, values, values_len, guess, guess_len, places", "if (values[0] != values[0]) n = n + 1 - 1;"),
     "a call of 120 kilobytes": ("stack", "kodarfi_entry", ENTRY, ENTRY_REAL, "volatile char room[120 * 1024]; for (size_t k = 0; k < sizeof room; k++) room[k] = 1;"),

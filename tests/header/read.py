@@ -35,8 +35,14 @@ def argument(kind, name, index):
     return read.get(kind + name) or written[kind]
 
 
+def said_of_none(names):
+    """What a call says where these lists, in its order, are empty: 8, but for a buffer, and for what may be empty, field lines, a file and a line."""
+    free = {"observations_len": 0, "file_len": 15, "line_len": 2, "out_len": 22}
+    return free[names[0]] if set(names) <= set(free) else 8
+
+
 def write_calls(path):
-    """CALLS for header/stack.c, every call, and NULLS, the same with each of its lists null and of length 0, and with all of them so."""
+    """CALLS for header/stack.c, every call, and NULLS, the same with each of its lists null and of length 0, and with all of them so; each with its number."""
     runs, calls, nulls = [], [], []
     for result, name, parameters in prototypes():
         arguments, counts = [], {}
@@ -49,5 +55,5 @@ def write_calls(path):
             run = f"run_{len(runs)}"
             called = f"{name}({', '.join(handed)});"
             runs.append(f"static void {run}(void) {{ {'number = ' if result == 'uint32_t' else ''}{called}{'' if result == 'uint32_t' else ' number = 0;'} }}\n")
-            (nulls if empty else calls).append(f'    {{"{name}", {run}}},\n')
-    path.write_text(f"{''.join(runs)}\nstatic const struct call {{\n    const char *name;\n    void (*run)(void);\n}} CALLS[] = {{\n{''.join(calls)}}}, NULLS[] = {{\n{''.join(nulls)}}};\n")
+            (nulls if empty else calls).append(f'    {{"{name}", {run}, {said_of_none([parameters[index][1] for index in empty]) if empty else 0}}},\n')
+    path.write_text(f"{''.join(runs)}\nstatic const struct call {{\n    const char *name;\n    void (*run)(void);\n    uint32_t number;\n}} CALLS[] = {{\n{''.join(calls)}}}, NULLS[] = {{\n{''.join(nulls)}}};\n")

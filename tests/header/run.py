@@ -2,8 +2,8 @@
 
   python3 tests/header/run.py FOLDER   the library is FOLDER/libkodarfi.a; the last line is 'N passed, M failed'
 
-Constants, ranges, the layout of a field line and null pointers by header.c, header.cpp and from_python.py; the stack of every call by stack.c; the calls on whole
-nets by net.c; the numbers in words by words.c beside docs/refusals.tsv.
+Constants, ranges and the layout of a field line by header.c, header.cpp and from_python.py; the stack of every call and null pointers by stack.c; the calls on
+whole nets by net.c; the numbers in words by words.c beside docs/refusals.tsv.
 Named mutants of the headers and of calls must each be detected by the program that is named with it."""
 
 import re

@@ -1,8 +1,5 @@
 /* kodarfi_build, kodarfi_build_half, kodarfi_build_line and kodarfi_build_half_line. */
-#include "input.h"
-#include "lent.h"
-#include "nets.h"
-#include "tests.h"
+#include "replay.h"
 
 /* A list of field lines, and the right answer. */
 struct build {
@@ -42,19 +39,18 @@ static void next_build(struct build *x) {
 
 static void replay_build(const struct build *x, bool with_line) {
     int64_t *const matrix = lend(MATRIX * sizeof *matrix), *const right = lend(COLUMN * sizeof *right);
-    uint32_t *const number = lend(sizeof *number);
     uint64_t *const line = lend(sizeof *line);
     expect_unchanged();
-    expect_bytes(number, &x->answer, sizeof x->answer);
     expect_bytes(matrix, x->matrix, 8 * (x->is_half ? x->used * (x->used + 1) / 2 : x->used * x->used));
     expect_bytes(right, x->right, 8 * x->used);
+    uint32_t said;
     if (with_line) {
         expect_bytes(line, &x->line, sizeof x->line);
-        *number = (x->is_half ? kodarfi_build_half_line : kodarfi_build_line)(x->n, x->lines, x->count, matrix, x->matrix_len, right, x->right_len, line);
+        said = (x->is_half ? kodarfi_build_half_line : kodarfi_build_line)(x->n, x->lines, x->count, matrix, x->matrix_len, right, x->right_len, line);
     } else {
-        *number = (x->is_half ? kodarfi_build_half : kodarfi_build)(x->n, x->lines, x->count, matrix, x->matrix_len, right, x->right_len);
+        said = (x->is_half ? kodarfi_build_half : kodarfi_build)(x->n, x->lines, x->count, matrix, x->matrix_len, right, x->right_len);
     }
-    end_call(with_line ? "build with its line" : "build", x->answer);
+    end_call(with_line ? "build with its line" : "build", said, x->answer);
 }
 
 void replay_builds(void) {

@@ -34,14 +34,13 @@ fn replay_build(replay: &mut Replay, x: &Build, with_line: bool) {
     let lent = &mut replay.lent;
     lent.anew();
     let lines = lent.lend_list(&x.lines);
-    let (matrix, right, number, line) = (lent.lend(MATRIX), lent.lend(COLUMN), lent.lend(1), lent.lend(1));
+    let (matrix, right, line) = (lent.lend(MATRIX), lent.lend(COLUMN), lent.lend(1));
     lent.expect_unchanged();
-    lent.expect(number, &[x.answer]);
     lent.expect(matrix, &x.matrix);
     lent.expect(right, &x.right);
     let (observations, matrix, right) = (lent.pointer(lines).cast_const(), lent.pointer(matrix), lent.pointer(right));
     let [matrix_len, right_len] = x.lengths;
-    lent.list(number)[0] = if with_line {
+    let said = if with_line {
         lent.expect(line, &[x.line]);
         let library = if x.is_half { kodarfi_build_half_line } else { kodarfi_build_line };
         unsafe { library(x.n, observations, x.lines.len(), matrix, matrix_len, right, right_len, lent.pointer(line)) }
@@ -49,7 +48,7 @@ fn replay_build(replay: &mut Replay, x: &Build, with_line: bool) {
         let library = if x.is_half { kodarfi_build_half } else { kodarfi_build };
         unsafe { library(x.n, observations, x.lines.len(), matrix, matrix_len, right, right_len) }
     };
-    replay.end_call(if with_line { "build with its line" } else { "build" }, x.answer);
+    replay.end_call(if with_line { "build with its line" } else { "build" }, said, x.answer);
 }
 
 pub fn replay_builds(replay: &mut Replay) {

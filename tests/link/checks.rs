@@ -14,13 +14,12 @@ fn replay_check(replay: &mut Replay, what: &str, net: &Net, is_half: bool, right
     let lent = &mut replay.lent;
     lent.anew();
     let (p, l, limits) = (lend_net(lent, net), net.lengths, lend_limits(lent));
-    let (number, places) = (lent.lend(1), lent.lend(2));
+    let places = lent.lend(2);
     lent.expect_unchanged();
-    lent.expect(number, &[right.number]);
     lent.expect(places, &right.places);
     expect_limits(lent, limits, right);
     let library = if is_half { kodarfi_check_half } else { kodarfi_check };
-    lent.list(number)[0] = unsafe {
+    let said = unsafe {
         library(
             net.n, net.s, net.t,
             p[0], l[0], p[1], l[1], p[2], l[2], p[3], l[3], p[4], l[4], p[5], l[5],
@@ -28,7 +27,7 @@ fn replay_check(replay: &mut Replay, what: &str, net: &Net, is_half: bool, right
             lent.pointer(places),
         )
     };
-    replay.end_call(what, right.number);
+    replay.end_call(what, said, right.number);
 }
 
 /// How often each answer was right of a call in which a right side has a tolerance.
@@ -85,9 +84,7 @@ pub fn replay_halves(replay: &mut Replay) {
 }
 
 pub fn replay_dependent(replay: &mut Replay) {
-    while !replay.input.at_end() {
-        let (input, lent) = (&mut replay.input, &mut replay.lent);
-        lent.anew();
+    replay.each("check of a dependent net", NUMBERS, |input, lent| {
         let (a, b) = (read_net(input, false), read_net(input, false));
         let [given, coupling_len] = input.lengths();
         let coupling = lent.lend_list(&input.filled(given, MATRIX, UNREAD));
@@ -95,9 +92,8 @@ pub fn replay_dependent(replay: &mut Replay) {
         let (p, q) = (lend_net(lent, &a), lend_net(lent, &b));
         let (l, m) = (a.lengths, b.lengths);
         let (one, two) = (lend_limits(lent), lend_limits(lent));
-        let (number, net, places) = (lent.lend(1), lent.lend(1), lent.lend(2));
+        let (net, places) = (lent.lend(1), lent.lend(2));
         lent.expect_unchanged();
-        lent.expect(number, &[answer]);
         lent.expect(net, &[of_net]);
         lent.expect(places, &right_places);
         for (limits, n) in [(one, a.n), (two, b.n)] {
@@ -107,7 +103,7 @@ pub fn replay_dependent(replay: &mut Replay) {
             }
             expect_limits(lent, limits, &right);
         }
-        lent.list(number)[0] = unsafe {
+        let said = unsafe {
             kodarfi_check_dependent(
                 a.n, a.s, a.t,
                 p[0], l[0], p[1], l[1], p[2], l[2], p[3], l[3], p[4], l[4], p[5], l[5],
@@ -119,30 +115,26 @@ pub fn replay_dependent(replay: &mut Replay) {
                 lent.pointer(net), lent.pointer(places),
             )
         };
-        replay.end_call("check of a dependent net", answer);
-    }
-    replay.test_reach("check of a dependent net", NUMBERS);
+        (said, answer)
+    });
 }
 
 pub fn replay_common(replay: &mut Replay) {
-    while !replay.input.at_end() {
-        let (input, lent) = (&mut replay.input, &mut replay.lent);
-        lent.anew();
+    replay.each("common intervals", &[0, 3, 5, 6, 7, 8, 20, 21], |input, lent| {
         let (a, b) = (read_proposal(input), read_proposal(input));
         let [low_len, high_len] = input.lengths();
         let (answer, of_proposal, right_places) = (input.word(), input.word(), input.places());
         let (p, q) = (lend_net(lent, &a), lend_net(lent, &b));
         let (l, m) = (a.lengths, b.lengths);
         let (low, high) = (lent.lend(COLUMN), lent.lend(COLUMN));
-        let (number, proposal, places) = (lent.lend(1), lent.lend(1), lent.lend(2));
+        let (proposal, places) = (lent.lend(1), lent.lend(2));
         lent.expect_unchanged();
-        lent.expect(number, &[answer]);
         lent.expect(proposal, &[of_proposal]);
         lent.expect(places, &right_places);
         let found = if answer == 0 { a.n as usize } else { 0 };
         lent.expect(low, &input.signed(found));
         lent.expect(high, &input.signed(found));
-        lent.list(number)[0] = unsafe {
+        let said = unsafe {
             kodarfi_common(
                 a.n, a.s, a.t,
                 p[0], l[0], p[1], l[1], p[2], l[2], p[3], l[3], p[4], l[4], p[5], l[5],
@@ -152,7 +144,6 @@ pub fn replay_common(replay: &mut Replay) {
                 lent.pointer(proposal), lent.pointer(places),
             )
         };
-        replay.end_call("common intervals", answer);
-    }
-    replay.test_reach("common intervals", &[0, 3, 5, 6, 7, 8, 20, 21]);
+        (said, answer)
+    });
 }

@@ -1,6 +1,4 @@
-#include "lent.h"
-
-#include "input.h"
+#include "replay.h"
 
 #include <string.h>
 

@@ -4,9 +4,7 @@
  *   link FOLDER [PART]   on what the emitters wrote into FOLDER; with PART, a name of the list below, that part alone, up to the first test that fails
  *
  * The last line is 'N passed, M failed'. */
-#include "input.h"
-#include "lent.h"
-#include "tests.h"
+#include "replay.h"
 
 #include <stdio.h>
 #include <stdlib.h>
@@ -37,8 +35,9 @@ bool next_call(void) {
     return !at_end();
 }
 
-void end_call(const char *what, uint32_t number) {
-    test(what, calls++, is_as_expected());
+void end_call(const char *what, uint32_t said, uint32_t number) {
+    const bool is_left = is_as_expected();
+    test(what, calls++, said == number && is_left);
     met[number % ANSWERS]++;
 }
 

@@ -1,8 +1,5 @@
 /* kodarfi_loader_new, kodarfi_loader_take and kodarfi_loader_check. */
-#include "input.h"
-#include "lent.h"
-#include "nets.h"
-#include "tests.h"
+#include "replay.h"
 
 enum { NEW_LOADER, SET_NUMBERS, TAKE_LINE, CHECK_LOADER };
 enum { NUMBERS = KODARFI_LOADER_LENGTH, LISTS = 6, LENGTHS = 8 };
@@ -39,7 +36,7 @@ static void replay_new(void) {
     expect_unchanged();
     expect_bytes(loader, ZEROS, sizeof ZEROS);
     kodarfi_loader_new(loader);
-    end_call("new loader", 0);
+    end_call("new loader", 0, 0);
 }
 
 /* What the input says of the loader and its lists after a line: the nine numbers, and each number of a list that is another. */
@@ -57,35 +54,32 @@ static void replay_take(void) {
     next_lengths();
     const size_t line_len = next_number();
     uint8_t *const line = lend(line_len);
-    uint32_t *const number = lend(sizeof *number);
     uint64_t *const places = lend(2 * sizeof *places);
     expect_unchanged();
-    const uint32_t answer = expect_half(number);
+    const uint32_t answer = (uint32_t)next_number();
     expect_words(places, 1);
     expect_bytes(places + 1, &NONE, sizeof NONE);
     expect_changes();
     end_numbers();
     next_bytes(line, line_len);
     expect_bytes(line, line, line_len);
-    *number = kodarfi_loader_take(loader, line, line_len, ALL_LISTS, places);
-    end_call("line taken", answer);
+    const uint32_t said = kodarfi_loader_take(loader, line, line_len, ALL_LISTS, places);
+    end_call("line taken", said, answer);
 }
 
 /* Limits as kodarfi_check writes them, and everything else of the loader and its lists as before. */
 static void replay_loader_check(void) {
     next_lengths();
     const struct limits limits = lend_limits(), own = lend_limits();
-    uint32_t *const number = lend(sizeof *number);
     uint64_t *const places = lend(2 * sizeof *places), *const own_places = lend(2 * sizeof *places);
     const uint32_t answer = (uint32_t)next_number(), n = loader[1];
     if (answer == 0) kodarfi_check(n, loader[2], loader[3], ALL_LISTS, own.solution, COLUMN, own.inverse, MATRIX, own_places);
     expect_unchanged();
-    expect_bytes(number, &answer, sizeof answer);
     expect_words(places, 2);
     if (answer == 0) expect_bytes(limits.solution, own.solution, n * sizeof *own.solution);
     if (answer == 0) expect_bytes(limits.inverse, own.inverse, n * n * sizeof *own.inverse);
-    *number = kodarfi_loader_check(loader, ALL_LISTS, limits.solution, lengths[6], limits.inverse, lengths[7], places);
-    end_call("check through a loader", answer);
+    const uint32_t said = kodarfi_loader_check(loader, ALL_LISTS, limits.solution, lengths[6], limits.inverse, lengths[7], places);
+    end_call("check through a loader", said, answer);
 }
 
 void replay_loader(void) {

@@ -47,7 +47,7 @@ fn replay_new(replay: &mut Replay) -> Loader {
     lent.expect_unchanged();
     lent.expect(loader.numbers, &[0; 9]);
     unsafe { kodarfi_loader_new(lent.pointer(loader.numbers)) };
-    replay.end_call("new loader", 0);
+    replay.end_call("new loader", 0, 0);
     loader
 }
 
@@ -58,28 +58,27 @@ fn replay_take(replay: &mut Replay, loader: &Loader) {
     let changes: Vec<_> = (0..input.length()).map(|_| (input.length(), input.length(), input.number() as i64)).collect();
     input.end_numbers();
     let line = lent.lend_list(input.bytes(line_len));
-    let (number, places) = (lent.lend(1), lent.lend(2));
+    let places = lent.lend(2);
     lent.expect_unchanged();
-    lent.expect(number, &[answer]);
     lent.expect(places, &[place, 0]);
     lent.expect(loader.numbers, &nine);
     changes.iter().for_each(|&(list, at, value)| lent.expect_at(loader.lists[list], at, value));
     let p = loader.pointers(lent);
-    lent.list(number)[0] = unsafe {
+    let said = unsafe {
         kodarfi_loader_take(
             lent.pointer(loader.numbers), lent.pointer(line), line_len,
             p[0], l[0], p[1], l[1], p[2], l[2], p[3], l[3], p[4], l[4], p[5], l[5],
             lent.pointer(places),
         )
     };
-    replay.end_call("line taken", answer);
+    replay.end_call("line taken", said, answer);
 }
 
 /// Limits as kodarfi_check writes them, and everything else of the loader and its lists as before.
 fn replay_loader_check(replay: &mut Replay, loader: &Loader) {
     let (input, lent) = (&mut replay.input, &mut replay.lent);
     let (l, answer, right_places) = (read_lengths(input), input.word(), input.places());
-    let (limits, own, number, places, own_places) = (lend_limits(lent), lend_limits(lent), lent.lend(1), lent.lend(2), lent.lend(2));
+    let (limits, own, places, own_places) = (lend_limits(lent), lend_limits(lent), lent.lend(2), lent.lend(2));
     let (p, nine) = (loader.pointers(lent), lent.list(loader.numbers).to_vec());
     if answer == 0 {
         unsafe {
@@ -92,14 +91,13 @@ fn replay_loader_check(replay: &mut Replay, loader: &Loader) {
         }
     }
     lent.expect_unchanged();
-    lent.expect(number, &[answer]);
     lent.expect(places, &right_places);
     let n = if answer == 0 { nine[1] as usize } else { 0 };
     for (right, written, count) in [(own.solution, limits.solution, n), (own.inverse, limits.inverse, n * n)] {
         let numbers = lent.list(right)[..count].to_vec();
         lent.expect(written, &numbers);
     }
-    lent.list(number)[0] = unsafe {
+    let said = unsafe {
         kodarfi_loader_check(
             lent.pointer(loader.numbers),
             p[0], l[0], p[1], l[1], p[2], l[2], p[3], l[3], p[4], l[4], p[5], l[5],
@@ -107,7 +105,7 @@ fn replay_loader_check(replay: &mut Replay, loader: &Loader) {
             lent.pointer(places),
         )
     };
-    replay.end_call("check through a loader", answer);
+    replay.end_call("check through a loader", said, answer);
 }
 
 pub fn replay_loader(replay: &mut Replay) {

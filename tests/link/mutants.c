@@ -23,6 +23,10 @@ bool is_mutant(enum mutant mutant) {
     return named == (int)mutant;
 }
 
+uint32_t cut(uint32_t size, enum mutant to_8, enum mutant to_16) {
+    return is_mutant(to_8) ? (uint8_t)size : is_mutant(to_16) ? (uint16_t)size : size;
+}
+
 void narrow(uint64_t *list, size_t count) {
     for (size_t k = 0; k < count; k++) {
         const uint32_t number = (uint32_t)list[k];

@@ -1,7 +1,4 @@
-#include "nets.h"
-
-#include "input.h"
-#include "lent.h"
+#include "replay.h"
 
 static struct net next_sizes(unsigned lengths) {
     struct net net;

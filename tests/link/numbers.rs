@@ -4,44 +4,40 @@ use crate::kodarfi::{kodarfi_entry, kodarfi_find_weights, kodarfi_guesses, kodar
 use crate::nets::{COLUMN, MATRIX, UNREAD};
 use crate::replay::Replay;
 
+/// Stands in lists of doubles before they are written: no number, with bits of its own.
+const NO_NUMBER: u64 = 0x7ff8_0000_dead_beef;
+
 pub fn replay_entries(replay: &mut Replay) {
-    while !replay.input.at_end() {
-        let (input, lent) = (&mut replay.input, &mut replay.lent);
-        lent.anew();
+    replay.each("entry", &[0, 3], |input, lent| {
         let (guess, bound, s) = (input.number() as i64, input.number(), input.word());
         let (answer, entry, entry_bound) = (input.word(), input.number() as i64, input.number());
-        let (number, value, value_bound, places) = (lent.lend(1), lent.lend(1), lent.lend(1), lent.lend(2));
+        let (value, value_bound, places) = (lent.lend(1), lent.lend(1), lent.lend(2));
         lent.expect_unchanged();
-        lent.expect(number, &[answer]);
         lent.expect(places, &[0, 0]);
         if answer == 0 {
             lent.expect(value, &[entry]);
             lent.expect(value_bound, &[entry_bound]);
         }
-        lent.list(number)[0] = unsafe { kodarfi_entry(guess, bound, s, lent.pointer(value), lent.pointer(value_bound), lent.pointer(places)) };
-        replay.end_call("entry", answer);
-    }
-    replay.test_reach("entry", &[0, 3]);
+        let said = unsafe { kodarfi_entry(guess, bound, s, lent.pointer(value), lent.pointer(value_bound), lent.pointer(places)) };
+        (said, answer)
+    });
 }
 
 pub fn replay_weights(replay: &mut Replay) {
-    while !replay.input.at_end() {
-        let (input, lent) = (&mut replay.input, &mut replay.lent);
-        lent.anew();
+    replay.each("search for weights", &[0, 3, 8, 18], |input, lent| {
         let (count, n, t, allowance) = (input.length(), input.word(), input.word(), input.word());
         let [matrix_len, inverse_len, weights_len] = input.lengths();
         let matrix = lent.lend_list(&input.filled(count * count, MATRIX, UNREAD));
         let inverse = lent.lend_list(&input.filled(count * count, MATRIX, UNREAD));
         let (answer, lists, _first_good) = (input.word(), input.word(), input.word());
-        let (number, tried, weights, places) = (lent.lend(1), lent.lend(1), lent.lend(COLUMN), lent.lend(2));
+        let (tried, weights, places) = (lent.lend(1), lent.lend(COLUMN), lent.lend(2));
         lent.expect_unchanged();
-        lent.expect(number, &[answer]);
         lent.expect(places, &[0, 0]);
         if answer == 0 {
             lent.expect(tried, &[lists]);
             lent.expect(weights, &input.signed(n as usize));
         }
-        lent.list(number)[0] = unsafe {
+        let said = unsafe {
             kodarfi_find_weights(
                 n, t,
                 lent.pointer(matrix), matrix_len,
@@ -51,30 +47,26 @@ pub fn replay_weights(replay: &mut Replay) {
                 lent.pointer(tried), lent.pointer(places),
             )
         };
-        replay.end_call("search for weights", answer);
-    }
-    replay.test_reach("search for weights", &[0, 3, 8, 18]);
+        (said, answer)
+    });
 }
 
 pub fn replay_quality(replay: &mut Replay) {
-    while !replay.input.at_end() {
-        let (input, lent) = (&mut replay.input, &mut replay.lent);
-        lent.anew();
+    replay.each("factor of limits", &[0, 3, 5, 8], |input, lent| {
         let (count, n, t) = (input.length(), input.word(), input.word());
         let [matrix_len, inverse_len, weights_len] = input.lengths();
         let matrix = lent.lend_list(&input.filled(count * count, MATRIX, UNREAD));
         let inverse = lent.lend_list(&input.filled(count * count, MATRIX, UNREAD));
         let weights = lent.lend_list(&input.filled(count, COLUMN, UNREAD));
         let (answer, row, factor) = (input.word(), input.number(), input.places());
-        let (number, numerator, denominator, places) = (lent.lend(1), lent.lend(1), lent.lend(1), lent.lend(2));
+        let (numerator, denominator, places) = (lent.lend(1), lent.lend(1), lent.lend(2));
         lent.expect_unchanged();
-        lent.expect(number, &[answer]);
         lent.expect(places, &[row, 0]);
         if answer == 0 {
             lent.expect(numerator, &factor[..1]);
             lent.expect(denominator, &factor[1..]);
         }
-        lent.list(number)[0] = unsafe {
+        let said = unsafe {
             kodarfi_quality(
                 n, t,
                 lent.pointer(matrix), matrix_len,
@@ -83,9 +75,8 @@ pub fn replay_quality(replay: &mut Replay) {
                 lent.pointer(numerator), lent.pointer(denominator), lent.pointer(places),
             )
         };
-        replay.end_call("factor of limits", answer);
-    }
-    replay.test_reach("factor of limits", &[0, 3, 5, 8]);
+        (said, answer)
+    });
 }
 
 /// Doubles are lent and compared as their bits: minus zero is not plus zero.
@@ -95,14 +86,13 @@ fn replay_guesses(replay: &mut Replay) {
     let (n, s, [values_len, guess_len]) = (input.word(), input.word(), input.lengths());
     let values = lent.lend_list(&input.numbers(COLUMN));
     let answer = input.word();
-    let (number, guess, places) = (lent.lend(1), lent.lend(COLUMN), lent.lend(2));
+    let (guess, places) = (lent.lend(COLUMN), lent.lend(2));
     lent.expect_unchanged();
-    lent.expect(number, &[answer]);
     lent.expect(places, &[0, 0]);
     lent.expect(guess, &input.signed(if answer == 0 { n as usize } else { 0 }));
-    lent.list(number)[0] =
+    let said =
         unsafe { kodarfi_guesses(n, s, lent.pointer(values).cast(), values_len, lent.pointer(guess), guess_len, lent.pointer(places)) };
-    replay.end_call("guesses of doubles", answer);
+    replay.end_call("guesses of doubles", said, answer);
 }
 
 fn replay_intervals(replay: &mut Replay) {
@@ -111,14 +101,14 @@ fn replay_intervals(replay: &mut Replay) {
     let (n, s, [guess_len, bounds_len, low_len, high_len]) = (input.word(), input.word(), input.lengths());
     let (guess, bounds) = (lent.lend_list(&input.signed(COLUMN)), lent.lend_list(&input.numbers(COLUMN)));
     let answer = input.word();
-    let (number, low, high, places) = (lent.lend(1), lent.lend(COLUMN), lent.lend(COLUMN), lent.lend(2));
+    let (low, high) = (lent.lend_list(&[NO_NUMBER; COLUMN]), lent.lend_list(&[NO_NUMBER; COLUMN]));
+    let places = lent.lend(2);
     lent.expect_unchanged();
-    lent.expect(number, &[answer]);
     lent.expect(places, &[0, 0]);
     let found = if answer == 0 { n as usize } else { 0 };
     lent.expect(low, &input.numbers(found));
     lent.expect(high, &input.numbers(found));
-    lent.list(number)[0] = unsafe {
+    let said = unsafe {
         kodarfi_intervals(
             n, s,
             lent.pointer(guess), guess_len,
@@ -128,7 +118,7 @@ fn replay_intervals(replay: &mut Replay) {
             lent.pointer(places),
         )
     };
-    replay.end_call("intervals as doubles", answer);
+    replay.end_call("intervals as doubles", said, answer);
 }
 
 /// All calls inward come before the first one outward.

@@ -52,12 +52,22 @@ impl<'a> Replay<'a> {
         Replay { input: Input(bytes), lent: Lent::new(), count, calls: 0, met: [0; ANSWERS] }
     }
 
-    /// Ends a call: where all that was lent is as expected it has passed. The number is the right answer.
-    pub fn end_call(&mut self, what: &str, number: u32) {
-        let holds = self.lent.is_as_expected();
-        self.test(what, holds);
+    /// Ends a call: where the right number was said, and all that was lent is as expected, it has passed.
+    pub fn end_call(&mut self, what: &str, said: u32, number: u32) {
+        let is_left = self.lent.is_as_expected();
+        self.test(what, said == number && is_left);
         self.calls += 1;
         self.met[number as usize % ANSWERS] += 1;
+    }
+
+    /// Replays calls up to the input's end: `call` reads, lends and makes one, and gives what was said and what is right. Each of these answers must be met.
+    pub fn each(&mut self, what: &str, numbers: &[usize], call: impl Fn(&mut Input<'a>, &mut Lent) -> (u32, u32)) {
+        while !self.input.at_end() {
+            self.lent.anew();
+            let (said, right) = call(&mut self.input, &mut self.lent);
+            self.end_call(what, said, right);
+        }
+        self.test_reach(what, numbers);
     }
 
     /// A test of the call that is replayed.

@@ -3,59 +3,53 @@
 
 #include <string.h>
 
-REAL(entry);
-REAL(find_weights);
-REAL(quality);
-REAL(guesses);
-REAL(intervals);
-REAL(build);
-REAL(build_half);
-REAL(build_line);
-REAL(build_half_line);
-
 enum { COLUMN = KODARFI_COLUMN_LENGTH, LINES = 1024 };
 
 uint32_t kodarfi_entry(int64_t guess, uint64_t bound, uint32_t s, int64_t *value, uint64_t *value_bound, uint64_t places[2]) {
+    CUT(s, s);
     if (is_mutant(guess_of_32_bits)) guess = (int32_t)guess;
     if (is_mutant(value_and_bound_exchanged)) return real_kodarfi_entry(guess, bound, s, (int64_t *)value_bound, (uint64_t *)value, places);
     return real_kodarfi_entry(guess, bound, s, value, value_bound, places);
 }
 
-uint32_t kodarfi_find_weights(uint32_t n, uint32_t t, const int64_t *matrix, size_t matrix_len, const int64_t *inverse, size_t inverse_len,
-                              uint32_t allowance, int64_t *weights, size_t weights_len, uint32_t *tried, uint64_t places[2]) {
+uint32_t kodarfi_find_weights(uint32_t n, uint32_t t, READ(int64_t, matrix), READ(int64_t, inverse), uint32_t allowance, WRITTEN(int64_t, weights),
+                              uint32_t *tried, uint64_t places[2]) {
     const uint32_t before = *tried;
+    CUT(n, n), CUT(t, t), CUT(allowance, allowance);
     if (is_mutant(scale_and_allowance_exchanged)) EXCHANGE(uint32_t, t, allowance);
-    const uint32_t number = real_kodarfi_find_weights(n, t, matrix, matrix_len, inverse, inverse_len, allowance, weights, weights_len, tried, places);
+    const uint32_t number = real_kodarfi_find_weights(n, t, HAND(matrix), HAND(inverse), allowance, HAND(weights), tried, places);
     if (is_mutant(tried_not_written)) *tried = before;
     return number;
 }
 
-uint32_t kodarfi_quality(uint32_t n, uint32_t t, const int64_t *matrix, size_t matrix_len, const int64_t *inverse, size_t inverse_len,
-                         const int64_t *weights, size_t weights_len, uint64_t *numerator, uint64_t *denominator, uint64_t places[2]) {
+uint32_t kodarfi_quality(uint32_t n, uint32_t t, READ(int64_t, matrix), READ(int64_t, inverse), READ(int64_t, weights), uint64_t *numerator,
+                         uint64_t *denominator, uint64_t places[2]) {
     const uint64_t before = *numerator;
-    const uint32_t number =
-        real_kodarfi_quality(n, t, matrix, matrix_len, inverse, inverse_len, weights, weights_len, numerator, denominator, places);
+    CUT(n, n), CUT(t, t);
+    const uint32_t number = real_kodarfi_quality(n, t, HAND(matrix), HAND(inverse), HAND(weights), numerator, denominator, places);
     if (is_mutant(numerator_of_32_bits)) keep_upper_half(numerator, before);
     return number;
 }
 
 /* Doubles of 32 bits lie in the first half of the list's bytes. */
-uint32_t kodarfi_guesses(uint32_t n, uint32_t s, const double *values, size_t values_len, int64_t *guess, size_t guess_len, uint64_t places[2]) {
+uint32_t kodarfi_guesses(uint32_t n, uint32_t s, READ(double, values), WRITTEN(int64_t, guess), uint64_t places[2]) {
     double wide[COLUMN];
+    CUT(n, n), CUT(s, s);
     for (unsigned k = 0; k < COLUMN; k++) {
         float value;
         memcpy(&value, (const char *)values + k * sizeof value, sizeof value);
         wide[k] = value;
     }
-    return real_kodarfi_guesses(n, s, is_mutant(values_of_32_bits) ? wide : values, values_len, guess, guess_len, places);
+    return real_kodarfi_guesses(n, s, is_mutant(values_of_32_bits) ? wide : values, values_len, HAND(guess), places);
 }
 
-uint32_t kodarfi_intervals(uint32_t n, uint32_t s, const int64_t *guess, size_t guess_len, const uint64_t *bounds, size_t bounds_len, double *low,
-                           size_t low_len, double *high, size_t high_len, uint64_t places[2]) {
-    int64_t cut[COLUMN];
-    for (unsigned k = 0; k < COLUMN; k++) cut[k] = (uint32_t)guess[k];
-    const uint32_t number = real_kodarfi_intervals(n, s, is_mutant(guesses_of_32_bits_without_sign) ? cut : guess, guess_len, bounds, bounds_len, low,
-                                                   low_len, high, high_len, places);
+uint32_t kodarfi_intervals(uint32_t n, uint32_t s, READ(int64_t, guess), READ(uint64_t, bounds), WRITTEN(double, low), WRITTEN(double, high),
+                           uint64_t places[2]) {
+    int64_t unsigned_guess[COLUMN];
+    for (unsigned k = 0; k < COLUMN; k++) unsigned_guess[k] = (uint32_t)guess[k];
+    CUT(n, n), CUT(s, s);
+    if (is_mutant(guesses_of_32_bits_without_sign)) guess = unsigned_guess;
+    const uint32_t number = real_kodarfi_intervals(n, s, HAND(guess), HAND(bounds), HAND(low), HAND(high), places);
     if (is_mutant(low_written_past_n) && number == 0) low[n] = 0;
     return number;
 }
@@ -74,31 +68,33 @@ static const struct kodarfi_observation *packed(const struct kodarfi_observation
     return read;
 }
 
-uint32_t kodarfi_build(uint32_t n, const struct kodarfi_observation *observations, size_t observations_len, int64_t *matrix, size_t matrix_len,
-                       int64_t *right, size_t right_len) {
+#define LINES_AND(matrix) READ(struct kodarfi_observation, observations), WRITTEN(int64_t, matrix), WRITTEN(int64_t, right)
+
+uint32_t kodarfi_build(uint32_t n, LINES_AND(matrix)) {
+    CUT(n, n);
     if (is_mutant(fields_packed)) observations = packed(observations, observations_len);
-    return real_kodarfi_build(n, observations, observations_len, matrix, matrix_len, right, right_len);
+    return real_kodarfi_build(n, HAND(observations), HAND(matrix), HAND(right));
 }
 
-uint32_t kodarfi_build_half(uint32_t n, const struct kodarfi_observation *observations, size_t observations_len, int64_t *half, size_t half_len,
-                            int64_t *right, size_t right_len) {
+uint32_t kodarfi_build_half(uint32_t n, LINES_AND(half)) {
     int64_t before[COLUMN];
+    CUT(n, n);
     memcpy(before, right, sizeof before);
-    const uint32_t number = real_kodarfi_build_half(n, observations, observations_len, half, half_len, right, right_len);
+    const uint32_t number = real_kodarfi_build_half(n, HAND(observations), HAND(half), HAND(right));
     if (is_mutant(right_sides_not_written)) memcpy(right, before, sizeof before);
     return number;
 }
 
-uint32_t kodarfi_build_line(uint32_t n, const struct kodarfi_observation *observations, size_t observations_len, int64_t *matrix, size_t matrix_len,
-                            int64_t *right, size_t right_len, uint64_t *line) {
+uint32_t kodarfi_build_line(uint32_t n, LINES_AND(matrix), uint64_t *line) {
     const uint64_t before = *line;
-    const uint32_t number = real_kodarfi_build_line(n, observations, observations_len, matrix, matrix_len, right, right_len, line);
+    CUT(n, n);
+    const uint32_t number = real_kodarfi_build_line(n, HAND(observations), HAND(matrix), HAND(right), line);
     if (is_mutant(line_of_32_bits)) keep_upper_half(line, before);
     return number;
 }
 
-uint32_t kodarfi_build_half_line(uint32_t n, const struct kodarfi_observation *observations, size_t observations_len, int64_t *half, size_t half_len,
-                                 int64_t *right, size_t right_len, uint64_t *line) {
+uint32_t kodarfi_build_half_line(uint32_t n, LINES_AND(half), uint64_t *line) {
+    CUT(n, n);
     if (is_mutant(half_length_in_bytes)) half_len *= sizeof *half;
-    return real_kodarfi_build_half_line(n, observations, observations_len, half, half_len, right, right_len, line);
+    return real_kodarfi_build_half_line(n, HAND(observations), HAND(half), HAND(right), line);
 }

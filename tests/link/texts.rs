@@ -6,23 +6,19 @@ use crate::replay::Replay;
 const LISTING: usize = 32768;
 
 pub fn replay_files(replay: &mut Replay) {
-    while !replay.input.at_end() {
-        let (input, lent) = (&mut replay.input, &mut replay.lent);
-        lent.anew();
+    replay.each("listing", &[0, 1, 2, 3, 4, 5, 6, 7, 11, 12, 13, 14, 15], |input, lent| {
         let (file_len, answer, right_places, length) = (input.length(), input.word(), input.places(), input.length());
         input.end_numbers();
         let (file, text) = (lent.lend_list(input.bytes(file_len)), input.bytes(length));
-        let (listing, number, written, places) = (lent.lend(LISTING), lent.lend(1), lent.lend(1), lent.lend(2));
+        let (listing, written, places) = (lent.lend(LISTING), lent.lend(1), lent.lend(2));
         lent.expect_unchanged();
-        lent.expect(number, &[answer]);
         lent.expect(places, &right_places);
         lent.expect(written, &[length]);
         lent.expect(listing, text);
-        lent.list(number)[0] =
+        let said =
             unsafe { kodarfi_listing(lent.pointer(file), file_len, lent.pointer(listing), lent.pointer(written), lent.pointer(places)) };
-        replay.end_call("listing", answer);
-    }
-    replay.test_reach("listing", &[0, 1, 2, 3, 4, 5, 6, 7, 11, 12, 13, 14, 15]);
+        (said, answer)
+    });
 }
 
 /// A file, the length of the buffer, and the right answer: the number, both places, the refused line and the new file.
@@ -39,22 +35,21 @@ fn replay_conversion(replay: &mut Replay, x: &Conversion, with_line: bool) {
     let lent = &mut replay.lent;
     lent.anew();
     let (file, out) = (lent.lend_list(x.file), lent.lend(x.out_len));
-    let (number, written, places, line) = (lent.lend(1), lent.lend(1), lent.lend(2), lent.lend(1));
+    let (written, places, line) = (lent.lend(1), lent.lend(2), lent.lend(1));
     lent.expect_unchanged();
-    lent.expect(number, &[x.answer]);
     lent.expect(places, &x.places);
     lent.expect(out, x.text);
     if x.answer == 0 {
         lent.expect(written, &[x.text.len()]);
     }
     let (from, to, length) = (lent.pointer(file), lent.pointer(out), lent.pointer(written));
-    lent.list(number)[0] = if with_line {
+    let said = if with_line {
         lent.expect(line, &[x.line]);
         unsafe { kodarfi_convert_line(from, x.file.len(), to, x.out_len, length, lent.pointer(places), lent.pointer(line)) }
     } else {
         unsafe { kodarfi_convert(from, x.file.len(), to, x.out_len, length, lent.pointer(places)) }
     };
-    replay.end_call(if with_line { "conversion with its line" } else { "conversion" }, x.answer);
+    replay.end_call(if with_line { "conversion with its line" } else { "conversion" }, said, x.answer);
 }
 
 pub fn replay_conversions(replay: &mut Replay) {

@@ -22,12 +22,14 @@ prover's logs. What counts as a citation:
 
 Words for anything (CRATE, FILE, NAME, PREFIX), stars and what is made by a run (target/) are no citations."""
 
-import os
 import re
 import sys
 from pathlib import Path
 
-ROOT = Path(__file__).resolve().parent.parent.parent
+sys.path.insert(0, str(Path(__file__).resolve().parent.parent))
+
+from common.mutated import ROOT, close, main
+
 FOLDERS = "crates|docs|tests|examples|include|scripts|python|bench|programs|\\.ci"
 PATH = re.compile(rf"(?<![\w/.*-])((?:{FOLDERS})/[\w./-]*\w|[a-z_]+/(?:specs|proofs|src|must-fail)(?:/[\w./-]*\w)?)")
 LOCAL = re.compile(r"(?<![\w/.*-])((?:specs|proofs|src)/[\w./-]*\w)")
@@ -180,16 +182,11 @@ class Repository:
 def check(root):
     repository = Repository(root)
     faults = list(dict.fromkeys(repository.faults()))
-    for fault in faults:
-        print("FAILED", fault)
-    if not repository.passed:
-        faults.append("nothing is cited")
-        print("FAILED", faults[-1])
-    print(f"{repository.passed} passed, {len(faults)} failed")
-    return int(bool(faults))
+    faults += [] if repository.passed else ["nothing is cited"]
+    return close(repository.passed + len(faults), faults)
 
 
-def main(arguments):
+def run(arguments):
     if not arguments:
         return check(ROOT)
     if arguments == ["--self-test"]:
@@ -201,10 +198,4 @@ def main(arguments):
 
 
 if __name__ == "__main__":
-    try:
-        status = main(sys.argv[1:])
-        sys.stdout.flush()
-    except OSError as fault:
-        sys.stderr.write(f"names: {fault}\n")
-        os._exit(1)
-    sys.exit(status)
+    main(lambda: run(sys.argv[1:]))

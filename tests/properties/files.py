@@ -38,12 +38,10 @@ def damaged(rng, lines):
     return rng.choice((lines, before, before + after, [*before, other, line, *after], [*before, other, *after], [*lines, other]))
 
 
-@sentence
+@sentence("is_in_range")
 def order_of_forms_and_weights_of_1_change_no_listing(given):
     """01: "the rest in any order"; Paper 1: "A file without weights whose every line the desk accepts, end among them, and the same file with 1 everywhere, get
     equal listings"; Paper 5: "(right i b) means d = 0"."""
-    if not given.is_in_range:
-        return None
     listing = lambda lines: given.calls.listing(joined(lines)).text
     return listing(mixed(given.case.chance("any order"), given.lines)) == listing(given.lines)
 
@@ -58,7 +56,7 @@ def taken_by_a_loader(calls, lines):
     return outcome(loader.check)
 
 
-@sentence
+@sentence()
 def loader_is_the_listing(given):
     """01: "A desk collects forms line by line .. a program reads a file from standard input and prints one listing" and "stops at its first refusal"."""
     rng = given.case.chance("loader")
@@ -69,11 +67,9 @@ def loader_is_the_listing(given):
     return isinstance(taken, Limits) and [int(line.split()[-1][:-2]) for line in listing.text.splitlines() if line.startswith(b"(solution ")] == taken.solution
 
 
-@sentence
+@sentence("is_in_range")
 def refused_line_leaves_the_loader(given):
     """01: "A refused line leaves the desk as before the call, and its lists"."""
-    if not given.is_in_range:
-        return None
     rng = given.case.chance("refused line")
     lines, loader = mixed(rng, given.lines), given.calls.Loader()
     at = rng.randrange(2, len(lines) - 1)
@@ -85,20 +81,16 @@ def refused_line_leaves_the_loader(given):
     return isinstance(outcome(loader.take, wrong), No) and before == (loader.numbers, loader.proposal())
 
 
-@sentence
+@sentence("is_in_range")
 def converted_file_has_the_same_listing(given):
     """Paper 14: "The old and new file lead to equal checks"."""
-    if not given.is_in_range:
-        return None
     file = joined(mixed(given.case.chance("converted"), without_tolerance(given)))
     return given.calls.listing(given.calls.convert(file)).text == given.calls.listing(file).text
 
 
-@sentence
+@sentence("is_in_range")
 def equal_numbers_convert_to_equal_bytes(given):
     """Paper 14: "two files with equal numbers give equal bytes": "problem, scale, rows, right sides without tolerance, guesses, inverse rows and all n weights,
     each kind by rising i, then end"."""
-    if not given.is_in_range:
-        return None
     lines = without_tolerance(given)
     return given.calls.convert(joined(mixed(given.case.chance("equal"), lines))) == joined(lines) == given.calls.convert(joined(lines)[:-1])

@@ -1,6 +1,6 @@
 """What a property is handed: a net by chance and the package's calls, or those of a mutant."""
 
-from functools import cached_property
+from functools import cached_property, wraps
 from types import SimpleNamespace
 from typing import Any, Callable, List, NamedTuple, Tuple
 
@@ -12,10 +12,15 @@ from nets import Case, hung
 SENTENCES: List[Callable] = []
 
 
-def sentence(each: Callable) -> Callable:
-    """Notes a property: a function that is handed a Given, and says whether a sentence holds of it, or None where the sentence does not apply."""
-    SENTENCES.append(each)
-    return each
+def sentence(applies: str = "case") -> Callable:
+    """Notes a property: a function that is handed a Given, and says whether a sentence holds of it, or None where it does not apply; it applies only where the
+    Given `applies`."""
+
+    def noted(each: Callable) -> Callable:
+        SENTENCES.append(wraps(each)(lambda given: each(given) if getattr(given, applies) else None))
+        return SENTENCES[-1]
+
+    return noted
 
 
 class No(NamedTuple):
@@ -58,6 +63,19 @@ class Given:
     @property
     def is_accepted(self) -> bool:
         return isinstance(self.checked, Limits)
+
+    @property
+    def is_solved(self) -> bool:
+        return self.is_accepted and self.exact is not None
+
+    @property
+    def has_lines(self) -> bool:
+        return bool(self.case.lines)
+
+    @property
+    def hangs(self) -> bool:
+        """Whether another net hangs from this one, which is accepted."""
+        return self.dependent is not None and self.is_accepted
 
     @property
     def is_in_range(self) -> bool:

@@ -2,26 +2,23 @@
 
 from fractions import Fraction
 
-from exact import corners, is_within, product
+from common.exact import product
+from exact import corners, is_within
 from given import outcome, sentence
 from nets import changed
 
 
-@sentence
+@sentence("is_solved")
 def exact_solution_is_within_limits(given):
     """Paper 5: "An accepted limit then holds for the exact solution of every right side, in fractions, that differs from b by at most d in each place"."""
-    if not given.is_accepted or given.exact is None:
-        return None
     (q, H), proposal = given.exact, given.proposal
     return all(is_within(2**proposal.s, q, product(H, right), proposal.guess, given.checked.solution) for right in corners(proposal.net, H))
 
 
-@sentence
+@sentence("is_accepted")
 def exact_inverse_is_within_limits(given):
     """01: "Its number H_ij lies within the limit L of its place if |T·H_ij − q·G_ij| is at most q·L"; Paper 12: "for every accepted problem .. the matrix has
     an inverse on both sides"."""
-    if not given.is_accepted:
-        return None
     if given.exact is None:
         return False
     (q, H), proposal = given.exact, given.proposal
@@ -38,7 +35,7 @@ def is_rounded(given):
     return is_near and all(is_within(2**proposal.t, q, row, G, halves) for row, G in zip(H, proposal.inverse))
 
 
-@sentence
+@sentence()
 def rounded_exact_proposal_is_accepted(given):
     """01: "Rounded to nearest steps"; README: "A rounded exact proposal with a two-sided inverse, all tolerances 0, weights 1 and Σ|A_ij| < 2T is always
     accepted", and with "3·Σ|A_ij| ≤ 2T gets limits of 0 or 1"."""
@@ -48,7 +45,7 @@ def rounded_exact_proposal_is_accepted(given):
     return given.is_accepted and (3 * sizes > twice or max(given.checked.solution + [L for row in given.checked.inverse for L in row]) <= 1)
 
 
-@sentence
+@sentence()
 def half_is_the_square_entry(given):
     """Paper 10: "its outcome for every input equals that of the square entry on the filled-out matrix, refusals and written limits included"."""
     matrix = given.proposal.net.matrix
@@ -58,32 +55,26 @@ def half_is_the_square_entry(given):
     return outcome(given.calls.check_half, half) == square
 
 
-@sentence
+@sentence("is_solved")
 def exact_height_is_between_the_doubles(given):
     """Paper 11: "Where X and E are guess and limit of an accepted check, the exact height lies between them"."""
-    if not given.is_accepted or given.exact is None:
-        return None
     (q, H), proposal = given.exact, given.proposal
     ends = [(Fraction(low) * q, Fraction(high) * q) for low, high in given.calls.intervals(proposal.guess, given.checked.solution, proposal.s)]
     return all(low <= N <= high for right in corners(proposal.net, H) for N, (low, high) in zip(product(H, right), ends))
 
 
-@sentence
+@sentence("is_solved")
 def exact_height_is_within_the_entry(given):
     """Paper 2: "The exact height is to be shown within the entry limit of the entry, as it is of the guess"."""
-    if not given.is_accepted or given.exact is None:
-        return None
     (q, H), proposal = given.exact, given.proposal
     values, limits = zip(*[given.calls.entry(X, E, proposal.s) for X, E in zip(proposal.guess, given.checked.solution)])
     return all(is_within(1, q, product(H, right), values, limits) for right in corners(proposal.net, H))
 
 
-@sentence
+@sentence("is_solved")
 def limits_are_never_far_above_an_error(given):
     """The header: "there are heights, exact for a right side within the tolerances, and among them one such that each limit is at most the factor times that
     height's true error, times the ratio of the two weights, rounded up"."""
-    if not given.is_accepted or given.exact is None:
-        return None
     (q, H), proposal = given.exact, given.proposal
     net, w = proposal.net, proposal.weights
     up, down = given.calls.quality(proposal)

@@ -5,46 +5,38 @@ from kodarfi import Common, Found, Limits, Net
 from nets import changed
 
 
-@sentence
+@sentence("has_lines")
 def copy_of_a_line_changes_nothing(given):
     """Paper 3: "in a list that builds, repeating any line anywhere changes nothing while the list stays at most 256 long"."""
     n, lines, rng = given.proposal.net.n, given.case.lines, given.case.chance("copy")
-    if not lines:
-        return None
     at = rng.randint(0, len(lines))
     return given.calls.build(n, lines[:at] + [rng.choice(lines)] + lines[at:]) == given.calls.build(n, lines)
 
 
-@sentence
+@sentence("has_lines")
 def order_of_lines_changes_nothing(given):
     """Paper 3: "The builder .. fills matrix and right side from zero. A line adds its weight ..": sums, whatever the order; "a key met again with equal
     contents counts once"."""
     n, lines = given.proposal.net.n, given.case.lines
-    if not lines:
-        return None
     other = list(lines)
     given.case.chance("order").shuffle(other)
     return given.calls.build(n, other) == given.calls.build(n, lines)
 
 
-@sentence
+@sentence("has_lines")
 def half_builder_is_the_builder(given):
     """Paper 10: "The builder of Paper 3 gains the same form": row i and column j, j up to i, of the same matrix, and the same right side."""
     n, lines = given.proposal.net.n, given.case.lines
-    if not lines:
-        return None
     square = given.calls.build(n, lines)
     return given.calls.build_half(n, lines) == Net([row[: i + 1] for i, row in enumerate(square.matrix)], square.right)
 
 
-@sentence
+@sentence("is_in_range")
 def nets_lead_to_common_intervals(given):
     """Papers 3, 7, 11 and 13 one after the other: field lines, of a net that has them, build its equations; "What it returns always has every margin above 0";
     guess and limits of an accepted check go out as doubles; and with itself it has "each height's common interval", or "new 21, if a solution limit is above
     2^36"."""
     calls, net = given.calls, given.proposal.net
-    if not given.is_in_range:
-        return None
     if given.case.lines and calls.build(net.n, given.case.lines) != Net(net.matrix, net.right):
         return False
     found = outcome(calls.find_weights, net.matrix, given.proposal.inverse, given.proposal.t, 64)
@@ -63,7 +55,7 @@ def goes_out(calls, proposal, limits):
     return inside and common == (No(21) if max(limits) > 2**36 else Common(proposal.s, ends))
 
 
-@sentence
+@sentence()
 def larger_allowance_finds_the_same_list(given):
     """Paper 7: "a larger allowance never changes a list already found"."""
     proposal, small = given.proposal, given.case.chance("allowance").randint(1, 63)

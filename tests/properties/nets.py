@@ -9,7 +9,8 @@
 from random import Random
 from typing import Any, List, NamedTuple, Optional
 
-from exact import inverse_of, nearest, product
+from common.exact import inverse_of, nearest, product
+from common.net import frozen
 from kodarfi import FieldLine, Net, Proposal
 
 LARGEST, LARGEST_GUESS = 2**20, 2**36
@@ -33,11 +34,11 @@ def case_at(seed: int, index: int) -> Case:
     rng = Random(f"{seed} {index}")
     if rng.random() < 0.02:
         proposal = broad(rng)
-        return Case(seed, index, [], proposal, inverse_of(proposal.net.matrix))
+        return Case(seed, index, [], proposal, inverse_of(frozen(proposal.net.matrix)))
     n = rng.randint(1, 6) if rng.random() < 0.99 else rng.randint(7, 32)
     lines = field_lines(rng, n) if rng.random() < 0.6 else []
     matrix, right = equations(n, lines) if lines else system(rng, n)
-    exact = inverse_of(matrix)
+    exact = inverse_of(frozen(matrix))
     proposal = proposed(rng, Net(matrix, right), exact)
     if rng.random() < 0.04:
         proposal = spoiled(rng, proposal)
@@ -166,7 +167,7 @@ def hung(case: Case, rng):
     matrix, right = equations(n, lines)
     most = rng.choice((1, 9, 9, 2**10))
     coupling = [[rng.randint(-most, most) if rng.random() < 0.6 else 0 for _ in range(main.net.n)] for _ in range(n)]
-    exact = inverse_of(matrix)
+    exact = inverse_of(frozen(matrix))
     moved = [nearest(x, 2**main.s) for x in product(coupling, main.guess)]
     near = proposed(rng, Net(matrix, [b - m for b, m in zip(right, moved)]), exact, s=min(main.s, 20))
     return Proposal(Net(matrix, right, near.net.tolerance), main.s, near.t, near.guess, near.inverse, near.weights), coupling, exact

@@ -1,16 +1,15 @@
 """Sentences of two nets, the second hung from the first, and of two proposals for the same net: document 02, Papers 8 and 13."""
 
-from exact import corners, is_within, product
+from common.exact import product
+from exact import corners, is_within
 from given import No, outcome, sentence
 from kodarfi import Limits
 from nets import proposed
 
 
-@sentence
+@sentence("is_solved")
 def common_interval_contains_the_height(given):
     """Paper 13: "It contains the exact height for every right side within the tolerance, and its lower end is never above its upper"."""
-    if not given.is_accepted or given.exact is None:
-        return None
     net = given.proposal.net
     second = proposed(given.case.chance("second"), net, given.exact, tolerance=net.tolerance)
     common = outcome(given.calls.common, given.proposal, second)
@@ -21,12 +20,10 @@ def common_interval_contains_the_height(given):
     return all(low <= high for low, high in common.intervals) and all(inside(product(H, right)) for right in corners(net, H))
 
 
-@sentence
+@sentence("hangs")
 def dependent_net_without_coupling_is_its_own_check(given):
     """Papers 8 and 9: "then the hung net in the usual order"; with C = 0 its residual and slack are those of its own check, but "The heights of a hung net keep
     Paper 8's test only; its inverse columns take the new condition"."""
-    if given.dependent is None or not given.is_accepted:
-        return None
     dependent = given.dependent[0]
     checked = outcome(given.calls.check, dependent)
     zero = [[0] * given.proposal.net.n for _ in range(dependent.net.n)]
@@ -41,11 +38,9 @@ def dependent_net_without_coupling_is_its_own_check(given):
     return both == No(6, (above, 0), net=2) if above else not isinstance(both, No) or both.number == 7
 
 
-@sentence
+@sentence("hangs")
 def heights_of_both_nets_are_within_limits(given):
     """Paper 8: "Acceptance of both must show that every exact solution of the two nets together lies within both lists of limits, tolerances included"."""
-    if given.dependent is None or not given.is_accepted:
-        return None
     dependent, coupling, exact = given.dependent
     both = outcome(given.calls.check_dependent, given.proposal, dependent, coupling)
     if isinstance(both, No):

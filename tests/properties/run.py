@@ -4,70 +4,27 @@
   python3 tests/properties/run.py --net I [--seed S] [PROPERTY..]      one net again, by its index
 
 It needs target/lib/libkodarfi.so: make lib. Each property must hold of every net to which its sentence applies, and one net in 100 at least must be such a
-net. Then each named mutant must be detected by its property on the first 1,000 nets. The status is 0, 1 where something failed, and 2 where nothing could be
-tried: a mistake in the call, no library, an output that cannot be written."""
+net. Then each named mutant must be detected by its property on the first 1,000 nets."""
 
+import argparse
 import os
-import signal
 import sys
 from collections import Counter
-from contextlib import suppress
 from functools import partial
 from pathlib import Path
 
 sys.dont_write_bytecode = True
 ROOT = Path(__file__).resolve().parent.parent.parent
 SHARED = ROOT / "target" / "lib" / "libkodarfi.so"
-sys.path.insert(0, str(ROOT / "python"))
+sys.path[1:1] = [str(ROOT / "python"), str(ROOT / "tests")]
 
+from common.mutated import main, report
 from given import SENTENCES, Given, calls
 from mutants import MUTANTS
 from nets import case_at
 
-COMMAND = "python3 tests/properties/run.py"
-USAGE = f"usage: {COMMAND} [--nets N | --net I] [--seed S] [PROPERTY..]"
 PROPERTIES = {each.__name__: each for each in SENTENCES}
-MUTANT_NETS, LEAST_SHARE, LARGEST = 1000, 100, 10**9
-
-
-class Failure(Exception):
-    """One line, and a status of 2."""
-
-
-def put(line):
-    """A line on standard output."""
-    text = (line + "\n").encode("utf-8", "replace")
-    try:
-        while text:
-            text = text[os.write(1, text) :]
-    except OSError as error:
-        raise Failure(f"standard output could not be written: {error.strerror}") from None
-
-
-def words_of(words):
-    """The numbers that are given by name, and the names of properties."""
-    numbers, names, rest = {}, [], list(words)
-    while rest:
-        word = rest.pop(0)
-        if word in ("--nets", "--seed", "--net"):
-            numbers[word] = whole(word, rest.pop(0) if rest else "")
-        elif word in PROPERTIES:
-            names.append(word)
-        else:
-            raise Failure(f"there is no {'option' if word.startswith('-') else 'property'} {one_line(word)}; {USAGE}")
-    if "--nets" in numbers and "--net" in numbers or numbers.get("--nets") == 0:
-        raise Failure(f"one net or more, or one by its index; {USAGE}")
-    return numbers, names
-
-
-def whole(option, word):
-    if not (word.isascii() and word.isdigit() and len(word) < 12 and int(word) <= LARGEST):
-        raise Failure(f"{option} takes a whole number, at most {LARGEST:,}; {USAGE}")
-    return int(word)
-
-
-def one_line(text):
-    return "".join(letter if letter.isprintable() else "?" for letter in " ".join(str(text).split()))
+MUTANT_NETS, LEAST_SHARE = 1000, 100
 
 
 def holds(each, given):
@@ -75,7 +32,7 @@ def holds(each, given):
     try:
         return each(given)
     except Exception as error:
-        return one_line(f"{type(error).__name__}: {error}")
+        return f"{type(error).__name__}: {error}"
 
 
 def tallies(properties, indices, seed):
@@ -92,16 +49,15 @@ def tallies(properties, indices, seed):
 
 
 def property_results(properties, indices, seed):
-    """A line for each property, with whether it held and was met often enough."""
+    """Each property, with whether it held and was met often enough."""
     least, (applied, failed, first) = len(indices) // LEAST_SHARE, tallies(properties, indices, seed)
     for name in properties:
+        print(f"{name}: {applied[name]} nets", flush=True)
         if failed[name]:
             index, told = first[name]
-            yield f"{name}: {failed[name]} of {applied[name]} nets{told}; the first again: {COMMAND} --seed {seed} --net {index} {name}", False
-        elif applied[name] < least:
-            yield f"{name}: {applied[name]} nets, fewer than {least}", False
+            yield f"{name}: {failed[name]} nets{told}; the first again: python3 tests/properties/run.py --seed {seed} --net {index} {name}", False
         else:
-            yield f"{name}: {applied[name]} nets", True
+            yield f"{name}: fewer than {least} nets", applied[name] >= least
 
 
 def detected(cases, call, mutant, each):
@@ -111,7 +67,7 @@ def detected(cases, call, mutant, each):
 
 
 def mutant_results(properties, seed):
-    """A line for each mutant of the properties, with whether it is detected, and for each property that has none."""
+    """Each mutant of the properties, with whether it is detected; and each property that has none."""
     cases = [case_at(seed, index) for index in range(MUTANT_NETS)]
     for name, (call, mutant, each) in MUTANTS.items():
         if each.__name__ in properties:
@@ -120,38 +76,25 @@ def mutant_results(properties, seed):
         yield f"{name} has no mutant", False
 
 
-def results(properties, numbers):
-    seed, net = numbers.get("--seed", 1), numbers.get("--net")
-    yield from property_results(properties, range(numbers.get("--nets", 10000)) if net is None else [net], seed)
-    if net is None:
-        yield from mutant_results(properties, seed)
+def results(options):
+    yield from ((f"there is no property {name}", False) for name in options.names if name not in PROPERTIES)
+    properties = {name: each for name, each in PROPERTIES.items() if not options.names or name in options.names}
+    if options.net is not None:
+        yield from property_results(properties, [options.net], options.seed)
+    else:
+        yield from property_results(properties, range(options.nets), options.seed)
+        yield from mutant_results(properties, options.seed)
 
 
-def run(words):
-    if words in (["-h"], ["--help"]):
-        put(__doc__)
-        return 0
-    numbers, names = words_of(words)
-    if not SHARED.exists():
-        raise Failure(f"there is no {SHARED}: make lib")
+def run():
+    parser = argparse.ArgumentParser()
+    parser.add_argument("names", metavar="PROPERTY", nargs="*")
+    parser.add_argument("--nets", type=int, default=10000)
+    parser.add_argument("--net", type=int)
+    parser.add_argument("--seed", type=int, default=1)
     os.environ["KODARFI_LIBRARY"] = str(SHARED)
-    passed = failed = 0
-    for line, good in results({name: each for name, each in PROPERTIES.items() if not names or name in names}, numbers):
-        passed, failed = passed + good, failed + (not good)
-        put(("" if good else "FAILED ") + line)
-    put(f"{passed} passed, {failed} failed")
-    return int(failed > 0)
-
-
-def main():
-    signal.signal(signal.SIGINT, signal.SIG_DFL)
-    try:
-        return run(sys.argv[1:])
-    except (Failure, OSError) as error:
-        with suppress(OSError):
-            os.write(2, f"properties: {one_line(error)}\n".encode("utf-8", "replace"))
-        return 2
+    return report(results(parser.parse_args()))
 
 
 if __name__ == "__main__":
-    sys.exit(main())
+    main(run, SHARED)

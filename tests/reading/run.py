@@ -10,16 +10,17 @@ calls for C that README's table "Linking" puts above them. Tier 2 are the statem
 stands in a file whose name is one of CASES, with nothing, a number or a paper's number behind it, and is cited by no public contract: tables of cases and
 comparisons with earlier rules. Every name of the library that these files import has a meaning in words.tsv or is one of STANDARD."""
 
-import os
 import re
 import sys
 import textwrap
 from pathlib import Path
 
+HERE = Path(__file__).resolve().parent
+sys.path.insert(1, str(HERE.parent))
+
+from common.mutated import ROOT, close, main
 from sources import Fault, Sources
 
-HERE = Path(__file__).resolve().parent
-ROOT = HERE.parent.parent
 BASE = ("checker", "entry", "line", "listing", "loader")
 CASES = re.compile(r"(Cases|Before|Tightened|Example)\d*")
 STANDARD = (
@@ -118,13 +119,10 @@ def check(reading, path):
     faults = [f"lacks: {line}" for line in made if line not in there] + [f"should not have: {line}" for line in there if line not in made]
     if made != there and not faults:
         faults = ["has its lines in another order, or not as often"]
-    for fault in faults:
-        print(f"FAILED docs/{path.name} {fault}")
-    print(f"{max(0, len(made) - len(faults))} passed, {len(faults)} failed")
-    return int(bool(faults))
+    return close(max(len(made), len(faults)), (f"docs/{path.name} {fault}" for fault in faults))
 
 
-def main(arguments):
+def run(arguments):
     if arguments == ["--self-test"]:
         from self_test import self_test
 
@@ -139,16 +137,9 @@ def main(arguments):
             return check(reading, path)
         path.write_text(reading.page())
     except Fault as fault:
-        print(f"FAILED reading: {fault}\n0 passed, 1 failed")
-        return 1
+        return close(1, [f"reading: {fault}"])
     return 0
 
 
 if __name__ == "__main__":
-    try:
-        status = main(sys.argv[1:])
-        sys.stdout.flush()
-    except OSError as fault:
-        sys.stderr.write(f"reading: {fault}\n")
-        os._exit(1)
-    sys.exit(status)
+    main(lambda: run(sys.argv[1:]))

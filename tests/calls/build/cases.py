@@ -7,7 +7,7 @@ the matrix, n × n or n(n + 1)/2, and the n right sides."""
 import random
 from pathlib import Path
 
-from calls.build.mutants import MUTANTS
+from calls.build.mutants import LINES, MUTANTS
 from calls.build.oracle import LEAST, LOWER, SQUARE, Builder
 from calls.half.oracle import HALF, HalfEntry
 from common.net import joined
@@ -128,5 +128,8 @@ def faults(index, call, answer):
 SUITE = Suite(
     count=6000, tested_count=2000, generate=generate, write=write, coverage=coverage, required=REQUIRED, faults=faults, others=others,
     answer=Builder().build,
-    mutants=((MUTANTS, lambda mutant, call, answer: mutant.build(call) != answer),),
+    mutants=(
+        (MUTANTS, lambda mutant, call, answer: mutant.build(call) != answer),
+        (LINES, lambda mutant, call, answer: mutant.refused_line(call) != Builder().refused_line(call)),
+    ),
 )

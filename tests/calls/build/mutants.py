@@ -101,6 +101,26 @@ def last_contents(self, kept, line):
     kept[line.key] = line
 
 
+def cut(line):
+    """The contents with a difference of 16 bits."""
+    return line._replace(difference=line.difference % 2**16).contents()
+
+
+def rows_of_32(self, layout, n, matrix):
+    right = Builder.laid_out(self, layout, n, matrix)
+    return right if layout == LOWER else [number for i in range(n) for number in (*matrix[i * n : i * n + n], *(None,) * (32 - n))]
+
+
+def lined(rule):
+    """A builder whose refused line is rule(call, the right one)."""
+    return builder(refused_line=lambda self, call: rule(call, Builder().refused_line(call)))
+
+
+def line_for(number):
+    """Line 1 where the call is refused with this number before any line."""
+    return lined(lambda call, line: 1 if Builder().refused_first(call) == number else line)
+
+
 def halves_by(rule):
     """A builder whose halves are rule(n, the square's numbers)."""
     return builder(laid_out=lambda self, layout, n, matrix: rule(n, matrix) if layout == LOWER else matrix)
@@ -124,6 +144,10 @@ MUTANTS = {
     "weight not compared": compared(0, 1, 2),
     "the last contents of a key win": builder(is_same=lambda self, line, other: line.contents()[:2] == other.contents()[:2], keep=last_contents),
     "a line turned round is the same": builder(is_same=lambda self, line, other: other.contents() in (line.contents(), turned(line).contents())),
+    "differences of 16 bits compared": builder(is_same=lambda self, line, other: cut(line) == cut(other)),
+    "17 for 16": opened_by(lambda call, right: Refusal(17) if right == Refusal(16) else right),
+    "a short right side taken": builder(least=lambda self, layout: LEAST[layout]._replace(right=0)),
+    "rows of 32": builder(laid_out=rows_of_32),
     "the right side turned": put(lambda right, n, lines: right._replace(right=[-b for b in right.right])),
     "the right side without the weight": put(lambda right, n, lines: right._replace(right=Builder().equations(n, [line._replace(weight=1) for line in lines]).right)),
     "the right side of 'to' alone": put(lambda right, n, lines: right._replace(right=[sum(line.weight * line.difference for line in lines if line.to == k) for k in range(1, n + 1)])),
@@ -157,4 +181,13 @@ MUTANTS = {
     "the diagonal left out of a half": halves_by(lambda n, matrix: [matrix[i * n + j] for i in range(n) for j in range(i)]),
     "a half of 527 taken": half_least(527),
     "a half of 528 refused": half_least(LEAST[SQUARE].matrix),
+}
+
+# Of the number of the refused line.
+LINES = {
+    "a line for 8": line_for(8),
+    "a line for n or a long list": line_for(3),
+    "copies of lines not counted": lined(lambda call, line: line and len({other.key for other in call.lines[: line - 1]}) + 1),
+    "lines from 0": lined(lambda call, line: max(line - 1, 0)),
+    "the last line where none is refused": lined(lambda call, line: line or (0 if Builder().refused_first(call) else len(call.lines))),
 }

@@ -7,9 +7,10 @@ tolerances, k of the guess, k × k of the inverse and k weights, after which eac
 its two places (0 where it names none), and where accepted n solution limits and n × n inverse limits."""
 
 import random
+from itertools import islice
 from typing import NamedTuple
 
-from calls.check.mutants import AGREEING, MUTANTS
+from calls.check.mutants import AGREEING, MUTANTS, ON_LISTS
 from calls.check.oracle import Bounds, check
 from common import cases_01
 from common.damage.lists import Call, call_of, damaged
@@ -24,8 +25,9 @@ from common.systems.timed import halves_up
 # A damaged system that may be reckoned, and one that mutants reckon too, has at most so many equations: reckoning takes its time.
 MOST_DAMAGED = 10
 DAMAGES = 6
-# So many systems of shapes, each shape in its turn.
+# So many systems of shapes, each shape in its turn, and in the self-test so many others.
 OF_SHAPES = 270
+OTHERS = 500
 
 # Rounding to nearest steps, so that equal numbers stay equal, and within a step.
 ROUNDINGS = (halves_up, usual.within_a_step)
@@ -201,8 +203,7 @@ def answer_lines(answer):
 
 
 def write(sent, answer):
-    call = sent.call
-    return [[call.count, call.n, call.s, call.t, *call.lengths], *call.lists, *answer_lines(answer)]
+    return [*sent.call.written(), *answer_lines(answer)]
 
 
 def is_of_shape(name, net, answer):
@@ -225,6 +226,11 @@ def coverage(sent, answer):
         yield sent.shape
 
 
+def tested(seed, count):
+    yield from shaped(seed)
+    yield from islice(generate(seed, count), OTHERS)
+
+
 def differs(reckoning, sent, answer):
     return bool(sent.net) and sent.net.n <= MOST_DAMAGED and reckoning().check(sent.call.problem()) != answer
 
@@ -237,7 +243,10 @@ def faults(index, sent, answer):
 SUITE = Suite(
     count=1000, generate=generate, write=write, coverage=coverage, required=dict.fromkeys(SHAPES, 15), faults=faults,
     answer=lambda sent: check(sent.call.problem(), sent.call.lengths),
-    mutants=((MUTANTS, differs),),
-    tested=lambda seed, count: shaped(seed),
+    mutants=(
+        (MUTANTS, differs),
+        (ON_LISTS, lambda mutant, sent, answer: not sent.net and sent.call.count <= MOST_DAMAGED and mutant(sent.call.problem(), sent.call.lengths) != answer),
+    ),
+    tested=tested,
     of_net=lambda net: Sent(call_of(net)),
 )

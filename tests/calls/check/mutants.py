@@ -1,11 +1,13 @@
 """Mutants of the reckoning, by name. RECKONED break one rule of document 01 each, and the files must detect them (calls/listing); MUTANTS go wrong where the
-shape of matrix and inverse matters: whether both are symmetric, which numbers are 0, and whether a column's limits are 0, 1 or above."""
+shape of matrix and inverse matters: whether both are symmetric, which numbers are 0, and whether a column's limits are 0, 1 or above; ON_LISTS test the lengths
+and ranges of a call otherwise."""
 
 from fractions import Fraction
 from math import ceil, floor
 
-from calls.check.oracle import LARGEST_RESIDUAL, Reckoning, transposed
+from calls.check.oracle import FULL, LARGEST_RESIDUAL, Reckoning, check, is_in_range, transposed
 from calls.entry.mutants import half_up
+from common.format import is_within
 from common.rules import Refusal
 
 
@@ -221,4 +223,36 @@ MUTANTS = {
     "1 for a column of zeros": bounds_by(lambda w, sizes, margins: None if any(sizes) else [1] * len(w)),
     "0 where the last size is 0": bounds_by(lambda w, sizes, margins: None if sizes[-1] else [0] * len(w)),
     "the last number of a row passed over": LastPassedOver,
+}
+
+
+def long_enough(name):
+    """A call that takes a list of any length by this name."""
+    return lambda problem, lengths: check(problem, lengths._replace(**{name: getattr(FULL, name)}))
+
+
+def in_range(change):
+    """A call that sees other numbers when it tests their ranges."""
+    return lambda problem, lengths: Reckoning().check(problem) if lengths == FULL and is_in_range(change(problem)) else check(problem, lengths)
+
+
+def reads_on(problem, lengths):
+    """3 where the number after those of the matrix is out of its range."""
+    right, at = check(problem, lengths), problem.n**2
+    return right if right in (Refusal(8), Refusal(3)) or is_within("row", problem.matrix[at : at + 1]) else Refusal(3)
+
+
+def places_exchanged(problem, lengths):
+    right = check(problem, lengths)
+    return Refusal(7, right.values[::-1]) if isinstance(right, Refusal) and right.number == 7 else right
+
+
+ON_LISTS = {
+    "a short list of limits taken": long_enough("solution"),
+    "a short list of tolerances taken": long_enough("tolerance"),
+    "3 before 8": lambda problem, lengths: check(problem, lengths) if is_in_range(problem) else Refusal(3),
+    "weights of any size": in_range(lambda problem: problem._replace(weights=[1] * problem.n)),
+    "a tolerance below 0 taken": in_range(lambda problem: problem._replace(tolerance=list(map(abs, problem.tolerance)))),
+    "a number past n × n read": reads_on,
+    "row before column": places_exchanged,
 }

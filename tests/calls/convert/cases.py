@@ -7,7 +7,7 @@ and those of the new one."""
 import random
 
 from calls.check.oracle import Reckoning
-from calls.convert.mutants import MUTANTS
+from calls.convert.mutants import MUTANTS, TOLD
 from calls.convert.oracle import ROOM, Converter, answered
 from calls.listing.oracle import Program, under
 from common import damage, given
@@ -62,12 +62,22 @@ def generate(seed, count):
             yield file, room
 
 
+def told(case, converted):
+    """The number and the two values that a call gives, and the refused line."""
+    return [*answered(converted)[0], Program().refused_line(case[0])]
+
+
 def write(case, converted):
     file, room = case
-    numbers, text = answered(converted)
-    yield [len(file), room, *numbers, Program().refused_line(file), len(text)]
+    text = answered(converted)[1]
+    yield [len(file), room, *told(case, converted), len(text)]
     yield file
     yield text
+
+
+def tells_otherwise(rule, case, converted):
+    right = told(case, converted)
+    return rule(right[:3], right[3]) != right
 
 
 # By the number of what is said; 0 for an accepted check, 5 to 7 for one that is refused: the file is converted all the same.
@@ -115,5 +125,5 @@ def faults(index, case, text):
 SUITE = Suite(
     count=400, generate=generate, write=write, coverage=coverage, required=REQUIRED, faults=faults,
     answer=lambda case: Converter().convert(*case),
-    mutants=((MUTANTS, lambda mutant, case, converted: mutant.convert(*case) != converted),),
+    mutants=((MUTANTS, lambda mutant, case, converted: mutant.convert(*case) != converted), (TOLD, tells_otherwise)),
 )

@@ -105,3 +105,19 @@ MUTANTS = {
     "13 for 15": instead(15, 13),
     "the file as it came": text_by(lambda text, file: file),
 }
+
+
+def lined(number, line):
+    """Another line where this number is said."""
+    return lambda said, right: [*said[:3], line if said[0] == number else right]
+
+
+# Of what a call tells beside the new file: rule(number and values, the refused line).
+TOLD = {
+    "13 without its count": lambda said, line: [said[0], 0, 0, line],
+    "the line among the values": lambda said, line: [said[0], line, 0, line],
+    "lines from 0": lambda said, line: [*said, max(line - 1, 0)],
+    "no line for 13": lined(13, 0),
+    "a line for 15": lined(15, 1),
+    "a line for 22": lined(22, 1),
+}

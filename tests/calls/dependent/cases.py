@@ -105,9 +105,7 @@ def generate(seed, count):
 
 def write(sent, answer):
     call = sent.call
-    for net in (call.main, call.dependent):
-        yield [net.count, net.n, net.s, net.t, *net.lengths]
-        yield from net.lists
+    yield from call.main.written() + call.dependent.written()
     yield [len(call.coupling), call.coupling_length]
     yield call.coupling
     if isinstance(answer, NetRefusal):

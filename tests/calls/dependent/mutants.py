@@ -141,6 +141,7 @@ MUTANTS = {
     "the hung net alone where C is 0": answered(alone),
     "refusals of net 2 as of net 1": refused_as(lambda net, refusal: NetRefusal(MAIN, refusal)),
     "refusals of net 1 as of net 2": refused_as(lambda net, refusal: NetRefusal(DEPENDENT, refusal)),
+    "6 of net 2 without its row": refused_as(lambda net, refusal: NetRefusal(net, Refusal(6) if net == DEPENDENT and refusal.number == 6 else refusal)),
     "the lists of both nets first": answered(lists_first),
     "the ranges of both nets first": answered(ranges_first),
 }

@@ -11,6 +11,7 @@ from itertools import islice
 
 from calls.doubles.mutants import INWARD, OUTWARD
 from calls.doubles.oracle import Doubles, Inward, Outward, bits_of, of_bits
+from common.damage.lists import other_size
 from common.rules import Refusal
 from common.suite import Suite
 
@@ -77,9 +78,9 @@ def damaged_inward(rng, call):
     if kind == 0:
         return call._replace(lengths=rng.choice(((31, 32), (32, 31), (0, 32), (32, 0))), n=rng.choice((call.n, call.n, 33)))
     if kind == 1:
-        return call._replace(n=rng.choice(ODD_SIZES))
+        return call._replace(n=other_size(rng, call.n, ODD_SIZES))
     if kind == 2:
-        return call._replace(s=rng.choice(ODD_SCALES))
+        return call._replace(s=other_size(rng, call.s, ODD_SCALES))
     values = list(call.values)
     past = (LARGEST + 0.5) / 2**call.s
     values[rng.choice((call.n - 1, rng.randrange(call.n)))] = rng.choice((*ODD_DOUBLES, past, -past, 2 * past))
@@ -128,9 +129,9 @@ def damaged_outward(rng, call):
         lengths[rng.randrange(4)] = rng.choice((31, 31, 0))
         return call._replace(lengths=tuple(lengths), n=rng.choice((call.n, call.n, 33)))
     if kind == 1:
-        return call._replace(n=rng.choice(ODD_SIZES))
+        return call._replace(n=other_size(rng, call.n, ODD_SIZES))
     if kind == 2:
-        return call._replace(s=rng.choice(ODD_SCALES))
+        return call._replace(s=other_size(rng, call.s, ODD_SCALES))
     name, odd = (("guess", (LARGEST + 1, -LARGEST - 1, 2**63 - 1, -(2**63))), ("bounds", (2**60 + 1, 2**63, 2**64 - 1)))[kind % 2]
     numbers = list(getattr(call, name))
     numbers[rng.choice((call.n - 1, rng.randrange(call.n)))] = rng.choice(odd)
@@ -241,7 +242,7 @@ def differs(mutant, call, answer):
 
 
 SUITE = Suite(
-    count=6000, tested_count=5400, seed="2", generate=generate, write=write, coverage=coverage, required=REQUIRED, faults=faults,
+    count=50000, tested_count=6000, seed="2", generate=generate, write=write, coverage=coverage, required=REQUIRED, faults=faults,
     answer=lambda call: answered(Doubles(), call),
     mutants=(
         ({f"in: {name}": mutant for name, mutant in INWARD.items()}, lambda mutant, call, answer: is_inward(call) and differs(mutant, call, answer)),

@@ -67,6 +67,15 @@ def scaled(s):
     return doubles(are_sizes_in_range=lambda self, call: is_within("problem", [call.n]) and call.s <= s)
 
 
+def long_enough(method, which):
+    """A mutant that takes one of its lists whatever its length."""
+
+    def answered(self, call):
+        return getattr(Doubles, method)(self, call._replace(lengths=(*call.lengths[:which], 32, *call.lengths[which + 1 :])))
+
+    return doubles(**{method: answered})
+
+
 INWARD = {
     "halves to even": rounded_by(to_even),
     "truncation": rounded_by(whole_part),
@@ -81,6 +90,7 @@ INWARD = {
     "a guess out of range at its end": doubles(guess=lambda self, x, s: Doubles.guess(self, x, s) if not math.isfinite(x) else max(-(2**36), min(2**36, Doubles.nearest(self, x.as_integer_ratio()[0] << s, x.as_integer_ratio()[1])))),
     "units for steps": doubles(guess=lambda self, x, s: Doubles.guess(self, x, 0)),
     "past n read": doubles(guesses=lambda self, call: Doubles.guesses(self, call._replace(n=call.n + 1)) if call.n < 32 else Doubles.guesses(self, call)),
+    "short values taken": long_enough("guesses", 0),
     "19 before 3": order(8, 19, 3),
     "3 before 8": order(3, 8, 19),
     "19 said as 3": doubles(guesses=lambda self, call: Refusal(3) if Doubles.guesses(self, call) == Refusal(19) else Doubles.guesses(self, call)),
@@ -96,6 +106,8 @@ OUTWARD = {
     "high too far at a power of two": ended(lambda x, e, s, low, high: (low, math.nextafter(high, math.inf) if math.frexp(high)[0] == 0.5 else high)),
     "minus zero as low": ended(lambda x, e, s, low, high: (minus_zero(low, x - e), high)),
     "minus zero as high": ended(lambda x, e, s, low, high: (low, minus_zero(high, x + e))),
+    "ends exchanged": ended(lambda x, e, s, low, high: (high, low)),
+    "a short list of ends taken": long_enough("intervals", 3),
     "ends exchanged below 0": ended(lambda x, e, s, low, high: (high, low) if high < 0 else (low, high)),
     "rounded toward zero below 0": ended(lambda x, e, s, low, high: (-Doubles().below(e - x, s) if x < e else low, high)),
     "ends of the guess alone": doubles(interval=lambda self, x, e, s: Doubles.interval(self, x, 0, s)),

@@ -5,7 +5,7 @@ Each is written as a line of six numbers: guess, limit and s; the refusal's numb
 import itertools
 import random
 
-from calls.entry.mutants import MUTANTS
+from calls.entry.mutants import MUTANTS, OF_CALL
 from calls.entry.oracle import Entry
 from common.rules import Refusal
 from common.suite import Suite, mutant
@@ -14,7 +14,7 @@ from common.suite import Suite, mutant
 def ends():
     sizes = (0, 1, 2, 7, 8, 9, 23, 24, 25, 2**19 - 1, 2**19, 2**20 - 1, 2**20, 3 * 2**19, 2**36 - 1, 2**36, 2**36 + 1, 2**63 - 1)
     bounds = (0, 1, 2, 15, 16, 17, 2**20 - 1, 2**20, 2**20 + 1, 2**60 - 1, 2**60, 2**60 + 1, 2**63, 2**64 - 1)
-    scales = (0, 1, 2, 4, 19, 20, 21, 31, 32, 36, 63, 64, 65, 2**32 - 1)
+    scales = (0, 1, 2, 4, 19, 20, 21, 31, 32, 36, 63, 64, 65, 2**8 + 4, 2**16 + 4, 2**32 - 1)
     guesses = dict.fromkeys([*sizes, *(-size for size in sizes), -(2**63)])
     return itertools.product(guesses, bounds, scales)
 
@@ -66,5 +66,5 @@ def coverage(case, answer):
 SUITE = Suite(
     count=20000, generate=generate, write=write, coverage=coverage, required=REQUIRED,
     answer=lambda case: Entry().enter(*case),
-    mutants=(({name: mutant(Entry, **parts) for name, parts in MUTANTS.items()}, lambda mutant, case, answer: mutant.enter(*case) != answer),),
+    mutants=(({name: mutant(Entry, **parts) for name, parts in {**MUTANTS, **OF_CALL}.items()}, lambda mutant, case, answer: mutant.enter(*case) != answer),),
 )

@@ -1,8 +1,11 @@
-"""Mutants of a register entry, by name, as the parts that differ; the files must detect them too (calls/listing/mutants.py). Each breaks one rule of document
-01 or of 02's Paper 2."""
+"""Mutants of a register entry, by name, as the parts that differ. Each breaks one rule of document 01 or of 02's Paper 2. The files must detect MUTANTS too
+(calls/listing/mutants.py); OF_CALL go wrong at numbers that no file has."""
 
 from fractions import Fraction
 from math import ceil, floor
+
+from calls.entry.oracle import Entry
+from common.rules import Refusal
 
 
 def half_up(x):
@@ -34,4 +37,17 @@ MUTANTS = {
     "the guess for its rounding": limited(lambda E, away, X, S: ceil(Fraction(E + abs(X), S))),
     "half a unit for the rounding": limited(lambda E, away, X, S: ceil(Fraction(2 * E + S, 2 * S))),
     "rounding with its sign": dict(entry_bound=lambda self, X, E, S: ceil(Fraction(E + X - S * self.entry(X, S), S))),
+}
+
+
+def entered(rule):
+    """One that enters rule(guess, limit, s)."""
+    return dict(enter=lambda self, *case: Entry.enter(self, *rule(*case)))
+
+
+OF_CALL = {
+    "a scale of 21 taken": entered(lambda guess, bound, s: (guess, bound, 20 if s == 21 else s)),
+    "a guess of 2^36 + 1 taken": entered(lambda guess, bound, s: (guess - (guess == 2**36 + 1), bound, s)),
+    "a limit above 2^60 refused": dict(enter=lambda self, guess, bound, s: Refusal(3) if bound > 2**60 else Entry.enter(self, guess, bound, s)),
+    "entry limit in 64 bits": limited(lambda E, away, X, S: ceil(Fraction((E + away) % 2**64, S))),
 }

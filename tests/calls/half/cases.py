@@ -5,12 +5,12 @@ Each is written as calls/check writes it, with the k(k + 1)/2 numbers of the hal
 import random
 from typing import NamedTuple
 
-from calls.check.cases import answer_lines, heavy_matrix
+from calls.check.cases import heavy_matrix, write
 from calls.check.mutants import is_symmetric
 from calls.check.oracle import Bounds, check
 from calls.half.mutants import MUTANTS
 from calls.half.oracle import HALF, LEAST, HalfEntry, lower_half
-from common.damage.lists import Call, call_of, damaged, odd_number, renumbered, resized, reweighed, shifted, tolerated
+from common.damage.lists import Call, call_of, damaged, odd_number, renumbered, resized, reweighed, shifted, shorter, tolerated
 from common.format import is_within
 from common.generate import made
 from common.net import SIZE, flat, frozen
@@ -110,9 +110,7 @@ def shortened(rng, call):
     """One list too short, as often as not the half, or a half longer than it must be; n out of range with it, now and then."""
     if rng.randrange(2):
         return call._replace(lengths=LEAST._replace(matrix=rng.choice((HALF - 1, HALF - 1, HALF - 1, HALF // 2, 0, HALF + 1, 1024))))
-    which = rng.randrange(1, len(LEAST))
-    call = call._replace(n=rng.choice((call.n, call.n, 0, 33)))
-    return call._replace(lengths=LEAST._replace(**{LEAST._fields[which]: rng.choice((LEAST[which] - 1, LEAST[which] - 1, LEAST[which] // 2, 0))}))
+    return call._replace(n=rng.choice((call.n, call.n, 0, 33)), lengths=shorter(rng, LEAST, 1))
 
 
 def beyond(rng, call):
@@ -152,13 +150,6 @@ def generate(seed, count):
         yield Sent(call, family, net)
         if net.n <= MOST_DAMAGED:
             yield from (Sent(damaged(rng, call, DAMAGES, (1, 1, 2)), family, None) for _ in range(4))
-
-
-def write(sent, answer):
-    call = sent.call
-    yield [call.count, call.n, call.s, call.t, *call.lengths]
-    yield from call.lists
-    yield from answer_lines(answer)
 
 
 REQUIRED = dict.fromkeys(

@@ -12,10 +12,10 @@ from calls.listing.mutants import PRINTING, READING, by_statements
 from calls.listing.oracle import Program, without
 from calls.loader.cases import ACCEPTED, OTHERWISE, REQUIRED_OF_READING, reading_coverage
 from common import cases_01, checks, examples_002, generate as sequence, given, mutant_programs
-from common.checks import entries_in, is_accepted, limits_in, net_from
+from common.checks import entries_in, inverse_limits_in, is_accepted, limits_in, net_from
 from common.exact import inverse_of, is_rounded_exact, product, size_sum
 from common.generate import Case
-from common.net import file_of, lines_of as lines_of_net
+from common.net import file_of, flat, lines_of as lines_of_net
 from common.rules import Refusal
 from common.suite import NEVER, Suite
 
@@ -39,7 +39,10 @@ REQUIRED = {
     **{f"margin {value}": 10 for value in (-1, 0, 1)},
     **{f"residual and slack 2^25 + {beyond}": 10 for beyond in (0, 1)},
     **dict.fromkeys(("limit with rounding above 0", "limit with rounding below 0", "height beyond E/S"), 50),
-    **dict.fromkeys(("rounded with 3·Σ|A| at most 2T", "limits of 0", "limits above 1 with tolerances", "limits above 1 without tolerances"), 20),
+    "rounded with 3·Σ|A| at most 2T, limits of 0 or 1": 20,
+    "rounded with 3·Σ|A| at most 2T, limits above 1": NEVER,
+    "rounded with 3·Σ|A| above 2T, limits above 1": 1,
+    **dict.fromkeys(("limits of 0", "limits above 1 with tolerances", "limits above 1 without tolerances"), 20),
     **{f"residual of a {of} at its row's sum, {side}, accepted": 10 for of in ("guess", "column") for side in (-1, 0, "below 0")},
     **{f"residual of a {of} at its row's sum, 1, {number}": 10 for of, number in (("guess", 6), ("column", 7))},
     **{f"residual of a {of} at its row's sum, 1, accepted": NEVER for of in ("guess", "column")},
@@ -111,11 +114,12 @@ def entries_coverage(net, listing):
 
 
 def limits_coverage(net, listing):
-    """Files of which never_far.py says more than of others: rounded proposals with limits of 0 or 1 alone, limits of 0, and limits above 1 that the right
-    sides bring about."""
+    """Files of which never_far.py says more than of others: rounded proposals, with limits of 0 or 1 alone where the rule for t has its second half, limits of
+    0, and limits above 1 that the right sides bring about."""
     limits = limits_in(listing)
-    if 3 * size_sum(net) <= 2 * 2**net.t and is_rounded_exact(net):
-        yield "rounded with 3·Σ|A| at most 2T"
+    if is_rounded_exact(net):
+        largest = max(limits + flat(inverse_limits_in(listing)))
+        yield f"rounded with 3·Σ|A| {'at most' if 3 * size_sum(net) <= 2 * 2**net.t else 'above'} 2T, limits {'above 1' if largest > 1 else 'of 0 or 1'}"
     if not any(limits):
         yield "limits of 0"
     if max(limits) > 1:

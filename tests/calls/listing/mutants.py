@@ -6,10 +6,10 @@ from dataclasses import replace
 from math import inf
 from operator import mul
 
-from calls.check.mutants import RECKONED, reckoning as reckoning_class, residuals_by
+from calls.check.mutants import RECKONED, reckoning as reckoning_class, residuals_by, steepest_by
 from calls.check.oracle import LARGEST_RESIDUAL, Reckoning, times, transposed
 from calls.entry.mutants import MUTANTS as ENTERED
-from calls.listing.oracle import Program
+from calls.listing.oracle import WITH_LINE, Program
 from calls.loader import mutants as of_loader
 from calls.loader.mutants import loader, ranged, reading, substituted
 from calls.loader.oracle import Loader
@@ -115,6 +115,7 @@ SLACKENED = {
     "slacks with the signs of G": carried_by(lambda row, m, slacks: abs(sum(map(mul, row, slacks)))),
     "slack of its own row alone": carried_by(lambda row, m, slacks: abs(row[m]) * slacks[m]),
     "slack not carried by G": carried_by(lambda row, m, slacks: slacks[m]),
+    "the steepest row by products of 64 bits": dict(reckoning=steepest_by(lambda p, g: p * g % 2**64)),
     "p and slack in one size": reckoning(sizes=lambda self, system, residuals, slacks: [abs(p + q) for p, q in zip(times(system.G, residuals), self.carried(system, slacks))]),
     "slack in the columns of the inverse": reckoning(column_slacks=Reckoning.slacks),
     "slack in the limits of the columns alone": reckoning(bounds_of_columns=lambda self, system, columns, margins: [self.bounds(system, column, self.slacks(system), margins) for column in columns]),
@@ -206,16 +207,32 @@ HELD = {
     "the sum along the row of the column's number": dict(reckoning=RowOfTheColumn),
 }
 
-# The program's own: a file read only as far as a short buffer holds.
-CUT = {"only the first 4,096 bytes": dict(lines=lambda self, file: lines_of(file[:4096]))}
+def told(rule):
+    """A program that tells rule(refusal) of a line or of a file that stops early."""
+
+    def load(self, file):
+        loaded = Program.load(self, file)
+        return rule(loaded) if isinstance(loaded, Refusal) else loaded
+
+    return dict(load=load)
+
+
+# The program's own: a file read only as far as a short buffer holds, and what is told of a refusal.
+OWN = {
+    "only the first 4,096 bytes": dict(lines=lambda self, file: lines_of(file[:4096])),
+    "lines from 0": told(lambda refusal: refusal._replace(values=(refusal.values[0] - 1,)) if refusal.number in WITH_LINE else refusal),
+    "a line for 15": told(lambda refusal: Refusal(15, (1,)) if refusal.number == 15 else refusal),
+    "13 without its count": told(lambda refusal: Refusal(13, (0,)) if refusal.number == 13 else refusal),
+}
+ORDERED = {"row before column": dict(refused=lambda self, refusal: Program.refused(self, refusal._replace(values=refusal.values[::-1])))}
 
 
 def programs(*tables):
     return {name: mutant(Program, **parts) for table in tables for name, parts in table.items()}
 
 
-READING = programs(of_loader.READING, TOLERATED, CUT)
-PRINTING = programs({name: dict(reckoning=reckoned) for name, reckoned in RECKONED.items()}, ENTERED, SLACKENED, HELD)
+READING = programs(of_loader.READING, TOLERATED, OWN)
+PRINTING = programs({name: dict(reckoning=reckoned) for name, reckoned in RECKONED.items()}, ENTERED, SLACKENED, HELD, ORDERED)
 
 
 def by_statements():

@@ -15,7 +15,7 @@ import re
 from calls.check.oracle import COLUMN, Reckoning
 from calls.listing.oracle import without
 from calls.loader.mutants import MUTANTS
-from calls.loader.oracle import ENDED, SIZED, Numbered, Steps
+from calls.loader.oracle import ENDED, SIZED, Steps
 from common import generate as sequence, given
 from common.checks import is_accepted, limits_in
 from common.format import RANGES, lines_of, read_form
@@ -54,9 +54,9 @@ def generate(seed, count):
         yield session + list(actions(rng, file, made_up(rng))) if index % 4 == 0 else session
 
 
-def steps_of(session, loader=Numbered):
+def steps_of(session, made=Steps):
     """Each step's numbers and text, one after another."""
-    steps = Steps(loader)
+    steps = made()
     return (getattr(steps, name)(*words) for name, *words in session)
 
 

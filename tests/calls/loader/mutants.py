@@ -3,10 +3,12 @@ them (calls/listing); MUTANTS leave other numbers or lists behind."""
 
 import re
 from dataclasses import replace
+from functools import partial
 
-from calls.loader.oracle import ENDED, Loader, Numbered
-from common.format import RANGES, Form, is_in_range, lines_of, read_form
-from common.rules import IN_FORCE
+from calls.check.oracle import check
+from calls.loader.oracle import ENDED, Loader, Numbered, Steps
+from common.format import PLACED, RANGES, Form, is_in_range, lines_of, read_form
+from common.rules import IN_FORCE, Refusal
 
 
 def loader(**parts):
@@ -212,7 +214,44 @@ READING = {**LOADED, **READ, **dict(range_mutants())}
 
 
 def numbered(**parts):
-    return type("Mutant", (Numbered,), parts)
+    """Steps of a loader with these parts."""
+    return partial(Steps, type("Mutant", (Numbered,), parts))
+
+
+def kept_as(kind, other=None):
+    """A loader that keeps a place of one kind in the set of another, or in none."""
+
+    def accept(self, form):
+        before = list(self.numbers)
+        Numbered.accept(self, form)
+        if form.kind == kind:
+            self.numbers = before
+            if other:
+                self.numbers[4 + PLACED.index(other)] |= 1 << (form.place - 1)
+
+    return numbered(accept=accept)
+
+
+def said_by(rule):
+    """A loader that says rule(refusal) for a refusal."""
+    return numbered(take=lambda self, text: (refusal := Loader.take(self, text)) and rule(refusal))
+
+
+def writes_back(self, refusal):
+    """A refused line puts a 0 into a list."""
+    if refusal:
+        self.lists["row"][0] = 0
+    return self.numbers
+
+
+def checked_by(rule):
+    """Steps whose checks are rule(steps, the right answer)."""
+    return type("Mutant", (Steps,), {"checked": lambda self, short: rule(self, Steps.checked(self, short))})
+
+
+def scales_exchanged(self, right):
+    s, t = self.numbers[2:4]
+    return right if right in (Refusal(8), Refusal(15)) else check(self.problem()._replace(s=t, t=s))
 
 
 def read_back(self, refusal):
@@ -234,4 +273,15 @@ MUTANTS = {
     "values before repetition": numbered(order=lambda self: self.VALUES_FIRST),
     "a given form is given again": numbered(refusal_12=lambda self, line: None),
     "a line after the end is taken": numbered(refusal_14=lambda self, line: None),
+    "a guess kept among the inverses": kept_as("guess", "inverse"),
+    "a weight kept nowhere": kept_as("weight"),
+    "an end kept nowhere": kept_as("end"),
+    "a refused line clears the loader": numbered(left=lambda self, refusal: [0] * 9 if refusal else self.numbers),
+    "a refused line writes": numbered(left=writes_back),
+    "13 without its count": said_by(lambda refusal: Refusal(refusal.number)),
+    "a line for 2": said_by(lambda refusal: Refusal(2, (1,)) if refusal.number == 2 else refusal),
+    "a check before the end": checked_by(lambda self, right: check(self.problem()) if right == Refusal(15) else right),
+    "15 before 8": checked_by(lambda self, right: right if self.numbers[0] == ENDED else Refusal(15)),
+    "11 for 15": checked_by(lambda self, right: Refusal(11) if right == Refusal(15) else right),
+    "s and t exchanged in a check": checked_by(scales_exchanged),
 }

@@ -2,7 +2,7 @@
 
 from functools import cached_property
 
-from calls.check.oracle import COLUMN, FULL, KINDS, MATRIX, Problem, check
+from calls.check.oracle import COLUMN, KINDS, MATRIX, Problem, check
 from common.format import LONGEST_LINE, PLACED, is_in_range, read_form
 from common.rules import IN_FORCE, Refusal
 
@@ -213,11 +213,14 @@ class Steps:
         return [2, short, len(text), *said, *self.numbers, len(changed), *(number for change in changed for number in change)], text
 
     def check(self, short):
-        loader = self.loader(self.numbers, self.lists)
-        lengths = FULL if not short else FULL._replace(**{FULL._fields[short - 1]: FULL[short - 1] - 1})
-        if short or not loader.ended:
-            answer = Refusal(8 if short else 15)
-        else:
-            answer = check(Problem(*self.numbers[1:4], *(self.lists[kind] for kind in KINDS)), lengths)
+        answer = self.checked(short)
         said = (answer.number, *answer.values, 0, 0)[:3] if isinstance(answer, Refusal) else (0, 0, 0)
         return [3, short, *said], b""
+
+    def checked(self, short):
+        """01: "Order for a check: 8, 15, 3, 5, 6, 7." """
+        is_open = short or not self.loader(self.numbers, self.lists).ended
+        return Refusal(8 if short else 15) if is_open else check(self.problem())
+
+    def problem(self):
+        return Problem(*self.numbers[1:4], *(self.lists[kind] for kind in KINDS))

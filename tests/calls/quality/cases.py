@@ -9,7 +9,7 @@ import random
 from calls.quality.mutants import MUTANTS
 from calls.quality.oracle import FULL, Inquiry, Quality
 from calls.weights.oracle import WeightSearch
-from common.damage.lists import filled, odd_number, rows_given
+from common.damage.lists import SCALES, SIZES, filled, odd_number, other_size, rows_given, shorter
 from common.rules import Refusal
 from common.suite import Suite
 from common.systems.searched import searched, with_defect
@@ -73,13 +73,12 @@ def damaged(rng, inquiry):
     """One thing changed: a length, n, t, a number in use, or one past those."""
     n, kind = inquiry.n, rng.randrange(6)
     if kind == 0:
-        which = rng.randrange(3)
-        short = inquiry._replace(lengths=FULL._replace(**{FULL._fields[which]: rng.choice((FULL[which] - 1, FULL[which] // 2, 0))}))
+        short = inquiry._replace(lengths=shorter(rng, FULL))
         return rng.choice((short, short._replace(t=21)))
     if kind == 1:
-        return inquiry._replace(n=rng.choice((0, 1, 2, 31, 32, 33, 2**32 - 1)))
+        return inquiry._replace(n=other_size(rng, inquiry.n, SIZES))
     if kind == 2:
-        return inquiry._replace(t=rng.choice((0, 1, 19, 20, 21, 63, 64, 2**32 - 1)))
+        return inquiry._replace(t=other_size(rng, inquiry.t, SCALES))
     name = rng.choice(("matrix", "inverse", "weights"))
     numbers, used = list(getattr(inquiry, name)), n if name == "weights" else n * n
     at = rng.randrange(min(used, len(numbers) - 1), len(numbers)) if kind == 3 else rng.randrange(used)

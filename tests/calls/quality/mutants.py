@@ -5,6 +5,7 @@ from math import gcd
 
 from calls.check.mutants import RECKONED
 from calls.quality.oracle import FULL, Factor, Quality
+from common.format import is_within
 from common.rules import Refusal
 from common.suite import mutant
 
@@ -64,6 +65,13 @@ def to_32_bits(self, rows):
     return best
 
 
+def reads_on(self, inquiry):
+    """3 where the weight after those in use is out of its range."""
+    right = Quality.rate(self, inquiry)
+    is_good = right in (Refusal(8), Refusal(3)) or is_within("weight", inquiry.weights[inquiry.n : inquiry.n + 1])
+    return right if is_good else Refusal(3)
+
+
 MUTANTS = {
     "the smallest quotient": chosen_by(lambda row: -row.numerator / row.denominator),
     "the last of equal rows": rating(chosen=last_of_equal),
@@ -89,5 +97,6 @@ MUTANTS = {
     "t of 21 taken": ranged("t", 0, 21),
     "short weights taken": without("weights"),
     "a short inverse taken": without("inverse"),
+    "a weight past n read": rating(rate=reads_on),
     "3 before 8": rating(is_short=ranges_first),
 }

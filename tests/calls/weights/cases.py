@@ -9,7 +9,7 @@ from typing import NamedTuple
 
 from calls.weights.mutants import MUTANTS
 from calls.weights.oracle import FULL, Found, Request, WeightSearch, place_within
-from common.damage.lists import filled, odd_number, rows_given
+from common.damage.lists import SCALES, SIZES, filled, odd_number, other_size, rows_given, shorter
 from common.rules import Refusal
 from common.suite import Suite
 from common.systems.searched import late, searched
@@ -41,14 +41,13 @@ def damaged(rng, request):
     n = request.n
     kind = rng.randrange(6)
     if kind == 0:
-        which = rng.randrange(3)
-        return request._replace(lengths=FULL._replace(**{FULL._fields[which]: rng.choice((FULL[which] - 1, FULL[which] // 2, 0))}))
+        return request._replace(lengths=shorter(rng, FULL))
     if kind == 1:
-        return request._replace(n=rng.choice((0, 1, 2, 31, 32, 33, 2**32 - 1)))
+        return request._replace(n=other_size(rng, request.n, SIZES))
     if kind == 2:
-        return request._replace(t=rng.choice((0, 1, 19, 20, 21, 63, 64, 2**32 - 1)))
+        return request._replace(t=other_size(rng, request.t, SCALES))
     if kind == 3:
-        return request._replace(allowance=rng.choice((0, 65, 128, 2**32 - 1)))
+        return request._replace(allowance=other_size(rng, request.allowance, (0, 65, 128, 2**32 - 1)))
     name = rng.choice(("matrix", "inverse"))
     numbers = list(getattr(request, name))
     numbers[rng.randrange(n * n) if kind == 4 else rng.randrange(min(n * n, FULL.matrix - 1), FULL.matrix)] = odd_number(rng)

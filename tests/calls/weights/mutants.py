@@ -4,7 +4,8 @@ from functools import partial
 
 from calls.check.mutants import RECKONED, reckoning
 from calls.check.oracle import Reckoning
-from calls.weights.oracle import Found, WeightSearch
+from calls.weights.oracle import FULL, Found, WeightSearch
+from common.format import is_within
 from common.rules import Refusal
 from common.suite import mutant
 
@@ -55,6 +56,12 @@ def ranged(lowest, highest):
     return search(find=find)
 
 
+def reads_on(self, request, right):
+    """3 where the number after those of the inverse is out of its range."""
+    at = request.n**2
+    return right if is_within("inverse", request.inverse[at : at + 1]) else Refusal(3)
+
+
 MUTANTS = {
     "a shift of each row by its own count": search(next=lambda self, loads: [(load >> self.bits(load)) + 1 for load in loads]),
     "one bit more than needed": bits_to(511),
@@ -77,5 +84,8 @@ MUTANTS = {
     "T·I + G·A": search(reckoning=reckoning(defect=lambda self, system: Reckoning.defect(self, system._replace(G=[[-g for g in row] for row in system.G])))),
     "an allowance of 0 taken": ranged(0, 64),
     "an allowance of 65 taken": ranged(1, 65),
+    "short weights taken": search(find=lambda self, request: WeightSearch.find(self, request._replace(lengths=request.lengths._replace(weights=FULL.weights)))),
+    "a number past n × n read": found_by(reads_on),
+    "D with its signs": search(sizes=lambda self, system: Reckoning().defect(system)),
     "refused with 5": found_by(lambda self, request, right: Refusal(5, (1,)) if isinstance(right, Refusal) else right),
 }

@@ -66,12 +66,15 @@ class WeightSearch:
         n = request.n
         problem = Problem(n, 0, request.t, request.matrix, [0] * n, [0] * n, [0] * n, request.inverse, [1] * n)
         system = self.reckoning().system(problem)
-        sizes = [list(map(abs, row)) for row in self.reckoning().defect(system)]
+        sizes = self.sizes(system)
         weights = self.first(n)
         while True:
             loads = [sum(size * w for size, w in zip(row, weights)) for row in sizes]
             yield weights, [system.T * w - load for w, load in zip(weights, loads)]
             weights = self.next(loads)
+
+    def sizes(self, system):
+        return [list(map(abs, row)) for row in self.reckoning().defect(system)]
 
     def first(self, n):
         return [1] * n

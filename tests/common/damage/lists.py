@@ -9,6 +9,9 @@ from common.net import flat
 # Stands in the lists past the numbers given.
 UNREAD = -(2**63)
 
+# Sizes and scales at the ends of their ranges, and past them up to a machine word's.
+SIZES, SCALES = (0, 1, 2, 31, 32, 33, 2**32 - 1), (0, 1, 19, 20, 21, 63, 64, 2**32 - 1)
+
 # Lists by their place in a call.
 TOLERANCE, GUESS, WEIGHTS = (FULL._fields.index(name) for name in ("tolerance", "guess", "weights"))
 
@@ -37,6 +40,10 @@ class Call(NamedTuple):
     def problem(self):
         return Problem(self.n, self.s, self.t, *(filled(numbers, length) for numbers, length in zip(self.lists, FULL)))
 
+    def written(self):
+        """As the emitters write it: what it is told, then its lists."""
+        return [[self.count, self.n, self.s, self.t, *self.lengths], *self.lists]
+
     def with_number(self, which, at, value):
         numbers = list(self.lists[which])
         numbers[at] = value
@@ -48,17 +55,25 @@ def call_of(net):
     return Call(net.n, net.n, net.s, net.t, FULL, lists)
 
 
+def shorter(rng, lengths, first=0):
+    """These lengths with one, from `first` on, too short, by one or by more."""
+    which = rng.randrange(first, len(lengths))
+    return lengths._replace(**{lengths._fields[which]: rng.choice((lengths[which] - 1, lengths[which] - 1, lengths[which] // 2, 0))})
+
+
 def shortened(rng, call):
-    """One list too short, by one or by more."""
-    which = rng.randrange(len(FULL))
-    length = rng.choice((FULL[which] - 1, FULL[which] - 1, FULL[which] // 2, 0))
-    return call._replace(lengths=FULL._replace(**{FULL._fields[which]: length}))
+    return call._replace(lengths=shorter(rng, FULL))
+
+
+def other_size(rng, size, others):
+    """One of the others, or the same size with a bit more, which an argument of 8 or 16 bits loses."""
+    return rng.choice((*others, size + 2**8, size + 2**16))
 
 
 def resized(rng, call):
     """Another n, s or t: good, at the ends of its range, and past them up to a machine word's."""
-    value = rng.choice((0, 1, 2, 19, 20, 21, 31, 32, 33, 63, 64, 2**32 - 1))
-    return call._replace(**{rng.choice("nst"): value})
+    name = rng.choice("nst")
+    return call._replace(**{name: other_size(rng, getattr(call, name), (0, 1, 2, 19, 20, 21, 31, 32, 33, 63, 64, 2**32 - 1))})
 
 
 def odd_number(rng):

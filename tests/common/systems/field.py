@@ -3,6 +3,7 @@
 from pathlib import Path
 
 from calls.build.oracle import DIFFERENCE, KEY, LEAST, LOWER, MOST, WEIGHT, Build, FieldLine
+from common.damage.lists import other_size, shorter
 from common.systems.usual import levelling_lines
 
 TOWN = Path(__file__).resolve().parents[3] / "examples" / "town" / "field.txt"
@@ -146,7 +147,6 @@ def halved(rng, call):
 def damaged(rng, call):
     """Another n, or a list too short."""
     if rng.randrange(2):
-        return call._replace(n=rng.choice((0, 33, 2**32 - 1, max(1, call.n - 1), min(32, call.n + 1))))
-    which, least = rng.randrange(2), LEAST[call.layout]
-    short = call._replace(lengths=least._replace(**{least._fields[which]: rng.choice((least[which] - 1, least[which] - 1, least[which] // 2, 0))}))
+        return call._replace(n=other_size(rng, call.n, (0, 33, 2**32 - 1, max(1, call.n - 1), min(32, call.n + 1))))
+    short = call._replace(lengths=shorter(rng, LEAST[call.layout]))
     return rng.choice((short, short._replace(n=33)))
