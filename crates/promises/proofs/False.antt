@@ -26,6 +26,7 @@ use Rattle.checked.specs.Order.{checkedOf, answer}
 use Rattle.checked.specs.Stated.{Stated}
 use Rattle.checked.proofs.Contract.{checked-ready, checked-short}
 use Rattle.checked.proofs.Statements.{stated}
+use Rattle.checked.proofs.Written.{checked-solution, checked-inverse}
 use Rattle.dependent.specs.Example.{both}
 use Rattle.dependent.specs.Nets.{Nets, nets, attached}
 use Rattle.dependent.specs.Stated.{StatedDependent, too-short}
@@ -40,7 +41,7 @@ use Rattle.listing.proofs.Table.{whole-file}
 use Rattle.promises.specs.Document01.{Lowest}
 use Rattle.promises.specs.False as wrong
 use Rattle.promises.specs.Ways.{on-lists}
-use Rattle.promises.proofs.Ways.{solution-at, inverse-at, accepted-sound}
+use Rattle.promises.proofs.Ways.{accepted-sound}
 
 -- ---- A = (4 0 / 1 4) with a poor second column of the inverse is accepted, its first limit is written, and its inverse limits of row 1 are 0 and 2
 abbrev poor : Input
@@ -71,13 +72,13 @@ pub not-accepted-leaves : wrong.AcceptedLeaves → ⊥
 not-accepted-leaves h =
     let kept : getD heights 0 0 ≡ getD (poor .solutionBounds) 0 0 =
     ap (λ (l : List ℕ). getD l 0 0) (h poor outcome.Accepted heights inverses poor-checked refl .0) in
-    let limit : getD heights 0 0 ≡ 0 = solution-at poor outcome.Accepted heights inverses poor-checked refl 0 (lit< tt) ∙ poor-limits .0 in
+    let limit : getD heights 0 0 ≡ 0 = checked-solution poor outcome.Accepted heights inverses poor-checked refl 0 (lit< tt) ∙ poor-limits .0 in
     omega (arith, kept, limit)
 
 pub not-first-column-everywhere : wrong.FirstColumnEverywhere → ⊥
 not-first-column-everywhere h =
     let told = h (problem poor) _ _ (on-lists poor outcome.Accepted heights inverses poor-checked refl) 0 1 (lit< tt) (lit< tt) ∙ poor-limits .1 .0 in
-    let limit = inverse-at poor outcome.Accepted heights inverses poor-checked refl 0 1 (lit< tt) (lit< tt) ∙ poor-limits .1 .1 in
+    let limit = checked-inverse poor outcome.Accepted heights inverses poor-checked refl 0 1 (lit< tt) (lit< tt) ∙ poor-limits .1 .1 in
     let z : _≡_ {A = ℕ} 0 2 = sym told ∙ limit in
     omega (arith, z)
 
@@ -141,7 +142,7 @@ pub not-limit-without-tolerance : wrong.LimitWithoutTolerance → ⊥
 unfolding largest ceilDiv residual apply sum margin load defect product identity sumℕ
 not-limit-without-tolerance h =
     let told = h (problem loose) _ _ (on-lists loose outcome.Accepted _ _ loose-checked refl) 0 (lit< tt) in
-    let limit = solution-at loose outcome.Accepted _ _ loose-checked refl 0 (lit< tt) ∙ loose-limit in
+    let limit = checked-solution loose outcome.Accepted _ _ loose-checked refl 0 (lit< tt) ∙ loose-limit in
     let z : _≡_ {A = ℕ} 0 48 = sym told ∙ limit in
     omega (arith, z)
 
