@@ -25,7 +25,8 @@ use Rattle.text.specs.Wrote.{Wrote}
 use Rattle.text.proofs.Wrote.{called}
 use Rattle.report.specs.Ready.{Reportable, reportIn}
 use Rattle.refusal.specs.Refused.{printed, refusedOf}
-use Rattle.refusal.specs.Reply.{replyOf, Answered}
+use Rattle.refusal.specs.Reply.{replyOf}
+use Rattle.refusal.specs.Answered.{Answered}
 use Rattle.refusal.specs.declared.FileAnswer.{FileAnswer}
 use Rattle.file_check.specs.Judged.{reportedOf, lineOr}
 use Rattle.file_check.proofs.Agreed.{report-same}

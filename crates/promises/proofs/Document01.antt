@@ -23,7 +23,7 @@ use Rattle.entry.specs.Register.{RegisteredAs}
 use Rattle.entry.specs.declared.Registered.{Registered}
 use Rattle.entry.specs.declared.Registered.the-variants.{Entry, Refused}
 use Rattle.entry.proofs.Limit.{entry-near}
-use Rattle.enclosure.specs.Demand.{Margins, Residuals}
+use Rattle.enclosure.specs.Sound.{Margins, Residuals}
 use Rattle.enclosure.specs.Problem.{Problem, S, columnOf}
 use Rattle.enclosure.specs.Reckoning.{defect, load, margin, marginFails, residual, rowSum, exceeds, exceedsWith, exceedsRow, slack, bound, boundWith, boundFrom, sizesWith, inverseBound}
 use Rattle.enclosure.proofs.Instance.{file-worked}

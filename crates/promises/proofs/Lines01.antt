@@ -11,7 +11,8 @@ use borrow.Author.Tests.{ltb-true, lt-ltb}
 use lib.Dec.{eqb}
 use lib.ListN.{getD, length}
 use Rattle.integer.proofs.Search.{clash}
-use Rattle.form.specs.Form.{Form, problem, scale, row, right, rightWithin, guess, inverse, weight, end, spell}
+use Rattle.form.specs.Form.{Form, problem, scale, row, right, rightWithin, guess, inverse, weight, end}
+use Rattle.form.specs.Spelling.{spell}
 use Rattle.form.proofs.Printable.{spell-some, spell-no-feed}
 use Rattle.form.proofs.Spelling.{spelled-read}
 use Rattle.form_values.specs.Item.{itemOf, placed, outside, miscounted}
@@ -29,7 +30,8 @@ use Rattle.loader.specs.declared.Loader.{Loader}
 use Rattle.loader.specs.declared.Taken.{Taken}
 use Rattle.loader.proofs.Accepted.{accepted-form}
 use Rattle.loader.specs.Taken.{fresh}
-use Rattle.line_runs.specs.Run.{State, Made, forms}
+use Rattle.line_runs.specs.Run.{State, forms}
+use Rattle.line_runs.specs.Accepts.{Made}
 use Rattle.file_shape.specs.Given.{GivenBy}
 use Rattle.file_shape.proofs.Stage.{given-by}
 use Rattle.line_stated.specs.Stated as stated

@@ -11,7 +11,7 @@ use Rattle.rules.specs.Order.{ifAccepted}
 use Rattle.rules.specs.Refusal.{said}
 use Rattle.rules.specs.declared.Outcome.{Outcome}
 use Rattle.rules.proofs.Verdicts.{nothing-is-not}
-use Rattle.enclosure.specs.Demand.{Sound}
+use Rattle.enclosure.specs.Sound.{Sound}
 use Rattle.enclosure.specs.Problem.{Problem}
 use Rattle.checked.specs.Input.{Input, problem}
 use Rattle.checked.specs.Checked.{Checked}

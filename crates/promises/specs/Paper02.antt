@@ -5,7 +5,7 @@ use Prim.Native.Nat.{ℕ, _^_}
 use lib.IntN.{ℤ, pos}
 use Rattle.integer.specs.Quotient.{ceilDiv}
 use Rattle.linear.specs.Matrix.{Vec}
-use Rattle.entry.specs.Entry.{EntryLimit}
+use Rattle.entry.specs.Limit.{EntryLimit}
 use Rattle.entry.specs.Register.{RegisteredAs}
 use Rattle.entry.specs.declared.Registered.the-variants.{Entry}
 use Rattle.enclosure.specs.Demand.{ExactSolution, RightSide, ExactSolutionOf, InEntryLimits}

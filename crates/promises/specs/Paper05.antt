@@ -10,7 +10,8 @@ use Rattle.integer.specs.Finite.{sumℕ}
 use Rattle.linear.specs.Matrix.{Vec}
 use Rattle.rules.specs.declared.Kind.the-variants as kind
 use Rattle.numeral.specs.Decimal.{numeral}
-use Rattle.form.specs.Form.{Form, right, rightWithin, spell, bytes, numerals}
+use Rattle.form.specs.Form.{Form, right, rightWithin, bytes}
+use Rattle.form.specs.Spelling.{spell, numerals}
 use Rattle.enclosure.specs.Demand.{RightSide, ExactSolutionOf, InLimits}
 use Rattle.enclosure.specs.Problem.{Problem, S, columnOf}
 use Rattle.enclosure.specs.Reckoning.{residual, exceeds}

@@ -8,7 +8,7 @@ use lib.IntN.{ℤ, pos, natAbs}
 use Rattle.integer.specs.Finite.{sumℕ, largest}
 use Rattle.linear.specs.Slice.{at}
 use Rattle.rules.specs.declared.Kind.the-variants as kind
-use Rattle.enclosure.specs.Demand.{Margins}
+use Rattle.enclosure.specs.Sound.{Margins}
 use Rattle.enclosure.specs.Problem.{Problem, problemOf}
 use Rattle.enclosure.specs.Reckoning.{defect}
 use Rattle.weight_sequence.specs.Promised.{SearchStated, UsableRequest, PlaceOfFirstGood, NoGood, allowing}

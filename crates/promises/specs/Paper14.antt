@@ -9,7 +9,8 @@ use Rattle.form.specs.Form.{problem, scale, end}
 use Rattle.form_values.specs.declared.Part.the-variants.{Row, Right, Guess, Inverse, Weight}
 use Rattle.enclosure.specs.Demand.{NoTolerance}
 use Rattle.spelled_lines.specs.Ones.{textOf}
-use Rattle.listing.specs.Listing.{problemIn, Complete}
+use Rattle.listing.specs.Listing.{problemIn}
+use Rattle.listing.specs.Complete.{Complete}
 use Rattle.old_edition.specs.Converted.{saidConverted, lengthOf, ConvertedAs}
 use Rattle.old_edition.specs.Edition.{CompleteOld}
 use Rattle.old_edition.specs.File.{partsThen, newFile}
