@@ -33,7 +33,7 @@ use Rattle.line_runs.specs.Run.{forms}
 use Rattle.line_runs.specs.Accepts.{Made}
 use Rattle.file_shape.specs.Given.{GivenBy}
 use Rattle.line_stated.specs.Stated.{Formed, Unrepeated}
-use Rattle.promises.specs.Document01.{numbersOf}
+use Rattle.promises.specs.Ways.{numbersOf}
 
 abbrev pub RefusedExactly : List ℕ → (Loader → Lists → List ℕ → Type 0) → Type 0
 RefusedExactly w holds =

@@ -1,4 +1,5 @@
--- 02, Paper 1. Weights may be left out. "makes the weight form optional": `Shape` asks a weight once or not at all (`WholeFilesShaped` of Document01).
+-- 02, Paper 1. Weights may be left out. "The new edition of the register's file rules makes the weight form optional, because most offices send 1 everywhere":
+-- `Shape` asks a weight once or not at all (`WholeFilesShaped` of Document01).
 use mathlib.Core.Bool.{true, false}
 use mathlib.Core.List.{List, []}
 use mathlib.Core.Path.{_≡_}

@@ -1,4 +1,4 @@
--- 02, Paper 5. Right sides with a tolerance.
+-- 02, Paper 5. Right sides with a tolerance. "Differences are known to a reading limit, and offices want it inside the height's limit": `ToleranceEnclosed`.
 use mathlib.Core.Bool.{true}
 use mathlib.Core.List.{List, _++_}
 use mathlib.Core.Logic.{_↔_, _⊎_}
@@ -18,8 +18,7 @@ use Rattle.enclosure.specs.Reckoning.{residual, exceeds}
 use Rattle.lent_lists.specs.Lists.{Lists}
 use Rattle.loader.specs.Taken.{listsWith}
 use Rattle.loader.specs.declared.Loader.{Loader}
-use Rattle.promises.specs.Document01.{RangeIs}
-use Rattle.promises.specs.Ways.{Accepted}
+use Rattle.promises.specs.Ways.{RangeIs, Accepted}
 
 -- "The form (right i (b d)) gives a tolerance d of 0 to 2^20"
 abbrev pub ToleranceRanged : Type 0
