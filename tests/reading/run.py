@@ -2,6 +2,7 @@
 
   python3 tests/reading/run.py --write       writes docs/READING.md
   python3 tests/reading/run.py --check       docs/READING.md is what --write would write; the last line is 'N passed, M failed'
+  python3 tests/reading/run.py --why FILE    why tier 1 has a file of the list: for each public call the imports that lead there, the fewest
   python3 tests/reading/run.py --self-test   the list of made-up sources, right and then changed in each way of self_test.py
 
 Tier 1 is what the `ensures` of the public calls cite, with all that it imports from specs/ and the structs and enums that it takes from src/. The public
@@ -60,6 +61,11 @@ class Reading:
 
     def cited(self, wanted):
         return self.sources.closure([unit for name, _, units in self.contracts if wanted(name) for unit in units])
+
+    def why(self, file):
+        """A line for each public call whose contract leads to a file, named from crates/."""
+        ways = [(name, self.sources.way(units, file)) for name, _, units in self.contracts]
+        return [f"{name}: " + " > ".join(map(self.sources.path_of, way)) for name, way in ways if way]
 
     def tiers(self):
         return (
@@ -127,7 +133,8 @@ def run(arguments):
         from self_test import self_test
 
         return self_test()
-    if arguments not in (["--write"], ["--check"]):
+    asked = arguments[1] if arguments[:1] == ["--why"] and len(arguments) == 2 else None
+    if arguments not in (["--write"], ["--check"]) and not asked:
         print(__doc__)
         return 2
     path = ROOT / "docs" / "READING.md"
@@ -135,6 +142,9 @@ def run(arguments):
         reading = Reading(ROOT, (HERE / "words.tsv").read_text())
         if arguments == ["--check"]:
             return check(reading, path)
+        if asked:
+            print("\n".join(reading.why(asked)) or f"no contract of a public call leads to {asked}")
+            return 0
         path.write_text(reading.page())
     except Fault as fault:
         return close(1, [f"reading: {fault}"])

@@ -98,6 +98,9 @@ def self_test():
         ]
         if tiers != expected:
             faults.append(f"the tiers of the made-up sources are {tiers}")
+        if right.why("entry/specs/Size.antt")[1:3] != ["half::fill: half/specs/Filled.antt > entry/specs/Size.antt",
+                                                       "kodarfi_enter: entry/specs/Entered.antt > entry/specs/Size.antt"] or right.why("entry/specs/Inner.antt"):
+            faults.append(f"why Size is read: {right.why('entry/specs/Size.antt')}")
         page = right.page()
         (folder / "READING.md").write_text(page)
         if not told(folder).endswith(" passed, 0 failed\n"):
@@ -111,5 +114,5 @@ def self_test():
             faults.append("an empty line more is not told")
     for fault in faults:
         print("FAILED", fault)
-    print(f"{len(WRONG) + 3 - len(faults)} passed, {len(faults)} failed")
+    print(f"{len(WRONG) + 4 - len(faults)} passed, {len(faults)} failed")
     return int(bool(faults))

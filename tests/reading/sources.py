@@ -76,6 +76,18 @@ class Sources:
             visit(seed)
         return order
 
+    def way(self, seeds, file):
+        """The fewest imports that lead from a seed to a file, a unit each; none where it is not among theirs."""
+        ways, seen = [[seed] for seed in seeds], set(seeds)
+        for way in ways:
+            if self.path_of(way[-1]) == file:
+                return way
+            for other in self.imported(way[-1]):
+                if other not in seen:
+                    seen.add(other)
+                    ways.append([*way, other])
+        return []
+
     def words(self, units):
         """The names of the library that these units import, or write behind a word for its module; each with one unit that does."""
         found = {}

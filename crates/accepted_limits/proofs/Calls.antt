@@ -13,7 +13,8 @@ use Rattle.lower_half.specs.Half.{shortHalf}
 use Rattle.half.specs.Checked.{filledInput}
 use Rattle.given_forms.specs.Progress.{ended}
 use Rattle.given_forms.specs.declared.Stage.{Stage}
-use Rattle.listing.specs.Listing.{problemIn, Complete}
+use Rattle.listing.specs.Listing.{problemIn}
+use Rattle.listing.specs.Complete.{Complete}
 use Rattle.calls.specs.Exported.{CheckExported, ListingExported}
 use Rattle.calls.specs.Half.{HalfExported}
 use Rattle.calls.specs.Loader.{LoaderCheckExported}

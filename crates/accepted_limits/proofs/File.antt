@@ -15,7 +15,8 @@ use Rattle.line_runs.specs.Read.{readingOf}
 use Rattle.line_runs.specs.Run.{forms}
 use Rattle.refusal.specs.declared.FileAnswer.{FileAnswer}
 use Rattle.file_check.proofs.Forms.{some, heavy}
-use Rattle.listing.specs.Listing.{problemIn, Complete, answerOf, ListedAs, AnsweredAs}
+use Rattle.listing.specs.Listing.{problemIn, answerOf, ListedAs, AnsweredAs}
+use Rattle.listing.specs.Complete.{Complete}
 use Rattle.listing.proofs.Demand.{accepted-parts, exact-accepted}
 use Rattle.listing.proofs.Entire.{from, inside}
 use Rattle.listing.proofs.Meaning.{answered-none, listed-none}

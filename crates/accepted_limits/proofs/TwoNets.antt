@@ -13,7 +13,7 @@ use Rattle.linear.proofs.Slack.{slack-ext}
 use Rattle.rules.proofs.Verdicts.{accepted-new, nothing-is-not}
 use Rattle.enclosure.specs.Problem.{S}
 use Rattle.enclosure.specs.Reckoning.{defect, load, margin, residual, slack, sizesWith, boundWith, bound, inverseBound}
-use Rattle.enclosure.specs.Demand.{Margins}
+use Rattle.enclosure.specs.Sound.{Margins}
 use Rattle.enclosure.proofs.Bounds.{bound-ext}
 use Rattle.checked.specs.Order.{answer}
 use Rattle.dependent.specs.Nets.{Nets, Attached, couplingOf, attached}

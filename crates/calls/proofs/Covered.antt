@@ -8,7 +8,8 @@ use mathlib.Core.Path.{_≡_, refl}
 use Prim.Native.Nat.{ℕ, _*_, _≤_, _^_}
 use native.Mathlib.Omega.{arith}
 use lib.IntN.{ℤ, pos, natAbs, _-ℤ_, _*ℤ_}
-use Rattle.entry.specs.Entry.{entryValue, entryBound, EntryLimit}
+use Rattle.entry.specs.Entry.{entryValue, entryBound}
+use Rattle.entry.specs.Limit.{EntryLimit}
 use Rattle.entry.proofs.Limit.{entry-limit}
 use Rattle.entry.specs.Register as entry
 use Rattle.calls.specs.Exported.{EntryExported}

@@ -14,7 +14,8 @@ use Rattle.loader.specs.declared.Loader.{Loader}
 use Rattle.loader.specs.Answer.{lineAnswer}
 use Rattle.loader.specs.Taken.{fresh, loaderAfter, listsAfter}
 use Rattle.loader.specs.Numbers.{loaderOf, numbersOf}
-use Rattle.line_runs.specs.Run.{State, fromNew, step, run, Accepts, forms}
+use Rattle.line_runs.specs.Run.{State, fromNew, step, forms}
+use Rattle.line_runs.specs.Accepts.{run, Accepts}
 use Rattle.line_runs.specs.Lines.{linesOf}
 use Rattle.line_runs.specs.Read.{zeros, readFrom}
 use Rattle.line_runs.specs.Holds.{inputOf}
@@ -22,11 +23,13 @@ use Rattle.line_runs.proofs.Passing.{step-long}
 use Rattle.line_runs.proofs.Read.{read-none, read-accepted}
 use Rattle.refusal.specs.Refused.{printed}
 use Rattle.file_check.specs.Problem.{problemFrom}
-use Rattle.listing.specs.Listing.{Complete, answerOf}
+use Rattle.listing.specs.Listing.{answerOf}
+use Rattle.listing.specs.Complete.{Complete}
 use Rattle.listing.proofs.Entire.{zeros-long, answer-judged}
 use Rattle.reply.specs.Told.{Told}
 use Rattle.calls.specs.Exported.{ListingExported}
-use Rattle.calls.specs.Loader.{LoaderCheckExported, Turns, kept}
+use Rattle.calls.specs.Loader.{LoaderCheckExported}
+use Rattle.calls.specs.Turns.{Turns, kept}
 use Rattle.calls.proofs.Loader.{stateOf}
 use Rattle.calls.proofs.LoaderRuns.{turns-kept, turns-check}
 

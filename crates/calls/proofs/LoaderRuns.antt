@@ -22,7 +22,8 @@ use Rattle.loader_order.specs.Through.{answerThrough}
 use Rattle.loader_order.proofs.Through.{answer-ended}
 use Rattle.loader.specs.Taken.{fresh}
 use Rattle.loader.specs.Numbers.{loaderOf, numbersOf}
-use Rattle.line_runs.specs.Run.{State, fromNew, run, Accepts, forms}
+use Rattle.line_runs.specs.Run.{State, fromNew, forms}
+use Rattle.line_runs.specs.Accepts.{run, Accepts}
 use Rattle.line_runs.specs.Holds.{InRange, inputOf}
 use Rattle.line_runs.specs.Lines.{linesOf}
 use Rattle.line_runs.specs.Read.{readFrom}
@@ -36,7 +37,8 @@ use Rattle.file_check.proofs.Forms.{answer-forms}
 use Rattle.listing.specs.Cases.{wholeFile}
 use Rattle.listing.proofs.Table.{wholeForms, whole-spelled, whole-passes, whole-checked}
 use Rattle.reply.specs.Told.{Told}
-use Rattle.calls.specs.Loader.{LoaderTakeExported, LoaderCheckExported, Turns, none, next, kept}
+use Rattle.calls.specs.Loader.{LoaderTakeExported, LoaderCheckExported}
+use Rattle.calls.specs.Turns.{Turns, kept, none, next}
 use Rattle.calls.proofs.Loader.{stateOf, take-zero, take-accepted, take-refused, step-is, check-told}
 
 -- ---- line by line

@@ -18,7 +18,8 @@ use Rattle.lent_lists.specs.Lists.{Lists, shortLists}
 use Rattle.given_forms.specs.Progress.{ended}
 use Rattle.loader.specs.Taken.{fresh}
 use Rattle.loader.specs.Numbers.{loaderOf, numbersOf}
-use Rattle.line_runs.specs.Run.{State, fromNew, run, forms}
+use Rattle.line_runs.specs.Run.{State, fromNew, forms}
+use Rattle.line_runs.specs.Accepts.{run}
 use Rattle.line_runs.specs.Holds.{inputOf}
 use Rattle.line_runs.proofs.Passing.{spelled, forms-spelled}
 use Rattle.refusal.specs.Refused.{printed}
@@ -28,7 +29,8 @@ use Rattle.file_shape.specs.Shape.{Shape, fed}
 use Rattle.file_shape.proofs.Answers.{shape-answer, shape-accepted}
 use Rattle.file_shape.proofs.Loader.{ShapedLines, shape-ends, ends-shape}
 use Rattle.reply.specs.Told.{Told}
-use Rattle.calls.specs.Loader.{LoaderCheckExported, Turns, kept}
+use Rattle.calls.specs.Loader.{LoaderCheckExported}
+use Rattle.calls.specs.Turns.{Turns, kept}
 use Rattle.calls.proofs.Loader.{stateOf}
 use Rattle.calls.proofs.LoaderRuns.{AllZero, turns-run, turns-zero, turns-kept, kept-all, turns-check}
 

@@ -21,14 +21,16 @@ use Rattle.rules.specs.declared.Outcome.the-variants.{Accepted, Refused}
 use Rattle.rules.specs.declared.Refusal.the-variants.{TooLong, NoForm, OutOfRange, WrongCount, Margin, Residual, InverseResidual, TooShort, TooEarly, Repeated, Missing, AfterEnd, NotEnded}
 use Rattle.rules.proofs.Verdicts.{accepted-new, accepted-old}
 use Rattle.enclosure.specs.Reckoning.{bound, inverseBound}
-use Rattle.enclosure.specs.Demand.{Encloses, OneHeight, RoundedExact}
+use Rattle.enclosure.specs.Demand.{Encloses, RoundedExact}
+use Rattle.enclosure.specs.Height.{OneHeight}
 use Rattle.enclosure.proofs.Demands.{one-height}
 use Rattle.checked.specs.Input.{Input, problem, short, inRanges}
 use Rattle.checked.specs.Order.{answer}
 use Rattle.entry.specs.Entry.{entryValue, entryBound}
 use Rattle.file_check.specs.Judged.{reportedOf}
 use Rattle.entry.specs.Register as entry
-use Rattle.listing.specs.Listing.{problemIn, Complete, answerOf}
+use Rattle.listing.specs.Listing.{problemIn, answerOf}
+use Rattle.listing.specs.Complete.{Complete}
 use Rattle.listing.proofs.Demand.{file-reported, file-encloses, file-height, exact-accepted}
 use Rattle.listing.proofs.Answers.{answer-zero}
 use Rattle.reply.specs.Told.{Told}

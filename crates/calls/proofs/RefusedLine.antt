@@ -18,7 +18,8 @@ use Rattle.loader.specs.declared.Loader.{Loader}
 use Rattle.loader.specs.Answer.{caseOf, lineAnswer}
 use Rattle.lent_lists.specs.Lists.{Lists}
 use Rattle.line_runs.specs.Lines.{linesOf}
-use Rattle.line_runs.specs.Run.{State, fromNew, step, run, Accepts}
+use Rattle.line_runs.specs.Run.{State, fromNew, step}
+use Rattle.line_runs.specs.Accepts.{run, Accepts}
 use Rattle.line_runs.specs.Read.{Reading, readFrom, readingOf, zeros}
 use Rattle.line_runs.proofs.Read.{read-none, read-accepted, read-refused}
 use Rattle.line_runs.proofs.Whole.{all-accepted}

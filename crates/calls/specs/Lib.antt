@@ -8,3 +8,4 @@ pub mod TwoProposals
 pub mod Conversion
 pub mod Quality
 pub mod Loader
+pub mod Turns

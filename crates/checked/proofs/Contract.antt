@@ -24,7 +24,8 @@ use Rattle.rules.specs.declared.Refusal.the-variants.{TooShort, OutOfRange}
 use Rattle.rules.proofs.Verdicts.{accepted-new, accepted-old, nothing-is-not}
 use Rattle.enclosure.specs.Problem.{Problem}
 use Rattle.enclosure.specs.Reckoning.{marginFails, exceeds, bound, inverseBound}
-use Rattle.enclosure.specs.Demand.{Margins, Encloses, Sound}
+use Rattle.enclosure.specs.Demand.{Encloses}
+use Rattle.enclosure.specs.Sound.{Margins, Sound}
 use Rattle.enclosure.proofs.Acceptance.{rounded-sound}
 use Rattle.enclosure.proofs.Demands.{encloses, encloses-as}
 use Rattle.checked.specs.Input.{Input, problem, short, inRanges}

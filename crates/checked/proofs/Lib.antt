@@ -1,9 +1,9 @@
 pub mod Places
-pub mod Written
 pub mod Lengths
 pub mod Fit
 pub mod Contract
 pub mod Statements
+pub mod Written
 pub mod Agreement
 pub mod Answers01
 pub mod Agreed

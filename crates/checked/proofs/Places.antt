@@ -9,7 +9,7 @@ use native.Mathlib.Decide.{decLe}
 use native.Mathlib.Nat.{mod-lt, div-lt-iff-lt-mul, div-add-mod'}
 use Rattle.integer.proofs.Search.{first-is, first-never, first-past}
 use Rattle.linear.proofs.Places.{place, place-column, place-row}
-use Rattle.enclosure.specs.Demand.{Residuals}
+use Rattle.enclosure.specs.Sound.{Residuals}
 use Rattle.enclosure.specs.Problem.{Problem, columnOf}
 use Rattle.enclosure.specs.Reckoning.{exceeds}
 use Rattle.checked.specs.Order.{firstInversePlace}

@@ -10,7 +10,7 @@ use borrow.Author.Tests.{lt-ltb, le-ltb}
 use Rattle.integer.proofs.Search.{Searched, found, nowhere, searched, first-is, first-never}
 use Rattle.linear.proofs.Places.{place, place-column, place-row}
 use Rattle.rules.proofs.Verdicts.{nothing-is-not}
-use Rattle.enclosure.specs.Demand.{Margins, Residuals}
+use Rattle.enclosure.specs.Sound.{Margins, Residuals}
 use Rattle.enclosure.specs.Problem.{columnOf}
 use Rattle.enclosure.specs.Reckoning.{marginFails, exceeds}
 use Rattle.checked.specs.Input.{Input, problem, short, inRanges}

@@ -9,7 +9,7 @@ use mathlib.Core.Path.{_≡_}
 use Prim.Native.Nat.{ℕ, _+_, _<_}
 use Rattle.enclosure.specs.Problem.{columnOf}
 use Rattle.enclosure.specs.Reckoning.{marginFails, exceeds}
-use Rattle.enclosure.specs.Demand.{Margins, Residuals, Sound}
+use Rattle.enclosure.specs.Sound.{Margins, Residuals, Sound}
 use Rattle.checked.specs.Input.{Input, problem, short, inRanges}
 
 pub record Usable (I : Input) : Type 0 where

@@ -8,7 +8,6 @@ use mathlib.Core.Path.{_≡_, sym, ap, ap₂, subst, _∙_}
 use mathlib.Core.Bool.{Bool, true, false, _||_}
 use mathlib.Core.List.{List, []}
 use Prim.Native.Nat.{ℕ, _-_, _≤_, _<_, _^_}
-use native.Mathlib.Omega.{arith}
 use borrow.Author.Tests.{lt-ltb, le-ltb}
 use lib.Dec.{ltb}
 use lib.IntN.{ℤ}
@@ -16,7 +15,7 @@ use lib.ListN.{getD, length}
 use Rattle.integer.specs.Finite.{largest}
 use Rattle.integer.proofs.Search.{largest-ext}
 use Rattle.linear.specs.Reach.{ColumnList}
-use Rattle.linear.proofs.Written.{written-ext, front-at}
+use Rattle.linear.proofs.Written.{written-ext}
 use Rattle.rules.specs.Refusal.{said}
 use Rattle.rules.specs.declared.Outcome.the-variants.{Accepted, Refused}
 use Rattle.rules.specs.declared.Refusal.{Refusal}
@@ -24,10 +23,10 @@ use Rattle.rules.proofs.Ranges.{neither}
 use Rattle.enclosure.specs.Reckoning.{bound}
 use Rattle.checked.specs.Input.{Input, problem}
 use Rattle.checked.specs.Order.{answer}
-use Rattle.checked.proofs.Fit.{Fit, fit-of}
+use Rattle.checked.proofs.Fit.{Fit}
 use Rattle.checked.proofs.Lengths.{Long, long-of}
 use Rattle.checked.proofs.Statements.{accepted-usable}
-use Rattle.checked.proofs.Written.{solution-written}
+use Rattle.checked.proofs.Written.{solution-written, accepted-fit, solution-at}
 use Rattle.common.specs.declared.Common.{Common}
 use Rattle.common.specs.Answer.{CommonAs}
 use Rattle.common.specs.Ends.{finer, lowEnd, highEnd}
@@ -57,7 +56,7 @@ module _ (I : Input) (c : Held) (x : HeldAs I c) where
 
 module _ (I : Input) (a : answer I ≡ []) where
   pub fit : Fit I
-  fit = let u = accepted-usable I a in fit-of I (u .long) (u .inside)
+  fit = accepted-fit I a
 
   pub long : Long I
   long = long-of I (accepted-usable I a .long)
@@ -65,7 +64,7 @@ module _ (I : Input) (a : answer I ≡ []) where
   pub limit-is : (c : Held) → HeldAs I c → (i : ℕ) → i < I .n → limitAt (c .solution) i ≡ bound (problem I) i
   limit-is c x i l =
       ap (λ (E : List ℕ). getD E i 0) (x .solution-bounds ∙ solution-written I a)
-      ∙ front-at (I .solutionBounds) (bound (problem I)) 0 (I .n) i l (omega (arith, fit .few, fit .solution-long))
+      ∙ solution-at I fit i l
 
 pub equations-ready : (I J : Input) → answer I ≡ [] → answer J ≡ [] →
     ((I .n ≤ 32) × ((1024 ≤ length (I .matrix)) × (1024 ≤ length (J .matrix))))

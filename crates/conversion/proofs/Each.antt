@@ -11,7 +11,8 @@ use native.Mathlib.Omega.{arith}
 use lib.IntN.{ℤ, pos}
 use Rattle.numeral.specs.Decimal.{decimal, numeral}
 use Rattle.enclosure.specs.Problem.{Problem}
-use Rattle.form.specs.Form.{Form, problem, scale, end, spell, numerals, bytes}
+use Rattle.form.specs.Form.{Form, problem, scale, end, bytes}
+use Rattle.form.specs.Spelling.{spell, numerals}
 use Rattle.form_values.specs.declared.Part.the-variants.{Row, Right, Guess, Inverse, Weight}
 use Rattle.spelled_lines.specs.Ones.{textOf}
 use Rattle.listing_lines.specs.Line.{each, gap}

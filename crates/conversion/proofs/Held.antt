@@ -27,7 +27,8 @@ use Rattle.rules.specs.Range.{rangeOf, ranges, inRange}
 use Rattle.rules.specs.declared.Kind.the-variants as kind
 use Rattle.rules.proofs.AllInRange.{all-at}
 use Rattle.rules.proofs.Ranges.{range-natural, size-range, matrix-range, right-range, tolerance-range, guess-range, inverse-range, weight-range}
-use Rattle.form.specs.Form.{bytes, spell}
+use Rattle.form.specs.Form.{bytes}
+use Rattle.form.specs.Spelling.{spell}
 use Rattle.form_values.specs.declared.Part.{Part}
 use Rattle.form_values.specs.declared.Part.the-variants.{Row, Right, Guess, Inverse, Weight}
 use Rattle.line_runs.specs.Holds.{InRange}

@@ -13,7 +13,8 @@ use lib.IntN.{ℤ, natAbs}
 use Rattle.linear.specs.Slice.{at}
 use Rattle.enclosure.specs.Problem.{Problem, problemOf}
 use Rattle.numeral.specs.Decimal.{decimal, numeral}
-use Rattle.form.specs.Form.{Form, end, bytes, spell}
+use Rattle.form.specs.Form.{Form, end, bytes}
+use Rattle.form.specs.Spelling.{spell}
 use Rattle.form_values.specs.declared.Part.{Part}
 use Rattle.form_values.specs.declared.Part.the-variants.{Row, Right, Guess, Inverse, Weight}
 use Rattle.listing_lines.specs.Line.{each, gap}

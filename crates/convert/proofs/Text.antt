@@ -15,7 +15,7 @@ use Rattle.listing_lines.specs.Line.{each, listLine}
 use Rattle.text.specs.Wrote.{Wrote}
 use Rattle.text.proofs.Wrote.{wider}
 use Rattle.refusal.specs.Refused.{printed, refusedOf}
-use Rattle.refusal.specs.Reply.{Answered}
+use Rattle.refusal.specs.Answered.{Answered}
 use Rattle.refusal.specs.declared.FileAnswer.{FileAnswer}
 use Rattle.file_check.specs.Judged.{lineOr}
 use Rattle.old_edition.specs.declared.Conversion.{Conversion}

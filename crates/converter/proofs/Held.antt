@@ -22,7 +22,8 @@ use Rattle.line_runs.specs.Run.{State, forms}
 use Rattle.line_runs.proofs.End.{FromForms}
 use Rattle.file.specs.declared.Collected.{Collected}
 use Rattle.file.specs.Read.{stateOf, ReadAs}
-use Rattle.listing.specs.Listing.{problemIn, Complete}
+use Rattle.listing.specs.Listing.{problemIn}
+use Rattle.listing.specs.Complete.{Complete}
 use Rattle.listing.proofs.Entire.{from, inside}
 use Rattle.old_edition.specs.declared.Converted.{Converted}
 use Rattle.old_edition.specs.declared.Converted.the-variants as converted

@@ -16,7 +16,8 @@ use Rattle.linear.specs.Matrix.{Vec, Mat, apply}
 use Rattle.linear.proofs.Product.{apply-vectors, abs-apply}
 use Rattle.enclosure.specs.Problem.{Problem, S}
 use Rattle.enclosure.specs.Reckoning.{slack, boundWith}
-use Rattle.enclosure.specs.Demand.{Margins, InLimits}
+use Rattle.enclosure.specs.Demand.{InLimits}
+use Rattle.enclosure.specs.Sound.{Margins}
 use Rattle.enclosure.proofs.Demands.{within}
 
 shifted-both : (s q an ax cn cx b : ℤ) → s *ℤ an -ℤ q *ℤ ax -ℤ q *ℤ (s *ℤ b -ℤ cx -ℤ ax) ≡ s *ℤ (an +ℤ cn -ℤ q *ℤ b) -ℤ (s *ℤ cn -ℤ q *ℤ cx)

@@ -12,7 +12,8 @@ use Rattle.linear.specs.Matrix.{Vec, Mat, apply}
 use Rattle.linear.proofs.Product.{apply-vectors, apply-scale, apply-ext}
 use Rattle.exact_solution.specs.Determined.{ZeroKernel, Determined}
 use Rattle.entry.proofs.Limit.{entry-covers}
-use Rattle.enclosure.specs.Demand.{Margins, InLimits, RightSide, Encloses}
+use Rattle.enclosure.specs.Demand.{InLimits, RightSide, Encloses}
+use Rattle.enclosure.specs.Sound.{Margins}
 use Rattle.enclosure.specs.Reckoning.{bound, inverseBound}
 use Rattle.enclosure.proofs.Demands.{encloses}
 use Rattle.enclosure.proofs.Tolerance.{tolerated}

@@ -16,7 +16,7 @@ use Rattle.linear.proofs.Places.{place, place-column, place-row}
 use Rattle.rules.specs.Range.{shortMatrix}
 use Rattle.rules.proofs.Ranges.{both-left, neither-right}
 use Rattle.rules.proofs.Verdicts.{nothing-is-not}
-use Rattle.enclosure.specs.Demand.{Margins}
+use Rattle.enclosure.specs.Sound.{Margins}
 use Rattle.enclosure.specs.Problem.{columnOf}
 use Rattle.enclosure.specs.Reckoning.{marginFails, exceeds}
 use Rattle.checked.specs.Order.{firstMargin, firstInversePlace, answer}

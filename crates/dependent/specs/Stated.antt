@@ -9,7 +9,7 @@ use mathlib.Core.Path.{_≡_}
 use Prim.Native.Nat.{ℕ, _+_, _<_}
 use Rattle.enclosure.specs.Problem.{columnOf}
 use Rattle.enclosure.specs.Reckoning.{marginFails, exceeds}
-use Rattle.enclosure.specs.Demand.{Margins, Residuals}
+use Rattle.enclosure.specs.Sound.{Margins, Residuals}
 use Rattle.checked.specs.Stated.{Stated}
 use Rattle.dependent.specs.Nets.{Nets, Attached, attached}
 use Rattle.dependent.specs.Reckoning.{ownProblem, dependentExceeds}

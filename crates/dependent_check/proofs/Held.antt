@@ -12,8 +12,7 @@ use lib.ListN.{getD, length, replicate}
 use Rattle.linear.specs.Reach.{ColumnList}
 use Rattle.linear.specs.Slice.{vectorOf}
 use Rattle.linear.specs.Written.{written}
-use Rattle.linear.proofs.Places.{square}
-use Rattle.linear.proofs.Written.{written-length, written-ext, front-at}
+use Rattle.linear.proofs.Written.{written-length, written-ext}
 use Rattle.rules.specs.Range.{shortMatrix, shortColumn}
 use Rattle.rules.specs.Refusal.{said}
 use Rattle.rules.specs.declared.Outcome.{Outcome}
@@ -26,9 +25,8 @@ use Rattle.checked.specs.Checked.{Checked}
 use Rattle.checked.specs.Input.{Input, problem, short}
 use Rattle.checked.specs.Order.{answer}
 use Rattle.checked.proofs.Contract.{answer-short}
-use Rattle.checked.proofs.Fit.{Fit, fit-of}
-use Rattle.checked.proofs.Statements.{accepted-usable}
-use Rattle.checked.proofs.Written.{solution-written, inverse-written}
+use Rattle.checked.proofs.Fit.{Fit}
+use Rattle.checked.proofs.Written.{solution-written, inverse-written, accepted-fit, inverse-place, checked-fit, checked-solution}
 use Rattle.dependent.specs.declared.CheckedNets.the-variants.{Accepted, Main, Dependent}
 use Rattle.dependent.specs.Nets.{Nets, attachedBy, attached}
 use Rattle.dependent.specs.Order.{dependentAnswer}
@@ -82,7 +80,7 @@ module _ (J : Nets) where
       own-accepted = sym (x .says) ∙ ap said e
 
       fit : Fit (J .main)
-      fit = let u = accepted-usable (J .main) main-accepted in fit-of (J .main) (u .long) (u .inside)
+      fit = accepted-fit (J .main) main-accepted
 
       pub marks-few : J .main .n ≤ 32
       marks-few = fit .few
@@ -99,14 +97,12 @@ module _ (J : Nets) where
           ∙ written-length (replicate 1024 0) 0 1 (λ (k : ℕ). inverseBound (problem (J .main)) (k / J .main .n) (k % J .main .n)) (J .main .n * J .main .n)
 
       limit-is : (i : ℕ) → i < J .main .n → getD E i 0 ≡ bound (problem (J .main)) i
-      limit-is i l =
-          rw (x .solution-bounds ∙ solution-written own own-accepted)
-          (front-at (replicate 32 0) (bound (problem (J .main))) 0 (J .main .n) i l (fit .few))
+      limit-is i l = checked-solution own r E L x (ap said e) i l
 
       inverse-is : (k : ℕ) → k < J .main .n * J .main .n → getD L k 0 ≡ inverseBound (problem (J .main)) (k / J .main .n) (k % J .main .n)
       inverse-is k l =
           rw (x .inverse-bounds ∙ inverse-written own own-accepted)
-          (front-at (replicate 1024 0) (λ (k : ℕ). inverseBound (problem (J .main)) (k / J .main .n) (k % J .main .n)) 0 (J .main .n * J .main .n) k l (square (fit .few)))
+          (inverse-place own (checked-fit own r E L x (ap said e)) k l)
 
       module _ {q : Outcome} {K M : List ℕ}
           (y : AttachedAs (attachedBy (J .main .n) (J .main .s) (vectorOf (J .main .guess)) (λ (j : ℕ). getD E j 0) (J .coupling) (J .dependent)) q K M) where

@@ -14,7 +14,8 @@ use Rattle.integer.proofs.Sum.{sumℕ-*, sumℕ-ext}
 use Rattle.rules.proofs.Ranges.{neither-left}
 use Rattle.enclosure.specs.Problem.{Problem, columnOf}
 use Rattle.enclosure.specs.Reckoning.{margin, residual, slack, allowedResidual, exceedsRow, exceeds, sizesWith, sizes, boundWith, bound, inverseBound}
-use Rattle.enclosure.specs.Demand.{NoTolerance, Sound}
+use Rattle.enclosure.specs.Demand.{NoTolerance}
+use Rattle.enclosure.specs.Sound.{Sound}
 use Rattle.enclosure.specs.Schroeder.{image}
 use Rattle.enclosure.specs.Before.{exceeds05, Sound05, exceeds01, sizes01, bound01, inverseBound01, Sound01}
 use Rattle.enclosure.proofs.Bounds.{bound-ext}

@@ -20,7 +20,8 @@ use Rattle.linear.specs.Matrix.{Vec, apply}
 use Rattle.linear.proofs.Product.{apply-vectors}
 use Rattle.enclosure.specs.Problem.{Problem, S, T}
 use Rattle.enclosure.specs.Reckoning.{defect, load, margin, residual, slack, sizesWith, sizes, boundWith, bound}
-use Rattle.enclosure.specs.Demand.{RightSide, Margins, NoTolerance}
+use Rattle.enclosure.specs.Demand.{RightSide, NoTolerance}
+use Rattle.enclosure.specs.Sound.{Margins}
 use Rattle.enclosure.specs.Schroeder.{image, u0, u1, v, Condition29, Steep}
 use Rattle.enclosure.proofs.Before.{sizes-before}
 use Rattle.enclosure.proofs.Bounds.{bound-at}

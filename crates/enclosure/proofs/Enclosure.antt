@@ -17,7 +17,7 @@ use Rattle.linear.specs.Matrix.{Vec, apply, product, identity}
 use Rattle.linear.proofs.Product.{apply-less, apply-identity, apply-product, apply-sub, apply-scale, abs-apply}
 use Rattle.enclosure.specs.Problem.{Problem, T}
 use Rattle.enclosure.specs.Reckoning.{defect, load, margin, sizesWith}
-use Rattle.enclosure.specs.Demand.{Margins}
+use Rattle.enclosure.specs.Sound.{Margins}
 use Rattle.enclosure.proofs.Margin.{margin-sum, margin-above}
 
 pub apply-defect : (P : Problem) (e : Vec) (m : ℕ) → m < P .n →

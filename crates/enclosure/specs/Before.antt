@@ -14,7 +14,7 @@ use lib.Dec.{ltb}
 use lib.IntN.{ℤ, natAbs}
 use Rattle.enclosure.specs.Problem.{Problem, columnOf}
 use Rattle.enclosure.specs.Reckoning.{margin, residual, slack, exceedsWith, boundFrom}
-use Rattle.enclosure.specs.Demand.{Margins}
+use Rattle.enclosure.specs.Sound.{Margins}
 use Rattle.enclosure.specs.Schroeder.{image}
 
 abbrev pub exceeds05 : Problem → ℕ → Bool

@@ -6,29 +6,20 @@
 --   ExactSolutionOf P β ρ N q — q ≥ 1 and ρ·(A·N) = q·β: the fractions N_i / q solve the equations with that right side
 --   ExactInverse P H q  — q ≥ 1 and A·H = q·I;  TwoSided — H·A = q·I as well
 --   InLimits P E N q    — every N_i / q lies within its limit of the guess;  InEntryLimits P E N q — and within its entry limit of the entry
---   Encloses P E L      — the first half: every exact solution of every right side within tolerance lies within the limits E of the guess and within the
---     entry limits of the entries, and so, said by itself, does every exact solution of b, which is 01's sentence; every exact inverse lies within L, and the
---     kernel is zero;
---     and (02, Paper 12) every right side has an exact solution, any two are the same fractions, and there is an inverse on both sides
---   HeightOf P E exact  — there are heights N_i / q that are exact, they are the only ones, and each lies within its limit of the guess and within its entry
---     limit of the entry
---   OneHeight P E       — for the clerk: there are such heights for every right side within tolerance; and for b itself
+--   Encloses P E L      — the first half, for the limits E of the heights and L of the inverse, with what 02's Papers 2, 5 and 12 add
 --   NoTolerance P       — all d are 0
 --   sumOfSizes P        — the sum of |A_ij| over all i and j
 --   RoundedExact P N q H q′ — the second half's hypotheses: no tolerance (02, Paper 5: "The second half of demand 3 now presumes that all d are 0"), exact N
 --     and two-sided H, guess and inverse rounded to nearest steps, weights 1, that sum below 2T
---   Margins P, Residuals P — every margin is above 0; no residual of the guess is above 2^25 in size, its slack added, or above the sum along its row
---   Sound P             — both, and the same of every column of the inverse
 use mathlib.Core.Path.{_≡_}
-use mathlib.Core.Bool.{false}
 use Prim.Native.Nat.{ℕ, _*_, _≤_, _<_}
 use lib.IntN.{pos, natAbs, _-ℤ_, _*ℤ_}
 use Rattle.integer.specs.Finite.{sumℕ}
 use Rattle.linear.specs.Matrix.{Vec, Mat}
-use Rattle.exact_solution.specs.Determined.{ZeroKernel, Solves, SolvesOver, RightInverse, Inverse, Same, Determined}
+use Rattle.exact_solution.specs.Determined.{ZeroKernel, Solves, SolvesOver, RightInverse, Inverse, Determined}
 use Rattle.entry.specs.Entry.{entryValue, entryBound}
-use Rattle.enclosure.specs.Problem.{Problem, S, T, columnOf}
-use Rattle.enclosure.specs.Reckoning.{marginFails, rowSum, exceeds}
+use Rattle.enclosure.specs.Problem.{Problem, S, T}
+use Rattle.enclosure.specs.Reckoning.{rowSum}
 
 abbrev pub ExactSolution : Problem → Vec → ℕ → Type 0
 ExactSolution P N q = Solves (P .n) (P .A) (P .b) N q
@@ -65,18 +56,6 @@ pub record Encloses (P : Problem) (E : ℕ → ℕ) (L : ℕ → ℕ → ℕ) : 
   pub kernel : ZeroKernel (P .n) (P .A)
   pub determined : Determined (P .n) (P .A)
 
-pub record HeightOf (P : Problem) (E : ℕ → ℕ) (exact : Vec → ℕ → Type 0) : Type 0 where
-  pub N : Vec
-  pub q : ℕ
-  pub holds : exact N q
-  pub only : (N′ : Vec) (q′ : ℕ) → exact N′ q′ → Same (P .n) N q N′ q′
-  pub within : InLimits P E N q
-  pub entered : InEntryLimits P E N q
-
-pub record OneHeight (P : Problem) (E : ℕ → ℕ) : Type 0 where
-  pub each : (β : Vec) (ρ : ℕ) → RightSide P β ρ → HeightOf P E (ExactSolutionOf P β ρ)
-  pub at-b : HeightOf P E (ExactSolution P)
-
 abbrev pub NoTolerance : Problem → Type 0
 NoTolerance P = (i : ℕ) → i < P .n → P .d i ≡ 0
 
@@ -91,14 +70,3 @@ pub record RoundedExact (P : Problem) (N : Vec) (q : ℕ) (H : Mat) (q′ : ℕ)
   pub near-inverse : (i j : ℕ) → i < P .n → j < P .n → 2 * natAbs (pos (T P) *ℤ H i j -ℤ pos q′ *ℤ P .G i j) ≤ q′
   pub weights : (i : ℕ) → i < P .n → P .w i ≡ 1
   pub small : sumOfSizes P < 2 * T P
-
-abbrev pub Margins : Problem → Type 0
-Margins P = (m : ℕ) → m < P .n → marginFails P m ≡ false
-
-abbrev pub Residuals : Problem → Type 0
-Residuals P = (k : ℕ) → k < P .n → exceeds P k ≡ false
-
-pub record Sound (P : Problem) : Type 0 where
-  pub margins : Margins P
-  pub residuals : Residuals P
-  pub columns : (j : ℕ) → j < P .n → Residuals (columnOf P j)

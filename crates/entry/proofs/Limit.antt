@@ -12,7 +12,8 @@ use lib.Pow.{pow-pos}
 use Rattle.integer.specs.Quotient.{ceilDiv, roundDiv}
 use Rattle.integer.proofs.Rounding.{round-near, round-half}
 use Rattle.integer.proofs.Covering.{covers, farthest, farthest-within, farthest-reached, least}
-use Rattle.entry.specs.Entry.{entryValue, entryBound, EntryLimit}
+use Rattle.entry.specs.Entry.{entryValue, entryBound}
+use Rattle.entry.specs.Limit.{EntryLimit}
 
 pub entry-near : (s : ℕ) (x : ℤ) → (2 * natAbs (x -ℤ pos (2 ^ s) *ℤ entryValue s x) ≤ 2 ^ s) × (2 * natAbs (x -ℤ pos (2 ^ s) *ℤ entryValue s x) ≡ 2 ^ s → natAbs x < 2 ^ s * natAbs (entryValue s x))
 entry-near s x = (round-near x (2 ^ s) (pow-pos s), round-half x (2 ^ s) (pow-pos s))

@@ -1,2 +1,3 @@
 pub mod Entry
+pub mod Limit
 pub mod Register

@@ -13,7 +13,8 @@ use Rattle.linear.specs.Matrix.{Vec}
 use Rattle.rules.specs.Refusal.{said}
 use Rattle.rules.specs.declared.Outcome.{Outcome}
 use Rattle.enclosure.specs.Problem.{Problem}
-use Rattle.enclosure.specs.Demand.{Encloses, RightSide, ExactSolution, ExactSolutionOf, InLimits, HeightOf}
+use Rattle.enclosure.specs.Demand.{Encloses, RightSide, ExactSolution, ExactSolutionOf, InLimits}
+use Rattle.enclosure.specs.Height.{HeightOf}
 use Rattle.checked.specs.Input.{Input, problem}
 use Rattle.checked.specs.Checked.{Checked}
 use Rattle.checked.proofs.Heights.{checked-height}

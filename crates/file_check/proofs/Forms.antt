@@ -20,7 +20,7 @@ use Rattle.checked.specs.Order.{answer, checkedOf}
 use Rattle.checked.proofs.Contract.{answer-ready}
 use Rattle.form.specs.Form.{Form}
 use Rattle.lent_lists.specs.Slot.{Slot, Matrix, Right, Tolerance, Guess, Inverse, Weight, width}
-use Rattle.lent_lists.specs.Lists.{listOf}
+use Rattle.lent_lists.specs.ListOf.{listOf}
 use Rattle.line_runs.specs.Run.{State}
 use Rattle.line_runs.specs.Given.{valueFrom}
 use Rattle.line_runs.specs.Holds.{InRange}

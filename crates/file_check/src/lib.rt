@@ -1,7 +1,7 @@
 // The check of a file whose lines are all accepted: what it says, as a line, or the report.
 ghost use Prim.Native.Nat.{_≤_};
 ghost use lib.ListN.{length};
-ghost use Rattle.refusal.specs.Reply.{Answered};
+ghost use Rattle.refusal.specs.Answered.{Answered};
 ghost use Rattle.file.specs.Read.{stateOf};
 ghost use Rattle.file_check.specs.Shown.{CheckedAs, saidOf, shownOf};
 use file::Collected;

@@ -17,7 +17,7 @@ use Rattle.form_values.specs.declared.Part.{Part}
 use Rattle.form_values.specs.declared.Part.the-variants.{Row, Right, Guess, Inverse, Weight}
 use Rattle.line_runs.specs.Given.{isOf}
 use Rattle.spelled_lines.specs.Ones.{textOf}
-use Rattle.listing.specs.Listing.{Complete}
+use Rattle.listing.specs.Complete.{Complete}
 use Rattle.file_shape.specs.Chosen.{stays, chosen}
 use Rattle.file_shape.specs.Shape.{howMany, Times, Shape}
 use Rattle.file_shape.proofs.Complete.{text-complete}

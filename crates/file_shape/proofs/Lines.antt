@@ -12,7 +12,8 @@ use Prim.Native.Nat.{ℕ}
 use native.Mathlib.Omega.{arith}
 use borrow.Author.Tests.{eqb-true}
 use lib.Dec.{eqb}
-use Rattle.form.specs.Form.{Form, end, spell}
+use Rattle.form.specs.Form.{Form, end}
+use Rattle.form.specs.Spelling.{spell}
 use Rattle.line_runs.specs.Lines.{before, linesOf}
 use Rattle.line_runs.proofs.Passing.{spelled}
 use Rattle.spelled_lines.specs.Ones.{textOf}

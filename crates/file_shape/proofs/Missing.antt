@@ -26,7 +26,8 @@ use Rattle.loader.specs.declared.Loader.{Loader}
 use Rattle.loader.specs.Taken.{fresh, after}
 use Rattle.loader.proofs.Accepted.{accepted-form}
 use Rattle.line_runs.specs.Given.{isOf}
-use Rattle.line_runs.specs.Run.{State, fromNew, step, run, Accepts, forms}
+use Rattle.line_runs.specs.Run.{State, fromNew, step, forms}
+use Rattle.line_runs.specs.Accepts.{run, Accepts}
 use Rattle.line_runs.proofs.Runs.{forms-next}
 use Rattle.line_runs.proofs.Sound.{Sound, fresh-sound, fresh-empty, line-sound}
 use Rattle.file_shape.specs.Given.{missingOf}

@@ -19,7 +19,8 @@ use Rattle.given_forms.proofs.Progress.{late}
 use Rattle.loader.specs.declared.Loader.{Loader}
 use Rattle.loader.specs.Taken.{after}
 use Rattle.loader.proofs.Accepted.{accepted-form}
-use Rattle.line_runs.specs.Run.{State, fromNew, step, run, Accepts, forms}
+use Rattle.line_runs.specs.Run.{State, fromNew, step, forms}
+use Rattle.line_runs.specs.Accepts.{run, Accepts}
 use Rattle.line_runs.proofs.Runs.{collected, forms-next}
 use Rattle.line_runs.proofs.Sound.{fresh-sound}
 use Rattle.file_shape.specs.Given.{GivenBy}

@@ -18,7 +18,8 @@ use Rattle.loader.specs.Answer.{lineAnswer}
 use Rattle.loader_order.proofs.Through.{answer-ended}
 use Rattle.line_runs.specs.Lines.{linesOf}
 use Rattle.line_runs.specs.Read.{Reading, readFrom, zeros, readingOf}
-use Rattle.line_runs.specs.Run.{State, fromNew, run, Accepts, Made, new}
+use Rattle.line_runs.specs.Run.{State, fromNew}
+use Rattle.line_runs.specs.Accepts.{run, Accepts, Made, new}
 use Rattle.line_runs.proofs.Read.{read-refused}
 use Rattle.line_stated.proofs.Stated.{made-exactly}
 use Rattle.spelled_lines.proofs.Runs.{read-run}

@@ -9,7 +9,8 @@ use mathlib.Core.Path.{_≡_}
 use Prim.Native.Nat.{ℕ, _+_}
 use lib.ListN.{length}
 use Rattle.checked.specs.Stated.{Stated}
-use Rattle.form.specs.Form.{Form, spell}
+use Rattle.form.specs.Form.{Form}
+use Rattle.form.specs.Spelling.{spell}
 use Rattle.form_values.specs.Item.{itemOf}
 use Rattle.given_forms.specs.Progress.{ended}
 use Rattle.loader.specs.Taken.{after, listsWith}

@@ -20,7 +20,8 @@ use Rattle.numeral.proofs.Places.{by-test, head-at, from, inside, rest-at}
 use Rattle.numeral.proofs.Decimal.{decimal-small}
 use Rattle.numeral.proofs.Digits.{Stops, first-digit}
 use Rattle.numeral.proofs.Spelling.{number-spelled}
-use Rattle.form.specs.Form.{bytes, numerals}
+use Rattle.form.specs.Form.{bytes}
+use Rattle.form.specs.Spelling.{numerals}
 use Rattle.form.specs.Reading.{starts, wordAt, Others, othersAt}
 use Rattle.form.proofs.Words.{Then, then, part, number-then}
 

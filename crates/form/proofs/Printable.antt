@@ -16,7 +16,8 @@ use Rattle.numeral.specs.Decimal.{decimal, numeral}
 use Rattle.numeral.proofs.Decimal.{decimal-induction}
 use Rattle.form.specs.declared.Word.{Word}
 use Rattle.form.specs.declared.Word.the-variants.{Problem, Scale, Row, Right, Guess, Inverse, Weight, End}
-use Rattle.form.specs.Form.{bytes, Form, problem, scale, row, right, rightWithin, guess, inverse, weight, end, numerals, spell}
+use Rattle.form.specs.Form.{bytes, Form, problem, scale, row, right, rightWithin, guess, inverse, weight, end}
+use Rattle.form.specs.Spelling.{numerals, spell}
 use Rattle.form.specs.Reading.{opening}
 
 unfoldable pub printable : ℕ → Bool

@@ -12,7 +12,8 @@ use Rattle.numeral.specs.Decimal.{numeral}
 use Rattle.numeral.specs.Numeral.{lost, sizeAt, numberAt}
 use Rattle.numeral.proofs.Places.{head-at}
 use Rattle.form.specs.declared.Word.the-variants.{Right}
-use Rattle.form.specs.Form.{bytes, numerals}
+use Rattle.form.specs.Form.{bytes}
+use Rattle.form.specs.Spelling.{numerals}
 use Rattle.form.specs.Reading.{opening, secondNumber, endOf, reading}
 use Rattle.form.proofs.Words.{word-lost}
 use Rattle.form.proofs.Shapes.{headed, after, number-step, word-step, many-spelled}

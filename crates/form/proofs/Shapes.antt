@@ -16,7 +16,8 @@ use Rattle.numeral.proofs.Digits.{Stops}
 use Rattle.numeral.proofs.Spelling.{number-spelled}
 use lib.Seq.{drop-append-seam}
 use Rattle.form.specs.declared.Word.{Word}
-use Rattle.form.specs.Form.{bytes, numerals}
+use Rattle.form.specs.Form.{bytes}
+use Rattle.form.specs.Spelling.{numerals}
 use Rattle.form.specs.Reading.{opening, wordAt, headAt, othersAt, firstNumber, secondNumber, front, others, close, endOf, formAt, reading}
 use Rattle.form.proofs.Words.{word-spelled, head-spelled}
 use Rattle.form.proofs.Lists.{tails, tails-length, numerals-is, stops-tails, others-spelled, others-none}

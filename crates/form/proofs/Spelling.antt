@@ -15,7 +15,8 @@ use Rattle.numeral.specs.Decimal.{numeral}
 use Rattle.numeral.specs.Numeral.{lost}
 use Rattle.form.specs.declared.Word.{Word}
 use Rattle.form.specs.declared.Word.the-variants.{Problem, Scale, Row, Right, Guess, Inverse, Weight, End}
-use Rattle.form.specs.Form.{bytes, numerals, Form, problem, scale, row, right, rightWithin, guess, inverse, weight, end, spell}
+use Rattle.form.specs.Form.{bytes, Form, problem, scale, row, right, rightWithin, guess, inverse, weight, end}
+use Rattle.form.specs.Spelling.{numerals, spell}
 use Rattle.form.specs.Reading.{opening, wordAt, headAt, firstNumber, secondNumber, front, others, close, endOf, formOf, formAt, reading}
 use Rattle.form.proofs.Words.{Then, then, whole, word-then, word-lost, number-then, head-then}
 use Rattle.form.proofs.Shapes.{reads, headed, word-step, one-spelled, two-spelled, many-spelled}

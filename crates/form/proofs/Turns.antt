@@ -9,14 +9,16 @@ use native.Mathlib.Omega.{arith}
 use borrow.Author.Tests.{eq-eqb, ne-eqb}
 use lib.IntN.{ℤ}
 use lib.ListN.{length, getD, set}
-use Rattle.numeral.specs.Numeral.{numberAt, cappedNumber}
+use Rattle.numeral.specs.Numeral.{numberAt}
+use Rattle.numeral.specs.Capped.{cappedNumber}
 use Rattle.numeral.specs.declared.Number.{Number}
 use Rattle.rules.specs.Range.{inRange}
 use Rattle.rules.specs.declared.Kind.{Kind}
 use Rattle.form.specs.declared.Listed.{Listed}
 use Rattle.form.specs.declared.Numbers.{Numbers}
 use Rattle.form.specs.Reading.{Others, othersAt}
-use Rattle.form.specs.List.{noNumbers, listedAt}
+use Rattle.form.specs.List.{noNumbers}
+use Rattle.form.specs.ListAt.{listedAt}
 use Rattle.form.proofs.Values.{addNumber, addAll, numbers-all}
 
 abbrev pub listed : Kind → Numbers → Others → Listed

@@ -1,3 +1,5 @@
 pub mod Form
+pub mod Spelling
 pub mod Reading
 pub mod List
+pub mod ListAt

@@ -3,18 +3,15 @@
 --   allInside k zs  — all numbers are in the range of the kind k
 --   firstValues n zs — the first n of them, capped; 0 where there are fewer
 --   numbersOf k zs  — how many, whether all are in range, and the first 32, capped
---   listedAt k s at — the list at a place
 use mathlib.Core.Bool.{Bool, true, _&&_}
 use mathlib.Core.List.{List, [], _∷_}
 use Prim.Native.Nat.{ℕ, zero, suc}
 use lib.IntN.{ℤ, pos}
 use lib.ListN.{length, replicate}
-use Rattle.numeral.specs.Numeral.{numberAt, cap}
+use Rattle.numeral.specs.Numeral.{cap}
 use Rattle.rules.specs.Range.{inRange}
 use Rattle.rules.specs.declared.Kind.{Kind}
-use Rattle.form.specs.declared.Listed.{Listed}
 use Rattle.form.specs.declared.Numbers.{Numbers}
-use Rattle.form.specs.Reading.{othersAt}
 
 abbrev pub noNumbers : Numbers
 noNumbers = record { count = 0; inside = true; values = replicate 32 (pos 0) }
@@ -30,10 +27,3 @@ firstValues (suc n) (z ∷ zs) = cap z ∷ firstValues n zs
 
 unfoldable pub numbersOf : Kind → List ℤ → Numbers
 numbersOf k zs = record { count = length zs; inside = allInside k zs; values = firstValues 32 zs }
-
-unfoldable pub listedAt : Kind → List ℕ → ℕ → Listed
-listedAt k s at =
-    record {
-      numbers = numbersOf k (numberAt s at .value ∷ othersAt s (length s) (numberAt s at .next) .values);
-      next = othersAt s (length s) (numberAt s at .next) .next;
-    }

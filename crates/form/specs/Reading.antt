@@ -5,7 +5,8 @@
 --   orWord s at h w o — h, or the word w with the opening o where h is none;  firstOf s at h ws — h, or the first of the words ws where h is none
 --   headAt s at     — the first of the eight words whose opening stands at the place
 --   Others, othersAt s f at — the further numbers of a list, each after a single space (32), at most f, and the place after them
---   firstNumber, secondNumber, front, others, close — the parts of a line, by the place after its opening
+--   firstNumber, secondNumber — by the place h after the opening: the number there, and the number after a single space
+--   front, others, close — the first number of a list there, the others, and the place after the list's bracket
 --   rightLast c ..  — the place of the last bracket of a form of the word right, by the count c of the numbers in the list that stands there
 --   lastOf w ..     — the place of a form's last bracket, by its word;  endOf — the place after it
 --   formOf w i v a zs — the form of the word w from a first number, a second one, and a list;  formAt s w h — that whose opening ends at the place h
@@ -66,10 +67,6 @@ othersAt s (suc f) at =
     })
     (record { values = []; next = at })
 
--- ---- the parts of a line, by the place h after its opening
---   firstNumber, secondNumber — the number there, and the number after a single space
---   front, others — the first number of a list, and the others
---   close         — the place after the list's bracket
 abbrev pub firstNumber : List ℕ → ℕ → Number
 firstNumber s h = numberAt s h
 

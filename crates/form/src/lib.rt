@@ -4,7 +4,8 @@ ghost use mathlib.Core.Path.{_≡_};
 ghost use Prim.Native.Nat.{_-_};
 ghost use lib.ListN.{drop, set};
 ghost use Rattle.form.specs.Reading.{starts, wordAt, orWord, headAt};
-ghost use Rattle.form.specs.List.{noNumbers, listedAt};
+ghost use Rattle.form.specs.List.{noNumbers};
+ghost use Rattle.form.specs.ListAt.{listedAt};
 use rules::Kind;
 
 // The word that a form starts with.

@@ -10,7 +10,8 @@ use lib.IntN.{natAbs}
 use Rattle.linear.specs.Matrix.{Vec, Mat, column, product}
 use Rattle.enclosure.specs.Problem.{Problem, T, columnOf}
 use Rattle.enclosure.specs.Reckoning.{load, margin, bound, inverseBound}
-use Rattle.enclosure.specs.Demand.{ExactInverse, Margins}
+use Rattle.enclosure.specs.Demand.{ExactInverse}
+use Rattle.enclosure.specs.Sound.{Margins}
 use Rattle.enclosure.specs.Quality.{Factor, NeverFar}
 use Rattle.enclosure.proofs.Demands.{encloses, column-margin}
 use Rattle.enclosure.proofs.Quality.{never-far-row, far-row, column-factor}

@@ -1,4 +1,5 @@
 pub mod Slot
 pub mod Lists
+pub mod ListOf
 pub mod Put
 pub mod Pasted

@@ -1,5 +1,5 @@
 -- The numbers of the lent lists (01: "A lent matrix list has at least 1,024 numbers and a column list at least 32").
---   Lists, lists — the lists;  listOf s l — one of them
+--   Lists, lists — the lists
 --   tooShort     — a list of one of these lengths is too short;  shortLists l — 8: one of them is
 use mathlib.Core.Bool.{Bool, _||_}
 use mathlib.Core.List.{List}
@@ -7,7 +7,6 @@ use Prim.Native.Nat.{ℕ}
 use lib.IntN.{ℤ}
 use lib.ListN.{length}
 use Rattle.rules.specs.Range.{shortMatrix, shortColumn}
-use Rattle.lent_lists.specs.Slot.{Slot, Matrix, Right, Tolerance, Guess, Inverse, Weight}
 
 pub record Lists : Type 0 where
   pub matrix : List ℤ
@@ -19,14 +18,6 @@ pub record Lists : Type 0 where
 
 abbrev pub lists : List ℤ → List ℤ → List ℤ → List ℤ → List ℤ → List ℤ → Lists
 lists a b d x g w = record { matrix = a; right = b; tolerance = d; guess = x; inverse = g; weights = w }
-
-abbrev pub listOf : Slot → Lists → List ℤ
-listOf Matrix l = l .matrix
-listOf Right l = l .right
-listOf Tolerance l = l .tolerance
-listOf Guess l = l .guess
-listOf Inverse l = l .inverse
-listOf Weight l = l .weights
 
 abbrev pub tooShort : ℕ → ℕ → ℕ → ℕ → ℕ → ℕ → Bool
 tooShort a b d x g w = shortMatrix a || (shortColumn b || (shortColumn d || (shortColumn x || (shortMatrix g || shortColumn w))))

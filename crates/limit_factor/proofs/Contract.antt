@@ -22,7 +22,7 @@ use Rattle.rules.specs.declared.Refusal.the-variants.{TooShort, OutOfRange, Mar
 use Rattle.rules.proofs.AllInRange.{all-at}
 use Rattle.rules.proofs.Ranges.{both-left, both-right, neither-left, neither-right, size-range, inverse-scale-range, matrix-range, inverse-range, weight-range}
 use Rattle.rules.proofs.Verdicts.{accepted-new, accepted-old, nothing-is-not}
-use Rattle.enclosure.specs.Demand.{Margins}
+use Rattle.enclosure.specs.Sound.{Margins}
 use Rattle.enclosure.specs.Problem.{problemOf}
 use Rattle.enclosure.specs.Reckoning.{defect, load, margin, marginFails}
 use Rattle.enclosure.specs.Quality.{Factor}

@@ -20,7 +20,7 @@ use Rattle.integer.proofs.Steepest.{steepest-one, steepest-stays, steepest-move
 use Rattle.integer.proofs.Search.{Searched, found, nowhere, searched, clash, first-is, first-never, first-past, first-ext}
 use Rattle.enclosure.specs.Problem.{Problem}
 use Rattle.enclosure.specs.Reckoning.{margin}
-use Rattle.enclosure.specs.Demand.{Margins}
+use Rattle.enclosure.specs.Sound.{Margins}
 use Rattle.enclosure.specs.Quality.{Factor}
 use Rattle.enclosure.proofs.Margin.{margin-above}
 use Rattle.limit_factor.specs.Peak.{spread, steeper, noneSteeper, peak, peakRow, numerator, denominator}

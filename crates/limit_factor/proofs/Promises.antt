@@ -19,7 +19,7 @@ use Rattle.rules.specs.Range.{inRange, allInRange}
 use Rattle.rules.specs.declared.Kind.the-variants as kind
 use Rattle.rules.proofs.Ranges.{both, both-left, both-right, neither}
 use Rattle.rules.proofs.Verdicts.{nothing-is-not}
-use Rattle.enclosure.specs.Demand.{Margins}
+use Rattle.enclosure.specs.Sound.{Margins}
 use Rattle.enclosure.specs.Reckoning.{defect, load, margin, marginFails}
 use Rattle.enclosure.proofs.Margin.{margin-sum, margin-above}
 use Rattle.checked.specs.Input as check

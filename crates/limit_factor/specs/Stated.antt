@@ -8,7 +8,7 @@ use mathlib.Core.List.{List, [], _∷_}
 use mathlib.Core.Path.{_≡_}
 use Prim.Native.Nat.{ℕ, _+_, _*_, _<_}
 use Rattle.linear.specs.Slice.{at}
-use Rattle.enclosure.specs.Demand.{Margins}
+use Rattle.enclosure.specs.Sound.{Margins}
 use Rattle.enclosure.specs.Reckoning.{marginFails}
 use Rattle.limit_factor.specs.Inquiry.{Inquiry, inquiryProblem, inquiryShort, inquiryInRanges}
 

@@ -1,9 +1,10 @@
 // A line reader: a line's slice and a place in it (01: "read from left to right, one byte after another"). Each reading hands the slice and the place
 // to a function on slices, takes any place, and answers with the place after what it read, past the end of the line where nothing of the kind stands there.
 ghost use mathlib.Core.Path.{_≡_};
-ghost use Rattle.numeral.specs.Numeral.{numberAt, cappedNumber};
+ghost use Rattle.numeral.specs.Numeral.{numberAt};
+ghost use Rattle.numeral.specs.Capped.{cappedNumber};
 ghost use Rattle.form.specs.Form.{bytes};
-ghost use Rattle.form.specs.List.{listedAt};
+ghost use Rattle.form.specs.ListAt.{listedAt};
 ghost use Rattle.form.specs.Reading.{wordAt, headAt};
 ghost use Rattle.line_parts.specs.Parts.{kindOf};
 use form::Head;

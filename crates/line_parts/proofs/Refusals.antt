@@ -20,7 +20,8 @@ use lib.ListN.{length, getD}
 use Rattle.numeral.specs.Decimal.{numeral}
 use Rattle.rules.specs.declared.Refusal.the-variants.{TooLong}
 use Rattle.line_parts.specs.declared.Line.{Line}
-use Rattle.form.specs.Form.{bytes, numerals, Form, right, rightWithin, spell}
+use Rattle.form.specs.Form.{bytes, Form, right, rightWithin}
+use Rattle.form.specs.Spelling.{numerals, spell}
 use Rattle.form.specs.Reading.{reading}
 use Rattle.line_parts.specs.Line.{lineOf, ofReading, refused, saidOfLine}
 use Rattle.form.proofs.Printable.{spell-some, spell-printable}

@@ -11,7 +11,8 @@ use borrow.Author.Tests.{eq-eqb, ne-eqb}
 use lib.Dec.{eqb}
 use lib.IntN.{ℤ}
 use lib.ListN.{length}
-use Rattle.numeral.specs.Numeral.{numberAt, cap, cappedNumber}
+use Rattle.numeral.specs.Numeral.{numberAt, cap}
+use Rattle.numeral.specs.Capped.{cappedNumber}
 use Rattle.numeral.specs.declared.Number.{Number}
 use Rattle.rules.specs.declared.Kind.{Kind}
 use Rattle.rules.specs.declared.Refusal.the-variants.{NoForm}
@@ -25,7 +26,8 @@ use Rattle.form.specs.declared.Word.{Word}
 use Rattle.form.specs.declared.Word.the-variants.{Problem, Scale, Row, Right, Guess, Inverse, Weight, End}
 use Rattle.form.specs.Form.{Form, bytes}
 use Rattle.form.specs.Reading.{wordAt, headAt, endOf, formOf, formAt, reading}
-use Rattle.form.specs.List.{firstValues, numbersOf, listedAt}
+use Rattle.form.specs.List.{firstValues, numbersOf}
+use Rattle.form.specs.ListAt.{listedAt}
 use Rattle.line_parts.specs.Line.{cappedForm, numbersIn, refused, ofReading}
 use Rattle.line_parts.specs.Parts.{kindOf, lastIn, cappedRight, cappedOf, besideOf, decided}
 

@@ -1,7 +1,7 @@
 // What a line is, from its parts: one of the forms, its numbers capped, or 01's refusal 1 or 2.
 ghost use mathlib.Core.Path.{_≡_};
 ghost use Rattle.form.specs.Form.{bytes};
-ghost use Rattle.form.specs.List.{listedAt};
+ghost use Rattle.form.specs.ListAt.{listedAt};
 ghost use Rattle.form.specs.Reading.{wordAt, rightLast, lastOf};
 ghost use Rattle.line_parts.specs.Line.{refused};
 ghost use Rattle.line_parts.specs.Parts.{kindOf, lastIn, cappedRight, cappedOf, besideOf, decided};

@@ -32,7 +32,8 @@ use Rattle.loader_order.proofs.Said.{Passed}
 use Rattle.loader.proofs.Exact.{formCase}
 use Rattle.loader.proofs.Accepted.{accepted-form}
 use Rattle.line_runs.specs.Acceptable.{linesMost, acceptable}
-use Rattle.line_runs.specs.Run.{State, fromNew, step, run, Accepts}
+use Rattle.line_runs.specs.Run.{State, fromNew, step}
+use Rattle.line_runs.specs.Accepts.{run, Accepts}
 use Rattle.line_runs.proofs.Marks.{ungiven-marked, ungiven-most, ungiven-is}
 use Rattle.line_runs.proofs.Sound.{Sound, fresh-sound, form-sound, line-sound}
 

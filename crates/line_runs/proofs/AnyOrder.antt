@@ -21,7 +21,8 @@ use Rattle.lent_lists.proofs.Slot.{of-part, other-part}
 use Rattle.lent_lists.specs.Lists.{Lists}
 use Rattle.given_forms.specs.Progress.{given, ended}
 use Rattle.given_forms.proofs.Progress.{scaled-sized}
-use Rattle.line_runs.specs.Run.{State, fromNew, run, Accepts, forms}
+use Rattle.line_runs.specs.Run.{State, fromNew, forms}
+use Rattle.line_runs.specs.Accepts.{run, Accepts}
 use Rattle.line_runs.specs.Given.{isOf}
 use Rattle.integer.specs.Among.{Among}
 use Rattle.line_runs.specs.Holds.{HoldsItem, cell}

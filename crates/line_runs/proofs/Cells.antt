@@ -21,7 +21,8 @@ use Rattle.form_values.specs.declared.Item.the-variants.{Problem, Scale, Of, En
 use Rattle.form_values.specs.declared.Part.{Part}
 use Rattle.form_values.proofs.Capped.{part-same}
 use Rattle.lent_lists.specs.Slot.{Slot, Matrix, Right, Tolerance, Guess, Inverse, Weight, partOf, width, valuesFor}
-use Rattle.lent_lists.specs.Lists.{Lists, listOf}
+use Rattle.lent_lists.specs.Lists.{Lists}
+use Rattle.lent_lists.specs.ListOf.{listOf}
 use Rattle.lent_lists.specs.Put.{put, putAll, closed}
 use Rattle.lent_list.proofs.Filled.{filled-given, filled-one}
 use Rattle.bit_set.specs.Places.{hasPlace}

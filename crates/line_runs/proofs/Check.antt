@@ -37,7 +37,8 @@ use Rattle.loader.specs.declared.Loader.{Loader}
 use Rattle.loader.specs.Taken.{listsWith}
 use Rattle.loader.proofs.Accepted.{accepted-form}
 use Rattle.loader_order.proofs.Through.{answer-ended}
-use Rattle.line_runs.specs.Run.{State, fromNew, step, run, Accepts}
+use Rattle.line_runs.specs.Run.{State, fromNew, step}
+use Rattle.line_runs.specs.Accepts.{run, Accepts}
 use Rattle.line_runs.specs.Holds.{inputOf, InRange, ReckoningSays, accepted, margin, residual, inverseResidual}
 use Rattle.line_runs.proofs.End.{in-range}
 

@@ -19,7 +19,8 @@ use Rattle.form_values.specs.declared.Part.{Part}
 use Rattle.form_values.specs.declared.Part.the-variants as part
 use Rattle.form_values.proofs.Capped.{part-same}
 use Rattle.lent_lists.specs.Slot.{Slot, Matrix, Right, Tolerance, Guess, Inverse, Weight, partOf, width, valuesFor}
-use Rattle.lent_lists.specs.Lists.{Lists, listOf, shortLists}
+use Rattle.lent_lists.specs.Lists.{Lists, shortLists}
+use Rattle.lent_lists.specs.ListOf.{listOf}
 use Rattle.lent_lists.specs.Put.{putAll, closed}
 use Rattle.lent_lists.proofs.Lists.{long}
 use Rattle.form_values.proofs.Between.{between}

@@ -24,7 +24,8 @@ use Rattle.form_values.specs.declared.Item.{Item}
 use Rattle.form_values.specs.declared.Part.{Part}
 use Rattle.form_values.specs.declared.Part.the-variants as part
 use Rattle.lent_lists.specs.Slot.{Slot, Matrix, Right, Tolerance, Guess, Inverse, Weight, partOf, width, valuesFor}
-use Rattle.lent_lists.specs.Lists.{Lists, listOf}
+use Rattle.lent_lists.specs.Lists.{Lists}
+use Rattle.lent_lists.specs.ListOf.{listOf}
 use Rattle.form_values.proofs.Capped.{part-same}
 use Rattle.bit_set.specs.Places.{lacking}
 use Rattle.bit_set.proofs.Places.{lacking-none}
@@ -32,7 +33,8 @@ use Rattle.given_forms.specs.Progress.{setOf, counted, totalOver, given, missin
 use Rattle.given_forms.specs.declared.Stage.{Stage}
 use Rattle.given_forms.specs.declared.Stage.the-variants.{Start, Sized, Scaled, Ended}
 use Rattle.given_forms.proofs.Progress.{scaled-sized}
-use Rattle.line_runs.specs.Run.{State, fromNew, step, run, Accepts, forms}
+use Rattle.line_runs.specs.Run.{State, fromNew, step, forms}
+use Rattle.line_runs.specs.Accepts.{run, Accepts}
 use Rattle.line_runs.specs.Given.{absent, valueFrom, sizeFrom, scalesFrom}
 use Rattle.line_runs.specs.Holds.{HoldsItem, HoldsPart, InRange, kindFor, cell}
 use Rattle.line_runs.proofs.Sound.{Sound, fresh-sound, fresh-empty, line-sound}

@@ -25,7 +25,8 @@ use Rattle.given_forms.specs.Progress.{setOf, given, marked, ended}
 use Rattle.given_forms.proofs.Progress.{late, placed-of}
 use Rattle.loader.specs.Taken.{after}
 use Rattle.loader.proofs.Accepted.{Accepted, accepted-form}
-use Rattle.line_runs.specs.Run.{State, step, run, Accepts, forms}
+use Rattle.line_runs.specs.Run.{State, step, forms}
+use Rattle.line_runs.specs.Accepts.{run, Accepts}
 use Rattle.line_runs.specs.Given.{isOf, absent, valueFrom}
 use Rattle.integer.specs.Among.{Among, here, there}
 use Rattle.line_runs.specs.Holds.{HoldsItem, cell}

@@ -9,7 +9,8 @@ use Prim.Native.Nat.{ℕ, _+_}
 use lib.Dec.{T, ltb}
 use lib.ListN.{length}
 use Rattle.rules.proofs.Ranges.{both-left, both-right}
-use Rattle.form.specs.Form.{Form, spell}
+use Rattle.form.specs.Form.{Form}
+use Rattle.form.specs.Spelling.{spell}
 use Rattle.form.proofs.Spelling.{read-spelled}
 use Rattle.form_values.specs.Item.{itemOf}
 use Rattle.lent_lists.specs.Lists.{shortLists}
@@ -19,7 +20,8 @@ use Rattle.loader.specs.Answer.{lineAnswer}
 use Rattle.loader.specs.Taken.{after, loaderAfter}
 use Rattle.loader.proofs.Exact.{formSaid, answer-form}
 use Rattle.line_runs.specs.Read.{Reading, readFrom}
-use Rattle.line_runs.specs.Run.{State, run, step, forms}
+use Rattle.line_runs.specs.Run.{State, step, forms}
+use Rattle.line_runs.specs.Accepts.{run}
 use Rattle.line_runs.proofs.Check.{run-long}
 use Rattle.line_runs.proofs.Read.{read-none, read-accepted}
 use Rattle.line_runs.proofs.Runs.{forms-next}

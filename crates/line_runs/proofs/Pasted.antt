@@ -11,7 +11,8 @@ use Rattle.rules.specs.Order.{verdict}
 use Rattle.rules.specs.Range.{ranges, rangeOf, inRange}
 use Rattle.numeral.specs.Decimal.{digits, decimal, numeral}
 use Rattle.form.specs.List.{allInside}
-use Rattle.form.specs.Form.{Form, problem, scale, row, numerals, spell}
+use Rattle.form.specs.Form.{Form, problem, scale, row}
+use Rattle.form.specs.Spelling.{numerals, spell}
 use Rattle.form.proofs.Spelling.{read-spelled}
 use Rattle.form_values.specs.declared.Item.the-variants.{Problem, Scale, Of}
 use Rattle.form_values.specs.declared.Part.the-variants.{Row}

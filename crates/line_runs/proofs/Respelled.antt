@@ -6,7 +6,8 @@ use Prim.Native.Nat.{ℕ, _+_, _≤_}
 use native.Mathlib.Omega.{arith}
 use lib.IntN.{ℤ, pos}
 use lib.ListN.{length, length-append}
-use Rattle.form.specs.Form.{numerals, right, rightWithin, spell}
+use Rattle.form.specs.Form.{right, rightWithin}
+use Rattle.form.specs.Spelling.{numerals, spell}
 use Rattle.form.proofs.Spelling.{read-spelled}
 use Rattle.loader.proofs.Alike.{Alike, alike}
 use Rattle.line_runs.specs.Run.{State, step}

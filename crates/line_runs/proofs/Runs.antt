@@ -25,7 +25,8 @@ use Rattle.given_forms.proofs.Progress.{placed-of}
 use Rattle.loader.specs.declared.Loader.{Loader}
 use Rattle.loader.specs.Taken.{after}
 use Rattle.loader.proofs.Accepted.{Accepted, accepted-form}
-use Rattle.line_runs.specs.Run.{State, step, run, Accepts, forms}
+use Rattle.line_runs.specs.Run.{State, step, forms}
+use Rattle.line_runs.specs.Accepts.{run, Accepts}
 use Rattle.lent_lists.specs.Slot.{Slot, partOf, valuesFor}
 use Rattle.line_runs.specs.Given.{isOf, valueFrom}
 use Rattle.integer.specs.Among.{Among, here, there}

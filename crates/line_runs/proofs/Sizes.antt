@@ -15,7 +15,8 @@ use Rattle.form_values.specs.declared.Item.the-variants.{Problem, Scale}
 use Rattle.given_forms.specs.Progress.{sized, scaled}
 use Rattle.given_forms.proofs.Progress.{late}
 use Rattle.loader.proofs.Accepted.{Accepted, accepted-form}
-use Rattle.line_runs.specs.Run.{State, step, run, Accepts, forms}
+use Rattle.line_runs.specs.Run.{State, step, forms}
+use Rattle.line_runs.specs.Accepts.{run, Accepts}
 use Rattle.lent_lists.specs.Slot.{Slot, valuesFor}
 use Rattle.line_runs.specs.Given.{sizeFrom, scalesFrom, sizeBy, scaleBy, Scales}
 use Rattle.integer.specs.Among.{Among, here, there}

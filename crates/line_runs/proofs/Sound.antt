@@ -33,7 +33,7 @@ use Rattle.loader_order.proofs.Said.{Passed}
 use Rattle.loader.proofs.Exact.{formCase}
 use Rattle.loader.proofs.Said.{refused-leaves}
 use Rattle.loader.proofs.Accepted.{accepted-form}
-use Rattle.line_runs.specs.Run.{Made, new, taken}
+use Rattle.line_runs.specs.Accepts.{Made, new, taken}
 
 pub record Sound (d : Loader) : Type 0 where
   pub five : length (d .sets) ≡ 5

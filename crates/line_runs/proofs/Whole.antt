@@ -5,7 +5,8 @@ use mathlib.Core.List.{List, [], _∷_}
 use Prim.Native.Nat.{ℕ, _+_}
 use Rattle.rules.proofs.Verdicts.{nothing-is-not}
 use Rattle.loader.specs.Answer.{lineAnswer}
-use Rattle.line_runs.specs.Run.{State, step, run, Accepts}
+use Rattle.line_runs.specs.Run.{State, step}
+use Rattle.line_runs.specs.Accepts.{run, Accepts}
 use Rattle.line_runs.specs.Read.{Reading, readFrom}
 use Rattle.line_runs.proofs.Read.{read-none, read-accepted, read-refused}
 

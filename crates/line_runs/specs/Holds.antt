@@ -22,7 +22,8 @@ use Rattle.form_values.specs.declared.Item.{Item}
 use Rattle.form_values.specs.declared.Item.the-variants.{Problem, Scale, Of, End}
 use Rattle.form_values.specs.declared.Part.{Part}
 use Rattle.lent_lists.specs.Slot.{Slot, Matrix, Right, Tolerance, Guess, Inverse, Weight, partOf, width, valuesFor}
-use Rattle.lent_lists.specs.Lists.{Lists, listOf}
+use Rattle.lent_lists.specs.Lists.{Lists}
+use Rattle.lent_lists.specs.ListOf.{listOf}
 use Rattle.given_forms.specs.Progress.{given, sized, scaled, ended}
 use Rattle.line_runs.specs.Run.{State}
 

@@ -1,6 +1,7 @@
 pub mod Lines
 pub mod Length
 pub mod Run
+pub mod Accepts
 pub mod Given
 pub mod Read
 pub mod Holds

@@ -4,7 +4,8 @@ use mathlib.Core.List.{List, [], _∷_}
 use Prim.Native.Nat.{ℕ, _≤_}
 use lib.IntN.{ℤ, pos}
 use lib.ListN.{length}
-use Rattle.form.specs.Form.{right, rightWithin, spell}
+use Rattle.form.specs.Form.{right, rightWithin}
+use Rattle.form.specs.Spelling.{spell}
 
 pub data Respelled : List (List ℕ) → List (List ℕ) → Type 0 where
   none : Respelled [] []

@@ -1,18 +1,14 @@
 -- A run of lines at a loader, and what it collects.
 --   State, fromNew l — a loader and its lists; the loader of `new`, with the lists l
---   step u line     — the state after a line, accepted or refused;  run u lines — after all lines, one after another
---   Accepts u lines — every one of them is accepted
---   Made d          — the loader d was made by `new` and `take`, whatever the lines and the lists lent
+--   step u line     — the state after a line, accepted or refused
 --   forms lines     — the forms that lines are;  withForm — a form, where there is one, before others
 use mathlib.Core.List.{List, [], _∷_}
 use mathlib.Core.Option.{Option, none, some}
-use mathlib.Core.Path.{_≡_}
 use Prim.Native.Nat.{ℕ}
 use Rattle.form.specs.Form.{Form}
 use Rattle.form.specs.Reading.{reading}
 use Rattle.lent_lists.specs.Lists.{Lists}
 use Rattle.loader.specs.declared.Loader.{Loader}
-use Rattle.loader.specs.Answer.{lineAnswer}
 use Rattle.loader.specs.Taken.{fresh, loaderAfter, listsAfter}
 
 pub record State : Type 0 where
@@ -24,18 +20,6 @@ fromNew l = record { loader = fresh; lists = l }
 
 abbrev pub step : State → List ℕ → State
 step u line = record { loader = loaderAfter (u .loader) (u .lists) line; lists = listsAfter (u .loader) (u .lists) line }
-
-unfoldable pub run : State → List (List ℕ) → State
-run u [] = u
-run u (line ∷ lines) = run (step u line) lines
-
-abbrev pub Accepts : State → List (List ℕ) → Type 0
-Accepts u [] = Unit
-Accepts u (line ∷ lines) = (lineAnswer (u .loader) (u .lists) line ≡ []) × Accepts (step u line) lines
-
-pub data Made : Loader → Type 0 where
-  new : Made fresh
-  taken : {d : Loader} → Made d → (l : Lists) (line : List ℕ) → Made (loaderAfter d l line)
 
 abbrev pub withForm : Option Form → List Form → List Form
 withForm none fs = fs

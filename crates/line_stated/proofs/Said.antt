@@ -11,7 +11,8 @@ use Prim.Native.Nat.{ℕ, _≤_}
 use borrow.Author.Tests.{lt-ltb, le-ltb}
 use lib.ListN.{length, drop}
 use Rattle.rules.specs.Order.{verdict}
-use Rattle.form.specs.Form.{Form, spell}
+use Rattle.form.specs.Form.{Form}
+use Rattle.form.specs.Spelling.{spell}
 use Rattle.form.specs.Reading.{reading}
 use Rattle.form.proofs.Spelling.{read-spelled, spelled-read}
 use Rattle.form_values.specs.Item.{itemOf, placed}

@@ -17,7 +17,8 @@ use lib.ListN.{length}
 use Rattle.integer.proofs.Search.{clash}
 use Rattle.rules.specs.Range.{inRange}
 use Rattle.rules.specs.declared.Kind.the-variants.{Size}
-use Rattle.form.specs.Form.{Form, spell}
+use Rattle.form.specs.Form.{Form}
+use Rattle.form.specs.Spelling.{spell}
 use Rattle.form.specs.Reading.{reading}
 use Rattle.form.proofs.Spelling.{read-spelled, spelled-read}
 use Rattle.line_parts.proofs.Refusals.{spell-one}
@@ -28,7 +29,7 @@ use Rattle.given_forms.proofs.Progress.{misplaced-own}
 use Rattle.loader.specs.declared.Loader.{Loader}
 use Rattle.loader.specs.Answer.{lineAnswer}
 use Rattle.loader.proofs.Exact.{formSaid}
-use Rattle.line_runs.specs.Run.{Made}
+use Rattle.line_runs.specs.Accepts.{Made}
 use Rattle.line_runs.proofs.Sound.{made-size}
 use Rattle.line_stated.specs.Stated.{OwnSize, Formed, LineStated, too-short, after-end, too-long, no-form, too-early, i-outside, again, value-outside, wrong-count, forms-missing, accepted, OtherStated, own-size, no-such-form}
 use Rattle.line_stated.proofs.Said.{own-placed, said-form, said-by}

@@ -9,7 +9,8 @@ use lib.IntN.{pos}
 use Rattle.rules.specs.Range.{inRange}
 use Rattle.rules.specs.Refusal.{said}
 use Rattle.rules.specs.declared.Kind.the-variants.{Size}
-use Rattle.form.specs.Form.{Form, spell}
+use Rattle.form.specs.Form.{Form}
+use Rattle.form.specs.Spelling.{spell}
 use Rattle.form.proofs.Spelling.{spelled-read}
 use Rattle.form_values.specs.Item.{itemOf}
 use Rattle.lent_lists.specs.Lists.{Lists}
@@ -20,7 +21,7 @@ use Rattle.loader.specs.Answer.{lineAnswer}
 use Rattle.loader.specs.Taken.{after, listsWith, TakenAs}
 use Rattle.loader.proofs.Accepted.{accepted-form}
 use Rattle.loader.proofs.Said.{refused-leaves}
-use Rattle.line_runs.specs.Run.{Made}
+use Rattle.line_runs.specs.Accepts.{Made}
 use Rattle.line_stated.specs.Stated.{OtherStated}
 use Rattle.line_stated.specs.Taken.{TakenStated}
 use Rattle.line_stated.proofs.Stated.{made-exactly, other-exactly}

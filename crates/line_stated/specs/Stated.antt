@@ -13,7 +13,8 @@ use lib.IntN.{pos}
 use lib.ListN.{length}
 use Rattle.rules.specs.Range.{inRange}
 use Rattle.rules.specs.declared.Kind.the-variants.{Size}
-use Rattle.form.specs.Form.{Form, spell}
+use Rattle.form.specs.Form.{Form}
+use Rattle.form.specs.Spelling.{spell}
 use Rattle.form_values.specs.Item.{itemOf, placed, outside, miscounted}
 use Rattle.lent_lists.specs.Lists.{Lists, shortLists}
 use Rattle.given_forms.specs.Progress.{missing, sized, ended, early, repeated, incomplete}

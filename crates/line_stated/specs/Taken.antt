@@ -7,7 +7,8 @@ use mathlib.Core.Logic.{_↔_}
 use mathlib.Core.Path.{_≡_}
 use Prim.Native.Nat.{ℕ}
 use Rattle.rules.specs.Refusal.{said}
-use Rattle.form.specs.Form.{Form, spell}
+use Rattle.form.specs.Form.{Form}
+use Rattle.form.specs.Spelling.{spell}
 use Rattle.form_values.specs.Item.{itemOf}
 use Rattle.lent_lists.specs.Lists.{Lists}
 use Rattle.loader.specs.declared.Loader.{Loader}

@@ -11,7 +11,8 @@ use Prim.Native.Nat.{ℕ}
 use Rattle.linear.specs.Matrix.{Vec, Mat}
 use Rattle.rules.proofs.Verdicts.{nothing-is-not, else-none}
 use Rattle.enclosure.specs.Reckoning.{bound, inverseBound}
-use Rattle.enclosure.specs.Demand.{Encloses, OneHeight, RoundedExact}
+use Rattle.enclosure.specs.Demand.{Encloses, RoundedExact}
+use Rattle.enclosure.specs.Height.{OneHeight}
 use Rattle.enclosure.proofs.Acceptance.{rounded-sound}
 use Rattle.enclosure.proofs.Demands.{encloses, one-height}
 use Rattle.checked.specs.Order.{checkedOf}
@@ -23,7 +24,8 @@ use Rattle.line_runs.specs.Lines.{linesOf}
 use Rattle.line_runs.specs.Read.{readingOf}
 use Rattle.file_check.specs.Judged.{reportedOf}
 use Rattle.file_check.proofs.Forms.{some, fine, heavy}
-use Rattle.listing.specs.Listing.{problemIn, Complete, answerOf, listingOf}
+use Rattle.listing.specs.Listing.{problemIn, answerOf, listingOf}
+use Rattle.listing.specs.Complete.{Complete}
 use Rattle.listing.proofs.Entire.{answer-judged, listing-from, from, inside}
 
 -- ---- nothing said, part by part

@@ -20,13 +20,14 @@ use Rattle.lent_lists.specs.Lists.{shortLists}
 use Rattle.given_forms.specs.Progress.{ended}
 use Rattle.loader_order.specs.Through.{answerThrough}
 use Rattle.loader_order.proofs.Through.{answer-ended}
-use Rattle.line_runs.specs.Run.{State, fromNew, run, Accepts, forms}
+use Rattle.line_runs.specs.Run.{State, fromNew, forms}
+use Rattle.line_runs.specs.Accepts.{run, Accepts}
 use Rattle.line_runs.specs.Holds.{InRange}
 use Rattle.line_runs.proofs.Check.{run-long, enough}
 use Rattle.line_runs.proofs.End.{FromForms, from-forms, in-range}
 use Rattle.text.specs.Wrote.{Wrote}
 use Rattle.refusal.specs.Refused.{printed, refusedOf}
-use Rattle.refusal.specs.Reply.{Answered}
+use Rattle.refusal.specs.Answered.{Answered}
 use Rattle.refusal.specs.declared.FileAnswer.{FileAnswer}
 use Rattle.refusal.proofs.Refused.{same-answer}
 use Rattle.file.specs.declared.Collected.{Collected}

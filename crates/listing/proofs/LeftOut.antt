@@ -24,7 +24,8 @@ use Rattle.line_runs.proofs.AnyOrder.{others-agree}
 use Rattle.refusal.specs.Refused.{printed}
 use Rattle.file_check.specs.Judged.{reportedOf, lineOr}
 use Rattle.file_check.proofs.Agreed.{reported-same}
-use Rattle.listing.specs.Listing.{problemIn, Complete, answerOf, listingOf}
+use Rattle.listing.specs.Listing.{problemIn, answerOf, listingOf}
+use Rattle.listing.specs.Complete.{Complete}
 use Rattle.listing.specs.LeftOut.{EqualNumbers, OnlyOnes, NoWeights, SameOthers}
 use Rattle.listing.proofs.Entire.{answer-judged, accepts, ended-run, run-from}
 

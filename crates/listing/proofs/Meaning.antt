@@ -8,7 +8,8 @@ use Prim.Native.Nat.{ℕ}
 use native.Mathlib.Omega.{arith}
 use lib.ListN.{getD, take}
 use Rattle.enclosure.specs.Reckoning.{bound, inverseBound}
-use Rattle.enclosure.specs.Demand.{Encloses, OneHeight}
+use Rattle.enclosure.specs.Demand.{Encloses}
+use Rattle.enclosure.specs.Height.{OneHeight}
 use Rattle.form.specs.Form.{bytes}
 use Rattle.report.specs.Report.{reportOf}
 use Rattle.refusal.specs.Reply.{replyOf}

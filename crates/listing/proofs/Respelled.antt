@@ -8,7 +8,8 @@ use lib.Dec.{lit≤}
 use lib.IntN.{pos, negsuc}
 use lib.ListN.{length}
 use Rattle.numeral.specs.Decimal.{digits, decimal, numeral}
-use Rattle.form.specs.Form.{Form, problem, scale, row, right, rightWithin, guess, inverse, weight, end, numerals, spell}
+use Rattle.form.specs.Form.{Form, problem, scale, row, right, rightWithin, guess, inverse, weight, end}
+use Rattle.form.specs.Spelling.{numerals, spell}
 use Rattle.line_runs.specs.Lines.{linesOf}
 use Rattle.line_runs.specs.Read.{Reading, zeros, readingOf}
 use Rattle.line_runs.specs.Respelled.{Respelled, none, same, alone}

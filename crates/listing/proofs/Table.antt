@@ -22,7 +22,8 @@ use Rattle.checked.specs.Order as check
 use Rattle.checked.specs.Order.{checkedOf}
 use Rattle.numeral.specs.Decimal.{digits, decimal, numeral}
 use Rattle.form.specs.List.{allInside}
-use Rattle.form.specs.Form.{Form, problem, scale, row, right, rightWithin, guess, inverse, weight, end, numerals, spell}
+use Rattle.form.specs.Form.{Form, problem, scale, row, right, rightWithin, guess, inverse, weight, end}
+use Rattle.form.specs.Spelling.{numerals, spell}
 use Rattle.bit_set.specs.Places.{withPlace, lacking}
 use Rattle.given_forms.specs.Progress.{missing, misplaced}
 use Rattle.loader.specs.Taken.{fresh}
@@ -40,7 +41,8 @@ use Rattle.line_runs.specs.Read.{zeros}
 use Rattle.integer.specs.Among.{here, there}
 use Rattle.linear.specs.Written.{written}
 use Rattle.listing.specs.Cases.{table, tableHolds, wholeFile, unweightedFile, wholeListing}
-use Rattle.listing.specs.Listing.{problemIn, Complete, answerOf, listingOf}
+use Rattle.listing.specs.Listing.{problemIn, answerOf, listingOf}
+use Rattle.listing.specs.Complete.{Complete}
 use Rattle.listing.specs.LeftOut.{NoWeights}
 use Rattle.listing.proofs.Entire.{zeros-long, listing-from, answer-judged}
 use Rattle.listing.proofs.WithOnes.{not-in-none}

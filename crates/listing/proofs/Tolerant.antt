@@ -21,7 +21,8 @@ use Rattle.enclosure.specs.Reckoning.{defect, load, margin, residual, rowSum, e
 use Rattle.checked.specs.Order.{checkedOf}
 use Rattle.numeral.specs.Decimal.{digits, decimal, numeral}
 use Rattle.form.specs.List.{allInside}
-use Rattle.form.specs.Form.{Form, problem, scale, row, rightWithin, guess, inverse, end, numerals, spell}
+use Rattle.form.specs.Form.{Form, problem, scale, row, rightWithin, guess, inverse, end}
+use Rattle.form.specs.Spelling.{numerals, spell}
 use Rattle.bit_set.specs.Places.{withPlace, lacking}
 use Rattle.given_forms.specs.Progress.{missing, misplaced}
 use Rattle.loader.specs.Taken.{fresh}

@@ -14,7 +14,8 @@ use Rattle.form.specs.Form.{Form, weight}
 use Rattle.form.specs.Reading.{reading}
 use Rattle.given_forms.specs.Progress.{ended}
 use Rattle.line_runs.specs.Lines.{linesOf}
-use Rattle.line_runs.specs.Run.{State, fromNew, run, Accepts, forms, withForm}
+use Rattle.line_runs.specs.Run.{State, fromNew, forms, withForm}
+use Rattle.line_runs.specs.Accepts.{run, Accepts}
 use Rattle.line_runs.specs.Read.{readFrom, zeros}
 use Rattle.integer.specs.Among.{Among, here, there}
 use Rattle.line_runs.proofs.Passing.{spelled, forms-spelled}
@@ -22,7 +23,8 @@ use Rattle.spelled_lines.specs.Ones.{onesFrom, textOf}
 use Rattle.spelled_lines.proofs.Text.{Split, lines-whole, lines-text, last-line}
 use Rattle.spelled_lines.proofs.Runs.{read-run}
 use Rattle.spelled_lines.proofs.Ones.{with-ones}
-use Rattle.listing.specs.Listing.{problemIn, Complete, listingOf}
+use Rattle.listing.specs.Listing.{problemIn, listingOf}
+use Rattle.listing.specs.Complete.{Complete}
 use Rattle.listing.specs.LeftOut.{OnlyOnes, NoWeights, SameOthers}
 use Rattle.listing.proofs.Entire.{zeros-long, accepts, ended-run, run-from}
 use Rattle.listing.proofs.LeftOut.{without-weights}

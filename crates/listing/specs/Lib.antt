@@ -1,4 +1,5 @@
 pub mod Listing
+pub mod Complete
 pub mod Answers
 pub mod Cases
 pub mod LeftOut

@@ -1,12 +1,11 @@
 -- The listing of a file (01: "A whole file" and the program): one line for the first refusal, or the report of the problem that its forms give.
 --   problemIn file — the problem that the file's forms give
---   Complete file  — every line is accepted, and the last is an end
 --   answerOf file  — what is said of the file, in the numbers of the refusal's line: the first refusal of a line; 15, with 0, where the file stops before an end;
 --     else what is said of its problem. None where it is accepted. No complete file gives 3: its forms were tested
 --   listingOf file — that line, or the report
 --   ListedAs         — the contract of `listing`: the bytes written are the listing, the others as before
 --   AnsweredAs     — the contract of `answer_file`: what is said, with the listing
-use mathlib.Core.Bool.{true, cond}
+use mathlib.Core.Bool.{cond}
 use mathlib.Core.List.{List, [], _∷_}
 use mathlib.Core.Path.{_≡_}
 use Prim.Native.Nat.{ℕ, _≤_}
@@ -26,11 +25,6 @@ use Rattle.file_check.specs.Problem.{problemFrom}
 
 abbrev pub problemIn : List ℕ → Problem
 problemIn file = problemFrom (forms (linesOf file))
-
--- nothing said of the lines: the rest
-pub record Complete (file : List ℕ) : Type 0 where
-  pub lines : readingOf file .said ≡ []
-  pub end : ended (readingOf file .state .loader .stage) ≡ true
 
 unfoldable pub answerOf : List ℕ → List ℕ
 answerOf file =

@@ -13,7 +13,6 @@ unfoldable pub each : ℕ → (ℕ → List ℕ) → List ℕ
 each zero f = []
 each (suc n) f = each n f ++ f n
 
--- a space stands before every number but the first
 abbrev pub gap : ℕ → List ℕ
 gap zero = []
 gap (suc j) = bytes " "

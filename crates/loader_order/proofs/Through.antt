@@ -1,6 +1,8 @@
 -- The check through a loader, case by case.
 --   answer-ended — after an accepted end it says what the check on lists says
+--   has-ended, nothing-said — where nothing is said the end was accepted, and the check on lists says nothing
 --   through-ended, through-open — the contract where the check on lists decides, and where 8 or 15 is said
+--   through-lists — an accepted check through a loader is an accepted check on lists
 --   check-8, check-15, check-3 — each said exactly in its case
 use mathlib.Core.Path.{_≡_, refl, sym, _∙_}
 use mathlib.Core.Bool.{Bool, true, false, not, cond}
@@ -9,7 +11,7 @@ use mathlib.Core.Logic.{_↔_}
 use Prim.Native.Nat.{ℕ}
 use lib.ListN.{take, drop}
 use Rattle.integer.proofs.Search.{clash}
-use Rattle.rules.specs.Order.{Test, number}
+use Rattle.rules.specs.Order.{Test, number, verdict}
 use Rattle.rules.specs.Refusal.{said}
 use Rattle.rules.specs.declared.Outcome.{Outcome}
 use Rattle.rules.proofs.Verdicts.{nothing-is-not}
@@ -55,6 +57,38 @@ module _ (s : Stage) (I : Input) where
         go : (b : Bool) → b ≡ short I → said r ≡ cond b (8 ∷ []) (15 ∷ []) → CheckedThrough s I r (I .solutionBounds) (I .inverseBounds)
         go true e t = refused t (rw (← e))
         go false e t = refused t (rw (← e, open-still))
+
+  -- ---- where nothing is said
+  open-said : ended s ≡ false → answerThrough s I ≡ [] → ⊥
+  unfolding answerThrough
+  open-said e h = go (short I) (rw e at h)
+    where
+      go : (b : Bool) → verdict (record { says = 8 ∷ []; holds = b } ∷ record { says = 15 ∷ []; holds = true } ∷ []) ≡ [] → ⊥
+      go true z = nothing-is-not z
+      go false z = nothing-is-not z
+
+  pub has-ended : answerThrough s I ≡ [] → ended s ≡ true
+  has-ended h = go (ended s) refl
+    where
+      go : (b : Bool) → ended s ≡ b → b ≡ true
+      go true e = refl
+      go false e = absurd (open-said e h)
+
+  pub nothing-said : answerThrough s I ≡ [] → answer I ≡ []
+  nothing-said h = sym (answer-ended (has-ended h)) ∙ h
+
+  pub through-lists : {r : Outcome} {E L : List ℕ} → CheckedThrough s I r E L → said r ≡ [] → Checked I r E L
+  unfolding solutionBoundsThrough inverseBoundsThrough solutionBoundsAfter inverseBoundsAfter
+  through-lists x e =
+      let end = has-ended (sym (x .says) ∙ e) in
+      let same = answer-ended end in
+      record {
+        says = x .says ∙ same;
+        solution-bounds = rw (← same) (x .solution-bounds);
+        inverse-bounds = rw (← same) (x .inverse-bounds);
+        encloses = x .encloses;
+        accepts = λ N q H q′ long inside rounded. x .accepts N q H q′ long end inside rounded;
+      }
 
 -- each said exactly where no case earlier in the order holds and its own does; after an accepted end 5, 6 and 7 are those of the check on lists
 module _ (s : Stage) (I : Input) where

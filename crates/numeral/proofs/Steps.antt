@@ -16,7 +16,8 @@ use lib.Seq.{drop-cons}
 use lib.Signed.{mag}
 use Rattle.numeral.specs.declared.Number.{Number}
 use Rattle.numeral.specs.declared.Size.{Size}
-use Rattle.numeral.specs.Numeral.{digitOf, lost, runAt, sizeAt, numberAt, positiveOf, negativeOf, cap, capAt, capSize, cappedSize, cappedNumber}
+use Rattle.numeral.specs.Numeral.{digitOf, lost, runAt, sizeAt, numberAt, positiveOf, negativeOf, cap, capAt, capSize}
+use Rattle.numeral.specs.Capped.{cappedSize, cappedNumber}
 
 -- ---- a run of digits
 -- a value that is capped before the rest of the digits is read

@@ -9,7 +9,6 @@
 --   numberAt s at — a number
 --   capAt         — the cap, 2^40; no range of 01 reaches so far (law `cap-range`)
 --   capSize, cap z — a size, and a number, or ±2^40 where it is larger in size: the one place where numbers are capped
---   cappedSize, cappedNumber — what is read, its value capped
 use mathlib.Core.Bool.{cond}
 use mathlib.Core.List.{List, [], _∷_}
 use Prim.Native.Nat.{ℕ, suc, _+_, _-_, _*_, _^_, min}
@@ -53,9 +52,3 @@ capSize v = min v capAt
 unfoldable pub cap : ℤ → ℤ
 cap (pos n) = pos (capSize n)
 cap (negsuc n) = negℤ (pos (capSize (suc n)))
-
-abbrev pub cappedSize : Size → Size
-cappedSize z = record { value = capSize (z .value); next = z .next }
-
-abbrev pub cappedNumber : Number → Number
-cappedNumber r = record { value = cap (r .value); next = r .next }

@@ -3,7 +3,8 @@ ghost use mathlib.Core.Path.{_≡_};
 ghost use Prim.Native.Nat.{_≤_};
 ghost use lib.IntN.{pos, negℤ};
 ghost use lib.ListN.{length, drop, getD};
-ghost use Rattle.numeral.specs.Numeral.{digitOf, lost, runAt, sizeAt, numberAt, positiveOf, negativeOf, capAt, capSize, cappedSize, cappedNumber};
+ghost use Rattle.numeral.specs.Numeral.{digitOf, lost, runAt, sizeAt, numberAt, positiveOf, negativeOf, capAt, capSize};
+ghost use Rattle.numeral.specs.Capped.{cappedSize, cappedNumber};
 
 const CAP: u64 = 1099511627776;
 

@@ -23,7 +23,7 @@ use Rattle.loader.specs.declared.Loader.{Loader}
 use Rattle.loader.specs.Taken.{fresh, after}
 use Rattle.line_runs.proofs.Sound.{fresh-empty}
 use Rattle.spelled_lines.proofs.Forms.{passed-problem, passed-scale, passed-part, passed-end}
-use Rattle.listing.specs.Listing.{Complete}
+use Rattle.listing.specs.Complete.{Complete}
 use Rattle.line_runs.specs.Read.{readingOf}
 use Rattle.old_edition.specs.Edition.{readingOfOld, CompleteOld}
 use Rattle.old_edition.specs.File.{formFor, rising, partsThen, oldForms, oldFile}

@@ -25,7 +25,7 @@ use Rattle.enclosure.specs.Reckoning.{bound, inverseBound}
 use Rattle.checked.specs.Order.{checkedOf}
 use Rattle.form.specs.Form.{Form}
 use Rattle.lent_lists.specs.Slot.{Slot, Matrix, Right, Guess, Inverse, Weight, width}
-use Rattle.lent_lists.specs.Lists.{listOf}
+use Rattle.lent_lists.specs.ListOf.{listOf}
 use Rattle.line_runs.specs.Run.{State, forms}
 use Rattle.line_runs.specs.Given.{valueFrom, sizeFrom}
 use Rattle.line_runs.specs.Holds.{InRange}
@@ -35,7 +35,8 @@ use Rattle.line_runs.proofs.End.{FromForms}
 use Rattle.refusal.specs.Refused.{printed}
 use Rattle.file_check.specs.Problem.{problemFrom}
 use Rattle.file_check.specs.Judged.{lineOr}
-use Rattle.listing.specs.Listing.{problemIn, Complete, answerOf, listingOf}
+use Rattle.listing.specs.Listing.{problemIn, answerOf, listingOf}
+use Rattle.listing.specs.Complete.{Complete}
 use Rattle.listing.proofs.Entire.{answer-judged, listing-from, from, inside}
 use Rattle.old_edition.specs.Edition.{readingOfOld, CompleteOld}
 use Rattle.old_edition.specs.File.{newFile}

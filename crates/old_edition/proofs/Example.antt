@@ -22,7 +22,8 @@ use Rattle.checked.specs.Before.{answer01}
 use Rattle.checked.specs.Order.{checkedOf}
 use Rattle.numeral.specs.Decimal.{digits, decimal, numeral}
 use Rattle.numeral.specs.Numeral.{runAt, sizeAt, numberAt}
-use Rattle.form.specs.Form.{Form, problem, scale, row, right, rightWithin, guess, inverse, end, numerals, spell}
+use Rattle.form.specs.Form.{Form, problem, scale, row, right, rightWithin, guess, inverse, end}
+use Rattle.form.specs.Spelling.{numerals, spell}
 use Rattle.form.specs.List.{allInside}
 use Rattle.form.specs.Reading.{reading, starts, wordAt, orWord, firstOf, headAt, othersAt}
 use Rattle.bit_set.specs.Places.{withPlace, lacking}
@@ -37,7 +38,8 @@ use Rattle.spelled_lines.specs.Ones.{textOf}
 use Rattle.refusal.specs.Refused.{printed}
 use Rattle.file_check.specs.Problem.{problemFrom}
 use Rattle.listing.specs.Cases.{wholeFile, tolerantFile}
-use Rattle.listing.specs.Listing.{problemIn, Complete, answerOf}
+use Rattle.listing.specs.Listing.{problemIn, answerOf}
+use Rattle.listing.specs.Complete.{Complete}
 use Rattle.listing.proofs.Demand.{accepted-parts}
 use Rattle.listing.proofs.Entire.{answer-judged}
 use Rattle.listing.proofs.Table.{complete-is, answer-is, wholeForms, whole-spelled}

@@ -33,7 +33,8 @@ use Rattle.line_runs.proofs.Whole.{all-run}
 use Rattle.file_check.specs.Problem.{problemFrom}
 use Rattle.file_check.specs.Shown.{inputAt}
 use Rattle.file_check.proofs.Forms.{wide, narrow}
-use Rattle.listing.specs.Listing.{problemIn, Complete}
+use Rattle.listing.specs.Listing.{problemIn}
+use Rattle.listing.specs.Complete.{Complete}
 use Rattle.listing.proofs.Demand.{accepted-parts}
 use Rattle.listing.proofs.Entire as entire
 use Rattle.old_edition.specs.File.{newFile}

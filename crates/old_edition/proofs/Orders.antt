@@ -14,7 +14,8 @@ use lib.IntN.{natAbs}
 use Rattle.integer.proofs.Search.{clash}
 use Rattle.form.specs.Form.{Form}
 use Rattle.lent_lists.specs.Slot.{Slot, Matrix, Right, Tolerance, Guess, Inverse, Weight, width}
-use Rattle.line_runs.specs.Run.{State, fromNew, run, forms}
+use Rattle.line_runs.specs.Run.{State, fromNew, forms}
+use Rattle.line_runs.specs.Accepts.{run}
 use Rattle.line_runs.specs.Given.{valueFrom, sizeFrom}
 use Rattle.integer.specs.Among.{Among}
 use Rattle.line_runs.specs.Lines.{linesOf}
@@ -24,7 +25,8 @@ use Rattle.line_runs.proofs.AnyOrder.{Agrees, any-order}
 use Rattle.line_runs.proofs.End.{FromForms}
 use Rattle.line_runs.proofs.Respelled.{respelled-read}
 use Rattle.listing.specs.LeftOut.{OnlyOnes, SameOthers}
-use Rattle.listing.specs.Listing.{problemIn, Complete}
+use Rattle.listing.specs.Listing.{problemIn}
+use Rattle.listing.specs.Complete.{Complete}
 use Rattle.listing.proofs.Entire.{accepts, ended-run, run-from, from}
 use Rattle.listing.proofs.LeftOut.{weights-one, equal-numbers}
 use Rattle.old_edition.specs.File.{newFile}

@@ -11,7 +11,8 @@ use Rattle.rules.specs.Order.{ifAccepted}
 use Rattle.rules.specs.Range.{ranges, rangeOf, inRange}
 use Rattle.numeral.specs.Decimal.{digits, decimal, numeral}
 use Rattle.numeral.specs.Numeral.{runAt, sizeAt, numberAt}
-use Rattle.form.specs.Form.{Form, problem, scale, row, right, rightWithin, guess, inverse, weight, end, bytes, numerals, spell}
+use Rattle.form.specs.Form.{Form, problem, scale, row, right, rightWithin, guess, inverse, weight, end, bytes}
+use Rattle.form.specs.Spelling.{numerals, spell}
 use Rattle.form.specs.List.{allInside}
 use Rattle.form.specs.Reading.{reading, starts, wordAt, orWord, firstOf, headAt, othersAt}
 use Rattle.bit_set.specs.Places.{withPlace, lacking}
@@ -30,7 +31,8 @@ use Rattle.refusal.specs.Refused.{printed}
 use Rattle.file_check.specs.Judged.{lineOr}
 use Rattle.file_check.specs.Problem.{problemFrom}
 use Rattle.listing.specs.Cases.{tolerantFile}
-use Rattle.listing.specs.Listing.{problemIn, Complete}
+use Rattle.listing.specs.Listing.{problemIn}
+use Rattle.listing.specs.Complete.{Complete}
 use Rattle.listing.proofs.Demand.{accepted-parts}
 use Rattle.listing.proofs.Table.{problem-is, complete-is}
 use Rattle.listing.proofs.Tolerant.{tolerant-accepted}

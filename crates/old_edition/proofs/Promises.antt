@@ -4,8 +4,9 @@
 --   new-count    — its forms are problem, scale and end, and 5n others
 --   equal-checks — "The old and new file lead to equal checks": what is said, every limit, and the listing
 --   same-limits  — the desk of 01 holds the file's numbers after the new file, and 01's own check of them finds the same limits
---   again        — "Converting a converted file gives equal bytes": it is converted, and the new file is that file
---   alike        — "two files with equal numbers give equal bytes": where one is converted, so is the other, if it is complete and has no tolerance
+--   again        — "Converting a converted file gives equal bytes": it is converted, in any buffer that it fits, and the new file is that file
+--   alike        — "two files with equal numbers give equal bytes": where one is converted, so is the other, if it is complete and has no tolerance, in any
+--     buffer that the new file fits
 --   new-fits     — the new file has at most 21,300 bytes, so there is always room for it in 32,768
 use mathlib.Core.Path.{_≡_, sym, ap, _∙_}
 use mathlib.Core.List.{List, [], _∷_}
@@ -21,7 +22,8 @@ use Rattle.form_values.specs.declared.Part.{Part}
 use Rattle.form_values.specs.declared.Part.the-variants.{Row, Right, Guess, Inverse, Weight}
 use Rattle.line_runs.specs.Lines.{linesOf}
 use Rattle.line_runs.specs.Run.{forms}
-use Rattle.listing.specs.Listing.{problemIn, Complete}
+use Rattle.listing.specs.Listing.{problemIn}
+use Rattle.listing.specs.Complete.{Complete}
 use Rattle.old_edition.specs.Converted.{convertAnswer}
 use Rattle.old_edition.specs.Edition.{CompleteOld}
 use Rattle.old_edition.specs.File.{formFor, rising, partsThen, oldForms, newFile}
@@ -94,10 +96,11 @@ module _ (file : List ℕ) (room : ℕ) (e : convertAnswer file room ≡ []) whe
   pub same-again : newFile (newFile file) ≡ newFile file
   same-again = same.again (problemIn file)
 
-  pub again : convertAnswer (newFile file) room ≡ []
-  again = stated-said (newFile file) room (converted (new-complete file (convertible .complete)) (no-tolerance (problemIn file)) (rw same-again (convertible .fits)))
+  pub again : (space : ℕ) → length (newFile file) ≤ space → convertAnswer (newFile file) space ≡ []
+  again space l = stated-said (newFile file) space (converted (new-complete file (convertible .complete)) (no-tolerance (problemIn file)) (rw same-again l))
 
-  pub alike : (other : List ℕ) → Complete other → NoTolerance (problemIn other) → SameNumbers (problemIn file) (problemIn other) → (convertAnswer other room ≡ []) × (newFile other ≡ newFile file)
-  alike other c z same =
+  pub alike : (space : ℕ) → length (newFile file) ≤ space → (other : List ℕ) → Complete other → NoTolerance (problemIn other) → SameNumbers (problemIn file) (problemIn other) →
+      (convertAnswer other space ≡ []) × (newFile other ≡ newFile file)
+  alike space l other c z same =
       let b = equal-bytes file other same in
-      (stated-said other room (converted c z (rw (← b) (convertible .fits))), sym b)
+      (stated-said other space (converted c z (rw (← b) l)), sym b)

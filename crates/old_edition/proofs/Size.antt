@@ -15,7 +15,8 @@ use Rattle.rules.specs.declared.Kind.the-variants as kind
 use Rattle.rules.proofs.Ranges.{size-range}
 use Rattle.enclosure.specs.Problem.{Problem}
 use Rattle.numeral.specs.Decimal.{numeral}
-use Rattle.form.specs.Form.{Form, problem, scale, end, spell}
+use Rattle.form.specs.Form.{Form, problem, scale, end}
+use Rattle.form.specs.Spelling.{spell}
 use Rattle.form_values.specs.declared.Part.{Part}
 use Rattle.form_values.specs.declared.Part.the-variants.{Row, Right, Guess, Inverse, Weight}
 use Rattle.spelled_lines.specs.Ones.{textOf}

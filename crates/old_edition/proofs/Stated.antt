@@ -18,7 +18,8 @@ use Rattle.enclosure.specs.Demand.{NoTolerance}
 use Rattle.enclosure.specs.Problem.{Problem}
 use Rattle.given_forms.specs.Progress.{ended}
 use Rattle.line_runs.specs.Read.{readingOf}
-use Rattle.listing.specs.Listing.{problemIn, Complete}
+use Rattle.listing.specs.Listing.{problemIn}
+use Rattle.listing.specs.Complete.{Complete}
 use Rattle.old_edition.specs.Converted.{someTolerance, convertAnswer}
 use Rattle.old_edition.specs.File.{newFile}
 use Rattle.old_edition.specs.Stated.{ConvertStated, line-refused, not-ended, tolerance, too-small, converted}

@@ -13,7 +13,8 @@ use native.Mathlib.Omega.{arith}
 use borrow.Author.Tests.{le-ltb, ltb-false}
 use lib.Dec.{ltb}
 use lib.ListN.{length}
-use Rattle.form.specs.Form.{Form, problem, scale, row, right, rightWithin, guess, inverse, weight, end, spell}
+use Rattle.form.specs.Form.{Form, problem, scale, row, right, rightWithin, guess, inverse, weight, end}
+use Rattle.form.specs.Spelling.{spell}
 use Rattle.form.proofs.Spelling.{read-spelled}
 use Rattle.form_values.specs.Item.{itemOf}
 use Rattle.form_values.specs.declared.Part.the-variants.{Weight}
@@ -35,7 +36,7 @@ use Rattle.line_runs.proofs.Read.{read-none, read-accepted}
 use Rattle.spelled_lines.specs.Ones.{textOf}
 use Rattle.spelled_lines.proofs.Accepts.{spelled-length, accepts-spelled, spelled-accepted}
 use Rattle.spelled_lines.proofs.Text.{lines-of}
-use Rattle.listing.specs.Listing.{Complete}
+use Rattle.listing.specs.Complete.{Complete}
 use Rattle.listing.proofs.Entire.{zeros-long}
 use Rattle.old_edition.specs.Edition.{isOld, readingOld, answerOld, loaderOld, listsOld, stepOld, readOld, readingOfOld, CompleteOld}
 

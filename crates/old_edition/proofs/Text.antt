@@ -17,7 +17,8 @@ use Rattle.line_runs.proofs.FirstBytes.{Cut, whole, stopped}
 use Rattle.line_runs.proofs.FirstBytes as file
 use Rattle.refusal.specs.Refused.{printed, refusedOf}
 use Rattle.file_check.specs.Judged.{lineOr}
-use Rattle.listing.specs.Listing.{problemIn, Complete}
+use Rattle.listing.specs.Listing.{problemIn}
+use Rattle.listing.specs.Complete.{Complete}
 use Rattle.old_edition.specs.Converted.{conversionOrder, convertAnswer, refusalNumbers, convertedText}
 use Rattle.old_edition.specs.File.{newFile}
 use Rattle.old_edition.proofs.Stated.{always-fits}

@@ -8,7 +8,8 @@ use lib.ListN.{length}
 use Rattle.enclosure.specs.Demand.{NoTolerance}
 use Rattle.given_forms.specs.Progress.{ended}
 use Rattle.line_runs.specs.Read.{readingOf}
-use Rattle.listing.specs.Listing.{problemIn, Complete}
+use Rattle.listing.specs.Listing.{problemIn}
+use Rattle.listing.specs.Complete.{Complete}
 use Rattle.old_edition.specs.File.{newFile}
 
 pub data ConvertStated (file : List ℕ) (room : ℕ) : List ℕ → Type 0 where

@@ -10,10 +10,11 @@ use Rattle.checked.specs.Checked.{solutionBoundsAfter, inverseBoundsAfter}
 use Rattle.checked.specs.Input.{Input, short}
 use Rattle.checked.specs.Stated.{Stated}
 use Rattle.checked.proofs.Statements.{stated, said-of}
+use Rattle.checked.proofs.Written.{checked-solution, checked-inverse}
 use Rattle.given_forms.specs.Progress.{ended}
 use Rattle.given_forms.specs.declared.Stage.{Stage}
 use Rattle.loader_order.specs.Through.{answerThrough, solutionBoundsThrough, inverseBoundsThrough}
-use Rattle.loader_order.proofs.Through.{answer-ended, check-8, check-15}
+use Rattle.loader_order.proofs.Through.{answer-ended, through-lists, check-8, check-15}
 use Rattle.loader.specs.Taken.{loaderAfter, listsAfter}
 use Rattle.half.specs.Checked.{filledInput}
 use Rattle.half.proofs.Promises.{half-stated}
@@ -34,7 +35,7 @@ use Rattle.listing.proofs.Demand.{accepted-parts, file-reported, exact-accepted
 use Rattle.listing.proofs.Meaning.{bounds-begin, answered-none, listed-none, answered-encloses, listed-encloses}
 use Rattle.promises.specs.Demands as demand
 use Rattle.promises.specs.Ways.{Refused, on-lists, through-loader, by-half, of-file, of-listing, StatedThrough, too-short, not-ended, as-on-lists}
-use Rattle.promises.proofs.Ways.{refused-old, solution-at, inverse-at, through-lists, half-lists}
+use Rattle.promises.proofs.Ways.{refused-old, half-lists}
 
 -- ---- Demand 1
 pub refused-check-leaves : demand.RefusedCheckLeaves
@@ -57,13 +58,13 @@ refused-line-leaves d line l r l′ x h =
 
 -- ---- Demand 2
 pub limits-reckoned : demand.LimitsReckoned
-limits-reckoned P E L (on-lists I r E′ L′ x e) = (solution-at I r E′ L′ x e, inverse-at I r E′ L′ x e)
+limits-reckoned P E L (on-lists I r E′ L′ x e) = (checked-solution I r E′ L′ x e, checked-inverse I r E′ L′ x e)
 limits-reckoned P E L (through-loader s I r E′ L′ x e) =
-    let y = through-lists s I r E′ L′ x e in
-    (solution-at I r E′ L′ y e, inverse-at I r E′ L′ y e)
+    let y = through-lists s I x e in
+    (checked-solution I r E′ L′ y e, checked-inverse I r E′ L′ y e)
 limits-reckoned P E L (by-half H r E′ L′ x e) =
     let y = half-lists H r E′ L′ x e in
-    (solution-at (filledInput H) r E′ L′ y e, inverse-at (filledInput H) r E′ L′ y e)
+    (checked-solution (filledInput H) r E′ L′ y e, checked-inverse (filledInput H) r E′ L′ y e)
 limits-reckoned P E L (of-file file old new r x z) = (λ i l. refl, λ i j li lj. refl)
 limits-reckoned P E L (of-listing file old new count x b) = (λ i l. refl, λ i j li lj. refl)
 

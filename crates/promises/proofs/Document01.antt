@@ -1,12 +1,10 @@
 -- The theorems for specs/Document01, a theorem for each statement.
---   CaseOf I k a b — the case of the refusal k of a check, with the numbers a and b that it gives;  stated-case — what is stated has it
-use mathlib.Core.Bool.{Bool, true, false}
+use mathlib.Core.Bool.{false}
 use mathlib.Core.List.{List, [], _∷_}
 use mathlib.Core.Path.{_≡_, refl, sym, ap, subst, _∙_}
-use Prim.Native.Nat.{ℕ, suc, _+_, _*_, _-_, _/_, _%_, _≤_, _<_, _^_}
+use Prim.Native.Nat.{ℕ, suc, _+_, _*_, _-_, _/_, _%_, _≤_, _^_}
 use native.Mathlib.Omega.{arith}
 use borrow.Author.Tests.{le-ltb, ltb-false, ne-eqb}
-use lib.Dec.{eqb}
 use lib.IntN.{ℤ, natAbs}
 use lib.ListN.{getD}
 use Rattle.integer.specs.Finite.{sum}
@@ -15,22 +13,19 @@ use Rattle.linear.specs.Written.{written}
 use Rattle.linear.proofs.Written.{front-else}
 use Rattle.rules.specs.Order.{ifAccepted}
 use Rattle.rules.specs.Range.{inRange, rangeOf, ranges}
-use Rattle.rules.specs.Refusal.{said}
-use Rattle.rules.specs.declared.Outcome.{Outcome}
 use Rattle.rules.proofs.Ranges.{neither-left, neither-right}
 use Rattle.entry.specs.Entry.{entryValue, entryBound}
 use Rattle.entry.specs.Register.{RegisteredAs}
 use Rattle.entry.specs.declared.Registered.{Registered}
 use Rattle.entry.specs.declared.Registered.the-variants.{Entry, Refused}
 use Rattle.entry.proofs.Limit.{entry-near}
-use Rattle.enclosure.specs.Demand.{Margins, Residuals}
 use Rattle.enclosure.specs.Problem.{Problem, S, columnOf}
-use Rattle.enclosure.specs.Reckoning.{defect, load, margin, marginFails, residual, rowSum, exceeds, exceedsWith, exceedsRow, slack, bound, boundWith, boundFrom, sizesWith, inverseBound}
+use Rattle.enclosure.specs.Reckoning.{defect, load, margin, residual, rowSum, exceeds, exceedsWith, exceedsRow, slack, bound, boundWith, boundFrom, sizesWith, inverseBound}
 use Rattle.enclosure.proofs.Instance.{file-worked}
-use Rattle.checked.specs.Checked.{Checked, solutionBoundsAfter, inverseBoundsAfter}
-use Rattle.checked.specs.Input.{Input, problem, short, inRanges}
+use Rattle.checked.specs.Checked.{solutionBoundsAfter, inverseBoundsAfter}
+use Rattle.checked.specs.Input.{Input, problem, short}
 use Rattle.checked.specs.Order.{answer}
-use Rattle.checked.specs.Stated.{Usable, Stated, too-short, out-of-range, margin-low, residual-large, inverse-large, accepted}
+use Rattle.checked.specs.Stated.{too-short, out-of-range, margin-low, residual-large, inverse-large}
 use Rattle.checked.proofs.Agreed.{same-answer, same-solution, same-inverse}
 use Rattle.checked.proofs.Lengths.{long-of}
 use Rattle.given_forms.specs.Progress.{ended}
@@ -42,12 +37,13 @@ use Rattle.spelled_lines.proofs.Text.{lines-feed}
 use Rattle.listing.specs.Listing.{answerOf, listingOf}
 use Rattle.listing.proofs.Answers.{file-answers}
 use Rattle.listing.proofs.Table as table
-use Rattle.promises.specs.Document01.{LongEnough, Lowest}
+use Rattle.promises.specs.Document01.{LongEnough}
 use Rattle.promises.specs.Document01 as document
 use Rattle.promises.specs.Ways.{StatedThrough, not-ended, as-on-lists}
 use Rattle.promises.specs.Ways as ways
 use Rattle.promises.proofs.Ways.{accepted-sound}
-use Rattle.promises.proofs.Demands.{limits-reckoned, check-refuses-as-stated, through-refuses-as-stated}
+use Rattle.promises.proofs.Cases01.{LargeInverse, back, case-of, said-as, never-15}
+use Rattle.promises.proofs.Demands.{limits-reckoned, through-refuses-as-stated}
 
 -- ---- The system and its steps
 pub sizes-ranged : document.SizesRanged
@@ -176,42 +172,6 @@ pub whole-files-shaped : document.WholeFilesShaped
 whole-files-shaped = exactly
 
 -- ---- Refused for what was handed in
-abbrev LargeInverse : Input → ℕ → ℕ → Type 0
-LargeInverse I j k =
-    Usable I × (Margins (problem I) × (Residuals (problem I) × ((j < I .n) × (((c : ℕ) → c < j → Residuals (columnOf (problem I) c)) × Lowest (I .n) (exceeds (columnOf (problem I) j)) k))))
-
-back : (m : ℕ) → m + 1 - 1 ≡ m
-back m = omega arith
-
-abbrev Case : Bool → Type 0 → Type 0 → Type 0
-Case true A B = A
-Case false A B = B
-
--- the case of the refusal k of a check, with the numbers that it gives
-abbrev CaseOf : Input → ℕ → ℕ → ℕ → Type 0
-CaseOf I k a b =
-    Case (eqb k 8) (short I ≡ true)
-    (Case (eqb k 3) ((short I ≡ false) × (inRanges I ≡ false))
-    (Case (eqb k 5) (Usable I × Lowest (I .n) (marginFails (problem I)) (a - 1))
-    (Case (eqb k 6) (Usable I × (Margins (problem I) × Lowest (I .n) (exceeds (problem I)) (a - 1)))
-    (Case (eqb k 7) (LargeInverse I (a - 1) (b - 1))
-    Unit))))
-
-stated-case : (I : Input) {w : List ℕ} → Stated I w → CaseOf I (getD w 0 0) (getD w 1 0) (getD w 2 0)
-stated-case I (too-short p) = p
-stated-case I (out-of-range p q) = (p, q)
-stated-case I (margin-low m u l p h) = (u, rw (back m) (record { below = l; here = p; before = h }))
-stated-case I (residual-large k u g l p h) = (u, (g, rw (back k) (record { below = l; here = p; before = h })))
-stated-case I (inverse-large j k u g r lj lk p q h) = rw (back j, back k) (u, (g, (r, (lj, (q, record { below = lk; here = p; before = h })))))
-stated-case I (accepted u x) = tt
-
-module _ (I : Input) (r : Outcome) (E L : List ℕ) (x : Checked I r E L) where
-  case-of : {w : List ℕ} → said r ≡ w → CaseOf I (getD w 0 0) (getD w 1 0) (getD w 2 0)
-  case-of {w} e = stated-case I (check-refuses-as-stated I r E L x w .0 e)
-
-  said-as : {w : List ℕ} → Stated I w → said r ≡ w
-  said-as {w} y = check-refuses-as-stated I r E L x w .1 y
-
 pub short-list-is-8 : document.ShortListIs8
 short-list-is-8 I r E L x = (case-of I r E L x, λ p. said-as I r E L x (too-short p))
 
@@ -239,14 +199,6 @@ large-inverse-is-7 I r E L x j k = (
 )
 
 -- ---- Refused for how far the desk has come
-never-15 : {I : Input} {w : List ℕ} → Stated I w → w ≡ 15 ∷ [] → ⊥
-never-15 (too-short p) e = let z : _≡_ {A = ℕ} 8 15 = cc in omega (arith, z)
-never-15 (out-of-range p q) e = let z : _≡_ {A = ℕ} 3 15 = cc in omega (arith, z)
-never-15 (margin-low m u l p h) e = let z : _≡_ {A = ℕ} 5 15 = cc in omega (arith, z)
-never-15 (residual-large k u g l p h) e = let z : _≡_ {A = ℕ} 6 15 = cc in omega (arith, z)
-never-15 (inverse-large j k u g r lj lk p q h) e = let z : _≡_ {A = ℕ} 7 15 = cc in omega (arith, z)
-never-15 (accepted u x) e = let z : _≡_ {A = ℕ} 0 15 = ap (λ (l : List ℕ). getD l 0 0) e in omega (arith, z)
-
 pub not-ended-is-15 : document.NotEndedIs15
 not-ended-is-15 s I r E L x =
     let f = through-refuses-as-stated s I r E L x (15 ∷ []) in

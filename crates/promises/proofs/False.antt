@@ -6,7 +6,7 @@ use Prim.Native.Nat.{ℕ, zero, suc, _<_}
 use native.Mathlib.Omega.{arith}
 use lib.Dec.{lit<, lit≤}
 use lib.IntN.{pos, natAbs, _*ℤ_}
-use lib.ListN.{getD, length}
+use lib.ListN.{getD, length, replicate}
 use lib.Signed.{leZ}
 use Rattle.integer.specs.Finite.{every, sum, sumℕ, largest, first}
 use Rattle.integer.specs.Quotient.{ceilDiv, roundDiv}
@@ -14,7 +14,7 @@ use Rattle.integer.proofs.Search.{clash}
 use Rattle.linear.specs.Matrix.{apply, product, identity}
 use Rattle.rules.specs.Range.{ranges, rangeOf, inRange, allInRange}
 use Rattle.rules.specs.declared.Outcome.the-variants as outcome
-use Rattle.rules.specs.declared.Refusal.the-variants.{TooShort}
+use Rattle.rules.specs.declared.Refusal.the-variants.{TooShort, Missing}
 use Rattle.entry.specs.Entry.{entryValue, entryBound}
 use Rattle.entry.specs.Register.{RegisteredAs}
 use Rattle.entry.specs.declared.Registered.the-variants.{Entry}
@@ -26,6 +26,7 @@ use Rattle.checked.specs.Order.{checkedOf, answer}
 use Rattle.checked.specs.Stated.{Stated}
 use Rattle.checked.proofs.Contract.{checked-ready, checked-short}
 use Rattle.checked.proofs.Statements.{stated}
+use Rattle.checked.proofs.Written.{checked-solution, checked-inverse}
 use Rattle.dependent.specs.Example.{both}
 use Rattle.dependent.specs.Nets.{Nets, nets, attached}
 use Rattle.dependent.specs.Stated.{StatedDependent, too-short}
@@ -34,13 +35,25 @@ use Rattle.dependent.proofs.Contract.{together-dependent}
 use Rattle.dependent.proofs.Instance.{accepted-here}
 use Rattle.dependent.proofs.Largest.{joint-none}
 use Rattle.dependent.proofs.Statements.{said-of-dependent}
+use Rattle.form.specs.Form.{end}
+use Rattle.form.specs.Spelling.{spell}
+use Rattle.bit_set.specs.Places.{lacking as lackingIn}
+use Rattle.given_forms.specs.Progress.{missing}
+use Rattle.given_forms.specs.declared.Stage.the-variants.{Scaled}
+use Rattle.loader.specs.Answer.{lineAnswer}
+use Rattle.loader.specs.Taken.{TakenAs}
+use Rattle.loader.specs.declared.Loader.{Loader}
+use Rattle.loader.proofs.Said.{refused-leaves}
+use Rattle.line_runs.specs.Read.{zeros}
+use Rattle.line_stated.specs.Stated.{OwnSize, Unrepeated, forms-missing}
+use Rattle.line_stated.proofs.Stated.{line-exactly}
 use Rattle.listing.specs.Cases.{wholeFile, wholeListing}
 use Rattle.listing.specs.Listing.{ListedAs}
+use Rattle.listing.proofs.Entire.{zeros-long}
 use Rattle.listing.proofs.Table.{whole-file}
-use Rattle.promises.specs.Document01.{Lowest}
 use Rattle.promises.specs.False as wrong
-use Rattle.promises.specs.Ways.{on-lists}
-use Rattle.promises.proofs.Ways.{solution-at, inverse-at, accepted-sound}
+use Rattle.promises.specs.Ways.{Lowest, on-lists}
+use Rattle.promises.proofs.Ways.{accepted-sound}
 
 -- ---- A = (4 0 / 1 4) with a poor second column of the inverse is accepted, its first limit is written, and its inverse limits of row 1 are 0 and 2
 abbrev poor : Input
@@ -71,13 +84,13 @@ pub not-accepted-leaves : wrong.AcceptedLeaves → ⊥
 not-accepted-leaves h =
     let kept : getD heights 0 0 ≡ getD (poor .solutionBounds) 0 0 =
     ap (λ (l : List ℕ). getD l 0 0) (h poor outcome.Accepted heights inverses poor-checked refl .0) in
-    let limit : getD heights 0 0 ≡ 0 = solution-at poor outcome.Accepted heights inverses poor-checked refl 0 (lit< tt) ∙ poor-limits .0 in
+    let limit : getD heights 0 0 ≡ 0 = checked-solution poor outcome.Accepted heights inverses poor-checked refl 0 (lit< tt) ∙ poor-limits .0 in
     omega (arith, kept, limit)
 
 pub not-first-column-everywhere : wrong.FirstColumnEverywhere → ⊥
 not-first-column-everywhere h =
     let told = h (problem poor) _ _ (on-lists poor outcome.Accepted heights inverses poor-checked refl) 0 1 (lit< tt) (lit< tt) ∙ poor-limits .1 .0 in
-    let limit = inverse-at poor outcome.Accepted heights inverses poor-checked refl 0 1 (lit< tt) (lit< tt) ∙ poor-limits .1 .1 in
+    let limit = checked-inverse poor outcome.Accepted heights inverses poor-checked refl 0 1 (lit< tt) (lit< tt) ∙ poor-limits .1 .1 in
     let z : _≡_ {A = ℕ} 0 2 = sym told ∙ limit in
     omega (arith, z)
 
@@ -141,7 +154,7 @@ pub not-limit-without-tolerance : wrong.LimitWithoutTolerance → ⊥
 unfolding largest ceilDiv residual apply sum margin load defect product identity sumℕ
 not-limit-without-tolerance h =
     let told = h (problem loose) _ _ (on-lists loose outcome.Accepted _ _ loose-checked refl) 0 (lit< tt) in
-    let limit = solution-at loose outcome.Accepted _ _ loose-checked refl 0 (lit< tt) ∙ loose-limit in
+    let limit = checked-solution loose outcome.Accepted _ _ loose-checked refl 0 (lit< tt) ∙ loose-limit in
     let z : _≡_ {A = ℕ} 0 48 = sym told ∙ limit in
     omega (arith, z)
 
@@ -182,3 +195,35 @@ unfolding roundDiv
 not-halves-toward-zero h =
     let told = h (pos 8) 0 4 (entryValue 4 (pos 8)) (entryBound 4 (pos 8) 0) half-way .1 refl in
     omega (arith, told)
+
+-- ---- an end at a desk of n = 1 that was given problem and scale alone: four forms are missing, one of them the row of the inverse
+abbrev begun : Loader
+begun = record { n = 1; s = 0; t = 0; stage = Scaled; sets = replicate 5 0 }
+
+begun-own : OwnSize begun
+unfolding inRange rangeOf ranges
+begun-own e = refl
+
+begun-end : Unrepeated begun zeros (spell end) end
+unfolding spell
+begun-end = record {
+  formed = record { long = zeros-long; going = refl; few = lit≤ tt; spelled = refl };
+  timely = refl;
+  place = refl;
+  first = refl;
+}
+
+begun-said : lineAnswer begun zeros (spell end) ≡ 13 ∷ 4 ∷ []
+unfolding missing lackingIn sumℕ
+begun-said = line-exactly begun zeros (spell end) begun-own (13 ∷ 4 ∷ []) .1 (forms-missing end begun-end refl refl refl)
+
+begun-taken : TakenAs begun (spell end) zeros (record { loader = begun; outcome = outcome.Refused (Missing 4) }) zeros
+begun-taken =
+    let left = refused-leaves begun zeros (spell end) begun-said in
+    record { says = sym begun-said; loader = sym (left .0); lists = sym (left .1) }
+
+pub not-three-kinds-missing : wrong.ThreeKindsMissing → ⊥
+unfolding sumℕ
+not-three-kinds-missing h =
+    let z : _≡_ {A = ℕ} 4 3 = h begun (spell end) zeros _ zeros begun-taken 4 refl .0 in
+    omega (arith, z)

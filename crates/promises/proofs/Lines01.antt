@@ -1,6 +1,6 @@
 -- The theorems for specs/Lines01, a theorem for each statement.
 --   CaseOf d l line k — the case of the refusal k of a line, or of acceptance (0);  stated-case — what is stated has it
-use mathlib.Core.Bool.{Bool, true, false}
+use mathlib.Core.Bool.{true, false}
 use mathlib.Core.List.{List, [], _∷_}
 use mathlib.Core.Logic.{_⊎_, inl, inr}
 use mathlib.Core.Path.{_≡_, refl, sym, ap, subst, _∙_}
@@ -11,7 +11,8 @@ use borrow.Author.Tests.{ltb-true, lt-ltb}
 use lib.Dec.{eqb}
 use lib.ListN.{getD, length}
 use Rattle.integer.proofs.Search.{clash}
-use Rattle.form.specs.Form.{Form, problem, scale, row, right, rightWithin, guess, inverse, weight, end, spell}
+use Rattle.form.specs.Form.{Form, problem, scale, row, right, rightWithin, guess, inverse, weight, end}
+use Rattle.form.specs.Spelling.{spell}
 use Rattle.form.proofs.Printable.{spell-some, spell-no-feed}
 use Rattle.form.proofs.Spelling.{spelled-read}
 use Rattle.form_values.specs.Item.{itemOf, placed, outside, miscounted}
@@ -29,19 +30,17 @@ use Rattle.loader.specs.declared.Loader.{Loader}
 use Rattle.loader.specs.declared.Taken.{Taken}
 use Rattle.loader.proofs.Accepted.{accepted-form}
 use Rattle.loader.specs.Taken.{fresh}
-use Rattle.line_runs.specs.Run.{State, Made, forms}
+use Rattle.line_runs.specs.Run.{State, forms}
+use Rattle.line_runs.specs.Accepts.{Made}
 use Rattle.file_shape.specs.Given.{GivenBy}
 use Rattle.file_shape.proofs.Stage.{given-by}
 use Rattle.line_stated.specs.Stated as stated
 use Rattle.line_stated.specs.Stated.{Formed, Unrepeated, LineStated}
 use Rattle.promises.specs.Lines01.{InTime, notGiven}
 use Rattle.promises.specs.Lines01 as line
+use Rattle.promises.proofs.Cases01.{Case}
 use Rattle.promises.proofs.Demands.{line-refuses-as-stated}
 use Rattle.promises.proofs.Places.{took, own-places, other-places-kept, taken-run}
-
-abbrev Case : Bool → Type 0 → Type 0 → Type 0
-Case true A B = A
-Case false A B = B
 
 abbrev CaseOf : Loader → Lists → List ℕ → ℕ → Type 0
 CaseOf d l line k =

@@ -2,7 +2,8 @@
 use mathlib.Core.Path.{_≡_, refl, sym, subst, _∙_}
 use Prim.Native.Nat.{suc, _-_}
 use native.Mathlib.Omega.{arith}
-use Rattle.form.specs.Form.{spell, end}
+use Rattle.form.specs.Form.{end}
+use Rattle.form.specs.Spelling.{spell}
 use Rattle.form.proofs.Spelling.{read-spelled}
 use Rattle.lent_lists.specs.Lists.{Lists}
 use Rattle.lent_lists.proofs.Lists.{lists-≡}

@@ -1,6 +1,6 @@
 -- The theorems for specs/Paper02, a theorem for each statement.
 use mathlib.Core.Path.{sym, subst, _∙_}
-use Rattle.entry.specs.Entry.{EntryLimit}
+use Rattle.entry.specs.Limit.{EntryLimit}
 use Rattle.entry.proofs.Limit.{entry-limit, paper-limit}
 use Rattle.promises.specs.Paper02 as paper
 use Rattle.promises.proofs.Demands.{accepted-encloses}

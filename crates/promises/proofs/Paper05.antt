@@ -8,7 +8,7 @@ use native.Mathlib.Omega.{arith}
 use borrow.Author.Tests.{ltb-true, lt-ltb}
 use lib.Dec.{ltb}
 use Rattle.rules.specs.Range.{inRange, rangeOf, ranges}
-use Rattle.form.specs.Form.{spell}
+use Rattle.form.specs.Spelling.{spell}
 use Rattle.form.proofs.Rights.{right-unread}
 use Rattle.form.proofs.Spelling.{read-spelled}
 use Rattle.enclosure.specs.Reckoning.{rowSum, exceeds}

@@ -1,17 +1,12 @@
 -- The theorems for specs/Paper08, a theorem for each statement.
 use mathlib.Core.List.{List, []}
 use mathlib.Core.Path.{_≡_, refl, sym, subst, _∙_}
-use Prim.Native.Nat.{ℕ, _+_, _*_, _/_, _%_, _<_}
+use Prim.Native.Nat.{ℕ}
 use native.Mathlib.Omega.{arith}
-use lib.ListN.{getD}
 use Rattle.linear.specs.Matrix.{apply}
-use Rattle.linear.proofs.Places.{place, square, place-column, place-row}
 use Rattle.linear.proofs.Written.{front-at}
-use Rattle.enclosure.specs.Reckoning.{bound, inverseBound}
-use Rattle.checked.specs.Checked.{inverseAfter}
-use Rattle.checked.specs.Input.{Input, problem}
-use Rattle.checked.proofs.Fit.{Fit, fit-of}
-use Rattle.checked.proofs.Statements.{accepted-usable}
+use Rattle.checked.proofs.Fit.{Fit}
+use Rattle.checked.proofs.Written.{accepted-fit, solution-at, inverse-at}
 use Rattle.dependent.specs.Nets.{Nets, attached}
 use Rattle.dependent.specs.Order.{saidNets, jointAnswer}
 use Rattle.dependent.specs.Reckoning.{dependentResidual, dependentSlack, dependentBound}
@@ -32,19 +27,12 @@ pub dependent-slack-is : paper.DependentSlackIs
 unfolding dependentSlack
 dependent-slack-is J k = refl
 
--- the inverse limits that a check wrote, where it is accepted
-inverse-at : (I : Input) → Fit I → (i j : ℕ) → i < I .n → j < I .n → getD (inverseAfter [] I) (i * I .n + j) 0 ≡ inverseBound (problem I) i j
-inverse-at I fit i j li lj =
-    front-at (I .inverseBounds) (λ (k : ℕ). inverseBound (problem I) (k / I .n) (k % I .n)) 0 (I .n * I .n) (i * I .n + j) (place li lj)
-    (omega (arith, square (fit .few), fit .inverse-long))
-    ∙ rw (place-column i j (I .n) lj, place-row i j (I .n) lj)
-
 module _ (J : Nets) (r : CheckedNets) (E₁ L₁ E₂ L₂ : List ℕ) (x : CheckedTogether J r E₁ L₁ E₂ L₂) (e : saidNets r ≡ []) where
   none : jointAnswer J ≡ []
   none = sym (x .says) ∙ e
 
   main-fit : Fit (J .main)
-  main-fit = let u = accepted-usable (J .main) (joint-none J none .0) in fit-of (J .main) (u .long) (u .inside)
+  main-fit = accepted-fit (J .main) (joint-none J none .0)
 
   dependent-fit : Fit (J .dependent)
   dependent-fit = own-fit (attached J) (passed-of (attached J) (joint-none J none .1) .usable)
@@ -54,7 +42,7 @@ both-limits-reckoned J r E₁ L₁ E₂ L₂ x e =
     let f = main-fit J r E₁ L₁ E₂ L₂ x e in
     let g = dependent-fit J r E₁ L₁ E₂ L₂ x e in
     let z = none J r E₁ L₁ E₂ L₂ x e in (
-      λ i l. rw (x .main-solution, z) (front-at (J .main .solutionBounds) (bound (problem (J .main))) 0 (J .main .n) i l (omega (arith, f .few, f .solution-long))),
+      λ i l. rw (x .main-solution, z) (solution-at (J .main) f i l),
       λ i l. rw (x .dependent-solution, z) (front-at (J .dependent .solutionBounds) (dependentBound (attached J)) 0 (J .dependent .n) i l (omega (arith, g .few, g .solution-long))),
     )
 

@@ -1,8 +1,7 @@
 -- The theorems for specs/Paper14, a theorem for each statement.
-use mathlib.Core.Path.{refl, sym, ap, subst, _∙_}
+use mathlib.Core.Path.{refl, sym, subst, _∙_}
 use lib.ListN.{length}
-use Rattle.old_edition.specs.Converted.{convertAnswer}
-use Rattle.old_edition.specs.File.{newFile, oldForms}
+use Rattle.old_edition.specs.File.{oldForms}
 use Rattle.old_edition.specs.Stated.{ConvertStated}
 use Rattle.old_edition.proofs.Promises.{old-desk, equal-checks, same-again, again, alike}
 use Rattle.old_edition.proofs.Stated.{convert-stated, stated-said}
@@ -24,14 +23,14 @@ pub checks-equal : paper.ChecksEqual
 checks-equal file old new r x e = equal-checks file (length old) (sym (x .says) ∙ e)
 
 pub converted-again : paper.ConvertedAgain
-converted-again file old new old′ new′ r r′ x e same y =
+converted-again file old new old′ new′ r r′ x e fits y =
     let z = sym (x .says) ∙ e in
-    (y .says ∙ ap (convertAnswer (newFile file)) (sym same) ∙ again file (length old) z, same-again file (length old) z)
+    (y .says ∙ again file (length old) z (length old′) fits, same-again file (length old) z)
 
 pub equal-numbers-equal-bytes : paper.EqualNumbersEqualBytes
-equal-numbers-equal-bytes file other old new old′ new′ r r′ x e c z same long y =
-    let a = alike file (length old) (sym (x .says) ∙ e) other c z same in
-    (y .says ∙ ap (convertAnswer other) (sym long) ∙ a .0, a .1)
+equal-numbers-equal-bytes file other old new old′ new′ r r′ x e c z same fits y =
+    let a = alike file (length old) (sym (x .says) ∙ e) (length old′) fits other c z same in
+    (y .says ∙ a .0, a .1)
 
 pub convert-refuses-as-stated : paper.ConvertRefusesAsStated
 convert-refuses-as-stated file old new r x w =

@@ -17,7 +17,8 @@ use lib.IntN.{ℤ, pos, natAbs}
 use lib.ListN.{getD, length}
 use lib.Seq.{sets}
 use Rattle.rules.specs.Refusal.{said}
-use Rattle.form.specs.Form.{Form, spell}
+use Rattle.form.specs.Form.{Form}
+use Rattle.form.specs.Spelling.{spell}
 use Rattle.form.proofs.Spelling.{read-spelled}
 use Rattle.form_values.specs.Item.{itemOf, partIndex}
 use Rattle.form_values.specs.declared.Item.{Item}
@@ -27,7 +28,8 @@ use Rattle.form_values.specs.declared.Part.the-variants as part
 use Rattle.form_values.proofs.Capped.{part-same}
 use Rattle.lent_list.specs.Filled.{filled}
 use Rattle.lent_list.proofs.Filled.{filled-given, filled-past}
-use Rattle.lent_lists.specs.Lists.{Lists, listOf}
+use Rattle.lent_lists.specs.Lists.{Lists}
+use Rattle.lent_lists.specs.ListOf.{listOf}
 use Rattle.lent_lists.specs.Put.{put}
 use Rattle.lent_lists.specs.Slot.{Slot, Matrix, Right, Tolerance, Guess, Inverse, Weight, partOf, width, valuesFor}
 use Rattle.given_forms.specs.Progress.{given, setOf}
@@ -37,7 +39,8 @@ use Rattle.loader.specs.declared.Loader.{Loader}
 use Rattle.loader.specs.declared.Taken.{Taken}
 use Rattle.loader.proofs.Accepted.{Accepted, accepted-form}
 use Rattle.line_runs.specs.Holds.{HoldsItem, HoldsPart}
-use Rattle.line_runs.specs.Run.{State, step, run, Accepts, Made}
+use Rattle.line_runs.specs.Run.{State, step}
+use Rattle.line_runs.specs.Accepts.{run, Accepts, Made}
 use Rattle.line_runs.proofs.Cells.{sets-before, sets-after}
 use Rattle.line_runs.proofs.Collected as collected
 use Rattle.line_runs.proofs.Sound.{made-sound}

@@ -26,7 +26,8 @@ use Rattle.line_runs.specs.Run.{forms}
 use Rattle.file_shape.specs.Shape.{Shaped}
 use Rattle.refusal.specs.Reply.{replyOf}
 use Rattle.refusal.specs.declared.FileAnswer.{FileAnswer}
-use Rattle.listing.specs.Listing.{Complete, ListedAs, AnsweredAs}
+use Rattle.listing.specs.Listing.{ListedAs, AnsweredAs}
+use Rattle.listing.specs.Complete.{Complete}
 use Rattle.promises.specs.Ways.{Accepted}
 
 -- ---- How good the limits are

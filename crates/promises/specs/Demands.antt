@@ -26,7 +26,7 @@ use Rattle.lent_lists.specs.Lists.{Lists}
 use Rattle.loader.specs.Taken.{TakenAs}
 use Rattle.loader.specs.declared.Loader.{Loader}
 use Rattle.loader.specs.declared.Taken.{Taken}
-use Rattle.line_runs.specs.Run.{Made}
+use Rattle.line_runs.specs.Accepts.{Made}
 use Rattle.line_stated.specs.Stated.{OwnSize, LineStated, OtherStated}
 use Rattle.form.specs.Form.{bytes}
 use Rattle.report.specs.Report.{reportOf}
@@ -34,7 +34,8 @@ use Rattle.refusal.specs.Reply.{replyOf}
 use Rattle.refusal.specs.declared.FileAnswer.{FileAnswer}
 use Rattle.file_check.specs.Judged.{reportedOf, lineOr}
 use Rattle.file_stated.specs.Stated.{FileStated}
-use Rattle.listing.specs.Listing.{problemIn, Complete, ListedAs, AnsweredAs}
+use Rattle.listing.specs.Listing.{problemIn, ListedAs, AnsweredAs}
+use Rattle.listing.specs.Complete.{Complete}
 use Rattle.promises.specs.Ways.{Refused, Accepted, StatedThrough}
 
 -- ---- Demand 1. That no call stops short, runs on, wraps or reads outside its lists, no contract says: the prover shows it of every function with a body,

@@ -23,7 +23,8 @@ use Rattle.listing.specs.Listing.{problemIn}
 use Rattle.reply.specs.Told.{Told}
 use Rattle.calls.specs.Exported.{CheckExported, ListingExported}
 use Rattle.calls.specs.Half.{HalfExported}
-use Rattle.calls.specs.Loader.{LoaderTakeExported, LoaderCheckExported, Turns, kept}
+use Rattle.calls.specs.Loader.{LoaderTakeExported, LoaderCheckExported}
+use Rattle.calls.specs.Turns.{Turns, kept}
 use Rattle.promises.specs.Ways.{Accepted, StatedThrough}
 
 -- what number and places stand for has its stated case

@@ -1,4 +1,5 @@
--- 02, Paper 1. Weights may be left out. "makes the weight form optional": `Shape` asks a weight once or not at all (`WholeFilesShaped` of Document01).
+-- 02, Paper 1. Weights may be left out. "The new edition of the register's file rules makes the weight form optional, because most offices send 1 everywhere":
+-- `Shape` asks a weight once or not at all (`WholeFilesShaped` of Document01).
 use mathlib.Core.Bool.{true, false}
 use mathlib.Core.List.{List, []}
 use mathlib.Core.Path.{_≡_}
@@ -6,7 +7,8 @@ use Prim.Native.Nat.{ℕ, suc, _≤_, _<_}
 use lib.IntN.{pos}
 use lib.ListN.{getD, take}
 use Rattle.rules.specs.Refusal.{said}
-use Rattle.form.specs.Form.{spell, end}
+use Rattle.form.specs.Form.{end}
+use Rattle.form.specs.Spelling.{spell}
 use Rattle.form_values.specs.declared.Part.the-variants.{Weight}
 use Rattle.lent_lists.specs.Lists.{Lists, lists}
 use Rattle.given_forms.specs.Progress.{given}
@@ -16,7 +18,8 @@ use Rattle.loader.specs.declared.Taken.{Taken}
 use Rattle.line_runs.specs.Lines.{linesOf}
 use Rattle.line_runs.specs.Run.{forms}
 use Rattle.listing.specs.LeftOut.{OnlyOnes, NoWeights, SameOthers}
-use Rattle.listing.specs.Listing.{Complete, ListedAs}
+use Rattle.listing.specs.Listing.{ListedAs}
+use Rattle.listing.specs.Complete.{Complete}
 
 -- "A weight not given stands for 1, and an accepted end writes 1 into every such place of the lent list": the others stay, and so do the other lists
 abbrev pub EndWritesOnes : Type 0

@@ -1,11 +1,12 @@
--- 02, Paper 2. An entry must cover its own rounding. "entry limit is (E + |X − S·V|)/S rounded up": `EntryLimited` of Document01. "The solution lines are
--- unaffected": the line of a solution (`solutionLine` of report/specs/Report) has guess and limit alone.
+-- 02, Paper 2. An entry must cover its own rounding. "Register readers take the entry's limit as the distance from the printed whole unit": `EntryEncloses`,
+-- `EntryLeast`. "entry limit is (E + |X − S·V|)/S rounded up": `EntryLimited` of Document01. "The solution lines are unaffected": the line of a solution
+-- (`solutionLine` of report/specs/Report) has guess and limit alone.
 use mathlib.Core.Path.{_≡_}
 use Prim.Native.Nat.{ℕ, _^_}
 use lib.IntN.{ℤ, pos}
 use Rattle.integer.specs.Quotient.{ceilDiv}
 use Rattle.linear.specs.Matrix.{Vec}
-use Rattle.entry.specs.Entry.{EntryLimit}
+use Rattle.entry.specs.Limit.{EntryLimit}
 use Rattle.entry.specs.Register.{RegisteredAs}
 use Rattle.entry.specs.declared.Registered.the-variants.{Entry}
 use Rattle.enclosure.specs.Demand.{ExactSolution, RightSide, ExactSolutionOf, InEntryLimits}

@@ -1,4 +1,5 @@
--- 02, Paper 3. Equations from the field lines. The distinct lines and what each adds: observation/specs/Distinct.
+-- 02, Paper 3. Equations from the field lines. "Offices wish to send the crew's work and have the equations built" is its reason. The distinct lines and what
+-- each adds: observation/specs/Distinct.
 use mathlib.Core.Bool.{cond}
 use mathlib.Core.List.{List, [], _∷_, _++_}
 use mathlib.Core.Logic.{_↔_}
@@ -19,8 +20,7 @@ use Rattle.equations.specs.declared.Layout.{Layout}
 use Rattle.equations.specs.declared.Layout.the-variants.{Square}
 use Rattle.built.specs.BuiltAs.{shortFor, BuiltAs}
 use Rattle.built.specs.Diagonal.{TwiceTheWeight}
-use Rattle.promises.specs.Document01.{RangeIs}
-use Rattle.promises.specs.Ways.{Refused}
+use Rattle.promises.specs.Ways.{RangeIs, Refused}
 
 -- "A field line has a key (1 to 65,535), two marks from and to (0 to n [..]), a difference in whole units (−65,536 to 65,536) and a weight (1 to 64)". A mark is
 -- one of 32 here, and at most n by `outsideRange` of observation/specs/Line; "0 is the fixed mark of height 0": `FitAll` of observation/specs/Heights
@@ -28,8 +28,9 @@ abbrev pub LinesRanged : Type 0
 LinesRanged =
     RangeIs kind.Key (pos 1) (pos 65535) × (RangeIs kind.Mark (pos 0) (pos 32) × (RangeIs kind.Difference (negℤ (pos 65536)) (pos 65536) × RangeIs kind.LineWeight (pos 1) (pos 64)))
 
--- "The builder [..] fills matrix and right side from zero. A line adds its weight to the diagonal of each new mark it touches and takes it from both places that
--- join two new marks"; "a key met again with equal contents counts once" (`distinct`). Row i is that of mark i + 1
+-- "The builder takes a list of field lines, at most 256 (`BuildRefusesAsStated`), and fills matrix and right side from zero. A line adds its weight to the
+-- diagonal of each new mark it touches and takes it from both places that join two new marks"; "Imports are retried, so a key met again with equal contents
+-- counts once" (`distinct`). Row i is that of mark i + 1
 abbrev pub MatrixFilled : Type 0
 MatrixFilled =
     (n : ℕ) (ls : List Observation) (a b : List ℤ) (r : Built) (a′ b′ : List ℤ) → BuiltAs n ls Square a b r a′ b′ → saidBuilt r ≡ [] → (i j : ℕ) → i < n → j < n →

@@ -1,4 +1,4 @@
--- 02, Paper 5. Right sides with a tolerance.
+-- 02, Paper 5. Right sides with a tolerance. "Differences are known to a reading limit, and offices want it inside the height's limit": `ToleranceEnclosed`.
 use mathlib.Core.Bool.{true}
 use mathlib.Core.List.{List, _++_}
 use mathlib.Core.Logic.{_↔_, _⊎_}
@@ -10,15 +10,15 @@ use Rattle.integer.specs.Finite.{sumℕ}
 use Rattle.linear.specs.Matrix.{Vec}
 use Rattle.rules.specs.declared.Kind.the-variants as kind
 use Rattle.numeral.specs.Decimal.{numeral}
-use Rattle.form.specs.Form.{Form, right, rightWithin, spell, bytes, numerals}
+use Rattle.form.specs.Form.{Form, right, rightWithin, bytes}
+use Rattle.form.specs.Spelling.{spell, numerals}
 use Rattle.enclosure.specs.Demand.{RightSide, ExactSolutionOf, InLimits}
 use Rattle.enclosure.specs.Problem.{Problem, S, columnOf}
 use Rattle.enclosure.specs.Reckoning.{residual, exceeds}
 use Rattle.lent_lists.specs.Lists.{Lists}
 use Rattle.loader.specs.Taken.{listsWith}
 use Rattle.loader.specs.declared.Loader.{Loader}
-use Rattle.promises.specs.Document01.{RangeIs}
-use Rattle.promises.specs.Ways.{Accepted}
+use Rattle.promises.specs.Ways.{RangeIs, Accepted}
 
 -- "The form (right i (b d)) gives a tolerance d of 0 to 2^20"
 abbrev pub ToleranceRanged : Type 0

@@ -1,4 +1,4 @@
--- 02, Paper 7. Weights found by the program. The sequence: weight_sequence/specs/Sequence.
+-- 02, Paper 7. Weights found by the program. "Some solvers supply no useful weights" is its reason. The sequence: weight_sequence/specs/Sequence.
 use mathlib.Core.Bool.{true}
 use mathlib.Core.List.{List, [], _∷_}
 use mathlib.Core.Logic.{_↔_}
@@ -8,7 +8,7 @@ use lib.IntN.{ℤ, pos, natAbs}
 use Rattle.integer.specs.Finite.{sumℕ, largest}
 use Rattle.linear.specs.Slice.{at}
 use Rattle.rules.specs.declared.Kind.the-variants as kind
-use Rattle.enclosure.specs.Demand.{Margins}
+use Rattle.enclosure.specs.Sound.{Margins}
 use Rattle.enclosure.specs.Problem.{Problem, problemOf}
 use Rattle.enclosure.specs.Reckoning.{defect}
 use Rattle.weight_sequence.specs.Promised.{SearchStated, UsableRequest, PlaceOfFirstGood, NoGood, allowing}
@@ -16,8 +16,7 @@ use Rattle.weight_sequence.specs.Request.{Request, searchProblem}
 use Rattle.weight_sequence.specs.Search.{saidFound, countOf, passed, FoundAs}
 use Rattle.weight_sequence.specs.Sequence.{good, tried, weighted}
 use Rattle.weight_sequence.specs.declared.Found.{Found}
-use Rattle.promises.specs.Document01.{RangeIs}
-use Rattle.promises.specs.Ways.{Refused}
+use Rattle.promises.specs.Ways.{RangeIs, Refused}
 
 -- "Begin with 1 everywhere"
 abbrev pub BeginsWithOnes : Type 0

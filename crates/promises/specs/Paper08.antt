@@ -1,4 +1,5 @@
--- 02, Paper 8. A net hung from another. Net 1 is the main net, net 2 the dependent one.
+-- 02, Paper 8. A net hung from another. "A suburb's net often starts from marks of a checked main net" is its reason. Net 1 is the main net, net 2 the
+-- dependent one.
 use mathlib.Core.List.{List, [], _∷_}
 use mathlib.Core.Logic.{_↔_}
 use mathlib.Core.Path.{_≡_}
@@ -21,7 +22,9 @@ use Rattle.dependent.specs.Together.{CheckedTogether}
 use Rattle.dependent.specs.declared.CheckedNets.{CheckedNets}
 use Rattle.promises.specs.Ways.{Refused}
 
--- "a hung net has equations A2·u2 = b2 − C·u1": `JointSolution` of dependent/specs/Joint. "Demand 3's second half is not asked of a hung net": there is no such statement.
+-- "a hung net has equations A2·u2 = b2 − C·u1": `JointSolution` of dependent/specs/Joint; "with C in the matrix range", "both nets at the same s":
+-- `TogetherRefusesAsStated`. "Demand 3's second half is not asked of a hung net, since a rounded one may meet 6
+-- through its slack": there is no such statement.
 -- "Its residual is S·b2 − C·X1 − A2·X2", C "row after row without gaps", "one row for each hung mark and one column for each main mark"
 abbrev pub DependentResidualIs : Type 0
 DependentResidualIs =

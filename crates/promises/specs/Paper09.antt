@@ -1,5 +1,6 @@
--- 02, Paper 9. Poor guesses no longer pass. "6 and 7 take the added condition, in their old places": `LargeResidualIs6`, `LargeInverseIs7` of Document01;
--- "The 2^25 test with slack also stays": `ResidualWithSlack` of Paper05.
+-- 02, Paper 9. Poor guesses no longer pass. "Offices entered guesses that were legal and hopeless, with limits of many metres" is its reason. "6 and 7 take the
+-- added condition, in their old places": `LargeResidualIs6`, `LargeInverseIs7` of Document01; "The 2^25 test with slack also stays": `ResidualWithSlack` of
+-- Paper05.
 use mathlib.Core.Bool.{true}
 use mathlib.Core.List.{[]}
 use mathlib.Core.Path.{_≡_}

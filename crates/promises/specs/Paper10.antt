@@ -1,4 +1,5 @@
--- 02, Paper 10. Half the matrix. Rows, columns and places count from 0 here.
+-- 02, Paper 10. Half the matrix. "Levelling equations are symmetric, and phones send only the lower half" is its reason. Rows, columns and places count from 0
+-- here.
 use mathlib.Core.Bool.{false}
 use mathlib.Core.List.{List, [], _∷_}
 use mathlib.Core.Path.{_≡_}
@@ -18,7 +19,8 @@ use Rattle.observation.specs.declared.Observation.{Observation}
 use Rattle.equations.specs.declared.Layout.the-variants.{Square, Lower}
 use Rattle.built.specs.BuiltAs.{shortFor, BuiltAs}
 
--- "A second entry takes A as rows of 1, 2, .. n numbers, row i and column j (j up to i) at place i(i − 1)/2 + j from 1": so the filled-out matrix, on both sides
+-- "A second entry takes A as rows of 1, 2, .. n numbers, row i and column j (j up to i) at place i(i − 1)/2 + j from 1, in a list of at least 528
+-- (`ShortHalfIs8`)": so the filled-out matrix, on both sides
 abbrev pub FilledOutIs : Type 0
 FilledOutIs =
     (n : ℕ) (half : List ℤ) → n ≤ 32 → (i j : ℕ) → i < n → j ≤ i →

@@ -1,4 +1,5 @@
--- 02, Paper 11. Doubles in, doubles out. `whole x` is the double x in units of 2 ^ -1074, of which every finite double is a whole number; `unitsOf s z` are z steps.
+-- 02, Paper 11. Doubles in, doubles out. "Solvers hand over IEEE 754 doubles and design programs read them" is its reason. `whole x` is the double x in units
+-- of 2 ^ -1074, of which every finite double is a whole number; `unitsOf s z` are z steps.
 use mathlib.Core.Bool.{true, false}
 use mathlib.Core.List.{List, [], _∷_}
 use mathlib.Core.Logic.{_↔_}

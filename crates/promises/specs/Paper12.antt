@@ -2,7 +2,7 @@
 use Prim.Native.Nat.{ℕ}
 use Rattle.linear.specs.Matrix.{Vec, Mat}
 use Rattle.exact_solution.specs.Determined.{Solves, Inverse, Same}
-use Rattle.enclosure.specs.Demand.{OneHeight}
+use Rattle.enclosure.specs.Height.{OneHeight}
 use Rattle.enclosure.specs.Problem.{Problem}
 use Rattle.promises.specs.Ways.{Accepted}
 

@@ -1,4 +1,4 @@
--- 02, Paper 13. Two offices, same net.
+-- 02, Paper 13. Two offices, same net. "Two offices solve the same equations with different solvers and steps, and want what both together say" is its reason.
 use mathlib.Core.List.{List, []}
 use mathlib.Core.Logic.{_↔_}
 use mathlib.Core.Path.{_≡_}

@@ -2,14 +2,15 @@
 use mathlib.Core.List.{List, [], _∷_, _++_}
 use mathlib.Core.Logic.{_↔_}
 use mathlib.Core.Path.{_≡_}
-use Prim.Native.Nat.{ℕ}
+use Prim.Native.Nat.{ℕ, _≤_}
 use lib.IntN.{pos}
 use lib.ListN.{length, drop}
 use Rattle.form.specs.Form.{problem, scale, end}
 use Rattle.form_values.specs.declared.Part.the-variants.{Row, Right, Guess, Inverse, Weight}
 use Rattle.enclosure.specs.Demand.{NoTolerance}
 use Rattle.spelled_lines.specs.Ones.{textOf}
-use Rattle.listing.specs.Listing.{problemIn, Complete}
+use Rattle.listing.specs.Listing.{problemIn}
+use Rattle.listing.specs.Complete.{Complete}
 use Rattle.old_edition.specs.Converted.{saidConverted, lengthOf, ConvertedAs}
 use Rattle.old_edition.specs.Edition.{CompleteOld}
 use Rattle.old_edition.specs.File.{partsThen, newFile}
@@ -40,17 +41,17 @@ OldDeskReads = (file old new : List ℕ) (r : Converted) → ConvertedAs file ol
 abbrev pub ChecksEqual : Type 0
 ChecksEqual = (file old new : List ℕ) (r : Converted) → ConvertedAs file old new r → saidConverted r ≡ [] → EqualChecks file (newFile file)
 
--- "Converting a converted file gives equal bytes"
+-- "Converting a converted file gives equal bytes": into any buffer that these fit
 abbrev pub ConvertedAgain : Type 0
 ConvertedAgain =
-    (file old new old′ new′ : List ℕ) (r r′ : Converted) → ConvertedAs file old new r → saidConverted r ≡ [] → length old ≡ length old′ → ConvertedAs (newFile file) old′ new′ r′ →
+    (file old new old′ new′ : List ℕ) (r r′ : Converted) → ConvertedAs file old new r → saidConverted r ≡ [] → length (newFile file) ≤ length old′ → ConvertedAs (newFile file) old′ new′ r′ →
     (saidConverted r′ ≡ []) × (newFile (newFile file) ≡ newFile file)
 
 -- "and two files with equal numbers give equal bytes"
 abbrev pub EqualNumbersEqualBytes : Type 0
 EqualNumbersEqualBytes =
     (file other old new old′ new′ : List ℕ) (r r′ : Converted) → ConvertedAs file old new r → saidConverted r ≡ [] → Complete other → NoTolerance (problemIn other) →
-    SameNumbers (problemIn file) (problemIn other) → length old ≡ length old′ → ConvertedAs other old′ new′ r′ → (saidConverted r′ ≡ []) × (newFile other ≡ newFile file)
+    SameNumbers (problemIn file) (problemIn other) → length (newFile file) ≤ length old′ → ConvertedAs other old′ new′ r′ → (saidConverted r′ ≡ []) × (newFile other ≡ newFile file)
 
 -- "(The desk's refusals first, and 15 where the file stops before an end. New 22, after them, if any tolerance is above 0, or the output buffer is shorter than
 -- the new file" (`ConvertStated`)

@@ -1,15 +1,23 @@
 -- Words that many statements share. `said r` is nothing where a call accepts, else 01's number of the refusal and the places or the count that it gives.
+--   RangeIs k a b — a number of the kind k is in its range exactly where it is from a to b
+--   numbersOf ts — the numbers of tests, in their order
+--   Lowest n fails m — of the rows below n, m is the lowest that fails
 --   Refused w    — something is said
 --   Accepted P E L — the problem P was accepted with the limits E of the heights and L of the inverse: by a check on lists or through a loader, whose limits
 --     are what its two lists hold afterwards, row after row, by the lower half of its matrix, or as a file, whose limits are what its listing shows (Demands,
 --     `FileShowsLimits`)
 --   StatedThrough — the case that is stated for what a check through a loader says
-use mathlib.Core.Bool.{true, false}
-use mathlib.Core.List.{List, [], _∷_}
+use mathlib.Core.Bool.{Bool, true, false, _&&_}
+use mathlib.Core.List.{List, [], _∷_, map}
 use mathlib.Core.Path.{_≡_}
-use Prim.Native.Nat.{ℕ, _+_, _*_}
+use Prim.Native.Nat.{ℕ, _+_, _*_, _<_}
+use lib.IntN.{ℤ}
 use lib.ListN.{getD, take}
+use lib.Signed.{leZ}
+use Rattle.rules.specs.Order.{Test}
+use Rattle.rules.specs.Range.{inRange}
 use Rattle.rules.specs.Refusal.{said}
+use Rattle.rules.specs.declared.Kind.{Kind}
 use Rattle.rules.specs.declared.Outcome.{Outcome}
 use Rattle.enclosure.specs.Problem.{Problem}
 use Rattle.enclosure.specs.Reckoning.{bound, inverseBound}
@@ -23,6 +31,17 @@ use Rattle.loader_order.specs.Through.{CheckedThrough}
 use Rattle.form.specs.Form.{bytes}
 use Rattle.refusal.specs.declared.FileAnswer.{FileAnswer}
 use Rattle.listing.specs.Listing.{problemIn, ListedAs, AnsweredAs}
+
+abbrev pub RangeIs : Kind → ℤ → ℤ → Type 0
+RangeIs k a b = (z : ℤ) → inRange k z ≡ leZ a z && leZ z b
+
+abbrev pub numbersOf : List Test → List ℕ
+numbersOf ts = map (λ (t : Test). getD (t .says) 0 0) ts
+
+pub record Lowest (n : ℕ) (fails : ℕ → Bool) (m : ℕ) : Type 0 where
+  pub below : m < n
+  pub here : fails m ≡ true
+  pub before : (k : ℕ) → k < m → fails k ≡ false
 
 abbrev pub Refused : List ℕ → Type 0
 Refused w = w ≡ [] → ⊥

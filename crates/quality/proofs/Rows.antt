@@ -14,7 +14,7 @@ use lib.ListN.{getD}
 use Rattle.integer.specs.Finite.{first}
 use Rattle.integer.proofs.Search.{first-ext}
 use Rattle.linear.specs.Slice.{at}
-use Rattle.enclosure.specs.Demand.{Margins}
+use Rattle.enclosure.specs.Sound.{Margins}
 use Rattle.enclosure.specs.Problem.{Problem, T}
 use Rattle.enclosure.specs.Reckoning.{load, margin, marginFails}
 use Rattle.enclosure.proofs.Margin.{cut-test, margin-test, margin-sum, margin-above, margin-cut}

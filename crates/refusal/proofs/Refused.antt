@@ -18,7 +18,8 @@ use Rattle.listing_lines.specs.Line.{each, listLine}
 use Rattle.refusal.specs.declared.Reply.{Reply}
 use Rattle.refusal.specs.declared.FileAnswer.{FileAnswer}
 use Rattle.refusal.specs.Refused.{shown, printed, refusedOf}
-use Rattle.refusal.specs.Reply.{replyOf, Answered}
+use Rattle.refusal.specs.Reply.{replyOf}
+use Rattle.refusal.specs.Answered.{Answered}
 
 -- the numbers of its line
 abbrev numbers : ℕ → Refusal → List ℕ

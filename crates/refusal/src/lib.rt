@@ -5,7 +5,8 @@ ghost use Prim.Native.Nat.{_≤_};
 ghost use lib.ListN.{length, getD};
 ghost use Rattle.rules.specs.Refusal.{numberOf, valuesOf};
 ghost use Rattle.refusal.specs.Refused.{shown, printed, refusedOf};
-ghost use Rattle.refusal.specs.Reply.{replyOf, Answered};
+ghost use Rattle.refusal.specs.Reply.{replyOf};
+ghost use Rattle.refusal.specs.Answered.{Answered};
 use listing_lines::put_list;
 use rules::Refusal;
 

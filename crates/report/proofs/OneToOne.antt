@@ -13,7 +13,8 @@ use native.Mathlib.Omega.{arith}
 use lib.IntN.{ℤ, pos, natAbs}
 use lib.ListN.{getD, length, length-append}
 use Rattle.numeral.specs.Decimal.{decimal, numeral}
-use Rattle.form.specs.Form.{bytes, numerals}
+use Rattle.form.specs.Form.{bytes}
+use Rattle.form.specs.Spelling.{numerals}
 use Rattle.form.proofs.Lists.{tails, numerals-is}
 use Rattle.form.proofs.Printable.{printable, all-printable, one-no-feed, many-no-feed}
 use Rattle.form.proofs.Shapes.{one-spelled, many-spelled}

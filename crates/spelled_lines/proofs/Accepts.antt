@@ -19,7 +19,8 @@ use Rattle.rules.specs.declared.Kind.{Kind}
 use Rattle.rules.specs.declared.Kind.the-variants as kind
 use Rattle.rules.proofs.Ranges.{both-left, both-right}
 use Rattle.numeral.specs.Decimal.{numeral}
-use Rattle.form.specs.Form.{Form, problem, scale, row, right, rightWithin, guess, inverse, weight, end, spell, numerals}
+use Rattle.form.specs.Form.{Form, problem, scale, row, right, rightWithin, guess, inverse, weight, end}
+use Rattle.form.specs.Spelling.{spell, numerals}
 use Rattle.form.specs.List.{allInside}
 use Rattle.form.proofs.Spelling.{spelled-read, read-spelled}
 use Rattle.lent_lists.specs.Lists.{Lists, shortLists}

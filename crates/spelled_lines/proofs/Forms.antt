@@ -10,7 +10,8 @@ use borrow.Author.Tests.{le-ltb}
 use lib.IntN.{ℤ, pos, natAbs}
 use Rattle.rules.specs.Range.{inRange}
 use Rattle.rules.specs.declared.Kind.the-variants as kind
-use Rattle.form.specs.Form.{Form, problem, scale, end, spell}
+use Rattle.form.specs.Form.{Form, problem, scale, end}
+use Rattle.form.specs.Spelling.{spell}
 use Rattle.form_values.specs.Item.{itemOf, placed, outside, miscounted}
 use Rattle.lent_lists.specs.Lists.{Lists, shortLists}
 use Rattle.form_values.specs.declared.Item.the-variants.{Problem, Scale, Of, End}

@@ -18,7 +18,8 @@ use Rattle.integer.proofs.Search.{clash}
 use Rattle.rules.specs.Range.{inRange, rangeOf, ranges}
 use Rattle.rules.specs.declared.Kind.the-variants as kind
 use Rattle.rules.proofs.Ranges.{both}
-use Rattle.form.specs.Form.{Form, problem, scale, row, right, rightWithin, guess, inverse, weight, end, spell}
+use Rattle.form.specs.Form.{Form, problem, scale, row, right, rightWithin, guess, inverse, weight, end}
+use Rattle.form.specs.Spelling.{spell}
 use Rattle.form.specs.Reading.{reading}
 use Rattle.form_values.specs.Item.{itemOf, placed, partIndex}
 use Rattle.form_values.specs.declared.Item.the-variants.{Of}
@@ -33,7 +34,8 @@ use Rattle.loader.specs.Answer.{caseOf, lineAnswer}
 use Rattle.loader.specs.Taken.{after, loaderAfter}
 use Rattle.loader.proofs.Exact.{formCase, answer-form}
 use Rattle.loader.proofs.Accepted.{accepted-form}
-use Rattle.line_runs.specs.Run.{State, fromNew, step, run, Accepts, forms}
+use Rattle.line_runs.specs.Run.{State, fromNew, step, forms}
+use Rattle.line_runs.specs.Accepts.{run, Accepts}
 use Rattle.integer.specs.Among.{Among}
 use Rattle.line_runs.proofs.Sound.{Sound, fresh-sound, fresh-empty, line-sound}
 use Rattle.line_runs.proofs.Marks.{given-else, missing-kept}

@@ -4,7 +4,8 @@
 use mathlib.Core.Path.{_≡_, refl, ap, _∙_}
 use mathlib.Core.List.{List, [], _∷_, _++_}
 use Prim.Native.Nat.{ℕ, _+_}
-use Rattle.line_runs.specs.Run.{State, step, run, Accepts}
+use Rattle.line_runs.specs.Run.{State, step}
+use Rattle.line_runs.specs.Accepts.{run, Accepts}
 use Rattle.line_runs.specs.Read.{Reading, readFrom}
 use Rattle.line_runs.proofs.Read.{read-none, read-accepted}
 

@@ -10,7 +10,8 @@ use Prim.Native.Nat.{ℕ, suc}
 use borrow.Author.Tests.{ne-eqb}
 use lib.Dec.{T, eqb}
 use lib.ListN.{getD}
-use Rattle.form.specs.Form.{Form, spell}
+use Rattle.form.specs.Form.{Form}
+use Rattle.form.specs.Spelling.{spell}
 use Rattle.form.proofs.Printable.{spell-no-feed}
 use Rattle.line_runs.specs.Lines.{before, linesOf}
 use Rattle.line_runs.proofs.Passing.{spelled}

@@ -4,7 +4,8 @@
 use mathlib.Core.List.{List, [], _∷_, _++_}
 use Prim.Native.Nat.{ℕ, zero, suc}
 use lib.IntN.{pos}
-use Rattle.form.specs.Form.{Form, weight, spell}
+use Rattle.form.specs.Form.{Form, weight}
+use Rattle.form.specs.Spelling.{spell}
 
 unfoldable pub onesFrom : ℕ → ℕ → List Form
 onesFrom i zero = []

@@ -8,7 +8,7 @@ use native.Mathlib.Omega.{arith}
 use lib.IntN.{ℤ}
 use Rattle.integer.proofs.Search.{clash}
 use Rattle.rules.proofs.Verdicts.{nothing-is-not}
-use Rattle.enclosure.specs.Demand.{Margins}
+use Rattle.enclosure.specs.Sound.{Margins}
 use Rattle.enclosure.specs.Reckoning.{marginFails}
 use Rattle.checked.specs.Input as check
 use Rattle.checked.specs.Order as checking

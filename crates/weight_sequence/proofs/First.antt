@@ -13,7 +13,7 @@ use Rattle.integer.specs.Finite.{first}
 use Rattle.integer.proofs.Search.{Searched, found, nowhere, searched, first-past, first-never, first-is}
 use Rattle.enclosure.specs.Problem.{Problem}
 use Rattle.enclosure.specs.Reckoning.{marginFails}
-use Rattle.enclosure.specs.Demand.{Margins}
+use Rattle.enclosure.specs.Sound.{Margins}
 use Rattle.reckoning.proofs.Columns as columns
 use Rattle.weight_sequence.specs.Sequence.{weighted, tried, good, firstGood}
 

@@ -15,7 +15,7 @@ use Rattle.linear.proofs.Written.{front-at}
 use Rattle.rules.specs.Range.{allInRange}
 use Rattle.rules.specs.declared.Kind.the-variants as kind
 use Rattle.rules.proofs.AllInRange.{all-in}
-use Rattle.enclosure.specs.Demand.{Margins}
+use Rattle.enclosure.specs.Sound.{Margins}
 use Rattle.enclosure.specs.Problem.{Problem, problemOf}
 use Rattle.enclosure.specs.Reckoning.{defect, load, margin, marginFails}
 use Rattle.weight_sequence.specs.Sequence.{weighted, tried, firstGood}

@@ -21,7 +21,7 @@ use Rattle.rules.specs.Order.{Test, number, verdict, ifAccepted}
 use Rattle.rules.specs.Range.{allInRange}
 use Rattle.rules.specs.Refusal.{numberOf, valuesOf}
 use Rattle.rules.specs.declared.Kind.the-variants as kind
-use Rattle.enclosure.specs.Demand.{Margins}
+use Rattle.enclosure.specs.Sound.{Margins}
 use Rattle.enclosure.specs.Problem.{problemOf}
 use Rattle.weight_sequence.specs.Sequence.{tried, firstGood}
 use Rattle.weight_sequence.specs.declared.Found.{Found}

@@ -4,7 +4,7 @@ use native.Mathlib.Omega.{arith}
 use lib.ListN.{length}
 use Rattle.numeral.proofs.Places.{inside-byte}
 use Rattle.form.specs.Reading.{othersAt}
-use Rattle.form.specs.List.{listedAt}
+use Rattle.form.specs.ListAt.{listedAt}
 use Rattle.form.proofs.Turns.{listed, list-start, list-more, list-stop, list-out}
 use borrow.Author.Needs.{needs}
 use Rattle.form.proofs.list_at.Statement.{statement}

@@ -1,7 +1,8 @@
 use mathlib.Core.Path.{_≡_, _∙_}
 use Prim.Native.Nat.{_≤_, _-_}
 use lib.ListN.{length, drop}
-use Rattle.numeral.specs.Numeral.{runAt, capAt, cappedSize}
+use Rattle.numeral.specs.Numeral.{runAt, capAt}
+use Rattle.numeral.specs.Capped.{cappedSize}
 use Rattle.numeral.proofs.Steps.{run-digit, run-stop, run-end}
 use borrow.Author.Needs.{needs}
 use Rattle.numeral.proofs.run_at.Statement.{statement}

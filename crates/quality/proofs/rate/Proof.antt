@@ -3,7 +3,7 @@ use Prim.Native.Nat.{ℕ, _<_}
 use native.Mathlib.Omega.{arith}
 use lib.IntN.{natAbs}
 use Rattle.integer.proofs.Search.{first-past}
-use Rattle.enclosure.specs.Demand.{Margins}
+use Rattle.enclosure.specs.Sound.{Margins}
 use Rattle.enclosure.specs.Reckoning.{margin, marginFails}
 use Rattle.limit_factor.specs.Peak.{spread}
 use Rattle.limit_factor.specs.Inquiry.{Inquiry, inquiry, inquiryProblem}

@@ -26,11 +26,12 @@ use denote.Slice.{sliceVal, slice-vals, shr-slice-copy}
 use denote.Triple.Entry.{alive}
 use denote.Triple.Spec.{tripleOf}
 use denote.Triple.Statement.{Triple}
-use Rattle.numeral.specs.Numeral.{numberAt, cappedNumber}
+use Rattle.numeral.specs.Numeral.{numberAt}
+use Rattle.numeral.specs.Capped.{cappedNumber}
 use Rattle.numeral.specs.declared.Number.{Number}
 use Rattle.numeral.proofs.Number.Laws as Number′
 use Rattle.form.specs.Form.{bytes}
-use Rattle.form.specs.List.{listedAt}
+use Rattle.form.specs.ListAt.{listedAt}
 use Rattle.form.specs.Reading.{wordAt, headAt}
 use Rattle.form.specs.declared.Head.{Head}
 use Rattle.form.specs.declared.Listed.{Listed}

@@ -22,7 +22,7 @@ use denote.Triple.Entry.{Vals, alive, onEntry}
 use denote.Triple.Spec.{tripleOf}
 use denote.Triple.Statement.{Contract, Triple}
 use denote.Triple.Table.{entered, cited}
-use Rattle.form.specs.List.{listedAt}
+use Rattle.form.specs.ListAt.{listedAt}
 use Rattle.form.specs.declared.Listed.{Listed}
 use Rattle.form.specs.declared.Word.{Word}
 use Rattle.form.proofs.Word as W′

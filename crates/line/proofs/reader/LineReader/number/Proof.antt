@@ -6,7 +6,8 @@ use contract.Running.{givenOf, tables, tablesOf}
 use sound.WpLaws.{fmOf}
 use denote.Triple.Spec.{tripleOf}
 use denote.Triple.Table.{entered, cited}
-use Rattle.numeral.specs.Numeral.{numberAt, cappedNumber}
+use Rattle.numeral.specs.Numeral.{numberAt}
+use Rattle.numeral.specs.Capped.{cappedNumber}
 use Rattle.numeral.specs.declared.Number.{Number}
 use Rattle.numeral.proofs.Number as R
 use Rattle.numeral.proofs.number_at as core
