@@ -7,7 +7,7 @@ use borrow.Author.Needs.{needs}
 use Rattle.text.proofs.put_integer.Statement.{statement}
 use Rattle.text.proofs.put_integer.Tie as tie
 
--- the place of the size, and the start, from each side of the test
+-- the start, from the size
 abbrev start : tie.After-magnitude → tie.Start
 start c = c .before .before
 
