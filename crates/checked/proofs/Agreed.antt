@@ -10,14 +10,14 @@ use native.Mathlib.Omega.{arith}
 use native.Mathlib.Nat.{mod-lt, div-lt-iff-lt-mul}
 use lib.IntN.{ℤ, natAbs}
 use lib.ListN.{getD}
-use Rattle.linear.specs.Slice.{at, vectorOf, matrixOf}
+use Rattle.linear.specs.Slice.{at}
 use Rattle.linear.proofs.Places.{place, square}
 use Rattle.linear.proofs.Written.{front-at}
 use Rattle.rules.specs.declared.Kind.the-variants as kind
 use Rattle.rules.proofs.AllInRange.{all-ext}
 use Rattle.enclosure.specs.Problem.{columnOf}
 use Rattle.enclosure.specs.Reckoning.{margin, exceeds, bound, inverseBound}
-use Rattle.enclosure.proofs.Agreement.{margin-same, bound-same}
+use Rattle.enclosure.proofs.Agreement.{Agreeing, margin-same, bound-same}
 use Rattle.checked.specs.Checked.{solutionBoundsAfter, inverseBoundsAfter}
 use Rattle.checked.specs.Input.{Input, input, problem, short, inRanges}
 use Rattle.checked.specs.Order.{checkedOf, answer}
@@ -35,17 +35,15 @@ module _ (I : Input) (B b′ d′ x′ H w′ : List ℤ) (E L : List ℕ) (hA :
   abbrev J : Input
   J = input (I .n) (I .s) (I .t) B b′ d′ x′ H w′ E L
 
-  matrices : (i j : ℕ) → i < I .n → j < I .n → matrixOf (I .matrix) (I .n) i j ≡ matrixOf B (I .n) i j
-  matrices i j li lj = hA (i * I .n + j) (place li lj)
-
-  inverses : (i j : ℕ) → i < I .n → j < I .n → matrixOf (I .inverse) (I .n) i j ≡ matrixOf H (I .n) i j
-  inverses i j li lj = hG (i * I .n + j) (place li lj)
-
-  weighted : (i : ℕ) → i < I .n → natAbs (at (I .weights) i) ≡ natAbs (at w′ i)
-  weighted i l = ap natAbs (hw i l)
-
-  tolerances : (i : ℕ) → i < I .n → natAbs (at (I .tolerance) i) ≡ natAbs (at d′ i)
-  tolerances i l = ap natAbs (hd i l)
+  agreeing : Agreeing (problem I) (problem J)
+  agreeing = record {
+    matrix = λ i j li lj. hA (i * I .n + j) (place li lj);
+    right = hb;
+    tolerance = λ i l. ap natAbs (hd i l);
+    guess = hx;
+    inverse = λ i j li lj. hG (i * I .n + j) (place li lj);
+    weights = λ i l. ap natAbs (hw i l);
+  }
 
   ranges-same : inRanges I ≡ inRanges J
   ranges-same =
@@ -59,34 +57,19 @@ module _ (I : Input) (B b′ d′ x′ H w′ : List ℤ) (E L : List ℕ) (hA :
       )
 
   solution-here : (i : ℕ) → i < I .n → bound (problem I) i ≡ bound (problem J) i
-  solution-here =
-      bound-same (I .n) (I .s) (I .t) (matrixOf (I .matrix) (I .n)) (matrixOf B (I .n)) (vectorOf (I .right)) (vectorOf b′)
-      (λ i. natAbs (at (I .tolerance) i)) (λ i. natAbs (at d′ i)) (vectorOf (I .guess)) (vectorOf x′)
-      (matrixOf (I .inverse) (I .n)) (matrixOf H (I .n)) (λ i. natAbs (at (I .weights) i)) (λ i. natAbs (at w′ i)) matrices hb tolerances hx inverses weighted
+  solution-here = bound-same (problem I) (problem J) agreeing
 
   inverse-here : (i j : ℕ) → i < I .n → j < I .n → inverseBound (problem I) i j ≡ inverseBound (problem J) i j
-  inverse-here =
-      inverse-same (I .n) (I .s) (I .t) (matrixOf (I .matrix) (I .n)) (matrixOf B (I .n)) (vectorOf (I .right)) (vectorOf b′)
-      (λ i. natAbs (at (I .tolerance) i)) (λ i. natAbs (at d′ i)) (vectorOf (I .guess)) (vectorOf x′)
-      (matrixOf (I .inverse) (I .n)) (matrixOf H (I .n)) (λ i. natAbs (at (I .weights) i)) (λ i. natAbs (at w′ i)) matrices hb tolerances hx inverses weighted
+  inverse-here = inverse-same (problem I) (problem J) agreeing
 
   checked-here : checkedOf (problem I) ≡ checkedOf (problem J)
-  checked-here =
-      checked-same (I .n) (I .s) (I .t) (matrixOf (I .matrix) (I .n)) (matrixOf B (I .n)) (vectorOf (I .right)) (vectorOf b′)
-      (λ i. natAbs (at (I .tolerance) i)) (λ i. natAbs (at d′ i)) (vectorOf (I .guess)) (vectorOf x′)
-      (matrixOf (I .inverse) (I .n)) (matrixOf H (I .n)) (λ i. natAbs (at (I .weights) i)) (λ i. natAbs (at w′ i)) matrices hb tolerances hx inverses weighted
+  checked-here = checked-same (problem I) (problem J) agreeing
 
   margin-here : (m : ℕ) → m < I .n → margin (problem I) m ≡ margin (problem J) m
-  margin-here =
-      margin-same (I .n) (I .s) (I .t) (matrixOf (I .matrix) (I .n)) (matrixOf B (I .n)) (vectorOf (I .right)) (vectorOf b′)
-      (λ i. natAbs (at (I .tolerance) i)) (λ i. natAbs (at d′ i)) (vectorOf (I .guess)) (vectorOf x′)
-      (matrixOf (I .inverse) (I .n)) (matrixOf H (I .n)) (λ i. natAbs (at (I .weights) i)) (λ i. natAbs (at w′ i)) matrices hb tolerances hx inverses weighted
+  margin-here = margin-same (problem I) (problem J) agreeing
 
   columns-here : (i : ℕ) → i < I .n * I .n → exceeds (columnOf (problem I) (i / I .n)) (i % I .n) ≡ exceeds (columnOf (problem J) (i / I .n)) (i % I .n)
-  columns-here =
-      columns-same (I .n) (I .s) (I .t) (matrixOf (I .matrix) (I .n)) (matrixOf B (I .n)) (vectorOf (I .right)) (vectorOf b′)
-      (λ i. natAbs (at (I .tolerance) i)) (λ i. natAbs (at d′ i)) (vectorOf (I .guess)) (vectorOf x′)
-      (matrixOf (I .inverse) (I .n)) (matrixOf H (I .n)) (λ i. natAbs (at (I .weights) i)) (λ i. natAbs (at w′ i)) matrices hb tolerances hx inverses weighted
+  columns-here = columns-same (problem I) (problem J) agreeing
 
   answer-same : short I ≡ false → short J ≡ false → answer I ≡ answer J
   answer-same e f = go (inRanges I) refl

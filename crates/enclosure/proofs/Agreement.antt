@@ -1,4 +1,5 @@
 -- The reckoning uses only the first n numbers of each list: problems that agree on them have the same margins, residuals and limits.
+--   Agreeing P Q — the first n numbers of each list of Q are those of P;  over P Q — Q with the n, s and t of P
 --   load-same, margin-same, residual-same, exceeds-same, bound-same — of row m, m, k, k and i; for a column of the inverse they are used with its problem
 use mathlib.Core.Path.{_≡_, ap, ap₂}
 use mathlib.Core.Bool.{Bool, _||_}
@@ -17,56 +18,63 @@ apply-same : (n : ℕ) (A B : Mat) (u v : Vec) (k : ℕ) → ((j : ℕ) → j < 
 unfolding apply
 apply-same n A B u v k p q = sum-ext n (λ (j : ℕ). A k j *ℤ u j) (λ (j : ℕ). B k j *ℤ v j) (λ j l. rw (p j l, q j l))
 
-module _ (n s t : ℕ) (A A′ : Mat) (b b′ : Vec) (d d′ : ℕ → ℕ) (X X′ : Vec) (G G′ : Mat) (w w′ : ℕ → ℕ) (hA : (i j : ℕ) → i < n → j < n → A i j ≡ A′ i j)
-    (hb : (i : ℕ) → i < n → b i ≡ b′ i) (hd : (i : ℕ) → i < n → d i ≡ d′ i) (hX : (i : ℕ) → i < n → X i ≡ X′ i) (hG : (i j : ℕ) → i < n → j < n → G i j ≡ G′ i j) (hw : (i : ℕ) → i < n → w i ≡ w′ i) where
-  abbrev P : Problem
-  P = record { n = n; s = s; t = t; A = A; b = b; d = d; X = X; G = G; w = w }
+pub record Agreeing (P Q : Problem) : Type 0 where
+  pub matrix : (i j : ℕ) → i < P .n → j < P .n → P .A i j ≡ Q .A i j
+  pub right : (i : ℕ) → i < P .n → P .b i ≡ Q .b i
+  pub tolerance : (i : ℕ) → i < P .n → P .d i ≡ Q .d i
+  pub guess : (i : ℕ) → i < P .n → P .X i ≡ Q .X i
+  pub inverse : (i j : ℕ) → i < P .n → j < P .n → P .G i j ≡ Q .G i j
+  pub weights : (i : ℕ) → i < P .n → P .w i ≡ Q .w i
 
-  abbrev Q : Problem
-  Q = record { n = n; s = s; t = t; A = A′; b = b′; d = d′; X = X′; G = G′; w = w′ }
+abbrev pub over : Problem → Problem → Problem
+over P Q = record { n = P .n; s = P .s; t = P .t; A = Q .A; b = Q .b; d = Q .d; X = Q .X; G = Q .G; w = Q .w }
 
-  defect-same : (m j : ℕ) → m < n → j < n → defect P m j ≡ defect Q m j
+module _ (P Q : Problem) (a : Agreeing P Q) where
+  abbrev R : Problem
+  R = over P Q
+
+  defect-same : (m j : ℕ) → m < P .n → j < P .n → defect P m j ≡ defect R m j
   unfolding defect product
   defect-same m j lm lj =
-      ap (λ (z : ℤ). pos (2 ^ t) *ℤ identity m j -ℤ z) (apply-same n G G′ (column A j) (column A′ j) m (λ k l. hG m k lm l) (λ k l. hA k j l lj))
+      ap (λ (z : ℤ). pos (2 ^ P .t) *ℤ identity m j -ℤ z) (apply-same (P .n) (P .G) (Q .G) (column (P .A) j) (column (Q .A) j) m (λ k l. a .inverse m k lm l) (λ k l. a .matrix k j l lj))
 
-  pub load-same : (m : ℕ) → m < n → load P m ≡ load Q m
+  pub load-same : (m : ℕ) → m < P .n → load P m ≡ load R m
   unfolding load
   load-same m l =
-      sumℕ-ext n (λ (j : ℕ). natAbs (defect P m j) * w j) (λ (j : ℕ). natAbs (defect Q m j) * w′ j) (λ j lj. rw (defect-same m j l lj, hw j lj))
+      sumℕ-ext (P .n) (λ (j : ℕ). natAbs (defect P m j) * P .w j) (λ (j : ℕ). natAbs (defect R m j) * Q .w j) (λ j lj. rw (defect-same m j l lj, a .weights j lj))
 
-  pub margin-same : (m : ℕ) → m < n → margin P m ≡ margin Q m
+  pub margin-same : (m : ℕ) → m < P .n → margin P m ≡ margin R m
   unfolding margin
-  margin-same m l = ap₂ (λ (x y : ℕ). pos (2 ^ t * x) -ℤ pos y) (hw m l) (load-same m l)
+  margin-same m l = ap₂ (λ (x y : ℕ). pos (2 ^ P .t * x) -ℤ pos y) (a .weights m l) (load-same m l)
 
-  pub residual-same : (k : ℕ) → k < n → residual P k ≡ residual Q k
+  pub residual-same : (k : ℕ) → k < P .n → residual P k ≡ residual R k
   unfolding residual
-  residual-same k l = ap₂ (λ (x y : ℤ). pos (2 ^ s) *ℤ x -ℤ y) (hb k l) (apply-same n A A′ X X′ k (λ j lj. hA k j l lj) hX)
+  residual-same k l = ap₂ (λ (x y : ℤ). pos (2 ^ P .s) *ℤ x -ℤ y) (a .right k l) (apply-same (P .n) (P .A) (Q .A) (P .X) (Q .X) k (λ j lj. a .matrix k j l lj) (a .guess))
 
-  slack-same : (k : ℕ) → k < n → slack P k ≡ slack Q k
-  slack-same k l = rw (hd k l)
+  slack-same : (k : ℕ) → k < P .n → slack P k ≡ slack R k
+  slack-same k l = rw (a .tolerance k l)
 
-  row-sum-same : (k : ℕ) → k < n → rowSum P k ≡ rowSum Q k
+  row-sum-same : (k : ℕ) → k < P .n → rowSum P k ≡ rowSum R k
   unfolding rowSum
-  row-sum-same k l = sumℕ-ext n (λ (j : ℕ). natAbs (A k j)) (λ (j : ℕ). natAbs (A′ k j)) (λ j lj. ap natAbs (hA k j l lj))
+  row-sum-same k l = sumℕ-ext (P .n) (λ (j : ℕ). natAbs (P .A k j)) (λ (j : ℕ). natAbs (Q .A k j)) (λ j lj. ap natAbs (a .matrix k j l lj))
 
-  with-slack-same : (k : ℕ) → k < n → exceedsWith (residual P) (slack P) k ≡ exceedsWith (residual Q) (slack Q) k
+  with-slack-same : (k : ℕ) → k < P .n → exceedsWith (residual P) (slack P) k ≡ exceedsWith (residual R) (slack R) k
   with-slack-same k l = ap₂ (λ (z : ℤ) (x : ℕ). ltb allowedResidual (natAbs z + x)) (residual-same k l) (slack-same k l)
 
-  exceeds-row-same : (k : ℕ) → k < n → exceedsRow P k ≡ exceedsRow Q k
+  exceeds-row-same : (k : ℕ) → k < P .n → exceedsRow P k ≡ exceedsRow R k
   exceeds-row-same k l = ap₂ (λ (x : ℕ) (z : ℤ). ltb x (natAbs z)) (row-sum-same k l) (residual-same k l)
 
-  pub exceeds-same : (k : ℕ) → k < n → exceeds P k ≡ exceeds Q k
+  pub exceeds-same : (k : ℕ) → k < P .n → exceeds P k ≡ exceeds R k
   unfolding exceeds
-  exceeds-same k l = ap₂ (λ (a b : Bool). a || b) (with-slack-same k l) (exceeds-row-same k l)
+  exceeds-same k l = ap₂ (λ (x y : Bool). x || y) (with-slack-same k l) (exceeds-row-same k l)
 
-  sizes-same : (m : ℕ) → m < n → sizesWith P (residual P) (slack P) m ≡ sizesWith Q (residual Q) (slack Q) m
+  sizes-same : (m : ℕ) → m < P .n → sizesWith P (residual P) (slack P) m ≡ sizesWith R (residual R) (slack R) m
   unfolding sizesWith
-  sizes-same m l = slack-ext n G G′ (residual P) (residual Q) (slack P) (slack Q) m (λ k lk. hG m k l lk) residual-same slack-same
+  sizes-same m l = slack-ext (P .n) (P .G) (Q .G) (residual P) (residual R) (slack P) (slack R) m (λ k lk. a .inverse m k l lk) residual-same slack-same
 
-  pub bound-same : (i : ℕ) → i < n → bound P i ≡ bound Q i
+  pub bound-same : (i : ℕ) → i < P .n → bound P i ≡ bound R i
   unfolding bound boundWith boundFrom
   bound-same i l =
-      largest-ext n (λ (m : ℕ). ceilDiv (w i * sizesWith P (residual P) (slack P) m) (natAbs (margin P m)))
-      (λ (m : ℕ). ceilDiv (w′ i * sizesWith Q (residual Q) (slack Q) m) (natAbs (margin Q m)))
-      (λ m lm. rw (hw i l, sizes-same m lm, margin-same m lm))
+      largest-ext (P .n) (λ (m : ℕ). ceilDiv (P .w i * sizesWith P (residual P) (slack P) m) (natAbs (margin P m)))
+      (λ (m : ℕ). ceilDiv (Q .w i * sizesWith R (residual R) (slack R) m) (natAbs (margin R m)))
+      (λ m lm. rw (a .weights i l, sizes-same m lm, margin-same m lm))

@@ -4,10 +4,9 @@ use mathlib.Core.Path.{_≡_, ap}
 use mathlib.Core.List.{List, _++_}
 use Prim.Native.Nat.{ℕ, _+_, _<_}
 use lib.IntN.{ℤ}
-use Rattle.linear.specs.Matrix.{Vec, Mat}
 use Rattle.enclosure.specs.Problem.{Problem}
 use Rattle.enclosure.specs.Reckoning.{bound, inverseBound}
-use Rattle.enclosure.proofs.Agreement.{bound-same}
+use Rattle.enclosure.proofs.Agreement.{Agreeing, over, bound-same}
 use Rattle.numeral.specs.Decimal.{decimal}
 use Rattle.listing_lines.specs.Line.{gap, numbers, lineOpening, lineClosing}
 use Rattle.listing_lines.proofs.Each.{each-ext}
@@ -31,15 +30,6 @@ module _ (n s : ℕ) (X X′ : ℕ → ℤ) (E E′ : ℕ → ℕ) (L L′ : ℕ
         each-ext n (inverseLine n L) (inverseLine n L′) (λ i l. ap (λ (t : List ℕ). lineOpening (bytes "(inverse ") (i + 1) ++ t ++ lineClosing) (row-same i l)),
       )
 
-module _ (n s t : ℕ) (A A′ : Mat) (b b′ : Vec) (d d′ : ℕ → ℕ) (X X′ : Vec) (G G′ : Mat) (w w′ : ℕ → ℕ) (hA : (i j : ℕ) → i < n → j < n → A i j ≡ A′ i j)
-    (hb : (i : ℕ) → i < n → b i ≡ b′ i) (hd : (i : ℕ) → i < n → d i ≡ d′ i) (hX : (i : ℕ) → i < n → X i ≡ X′ i) (hG : (i j : ℕ) → i < n → j < n → G i j ≡ G′ i j) (hw : (i : ℕ) → i < n → w i ≡ w′ i) where
-  abbrev P : Problem
-  P = record { n = n; s = s; t = t; A = A; b = b; d = d; X = X; G = G; w = w }
-
-  abbrev Q : Problem
-  Q = record { n = n; s = s; t = t; A = A′; b = b′; d = d′; X = X′; G = G′; w = w′ }
-
-  pub reported-same : reportedOf P ≡ reportedOf Q
-  reported-same =
-      report-same n s X X′ (bound P) (bound Q) (inverseBound P) (inverseBound Q) hX (bound-same n s t A A′ b b′ d d′ X X′ G G′ w w′ hA hb hd hX hG hw)
-      (inverse-same n s t A A′ b b′ d d′ X X′ G G′ w w′ hA hb hd hX hG hw)
+pub reported-same : (P Q : Problem) → Agreeing P Q → reportedOf P ≡ reportedOf (over P Q)
+reported-same P Q a =
+    report-same (P .n) (P .s) (P .X) (Q .X) (bound P) (bound (over P Q)) (inverseBound P) (inverseBound (over P Q)) (a .guess) (bound-same P Q a) (inverse-same P Q a)

@@ -13,8 +13,9 @@ use lib.ListN.{getD, replicate}
 use Rattle.rules.specs.declared.Kind.the-variants as kind
 use Rattle.rules.proofs.AllInRange.{all-at}
 use Rattle.rules.proofs.Ranges.{size-range, inverse-scale-range, weight-range}
-use Rattle.linear.specs.Slice.{at, vectorOf, matrixOf}
+use Rattle.linear.specs.Slice.{at}
 use Rattle.enclosure.specs.Problem.{Problem}
+use Rattle.enclosure.proofs.Agreement.{Agreeing}
 use Rattle.checked.specs.Input.{problem, short}
 use Rattle.checked.specs.Order.{answer, checkedOf}
 use Rattle.checked.proofs.Contract.{answer-ready}
@@ -63,6 +64,16 @@ module _ (u : State) (fs : List Form) (from : FromForms fs u) where
   given-is : given ≡ problemFrom fs
   given-is = rw (from .size, from .scales .0, from .scales .1)
 
+  agreeing : Agreeing (problem (inputAt u)) given
+  agreeing = record {
+    matrix = wide Matrix refl;
+    right = narrow Right refl;
+    tolerance = λ i l. ap natAbs (narrow Tolerance refl i l);
+    guess = narrow Guess refl;
+    inverse = wide Inverse refl;
+    weights = λ i l. ap natAbs (narrow Weight refl i l);
+  }
+
   -- what the theorems of the enclosure ask of the problem
   module _ (h : InRange u) where
     pub some : 0 < problemFrom fs .n
@@ -77,18 +88,10 @@ module _ (u : State) (fs : List Form) (from : FromForms fs u) where
         rw (sym (narrow Weight refl i k)) (weight-range (at (u .lists .weights) i) (all-at kind.Weight n (at (u .lists .weights)) (h .weights) i k) .0)
 
   pub checked-forms : checkedOf (problem (inputAt u)) ≡ checkedOf (problemFrom fs)
-  checked-forms =
-      checked-same n (u .loader .s) (u .loader .t) (matrixOf (u .lists .matrix) n) (given .A) (vectorOf (u .lists .right)) (given .b) (λ i. natAbs (at (u .lists .tolerance) i)) (given .d) (vectorOf (u .lists .guess)) (given .X)
-      (matrixOf (u .lists .inverse) n) (given .G) (λ i. natAbs (at (u .lists .weights) i)) (given .w)
-      (wide Matrix refl) (narrow Right refl) (λ i l. ap natAbs (narrow Tolerance refl i l)) (narrow Guess refl) (wide Inverse refl) (λ i l. ap natAbs (narrow Weight refl i l))
-      ∙ ap checkedOf given-is
+  checked-forms = checked-same (problem (inputAt u)) given agreeing ∙ ap checkedOf given-is
 
   pub reported-forms : reportedOf (problem (inputAt u)) ≡ reportedOf (problemFrom fs)
-  reported-forms =
-      reported-same n (u .loader .s) (u .loader .t) (matrixOf (u .lists .matrix) n) (given .A) (vectorOf (u .lists .right)) (given .b) (λ i. natAbs (at (u .lists .tolerance) i)) (given .d) (vectorOf (u .lists .guess)) (given .X)
-      (matrixOf (u .lists .inverse) n) (given .G) (λ i. natAbs (at (u .lists .weights) i)) (given .w)
-      (wide Matrix refl) (narrow Right refl) (λ i l. ap natAbs (narrow Tolerance refl i l)) (narrow Guess refl) (wide Inverse refl) (λ i l. ap natAbs (narrow Weight refl i l))
-      ∙ ap reportedOf given-is
+  reported-forms = reported-same (problem (inputAt u)) given agreeing ∙ ap reportedOf given-is
 
   pub answer-forms : InRange u → short (inputAt u) ≡ false → answer (inputAt u) ≡ checkedOf (problemFrom fs)
   answer-forms h long = answer-ready (inputAt u) long (inside u (replicate 32 0) (replicate 1024 0) h) ∙ checked-forms

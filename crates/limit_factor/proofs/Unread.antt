@@ -7,13 +7,13 @@ use Prim.Native.Nat.{ℕ, _+_, _*_, _^_, _<_}
 use lib.IntN.{ℤ, pos, natAbs}
 use lib.Signed.{leZ}
 use Rattle.integer.proofs.Search.{first-ext}
-use Rattle.linear.specs.Slice.{at, vectorOf, matrixOf}
+use Rattle.linear.specs.Slice.{at}
 use Rattle.linear.proofs.Places.{place}
 use Rattle.rules.specs.Order.{ifAccepted}
 use Rattle.rules.specs.declared.Kind.the-variants as kind
 use Rattle.rules.proofs.AllInRange.{all-ext}
 use Rattle.enclosure.specs.Reckoning.{load, margin, marginFails}
-use Rattle.enclosure.proofs.Agreement.{load-same, margin-same}
+use Rattle.enclosure.proofs.Agreement.{Agreeing, load-same, margin-same}
 use Rattle.checked.specs.Order.{firstMargin}
 use Rattle.limit_factor.specs.declared.Quality.{Quality}
 use Rattle.limit_factor.specs.Peak.{spread, peakRow, numerator, denominator}
@@ -35,17 +35,21 @@ module _ (Q : Inquiry) (matrix inverse weights : List ℤ) (long : inquiryShort 
   abbrev R : Inquiry
   R = inquiry (Q .n) (Q .t) matrix inverse weights
 
+  agreeing : Agreeing (inquiryProblem Q) (inquiryProblem R)
+  agreeing = record {
+    matrix = λ i j li lj. hA (i * Q .n + j) (place li lj);
+    right = λ i l. refl;
+    tolerance = λ i l. refl;
+    guess = λ i l. refl;
+    inverse = λ i j li lj. hG (i * Q .n + j) (place li lj);
+    weights = λ i l. ap natAbs (hw i l);
+  }
+
   loads-here : (m : ℕ) → m < Q .n → load (inquiryProblem Q) m ≡ load (inquiryProblem R) m
-  loads-here =
-      load-same (Q .n) 0 (Q .t) (matrixOf (Q .matrix) (Q .n)) (matrixOf matrix (Q .n)) (vectorOf []) (vectorOf []) (λ i. natAbs (at [] i)) (λ i. natAbs (at [] i))
-      (vectorOf []) (vectorOf []) (matrixOf (Q .inverse) (Q .n)) (matrixOf inverse (Q .n)) (λ i. natAbs (at (Q .weights) i)) (λ i. natAbs (at weights i))
-      (λ i j li lj. hA (i * Q .n + j) (place li lj)) (λ i l. refl) (λ i l. refl) (λ i l. refl) (λ i j li lj. hG (i * Q .n + j) (place li lj)) (λ i l. ap natAbs (hw i l))
+  loads-here = load-same (inquiryProblem Q) (inquiryProblem R) agreeing
 
   margins-here : (m : ℕ) → m < Q .n → margin (inquiryProblem Q) m ≡ margin (inquiryProblem R) m
-  margins-here =
-      margin-same (Q .n) 0 (Q .t) (matrixOf (Q .matrix) (Q .n)) (matrixOf matrix (Q .n)) (vectorOf []) (vectorOf []) (λ i. natAbs (at [] i)) (λ i. natAbs (at [] i))
-      (vectorOf []) (vectorOf []) (matrixOf (Q .inverse) (Q .n)) (matrixOf inverse (Q .n)) (λ i. natAbs (at (Q .weights) i)) (λ i. natAbs (at weights i))
-      (λ i j li lj. hA (i * Q .n + j) (place li lj)) (λ i l. refl) (λ i l. refl) (λ i l. refl) (λ i j li lj. hG (i * Q .n + j) (place li lj)) (λ i l. ap natAbs (hw i l))
+  margins-here = margin-same (inquiryProblem Q) (inquiryProblem R) agreeing
 
   spreads-here : (m : ℕ) → m < Q .n → spread (inquiryProblem Q) m ≡ spread (inquiryProblem R) m
   spreads-here m l = ap₂ (λ (x y : ℕ). 2 ^ Q .t * x + y) (ap natAbs (hw m l)) (loads-here m l)

@@ -11,6 +11,7 @@ use native.Mathlib.Omega.{arith}
 use lib.Dec.{eqb}
 use lib.IntN.{pos, natAbs}
 use Rattle.enclosure.specs.Problem.{Problem}
+use Rattle.enclosure.proofs.Agreement.{Agreeing, over}
 use Rattle.checked.specs.Order.{checkedOf}
 use Rattle.checked.proofs.Agreement.{checked-same}
 use Rattle.form.specs.Form.{Form, problem, scale, row, right, rightWithin, guess, inverse, weight, end}
@@ -95,10 +96,7 @@ module _ (file file′ : List ℕ) (c : Complete file) (c′ : Complete file′)
 
   module _ (equal : EqualNumbers fs gs) (ones : OnlyOnes fs) (ones′ : OnlyOnes gs) where
     -- the second problem, with n, s and t of the first
-    abbrev same : Problem
-    same = record { n = P .n; s = P .s; t = P .t; A = Q .A; b = Q .b; d = Q .d; X = Q .X; G = Q .G; w = Q .w }
-
-    same-is : same ≡ Q
+    same-is : over P Q ≡ Q
     same-is = rw (equal .size, equal .solution, equal .inverse)
 
     wide : (s : Slot) → (s ≡ Weight → ⊥) → width s (P .n) ≡ P .n → (i j : ℕ) → i < P .n → j < P .n → valueFrom fs s (suc i) j ≡ valueFrom gs s (suc i) j
@@ -107,20 +105,21 @@ module _ (file file′ : List ℕ) (c : Complete file) (c′ : Complete file′)
     narrow : (s : Slot) → (s ≡ Weight → ⊥) → width s (P .n) ≡ 1 → (i : ℕ) → i < P .n → valueFrom fs s (suc i) 0 ≡ valueFrom gs s (suc i) 0
     narrow s n w i li = equal .values s n (suc i) 0 (omega arith) (omega arith) (rw w (omega arith))
 
-    weigh : (i : ℕ) → i < P .n → P .w i ≡ Q .w i
-    weigh i l = ap natAbs (weights-one fs ones (suc i) ∙ sym (weights-one gs ones′ (suc i)))
+    agreeing : Agreeing P Q
+    agreeing = record {
+      matrix = wide Matrix not-matrix refl;
+      right = narrow Right not-right refl;
+      tolerance = λ i l. ap natAbs (narrow Tolerance not-tolerance refl i l);
+      guess = narrow Guess not-guess refl;
+      inverse = wide Inverse not-inverse refl;
+      weights = λ i l. ap natAbs (weights-one fs ones (suc i) ∙ sym (weights-one gs ones′ (suc i)));
+    }
 
     checked-equal : checkedOf P ≡ checkedOf Q
-    checked-equal =
-        checked-same (P .n) (P .s) (P .t) (P .A) (Q .A) (P .b) (Q .b) (P .d) (Q .d) (P .X) (Q .X) (P .G) (Q .G) (P .w) (Q .w)
-        (wide Matrix not-matrix refl) (narrow Right not-right refl) (λ i l. ap natAbs (narrow Tolerance not-tolerance refl i l)) (narrow Guess not-guess refl) (wide Inverse not-inverse refl) weigh
-        ∙ ap checkedOf same-is
+    checked-equal = checked-same P Q agreeing ∙ ap checkedOf same-is
 
     reported-equal : reportedOf P ≡ reportedOf Q
-    reported-equal =
-        reported-same (P .n) (P .s) (P .t) (P .A) (Q .A) (P .b) (Q .b) (P .d) (Q .d) (P .X) (Q .X) (P .G) (Q .G) (P .w) (Q .w)
-        (wide Matrix not-matrix refl) (narrow Right not-right refl) (λ i l. ap natAbs (narrow Tolerance not-tolerance refl i l)) (narrow Guess not-guess refl) (wide Inverse not-inverse refl) weigh
-        ∙ ap reportedOf same-is
+    reported-equal = reported-same P Q agreeing ∙ ap reportedOf same-is
 
     pub equal-answer : answerOf file ≡ answerOf file′
     equal-answer = answer-judged file (c .lines) (c .end) ∙ ap (printed 0) checked-equal ∙ sym (answer-judged file′ (c′ .lines) (c′ .end))

@@ -21,7 +21,7 @@ use Rattle.rules.proofs.AllInRange.{all-ext}
 use Rattle.rules.proofs.Verdicts.{accepted-new}
 use Rattle.enclosure.specs.Problem.{Problem}
 use Rattle.enclosure.specs.Reckoning.{marginFails}
-use Rattle.enclosure.proofs.Agreement.{load-same, margin-same}
+use Rattle.enclosure.proofs.Agreement.{Agreeing, load-same, margin-same}
 use Rattle.weight_sequence.specs.declared.Found.{Found}
 use Rattle.weight_sequence.specs.Sequence.{weighted, loads, bits, next, tried, good, firstGood}
 use Rattle.weight_sequence.specs.Request.{Request, request, searchProblem, searchShort, searchInRanges}
@@ -37,8 +37,11 @@ module _ (n t : ℕ) (A A′ G G′ : Mat) (hA : (i j : ℕ) → i < n → j < n
   with A G = record { n = n; s = 0; t = t; A = A; b = vectorOf []; d = λ (i : ℕ). natAbs (at [] i); X = vectorOf []; G = G; w = λ (i : ℕ). natAbs (at [] i) }
 
   module _ (w w′ : ℕ → ℕ) (h : (i : ℕ) → i < n → w i ≡ w′ i) where
+    agreeing : Agreeing (weighted (with A G) w) (weighted (with A′ G′) w′)
+    agreeing = record { matrix = hA; right = λ i l. refl; tolerance = λ i l. refl; guess = λ i l. refl; inverse = hG; weights = h }
+
     loads-same : (m : ℕ) → m < n → loads (with A G) w m ≡ loads (with A′ G′) w′ m
-    loads-same = load-same n 0 t A A′ (vectorOf []) (vectorOf []) (λ i. natAbs (at [] i)) (λ i. natAbs (at [] i)) (vectorOf []) (vectorOf []) G G′ w w′ hA (λ i l. refl) (λ i l. refl) (λ i l. refl) hG h
+    loads-same = load-same (weighted (with A G) w) (weighted (with A′ G′) w′) agreeing
 
     next-same : (i : ℕ) → i < n → next (with A G) w i ≡ next (with A′ G′) w′ i
     next-same i l = ap₂ (λ (x y : ℕ). x / 2 ^ bits y + 1) (loads-same i l) (largest-ext n (loads (with A G) w) (loads (with A′ G′) w′) loads-same)
@@ -49,7 +52,7 @@ module _ (n t : ℕ) (A A′ G G′ : Mat) (hA : (i j : ℕ) → i < n → j < n
         ap (leb n)
         (first-ext n (marginFails (weighted (with A G) w)) (marginFails (weighted (with A′ G′) w′))
         (λ m l. ap (λ (z : ℤ). leZ z (pos 0))
-        (margin-same n 0 t A A′ (vectorOf []) (vectorOf []) (λ i. natAbs (at [] i)) (λ i. natAbs (at [] i)) (vectorOf []) (vectorOf []) G G′ w w′ hA (λ i l. refl) (λ i l. refl) (λ i l. refl) hG h m l)))
+        (margin-same (weighted (with A G) w) (weighted (with A′ G′) w′) agreeing m l)))
 
   tried-same : (k i : ℕ) → i < n → tried (with A G) k i ≡ tried (with A′ G′) k i
   unfolding tried

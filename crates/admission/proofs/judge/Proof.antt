@@ -7,12 +7,16 @@ use borrow.Author.Needs.{needs}
 use Rattle.admission.proofs.judge.Statement.{statement}
 use Rattle.admission.proofs.judge.Tie as tie
 
-module _ (c : tie.Then3) where
-  column-below : c .before .before .before .args .i / c .before .before .before .args .n < c .before .before .before .args .n
-  column-below = div-lt-iff-lt-mul (c .before .before .before .pre .0) .1 (c .if3 .taken)
+-- the start, from where a column is told
+abbrev start : tie.Then3 → tie.Start
+start c = c .before .before .before
 
-  row-below : c .before .before .before .args .i % c .before .before .before .args .n < c .before .before .before .args .n
-  row-below = mod-lt (c .before .before .before .args .i) (c .before .before .before .pre .0)
+module _ (c : tie.Then3) where
+  column-below : start c .args .i / start c .args .n < start c .args .n
+  column-below = div-lt-iff-lt-mul (start c .pre .0) .1 (c .if3 .taken)
+
+  row-below : start c .args .i % start c .args .n < start c .args .n
+  row-below = mod-lt (start c .args .i) (start c .pre .0)
 
 cast-t6 : tie.Need-cast-t6
 cast-t6 c = search needs

@@ -22,6 +22,22 @@ use borrow.Author.Needs.{needs}
 use Rattle.attached_check.proofs.check_attached.Statement.{statement}
 use Rattle.attached_check.proofs.check_attached.Tie as tie
 
+-- stages on the way: after the test of the lengths, the right side with its coupling, the sums along the rows, what is allowed, and all lists
+abbrev at-short : tie.Then4 → tie.Else2
+at-short t = t .before .before .before .before
+
+abbrev at-base : tie.After-row-sums-of → tie.After-base-of
+at-base r = r .before .before .before
+
+abbrev at-sums : tie.After-allowed-of → tie.After-row-sums-of
+at-sums a = a .before .before .before
+
+abbrev at-allowed : tie.After-allowed-of2 → tie.After-allowed-of
+at-allowed z = z .before .before .before
+
+abbrev ready : tie.After-slacks2 → tie.After-allowed-of2
+ready c = c .before .before .before .before
+
 abbrev I : tie.Start → Input
 I s =
     let a = s .args in
@@ -68,7 +84,7 @@ usable : (c : tie.Then6) → UsableDependent (D (start6 c))
 usable c =
     let t = c .before .before in
     record {
-      long = long (t .before .before .before .before .before);
+      long = long (at-short (t .before));
       inside = both (within (t .before)) (both (one-scale t) (sym (c .before .all-in-range .ensures) ∙ c .if6 .taken));
     }
 
@@ -77,27 +93,27 @@ fit c = own-fit (D (start6 c)) (usable c)
 
 coupled : (c : tie.Then6) → ColumnList (start6 c .args .coupling .now) (start6 c .args .n * start6 c .args .marks) (2 ^ 20)
 coupled c =
-    coupling-list _ _ _ (fit c .few) (start6 c .pre .0) (c .before .before .before .before .before .before .before .before .before .if1 .left)
+    coupling-list _ _ _ (fit c .few) (start6 c .pre .0) (at-short (c .before .before .before) .before .before .if1 .left)
     (sym (c .before .all-in-range .ensures) ∙ c .if6 .taken)
 
 -- what is handed to the reckoning
 abbrev place : tie.After-allowed-of2 → tie.Then6
-place z = z .before .before .before .before .before .before .before .before .before .before .before
+place z = at-base (at-sums (at-allowed z)) .before .before
 
 handed : (z : tie.After-allowed-of2) →
     Handed (start6 (place z) .args .marks) (start6 (place z) .args .main-guess .now) (start6 (place z) .args .main-limits) (start6 (place z) .args .coupling .now) (I (start6 (place z)))
-    (z .before .before .before .before .before .before .before .before .before .before .scaled-right .result) (z .before .before .before .before .before .before .before .before .before .base-of .result) (z .before .before .before .before .before .before .before .before .slacks-of .result)
-    (z .before .before .before .before .before .before .before .slacks-with .result) (z .before .before .before .allowed-of .result) (z .before .before .before .before .before .before .row-sums-of .result) (z .allowed-of2 .result)
+    (at-base (at-sums (at-allowed z)) .before .scaled-right .result) (at-base (at-sums (at-allowed z)) .base-of .result) (at-sums (at-allowed z) .before .before .slacks-of .result)
+    (at-sums (at-allowed z) .before .slacks-with .result) (at-allowed z .allowed-of .result) (at-sums (at-allowed z) .row-sums-of .result) (z .allowed-of2 .result)
 handed z = record {
   scaled-long = search needs;
-  scaled = z .before .before .before .before .before .before .before .before .before .before .scaled-right .ensures;
+  scaled = at-base (at-sums (at-allowed z)) .before .scaled-right .ensures;
   base-long = search needs;
-  base = z .before .before .before .before .before .before .before .before .before .base-of .ensures;
-  own = z .before .before .before .before .before .before .before .before .slacks-of .ensures;
-  slacks = z .before .before .before .before .before .before .before .slacks-with .ensures;
+  base = at-base (at-sums (at-allowed z)) .base-of .ensures;
+  own = at-sums (at-allowed z) .before .before .slacks-of .ensures;
+  slacks = at-sums (at-allowed z) .before .slacks-with .ensures;
   allowed-long = search needs;
-  allowed = z .before .before .before .allowed-of .ensures;
-  sums = z .before .before .before .before .before .before .row-sums-of .ensures;
+  allowed = at-allowed z .allowed-of .ensures;
+  sums = at-sums (at-allowed z) .row-sums-of .ensures;
   in-columns-long = search needs;
   in-columns = z .allowed-of2 .ensures;
 }
@@ -126,7 +142,8 @@ mul-all-in-range c = omega (arith, mul-le-mul (few (c .before .before .before)) 
 
 all-in-range-requires : tie.Need-all-in-range-requires
 all-in-range-requires c κs =
-    omega (arith, mul-le-mul (few (c .before .before .before)) (start5 c .pre .0), c .before .before .before .before .before .before .before .if1 .left)
+    let t = c .before in
+    omega (arith, mul-le-mul (few (t .before .before)) (start5 c .pre .0), at-short t .before .before .if1 .left)
 
 scaled-right-requires : tie.Need-scaled-right-requires
 scaled-right-requires c κs =
@@ -160,14 +177,14 @@ row-sums-of-requires c κs =
     let x = fit (c .before .before .before .before) in (x .few, x .matrix)
 
 allowed-of-requires : tie.Need-allowed-of-requires
-allowed-of-requires c κs = fit (c .before .before .before .before .before .before .before) .few
+allowed-of-requires c κs = fit (at-base (c .before .before) .before .before) .few
 
 allowed-of-requires-2 : tie.Need-allowed-of-requires-2
-allowed-of-requires-2 c κs = fit (c .before .before .before .before .before .before .before .before .before .before) .few
+allowed-of-requires-2 c κs = fit (at-base (at-sums (c .before .before)) .before .before) .few
 
 reckon-requires : tie.Need-reckon-requires
 reckon-requires c κs =
-    let z = c .before .before .before .before .before .before in
+    let z = ready (c .before .before) in
     let t = place z in
     let s = start6 t in workable (s .args .marks) (s .args .main-scale) (s .args .main-guess .now) (s .args .main-limits) (s .args .coupling .now) (I s) (s .pre .0) (s .pre .1) (usable t) (handed z)
 
@@ -180,7 +197,7 @@ same-length-2 c = search needs
 returns-3 : tie.Need-returns-3
 returns-3 c =
     let r = c .before .before .before .before in
-    let z = r .before .before .before .before .before .before .before in
+    let z = ready (r .before .before .before) in
     let t = place z in
     let s = start6 t in
     reckoned-attached (s .args .marks) (s .args .main-scale) (s .args .main-guess .now) (s .args .main-limits) (s .args .coupling .now) (I s) (s .pre .0) (s .pre .1) (usable t) (handed z) (r .reckon .ensures)
@@ -188,12 +205,12 @@ returns-3 c =
 returns-4 : tie.Need-returns-4
 returns-4 c =
     let t = c .before .before in
-    attached-range (D (start5 t)) (long (t .before .before .before .before .before))
+    attached-range (D (start5 t)) (long (at-short (t .before)))
     (not-both (within (t .before)) (not-both (one-scale t) (sym (c .before .all-in-range .ensures) ∙ c .if6 .left)))
 
 returns-5 : tie.Need-returns-5
 returns-5 c =
-    attached-range (D (start4 (c .before))) (long (c .before .before .before .before .before))
+    attached-range (D (start4 (c .before))) (long (at-short (c .before)))
     (not-both (within (c .before)) (not-first _ (ne-eqb _ _ (c .if5 .left))))
 
 returns-6 : tie.Need-returns-6

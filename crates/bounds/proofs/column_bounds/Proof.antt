@@ -13,11 +13,15 @@ use borrow.Author.Needs.{needs}
 use Rattle.bounds.proofs.column_bounds.Statement.{statement}
 use Rattle.bounds.proofs.column_bounds.Tie as tie
 
+-- the start, from the raised residuals
+abbrev begun : tie.After-raise-row → tie.Start
+begun r = r .before .before .before .before
+
 long : (c : tie.After-raise-row-arg) → length (c .before .before .before .args .residuals .now) ≡ 32
 long c = search needs
 
 abbrev start : tie.After-sizes-of → tie.Start
-start c = c .before .before .before .before .before .before .before
+start c = begun (c .before .before .before)
 
 row-is : (c : tie.After-sizes-of) → RowOf (c .before .before .before .raise-row .last .0) (0 * (start c .args .n + 1)) (start c .args .n) (at (start c .args .residuals .now))
 row-is c =
@@ -44,7 +48,7 @@ slice-aggregate-sizes-of c = search needs
 sizes-of-requires : tie.Need-sizes-of-requires
 sizes-of-requires c κs =
     let r = c .before .before in
-    let s = r .before .before .before .before in
+    let s = begun r in
     let first : 0 * (s .args .n + 1) ≡ 0 = omega arith in (s .pre .0 .1, (s .pre .1 .0 .rows, rw first (r .raise-row .ensures .0 .row)))
 
 add-slacks-requires : tie.Need-add-slacks-requires

@@ -21,18 +21,22 @@ Inv-loop rows residuals n out₀ row₀ m₀ out row m =
 abbrev μ-loop : tie.MeasureT-loop
 μ-loop rows residuals n out₀ row₀ m₀ out row m = n - m
 
+-- the start, from the turn
+abbrev start : tie.In-loop Inv-loop μ-loop → tie.Start Inv-loop μ-loop
+start t = t .before .before .before .before
+
 loop-holds : tie.Need-loop-holds Inv-loop μ-loop
 loop-holds c = (omega arith, (carried-first _ _, (refl, begins-none _ _ _)))
 
 row-dot-requires : tie.Need-row-dot-requires Inv-loop μ-loop
 row-dot-requires c κs =
-    let s = c .before .before .before .before in
+    let s = start c in
     let l = c .before .loop in (s .pre .0, ((l .inv .1 .0, carried-first _ _), (s .pre .1 .0 .each (l .m) (c .loop-test .taken), s .pre .1 .1)))
 
 magnitude-requires : tie.Need-magnitude-requires Inv-loop μ-loop
 magnitude-requires c κs =
     let t = c .before in
-    let s = t .before .before .before .before in
+    let s = start t in
     rw (read _ (c .row-dot .ok), c .row-dot .ensures) (omega (arith, row-dot-size (s .pre .0) (s .pre .1 .0 .each (t .before .loop .m) (t .loop-test .taken) .small) (s .pre .1 .1 .small)))
 
 mul-out : tie.Need-mul-out Inv-loop μ-loop
@@ -47,7 +51,7 @@ add-row c = search needs
 add-row-2 : tie.Need-add-row-2 Inv-loop μ-loop
 add-row-2 c =
     let l = c .before .before .before .loop in
-    omega (arith, l .inv .1 .0 .is, rows-room (c .before .before .loop-test .taken) (c .before .before .before .before .before .before .pre .0))
+    omega (arith, l .inv .1 .0 .is, rows-room (c .before .before .loop-test .taken) (start (c .before .before) .pre .0))
 
 add-m : tie.Need-add-m Inv-loop μ-loop
 add-m c = search needs

@@ -48,7 +48,8 @@ add-slack-requires c κs =
 
 add-place : tie.Need-add-place Inv-loop μ-loop
 add-place c =
-    let t = c .before .before in omega (arith, t .before .loop .inv .1 .0 .is, row-here (t .before .before .before) .inside)
+    let t = c .before .before in
+    let s = t .before .before .before in omega (arith, t .before .loop .inv .1 .0 .is, row-here s .inside)
 
 add-j : tie.Need-add-j Inv-loop μ-loop
 add-j c = search needs

@@ -16,8 +16,12 @@ Inv-loop dst₀ start stride n column place₀ i₀ dst place i =
 abbrev μ-loop : tie.MeasureT-loop
 μ-loop dst₀ start stride n column place₀ i₀ dst place i = n - i
 
+-- the start, from the turn
+abbrev start : tie.In-loop Inv-loop μ-loop → tie.Start Inv-loop μ-loop
+start t = t .before .before
+
 module _ (c : tie.In-loop Inv-loop μ-loop) where
-  inside : c .before .loop .place + c .before .before .args .stride ≤ c .before .before .args .start + c .before .before .args .n * c .before .before .args .stride
+  inside : c .before .loop .place + start c .args .stride ≤ start c .args .start + start c .args .n * start c .args .stride
   inside = omega (arith, mul-le-mul-right (c .before .before .args .stride) (c .loop-test .taken))
 
   reaches : c .before .loop .place < length (c .before .before .args .dst .now)

@@ -5,6 +5,19 @@ use borrow.Author.Needs.{needs}
 use Rattle.checker.proofs.reckon.Statement.{statement}
 use Rattle.checker.proofs.reckon.Tie as tie
 
+-- stages on the way: the test of n, from the lists of either length, and the reckoning, from where they are back
+abbrev few : tie.After-sizes → tie.Then1
+few c = c .before .before .before .before
+
+abbrev many : tie.After-sizes3 → tie.Else1
+many c = c .before .before .before .before
+
+abbrev reckoned : tie.After-sizes2 → tie.After-reckon-in
+reckoned c = c .before .before .before .before
+
+abbrev reckoned2 : tie.After-sizes4 → tie.After-reckon-in2
+reckoned2 c = c .before .before .before .before
+
 -- lists for k rows have room for fewer
 room : {n k : ℕ} → n ≤ k → (n * (n + 1) ≤ k * (k + 1)) × ((n * n ≤ k * k) × ((n * (n + 1) ≤ k * (k + 1)) × (n * n ≤ k * k)))
 room {n} {k} l =
@@ -25,7 +38,7 @@ slice-aggregate-reckon-in-4 : tie.Need-slice-aggregate-reckon-in-4
 slice-aggregate-reckon-in-4 c = search needs
 
 reckon-in-requires : tie.Need-reckon-in-requires
-reckon-in-requires c κs = (room (c .before .before .before .before .before .before .if1 .taken), c .before .before .before .before .before .before .before .before .before .pre)
+reckon-in-requires c κs = let t = few (c .before .before) in (room (t .if1 .taken), t .before .before .before .pre)
 
 same-length : tie.Need-same-length
 same-length c = search needs
@@ -34,7 +47,7 @@ same-length-2 : tie.Need-same-length-2
 same-length-2 c = search needs
 
 returns : tie.Need-returns
-returns c = c .before .before .before .before .before .before .before .before .reckon-in .ensures
+returns c = reckoned (c .before .before .before .before) .reckon-in .ensures
 
 slice-aggregate-reckon-in-5 : tie.Need-slice-aggregate-reckon-in-5
 slice-aggregate-reckon-in-5 c = search needs
@@ -49,7 +62,7 @@ slice-aggregate-reckon-in-8 : tie.Need-slice-aggregate-reckon-in-8
 slice-aggregate-reckon-in-8 c = search needs
 
 reckon-in-requires-2 : tie.Need-reckon-in-requires-2
-reckon-in-requires-2 c κs = let s = c .before .before .before .before .before .before .before .before .before in (room (s .pre .few), s .pre)
+reckon-in-requires-2 c κs = let s = many (c .before .before) .before .before .before in (room (s .pre .few), s .pre)
 
 same-length-3 : tie.Need-same-length-3
 same-length-3 c = search needs
@@ -58,7 +71,7 @@ same-length-4 : tie.Need-same-length-4
 same-length-4 c = search needs
 
 returns-2 : tie.Need-returns-2
-returns-2 c = c .before .before .before .before .before .before .before .before .reckon-in2 .ensures
+returns-2 c = reckoned2 (c .before .before .before .before) .reckon-in2 .ensures
 
 pub reckon-spec : {M : Type 1} → statement M
 reckon-spec =

@@ -39,7 +39,9 @@ loop-less : tie.Need-loop-less Inv-loop μ-loop
 loop-less c = search needs
 
 loop-again : tie.Need-loop-again Inv-loop μ-loop
-loop-again c = (search needs, rw (c .is-same .ensures, read _ (c .before .before .is-same-arg .given), read _ (c .before .is-same-arg2 .given), c .before .before .before .before .loop .inv .1) (sym (same-next _ _ _)))
+loop-again c =
+    let l = c .before .before .before .before .loop in
+    (search needs, rw (c .is-same .ensures, read _ (c .before .before .is-same-arg .given), read _ (c .before .is-same-arg2 .given), l .inv .1) (sym (same-next _ _ _)))
 
 returns : tie.Need-returns Inv-loop μ-loop
 returns c = c .before .loop .inv .1 ∙ same-end _ _ (c .before .loop .inv .0) (c .loop-test .left)

@@ -22,6 +22,13 @@ Inv-loop low₀ high₀ n k1 guess1 k2 guess2 limits1 limits2 i₀ low high i = 
 abbrev μ-loop : tie.MeasureT-loop
 μ-loop low₀ high₀ n k1 guess1 k2 guess2 limits1 limits2 i₀ low high i = n - i
 
+-- the places back from the common ends
+abbrev at-first : tie.After-common-of Inv-loop μ-loop → tie.After-ends-of Inv-loop μ-loop
+at-first c = c .before .before .before
+
+abbrev turn : tie.After-common-of Inv-loop μ-loop → tie.In-loop Inv-loop μ-loop
+turn c = at-first c .before .before
+
 module _ (c : tie.At-loop Inv-loop μ-loop) where
   low-length : length (c .loop .low) ≡ length (c .before .args .low .now)
   low-length = ap length (c .loop .inv .1 .0) ∙ written-length _ _ _ _ (c .loop .i)
@@ -31,21 +38,21 @@ module _ (c : tie.At-loop Inv-loop μ-loop) where
 
 module _ (c : tie.After-common-of Inv-loop μ-loop) where
   abbrev s : tie.Start Inv-loop μ-loop
-  s = c .before .before .before .before .before .before .before
+  s = turn c .before .before
 
   abbrev i : ℕ
-  i = c .before .before .before .before .before .before .loop .i
+  i = turn c .before .loop .i
 
   lower : c .common-of .result .low ≡ lowsOf (s .args .k1) (s .args .guess1 .now) (s .args .t6) (s .args .k2) (s .args .guess2 .now) (s .args .t9) i
   lower =
       c .common-of .ensures .0
-      ∙ ap₂ (λ (x y : ℤ). maxℤ x y) (rw (read _ (c .before .before .before .before .ends-of-arg .given)) at (c .before .before .before .ends-of .ensures .0))
+      ∙ ap₂ (λ (x y : ℤ). maxℤ x y) (rw (read _ (at-first c .before .ends-of-arg .given)) at (at-first c .ends-of .ensures .0))
       (rw (read _ (c .before .before .ends-of-arg2 .given)) at (c .before .ends-of2 .ensures .0))
 
   upper : c .common-of .result .high ≡ highsOf (s .args .k1) (s .args .guess1 .now) (s .args .t6) (s .args .k2) (s .args .guess2 .now) (s .args .t9) i
   upper =
       c .common-of .ensures .1
-      ∙ ap₂ (λ (x y : ℤ). minℤ x y) (rw (read _ (c .before .before .before .before .ends-of-arg .given)) at (c .before .before .before .ends-of .ensures .1))
+      ∙ ap₂ (λ (x y : ℤ). minℤ x y) (rw (read _ (at-first c .before .ends-of-arg .given)) at (at-first c .ends-of .ensures .1))
       (rw (read _ (c .before .before .ends-of-arg2 .given)) at (c .before .ends-of2 .ensures .1))
 
 loop-holds : tie.Need-loop-holds Inv-loop μ-loop
@@ -94,13 +101,13 @@ mul-lower : tie.Need-mul-lower Inv-loop μ-loop
 mul-lower c = search needs
 
 slice-set-from-lower : tie.Need-slice-set-from-lower Inv-loop μ-loop
-slice-set-from-lower c = omega (arith, low-length (c .before .before .before .before .before .before .before .before))
+slice-set-from-lower c = omega (arith, low-length (turn (c .before .before) .before))
 
 mul-upper : tie.Need-mul-upper Inv-loop μ-loop
 mul-upper c = search needs
 
 slice-set-from-upper : tie.Need-slice-set-from-upper Inv-loop μ-loop
-slice-set-from-upper c = omega (arith, high-length (c .before .before .before .before .before .before .before .before))
+slice-set-from-upper c = omega (arith, high-length (turn (c .before .before) .before))
 
 add-i : tie.Need-add-i Inv-loop μ-loop
 add-i c = search needs
@@ -111,7 +118,7 @@ loop-less c = search needs
 loop-again : tie.Need-loop-again Inv-loop μ-loop
 loop-again c =
     let k = c .before .before in
-    let l = k .before .before .before .before .before .before .loop in
+    let l = turn k .before .loop in
     let f : SFits w64 (k .common-of .result .low) = search needs in
     let g : SFits w64 (k .common-of .result .high) = search needs in (
       omega arith,

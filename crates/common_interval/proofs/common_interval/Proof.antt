@@ -94,7 +94,8 @@ returns-4 : tie.Need-returns-4
 returns-4 c =
     let k = c .before in
     let p = k .before .before in
-    common-first (Q (p .before .before .before)) (long (p .before)) _ (said-refused (Q (p .before .before .before) .first) _ (p .check-held .ensures) _ (k .said1 .given .1))
+    let q = Q (p .before .before .before) in
+    common-first q (long (p .before)) _ (said-refused (q .first) _ (p .check-held .ensures) _ (k .said1 .given .1))
 
 returns-5 : tie.Need-returns-5
 returns-5 c =

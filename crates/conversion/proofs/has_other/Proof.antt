@@ -15,6 +15,10 @@ Inv-loop values n i₀ i = (i ≤ n) × (largest i (λ (k : ℕ). natAbs (number
 abbrev μ-loop : tie.MeasureT-loop
 μ-loop values n i₀ i = n - i
 
+-- the turn that a size was taken in
+abbrev turn : tie.After-magnitude Inv-loop μ-loop → tie.In-loop Inv-loop μ-loop
+turn c = c .before .before
+
 loop-holds : tie.Need-loop-holds Inv-loop μ-loop
 loop-holds c = (omega arith, none-yet _)
 
@@ -26,14 +30,16 @@ element-copy-out-magnitude c = search needs
 
 magnitude-requires : tie.Need-magnitude-requires Inv-loop μ-loop
 magnitude-requires c κs =
-    let small = c .before .before .before .pre .1 (c .before .before .loop .i) (c .before .loop-test .taken) in
+    let t = c .before in
+    let small = t .before .before .pre .1 (t .before .loop .i) (t .loop-test .taken) in
     rw (small-read _ small) small
 
 returns : tie.Need-returns Inv-loop μ-loop
 returns c =
-    let small = c .before .before .before .before .before .pre .1 (c .before .before .before .before .loop .i) (c .before .before .before .loop-test .taken) in
+    let t = turn (c .before) in
+    let small = t .before .before .pre .1 (t .before .loop .i) (t .loop-test .taken) in
     let m = rw (small-read _ small) at (c .before .magnitude .ensures) in
-    one-found (λ (k : ℕ). natAbs (number (c .before .before .before .before .before .args .values .now) k)) (c .before .before .before .loop-test .taken) (omega (arith, m, c .if1 .taken))
+    one-found (λ (k : ℕ). natAbs (number (t .before .before .args .values .now) k)) (t .loop-test .taken) (omega (arith, m, c .if1 .taken))
 
 add-i : tie.Need-add-i Inv-loop μ-loop
 add-i c = search needs
@@ -43,9 +49,10 @@ loop-less c = search needs
 
 loop-again : tie.Need-loop-again Inv-loop μ-loop
 loop-again c =
-    let small = c .before .before .before .before .before .pre .1 (c .before .before .before .before .loop .i) (c .before .before .before .loop-test .taken) in
+    let t = turn (c .before) in
+    let small = t .before .before .pre .1 (t .before .loop .i) (t .loop-test .taken) in
     let m = rw (small-read _ small) at (c .before .magnitude .ensures) in
-    (omega arith, none-more (λ (k : ℕ). natAbs (number (c .before .before .before .before .before .args .values .now) k)) (c .before .before .before .before .loop .inv .1) (omega (arith, m, c .if1 .left)))
+    (omega arith, none-more (λ (k : ℕ). natAbs (number (t .before .before .args .values .now) k)) (t .before .loop .inv .1) (omega (arith, m, c .if1 .left)))
 
 returns-2 : tie.Need-returns-2 Inv-loop μ-loop
 returns-2 c =

@@ -21,6 +21,10 @@ Inv-loop out₀ at values start n place₀ j₀ out place j =
 abbrev μ-loop : tie.MeasureT-loop
 μ-loop out₀ at values start n place₀ j₀ out place j = n - j
 
+-- the turn that a number was written in
+abbrev turn : tie.After-put-next Inv-loop μ-loop → tie.In-loop Inv-loop μ-loop
+turn c = c .before .before .before
+
 loop-holds : tie.Need-loop-holds Inv-loop μ-loop
 loop-holds c = (omega arith, refl, wrote-none 21 _ _ _)
 
@@ -48,13 +52,14 @@ loop-less c = search needs
 
 loop-again : tie.Need-loop-again Inv-loop μ-loop
 loop-again c =
-    let l = c .before .before .before .before .before .before .loop in
-    let s = c .before .before .before .before .before .before .before .before in
+    let t = turn (c .before .before) in
+    let l = t .before .loop in
+    let s = t .before .before .before in
     let p = c .before .before .put-next in (
       omega arith,
       p .kept .0 ∙ l .inv .1,
       wrote-more 21 (l .j) (λ (k : ℕ). gap k ++ numeral (number (s .args .values .now) (s .args .start + k))) (l .inv .2) refl
-          (rw (small-read _ (s .pre .1 (l .j) (c .before .before .before .before .before .loop-test .taken))) at (p .ensures)),
+          (rw (small-read _ (s .pre .1 (l .j) (t .loop-test .taken))) at (p .ensures)),
     )
 
 same-length : tie.Need-same-length Inv-loop μ-loop

@@ -6,6 +6,16 @@ use borrow.Author.Needs.{needs}
 use Rattle.conversion.proofs.put_next.Statement.{statement}
 use Rattle.conversion.proofs.put_next.Tie as tie
 
+-- the place before each first text, and the place after a gap
+abbrev at-first : tie.After-put-integer → tie.Then1
+at-first c = c .before .before
+
+abbrev at-bytes : tie.After-put-integer2 → tie.After-put-bytes
+at-bytes c = c .before .before .before .before
+
+abbrev at-later : tie.After-put-integer2 → tie.Else1
+at-later c = at-bytes c .before .before .before
+
 put-integer-requires : tie.Need-put-integer-requires
 put-integer-requires c κs = search needs
 
@@ -14,8 +24,9 @@ same-length c = search needs
 
 returns : tie.Need-returns
 returns c =
-    let s = c .before .before .before .before .before .before in
-    gap-first (c .before .before .before .before .if1 .taken) (wider 21 (omega arith) (rw (read (s .args .z) (s .fits .z .sfits)) at (c .before .before .put-integer .ensures)))
+    let e = c .before .before in
+    let s = at-first e .before .before in
+    gap-first (at-first e .if1 .taken) (wider 21 (omega arith) (rw (read (s .args .z) (s .fits .z .sfits)) at (e .put-integer .ensures)))
 
 slice-aggregate-put-bytes : tie.Need-slice-aggregate-put-bytes
 slice-aggregate-put-bytes c = search needs
@@ -31,8 +42,9 @@ same-length-2 c = search needs
 
 returns-2 : tie.Need-returns-2
 returns-2 c =
-    let s = c .before .before .before .before .before .before .before .before .before .before .before in
-    gap-later (c .before .before .before .before .before .before .before .before .before .if1 .left) (then (c .before .before .before .before .before .before .put-bytes .ensures) (rw (read (s .args .z) (s .fits .z .sfits)) at (c .before .before .put-integer2 .ensures)))
+    let e = c .before .before in
+    let s = at-later e .before .before in
+    gap-later (at-later e .if1 .left) (then (at-bytes e .put-bytes .ensures) (rw (read (s .args .z) (s .fits .z .sfits)) at (e .put-integer2 .ensures)))
 
 pub put-next-spec : {M : Type 1} → statement M
 put-next-spec =

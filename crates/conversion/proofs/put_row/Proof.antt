@@ -4,6 +4,22 @@ use borrow.Author.Needs.{needs}
 use Rattle.conversion.proofs.put_row.Statement.{statement}
 use Rattle.conversion.proofs.put_row.Tie as tie
 
+-- the places after each text, from the last one back
+abbrev at-integers : tie.After-put-bytes3 → tie.After-put-integers
+at-integers c = c .before .before .before .before .before
+
+abbrev at-bytes2 : tie.After-put-bytes3 → tie.After-put-bytes2
+at-bytes2 c = at-integers c .before .before .before .before
+
+abbrev at-natural : tie.After-put-bytes3 → tie.After-put-natural
+at-natural c = at-bytes2 c .before .before .before .before .before
+
+abbrev at-bytes : tie.After-put-bytes3 → tie.After-put-bytes
+at-bytes c = at-natural c .before .before .before .before
+
+abbrev start : tie.After-put-bytes3 → tie.Start
+start c = at-bytes c .before .before .before .before
+
 put-bytes-requires : tie.Need-put-bytes-requires
 put-bytes-requires c κs = search needs
 
@@ -30,9 +46,10 @@ same-length c = search needs
 
 returns : tie.Need-returns
 returns c =
-    let s = c .before .before .before .before .before .before .before .before .before .before .before .before .before .before .before .before .before .before .before .before .before .before .before .before in
+    let e = c .before .before in
+    let s = start e in
     wider 707 (omega (arith, s .pre .0 .1 .0))
-    (then (then (then (then (wider 10 (s .pre .0 .0) (c .before .before .before .before .before .before .before .before .before .before .before .before .before .before .before .before .before .before .before .before .put-bytes .ensures)) (c .before .before .before .before .before .before .before .before .before .before .before .before .before .before .before .before .put-natural .ensures)) (c .before .before .before .before .before .before .before .before .before .before .before .put-bytes2 .ensures)) (c .before .before .before .before .before .before .before .put-integers .ensures)) (c .before .before .put-bytes3 .ensures))
+    (then (then (then (then (wider 10 (s .pre .0 .0) (at-bytes e .put-bytes .ensures)) (at-natural e .put-natural .ensures)) (at-bytes2 e .put-bytes2 .ensures)) (at-integers e .put-integers .ensures)) (e .put-bytes3 .ensures))
 
 pub put-row-spec : {M : Type 1} → statement M
 put-row-spec =

@@ -6,6 +6,10 @@ use borrow.Author.Needs.{needs}
 use Rattle.convert.proofs.main.Statement.{statement}
 use Rattle.convert.proofs.main.Tie as tie
 
+-- the buffer, from what filled it
+abbrev at-buffer : tie.After-fill → tie.After-large-buffer
+at-buffer c = c .before .before
+
 large-buffer-requires : tie.Need-large-buffer-requires
 large-buffer-requires c κs = search needs
 
@@ -32,8 +36,11 @@ skip-rest-requires c κs = search needs
 
 print-text-requires : tie.Need-print-text-requires
 print-text-requires c κs =
-    let r : Filled (length (c .before .before .before .before .before .before .before .before .large-buffer .result)) (Bytes (c .before .before .before .input .given .0 .0)) = rw (c .before .before .before .input .given .1) at (c .before .before .before .before .before .before .fill .ensures) in
-    omega (arith, r, c .before .before .before .before .before .before .before .before .large-buffer .ensures)
+    let i = c .before .before .before in
+    let f = i .before .before .before in
+    let b = at-buffer f .large-buffer in
+    let r : Filled (length (b .result)) (Bytes (i .input .given .0 .0)) = rw (i .input .given .1) at (f .fill .ensures) in
+    omega (arith, r, b .ensures)
 
 slice-aggregate-report-2 : tie.Need-slice-aggregate-report-2
 slice-aggregate-report-2 c = search needs

@@ -3,6 +3,10 @@ use borrow.Author.Needs.{needs}
 use Rattle.convert.proofs.put_text.Statement.{statement}
 use Rattle.convert.proofs.put_text.Tie as tie
 
+-- the start, from the answer
+abbrev start : tie.After-convert-file → tie.Start
+start c = c .before .before .before
+
 convert-file-requires : tie.Need-convert-file-requires
 convert-file-requires c κs = search needs
 
@@ -29,15 +33,19 @@ put-list-requires c κs = search needs
 
 returns : tie.Need-returns
 returns c =
-    shown-file (c .before .before .before .before .before .before .args .file .now) (c .before .before .before .convert-file .ensures) (search needs) (c .before .answer .given .1)
+    let r = c .before .before .before in
+    shown-file (start r .args .file .now) (r .convert-file .ensures) (search needs) (c .before .answer .given .1)
 
 returns-2 : tie.Need-returns-2
 returns-2 c =
-    shown-refusal (c .before .before .before .before .before .before .before .before .args .file .now) (c .before .before .before .before .before .convert-file .ensures) (search needs) (search needs) (c .before .before .before .answer2 .given .1) (c .put-refusal .ensures)
+    let r = c .before .before .before .before .before in
+    shown-refusal (start r .args .file .now) (r .convert-file .ensures) (search needs) (search needs) (c .before .before .before .answer2 .given .1) (c .put-refusal .ensures)
 
 returns-3 : tie.Need-returns-3
 returns-3 c =
-    shown-unfit (c .before .before .before .before .before .before .before .before .before .args .file .now) (c .before .before .before .before .before .before .convert-file .ensures) (search needs) (search needs) (c .before .before .before .before .enum-told .given .1) (c .put-list .ensures)
+    let told = c .before .before .before .before in
+    let r = told .before .before in
+    shown-unfit (start r .args .file .now) (r .convert-file .ensures) (search needs) (search needs) (told .enum-told .given .1) (c .put-list .ensures)
 
 pub put-text-spec : {M : Type 1} → statement M
 put-text-spec =

@@ -3,6 +3,13 @@ use borrow.Author.Needs.{needs}
 use Rattle.converter.proofs.convert_file.Statement.{statement}
 use Rattle.converter.proofs.convert_file.Tie as tie
 
+-- the places back from what was told of the file
+abbrev start : tie.After-read-file → tie.Start
+start c = c .before .before .before
+
+abbrev at-read : tie.After-enum-told → tie.After-read-file
+at-read c = c .before .before
+
 read-file-requires : tie.Need-read-file-requires
 read-file-requires c κs = search needs
 
@@ -14,18 +21,23 @@ enum-told c = search needs
 
 deliver-requires : tie.Need-deliver-requires
 deliver-requires c κs =
-    ready (c .before .before .before .before .before .before .args .file .now) (c .before .before .before .read-file .ensures) (c .before .enum-told .given .1)
+    let told = c .before in
+    let r = at-read told in
+    ready (start r .args .file .now) (r .read-file .ensures) (told .enum-told .given .1)
 
 returns : tie.Need-returns
 returns c =
-    file-refused (c .before .before .before .before .before .before .args .file .now) (c .before .before .before .read-file .ensures) _ (c .before .outcome .given .1) _
+    let r = c .before .before .before in
+    file-refused (start r .args .file .now) (r .read-file .ensures) _ (c .before .outcome .given .1) _
 
 same-length : tie.Need-same-length
 same-length c = search needs
 
 returns-2 : tie.Need-returns-2
 returns-2 c =
-    file-delivered (c .before .before .before .before .before .before .before .before .before .args .file .now) (c .before .before .before .before .before .before .read-file .ensures) (c .before .before .before .before .enum-told .given .1) (c .before .before .deliver .ensures)
+    let told = c .before .before .before .before in
+    let r = at-read told in
+    file-delivered (start r .args .file .now) (r .read-file .ensures) (told .enum-told .given .1) (c .before .before .deliver .ensures)
 
 pub convert-file-spec : {M : Type 1} → statement M
 convert-file-spec =

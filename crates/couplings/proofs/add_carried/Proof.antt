@@ -11,20 +11,24 @@ use borrow.Author.Needs.{needs}
 use Rattle.couplings.proofs.add_carried.Statement.{statement}
 use Rattle.couplings.proofs.add_carried.Tie as tie
 
+-- the start, from the size of number j
+abbrev start : tie.After-magnitude → tie.Start
+start c = c .before .before
+
 -- the size of number j, at the place that was carried to it
 size-is : (c : tie.After-magnitude) →
-    c .magnitude .result ≡ natAbs (at (c .before .before .args .coupling .now) (c .before .before .args .row + c .before .before .args .j))
-size-is c = rw (read _ (c .before .magnitude-arg .given), unit-place (c .before .before .pre .0)) at (c .magnitude .ensures)
+    c .magnitude .result ≡ natAbs (at (start c .args .coupling .now) (start c .args .row + start c .args .j))
+size-is c = rw (read _ (c .before .magnitude-arg .given), unit-place (start c .pre .0)) at (c .magnitude .ensures)
 
 product-is : (c : tie.After-capped) →
     c .before .magnitude .result * c .capped .result
-    ≡ natAbs (at (c .before .before .before .args .coupling .now) (c .before .before .before .args .row + c .before .before .before .args .j))
-    * min (c .before .before .before .args .limit) limitCap
+    ≡ natAbs (at (start (c .before) .args .coupling .now) (start (c .before) .args .row + start (c .before) .args .j))
+    * min (start (c .before) .args .limit) limitCap
 product-is c = ap₂ (λ (x y : ℕ). x * y) (size-is (c .before)) (c .capped .ensures)
 
 product-size : (c : tie.After-capped) → c .before .magnitude .result * c .capped .result ≤ 2 ^ 20 * limitCap
 product-size c =
-    let s = c .before .before .before in
+    let s = start (c .before) in
     let b : min (s .args .limit) limitCap ≤ limitCap = omega arith in rw (product-is c) (mul-le-mul (s .pre .1 .0 .1) b)
 
 mul-magnitude : tie.Need-mul-magnitude
@@ -44,7 +48,7 @@ mul-result : tie.Need-mul-result
 mul-result c = omega (arith, product-size c)
 
 add-result : tie.Need-add-result
-add-result c = omega (arith, product-size c, c .before .before .before .pre .1 .1)
+add-result c = omega (arith, product-size c, start (c .before) .pre .1 .1)
 
 returns : tie.Need-returns
 returns c = rw (product-is c)

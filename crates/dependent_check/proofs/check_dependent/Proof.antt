@@ -8,6 +8,22 @@ use borrow.Author.Needs.{needs}
 use Rattle.dependent_check.proofs.check_dependent.Statement.{statement}
 use Rattle.dependent_check.proofs.check_dependent.Tie as tie
 
+-- stages on the way: at the first test, where the main net was accepted, where the dependent net's limits are back, where it was accepted, and at the first copy
+abbrev begun : tie.After-slice-known4 → tie.Start
+begun c = c .before .before .before .before
+
+abbrev told : tie.After-check-attached → tie.After-enum-told
+told a = a .before .before .before .before
+
+abbrev returned : tie.After-slice-known6 → tie.After-check-attached
+returned c = c .before .before .before .before
+
+abbrev own-told : tie.After-limits2 → tie.After-enum-told2
+own-told l = l .before .before .before
+
+abbrev copied : tie.After-inverse-limits2 → tie.After-copy-limits
+copied c = c .before .before .before .before
+
 abbrev J : tie.Start → Nets
 J s =
     let a = s .args in
@@ -18,19 +34,19 @@ J s =
 
 -- the check of the main net, whose limits are held, and where it was accepted
 abbrev start : tie.After-check-held → tie.Start
-start h = h .before .before .before .before .before .before .before
+start h = begun (h .before .before .before)
 
 abbrev held : tie.After-check-attached → tie.After-check-held
-held a = a .before .before .before .before .before .before
+held a = told a .before .before
 
 abbrev attached : tie.After-limits2 → tie.After-check-attached
-attached l = l .before .before .before .before .before .before .before .before .before
+attached l = returned (own-told l .before .before)
 
 returns : tie.Need-returns
-returns c = short-solution (J (c .before .before .before .before .before)) (c .if1 .taken)
+returns c = short-solution (J (begun (c .before))) (c .if1 .taken)
 
 returns-2 : tie.Need-returns-2
-returns-2 c = short-inverse (J (c .before .before .before .before .before .before)) (c .if2 .taken)
+returns-2 c = short-inverse (J (begun (c .before .before))) (c .if2 .taken)
 
 check-held-requires : tie.Need-check-held-requires
 check-held-requires c κs = search needs
@@ -45,7 +61,8 @@ check-attached-requires : tie.Need-check-attached-requires
 check-attached-requires c κs =
     let h = c .before .before .before .before .before in
     let e = c .before .before .before .enum-told .given .1 in
-    (marks-few (J (start h)) (h .before .before .if1 .left) (h .before .if2 .left) (h .check-held .ensures) e, guess-known (J (start h)) (h .before .before .if1 .left) (h .before .if2 .left) (h .check-held .ensures) e)
+    let l = h .before .before .if1 .left in
+    let m = h .before .if2 .left in (marks-few (J (start h)) l m (h .check-held .ensures) e, guess-known (J (start h)) l m (h .check-held .ensures) e)
 
 enum-known-own : tie.Need-enum-known-own
 enum-known-own c = search needs
@@ -56,40 +73,41 @@ enum-told-2 c = search needs
 slice-aggregate-copy-limits : tie.Need-slice-aggregate-copy-limits
 slice-aggregate-copy-limits c =
     let a = attached c in
-    let h = held a in sym (limits-long (J (start h)) (h .before .before .if1 .left) (h .before .if2 .left) (h .check-held .ensures) (a .before .before .before .before .enum-told .given .1))
+    let h = held a in sym (limits-long (J (start h)) (h .before .before .if1 .left) (h .before .if2 .left) (h .check-held .ensures) (told a .enum-told .given .1))
 
 copy-limits-requires : tie.Need-copy-limits-requires
 copy-limits-requires c κs =
     let a = attached c in
     let h = held a in
-    let e = a .before .before .before .before .enum-told .given .1 in
+    let e = told a .enum-told .given .1 in
     let few = marks-few (J (start h)) (h .before .before .if1 .left) (h .before .if2 .left) (h .check-held .ensures) e in
     let long = limits-long (J (start h)) (h .before .before .if1 .left) (h .before .if2 .left) (h .check-held .ensures) e in
     (omega (arith, few, long), omega (arith, few, h .before .before .if1 .left))
 
 slice-aggregate-copy-limits-2 : tie.Need-slice-aggregate-copy-limits-2
 slice-aggregate-copy-limits-2 c =
-    let a = attached (c .before .before .before .before .before) in
-    let h = held a in sym (inverse-long (J (start h)) (h .before .before .if1 .left) (h .before .if2 .left) (h .check-held .ensures) (a .before .before .before .before .enum-told .given .1))
+    let a = attached (copied c .before) in
+    let h = held a in sym (inverse-long (J (start h)) (h .before .before .if1 .left) (h .before .if2 .left) (h .check-held .ensures) (told a .enum-told .given .1))
 
 mul-copy-limits : tie.Need-mul-copy-limits
 mul-copy-limits c =
-    let a = attached (c .before .before .before .before .before) in
+    let a = attached (copied c .before) in
     let h = held a in
-    let few = marks-few (J (start h)) (h .before .before .if1 .left) (h .before .if2 .left) (h .check-held .ensures) (a .before .before .before .before .enum-told .given .1) in omega (arith, square few)
+    let few = marks-few (J (start h)) (h .before .before .if1 .left) (h .before .if2 .left) (h .check-held .ensures) (told a .enum-told .given .1) in omega (arith, square few)
 
 copy-limits-requires-2 : tie.Need-copy-limits-requires-2
 copy-limits-requires-2 c κs =
-    let a = attached (c .before .before .before .before .before) in
+    let a = attached (copied c .before) in
     let h = held a in
-    let e = a .before .before .before .before .enum-told .given .1 in
+    let e = told a .enum-told .given .1 in
     let few = marks-few (J (start h)) (h .before .before .if1 .left) (h .before .if2 .left) (h .check-held .ensures) e in
     let long = inverse-long (J (start h)) (h .before .before .if1 .left) (h .before .if2 .left) (h .check-held .ensures) e in
     (omega (arith, square few, long), omega (arith, square few, h .before .if2 .left))
 
 returns-3 : tie.Need-returns-3
 returns-3 c =
-    let h = c .before .before .before in main-refused (J (start h)) (h .before .before .if1 .left) (h .before .if2 .left) (h .check-held .ensures) _ (c .before .main .given .1)
+    let h = c .before .before .before in
+    main-refused (J (start h)) (h .before .before .if1 .left) (h .before .if2 .left) (h .check-held .ensures) _ (c .before .main .given .1)
 
 same-length : tie.Need-same-length
 same-length c = search needs
@@ -99,9 +117,9 @@ same-length-2 c = search needs
 
 returns-4 : tie.Need-returns-4
 returns-4 c =
-    let a = c .before .before .before .before .before .before .before in
+    let a = returned (c .before .before .before) in
     let h = held a in
-    dependent-refused (J (start h)) (h .before .before .if1 .left) (h .before .if2 .left) (h .check-held .ensures) (a .before .before .before .before .enum-told .given .1) (a .check-attached .ensures) _ (c .before .own .given .1)
+    dependent-refused (J (start h)) (h .before .before .if1 .left) (h .before .if2 .left) (h .check-held .ensures) (told a .enum-told .given .1) (a .check-attached .ensures) _ (c .before .own .given .1)
 
 same-length-3 : tie.Need-same-length-3
 same-length-3 c = search needs
@@ -117,10 +135,11 @@ same-length-6 c = search needs
 
 returns-5 : tie.Need-returns-5
 returns-5 c =
-    let a = c .before .before .before .before .before .before .before .before .before .before .before .before .before .before .before .before .before in
+    let i = copied (c .before .before .before) in
+    let a = attached (i .before) in
     let h = held a in
-    both-accepted (J (start h)) (h .before .before .if1 .left) (h .before .if2 .left) (h .check-held .ensures) (a .before .before .before .before .enum-told .given .1) (a .check-attached .ensures) (c .before .before .before .before .before .before .before .before .before .before .before .enum-told2 .given .1)
-    (c .before .before .before .before .before .before .before .copy-limits .ensures) (c .before .before .copy-limits2 .ensures)
+    both-accepted (J (start h)) (h .before .before .if1 .left) (h .before .if2 .left) (h .check-held .ensures) (told a .enum-told .given .1) (a .check-attached .ensures) (own-told (i .before) .enum-told2 .given .1)
+    (i .copy-limits .ensures) (c .before .before .copy-limits2 .ensures)
 
 pub check-dependent-spec : {M : Type 1} → statement M
 check-dependent-spec =

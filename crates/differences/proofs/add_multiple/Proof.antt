@@ -30,8 +30,9 @@ add-row-requires c κs =
 
 returns : tie.Need-returns
 returns c =
-    let s = c .before .before .before .before .before .before in
-    let half = rw (x-is s) at (c .before .before .half-of .ensures) in
+    let h = c .before .before in
+    let s = h .before .before .before .before in
+    let half = rw (x-is s) at (h .half-of .ensures) in
     let size = rw (x-is s) at (c .before .magnitude .ensures) in
     rw (c .add-row .ensures, half, size, start-place (s .pre .1 .0)) (added-row _ _ (s .pre .0 .0) (s .pre .1 .1 .1 .0) _ (s .args .x))
 

@@ -18,9 +18,13 @@ Inv-loop sums₀ half size rows row n place₀ to₀ j₀ sums place to j =
 abbrev μ-loop : tie.MeasureT-loop
 μ-loop sums₀ half size rows row n place₀ to₀ j₀ sums place to j = n - j
 
+-- the start, from the turn
+abbrev start : tie.In-loop Inv-loop μ-loop → tie.Start Inv-loop μ-loop
+start t = t .before .before .before
+
 -- the sum at the place that comes next is as it was
 ahead : (t : tie.In-loop Inv-loop μ-loop) →
-    getD (t .before .loop .sums) (t .before .loop .to) 0 ≡ getD (t .before .before .before .args .sums .now) (t .before .before .before .args .half + t .before .loop .j) 0
+    getD (t .before .loop .sums) (t .before .loop .to) 0 ≡ getD (start t .args .sums .now) (start t .args .half + t .before .loop .j) 0
 ahead t = written-ahead _ _ (t .before .loop .j) (t .before .loop .inv .1 .1) (t .before .loop .inv .1 .0 .1)
 
 loop-holds : tie.Need-loop-holds Inv-loop μ-loop
@@ -36,7 +40,7 @@ add-scaled-requires : tie.Need-add-scaled-requires Inv-loop μ-loop
 add-scaled-requires c κs =
     let t = c .before in
     let l = t .before .loop in
-    let s = t .before .before .before in (
+    let s = start t in (
       l .inv .1 .0 .0,
       (
         (omega (arith, s .pre .1 .0 .inside, t .loop-test .taken), s .pre .1 .0 .small .each (l .j) (t .loop-test .taken)),
@@ -66,7 +70,7 @@ loop-again : tie.Need-loop-again Inv-loop μ-loop
 loop-again c =
     let t = c .before .before in
     let l = t .before .loop in
-    let s = t .before .before .before in (
+    let s = start t in (
       omega arith,
       (
         (carried-next (l .inv .1 .0 .0), carried-next (l .inv .1 .0 .1)),

@@ -87,7 +87,7 @@ add-multiple-requires c κs =
     )
 
 add-total : tie.Need-add-total Inv-loop μ-loop
-add-total c = let t = c .before .before .before in rw (t .before .loop .inv .1 .1 .0, x-is (c .before .before)) (total-fits t)
+add-total c = let x = c .before .before in let t = x .before in rw (t .before .loop .inv .1 .1 .0, x-is x) (total-fits t)
 
 add-from : tie.Need-add-from Inv-loop μ-loop
 add-from c =

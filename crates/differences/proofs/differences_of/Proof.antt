@@ -23,11 +23,15 @@ Inv-loop out₀ t xs step stride rows n start₀ m₀ out start m =
 abbrev μ-loop : tie.MeasureT-loop
 μ-loop out₀ t xs step stride rows n start₀ m₀ out start m = n - m
 
+-- the start, from the turn
+abbrev start : tie.In-loop Inv-loop μ-loop → tie.Start Inv-loop μ-loop
+start t = t .before .before .before
+
 -- where the row starts
 starts : (t : tie.In-loop Inv-loop μ-loop) → t .before .loop .start ≤ 1024
 starts t =
-    let few : t .before .loop .m ≤ 32 = omega (arith, t .before .loop .inv .0, t .before .before .before .pre .0 .1 .0) in
-    rw (start-place (t .before .loop .inv .1 .0)) (mul-le-mul few (t .before .before .before .pre .0 .1 .1 .0))
+    let few : t .before .loop .m ≤ 32 = omega (arith, t .before .loop .inv .0, start t .pre .0 .1 .0) in
+    rw (start-place (t .before .loop .inv .1 .0)) (mul-le-mul few (start t .pre .0 .1 .1 .0))
 
 length-here : (c : tie.At-loop Inv-loop μ-loop) → length (c .loop .out) ≡ length (c .before .before .args .out .now)
 length-here c = ap length (c .loop .inv .1 .1) ∙ columns-length _ _ _ (c .loop .m)
@@ -39,7 +43,7 @@ store-row-requires : tie.Need-store-row-requires Inv-loop μ-loop
 store-row-requires c κs =
     let t = c .before in
     let l = t .before .loop in
-    let s = t .before .before .before in (
+    let s = start t in (
       (
         s .pre .0 .0,
         (s .pre .0 .1 .0, (t .loop-test .taken, (omega (arith, starts t, mul-le-mul (s .pre .0 .1 .0) (s .pre .0 .1 .1 .1 .0)), omega (arith, length-here (t .before), s .pre .0 .1 .1 .1 .1)))),
@@ -48,7 +52,7 @@ store-row-requires c κs =
     )
 
 add-start : tie.Need-add-start Inv-loop μ-loop
-add-start c = let t = c .before .before .before in omega (arith, starts t, t .before .before .before .pre .0 .1 .1 .0)
+add-start c = let t = c .before .before .before in omega (arith, starts t, start t .pre .0 .1 .1 .0)
 
 add-m : tie.Need-add-m Inv-loop μ-loop
 add-m c = search needs
@@ -60,7 +64,7 @@ loop-again : tie.Need-loop-again Inv-loop μ-loop
 loop-again c =
     let t = c .before .before .before in
     let l = t .before .loop in
-    let a = t .before .before .before .args in (
+    let a = start t .args in (
       omega arith,
       (
         carried-next (l .inv .1 .0),

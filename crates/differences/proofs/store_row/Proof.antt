@@ -54,9 +54,9 @@ module _ (c : tie.After-add-rows Inv-loop μ-loop) where
   low i j li lj = start .pre .1 .1 .each i li .small .each j lj
 
 -- the place in the list
-in-list : (t : tie.In-loop Inv-loop μ-loop) → (t .before .loop .place < t .before .before .before .before .before .args .n * t .before .before .before .before .before .args .n) × (t .before .loop .place + t .before .before .before .before .before .args .n < 2048)
+in-list : (t : tie.In-loop Inv-loop μ-loop) → let n = start (t .before .before) .args .n in (t .before .loop .place < n * n) × (t .before .loop .place + n < 2048)
 in-list t =
-    let s = t .before .before .before .before .before in (
+    let s = start (t .before .before) in (
       omega (arith, t .before .loop .inv .1 .0 .is, place (t .loop-test .taken) (s .pre .0 .1 .1 .0)),
       omega (arith, t .before .loop .inv .1 .0 .is, place (t .loop-test .taken) (s .pre .0 .1 .1 .0), square (s .pre .0 .1 .0), s .pre .0 .1 .0),
     )

@@ -44,8 +44,9 @@ ceil-sum-requires c κs =
 returns : tie.Need-returns
 returns c =
     let d = c .before in
+    let v = d .before in
     unfold entryBound in
-    rw (d .distance .ensures, guess-is (d .before .before .before), value-is (d .before), d .before .before .power .ensures) at (c .ceil-sum .ensures)
+    rw (d .distance .ensures, guess-is (v .before .before), value-is v, v .before .power .ensures) at (c .ceil-sum .ensures)
 
 pub entry-bound-spec : {M : Type 1} → statement M
 entry-bound-spec =

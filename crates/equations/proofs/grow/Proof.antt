@@ -22,16 +22,18 @@ join-requires c κs =
 
 plus-requires : tie.Need-plus-requires
 plus-requires c κs =
-    let s = c .before .before .before .before .before .before .before in
-    let p = c .before .before .before .before .product-of in
+    let q = c .before .before .before .before in
+    let s = q .before .before .before in
+    let p = q .product-of in
     let f : SFits w64 (s .args .row .right) = search needs in
     right-room (s .args .row) (s .pre .0 .1 .1) (s .args .l) (s .pre .0 .1 .0) (toZ-ofZ w64 (s .args .row .right) f) (read _ (p .ok) ∙ p .ensures)
 
 returns : tie.Need-returns
 returns c =
-    let s = c .before .before .before .before .before .before .before .before in
-    let p = c .before .before .before .before .before .product-of in
-    let w = c .before .before .before .before .before .before .weight-of in
+    let q = c .before .before .before .before .before in
+    let s = q .before .before .before in
+    let p = q .product-of in
+    let w = q .before .weight-of in
     let f : SFits w64 (s .args .row .right) = search needs in
     grown-to (s .args .k) (s .args .l) (s .pre .0 .1 .0) (s .pre .0 .0) (s .args .row) (s .pre .0 .1 .1 .long) (c .before .before .before .if1 .taken)
     (rw (read _ (w .ok), w .ensures) at (c .before .before .join .ensures))
@@ -45,16 +47,18 @@ join-requires-2 c κs =
 
 minus-requires : tie.Need-minus-requires
 minus-requires c κs =
-    let s = c .before .before .before .before .before .before .before in
-    let p = c .before .before .before .before .product-of in
+    let q = c .before .before .before .before in
+    let s = q .before .before .before in
+    let p = q .product-of in
     let f : SFits w64 (s .args .row .right) = search needs in
     right-room (s .args .row) (s .pre .0 .1 .1) (s .args .l) (s .pre .0 .1 .0) (toZ-ofZ w64 (s .args .row .right) f) (read _ (p .ok) ∙ p .ensures)
 
 returns-2 : tie.Need-returns-2
 returns-2 c =
-    let s = c .before .before .before .before .before .before .before .before in
-    let p = c .before .before .before .before .before .product-of in
-    let w = c .before .before .before .before .before .before .weight-of in
+    let q = c .before .before .before .before .before in
+    let s = q .before .before .before in
+    let p = q .product-of in
+    let w = q .before .weight-of in
     let f : SFits w64 (s .args .row .right) = search needs in
     grown-from (s .args .k) (s .args .l) (s .pre .0 .1 .0) (s .pre .0 .0) (s .args .row) (s .pre .0 .1 .1 .long) (c .before .before .before .if1 .left) (s .pre .1)
     (rw (read _ (w .ok), w .ensures) at (c .before .before .join2 .ensures))

@@ -38,9 +38,10 @@ array-set-from-out-2 c = search needs
 
 returns : tie.Need-returns
 returns c =
-    let s = c .before .before .before .before in
+    let p = c .before .before in
+    let s = p .before .before in
     let w = toZ-ofZ w64 _ (s .fits .weight) in
-    let a = read _ (c .before .before .plus .ok) ∙ (rw (read _ (c .before .before .before .plus-arg .given), w) at (c .before .before .plus .ensures)) in
+    let a = read _ (p .plus .ok) ∙ (rw (read _ (p .before .plus-arg .given), w) at (p .plus .ensures)) in
     let b = read _ (c .minus .ok) ∙ (rw (read _ (c .before .minus-arg .given), w) at (c .minus .ensures)) in
     rw (a, b)
 

@@ -30,7 +30,8 @@ grow-requires c κs =
     let s = c .before .before .before .before .before in
     let i = c .before .before .before .before .loop in
     let o = s .pre .1 in
-    ((s .pre .0, (rw (c .before .before .line-at .ensures) (o .proper (i .p) (c .before .before .before .loop-test .taken)), row-small (s .args .seen .now) (s .args .k) o (i .inv .0) (i .inv .1))), sym (c .before .is-at .ensures) ∙ c .if1 .taken)
+    let d = c .before .before in
+    ((s .pre .0, (rw (d .line-at .ensures) (o .proper (i .p) (d .before .loop-test .taken)), row-small (s .args .seen .now) (s .args .k) o (i .inv .0) (i .inv .1))), sym (c .before .is-at .ensures) ∙ c .if1 .taken)
 
 add-p : tie.Need-add-p Inv-loop μ-loop
 add-p c = search needs

@@ -44,7 +44,7 @@ loop-less : tie.Need-loop-less Inv-loop μ-loop
 loop-less c = search needs
 
 loop-again : tie.Need-loop-again Inv-loop μ-loop
-loop-again c = (search needs, simp length-set (c .before .before .loop .inv .1), written-more _ _ 1 _ (c .before .before .loop .j) (c .before .before .loop .inv .2) (omega arith) (read _ (c .dst .given)))
+loop-again c = let l = c .before .before .loop in (search needs, simp length-set (l .inv .1), written-more _ _ 1 _ (l .j) (l .inv .2) (omega arith) (read _ (c .dst .given)))
 
 same-length : tie.Need-same-length Inv-loop μ-loop
 same-length c = search needs

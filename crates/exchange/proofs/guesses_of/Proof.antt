@@ -8,20 +8,24 @@ use borrow.Author.Tests.{lt-ltb, le-ltb}
 use Rattle.exchange.proofs.guesses_of.Statement.{statement}
 use Rattle.exchange.proofs.guesses_of.Tie as tie
 
+-- the start, from the tests of the lengths
+abbrev start : tie.Else2 → tie.Start
+start c = c .before .before .before
+
 abbrev I : tie.Start → Incoming
 I s = incoming (s .args .n) (s .args .s) (s .args .values .now) (s .args .guess .now)
 
 -- what the tests showed
-long : (c : tie.Else2) → shortIncoming (I (c .before .before .before)) ≡ false
+long : (c : tie.Else2) → shortIncoming (I (start c)) ≡ false
 long c = rw (le-ltb _ 32 (c .before .if1 .left), le-ltb _ 32 (c .if2 .left))
 
-sized : (c : tie.Then3) → exchangeSizes (c .before .before .before .before .before .args .n) (c .before .before .before .before .before .args .s) ≡ true
+sized : (c : tie.Then3) → exchangeSizes (start (c .before .before) .args .n) (start (c .before .before) .args .s) ≡ true
 sized c = sym (c .before .are-sizes-in-range .ensures) ∙ c .if3 .taken
 
-here : (c : tie.Then3) → Ready (I (c .before .before .before .before .before))
-here c = ready (I (c .before .before .before .before .before)) (long (c .before .before)) (sized c)
+here : (c : tie.Then3) → Ready (I (start (c .before .before)))
+here c = ready (I (start (c .before .before))) (long (c .before .before)) (sized c)
 
-have : (c : tie.Then4) → allHaveGuess (I (c .before .before .before .before .before .before .before)) ≡ true
+have : (c : tie.Then4) → allHaveGuess (I (start (c .before .before .before .before))) ≡ true
 have c = sym (c .before .all-have-guess .ensures) ∙ c .if4 .taken
 
 returns : tie.Need-returns
@@ -47,16 +51,18 @@ returns-3 : tie.Need-returns-3
 returns-3 c =
     let t = c .before .before .before in
     let s = t .before .before in
-    in-all (I (s .before .before .before .before .before)) (s .before .before .before .before .shared-slice-known .given) (long (s .before .before)) (sized s) (have t) (c .before .write-guesses .ensures)
+    let e = s .before .before in
+    in-all (I (start e)) (e .before .before .shared-slice-known .given) (long e) (sized s) (have t) (c .before .write-guesses .ensures)
 
 returns-4 : tie.Need-returns-4
 returns-4 c =
     let s = c .before .before in
-    in-none (I (s .before .before .before .before .before)) (long (s .before .before)) (sized s) (sym (c .before .all-have-guess .ensures) ∙ c .if4 .left)
+    let e = s .before .before in
+    in-none (I (start e)) (long e) (sized s) (sym (c .before .all-have-guess .ensures) ∙ c .if4 .left)
 
 returns-5 : tie.Need-returns-5
 returns-5 c =
-    in-range (I (c .before .before .before .before .before)) (long (c .before .before)) (sym (c .before .are-sizes-in-range .ensures) ∙ c .if3 .left)
+    in-range (I (start (c .before .before))) (long (c .before .before)) (sym (c .before .are-sizes-in-range .ensures) ∙ c .if3 .left)
 
 pub guesses-of-spec : {M : Type 1} → statement M
 guesses-of-spec =

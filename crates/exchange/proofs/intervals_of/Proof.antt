@@ -11,13 +11,17 @@ use borrow.Author.Needs.{needs}
 use Rattle.exchange.proofs.intervals_of.Statement.{statement}
 use Rattle.exchange.proofs.intervals_of.Tie as tie
 
+-- the start, from the first test
+abbrev start : tie.After-is-short → tie.Start
+start c = c .before .before .before .before
+
 abbrev I : tie.Start → Outgoing
 I s =
     let a = s .args in outgoing (a .n) (a .s) (a .guess .now) (a .bounds .now) (a .low .now) (a .high .now)
 
 -- what the tests showed
 abbrev at1 : tie.Else1 → tie.Start
-at1 c = c .before .before .before .before .before
+at1 c = start (c .before)
 
 abbrev at2 : tie.Then2 → tie.Start
 at2 c = at1 (c .before .before)
@@ -44,7 +48,7 @@ is-short-requires : tie.Need-is-short-requires
 is-short-requires c κs = search needs
 
 returns : tie.Need-returns
-returns c = out-short (I (c .before .before .before .before .before)) (sym (c .before .is-short .ensures) ∙ c .if1 .taken)
+returns c = out-short (I (start (c .before))) (sym (c .before .is-short .ensures) ∙ c .if1 .taken)
 
 are-sizes-in-range-requires : tie.Need-are-sizes-in-range-requires
 are-sizes-in-range-requires c κs = search needs

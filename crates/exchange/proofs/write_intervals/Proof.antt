@@ -21,16 +21,21 @@ Inv-loop n s guess bounds low₀ high₀ i₀ low high i =
 abbrev μ-loop : tie.MeasureT-loop
 μ-loop n s guess bounds low₀ high₀ i₀ low high i = n - i
 
+-- the start, from the loop
+abbrev start : tie.At-loop Inv-loop μ-loop → tie.Start Inv-loop μ-loop
+start c = c .before .before .before .before
+
 module _ (c : tie.At-loop Inv-loop μ-loop) where
-  lows : length (c .loop .low) ≡ length (c .before .before .before .before .args .low .now)
+  lows : length (c .loop .low) ≡ length (start c .args .low .now)
   lows = ap length (c .loop .inv .1 .0) ∙ written-length _ _ _ _ (c .loop .i)
 
-  highs : length (c .loop .high) ≡ length (c .before .before .before .before .args .high .now)
+  highs : length (c .loop .high) ≡ length (start c .args .high .now)
   highs = ap length (c .loop .inv .1 .1) ∙ written-length _ _ _ _ (c .loop .i)
 
 ends : (c : tie.After-interval-of Inv-loop μ-loop) →
-    let s = c .before .before .before .before .before .before .before .before in
-    let i = c .before .before .before .before .loop .i in
+    let l = c .before .before .before .before in
+    let s = start l in
+    let i = l .loop .i in
     c .interval-of .result ≡ intervalOf (s .args .s) (getD (s .args .guess .now) i (pos 0)) (getD (s .args .bounds .now) i 0)
 ends c = rw (read _ (c .before .before .interval-of-arg .given)) at (c .interval-of .ensures)
 

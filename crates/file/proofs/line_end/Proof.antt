@@ -14,6 +14,10 @@ Inv-loop file at i₀ i = (i ≤ length file) × (i + lineLength (drop i file) �
 abbrev μ-loop : tie.MeasureT-loop
 μ-loop file at i₀ i = length file - i
 
+-- the start, from the turn
+abbrev start : tie.In-loop Inv-loop μ-loop → tie.Start Inv-loop μ-loop
+start c = c .before .before .before .before
+
 skip-blocks-requires : tie.Need-skip-blocks-requires Inv-loop μ-loop
 skip-blocks-requires c κs = search needs
 
@@ -24,7 +28,7 @@ shared-slice-read-if1 : tie.Need-shared-slice-read-if1 Inv-loop μ-loop
 shared-slice-read-if1 c = search needs
 
 returns : tie.Need-returns Inv-loop μ-loop
-returns c = omega (arith, length-feed (c .before .before .before .before .before .before .args .file .now) (c .before .before .loop-test .taken) (c .if1 .taken))
+returns c = let t = c .before .before in omega (arith, length-feed (start t .args .file .now) (t .loop-test .taken) (c .if1 .taken))
 
 add-i : tie.Need-add-i Inv-loop μ-loop
 add-i c = search needs
@@ -33,7 +37,7 @@ loop-less : tie.Need-loop-less Inv-loop μ-loop
 loop-less c = search needs
 
 loop-again : tie.Need-loop-again Inv-loop μ-loop
-loop-again c = omega (arith, length-byte (c .before .before .before .before .before .before .args .file .now) (c .before .before .loop-test .taken) (c .if1 .left))
+loop-again c = let t = c .before .before in omega (arith, length-byte (start t .args .file .now) (t .loop-test .taken) (c .if1 .left))
 
 returns-2 : tie.Need-returns-2 Inv-loop μ-loop
 returns-2 c = omega (arith, length-end (c .before .before .before .before .args .file .now) (c .loop-test .left))

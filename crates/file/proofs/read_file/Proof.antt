@@ -16,6 +16,22 @@ Inv-loop file matrix₀ right₀ tolerance₀ guess₀ inverse₀ weights₀ loa
 abbrev μ-loop : tie.MeasureT-loop
 μ-loop file matrix₀ right₀ tolerance₀ guess₀ inverse₀ weights₀ loader₀ line₀ at₀ matrix right tolerance guess inverse weights loader line at = length file - at
 
+-- the places back from a line: the lists given back and lent, the call, the line's end, the start
+abbrev at-given : tie.After-weights2 Inv-loop μ-loop → tie.After-matrix2 Inv-loop μ-loop
+at-given c = c .before .before .before .before .before
+
+abbrev at-take : tie.After-weights2 Inv-loop μ-loop → tie.After-take Inv-loop μ-loop
+at-take c = at-given c .before
+
+abbrev at-lent : tie.After-weights Inv-loop μ-loop → tie.After-matrix Inv-loop μ-loop
+at-lent c = c .before .before .before .before .before
+
+abbrev at-line : tie.After-take Inv-loop μ-loop → tie.After-line-end Inv-loop μ-loop
+at-line c = at-lent (c .before) .before .before
+
+abbrev start : tie.After-line-end Inv-loop μ-loop → tie.Start Inv-loop μ-loop
+start c = c .before .before .before .before .before
+
 new-requires : tie.Need-new-requires Inv-loop μ-loop
 new-requires c κs = search needs
 
@@ -63,9 +79,9 @@ enum-known-outcome c = search needs
 
 returns : tie.Need-returns Inv-loop μ-loop
 returns c =
-    let t = c .before .before .before .before .before .before .before .before .before in
-    let e = t .before .before .before .before .before .before .before .before in
-    read-refusal (e .before .before .before .before .before .args .file .now) (e .before .before .loop .inv .6) (e .before .loop-test .taken) (e .line-end .ensures) (t .take .ensures) _ (c .before .outcome .given .1)
+    let t = at-take (c .before .before .before) in
+    let e = at-line t in
+    read-refusal (start e .args .file .now) (e .before .before .loop .inv .6) (e .before .loop-test .taken) (e .line-end .ensures) (t .take .ensures) _ (c .before .outcome .given .1)
 
 enum-told : tie.Need-enum-told Inv-loop μ-loop
 enum-told c = search needs
@@ -78,8 +94,8 @@ loop-less c = search needs
 
 loop-again : tie.Need-loop-again Inv-loop μ-loop
 loop-again c =
-    let t = c .before .before .before .before .before .before .before .before .before in
-    let e = t .before .before .before .before .before .before .before .before in
+    let t = at-take (c .before .before .before) in
+    let e = at-line t in
     let l = e .before .before .loop in
     let k = t .take .kept in (
       k .1 .1 .0 ∙ l .inv .0,
@@ -88,7 +104,7 @@ loop-again c =
       k .1 .1 .1 .1 .1 .0 ∙ l .inv .3,
       k .1 .1 .1 .1 .1 .1 .0 ∙ l .inv .4,
       k .1 .1 .1 .1 .1 .1 .1 .0 ∙ l .inv .5,
-      read-on (e .before .before .before .before .before .args .file .now) (l .inv .6) (e .before .loop-test .taken) (e .line-end .ensures) (t .take .ensures) (c .before .enum-told .given .1),
+      read-on (start e .args .file .now) (l .inv .6) (e .before .loop-test .taken) (e .line-end .ensures) (t .take .ensures) (c .before .enum-told .given .1),
     )
 
 returns-2 : tie.Need-returns-2 Inv-loop μ-loop

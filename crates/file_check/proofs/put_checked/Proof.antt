@@ -3,6 +3,13 @@ use borrow.Author.Needs.{needs}
 use Rattle.file_check.proofs.put_checked.Statement.{statement}
 use Rattle.file_check.proofs.put_checked.Tie as tie
 
+-- the lists, from the last that is lent
+abbrev at-lent : tie.After-inverse-bounds2 → tie.After-put-report-arg
+at-lent c = c .before .before .before
+
+abbrev at-guess : tie.After-inverse-bounds2 → tie.After-guess
+at-guess c = at-lent c .before .before .before
+
 check-file-requires : tie.Need-check-file-requires
 check-file-requires c κs = search needs
 
@@ -35,7 +42,7 @@ slice-aggregate-put-report-3 c = search needs
 
 put-report-requires : tie.Need-put-report-requires
 put-report-requires c κs =
-    let k = c .before .before .before .before .before .before in
+    let k = at-guess c in
     let l = k .before .before in
     let m = l .before .before in
     (report-ready _ _ (m .before .before .check-file .ensures) (m .enum-told .given .1) (l .size .ensures) (k .before .solution-scale .ensures), search needs)
@@ -58,7 +65,7 @@ same-length-2 c = search needs
 returns-2 : tie.Need-returns-2
 returns-2 c =
     let p = c .before .before .before in
-    let k = p .before .before .before .before .before .before .before in
+    let k = at-guess (p .before) in
     let l = k .before .before in
     let m = l .before .before in
     shown-accepted _ _ (m .before .before .check-file .ensures) (m .enum-told .given .1) (l .size .ensures) (k .before .solution-scale .ensures) (c .no-refusal .ensures) (p .put-report .ensures)

@@ -17,6 +17,13 @@ Inv-loop s at kind values₀ inside₀ next₀ count₀ values inside next count
 abbrev μ-loop : tie.MeasureT-loop
 μ-loop s at kind values₀ inside₀ next₀ count₀ values inside next count = length s + 1 - count
 
+-- the places back from the loop
+abbrev at-put : tie.At-loop Inv-loop μ-loop → tie.After-put Inv-loop μ-loop
+at-put c = c .before .before .before .before
+
+abbrev start : tie.At-loop Inv-loop μ-loop → tie.Start Inv-loop μ-loop
+start c = at-put c .before .before .before .before .before
+
 number-at-requires : tie.Need-number-at-requires Inv-loop μ-loop
 number-at-requires c κs = search needs
 
@@ -40,7 +47,7 @@ byte-at-requires c κs = search needs
 add-number-at : tie.Need-add-number-at Inv-loop μ-loop
 add-number-at c =
     let l = c .before .before .before in
-    omega (arith, inside-byte (l .before .before .before .before .before .before .before .before .before .args .s .now) (l .loop .next) (c .before .byte-at .ensures) (omega arith))
+    omega (arith, inside-byte (start l .args .s .now) (l .loop .next) (c .before .byte-at .ensures) (omega arith))
 
 number-at-requires-2 : tie.Need-number-at-requires-2 Inv-loop μ-loop
 number-at-requires-2 c κs = search needs

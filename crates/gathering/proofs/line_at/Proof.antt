@@ -50,7 +50,7 @@ element-copy-out-t24 : tie.Need-element-copy-out-t24
 element-copy-out-t24 c = search needs
 
 returns : tie.Need-returns
-returns c = unfold lineAt in rw (read _ (c .before .before .before .before .difference-of .ok), c .before .before .before .before .difference-of .ensures)
+returns c = let d = c .before .before .before .before .difference-of in unfold lineAt in rw (read _ (d .ok), d .ensures)
 
 pub line-at-spec : {M : Type 1} → statement M
 line-at-spec =

@@ -26,10 +26,11 @@ is-placed-requires-2 c κs = search needs
 
 returns : tie.Need-returns
 returns c =
-    let s = c .before .before .before .before .before in
+    let t = c .before .before .before in
+    let s = t .before .before in
     let k : toZ w64 (s .args .n) ≡ pos (s .args .n) = toZ-pos w64 (omega arith) in
     misplaced-by (s .args .stage) (s .args .n) (s .args .item)
-    (sym (c .before .before .before .before .is-sized .ensures) ∙ c .before .before .before .if1 .taken)
+    (sym (t .before .is-sized .ensures) ∙ t .if1 .taken)
     (rw k at (sym (c .before .before .is-in-range .ensures) ∙ c .before .if2 .taken))
     (c .is-placed .ensures)
 

@@ -14,7 +14,7 @@ H s =
     (a .solution-bounds .now) (a .inverse-bounds .now)
 
 returns : tie.Need-returns
-returns c = half-short (H (c .before .before .before)) (lt-ltb (length (c .before .before .before .args .half .now)) 528 (omega arith))
+returns c = let s = c .before .before .before in half-short (H s) (lt-ltb (length (s .args .half .now)) 528 (omega arith))
 
 fill-out-requires : tie.Need-fill-out-requires
 fill-out-requires c κs = search needs

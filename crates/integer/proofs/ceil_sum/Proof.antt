@@ -24,7 +24,9 @@ ceil-div-requires : tie.Need-ceil-div-requires
 ceil-div-requires c κs = (c .pre .0, omega (arith, mod-lt (c .args .a) (c .pre .0)))
 
 add-result : tie.Need-add-result
-add-result c = record { fits = rw (sum-is c) (ceil-sum-fits (c .before .args .a) (c .before .args .c) (c .before .args .b) (c .before .pre .0) (c .before .pre .1 .0) (c .before .fits .a .fits)) }
+add-result c =
+    let s = c .before in
+    record { fits = rw (sum-is c) (ceil-sum-fits (s .args .a) (s .args .c) (s .args .b) (s .pre .0) (s .pre .1 .0) (s .fits .a .fits)) }
 
 returns : tie.Need-returns
 returns c = sum-is c

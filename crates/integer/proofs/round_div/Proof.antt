@@ -77,13 +77,15 @@ div-result-2 c =
 
 returns : tie.Need-returns
 returns c =
-    simp (toZ-ofZ w64, toZ-pos w64, c .before .fits .x, twice (c .before), lower (c .before), e-small (c .before), e-twice (c .before), lower-quot (c .before))
-    (round-down (c .before .args .x) (c .before .args .d) (simp (toZ-ofZ w64, c .before .fits .x) at (c .if1 .taken)))
+    let s = c .before in
+    simp (toZ-ofZ w64, toZ-pos w64, s .fits .x, twice s, lower s, e-small s, e-twice s, lower-quot s)
+    (round-down (s .args .x) (s .args .d) (simp (toZ-ofZ w64, s .fits .x) at (c .if1 .taken)))
 
 returns-2 : tie.Need-returns-2
 returns-2 c =
-    simp (toZ-ofZ w64, toZ-pos w64, c .before .fits .x, twice (c .before), upper (c .before), e-small (c .before), e-twice (c .before), upper-quot (c .before))
-    (round-up (c .before .args .x) (c .before .args .d) (simp (toZ-ofZ w64, c .before .fits .x) at (c .if1 .left)))
+    let s = c .before in
+    simp (toZ-ofZ w64, toZ-pos w64, s .fits .x, twice s, upper s, e-small s, e-twice s, upper-quot s)
+    (round-up (s .args .x) (s .args .d) (simp (toZ-ofZ w64, s .fits .x) at (c .if1 .left)))
 
 pub round-div-spec : {M : Type 1} → statement M
 round-div-spec =

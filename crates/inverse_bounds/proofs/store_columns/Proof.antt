@@ -32,11 +32,18 @@ Inv-loop dst₀ rows residuals raised list₀ mirrored margins caps weights n pl
 abbrev μ-loop : tie.MeasureT-loop
 μ-loop dst₀ rows residuals raised list₀ mirrored margins caps weights n place₀ start₀ j₀ dst list place start j = n - j
 
-abbrev start : tie.In-loop Inv-loop μ-loop → tie.Start Inv-loop μ-loop
-start t = t .before .before .before .before .before .before .before .before .before .before
+-- stages on the way: the start, after the raised residuals, and after the sizes of the column
+abbrev begun : tie.After-raise-rows-arg Inv-loop μ-loop → tie.Start Inv-loop μ-loop
+begun c = c .before .before .before .before .before
 
 abbrev raised : tie.In-loop Inv-loop μ-loop → tie.After-raise-rows Inv-loop μ-loop
 raised t = t .before .before .before .before
+
+abbrev at-sizes : tie.After-store-arg Inv-loop μ-loop → tie.After-column-sizes Inv-loop μ-loop
+at-sizes c = c .before .before .before .before .before
+
+abbrev start : tie.In-loop Inv-loop μ-loop → tie.Start Inv-loop μ-loop
+start t = begun (raised t .before)
 
 abbrev F : tie.Start Inv-loop μ-loop → ℕ → ℕ → ℕ
 F s i k = limitsOf (s .args .n) (s .args .rows .now) (λ (a : ℕ). at (s .args .residuals .now) (k * s .args .n + a)) (λ (a : ℕ). 0) (s .args .margins .now) (s .args .weights .now) i
@@ -69,7 +76,7 @@ list-next c =
 
 raise-rows-requires : tie.Need-raise-rows-requires Inv-loop μ-loop
 raise-rows-requires c κs =
-    let p = c .before .before .before .before .before .pre in
+    let p = begun c .pre in
     ((p .0 .1 .0, p .0 .1 .1 .1 .0), p .1 .1 .0)
 
 loop-holds : tie.Need-loop-holds Inv-loop μ-loop
@@ -77,8 +84,9 @@ loop-holds c = (omega arith, ((carried-first _ _, carried-first _ _), ((refl, kn
 
 -- how many columns before it count as known
 known-is : (c : tie.After-column-sizes-arg2 Inv-loop μ-loop) →
-    (c .before .before .if1 .known ≤ c .before .before .before .before .loop .j)
-    × (0 < c .before .before .if1 .known → start (c .before .before .before) .args .mirrored ≡ true)
+    let k = c .before .before in
+    (k .if1 .known ≤ k .before .before .loop .j)
+    × (0 < k .if1 .known → start (k .before) .args .mirrored ≡ true)
 known-is c =
     ⊎-elim (λ w. (omega (arith, w .1), λ h. w .0 .taken)) (λ w. (omega (arith, w .1), λ h. absurd (omega (arith, w .1, h)))) (c .before .before .if1 .came)
 
@@ -103,7 +111,7 @@ bounds-of-requires c κs =
 
 store-requires : tie.Need-store-requires Inv-loop μ-loop
 store-requires c κs =
-    let t = turn (c .before .before .before .before .before) in
+    let t = turn (at-sizes c) in
     let l = t .before .loop in
     let s = start t in (
       (omega (arith, s .pre .0 .1 .0), omega (arith, column-ends (t .loop-test .taken) (s .pre .0 .1 .0))),
@@ -111,21 +119,21 @@ store-requires c κs =
     )
 
 add-place : tie.Need-add-place Inv-loop μ-loop
-add-place c = omega (arith, start (turn (c .before .before .before .before .before .before .before .before)) .pre .0 .1 .0)
+add-place c = omega (arith, start (turn (at-sizes (c .before .before .before))) .pre .0 .1 .0)
 
 add-place-2 : tie.Need-add-place-2 Inv-loop μ-loop
 add-place-2 c =
-    let t = turn (c .before .before .before .before .before .before .before .before) in
+    let t = turn (at-sizes (c .before .before .before)) in
     omega (arith, t .before .loop .inv .1 .0 .0 .is, rows-room (t .loop-test .taken) (start t .pre .0 .1 .0))
 
 add-start : tie.Need-add-start Inv-loop μ-loop
 add-start c =
-    let t = turn (c .before .before .before .before .before .before .before .before) in
+    let t = turn (at-sizes (c .before .before .before)) in
     omega (arith, t .before .loop .inv .1 .0 .1 .is, row-ends (t .loop-test .taken) (start t .pre .0 .1 .0))
 
 add-j : tie.Need-add-j Inv-loop μ-loop
 add-j c =
-    let t = turn (c .before .before .before .before .before .before .before .before) in
+    let t = turn (at-sizes (c .before .before .before)) in
     omega (arith, t .loop-test .taken, start t .pre .0 .1 .0)
 
 loop-less : tie.Need-loop-less Inv-loop μ-loop
@@ -133,7 +141,8 @@ loop-less c = search needs
 
 loop-again : tie.Need-loop-again Inv-loop μ-loop
 loop-again c =
-    let z = c .before .before .before .before .before .before .before .before in
+    let z = at-sizes (c .before .before .before) in
+    let k = c .before .before in
     let l = turn z .before .loop in
     let s = start (turn z) in (
       omega arith,
@@ -141,7 +150,7 @@ loop-again c =
         (carried-next (l .inv .1 .0 .0), carried-next (l .inv .1 .0 .1)),
         (
           list-next z,
-          column-more (s .args .dst .now) (s .args .n) (F s) (l .j) (l .inv .1 .1 .1) (bounds-of-sizes _ _ _ _ _ (sizes-here z) (c .before .before .before .before .bounds-of .ensures)) (c .before .before .store .ensures),
+          column-more (s .args .dst .now) (s .args .n) (F s) (l .j) (l .inv .1 .1 .1) (bounds-of-sizes _ _ _ _ _ (sizes-here z) (k .before .before .bounds-of .ensures)) (k .store .ensures),
         ),
       ),
     )

@@ -10,6 +10,25 @@ use borrow.Author.Needs.{needs}
 use Rattle.lent_lists.proofs.write_all.Statement.{statement}
 use Rattle.lent_lists.proofs.write_all.Tie as tie
 
+-- the places back from the last list
+abbrev at-inverse : tie.After-write-part6 → tie.After-write-part5
+at-inverse c = c .before .before .before
+
+abbrev at-guess : tie.After-write-part6 → tie.After-write-part4
+at-guess c = at-inverse c .before .before .before
+
+abbrev at-tolerance : tie.After-write-part6 → tie.After-write-part3
+at-tolerance c = at-guess c .before .before .before
+
+abbrev at-right : tie.After-write-part6 → tie.After-write-part2
+at-right c = at-tolerance c .before .before .before .before
+
+abbrev at-matrix : tie.After-write-part6 → tie.After-write-part
+at-matrix c = at-right c .before .before .before
+
+abbrev start : tie.After-write-part6 → tie.Start
+start c = at-matrix c .before .before
+
 write-part-requires : tie.Need-write-part-requires
 write-part-requires c κs = search needs
 
@@ -34,7 +53,7 @@ write-part-requires-6 c κs = search needs
 fill-weights-requires : tie.Need-fill-weights-requires
 fill-weights-requires c κs =
     let p6 = c .before .before in
-    let s = p6 .before .before .before .before .before .before .before .before .before .before .before .before .before .before .before .before .before .before in
+    let s = start p6 in
     subst (λ (k : ℕ). FillRoom (s .args .n) k (s .args .item)) (search needs) (s .pre .filled)
 
 same-length : tie.Need-same-length
@@ -59,14 +78,10 @@ returns : tie.Need-returns
 returns c =
     let f = c .before in
     let p6 = f .before .before .before in
-    let p5 = p6 .before .before .before in
-    let p4 = p5 .before .before .before in
-    let p3 = p4 .before .before .before in
-    let p2 = p3 .before .before .before .before in
-    let p1 = p2 .before .before .before in
-    let s = p1 .before .before in
+    let p3 = at-tolerance p6 in
+    let s = start p6 in
     let d = p3 .write-part3 .ensures ∙ ap (λ (vs : List ℤ). pastedAt (spanOf Right (s .args .item) 1) vs (s .args .tolerance .now)) (p3 .before .before .second-of .ensures) in
-    lists-≡ (p1 .write-part .ensures) (p2 .write-part2 .ensures) d (p4 .write-part4 .ensures) (p5 .write-part5 .ensures)
+    lists-≡ (at-matrix p6 .write-part .ensures) (at-right p6 .write-part2 .ensures) d (at-guess p6 .write-part4 .ensures) (at-inverse p6 .write-part5 .ensures)
     (f .fill-weights .ensures ∙ ap (closedWeights (s .args .n) (s .args .given) (s .args .item)) (p6 .write-part6 .ensures))
 
 pub write-all-spec : {M : Type 1} → statement M

@@ -21,12 +21,16 @@ Inv-loop a p s x q u n sum₀ at-a₀ at-x₀ j₀ sum at-a at-x j =
 abbrev μ-loop : tie.MeasureT-loop
 μ-loop a p s x q u n sum₀ at-a₀ at-x₀ j₀ sum at-a at-x j = n - j
 
+-- the start, from the turn
+abbrev start : tie.In-loop Inv-loop μ-loop → tie.Start Inv-loop μ-loop
+start c = c .before .before
+
 -- both places stay small with one stride more
 ends : (t : tie.In-loop Inv-loop μ-loop) →
-    (t .before .loop .at-a + t .before .before .args .s < 2 ^ 63) × (t .before .loop .at-x + t .before .before .args .u < 2 ^ 63)
+    (t .before .loop .at-a + start t .args .s < 2 ^ 63) × (t .before .loop .at-x + start t .args .u < 2 ^ 63)
 ends t = (
-  omega (arith, t .before .loop .inv .1 .0 .0 .is, mul-le-mul-right (t .before .before .args .s) (t .loop-test .taken)),
-  omega (arith, t .before .loop .inv .1 .0 .1 .is, mul-le-mul-right (t .before .before .args .u) (t .loop-test .taken)),
+  omega (arith, t .before .loop .inv .1 .0 .0 .is, mul-le-mul-right (start t .args .s) (t .loop-test .taken)),
+  omega (arith, t .before .loop .inv .1 .0 .1 .is, mul-le-mul-right (start t .args .u) (t .loop-test .taken)),
 )
 
 loop-holds : tie.Need-loop-holds Inv-loop μ-loop

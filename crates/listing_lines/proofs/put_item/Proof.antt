@@ -5,6 +5,10 @@ use borrow.Author.Needs.{needs}
 use Rattle.listing_lines.proofs.put_item.Statement.{statement}
 use Rattle.listing_lines.proofs.put_item.Tie as tie
 
+-- the place before the first text
+abbrev at-first : tie.After-put-natural → tie.Then1
+at-first c = c .before .before
+
 put-natural-requires : tie.Need-put-natural-requires
 put-natural-requires c κs = search needs
 
@@ -12,7 +16,7 @@ same-length : tie.Need-same-length
 same-length c = search needs
 
 returns : tie.Need-returns
-returns c = gap-first (c .before .before .before .before .if1 .taken) (wider 21 (omega arith) (c .before .before .put-natural .ensures))
+returns c = let e = c .before .before in gap-first (at-first e .if1 .taken) (wider 21 (omega arith) (e .put-natural .ensures))
 
 slice-aggregate-put-bytes : tie.Need-slice-aggregate-put-bytes
 slice-aggregate-put-bytes c = search needs

@@ -18,6 +18,10 @@ Inv-loop out₀ at values start n place₀ j₀ out place j =
 abbrev μ-loop : tie.MeasureT-loop
 μ-loop out₀ at values start n place₀ j₀ out place j = n - j
 
+-- the turn that a number was written in
+abbrev turn : tie.After-put-item Inv-loop μ-loop → tie.In-loop Inv-loop μ-loop
+turn c = c .before .before .before
+
 loop-holds : tie.Need-loop-holds Inv-loop μ-loop
 loop-holds c = (omega arith, refl, wrote-none 21 _ _ _)
 
@@ -41,8 +45,9 @@ loop-less c = search needs
 
 loop-again : tie.Need-loop-again Inv-loop μ-loop
 loop-again c =
-    let l = c .before .before .before .before .before .before .loop in
-    let a = c .before .before .before .before .before .before .before .before .before .args in
+    let t = turn (c .before .before) in
+    let l = t .before .loop in
+    let a = t .before .before .before .before .args in
     let p = c .before .before .put-item in
     (omega arith, p .kept .0 ∙ l .inv .1, wrote-more 21 (l .j) (λ (k : ℕ). gap k ++ decimal (getD (a .values .now) (a .start + k) 0)) (l .inv .2) refl (p .ensures))
 

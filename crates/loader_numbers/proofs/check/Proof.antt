@@ -3,6 +3,10 @@ use borrow.Author.Needs.{needs}
 use Rattle.loader_numbers.proofs.check.Statement.{statement}
 use Rattle.loader_numbers.proofs.check.Tie as tie
 
+-- the start, from the numbers that were read
+abbrev start : tie.After-from-numbers → tie.Start
+start c = c .before .before .before .before
+
 from-numbers-requires : tie.Need-from-numbers-requires
 from-numbers-requires c κs = search needs
 
@@ -18,7 +22,8 @@ same-length-2 c = search needs
 returns : tie.Need-returns
 returns c =
     let k = c .before .before .before .before in
-    checked-so (k .before .before .before .before .before .before .before .args .loader .now) (k .before .before .before .from-numbers .ensures) (k .check .ensures)
+    let f = k .before .before .before in
+    checked-so (start f .args .loader .now) (f .from-numbers .ensures) (k .check .ensures)
 
 pub check-spec : {M : Type 1} → statement M
 check-spec =

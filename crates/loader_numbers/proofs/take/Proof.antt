@@ -4,6 +4,19 @@ use borrow.Author.Needs.{needs}
 use Rattle.loader_numbers.proofs.take.Statement.{statement}
 use Rattle.loader_numbers.proofs.take.Tie as tie
 
+-- the places back from the numbers: the lists given back and lent, the call, the loader
+abbrev at-given : tie.After-weights → tie.After-matrix
+at-given c = c .before .before .before .before .before
+
+abbrev at-take : tie.After-numbers → tie.After-take
+at-take c = at-given (c .before .before) .before
+
+abbrev at-lent : tie.After-take-arg6 → tie.After-take-arg
+at-lent c = c .before .before .before .before .before
+
+abbrev at-loader : tie.After-take → tie.After-from-numbers
+at-loader c = at-lent (c .before) .before
+
 abbrev lent : tie.Start → Lists
 lent s = lists (s .args .matrix .now) (s .args .right .now) (s .args .tolerance .now) (s .args .guess .now) (s .args .inverse .now) (s .args .weights .now)
 
@@ -47,8 +60,8 @@ same-length-6 c = search needs
 
 returns : tie.Need-returns
 returns c =
-    let k = c .before .before .before .before .before .before .before .before .before .before in
-    let d = k .before .before .before .before .before .before .before in
+    let k = at-take (c .before .before) in
+    let d = at-loader k in
     let s = d .before .before .before in
     taken-accepted (s .args .loader .now) {l = lent s} {l′ = left k} (d .from-numbers .ensures) (k .take .ensures) (c .enum-told .given .1) (c .before .before .numbers .ensures)
 
@@ -72,8 +85,8 @@ same-length-12 c = search needs
 
 returns-2 : tie.Need-returns-2
 returns-2 c =
-    let k = c .before .before .before .before .before .before .before .before .before .before .before in
-    let d = k .before .before .before .before .before .before .before in
+    let k = at-take (c .before .before .before) in
+    let d = at-loader k in
     let s = d .before .before .before in
     taken-refused (s .args .loader .now) {l = lent s} {l′ = left k} (d .from-numbers .ensures) (k .take .ensures) (c .before .outcome .given .1)
 

@@ -22,10 +22,10 @@ abbrev μ-loop : tie.MeasureT-loop
 μ-loop defects weights n m row sum₀ place₀ j₀ sum place j = n - j
 
 module _ (t : tie.In-loop Inv-loop μ-loop) where
-  start-is : t .before .before .args .row ≡ t .before .before .args .m * t .before .before .args .n
+  start-is : let s = t .before .before in s .args .row ≡ s .args .m * s .args .n
   start-is = start-place (t .before .before .pre .0 .1 .1)
 
-  place-in : t .before .before .args .row + t .before .loop .j < t .before .before .args .n * t .before .before .args .n
+  place-in : let s = t .before .before in s .args .row + t .before .loop .j < s .args .n * s .args .n
   place-in = omega (arith, start-is, place (t .before .before .pre .0 .1 .0) (t .loop-test .taken))
 
 loop-holds : tie.Need-loop-holds Inv-loop μ-loop

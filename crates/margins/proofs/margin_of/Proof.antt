@@ -14,11 +14,11 @@ weight-small : (c : tie.After-magnitude-arg) → natAbs (at (c .before .before .
 weight-small c = let s = c .before .before in s .pre .1 .1 .within .size (s .args .m) (s .pre .0 .1 .1 .0)
 
 module _ (c : tie.After-magnitude) where
-  weight-is : c .magnitude .result ≡ natAbs (at (c .before .before .before .args .weights .now) (c .before .before .before .args .m))
+  weight-is : let s = c .before .before .before in c .magnitude .result ≡ natAbs (at (s .args .weights .now) (s .args .m))
   weight-is = rw (read _ (c .before .magnitude-arg .given)) at (c .magnitude .ensures)
 
   full-small : c .before .before .power .result * c .magnitude .result ≤ 2 ^ 20 * 1024
-  full-small = rw (weight-is, c .before .before .power .ensures) (mul-le-mul (power-size _ (c .before .before .before .pre .0 .0)) (weight-small (c .before)))
+  full-small = let p = c .before .before in rw (weight-is, p .power .ensures) (mul-le-mul (power-size _ (p .before .pre .0 .0)) (weight-small (c .before)))
 
 power-requires : tie.Need-power-requires
 power-requires c κs = search needs
@@ -42,11 +42,11 @@ sub-result : tie.Need-sub-result
 sub-result c = search needs
 
 returns : tie.Need-returns
-returns c = rw (c .before .before .before .before .power .ensures, weight-is (c .before .before), c .before .load-of .ensures)
+returns c = let m = c .before .before in rw (m .before .before .power .ensures, weight-is m, c .before .load-of .ensures)
 
 returns-2 : tie.Need-returns-2
 returns-2 c =
-    omega (arith, rw (c .before .before .before .before .power .ensures, weight-is (c .before .before), c .before .load-of .ensures) at (c .if1 .left))
+    let m = c .before .before in omega (arith, rw (m .before .before .power .ensures, weight-is m, c .before .load-of .ensures) at (c .if1 .left))
 
 pub margin-of-spec : {M : Type 1} → statement M
 margin-of-spec =

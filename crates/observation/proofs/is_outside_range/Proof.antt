@@ -23,9 +23,11 @@ is-natural-in-range-requires-2 c κs = search needs
 
 returns : tie.Need-returns
 returns c =
-    let f : SFits w64 (c .before .before .before .before .before .before .args .l .difference) = search needs in
-    outside-tested _ _ (c .before .before .before .before .before .is-natural-in-range .ensures) (c .before .before .before .before .is-mark .ensures)
-    (c .before .before .before .is-mark2 .ensures) (simp (toZ-ofZ w64, f) at (c .before .is-in-range .ensures)) (c .is-natural-in-range2 .ensures)
+    let m = c .before .before .before in
+    let s = m .before .before .before in
+    let f : SFits w64 (s .args .l .difference) = search needs in
+    outside-tested _ _ (m .before .before .is-natural-in-range .ensures) (m .before .is-mark .ensures)
+    (m .is-mark2 .ensures) (simp (toZ-ofZ w64, f) at (c .before .is-in-range .ensures)) (c .is-natural-in-range2 .ensures)
 
 pub is-outside-range-spec : {M : Type 1} → statement M
 is-outside-range-spec =

@@ -12,6 +12,13 @@ use borrow.Author.Needs.{needs}
 use Rattle.quality.proofs.margins_for.Statement.{statement}
 use Rattle.quality.proofs.margins_for.Tie as tie
 
+-- the places back from the loads
+abbrev start : tie.After-weights-of → tie.Start
+start c = c .before .before
+
+abbrev at-weights : tie.After-loads-of → tie.After-weights-of
+at-weights c = c .before .before .before
+
 defect-sizes-requires : tie.Need-defect-sizes-requires
 defect-sizes-requires c κs = search needs
 
@@ -19,24 +26,24 @@ weights-of-requires : tie.Need-weights-of-requires
 weights-of-requires c κs = search needs
 
 -- the weights are at most 1,024
-weights-below : (c : tie.After-weights-of) → Below (c .weights-of .result) (c .before .before .args .n) 1024
-weights-below c = record { each = λ m l. rw (c .weights-of .ensures .each m l) (c .before .before .pre .1 .1 .1 .within .size m l) }
+weights-below : (c : tie.After-weights-of) → Below (c .weights-of .result) (start c .args .n) 1024
+weights-below c = record { each = λ m l. rw (c .weights-of .ensures .each m l) (start c .pre .1 .1 .1 .within .size m l) }
 
 loads-of-requires : tie.Need-loads-of-requires
 loads-of-requires c κs =
     let w = c .before .before in
-    let s = w .before .before in
+    let s = start w in
     let a = s .args in
     let p = s .pre in
     (p .0 .1, (sizes-below (a .n) (a .t) (a .matrix .now) (a .inverse .now) (p .0 .0) (p .0 .1) (p .1 .0) (p .1 .1 .0) (w .before .defect-sizes .ensures), weights-below w))
 
 margins-from-requires : tie.Need-margins-from-requires
-margins-from-requires c κs = let w = c .before .before .before .before .before in (w .before .before .pre .0, weights-below w)
+margins-from-requires c κs = let w = at-weights (c .before .before) in (start w .pre .0, weights-below w)
 
 returns : tie.Need-returns
 returns c =
     let l = c .before .before .before in
-    let w = l .before .before .before in
+    let w = at-weights l in
     let d = w .before in
     let p = d .before .pre in
     let a = d .before .args in

@@ -16,6 +16,10 @@ Inv-loop spreads margins n k₀ m₀ k m =
 abbrev μ-loop : tie.MeasureT-loop
 μ-loop spreads margins n k₀ m₀ k m = n - m
 
+-- the turn that two rows are compared in
+abbrev turn : tie.After-is-steeper Inv-loop μ-loop → tie.In-loop Inv-loop μ-loop
+turn c = c .before .before .before .before .before
+
 loop-holds : tie.Need-loop-holds Inv-loop μ-loop
 loop-holds c = (omega arith, (omega arith, leading-one 1 _ _))
 
@@ -45,9 +49,10 @@ element-copy-out-is-steeper-4 c = search needs
 
 is-steeper-requires : tie.Need-is-steeper-requires Inv-loop μ-loop
 is-steeper-requires c κs =
-    let s = c .before .before .before .before .before .before in
-    let l = c .before .before .before .before .before .loop in
-    let t = c .before .before .before .before .loop-test .taken in
+    let here = c .before .before .before .before in
+    let s = here .before .before in
+    let l = here .before .loop in
+    let t = here .loop-test .taken in
     let b : l .k < s .args .n = omega (arith, l .inv .1 .1 .steepest .below) in
     ((s .pre .1 .0 _ b, s .pre .1 .1 _ t .1), (s .pre .1 .0 _ t, s .pre .1 .1 _ b .1))
 
@@ -59,10 +64,11 @@ loop-less c = search needs
 
 loop-again : tie.Need-loop-again Inv-loop μ-loop
 loop-again c =
-    let s = c .before .before .before .before .before .before .before .before in
-    let l = c .before .before .before .before .before .before .before .loop in
+    let here = turn (c .before) in
+    let s = here .before .before in
+    let l = here .before .loop in
     let i = l .inv .1 .1 in
-    let t = c .before .before .before .before .before .before .loop-test .taken in
+    let t = here .loop-test .taken in
     let e = c .before .is-steeper .ensures in (
       omega arith,
       (

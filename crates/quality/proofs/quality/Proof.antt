@@ -7,6 +7,13 @@ use borrow.Author.Needs.{needs}
 use Rattle.quality.proofs.quality.Statement.{statement}
 use Rattle.quality.proofs.quality.Tie as tie
 
+-- the places back from the test of the sizes
+abbrev at-long : tie.Then2 → tie.Else1
+at-long c = c .before .before
+
+abbrev start : tie.Then2 → tie.Start
+start c = at-long c .before .before
+
 abbrev Q : tie.Start → Inquiry
 Q s = let a = s .args in inquiry (a .n) (a .t) (a .matrix .now) (a .inverse .now) (a .weights .now)
 
@@ -14,10 +21,10 @@ Q s = let a = s .args in inquiry (a .n) (a .t) (a .matrix .now) (a .inverse .now
 long : (c : tie.Else1) → inquiryShort (Q (c .before .before)) ≡ false
 long c = sym (c .before .is-short .ensures) ∙ c .if1 .left
 
-sizes : (c : tie.Then2) → let s = c .before .before .before .before in inquirySizes (s .args .n) (s .args .t) ≡ true
+sizes : (c : tie.Then2) → let s = start c in inquirySizes (s .args .n) (s .args .t) ≡ true
 sizes c = sym (c .before .are-sizes-in-range .ensures) ∙ c .if2 .taken
 
-within : (c : tie.Then3) → inquiryInRanges (Q (c .before .before .before .before .before .before)) ≡ true
+within : (c : tie.Then3) → inquiryInRanges (Q (start (c .before .before))) ≡ true
 within c = both (sizes (c .before .before)) (sym (c .before .are-lists-in-range .ensures) ∙ c .if3 .taken)
 
 is-short-requires : tie.Need-is-short-requires
@@ -31,23 +38,24 @@ are-sizes-in-range-requires c κs = search needs
 
 are-lists-in-range-requires : tie.Need-are-lists-in-range-requires
 are-lists-in-range-requires c κs =
-    let l = long-of (Q (c .before .before .before .before)) (long (c .before .before)) in
+    let l = long-of (Q (start c)) (long (at-long c)) in
     (size-range _ (both-left _ _ (sizes c)) .1, (l .matrix, (l .inverse, l .weights)))
 
 rate-requires : tie.Need-rate-requires
-rate-requires c κs = (long (c .before .before .before .before), within c)
+rate-requires c κs = (long (at-long (c .before .before)), within c)
 
 returns-2 : tie.Need-returns-2
 returns-2 c = search needs
 
 returns-3 : tie.Need-returns-3
 returns-3 c =
-    quality-range (Q (c .before .before .before .before .before .before)) (long (c .before .before .before .before))
+    quality-range (Q (start (c .before .before))) (long (at-long (c .before .before)))
     (not-both (sizes (c .before .before)) (sym (c .before .are-lists-in-range .ensures) ∙ c .if3 .left))
 
 returns-4 : tie.Need-returns-4
 returns-4 c =
-    quality-range (Q (c .before .before .before .before)) (long (c .before .before))
+    let l = c .before .before in
+    quality-range (Q (l .before .before)) (long l)
     (not-first _ (sym (c .before .are-sizes-in-range .ensures) ∙ c .if2 .left))
 
 pub quality-spec : {M : Type 1} → statement M

@@ -12,6 +12,13 @@ use Rattle.quality.proofs.Rows.{full-small, low-is, under, margin-is, a
 use Rattle.quality.proofs.rate.Statement.{statement}
 use Rattle.quality.proofs.rate.Tie as tie
 
+-- the places back from the row that is found
+abbrev at-margins : tie.After-peak-of → tie.Else1
+at-margins c = c .before .before .before .before .before
+
+abbrev start : tie.After-peak-of → tie.Start
+start c = at-margins c .before .before .before .before
+
 abbrev Q : tie.Start → Inquiry
 Q s = let a = s .args in inquiry (a .n) (a .t) (a .matrix .now) (a .inverse .now) (a .weights .now)
 
@@ -63,7 +70,7 @@ peak-of-requires c κs =
     )
 
 row-small : (c : tie.After-peak-of) → c .peak-of .result < 32
-row-small c = omega (arith, c .peak-of .ensures .0, fit (c .before .before .before .before .before .before .before .before .before) .few)
+row-small c = omega (arith, c .peak-of .ensures .0, fit (start c) .few)
 
 mul-t19 : tie.Need-mul-t19
 mul-t19 c = record { fits = omega (arith, row-small c) }
@@ -79,7 +86,7 @@ array-read-t26 c = row-small c
 
 returns-2 : tie.Need-returns-2
 returns-2 c =
-    let i = c .before .before .before .before .before in
+    let i = at-margins c in
     let m = i .before .before .before in
     let s = m .before in
     let P = inquiryProblem (Q s) in

@@ -19,6 +19,10 @@ Inv-loop out₀ xs step stride n place₀ start₀ i₀ out place start i =
 abbrev μ-loop : tie.MeasureT-loop
 μ-loop out₀ xs step stride n place₀ start₀ i₀ out place start i = n - i
 
+-- the start, from the turn
+abbrev start : tie.In-loop Inv-loop μ-loop → tie.Start Inv-loop μ-loop
+start t = t .before .before .before
+
 steps : (s : tie.Start Inv-loop μ-loop) (i : ℕ) → i ≤ s .args .n → i * s .args .step ≤ 1024
 steps s i l = let few : i ≤ 32 = omega (arith, s .pre .0 .0) in mul-le-mul few (s .pre .0 .1 .0)
 
@@ -28,7 +32,7 @@ loop-holds c = (omega arith, (carried-first _ _, (carried-first _ _, (refl, rows
 raise-row-requires : tie.Need-raise-row-requires Inv-loop μ-loop
 raise-row-requires c κs =
     let l = c .before .before .loop in
-    let s = c .before .before .before .before in
+    let s = start (c .before) in
     let t = c .before .loop-test .taken in
     let few = s .pre .0 .0 in (
       (
@@ -50,7 +54,7 @@ add-place-2 c = search needs
 add-start : tie.Need-add-start Inv-loop μ-loop
 add-start c =
     let l = c .before .before .before .before .before .loop in
-    let s = c .before .before .before .before .before .before .before in omega (arith, l .inv .1 .1 .0 .is, steps s (l .i) (l .inv .0), s .pre .0 .1 .0)
+    let s = start (c .before .before .before .before) in omega (arith, l .inv .1 .1 .0 .is, steps s (l .i) (l .inv .0), s .pre .0 .1 .0)
 
 add-i : tie.Need-add-i Inv-loop μ-loop
 add-i c = search needs

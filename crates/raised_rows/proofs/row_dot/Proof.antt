@@ -9,6 +9,10 @@ use borrow.Author.Needs.{needs}
 use Rattle.raised_rows.proofs.row_dot.Statement.{statement}
 use Rattle.raised_rows.proofs.row_dot.Tie as tie
 
+-- the start, from the product of the raised numbers
+abbrev start : tie.After-low-dot → tie.Start
+start c = c .before .before .before
+
 -- the rows at the places that were carried to them
 module _ (s : tie.Start) where
   left : RaisedRow (s .args .a .now) (s .args .p) (s .args .n)
@@ -19,7 +23,7 @@ module _ (s : tie.Start) where
 
 products : (c : tie.After-low-dot) → c .low-dot .result ≤ 2 ^ 57
 products c =
-    let s = c .before .before .before in
+    let s = start c in
     rw (c .low-dot .ensures) (row-products (s .pre .0) (left s .small) (right s .small))
 
 low-dot-requires : tie.Need-low-dot-requires
@@ -33,40 +37,41 @@ add-up : tie.Need-add-up
 add-up c = omega (arith, products c)
 
 add-down : tie.Need-add-down
-add-down c = omega (arith, left (c .before .before .before) .inside)
+add-down c = omega (arith, left (start c) .inside)
 
 mul-down : tie.Need-mul-down
-mul-down c = omega (arith, left (c .before .before .before) .inside)
+mul-down c = omega (arith, left (start c) .inside)
 
 shared-slice-read-down : tie.Need-shared-slice-read-down
-shared-slice-read-down c = omega (arith, left (c .before .before .before .before) .inside)
+shared-slice-read-down c = omega (arith, left (start (c .before)) .inside)
 
 add-down-2 : tie.Need-add-down-2
-add-down-2 c = omega (arith, right (c .before .before .before .before) .inside)
+add-down-2 c = omega (arith, right (start (c .before)) .inside)
 
 mul-down-2 : tie.Need-mul-down-2
-mul-down-2 c = omega (arith, right (c .before .before .before .before) .inside)
+mul-down-2 c = omega (arith, right (start (c .before)) .inside)
 
 shared-slice-read-down-2 : tie.Need-shared-slice-read-down-2
-shared-slice-read-down-2 c = omega (arith, right (c .before .before .before .before .before) .inside)
+shared-slice-read-down-2 c = omega (arith, right (start (c .before .before)) .inside)
 
 add-down-3 : tie.Need-add-down-3
 add-down-3 c =
-    let s = c .before .before .before .before .before in omega (arith, row-sum (s .pre .0) (left s), row-sum (s .pre .0) (right s))
+    let s = start (c .before .before) in omega (arith, row-sum (s .pre .0) (left s), row-sum (s .pre .0) (right s))
 
 mul-down-3 : tie.Need-mul-down-3
 mul-down-3 c =
-    let s = c .before .before .before .before .before in omega (arith, row-sum (s .pre .0) (left s), row-sum (s .pre .0) (right s))
+    let s = start (c .before .before) in omega (arith, row-sum (s .pre .0) (left s), row-sum (s .pre .0) (right s))
 
 less-requires : tie.Need-less-requires
 less-requires c κs =
-    let s = c .before .before .before .before .before in
+    let s = start (c .before .before) in
     (omega (arith, products (c .before .before)), omega (arith, row-sum (s .pre .0) (left s), row-sum (s .pre .0) (right s)))
 
 returns : tie.Need-returns
 returns c =
-    let s = c .before .before .before .before .before .before in
-    read _ (c .less .ok) ∙ (rw (c .before .before .before .low-dot .ensures) at (c .less .ensures)) ∙ row-dot-is (s .args .n) (left s) (right s)
+    let d = c .before .before .before in
+    let s = d .before .before .before in
+    read _ (c .less .ok) ∙ (rw (d .low-dot .ensures) at (c .less .ensures)) ∙ row-dot-is (s .args .n) (left s) (right s)
     ∙ rw (start-place (s .pre .1 .0 .0), start-place (s .pre .1 .0 .1))
 
 pub row-dot-spec : {M : Type 1} → statement M

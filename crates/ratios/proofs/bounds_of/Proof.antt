@@ -17,8 +17,9 @@ returns c =
 
 returns-2 : tie.Need-returns-2
 returns-2 c =
-    let s = c .before .before .before .before in
-    flat-some _ _ _ _ (s .pre .1 .1 .0) (s .pre .1 .1 .1 .1) (c .before .before .before .is-flat .ensures (c .before .before .if1 .taken)) (s .pre .0 .1) (λ e. c .if2 .left (c .before .sum-of .ensures ∙ e))
+    let t = c .before .before in
+    let s = t .before .before in
+    flat-some _ _ _ _ (s .pre .1 .1 .0) (s .pre .1 .1 .1 .1) (t .before .is-flat .ensures (t .if1 .taken)) (s .pre .0 .1) (λ e. c .if2 .left (c .before .sum-of .ensures ∙ e))
 
 steep-bounds-requires : tie.Need-steep-bounds-requires
 steep-bounds-requires c κs = search needs

@@ -20,6 +20,10 @@ Inv-loop sizes margins weights n k p g out₀ i₀ out i =
 abbrev μ-loop : tie.MeasureT-loop
 μ-loop sizes margins weights n k p g out₀ i₀ out i = n - i
 
+-- after the search of the steepest row
+abbrev at-steepest : tie.In-loop Inv-loop μ-loop → tie.After-steepest-of Inv-loop μ-loop
+at-steepest t = t .before .before .before .before
+
 steepest-of-requires : tie.Need-steepest-of-requires Inv-loop μ-loop
 steepest-of-requires c κs = search needs
 
@@ -46,8 +50,8 @@ shared-slice-copy-out-bound-of c = omega arith
 
 bound-of-requires : tie.Need-bound-of-requires Inv-loop μ-loop
 bound-of-requires c κs =
-    let s = c .before .before .before .before .before .before in
-    let k = c .before .before .before .before .before .steepest-of .ensures .below in
+    let s = at-steepest (c .before) .before in
+    let k = at-steepest (c .before) .steepest-of .ensures .below in
     rw (read _ (c .bound-of-arg .given))
     (s .pre .1 .1 .1 .within .size _ (c .before .loop-test .taken), (s .pre .1 .0 .most _ k, (s .pre .1 .1 .0 .above _ k, s .pre .1 .1 .0 .most _ k)))
 

@@ -3,8 +3,15 @@ use Rattle.ratios.proofs.Ratios.{products, steeper-1, steeper-2, steepe
 use Rattle.ratios.proofs.steeper.Statement.{statement}
 use Rattle.ratios.proofs.steeper.Tie as tie
 
+-- stages on the way: the start, and after the first test
+abbrev start1 : tie.Else1 → tie.Start
+start1 c = c .before .before .before
+
+abbrev at-first : tie.Else2 → tie.Else1
+at-first c = c .before .before .before
+
 abbrev start6 : tie.After-struct-known6 → tie.Start
-start6 c = c .before .before .before .before .before .before .before .before
+start6 c = start1 (at-first (c .before .before))
 
 returns : tie.Need-returns
 returns c = steeper-1 _ _ (c .if1 .taken)
@@ -19,10 +26,10 @@ mul-if3-2 : tie.Need-mul-if3-2
 mul-if3-2 c = record { fits = omega (arith, products _ _ (start6 (c .before .before) .pre .0) (start6 (c .before .before) .pre .1)) }
 
 returns-3 : tie.Need-returns-3
-returns-3 c = steeper-3 _ _ (c .before .before .before .before .before .before .before .before .if1 .left) (c .before .before .before .before .before .if2 .left) (c .if3 .taken)
+returns-3 c = let e = c .before .before .before .before .before in steeper-3 _ _ (at-first e .if1 .left) (e .if2 .left) (c .if3 .taken)
 
 returns-4 : tie.Need-returns-4
-returns-4 c = steeper-4 _ _ (c .before .before .before .before .before .before .before .before .if1 .left) (c .before .before .before .before .before .if2 .left) (c .if3 .left)
+returns-4 c = let e = c .before .before .before .before .before in steeper-4 _ _ (at-first e .if1 .left) (e .if2 .left) (c .if3 .left)
 
 pub steeper-spec : {M : Type 1} → statement M
 steeper-spec = tie.close (tie.spec returns returns-2 mul-if3 mul-if3-2 returns-3 returns-4)

@@ -16,6 +16,13 @@ Inv-loop sizes margins n k₀ m₀ k m =
 abbrev μ-loop : tie.MeasureT-loop
 μ-loop sizes margins n k₀ m₀ k m = n - m
 
+-- stages on the way: the start, and in the turn
+abbrev start : tie.In-loop Inv-loop μ-loop → tie.Start Inv-loop μ-loop
+start t = t .before .before
+
+abbrev turn : tie.After-is-steeper-arg4 Inv-loop μ-loop → tie.In-loop Inv-loop μ-loop
+turn c = c .before .before .before .before
+
 loop-holds : tie.Need-loop-holds Inv-loop μ-loop
 loop-holds c = (omega arith, (omega arith, steepest-one _ _))
 
@@ -45,9 +52,9 @@ element-copy-out-is-steeper-4 c = search needs
 
 is-steeper-requires : tie.Need-is-steeper-requires Inv-loop μ-loop
 is-steeper-requires c κs =
-    let s = c .before .before .before .before .before .before in
-    let l = c .before .before .before .before .before .loop in
-    let t = c .before .before .before .before .loop-test .taken in
+    let s = start (turn c) in
+    let l = turn c .before .loop in
+    let t = turn c .loop-test .taken in
     let b : l .k < s .args .n = omega (arith, l .inv .1 .1 .below) in
     ((s .pre .1 .0 _ b, s .pre .1 .1 .most _ t), (s .pre .1 .0 _ t, s .pre .1 .1 .most _ b))
 
@@ -59,8 +66,8 @@ loop-less c = search needs
 
 loop-again : tie.Need-loop-again Inv-loop μ-loop
 loop-again c =
-    let s = c .before .before .before .before .before .before .before .before in
-    let l = c .before .before .before .before .before .before .before .loop in
+    let s = start (turn (c .before .before)) in
+    let l = turn (c .before .before) .before .loop in
     let i = l .inv .1 .1 in
     let above : 0 < getD (s .args .margins .now) (l .k) 0 = s .pre .1 .1 .above _ (omega (arith, i .below)) in
     let e = c .before .is-steeper .ensures in (

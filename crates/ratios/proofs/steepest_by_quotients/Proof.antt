@@ -13,6 +13,10 @@ Inv-loop sizes margins n best₀ m₀ best m =
 abbrev μ-loop : tie.MeasureT-loop
 μ-loop sizes margins n best₀ m₀ best m = n - m
 
+-- the start, from the turn
+abbrev start : tie.In-loop Inv-loop μ-loop → tie.Start Inv-loop μ-loop
+start t = t .before .before .before .before .before
+
 element-copy-out-ratio-of : tie.Need-element-copy-out-ratio-of Inv-loop μ-loop
 element-copy-out-ratio-of c = search needs
 
@@ -38,11 +42,11 @@ element-copy-out-ratio-of-4 : tie.Need-element-copy-out-ratio-of-4 Inv-loop μ-l
 element-copy-out-ratio-of-4 c = search needs
 
 ratio-of-requires-2 : tie.Need-ratio-of-requires-2 Inv-loop μ-loop
-ratio-of-requires-2 c κs = c .before .before .before .before .before .before .before .pre .1 .above _ (c .before .before .loop-test .taken)
+ratio-of-requires-2 c κs = start (c .before .before) .pre .1 .above _ (c .before .before .loop-test .taken)
 
 steeper-requires : tie.Need-steeper-requires Inv-loop μ-loop
 steeper-requires c κs =
-    let s = c .before .before .before .before .before .before .before .before in
+    let s = start (c .before .before .before) in
     let b = c .before .before .before .before .loop .inv .1 .1 in
     let t = c .before .before .before .loop-test .taken in
     let l : b .at < s .args .n = omega (arith, b .steepest .below) in (
@@ -58,7 +62,7 @@ loop-less c = search needs
 
 loop-again : tie.Need-loop-again Inv-loop μ-loop
 loop-again c =
-    let s = c .before .before .before .before .before .before .before .before .before in
+    let s = start (c .before .before .before .before) in
     let l = c .before .before .before .before .before .loop in
     (omega arith, (omega arith, best-next _ _ (l .m) (λ k h. s .pre .1 .above k (omega arith)) (l .inv .1 .1) (c .before .ratio-of2 .ensures) (c .steeper .ensures)))
 

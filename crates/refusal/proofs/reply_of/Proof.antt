@@ -18,8 +18,9 @@ second-of-requires c κs = search needs
 
 returns : tie.Need-returns
 returns c =
-    let k = c .before .before .before .before .args in
-    reply-first (k .line) (numberOf (k .refusal)) (valuesOf (k .refusal)) (c .before .before .before .number-of .ensures) (c .before .before .count-of .ensures) (c .before .first-of .ensures) (c .second-of .ensures)
+    let n = c .before .before .before in
+    let k = n .before .args in
+    reply-first (k .line) (numberOf (k .refusal)) (valuesOf (k .refusal)) (n .number-of .ensures) (c .before .before .count-of .ensures) (c .before .first-of .ensures) (c .second-of .ensures)
 
 pub reply-of-spec : {M : Type 1} → statement M
 reply-of-spec =

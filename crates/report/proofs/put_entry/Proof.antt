@@ -25,10 +25,12 @@ same-length c = search needs
 
 returns : tie.Need-returns
 returns c =
-    let p = c .before .before .put-pair in
-    let b = c .before .before .before .before .before .entry-bound in
-    let r = c .before .before .before .before .before .before .round-scaled in
-    let s = c .before .before .before .before .before .before .before .before in
+    let e = c .before .before in
+    let d = e .before .before .before in
+    let p = e .put-pair in
+    let b = d .entry-bound in
+    let r = d .before .round-scaled in
+    let s = d .before .before .before in
     rw (read (r .result) (r .ok), r .ensures, b .ensures, read (s .args .x) (s .fits .x .sfits)) at (p .ensures)
 
 pub put-entry-spec : {M : Type 1} → statement M

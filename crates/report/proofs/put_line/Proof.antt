@@ -8,6 +8,16 @@ use borrow.Author.Needs.{needs}
 use Rattle.report.proofs.put_line.Statement.{statement}
 use Rattle.report.proofs.put_line.Tie as tie
 
+-- the places where the block is told
+abbrev at-solution : tie.After-put-pair → tie.After-enum-told
+at-solution c = c .before .before .before .before .before
+
+abbrev at-entry : tie.After-put-entry → tie.After-enum-told2
+at-entry c = c .before .before .before .before
+
+abbrev at-inverse : tie.After-put-list → tie.After-enum-told3
+at-inverse c = c .before .before .before
+
 add-number : tie.Need-add-number
 add-number c = search needs
 
@@ -31,8 +41,9 @@ shared-slice-read-put-pair c = search needs
 
 put-pair-requires : tie.Need-put-pair-requires
 put-pair-requires c κs =
-    let s = c .before .before .before .before .before .before .before .before .before in
-    let m = ap mostOf (c .before .before .before .before .enum-told .given .1) in
+    let told = c .before .before .before .before in
+    let s = told .before .before .before .before .before in
+    let m = ap mostOf (told .enum-told .given .1) in
     (omega arith, (rw (guess-read (s .pre .0) (s .pre .1 .0)) (guess-small (s .pre .0) (s .pre .1 .0)), omega (arith, m)))
 
 enum-told-2 : tie.Need-enum-told-2
@@ -52,8 +63,9 @@ shared-slice-read-put-entry c = search needs
 
 put-entry-requires : tie.Need-put-entry-requires
 put-entry-requires c κs =
-    let s = c .before .before .before .before .before .before .before .before in
-    let m = ap mostOf (c .before .before .before .enum-told2 .given .1) in
+    let told = c .before .before .before in
+    let s = told .before .before .before .before .before in
+    let m = ap mostOf (told .enum-told2 .given .1) in
     (rw (guess-read (s .pre .0) (s .pre .1 .0)) (s .pre .0 .guess _ (s .pre .1 .0)), (s .pre .0 .scale, omega (arith, m)))
 
 enum-told-3 : tie.Need-enum-told-3
@@ -64,13 +76,15 @@ slice-aggregate-put-list c = search needs
 
 mul-put-list : tie.Need-mul-put-list
 mul-put-list c =
-    let s = c .before .before .before .before .before .before .before in
+    let told = c .before .before in
+    let s = told .before .before .before .before .before in
     record { fits = row-fits (s .pre .1 .0) (s .pre .0 .few) }
 
 put-list-requires : tie.Need-put-list-requires
 put-list-requires c κs =
-    let s = c .before .before .before .before .before .before .before in
-    let m = ap mostOf (c .before .before .enum-told3 .given .1) in
+    let told = c .before .before in
+    let s = told .before .before .before .before .before in
+    let m = ap mostOf (told .enum-told3 .given .1) in
     (omega arith, (s .pre .0 .few, (row-room (s .pre .1 .0) (s .pre .0 .inverse-long), omega (arith, m))))
 
 same-length : tie.Need-same-length
@@ -79,8 +93,9 @@ same-length c = search needs
 returns : tie.Need-returns
 returns c =
     let p = c .before .before in
-    let s = p .before .before .before .before .before .before .before .before .before .before in
-    block-line (s .pre .0) (s .args .i) Solution (p .before .before .before .before .before .enum-told .given .1) (rw (guess-read (s .pre .0) (s .pre .1 .0)) at (p .put-pair .ensures))
+    let told = at-solution p in
+    let s = told .before .before .before .before .before in
+    block-line (s .pre .0) (s .args .i) Solution (told .enum-told .given .1) (rw (guess-read (s .pre .0) (s .pre .1 .0)) at (p .put-pair .ensures))
 
 same-length-2 : tie.Need-same-length-2
 same-length-2 c = search needs
@@ -88,8 +103,9 @@ same-length-2 c = search needs
 returns-2 : tie.Need-returns-2
 returns-2 c =
     let p = c .before .before in
-    let s = p .before .before .before .before .before .before .before .before .before in
-    block-line (s .pre .0) (s .args .i) Entry (p .before .before .before .before .enum-told2 .given .1) (rw (guess-read (s .pre .0) (s .pre .1 .0)) at (p .put-entry .ensures))
+    let told = at-entry p in
+    let s = told .before .before .before .before .before in
+    block-line (s .pre .0) (s .args .i) Entry (told .enum-told2 .given .1) (rw (guess-read (s .pre .0) (s .pre .1 .0)) at (p .put-entry .ensures))
 
 same-length-3 : tie.Need-same-length-3
 same-length-3 c = search needs
@@ -97,8 +113,9 @@ same-length-3 c = search needs
 returns-3 : tie.Need-returns-3
 returns-3 c =
     let p = c .before .before in
-    let s = p .before .before .before .before .before .before .before .before in
-    block-line (s .pre .0) (s .args .i) Inverse (p .before .before .before .enum-told3 .given .1) (p .put-list .ensures)
+    let told = at-inverse p in
+    let s = told .before .before .before .before .before in
+    block-line (s .pre .0) (s .args .i) Inverse (told .enum-told3 .given .1) (p .put-list .ensures)
 
 pub put-line-spec : {M : Type 1} → statement M
 put-line-spec =

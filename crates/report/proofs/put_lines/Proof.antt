@@ -17,13 +17,17 @@ Inv-loop out₀ at block n s guess solution-bounds inverse-bounds place₀ i₀ 
 abbrev μ-loop : tie.MeasureT-loop
 μ-loop out₀ at block n s guess solution-bounds inverse-bounds place₀ i₀ out place i = n - i
 
+-- the start, from the turn
+abbrev start : tie.In-loop Inv-loop μ-loop → tie.Start Inv-loop μ-loop
+start c = c .before .before .before .before .before
+
 loop-holds : tie.Need-loop-holds Inv-loop μ-loop
 loop-holds c = (omega arith, refl, wrote-none _ _ _ _)
 
 put-line-requires : tie.Need-put-line-requires Inv-loop μ-loop
 put-line-requires c κs =
     let l = c .before .before .loop in
-    let s = c .before .before .before .before .before .before in
+    let s = start (c .before) in
     (s .pre .0, (c .before .loop-test .taken, room (mostOf (s .args .block)) (s .args .n) (s .args .at) (c .before .loop-test .taken) (l .inv .2 .few) (omega (arith, l .inv .1, s .pre .1))))
 
 add-i : tie.Need-add-i Inv-loop μ-loop

@@ -17,11 +17,18 @@ Inv-loop residuals start allowed n place₀ k₀ place k =
 abbrev μ-loop : tie.MeasureT-loop
 μ-loop residuals start allowed n place₀ k₀ place k = n - k
 
+-- stages on the way: the start, and in the turn
+abbrev start : tie.In-loop Inv-loop μ-loop → tie.Start Inv-loop μ-loop
+start t = t .before .before
+
+abbrev turn : tie.After-is-above Inv-loop μ-loop → tie.In-loop Inv-loop μ-loop
+turn c = c .before .before .before
+
 -- the test of this turn
 here : (c : tie.After-is-above Inv-loop μ-loop) →
-    c .is-above .result ≡ aboveAllowed (at (c .before .before .before .before .before .args .allowed .now) (c .before .before .before .before .loop .k)) (at (c .before .before .before .before .before .args .residuals .now) (c .before .before .before .before .before .args .start + c .before .before .before .before .loop .k))
+    c .is-above .result ≡ aboveAllowed (at (start (turn c) .args .allowed .now) (turn c .before .loop .k)) (at (start (turn c) .args .residuals .now) (start (turn c) .args .start + turn c .before .loop .k))
 here c =
-    rw (read _ (c .before .before .is-above-arg .given), read _ (c .before .is-above-arg2 .given), c .before .before .before .before .loop .inv .1 .0) at (c .is-above .ensures)
+    rw (read _ (c .before .before .is-above-arg .given), read _ (c .before .is-above-arg2 .given), turn c .before .loop .inv .1 .0) at (c .is-above .ensures)
 
 loop-holds : tie.Need-loop-holds Inv-loop μ-loop
 loop-holds c = (omega arith, (omega arith, λ i l. absurd (omega arith)))
@@ -40,11 +47,11 @@ shared-slice-copy-out-is-above c = search needs
 
 is-above-requires : tie.Need-is-above-requires Inv-loop μ-loop
 is-above-requires c κs =
-    let t = c .before .before in rw (read _ (c .before .is-above-arg .given)) (t .before .before .pre .1 .within .size (t .before .loop .k) (t .loop-test .taken))
+    let t = c .before .before in rw (read _ (c .before .is-above-arg .given)) (start t .pre .1 .within .size (t .before .loop .k) (t .loop-test .taken))
 
 returns : tie.Need-returns Inv-loop μ-loop
 returns c =
-    let t = c .before .before .before .before in
+    let t = turn (c .before) in
     sym (first-is _ _ (t .before .loop .k) (t .loop-test .taken) (sym (here (c .before)) ∙ c .if1 .taken) (t .before .loop .inv .1 .1))
 
 add-place : tie.Need-add-place Inv-loop μ-loop
@@ -58,7 +65,7 @@ loop-less c = search needs
 
 loop-again : tie.Need-loop-again Inv-loop μ-loop
 loop-again c =
-    let l = c .before .before .before .before .before .loop in (
+    let l = turn (c .before) .before .loop in (
       omega arith,
       (omega arith, λ i m. upto _ (l .k) i (omega (arith, m)) (l .inv .1 .1) (sym (here (c .before)) ∙ c .if1 .left)),
     )

@@ -46,7 +46,7 @@ array-set-from-out : tie.Need-array-set-from-out Inv-loop μ-loop
 array-set-from-out c = search needs
 
 add-row : tie.Need-add-row Inv-loop μ-loop
-add-row c = omega (arith, c .before .before .before .loop .inv .1 .0 .is, row-ends (c .before .before .loop-test .taken) (c .before .before .before .before .pre .0))
+add-row c = let t = c .before .before in omega (arith, t .before .loop .inv .1 .0 .is, row-ends (t .loop-test .taken) (t .before .before .pre .0))
 
 add-k : tie.Need-add-k Inv-loop μ-loop
 add-k c = search needs

@@ -11,7 +11,8 @@ use Rattle.row_sums.proofs.add_size.Tie as tie
 
 -- the size of number j, at the place that was carried to it
 size-is : (c : tie.After-magnitude) →
-    c .magnitude .result ≡ natAbs (at (c .before .before .args .matrix .now) (c .before .before .args .row + c .before .before .args .j))
+    let s = c .before .before in
+    c .magnitude .result ≡ natAbs (at (s .args .matrix .now) (s .args .row + s .args .j))
 size-is c = rw (read _ (c .before .magnitude-arg .given), unit-place (c .before .before .pre .0)) at (c .magnitude .ensures)
 
 mul-magnitude : tie.Need-mul-magnitude

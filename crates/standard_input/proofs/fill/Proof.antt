@@ -12,11 +12,20 @@ Inv-loop buf₀ done₀ buf done = (length buf ≡ length buf₀) × (done ≤ l
 abbrev μ-loop : tie.MeasureT-loop
 μ-loop buf₀ done₀ buf done = length buf - done
 
-module _ (c : tie.After-known-told Inv-loop μ-loop) where
-  inside : (0 < c .before .step .given .0 .0) × (c .before .before .before .before .before .before .before .before .loop .done + c .before .step .given .0 .0 ≤ length (c .before .before .before .before .before .before .before .before .loop .buf))
-  inside = rw (c .before .step .given .1) at (c .before .before .before .before .before .read-some .ensures .0)
+-- stages on the way: what was read, and the loop
+abbrev at-read : tie.After-known-told Inv-loop μ-loop → tie.After-read-some Inv-loop μ-loop
+at-read c = c .before .before .before .before .before
 
-  same : length (c .before .before .before .before .before .read-some .last .0) ≡ length (c .before .before .before .before .before .before .before .before .loop .buf)
+abbrev at-loop : tie.After-known-told Inv-loop μ-loop → tie.At-loop Inv-loop μ-loop
+at-loop c = at-read c .before .before .before
+
+module _ (c : tie.After-known-told Inv-loop μ-loop) where
+  inside : (0 < c .before .step .given .0 .0) × (at-loop c .loop .done + c .before .step .given .0 .0 ≤ length (at-loop c .loop .buf))
+  inside =
+      let r = c .before .before .before .before .before in
+      rw (c .before .step .given .1) at (r .read-some .ensures .0)
+
+  same : length (at-read c .read-some .last .0) ≡ length (at-loop c .loop .buf)
   same = search needs
 
 loop-holds : tie.Need-loop-holds Inv-loop μ-loop
@@ -53,7 +62,7 @@ loop-less : tie.Need-loop-less Inv-loop μ-loop
 loop-less c = omega (arith, inside c, same c)
 
 loop-again : tie.Need-loop-again Inv-loop μ-loop
-loop-again c = (same c ∙ c .before .before .before .before .before .before .before .before .loop .inv .0, omega (arith, inside c, same c))
+loop-again c = (same c ∙ at-loop c .loop .inv .0, omega (arith, inside c, same c))
 
 same-length-3 : tie.Need-same-length-3 Inv-loop μ-loop
 same-length-3 c = search needs

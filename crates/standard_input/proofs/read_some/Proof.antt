@@ -13,6 +13,10 @@ use borrow.Author.Needs.{needs}
 use Rattle.standard_input.proofs.read_some.Statement.{statement}
 use Rattle.standard_input.proofs.read_some.Tie as tie
 
+-- the call that read, from the last test
+abbrev at-read : tie.Else2 → tie.After-read
+at-read c = c .before .before .before .before
+
 -- the bytes before the place that is read to
 module _ (k : tie.After-read) where
   abbrev start : tie.Start
@@ -46,23 +50,23 @@ returns-2 : tie.Need-returns-2
 returns-2 c = (tt, kept (c .before .before .before .before))
 
 module _ (c : tie.Else2) where
-  not-failed : ltZ (c .before .before .before .before .read .result) (pos 0) ≡ false
-  not-failed = rw (machine.read _ (c .before .before .before .before .read .ok)) at (c .before .if1 .left)
+  not-failed : ltZ (at-read c .read .result) (pos 0) ≡ false
+  not-failed = rw (machine.read _ (at-read c .read .ok)) at (c .before .if1 .left)
 
-  natural : c .before .before .before .before .read .result ≡ pos (natAbs (c .before .before .before .before .read .result))
+  natural : at-read c .read .result ≡ pos (natAbs (at-read c .read .result))
   natural = not-below-zero _ not-failed
 
-  bounded : natAbs (c .before .before .before .before .read .result) ≤ length (c .before .before .before .before .before .before .before .args .buf .now) - c .before .before .before .before .before .before .before .args .from
-  bounded = omega (arith, simp (length-take, length-drop) at (moved-size _ (c .before .before .before .before .read .result) (c .before .before .before .before .read .ensures) not-failed))
+  bounded : natAbs (at-read c .read .result) ≤ length (start (at-read c) .args .buf .now) - start (at-read c) .args .from
+  bounded = omega (arith, simp (length-take, length-drop) at (moved-size _ (at-read c .read .result) (at-read c .read .ensures) not-failed))
 
 cast-t5 : tie.Need-cast-t5
-cast-t5 c = rw (machine.read _ (c .before .before .before .before .read .ok)) (rw (natural c) (tt, omega (arith, bounded c)))
+cast-t5 c = rw (machine.read _ (at-read c .read .ok)) (rw (natural c) (tt, omega (arith, bounded c)))
 
 same-length-3 : tie.Need-same-length-3
 same-length-3 c = search needs
 
 returns-3 : tie.Need-returns-3
-returns-3 c = rw (machine.read _ (c .before .before .before .before .read .ok)) ((some-moved (c .before .before .before .before .read .result) (rw (machine.read _ (c .before .before .before .before .read .ok)) at (c .if2 .left)), omega (arith, bounded c)), kept (c .before .before .before .before))
+returns-3 c = rw (machine.read _ (at-read c .read .ok)) ((some-moved (at-read c .read .result) (rw (machine.read _ (at-read c .read .ok)) at (c .if2 .left)), omega (arith, bounded c)), kept (at-read c))
 
 pub read-some-spec : {M : Type 1} → statement M
 read-some-spec =

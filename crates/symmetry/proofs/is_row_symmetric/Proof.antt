@@ -16,36 +16,40 @@ Inv-loop xs i start n along₀ down₀ j₀ along down j =
 abbrev μ-loop : tie.MeasureT-loop
 μ-loop xs i start n along₀ down₀ j₀ along down j = i - j
 
-module _ (t : tie.In-loop Inv-loop μ-loop) where
-  along-in : t .before .loop .along < t .before .before .args .n * t .before .before .args .n
-  along-in = row-in (t .before .before .pre .0 .1 .0) (t .loop-test .taken) (t .before .loop .inv .1 .0)
+-- the start, from the turn
+abbrev start : tie.In-loop Inv-loop μ-loop → tie.Start Inv-loop μ-loop
+start t = t .before .before
 
-  down-in : t .before .loop .down < t .before .before .args .n * t .before .before .args .n
-  down-in = column-in (t .before .before .pre .0 .1 .0) (t .loop-test .taken) (t .before .loop .inv .1 .1 .0)
+module _ (t : tie.In-loop Inv-loop μ-loop) where
+  along-in : t .before .loop .along < start t .args .n * start t .args .n
+  along-in = row-in (start t .pre .0 .1 .0) (t .loop-test .taken) (t .before .loop .inv .1 .0)
+
+  down-in : t .before .loop .down < start t .args .n * start t .args .n
+  down-in = column-in (start t .pre .0 .1 .0) (t .loop-test .taken) (t .before .loop .inv .1 .1 .0)
 
 loop-holds : tie.Need-loop-holds Inv-loop μ-loop
 loop-holds c = (omega arith, (omega (arith, c .pre .1 .is), (omega arith, λ k l. absurd (omega arith))))
 
 mul-if1 : tie.Need-mul-if1 Inv-loop μ-loop
-mul-if1 c = omega (arith, along-in c, square (c .before .before .pre .0 .0))
+mul-if1 c = omega (arith, along-in c, square (start c .pre .0 .0))
 
 shared-slice-copy-out-if1 : tie.Need-shared-slice-copy-out-if1 Inv-loop μ-loop
-shared-slice-copy-out-if1 c = omega (arith, along-in c, c .before .before .pre .0 .1 .1)
+shared-slice-copy-out-if1 c = omega (arith, along-in c, start c .pre .0 .1 .1)
 
 mul-if1-2 : tie.Need-mul-if1-2 Inv-loop μ-loop
-mul-if1-2 c = omega (arith, down-in (c .before), square (c .before .before .before .pre .0 .0))
+mul-if1-2 c = omega (arith, down-in (c .before), square (start (c .before) .pre .0 .0))
 
 shared-slice-copy-out-if1-2 : tie.Need-shared-slice-copy-out-if1-2 Inv-loop μ-loop
-shared-slice-copy-out-if1-2 c = omega (arith, down-in (c .before), c .before .before .before .pre .0 .1 .1)
+shared-slice-copy-out-if1-2 c = omega (arith, down-in (c .before), start (c .before) .pre .0 .1 .1)
 
 returns : tie.Need-returns Inv-loop μ-loop
 returns c = λ e. absurd (subst T (sym e) tt)
 
 add-along : tie.Need-add-along Inv-loop μ-loop
-add-along c = let t = c .before .before .before in omega (arith, along-in t, square (t .before .before .pre .0 .0))
+add-along c = let t = c .before .before .before in omega (arith, along-in t, square (start t .pre .0 .0))
 
 add-down : tie.Need-add-down Inv-loop μ-loop
-add-down c = let t = c .before .before .before in omega (arith, down-in t, square (t .before .before .pre .0 .0), t .before .before .pre .0 .0)
+add-down c = let t = c .before .before .before in omega (arith, down-in t, square (start t .pre .0 .0), start t .pre .0 .0)
 
 add-j : tie.Need-add-j Inv-loop μ-loop
 add-j c = search needs
@@ -60,7 +64,7 @@ loop-again c =
       omega arith,
       (
         omega arith,
-        (omega arith, row-more (t .before .before .args .xs .now) (t .before .before .args .i) (t .before .before .args .n) (l .j) (l .inv .1 .1 .1) (l .inv .1 .0) (l .inv .1 .1 .0) (c .before .before .if12 .given) (c .before .if13 .given) (c .if1 .left)),
+        (omega arith, row-more (start t .args .xs .now) (start t .args .i) (start t .args .n) (l .j) (l .inv .1 .1 .1) (l .inv .1 .0) (l .inv .1 .1 .0) (c .before .before .if12 .given) (c .before .if13 .given) (c .if1 .left)),
       ),
     )
 

@@ -21,6 +21,10 @@ Inv-loop xs n start₀ i₀ start i =
 abbrev μ-loop : tie.MeasureT-loop
 μ-loop xs n start₀ i₀ start i = n - i
 
+-- the start, from the turn
+abbrev start : tie.In-loop Inv-loop μ-loop → tie.Start Inv-loop μ-loop
+start t = t .before .before
+
 loop-holds : tie.Need-loop-holds Inv-loop μ-loop
 loop-holds c = (omega arith, (carried-first _ _, λ k l. absurd (omega arith)))
 
@@ -31,7 +35,7 @@ returns : tie.Need-returns Inv-loop μ-loop
 returns c = λ e. absurd (subst T (sym e) tt)
 
 add-start : tie.Need-add-start Inv-loop μ-loop
-add-start c = let t = c .before .before in omega (arith, t .before .loop .inv .1 .0 .is, mul-le-mul-right (t .before .before .args .n) (t .loop-test .taken), square (t .before .before .pre .0))
+add-start c = let t = c .before .before in omega (arith, t .before .loop .inv .1 .0 .is, mul-le-mul-right (start t .args .n) (t .loop-test .taken), square (start t .pre .0))
 
 add-i : tie.Need-add-i Inv-loop μ-loop
 add-i c = search needs

@@ -85,13 +85,17 @@ put-digits-slice-write-out-2 : (t : ℕ) → put-digits-lts.Need-slice-write-out
   put-digits-below t,
   put-digits.Post,
 ) (put-digits-at t) put-digits.Post
-put-digits-slice-write-out-2 t c = omega (arith, next-length (c .before .before .before .before .before .before .args .n) (c .before .before .before .before .if1 .left))
+put-digits-slice-write-out-2 t c =
+    let e = c .before .before .before .before in
+    omega (arith, next-length (e .before .before .args .n) (e .if1 .left))
 
 put-digits-add-result-2 : (t : ℕ) → put-digits-lts.Need-add-result-2 (
   put-digits-below t,
   put-digits.Post,
 ) (put-digits-at t) put-digits.Post
-put-digits-add-result-2 t c = omega (arith, next-length (c .before .before .before .before .before .before .args .n) (c .before .before .before .before .if1 .left))
+put-digits-add-result-2 t c =
+    let e = c .before .before .before .before in
+    omega (arith, next-length (e .before .before .args .n) (e .if1 .left))
 
 put-digits-same-length-2 : (t : ℕ) → put-digits-lts.Need-same-length-2 (
   put-digits-below t,
@@ -103,7 +107,7 @@ put-digits-returns-2 : (t : ℕ) → put-digits-lts.Need-returns-2 (
   put-digits-below t,
   put-digits.Post,
 ) (put-digits-at t) put-digits.Post
-put-digits-returns-2 t c = digits _ (c .before .before .before .before .if1 .left) (c .before .before .put-digits .ensures)
+put-digits-returns-2 t c = let p = c .before .before in digits _ (p .before .before .if1 .left) (p .put-digits .ensures)
 
 pub +put-digits-spec : {M : Type 1} → statement M
 +put-digits-spec = close μ-put-digits λ t. put-digits-lts.spec (

@@ -7,6 +7,10 @@ use borrow.Author.Needs.{needs}
 use Rattle.text.proofs.put_integer.Statement.{statement}
 use Rattle.text.proofs.put_integer.Tie as tie
 
+-- the start, from the size
+abbrev start : tie.After-magnitude → tie.Start
+start c = c .before .before
+
 magnitude-requires : tie.Need-magnitude-requires
 magnitude-requires c κs = search needs
 
@@ -18,7 +22,7 @@ add-put-digits c = search needs
 
 put-digits-requires : tie.Need-put-digits-requires
 put-digits-requires c κs =
-    let s = c .before .before .before .before in
+    let s = start (c .before .before) in
     simp length-set (omega (arith, room (s .args .z) (rw (read (s .args .z) (s .fits .z .sfits)) at (c .before .before .magnitude .ensures)) (s .pre .0)))
 
 same-length : tie.Need-same-length
@@ -26,13 +30,14 @@ same-length c = c .before .before .put-digits .kept .0 ∙ simp length-set
 
 returns : tie.Need-returns
 returns c =
-    let s = c .before .before .before .before .before .before .before in
+    let t = c .before .before .before .before in
+    let s = start (t .before) in
     let e = read (s .args .z) (s .fits .z .sfits) in
-    minus (s .args .z) (rw e at (c .before .before .before .before .if1 .taken)) (rw e at (c .before .before .before .before .before .magnitude .ensures)) (s .pre .0) (c .before .before .put-digits .ensures)
+    minus (s .args .z) (rw e at (t .if1 .taken)) (rw e at (t .before .magnitude .ensures)) (s .pre .0) (c .before .before .put-digits .ensures)
 
 put-digits-requires-2 : tie.Need-put-digits-requires-2
 put-digits-requires-2 c κs =
-    let s = c .before .before .before .before in
+    let s = start (c .before .before) in
     omega (arith, room (s .args .z) (rw (read (s .args .z) (s .fits .z .sfits)) at (c .before .before .magnitude .ensures)) (s .pre .0))
 
 same-length-2 : tie.Need-same-length-2
@@ -40,9 +45,10 @@ same-length-2 c = search needs
 
 returns-2 : tie.Need-returns-2
 returns-2 c =
-    let s = c .before .before .before .before .before .before .before in
+    let t = c .before .before .before .before in
+    let s = start (t .before) in
     let e = read (s .args .z) (s .fits .z .sfits) in
-    no-minus (s .args .z) (rw e at (c .before .before .before .before .if1 .left)) (rw e at (c .before .before .before .before .before .magnitude .ensures)) (s .pre .0) (c .before .before .put-digits2 .ensures)
+    no-minus (s .args .z) (rw e at (t .if1 .left)) (rw e at (t .before .magnitude .ensures)) (s .pre .0) (c .before .before .put-digits2 .ensures)
 
 pub put-integer-spec : {M : Type 1} → statement M
 put-integer-spec =

@@ -4,6 +4,10 @@ use borrow.Author.Needs.{needs}
 use Rattle.text.proofs.put_natural.Statement.{statement}
 use Rattle.text.proofs.put_natural.Tie as tie
 
+-- the start, from the digits
+abbrev start : tie.After-put-digits → tie.Start
+start c = c .before .before .before
+
 put-digits-requires : tie.Need-put-digits-requires
 put-digits-requires c κs = omega (arith, decimal-digits (c .before .before .args .n) (c .before .before .fits .n .fits))
 
@@ -11,7 +15,7 @@ same-length : tie.Need-same-length
 same-length c = search needs
 
 returns : tie.Need-returns
-returns c = natural (c .before .before .before .before .before .fits .n .fits) (c .before .before .put-digits .ensures)
+returns c = let p = c .before .before in natural (start p .fits .n .fits) (p .put-digits .ensures)
 
 pub put-natural-spec : {M : Type 1} → statement M
 put-natural-spec = tie.close (tie.spec put-digits-requires same-length returns)

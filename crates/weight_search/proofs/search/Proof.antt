@@ -30,8 +30,15 @@ Inv-loop t matrix inverse n allowance sizes weights₀ passed₀ weights passed 
 abbrev μ-loop : tie.MeasureT-loop
 μ-loop t matrix inverse n allowance sizes weights₀ passed₀ weights passed = allowance - passed
 
+-- stages on the way: after the sizes of the defect, and in the turn
+abbrev sized : tie.In-loop Inv-loop μ-loop → tie.After-defect-sizes Inv-loop μ-loop
+sized t = t .before .before
+
+abbrev turn : tie.After-loads-of Inv-loop μ-loop → tie.In-loop Inv-loop μ-loop
+turn c = c .before .before .before
+
 abbrev start : tie.After-loads-of Inv-loop μ-loop → tie.Start Inv-loop μ-loop
-start c = c .before .before .before .before .before .before
+start c = sized (turn c) .before
 
 abbrev P : tie.Start Inv-loop μ-loop → Problem
 P s = problemOf (s .args .n) 0 (s .args .t) (s .args .matrix .now) [] [] [] (s .args .inverse .now) []
@@ -46,13 +53,13 @@ module _ (d : tie.After-defect-sizes Inv-loop μ-loop) where
 -- the sums of the list that is tried
 module _ (c : tie.After-loads-of Inv-loop μ-loop) where
   abbrev list : ℕ → ℕ
-  list = tried (P (start c)) (c .before .before .before .before .loop .passed)
+  list = tried (P (start c)) (turn c .before .loop .passed)
 
   sums : Begins 0 (c .loads-of .result) (start c .args .n) (loads (P (start c)) list)
-  sums = begins-as 0 _ (loads (P (start c)) list) (load-is (P (start c)) list (c .before .before .before .before .loop .inv .1 .0) (c .before .before .before .before .before .defect-sizes .result) (sizes-here (c .before .before .before .before .before))) (c .loads-of .ensures)
+  sums = begins-as 0 _ (loads (P (start c)) list) (load-is (P (start c)) list (turn c .before .loop .inv .1 .0) (sized (turn c) .defect-sizes .result) (sizes-here (sized (turn c)))) (c .loads-of .ensures)
 
-  test-is : leb (start c .args .n) (first (start c .args .n) (λ (m : ℕ). eqb (storedMargin (start c .args .t) (c .loads-of .result) (c .before .before .before .before .loop .weights) m) 0)) ≡ good (P (start c)) list
-  test-is = good-is (P (start c)) list (c .before .before .before .before .loop .inv .1 .0) sums
+  test-is : leb (start c .args .n) (first (start c .args .n) (λ (m : ℕ). eqb (storedMargin (start c .args .t) (c .loads-of .result) (turn c .before .loop .weights) m) 0)) ≡ good (P (start c)) list
+  test-is = good-is (P (start c)) list (turn c .before .loop .inv .1 .0) sums
 
 -- what the test of the list says of it
 module _ (c : tie.After-is-good Inv-loop μ-loop) where
@@ -71,21 +78,21 @@ loop-holds c = (omega arith, (ones (P (c .before)) (c .before .pre .0 .1), λ k 
 loads-of-requires : tie.Need-loads-of-requires Inv-loop μ-loop
 loads-of-requires c κs =
     let l = c .before .before .before .loop in
-    let d = c .before .before .before .before in
+    let d = sized (c .before .before) in
     (d .before .pre .0 .1, (small-here d, below-of (P (d .before)) (l .passed) (l .inv .1 .0)))
 
 is-good-requires : tie.Need-is-good-requires Inv-loop μ-loop
 is-good-requires c κs =
-    let l = c .before .before .before .before .before .before .loop in
-    let s = c .before .before .before .before .before .before .before .before in
+    let l = turn (c .before .before) .before .loop in
+    let s = start (c .before .before) in
     ((s .pre .0 .0, s .pre .0 .1), below-of (P s) (l .passed) (l .inv .1 .0))
 
 returns : tie.Need-returns Inv-loop μ-loop
 returns c =
     let a = c .before .before .before .before in
-    let l = a .before .before .before .before .loop in
+    let l = turn a .before .loop in
     record {
-      place = sym (first-is _ (λ (k : ℕ). good (P (start a)) (tried (P (start a)) k)) (l .passed) (a .before .before .before .loop-test .taken) (told (c .before) true (c .if1 .taken)) (l .inv .1 .1));
+      place = sym (first-is _ (λ (k : ℕ). good (P (start a)) (tried (P (start a)) k)) (l .passed) (turn a .loop-test .taken) (told (c .before) true (c .if1 .taken)) (l .inv .1 .1));
       list = l .inv .1 .0;
     }
 
@@ -102,7 +109,7 @@ loop-again : tie.Need-loop-again Inv-loop μ-loop
 loop-again c =
     let e = c .before .before in
     let a = e .before .before .before .before in
-    let l = a .before .before .before .before .loop in (
+    let l = turn a .before .loop in (
       omega arith,
       (
         begins-as 0 _ (tried (P (start a)) (l .passed + 1)) (λ i li. next-is (P (start a)) (list a) (l .inv .1 .0) (sums a) i li ∙ sym (tried-next (P (start a)) (l .passed) i)) (c .next-weights .ensures),

@@ -22,8 +22,12 @@ Inv-loop t matrix inverse n columns out₀ i₀ i-end out i = (i ≤ n * n) × (
 abbrev μ-loop : tie.MeasureT-loop
 μ-loop t matrix inverse n columns out₀ i₀ i-end out i = n * n - i
 
+-- the rows that the residuals were reckoned from
+abbrev at-rows : tie.After-inverse-residuals-of Inv-loop μ-loop → tie.After-raise-rows Inv-loop μ-loop
+at-rows c = c .before .before .before .before
+
 abbrev start : tie.In-loop Inv-loop μ-loop → tie.Start Inv-loop μ-loop
-start c = c .before .before .before .before .before .before .before .before .before
+start c = at-rows (c .before .before .before) .before .before
 
 -- the residual of this turn
 module _ (c : tie.In-loop Inv-loop μ-loop) where
@@ -34,7 +38,7 @@ module _ (c : tie.In-loop Inv-loop μ-loop) where
       let i = c .before .loop .i in
       let l = in-square (a .n) i (c .loop-test .taken) in
       c .before .before .before .inverse-residuals-of .ensures .each i (c .loop-test .taken)
-      ∙ residual-of-rows (a .n) (a .t) (a .inverse .now) (c .before .before .before .before .before .before .before .raise-rows .ensures) (i / a .n) (i % a .n) (l .0) (l .1)
+      ∙ residual-of-rows (a .n) (a .t) (a .inverse .now) (at-rows (c .before .before .before) .raise-rows .ensures) (i / a .n) (i % a .n) (l .0) (l .1)
 
   residual-here : natAbs (getD (c .before .before .before .inverse-residuals-of .last .0) (c .before .loop .i) (pos 0)) < 2 ^ 63
   residual-here =
@@ -61,10 +65,11 @@ slice-aggregate-inverse-residuals-of-2 c = search needs
 
 inverse-residuals-of-requires : tie.Need-inverse-residuals-of-requires Inv-loop μ-loop
 inverse-residuals-of-requires c κs =
-    let p = c .before .before .before .before .before .pre in ((p .0 .0, (p .0 .1, square (p .0 .1))), (p .1 .1, c .before .before .before .raise-rows .ensures .rows))
+    let r = c .before .before .before in
+    let p = r .before .before .pre in ((p .0 .0, (p .0 .1, square (p .0 .1))), (p .1 .1, r .raise-rows .ensures .rows))
 
 mul-i-end : tie.Need-mul-i-end Inv-loop μ-loop
-mul-i-end c = omega (arith, square (c .before .before .before .before .before .before .before .pre .0 .1))
+mul-i-end c = omega (arith, square (at-rows (c .before) .before .before .pre .0 .1))
 
 loop-holds : tie.Need-loop-holds Inv-loop μ-loop
 loop-holds c = (omega arith, (refl, begins-none _ _ _))

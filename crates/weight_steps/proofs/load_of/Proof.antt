@@ -18,15 +18,19 @@ Inv-loop sizes weights n m sum₀ place₀ j₀ sum place j = (j ≤ n) × (Carr
 abbrev μ-loop : tie.MeasureT-loop
 μ-loop sizes weights n m sum₀ place₀ j₀ sum place j = n - j
 
+-- the start, from the turn
+abbrev start : tie.In-loop Inv-loop μ-loop → tie.Start Inv-loop μ-loop
+start c = c .before .before
+
 sized : (s : tie.Start Inv-loop μ-loop) (j : ℕ) → j < s .args .n → getD (s .args .sizes .now) (j * s .args .n + s .args .m) 0 * getD (s .args .weights .now) j 0 ≤ 2 ^ 56
 sized s j l = mul-le-mul (s .pre .1 .0 .each _ (place l (s .pre .0 .1))) (s .pre .1 .1 .each j l)
 
 module _ (c : tie.In-loop Inv-loop μ-loop) where
-  inside : c .before .loop .j * c .before .before .args .n + c .before .before .args .m < c .before .before .args .n * c .before .before .args .n
-  inside = place (c .loop-test .taken) (c .before .before .pre .0 .1)
+  inside : c .before .loop .j * start c .args .n + start c .args .m < start c .args .n * start c .args .n
+  inside = place (c .loop-test .taken) (start c .pre .0 .1)
 
-  short : c .before .loop .j * c .before .before .args .n + c .before .before .args .m < 1024
-  short = omega (arith, inside, square (c .before .before .pre .0 .0))
+  short : c .before .loop .j * start c .args .n + start c .args .m < 1024
+  short = omega (arith, inside, square (start c .pre .0 .0))
 
 loop-holds : tie.Need-loop-holds Inv-loop μ-loop
 loop-holds c = (omega arith, (carried-first _ _, sym (sumℕ-none _)))

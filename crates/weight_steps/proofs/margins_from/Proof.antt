@@ -15,6 +15,10 @@ Inv-loop t loads weights n out₀ m₀ out m = (m ≤ n) × ((length out ≡ 32)
 abbrev μ-loop : tie.MeasureT-loop
 μ-loop t loads weights n out₀ m₀ out m = n - m
 
+-- the start, from the turn
+abbrev start : tie.In-loop Inv-loop μ-loop → tie.Start Inv-loop μ-loop
+start c = c .before .before
+
 loop-holds : tie.Need-loop-holds Inv-loop μ-loop
 loop-holds c = (omega arith, (refl, begins-none _ _ _))
 
@@ -31,7 +35,7 @@ element-copy-out-cut-2 : tie.Need-element-copy-out-cut-2 Inv-loop μ-loop
 element-copy-out-cut-2 c = search needs
 
 cut-requires : tie.Need-cut-requires Inv-loop μ-loop
-cut-requires c κs = let s = c .before .before .before .before in (s .pre .0 .0, s .pre .1 .each _ (c .before .before .loop-test .taken))
+cut-requires c κs = let t = c .before .before in (start t .pre .0 .0, start t .pre .1 .each _ (t .loop-test .taken))
 
 mul-out : tie.Need-mul-out Inv-loop μ-loop
 mul-out c = search needs

@@ -29,8 +29,9 @@ module _ (c : tie.After-bits-of Inv-loop μ-loop) where
 
   small : (i : ℕ) → i < c .before .before .args .n → getD (c .before .before .args .loads .now) i 0 / 2 ^ c .bits-of .result ≤ 1023
   small i l =
-      let f : ℕ → ℕ = λ m. getD (c .before .before .args .loads .now) m 0 in
-      rw count-is (shifted (largest (c .before .before .args .n) f) (f i) (bits (largest (c .before .before .args .n) f)) (largest-at (c .before .before .args .n) f i l) (bits-fit (largest (c .before .before .args .n) f)))
+      let s = c .before .before in
+      let f : ℕ → ℕ = λ m. getD (s .args .loads .now) m 0 in
+      rw count-is (shifted (largest (s .args .n) f) (f i) (bits (largest (s .args .n) f)) (largest-at (s .args .n) f i l) (bits-fit (largest (s .args .n) f)))
 
 largest-of-requires : tie.Need-largest-of-requires Inv-loop μ-loop
 largest-of-requires c κs = search needs
@@ -70,11 +71,12 @@ loop-less c = search needs
 
 loop-again : tie.Need-loop-again Inv-loop μ-loop
 loop-again c =
-    let l = c .before .before .loop in (
+    let l = c .before .before .loop in
+    let b = c .before .before .before in (
       omega arith,
       (
         simp length-set (l .inv .1 .0),
-        begins-more _ _ _ _ _ (l .inv .1 .1) (omega arith) (ap (λ (x : ℕ). getD (c .before .before .before .before .before .args .loads .now) (l .i) 0 / 2 ^ x + 1) (count-is (c .before .before .before))),
+        begins-more _ _ _ _ _ (l .inv .1 .1) (omega arith) (ap (λ (x : ℕ). getD (b .before .before .args .loads .now) (l .i) 0 / 2 ^ x + 1) (count-is b)),
       ),
     )
 

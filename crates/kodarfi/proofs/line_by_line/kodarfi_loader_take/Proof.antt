@@ -4,6 +4,13 @@ use borrow.Author.Needs.{needs}
 use Rattle.kodarfi.proofs.line_by_line.kodarfi_loader_take.Statement.{statement}
 use Rattle.kodarfi.proofs.line_by_line.kodarfi_loader_take.Tie as tie
 
+-- the call, from the lists that it gave back
+abbrev at-lists : tie.After-weights → tie.After-matrix
+at-lists c = c .before .before .before .before .before
+
+abbrev at-take : tie.After-outcome-reply → tie.After-take
+at-take c = at-lists (c .before) .before
+
 take-requires : tie.Need-take-requires
 take-requires c κs = search needs
 
@@ -34,7 +41,7 @@ same-length-6 c = search needs
 returns : tie.Need-returns
 returns c =
     let r = c .before .before in
-    let k = r .before .before .before .before .before .before .before in
+    let k = at-take r in
     record { outcome = k .take .result; taken = k .take .ensures; told = told-alone (said (k .take .result)) (c .tell .ensures) (r .outcome-reply .ensures) }
 
 pub kodarfi-loader-take-spec : {M : Type 1} → statement M

@@ -33,7 +33,8 @@ returns : tie.Need-returns
 returns c =
     let r = c .before .before in
     let o = r .before in
-    let k = o .before .before .before .before .before .before .before .before .before in
+    let lists = o .before .before .before .before in
+    let k = lists .before .before .before .before .before in
     record {
       answer = k .check-dependent .result;
       checked = k .check-dependent .ensures;

@@ -8,17 +8,27 @@ use borrow.Author.Needs.{needs}
 use Rattle.loader.proofs.Loader.judge_form.Statement.{statement}
 use Rattle.loader.proofs.Loader.judge_form.Tie as tie
 
+-- the places back from the tests
+abbrev at-item : tie.Else1 → tie.After-item-of
+at-item c = c .before .before
+
+abbrev start : tie.Else1 → tie.Start
+start c = at-item c .before .before
+
+abbrev at-placed : tie.Else4 → tie.Else2
+at-placed c = c .before .before .before .before
+
 -- what the tests before said, of the form itself
-not-early : (c : tie.Else1) → early (c .before .before .before .before .args .self .stage) (c .before .before .item-of .result) ≡ false
+not-early : (c : tie.Else1) → early (start c .args .self .stage) (at-item c .item-of .result) ≡ false
 not-early c = sym (c .before .is-early .ensures) ∙ c .if1 .left
 
-not-misplaced : (c : tie.Else2) → misplaced (c .before .before .before .before .before .before .args .self .stage) (c .before .before .before .before .before .before .args .self .n) (c .before .before .before .before .item-of .result) ≡ false
+not-misplaced : (c : tie.Else2) → let e = c .before .before in misplaced (start e .args .self .stage) (start e .args .self .n) (at-item e .item-of .result) ≡ false
 not-misplaced c = sym (c .before .is-misplaced .ensures) ∙ c .if2 .left
 
-not-repeated : (c : tie.Else3) → let m = c .before .before .before .before .before .before in repeated (m .before .before .args .self .stage) (m .before .before .args .self .sets) (m .item-of .result) ≡ false
+not-repeated : (c : tie.Else3) → let e = c .before .before .before .before in repeated (start e .args .self .stage) (start e .args .self .sets) (at-item e .item-of .result) ≡ false
 not-repeated c = sym (c .before .is-repeated .ensures) ∙ c .if3 .left
 
-not-outside : (c : tie.Else4) → let a = c .before .before .before .before .before .before .before .before .before .before .args in outsideIn (a .form) (a .inside) ≡ false
+not-outside : (c : tie.Else4) → let a = start (at-placed c .before .before) .args in outsideIn (a .form) (a .inside) ≡ false
 not-outside c = sym (c .before .is-outside .ensures) ∙ c .if4 .left
 
 item-of-requires : tie.Need-item-of-requires
@@ -47,7 +57,7 @@ is-repeated-requires : tie.Need-is-repeated-requires
 is-repeated-requires c κs =
     let p = c in
     let e = p .before .before in
-    placed-32 (e .before .before .before .before .args .self .stage) (e .before .before .before .before .args .self .n) (e .before .before .item-of .result) (not-early e) (not-misplaced p)
+    placed-32 (start e .args .self .stage) (start e .args .self .n) (at-item e .item-of .result) (not-early e) (not-misplaced p)
 
 returns-3 : tie.Need-returns-3
 returns-3 c =
@@ -87,7 +97,7 @@ returns-5 c =
 
 judge-end-requires : tie.Need-judge-end-requires
 judge-end-requires c κs =
-    let p = c .before .before .before .before .before .before in
+    let p = at-placed (c .before .before) in
     (not-early (p .before .before), not-misplaced p)
 
 returns-6 : tie.Need-returns-6

@@ -6,6 +6,22 @@ use borrow.Author.Needs.{needs}
 use Rattle.loader.proofs.Loader.take.Statement.{statement}
 use Rattle.loader.proofs.Loader.take.Tie as tie
 
+-- the places back from the writing
+abbrev at-decided : tie.After-set-of → tie.After-decide
+at-decided c = c .before .before .before .before
+
+abbrev at-first : tie.After-write-all-arg6 → tie.After-write-all-arg
+at-first c = c .before .before .before .before .before
+
+abbrev at-sets : tie.After-write-all-arg6 → tie.After-set-of
+at-sets c = at-first c .before
+
+abbrev at-lists : tie.After-weights → tie.After-matrix
+at-lists c = c .before .before .before .before .before
+
+abbrev at-written : tie.After-taken → tie.After-write-all
+at-written c = at-lists (c .before) .before
+
 abbrev lent : tie.Start → Lists
 lent s = lists (s .args .matrix .now) (s .args .right .now) (s .args .tolerance .now) (s .args .guess .now) (s .args .inverse .now) (s .args .weights .now)
 
@@ -26,7 +42,7 @@ set-of-requires : tie.Need-set-of-requires
 set-of-requires c κs = search needs
 
 write-all-requires : tie.Need-write-all-requires
-write-all-requires c κs = decided (c .before .before .before .before .before .before .before .before .before .before) .room
+write-all-requires c κs = decided (at-decided (at-sets c)) .room
 
 same-length : tie.Need-same-length
 same-length c = search needs
@@ -48,9 +64,9 @@ same-length-6 c = search needs
 
 returns : tie.Need-returns
 returns c =
-    let w = c .before .before .before .before .before .before .before in
-    let g = w .before .before .before .before .before .before .before in
-    let d = g .before .before .before .before in
+    let w = at-written c in
+    let g = at-sets (w .before) in
+    let d = at-decided g in
     let s = d .before .before .before in
     taken-so (s .args .self) (lent s) (s .args .line .now) (d .decide .result) (decided d) (g .set-of .ensures) (w .write-all .ensures)
 

@@ -5,6 +5,10 @@ use borrow.Author.Needs.{needs}
 use Rattle.quality.proofs.ranges.are_lists_in_range.Statement.{statement}
 use Rattle.quality.proofs.ranges.are_lists_in_range.Tie as tie
 
+-- the place of the second list
+abbrev at-second : tie.After-all-in-range2 → tie.Then1
+at-second c = c .before
+
 mul-all-in-range : tie.Need-mul-all-in-range
 mul-all-in-range c = omega (arith, square (c .pre .0))
 
@@ -21,10 +25,16 @@ all-in-range-requires-3 : tie.Need-all-in-range-requires-3
 all-in-range-requires-3 c κs = search needs
 
 returns : tie.Need-returns
-returns c = rw (sym (c .before .before .before .before .all-in-range .ensures) ∙ c .before .before .before .if1 .taken, sym (c .before .before .all-in-range2 .ensures) ∙ c .before .if2 .taken) (c .all-in-range3 .ensures)
+returns c =
+    let two = c .before .before in
+    let one = at-second two in
+    rw (sym (one .before .all-in-range .ensures) ∙ one .if1 .taken, sym (two .all-in-range2 .ensures) ∙ c .before .if2 .taken) (c .all-in-range3 .ensures)
 
 returns-2 : tie.Need-returns-2
-returns-2 c = rw (sym (c .before .before .before .all-in-range .ensures) ∙ c .before .before .if1 .taken, sym (c .before .all-in-range2 .ensures) ∙ c .if2 .left)
+returns-2 c =
+    let two = c .before in
+    let one = at-second two in
+    rw (sym (one .before .all-in-range .ensures) ∙ one .if1 .taken, sym (two .all-in-range2 .ensures) ∙ c .if2 .left)
 
 returns-3 : tie.Need-returns-3
 returns-3 c = rw (sym (c .before .all-in-range .ensures) ∙ c .if1 .left)

@@ -5,6 +5,10 @@ use borrow.Author.Needs.{needs}
 use Rattle.samples.proofs.held.checked_through.Statement.{statement}
 use Rattle.samples.proofs.held.checked_through.Tie as tie
 
+-- the list, from its length
+abbrev at-bounds : tie.After-less-where → tie.After-unwritten
+at-bounds c = c .before .before
+
 unwritten-requires : tie.Need-unwritten-requires
 unwritten-requires c κs = search needs
 
@@ -37,8 +41,10 @@ array-borrow-prefix-solution-bounds c = search needs
 
 slice-aggregate-check-7 : tie.Need-slice-aggregate-check-7
 slice-aggregate-check-7 c =
-    let n = c .before .before .before .before .before .before .before .less-where in
-    let l = c .before .before .before .before .before .before .before .before .before .unwritten in
+    let lists = c .before .before .before in
+    let k = lists .before .before .before .before in
+    let n = k .less-where in
+    let l = at-bounds k .unwritten in
     sym (length-take-le (n .result) (l .result) (omega (arith, n .ensures, l .ensures)))
 
 slice-aggregate-check-8 : tie.Need-slice-aggregate-check-8

@@ -5,6 +5,16 @@ use borrow.Author.Needs.{needs}
 use Rattle.samples.proofs.held.taken.Statement.{statement}
 use Rattle.samples.proofs.held.taken.Tie as tie
 
+-- the places back from the last length: the first length, the lists, the first list
+abbrev at-first : tie.After-less-where6 → tie.After-less-where
+at-first c = c .before .before .before .before .before
+
+abbrev at-lists : tie.After-less-where6 → tie.After-narrow4
+at-lists c = at-first c .before
+
+abbrev at-matrix : tie.After-less-where6 → tie.After-wide
+at-matrix c = at-lists c .before .before .before .before .before
+
 wide-requires : tie.Need-wide-requires
 wide-requires c κs = search needs
 
@@ -46,8 +56,9 @@ array-borrow-prefix-matrix c = search needs
 
 slice-aggregate-take : tie.Need-slice-aggregate-take
 slice-aggregate-take c =
-    let n = c .before .before .before .before .before .before .less-where in
-    let l = c .before .before .before .before .before .before .before .before .before .before .before .before .wide in
+    let k = c .before in
+    let n = at-first k .less-where in
+    let l = at-matrix k .wide in
     sym (length-take-le (n .result) (l .result) (omega (arith, n .ensures, l .ensures)))
 
 array-borrow-prefix-right : tie.Need-array-borrow-prefix-right
@@ -55,8 +66,9 @@ array-borrow-prefix-right c = search needs
 
 slice-aggregate-take-2 : tie.Need-slice-aggregate-take-2
 slice-aggregate-take-2 c =
-    let n = c .before .before .before .before .before .before .less-where2 in
-    let l = c .before .before .before .before .before .before .before .before .before .before .before .before .narrow in
+    let k = c .before .before in
+    let n = k .before .before .before .before .less-where2 in
+    let l = at-lists k .before .before .before .before .narrow in
     sym (length-take-le (n .result) (l .result) (omega (arith, n .ensures, l .ensures)))
 
 array-borrow-prefix-tolerance : tie.Need-array-borrow-prefix-tolerance
@@ -64,8 +76,9 @@ array-borrow-prefix-tolerance c = search needs
 
 slice-aggregate-take-3 : tie.Need-slice-aggregate-take-3
 slice-aggregate-take-3 c =
-    let n = c .before .before .before .before .before .before .less-where3 in
-    let l = c .before .before .before .before .before .before .before .before .before .before .before .before .narrow2 in
+    let k = c .before .before .before in
+    let n = k .before .before .before .less-where3 in
+    let l = at-lists k .before .before .before .narrow2 in
     sym (length-take-le (n .result) (l .result) (omega (arith, n .ensures, l .ensures)))
 
 array-borrow-prefix-guess : tie.Need-array-borrow-prefix-guess
@@ -73,8 +86,9 @@ array-borrow-prefix-guess c = search needs
 
 slice-aggregate-take-4 : tie.Need-slice-aggregate-take-4
 slice-aggregate-take-4 c =
-    let n = c .before .before .before .before .before .before .less-where4 in
-    let l = c .before .before .before .before .before .before .before .before .before .before .before .before .narrow3 in
+    let k = c .before .before .before .before in
+    let n = k .before .before .less-where4 in
+    let l = at-lists k .before .before .narrow3 in
     sym (length-take-le (n .result) (l .result) (omega (arith, n .ensures, l .ensures)))
 
 array-borrow-prefix-inverse : tie.Need-array-borrow-prefix-inverse
@@ -82,8 +96,9 @@ array-borrow-prefix-inverse c = search needs
 
 slice-aggregate-take-5 : tie.Need-slice-aggregate-take-5
 slice-aggregate-take-5 c =
-    let n = c .before .before .before .before .before .before .less-where5 in
-    let l = c .before .before .before .before .before .before .before .before .before .before .before .before .wide2 in
+    let k = c .before .before .before .before .before in
+    let n = k .before .less-where5 in
+    let l = at-lists k .before .wide2 in
     sym (length-take-le (n .result) (l .result) (omega (arith, n .ensures, l .ensures)))
 
 array-borrow-prefix-weights : tie.Need-array-borrow-prefix-weights
@@ -91,8 +106,10 @@ array-borrow-prefix-weights c = search needs
 
 slice-aggregate-take-6 : tie.Need-slice-aggregate-take-6
 slice-aggregate-take-6 c =
-    let n = c .before .before .before .before .before .before .less-where6 in
-    let l = c .before .before .before .before .before .before .before .before .before .before .before .before .narrow4 in
+    let rest = c .before .before .before in
+    let k = rest .before .before .before in
+    let n = k .less-where6 in
+    let l = at-lists k .narrow4 in
     sym (length-take-le (n .result) (l .result) (omega (arith, n .ensures, l .ensures)))
 
 take-requires : tie.Need-take-requires
