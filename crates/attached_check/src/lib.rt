@@ -19,12 +19,11 @@ use rules::Outcome;
 use rules::Refusal;
 use rules::all_in_range;
 use slacks::allowed_of;
+use slacks::ALLOWED_RESIDUAL;
 use slacks::slacks_of;
 
-// How large a residual and its slack may be together; the sums along the rows are not asked of the heights of a dependent net.
-const ALLOWED_RESIDUAL: u64 = 33554432;
-
-// The check of a dependent net, from n, s, the guess and the limits of the main net. Order 8, 3, 5, 6, 7; a refusal leaves both limit lists as they were.
+// The check of a dependent net, from n, s, the guess and the limits of the main net. Order 8, 3, 5, 6, 7; a refusal leaves both limit lists as they were. The sums
+// along the rows are not asked of its heights.
 pub fn check_attached(
     marks: usize,
     main_scale: u32,
