@@ -33,59 +33,74 @@ pub struct Range {
     pub highest: i64,
 }
 
+// In the order of `Kind`.
 const RANGES: [Range; 14] = [
+    // Size
     Range {
         lowest: 1,
         highest: 32,
     },
+    // SolutionScale
     Range {
         lowest: 0,
         highest: 20,
     },
+    // InverseScale
     Range {
         lowest: 0,
         highest: 20,
     },
+    // Matrix
     Range {
         lowest: -1048576,
         highest: 1048576,
     },
+    // Right
     Range {
         lowest: -1073741824,
         highest: 1073741824,
     },
+    // Guess
     Range {
         lowest: -68719476736,
         highest: 68719476736,
     },
+    // Inverse
     Range {
         lowest: -1048576,
         highest: 1048576,
     },
+    // Weight
     Range {
         lowest: 1,
         highest: 1024,
     },
+    // Allowance
     Range {
         lowest: 1,
         highest: 64,
     },
+    // Tolerance
     Range {
         lowest: 0,
         highest: 1048576,
     },
+    // Key
     Range {
         lowest: 1,
         highest: 65535,
     },
+    // Mark
     Range {
         lowest: 0,
         highest: 32,
     },
+    // Difference
     Range {
         lowest: -65536,
         highest: 65536,
     },
+    // LineWeight
     Range {
         lowest: 1,
         highest: 64,
