@@ -107,6 +107,11 @@ const RANGES: [Range; 14] = [
     },
 ];
 
+// 01: "A lent matrix list has at least 1,024 numbers and a column list at least 32"; 8 for a shorter one.
+pub const MATRIX_LENGTH: usize = 1024;
+
+pub const COLUMN_LENGTH: usize = 32;
+
 // Why something is refused: a case for each of 01's numbers, with the places or the count that it gives. Rows and columns count from 1.
 pub enum Refusal {
     // 1: a line above 320 bytes
