@@ -5,7 +5,7 @@
 --   uncoupled-checked, uncoupled-solution — so that what is said of it, and its solution limits, are the check's in all
 --   uncoupled-together — and what is said of both nets, where the main net is accepted
 use mathlib.Core.Path.{_≡_, refl, sym, ap, _∙_}
-use mathlib.Core.Bool.{Bool, true, false, _&&_, _||_}
+use mathlib.Core.Bool.{Bool, true, false, _||_}
 use mathlib.Core.List.{List, []}
 use Prim.Native.Nat.{ℕ, _+_, _*_, _<_}
 use native.Mathlib.Omega.{arith}
@@ -24,7 +24,7 @@ use Rattle.linear.proofs.Written.{written-ext}
 use Rattle.rules.specs.Range.{allInRange}
 use Rattle.rules.specs.declared.Kind.the-variants as kind
 use Rattle.rules.proofs.AllInRange.{all-in}
-use Rattle.rules.proofs.Ranges.{in-matrix-range}
+use Rattle.rules.proofs.Ranges.{in-matrix-range, and-true}
 use Rattle.enclosure.specs.Before.{exceeds05}
 use Rattle.enclosure.specs.Problem.{Problem, S}
 use Rattle.enclosure.specs.Reckoning.{residual, slack, exceeds, sizesWith, boundWith, bound}
@@ -37,10 +37,6 @@ use Rattle.dependent.specs.Reckoning.{ownProblem, dependentResidual, dep
 use Rattle.dependent.specs.Order.{dependentAnswer, ofNet, jointAnswer, dependentInRanges}
 use Rattle.dependent.specs.Together.{dependentSolutionAfter}
 use Rattle.dependent.specs.Uncoupled.{Uncoupled, exemptAnswer, MeetsSums}
-
-and-true : (a : Bool) {b : Bool} → b ≡ true → a && b ≡ a
-and-true true e = e
-and-true false e = refl
 
 or-false : (a : Bool) {b : Bool} → b ≡ false → a || b ≡ a
 or-false true e = refl

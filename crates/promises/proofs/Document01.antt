@@ -1,4 +1,5 @@
 -- The theorems for specs/Document01, a theorem for each statement.
+--   Case b A B — A where b is true, B otherwise
 --   CaseOf I k a b — the case of the refusal k of a check, with the numbers a and b that it gives;  stated-case — what is stated has it
 use mathlib.Core.Bool.{Bool, true, false}
 use mathlib.Core.List.{List, [], _∷_}
@@ -11,9 +12,6 @@ use lib.IntN.{ℤ, natAbs}
 use lib.ListN.{getD}
 use Rattle.integer.specs.Finite.{sum}
 use Rattle.linear.specs.Matrix.{product, apply}
-use Rattle.linear.specs.Written.{written}
-use Rattle.linear.proofs.Written.{front-else}
-use Rattle.rules.specs.Order.{ifAccepted}
 use Rattle.rules.specs.Range.{inRange, rangeOf, ranges}
 use Rattle.rules.specs.Refusal.{said}
 use Rattle.rules.specs.declared.Outcome.{Outcome}
@@ -33,6 +31,7 @@ use Rattle.checked.specs.Order.{answer}
 use Rattle.checked.specs.Stated.{Usable, Stated, too-short, out-of-range, margin-low, residual-large, inverse-large, accepted}
 use Rattle.checked.proofs.Agreed.{same-answer, same-solution, same-inverse}
 use Rattle.checked.proofs.Lengths.{long-of}
+use Rattle.checked.proofs.Written.{past-kept}
 use Rattle.given_forms.specs.Progress.{ended}
 use Rattle.file_shape.proofs.Complete.{exactly}
 use Rattle.line_runs.specs.Lines.{before, linesOf}
@@ -96,16 +95,11 @@ rest-not-read I J r r′ E L E′ L′ a x y = (
       ),
 )
 
--- places past those written are left, whatever is said
-past : (w xs : List ℕ) (f : ℕ → ℕ) (n i : ℕ) → n ≤ i → getD (ifAccepted w (written xs 0 1 f n) xs) i 0 ≡ getD xs i 0
-past [] xs f n i l = front-else xs f 0 n i l
-past (k ∷ ks) xs f n i l = refl
-
 pub rest-not-written : document.RestNotWritten
 unfolding solutionBoundsAfter inverseBoundsAfter
 rest-not-written I r E L x = (
-  λ i l. rw (x .solution-bounds) (past (answer I) (I .solutionBounds) (bound (problem I)) (I .n) i l),
-  λ k l. rw (x .inverse-bounds) (past (answer I) (I .inverseBounds) (λ (i : ℕ). inverseBound (problem I) (i / I .n) (i % I .n)) (I .n * I .n) k l),
+  λ i l. rw (x .solution-bounds) (past-kept 0 (answer I) (I .n) (I .solutionBounds) (bound (problem I)) i l),
+  λ k l. rw (x .inverse-bounds) (past-kept 0 (answer I) (I .n * I .n) (I .inverseBounds) (λ (i : ℕ). inverseBound (problem I) (i / I .n) (i % I .n)) k l),
 )
 
 -- ---- The reckoning
@@ -183,7 +177,7 @@ LargeInverse I j k =
 back : (m : ℕ) → m + 1 - 1 ≡ m
 back m = omega arith
 
-abbrev Case : Bool → Type 0 → Type 0 → Type 0
+abbrev pub Case : Bool → Type 0 → Type 0 → Type 0
 Case true A B = A
 Case false A B = B
 

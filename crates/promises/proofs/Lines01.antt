@@ -1,6 +1,6 @@
 -- The theorems for specs/Lines01, a theorem for each statement.
 --   CaseOf d l line k — the case of the refusal k of a line, or of acceptance (0);  stated-case — what is stated has it
-use mathlib.Core.Bool.{Bool, true, false}
+use mathlib.Core.Bool.{true, false}
 use mathlib.Core.List.{List, [], _∷_}
 use mathlib.Core.Logic.{_⊎_, inl, inr}
 use mathlib.Core.Path.{_≡_, refl, sym, ap, subst, _∙_}
@@ -37,11 +37,8 @@ use Rattle.line_stated.specs.Stated.{Formed, Unrepeated, LineStated}
 use Rattle.promises.specs.Lines01.{InTime, notGiven}
 use Rattle.promises.specs.Lines01 as line
 use Rattle.promises.proofs.Demands.{line-refuses-as-stated}
+use Rattle.promises.proofs.Document01.{Case}
 use Rattle.promises.proofs.Places.{took, own-places, other-places-kept, taken-run}
-
-abbrev Case : Bool → Type 0 → Type 0 → Type 0
-Case true A B = A
-Case false A B = B
 
 abbrev CaseOf : Loader → Lists → List ℕ → ℕ → Type 0
 CaseOf d l line k =
