@@ -1,7 +1,7 @@
 -- ℤ is a commutative ring, and how a ring identity is proved, in one line.
 --   simp ring — both sides multiplied out and sorted, under sums too; for identities where nothing cancels: try it first
---   swapped-zero — a·(b·x) − b·(a·x) = 0
 --   by-zero (simp ring (simp moves (simp ring₀))) — any identity with coefficients ±1: what cancels is moved over first
+--   swapped-zero — a·(b·x) − b·(a·x) = 0
 -- For numeral coefficients see Difference.
 use mathlib.Core.Path.{_≡_, sym, _∙_}
 use mathlib.Core.Logic.{_↔_}

@@ -70,7 +70,7 @@ near a d h =
     let l : (2 * a + d) % (2 * d) < 2 * d = mod-lt (2 * a + d) (omega arith) in
     (omega arith, omega arith)
 
--- |b − a| of their negations
+-- the distance of two negations
 apart-neg : (a b : ℕ) → natAbs (negℤ (pos a) -ℤ negℤ (pos b)) ≡ (a - b) + (b - a)
 apart-neg a b = simp zz (omega arith)
 

@@ -2,7 +2,7 @@
 --   place, square — the place of row i and column j is below the count of rows times n; n · n is at most 1,024 where n is at most 32
 --   row-room, row-ends, row-fits — a row of n numbers ends inside a list of n · n numbers, by place 1,024 where n is at most 32, and its start fits a u64
 --   place-column, place-row — column after column: place j·n + k stands for column j and row k
---   row-reach, column-reach, list-reach — a row of n numbers, a column of n·n numbers, a list of n numbers, as `dot` asks for them;  square-list — a matrix list as such a list
+--   row-reach, column-reach, list-reach — a row and a column of a list of numbers row after row, and a list of n numbers, as `dot` asks for them;  square-list — a matrix list as such a list
 --   dot-row       — row k of A times a list is (A·v) k
 --   dot-term, dot-fits, dot-size — a term is at most 2 ^ 56 in size, a partial sum with its next term fits an i64, the size of a whole sum
 use mathlib.Core.Path.{_≡_, _∙_}

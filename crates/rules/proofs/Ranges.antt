@@ -1,9 +1,8 @@
 -- What the ranges say of a number.
 --   range-size — a number in range is at most `sizeOf k` in size
---   range-natural — where the lowest value is a natural number, a number in range is one, and at least that
+--   range-natural — where the lowest value is a natural number, a number in range is one, and at least that;  range-kept — so its size is in range
 --   size-range, solution-scale-range, .., weight-range, allowance-range, in-allowance-range, line-weight-range, difference-range — what the range of each kind is
 --   in-size-range, in-matrix-range, in-right-range — the converse: a number of that size is in range;  zero-tolerance, one-weight — so are these two
---   range-kept — a natural number in range is in range as the size of itself
 --   both, both-left, both-right, not-both, not-first, neither, neither-left, neither-right, or-left, or-right, and-true — of two tests
 --   range-test — what the code tests is inRange
 use mathlib.Core.Path.{_≡_, refl, sym, subst}
