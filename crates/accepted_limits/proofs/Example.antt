@@ -10,25 +10,23 @@ use lib.Dec.{lit≤}
 use lib.IntN.{ℤ, pos, natAbs, _+ℤ_, _-ℤ_, _*ℤ_}
 use Rattle.integer.specs.Finite.{sum, sumℕ, largest, first, every}
 use Rattle.integer.specs.Quotient.{ceilDiv}
-use Rattle.integer.proofs.Absolute.{abs-zero}
+use Rattle.integer.proofs.Absolute.{abs-zero, free}
+use Rattle.integer.proofs.Below.{only, each}
 use Rattle.integer.proofs.Difference.{is, zz}
 use Rattle.integer.proofs.Ring.{*-zero}
 use Rattle.integer.proofs.Rounding.{ceil-least}
 use Rattle.linear.specs.Matrix.{Vec, apply, product, identity}
 use Rattle.rules.specs.Range.{ranges, rangeOf, inRange, allInRange}
-use Rattle.exact_solution.proofs.Existence.{free}
 use Rattle.enclosure.specs.Demand.{RightSide}
 use Rattle.enclosure.specs.Reckoning.{defect, load, margin, residual, rowSum, exceeds, sizesWith, boundFrom, boundWith, bound}
 use Rattle.enclosure.specs.Quality.{trueError, NeverFar}
 use Rattle.enclosure.proofs.Demands.{encloses}
-use Rattle.enclosure.proofs.Instance.{each}
 use Rattle.checked.specs.Order.{answer}
 use Rattle.dependent.specs.Nets.{attached}
 use Rattle.dependent.specs.Reckoning.{dependentResidual, dependentSlack, dependentBound}
 use Rattle.dependent.specs.Order.{dependentAnswer, jointAnswer}
 use Rattle.dependent.specs.Joint.{C₂₁, mainProblem, dependentProblem, JointSolution}
 use Rattle.good_limits.specs.Good.{OwnFactor}
-use Rattle.good_limits.proofs.Instance.{only}
 use Rattle.accepted_limits.specs.Example.{fork}
 
 pub fork-accepted : jointAnswer fork ≡ []

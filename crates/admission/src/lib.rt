@@ -6,7 +6,9 @@ ghost use Rattle.rules.specs.Order.{verdict};
 ghost use Rattle.rules.specs.Refusal.{said};
 ghost use Rattle.checked.specs.Input.{anyShort, sizesInRange, listsInRange};
 ghost use Rattle.checked.specs.Order.{reckoned};
+use rules::COLUMN_LENGTH;
 use rules::Kind;
+use rules::MATRIX_LENGTH;
 use rules::Outcome;
 use rules::Refusal;
 use rules::all_in_range;
@@ -25,40 +27,20 @@ pub fn is_short(
 ) -> bool
     ensures { λ r. ⌜ r ≡ anyShort a b d x g w e l ⌝ }
 {
-    if a < 1024 {
-        return true;
-    }
-    if b < 32 {
-        return true;
-    }
-    if d < 32 {
-        return true;
-    }
-    if x < 32 {
-        return true;
-    }
-    if g < 1024 {
-        return true;
-    }
-    if w < 32 {
-        return true;
-    }
-    if e < 32 {
-        return true;
-    }
-    l < 1024
+    (a < MATRIX_LENGTH)
+        | ((b < COLUMN_LENGTH)
+            | ((d < COLUMN_LENGTH)
+                | ((x < COLUMN_LENGTH)
+                    | ((g < MATRIX_LENGTH)
+                        | ((w < COLUMN_LENGTH) | ((e < COLUMN_LENGTH) | (l < MATRIX_LENGTH)))))))
 }
 
 // 3 for n, s and t.
 pub fn are_sizes_in_range(n: u32, s: u32, t: u32) -> bool
     ensures { λ r. ⌜ r ≡ sizesInRange n s t ⌝ }
 {
-    if is_natural_in_range(Kind::Size, n) {
-        if is_natural_in_range(Kind::SolutionScale, s) {
-            return is_natural_in_range(Kind::InverseScale, t);
-        }
-    }
-    false
+    is_natural_in_range(Kind::Size, n)
+        & (is_natural_in_range(Kind::SolutionScale, s) & is_natural_in_range(Kind::InverseScale, t))
 }
 
 // 3 for the numbers of the lists that are used.

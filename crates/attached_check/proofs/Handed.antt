@@ -17,6 +17,7 @@ use Rattle.integer.proofs.Search.{first-ext}
 use Rattle.linear.specs.Reach.{ColumnList}
 use Rattle.linear.specs.Slice.{at, vectorOf}
 use Rattle.linear.specs.Written.{written}
+use Rattle.linear.proofs.Places.{row-reach}
 use Rattle.linear.proofs.Slack.{slack-ext}
 use Rattle.linear.proofs.Written.{written-ext}
 use Rattle.rules.specs.Order.{ifAccepted}
@@ -44,7 +45,7 @@ use Rattle.dependent.specs.Attached.{AttachedAs}
 use Rattle.dependent.proofs.Statements.{answer-ready, own-fit, passed-of}
 use Rattle.couplings.specs.Carried.{baseFrom, cappedSum}
 use Rattle.couplings.proofs.Cap.{capped-test, capped-where}
-use Rattle.couplings.proofs.Rows.{row-within, base-size}
+use Rattle.couplings.proofs.Rows.{base-size}
 
 -- a size above what is allowed is so with its slack
 absorbed : (c z y : ℕ) → ltb c (z + y) || ltb c z ≡ ltb c (z + y)
@@ -128,7 +129,7 @@ module _ (marks s₁ : ℕ) (guess : List ℤ) (limits : List ℕ) (coupling : L
         long = omega (arith, h .base-long, fit .few);
         within = record {
           size = λ k l. rw (h .base .each k l)
-              (base-size k p coupling guess few (scaled-list I fit (h .scaled-long) (h .scaled) .within .size k l) (row-within coupled k l) known);
+              (base-size k p coupling guess few (scaled-list I fit (h .scaled-long) (h .scaled) .within .size k l) (row-reach coupled k l) known);
         };
       };
       allowed = record { long = omega (arith, h .allowed-long, fit .few); within = record { size = λ k l. rw (h .allowed .each k l) (allowed-size (getD σ k 0) _) } };

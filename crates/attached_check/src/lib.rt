@@ -15,16 +15,16 @@ use couplings::slacks_with;
 use residuals::scaled_right;
 use row_sums::row_sums_of;
 use rules::Kind;
+use rules::MATRIX_LENGTH;
 use rules::Outcome;
 use rules::Refusal;
 use rules::all_in_range;
+use slacks::ALLOWED_RESIDUAL;
 use slacks::allowed_of;
 use slacks::slacks_of;
 
-// How large a residual and its slack may be together; the sums along the rows are not asked of the heights of a dependent net.
-const ALLOWED_RESIDUAL: u64 = 33554432;
-
-// The check of a dependent net, from n, s, the guess and the limits of the main net. Order 8, 3, 5, 6, 7; a refusal leaves both limit lists as they were.
+// The check of a dependent net, from n, s, the guess and the limits of the main net. Order 8, 3, 5, 6, 7; a refusal leaves both limit lists as they were. The sums
+// along the rows are not asked of its heights.
 pub fn check_attached(
     marks: usize,
     main_scale: u32,
@@ -50,7 +50,7 @@ pub fn check_attached(
         (now (inverse .entry)) (now (weights .entry)) (now («solution_bounds» .entry)) (now («inverse_bounds» .entry))))
         r (now («solution_bounds» .exit)) (now («inverse_bounds» .exit)) ⌝ }
 {
-    if coupling.len() < 1024 {
+    if coupling.len() < MATRIX_LENGTH {
         return Outcome::Refused(Refusal::TooShort);
     }
     if is_short(

@@ -8,7 +8,10 @@ ghost use Rattle.built.specs.Finished.{Finished};
 use equations::Layout;
 use equations::write_equations;
 use gathering::Gathered;
+use lower_half::HALF_LENGTH;
 use observation::Built;
+use rules::COLUMN_LENGTH;
+use rules::MATRIX_LENGTH;
 use rules::Refusal;
 
 // Whether a matrix list of this length is too short for its layout.
@@ -16,8 +19,8 @@ fn is_short_as(layout: Layout, matrix: usize) -> bool
     ensures { λ r. ⌜ r ≡ shortAs layout matrix ⌝ }
 {
     match layout {
-        Layout::Square => matrix < 1024,
-        Layout::Lower => matrix < 528,
+        Layout::Square => matrix < MATRIX_LENGTH,
+        Layout::Lower => matrix < HALF_LENGTH,
     }
 }
 
@@ -25,7 +28,7 @@ fn is_short_as(layout: Layout, matrix: usize) -> bool
 pub fn is_short(layout: Layout, matrix: usize, right: usize) -> bool
     ensures { λ r. ⌜ r ≡ shortAs layout matrix || shortColumn right ⌝ }
 {
-    is_short_as(layout, matrix) | (right < 32)
+    is_short_as(layout, matrix) | (right < COLUMN_LENGTH)
 }
 
 pub fn finish(g: Gathered, layout: Layout, matrix: &mut [i64], right: &mut [i64]) -> Built

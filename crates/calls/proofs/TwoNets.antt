@@ -5,7 +5,8 @@
 use mathlib.Core.List.{List, []}
 use mathlib.Core.Path.{_≡_, refl, sym, ap, _∙_}
 use Prim.Native.Nat.{ℕ, _+_, _*_}
-use lib.ListN.{getD, drop}
+use lib.ListN.{getD}
+use Rattle.rules.specs.Order.{whichOf, refusalOf}
 use Rattle.rules.specs.declared.Outcome.the-variants as outcome
 use Rattle.rules.proofs.Verdicts.{nothing-is-not}
 use Rattle.dependent.specs.declared.CheckedNets.{CheckedNets}
@@ -18,16 +19,16 @@ use Rattle.calls.specs.TwoNets.{DependentExported}
 use Rattle.calls.proofs.Meaning.{zero-said}
 
 -- no refusal has the number 0
-zero-nets : (r : CheckedNets) → getD (drop 1 (saidNets r)) 0 0 ≡ 0 → saidNets r ≡ []
+zero-nets : (r : CheckedNets) → getD (refusalOf (saidNets r)) 0 0 ≡ 0 → saidNets r ≡ []
 zero-nets Accepted e = refl
 zero-nets (Main x) e = absurd (nothing-is-not (zero-said (outcome.Refused x) e))
 zero-nets (Dependent x) e = absurd (nothing-is-not (zero-said (outcome.Refused x) e))
 
 module _ {J : Nets} {number net : ℕ} {places E₁ L₁ E₂ L₂ : List ℕ} (x : DependentExported J number net places E₁ L₁ E₂ L₂) where
-  pub net-told : net ≡ getD (jointAnswer J) 0 0
-  net-told = x .net-is ∙ ap (λ (l : List ℕ). getD l 0 0) (x .checked .says)
+  pub net-told : net ≡ whichOf (jointAnswer J)
+  net-told = x .net-is ∙ ap whichOf (x .checked .says)
 
-  pub together-told : Told (drop 1 (jointAnswer J)) number places
+  pub together-told : Told (refusalOf (jointAnswer J)) number places
   together-told = rw (x .checked .says) at (x .told)
 
   pub together-zero : number ≡ 0 → jointAnswer J ≡ []

@@ -11,6 +11,7 @@ use native.Mathlib.Omega.{arith}
 use lib.IntN.{ℤ}
 use lib.ListN.{getD}
 use Rattle.linear.specs.Slice.{at}
+use Rattle.rules.specs.Order.{whichOf, refusalOf}
 use Rattle.rules.specs.declared.Outcome.the-variants.{Refused}
 use Rattle.rules.proofs.Verdicts.{nothing-is-not}
 use Rattle.checked.specs.Order.{answer}
@@ -22,7 +23,6 @@ use Rattle.common.specs.Promised.{exchanged}
 use Rattle.common.specs.Proposals.{Proposals}
 use Rattle.common.proofs.Exchanged.{calls-exchanged}
 use Rattle.common.proofs.Statements.{found-case}
-use Rattle.common_reply.specs.Numbers.{proposalOf, refusalOf}
 use Rattle.reply.specs.Told.{Told}
 use Rattle.calls.specs.TwoProposals.{CommonExported}
 use Rattle.calls.proofs.Meaning.{zero-said}
@@ -39,7 +39,7 @@ module _ {Q : Proposals} {number proposal : ℕ} {places : List ℕ} {low high :
   pub common-told : Told (refusalOf (commonAnswer Q)) number places
   common-told = rw (x .found .says) at (x .told)
 
-  pub common-proposal : proposal ≡ proposalOf (commonAnswer Q)
+  pub common-proposal : proposal ≡ whichOf (commonAnswer Q)
   common-proposal = rw (x .found .says) at (x .proposal-is)
 
   said-nothing : number ≡ 0 → saidCommon (x .answer) ≡ []

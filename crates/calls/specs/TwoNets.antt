@@ -4,7 +4,7 @@
 use mathlib.Core.List.{List}
 use mathlib.Core.Path.{_≡_}
 use Prim.Native.Nat.{ℕ}
-use lib.ListN.{getD, drop}
+use Rattle.rules.specs.Order.{whichOf, refusalOf}
 use Rattle.dependent.specs.declared.CheckedNets.{CheckedNets}
 use Rattle.dependent.specs.Nets.{Nets}
 use Rattle.dependent.specs.Order.{saidNets}
@@ -14,5 +14,5 @@ use Rattle.reply.specs.Told.{Told}
 pub record DependentExported (J : Nets) (number net : ℕ) (places E₁ L₁ E₂ L₂ : List ℕ) : Type 0 where
   pub answer : CheckedNets
   pub checked : CheckedTogether J answer E₁ L₁ E₂ L₂
-  pub net-is : net ≡ getD (saidNets answer) 0 0
-  pub told : Told (drop 1 (saidNets answer)) number places
+  pub net-is : net ≡ whichOf (saidNets answer)
+  pub told : Told (refusalOf (saidNets answer)) number places

@@ -6,14 +6,14 @@ use mathlib.Core.List.{List}
 use mathlib.Core.Path.{_≡_}
 use Prim.Native.Nat.{ℕ}
 use lib.IntN.{ℤ}
+use Rattle.rules.specs.Order.{whichOf, refusalOf}
 use Rattle.common.specs.declared.Common.{Common}
 use Rattle.common.specs.Answer.{saidCommon, CommonAs}
 use Rattle.common.specs.Proposals.{Proposals}
-use Rattle.common_reply.specs.Numbers.{proposalOf, refusalOf}
 use Rattle.reply.specs.Told.{Told}
 
 pub record CommonExported (Q : Proposals) (number proposal : ℕ) (places : List ℕ) (low high : List ℤ) : Type 0 where
   pub answer : Common
   pub found : CommonAs Q answer low high
   pub told : Told (refusalOf (saidCommon answer)) number places
-  pub proposal-is : proposal ≡ proposalOf (saidCommon answer)
+  pub proposal-is : proposal ≡ whichOf (saidCommon answer)

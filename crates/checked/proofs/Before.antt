@@ -8,16 +8,16 @@ use mathlib.Core.List.{List}
 use Prim.Native.Nat.{ℕ, zero, suc, _+_, _*_, _/_, _%_, _≤_}
 use native.Mathlib.Omega.{arith}
 use borrow.Author.Tests.{le-ltb}
-use lib.IntN.{pos}
 use lib.ListN.{length}
 use Rattle.integer.proofs.Absolute.{abs-zero}
 use Rattle.integer.proofs.Search.{first-ext}
 use Rattle.linear.specs.Slice.{at}
 use Rattle.linear.specs.Written.{written}
 use Rattle.linear.proofs.Written.{written-ext}
-use Rattle.rules.specs.Range.{inRange, allInRange, rangeOf, ranges}
+use Rattle.rules.specs.Range.{allInRange}
 use Rattle.rules.specs.declared.Kind.the-variants as kind
 use Rattle.rules.proofs.AllInRange.{all-in}
+use Rattle.rules.proofs.Ranges.{zero-tolerance}
 use Rattle.enclosure.specs.Before.{exceeds05, exceeds01, bound01, inverseBound01}
 use Rattle.enclosure.specs.Demand.{NoTolerance}
 use Rattle.enclosure.specs.Problem.{Problem, columnOf}
@@ -44,17 +44,12 @@ unfolding written written01
 written-before zero f l = refl
 written-before (suc n) f l = let e : 0 + n * 1 ≡ n = omega arith in rw (e, written-before n f l)
 
--- a tolerance of 0 is in its range
-zero-in : inRange kind.Tolerance (pos 0) ≡ true
-unfolding inRange rangeOf ranges
-zero-in = refl
-
 module _ (I : Input) (long : 32 ≤ length (I .tolerance)) (none : NoTolerance (problem I)) where
   short-before : short I ≡ short01 I
   short-before = rw (le-ltb (length (I .tolerance)) 32 long)
 
   within : allInRange kind.Tolerance (I .n) (at (I .tolerance)) ≡ true
-  within = all-in kind.Tolerance (I .n) (at (I .tolerance)) (λ k l. rw (abs-zero (at (I .tolerance) k) (omega (arith, none k l))) zero-in)
+  within = all-in kind.Tolerance (I .n) (at (I .tolerance)) (λ k l. rw (abs-zero (at (I .tolerance) k) (omega (arith, none k l))) zero-tolerance)
 
   ranges-before : inRanges I ≡ inRanges01 I
   ranges-before = rw within

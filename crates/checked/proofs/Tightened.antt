@@ -12,9 +12,9 @@ use native.Mathlib.Decide.{decLe}
 use borrow.Author.Tests.{lt-ltb, le-ltb}
 use lib.ListN.{getD}
 use Rattle.integer.specs.Finite.{first}
-use Rattle.integer.proofs.Search.{Searched, found, nowhere, searched, first-is, first-never, first-past}
+use Rattle.integer.proofs.Search.{Searched, found, nowhere, searched, first-is, first-never, first-past, first-most}
 use Rattle.rules.specs.Order.{verdict}
-use Rattle.rules.proofs.Ranges.{neither}
+use Rattle.rules.proofs.Ranges.{neither, or-left, or-right}
 use Rattle.rules.proofs.Verdicts.{accepted-new, nothing-is-not}
 use Rattle.enclosure.specs.Before.{exceeds05}
 use Rattle.enclosure.specs.Demand.{Encloses}
@@ -29,23 +29,9 @@ use Rattle.checked.specs.Tightened as change
 use Rattle.checked.proofs.Contract.{answer-short, answer-range, answer-ready, accepted-places, written-encloses}
 
 -- ---- two tests
-or-right : (a b : Bool) → b ≡ true → a || b ≡ true
-or-right true b e = refl
-or-right false b e = e
-
-or-left : (a b : Bool) → a ≡ true → a || b ≡ true
-or-left a b e = rw e
-
 pub data Split (n : ℕ) (a b : ℕ → Bool) : Type 0 where
   stays : first n (λ (k : ℕ). a k || b k) ≡ first n a → ((k : ℕ) → k < first n a → b k ≡ false) → Split n a b
   lower : (i : ℕ) → i < first n a → first n (λ (k : ℕ). a k || b k) ≡ i → b i ≡ true → ((k : ℕ) → k < i → b k ≡ false) → Split n a b
-
-first-most : (n : ℕ) (a : ℕ → Bool) → first n a ≤ n
-first-most n a = go (searched n a)
-  where
-    go : Searched n a → first n a ≤ n
-    go (found i l e p h) = omega (arith, e)
-    go (nowhere e h) = omega (arith, e)
 
 before : (n : ℕ) (a : ℕ → Bool) (k : ℕ) → k < first n a → a k ≡ false
 before n a k l = go (searched n a)
@@ -59,9 +45,9 @@ split n a b = go (searched (first n a) b) (searched n a)
   where
     go : Searched (first n a) b → Searched n a → Split n a b
     go (found i l e p h) s =
-        lower i l (first-is n (λ (k : ℕ). a k || b k) i (omega (arith, first-most n a)) (or-right (a i) (b i) p) (λ k m. neither (before n a k (omega arith)) (h k m))) p h
+        lower i l (first-is n (λ (k : ℕ). a k || b k) i (omega (arith, first-most n a refl)) (or-right (a i) p) (λ k m. neither (before n a k (omega arith)) (h k m))) p h
     go (nowhere e h) (found i l f p r) =
-        stays (first-is n (λ (k : ℕ). a k || b k) i l (or-left (a i) (b i) p) (λ k m. neither (r k m) (h k (omega (arith, f)))) ∙ sym f) h
+        stays (first-is n (λ (k : ℕ). a k || b k) i l (or-left (b i) p) (λ k m. neither (r k m) (h k (omega (arith, f)))) ∙ sym f) h
     go (nowhere e h) (nowhere f r) = stays (first-never n (λ (k : ℕ). a k || b k) (λ k m. neither (r k m) (h k (omega (arith, f)))) ∙ sym f) h
 
 -- ---- what is said of the first places
@@ -127,16 +113,16 @@ module _ (I : Input) where
       Tightened I (verdict (reckoned (I .n) m (firstResidual05 (problem I)) (firstInversePlace05 (problem I)))) (verdict (reckoned (I .n) m (firstResidual (problem I)) (firstInversePlace (problem I))))
   unfolding large exceeds
   at-columns m a b e h (stays f p) =
-      rw (e, f) (stays-here m (firstResidual05 (problem I)) (firstInversePlace05 (problem I)) a (first-most (I .n * I .n) large) (λ x l. h x (omega (arith, first-most (I .n) (exceeds05 (problem I))))) (λ _. p))
+      rw (e, f) (stays-here m (firstResidual05 (problem I)) (firstInversePlace05 (problem I)) a (first-most (I .n * I .n) large refl) (λ x l. h x (omega (arith, first-most (I .n) (exceeds05 (problem I)) refl))) (λ _. p))
   at-columns m a b e h (lower i l f p r) =
       rw (e, f)
-      (to-place m (firstResidual05 (problem I)) (firstResidual05 (problem I)) (firstInversePlace05 (problem I)) i a b b (first-most (I .n * I .n) large) l h (record { fails = p; before = r }))
+      (to-place m (firstResidual05 (problem I)) (firstResidual05 (problem I)) (firstInversePlace05 (problem I)) i a b b (first-most (I .n * I .n) large refl) l h (record { fails = p; before = r }))
 
   at-rows : (m : ℕ) → I .n ≤ m → Split (I .n) (exceeds05 (problem I)) (exceedsRow (problem I)) →
       Tightened I (verdict (reckoned (I .n) m (firstResidual05 (problem I)) (firstInversePlace05 (problem I)))) (verdict (reckoned (I .n) m (firstResidual (problem I)) (firstInversePlace (problem I))))
   unfolding exceeds
   at-rows m a (lower k l e p r) =
-      rw e (to-row m (firstResidual05 (problem I)) k (firstInversePlace05 (problem I)) (firstInversePlace (problem I)) a (first-most (I .n) (exceeds05 (problem I))) l (record { fails = p; before = r }))
+      rw e (to-row m (firstResidual05 (problem I)) k (firstInversePlace05 (problem I)) (firstInversePlace (problem I)) a (first-most (I .n) (exceeds05 (problem I)) refl) l (record { fails = p; before = r }))
   at-rows m a (stays e h) = go (decLe (I .n) (firstResidual05 (problem I)))
     where
       go : Dec (I .n ≤ firstResidual05 (problem I)) →

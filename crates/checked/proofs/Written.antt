@@ -1,17 +1,19 @@
 -- The limit lists of an accepted check.
+--   past-kept — past the first n places a list is as before, whatever is said
 --   solution-written, inverse-written — they, written from their first places on
 --   accepted-fit — the numbers of an accepted check are in their ranges
 --   solution-at, inverse-place, inverse-at — the limits in lists that were so written, place by place: of a height, and of the inverse by its place or by its
 --     row and column
 --   checked-fit, checked-solution, checked-inverse — the same of whatever meets the contract of `check`
-use mathlib.Core.Path.{_≡_, sym, _∙_}
-use mathlib.Core.List.{List, []}
-use Prim.Native.Nat.{ℕ, _+_, _*_, _/_, _%_, _<_}
+use mathlib.Core.Path.{_≡_, refl, sym, _∙_}
+use mathlib.Core.List.{List, [], _∷_}
+use Prim.Native.Nat.{ℕ, _+_, _*_, _/_, _%_, _≤_, _<_}
 use native.Mathlib.Omega.{arith}
 use lib.ListN.{getD}
 use Rattle.linear.specs.Written.{written}
 use Rattle.linear.proofs.Places.{place, square, place-column, place-row}
-use Rattle.linear.proofs.Written.{front-at}
+use Rattle.linear.proofs.Written.{front-at, front-else}
+use Rattle.rules.specs.Order.{ifAccepted}
 use Rattle.rules.specs.Refusal.{said}
 use Rattle.rules.specs.declared.Outcome.{Outcome}
 use Rattle.rules.proofs.Verdicts.{accepted-new}
@@ -21,6 +23,10 @@ use Rattle.checked.specs.Input.{Input, problem}
 use Rattle.checked.specs.Order.{answer}
 use Rattle.checked.proofs.Fit.{Fit, fit-of}
 use Rattle.checked.proofs.Statements.{accepted-usable}
+
+pub past-kept : {A : Type 0} (d : A) (w : List ℕ) (n : ℕ) (xs : List A) (f : ℕ → A) (i : ℕ) → n ≤ i → getD (ifAccepted w (written xs 0 1 f n) xs) i d ≡ getD xs i d
+past-kept d [] n xs f i l = front-else xs f d n i l
+past-kept d (k ∷ ks) n xs f i l = refl
 
 module _ (I : Input) (e : answer I ≡ []) where
   pub solution-written : solutionBoundsAfter I ≡ written (I .solutionBounds) 0 1 (bound (problem I)) (I .n)

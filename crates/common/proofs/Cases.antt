@@ -12,6 +12,7 @@ use lib.Dec.{lit≤}
 use Rattle.integer.specs.Finite.{sum, sumℕ, largest, first, every}
 use lib.IntN.{ℤ, pos, negsuc, _*ℤ_}
 use Rattle.integer.specs.Quotient.{ceilDiv}
+use Rattle.integer.proofs.Below.{each}
 use Rattle.linear.specs.Matrix.{apply, product, identity}
 use Rattle.linear.specs.Written.{written}
 use Rattle.rules.specs.Range.{ranges, rangeOf, inRange, allInRange}
@@ -53,11 +54,6 @@ pair-contains = let c = found-case pair pair-found in contains (pair .first) (pa
 abbrev net : Input
 net = inputOf (broad (pos 0) 0)
 
-each : (Q : ℕ → Type 0) → Q 0 → Q 1 → (i : ℕ) → i < 2 → Q i
-each Q a b zero l = a
-each Q a b (suc zero) l = b
-each Q a b (suc (suc i)) l = absurd (omega arith)
-
 pub corner-right : RightSide (problem net) broadRight 1
 corner-right = record { positive = lit≤ tt; near = each _ (lit≤ tt) (lit≤ tt) }
 
@@ -70,11 +66,6 @@ unfolding sum sumℕ largest ceilDiv apply product identity defect load margin r
 corner-reached = refl
 
 -- ---- other numbers past the places used
-below₂ : (Q : ℕ → Type 0) → Q 0 → Q 1 → (i : ℕ) → i < 2 → Q i
-below₂ Q a b zero l = a
-below₂ Q a b (suc zero) l = b
-below₂ Q a b (suc (suc i)) l = absurd (omega arith)
-
 below₄ : (Q : ℕ → Type 0) → Q 0 → Q 1 → Q 2 → Q 3 → (i : ℕ) → i < 4 → Q i
 below₄ Q a b c d zero l = a
 below₄ Q a b c d (suc zero) l = b
@@ -96,11 +87,11 @@ file-agrees s x y = record {
   long = refl;
   long′ = refl;
   matrix = below₄ _ refl refl refl refl;
-  right = below₂ _ refl refl;
-  tolerance = below₂ _ refl refl;
-  guess = below₂ _ refl refl;
+  right = each _ refl refl;
+  tolerance = each _ refl refl;
+  guess = each _ refl refl;
   inverse = below₄ _ refl refl refl refl;
-  weights = below₂ _ refl refl;
+  weights = each _ refl refl;
 }
 
 pub pair-agrees : AgreeingProposals pair (commonInput (commonRow (followedAt 4 (pos 24) (pos 13)) (followedAt 6 (pos 92) (pos 52)) [] [] []))

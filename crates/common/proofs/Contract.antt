@@ -14,8 +14,7 @@ use lib.IntN.{ℤ, pos}
 use lib.ListN.{length}
 use Rattle.linear.specs.Slice.{at}
 use Rattle.linear.specs.Written.{written}
-use Rattle.linear.proofs.Written.{front-at, front-else}
-use Rattle.rules.specs.Order.{ifAccepted}
+use Rattle.linear.proofs.Written.{front-at}
 use Rattle.rules.specs.Range.{shortColumn}
 use Rattle.rules.specs.Refusal.{said}
 use Rattle.rules.specs.declared.Outcome.the-variants.{Refused}
@@ -25,6 +24,7 @@ use Rattle.rules.proofs.Verdicts.{accepted-new, accepted-old, nothing-is-not}
 use Rattle.checked.specs.Order.{answer}
 use Rattle.checked.proofs.Fit.{fit-of}
 use Rattle.checked.proofs.Statements.{accepted-usable}
+use Rattle.checked.proofs.Written.{past-kept}
 use Rattle.common.specs.declared.Common.{Common}
 use Rattle.common.specs.declared.Common.the-variants.{Found, TooShort, First, Second, Different, TooWide}
 use Rattle.common.specs.Proposals.{Proposals, shortIntervals, sameEquations, tooWide}
@@ -123,13 +123,9 @@ module _ (Q : Proposals) where
               }
 
 -- ---- past the first n places
-kept : (w : List ℕ) (xs : List ℤ) (f : ℕ → ℤ) (n k : ℕ) → n ≤ k → at (ifAccepted w (written xs 0 1 f n) xs) k ≡ at xs k
-kept [] xs f n k h = front-else xs f (pos 0) n k h
-kept (x ∷ w) xs f n k h = refl
-
 pub rest-kept : (Q : Proposals) (r : Common) (low high : List ℤ) → CommonAs Q r low high → (k : ℕ) → Q .first .n ≤ k → (at low k ≡ at (Q .low) k) × (at high k ≡ at (Q .high) k)
 unfolding lowAfter highAfter
 rest-kept Q r low high x k h = (
-  ap (λ (xs : List ℤ). at xs k) (x .low-is) ∙ kept (commonAnswer Q) (Q .low) (lowEnd (Q .first) (Q .second)) (Q .first .n) k h,
-  ap (λ (xs : List ℤ). at xs k) (x .high-is) ∙ kept (commonAnswer Q) (Q .high) (highEnd (Q .first) (Q .second)) (Q .first .n) k h,
+  ap (λ (xs : List ℤ). at xs k) (x .low-is) ∙ past-kept (pos 0) (commonAnswer Q) (Q .first .n) (Q .low) (lowEnd (Q .first) (Q .second)) k h,
+  ap (λ (xs : List ℤ). at xs k) (x .high-is) ∙ past-kept (pos 0) (commonAnswer Q) (Q .first .n) (Q .high) (highEnd (Q .first) (Q .second)) k h,
 )

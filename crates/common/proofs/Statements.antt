@@ -11,7 +11,7 @@ use native.Mathlib.Decide.{decLt}
 use borrow.Author.Tests.{ltb-true, ltb-false, lt-ltb, le-ltb}
 use Rattle.integer.specs.Finite.{largest}
 use Rattle.integer.proofs.Search.{largest-at, largest-≤, clash}
-use Rattle.rules.proofs.Ranges.{neither}
+use Rattle.rules.proofs.Ranges.{neither, or-left, or-right}
 use Rattle.rules.proofs.Verdicts.{nothing-is-not}
 use Rattle.enclosure.specs.Reckoning.{bound}
 use Rattle.checked.specs.Input.{Input, problem}
@@ -56,13 +56,6 @@ module _ (I : Input) where
   of-narrow : NoneWide I → tooWide I ≡ false
   of-narrow x = le-ltb mostSteps (largest (I .n) (bound (problem I))) (largest-≤ (I .n) (bound (problem I)) mostSteps (x .each))
 
-either-left : (a b : Bool) → a ≡ true → (a || b) ≡ true
-either-left a b e = rw e
-
-either-right : (a b : Bool) → b ≡ true → (a || b) ≡ true
-either-right true b e = refl
-either-right false b e = e
-
 -- ---- what is said has its stated case
 module _ (Q : Proposals) where
   said-as : {w : List ℕ} → commonAnswer Q ≡ w → CommonStated Q w → CommonStated Q (commonAnswer Q)
@@ -82,8 +75,8 @@ module _ (Q : Proposals) where
         same = same-of (Q .first) (Q .second) s
 
         go : (x : Bool) → tooWide (Q .first) ≡ x → (y : Bool) → tooWide (Q .second) ≡ y → CommonStated Q (commonAnswer Q)
-        go true u y v = said-as (answer-wide Q e a b s (either-left _ _ u)) (first-wide ready same (wide-of (Q .first) u))
-        go false u true v = said-as (answer-wide Q e a b s (either-right (tooWide (Q .first)) _ v)) (second-wide ready same (wide-of (Q .second) v))
+        go true u y v = said-as (answer-wide Q e a b s (or-left _ u)) (first-wide ready same (wide-of (Q .first) u))
+        go false u true v = said-as (answer-wide Q e a b s (or-right (tooWide (Q .first)) v)) (second-wide ready same (wide-of (Q .second) v))
         go false u false v =
             said-as (answer-found Q e a b s (neither u v)) (found ready same (narrow-of (Q .first) u) (narrow-of (Q .second) v))
 
@@ -130,8 +123,8 @@ module _ (Q : Proposals) where
   said-of (of-first k l e x) = answer-first Q e (check.said-of (Q .first) x)
   said-of (of-second k l e x y) = answer-second Q e (check.said-of (Q .first) x) (check.said-of (Q .second) y)
   said-of (different x d) = said-20 x d
-  said-of (first-wide x s w) = said-21 x s (either-left _ _ (of-wide (Q .first) w))
-  said-of (second-wide x s w) = said-21 x s (either-right (tooWide (Q .first)) _ (of-wide (Q .second) w))
+  said-of (first-wide x s w) = said-21 x s (or-left _ (of-wide (Q .first) w))
+  said-of (second-wide x s w) = said-21 x s (or-right (tooWide (Q .first)) (of-wide (Q .second) w))
   said-of (found x s u v) = said-0 x s (neither (of-narrow (Q .first) u) (of-narrow (Q .second) v))
 
 -- ---- what is found

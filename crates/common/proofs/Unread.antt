@@ -4,14 +4,12 @@
 use mathlib.Core.Path.{_≡_, refl, sym, ap, ap₂, _∙_, subst}
 use mathlib.Core.Bool.{Bool, true, false}
 use mathlib.Core.List.{List, []}
-use Prim.Native.Nat.{ℕ, _≤_, _<_}
+use Prim.Native.Nat.{ℕ, _<_}
 use lib.Dec.{ltb}
 use lib.IntN.{ℤ, pos, _+ℤ_, _-ℤ_}
-use lib.ListN.{length}
 use Rattle.integer.proofs.Search.{largest-ext}
 use Rattle.linear.specs.Slice.{at}
-use Rattle.linear.specs.Written.{written}
-use Rattle.linear.proofs.Written.{front-at}
+use Rattle.linear.proofs.Written.{same-written}
 use Rattle.rules.proofs.Verdicts.{accepted-new}
 use Rattle.enclosure.specs.Reckoning.{bound}
 use Rattle.checked.specs.Agree.{Agree}
@@ -102,10 +100,6 @@ module _ (Q R : Proposals) (a : AgreeingProposals Q R) where
     high-alike i l =
         ap₂ (λ (x y : ℤ). minℤ (inSteps s (Q .first) x) (inSteps s (Q .second) y)) (first-end i l (λ x e. x +ℤ e)) (second-end i (rw (← found .same .n) l) (λ x e. x +ℤ e))
 
-same-written : (n : ℕ) (xs ys : List ℤ) (f g : ℕ → ℤ) → n ≤ length xs → n ≤ length ys → ((i : ℕ) → i < n → f i ≡ g i) → {zs zs′ : List ℤ} →
-    zs ≡ written xs 0 1 f n → zs′ ≡ written ys 0 1 g n → (i : ℕ) → i < n → at zs i ≡ at zs′ i
-same-written n xs ys f g h k e p q i l = rw (p, q) (front-at xs f (pos 0) n i l h ∙ e i l ∙ sym (front-at ys g (pos 0) n i l k))
-
 pub same-common : (Q R : Proposals) → AgreeingProposals Q R → {r r′ : Common} {low high low′ high′ : List ℤ} →
     CommonAs Q r low high → CommonAs R r′ low′ high′ → SameCommon Q r r′ low high low′ high′
 unfolding lowAfter highAfter
@@ -113,12 +107,12 @@ same-common Q R a {r} {r′} {low} {high} {low′} {high′} c d = record {
   says = c .says ∙ answer-alike Q R a ∙ sym (d .says);
   low-same = λ z.
       let f = found-case Q (none z) in
-      same-written (Q .first .n) (Q .low) (R .low) (lowEnd (Q .first) (Q .second)) (lowEnd (R′ Q R a .first) (R′ Q R a .second))
+      same-written (pos 0) (Q .first .n) (Q .low) (R .low) (lowEnd (Q .first) (Q .second)) (lowEnd (R′ Q R a .first) (R′ Q R a .second))
       (long-low Q (a .long) (f .first)) (long-low (R′ Q R a) (a .long′) (first-said z)) (low-alike Q R a f)
       (c .low-is ∙ accepted-new _ _ (none z)) (d′ .low-is ∙ accepted-new _ _ (none′ z));
   high-same = λ z.
       let f = found-case Q (none z) in
-      same-written (Q .first .n) (Q .high) (R .high) (highEnd (Q .first) (Q .second)) (highEnd (R′ Q R a .first) (R′ Q R a .second))
+      same-written (pos 0) (Q .first .n) (Q .high) (R .high) (highEnd (Q .first) (Q .second)) (highEnd (R′ Q R a .first) (R′ Q R a .second))
       (long-high Q (a .long) (f .first)) (long-high (R′ Q R a) (a .long′) (first-said z)) (high-alike Q R a f)
       (c .high-is ∙ accepted-new _ _ (none z)) (d′ .high-is ∙ accepted-new _ _ (none′ z));
 }

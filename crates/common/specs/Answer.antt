@@ -3,19 +3,17 @@
 -- them.").
 --   saidCommon r — what an answer says: nothing where the intervals are found, else of which proposal the refusal is, 1 or 2, or 0 where it is of neither, then
 --     its number, then its values
---   isSaid l    — something is said
---   ofNeither k b — the test of a refusal k that is of neither;  ofProposal k l — that of proposal k, of which l is said
 --   commonOrder Q — the tests in their order, 8, the first, the second, 20, 21;  commonAnswer Q — what is said of them
 --   lowAfter Q, highAfter Q — the interval lists after the call: the ends at the first n places, the rest as before; all as before on a refusal
 --   CommonAs    — the contract of `common_interval`: what is said, the two lists, and that the intervals written contain every exact height
-use mathlib.Core.Bool.{Bool, true, false, not, _||_}
+use mathlib.Core.Bool.{not, _||_}
 use mathlib.Core.List.{List, [], _∷_}
 use mathlib.Core.Path.{_≡_}
 use Prim.Native.Nat.{ℕ}
 use lib.IntN.{ℤ}
 use Rattle.linear.specs.Slice.{at}
 use Rattle.linear.specs.Written.{written}
-use Rattle.rules.specs.Order.{Test, verdict, ifAccepted}
+use Rattle.rules.specs.Order.{Test, verdict, ifAccepted, ofOne, ofNeither}
 use Rattle.rules.specs.Refusal.{numberOf, valuesOf}
 use Rattle.checked.specs.Order.{answer}
 use Rattle.common.specs.declared.Common.{Common}
@@ -31,21 +29,11 @@ saidCommon (Second r) = 2 ∷ numberOf r ∷ valuesOf r
 saidCommon Different = 0 ∷ 20 ∷ []
 saidCommon TooWide = 0 ∷ 21 ∷ []
 
-abbrev pub isSaid : List ℕ → Bool
-isSaid [] = false
-isSaid (k ∷ l) = true
-
-abbrev pub ofNeither : ℕ → Bool → Test
-ofNeither k b = record { says = 0 ∷ k ∷ []; holds = b }
-
-abbrev pub ofProposal : ℕ → List ℕ → Test
-ofProposal k l = record { says = k ∷ l; holds = isSaid l }
-
 abbrev pub commonOrder : Proposals → List Test
 commonOrder Q =
     ofNeither 8 (shortIntervals Q)
-    ∷ ofProposal 1 (answer (Q .first))
-    ∷ ofProposal 2 (answer (Q .second))
+    ∷ ofOne 1 (answer (Q .first))
+    ∷ ofOne 2 (answer (Q .second))
     ∷ ofNeither 20 (not (sameEquations (Q .first) (Q .second)))
     ∷ ofNeither 21 (tooWide (Q .first) || tooWide (Q .second))
     ∷ []

@@ -5,6 +5,7 @@ use common::Common;
 use common_ends::are_equations_same;
 use common_ends::meet;
 use held_check::check_held;
+use rules::COLUMN_LENGTH;
 use rules::Outcome;
 
 // The common interval of each height, in the finer of the two steps. Order: 8 for an interval list, the first proposal, the second, 20, 21; a refusal leaves
@@ -36,10 +37,10 @@ pub fn common_interval(
         (proposal n2 s2 t2 (now (matrix2 .entry)) (now (right2 .entry)) (now (tolerance2 .entry)) (now (guess2 .entry)) (now (inverse2 .entry)) (now (weights2 .entry)))
         (now (low .entry)) (now (high .entry))) r (now (low .exit)) (now (high .exit)) ⌝ }
 {
-    if low.len() < 32 {
+    if low.len() < COLUMN_LENGTH {
         return Common::TooShort;
     }
-    if high.len() < 32 {
+    if high.len() < COLUMN_LENGTH {
         return Common::TooShort;
     }
     let first = check_held(

@@ -1,10 +1,10 @@
 // The answer of the call on two proposals in numbers, for other languages.
 ghost use mathlib.Core.Path.{_≡_};
 ghost use mathlib.Core.List.{[], _∷_};
+ghost use Rattle.rules.specs.Order.{whichOf, refusalOf};
 ghost use Rattle.refusal.specs.Refused.{printed};
 ghost use Rattle.refusal.specs.Reply.{replyOf};
 ghost use Rattle.common.specs.Answer.{saidCommon};
-ghost use Rattle.common_reply.specs.Numbers.{proposalOf, refusalOf};
 use common::Common;
 use refusal::Reply;
 use refusal::no_refusal;
@@ -39,7 +39,7 @@ pub fn common_reply(common: Common) -> Reply
 
 // Of which proposal the refusal is.
 pub fn proposal_of(common: Common) -> u32
-    ensures { λ r. ⌜ r ≡ proposalOf (saidCommon common) ⌝ }
+    ensures { λ r. ⌜ r ≡ whichOf (saidCommon common) ⌝ }
 {
     match common {
         Common::Found => 0,

@@ -1,16 +1,14 @@
 -- What the collected numbers are known to be, once every one that counts is in its range, and the lines that they give.
 --   small-read    — a number that fits with room for its sign is read back as itself
---   none-yet, none-more, one-found, none-found — whether one of the first numbers is other than 0
+--   none-more, one-found, none-found — whether one of the first numbers is other than 0
 --   size          — n is 1 to 32
 --   matrix-small, inverse-small, right-small, guess-small, tolerance-small, weight-small — a number fits a machine integer with room for its sign
 --   held-in-range — the problem's numbers are in their ranges
 --   most-is, line-of — a part's line, by the part;  row-text, right-text, guess-text, inverse-text, weight-text — its bytes are those of the part's form
---   row-room, row-fits — a row of n numbers in a list of 1,024
 use mathlib.Core.Path.{_≡_, refl, sym, ap, subst, _∙_}
 use mathlib.Core.Bool.{true, false}
 use mathlib.Core.List.{List, [], _∷_}
 use Prim.Native.Nat.{ℕ, suc, _+_, _*_, _≤_, _<_, _^_}
-use native.Mathlib.Nat.{mul-le-mul-right, suc-mul}
 use native.Mathlib.Omega.{arith}
 use borrow.Author.Tests.{lt-ltb, le-ltb}
 use lib.Dec.{ltb}
@@ -18,11 +16,12 @@ use lib.IntN.{ℤ, pos, natAbs}
 use lib.ListN.{length, length-append}
 use lib.Seq.{sets}
 use Rattle.integer.specs.Finite.{largest}
-use Rattle.integer.proofs.Search.{largest-none, largest-next, largest-end, largest-at}
+use Rattle.integer.proofs.Search.{largest-next, largest-end, largest-at}
 use mir.Syntax.{w64}
 use mir.Val.{toZ, ofZ}
 use Rattle.integer.proofs.Machine.{small, read}
 use Rattle.linear.specs.Slice.{at}
+use Rattle.linear.proofs.Places.{place}
 use Rattle.rules.specs.Range.{rangeOf, ranges, inRange}
 use Rattle.rules.specs.declared.Kind.the-variants as kind
 use Rattle.rules.proofs.AllInRange.{all-at}
@@ -46,20 +45,7 @@ use Rattle.conversion.proofs.Each.{value-line, row-line}
 pub small-read : (z : ℤ) → natAbs z < 2 ^ 63 → toZ w64 (ofZ w64 z) ≡ z
 small-read z h = read z (small z h .sfits)
 
--- ---- places
-place-below : {i j n : ℕ} → i < n → j < n → i * n + j < n * n
-place-below {i} {j} {n} li lj = omega (arith, suc-mul i n, mul-le-mul-right {m = suc i} {n = n} n li)
-
-pub row-room : {i n : ℕ} → i < n → n ≤ 32 → i * n + n ≤ 1024
-row-room {i} {n} l h = omega (arith, suc-mul i n, mul-le-mul-right {m = suc i} {n = n} n l, mul-le-mul-right {m = n} {n = 32} n h)
-
-pub row-fits : {i n : ℕ} → i < n → n ≤ 32 → i * n < 2 ^ 64
-row-fits {i} {n} l h = omega (arith, row-room l h)
-
 -- ---- whether one number is other than 0
-pub none-yet : (f : ℕ → ℕ) → largest 0 f ≡ 0
-none-yet f = largest-none f
-
 pub none-more : (f : ℕ → ℕ) {i : ℕ} → largest i f ≡ 0 → f i ≤ 0 → largest (i + 1) f ≡ 0
 none-more f {i} e h = largest-next i f ∙ omega arith
 
@@ -78,10 +64,10 @@ module _ (c : Collected) (r : InRange (stateOf c)) where
   size = size-range n (r .size)
 
   pub matrix-small : (i : ℕ) → i < n → SmallFrom (c .matrix) (i * n) n
-  matrix-small i li j lj = omega (arith, matrix-range (at (c .matrix) (i * n + j)) (all-at kind.Matrix (n * n) (at (c .matrix)) (r .matrix) (i * n + j) (place-below li lj)))
+  matrix-small i li j lj = omega (arith, matrix-range (at (c .matrix) (i * n + j)) (all-at kind.Matrix (n * n) (at (c .matrix)) (r .matrix) (i * n + j) (place li lj)))
 
   pub inverse-small : (i : ℕ) → i < n → SmallFrom (c .inverse) (i * n) n
-  inverse-small i li j lj = omega (arith, inverse-range (at (c .inverse) (i * n + j)) (all-at kind.Inverse (n * n) (at (c .inverse)) (r .inverse) (i * n + j) (place-below li lj)))
+  inverse-small i li j lj = omega (arith, inverse-range (at (c .inverse) (i * n + j)) (all-at kind.Inverse (n * n) (at (c .inverse)) (r .inverse) (i * n + j) (place li lj)))
 
   pub right-small : FirstSmall (c .right) n
   right-small i l = omega (arith, right-range (at (c .right) i) (all-at kind.Right n (at (c .right)) (r .right) i l))
@@ -108,10 +94,10 @@ module _ (c : Collected) (r : InRange (stateOf c)) where
     size = r .size;
     solution = r .solution;
     inverse-scale = r .inverse-scale;
-    matrix = λ i j li lj. all-at kind.Matrix (n * n) (at (c .matrix)) (r .matrix) (i * n + j) (place-below li lj);
+    matrix = λ i j li lj. all-at kind.Matrix (n * n) (at (c .matrix)) (r .matrix) (i * n + j) (place li lj);
     right = λ i l. all-at kind.Right n (at (c .right)) (r .right) i l;
     guess = λ i l. all-at kind.Guess n (at (c .guess)) (r .guess) i l;
-    inverse = λ i j li lj. all-at kind.Inverse (n * n) (at (c .inverse)) (r .inverse) (i * n + j) (place-below li lj);
+    inverse = λ i j li lj. all-at kind.Inverse (n * n) (at (c .inverse)) (r .inverse) (i * n + j) (place li lj);
     weights = λ i l. subst (λ (z : ℤ). inRange kind.Weight z ≡ true) (weight-natural i l) (weight-in i l);
   }
 

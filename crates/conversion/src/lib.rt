@@ -18,6 +18,7 @@ ghost use Rattle.old_edition.specs.File.{formFor, oldFile};
 ghost use Rattle.conversion.specs.Written.{heldBy, formLine, restOf, integers, valueText, rowText, mostFor, lineRoom, SmallFrom, FirstSmall};
 use file::Collected;
 use form_values::Part;
+use listing_lines::put_gap;
 use text::put_bytes;
 use text::put_integer;
 use text::put_natural;
@@ -39,10 +40,7 @@ fn put_next(out: &mut [u8], at: usize, j: usize, z: i64) -> usize
     requires { ⌜ (natAbs z < 2 ^ 63) × (at + 21 ≤ length (now out)) ⌝ }
     ensures { λ r. ⌜ Wrote 21 (now (out .entry)) at (gap j ++ numeral z) (now (out .exit)) r ⌝ }
 {
-    if j == 0 {
-        return put_integer(out, at, z);
-    }
-    let a = put_bytes(out, at, b" ");
+    let a = put_gap(out, at, j);
     put_integer(out, a, z)
 }
 

@@ -1,5 +1,5 @@
 -- The rows of C, n rows of `marks` numbers.
---   row-within — row k is in the list;  row-past — and ends by place 1,024
+--   row-past   — row k ends by place 1,024
 --   base-size  — S·b2 less C·X1 is at most 2^62 in size
 --   carried-size — the sum of |C_kj|·E_j over the first j, each limit capped, is at most 2^51
 use mathlib.Core.Path.{ap}
@@ -13,21 +13,11 @@ use Rattle.integer.specs.Finite.{sumℕ}
 use Rattle.integer.proofs.Absolute.{abs-sub}
 use Rattle.integer.proofs.Sum.{sumℕ≤}
 use Rattle.linear.specs.Matrix.{apply}
-use Rattle.linear.specs.Place.{placeOf}
 use Rattle.linear.specs.Reach.{ColumnList, Reach}
 use Rattle.linear.specs.Slice.{at, vectorOf, matrixOf}
 use Rattle.linear.proofs.Carried.{row-place, carried}
 use Rattle.linear.proofs.Places.{list-reach, dot-row, dot-size}
 use Rattle.couplings.specs.Carried.{baseFrom, limitCap}
-
-within : {k j n marks : ℕ} → k < n → j < marks → k * marks + j < n * marks
-within {k} {j} {n} {marks} p q = omega (arith, mul-le-mul-right marks p)
-
-pub row-within : {xs : List ℤ} {n marks b : ℕ} → ColumnList xs (n * marks) b → (k : ℕ) → k < n → Reach xs (k * marks) 1 marks b
-row-within {xs} {n} {marks} {b} q k l = record {
-  inside = λ j h. let p : k * marks + j < n * marks = within l h in omega (arith, q .long);
-  size = λ j h. rw (row-place marks k (carried (k * marks) 1 j)) (q .within .size (placeOf marks k j) (within l h));
-}
 
 pub row-past : {k marks : ℕ} → k < 32 → marks ≤ 32 → k * marks + marks ≤ 1024
 row-past {k} {marks} p q =

@@ -6,13 +6,13 @@
 --   apart-here, apart-sums, apart-said — with C = 0 the nets are uncoupled, the guess meets Paper 9's sums, and both are accepted
 use mathlib.Core.Path.{_≡_, refl}
 use mathlib.Core.List.{List, [], _∷_, _++_}
-use Prim.Native.Nat.{ℕ, zero, suc, _*_, _<_}
-use native.Mathlib.Omega.{arith}
+use Prim.Native.Nat.{_*_}
 use lib.Dec.{lit≤}
 use Rattle.integer.specs.Finite.{sum, sumℕ, largest, first, every}
 use lib.IntN.{ℤ, pos, negsuc, natAbs, _-ℤ_, _*ℤ_}
 use lib.ListN.{replicate}
 use Rattle.integer.specs.Quotient.{ceilDiv}
+use Rattle.integer.proofs.Below.{only}
 use Rattle.linear.specs.Matrix.{apply, product, identity}
 use Rattle.rules.specs.Range.{ranges, rangeOf, inRange, allInRange}
 use Rattle.enclosure.specs.Demand.{RightSide}
@@ -29,10 +29,6 @@ use Rattle.dependent.specs.Uncoupled.{Uncoupled, MeetsSums}
 use Rattle.dependent.specs.Agree.{AgreeingNets}
 use Rattle.dependent.specs.Example.{oneMark, both, apart, farRight₁, farRight₂, farHeight₁, farHeight₂}
 use Rattle.dependent.proofs.Joint.{encloses-both}
-
-only : (Q : ℕ → Type 0) → Q 0 → (i : ℕ) → i < 1 → Q i
-only Q a zero l = a
-only Q a (suc i) l = absurd (omega arith)
 
 pub accepted-here : jointAnswer both ≡ []
 unfolding jointAnswer answer dependentAnswer dependentResidual dependentSlack bound boundWith boundFrom sizesWith exceeds rowSum residual margin load defect product apply identity sum sumℕ largest first ceilDiv allInRange inRange rangeOf ranges every

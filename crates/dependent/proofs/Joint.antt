@@ -3,14 +3,14 @@
 --   encloses-both — together, for the limits of the reckoning;  encloses-both-as — limits that agree on the first places enclose alike
 use mathlib.Core.Path.{_≡_, sym, ap, _∙_}
 use Prim.Native.Nat.{ℕ, _*_, _≤_, _<_}
-use native.Mathlib.Omega.{arith}
-use native.Mathlib.Nat.{mul-le-mul, le-of-mul-le-mul-left}
-use lib.IntN.{ℤ, pos, natAbs, _+ℤ_, _-ℤ_, _*ℤ_, +ℤ-idr, +ℤ-invr}
-use Rattle.integer.proofs.Absolute.{abs-*, abs-zero}
+use native.Mathlib.Nat.{mul-le-mul}
+use lib.IntN.{ℤ, pos, _+ℤ_, _-ℤ_, _*ℤ_, +ℤ-idr}
+use Rattle.integer.proofs.Absolute.{free}
 use Rattle.integer.proofs.Ring.{ring, ring₀, moves, by-zero, *-left-comm, zero-*}
 use Rattle.linear.specs.Matrix.{Vec, Mat, apply}
 use Rattle.linear.proofs.Product.{apply-vectors, apply-scale, apply-ext}
 use Rattle.exact_solution.specs.Determined.{ZeroKernel, Determined}
+use Rattle.exact_solution.proofs.Existence.{one-row}
 use Rattle.entry.proofs.Limit.{entry-covers}
 use Rattle.enclosure.specs.Demand.{InLimits, RightSide, Encloses}
 use Rattle.enclosure.specs.Sound.{Margins}
@@ -23,22 +23,6 @@ use Rattle.dependent.specs.Joint.{C₂₁, mainProblem, dependentProblem
 use Rattle.dependent.proofs.Enclosure.{attached-within}
 
 -- ---- laws of whole numbers
--- r·z = 0 with r ≥ 1
-free : (r : ℕ) (z : ℤ) → 1 ≤ r → pos r *ℤ z ≡ pos 0 → z ≡ pos 0
-free r z o e =
-    let f : natAbs (pos r *ℤ z) ≡ 0 = ap natAbs e in
-    abs-zero z (le-of-mul-le-mul-left (omega (arith, f, abs-* (pos r) z)) o)
-
-swapped : (a b x : ℤ) → a *ℤ (b *ℤ x) -ℤ b *ℤ (a *ℤ x) ≡ pos 0
-swapped a b x = rw (*-left-comm a b x) (+ℤ-invr (b *ℤ (a *ℤ x)))
-
--- one equation, of two solutions
-one-row : (r q q′ a a′ x : ℤ) → r *ℤ a ≡ q *ℤ x → r *ℤ a′ ≡ q′ *ℤ x → r *ℤ (q′ *ℤ a -ℤ q *ℤ a′) ≡ pos 0
-one-row r q q′ a a′ x e e′ = spread ∙ rw (e, e′) (swapped q′ q x)
-  where
-    spread : r *ℤ (q′ *ℤ a -ℤ q *ℤ a′) ≡ q′ *ℤ (r *ℤ a) -ℤ q *ℤ (r *ℤ a′)
-    spread = simp ring
-
 regrouped : (q q′ a a′ c c′ : ℤ) → (q′ *ℤ a -ℤ q *ℤ a′) +ℤ (q′ *ℤ c -ℤ q *ℤ c′) ≡ q′ *ℤ (a +ℤ c) -ℤ q *ℤ (a′ +ℤ c′)
 regrouped q q′ a a′ c c′ = simp ring
 

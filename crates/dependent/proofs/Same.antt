@@ -4,7 +4,7 @@
 --   joint-alike — what is said of both nets
 use mathlib.Core.Path.{_≡_, refl, sym, ap, ap₂, _∙_}
 use mathlib.Core.Bool.{Bool, true, false, _&&_}
-use mathlib.Core.List.{List}
+use mathlib.Core.List.{List, [], _∷_}
 use Prim.Native.Nat.{ℕ, _+_, _*_, _/_, _%_, _<_}
 use native.Mathlib.Omega.{arith}
 use native.Mathlib.Nat.{mul-le-mul-right}
@@ -18,7 +18,7 @@ use Rattle.linear.specs.Matrix.{apply}
 use Rattle.linear.specs.Slice.{at}
 use Rattle.linear.proofs.Places.{place}
 use Rattle.linear.proofs.Slack.{slack-ext}
-use Rattle.rules.specs.Order.{verdict, ifAccepted}
+use Rattle.rules.specs.Order.{verdict, ofOne}
 use Rattle.rules.specs.declared.Kind.the-variants as kind
 use Rattle.rules.proofs.AllInRange.{all-ext}
 use Rattle.enclosure.specs.Problem.{columnOf, S}
@@ -28,7 +28,7 @@ use Rattle.checked.specs.Order.{answer}
 use Rattle.checked.proofs.Agreed.{like, like-is, like-ranges, like-margin, like-columns, like-bound, same-answer}
 use Rattle.dependent.specs.Nets.{Nets, nets, Attached, attached, couplingOf}
 use Rattle.dependent.specs.Reckoning.{ownProblem, dependentResidual, dependentSlack, dependentExceeds, dependentBound}
-use Rattle.dependent.specs.Order.{dependentShort, dependentInRanges, dependentTests, dependentAnswer, ofNet, jointAnswer}
+use Rattle.dependent.specs.Order.{dependentShort, dependentInRanges, dependentTests, dependentAnswer, jointAnswer}
 use Rattle.dependent.specs.Agree.{AgreeingNets}
 use Rattle.dependent.proofs.Statements.{answer-ready, answer-range}
 
@@ -107,7 +107,7 @@ module _ (J K : Nets) (a : AgreeingNets J K) where
 
   pub joint-alike : jointAnswer J ≡ jointAnswer K′
   unfolding jointAnswer
-  joint-alike = ap₂ (λ (x y : List ℕ). ifAccepted x (ofNet 2 y) (ofNet 1 x)) main-alike dependent-alike
+  joint-alike = ap₂ (λ (x y : List ℕ). verdict (ofOne 1 x ∷ ofOne 2 y ∷ [])) main-alike dependent-alike
 
   pub bound-alike : (i : ℕ) → i < n₂ → dependentBound D i ≡ dependentBound B i
   unfolding boundWith boundFrom sizesWith

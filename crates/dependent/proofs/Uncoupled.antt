@@ -5,8 +5,8 @@
 --   uncoupled-checked, uncoupled-solution — so that what is said of it, and its solution limits, are the check's in all
 --   uncoupled-together — and what is said of both nets, where the main net is accepted
 use mathlib.Core.Path.{_≡_, refl, sym, ap, _∙_}
-use mathlib.Core.Bool.{Bool, true, false, _&&_, _||_}
-use mathlib.Core.List.{List, []}
+use mathlib.Core.Bool.{Bool, true, false, _||_}
+use mathlib.Core.List.{List, [], _∷_}
 use Prim.Native.Nat.{ℕ, _+_, _*_, _<_}
 use native.Mathlib.Omega.{arith}
 use native.Mathlib.Nat.{mul-le-mul-right}
@@ -21,10 +21,11 @@ use Rattle.linear.specs.Matrix.{apply}
 use Rattle.linear.specs.Slice.{at}
 use Rattle.linear.proofs.Slack.{slack-ext}
 use Rattle.linear.proofs.Written.{written-ext}
+use Rattle.rules.specs.Order.{verdict, ofOne}
 use Rattle.rules.specs.Range.{allInRange}
 use Rattle.rules.specs.declared.Kind.the-variants as kind
 use Rattle.rules.proofs.AllInRange.{all-in}
-use Rattle.rules.proofs.Ranges.{in-matrix-range}
+use Rattle.rules.proofs.Ranges.{in-matrix-range, and-true}
 use Rattle.enclosure.specs.Before.{exceeds05}
 use Rattle.enclosure.specs.Problem.{Problem, S}
 use Rattle.enclosure.specs.Reckoning.{residual, slack, exceeds, sizesWith, boundWith, bound}
@@ -34,13 +35,9 @@ use Rattle.checked.specs.Input.{Input, problem, inRanges}
 use Rattle.checked.specs.Order.{answer}
 use Rattle.dependent.specs.Nets.{Nets, Attached, attached, couplingOf}
 use Rattle.dependent.specs.Reckoning.{ownProblem, dependentResidual, dependentSlack, dependentExceeds, dependentBound}
-use Rattle.dependent.specs.Order.{dependentAnswer, ofNet, jointAnswer, dependentInRanges}
+use Rattle.dependent.specs.Order.{dependentAnswer, jointAnswer, dependentInRanges}
 use Rattle.dependent.specs.Together.{dependentSolutionAfter}
 use Rattle.dependent.specs.Uncoupled.{Uncoupled, exemptAnswer, MeetsSums}
-
-and-true : (a : Bool) {b : Bool} → b ≡ true → a && b ≡ a
-and-true true e = e
-and-true false e = refl
 
 or-false : (a : Bool) {b : Bool} → b ≡ false → a || b ≡ a
 or-false true e = refl
@@ -101,6 +98,6 @@ module _ (D : Attached) (u : Uncoupled D) (h : MeetsSums (D .own)) where
   uncoupled-solution said =
       rw (written-ext (D .own .solutionBounds) 0 1 (dependentBound D) (bound (problem (D .own))) (D .own .n) (λ i l. uncoupled-bound D u i))
 
-pub uncoupled-together : (J : Nets) → answer (J .main) ≡ [] → Uncoupled (attached J) → MeetsSums (J .dependent) → jointAnswer J ≡ ofNet 2 (answer (J .dependent))
+pub uncoupled-together : (J : Nets) → answer (J .main) ≡ [] → Uncoupled (attached J) → MeetsSums (J .dependent) → jointAnswer J ≡ verdict (ofOne 2 (answer (J .dependent)) ∷ [])
 unfolding jointAnswer
 uncoupled-together J e u h = rw (e, uncoupled-checked (attached J) u h)

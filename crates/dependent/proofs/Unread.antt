@@ -1,15 +1,15 @@
 -- The rest of each list is neither read nor written by a call of the check of two nets (specs/Agree).
 --   same-together — two calls that agree on the places used say the same, and where nothing is said write the same
 --   rest-kept     — what stands past these places in the four limit lists is as before, whatever is said
-use mathlib.Core.Path.{_≡_, refl, sym, ap, _∙_, subst}
-use mathlib.Core.List.{List, [], _∷_}
-use Prim.Native.Nat.{ℕ, _*_, _/_, _%_, _≤_, _<_}
+use mathlib.Core.Path.{_≡_, sym, ap, _∙_, subst}
+use mathlib.Core.List.{List, []}
+use Prim.Native.Nat.{ℕ, _*_, _/_, _%_, _<_}
 use native.Mathlib.Omega.{arith}
 use native.Mathlib.Nat.{mod-lt, div-lt-iff-lt-mul}
-use lib.ListN.{getD, length}
+use lib.ListN.{getD}
 use Rattle.linear.specs.Written.{written}
 use Rattle.linear.proofs.Places.{square}
-use Rattle.linear.proofs.Written.{front-at, front-else}
+use Rattle.linear.proofs.Written.{same-written}
 use Rattle.rules.specs.Order.{ifAccepted}
 use Rattle.rules.proofs.Verdicts.{accepted-new}
 use Rattle.enclosure.specs.Reckoning.{bound, inverseBound}
@@ -19,24 +19,20 @@ use Rattle.checked.proofs.Agreed.{like, like-bound, like-inverse}
 use Rattle.checked.proofs.Fit.{Fit, fit-of}
 use Rattle.checked.proofs.Lengths.{long-of}
 use Rattle.checked.proofs.Statements.{accepted-usable}
+use Rattle.checked.proofs.Written.{past-kept}
 use Rattle.dependent.specs.declared.CheckedNets.{CheckedNets}
 use Rattle.dependent.specs.Nets.{Nets, attached}
 use Rattle.dependent.specs.Reckoning.{dependentBound}
 use Rattle.dependent.specs.Order.{jointAnswer, saidNets}
 use Rattle.dependent.specs.Together.{CheckedTogether}
-use Rattle.dependent.specs.Agree.{AgreeingNets, SameFirst, SameTogether, SameRest, RestKept}
+use Rattle.dependent.specs.Agree.{AgreeingNets, SameTogether, SameRest, RestKept}
 use Rattle.dependent.proofs.Same.{K′, K′-is, joint-alike, bound-alike}
 use Rattle.dependent.proofs.Largest.{joint-none}
 use Rattle.dependent.proofs.Statements.{passed-of, own-fit}
 
 -- ---- one list
-same-written : (n : ℕ) (xs ys : List ℕ) (f g : ℕ → ℕ) → n ≤ length xs → n ≤ length ys → ((i : ℕ) → i < n → f i ≡ g i) → {zs zs′ : List ℕ} →
-    zs ≡ written xs 0 1 f n → zs′ ≡ written ys 0 1 g n → SameFirst n zs zs′
-same-written n xs ys f g h k e p q i l = rw (p, q) (front-at xs f 0 n i l h ∙ e i l ∙ sym (front-at ys g 0 n i l k))
-
 kept : (w : List ℕ) (n : ℕ) (xs : List ℕ) (f : ℕ → ℕ) {zs : List ℕ} → zs ≡ ifAccepted w (written xs 0 1 f n) xs → SameRest n zs xs
-kept [] n xs f p i l = rw p (front-else xs f 0 n i l)
-kept (k ∷ ks) n xs f p i l = rw p refl
+kept w n xs f p i l = rw p (past-kept 0 w n xs f i l)
 
 -- the limits of the inverse, place by place
 inverse-places : (I J : Input) (a : Agree I J) → 0 < I .n → (k : ℕ) → k < I .n * I .n →
@@ -49,22 +45,22 @@ same-together J K a {r} {r′} {E₁} {L₁} {E₂} {L₂} {E₁′} {L₁′} {
   says = c .says ∙ joint-alike J K a ∙ sym (d′ .says);
   main-solution = λ z.
       let f = fit₁ z in
-      same-written n₁ (J .main .solutionBounds) (K .main .solutionBounds) (bound (problem (J .main))) (bound (problem (K′ J K a .main)))
+      same-written 0 n₁ (J .main .solutionBounds) (K .main .solutionBounds) (bound (problem (J .main))) (bound (problem (K′ J K a .main)))
       (omega (arith, f .few, f .solution-long)) (omega (arith, f .few, long-of (K .main) (a .main .long′) .solution)) (like-bound (J .main) (K .main) (a .main))
       (c .main-solution ∙ accepted-new _ _ (none z)) (d′ .main-solution ∙ accepted-new _ _ (none′ z));
   main-inverse = λ z.
       let f = fit₁ z in
-      same-written (n₁ * n₁) (J .main .inverseBounds) (K .main .inverseBounds) _ _
+      same-written 0 (n₁ * n₁) (J .main .inverseBounds) (K .main .inverseBounds) _ _
       (omega (arith, square (f .few), f .inverse-long)) (omega (arith, square (f .few), long-of (K .main) (a .main .long′) .inverses)) (inverse-places (J .main) (K .main) (a .main) (f .some))
       (c .main-inverse ∙ accepted-new _ _ (none z)) (d′ .main-inverse ∙ accepted-new _ _ (none′ z));
   dependent-solution = λ z.
       let f = fit₂ z in
-      same-written n₂ (J .dependent .solutionBounds) (K .dependent .solutionBounds) (dependentBound (attached J)) (dependentBound (attached (K′ J K a)))
+      same-written 0 n₂ (J .dependent .solutionBounds) (K .dependent .solutionBounds) (dependentBound (attached J)) (dependentBound (attached (K′ J K a)))
       (omega (arith, f .few, f .solution-long)) (omega (arith, f .few, long-of (K .dependent) (a .dependent .long′) .solution)) (bound-alike J K a)
       (c .dependent-solution ∙ accepted-new _ _ (none z)) (d′ .dependent-solution ∙ accepted-new _ _ (none′ z));
   dependent-inverse = λ z.
       let f = fit₂ z in
-      same-written (n₂ * n₂) (J .dependent .inverseBounds) (K .dependent .inverseBounds) _ _
+      same-written 0 (n₂ * n₂) (J .dependent .inverseBounds) (K .dependent .inverseBounds) _ _
       (omega (arith, square (f .few), f .inverse-long)) (omega (arith, square (f .few), long-of (K .dependent) (a .dependent .long′) .inverses))
       (inverse-places (J .dependent) (K .dependent) (a .dependent) (f .some))
       (c .dependent-inverse ∙ accepted-new _ _ (none z)) (d′ .dependent-inverse ∙ accepted-new _ _ (none′ z));

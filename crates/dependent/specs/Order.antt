@@ -5,7 +5,6 @@
 --   firstDependentResidual D — the lowest row whose residual with its slack is above 2^25; n where there is none
 --   dependentTests D — 5, 6 and 7 at the first place of each;  dependentReckoned D — what is said of these
 --   dependentAnswer D — what is said of the dependent net: 8, 3, 5, 6, 7
---   ofNet net l  — l, where it is a refusal, with the net that it is of before it
 --   jointAnswer J — what is said of both: of the main net what its check says, and of the other where the main net is accepted
 --   saidNets r   — what an answer says: nothing where both nets are accepted, else the net, 1 or 2, the number of the refusal and its values
 use mathlib.Core.Bool.{Bool, not, _&&_, _||_}
@@ -15,7 +14,7 @@ use lib.Dec.{eqb}
 use lib.ListN.{length}
 use Rattle.integer.specs.Finite.{first}
 use Rattle.linear.specs.Slice.{at}
-use Rattle.rules.specs.Order.{Test, number, verdict, ifAccepted}
+use Rattle.rules.specs.Order.{Test, number, verdict, ofOne}
 use Rattle.rules.specs.Range.{allInRange, shortMatrix}
 use Rattle.rules.specs.Refusal.{numberOf, valuesOf}
 use Rattle.rules.specs.declared.Kind.the-variants as kind
@@ -45,12 +44,8 @@ dependentReckoned D = verdict (dependentTests D)
 unfoldable pub dependentAnswer : Attached → List ℕ
 dependentAnswer D = verdict (number 8 (dependentShort D) ∷ number 3 (not (dependentInRanges D)) ∷ dependentTests D)
 
-abbrev pub ofNet : ℕ → List ℕ → List ℕ
-ofNet net [] = []
-ofNet net (k ∷ ks) = net ∷ k ∷ ks
-
 unfoldable pub jointAnswer : Nets → List ℕ
-jointAnswer J = ifAccepted (answer (J .main)) (ofNet 2 (dependentAnswer (attached J))) (ofNet 1 (answer (J .main)))
+jointAnswer J = verdict (ofOne 1 (answer (J .main)) ∷ ofOne 2 (dependentAnswer (attached J)) ∷ [])
 
 abbrev pub saidNets : CheckedNets → List ℕ
 saidNets Accepted = []

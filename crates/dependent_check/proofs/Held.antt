@@ -2,8 +2,8 @@
 --   short-solution, short-inverse — 8 of the main net by its limit lists
 --   main-refused, dependent-refused, both-accepted — the contract, by what is said of each net
 --   marks-few, guess-known — what the check of the dependent net asks of the main net;  limits-long, inverse-long — the arrays that hold its limits
-use mathlib.Core.Path.{_≡_, refl, sym, ap, _∙_}
-use mathlib.Core.Bool.{Bool, true, false, _||_}
+use mathlib.Core.Path.{_≡_, sym, ap, _∙_}
+use mathlib.Core.Bool.{true, _||_}
 use mathlib.Core.List.{List, []}
 use Prim.Native.Nat.{ℕ, _*_, _/_, _%_, _≤_, _<_, _^_}
 use borrow.Author.Tests.{lt-ltb}
@@ -19,6 +19,7 @@ use Rattle.rules.specs.declared.Outcome.{Outcome}
 use Rattle.rules.specs.declared.Outcome.the-variants as outcome
 use Rattle.rules.specs.declared.Refusal.{Refusal}
 use Rattle.rules.specs.declared.Refusal.the-variants.{TooShort}
+use Rattle.rules.proofs.Ranges.{or-right}
 use Rattle.rules.proofs.Verdicts.{accepted-new, accepted-old}
 use Rattle.enclosure.specs.Reckoning.{bound, inverseBound}
 use Rattle.checked.specs.Checked.{Checked}
@@ -34,10 +35,6 @@ use Rattle.dependent.specs.Attached.{AttachedAs}
 use Rattle.dependent.specs.Together.{CheckedTogether}
 use Rattle.dependent.proofs.Contract.{together-main, together-dependent, together-accepted, lent, lent-answer}
 use Rattle.dependent.proofs.Limits.{attached-same}
-
-or-right : (a : Bool) {b : Bool} → b ≡ true → a || b ≡ true
-or-right true e = refl
-or-right false e = e
 
 -- 8 by one of the two limit lists, which come last
 by-limits : (I : Input) → shortColumn (length (I .solutionBounds)) || shortMatrix (length (I .inverseBounds)) ≡ true → short I ≡ true

@@ -6,6 +6,8 @@ use attached_check::check_attached;
 use couplings::copy_limits;
 use dependent::CheckedNets;
 use held_check::check_held;
+use rules::COLUMN_LENGTH;
+use rules::MATRIX_LENGTH;
 use rules::Outcome;
 use rules::Refusal;
 
@@ -44,10 +46,10 @@ pub fn check_dependent(
         (now (coupling .entry)))
         r (now («solution_bounds1» .exit)) (now («inverse_bounds1» .exit)) (now («solution_bounds2» .exit)) (now («inverse_bounds2» .exit)) ⌝ }
 {
-    if solution_bounds1.len() < 32 {
+    if solution_bounds1.len() < COLUMN_LENGTH {
         return CheckedNets::Main(Refusal::TooShort);
     }
-    if inverse_bounds1.len() < 1024 {
+    if inverse_bounds1.len() < MATRIX_LENGTH {
         return CheckedNets::Main(Refusal::TooShort);
     }
     let held = check_held(

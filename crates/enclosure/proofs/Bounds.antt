@@ -5,10 +5,11 @@
 use mathlib.Core.Path.{_≡_}
 use Prim.Native.Nat.{ℕ, _*_, _≤_, _<_}
 use native.Mathlib.Omega.{arith}
-use native.Mathlib.Nat.{le-trans, le-antisymm, mul-le-mul-left, mul-le-mul-right, le-of-mul-le-mul-right}
+use native.Mathlib.Nat.{le-trans, le-antisymm, mul-le-mul-right}
 use Rattle.integer.specs.Steepest.{Steepest}
 use Rattle.integer.specs.Quotient.{ceilDiv}
 use Rattle.integer.proofs.Rounding.{ceil-covers, ceil-least}
+use Rattle.integer.proofs.Steepest.{carry}
 use Rattle.integer.proofs.Search.{largest-at, largest-≤, largest-ext}
 use Rattle.enclosure.specs.Reckoning.{boundFrom}
 
@@ -22,18 +23,17 @@ module _ (n : ℕ) (sizes margins w : ℕ → ℕ) (i : ℕ) where
   bound-covers m l h =
       le-trans (ceil-covers (w i * sizes m) (margins m) h) (mul-le-mul-right (margins m) (largest-at n _ m l))
 
-ratio : (w p g P G C : ℕ) → p * G ≤ P * g → w * P ≤ C * G → 0 < G → w * p ≤ C * g
-ratio w p g P G C h k o =
-    let x : w * p * G ≤ C * g * G = omega (arith, mul-le-mul-left w h, mul-le-mul-right g k) in le-of-mul-le-mul-right x o
-
 pub bound-at : (n : ℕ) (sizes margins w : ℕ → ℕ) (i k : ℕ) → ((m : ℕ) → m < n → 0 < margins m) → Steepest n sizes margins k →
     boundFrom n sizes margins w i ≡ ceilDiv (w i * sizes k) (margins k)
 unfolding boundFrom
 bound-at n sizes margins w i k h s =
     le-antisymm
     (bound-least n sizes margins w i (ceilDiv (w i * sizes k) (margins k)) h
-    (λ m lm. ratio (w i) (sizes m) (margins m) (sizes k) (margins k) (ceilDiv (w i * sizes k) (margins k)) (s .most m lm)
-    (ceil-covers (w i * sizes k) (margins k) (h k (s .below))) (h k (s .below))))
+    (λ m lm. omega (
+      arith,
+      carry (sizes m) (sizes k) (ceilDiv (w i * sizes k) (margins k)) (margins m) (margins k) (w i) (s .most m lm)
+          (omega (arith, ceil-covers (w i * sizes k) (margins k) (h k (s .below)))) (h k (s .below)),
+    )))
     (largest-at n (λ (m : ℕ). ceilDiv (w i * sizes m) (margins m)) k (s .below))
 
 pub bound-ext : (n : ℕ) (sizes margins sizes′ margins′ w : ℕ → ℕ) (i : ℕ) → ((m : ℕ) → m < n → sizes m ≡ sizes′ m) →

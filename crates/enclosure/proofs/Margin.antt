@@ -11,6 +11,7 @@ use borrow.Author.Tests.{leb-true, leb-false, lt-leb, eq-eqb, ne-eqb}
 use lib.Dec.{eqb, leb}
 use lib.IntN.{pos, negℤ, natAbs, _-ℤ_}
 use lib.Signed.{leZ}
+use Rattle.integer.proofs.Absolute.{abs-difference}
 use Rattle.integer.proofs.Difference.{zz}
 use Rattle.enclosure.specs.Problem.{Problem, T}
 use Rattle.enclosure.specs.Reckoning.{load, margin, marginFails}
@@ -39,9 +40,6 @@ difference-test a b = go (leb a b) refl
     go true e = rw (less a b (leb-true a b e)) (not-above (b - a))
     go false e = let l : b < a = leb-false a b e in rw (more a b (omega arith)) (lt-leb (a - b) 0 (omega arith))
 
-difference-size : (a b : ℕ) → natAbs (pos a -ℤ pos b) ≡ (a - b) + (b - a)
-difference-size a b = simp zz (omega arith)
-
 module _ (P : Problem) (m : ℕ) where
   pub margin-test : marginFails P m ≡ leb (T P * P .w m) (load P m)
   unfolding margin
@@ -49,7 +47,7 @@ module _ (P : Problem) (m : ℕ) where
 
   pub margin-cut : load P m ≤ T P * P .w m → natAbs (margin P m) ≡ T P * P .w m - load P m
   unfolding margin
-  margin-cut h = difference-size (T P * P .w m) (load P m) ∙ omega arith
+  margin-cut h = abs-difference (T P * P .w m) (load P m) ∙ omega arith
 
 module _ (P : Problem) (m : ℕ) (h : marginFails P m ≡ false) where
   load-below : load P m < T P * P .w m

@@ -21,7 +21,7 @@ use mir.ValLaws.{toZ-ofZ}
 use Rattle.integer.proofs.Absolute.{abs-+, abs-sub, abs-*}
 use Rattle.integer.proofs.Machine.{small}
 use Rattle.linear.specs.Slice.{at}
-use Rattle.rules.proofs.Ranges.{neither-left, neither-right}
+use Rattle.rules.proofs.Ranges.{neither-left, neither-right, and-true}
 use Rattle.observation.specs.declared.Observation.{Observation}
 use Rattle.observation.specs.Distinct.{when, touches, weightAt, gain}
 use Rattle.gathering.specs.Gathered.{Proper}
@@ -89,10 +89,6 @@ joined l k other w apart p q m = go (eqb k m) refl (eqb other m) refl
         getD-set-other two other m (at l other -ℤ w) (pos 0) (λ j. eqb-false other m f (sym j))
         ∙ getD-set-other l k m (at l k +ℤ w) (pos 0) (λ j. eqb-false k m e (sym j)) ∙ sym (+ℤ-idr (at l m))
 
-and-true : (b : Bool) → b && true ≡ b
-and-true true = refl
-and-true false = refl
-
 or-and-false : (a b : Bool) → a || b && false ≡ a
 or-and-false true b = refl
 or-and-false false true = refl
@@ -105,7 +101,7 @@ module _ (k : ℕ) (l : Observation) (proper : Proper l) where
 
     at-to : (m : ℕ) → weightAt k m l ≡ added k (l .«from») (pos (l .weight)) m
     unfolding weightAt
-    at-to m = rw (away, eq-eqb (l .to) k e, and-true (eqb (l .«from») m))
+    at-to m = rw (away, eq-eqb (l .to) k e, and-true (eqb (l .«from») m) refl)
 
     gain-to : gain k l ≡ product l
     unfolding gain

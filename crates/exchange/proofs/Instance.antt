@@ -1,13 +1,13 @@
 -- None of Paper 11's theorems is empty.
 --   inward-accepts, outward-accepts — what passes the tests has an accepted call
+--   zeros — a list of doubles that are 0
 --   fileEnds, file-between — 01's whole file: its exact heights 16/11 and 9/11 lie between the ends of its guesses and limits
 --   looseEnds, loose-between — a problem with a tolerance of 3 and the right side 9/3: its exact height, 3, lies between the ends
 --   given, back, goes-and-comes — 2.5, with two steps to one, goes in as 5 and comes back as itself
 --   said-inward, said-outward — each number is said of some call, 8 before 3 and 3 before 19; the limit 2^60 is taken, and one more is 3
 use mathlib.Core.Path.{_≡_, refl, sym, ap, ap₂, _∙_, subst}
 use mathlib.Core.List.{List, [], _∷_}
-use Prim.Native.Nat.{ℕ, zero, suc, _+_, _<_, _^_}
-use native.Mathlib.Omega.{arith}
+use Prim.Native.Nat.{ℕ, zero, suc, _+_, _^_}
 use lib.Dec.{T, lit<, lit≤}
 use lib.IntN.{ℤ, pos, negsuc}
 use lib.ListN.{getD, replicate}
@@ -16,6 +16,7 @@ use lib.Ieee.Bits.{ofBits-fits}
 use Rattle.integer.specs.Finite.{every}
 use Rattle.linear.specs.Slice.{at}
 use Rattle.integer.specs.Quotient.{roundDiv}
+use Rattle.integer.proofs.Below.{only}
 use Rattle.rules.specs.Range.{ranges, rangeOf, inRange, allInRange}
 use Rattle.rules.specs.declared.Outcome.the-variants as outcome
 use Rattle.enclosure.specs.Example.{exact, loose, farRight, farHeight}
@@ -64,11 +65,7 @@ outward-accepts I e = record {
       (outward (I .s) (at (I .guess) i) (getD (I .bounds) i 0) (k .guesses i l) (k .limits i l));
 }
 
-only : (Q : ℕ → Type 0) → Q 0 → (i : ℕ) → i < 1 → Q i
-only Q a zero l = a
-only Q a (suc i) l = absurd (omega arith)
-
-abbrev zeros : List Float
+abbrev pub zeros : List Float
 zeros = replicate 32 plusZero
 
 -- ---- 01's whole file

@@ -19,7 +19,7 @@ use lib.Ieee.{binary64, fits}
 use lib.Ieee.Scale.{finite}
 use Rattle.linear.specs.Slice.{at}
 use Rattle.linear.specs.Written.{written}
-use Rattle.linear.proofs.Written.{written-length, front-at, front-else}
+use Rattle.linear.proofs.Written.{written-length, front-at}
 use Rattle.rules.specs.Order.{Test, number, verdict, ifAccepted}
 use Rattle.rules.specs.Range.{inRange, shortColumn}
 use Rattle.rules.specs.declared.Kind.the-variants as kind
@@ -27,6 +27,7 @@ use Rattle.rules.specs.declared.Refusal.the-variants.{TooShort, OutOfRange}
 use Rattle.rules.proofs.Ranges.{both-left, both-right, neither-left, neither-right, size-range, solution-scale-range}
 use Rattle.rules.proofs.Tests.{said-exactly, none-said, silent}
 use Rattle.rules.proofs.Verdicts.{accepted-new, accepted-old, nothing-is-not}
+use Rattle.checked.proofs.Written.{past-kept}
 use Rattle.doubles.specs.Guess.{guessFor, hasGuess, Nearest}
 use Rattle.doubles.specs.Units.{Double}
 use Rattle.doubles.proofs.Steps.{guess-nearest}
@@ -152,11 +153,7 @@ module _ (I : Incoming) where
 
   pub after-else : (i : ℕ) → I .n ≤ i → at (guessesAfter I) i ≡ at (I .guess) i
   unfolding guessesAfter
-  after-else i h = go (inwardAnswer I)
-    where
-      go : (w : List ℕ) → at (ifAccepted w (written (I .guess) 0 1 (λ (j : ℕ). guessFor (I .s) (doubleAt (I .values) j)) (I .n)) (I .guess)) i ≡ at (I .guess) i
-      go [] = front-else (I .guess) _ (pos 0) (I .n) i h
-      go (k ∷ ks) = refl
+  after-else i h = past-kept (pos 0) (inwardAnswer I) (I .n) (I .guess) _ i h
 
   pub after-length : length (guessesAfter I) ≡ length (I .guess)
   unfolding guessesAfter

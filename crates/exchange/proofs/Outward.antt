@@ -15,8 +15,8 @@ use lib.ListN.{getD, length}
 use lib.Ieee.{Float, nan}
 use Rattle.linear.specs.Slice.{at}
 use Rattle.linear.specs.Written.{written}
-use Rattle.linear.proofs.Written.{front-at, front-else}
-use Rattle.rules.specs.Order.{Test, number, ifAccepted}
+use Rattle.linear.proofs.Written.{front-at}
+use Rattle.rules.specs.Order.{Test, number}
 use Rattle.rules.specs.Range.{inRange, allInRange, shortColumn}
 use Rattle.rules.specs.declared.Kind.the-variants as kind
 use Rattle.rules.specs.declared.Outcome.the-variants.{Accepted, Refused}
@@ -25,6 +25,7 @@ use Rattle.rules.proofs.AllInRange.{all-at}
 use Rattle.rules.proofs.Ranges.{both-left, both-right, neither-left, neither-right, size-range, solution-scale-range, guess-range}
 use Rattle.rules.proofs.Tests.{said-exactly, none-said, silent}
 use Rattle.rules.proofs.Verdicts.{accepted-new, accepted-old, nothing-is-not}
+use Rattle.checked.proofs.Written.{past-kept}
 use Rattle.interval.specs.Interval.{Outward}
 use Rattle.interval.proofs.Heights.{outward}
 use Rattle.exchange.specs.Lists.{doubleAt, exchangeSizes}
@@ -145,10 +146,6 @@ module _ (I : Outgoing) where
       let n = said-nothing .0 e in
       ap (λ (xs : List Float). doubleAt xs i) (accepted-new _ _ e) ∙ front-at (I .high) _ nan (I .n) i l (ready (n .0) (both-left (exchangeSizes (I .n) (I .s)) _ (n .1)) .high)
 
-  kept : (old : List Float) (f : ℕ → Float) (i : ℕ) → I .n ≤ i → (w : List ℕ) → doubleAt (ifAccepted w (written old 0 1 f (I .n)) old) i ≡ doubleAt old i
-  kept old f i h [] = front-else old f nan (I .n) i h
-  kept old f i h (k ∷ ks) = refl
-
   pub ends-else : (i : ℕ) → I .n ≤ i → (doubleAt (lowsAfter I) i ≡ doubleAt (I .low) i) × (doubleAt (highsAfter I) i ≡ doubleAt (I .high) i)
   unfolding lowsAfter highsAfter
-  ends-else i h = (kept (I .low) _ i h (outwardAnswer I), kept (I .high) _ i h (outwardAnswer I))
+  ends-else i h = (past-kept nan (outwardAnswer I) (I .n) (I .low) _ i h, past-kept nan (outwardAnswer I) (I .n) (I .high) _ i h)

@@ -23,7 +23,7 @@ use Rattle.rules.specs.Refusal.{said}
 use Rattle.rules.specs.declared.Kind.the-variants as kind
 use Rattle.rules.specs.declared.Outcome.{Outcome}
 use Rattle.rules.proofs.AllInRange.{all-in}
-use Rattle.rules.proofs.Ranges.{both, both-left, both-right, neither-right, size-range, guess-range}
+use Rattle.rules.proofs.Ranges.{both, both-left, both-right, neither-right, size-range, in-size-range, guess-range}
 use Rattle.enclosure.specs.Reckoning.{bound}
 use Rattle.checked.specs.Input.{Input, problem}
 use Rattle.checked.specs.Order.{answer}
@@ -48,10 +48,6 @@ use Rattle.rules.proofs.Every.{every-in}
 use Rattle.exchange.proofs.Outward as outward
 use Rattle.exchange.proofs.Promises.{guess-at}
 
-in-size : (n : ℕ) → 0 < n → n ≤ 32 → inRange kind.Size (pos n) ≡ true
-unfolding inRange rangeOf ranges
-in-size n a b = both (le-leb 1 n (omega arith)) (le-leb n 32 b)
-
 in-scale : (s : ℕ) → s ≤ 20 → inRange kind.SolutionScale (pos s) ≡ true
 unfolding inRange rangeOf ranges
 in-scale s h = both (le-leb 0 s (omega arith)) (le-leb s 20 h)
@@ -71,7 +67,7 @@ module _ (n s : ℕ) (guess : List ℤ) (bounds : List ℕ) (low high : List Flo
   numbers-taken some few scale hx he hl hh x e =
       outward.said-nothing (outgoing n s guess bounds low high) .1 (
         rw (le-ltb (length guess) 32 hx, le-ltb (length bounds) 32 he, le-ltb (length low) 32 hl, le-ltb (length high) 32 hh),
-        both (both (in-size n some few) (in-scale s scale))
+        both (both (in-size-range n some few) (in-scale s scale))
             (both (all-in kind.Guess n (at guess) (λ i l. in-guess (at guess i) (x i l))) (every-in n _ (λ i l. le-leb (getD bounds i 0) (2 ^ 60) (e i l)))),
       )
 

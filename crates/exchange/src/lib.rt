@@ -14,6 +14,7 @@ ghost use Rattle.exchange.specs.Inward.{GuessesOf, incoming};
 ghost use Rattle.exchange.specs.Outward.{IntervalsOf, outgoing, Reckonable, anyOutgoingShort};
 use doubles::guess_of;
 use interval::interval_of;
+use rules::COLUMN_LENGTH;
 use rules::Kind;
 use rules::Outcome;
 use rules::Refusal;
@@ -32,10 +33,7 @@ pub enum Guessed {
 fn are_sizes_in_range(n: u32, s: u32) -> bool
     ensures { λ r. ⌜ r ≡ exchangeSizes n s ⌝ }
 {
-    if is_natural_in_range(Kind::Size, n) {
-        return is_natural_in_range(Kind::SolutionScale, s);
-    }
-    false
+    is_natural_in_range(Kind::Size, n) & is_natural_in_range(Kind::SolutionScale, s)
 }
 
 // 19: whether each of the first n doubles gives a guess.
@@ -67,10 +65,10 @@ fn write_guesses(n: usize, s: u32, values: &[f64], guess: &mut [i64])
 pub fn guesses_of(n: u32, s: u32, values: &[f64], guess: &mut [i64]) -> Guessed
     ensures { λ r. ⌜ GuessesOf (incoming n s (now (values .entry)) (now (guess .entry))) r (now (guess .exit)) ⌝ }
 {
-    if values.len() < 32 {
+    if values.len() < COLUMN_LENGTH {
         return Guessed::Refused(Refusal::TooShort);
     }
-    if guess.len() < 32 {
+    if guess.len() < COLUMN_LENGTH {
         return Guessed::Refused(Refusal::TooShort);
     }
     if are_sizes_in_range(n, s) {
@@ -119,7 +117,7 @@ fn write_intervals(
 fn is_short(x: usize, e: usize, l: usize, h: usize) -> bool
     ensures { λ r. ⌜ r ≡ anyOutgoingShort x e l h ⌝ }
 {
-    (x < 32) | ((e < 32) | ((l < 32) | (h < 32)))
+    (x < COLUMN_LENGTH) | ((e < COLUMN_LENGTH) | ((l < COLUMN_LENGTH) | (h < COLUMN_LENGTH)))
 }
 
 // Outward: the ends of the first n heights. Order 8, 3; a refusal leaves both lists of ends as they were.

@@ -1,6 +1,6 @@
 -- The reading of a line and the spelling of a form are inverse to each other, for numbers and lists of any size.
 --   spelled-read — a line that reads as a form is the spelling of that form
---   read-spelled — the spelling of a form reads as that form
+--   reads-as, read-spelled — the spelling of a form reads as that form
 -- So a line is refused with 2 exactly where it is the spelling of no form (`said-2` of crate line).
 use mathlib.Core.Path.{_≡_, refl, sym, ap, _∙_}
 use mathlib.Core.Bool.{Bool, true, false, cond}
@@ -81,33 +81,33 @@ module _ (s : List ℕ) where
       ended (headAt s 0 .word) (headAt s 0 .next) (head-then s 0) (eqb-true _ (length s) (c .0)) ∙ ap spell (c .1)
 
 -- ---- what is spelled is read
-spelled : (s : List ℕ) (f : Form) → s ≡ spell f → reading s ≡ some f
+pub reads-as : (s : List ℕ) (f : Form) → s ≡ spell f → reading s ≡ some f
 unfolding spell
-spelled s (problem n) e =
+reads-as s (problem n) e =
     let o = one-spelled s (opening Problem) n e in
     reads s Problem _ (headed s Problem (o .rest)) (o .ends) ∙ rw (o .one)
-spelled s (scale a b) e =
+reads-as s (scale a b) e =
     let o = two-spelled s (opening Scale) a b e in
     reads s Scale _ (headed s Scale (o .rest)) (o .ends) ∙ rw (o .one, o .two)
-spelled s (row i a zs) e =
+reads-as s (row i a zs) e =
     let o = many-spelled s (opening Row) i a zs e in
     reads s Row _ (headed s Row (o .rest)) (o .ends) ∙ rw (o .one, o .head, o .more)
-spelled s (right i b) e =
+reads-as s (right i b) e =
     let o = two-spelled s (opening Right) i b e in
     reads s Right _ (headed s Right (o .rest)) (rw (o .none) (o .ends)) ∙ rw (o .none, o .one, o .two)
-spelled s (rightWithin i b d) e =
+reads-as s (rightWithin i b d) e =
     let o = many-spelled s (opening Right) i b (d ∷ []) e in
     reads s Right _ (headed s Right (o .rest)) (rw (o .more) (o .ends)) ∙ rw (o .more, o .one, o .head)
-spelled s (guess i x) e =
+reads-as s (guess i x) e =
     let o = two-spelled s (opening Guess) i x e in
     reads s Guess _ (headed s Guess (o .rest)) (o .ends) ∙ rw (o .one, o .two)
-spelled s (inverse i g zs) e =
+reads-as s (inverse i g zs) e =
     let o = many-spelled s (opening Inverse) i g zs e in
     reads s Inverse _ (headed s Inverse (o .rest)) (o .ends) ∙ rw (o .one, o .head, o .more)
-spelled s (weight i w) e =
+reads-as s (weight i w) e =
     let o = two-spelled s (opening Weight) i w e in
     reads s Weight _ (headed s Weight (o .rest)) (o .ends) ∙ rw (o .one, o .two)
-spelled s end e = reads s End _ (headed s End (bytes ")", e)) (word-step s (bytes "(end") (bytes ")") [] e ∙ ap length (sym e))
+reads-as s end e = reads s End _ (headed s End (bytes ")", e)) (word-step s (bytes "(end") (bytes ")") [] e ∙ ap length (sym e))
 
 pub read-spelled : (f : Form) → reading (spell f) ≡ some f
-read-spelled f = spelled (spell f) f refl
+read-spelled f = reads-as (spell f) f refl

@@ -14,6 +14,7 @@ use Rattle.numeral.specs.Numeral.{cap}
 use Rattle.numeral.proofs.Cap.{cap-range}
 use Rattle.rules.specs.Range.{inRange}
 use Rattle.rules.specs.declared.Kind.{Kind}
+use Rattle.rules.proofs.Ranges.{and-true}
 use Rattle.form.specs.declared.Numbers.{Numbers}
 use Rattle.form.specs.List.{noNumbers, allInside, firstValues, numbersOf}
 
@@ -28,13 +29,9 @@ both-assoc : (a b c : Bool) → (a && b) && c ≡ a && (b && c)
 both-assoc true b c = refl
 both-assoc false b c = refl
 
-both-true : (a : Bool) → a && true ≡ a
-both-true true = refl
-both-true false = refl
-
 inside-next : (k : Kind) (zs : List ℤ) (z : ℤ) → allInside k zs && inRange k z ≡ allInside k (zs ++ (z ∷ []))
 unfolding allInside
-inside-next k [] z = sym (both-true (inRange k z))
+inside-next k [] z = sym (and-true (inRange k z) refl)
 inside-next k (y ∷ zs) z = both-assoc (inRange k y) (allInside k zs) (inRange k z) ∙ ap (λ (b : Bool). inRange k y && b) (inside-next k zs z)
 
 values-next : (n : ℕ) (zs : List ℤ) (z : ℤ) → set (firstValues n zs) (length zs) (cap z) ≡ firstValues n (zs ++ (z ∷ []))

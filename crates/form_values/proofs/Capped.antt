@@ -1,18 +1,18 @@
 -- The capped form and the exact one.
 --   placed-capped, outside-capped, miscounted-capped — the tests say the same of both
---   no-tolerance — 0 is a tolerance in range;  within-alone — so 3 is said alike of (right i (b 0)) and (right i b)
+--   within-alone — 0 is a tolerance in range, so 3 is said alike of (right i (b 0)) and (right i b)
 --   item-exact — a form of which they do not hold is its capped form
---   part-same  — parts at the same place are the same
+--   part-same  — parts at the same place are the same;  part-below — there are five
 use mathlib.Core.Path.{_≡_, refl, sym, ap, ap₂, _∙_}
-use mathlib.Core.Bool.{Bool, true, false, _&&_}
+use mathlib.Core.Bool.{true, false, _&&_}
 use Prim.Native.Nat.{ℕ, zero, suc, _<_}
 use native.Mathlib.Omega.{arith}
 use borrow.Author.Tests.{not-false}
 use lib.IntN.{ℤ, pos}
 use lib.Signed.{leZ}
-use Rattle.rules.specs.Range.{inRange, rangeOf, ranges}
+use Rattle.rules.specs.Range.{inRange}
 use Rattle.rules.specs.declared.Kind.the-variants as kind
-use Rattle.rules.proofs.Ranges.{both-left, both-right}
+use Rattle.rules.proofs.Ranges.{both-left, both-right, and-true, zero-tolerance}
 use Rattle.numeral.specs.Numeral.{cap, capAt}
 use Rattle.numeral.proofs.Cap.{cap-between, cap-range, cap-small, cap-in}
 use Rattle.form.specs.Form.{Form, problem, scale, row, right, rightWithin, guess, inverse, weight, end}
@@ -41,16 +41,8 @@ placed-capped n (weight i w) l = placed-cap n i l
 placed-capped n end l = refl
 
 -- where no tolerance is given it is 0, which is in range
-pub no-tolerance : inRange kind.Tolerance (pos 0) ≡ true
-unfolding inRange rangeOf ranges
-no-tolerance = refl
-
-both-true : (a : Bool) → a && true ≡ a
-both-true true = refl
-both-true false = refl
-
 pub within-alone : (i b : ℤ) → outside (rightWithin i b (pos 0)) ≡ outside (right i b)
-within-alone i b = rw (no-tolerance, both-true (inRange kind.Right b))
+within-alone i b = rw (zero-tolerance, and-true (inRange kind.Right b) refl)
 
 pub outside-capped : (f : Form) → outsideIn (cappedForm f) (numbersIn f .inside) ≡ outside f
 unfolding numbersOf
@@ -113,3 +105,10 @@ part-at Weight = refl
 
 pub part-same : (p q : Part) → partIndex p ≡ partIndex q → p ≡ q
 part-same p q e = sym (part-at p) ∙ ap partAt e ∙ part-at q
+
+pub part-below : (p : Part) → partIndex p < 5
+part-below Row = omega arith
+part-below Right = omega arith
+part-below Guess = omega arith
+part-below Inverse = omega arith
+part-below Weight = omega arith

@@ -2,21 +2,20 @@
 --   whole-good — its limits are good;  whole-own — its own factor is 19 / 13, that of its second row
 --   whole-fine — it is a rounded exact proposal with 3·9 ≤ 2·16, so its limits are 0 or 1
 --   loose-good — with the tolerances 1 and 2
---   only — what holds of 0 holds of all below 1
 --   mark — 1·x = 0 with the guess 0 and no tolerance, both steps 1/16, inverse 16/16;  mark-exact, mark-zero — that guess is exact, and its limit is 0
 use mathlib.Core.List.{List, [], _∷_}
-use mathlib.Core.Path.{_≡_, refl, subst}
-use Prim.Native.Nat.{ℕ, _<_}
-use native.Mathlib.Omega.{arith}
+use mathlib.Core.Path.{_≡_, refl}
+use Prim.Native.Nat.{ℕ}
 use lib.Dec.{lit≤}
 use lib.IntN.{ℤ, pos}
 use Rattle.integer.specs.Finite.{sum, sumℕ}
+use Rattle.integer.proofs.Below.{only, each}
 use Rattle.linear.specs.Matrix.{apply, product, identity}
 use Rattle.enclosure.specs.Demand.{sumOfSizes}
 use Rattle.enclosure.specs.Example.{file, exact, exactInverse, looseFile}
 use Rattle.enclosure.specs.Problem.{Problem, problemOf}
 use Rattle.enclosure.specs.Reckoning.{defect, load, margin, rowSum, bound, inverseBound}
-use Rattle.enclosure.proofs.Instance.{each, file-rounded, file-sound}
+use Rattle.enclosure.proofs.Instance.{file-rounded, file-sound}
 use Rattle.enclosure.proofs.QualityInstance.{file-factor}
 use Rattle.good_limits.specs.Good.{OwnFactor, ExactGuess, FineRounded, OneStep, Good}
 use Rattle.good_limits.proofs.Good.{good}
@@ -45,9 +44,6 @@ one k = pos k ∷ []
 
 abbrev mark : Problem
 mark = problemOf 1 4 4 (one 1) (one 0) (one 0) (one 0) (one 16) (one 1)
-
-pub only : (Q : ℕ → Type 0) → Q 0 → (i : ℕ) → i < 1 → Q i
-only Q x i l = let e : 0 ≡ i = omega arith in subst Q e x
 
 pub mark-exact : ExactGuess mark
 unfolding apply sum

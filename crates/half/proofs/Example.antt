@@ -5,14 +5,14 @@
 use mathlib.Core.Path.{_≡_, refl, _∙_}
 use mathlib.Core.Bool.{false}
 use mathlib.Core.List.{[]}
-use Prim.Native.Nat.{ℕ, zero, suc, _<_}
-use native.Mathlib.Omega.{arith}
+use Prim.Native.Nat.{ℕ, _<_}
 use lib.Dec.{lit<, lit≤}
 use lib.ListN.{length}
 use Rattle.integer.specs.Finite.{sum, sumℕ}
 use Rattle.linear.specs.Matrix.{apply, product, identity}
 use Rattle.linear.specs.Slice.{at, matrixOf}
 use Rattle.linear.specs.Written.{written}
+use Rattle.integer.proofs.Below.{each, each₂}
 use Rattle.rules.specs.Range.{inRange, rangeOf, ranges}
 use Rattle.enclosure.specs.Demand.{RoundedExact, sumOfSizes}
 use Rattle.enclosure.specs.Reckoning.{rowSum}
@@ -25,15 +25,6 @@ use Rattle.lower_half.proofs.Filling.{filled-length}
 use Rattle.half.specs.Checked.{filledInput}
 use Rattle.half.specs.Example.{fileHalf, fileHalved}
 use Rattle.half.proofs.Square.{answers}
-
--- both indices below 2
-each : (Q : ℕ → Type 0) → Q 0 → Q 1 → (i : ℕ) → i < 2 → Q i
-each Q a b zero l = a
-each Q a b (suc zero) l = b
-each Q a b (suc (suc i)) l = absurd (omega arith)
-
-each₂ : (Q : ℕ → ℕ → Type 0) → Q 0 0 → Q 0 1 → Q 1 0 → Q 1 1 → (i j : ℕ) → i < 2 → j < 2 → Q i j
-each₂ Q a b c d i j l m = each (λ k. Q k j) (each (Q 0) a b j m) (each (Q 1) c d j m) i l
 
 pub file-half-long : shortHalf (length fileHalf) ≡ false
 file-half-long = refl

@@ -2,6 +2,7 @@
 ghost use Rattle.checked.specs.Input.{input};
 ghost use Rattle.half.specs.Checked.{CheckedHalf};
 use checker::check;
+use lower_half::HALF_LENGTH;
 use lower_half::fill_out;
 use rules::Outcome;
 use rules::Refusal;
@@ -24,7 +25,7 @@ pub fn check_half(
         (now (inverse .entry)) (now (weights .entry)) (now («solution_bounds» .entry)) (now («inverse_bounds» .entry)))
         r (now («solution_bounds» .exit)) (now («inverse_bounds» .exit)) ⌝ }
 {
-    if half.len() < 528 {
+    if half.len() < HALF_LENGTH {
         return Outcome::Refused(Refusal::TooShort);
     }
     let matrix = fill_out(n, half);

@@ -1,11 +1,13 @@
 -- Laws of the absolute value, natAbs : ℤ → ℕ. Every order of this project is stated through it, in ℕ.
 --   abs-+, abs-sub, abs-*, abs-neg — of a sum, a difference (at most the sum of the sizes), a product, a negation
---   abs-zero — only 0 has size 0
+--   abs-zero — only 0 has size 0;  free — r·z = 0 with r ≥ 1 gives z = 0
+--   abs-difference — |a − b| as a sum of differences in ℕ
 --   below-zero, not-below-zero — a number below 0 is minus its size, any other is its size
 use mathlib.Core.Path.{_≡_, refl, ap, subst}
 use mathlib.Core.Bool.{true, false}
-use Prim.Native.Nat.{zero, suc, _+_, _*_, _≤_}
+use Prim.Native.Nat.{ℕ, zero, suc, _+_, _*_, _-_, _≤_}
 use native.Mathlib.Omega.{arith}
+use native.Mathlib.Nat.{le-of-mul-le-mul-left}
 use borrow.Author.Tests.{ltb-true}
 use lib.Dec.{T}
 use lib.IntN.{ℤ, pos, negsuc, negℤ, natAbs, _+ℤ_, _-ℤ_, _*ℤ_}
@@ -31,6 +33,14 @@ abs-* (negsuc a) (negsuc b) = refl
 
 pub abs-zero : (x : ℤ) → natAbs x ≤ 0 → x ≡ pos 0
 abs-zero x h = rw (is x) (simp zz (omega (arith, simp zz at (rw (is x) at h))))
+
+pub free : (r : ℕ) (z : ℤ) → 1 ≤ r → pos r *ℤ z ≡ pos 0 → z ≡ pos 0
+free r z o e =
+    let f : natAbs (pos r *ℤ z) ≡ 0 = ap natAbs e in
+    abs-zero z (le-of-mul-le-mul-left (omega (arith, f, abs-* (pos r) z)) o)
+
+pub abs-difference : (a b : ℕ) → natAbs (pos a -ℤ pos b) ≡ (a - b) + (b - a)
+abs-difference a b = simp zz (omega arith)
 
 pub below-zero : (x : ℤ) → ltZ x (pos 0) ≡ true → pos 0 -ℤ x ≡ pos (natAbs x)
 below-zero (pos n) e = absurd (omega (arith, ltb-true n 0 e))

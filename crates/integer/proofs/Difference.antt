@@ -2,6 +2,7 @@
 --   dif a b   — the number a − b; shut, so that a call of it stays a call
 --   pp x, nn x — the two parts of x: x = pp x − nn x, one of them 0
 --   is        — x ≡ dif (pp x) (nn x)
+--   +-left-comm — of three numbers the first two in the other order;  neg-pos — minus a natural number is at most any natural number
 --   zz        — rules for `simp`: sums, products, negation, ≡, ≤ℤ and natAbs of differences
 --   zarith    — rules for `omega`: arith, and hypotheses x ≡ y, x ≤ℤ y over ℤ
 -- A law over ℤ is proved in one line, with every variable listed: `rw (is a, is b) (simp zz (omega arith))`;
@@ -27,8 +28,8 @@ pub nn : ℤ → ℕ
 nn (pos n) = 0
 nn (negsuc n) = suc n
 
-+ℤ-left-comm : (a b c : ℤ) → a +ℤ (b +ℤ c) ≡ b +ℤ (a +ℤ c)
-+ℤ-left-comm a b c = sym (+ℤ-assoc a b c) ∙ ap (λ (x : ℤ). x +ℤ c) (+ℤ-comm a b) ∙ +ℤ-assoc b a c
+pub +-left-comm : (a b c : ℤ) → a +ℤ (b +ℤ c) ≡ b +ℤ (a +ℤ c)
++-left-comm a b c = sym (+ℤ-assoc a b c) ∙ ap (λ (x : ℤ). x +ℤ c) (+ℤ-comm a b) ∙ +ℤ-assoc b a c
 
 pub dif-zero : (a : ℕ) → dif a 0 ≡ pos a
 unfolding dif
@@ -52,7 +53,7 @@ unfolding dif
 dif-+ a b c d = sym (ap (λ (x : ℤ). pos a +ℤ pos c +ℤ x) (negℤ-+ℤ (pos b) (pos d)) ∙ four (pos a) (pos c) (negℤ (pos b)) (negℤ (pos d)))
   where
     four : (a c b d : ℤ) → a +ℤ c +ℤ (b +ℤ d) ≡ a +ℤ b +ℤ (c +ℤ d)
-    four a c b d = simp (+ℤ-assoc, +ℤ-left-comm)
+    four a c b d = simp (+ℤ-assoc, +-left-comm)
 
 pub dif-neg : (a b : ℕ) → negℤ (dif a b) ≡ dif b a
 unfolding dif
@@ -91,16 +92,16 @@ up-is b k = dif-eq (b + k) b k 0 (omega arith) ∙ dif-zero k
 down-is : (a k : ℕ) → dif a (a + k) ≡ negℤ (pos k)
 down-is a k = dif-eq a (a + k) 0 k (omega arith) ∙ zero-dif k
 
-neg-* : (a b : ℕ) → negℤ (pos a) *ℤ pos b ≡ negℤ (pos (a * b))
-neg-* zero b = rw NatL.zero-mul
-neg-* (suc a) b = refl
+neg-*-pos : (a b : ℕ) → negℤ (pos a) *ℤ pos b ≡ negℤ (pos (a * b))
+neg-*-pos zero b = rw NatL.zero-mul
+neg-*-pos (suc a) b = refl
 
-*-neg : (a b : ℕ) → pos a *ℤ negℤ (pos b) ≡ negℤ (pos (a * b))
-*-neg a zero = rw NatL.mul-zero
-*-neg a (suc b) = refl
+pos-*-neg : (a b : ℕ) → pos a *ℤ negℤ (pos b) ≡ negℤ (pos (a * b))
+pos-*-neg a zero = rw NatL.mul-zero
+pos-*-neg a (suc b) = refl
 
 neg-*-neg : (a b : ℕ) → negℤ (pos a) *ℤ negℤ (pos b) ≡ pos (a * b)
-neg-*-neg zero b = *-neg zero b ∙ rw NatL.zero-mul
+neg-*-neg zero b = pos-*-neg zero b ∙ rw NatL.zero-mul
 neg-*-neg (suc a) zero = rw NatL.mul-zero
 neg-*-neg (suc a) (suc b) = refl
 
@@ -109,21 +110,18 @@ dif-* a b c d = go (sign a b) (sign c d)
   where
     go : {a b c d : ℕ} → Sign a b → Sign c d → dif a b *ℤ dif c d ≡ dif (a * c + b * d) (a * d + b * c)
     go (up b k) (up d l) = rw (up-is b k, up-is d l) (sym (dif-zero (k * l)) ∙ omega (arith, dif-eq))
-    go (up b k) (down c l) = rw (up-is b k, down-is c l) (*-neg k l ∙ sym (zero-dif (k * l)) ∙ omega (arith, dif-eq))
-    go (down a k) (up d l) = rw (down-is a k, up-is d l) (neg-* k l ∙ sym (zero-dif (k * l)) ∙ omega (arith, dif-eq))
+    go (up b k) (down c l) = rw (up-is b k, down-is c l) (pos-*-neg k l ∙ sym (zero-dif (k * l)) ∙ omega (arith, dif-eq))
+    go (down a k) (up d l) = rw (down-is a k, up-is d l) (neg-*-pos k l ∙ sym (zero-dif (k * l)) ∙ omega (arith, dif-eq))
     go (down a k) (down c l) = rw (down-is a k, down-is c l) (neg-*-neg k l ∙ sym (dif-zero (k * l)) ∙ omega (arith, dif-eq))
 
 -- |·|
-abs-neg : (k : ℕ) → natAbs (negℤ (pos k)) ≡ k
-abs-neg zero = refl
-abs-neg (suc k) = refl
-
 pub dif-abs : (a b : ℕ) → natAbs (dif a b) ≡ (a - b) + (b - a)
 dif-abs a b = go (sign a b)
   where
     go : {a b : ℕ} → Sign a b → natAbs (dif a b) ≡ (a - b) + (b - a)
     go (up b k) = ap natAbs (up-is b k) ∙ omega arith
-    go (down a k) = ap natAbs (down-is a k) ∙ abs-neg k ∙ omega arith
+    go (down a zero) = ap natAbs (down-is a zero) ∙ omega arith
+    go (down a (suc k)) = ap natAbs (down-is a (suc k)) ∙ omega arith
 
 -- the order
 pos-≤ : (k l : ℕ) → (pos k ≤ℤ pos l) ↔ (k ≤ l)
@@ -133,9 +131,9 @@ pos-≤-neg : (k l : ℕ) → (pos k ≤ℤ negℤ (pos l)) ↔ (k + l ≤ 0)
 pos-≤-neg k zero = ((λ (h : pos k ≤ℤ pos 0). omega (arith, pos-≤ k 0 .0 h)), (λ (h : k + 0 ≤ 0). pos-≤ k 0 .1 (omega arith)))
 pos-≤-neg k (suc l) = ((λ (h : pos k ≤ℤ negsuc l). absurd (h .le)), (λ (h : k + suc l ≤ 0). absurd (omega arith)))
 
-neg-≤-pos : (k l : ℕ) → negℤ (pos k) ≤ℤ pos l
-neg-≤-pos zero l = leZ-yes (le→leb 0 l (omega arith))
-neg-≤-pos (suc k) l = leZ-yes tt
+pub neg-pos : (k l : ℕ) → negℤ (pos k) ≤ℤ pos l
+neg-pos zero l = leZ-yes (le→leb 0 l (omega arith))
+neg-pos (suc k) l = leZ-yes tt
 
 neg-≤-neg : (k l : ℕ) → (negℤ (pos k) ≤ℤ negℤ (pos l)) ↔ (l ≤ k)
 neg-≤-neg zero l = ((λ (h : pos 0 ≤ℤ negℤ (pos l)). omega (arith, pos-≤-neg 0 l .0 h)), (λ (h : l ≤ 0). pos-≤-neg 0 l .1 (omega arith)))
@@ -148,7 +146,7 @@ dif-≤ a b c d = go (sign a b) (sign c d)
     go : {a b c d : ℕ} → Sign a b → Sign c d → (dif a b ≤ℤ dif c d) ↔ (a + d ≤ c + b)
     go (up b k) (up d l) = rw (up-is b k, up-is d l) ((λ (h : pos k ≤ℤ pos l). omega (arith, pos-≤ k l .0 h)), (λ (h : b + k + d ≤ d + l + b). pos-≤ k l .1 (omega arith)))
     go (up b k) (down c l) = rw (up-is b k, down-is c l) ((λ (h : pos k ≤ℤ negℤ (pos l)). omega (arith, pos-≤-neg k l .0 h)), (λ (h : b + k + (c + l) ≤ c + b). pos-≤-neg k l .1 (omega arith)))
-    go (down a k) (up d l) = rw (down-is a k, up-is d l) ((λ (h : negℤ (pos k) ≤ℤ pos l). omega arith), (λ (h : a + d ≤ d + l + (a + k)). neg-≤-pos k l))
+    go (down a k) (up d l) = rw (down-is a k, up-is d l) ((λ (h : negℤ (pos k) ≤ℤ pos l). omega arith), (λ (h : a + d ≤ d + l + (a + k)). neg-pos k l))
     go (down a k) (down c l) = rw (down-is a k, down-is c l) ((λ (h : negℤ (pos k) ≤ℤ negℤ (pos l)). omega (arith, neg-≤-neg k l .0 h)), (λ (h : a + (c + l) ≤ c + (a + k)). neg-≤-neg k l .1 (omega arith)))
 
 pub pos-dif : (n : ℕ) → pos n ≡ dif n 0

@@ -9,3 +9,4 @@ pub mod Rounding
 pub mod Covering
 pub mod Same
 pub mod Order
+pub mod Below

@@ -1,12 +1,13 @@
 -- ℤ is a commutative ring, and how a ring identity is proved, in one line.
 --   simp ring — both sides multiplied out and sorted, under sums too; for identities where nothing cancels: try it first
 --   by-zero (simp ring (simp moves (simp ring₀))) — any identity with coefficients ±1: what cancels is moved over first
+--   swapped-zero — a·(b·x) − b·(a·x) = 0
 -- For numeral coefficients see Difference.
 use mathlib.Core.Path.{_≡_, sym, _∙_}
 use mathlib.Core.Logic.{_↔_}
 use native.Mathlib.Omega.{arith}
-use lib.IntN.{ℤ, pos, negℤ, _+ℤ_, _*ℤ_, *ℤ-comm, +ℤ-assoc, +ℤ-comm, +ℤ-idl, +ℤ-idr, +ℤ-invl, +ℤ-negℤ-cancel, -ℤ-+ℤ-cancel, negℤ-+ℤ, negℤ-negℤ}
-use Rattle.integer.proofs.Difference.{is, zz}
+use lib.IntN.{ℤ, pos, negℤ, _+ℤ_, _-ℤ_, _*ℤ_, *ℤ-comm, +ℤ-assoc, +ℤ-comm, +ℤ-idl, +ℤ-idr, +ℤ-invl, +ℤ-invr, +ℤ-negℤ-cancel, -ℤ-+ℤ-cancel, negℤ-+ℤ, negℤ-negℤ}
+use Rattle.integer.proofs.Difference.{is, zz, +-left-comm}
 
 pub *-+ : (a b c : ℤ) → a *ℤ (b +ℤ c) ≡ a *ℤ b +ℤ a *ℤ c
 *-+ a b c = rw (is a, is b, is c) (simp zz (omega arith))
@@ -19,9 +20,6 @@ pub *-assoc : (a b c : ℤ) → a *ℤ b *ℤ c ≡ a *ℤ (b *ℤ c)
 
 pub *-left-comm : (a b c : ℤ) → a *ℤ (b *ℤ c) ≡ b *ℤ (a *ℤ c)
 *-left-comm a b c = rw (is a, is b, is c) (simp zz (omega arith))
-
-pub +-left-comm : (a b c : ℤ) → a +ℤ (b +ℤ c) ≡ b +ℤ (a +ℤ c)
-+-left-comm a b c = rw (is a, is b, is c) (simp zz (omega arith))
 
 pub neg-* : (a b : ℤ) → negℤ a *ℤ b ≡ negℤ (a *ℤ b)
 neg-* a b = rw (is a, is b) (simp zz (omega arith))
@@ -56,3 +54,6 @@ pub ruleset moves = (+-unassoc, move-r, neg-r)
 
 pub by-zero : {x y : ℤ} → x +ℤ negℤ y ≡ pos 0 → x ≡ y
 by-zero {x} {y} p = move-r x y (pos 0) .0 p ∙ +ℤ-idl y
+
+pub swapped-zero : (a b x : ℤ) → a *ℤ (b *ℤ x) -ℤ b *ℤ (a *ℤ x) ≡ pos 0
+swapped-zero a b x = rw (*-left-comm a b x) (+ℤ-invr (b *ℤ (a *ℤ x)))

@@ -15,8 +15,9 @@ use lib.Dec.{T}
 use lib.IntN.{ℤ, pos, negsuc, negℤ, natAbs, _+ℤ_, _-ℤ_, _*ℤ_, negℤ-+ℤ}
 use lib.Signed.{ltZ, quotZ}
 use Rattle.integer.specs.Quotient.{ceilDiv, roundDiv}
-use Rattle.integer.proofs.Absolute.{abs-neg}
+use Rattle.integer.proofs.Absolute.{abs-neg, abs-difference}
 use Rattle.integer.proofs.Difference.{zz}
+use Rattle.integer.proofs.Ring.{*-neg}
 
 pub ceil-covers : (a b : ℕ) → 0 < b → a ≤ ceilDiv a b * b
 unfolding ceilDiv
@@ -69,25 +70,19 @@ near a d h =
     let l : (2 * a + d) % (2 * d) < 2 * d = mod-lt (2 * a + d) (omega arith) in
     (omega arith, omega arith)
 
--- |pos a − pos b|, and of their negations
-apart : (a b : ℕ) → natAbs (pos a -ℤ pos b) ≡ (a - b) + (b - a)
-apart a b = simp zz (omega arith)
-
+-- the distance of two negations
 apart-neg : (a b : ℕ) → natAbs (negℤ (pos a) -ℤ negℤ (pos b)) ≡ (a - b) + (b - a)
 apart-neg a b = simp zz (omega arith)
 
-scaled-neg : (d v : ℕ) → pos d *ℤ negℤ (pos v) ≡ negℤ (pos (d * v))
-scaled-neg d v = simp zz (omega arith)
-
 pub round-near : (x : ℤ) (d : ℕ) → 0 < d → 2 * natAbs (x -ℤ pos d *ℤ roundDiv x d) ≤ d
 unfolding roundDiv
-round-near (pos a) d h = rw (apart a (d * ((2 * a + d) / (2 * d)))) (omega (arith, near a d h))
+round-near (pos a) d h = rw (abs-difference a (d * ((2 * a + d) / (2 * d)))) (omega (arith, near a d h))
 round-near (negsuc a) d h =
-    rw (scaled-neg d ((2 * suc a + d) / (2 * d)), apart-neg (suc a) (d * ((2 * suc a + d) / (2 * d)))) (omega (arith, near (suc a) d h))
+    rw (*-neg (pos d) (pos ((2 * suc a + d) / (2 * d))), apart-neg (suc a) (d * ((2 * suc a + d) / (2 * d)))) (omega (arith, near (suc a) d h))
 
 pub round-half : (x : ℤ) (d : ℕ) → 0 < d → 2 * natAbs (x -ℤ pos d *ℤ roundDiv x d) ≡ d → natAbs x < d * natAbs (roundDiv x d)
 unfolding roundDiv
-round-half (pos a) d h e = omega (arith, near a d h, apart a (d * ((2 * a + d) / (2 * d))))
+round-half (pos a) d h e = omega (arith, near a d h, abs-difference a (d * ((2 * a + d) / (2 * d))))
 round-half (negsuc a) d h e =
     rw (abs-neg (pos ((2 * suc a + d) / (2 * d))))
-    (omega (arith, near (suc a) d h, apart-neg (suc a) (d * ((2 * suc a + d) / (2 * d))), rw (scaled-neg d ((2 * suc a + d) / (2 * d))) at e))
+    (omega (arith, near (suc a) d h, apart-neg (suc a) (d * ((2 * suc a + d) / (2 * d))), rw (*-neg (pos d) (pos ((2 * suc a + d) / (2 * d)))) at e))

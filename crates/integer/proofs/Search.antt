@@ -4,6 +4,7 @@
 --   largest-at, largest-≤, largest-ext — a value is at most the largest; the largest is at most what all values are; equal values have the same largest
 --   upto      — what holds of all below n, and of n, holds of all below n + 1
 --   Searched, searched — the test holds at the first place and nowhere before it, or nowhere;  first-past — at n it holds nowhere
+--   first-most — it is at most n
 --   clash     — a test does not both hold and fail
 --   first-is, first-never — the converse: what has these properties is the first place
 --   first-ext — equal tests have the same first place
@@ -83,6 +84,13 @@ first-past n f past = go (searched n f)
     go : Searched n f → (k : ℕ) → k < n → f k ≡ false
     go (found i l e p h) = absurd (omega arith)
     go (nowhere e h) = h
+
+pub first-most : {x : ℕ} (n : ℕ) (f : ℕ → Bool) → x ≡ first n f → x ≤ n
+first-most {x} n f e = go (searched n f)
+  where
+    go : Searched n f → x ≤ n
+    go (found i l p q h) = omega arith
+    go (nowhere p h) = omega arith
 
 pub clash {ℓ} : {A : Type ℓ} (b : Bool) → b ≡ true → b ≡ false → A
 clash b p q = absurd (subst T (sym p ∙ q) tt)

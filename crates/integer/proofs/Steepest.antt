@@ -1,4 +1,5 @@
 -- A place where u / v is largest (specs/Finite), for divisors above 0.
+--   carry                   — a / x ≤ b / y ≤ c / z
 --   steepest-one            — of one place it is the first
 --   steepest-stays, steepest-moves — with one place more it is the same where the quotient there is no larger, and the new one where it is no smaller
 --   steepest-of             — there is one
@@ -11,7 +12,7 @@ use native.Mathlib.Numerals.{add-one}
 use Rattle.integer.specs.Steepest.{Steepest}
 use Rattle.integer.proofs.Search.{upto}
 
-carry : (a b c x y z : ℕ) → a * y ≤ b * x → b * z ≤ c * y → 0 < y → a * z ≤ c * x
+pub carry : (a b c x y z : ℕ) → a * y ≤ b * x → b * z ≤ c * y → 0 < y → a * z ≤ c * x
 carry a b c x y z h k o =
     let l : a * z * y ≤ c * x * y = omega (arith, mul-le-mul-right z h, mul-le-mul-right x k) in le-of-mul-le-mul-right l o
 

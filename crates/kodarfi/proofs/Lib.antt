@@ -1,3 +1,4 @@
 pub mod Entry
+pub mod BuildParts
 pub mod BuildWalk
 pub mod BuildLineWalk

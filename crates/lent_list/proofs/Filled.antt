@@ -9,7 +9,7 @@ use mathlib.Core.List.{List}
 use Prim.Native.Nat.{ℕ, zero, suc, _≤_, _<_}
 use native.Mathlib.Decide.{ℕ-discrete}
 use native.Mathlib.Omega.{arith}
-use borrow.Author.Tests.{not-false}
+use borrow.Author.Tests.{not-true, not-false}
 use lib.IntN.{ℤ, pos}
 use lib.ListN.{length, getD, set, length-set}
 use lib.Seq.{getD-set-same, getD-set-other}
@@ -19,16 +19,12 @@ use Rattle.form_values.specs.declared.Item.the-variants.{End}
 use Rattle.lent_list.specs.Filled.{filledAt, filled, closedWeights}
 use Rattle.lent_list.specs.Pasted.{FillRoom}
 
-is-false : (b : Bool) → not b ≡ true → b ≡ false
-is-false true e = sym e
-is-false false e = refl
-
 module _ (z k : ℕ) (l : List ℤ) where
   pub place-given : {b : Bool} → b ≡ hasPlace z k → not b ≡ false → l ≡ filledAt z k l
   place-given {b} e h = let g : hasPlace z k ≡ true = sym e ∙ not-false b h in rw g
 
   pub place-open : {b : Bool} → b ≡ hasPlace z k → not b ≡ true → set l k (pos 1) ≡ filledAt z k l
-  place-open {b} e h = let g : hasPlace z k ≡ false = sym e ∙ is-false b h in rw g
+  place-open {b} e h = let g : hasPlace z k ≡ false = sym e ∙ not-true b h in rw g
 
   length-at : length (filledAt z k l) ≡ length l
   length-at = go (hasPlace z k)

@@ -13,7 +13,7 @@ use lib.Seq.{sets, sets-eq, paste, paste-zero, length-take-le}
 use Rattle.rules.specs.Range.{inRange}
 use Rattle.rules.specs.declared.Kind.{Kind}
 use Rattle.rules.specs.declared.Kind.the-variants as kind
-use Rattle.rules.proofs.Ranges.{both-left, both-right}
+use Rattle.rules.proofs.Ranges.{both-left, both-right, zero-tolerance}
 use Rattle.numeral.specs.Numeral.{cap}
 use Rattle.numeral.proofs.Cap.{cap-in}
 use Rattle.form.specs.Form.{Form, problem, scale, row, right, rightWithin, guess, inverse, weight, end}
@@ -24,7 +24,7 @@ use Rattle.form_values.specs.Capped.{valuesIn}
 use Rattle.form_values.specs.declared.Item.the-variants.{Of}
 use Rattle.form_values.specs.declared.Part.{Part}
 use Rattle.form_values.specs.declared.Part.the-variants as part
-use Rattle.form_values.proofs.Capped.{no-tolerance, part-same}
+use Rattle.form_values.proofs.Capped.{part-same}
 use Rattle.lent_lists.specs.Slot.{Slot, Matrix, Right, Tolerance, Guess, Inverse, Weight, partOf, width, rightValue}
 use Rattle.lent_lists.specs.Lists.{Lists, shortLists}
 use Rattle.lent_lists.specs.Put.{putItem, put, putAll}
@@ -108,7 +108,7 @@ put-exact s n (scale u v) l few many r o c = sym (paste-zero l 0 (writtenTo s (n
 put-exact s n (row i a others) l few many r o c =
     put-by s n (writtenTo s (firstValues 32 (a ∷ others))) (a ∷ others) l many part.Row i r (wide s n (firstValues 32 (a ∷ others)) (a ∷ others) (λ e. other-part e tt) (list-exact kind.Matrix n (a ∷ others) (few .0) o c))
 put-exact s n (right i b) l few many r o c =
-    put-by s n (writtenTo s (set (set (replicate 32 (pos 0)) 0 (cap b)) 1 (pos 0))) (rightValue s b (pos 0) ∷ []) l many part.Right i r (right-exact n b (pos 0) (not-false _ o) no-tolerance s)
+    put-by s n (writtenTo s (set (set (replicate 32 (pos 0)) 0 (cap b)) 1 (pos 0))) (rightValue s b (pos 0) ∷ []) l many part.Right i r (right-exact n b (pos 0) (not-false _ o) zero-tolerance s)
 put-exact s n (rightWithin i b d) l few many r o c =
     let h : inRange kind.Right b && inRange kind.Tolerance d ≡ true = not-false _ o in
     put-by s n (writtenTo s (set (set (replicate 32 (pos 0)) 0 (cap b)) 1 (cap d))) (rightValue s b d ∷ []) l many part.Right i r

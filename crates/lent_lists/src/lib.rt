@@ -8,6 +8,8 @@ use form_values::Part;
 use lent_list::fill_weights;
 use lent_list::second_of;
 use lent_list::write_part;
+use rules::COLUMN_LENGTH;
+use rules::MATRIX_LENGTH;
 
 // 8: whether a list of one of these lengths is too short.
 pub fn is_short(
@@ -20,8 +22,11 @@ pub fn is_short(
 ) -> bool
     ensures { λ r. ⌜ r ≡ tooShort matrix right tolerance guess inverse weights ⌝ }
 {
-    (matrix < 1024)
-        | ((right < 32) | ((tolerance < 32) | ((guess < 32) | ((inverse < 1024) | (weights < 32)))))
+    (matrix < MATRIX_LENGTH)
+        | ((right < COLUMN_LENGTH)
+            | ((tolerance < COLUMN_LENGTH)
+                | ((guess < COLUMN_LENGTH)
+                    | ((inverse < MATRIX_LENGTH) | (weights < COLUMN_LENGTH)))))
 }
 
 // Writes the numbers of an accepted form at their own places: they come first among the values, n of them in a row, else one, and a right side's tolerance is

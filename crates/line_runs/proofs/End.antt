@@ -14,10 +14,9 @@ use lib.Dec.{eqb}
 use lib.IntN.{pos, natAbs}
 use lib.ListN.{getD}
 use Rattle.integer.proofs.Search.{clash}
-use Rattle.rules.specs.Range.{inRange, allInRange, rangeOf, ranges}
-use Rattle.rules.specs.declared.Kind.the-variants as kind
+use Rattle.rules.specs.Range.{inRange, allInRange}
 use Rattle.rules.proofs.AllInRange.{all-in}
-use Rattle.rules.proofs.Ranges.{size-range}
+use Rattle.rules.proofs.Ranges.{size-range, one-weight}
 use Rattle.form.specs.Form.{Form}
 use Rattle.form_values.specs.Item.{partIndex}
 use Rattle.form_values.specs.declared.Item.{Item}
@@ -75,10 +74,6 @@ ended-scaled Start e = e
 ended-scaled Sized e = e
 ended-scaled Scaled e = refl
 ended-scaled Ended e = refl
-
-one-weight : inRange kind.Weight (pos 1) ≡ true
-unfolding inRange rangeOf ranges
-one-weight = refl
 
 -- the state holds what the forms fs give
 pub record FromForms (fs : List Form) (u : State) : Type 0 where

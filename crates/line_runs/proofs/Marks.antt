@@ -18,7 +18,7 @@ use lib.Seq.{getD-set-same, getD-set-other}
 use Rattle.form_values.specs.Item.{partIndex}
 use Rattle.form_values.specs.declared.Part.{Part}
 use Rattle.form_values.specs.declared.Part.the-variants.{Row, Right, Guess, Inverse, Weight}
-use Rattle.form_values.proofs.Capped.{part-same}
+use Rattle.form_values.proofs.Capped.{part-same, part-below}
 use Rattle.bit_set.specs.Places.{withPlace, lacking}
 use Rattle.bit_set.proofs.Places.{has-same, has-other, lacking-with, lacking-≤}
 use Rattle.given_forms.specs.Progress.{setOf, counted, totalOver, given, marked, missing}
@@ -38,17 +38,10 @@ once Guess = refl
 once Inverse = refl
 once Weight = refl
 
-index-below : (p : Part) → partIndex p < 5
-index-below Row = omega arith
-index-below Right = omega arith
-index-below Guess = omega arith
-index-below Inverse = omega arith
-index-below Weight = omega arith
-
 -- the sets after a form: its own part's set with its place, the others as before
 module _ (z : List ℕ) (five : length z ≡ 5) (p : Part) (i : ℕ) where
   marked-own : setOf (marked z p i) p ≡ withPlace (setOf z p) (i - 1)
-  marked-own = getD-set-same z (partIndex p) (withPlace (setOf z p) (i - 1)) 0 (omega (arith, index-below p))
+  marked-own = getD-set-same z (partIndex p) (withPlace (setOf z p) (i - 1)) 0 (omega (arith, part-below p))
 
   marked-other : (q : Part) → (partIndex q ≡ partIndex p → ⊥) → setOf (marked z p i) q ≡ setOf z q
   marked-other q e = getD-set-other z (partIndex p) (partIndex q) (withPlace (setOf z p) (i - 1)) 0 e

@@ -1,11 +1,13 @@
 -- Lines that spell forms, and are accepted: reckoned without the numbers that they put into their lists.
 --   spelled fs   — the lines of the forms fs;  forms-spelled — their forms
 --   passes d fs  — at the loader d the line of every form is accepted where no lent list is too short, and the last is an end
+--   Whole R      — every line is accepted, and the last is an end
 --   pass-all     — so it is at a loader with such lists
 use mathlib.Core.Path.{_≡_, refl, sym, ap, subst, _∙_}
 use mathlib.Core.Bool.{Bool, true, false, not, _&&_}
 use mathlib.Core.List.{List, [], _∷_}
 use Prim.Native.Nat.{ℕ, _+_}
+use borrow.Author.Tests.{not-true}
 use lib.Dec.{T, ltb}
 use lib.ListN.{length}
 use Rattle.rules.proofs.Ranges.{both-left, both-right}
@@ -47,12 +49,8 @@ passes d [] = ended (d .stage)
 passes d (f ∷ fs) = not (ended (d .stage)) && (not (ltb 320 (length (spell f))) && (noneSaid (formSaid d f) && passes (after d (itemOf f)) fs))
 
 -- every line is accepted, and the last is an end
-abbrev Whole : Reading → Type 0
+abbrev pub Whole : Reading → Type 0
 Whole R = (R .said ≡ []) × (ended (R .state .loader .stage) ≡ true)
-
-is-false : (b : Bool) → not b ≡ true → b ≡ false
-is-false true e = sym e
-is-false false e = refl
 
 is-none : (l : List ℕ) → noneSaid l ≡ true → l ≡ []
 is-none [] e = refl
@@ -72,7 +70,7 @@ pass-all k u (f ∷ fs) h p =
     let few = both-left (not (ltb 320 (length (spell f)))) _ q in
     let r = both-right (not (ltb 320 (length (spell f)))) _ q in
     let e : lineAnswer d (u .lists) (spell f) ≡ [] =
-    answer-form d (u .lists) (spell f) f h (is-false _ going) (is-false _ few) (read-spelled f) ∙ is-none (formSaid d f) (both-left (noneSaid (formSaid d f)) _ r) in
+    answer-form d (u .lists) (spell f) f h (not-true _ going) (not-true _ few) (read-spelled f) ∙ is-none (formSaid d f) (both-left (noneSaid (formSaid d f)) _ r) in
     let next : loaderAfter d (u .lists) (spell f) ≡ after d (itemOf f) = rw (e, read-spelled f) in
     rw (read-accepted k u (spell f) (spelled fs) e)
     (pass-all (k + 1) (step u (spell f)) fs (step-long u (spell f) e h) (rw next (both-right (noneSaid (formSaid d f)) _ r)))

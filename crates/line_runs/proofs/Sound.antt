@@ -2,7 +2,7 @@
 --   Sound      — five sets; past problem n is in its range, past scale s and t in theirs; before the scale no form of a part was given; after the
 --                end none is missing
 --   made-sound — every such loader is sound;  made-size — so none has an n of its own out of range
-use mathlib.Core.Path.{_≡_, refl, subst}
+use mathlib.Core.Path.{_≡_, refl}
 use mathlib.Core.Bool.{true, false, not}
 use mathlib.Core.List.{List, [], _∷_}
 use Prim.Native.Nat.{ℕ, _-_}
@@ -12,9 +12,8 @@ use lib.IntN.{ℤ, pos, natAbs}
 use lib.ListN.{length, length-set, replicate}
 use Rattle.integer.proofs.Search.{clash}
 use Rattle.rules.specs.Range.{inRange, rangeOf, ranges}
-use Rattle.rules.specs.declared.Kind.{Kind}
 use Rattle.rules.specs.declared.Kind.the-variants as kind
-use Rattle.rules.proofs.Ranges.{both-left, both-right, range-natural}
+use Rattle.rules.proofs.Ranges.{both-left, both-right, range-kept}
 use Rattle.form.specs.Form.{Form, problem, scale, row, right, rightWithin, guess, inverse, weight, end}
 use Rattle.form_values.specs.Item.{itemOf}
 use Rattle.lent_lists.specs.Lists.{Lists}
@@ -51,20 +50,17 @@ unsized Scaled e = e
 unsized Ended e = e
 
 -- ---- a number in range, as the loader keeps it
-kept : (k : Kind) (a : ℕ) (z : ℤ) → rangeOf k .lowest ≡ pos a → inRange k z ≡ true → inRange k (pos (natAbs z)) ≡ true
-kept k a z e h = subst (λ (y : ℤ). inRange k y ≡ true) (range-natural k a z e h .0) h
-
 size-kept : (n : ℤ) → inRange kind.Size n ≡ true → inRange kind.Size (pos (natAbs n)) ≡ true
 unfolding rangeOf ranges
-size-kept n h = kept kind.Size 1 n refl h
+size-kept n h = range-kept kind.Size 1 n refl h
 
 solution-kept : (s : ℤ) → inRange kind.SolutionScale s ≡ true → inRange kind.SolutionScale (pos (natAbs s)) ≡ true
 unfolding rangeOf ranges
-solution-kept s h = kept kind.SolutionScale 0 s refl h
+solution-kept s h = range-kept kind.SolutionScale 0 s refl h
 
 inverse-kept : (t : ℤ) → inRange kind.InverseScale t ≡ true → inRange kind.InverseScale (pos (natAbs t)) ≡ true
 unfolding rangeOf ranges
-inverse-kept t h = kept kind.InverseScale 0 t refl h
+inverse-kept t h = range-kept kind.InverseScale 0 t refl h
 
 -- ---- from line to line
 pub fresh-empty : (p : Part) (i : ℕ) → given (replicate 5 0) p i ≡ false

@@ -12,14 +12,13 @@ use lib.ListN.{length, getD}
 use Rattle.rules.specs.Range.{inRange}
 use Rattle.rules.specs.declared.Kind.{Kind}
 use Rattle.rules.specs.declared.Kind.the-variants as kind
-use Rattle.rules.proofs.Ranges.{both-left, both-right}
+use Rattle.rules.proofs.Ranges.{both-left, both-right, zero-tolerance}
 use Rattle.form.specs.Form.{Form, problem, scale, row, right, rightWithin, guess, inverse, weight, end}
 use Rattle.form.specs.List.{allInside}
 use Rattle.form_values.specs.Item.{itemOf, outside, miscounted}
 use Rattle.form_values.specs.declared.Item.the-variants.{Problem, Scale, Of, End}
 use Rattle.form_values.specs.declared.Part.{Part}
 use Rattle.form_values.specs.declared.Part.the-variants.{Row, Right, Guess, Inverse, Weight}
-use Rattle.form_values.proofs.Capped.{no-tolerance}
 use Rattle.lent_lists.specs.Slot.{Slot, partOf, width, rightValue, valuesFor}
 use Rattle.lent_lists.proofs.Slot.{slotOf, of-part, of-right, other-part}
 use Rattle.line_runs.specs.Holds.{kindFor}
@@ -76,7 +75,7 @@ pub view : (n : ℕ) (f : Form) → outside f ≡ false → miscounted n f ≡ f
 view n (problem m) o c = a-problem m refl
 view n (scale s t) o c = a-scale s t refl
 view n (row i a others) o c = listed n kind.Matrix Row (λ e. other-part e tt) i (row i a others) (a ∷ others) refl refl refl (λ s. refl) o c
-view n (right i b) o c = either-right n i b (pos 0) (right i b) refl (λ s. refl) (not-false _ o) no-tolerance
+view n (right i b) o c = either-right n i b (pos 0) (right i b) refl (λ s. refl) (not-false _ o) zero-tolerance
 view n (rightWithin i b d) o c =
     let h : inRange kind.Right b && inRange kind.Tolerance d ≡ true = not-false _ o in
     either-right n i b d (rightWithin i b d) refl (λ s. refl) (both-left (inRange kind.Right b) (inRange kind.Tolerance d) h) (both-right (inRange kind.Right b) (inRange kind.Tolerance d) h)

@@ -1,9 +1,8 @@
 -- In its stated case a refusal is said (specs/Stated).
---   reads-as   — a line that spells a form reads as it
 --   own-placed — where the loader's own n is in range the test of the place asks whether i is 1 to n, and nothing else;  Placing — so it asks of the line
 --   said-form, said-early, unread, said-2, said-place, said-again, said-first — what is said, by the tests
 --   said-by    — what is stated for a line is said of it
-use mathlib.Core.Path.{_≡_, refl, ap, _∙_}
+use mathlib.Core.Path.{_≡_, refl, _∙_}
 use mathlib.Core.Bool.{Bool, true, false, not}
 use mathlib.Core.List.{List, [], _∷_}
 use mathlib.Core.Option.{Option, none, some}
@@ -14,7 +13,7 @@ use Rattle.rules.specs.Order.{verdict}
 use Rattle.form.specs.Form.{Form}
 use Rattle.form.specs.Spelling.{spell}
 use Rattle.form.specs.Reading.{reading}
-use Rattle.form.proofs.Spelling.{read-spelled, spelled-read}
+use Rattle.form.proofs.Spelling.{reads-as, spelled-read}
 use Rattle.form_values.specs.Item.{itemOf, placed}
 use Rattle.form_values.specs.declared.Item.{Item}
 use Rattle.lent_lists.specs.Lists.{Lists, shortLists}
@@ -24,9 +23,6 @@ use Rattle.loader.specs.declared.Loader.{Loader}
 use Rattle.loader.specs.Answer.{lineAnswer}
 use Rattle.loader.proofs.Exact.{formCase, formSaid, answer-form}
 use Rattle.line_stated.specs.Stated.{OwnSize, Formed, Unrepeated, LineStated, too-short, after-end, too-long, no-form, too-early, i-outside, again, value-outside, wrong-count, forms-missing, accepted}
-
-pub reads-as : {line : List ℕ} {f : Form} → line ≡ spell f → reading line ≡ some f
-reads-as {line} {f} e = ap reading e ∙ read-spelled f
 
 pub own-placed : (d : Loader) → OwnSize d → (x : Item) → misplaced (d .stage) (d .n) x ≡ not (placed (d .n) x)
 unfolding misplaced
@@ -39,7 +35,7 @@ own-placed d own x = go (sized (d .stage)) refl
 module _ (d : Loader) (l : Lists) (line : List ℕ) where
   -- ---- by the tests of a form
   pub said-form : {f : Form} → Formed d l line f → lineAnswer d l line ≡ formSaid d f
-  said-form {f} h = answer-form d l line f (h .long) (h .going) (le-ltb 320 (length line) (h .few)) (reads-as (h .spelled))
+  said-form {f} h = answer-form d l line f (h .long) (h .going) (le-ltb 320 (length line) (h .few)) (reads-as line f (h .spelled))
 
   said-early : {f : Form} → Formed d l line f → early (d .stage) (itemOf f) ≡ true → lineAnswer d l line ≡ 11 ∷ []
   said-early h e = said-form h ∙ unfold formSaid in rw e

@@ -3,7 +3,7 @@
 --   in-time, some-stated, some-other — so there is a stated case of every line, at every loader
 --   said-stated, line-exactly — what is said is what is stated, at a loader whose own n is in range;  made-exactly — so it is at every loader made by `new` and `take`
 --   said-own, said-other, other-exactly — and at any other loader
-use mathlib.Core.Path.{_≡_, refl, sym, ap, subst, _∙_}
+use mathlib.Core.Path.{_≡_, refl, sym, subst, _∙_}
 use mathlib.Core.Bool.{Bool, true, false}
 use mathlib.Core.List.{List, [], _∷_}
 use mathlib.Core.Logic.{_↔_}
@@ -20,7 +20,7 @@ use Rattle.rules.specs.declared.Kind.the-variants.{Size}
 use Rattle.form.specs.Form.{Form}
 use Rattle.form.specs.Spelling.{spell}
 use Rattle.form.specs.Reading.{reading}
-use Rattle.form.proofs.Spelling.{read-spelled, spelled-read}
+use Rattle.form.proofs.Spelling.{reads-as, spelled-read}
 use Rattle.line_parts.proofs.Refusals.{spell-one}
 use Rattle.form_values.specs.Item.{itemOf, placed, outside, miscounted}
 use Rattle.lent_lists.specs.Lists.{Lists, shortLists}
@@ -49,7 +49,7 @@ module _ (d : Loader) (l : Lists) (line : List ℕ) where
 
   at-reading : shortLists l ≡ false → ended (d .stage) ≡ false → length line ≤ 320 → (o : Option Form) → reading line ≡ o → Reached
   at-reading a b c none e =
-      let no : (f : Form) → line ≡ spell f → ⊥ = λ f p. nothing (sym e ∙ ap reading p ∙ read-spelled f) in
+      let no : (f : Form) → line ≡ spell f → ⊥ = λ f p. nothing (sym e ∙ reads-as line f p) in
       refused (2 ∷ []) (λ f h. absurd (no f (h .spelled))) (no-form a b c no)
     where
       nothing : {f : Form} → none ≡ some f → ⊥

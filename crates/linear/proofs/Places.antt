@@ -1,7 +1,8 @@
 -- Places in slices: where the numbers of a row, of a column and of a list stand, and that a dot product of them is the product's number.
---   place, square — the place of row i and column j is below n · n, at most 1,024 where n is at most 32
+--   place, square — the place of row i and column j is below the count of rows times n; n · n is at most 1,024 where n is at most 32
+--   row-room, row-ends, row-fits — a row of n numbers ends inside a list of n · n numbers, by place 1,024 where n is at most 32, and its start fits a u64
 --   place-column, place-row — column after column: place j·n + k stands for column j and row k
---   row-reach, column-reach, list-reach — a row and a column of n·n numbers, a list of n numbers, as `dot` asks for them;  square-list — a matrix list as such a list
+--   row-reach, column-reach, list-reach — a row and a column of a list of numbers row after row, and a list of n numbers, as `dot` asks for them;  square-list — a matrix list as such a list
 --   dot-row       — row k of A times a list is (A·v) k
 --   dot-term, dot-fits, dot-size — a term is at most 2 ^ 56 in size, a partial sum with its next term fits an i64, the size of a whole sum
 use mathlib.Core.Path.{_≡_, _∙_}
@@ -18,11 +19,20 @@ use Rattle.linear.specs.Place.{placeOf}
 use Rattle.linear.specs.Reach.{dotOf, Reach, ColumnList, MatrixList}
 use Rattle.linear.proofs.Carried.{row-place, column-place, carried}
 
-pub place : {i j n : ℕ} → i < n → j < n → i * n + j < n * n
-place {i} {j} {n} p q = omega (arith, mul-le-mul p (le-refl n))
+pub place : {i j m n : ℕ} → i < m → j < n → i * n + j < m * n
+place {i} {j} {m} {n} p q = omega (arith, mul-le-mul p (le-refl n))
 
 pub square : {n : ℕ} → n ≤ 32 → n * n ≤ 1024
 square p = mul-le-mul p p
+
+pub row-room : {i n size : ℕ} → i < n → n * n ≤ size → i * n + n ≤ size
+row-room {i} {n} l h = omega (arith, mul-le-mul l (le-refl n))
+
+pub row-ends : {i n : ℕ} → i < n → n ≤ 32 → i * n + n ≤ 1024
+row-ends l few = row-room l (square few)
+
+pub row-fits : {i n : ℕ} → i < n → n ≤ 32 → i * n < 2 ^ 64
+row-fits l few = omega (arith, row-ends l few)
 
 pub place-column : (j k n : ℕ) → k < n → (j * n + k) / n ≡ j
 place-column j k n l = div-eq-of-lt-le n (omega arith) (omega arith)
@@ -31,18 +41,17 @@ pub place-row : (j k n : ℕ) → k < n → (j * n + k) % n ≡ k
 place-row j k n l = mul-add-mod-self-right j n k ∙ mod-eq-of-lt l
 
 -- ---- rows, columns, lists
-module _ {xs : List ℤ} {n b : ℕ} (q : ColumnList xs (n * n) b) where
-  pub row-reach : (i : ℕ) → i < n → Reach xs (i * n) 1 n b
-  row-reach i l = record {
-    inside = λ j h. omega (arith, place l h, q .long);
-    size = λ j h. rw (row-place n i (carried (i * n) 1 j)) (q .within .size (placeOf n i j) (place l h));
-  }
+pub row-reach : {xs : List ℤ} {m n b : ℕ} → ColumnList xs (m * n) b → (i : ℕ) → i < m → Reach xs (i * n) 1 n b
+row-reach {xs} {m} {n} q i l = record {
+  inside = λ j h. let p : i * n + j < m * n = place l h in omega (arith, q .long);
+  size = λ j h. rw (row-place n i (carried (i * n) 1 j)) (q .within .size (placeOf n i j) (place l h));
+}
 
-  pub column-reach : (j : ℕ) → j < n → Reach xs j n n b
-  column-reach j l = record {
-    inside = λ i h. omega (arith, place h l, q .long);
-    size = λ i h. rw (column-place (carried j n i)) (q .within .size (placeOf n i j) (place h l));
-  }
+pub column-reach : {xs : List ℤ} {n b : ℕ} → ColumnList xs (n * n) b → (j : ℕ) → j < n → Reach xs j n n b
+column-reach {xs} {n} q j l = record {
+  inside = λ i h. let p : i * n + j < n * n = place h l in omega (arith, q .long);
+  size = λ i h. rw (column-place (carried j n i)) (q .within .size (placeOf n i j) (place h l));
+}
 
 pub square-list : {xs : List ℤ} {n : ℕ} → MatrixList xs n → ColumnList xs (n * n) (2 ^ 20)
 square-list q = record { long = q .long; within = q .within }

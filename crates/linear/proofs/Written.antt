@@ -1,7 +1,7 @@
 -- Laws of lists that numbers were written into.
 --   written-none, written-next, written-more, written-end, written-length — at none, one more, at the end, and the length, for loops
 --   written-at, written-else — the places p + i·s hold f i, every other place is as before;  written-ext — of equal functions
---   front-at, front-else — the same of the first n places
+--   front-at, front-else — the same of the first n places;  same-written — equal numbers written to two lists
 use mathlib.Core.Path.{_≡_, refl, sym, ap, _∙_}
 use mathlib.Core.List.{List}
 use Prim.Native.Nat.{ℕ, zero, suc, _+_, _*_, _≤_, _<_}
@@ -62,3 +62,7 @@ module _ {A : Type 0} (xs : List A) (f : ℕ → A) (d : A) (n : ℕ) where
 
   pub front-else : (i : ℕ) → n ≤ i → getD (written xs 0 1 f n) i d ≡ getD xs i d
   front-else i h = written-else xs 0 1 f d n i (λ j l e. omega arith)
+
+pub same-written : {A : Type 0} (d : A) (n : ℕ) (xs ys : List A) (f g : ℕ → A) → n ≤ length xs → n ≤ length ys → ((i : ℕ) → i < n → f i ≡ g i) → {zs zs′ : List A} →
+    zs ≡ written xs 0 1 f n → zs′ ≡ written ys 0 1 g n → (i : ℕ) → i < n → getD zs i d ≡ getD zs′ i d
+same-written d n xs ys f g h k e p q i l = rw (p, q) (front-at xs f d n i l h ∙ e i l ∙ sym (front-at ys g d n i l k))

@@ -5,12 +5,12 @@
 use mathlib.Core.Path.{_≡_, refl, sym, subst}
 use mathlib.Core.Bool.{true}
 use mathlib.Core.List.{List, [], _∷_}
-use Prim.Native.Nat.{ℕ, zero, suc, _*_, _<_}
-use native.Mathlib.Omega.{arith}
+use Prim.Native.Nat.{_*_}
 use lib.Dec.{lit≤}
 use lib.IntN.{pos, natAbs, _-ℤ_, _*ℤ_}
 use Rattle.integer.specs.Finite.{sum, sumℕ, largest, first}
 use Rattle.integer.specs.Quotient.{ceilDiv, roundDiv}
+use Rattle.integer.proofs.Below.{only}
 use Rattle.linear.specs.Matrix.{apply, product, identity}
 use Rattle.rules.specs.Range.{ranges, rangeOf, inRange}
 use Rattle.entry.specs.Entry.{entryBound}
@@ -74,10 +74,6 @@ tolerant-file = listing-is tolerantFile tolerantForms tolerant-spelled tolerant-
 -- ---- a right side at the corner
 of-file : (Q : Problem → Type 0) → Q (problemFrom tolerantForms) → Q (problemIn tolerantFile)
 of-file Q h = subst Q (sym (problem-is tolerantFile tolerantForms tolerant-spelled tolerant-passes)) h
-
-only : (Q : ℕ → Type 0) → Q 0 → (i : ℕ) → i < 1 → Q i
-only Q a zero l = a
-only Q a (suc i) l = absurd (omega arith)
 
 pub tolerant-right : RightSide (problemIn tolerantFile) farRight 3
 unfolding valueFrom sizeFrom

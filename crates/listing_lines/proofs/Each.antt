@@ -1,7 +1,7 @@
 -- Laws of texts one after another.
 --   each-none, each-next, each-ext — none, one more, and that only the first n count
 --   wrote-none, wrote-more, wrote-end — the same as they are written, for loops
---   gap-first, gap-later — a number with the space before it
+--   gap-first, gap-later — the space before a number: none before the first
 --   room — where n texts of at most m bytes have room, there is room for the next
 use mathlib.Core.Path.{_≡_, refl, sym}
 use mathlib.Core.List.{List, [], _++_}
@@ -40,9 +40,9 @@ pub room : (m n at : ℕ) {i place size : ℕ} → i < n → place ≤ at + i * 
 room m n at l h r = omega (arith, mul-le-mul-right m l)
 
 -- ---- the space before every number but the first
-pub gap-first : {a j : ℕ} {o p t : List ℕ} {at k : ℕ} → j ≡ 0 → Wrote a o at t p k → Wrote a o at (gap j ++ t) p k
-gap-first {a} {j} {o} {p} {t} e x = rw e x
+pub gap-first : {j : ℕ} (l : List ℕ) (at : ℕ) → j ≡ 0 → Wrote 1 l at (gap j) l at
+gap-first l at e = rw e (wider 1 (omega arith) (none l at))
 
-pub gap-later : {a j : ℕ} {o p t : List ℕ} {at k : ℕ} → (j ≡ 0 → ⊥) → Wrote a o at (bytes " " ++ t) p k → Wrote a o at (gap j ++ t) p k
+pub gap-later : {j : ℕ} {o p : List ℕ} {at k : ℕ} → (j ≡ 0 → ⊥) → Wrote 1 o at (bytes " ") p k → Wrote 1 o at (gap j) p k
 gap-later {j = zero} n x = absurd (n refl)
 gap-later {j = suc j} n x = x

@@ -32,15 +32,23 @@ pub fn put_pair(out: &mut [u8], at: usize, word: &[u8], i: u64, z: i64, e: u64) 
     put_bytes(out, d, b"))\n")
 }
 
+// The space before the number at place j of a list, which the first has not.
+pub fn put_gap(out: &mut [u8], at: usize, j: usize) -> usize
+    requires { ⌜ at + 1 ≤ length (now out) ⌝ }
+    ensures { λ r. ⌜ Wrote 1 (now (out .entry)) at (gap j) (now (out .exit)) r ⌝ }
+{
+    if j == 0 {
+        return at;
+    }
+    put_bytes(out, at, b" ")
+}
+
 // The number at place j of a list, and the space before it.
 fn put_item(out: &mut [u8], at: usize, j: usize, v: u64) -> usize
     requires { ⌜ at + 21 ≤ length (now out) ⌝ }
     ensures { λ r. ⌜ Wrote 21 (now (out .entry)) at (gap j ++ decimal v) (now (out .exit)) r ⌝ }
 {
-    if j == 0 {
-        return put_natural(out, at, v);
-    }
-    let a = put_bytes(out, at, b" ");
+    let a = put_gap(out, at, j);
     put_natural(out, a, v)
 }
 

@@ -1,6 +1,6 @@
 -- The filled-out matrix.
 --   rows-none, rows-next, rows-end — its first rows at none, one row more, and at the end, for the loop
---   filled-inside, filled-outside — n in its range, and out of it;  inside-range — n up to 32 with a row is in its range
+--   filled-inside, filled-outside — n in its range, and out of it
 --   filled-length — 1,024 numbers
 --   filled-at  — row i and column j stand at i·n + j, and are the half's number at their place;  filled-past — 0 past n·n
 --   filled-symmetric — the filled-out matrix is symmetric
@@ -11,14 +11,13 @@ use mathlib.Core.List.{List}
 use Prim.Native.Nat.{ℕ, zero, suc, _+_, _*_, _/_, _%_, _≤_, _<_}
 use native.Mathlib.Omega.{arith}
 use native.Mathlib.Nat.{mod-lt, div-lt-iff-lt-mul, le-antisymm}
-use borrow.Author.Tests.{le-leb}
 use lib.IntN.{ℤ, pos}
 use lib.ListN.{length, replicate, length-replicate, getD-replicate}
 use Rattle.linear.specs.Slice.{at, matrixOf}
 use Rattle.linear.specs.Written.{written}
-use Rattle.rules.specs.Range.{inRange, rangeOf, ranges}
+use Rattle.rules.specs.Range.{inRange}
 use Rattle.rules.specs.declared.Kind.the-variants as kind
-use Rattle.rules.proofs.Ranges.{both}
+use Rattle.rules.proofs.Ranges.{in-size-range}
 use Rattle.linear.proofs.Places.{place, square, place-column, place-row}
 use Rattle.linear.proofs.Written.{written-none, written-more, written-length, written-ext, front-at, front-else}
 use Rattle.lower_half.specs.Half.{halfPlace, halfCount, filledRows, filledOut}
@@ -33,10 +32,6 @@ written-row xs f g p (suc n) h =
 
 abbrev zeros : List ℤ
 zeros = replicate 1024 (pos 0)
-
-inside-range : (n : ℕ) → 0 < n → n ≤ 32 → inRange kind.Size (pos n) ≡ true
-unfolding inRange rangeOf ranges
-inside-range n some few = both (le-leb 1 n some) (le-leb n 32 few)
 
 module _ (n : ℕ) (half : List ℤ) where
   abbrev numberAt : ℕ → ℤ
@@ -75,7 +70,7 @@ module _ (n : ℕ) (half : List ℤ) where
 
   pub filled-at : n ≤ 32 → (i j : ℕ) → i < n → j < n → matrixOf (filledOut n half) n i j ≡ at half (halfPlace i j)
   filled-at few i j li lj =
-      ap (λ (A : List ℤ). at A (i * n + j)) (filled-inside (inside-range n (omega arith) few))
+      ap (λ (A : List ℤ). at A (i * n + j)) (filled-inside (in-size-range n (omega arith) few))
       ∙ front-at zeros numberAt (pos 0) (n * n) (i * n + j) (place li lj) (omega (arith, square few, length-replicate 1024 (pos 0)))
       ∙ sym (number-is i j lj)
 

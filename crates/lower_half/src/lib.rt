@@ -8,6 +8,9 @@ ghost use Rattle.lower_half.specs.Half.{lowerPlace, halfPlace, filledRow
 use rules::Kind;
 use rules::is_natural_in_range;
 
+// 02, Paper 10: "8 for a list under 528".
+pub const HALF_LENGTH: usize = 528;
+
 // The place in the half of row i and column j + 1, from that of row i and column j: the next one left of the diagonal, one row further down from it on.
 fn next_place(place: usize, i: usize, j: usize) -> usize
     requires { ⌜ (i < 32) × ((j < 32) × (place ≡ halfPlace i j)) ⌝ }

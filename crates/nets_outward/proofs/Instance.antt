@@ -1,15 +1,12 @@
 -- The theorems of this crate are not empty: two nets of one mark each, accepted, with limits of 48 and 112 steps of 1/16.
 --   both-checked — the call accepts them
 --   both-between-here — their joint solution for right sides at the corners of the tolerances, the heights 3 and 7, lies between the ends
-use mathlib.Core.List.{List, []}
+use mathlib.Core.List.{[]}
 use mathlib.Core.Path.{_≡_, refl}
 use lib.Dec.{lit≤}
-use lib.ListN.{replicate}
-use lib.Ieee.{Float}
 use Rattle.rules.specs.declared.Outcome.the-variants as outcome
-use Rattle.doubles.specs.Units.{plusZero}
 use Rattle.exchange.specs.Outward.{Outgoing, lowsAfter, highsAfter, IntervalsOf}
-use Rattle.exchange.proofs.Instance.{outward-accepts}
+use Rattle.exchange.proofs.Instance.{outward-accepts, zeros}
 use Rattle.checked.specs.Checked.{solutionAfter, inverseAfter}
 use Rattle.dependent.specs.declared.CheckedNets.the-variants.{Accepted}
 use Rattle.dependent.specs.Nets.{attached}
@@ -23,9 +20,6 @@ use Rattle.nets_outward.proofs.Heights.{both-taken, both-between}
 
 both-checked : CheckedTogether both Accepted (solutionAfter [] (both .main)) (inverseAfter [] (both .main)) (dependentSolutionAfter [] (attached both)) (inverseAfter [] (both .dependent))
 both-checked = let e = joint-none both accepted-here in together-accepted both (e .0) (e .1) refl refl refl refl
-
-abbrev zeros : List Float
-zeros = replicate 32 plusZero
 
 abbrev pub ends₁ : Outgoing
 ends₁ = mainOutgoing both (solutionAfter [] (both .main)) zeros zeros

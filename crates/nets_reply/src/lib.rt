@@ -1,6 +1,6 @@
 // The answer of a check of two nets in numbers, for other languages.
 ghost use mathlib.Core.Path.{_≡_};
-ghost use lib.ListN.{getD, drop};
+ghost use Rattle.rules.specs.Order.{whichOf, refusalOf};
 ghost use Rattle.refusal.specs.Refused.{printed};
 ghost use Rattle.refusal.specs.Reply.{replyOf};
 ghost use Rattle.dependent.specs.Order.{saidNets};
@@ -11,7 +11,7 @@ use refusal::reply_of;
 
 // What is said, without the net that it is of.
 pub fn nets_reply(checked: CheckedNets) -> Reply
-    ensures { λ r. ⌜ r ≡ replyOf (printed 0 (drop 1 (saidNets checked))) ⌝ }
+    ensures { λ r. ⌜ r ≡ replyOf (printed 0 (refusalOf (saidNets checked))) ⌝ }
 {
     match checked {
         CheckedNets::Accepted => no_refusal(),
@@ -22,7 +22,7 @@ pub fn nets_reply(checked: CheckedNets) -> Reply
 
 // The net that a refusal is of, 1 or 2; 0 where nothing is refused.
 pub fn net_of(checked: CheckedNets) -> u32
-    ensures { λ r. ⌜ r ≡ getD (saidNets checked) 0 0 ⌝ }
+    ensures { λ r. ⌜ r ≡ whichOf (saidNets checked) ⌝ }
 {
     match checked {
         CheckedNets::Accepted => 0,

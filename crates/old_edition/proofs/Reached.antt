@@ -2,7 +2,7 @@
 --   rank p k      — the place of the form of the part p for the number k in that order
 --   Reached n r d — at the scaled loader d, of n equations, the forms up to the rank r were given, and no other
 --   done-next, reached-next — one form more;  reached-part — from one part to the next
---   total-none — where no part lacks a form, the sum is 0;  rank-below, all-there, reached-all, reached-old — so it is after the last part: nothing is missing,
+--   total-none — where no part lacks a form, the sum is 0;  all-there, reached-all, reached-old — so it is after the last part: nothing is missing,
 --                   by the count in force and by 01's
 use mathlib.Core.Path.{_≡_, refl, subst, _∙_}
 use mathlib.Core.Bool.{true, false}
@@ -15,8 +15,7 @@ use lib.ListN.{length, length-set}
 use Rattle.form_values.specs.Item.{partIndex}
 use Rattle.form_values.specs.declared.Item.the-variants.{Of}
 use Rattle.form_values.specs.declared.Part.{Part}
-use Rattle.form_values.specs.declared.Part.the-variants.{Row, Right, Guess, Inverse, Weight}
-use Rattle.form_values.proofs.Capped.{part-same}
+use Rattle.form_values.proofs.Capped.{part-same, part-below}
 use Rattle.bit_set.specs.Places.{lacking}
 use Rattle.bit_set.proofs.Places.{none-lacking}
 use Rattle.given_forms.specs.Before.{counted01, missing01}
@@ -74,18 +73,11 @@ total-none : (ps : List Part) (f : Part → ℕ) → ((q : Part) → f q ≡ 0) 
 total-none [] f h = refl
 total-none (q ∷ ps) f h = omega (arith, h q, total-none ps f h)
 
-rank-below : (p : Part) → partIndex p ≤ 4
-rank-below Row = omega arith
-rank-below Right = omega arith
-rank-below Guess = omega arith
-rank-below Inverse = omega arith
-rank-below Weight = omega arith
-
 module _ {n : ℕ} {d : Loader} (few : n ≤ 32) (h : Reached n 165 d) where
   all-there : (q : Part) → lacking (setOf (d .sets) q) n ≡ 0
   all-there q =
       none-lacking (setOf (d .sets) q) n
-      (λ i l. let e : suc i - 1 ≡ i = omega arith in rw e at (h .done q (suc i) (omega arith) (omega arith) (omega (arith, rank-below q))))
+      (λ i l. let e : suc i - 1 ≡ i = omega arith in rw e at (h .done q (suc i) (omega arith) (omega arith) (omega (arith, part-below q))))
 
   pub reached-all : missing (d .n) (d .sets) ≡ 0
   unfolding missing

@@ -29,9 +29,9 @@ use Rattle.loader_order.proofs.Said.{Passed}
 use Rattle.loader.specs.declared.Loader.{Loader}
 use Rattle.loader.specs.Taken.{fresh, after, listsWith, loaderAfter, listsAfter}
 use Rattle.loader.proofs.Exact.{formCase}
-use Rattle.line_runs.specs.Read.{Reading, readFrom, zeros, readingOf}
+use Rattle.line_runs.specs.Read.{readFrom, zeros, readingOf}
 use Rattle.line_runs.specs.Run.{State, fromNew, step}
-use Rattle.line_runs.proofs.Passing.{spelled, step-long}
+use Rattle.line_runs.proofs.Passing.{spelled, Whole, step-long}
 use Rattle.line_runs.proofs.Read.{read-none, read-accepted}
 use Rattle.spelled_lines.specs.Ones.{textOf}
 use Rattle.spelled_lines.proofs.Accepts.{spelled-length, accepts-spelled, spelled-accepted}
@@ -48,9 +48,6 @@ pub record PassesOld (d : Loader) (f : Form) : Type 0 where
 abbrev pub Takes : Loader → List Form → Type 0
 Takes d [] = ended (d .stage) ≡ true
 Takes d (f ∷ fs) = (ended (d .stage) ≡ false) × (PassesOld d f × Takes (after d (itemOf f)) fs)
-
-abbrev Whole : Reading → Type 0
-Whole R = (R .said ≡ []) × (ended (R .state .loader .stage) ≡ true)
 
 -- ---- the loader in force
 take-now : (k : ℕ) (u : State) (fs : List Form) → shortLists (u .lists) ≡ false → Takes (u .loader) fs → Whole (readFrom k u (spelled fs))

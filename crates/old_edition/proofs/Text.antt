@@ -3,7 +3,7 @@
 --   answer-numbers — the numbers of the refusal's line, from what is said and the number of the line
 --   first-bytes    — the first 65,536 bytes decide any file: the program may read into one buffer of that size
 --   never-too-small — for a complete file without tolerance the program prints the new file: its buffer of 32,768 bytes is long enough
-use mathlib.Core.Path.{_≡_, refl, sym, ap, _∙_}
+use mathlib.Core.Path.{_≡_, refl}
 use mathlib.Core.List.{List, [], _∷_}
 use Prim.Native.Nat.{ℕ}
 use native.Mathlib.Omega.{arith}
@@ -11,14 +11,12 @@ use lib.ListN.{take}
 use Rattle.rules.specs.Order.{verdict, ifAccepted}
 use Rattle.enclosure.specs.Demand.{NoTolerance}
 use Rattle.line_runs.specs.Acceptable.{bytesMost}
-use Rattle.line_runs.specs.Run.{fromNew}
-use Rattle.line_runs.specs.Read.{Reading, zeros, readingOf}
-use Rattle.line_runs.proofs.FirstBytes.{Cut, whole, stopped}
-use Rattle.line_runs.proofs.FirstBytes as file
+use Rattle.line_runs.specs.Read.{readingOf}
 use Rattle.refusal.specs.Refused.{printed, refusedOf}
 use Rattle.file_check.specs.Judged.{lineOr}
 use Rattle.listing.specs.Listing.{problemIn}
 use Rattle.listing.specs.Complete.{Complete}
+use Rattle.listing.proofs.FirstBytes.{first-decide}
 use Rattle.old_edition.specs.Converted.{conversionOrder, convertAnswer, refusalNumbers, convertedText}
 use Rattle.old_edition.specs.File.{newFile}
 use Rattle.old_edition.proofs.Stated.{always-fits}
@@ -43,20 +41,5 @@ module _ (file : List ℕ) where
   pub never-too-small : Complete file → NoTolerance (problemIn file) → convertedText file ≡ newFile file
   never-too-small c z = text-is [] (always-fits file 32768 c z (omega arith))
 
--- a refusal decides the text
-refused-alike : (s t : List ℕ) → readingOf t ≡ readingOf s → (readingOf s .said ≡ [] → ⊥) → convertedText s ≡ convertedText t
-refused-alike s t e n = go (readingOf s .said) refl
-  where
-    go : (r : List ℕ) → readingOf s .said ≡ r → convertedText s ≡ convertedText t
-    go [] q = absurd (n q)
-    go (k ∷ vs) q =
-        text-refused s q
-        ∙ ap (λ (R : Reading). refusedOf (printed (R .line) (k ∷ vs))) (sym e)
-        ∙ sym (text-refused t (ap (λ (R : Reading). R .said) e ∙ q))
-
 pub first-bytes : (s : List ℕ) → convertedText s ≡ convertedText (take bytesMost s)
-first-bytes s = go (file.first-bytes zeros s)
-  where
-    go : Cut bytesMost 0 (fromNew zeros) s → convertedText s ≡ convertedText (take bytesMost s)
-    go (whole e) = ap convertedText (sym e)
-    go (stopped e n) = refused-alike s (take bytesMost s) e n
+first-bytes = first-decide convertedText (λ s k vs q. text-refused s q)

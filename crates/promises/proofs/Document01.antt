@@ -9,9 +9,6 @@ use lib.IntN.{ℤ, natAbs}
 use lib.ListN.{getD}
 use Rattle.integer.specs.Finite.{sum}
 use Rattle.linear.specs.Matrix.{product, apply}
-use Rattle.linear.specs.Written.{written}
-use Rattle.linear.proofs.Written.{front-else}
-use Rattle.rules.specs.Order.{ifAccepted}
 use Rattle.rules.specs.Range.{inRange, rangeOf, ranges}
 use Rattle.rules.proofs.Ranges.{neither-left, neither-right}
 use Rattle.entry.specs.Entry.{entryValue, entryBound}
@@ -28,6 +25,7 @@ use Rattle.checked.specs.Order.{answer}
 use Rattle.checked.specs.Stated.{too-short, out-of-range, margin-low, residual-large, inverse-large}
 use Rattle.checked.proofs.Agreed.{same-answer, same-solution, same-inverse}
 use Rattle.checked.proofs.Lengths.{long-of}
+use Rattle.checked.proofs.Written.{past-kept}
 use Rattle.given_forms.specs.Progress.{ended}
 use Rattle.file_shape.proofs.Complete.{exactly}
 use Rattle.line_runs.specs.Lines.{before, linesOf}
@@ -92,16 +90,11 @@ rest-not-read I J r r′ E L E′ L′ a x y = (
       ),
 )
 
--- places past those written are left, whatever is said
-past : (w xs : List ℕ) (f : ℕ → ℕ) (n i : ℕ) → n ≤ i → getD (ifAccepted w (written xs 0 1 f n) xs) i 0 ≡ getD xs i 0
-past [] xs f n i l = front-else xs f 0 n i l
-past (k ∷ ks) xs f n i l = refl
-
 pub rest-not-written : document.RestNotWritten
 unfolding solutionBoundsAfter inverseBoundsAfter
 rest-not-written I r E L x = (
-  λ i l. rw (x .solution-bounds) (past (answer I) (I .solutionBounds) (bound (problem I)) (I .n) i l),
-  λ k l. rw (x .inverse-bounds) (past (answer I) (I .inverseBounds) (λ (i : ℕ). inverseBound (problem I) (i / I .n) (i % I .n)) (I .n * I .n) k l),
+  λ i l. rw (x .solution-bounds) (past-kept 0 (answer I) (I .n) (I .solutionBounds) (bound (problem I)) i l),
+  λ k l. rw (x .inverse-bounds) (past-kept 0 (answer I) (I .n * I .n) (I .inverseBounds) (λ (i : ℕ). inverseBound (problem I) (i / I .n) (i % I .n)) k l),
 )
 
 -- ---- The reckoning

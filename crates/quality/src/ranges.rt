@@ -1,33 +1,17 @@
-// Whether an inquiry can be used: 8 for the lengths of its lists, 3 for its numbers.
+// Whether the numbers of an inquiry can be used: 3.
 ghost use mathlib.Core.Path.{_≡_};
 ghost use Prim.Native.Nat.{_≤_};
 ghost use lib.ListN.{length};
-ghost use Rattle.limit_factor.specs.Inquiry.{anyInquiryShort, inquirySizes, inquiryLists};
+ghost use Rattle.limit_factor.specs.Inquiry.{inquirySizes, inquiryLists};
 use rules::Kind;
 use rules::all_in_range;
 use rules::is_natural_in_range;
-
-// 8: whether a list of one of these lengths is too short.
-pub fn is_short(a: usize, g: usize, w: usize) -> bool
-    ensures { λ r. ⌜ r ≡ anyInquiryShort a g w ⌝ }
-{
-    if a < 1024 {
-        return true;
-    }
-    if g < 1024 {
-        return true;
-    }
-    w < 32
-}
 
 // 3 for n and t.
 pub fn are_sizes_in_range(n: u32, t: u32) -> bool
     ensures { λ r. ⌜ r ≡ inquirySizes n t ⌝ }
 {
-    if is_natural_in_range(Kind::Size, n) {
-        return is_natural_in_range(Kind::InverseScale, t);
-    }
-    false
+    is_natural_in_range(Kind::Size, n) & is_natural_in_range(Kind::InverseScale, t)
 }
 
 // 3 for the numbers of the lists that are used.

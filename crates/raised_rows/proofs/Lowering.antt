@@ -14,7 +14,7 @@ use lib.IntN.{ℤ, pos, natAbs, _+ℤ_, _-ℤ_, _*ℤ_, +ℤ-negℤ-cancel}
 use lib.ListN.{getD}
 use Rattle.integer.specs.Finite.{sum, sumℕ}
 use Rattle.integer.proofs.Difference.{is, zz}
-use Rattle.integer.proofs.Absolute.{abs-*}
+use Rattle.integer.proofs.Absolute.{abs-*, abs-difference}
 use Rattle.integer.proofs.Sum.{sum-ext, abs-sum≤, sumℕ≤}
 use Rattle.raised_rows.specs.Raised.{raisedBy, lowered, Small, RaisedRow, RaisedRows, loweredRows, rowDot, RowOf, RowsOf}
 
@@ -57,16 +57,13 @@ row-dot-is {xs} {ys} {p} {q} n a b = rw (a .total, b .total) (dot-lowered 335544
 near : (c x : ℕ) → x ≤ c + c → natAbs (pos x -ℤ pos c) ≤ c
 near c x h = simp zz (omega arith)
 
-apart : (x c : ℕ) → natAbs (pos x -ℤ pos c) ≡ (x - c) + (c - x)
-apart x c = simp zz (omega arith)
-
 pub lowered-below : (x : ℕ) → x ≤ raisedBy → natAbs (lowered x) ≡ raisedBy - x
 unfolding lowered
-lowered-below x h = apart x raisedBy ∙ omega arith
+lowered-below x h = abs-difference x raisedBy ∙ omega arith
 
 pub lowered-above : (x : ℕ) → raisedBy ≤ x → natAbs (lowered x) ≡ x - raisedBy
 unfolding lowered
-lowered-above x h = apart x raisedBy ∙ omega arith
+lowered-above x h = abs-difference x raisedBy ∙ omega arith
 
 pub lowered-size : (x : ℕ) → x ≤ 2 ^ 26 → natAbs (lowered x) ≤ 2 ^ 25
 unfolding lowered

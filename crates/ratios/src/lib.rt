@@ -1,7 +1,7 @@
 // The limits of a column from its sizes, the margins and the weights: each is that of the row where size / margin is largest.
 ghost use mathlib.Core.Path.{_≡_};
 ghost use mathlib.Core.Bool.{true};
-ghost use Prim.Native.Nat.{ℕ, _*_, _≤_, _<_, _^_, max};
+ghost use Prim.Native.Nat.{ℕ, _*_, _≤_, _<_, _^_};
 ghost use lib.Dec.{ltb};
 ghost use lib.IntN.{natAbs};
 ghost use lib.ListN.{getD};
@@ -15,6 +15,7 @@ ghost use Rattle.enclosure.specs.Reckoning.{boundFrom};
 ghost use Rattle.reckoning.specs.Arrays.{Begins};
 ghost use Rattle.ratios.specs.Ratio.{ratioOf, steeperOf, SmallTerms, Positive, Sized, Flat, Caps};
 use integer::ceil_div;
+use integer::larger;
 use integer::magnitude;
 
 // Sizes whose sum is below this have products with a margin below 2^63.
@@ -185,12 +186,6 @@ pub fn bounds_of(
         return [1u64; 32];
     }
     steep_bounds(sizes, margins, weights, n)
-}
-
-fn larger(a: u64, b: u64) -> u64
-    ensures { λ r. ⌜ r ≡ max a b ⌝ }
-{
-    if a < b { b } else { a }
 }
 
 // The largest weight.

@@ -1,5 +1,5 @@
 -- Column after column: place i stands for column i / n and row i mod n.
---   first-after — the first place of two parts;  first-no-column, first-column — of no column, and of one column more;  first-most — it is at most n
+--   first-after — the first place of two parts;  first-no-column, first-column — of no column, and of one column more
 --   columns-at, columns-else — what a matrix written column by column, row after row, holds at its places and past them
 --   in-square — the column and the row of a place are below n;  columns-whole — what such a matrix holds, place by place
 use mathlib.Core.Path.{_≡_, refl, sym, ap, subst, _∙_}
@@ -88,10 +88,3 @@ first-column n f j =
 
 pub first-no-column : (n : ℕ) (f : ℕ → Bool) → first (0 * n) f ≡ 0
 first-no-column n f = ap (λ (x : ℕ). first x f) (omega arith) ∙ first-none f
-
-pub first-most : {x : ℕ} (n : ℕ) (f : ℕ → Bool) → x ≡ first n f → x ≤ n
-first-most {x} n f e = go (searched n f)
-  where
-    go : Searched n f → x ≤ n
-    go (found i l p q h) = omega arith
-    go (nowhere p h) = omega arith

@@ -4,7 +4,7 @@
 --   Ranged P, defect-most — n at most 32, t at most 20, A and G at most 2^20 in size: then |D_mj| ≤ 2^45 + 2^20
 --   ranged-of, defect-size — of lists in these ranges;  residual-exchanged — a residual of the inverse is a number of D with the two matrices exchanged
 --   residual-size — its size
---   row-ends, column-ends — places of rows and columns;  above-below, above-above — the code's test of a residual
+--   column-ends — places of columns;  above-below, above-above — the code's test of a residual
 use mathlib.Core.Path.{_≡_, refl, sym, ap, subst}
 use mathlib.Core.Bool.{Bool, true, false, cond}
 use mathlib.Core.List.{List, []}
@@ -94,10 +94,7 @@ pub residual-size : (n t : ℕ) (matrix inverse : List ℤ) → t ≤ 20 → n �
     (j k : ℕ) → j < n → k < n → natAbs (columnResidual n t matrix inverse j k) ≤ 2 ^ 46
 residual-size n t matrix inverse ht few hm hi j k lj lk = rw (residual-exchanged n t matrix inverse j k) (defect-size n t inverse matrix ht few hi hm k j lk lj)
 
--- places of a row and of a column stay small
-pub row-ends : {m n : ℕ} → m < n → n ≤ 32 → m * n + n ≤ 1024
-row-ends {m} {n} l few = omega (arith, mul-le-mul-right n l, square few)
-
+-- places of a column stay small
 pub column-ends : {j n : ℕ} → j < n → n ≤ 32 → j + n * n < 2048
 column-ends l few = omega (arith, square few)
 

@@ -19,6 +19,7 @@ use Rattle.form.proofs.Lists.{tails, numerals-is}
 use Rattle.form.proofs.Printable.{printable, all-printable, one-no-feed, many-no-feed}
 use Rattle.form.proofs.Shapes.{one-spelled, many-spelled}
 use Rattle.listing_lines.specs.Line.{each, numbers, lineClosing, pairLine}
+use Rattle.listing_lines.proofs.Each.{each-ext}
 use Rattle.entry.specs.Entry.{entryValue, entryBound}
 use Rattle.report.specs.Report.{reportOf, boundsLine, solutionLine, entryLine, inverseLine}
 
@@ -73,11 +74,6 @@ feed-one (b ∷ a) (c ∷ a′) r r′ h h′ e =
     let t : a ++ (10 ∷ r) ≡ a′ ++ (10 ∷ r′) = cc in
     let x = feed-one a a′ r r′ (λ k. h (suc k)) (λ k. h′ (suc k)) t in
     (rw (z, x .0) refl, x .1)
-
-each-ext : (n : ℕ) (f g : ℕ → List ℕ) → ((k : ℕ) → f k ≡ g k) → each n f ≡ each n g
-unfolding each
-each-ext zero f g h = refl
-each-ext (suc n) f g h = rw (each-ext n f g h, h n) refl
 
 each-one : (n : ℕ) (f f′ : ℕ → List ℕ) (r r′ : List ℕ) → ((k : ℕ) → NoFeed (f k)) → ((k : ℕ) → NoFeed (f′ k)) →
     each n (λ (k : ℕ). f k ++ (10 ∷ [])) ++ r ≡ each n (λ (k : ℕ). f′ k ++ (10 ∷ [])) ++ r′ → ((k : ℕ) → k < n → f k ≡ f′ k) × (r ≡ r′)
@@ -166,9 +162,9 @@ report-is n s X E L =
     bodies : each (suc n) (solutionLine X E) ++ (each (suc n) (entryLine s X E) ++ (each (suc n) (inverseLine (suc n) L) ++ bytes "(end)\n")) ≡ body n s X E L
     bodies =
         rw (
-          each-ext (suc n) (solutionLine X E) (fed (solutionOf X E)) (λ i. pair-line (bytes "(solution ") (i + 1) (X i) (E i)),
-          each-ext (suc n) (entryLine s X E) (fed (entryOf s X E)) (λ i. pair-line (bytes "(entry ") (i + 1) (entryValue s (X i)) (entryBound s (X i) (E i))),
-          each-ext (suc n) (inverseLine (suc n) L) (fed (inverseOf L n)) (λ i. inverse-line L n i),
+          each-ext (suc n) (solutionLine X E) (fed (solutionOf X E)) (λ i l. pair-line (bytes "(solution ") (i + 1) (X i) (E i)),
+          each-ext (suc n) (entryLine s X E) (fed (entryOf s X E)) (λ i l. pair-line (bytes "(entry ") (i + 1) (entryValue s (X i)) (entryBound s (X i) (E i))),
+          each-ext (suc n) (inverseLine (suc n) L) (fed (inverseOf L n)) (λ i l. inverse-line L n i),
         ) refl
 
 -- n first, then the lines of the solution, of the entries and of the inverse

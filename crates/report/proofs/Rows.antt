@@ -1,11 +1,11 @@
 -- Laws of a report's rows, from what its lists are known to be.
 --   guess-small, guess-read — a guess fits, and is read back as itself
 --   block-line — a block's line, by the block
---   row-room, row-fits — a row of n numbers in a list of n · n;  entry-size — V fits
+--   entry-size — V fits
 use mathlib.Core.Path.{_≡_}
 use mathlib.Core.List.{List}
 use Prim.Native.Nat.{ℕ, suc, _+_, _*_, _/_, _≤_, _<_, _^_}
-use native.Mathlib.Nat.{mul-le-mul-right, pow-le-pow-right, div-le-self}
+use native.Mathlib.Nat.{pow-le-pow-right, div-le-self}
 use native.Mathlib.Omega.{arith}
 use lib.IntN.{ℤ, pos, negsuc, natAbs}
 use mir.Syntax.{w64}
@@ -30,12 +30,6 @@ module _ {n s : ℕ} {X : List ℤ} {E L : List ℕ} (ready : Reportable n s X E
   block-line {o} {p} {from} {end} i b e x = rw e x
 
 -- ---- sizes
-pub row-room : {i n size : ℕ} → i < n → n * n ≤ size → i * n + n ≤ size
-row-room {i} {n} l h = omega (arith, mul-le-mul-right n l)
-
-pub row-fits : {i n : ℕ} → i < n → n ≤ 32 → i * n < 2 ^ 64
-row-fits {i} {n} l h = omega (arith, mul-le-mul-right n l, mul-le-mul-right n h)
-
 pub entry-size : (x : ℤ) (s : ℕ) → natAbs x ≤ 2 ^ 36 → s ≤ 20 → natAbs (roundDiv x (2 ^ s)) < 2 ^ 63
 unfolding roundDiv
 entry-size (pos a) s h l =

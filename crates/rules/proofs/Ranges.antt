@@ -1,9 +1,9 @@
 -- What the ranges say of a number.
 --   range-size — a number in range is at most `sizeOf k` in size
---   range-natural — where the lowest value is a natural number, a number in range is one, and at least that
+--   range-natural — where the lowest value is a natural number, a number in range is one, and at least that;  range-kept — so its size is in range
 --   size-range, solution-scale-range, .., weight-range, allowance-range, in-allowance-range, line-weight-range, difference-range — what the range of each kind is
---   in-matrix-range, in-right-range — the converse: a number of that size is in range
---   both, both-left, both-right, not-both, not-first, neither, neither-left, neither-right — of two tests
+--   in-size-range, in-matrix-range, in-right-range — the converse: a number of that size is in range;  zero-tolerance, one-weight — so are these two
+--   both, both-left, both-right, not-both, not-first, neither, neither-left, neither-right, or-left, or-right, and-true — of two tests
 --   range-test — what the code tests is inRange
 use mathlib.Core.Path.{_≡_, refl, sym, subst}
 use mathlib.Core.Bool.{Bool, true, false, _&&_, _||_}
@@ -47,6 +47,17 @@ pub neither-right : (a b : Bool) → a || b ≡ false → b ≡ false
 neither-right true b e = absurd (subst T e tt)
 neither-right false b e = e
 
+pub or-left : {a : Bool} (b : Bool) → a ≡ true → a || b ≡ true
+or-left b e = rw e
+
+pub or-right : (a : Bool) {b : Bool} → b ≡ true → a || b ≡ true
+or-right true e = refl
+or-right false e = e
+
+pub and-true : (a : Bool) {b : Bool} → b ≡ true → a && b ≡ a
+and-true true e = e
+and-true false e = refl
+
 -- ---- sizes
 -- the largest size that a number of the kind has
 abbrev pub sizeOf : Kind → ℕ
@@ -73,6 +84,9 @@ pub range-natural : (k : Kind) (a : ℕ) (z : ℤ) → rangeOf k .lowest ≡ pos
 unfolding inRange
 range-natural k a z e h = at-least a z (rw e at (both-left (leZ (rangeOf k .lowest) z) (leZ z (rangeOf k .highest)) h))
 
+pub range-kept : (k : Kind) (a : ℕ) (z : ℤ) → rangeOf k .lowest ≡ pos a → inRange k z ≡ true → inRange k (pos (natAbs z)) ≡ true
+range-kept k a z e h = subst (λ (y : ℤ). inRange k y ≡ true) (range-natural k a z e h .0) h
+
 pub range-test : (k : Kind) (z : ℤ) {r : Range} → r ≡ rangeOf k → leZ (r .lowest) z && leZ z (r .highest) ≡ inRange k z
 unfolding inRange
 range-test k z e = rw e
@@ -87,6 +101,10 @@ module _ (n : ℕ) where
   pub size-range : inRange Size (pos n) ≡ true → (0 < n) × (n ≤ 32)
   unfolding rangeOf ranges
   size-range e = (range-natural Size 1 (pos n) refl e .1, range-size Size (pos n) e)
+
+  pub in-size-range : 0 < n → n ≤ 32 → inRange Size (pos n) ≡ true
+  unfolding inRange rangeOf ranges
+  in-size-range a b = both (le-leb 1 n a) (le-leb n 32 b)
 
   pub solution-scale-range : inRange SolutionScale (pos n) ≡ true → n ≤ 20
   unfolding rangeOf ranges
@@ -107,6 +125,14 @@ module _ (n : ℕ) where
   pub line-weight-range : inRange LineWeight (pos n) ≡ true → (1 ≤ n) × (n ≤ 64)
   unfolding rangeOf ranges
   line-weight-range e = (range-natural LineWeight 1 (pos n) refl e .1, range-size LineWeight (pos n) e)
+
+pub zero-tolerance : inRange Tolerance (pos 0) ≡ true
+unfolding inRange rangeOf ranges
+zero-tolerance = refl
+
+pub one-weight : inRange Weight (pos 1) ≡ true
+unfolding inRange rangeOf ranges
+one-weight = refl
 
 module _ (z : ℤ) where
   pub matrix-range : inRange Matrix z ≡ true → natAbs z ≤ 2 ^ 20

@@ -12,8 +12,9 @@ use mathlib.Core.Bool.{Bool, true, false, not, _&&_, _||_, cond}
 use mathlib.Core.List.{List, [], _∷_, _++_}
 use mathlib.Core.Logic.{_↔_}
 use Prim.Native.Nat.{ℕ}
-use borrow.Author.Tests.{eq-eqb}
+use borrow.Author.Tests.{eq-eqb, not-true}
 use lib.Dec.{T, eqb}
+use Rattle.integer.proofs.Search.{clash}
 use Rattle.rules.specs.Order.{Test, verdict}
 use Rattle.rules.proofs.Ranges.{both-left, both-right, neither-left, neither-right}
 
@@ -29,16 +30,13 @@ abbrev pub without : ℕ → List Test → Bool
 without k [] = true
 without k (t ∷ ts) = not (eqb (head (t .says)) k) && without k ts
 
-clash : {b : Bool} → b ≡ true → not b ≡ true → ⊥
-clash {b} p q = subst T (sym q ∙ ap not p) tt
-
 pub none-said : (ts : List Test) (w : List ℕ) → without (head w) ts ≡ true → verdict ts ≡ w → None ts
 none-said [] w d e = tt
 none-said (t ∷ ts) w d e = go (t .holds) refl e (none-said ts w (both-right (not (eqb (head (t .says)) (head w))) (without (head w) ts) d))
   where
     go : (b : Bool) → t .holds ≡ b → cond b (t .says) (verdict ts) ≡ w → (verdict ts ≡ w → None ts) → None (t ∷ ts)
     go false p q rest = (p, rest q)
-    go true p q rest = absurd (clash (eq-eqb (head (t .says)) (head w) (ap head q)) (both-left (not (eqb (head (t .says)) (head w))) (without (head w) ts) d))
+    go true p q rest = clash (eqb (head (t .says)) (head w)) (eq-eqb (head (t .says)) (head w) (ap head q)) (not-true _ (both-left (not (eqb (head (t .says)) (head w))) (without (head w) ts) d))
 
 pub skip : (before after : List Test) → None before → verdict (before ++ after) ≡ verdict after
 skip [] after n = refl
@@ -50,7 +48,7 @@ skipped (t ∷ ts) after w d e = go (t .holds) refl e (skipped ts after w (both-
   where
     go : (b : Bool) → t .holds ≡ b → cond b (t .says) (verdict (ts ++ after)) ≡ w → (verdict (ts ++ after) ≡ w → None ts × (verdict after ≡ w)) → None (t ∷ ts) × (verdict after ≡ w)
     go false p q rest = let r = rest q in ((p, r .0), r .1)
-    go true p q rest = absurd (clash (eq-eqb (head (t .says)) (head w) (ap head q)) (both-left (not (eqb (head (t .says)) (head w))) (without (head w) ts) d))
+    go true p q rest = clash (eqb (head (t .says)) (head w)) (eq-eqb (head (t .says)) (head w) (ap head q)) (not-true _ (both-left (not (eqb (head (t .says)) (head w))) (without (head w) ts) d))
 
 pub silent : (ts : List Test) → None ts → verdict ts ≡ []
 silent [] n = refl
@@ -94,7 +92,7 @@ module _ (before : List Test) (w : List ℕ) (a : Bool) (t : Test) (b : Bool) (a
     where
       here : (a h b : Bool) → cond a w (cond h (t .says) (cond b w (verdict after))) ≡ w → a || not h && b ≡ true
       here true h b e = refl
-      here false true b e = absurd (clash (eq-eqb (head (t .says)) (head w) (ap head e)) (both-left (not (eqb (head (t .says)) (head w))) (without (head w) after) own-after))
+      here false true b e = clash (eqb (head (t .says)) (head w)) (eq-eqb (head (t .says)) (head w) (ap head e)) (not-true _ (both-left (not (eqb (head (t .says)) (head w))) (without (head w) after) own-after))
       here false false true e = refl
       here false false false e = absurd (not-after after w (both-right (not (eqb (head (t .says)) (head w))) (without (head w) after) own-after) heard e)
 

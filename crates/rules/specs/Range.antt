@@ -1,7 +1,7 @@
 -- The ranges of document 01 ("The system and its steps") and, last, of document 02's Papers 7, 5 and 3, one line of a table for each kind of number, and the
 -- lengths of lent lists.
 --   fromTo a b  — the range from a to b
---   ranges      — the table: lowest and highest value, in the order of `Kind`
+--   ranges      — the table: lowest and highest value, in the order of `Kind`, which stands beside each
 --   indexOf k   — the line of the kind k
 --   rangeOf k   — its lowest and highest value
 --   inRange k z — z is a number of that kind's range
@@ -24,20 +24,20 @@ fromTo a b = record { lowest = a; highest = b }
 
 unfoldable pub ranges : List Range
 ranges =
-    fromTo (pos 1) (pos 32)  -- n
-    ∷ fromTo (pos 0) (pos 20)  -- s
-    ∷ fromTo (pos 0) (pos 20)  -- t
-    ∷ fromTo (negsuc 1048575) (pos 1048576)  -- matrix A
-    ∷ fromTo (negsuc 1073741823) (pos 1073741824)  -- right side b
-    ∷ fromTo (negsuc 68719476735) (pos 68719476736)  -- guess X
-    ∷ fromTo (negsuc 1048575) (pos 1048576)  -- inverse G
-    ∷ fromTo (pos 1) (pos 1024)  -- weight w
-    ∷ fromTo (pos 1) (pos 64)  -- 02, Paper 7: "The caller states how many lists may be tried, 1 to 64."
-    ∷ fromTo (pos 0) (pos 1048576)  -- 02, Paper 5: "a tolerance d of 0 to 2^20"
-    ∷ fromTo (pos 1) (pos 65535)  -- 02, Paper 3: "A field line has a key (1 to 65,535),
-    ∷ fromTo (pos 0) (pos 32)  -- two marks from and to (0 to n, where 0 is the fixed mark of height 0),
-    ∷ fromTo (negsuc 65535) (pos 65536)  -- a difference in whole units (−65,536 to 65,536)
-    ∷ fromTo (pos 1) (pos 64)  -- and a weight (1 to 64)."
+    fromTo (pos 1) (pos 32)  -- Size: n
+    ∷ fromTo (pos 0) (pos 20)  -- SolutionScale: s
+    ∷ fromTo (pos 0) (pos 20)  -- InverseScale: t
+    ∷ fromTo (negsuc 1048575) (pos 1048576)  -- Matrix: A
+    ∷ fromTo (negsuc 1073741823) (pos 1073741824)  -- Right: b
+    ∷ fromTo (negsuc 68719476735) (pos 68719476736)  -- Guess: X
+    ∷ fromTo (negsuc 1048575) (pos 1048576)  -- Inverse: G
+    ∷ fromTo (pos 1) (pos 1024)  -- Weight: w
+    ∷ fromTo (pos 1) (pos 64)  -- Allowance; 02, Paper 7: "The caller states how many lists may be tried, 1 to 64."
+    ∷ fromTo (pos 0) (pos 1048576)  -- Tolerance; 02, Paper 5: "a tolerance d of 0 to 2^20"
+    ∷ fromTo (pos 1) (pos 65535)  -- Key; 02, Paper 3: "A field line has a key (1 to 65,535),"
+    ∷ fromTo (pos 0) (pos 32)  -- Mark; "two marks from and to (0 to n, where 0 is the fixed mark of height 0),"
+    ∷ fromTo (negsuc 65535) (pos 65536)  -- Difference; "a difference in whole units (−65,536 to 65,536)"
+    ∷ fromTo (pos 1) (pos 64)  -- LineWeight; "and a weight (1 to 64)."
     ∷ []
 
 abbrev pub indexOf : Kind → ℕ

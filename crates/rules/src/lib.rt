@@ -33,64 +33,84 @@ pub struct Range {
     pub highest: i64,
 }
 
+// In the order of `Kind`.
 const RANGES: [Range; 14] = [
+    // Size
     Range {
         lowest: 1,
         highest: 32,
     },
+    // SolutionScale
     Range {
         lowest: 0,
         highest: 20,
     },
+    // InverseScale
     Range {
         lowest: 0,
         highest: 20,
     },
+    // Matrix
     Range {
         lowest: -1048576,
         highest: 1048576,
     },
+    // Right
     Range {
         lowest: -1073741824,
         highest: 1073741824,
     },
+    // Guess
     Range {
         lowest: -68719476736,
         highest: 68719476736,
     },
+    // Inverse
     Range {
         lowest: -1048576,
         highest: 1048576,
     },
+    // Weight
     Range {
         lowest: 1,
         highest: 1024,
     },
+    // Allowance
     Range {
         lowest: 1,
         highest: 64,
     },
+    // Tolerance
     Range {
         lowest: 0,
         highest: 1048576,
     },
+    // Key
     Range {
         lowest: 1,
         highest: 65535,
     },
+    // Mark
     Range {
         lowest: 0,
         highest: 32,
     },
+    // Difference
     Range {
         lowest: -65536,
         highest: 65536,
     },
+    // LineWeight
     Range {
         lowest: 1,
         highest: 64,
     },
 ];
+
+// 01: "A lent matrix list has at least 1,024 numbers and a column list at least 32"; 8 for a shorter one.
+pub const MATRIX_LENGTH: usize = 1024;
+
+pub const COLUMN_LENGTH: usize = 32;
 
 // Why something is refused: a case for each of 01's numbers, with the places or the count that it gives. Rows and columns count from 1.
 pub enum Refusal {

@@ -11,7 +11,7 @@ use integer::magnitude;
 use integer::power;
 
 // How large a residual and its slack may be together (02: "6 is now given where size of residual plus slack is above 2^25").
-const ALLOWED_RESIDUAL: u64 = 33554432;
+pub const ALLOWED_RESIDUAL: u64 = 33554432;
 
 // 2^s·d
 fn slack_at(s: u32, d: i64) -> u64

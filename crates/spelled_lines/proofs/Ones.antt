@@ -15,9 +15,9 @@ use lib.Dec.{ltb}
 use lib.IntN.{ℤ, pos}
 use lib.ListN.{length}
 use Rattle.integer.proofs.Search.{clash}
-use Rattle.rules.specs.Range.{inRange, rangeOf, ranges}
+use Rattle.rules.specs.Range.{inRange}
 use Rattle.rules.specs.declared.Kind.the-variants as kind
-use Rattle.rules.proofs.Ranges.{both}
+use Rattle.rules.proofs.Ranges.{both, one-weight}
 use Rattle.form.specs.Form.{Form, problem, scale, row, right, rightWithin, guess, inverse, weight, end}
 use Rattle.form.specs.Spelling.{spell}
 use Rattle.form.specs.Reading.{reading}
@@ -73,10 +73,6 @@ pub record Open (n i : ℕ) (u : State) : Type 0 where
   pub clear : (k : ℕ) → i < k → k ≤ n → given (u .loader .sets) part.Weight k ≡ false
   pub long : shortLists (u .lists) ≡ false
 
-one-inside : inRange kind.Weight (pos 1) ≡ true
-unfolding inRange rangeOf ranges
-one-inside = refl
-
 module _ (n i : ℕ) (u : State) (h : Open n i u) (l : i < n) where
   abbrev form : Form
   form = weight (pos (suc i)) (pos 1)
@@ -88,7 +84,7 @@ module _ (n i : ℕ) (u : State) (h : Open n i u) (l : i < n) where
   in-place = both (le-leb 1 (suc i) (omega arith)) (le-leb (suc i) (u .loader .n) (rw (h .size) (omega arith)))
 
   passes : Passed (formCase (u .loader) form)
-  passes = passed-part (u .loader) own (h .ready) form refl in-place (rw one-inside) refl (h .clear (suc i) (omega arith) (omega arith))
+  passes = passed-part (u .loader) own (h .ready) form refl in-place (rw one-weight) refl (h .clear (suc i) (omega arith) (omega arith))
 
   next-accepted : lineAnswer (u .loader) (u .lists) (spell form) ≡ []
   next-accepted = accepts-spelled (u .loader) (u .lists) (h .long) (h .going) form passes

@@ -10,11 +10,11 @@ use Prim.Native.Nat.{ℕ, _≤_, _<_}
 use native.Mathlib.Omega.{arith}
 use borrow.Author.Tests.{leb-true, le-leb}
 use Rattle.integer.specs.Finite.{first}
+use Rattle.integer.proofs.Search as search
 use Rattle.integer.proofs.Search.{Searched, found, nowhere, searched, first-past, first-never, first-is}
 use Rattle.enclosure.specs.Problem.{Problem}
 use Rattle.enclosure.specs.Reckoning.{marginFails}
 use Rattle.enclosure.specs.Sound.{Margins}
-use Rattle.reckoning.proofs.Columns as columns
 use Rattle.weight_sequence.specs.Sequence.{weighted, tried, good, firstGood}
 
 module _ (P : Problem) (w : ℕ → ℕ) where
@@ -31,7 +31,7 @@ module _ (P : Problem) (a : ℕ) where
   goodAt k = good P (tried P k)
 
   pub first-most : {x : ℕ} → x ≡ firstGood P a → x ≤ a
-  first-most = columns.first-most a goodAt
+  first-most = search.first-most a goodAt
 
   pub past-none : a ≤ firstGood P a → (k : ℕ) → k < a → good P (tried P k) ≡ false
   past-none = first-past a goodAt

@@ -1,6 +1,6 @@
 // One step of the sequence of document 02, Paper 7: the sums |D|·w of a list, whether it is good, and the list after it.
 ghost use mathlib.Core.Path.{_≡_};
-ghost use Prim.Native.Nat.{ℕ, _*_, _-_, _/_, _%_, _≤_, _<_, _+_, _^_, max};
+ghost use Prim.Native.Nat.{ℕ, _*_, _-_, _/_, _%_, _≤_, _<_, _+_, _^_};
 ghost use lib.Dec.{leb, eqb};
 ghost use lib.IntN.{natAbs};
 ghost use lib.ListN.{getD};
@@ -12,6 +12,7 @@ ghost use Rattle.reckoning.specs.Parts.{columnResidual};
 ghost use Rattle.weight_sequence.specs.Sequence.{bits};
 ghost use Rattle.weight_steps.specs.Steps.{Below, storedLoad, storedMargin, shiftedNext};
 use differences::inverse_residuals_of;
+use integer::larger;
 use integer::magnitude;
 use integer::power;
 use margins::first_zero;
@@ -118,12 +119,6 @@ pub fn is_good(t: u32, loads: &[u64; 32], weights: &[u64; 32], n: usize) -> bool
     ensures { λ r. ⌜ r ≡ leb n (first n (λ (m : ℕ). eqb (storedMargin t (now (loads .entry)) (now (weights .entry)) m) 0)) ⌝ }
 {
     n <= first_zero(&margins_from(t, loads, weights, n), n)
-}
-
-fn larger(a: u64, b: u64) -> u64
-    ensures { λ r. ⌜ r ≡ max a b ⌝ }
-{
-    if a < b { b } else { a }
 }
 
 fn largest_of(loads: &[u64; 32], n: usize) -> u64

@@ -1,9 +1,9 @@
 use mathlib.Core.Path.{_≡_, sym, ap, _∙_}
+use Rattle.rules.specs.Order.{refusalOf}
 use Rattle.refusal.specs.Refused.{printed}
 use Rattle.refusal.specs.Reply.{replyOf}
 use Rattle.common.specs.Answer.{saidCommon}
 use Rattle.common.specs.declared.Common.{Common}
-use Rattle.common_reply.specs.Numbers.{refusalOf}
 use borrow.Author.Needs.{needs}
 use Rattle.common_reply.proofs.common_reply.Statement.{statement}
 use Rattle.common_reply.proofs.common_reply.Tie as tie

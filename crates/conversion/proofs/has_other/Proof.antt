@@ -3,8 +3,9 @@ use Prim.Native.Nat.{ℕ, _-_, _≤_}
 use native.Mathlib.Omega.{arith}
 use lib.IntN.{natAbs}
 use Rattle.integer.specs.Finite.{largest}
+use Rattle.integer.proofs.Search.{largest-none}
 use Rattle.linear.specs.Slice.{at as number}
-use Rattle.conversion.proofs.Held.{small-read, none-yet, none-more, one-found, none-found}
+use Rattle.conversion.proofs.Held.{small-read, none-more, one-found, none-found}
 use borrow.Author.Needs.{needs}
 use Rattle.conversion.proofs.has_other.Statement.{statement}
 use Rattle.conversion.proofs.has_other.Tie as tie
@@ -20,7 +21,7 @@ abbrev turn : tie.After-magnitude Inv-loop μ-loop → tie.In-loop Inv-loop μ-l
 turn c = c .before .before
 
 loop-holds : tie.Need-loop-holds Inv-loop μ-loop
-loop-holds c = (omega arith, none-yet _)
+loop-holds c = (omega arith, largest-none _)
 
 mul-magnitude : tie.Need-mul-magnitude Inv-loop μ-loop
 mul-magnitude c = search needs

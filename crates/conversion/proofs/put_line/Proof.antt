@@ -1,7 +1,8 @@
 use Prim.Native.Nat.{_<_}
 use native.Mathlib.Omega.{arith}
+use Rattle.linear.proofs.Places.{row-ends, row-fits}
 use Rattle.form_values.specs.declared.Part.the-variants.{Row, Right, Guess, Inverse, Weight}
-use Rattle.conversion.proofs.Held.{matrix-small, inverse-small, right-small, guess-small, weight-small, small-read, line-of, row-text, right-text, guess-text, inverse-text, weight-text, row-room, row-fits}
+use Rattle.conversion.proofs.Held.{matrix-small, inverse-small, right-small, guess-small, weight-small, small-read, line-of, row-text, right-text, guess-text, inverse-text, weight-text}
 use borrow.Author.Needs.{needs}
 use Rattle.conversion.proofs.put_line.Statement.{statement}
 use Rattle.conversion.proofs.put_line.Tie as tie
@@ -45,7 +46,7 @@ put-row-requires c κs =
     let s = at-row c .before .before .before in
     let e = s .pre .1 .0 in
     let few = s .pre .1 .1 .0 in
-    ((omega arith, (few, (row-room (s .pre .1 .1 .1 .0) few, s .pre .1 .1 .1 .1))), rw e (matrix-small (s .args .c) (s .pre .0) (s .args .i) (inside s)))
+    ((omega arith, (few, (row-ends (s .pre .1 .1 .1 .0) few, s .pre .1 .1 .1 .1))), rw e (matrix-small (s .args .c) (s .pre .0) (s .args .i) (inside s)))
 
 enum-told-2 : tie.Need-enum-told-2
 enum-told-2 c = search needs
@@ -99,7 +100,7 @@ put-row-requires-2 c κs =
     let s = at-inverse c .before .before .before in
     let e = s .pre .1 .0 in
     let few = s .pre .1 .1 .0 in
-    ((omega arith, (few, (row-room (s .pre .1 .1 .1 .0) few, s .pre .1 .1 .1 .1))), rw e (inverse-small (s .args .c) (s .pre .0) (s .args .i) (inside s)))
+    ((omega arith, (few, (row-ends (s .pre .1 .1 .1 .0) few, s .pre .1 .1 .1 .1))), rw e (inverse-small (s .args .c) (s .pre .0) (s .args .i) (inside s)))
 
 enum-told-5 : tie.Need-enum-told-5
 enum-told-5 c = search needs

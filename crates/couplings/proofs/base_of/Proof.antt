@@ -9,7 +9,8 @@ use Rattle.linear.proofs.Carried.{carried-first, carried-next}
 use Rattle.reckoning.specs.Arrays.{Begins}
 use Rattle.reckoning.proofs.Filled.{begins-none, begins-more, begins-end}
 use Rattle.couplings.specs.Carried.{baseFrom}
-use Rattle.couplings.proofs.Rows.{row-within, row-past}
+use Rattle.linear.proofs.Places.{row-reach}
+use Rattle.couplings.proofs.Rows.{row-past}
 use borrow.Author.Needs.{needs}
 use Rattle.couplings.proofs.base_of.Statement.{statement}
 use Rattle.couplings.proofs.base_of.Tie as tie
@@ -36,7 +37,7 @@ base-at-requires c κs =
     let s = t .before .before in
     let l = t .before .loop in (
       (s .pre .0 .0, (omega (arith, t .loop-test .taken, s .pre .0 .1), rw (read _ (c .base-at-arg .given)) (s .pre .1 .0 .within .size (l .k) (t .loop-test .taken)))),
-      (l .inv .1 .0, (row-within (s .pre .1 .1 .0) (l .k) (t .loop-test .taken), s .pre .1 .1 .1)),
+      (l .inv .1 .0, (row-reach (s .pre .1 .1 .0) (l .k) (t .loop-test .taken), s .pre .1 .1 .1)),
     )
 
 mul-out : tie.Need-mul-out Inv-loop μ-loop

@@ -16,7 +16,8 @@ use Rattle.raised_rows.proofs.Standing.{rows-stand}
 use Rattle.enclosure.specs.Reckoning.{sizesWith}
 use Rattle.reckoning.specs.Arrays.{Begins, columnsWritten}
 use Rattle.reckoning.proofs.Filled.{columns-none, columns-end, columns-length}
-use Rattle.reckoning.proofs.Sizes.{row-ends, column-ends}
+use Rattle.linear.proofs.Places.{row-ends}
+use Rattle.reckoning.proofs.Sizes.{column-ends}
 use Rattle.bounds.specs.Limits.{inversePart, limitsOf}
 use Rattle.inverse_bounds.specs.Mirrored.{KnownColumns}
 use Rattle.inverse_bounds.proofs.Mirrored.{known-none, known-fewer, known-more, mirrored-sizes}
@@ -115,7 +116,7 @@ store-requires c κs =
     let l = t .before .loop in
     let s = start t in (
       (omega (arith, s .pre .0 .1 .0), omega (arith, column-ends (t .loop-test .taken) (s .pre .0 .1 .0))),
-      λ k h. omega (arith, place {i = k} {n = s .args .n} (omega (arith, h)) (t .loop-test .taken), s .pre .0 .1 .1 .0, ap length (l .inv .1 .1 .1), columns-length (s .args .dst .now) (s .args .n) (F s) (l .j)),
+      λ k h. omega (arith, place {i = k} {m = s .args .n} {n = s .args .n} (omega (arith, h)) (t .loop-test .taken), s .pre .0 .1 .1 .0, ap length (l .inv .1 .1 .1), columns-length (s .args .dst .now) (s .args .n) (F s) (l .j)),
     )
 
 add-place : tie.Need-add-place Inv-loop μ-loop

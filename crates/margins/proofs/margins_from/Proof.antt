@@ -8,7 +8,7 @@ use Rattle.linear.specs.Place.{Carried}
 use Rattle.linear.proofs.Carried.{carried-first, carried-next}
 use Rattle.reckoning.specs.Arrays.{Begins}
 use Rattle.reckoning.proofs.Filled.{begins-none, begins-more, begins-end}
-use Rattle.reckoning.proofs.Sizes.{row-ends}
+use Rattle.linear.proofs.Places.{row-ends}
 use Rattle.margins.specs.Load.{loadFrom}
 use borrow.Author.Needs.{needs}
 use Rattle.margins.proofs.margins_from.Statement.{statement}

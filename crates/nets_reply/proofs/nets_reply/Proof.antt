@@ -1,5 +1,5 @@
 use mathlib.Core.Path.{sym, ap, _∙_}
-use lib.ListN.{drop}
+use Rattle.rules.specs.Order.{refusalOf}
 use Rattle.refusal.specs.Refused.{printed}
 use Rattle.refusal.specs.Reply.{replyOf}
 use Rattle.dependent.specs.Order.{saidNets}
@@ -30,10 +30,10 @@ returns : tie.Need-returns
 returns c = search needs
 
 returns-2 : tie.Need-returns-2
-returns-2 c = c .reply-of .ensures ∙ ap (λ (r : CheckedNets). replyOf (printed 0 (drop 1 (saidNets r)))) (sym (c .before .before .checked .given .1))
+returns-2 c = c .reply-of .ensures ∙ ap (λ (r : CheckedNets). replyOf (printed 0 (refusalOf (saidNets r)))) (sym (c .before .before .checked .given .1))
 
 returns-3 : tie.Need-returns-3
-returns-3 c = c .reply-of2 .ensures ∙ ap (λ (r : CheckedNets). replyOf (printed 0 (drop 1 (saidNets r)))) (sym (c .before .before .checked2 .given .1))
+returns-3 c = c .reply-of2 .ensures ∙ ap (λ (r : CheckedNets). replyOf (printed 0 (refusalOf (saidNets r)))) (sym (c .before .before .checked2 .given .1))
 
 pub nets-reply-spec : {M : Type 1} → statement M
 nets-reply-spec =

@@ -3,7 +3,7 @@ use Rattle.report.specs.Ready.{mostOf}
 use Rattle.report.specs.declared.Block.the-variants.{Solution, Entry, Inverse}
 use Rattle.report.proofs.Rows.{guess-small, guess-read, block-line}
 use native.Mathlib.Omega.{arith}
-use Rattle.report.proofs.Rows.{row-room, row-fits}
+use Rattle.linear.proofs.Places.{row-room, row-fits}
 use borrow.Author.Needs.{needs}
 use Rattle.report.proofs.put_line.Statement.{statement}
 use Rattle.report.proofs.put_line.Tie as tie

@@ -12,7 +12,7 @@ use Rattle.linear.specs.Slice.{vectorOf, matrixOf}
 use Rattle.linear.specs.Reach.{dotOf, Reach}
 use Rattle.linear.proofs.Carried.{start-place}
 use Rattle.linear.proofs.Places.{row-reach, list-reach, square-list, dot-row, dot-size}
-use Rattle.reckoning.proofs.Sizes.{row-ends}
+use Rattle.linear.proofs.Places.{row-ends}
 use Rattle.residuals.proofs.difference.Statement.{statement}
 use Rattle.residuals.proofs.difference.Tie as tie
 

@@ -3,11 +3,11 @@ use Prim.Native.Nat.{ℕ, _*_, _%_, _≤_, _-_}
 use native.Mathlib.Omega.{arith}
 use native.Mathlib.Nat.{mul-le-mul-right, le-trans}
 use Rattle.integer.specs.Finite.{first}
-use Rattle.integer.proofs.Search.{first-end}
+use Rattle.integer.proofs.Search.{first-end, first-most}
 use Rattle.linear.specs.Slice.{at}
 use Rattle.reckoning.specs.Parts.{aboveAllowed}
-use Rattle.reckoning.proofs.Columns.{first-no-column, first-column, first-most}
-use Rattle.reckoning.proofs.Sizes.{row-ends}
+use Rattle.reckoning.proofs.Columns.{first-no-column, first-column}
+use Rattle.linear.proofs.Places.{row-ends}
 use borrow.Author.Needs.{needs}
 use Rattle.residuals.proofs.first_above_in_columns.Statement.{statement}
 use Rattle.residuals.proofs.first_above_in_columns.Tie as tie

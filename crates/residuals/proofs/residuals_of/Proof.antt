@@ -9,7 +9,7 @@ use Rattle.linear.proofs.Carried.{carried-first, carried-next}
 use Rattle.reckoning.specs.Arrays.{Begins}
 use Rattle.reckoning.specs.Parts.{residualFrom}
 use Rattle.reckoning.proofs.Filled.{begins-none, begins-more, begins-end}
-use Rattle.reckoning.proofs.Sizes.{row-ends}
+use Rattle.linear.proofs.Places.{row-ends}
 use borrow.Author.Needs.{needs}
 use Rattle.residuals.proofs.residuals_of.Statement.{statement}
 use Rattle.residuals.proofs.residuals_of.Tie as tie

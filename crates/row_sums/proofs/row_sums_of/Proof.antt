@@ -6,7 +6,7 @@ use Rattle.linear.specs.Place.{Carried}
 use Rattle.linear.proofs.Carried.{carried-first, carried-next}
 use Rattle.reckoning.specs.Arrays.{Begins}
 use Rattle.reckoning.proofs.Filled.{begins-none, begins-more, begins-end}
-use Rattle.reckoning.proofs.Sizes.{row-ends}
+use Rattle.linear.proofs.Places.{row-ends}
 use Rattle.row_sums.specs.Sum.{rowSumOf}
 use borrow.Author.Needs.{needs}
 use Rattle.row_sums.proofs.row_sums_of.Statement.{statement}

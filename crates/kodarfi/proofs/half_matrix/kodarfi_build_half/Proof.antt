@@ -45,7 +45,8 @@ use Rattle.builder.proofs.build.Met as build-thm
 use Rattle.reply.proofs.built_number.Symbol as number-def
 use Rattle.reply.proofs.built_number.Symbol.{name as #reply·built-number}
 use Rattle.reply.proofs.built_number.Met as number-thm
-use Rattle.kodarfi.proofs.BuildWalk.{R, sl, laid, Build, Number, passed as passed-of, vals as vals-of, Exits, Left, rest}
+use Rattle.kodarfi.proofs.BuildParts.{R, sl, laid}
+use Rattle.kodarfi.proofs.BuildWalk.{Build, Number, passed as passed-of, vals as vals-of, Exits, Left, rest}
 use Rattle.kodarfi.proofs.half_matrix.kodarfi_build_half.Key.{name as #self}
 use Rattle.kodarfi.proofs.half_matrix.kodarfi_build_half as self
 use Rattle.kodarfi.proofs.half_matrix.kodarfi_build_half.Statement as stated

@@ -1,4 +1,4 @@
-use lib.ListN.{drop}
+use Rattle.rules.specs.Order.{refusalOf}
 use Rattle.dependent.specs.Order.{saidNets}
 use Rattle.reply.proofs.Told.{told-alone}
 use borrow.Author.Needs.{needs}
@@ -39,7 +39,7 @@ returns c =
       answer = k .check-dependent .result;
       checked = k .check-dependent .ensures;
       net-is = o .net-of .ensures;
-      told = told-alone (drop 1 (saidNets (k .check-dependent .result))) (c .tell .ensures) (r .nets-reply .ensures);
+      told = told-alone (refusalOf (saidNets (k .check-dependent .result))) (c .tell .ensures) (r .nets-reply .ensures);
     }
 
 pub kodarfi-check-dependent-spec : {M : Type 1} → statement M

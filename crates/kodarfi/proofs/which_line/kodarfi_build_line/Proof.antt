@@ -48,7 +48,8 @@ use Rattle.builder.proofs.gather.Met as all-thm
 use Rattle.build_reply.proofs.finish_told.Symbol as fin-def
 use Rattle.build_reply.proofs.finish_told.Symbol.{name as #build-reply·finish-told}
 use Rattle.build_reply.proofs.finish_told.Met as fin-thm
-use Rattle.kodarfi.proofs.BuildLineWalk.{R, sl, pt, laid, Open, All, Fin, passed as passed-of, vals as vals-of, Exits, Left, rest}
+use Rattle.kodarfi.proofs.BuildParts.{R, sl, laid}
+use Rattle.kodarfi.proofs.BuildLineWalk.{pt, Open, All, Fin, passed as passed-of, vals as vals-of, Exits, Left, rest}
 use Rattle.kodarfi.proofs.which_line.kodarfi_build_line.Key.{name as #self}
 use Rattle.kodarfi.proofs.which_line.kodarfi_build_line as self
 use Rattle.kodarfi.proofs.which_line.kodarfi_build_line.Statement as stated
