@@ -25,8 +25,8 @@ use Rattle.accepted_limits.specs.Lists.{GoodLists, OneStepLists}
 use Rattle.accepted_limits.proofs.Lists.{checked-good, checked-one-step, half-good, half-one-step, through-good, through-one-step}
 use Rattle.accepted_limits.proofs.File.{file-good, file-one-step}
 
-first-of : {l m : List ℕ} → l ≡ m → getD l 0 0 ≡ getD m 0 0
-first-of e = ap (λ (l : List ℕ). getD l 0 0) e
+first-equal : {l m : List ℕ} → l ≡ m → getD l 0 0 ≡ getD m 0 0
+first-equal e = ap (λ (l : List ℕ). getD l 0 0) e
 
 module _ {I : Input} {number : ℕ} {places E L : List ℕ} (x : CheckExported I number places E L) where
   pub zero-good : number ≡ 0 → GoodLists I E L
@@ -35,7 +35,7 @@ module _ {I : Input} {number : ℕ} {places E L : List ℕ} (x : CheckExported I
   pub zero-one-step : (N : Vec) (q : ℕ) (H : Mat) (q′ : ℕ) → short I ≡ false → inRanges I ≡ true → FineRounded (problem I) N q H q′ →
       (number ≡ 0) × OneStepLists I E L
   zero-one-step N q H q′ s r y =
-      let (a, b) = checked-one-step I (x .outcome) E L (x .checked) N q H q′ s r y in (x .told .number-is ∙ first-of a, b)
+      let (a, b) = checked-one-step I (x .outcome) E L (x .checked) N q H q′ s r y in (x .told .number-is ∙ first-equal a, b)
 
 module _ {H : Input} {number : ℕ} {places E L : List ℕ} (x : HalfExported H number places E L) where
   pub half-zero-good : number ≡ 0 → GoodLists (filledInput H) E L
@@ -44,7 +44,7 @@ module _ {H : Input} {number : ℕ} {places E L : List ℕ} (x : HalfExported H 
   pub half-zero-one-step : (N : Vec) (q : ℕ) (G : Mat) (q′ : ℕ) → shortHalf (length (H .matrix)) ≡ false → short (filledInput H) ≡ false → inRanges (filledInput H) ≡ true →
       FineRounded (problem (filledInput H)) N q G q′ → (number ≡ 0) × OneStepLists (filledInput H) E L
   half-zero-one-step N q G q′ h s r y =
-      let (a, b) = half-one-step H (x .outcome) E L (x .checked) N q G q′ h s r y in (x .told .number-is ∙ first-of a, b)
+      let (a, b) = half-one-step H (x .outcome) E L (x .checked) N q G q′ h s r y in (x .told .number-is ∙ first-equal a, b)
 
 module _ {stage : Stage} {I : Input} {number : ℕ} {places E L : List ℕ} (x : LoaderCheckExported stage I number places E L) where
   pub through-zero-good : number ≡ 0 → GoodLists I E L
@@ -53,7 +53,7 @@ module _ {stage : Stage} {I : Input} {number : ℕ} {places E L : List ℕ} (x :
   pub through-zero-one-step : (N : Vec) (q : ℕ) (H : Mat) (q′ : ℕ) → short I ≡ false → ended stage ≡ true → inRanges I ≡ true → FineRounded (problem I) N q H q′ →
       (number ≡ 0) × OneStepLists I E L
   through-zero-one-step N q H q′ s d r y =
-      let (a, b) = through-one-step stage I (x .outcome) E L (x .checked) N q H q′ s d r y in (x .told .number-is ∙ first-of a, b)
+      let (a, b) = through-one-step stage I (x .outcome) E L (x .checked) N q H q′ s d r y in (x .told .number-is ∙ first-equal a, b)
 
 module _ {file old : List ℕ} {number : ℕ} {places new : List ℕ} {written : ℕ} (x : ListingExported file old number places new written) where
   pub reported-good : number ≡ 0 → Good (problemIn file) (bound (problemIn file)) (inverseBound (problemIn file))
@@ -61,4 +61,4 @@ module _ {file old : List ℕ} {number : ℕ} {places new : List ℕ} {written :
 
   pub reported-one-step : Complete file → (N : Vec) (q : ℕ) (H : Mat) (q′ : ℕ) → FineRounded (problemIn file) N q H q′ →
       (number ≡ 0) × OneStep (problemIn file .n) (bound (problemIn file)) (inverseBound (problemIn file))
-  reported-one-step c N q H q′ y = let (a, b) = file-one-step file c N q H q′ y in (x .told .number-is ∙ first-of a, b)
+  reported-one-step c N q H q′ y = let (a, b) = file-one-step file c N q H q′ y in (x .told .number-is ∙ first-equal a, b)

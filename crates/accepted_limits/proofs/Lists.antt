@@ -1,5 +1,5 @@
 -- Accepted checks on lists, square, by half and through a loader, leave good limits (good_limits/specs/Good).
---   written-good — good limits, once written into two lists;  accepted-good — those of an accepted check
+--   written-good — good limits, once written into two lists;  check-good — those of an accepted check
 --   checked-good, half-good, through-good — after an accepted check of each contract
 --   checked-one-step, half-one-step, through-one-step — a rounded exact proposal with 3·Σ|A_ij| ≤ 2·T is accepted, with limits of 0 or 1
 use mathlib.Core.Path.{_≡_, refl, sym, _∙_}
@@ -31,7 +31,7 @@ use Rattle.loader_order.specs.Through.{answerThrough, solutionBoundsThrough, in
 use Rattle.loader_order.proofs.Through.{answer-ended}
 use Rattle.good_limits.specs.Good.{FineRounded, Good}
 use Rattle.accepted_limits.specs.Lists.{GoodLists, OneStepLists}
-use Rattle.good_limits.proofs.Good.{good, good-as}
+use Rattle.good_limits.proofs.Good.{limits-good, good-as}
 
 pub written-good : (P : Problem) (E₀ : ℕ → ℕ) (L₀ : ℕ → ℕ → ℕ) (oldE oldL : List ℕ) → P .n ≤ 32 → 32 ≤ length oldE → 1024 ≤ length oldL → {E L : List ℕ} →
     E ≡ written oldE 0 1 E₀ (P .n) → L ≡ written oldL 0 1 (λ (k : ℕ). L₀ (k / P .n) (k % P .n)) (P .n * P .n) →
@@ -43,14 +43,14 @@ written-good P E₀ L₀ oldE oldL few e l {E} {L} hE hL =
     ∙ rw (place-column i j (P .n) lj, place-row i j (P .n) lj)))
 
 -- what an accepted check leaves, whichever tests came before
-pub accepted-good : (I : Input) → answer I ≡ [] → {E L : List ℕ} → E ≡ written (I .solutionBounds) 0 1 (bound (problem I)) (I .n) →
+pub check-good : (I : Input) → answer I ≡ [] → {E L : List ℕ} → E ≡ written (I .solutionBounds) 0 1 (bound (problem I)) (I .n) →
     L ≡ written (I .inverseBounds) 0 1 (λ (k : ℕ). inverseBound (problem I) (k / I .n) (k % I .n)) (I .n * I .n) → GoodLists I E L
-accepted-good I e hE hL =
+check-good I e hE hL =
     let u = accepted-usable I e in
     let fit = fit-of I (u .long) (u .inside) in
     let P : Problem = problem I in
     written-good P (bound P) (inverseBound P) (I .solutionBounds) (I .inverseBounds) (fit .few) (fit .solution-long) (fit .inverse-long) hE hL
-    (good P (fit .some) (fit .heavy) (said-sound P (sym (answer-ready I (u .long) (u .inside)) ∙ e) .margins))
+    (limits-good P (fit .some) (fit .heavy) (said-sound P (sym (answer-ready I (u .long) (u .inside)) ∙ e) .margins))
 
 -- ---- lists
 module _ (I : Input) (r : Outcome) (E L : List ℕ) (x : Checked I r E L) where
@@ -58,7 +58,7 @@ module _ (I : Input) (r : Outcome) (E L : List ℕ) (x : Checked I r E L) where
   unfolding solutionBoundsAfter inverseBoundsAfter
   checked-good e =
       let a : answer I ≡ [] = sym (x .says) ∙ e in
-      accepted-good I a (x .solution-bounds ∙ accepted-new _ _ a) (x .inverse-bounds ∙ accepted-new _ _ a)
+      check-good I a (x .solution-bounds ∙ accepted-new _ _ a) (x .inverse-bounds ∙ accepted-new _ _ a)
 
   pub checked-one-step : (N : Vec) (q : ℕ) (H : Mat) (q′ : ℕ) → short I ≡ false → inRanges I ≡ true → FineRounded (problem I) N q H q′ →
       (said r ≡ []) × OneStepLists I E L
@@ -97,7 +97,7 @@ module _ (s : Stage) (I : Input) (r : Outcome) (E L : List ℕ) (x : CheckedThro
       t = sym (x .says) ∙ e
 
       go : (b : Bool) → ended s ≡ b → GoodLists I E L
-      go true o = accepted-good I (sym (answer-ended s I o) ∙ t) (x .solution-bounds ∙ accepted-new _ _ t) (x .inverse-bounds ∙ accepted-new _ _ t)
+      go true o = check-good I (sym (answer-ended s I o) ∙ t) (x .solution-bounds ∙ accepted-new _ _ t) (x .inverse-bounds ∙ accepted-new _ _ t)
       go false o = absurd (open-not o t)
 
   pub through-one-step : (N : Vec) (q : ℕ) (H : Mat) (q′ : ℕ) → short I ≡ false → ended s ≡ true → inRanges I ≡ true → FineRounded (problem I) N q H q′ →

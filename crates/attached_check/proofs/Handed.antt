@@ -1,7 +1,7 @@
 -- A dependent net that passes 8 and 3, as work for the reckoning: its base is S·b2 − C·X1, its slacks are |C|·E1, each limit capped, and S·d2, and what is
 -- allowed is 2^25 less the slack; in the columns it is the sum along the row.
 --   coupling-list, scaled-list, own-slacks — sizes of C, S·b2 and S·d2
---   Handed   — what the arrays hold;  workable — the reckoning may start on it
+--   HandedDependent — what the arrays hold;  workable — the reckoning may start on it
 --   reckoned-attached — what the reckoning makes of it is the contract of the check
 use mathlib.Core.Path.{_≡_, refl, sym, ap, ap₂, _∙_}
 use mathlib.Core.Bool.{Bool, true, false, _||_}
@@ -58,7 +58,7 @@ absorbed c z y = go (ltb c z) refl (ltb c (z + y)) refl
     go true e false f = let x : c < z = ltb-true c z e in let h : z + y ≤ c = ltb-false c (z + y) f in absurd (omega arith)
 
 -- the arrays: S·b2, the base, S·d2, the slacks, what is allowed, the sums along the rows, what is allowed in the columns
-pub record Handed (marks : ℕ) (guess : List ℤ) (limits : List ℕ) (coupling : List ℤ) (I : Input) (p b : List ℤ) (τ σ : List ℕ) (a : List ℤ) (w : List ℕ) (c : List ℤ) : Type 0 where
+pub record HandedDependent (marks : ℕ) (guess : List ℤ) (limits : List ℕ) (coupling : List ℤ) (I : Input) (p b : List ℤ) (τ σ : List ℕ) (a : List ℤ) (w : List ℕ) (c : List ℤ) : Type 0 where
   pub scaled-long : length p ≡ 32
   pub scaled : Begins (pos 0) p (I .n) (λ (k : ℕ). pos (2 ^ I .s) *ℤ at (I .right) k)
   pub base-long : length b ≡ 32
@@ -94,7 +94,7 @@ module _ (marks s₁ : ℕ) (guess : List ℤ) (limits : List ℕ) (coupling : L
   D = attachedBy marks s₁ (vectorOf guess) (λ j. getD limits j 0) coupling I
 
   module _ (few : marks ≤ 32) (known : ColumnList guess marks (2 ^ 36)) (u : UsableDependent D)
-      {p b a c : List ℤ} {τ σ w : List ℕ} (h : Handed marks guess limits coupling I p b τ σ a w c) where
+      {p b a c : List ℤ} {τ σ w : List ℕ} (h : HandedDependent marks guess limits coupling I p b τ σ a w c) where
     abbrev W : Work
     W = work (I .n) (I .t) (I .matrix) b a c σ (I .guess) (I .inverse) (I .weights) (I .solutionBounds) (I .inverseBounds)
 

@@ -1,9 +1,9 @@
 -- The limits of a column.
 --   image-is     — the code's sizes are those of G·r;  image-size — they are at most 2^55 whatever is raised
 --   plain-sizes, slack-sizes — the code's sizes are the definition's, without slack and with it
---   sized        — they are at most 2^50
+--   sizes-small  — they are at most 2^50
 --   slack-near, near-reach, columns-near — slacks and residuals that are near are small; residuals of columns are near
---   slack-sum — a sum of slacks is at most 2^50 a term;  no-slack — where no row has one it is 0
+--   slack-sum — a sum of slacks is at most 2^50 a term;  no-slack-sum — where no row has one it is 0
 --   bounds-of-sizes, column-more — limits from an array of sizes, and one column more of the loop over all
 use mathlib.Core.Path.{_≡_, refl, sym, ap, _∙_}
 use mathlib.Core.List.{List}
@@ -51,10 +51,10 @@ module _ (n : ℕ) {rows residuals : List ℕ} {place : ℕ} {r : Vec} (h : Rais
   unfolding sizesWith
   slack-sizes σ a b = begins-as 0 _ _ (λ m l. rw (a .each m l, image-is m l)) b
 
-pub sized : {n : ℕ} {rows : List ℕ} {r : Vec} {σ : ℕ → ℕ} {out : List ℕ} → n ≤ 32 → InverseRows rows n → Near r σ n →
+pub sizes-small : {n : ℕ} {rows : List ℕ} {r : Vec} {σ : ℕ → ℕ} {out : List ℕ} → n ≤ 32 → InverseRows rows n → Near r σ n →
     Begins 0 out n (sizesWith (inversePart n rows) r σ) → Sized out n
 unfolding sizesWith
-sized {n} {rows} {r} {σ} few h near b = record {
+sizes-small {n} {rows} {r} {σ} few h near b = record {
   most = λ m l. rw (b .each m l)
       (omega (arith, joint n (2 ^ 20) (2 ^ 25) (loweredRows rows n) r σ m (λ j lj. h .size m j l lj) (near .each), mul-le-mul-right (2 ^ 45) few));
 }
@@ -75,8 +75,8 @@ pub slack-sum : {rows : List ℕ} (slacks : List ℕ) {row n : ℕ} (j : ℕ) �
 slack-sum slacks j l h s = sumℕ≤ j (2 ^ 50) _ (λ k m. mul-le-mul (lowered-size _ (h .small .each k (omega arith))) (s k (omega arith)))
 
 -- where no row has a slack there is none
-pub no-slack : (n : ℕ) (a σ : ℕ → ℕ) → sumℕ n σ ≡ 0 → sumℕ n (λ (j : ℕ). a j * σ j) ≡ 0
-no-slack n a σ e = sumℕ-ext n (λ (j : ℕ). a j * σ j) (λ (j : ℕ). 0) (λ j l. let z : σ j ≡ 0 = omega (arith, e, sumℕ-at n σ j l) in rw z (omega arith)) ∙ sumℕ-zero n
+pub no-slack-sum : (n : ℕ) (a σ : ℕ → ℕ) → sumℕ n σ ≡ 0 → sumℕ n (λ (j : ℕ). a j * σ j) ≡ 0
+no-slack-sum n a σ e = sumℕ-ext n (λ (j : ℕ). a j * σ j) (λ (j : ℕ). 0) (λ j l. let z : σ j ≡ 0 = omega (arith, e, sumℕ-at n σ j l) in rw z (omega arith)) ∙ sumℕ-zero n
 
 -- limits from an array of sizes are those of the sizes that it begins with
 pub bounds-of-sizes : (n : ℕ) (sizes : List ℕ) (f margins w : ℕ → ℕ) {out : List ℕ} → Begins 0 sizes n f →

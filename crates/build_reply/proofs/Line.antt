@@ -14,7 +14,7 @@ use Rattle.rules.specs.Range.{inRange}
 use Rattle.rules.specs.declared.Kind.the-variants as kind
 use Rattle.observation.specs.declared.Observation.{Observation}
 use Rattle.observation.specs.Refused.{refusedFrom, buildLine}
-use Rattle.gathering.specs.Gathered.{lineOf}
+use Rattle.gathering.specs.Gathered.{lineNumberOf}
 use Rattle.gathering.proofs.Whole.{gatheredOf, whole}
 use Rattle.built.proofs.Contract.{many}
 
@@ -24,7 +24,7 @@ line-finally false true true line = refl
 line-finally false true false line = refl
 line-finally false false m line = refl
 
-pub built-line : (n : ℕ) (ls : List Observation) (short : Bool) → cond short 0 (lineOf (gatheredOf n ls)) ≡ buildLine n ls short
+pub built-line : (n : ℕ) (ls : List Observation) (short : Bool) → cond short 0 (lineNumberOf (gatheredOf n ls)) ≡ buildLine n ls short
 unfolding buildLine
 built-line n ls short =
     ap (cond short 0) (whole n ls .line)

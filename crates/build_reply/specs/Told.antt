@@ -10,7 +10,7 @@ use lib.ListN.{getD}
 use Rattle.observation.specs.declared.Built.{Built}
 use Rattle.observation.specs.Order.{saidBuilt}
 use Rattle.gathering.specs.declared.Gathered.{Gathered}
-use Rattle.gathering.specs.Gathered.{lineOf}
+use Rattle.gathering.specs.Gathered.{lineNumberOf}
 use Rattle.equations.specs.declared.Layout.{Layout}
 use Rattle.built.specs.BuiltAs.{shortFor}
 use Rattle.built.specs.Finished.{Finished}
@@ -19,4 +19,4 @@ pub record FinishedTold (g : Gathered) (layout : Layout) (a b : List ℤ) (numbe
   pub answer : Built
   pub finished : Finished g layout a b answer a′ b′
   pub number-is : number ≡ getD (saidBuilt answer) 0 0
-  pub line-is : line ≡ cond (shortFor layout a b) 0 (lineOf g)
+  pub line-is : line ≡ cond (shortFor layout a b) 0 (lineNumberOf g)

@@ -50,14 +50,14 @@ diagonal-held layout n ls a b {r} {a′} built done =
 abbrev nines : ℕ → List ℤ
 nines k = replicate k (pos 9)
 
-builds : (layout : Layout) → buildAnswer 2 net (shortFor layout (nines 1024) (nines 32)) ≡ []
+diagonal-builds : (layout : Layout) → buildAnswer 2 net (shortFor layout (nines 1024) (nines 32)) ≡ []
 unfolding O.buildAnswer O.observationsSay L.outsideRange L.clashes L.sameContents R.inRange R.rangeOf R.ranges
-builds Square = refl
-builds Lower = refl
+diagonal-builds Square = refl
+diagonal-builds Lower = refl
 
 pub net-built : (layout : Layout) →
     BuiltAs 2 net layout (nines 1024) (nines 32) Done (matrixWritten layout 2 (builtMatrix net) (nines 1024)) (rightWritten 2 (builtRight net) (nines 32))
-net-built layout = record { says = sym (builds layout); matrix = sym (accepted-new _ _ (builds layout)); right = sym (accepted-new _ _ (builds layout)) }
+net-built layout = record { says = sym (diagonal-builds layout); matrix = sym (accepted-new _ _ (diagonal-builds layout)); right = sym (accepted-new _ _ (diagonal-builds layout)) }
 
 pub net-diagonal : (layout : Layout) → (diagonalOf layout 2 (matrixWritten layout 2 (builtMatrix net) (nines 1024)) ≡ pos 13) × (fixedWeight net ≡ pos 3) × (allWeight net ≡ pos 8)
 unfolding sum sumℕ W.written E.rowsWritten D.distinctAfter D.total D.weightAt L.hasKey

@@ -24,10 +24,10 @@ use Rattle.observation.specs.Distinct.{builtMatrix, builtRight}
 use Rattle.observation.specs.Order.{saidBuilt, buildAnswer}
 use Rattle.integer.specs.Among.{Among}
 use Rattle.linear.proofs.Written.{front-at, front-else, written-ext}
-use Rattle.observation.specs.Stated.{Admitted, Fits}
+use Rattle.observation.specs.Stated.{Admitted, Buildable}
 use Rattle.observation.proofs.Lines.{builds-fits}
 use Rattle.observation.proofs.Net.{matrix-in-range, right-in-range}
-use Rattle.observation.proofs.Repeated.{repeated}
+use Rattle.observation.proofs.Repeated.{repeated-builds}
 use Rattle.equations.specs.declared.Layout.{Layout}
 use Rattle.equations.specs.declared.Layout.the-variants.{Square}
 use Rattle.equations.specs.Written.{widthOf, matrixWritten, rightWritten}
@@ -35,7 +35,7 @@ use Rattle.built.proofs.Ends.{matrix-room, long-right}
 use Rattle.equations.proofs.Layouts.{square-start, square-at, square-else}
 use Rattle.equations.proofs.Places.{rows-ext}
 use Rattle.built.specs.BuiltAs.{shortFor, BuiltAs}
-use Rattle.built.specs.Held.{Held}
+use Rattle.built.specs.Held.{HeldSquare}
 
 module _ (n : ℕ) (ls : List Observation) (layout : Layout) (a b : List ℤ) {r : Built} {a′ b′ : List ℤ} (built : BuiltAs n ls layout a b r a′ b′) where
   pub untouched : {k : ℕ} {ks : List ℕ} → saidBuilt r ≡ k ∷ ks → (a′ ≡ a) × (b′ ≡ b)
@@ -53,7 +53,7 @@ module _ (n : ℕ) (ls : List Observation) (layout : Layout) (a b : List ℤ) {r
     new-right : b′ ≡ rightWritten n (builtRight ls) b
     new-right = built .right ∙ accepted-new (rightWritten n (builtRight ls) b) b silent
 
-    pub fitting : Admitted n (length ls) (shortFor layout a b) × Fits n ls
+    pub fitting : Admitted n (length ls) (shortFor layout a b) × Buildable n ls
     fitting = builds-fits n ls (shortFor layout a b) silent
 
     pub few-rows : n ≤ 32
@@ -82,7 +82,7 @@ module _ (n : ℕ) (ls : List Observation) (layout : Layout) (a b : List ℤ) {r
         place p m = ap (at A) (sym (div-add-mod' p n)) ∙ h (p / n) (p % n) (div-lt-iff-lt-mul (some p m) .1 m) (mod-lt p (some p m))
 
 module _ (n : ℕ) (ls : List Observation) (a b : List ℤ) {r : Built} {a′ b′ : List ℤ} (built : BuiltAs n ls Square a b r a′ b′) (done : saidBuilt r ≡ []) where
-  pub held : Held n ls a b a′ b′
+  pub held : HeldSquare n ls a b a′ b′
   held =
       let few = few-rows n ls Square a b built done in
       let fits : n * n ≤ length a = omega (arith, square-start n n, matrix-room Square n a b few (fitting n ls Square a b built done .0 .long)) in
@@ -99,7 +99,7 @@ module _ (n : ℕ) (ls : List Observation) (a b : List ℤ) {r : Built} {a′ b�
 pub repeated-built : (n : ℕ) (l : Observation) (xs ys : List Observation) (layout : Layout) (a b : List ℤ) {r s : Built} {a′ b′ a″ b″ : List ℤ} →
     BuiltAs n (xs ++ ys) layout a b r a′ b′ → saidBuilt r ≡ [] → Among l (xs ++ ys) → length (xs ++ l ∷ ys) ≤ 256 → BuiltAs n (xs ++ l ∷ ys) layout a b s a″ b″ → (saidBuilt s ≡ []) × (a″ ≡ a′) × (b″ ≡ b′)
 repeated-built n l xs ys layout a b f done i few g =
-    let same = repeated n (shortFor layout a b) l xs ys (sym (f .says) ∙ done) i few in
+    let same = repeated-builds n (shortFor layout a b) l xs ys (sym (f .says) ∙ done) i few in
     let again = g .says ∙ same .builds in (
       again,
       new-matrix n (xs ++ l ∷ ys) layout a b g again ∙ rows-ext (widthOf layout n) n (builtMatrix (xs ++ l ∷ ys)) (builtMatrix (xs ++ ys)) a (same .matrix) ∙ sym (new-matrix n (xs ++ ys) layout a b f done),

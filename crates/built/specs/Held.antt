@@ -1,5 +1,5 @@
 -- What the two lists of a build hold where the equations are built (document 02, Papers 3 and 10): a and b before, a′ and b′ after.
---   Held n ls a b a′ b′ — in the square layout: the equations of the distinct lines at their places, every other place as before
+--   HeldSquare n ls a b a′ b′ — in the square layout: the equations of the distinct lines at their places, every other place as before
 --   HeldHalf n ls h b h′ b′ — the same with the matrix by its lower half, both halves of it read there
 use mathlib.Core.List.{List}
 use mathlib.Core.Path.{_≡_}
@@ -10,7 +10,7 @@ use Rattle.lower_half.specs.Half.{halfPlace, halfCount}
 use Rattle.observation.specs.declared.Observation.{Observation}
 use Rattle.observation.specs.Distinct.{builtMatrix, builtRight}
 
-pub record Held (n : ℕ) (ls : List Observation) (a b a′ b′ : List ℤ) : Type 0 where
+pub record HeldSquare (n : ℕ) (ls : List Observation) (a b a′ b′ : List ℤ) : Type 0 where
   pub matrix : (i j : ℕ) → i < n → j < n → at a′ (i * n + j) ≡ builtMatrix ls i j
   pub right : (i : ℕ) → i < n → at b′ i ≡ builtRight ls i
   pub matrix-rest : (p : ℕ) → n * n ≤ p → at a′ p ≡ at a p

@@ -25,7 +25,7 @@ use Rattle.lower_half.specs.Half.{filledOut}
 use Rattle.equations.specs.declared.Layout.{Layout}
 use Rattle.equations.specs.declared.Layout.the-variants.{Square, Lower}
 use Rattle.built.specs.BuiltAs.{shortFor}
-use Rattle.built.specs.Held.{Held, HeldHalf}
+use Rattle.built.specs.Held.{HeldSquare, HeldHalf}
 use Rattle.built.proofs.Held.{held, untouched, in-check-ranges}
 use Rattle.built.proofs.Halves.{held-half, half-is-square}
 use Rattle.calls.specs.Build.{BuildExported}
@@ -52,7 +52,7 @@ module _ {n : ℕ} {ls : List Observation} {layout : Layout} {a b : List ℤ} {n
   said-zero e = zero-built (x .answer) (sym (x .number-is) ∙ e)
 
 module _ {n : ℕ} {ls : List Observation} {a b : List ℤ} {number : ℕ} {a′ b′ : List ℤ} (x : BuildExported n ls Square a b number a′ b′) (e : number ≡ 0) where
-  pub build-zero : Held n ls a b a′ b′
+  pub build-zero : HeldSquare n ls a b a′ b′
   build-zero = held n ls a b (x .built) (said-zero x e)
 
   pub build-checks : (tolerance guess inverse weights : List ℤ) → listsInRange n a′ b′ tolerance guess inverse weights

@@ -18,7 +18,7 @@ use Rattle.built.specs.BuiltAs.{shortFor}
 use Rattle.calls.specs.Build.{BuildLineExported}
 use Rattle.calls.proofs.Build.{build-told, said-zero}
 
-pub record FirstRefused (n : ℕ) (ls : List Observation) (line number : ℕ) : Type 0 where
+pub record FirstRefusedLine (n : ℕ) (ls : List Observation) (line number : ℕ) : Type 0 where
   pub before : List Observation
   pub own : Observation
   pub after : List Observation
@@ -38,7 +38,7 @@ line-not-8 n es l e = go (observationSays n es l) refl
         nothing-is-not (sym a ∙ silent (observationOrder n es l) (none-said (observationOrder n es l) (k ∷ ks) (subst (λ (j : ℕ). without j (observationOrder n es l) ≡ true) (sym z) refl) a))
 
 module _ {n : ℕ} {ls : List Observation} {layout : Layout} {a b : List ℤ} {number : ℕ} {a′ b′ : List ℤ} {line : ℕ} (x : BuildLineExported n ls layout a b number a′ b′ line) where
-  pub build-line-first : {j : ℕ} → line ≡ suc j → FirstRefused n ls line number
+  pub build-line-first : {j : ℕ} → line ≡ suc j → FirstRefusedLine n ls line number
   build-line-first e =
       let f = line-stopped n ls (shortFor layout a b) (sym (x .line-is) ∙ e) in
       record {

@@ -32,18 +32,18 @@ use Rattle.reply.specs.Told.{Told}
 use Rattle.calls.specs.Loader.{LoaderTakeExported, LoaderCheckExported}
 use Rattle.calls.proofs.Meaning.{zero-said}
 
-abbrev pub stateOf : Loader → Lists → State
-stateOf d l = record { loader = d; lists = l }
+abbrev pub stateWith : Loader → Lists → State
+stateWith d l = record { loader = d; lists = l }
 
 -- ---- one line
-first-of : (w : List ℕ) → head w ≡ getD w 0 0
-first-of [] = refl
-first-of (k ∷ ks) = refl
+head-first : (w : List ℕ) → head w ≡ getD w 0 0
+head-first [] = refl
+head-first (k ∷ ks) = refl
 
 thirteen : (c : LineCase) → getD (verdict (lineOrder c)) 0 0 ≡ 13 → verdict (lineOrder c) ≡ 13 ∷ c .missing ∷ []
 thirteen c e =
     let said = verdict (lineOrder c) in
-    let h : head said ≡ 13 = first-of said ∙ e in
+    let h : head said ≡ 13 = head-first said ∙ e in
     go (c .incomplete) (skipped (take 9 (lineOrder c)) (drop 9 (lineOrder c)) said (ap (λ (k : ℕ). without k (take 9 (lineOrder c))) h) refl .1)
   where
     go : (b : Bool) → cond b (13 ∷ c .missing ∷ []) [] ≡ verdict (lineOrder c) → verdict (lineOrder c) ≡ 13 ∷ c .missing ∷ []
@@ -77,8 +77,8 @@ module _ {w line : List ℕ} {l : Lists} {number : ℕ} {places w′ : List ℕ}
       let a = thirteen (caseOf (loaderOf w) l line) (sym (take-told .number-is) ∙ e) in
       (a, take-told .places-are ∙ ap (λ (r : List ℕ). getD r 1 0 ∷ getD r 2 0 ∷ []) a)
 
-  pub step-is : stateOf (loaderOf w′) l′ ≡ step (stateOf (loaderOf w) l) line
-  step-is = ap (λ (d : Loader). stateOf d l′) take-next ∙ ap (stateOf (loaderAfter (loaderOf w) l line)) (x .taken .lists)
+  pub step-is : stateWith (loaderOf w′) l′ ≡ step (stateWith (loaderOf w) l) line
+  step-is = ap (λ (d : Loader). stateWith d l′) take-next ∙ ap (stateWith (loaderAfter (loaderOf w) l line)) (x .taken .lists)
 
 -- ---- the check
 module _ {stage : Stage} {I : Input} {number : ℕ} {places E L : List ℕ} (x : LoaderCheckExported stage I number places E L) where

@@ -13,7 +13,7 @@ use Rattle.given_forms.specs.Progress.{ended}
 use Rattle.loader.specs.declared.Loader.{Loader}
 use Rattle.loader.specs.Answer.{lineAnswer}
 use Rattle.loader.specs.Taken.{fresh, loaderAfter, listsAfter}
-use Rattle.loader.specs.Numbers.{loaderOf, numbersOf}
+use Rattle.loader.specs.Numbers.{loaderOf, loaderNumbers}
 use Rattle.line_runs.specs.Run.{State, fromNew, step, forms}
 use Rattle.line_runs.specs.Accepts.{run, Accepts}
 use Rattle.line_runs.specs.Lines.{linesOf}
@@ -29,8 +29,8 @@ use Rattle.listing.proofs.Entire.{zeros-long, answer-judged}
 use Rattle.reply.specs.Told.{Told}
 use Rattle.calls.specs.Exported.{ListingExported}
 use Rattle.calls.specs.Loader.{LoaderCheckExported}
-use Rattle.calls.specs.Turns.{Turns, kept}
-use Rattle.calls.proofs.Loader.{stateOf}
+use Rattle.calls.specs.Turns.{Turns, keptLines}
+use Rattle.calls.proofs.Loader.{stateWith}
 use Rattle.calls.proofs.LoaderRuns.{turns-kept, turns-check}
 
 module _ (d : Loader) (l m : Lists) (line : List ℕ) (same : shortLists l ≡ shortLists m) where
@@ -46,17 +46,17 @@ pub record ReadTo (k : ℕ) (u : State) (lines : List (List ℕ)) (d : Loader) :
   pub said : readFrom k u lines .said ≡ []
   pub loader : readFrom k u lines .state .loader ≡ d
 
-pub read-any : (k : ℕ) (d : Loader) (l m : Lists) (lines : List (List ℕ)) → shortLists l ≡ false → shortLists m ≡ false → Accepts (stateOf d l) lines
-    → ReadTo k (stateOf d m) lines (run (stateOf d l) lines .loader)
+pub read-any : (k : ℕ) (d : Loader) (l m : Lists) (lines : List (List ℕ)) → shortLists l ≡ false → shortLists m ≡ false → Accepts (stateWith d l) lines
+    → ReadTo k (stateWith d m) lines (run (stateWith d l) lines .loader)
 unfolding run
-read-any k d l m [] hl hm a = record { said = rw (read-none k (stateOf d m)); loader = rw (read-none k (stateOf d m)) }
+read-any k d l m [] hl hm a = record { said = rw (read-none k (stateWith d m)); loader = rw (read-none k (stateWith d m)) }
 read-any k d l m (line ∷ lines) hl hm a =
     let e : lineAnswer d m line ≡ [] = sym (answer-any d l m line (hl ∙ sym hm)) ∙ a .0 in
-    let rest : ReadTo (k + 1) (stateOf (loaderAfter d l line) (listsAfter d m line)) lines (run (step (stateOf d l) line) lines .loader) =
-    read-any (k + 1) (loaderAfter d l line) (listsAfter d l line) (listsAfter d m line) lines (step-long (stateOf d l) line (a .0) hl) (step-long (stateOf d m) line e hm) (a .1) in
-    let own : ReadTo (k + 1) (step (stateOf d m) line) lines (run (step (stateOf d l) line) lines .loader) =
-    subst (λ (x : Loader). ReadTo (k + 1) (stateOf x (listsAfter d m line)) lines (run (step (stateOf d l) line) lines .loader)) (loader-any d l m line (hl ∙ sym hm)) rest in
-    record { said = rw (read-accepted k (stateOf d m) line lines e) (own .said); loader = rw (read-accepted k (stateOf d m) line lines e) (own .loader) }
+    let rest : ReadTo (k + 1) (stateWith (loaderAfter d l line) (listsAfter d m line)) lines (run (step (stateWith d l) line) lines .loader) =
+    read-any (k + 1) (loaderAfter d l line) (listsAfter d l line) (listsAfter d m line) lines (step-long (stateWith d l) line (a .0) hl) (step-long (stateWith d m) line e hm) (a .1) in
+    let own : ReadTo (k + 1) (step (stateWith d m) line) lines (run (step (stateWith d l) line) lines .loader) =
+    subst (λ (x : Loader). ReadTo (k + 1) (stateWith x (listsAfter d m line)) lines (run (step (stateWith d l) line) lines .loader)) (loader-any d l m line (hl ∙ sym hm)) rest in
+    record { said = rw (read-accepted k (stateWith d m) line lines e) (own .said); loader = rw (read-accepted k (stateWith d m) line lines e) (own .loader) }
 
 -- a refusal that gives its number alone stands with 0
 told-printed : (x : List ℕ) {number : ℕ} {places : List ℕ} → Told (printed 0 x) number places → Told x number places
@@ -64,21 +64,21 @@ told-printed [] t = record { number-is = t .number-is; places-are = t .places-ar
 told-printed (k ∷ []) t = record { number-is = t .number-is; places-are = t .places-are }
 told-printed (k ∷ v ∷ vs) t = record { number-is = t .number-is; places-are = t .places-are }
 
-module _ (l : Lists) (long : shortLists l ≡ false) (lines : List (List ℕ)) {numbers w′ : List ℕ} {l′ : Lists} (t : Turns (numbersOf fresh) l lines numbers w′ l′)
-    (e : ended (loaderOf w′ .stage) ≡ true) (file : List ℕ) (own : linesOf file ≡ kept lines numbers) where
+module _ (l : Lists) (long : shortLists l ≡ false) (lines : List (List ℕ)) {numbers w′ : List ℕ} {l′ : Lists} (t : Turns (loaderNumbers fresh) l lines numbers w′ l′)
+    (e : ended (loaderOf w′ .stage) ≡ true) (file : List ℕ) (own : linesOf file ≡ keptLines lines numbers) where
   complete : Complete file
   complete =
-      let r : ReadTo 0 (fromNew zeros) (linesOf file) (run (fromNew l) (kept lines numbers) .loader) =
-      subst (λ (ls : List (List ℕ)). ReadTo 0 (fromNew zeros) ls (run (fromNew l) (kept lines numbers) .loader)) (sym own)
-      (read-any 0 fresh l zeros (kept lines numbers) long zeros-long (turns-kept t .accepts)) in
+      let r : ReadTo 0 (fromNew zeros) (linesOf file) (run (fromNew l) (keptLines lines numbers) .loader) =
+      subst (λ (ls : List (List ℕ)). ReadTo 0 (fromNew zeros) ls (run (fromNew l) (keptLines lines numbers) .loader)) (sym own)
+      (read-any 0 fresh l zeros (keptLines lines numbers) long zeros-long (turns-kept t .accepts)) in
       record { lines = r .said; end = ap (λ (d : Loader). ended (d .stage)) (r .loader ∙ sym (ap (λ (u : State). u .loader) (turns-kept t .state))) ∙ e }
 
   pub turns-listing : (E L : List ℕ) → 32 ≤ length E → 1024 ≤ length L → {number : ℕ} {places E′ L′ : List ℕ}
-      → LoaderCheckExported (loaderOf w′ .stage) (inputOf (stateOf (loaderOf w′) l′) E L) number places E′ L′
+      → LoaderCheckExported (loaderOf w′ .stage) (inputOf (stateWith (loaderOf w′) l′) E L) number places E′ L′
       → {old : List ℕ} {listed : ℕ} {shown new : List ℕ} {written : ℕ} → ListingExported file old listed shown new written → (number ≡ listed) × (places ≡ shown)
   turns-listing E L few many x {listed = listed} {shown} y =
       let a = turns-check l long lines t e E L few many x in
-      let q : answerOf file ≡ printed 0 (checkedOf (problemFrom (forms (kept lines numbers)))) =
+      let q : answerOf file ≡ printed 0 (checkedOf (problemFrom (forms (keptLines lines numbers)))) =
       answer-judged file (complete .lines) (complete .end) ∙ ap (λ (ls : List (List ℕ)). printed 0 (checkedOf (problemFrom (forms ls)))) own in
-      let b = told-printed (checkedOf (problemFrom (forms (kept lines numbers)))) (subst (λ (z : List ℕ). Told z listed shown) q (y .told)) in
+      let b = told-printed (checkedOf (problemFrom (forms (keptLines lines numbers)))) (subst (λ (z : List ℕ). Told z listed shown) q (y .told)) in
       (a .number-is ∙ sym (b .number-is), a .places-are ∙ sym (b .places-are))

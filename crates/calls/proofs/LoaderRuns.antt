@@ -21,7 +21,7 @@ use Rattle.given_forms.specs.Progress.{ended}
 use Rattle.loader_order.specs.Through.{answerThrough}
 use Rattle.loader_order.proofs.Through.{answer-ended}
 use Rattle.loader.specs.Taken.{fresh}
-use Rattle.loader.specs.Numbers.{loaderOf, numbersOf}
+use Rattle.loader.specs.Numbers.{loaderOf, loaderNumbers}
 use Rattle.line_runs.specs.Run.{State, fromNew, forms}
 use Rattle.line_runs.specs.Accepts.{run, Accepts}
 use Rattle.line_runs.specs.Holds.{InRange, inputOf}
@@ -38,8 +38,8 @@ use Rattle.listing.specs.Cases.{wholeFile}
 use Rattle.listing.proofs.Table.{wholeForms, whole-spelled, whole-passes, whole-checked}
 use Rattle.reply.specs.Told.{Told}
 use Rattle.calls.specs.Loader.{LoaderTakeExported, LoaderCheckExported}
-use Rattle.calls.specs.Turns.{Turns, kept, none, next}
-use Rattle.calls.proofs.Loader.{stateOf, take-zero, take-accepted, take-refused, step-is, check-told}
+use Rattle.calls.specs.Turns.{Turns, keptLines, none, next}
+use Rattle.calls.proofs.Loader.{stateWith, take-zero, take-accepted, take-refused, step-is, check-told}
 
 -- ---- line by line
 abbrev pub AllZero : List ℕ → Type 0
@@ -47,55 +47,55 @@ AllZero [] = Unit
 AllZero (k ∷ ks) = (k ≡ 0) × AllZero ks
 
 pub turns-run : {w : List ℕ} {l : Lists} {lines : List (List ℕ)} {numbers w′ : List ℕ} {l′ : Lists} → Turns w l lines numbers w′ l′
-    → stateOf (loaderOf w′) l′ ≡ run (stateOf (loaderOf w) l) lines
+    → stateWith (loaderOf w′) l′ ≡ run (stateWith (loaderOf w) l) lines
 unfolding run
 turns-run none = refl
 turns-run (next {lines = lines} x t) = turns-run t ∙ ap (λ (u : State). run u lines) (step-is x)
 
 pub turns-zero : {w : List ℕ} {l : Lists} {lines : List (List ℕ)} {numbers w′ : List ℕ} {l′ : Lists} → Turns w l lines numbers w′ l′
-    → Accepts (stateOf (loaderOf w) l) lines → AllZero numbers
+    → Accepts (stateWith (loaderOf w) l) lines → AllZero numbers
 turns-zero none a = tt
 turns-zero (next {lines = lines} x t) a = (take-accepted x (a .0), turns-zero t (subst (λ (u : State). Accepts u lines) (sym (step-is x)) (a .1)))
 
 -- the lines whose result is 0 are accepted where the others are left out, and leave the same
-pub record Kept (u : State) (lines : List (List ℕ)) (u′ : State) : Type 0 where
+pub record KeptRun (u : State) (lines : List (List ℕ)) (u′ : State) : Type 0 where
   pub accepts : Accepts u lines
   pub state : u′ ≡ run u lines
 
 -- a line before others
 kept-before : {w line : List ℕ} {l : Lists} {number : ℕ} {places w₁ : List ℕ} {l₁ : Lists} (lines : List (List ℕ)) (u′ : State) → LoaderTakeExported w line l number places w₁ l₁
-    → Kept (stateOf (loaderOf w₁) l₁) lines u′ → Kept (stateOf (loaderOf w) l) (cond (eqb number 0) (line ∷ lines) lines) u′
+    → KeptRun (stateWith (loaderOf w₁) l₁) lines u′ → KeptRun (stateWith (loaderOf w) l) (cond (eqb number 0) (line ∷ lines) lines) u′
 unfolding run
 kept-before {w} {line} {l} {number} {w₁ = w₁} {l₁} lines u′ x rest = go (eqb number 0) refl
   where
-    go : (b : Bool) → eqb number 0 ≡ b → Kept (stateOf (loaderOf w) l) (cond b (line ∷ lines) lines) u′
+    go : (b : Bool) → eqb number 0 ≡ b → KeptRun (stateWith (loaderOf w) l) (cond b (line ∷ lines) lines) u′
     go true e = record {
       accepts = (take-zero x (eqb-true number 0 e), subst (λ (u : State). Accepts u lines) (step-is x) (rest .accepts));
       state = rest .state ∙ ap (λ (u : State). run u lines) (step-is x);
     }
     go false e =
         let r = take-refused x (eqb-false number 0 e) in
-        subst (λ (u : State). Kept u lines u′) (ap (λ (v : List ℕ). stateOf (loaderOf v) l₁) (r .0) ∙ ap (stateOf (loaderOf w)) (r .1)) rest
+        subst (λ (u : State). KeptRun u lines u′) (ap (λ (v : List ℕ). stateWith (loaderOf v) l₁) (r .0) ∙ ap (stateWith (loaderOf w)) (r .1)) rest
 
 pub turns-kept : {w : List ℕ} {l : Lists} {lines : List (List ℕ)} {numbers w′ : List ℕ} {l′ : Lists} → Turns w l lines numbers w′ l′
-    → Kept (stateOf (loaderOf w) l) (kept lines numbers) (stateOf (loaderOf w′) l′)
+    → KeptRun (stateWith (loaderOf w) l) (keptLines lines numbers) (stateWith (loaderOf w′) l′)
 unfolding run
 turns-kept none = record { accepts = tt; state = refl }
-turns-kept (next {lines = lines} {numbers} {w′} {l′} x t) = kept-before (kept lines numbers) (stateOf (loaderOf w′) l′) x (turns-kept t)
+turns-kept (next {lines = lines} {numbers} {w′} {l′} x t) = kept-before (keptLines lines numbers) (stateWith (loaderOf w′) l′) x (turns-kept t)
 
-pub kept-all : {w : List ℕ} {l : Lists} {lines : List (List ℕ)} {numbers w′ : List ℕ} {l′ : Lists} → Turns w l lines numbers w′ l′ → AllZero numbers
-    → kept lines numbers ≡ lines
-kept-all none z = refl
-kept-all (next {line = line} {number = number} {lines = lines} {numbers} x t) z = rw (eq-eqb number 0 (z .0)) (ap (λ (ls : List (List ℕ)). line ∷ ls) (kept-all t (z .1)))
+pub zeros-kept : {w : List ℕ} {l : Lists} {lines : List (List ℕ)} {numbers w′ : List ℕ} {l′ : Lists} → Turns w l lines numbers w′ l′ → AllZero numbers
+    → keptLines lines numbers ≡ lines
+zeros-kept none z = refl
+zeros-kept (next {line = line} {number = number} {lines = lines} {numbers} x t) z = rw (eq-eqb number 0 (z .0)) (ap (λ (ls : List (List ℕ)). line ∷ ls) (zeros-kept t (z .1)))
 
 -- ---- lines from a new loader, with lists that are long enough, and the check after them
-module _ (l : Lists) (long : shortLists l ≡ false) (lines : List (List ℕ)) {numbers w′ : List ℕ} {l′ : Lists} (t : Turns (numbersOf fresh) l lines numbers w′ l′)
+module _ (l : Lists) (long : shortLists l ≡ false) (lines : List (List ℕ)) {numbers w′ : List ℕ} {l′ : Lists} (t : Turns (loaderNumbers fresh) l lines numbers w′ l′)
     (e : ended (loaderOf w′ .stage) ≡ true) (E L : List ℕ) (few : 32 ≤ length E) (many : 1024 ≤ length L) where
   abbrev last : State
-  last = stateOf (loaderOf w′) l′
+  last = stateWith (loaderOf w′) l′
 
   abbrev given : List (List ℕ)
-  given = kept lines numbers
+  given = keptLines lines numbers
 
   run-is : last ≡ run (fromNew l) given
   run-is = turns-kept t .state
@@ -131,24 +131,24 @@ module _ (l : Lists) (long : shortLists l ≡ false) (lines : List (List ℕ)) {
       ∙ answer-forms last (forms given) from inside own-long
 
   pub turns-check : {number : ℕ} {places E′ L′ : List ℕ} → LoaderCheckExported (loaderOf w′ .stage) (inputOf last E L) number places E′ L′
-      → Told (checkedOf (problemFrom (forms (kept lines numbers)))) number places
+      → Told (checkedOf (problemFrom (forms (keptLines lines numbers)))) number places
   turns-check {number} {places} x = subst (λ (a : List ℕ). Told a number places) says (check-told x)
 
 -- ---- 01's whole file
-module _ (l : Lists) (long : shortLists l ≡ false) {numbers w′ : List ℕ} {l′ : Lists} (t : Turns (numbersOf fresh) l (linesOf wholeFile) numbers w′ l′) where
+module _ (l : Lists) (long : shortLists l ≡ false) {numbers w′ : List ℕ} {l′ : Lists} (t : Turns (loaderNumbers fresh) l (linesOf wholeFile) numbers w′ l′) where
   whole-read : (readFrom 0 (fromNew l) (linesOf wholeFile) .said ≡ []) × (ended (readFrom 0 (fromNew l) (linesOf wholeFile) .state .loader .stage) ≡ true)
   whole-read = rw whole-spelled (pass-all 0 (fromNew l) wholeForms long whole-passes)
 
   pub whole-turns : AllZero numbers × (ended (loaderOf w′ .stage) ≡ true)
   whole-turns =
       let said = whole-read .0 in
-      let run-is : readFrom 0 (fromNew l) (linesOf wholeFile) .state ≡ stateOf (loaderOf w′) l′ = all-run 0 (fromNew l) (linesOf wholeFile) said ∙ sym (turns-run t) in
+      let run-is : readFrom 0 (fromNew l) (linesOf wholeFile) .state ≡ stateWith (loaderOf w′) l′ = all-run 0 (fromNew l) (linesOf wholeFile) said ∙ sym (turns-run t) in
       (turns-zero t (all-accepted 0 (fromNew l) (linesOf wholeFile) said), subst (λ (u : State). ended (u .loader .stage) ≡ true) run-is (whole-read .1))
 
-  whole-quiet : checkedOf (problemFrom (forms (kept (linesOf wholeFile) numbers))) ≡ []
-  whole-quiet = ap (λ (z : List (List ℕ)). checkedOf (problemFrom (forms z))) (kept-all t (whole-turns .0) ∙ whole-spelled) ∙ ap (λ fs. checkedOf (problemFrom fs)) (forms-spelled wholeForms) ∙ whole-checked
+  whole-quiet : checkedOf (problemFrom (forms (keptLines (linesOf wholeFile) numbers))) ≡ []
+  whole-quiet = ap (λ (z : List (List ℕ)). checkedOf (problemFrom (forms z))) (zeros-kept t (whole-turns .0) ∙ whole-spelled) ∙ ap (λ fs. checkedOf (problemFrom fs)) (forms-spelled wholeForms) ∙ whole-checked
 
   pub whole-check : (E L : List ℕ) → 32 ≤ length E → 1024 ≤ length L → {number : ℕ} {places E′ L′ : List ℕ}
-      → LoaderCheckExported (loaderOf w′ .stage) (inputOf (stateOf (loaderOf w′) l′) E L) number places E′ L′ → number ≡ 0
+      → LoaderCheckExported (loaderOf w′ .stage) (inputOf (stateWith (loaderOf w′) l′) E L) number places E′ L′ → number ≡ 0
   whole-check E L few many x =
       turns-check l long (linesOf wholeFile) t (whole-turns .1) E L few many x .number-is ∙ ap (λ (a : List ℕ). getD a 0 0) whole-quiet

@@ -17,7 +17,7 @@ use Rattle.form.specs.Form.{Form}
 use Rattle.lent_lists.specs.Lists.{Lists, shortLists}
 use Rattle.given_forms.specs.Progress.{ended}
 use Rattle.loader.specs.Taken.{fresh}
-use Rattle.loader.specs.Numbers.{loaderOf, numbersOf}
+use Rattle.loader.specs.Numbers.{loaderOf, loaderNumbers}
 use Rattle.line_runs.specs.Run.{State, fromNew, forms}
 use Rattle.line_runs.specs.Accepts.{run}
 use Rattle.line_runs.specs.Holds.{inputOf}
@@ -30,9 +30,9 @@ use Rattle.file_shape.proofs.Answers.{shape-answer, shape-accepted}
 use Rattle.file_shape.proofs.Loader.{ShapedLines, shape-ends, ends-shape}
 use Rattle.reply.specs.Told.{Told}
 use Rattle.calls.specs.Loader.{LoaderCheckExported}
-use Rattle.calls.specs.Turns.{Turns, kept}
-use Rattle.calls.proofs.Loader.{stateOf}
-use Rattle.calls.proofs.LoaderRuns.{AllZero, turns-run, turns-zero, turns-kept, kept-all, turns-check}
+use Rattle.calls.specs.Turns.{Turns, keptLines}
+use Rattle.calls.proofs.Loader.{stateWith}
+use Rattle.calls.proofs.LoaderRuns.{AllZero, turns-run, turns-zero, turns-kept, zeros-kept, turns-check}
 
 printed-none : (w : List ℕ) → printed 0 w ≡ [] → w ≡ []
 printed-none [] e = refl
@@ -40,28 +40,28 @@ printed-none (k ∷ []) e = absurd (nothing-is-not e)
 printed-none (k ∷ v ∷ vs) e = absurd (nothing-is-not e)
 
 -- ---- lines that come to an accepted end
-module _ (l : Lists) (lines : List (List ℕ)) {numbers w′ : List ℕ} {l′ : Lists} (t : Turns (numbersOf fresh) l lines numbers w′ l′) (e : ended (loaderOf w′ .stage) ≡ true) where
-  pub kept-shape : ShapedLines (kept lines numbers)
+module _ (l : Lists) (lines : List (List ℕ)) {numbers w′ : List ℕ} {l′ : Lists} (t : Turns (loaderNumbers fresh) l lines numbers w′ l′) (e : ended (loaderOf w′ .stage) ≡ true) where
+  pub kept-shape : ShapedLines (keptLines lines numbers)
   kept-shape =
       let k = turns-kept t in
-      ends-shape l (kept lines numbers) (k .accepts, subst (λ (u : State). ended (u .loader .stage) ≡ true) (k .state) e)
+      ends-shape l (keptLines lines numbers) (k .accepts, subst (λ (u : State). ended (u .loader .stage) ≡ true) (k .state) e)
 
   pub turns-shape : AllZero numbers → ShapedLines lines
-  turns-shape z = subst ShapedLines (kept-all t z) kept-shape
+  turns-shape z = subst ShapedLines (zeros-kept t z) kept-shape
 
 -- ---- the lines of forms of the shape
 module _ (l : Lists) (long : shortLists l ≡ false) {n s t : ℕ} {fs : List Form} (h : Shape n s t fs) {numbers w′ : List ℕ} {l′ : Lists}
-    (x : Turns (numbersOf fresh) l (spelled fs) numbers w′ l′) where
+    (x : Turns (loaderNumbers fresh) l (spelled fs) numbers w′ l′) where
   pub shape-turns : AllZero numbers × (ended (loaderOf w′ .stage) ≡ true)
   shape-turns =
       let e = shape-ends l long h in
       (turns-zero x (e .0), subst (λ (u : State). ended (u .loader .stage) ≡ true) (sym (turns-run x)) (e .1))
 
   module _ (E L : List ℕ) (few : 32 ≤ length E) (many : 1024 ≤ length L) {number : ℕ} {places E′ L′ : List ℕ}
-      (c : LoaderCheckExported (loaderOf w′ .stage) (inputOf (stateOf (loaderOf w′) l′) E L) number places E′ L′) where
+      (c : LoaderCheckExported (loaderOf w′ .stage) (inputOf (stateWith (loaderOf w′) l′) E L) number places E′ L′) where
     pub shape-check : Told (checkedOf (problemFrom fs)) number places
     shape-check =
-        subst (λ (gs : List Form). Told (checkedOf (problemFrom gs)) number places) (ap forms (kept-all x (shape-turns .0)) ∙ forms-spelled fs)
+        subst (λ (gs : List Form). Told (checkedOf (problemFrom gs)) number places) (ap forms (zeros-kept x (shape-turns .0)) ∙ forms-spelled fs)
         (turns-check l long (spelled fs) x (shape-turns .1) E L few many c)
 
     pub shape-exact : (N : Vec) (q : ℕ) (H : Mat) (q′ : ℕ) → RoundedExact (problemFrom fs) N q H q′ → number ≡ 0

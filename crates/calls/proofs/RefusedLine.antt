@@ -1,6 +1,6 @@
 -- Which line a refusal is of.
 --   line-quiet  — what no test of a line says is said of none: so of no line 0, 15 or 22
---   Stopped, stopped — where a line of a file is refused, those before it are accepted, it is refused with what is said, and the number is its own, from 1
+--   StoppedFile, stopped-file — where a line of a file is refused, those before it are accepted, it is refused with what is said, and the number is its own, from 1
 --   line-zero, line-open, line-unfit — `kodarfi_convert_line` gives the line 0 with 0, 15 and 22
 --   line-none   — the line 0 is given where every line is accepted, and there alone
 --   line-first  — any other line is the first that is refused, with the number that the call gives
@@ -32,7 +32,7 @@ unfolding lineAnswer
 line-quiet d l line e w = nothing-is-not (sym e ∙ silent (lineOrder (caseOf d l line)) (none-said (lineOrder (caseOf d l line)) _ w e))
 
 -- ---- the line at which a reading stops
-pub record Stopped (k : ℕ) (u : State) (lines : List (List ℕ)) : Type 0 where
+pub record StoppedFile (k : ℕ) (u : State) (lines : List (List ℕ)) : Type 0 where
   pub before : List (List ℕ)
   pub line : List ℕ
   pub after : List (List ℕ)
@@ -41,12 +41,12 @@ pub record Stopped (k : ℕ) (u : State) (lines : List (List ℕ)) : Type 0 wher
   pub accepts : Accepts u before
   pub refused : lineAnswer (run u before .loader) (run u before .lists) line ≡ readFrom k u lines .said
 
-pub stopped : (k : ℕ) (u : State) (lines : List (List ℕ)) {n : ℕ} {vs : List ℕ} → readFrom k u lines .said ≡ n ∷ vs → Stopped k u lines
+pub stopped-file : (k : ℕ) (u : State) (lines : List (List ℕ)) {n : ℕ} {vs : List ℕ} → readFrom k u lines .said ≡ n ∷ vs → StoppedFile k u lines
 unfolding run
-stopped k u [] e = absurd (nothing-is-not (sym e ∙ ap (λ (r : Reading). r .said) (read-none k u)))
-stopped k u (line ∷ lines) {n} {vs} e = go (lineAnswer (u .loader) (u .lists) line) refl (stopped (k + 1) (step u line) lines {n = n} {vs = vs})
+stopped-file k u [] e = absurd (nothing-is-not (sym e ∙ ap (λ (r : Reading). r .said) (read-none k u)))
+stopped-file k u (line ∷ lines) {n} {vs} e = go (lineAnswer (u .loader) (u .lists) line) refl (stopped-file (k + 1) (step u line) lines {n = n} {vs = vs})
   where
-    go : (r : List ℕ) → lineAnswer (u .loader) (u .lists) line ≡ r → (readFrom (k + 1) (step u line) lines .said ≡ n ∷ vs → Stopped (k + 1) (step u line) lines) → Stopped k u (line ∷ lines)
+    go : (r : List ℕ) → lineAnswer (u .loader) (u .lists) line ≡ r → (readFrom (k + 1) (step u line) lines .said ≡ n ∷ vs → StoppedFile (k + 1) (step u line) lines) → StoppedFile k u (line ∷ lines)
     go [] a rest =
         let q = read-accepted k u line lines a in
         let r = rest (sym (ap (λ (r : Reading). r .said) q) ∙ e) in
@@ -93,7 +93,7 @@ module _ {file old : List ℕ} {w₀ number : ℕ} {places new : List ℕ} {w li
       go : (r : List ℕ) → readingOf file .said ≡ r → refusedLine file ≡ 0
       go [] a = accepted-new _ _ a
       go (m ∷ vs) a =
-          let s = stopped 0 (fromNew zeros) (linesOf file) a in
+          let s = stopped-file 0 (fromNew zeros) (linesOf file) a in
           let u = run (fromNew zeros) (s .before) in
           let same : m ≡ k = sym (number-said a) ∙ e in
           absurd (line-quiet (u .loader) (u .lists) (s .line) (s .refused ∙ a) (subst (λ (j : ℕ). without j (lineOrder (caseOf (u .loader) (u .lists) (s .line))) ≡ true) (sym same) (w (caseOf (u .loader) (u .lists) (s .line)))))
@@ -113,7 +113,7 @@ module _ {file old : List ℕ} {w₀ number : ℕ} {places new : List ℕ} {w li
       go : (r : List ℕ) → readingOf file .said ≡ r → FirstRefused file line number
       go [] a = let z : suc j ≡ 0 = sym e ∙ x .line-is ∙ accepted-new _ _ a in absurd (omega (arith, z))
       go (m ∷ vs) a =
-          let s = stopped 0 (fromNew zeros) (linesOf file) a in
+          let s = stopped-file 0 (fromNew zeros) (linesOf file) a in
           record {
             before = s .before;
             text = s .line;
@@ -130,6 +130,6 @@ module _ {file old : List ℕ} {w₀ number : ℕ} {places new : List ℕ} {w li
       go : (r : List ℕ) → readingOf file .said ≡ r → Accepts (fromNew zeros) (linesOf file)
       go [] a = all-accepted 0 (fromNew zeros) (linesOf file) a
       go (m ∷ vs) a =
-          let s = stopped 0 (fromNew zeros) (linesOf file) a in
+          let s = stopped-file 0 (fromNew zeros) (linesOf file) a in
           let z : 0 ≡ suc (length (s .before)) = sym e ∙ x .line-is ∙ accepted-old _ _ a ∙ s .place ∙ omega arith in
           absurd (omega (arith, z))

@@ -1,7 +1,7 @@
 -- Calls of the exported loader, one after another.
 --   Turns w l lines numbers w′ l′ — such calls of `kodarfi_loader_take`, a line each: the loader's numbers w and the lists l before the first, w′ and l′ after
 --     the last, and the results
---   kept lines numbers — the lines whose result is 0
+--   keptLines lines numbers — the lines whose result is 0
 use mathlib.Core.Bool.{cond}
 use mathlib.Core.List.{List, [], _∷_}
 use Prim.Native.Nat.{ℕ}
@@ -14,7 +14,7 @@ pub data Turns : List ℕ → Lists → List (List ℕ) → List ℕ → List �
   next : {w line : List ℕ} {l : Lists} {number : ℕ} {places w₁ : List ℕ} {l₁ : Lists} {lines : List (List ℕ)} {numbers w′ : List ℕ} {l′ : Lists}
       → LoaderTakeExported w line l number places w₁ l₁ → Turns w₁ l₁ lines numbers w′ l′ → Turns w l (line ∷ lines) (number ∷ numbers) w′ l′
 
-abbrev pub kept : List (List ℕ) → List ℕ → List (List ℕ)
-kept [] numbers = []
-kept (line ∷ lines) [] = []
-kept (line ∷ lines) (k ∷ ks) = cond (eqb k 0) (line ∷ kept lines ks) (kept lines ks)
+abbrev pub keptLines : List (List ℕ) → List ℕ → List (List ℕ)
+keptLines [] numbers = []
+keptLines (line ∷ lines) [] = []
+keptLines (line ∷ lines) (k ∷ ks) = cond (eqb k 0) (line ∷ keptLines lines ks) (keptLines lines ks)

@@ -34,8 +34,8 @@ pub record Fit (I : Input) : Type 0 where
   pub solution-long : 32 ≤ length (I .solutionBounds)
   pub inverse-long : 1024 ≤ length (I .inverseBounds)
 
-listed : (k : Kind) (xs : List ℤ) (n b : ℕ) → ((z : ℤ) → inRange k z ≡ true → natAbs z ≤ b) → allInRange k n (at xs) ≡ true → n ≤ length xs → ColumnList xs n b
-listed k xs n b h e long = record { long = long; within = record { size = λ i l. h (at xs i) (all-at k n (at xs) e i l) } }
+listed-column : (k : Kind) (xs : List ℤ) (n b : ℕ) → ((z : ℤ) → inRange k z ≡ true → natAbs z ≤ b) → allInRange k n (at xs) ≡ true → n ≤ length xs → ColumnList xs n b
+listed-column k xs n b h e long = record { long = long; within = record { size = λ i l. h (at xs i) (all-at k n (at xs) e i l) } }
 
 pub squared : (k : Kind) (xs : List ℤ) (n : ℕ) → ((z : ℤ) → inRange k z ≡ true → natAbs z ≤ 2 ^ 20) → allInRange k (n * n) (at xs) ≡ true → n * n ≤ length xs → MatrixList xs n
 squared k xs n h e long = record { long = long; within = record { size = λ i l. h (at xs i) (all-at k (n * n) (at xs) e i l) } }
@@ -59,11 +59,11 @@ fit-of I e f =
       solution-scale = solution-scale-range (I .s) (both-left _ _ scales);
       inverse-scale = inverse-scale-range (I .t) (both-right (inRange kind.SolutionScale (pos (I .s))) _ scales);
       matrix = squared kind.Matrix (I .matrix) (I .n) matrix-range (both-left _ _ l1) (omega (arith, square few, long .matrix));
-      right = listed kind.Right (I .right) (I .n) (2 ^ 30) right-range (both-left _ _ l2) (omega (arith, long .right));
-      tolerance = listed kind.Tolerance (I .tolerance) (I .n) (2 ^ 20) (λ z h. tolerance-range z h .1) (both-left _ _ l3) (omega (arith, long .tolerance));
-      guess = listed kind.Guess (I .guess) (I .n) (2 ^ 36) guess-range (both-left _ _ l4) (omega (arith, long .guess));
+      right = listed-column kind.Right (I .right) (I .n) (2 ^ 30) right-range (both-left _ _ l2) (omega (arith, long .right));
+      tolerance = listed-column kind.Tolerance (I .tolerance) (I .n) (2 ^ 20) (λ z h. tolerance-range z h .1) (both-left _ _ l3) (omega (arith, long .tolerance));
+      guess = listed-column kind.Guess (I .guess) (I .n) (2 ^ 36) guess-range (both-left _ _ l4) (omega (arith, long .guess));
       inverse = squared kind.Inverse (I .inverse) (I .n) inverse-range (both-left _ _ l5) (omega (arith, square few, long .inverse));
-      weights = listed kind.Weight (I .weights) (I .n) 1024 (λ z h. weight-range z h .1) l6 (omega (arith, long .weights));
+      weights = listed-column kind.Weight (I .weights) (I .n) 1024 (λ z h. weight-range z h .1) l6 (omega (arith, long .weights));
       heavy = λ i l. weight-range (at (I .weights) i) (all-at kind.Weight (I .n) (at (I .weights)) l6 i l) .0;
       solution-long = long .solution;
       inverse-long = long .inverses;

@@ -1,5 +1,5 @@
 -- Cases a to k of document 01 follow from the definitions that the contract of `check` cites; and its whole file meets both halves of demand 3 on `check` itself.
---   cases-hold    — one theorem for all rows of the table, computed
+--   check-cases-hold — one theorem for all rows of the table, computed
 --   limits-hold   — one for the limits that 01 states, by the definitions in force
 --   row-sums-hold, tolerances-hold — one for the rows at and above the sum along a row, one for the rows with tolerances
 --   file-usable, file-rounded-here, file-accepted — the whole file passes 8 and 3, is a rounded exact proposal, and is accepted
@@ -16,7 +16,7 @@ use Rattle.enclosure.specs.Demand.{RoundedExact}
 use Rattle.enclosure.specs.Example as example
 use Rattle.enclosure.specs.Reckoning.{defect, load, margin, residual, rowSum, exceeds, sizesWith, boundFrom, boundWith, bound}
 use Rattle.enclosure.proofs.Instance.{file-rounded, file-sound}
-use Rattle.checked.specs.Cases.{rows, rowSumRows, toleranceRows, allRowsHold, inputOf, e}
+use Rattle.checked.specs.Cases.{rows, rowSumRows, toleranceRows, allRowsHold, caseInput, e}
 use Rattle.checked.specs.Cases01.{rows01, allLimitsHold}
 use Rattle.checked.specs.Checked.{solutionBoundsAfter, inverseBoundsAfter}
 use Rattle.checked.specs.Input.{Input, problem}
@@ -24,9 +24,9 @@ use Rattle.checked.specs.Order.{answer}
 use Rattle.checked.specs.Stated.{Usable}
 use Rattle.checked.proofs.Contract.{answer-ready, sound-said}
 
-pub cases-hold : allRowsHold rows ≡ true
+pub check-cases-hold : allRowsHold rows ≡ true
 unfolding answer solutionBoundsAfter inverseBoundsAfter written bound boundWith boundFrom sizesWith exceeds rowSum residual margin load defect product apply identity sum sumℕ largest first ceilDiv allInRange inRange rangeOf ranges every
-cases-hold = refl
+check-cases-hold = refl
 
 pub limits-hold : allLimitsHold rows01 ≡ true
 unfolding bound boundWith boundFrom sizesWith residual margin load defect product apply identity sum sumℕ largest ceilDiv
@@ -41,7 +41,7 @@ unfolding answer solutionBoundsAfter inverseBoundsAfter written bound boundWith 
 tolerances-hold = refl
 
 abbrev pub fileInput : Input
-fileInput = inputOf e
+fileInput = caseInput e
 
 pub file-usable : Usable fileInput
 unfolding allInRange inRange rangeOf ranges every

@@ -1,5 +1,5 @@
 -- What 02's Paper 9 changes (specs/Tightened), and what it leaves.
---   Split, split — the first place where one of two tests holds is the first of the one test, or a place before it where the other holds first
+--   FirstOfTwo, first-of-two — the first place where one of two tests holds is the first of the one test, or a place before it where the other holds first
 --   tightened — what was said before and what is said now
 --   accepted-05, same-solution-05, same-inverse-05 — whatever is accepted now was accepted before, with the same limits
 --   still-true — whatever was accepted before is enclosed by the limits it got (Paper 9: "Limits already in the register remain true")
@@ -29,23 +29,23 @@ use Rattle.checked.specs.Tightened as change
 use Rattle.checked.proofs.Contract.{answer-short, answer-range, answer-ready, accepted-places, written-encloses}
 
 -- ---- two tests
-pub data Split (n : ℕ) (a b : ℕ → Bool) : Type 0 where
-  stays : first n (λ (k : ℕ). a k || b k) ≡ first n a → ((k : ℕ) → k < first n a → b k ≡ false) → Split n a b
-  lower : (i : ℕ) → i < first n a → first n (λ (k : ℕ). a k || b k) ≡ i → b i ≡ true → ((k : ℕ) → k < i → b k ≡ false) → Split n a b
+pub data FirstOfTwo (n : ℕ) (a b : ℕ → Bool) : Type 0 where
+  stays : first n (λ (k : ℕ). a k || b k) ≡ first n a → ((k : ℕ) → k < first n a → b k ≡ false) → FirstOfTwo n a b
+  lower : (i : ℕ) → i < first n a → first n (λ (k : ℕ). a k || b k) ≡ i → b i ≡ true → ((k : ℕ) → k < i → b k ≡ false) → FirstOfTwo n a b
 
-before : (n : ℕ) (a : ℕ → Bool) (k : ℕ) → k < first n a → a k ≡ false
-before n a k l = go (searched n a)
+before-first : (n : ℕ) (a : ℕ → Bool) (k : ℕ) → k < first n a → a k ≡ false
+before-first n a k l = go (searched n a)
   where
     go : Searched n a → a k ≡ false
     go (found i m e p h) = h k (omega (arith, e))
     go (nowhere e h) = h k (omega (arith, e))
 
-pub split : (n : ℕ) (a b : ℕ → Bool) → Split n a b
-split n a b = go (searched (first n a) b) (searched n a)
+pub first-of-two : (n : ℕ) (a b : ℕ → Bool) → FirstOfTwo n a b
+first-of-two n a b = go (searched (first n a) b) (searched n a)
   where
-    go : Searched (first n a) b → Searched n a → Split n a b
+    go : Searched (first n a) b → Searched n a → FirstOfTwo n a b
     go (found i l e p h) s =
-        lower i l (first-is n (λ (k : ℕ). a k || b k) i (omega (arith, first-most n a refl)) (or-right (a i) p) (λ k m. neither (before n a k (omega arith)) (h k m))) p h
+        lower i l (first-is n (λ (k : ℕ). a k || b k) i (omega (arith, first-most n a refl)) (or-right (a i) p) (λ k m. neither (before-first n a k (omega arith)) (h k m))) p h
     go (nowhere e h) (found i l f p r) =
         stays (first-is n (λ (k : ℕ). a k || b k) i l (or-left (b i) p) (λ k m. neither (r k m) (h k (omega (arith, f)))) ∙ sym f) h
     go (nowhere e h) (nowhere f r) = stays (first-never n (λ (k : ℕ). a k || b k) (λ k m. neither (r k m) (h k (omega (arith, f)))) ∙ sym f) h
@@ -109,7 +109,7 @@ module _ (I : Input) where
           pair (says-0 (I .n) m k i a b c) (says-0 (I .n) m k i a b c) (change.accepted-stays (λ x l. h x (omega arith)) (λ x l. p b x (omega arith)))
 
   at-columns : (m : ℕ) → I .n ≤ m → I .n ≤ firstResidual05 (problem I) → firstResidual (problem I) ≡ firstResidual05 (problem I) → RowsKept (problem I) (I .n) →
-      Split (I .n * I .n) large (exceedsRowAt (problem I)) →
+      FirstOfTwo (I .n * I .n) large (exceedsRowAt (problem I)) →
       Tightened I (verdict (reckoned (I .n) m (firstResidual05 (problem I)) (firstInversePlace05 (problem I)))) (verdict (reckoned (I .n) m (firstResidual (problem I)) (firstInversePlace (problem I))))
   unfolding large exceeds
   at-columns m a b e h (stays f p) =
@@ -118,7 +118,7 @@ module _ (I : Input) where
       rw (e, f)
       (to-place m (firstResidual05 (problem I)) (firstResidual05 (problem I)) (firstInversePlace05 (problem I)) i a b b (first-most (I .n * I .n) large refl) l h (record { fails = p; before = r }))
 
-  at-rows : (m : ℕ) → I .n ≤ m → Split (I .n) (exceeds05 (problem I)) (exceedsRow (problem I)) →
+  at-rows : (m : ℕ) → I .n ≤ m → FirstOfTwo (I .n) (exceeds05 (problem I)) (exceedsRow (problem I)) →
       Tightened I (verdict (reckoned (I .n) m (firstResidual05 (problem I)) (firstInversePlace05 (problem I)))) (verdict (reckoned (I .n) m (firstResidual (problem I)) (firstInversePlace (problem I))))
   unfolding exceeds
   at-rows m a (lower k l e p r) =
@@ -127,7 +127,7 @@ module _ (I : Input) where
     where
       go : Dec (I .n ≤ firstResidual05 (problem I)) →
           Tightened I (verdict (reckoned (I .n) m (firstResidual05 (problem I)) (firstInversePlace05 (problem I)))) (verdict (reckoned (I .n) m (firstResidual (problem I)) (firstInversePlace (problem I))))
-      go (yes b) = at-columns m a b e (λ x l. h x (omega arith)) (split (I .n * I .n) large (exceedsRowAt (problem I)))
+      go (yes b) = at-columns m a b e (λ x l. h x (omega arith)) (first-of-two (I .n * I .n) large (exceedsRowAt (problem I)))
       go (no b) =
           pair (says-6 (I .n) m (firstResidual05 (problem I)) (firstInversePlace05 (problem I)) a (omega arith))
           (rw e (says-6 (I .n) m (firstResidual05 (problem I)) (firstInversePlace (problem I)) a (omega arith))) (change.row-stays (firstResidual05 (problem I)) h)
@@ -136,7 +136,7 @@ module _ (I : Input) where
   reckoned-here = go (decLe (I .n) (firstMargin (problem I)))
     where
       go : Dec (I .n ≤ firstMargin (problem I)) → Tightened I (checkedOf05 (problem I)) (checkedOf (problem I))
-      go (yes a) = at-rows (firstMargin (problem I)) a (split (I .n) (exceeds05 (problem I)) (exceedsRow (problem I)))
+      go (yes a) = at-rows (firstMargin (problem I)) a (first-of-two (I .n) (exceeds05 (problem I)) (exceedsRow (problem I)))
       go (no a) =
           pair (says-5 (I .n) (firstMargin (problem I)) (firstResidual05 (problem I)) (firstInversePlace05 (problem I)) (omega arith))
           (says-5 (I .n) (firstMargin (problem I)) (firstResidual (problem I)) (firstInversePlace (problem I)) (omega arith)) (change.margin-low (firstMargin (problem I)))

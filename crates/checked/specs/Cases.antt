@@ -1,7 +1,7 @@
 -- Cases a to k of document 01 ("Marked for proof"), as rows of a table, answered as 02's Paper 9 has it ("Of 01's cases, a and b become 7, column 1 row 1; f, g
 -- and h become 6, row 1; j becomes 7, column 2 row 1"), and rows with tolerances (Paper 5). Rows and columns count from 1, as there.
 --   Claim   — a limit that 01 states: of the solution, or of a number of the inverse
---   Row, row — a proposal, what is said of it (nothing: accepted), and the limits that are written
+--   CaseRow, row — a proposal, what is said of it (nothing: accepted), and the limits that are written
 --   single, variant, twice — rows of a common shape, without tolerance; fileWith — the whole file's, with tolerances;  a to k, rows — the rows of the table
 --   weightedFile — the whole file with weights 3 and 1: dividing first and multiplying by the weight afterwards would give 3 for 1
 --   skewed d b c g — A = (4 0 / 1 4), whose sums are 4 and 5 along its rows, 5 and 4 down its columns and 9 in all, with the residuals b and c of the guess,
@@ -10,7 +10,7 @@
 --   tolerant d s — A = 1, b = 0 with the tolerance d: the limit is d·S, and 6 comes of slack alone;  summed a — A = a with a residual of a and a slack of
 --     63·2^19: the two are 2^25 together for a = 2^19;  toleranceRows — rows of these shapes, and the whole file with tolerances 1 and 2, worked out by hand
 --   unwritten — what stands in the limit lists before the check
---   inputOf — the row's numbers in lists that are long enough
+--   caseInput — the row's numbers in lists that are long enough
 --   claimed n E L, allClaimed n E L — a limit, all limits that a row states are what the lists E and L hold, of n equations
 --   sameNumbers — two lists of numbers are equal
 --   holdsBy says E L, allHoldBy says E L — a row, all rows hold by a check that says this and leaves the two limit lists E and L
@@ -30,7 +30,7 @@ pub data Claim : Type 0 where
   solution : (i bound : ℕ) → Claim
   inverse : (i j bound : ℕ) → Claim
 
-pub record Row : Type 0 where
+pub record CaseRow : Type 0 where
   pub n : ℕ
   pub s : ℕ
   pub t : ℕ
@@ -43,7 +43,7 @@ pub record Row : Type 0 where
   pub says : List ℕ
   pub bounds : List Claim
 
-abbrev pub row : ℕ → ℕ → ℕ → List ℤ → List ℤ → List ℤ → List ℤ → List ℤ → List ℤ → List ℕ → List Claim → Row
+abbrev pub row : ℕ → ℕ → ℕ → List ℤ → List ℤ → List ℤ → List ℤ → List ℤ → List ℤ → List ℕ → List Claim → CaseRow
 row n s t A b d X G w says bounds = record {
   n = n;
   s = s;
@@ -59,69 +59,69 @@ row n s t A b d X G w says bounds = record {
 }
 
 -- n = 1, b = 0, w = 1
-abbrev pub single : ℤ → ℕ → ℕ → ℤ → ℤ → List ℕ → List Claim → Row
+abbrev pub single : ℤ → ℕ → ℕ → ℤ → ℤ → List ℕ → List Claim → CaseRow
 single a s t x g = row 1 s t (a ∷ []) (pos 0 ∷ []) (pos 0 ∷ []) (x ∷ []) (g ∷ []) (pos 1 ∷ [])
 
 -- the whole file, with tolerances, another guess and other weights
-abbrev pub fileWith : List ℤ → ℤ → ℤ → ℤ → ℤ → List ℕ → List Claim → Row
+abbrev pub fileWith : List ℤ → ℤ → ℤ → ℤ → ℤ → List ℕ → List Claim → CaseRow
 fileWith d x y v w =
     row 2 4 4 (pos 4 ∷ negsuc 0 ∷ negsuc 0 ∷ pos 3 ∷ []) (pos 5 ∷ pos 1 ∷ []) d (x ∷ y ∷ []) (pos 4 ∷ pos 1 ∷ pos 1 ∷ pos 6 ∷ []) (v ∷ w ∷ [])
 
-abbrev pub variant : ℤ → ℤ → ℤ → ℤ → List ℕ → List Claim → Row
+abbrev pub variant : ℤ → ℤ → ℤ → ℤ → List ℕ → List Claim → CaseRow
 variant = fileWith (pos 0 ∷ pos 0 ∷ [])
 
 -- A = (1,048,576 0 / 0 1), b = X = 0
-abbrev pub twice : ℤ → List ℕ → List Claim → Row
+abbrev pub twice : ℤ → List ℕ → List Claim → CaseRow
 twice g =
     row 2 0 20 (pos 1048576 ∷ pos 0 ∷ pos 0 ∷ pos 1 ∷ []) (pos 0 ∷ pos 0 ∷ []) (pos 0 ∷ pos 0 ∷ []) (pos 0 ∷ pos 0 ∷ [])
     (pos 1 ∷ g ∷ pos 0 ∷ pos 1048576 ∷ []) (pos 1 ∷ pos 1 ∷ [])
 
-abbrev pub a : Row
+abbrev pub a : CaseRow
 a = single (pos 4) 0 4 (pos 0) (pos 1) (7 ∷ 1 ∷ 1 ∷ []) []
 
-abbrev pub b : Row
+abbrev pub b : CaseRow
 b = single (pos 4) 0 4 (pos 0) (pos 7) (7 ∷ 1 ∷ 1 ∷ []) []
 
-abbrev pub c : Row
+abbrev pub c : CaseRow
 c = single (pos 4) 0 4 (pos 0) (pos 0) (5 ∷ 1 ∷ []) []
 
-abbrev pub d : Row
+abbrev pub d : CaseRow
 d = single (pos 4) 0 4 (pos 0) (pos 8) (5 ∷ 1 ∷ []) []
 
-abbrev pub e : Row
+abbrev pub e : CaseRow
 e =
     variant (pos 23) (pos 13) (pos 1) (pos 1) []
     (solution 1 1 ∷ solution 2 1 ∷ inverse 1 1 1 ∷ inverse 1 2 1 ∷ inverse 2 1 1 ∷ inverse 2 2 1 ∷ [])
 
-abbrev pub f : Row
+abbrev pub f : CaseRow
 f = variant (pos 20) (pos 13) (pos 1) (pos 1) (6 ∷ 1 ∷ []) []
 
-abbrev pub g : Row
+abbrev pub g : CaseRow
 g = variant (pos 20) (pos 13) (pos 3) (pos 1) (6 ∷ 1 ∷ []) []
 
-abbrev pub h : Row
+abbrev pub h : CaseRow
 h = single (pos 1048576) 0 20 (pos 32) (pos 1) (6 ∷ 1 ∷ []) []
 
-abbrev pub i : Row
+abbrev pub i : CaseRow
 i = single (pos 1048576) 0 20 (pos 33) (pos 1) (6 ∷ 1 ∷ []) []
 
-abbrev pub j : Row
+abbrev pub j : CaseRow
 j = twice (pos 32) (7 ∷ 2 ∷ 1 ∷ []) []
 
-abbrev pub k : Row
+abbrev pub k : CaseRow
 k = twice (pos 33) (7 ∷ 2 ∷ 1 ∷ []) []
 
-abbrev pub rows : List Row
+abbrev pub rows : List CaseRow
 rows = a ∷ b ∷ c ∷ d ∷ e ∷ f ∷ g ∷ h ∷ i ∷ j ∷ k ∷ []
 
-abbrev pub weightedFile : Row
+abbrev pub weightedFile : CaseRow
 weightedFile = variant (pos 23) (pos 13) (pos 3) (pos 1) [] (solution 1 1 ∷ solution 2 1 ∷ [])
 
-abbrev pub skewed : ℤ → ℤ → ℤ → ℤ → List ℕ → List Claim → Row
+abbrev pub skewed : ℤ → ℤ → ℤ → ℤ → List ℕ → List Claim → CaseRow
 skewed d b c g =
     row 2 0 4 (pos 4 ∷ pos 0 ∷ pos 1 ∷ pos 4 ∷ []) (b ∷ c ∷ []) (d ∷ pos 0 ∷ []) (pos 0 ∷ pos 0 ∷ []) (pos 4 ∷ g ∷ negsuc 0 ∷ pos 4 ∷ []) (pos 1 ∷ pos 1 ∷ [])
 
-abbrev pub rowSumRows : List Row
+abbrev pub rowSumRows : List CaseRow
 rowSumRows =
     weightedFile
     ∷ single (pos 4) 0 4 (pos 1) (pos 4) [] (solution 1 1 ∷ inverse 1 1 0 ∷ [])
@@ -136,13 +136,13 @@ rowSumRows =
     ∷ skewed (pos 0) (pos 0) (pos 0) (pos 2) (7 ∷ 2 ∷ 1 ∷ []) []
     ∷ []
 
-abbrev pub tolerant : ℤ → ℕ → List ℕ → List Claim → Row
+abbrev pub tolerant : ℤ → ℕ → List ℕ → List Claim → CaseRow
 tolerant d s = row 1 s 4 (pos 1 ∷ []) (pos 0 ∷ []) (d ∷ []) (pos 0 ∷ []) (pos 16 ∷ []) (pos 1 ∷ [])
 
-abbrev pub summed : ℤ → List ℕ → List Claim → Row
+abbrev pub summed : ℤ → List ℕ → List Claim → CaseRow
 summed a = row 1 19 20 (a ∷ []) (pos 0 ∷ []) (pos 63 ∷ []) (pos 1 ∷ []) (pos 2 ∷ []) (pos 1 ∷ [])
 
-abbrev pub toleranceRows : List Row
+abbrev pub toleranceRows : List CaseRow
 toleranceRows =
     tolerant (pos 3) 4 [] (solution 1 48 ∷ inverse 1 1 0 ∷ [])
     ∷ tolerant (pos 32) 20 [] (solution 1 33554432 ∷ inverse 1 1 0 ∷ [])
@@ -160,8 +160,8 @@ toleranceRows =
 abbrev pub unwritten : ℕ
 unwritten = 2 ^ 60 + 1
 
-abbrev pub inputOf : Row → Input
-inputOf r =
+abbrev pub caseInput : CaseRow → Input
+caseInput r =
     input (r .n) (r .s) (r .t) (padded (r .A)) (padded (r .b)) (padded (r .d)) (padded (r .X)) (padded (r .G)) (padded (r .w))
     (replicate 32 unwritten) (replicate 1024 unwritten)
 
@@ -179,15 +179,15 @@ sameNumbers [] (y ∷ ys) = false
 sameNumbers (x ∷ xs) [] = false
 sameNumbers (x ∷ xs) (y ∷ ys) = eqb x y && sameNumbers xs ys
 
-abbrev pub holdsBy : (Input → List ℕ) → (Input → List ℕ) → (Input → List ℕ) → Row → Bool
-holdsBy says E L r = sameNumbers (says (inputOf r)) (r .says) && allClaimed (r .n) (E (inputOf r)) (L (inputOf r)) (r .bounds)
+abbrev pub holdsBy : (Input → List ℕ) → (Input → List ℕ) → (Input → List ℕ) → CaseRow → Bool
+holdsBy says E L r = sameNumbers (says (caseInput r)) (r .says) && allClaimed (r .n) (E (caseInput r)) (L (caseInput r)) (r .bounds)
 
-abbrev pub allHoldBy : (Input → List ℕ) → (Input → List ℕ) → (Input → List ℕ) → List Row → Bool
+abbrev pub allHoldBy : (Input → List ℕ) → (Input → List ℕ) → (Input → List ℕ) → List CaseRow → Bool
 allHoldBy says E L [] = true
 allHoldBy says E L (r ∷ rs) = holdsBy says E L r && allHoldBy says E L rs
 
-abbrev pub rowHolds : Row → Bool
+abbrev pub rowHolds : CaseRow → Bool
 rowHolds = holdsBy answer solutionBoundsAfter inverseBoundsAfter
 
-abbrev pub allRowsHold : List Row → Bool
+abbrev pub allRowsHold : List CaseRow → Bool
 allRowsHold = allHoldBy answer solutionBoundsAfter inverseBoundsAfter

@@ -11,13 +11,13 @@ use lib.Dec.{eqb}
 use Rattle.enclosure.specs.Problem.{Problem}
 use Rattle.enclosure.specs.Reckoning.{bound, inverseBound}
 use Rattle.checked.specs.Before.{answer05, solutionAfter05, inverseAfter05, answer01, solutionAfter01, inverseAfter01}
-use Rattle.checked.specs.Cases.{Claim, solution, inverse, Row, row, a, b, c, d, e, f, g, h, i, j, k, inputOf, allHoldBy}
+use Rattle.checked.specs.Cases.{Claim, solution, inverse, CaseRow, row, a, b, c, d, e, f, g, h, i, j, k, caseInput, allHoldBy}
 use Rattle.checked.specs.Input.{problem}
 
-abbrev pub accepted : Row → List Claim → Row
+abbrev pub accepted : CaseRow → List Claim → CaseRow
 accepted r bounds = row (r .n) (r .s) (r .t) (r .A) (r .b) (r .d) (r .X) (r .G) (r .w) [] bounds
 
-abbrev pub rows01 : List Row
+abbrev pub rows01 : List CaseRow
 rows01 =
     accepted a (solution 1 0 ∷ inverse 1 1 3 ∷ [])
     ∷ accepted b (solution 1 0 ∷ inverse 1 1 21 ∷ [])
@@ -32,10 +32,10 @@ rows01 =
     ∷ k
     ∷ []
 
-abbrev pub allHold01 : List Row → Bool
+abbrev pub allHold01 : List CaseRow → Bool
 allHold01 = allHoldBy answer01 solutionAfter01 inverseAfter01
 
-abbrev pub allHold05 : List Row → Bool
+abbrev pub allHold05 : List CaseRow → Bool
 allHold05 = allHoldBy answer05 solutionAfter05 inverseAfter05
 
 abbrev pub defined : Problem → Claim → Bool
@@ -46,6 +46,6 @@ abbrev pub allDefined : Problem → List Claim → Bool
 allDefined P [] = true
 allDefined P (x ∷ xs) = defined P x && allDefined P xs
 
-abbrev pub allLimitsHold : List Row → Bool
+abbrev pub allLimitsHold : List CaseRow → Bool
 allLimitsHold [] = true
-allLimitsHold (r ∷ rs) = allDefined (problem (inputOf r)) (r .bounds) && allLimitsHold rs
+allLimitsHold (r ∷ rs) = allDefined (problem (caseInput r)) (r .bounds) && allLimitsHold rs

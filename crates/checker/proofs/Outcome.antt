@@ -1,5 +1,5 @@
 -- What the reckoning says and leaves, from what the arrays hold and what is judged of them.
---   Worked   — what the arrays hold
+--   WorkedOut — what the arrays hold
 --   refused  — a refusal leaves both limit lists
 --   positive-here, weighed-here, near-here, columns-here — where it is accepted: margins and weights above 0, residuals at most 2^25 in size
 --   accepted-here — and the limits that are written are the reckoning's
@@ -42,7 +42,7 @@ weighed x zero c h = absurd (omega arith)
 weighed x (suc w) c h = omega arith
 
 -- the arrays of the reckoning, the first refused row of each, and what is judged of them
-pub record Worked (W : Work) (rows margins : List ℕ) (residuals columns : List ℤ) (r : Outcome) : Type 0 where
+pub record WorkedOut (W : Work) (rows margins : List ℕ) (residuals columns : List ℤ) (r : Outcome) : Type 0 where
   pub raised : RowsOfMatrix rows (W .n) (W .inverse)
   pub hm : Begins 0 margins (W .n) (cutMargin (workProblem W))
   pub hr : Begins (pos 0) residuals (W .n) (workResidual W)
@@ -55,7 +55,7 @@ pub record Worked (W : Work) (rows margins : List ℕ) (residuals columns : List
   pub ei : i ≡ first (W .n * W .n) (λ (x : ℕ). aboveAllowed (at (W .allowedInColumns) (x % W .n)) (at columns x))
   pub er : said r ≡ verdict (reckoned (W .n) m k i)
 
-module _ (W : Work) (ready : Workable W) {rows margins : List ℕ} {residuals columns : List ℤ} {r : Outcome} (a : Worked W rows margins residuals columns r) where
+module _ (W : Work) (ready : Workable W) {rows margins : List ℕ} {residuals columns : List ℤ} {r : Outcome} (a : WorkedOut W rows margins residuals columns r) where
   said-is : said r ≡ workAnswer W
   said-is =
       a .er

@@ -12,7 +12,7 @@ use lib.Dec.{lit≤}
 use Rattle.integer.specs.Finite.{sum, sumℕ, largest, first, every}
 use lib.IntN.{ℤ, pos, negsuc, _*ℤ_}
 use Rattle.integer.specs.Quotient.{ceilDiv}
-use Rattle.integer.proofs.Below.{each}
+use Rattle.integer.proofs.Below.{each-of-two}
 use Rattle.linear.specs.Matrix.{apply, product, identity}
 use Rattle.linear.specs.Written.{written}
 use Rattle.rules.specs.Range.{ranges, rangeOf, inRange, allInRange}
@@ -21,7 +21,7 @@ use Rattle.enclosure.specs.Example as example
 use Rattle.enclosure.specs.Reckoning.{defect, load, margin, residual, rowSum, exceeds, sizesWith, boundFrom, boundWith, bound}
 use Rattle.enclosure.proofs.Instance.{file-rounded}
 use Rattle.checked.specs.Agree.{Agree}
-use Rattle.checked.specs.Cases.{Row, row, inputOf}
+use Rattle.checked.specs.Cases.{CaseRow, row, caseInput}
 use Rattle.checked.specs.Input.{Input, problem}
 use Rattle.checked.specs.Order.{answer}
 use Rattle.common.specs.Proposals.{Proposals, allSame}
@@ -51,17 +51,17 @@ pub pair-contains : WithinEnds (pair .first) (pair .second) (lowEnd (pair .first
 pair-contains = let c = found-case pair pair-found in contains (pair .first) (pair .second) (c .first) (c .second) (c .same) .at-b example.exact 11 pair-exact
 
 -- ---- the corner of the tolerances
-abbrev net : Input
-net = inputOf (broad (pos 0) 0)
+abbrev netInput : Input
+netInput = caseInput (broad (pos 0) 0)
 
-pub corner-right : RightSide (problem net) broadRight 1
-corner-right = record { positive = lit≤ tt; near = each _ (lit≤ tt) (lit≤ tt) }
+pub corner-right : RightSide (problem netInput) broadRight 1
+corner-right = record { positive = lit≤ tt; near = each-of-two _ (lit≤ tt) (lit≤ tt) }
 
-pub corner-exact : ExactSolutionOf (problem net) broadRight 1 broadHeight 1
+pub corner-exact : ExactSolutionOf (problem netInput) broadRight 1 broadHeight 1
 unfolding apply sum
-corner-exact = record { positive = lit≤ tt; solves = each _ refl refl }
+corner-exact = record { positive = lit≤ tt; solves = each-of-two _ refl refl }
 
-pub corner-reached : pos 1 *ℤ lowEnd net net 0 ≡ pos (2 ^ 0) *ℤ broadHeight 0
+pub corner-reached : pos 1 *ℤ lowEnd netInput netInput 0 ≡ pos (2 ^ 0) *ℤ broadHeight 0
 unfolding sum sumℕ largest ceilDiv apply product identity defect load margin residual sizesWith boundFrom boundWith bound lowEnd
 corner-reached = refl
 
@@ -74,12 +74,12 @@ below₄ Q a b c d (suc (suc (suc zero))) l = d
 below₄ Q a b c d (suc (suc (suc (suc i)))) l = absurd (omega arith)
 
 -- document 01's whole file as in `fileAt`, with a 7 after the last number of each list
-abbrev followedAt : ℕ → ℤ → ℤ → Row
+abbrev followedAt : ℕ → ℤ → ℤ → CaseRow
 followedAt s x y =
     row 2 s 4 (pos 4 ∷ negsuc 0 ∷ negsuc 0 ∷ pos 3 ∷ pos 7 ∷ []) (pos 5 ∷ pos 1 ∷ pos 7 ∷ []) (pos 0 ∷ pos 0 ∷ pos 7 ∷ []) (x ∷ y ∷ pos 7 ∷ [])
     (pos 4 ∷ pos 1 ∷ pos 1 ∷ pos 6 ∷ pos 7 ∷ []) (pos 1 ∷ pos 1 ∷ pos 7 ∷ []) [] []
 
-file-agrees : (s : ℕ) (x y : ℤ) → Agree (inputOf (fileAt s x y (pos 0))) (inputOf (followedAt s x y))
+file-agrees : (s : ℕ) (x y : ℤ) → Agree (caseInput (fileAt s x y (pos 0))) (caseInput (followedAt s x y))
 file-agrees s x y = record {
   n = refl;
   s = refl;
@@ -87,11 +87,11 @@ file-agrees s x y = record {
   long = refl;
   long′ = refl;
   matrix = below₄ _ refl refl refl refl;
-  right = each _ refl refl;
-  tolerance = each _ refl refl;
-  guess = each _ refl refl;
+  right = each-of-two _ refl refl;
+  tolerance = each-of-two _ refl refl;
+  guess = each-of-two _ refl refl;
   inverse = below₄ _ refl refl refl refl;
-  weights = each _ refl refl;
+  weights = each-of-two _ refl refl;
 }
 
 pub pair-agrees : AgreeingProposals pair (commonInput (commonRow (followedAt 4 (pos 24) (pos 13)) (followedAt 6 (pos 92) (pos 52)) [] [] []))

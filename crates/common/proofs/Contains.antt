@@ -1,6 +1,6 @@
 -- The common interval contains every exact height, and is never empty.
---   accepted-encloses — the limits of an accepted proposal enclose
---   scaled   — from a proposal's own steps to finer ones
+--   proposal-encloses — the limits of an accepted proposal enclose
+--   finer-steps — from a proposal's own steps to finer ones
 --   contains — of two accepted proposals for the same equations;  contains-as — ends that agree on the first n places contain alike
 use mathlib.Core.Path.{_≡_, sym, ap, subst, _∙_}
 use mathlib.Core.List.{[]}
@@ -26,14 +26,14 @@ use Rattle.common.proofs.Equations.{right-carried, solution-carried, at
 use Rattle.integer.proofs.Order.{low-side, high-side}
 use Rattle.common.proofs.Order.{between, max-either, min-either}
 
-pub accepted-encloses : (I : Input) → answer I ≡ [] → Encloses (problem I) (bound (problem I)) (inverseBound (problem I))
-accepted-encloses I e =
+pub proposal-encloses : (I : Input) → answer I ≡ [] → Encloses (problem I) (bound (problem I)) (inverseBound (problem I))
+proposal-encloses I e =
     let u = accepted-usable I e in
     encloses (problem I) (fit-of I (u .long) (u .inside) .heavy)
     (said-sound (problem I) (sym (answer-ready I (u .long) (u .inside)) ∙ e) .margins)
 
-pub scaled : (s r : ℕ) → r ≤ s → (N : ℤ) → pos (2 ^ (s - r)) *ℤ (pos (2 ^ r) *ℤ N) ≡ pos (2 ^ s) *ℤ N
-scaled s r h N =
+pub finer-steps : (s r : ℕ) → r ≤ s → (N : ℤ) → pos (2 ^ (s - r)) *ℤ (pos (2 ^ r) *ℤ N) ≡ pos (2 ^ s) *ℤ N
+finer-steps s r h N =
     let e : s - r + r ≡ s = omega arith in
     sym (*-assoc (pos (2 ^ (s - r))) (pos (2 ^ r)) N) ∙ ap (λ (k : ℕ). pos k *ℤ N) (sym (pow-add 2 (s - r) r) ∙ ap (λ (k : ℕ). 2 ^ k) e)
 
@@ -41,12 +41,12 @@ scaled s r h N =
 module _ (K : Input) (s : ℕ) (h : K .s ≤ s) (N : Vec) (q i : ℕ) (x : natAbs (pos (2 ^ K .s) *ℤ N i -ℤ pos q *ℤ at (K .guess) i) ≤ q * bound (problem K) i) where
   above : (pos q *ℤ lowOf s K i) ≤ℤ (pos (2 ^ s) *ℤ N i)
   above =
-      subst (λ (z : ℤ). (pos q *ℤ lowOf s K i) ≤ℤ z) (scaled s (K .s) h (N i))
+      subst (λ (z : ℤ). (pos q *ℤ lowOf s K i) ≤ℤ z) (finer-steps s (K .s) h (N i))
       (low-side q (2 ^ (s - K .s)) (2 ^ K .s) (bound (problem K) i) (N i) (at (K .guess) i) x)
 
   below : (pos (2 ^ s) *ℤ N i) ≤ℤ (pos q *ℤ highOf s K i)
   below =
-      subst (λ (z : ℤ). z ≤ℤ (pos q *ℤ highOf s K i)) (scaled s (K .s) h (N i))
+      subst (λ (z : ℤ). z ≤ℤ (pos q *ℤ highOf s K i)) (finer-steps s (K .s) h (N i))
       (high-side q (2 ^ (s - K .s)) (2 ^ K .s) (bound (problem K) i) (N i) (at (K .guess) i) x)
 
 -- ---- two of the same size
@@ -67,12 +67,12 @@ module _ (I J : Input) (a : answer I ≡ []) (b : answer J ≡ []) (x : SameEqua
   here = held I J (x .n)
 
   own : (N : Vec) (q : ℕ) → ExactSolution (problem I) N q → WithinEnds I J (lowEnd I J) (highEnd I J) N q
-  own N q y = here N q (accepted-encloses I a .solution-at-b N q y) (accepted-encloses J b .solution-at-b N q (at-b-carried I J x N q y))
+  own N q y = here N q (proposal-encloses I a .solution-at-b N q y) (proposal-encloses J b .solution-at-b N q (at-b-carried I J x N q y))
 
   pub contains : Contains I J (lowEnd I J) (highEnd I J)
   contains =
-      let e = accepted-encloses I a in
-      let f = accepted-encloses J b in
+      let e = proposal-encloses I a in
+      let f = proposal-encloses J b in
       let s = e .determined .exists (problem I .b) in
       record {
         height = λ β ρ y N q z. here N q (e .solution β ρ y N q z) (f .solution β ρ (right-carried I J x β ρ y) N q (solution-carried I J x β ρ N q z));

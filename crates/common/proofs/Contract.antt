@@ -1,7 +1,7 @@
 -- The contract of the call on two proposals, case by case.
 --   answer-short, answer-first, answer-second, answer-different, answer-wide, answer-found — what is said
 --   long-low, long-high — the interval lists have room for the ends
---   rest-kept — past the first n places both lists are as before, whatever is said
+--   intervals-kept — past the first n places both lists are as before, whatever is said
 --   common-short, common-first, common-second, common-different, common-wide, common-found — the contract where 8 is said, where a refusal of the first or of
 --     the second proposal is, where 20 is, where 21 is, and where the intervals are found
 use mathlib.Core.Path.{_≡_, refl, sym, ap, _∙_}
@@ -123,9 +123,9 @@ module _ (Q : Proposals) where
               }
 
 -- ---- past the first n places
-pub rest-kept : (Q : Proposals) (r : Common) (low high : List ℤ) → CommonAs Q r low high → (k : ℕ) → Q .first .n ≤ k → (at low k ≡ at (Q .low) k) × (at high k ≡ at (Q .high) k)
+pub intervals-kept : (Q : Proposals) (r : Common) (low high : List ℤ) → CommonAs Q r low high → (k : ℕ) → Q .first .n ≤ k → (at low k ≡ at (Q .low) k) × (at high k ≡ at (Q .high) k)
 unfolding lowAfter highAfter
-rest-kept Q r low high x k h = (
+intervals-kept Q r low high x k h = (
   ap (λ (xs : List ℤ). at xs k) (x .low-is) ∙ past-kept (pos 0) (commonAnswer Q) (Q .first .n) (Q .low) (lowEnd (Q .first) (Q .second)) k h,
   ap (λ (xs : List ℤ). at xs k) (x .high-is) ∙ past-kept (pos 0) (commonAnswer Q) (Q .first .n) (Q .high) (highEnd (Q .first) (Q .second)) k h,
 )

@@ -35,14 +35,14 @@ chained I J K x y = record {
   tolerance = λ k l. x .tolerance k l ∙ y .tolerance k (rw (← x .n) l);
 }
 
-equations : (I J : Input) → Agree I J → SameEquations I J
-equations I J a = record { n = a .n; matrix = a .matrix; right = a .right; tolerance = a .tolerance }
+agree-equations : (I J : Input) → Agree I J → SameEquations I J
+agree-equations I J a = record { n = a .n; matrix = a .matrix; right = a .right; tolerance = a .tolerance }
 
 -- two tests that hold alike are one
-alike : (x y : Bool) → (x ≡ true → y ≡ true) → (y ≡ true → x ≡ true) → x ≡ y
-alike true y h k = sym (h refl)
-alike false true h k = k refl
-alike false false h k = refl
+tests-alike : (x y : Bool) → (x ≡ true → y ≡ true) → (y ≡ true → x ≡ true) → x ≡ y
+tests-alike true y h k = sym (h refl)
+tests-alike false true h k = k refl
+tests-alike false false h k = refl
 
 wide-same : (I J : Input) (a : Agree I J) → tooWide I ≡ tooWide J
 wide-same I J a =
@@ -58,9 +58,9 @@ module _ (Q R : Proposals) (a : AgreeingProposals Q R) where
 
   equations-alike : sameEquations (Q .first) (Q .second) ≡ sameEquations (R .first) (R .second)
   equations-alike =
-      let x = equations (Q .first) (R .first) (a .first) in
-      let y = equations (Q .second) (R .second) (a .second) in
-      alike _ _
+      let x = agree-equations (Q .first) (R .first) (a .first) in
+      let y = agree-equations (Q .second) (R .second) (a .second) in
+      tests-alike _ _
       (λ e. of-same (R .first) (R .second) (chained _ _ _ (exchanged-same _ _ x) (chained _ _ _ (same-of (Q .first) (Q .second) e) y)))
       (λ e. of-same (Q .first) (Q .second) (chained _ _ _ x (chained _ _ _ (same-of (R .first) (R .second) e) (exchanged-same _ _ y))))
 

@@ -1,4 +1,4 @@
--- Pairs of proposals worked out by hand, as rows of a table; `Row`, `row` and `inputOf` are of checked/specs/Cases.
+-- Pairs of proposals worked out by hand, as rows of a table; `CaseRow`, `row` and `caseInput` are of checked/specs/Cases.
 --   CommonRow  — two proposals, what is said of them, and the ends that are written
 --   fileAt s x y d — document 01's whole file, with s, the guess and the tolerances
 --   coarse     — in steps of 1/16, limits 1 and 1: 23 to 25 and 12 to 14;  fine — in steps of 1/64, limits 2 and 2: 90 to 94 and 50 to 54
@@ -16,41 +16,41 @@ use lib.IntN.{ℤ, pos, negsuc}
 use lib.ListN.{replicate}
 use Rattle.linear.specs.Matrix.{Vec}
 use Rattle.linear.specs.Slice.{at, vectorOf}
-use Rattle.checked.specs.Cases.{Row, row, inputOf, sameNumbers}
+use Rattle.checked.specs.Cases.{CaseRow, row, caseInput, sameNumbers}
 use Rattle.integer.specs.Same.{sameNumber}
 use Rattle.common.specs.Proposals.{Proposals, proposals}
 use Rattle.common.specs.Answer.{commonAnswer, lowAfter, highAfter}
 
 pub record CommonRow : Type 0 where
-  pub first : Row
-  pub second : Row
+  pub first : CaseRow
+  pub second : CaseRow
   pub says : List ℕ
   pub low : List ℤ
   pub high : List ℤ
 
-abbrev pub commonRow : Row → Row → List ℕ → List ℤ → List ℤ → CommonRow
+abbrev pub commonRow : CaseRow → CaseRow → List ℕ → List ℤ → List ℤ → CommonRow
 commonRow first second says low high = record { first = first; second = second; says = says; low = low; high = high }
 
-abbrev pub fileAt : ℕ → ℤ → ℤ → ℤ → Row
+abbrev pub fileAt : ℕ → ℤ → ℤ → ℤ → CaseRow
 fileAt s x y d =
     row 2 s 4 (pos 4 ∷ negsuc 0 ∷ negsuc 0 ∷ pos 3 ∷ []) (pos 5 ∷ pos 1 ∷ []) (d ∷ pos 0 ∷ []) (x ∷ y ∷ [])
     (pos 4 ∷ pos 1 ∷ pos 1 ∷ pos 6 ∷ []) (pos 1 ∷ pos 1 ∷ []) [] []
 
-abbrev pub coarse : Row
+abbrev pub coarse : CaseRow
 coarse = fileAt 4 (pos 24) (pos 13) (pos 0)
 
-abbrev pub fine : Row
+abbrev pub fine : CaseRow
 fine = fileAt 6 (pos 92) (pos 52) (pos 0)
 
-abbrev pub farGuess : Row
+abbrev pub farGuess : CaseRow
 farGuess = fileAt 4 (pos 20) (pos 13) (pos 0)
 
-abbrev pub fineOther : Row
+abbrev pub fineOther : CaseRow
 fineOther =
     row 2 6 5 (pos 4 ∷ negsuc 0 ∷ negsuc 0 ∷ pos 3 ∷ pos 9 ∷ []) (pos 5 ∷ pos 1 ∷ pos 9 ∷ []) (pos 0 ∷ pos 0 ∷ pos 9 ∷ []) (pos 92 ∷ pos 52 ∷ pos 9 ∷ [])
     (pos 9 ∷ pos 3 ∷ pos 3 ∷ pos 12 ∷ pos 9 ∷ []) (pos 1 ∷ pos 1 ∷ pos 9 ∷ []) [] []
 
-abbrev pub broad : ℤ → ℕ → Row
+abbrev pub broad : ℤ → ℕ → CaseRow
 broad d s =
     row 2 s 0 (pos 1 ∷ pos 1048576 ∷ pos 0 ∷ pos 1 ∷ []) (pos 0 ∷ pos 0 ∷ []) (d ∷ pos 65536 ∷ []) (pos 0 ∷ pos 0 ∷ [])
     (pos 1 ∷ negsuc 1048575 ∷ pos 0 ∷ pos 1 ∷ []) (pos 1 ∷ pos 1 ∷ []) [] []
@@ -61,21 +61,21 @@ broadRight = vectorOf (pos 0 ∷ pos 65536 ∷ [])
 abbrev pub broadHeight : Vec
 broadHeight = vectorOf (negsuc 68719476735 ∷ pos 65536 ∷ [])
 
-abbrev pub solved : ℕ → ℤ → ℤ → ℤ → Row
+abbrev pub solved : ℕ → ℤ → ℤ → ℤ → CaseRow
 solved s x y w =
     row 2 s 0 (pos 1 ∷ pos 1024 ∷ pos 1023 ∷ pos 1047553 ∷ []) (pos 0 ∷ negsuc 1048575 ∷ []) (pos 0 ∷ pos 0 ∷ []) (x ∷ y ∷ [])
     (pos 1047553 ∷ negsuc 1023 ∷ negsuc 1022 ∷ pos 1 ∷ []) (pos 1 ∷ w ∷ []) [] []
 
-abbrev pub wide : Row
+abbrev pub wide : CaseRow
 wide = solved 0 (pos 0) (pos 0) (pos 64)
 
-abbrev pub solvedExactly : Row
+abbrev pub solvedExactly : CaseRow
 solvedExactly = solved 1 (pos 2147483648) (negsuc 2097151) (pos 1)
 
-abbrev pub solvedInUnits : Row
+abbrev pub solvedInUnits : CaseRow
 solvedInUnits = solved 0 (pos 1073741824) (negsuc 1048575) (pos 1)
 
-abbrev pub oneStepOff : Row
+abbrev pub oneStepOff : CaseRow
 oneStepOff = solved 1 (pos 2147483649) (negsuc 2097151) (pos 1)
 
 abbrev pub commonRows : List CommonRow
@@ -97,7 +97,7 @@ commonRows =
     ∷ []
 
 abbrev pub commonInput : CommonRow → Proposals
-commonInput r = proposals (inputOf (r .first)) (inputOf (r .second)) (replicate 32 (pos 7)) (replicate 32 (pos 7))
+commonInput r = proposals (caseInput (r .first)) (caseInput (r .second)) (replicate 32 (pos 7)) (replicate 32 (pos 7))
 
 abbrev pub numbersAre : (ℕ → ℤ) → ℕ → List ℤ → Bool
 numbersAre f i [] = true

@@ -1,7 +1,7 @@
 -- No theorem of this crate is empty: two nets of one mark each meet their hypotheses (specs/Example).
 --   accepted-here — both nets are accepted;  encloses-here — and their limits enclose
---   near₁, near₂, solved — the right sides 9/3 and 1/1 are within the tolerances, and 3 and 7 are their joint solution
---   limits-here, reached — the limits are 48 and 112, and that joint solution lies just so far from both guesses, so that no smaller slack would do
+--   near₁, near₂, jointly-solved — the right sides 9/3 and 1/1 are within the tolerances, and 3 and 7 are their joint solution
+--   limits-here, limits-reached — the limits are 48 and 112, and that joint solution lies just so far from both guesses, so that no smaller slack would do
 --   bothElse, both-agree — the same nets in lists with a 7 at every place past those used agree with them
 --   apart-here, apart-sums, apart-said — with C = 0 the nets are uncoupled, the guess meets Paper 9's sums, and both are accepted
 use mathlib.Core.Path.{_≡_, refl}
@@ -27,43 +27,43 @@ use Rattle.dependent.specs.Order.{dependentAnswer, jointAnswer}
 use Rattle.dependent.specs.Joint.{mainProblem, dependentProblem, JointSolution, EnclosesBoth}
 use Rattle.dependent.specs.Uncoupled.{Uncoupled, MeetsSums}
 use Rattle.dependent.specs.Agree.{AgreeingNets}
-use Rattle.dependent.specs.Example.{oneMark, both, apart, farRight₁, farRight₂, farHeight₁, farHeight₂}
+use Rattle.dependent.specs.Example.{oneMark, coupledNets, uncoupledNets, farRight₁, farRight₂, farHeight₁, farHeight₂}
 use Rattle.dependent.proofs.Joint.{encloses-both}
 
-pub accepted-here : jointAnswer both ≡ []
+pub accepted-here : jointAnswer coupledNets ≡ []
 unfolding jointAnswer answer dependentAnswer dependentResidual dependentSlack bound boundWith boundFrom sizesWith exceeds rowSum residual margin load defect product apply identity sum sumℕ largest first ceilDiv allInRange inRange rangeOf ranges every
 accepted-here = refl
 
-pub encloses-here : EnclosesBoth both (bound (mainProblem both)) (inverseBound (mainProblem both)) (dependentBound (attached both)) (inverseBound (dependentProblem both))
+pub encloses-here : EnclosesBoth coupledNets (bound (mainProblem coupledNets)) (inverseBound (mainProblem coupledNets)) (dependentBound (attached coupledNets)) (inverseBound (dependentProblem coupledNets))
 unfolding margin load defect product apply identity sum sumℕ
-encloses-here = encloses-both both refl (only _ (lit≤ tt)) (only _ (lit≤ tt)) (only _ refl) (only _ refl)
+encloses-here = encloses-both coupledNets refl (only _ (lit≤ tt)) (only _ (lit≤ tt)) (only _ refl) (only _ refl)
 
-pub near₁ : RightSide (mainProblem both) farRight₁ 3
+pub near₁ : RightSide (mainProblem coupledNets) farRight₁ 3
 near₁ = record { positive = lit≤ tt; near = only _ (lit≤ tt) }
 
-pub near₂ : RightSide (dependentProblem both) farRight₂ 1
+pub near₂ : RightSide (dependentProblem coupledNets) farRight₂ 1
 near₂ = record { positive = lit≤ tt; near = only _ (lit≤ tt) }
 
-pub solved : JointSolution both farRight₁ 3 farRight₂ 1 farHeight₁ farHeight₂ 1
+pub jointly-solved : JointSolution coupledNets farRight₁ 3 farRight₂ 1 farHeight₁ farHeight₂ 1
 unfolding apply sum
-solved = record { positive = lit≤ tt; main = only _ refl; dependent = only _ refl }
+jointly-solved = record { positive = lit≤ tt; main = only _ refl; dependent = only _ refl }
 
-pub limits-here : (bound (mainProblem both) 0 ≡ 48) × (dependentBound (attached both) 0 ≡ 112)
+pub limits-here : (bound (mainProblem coupledNets) 0 ≡ 48) × (dependentBound (attached coupledNets) 0 ≡ 112)
 unfolding apply product identity sum sumℕ defect load margin residual sizesWith boundFrom boundWith bound largest ceilDiv dependentResidual dependentSlack
 limits-here = (refl, refl)
 
-pub reached : (natAbs (pos (S (mainProblem both)) *ℤ farHeight₁ 0 -ℤ pos 1 *ℤ mainProblem both .X 0) ≡ 1 * 48)
-    × (natAbs (pos (S (dependentProblem both)) *ℤ farHeight₂ 0 -ℤ pos 1 *ℤ dependentProblem both .X 0) ≡ 1 * 112)
-reached = (refl, refl)
+pub limits-reached : (natAbs (pos (S (mainProblem coupledNets)) *ℤ farHeight₁ 0 -ℤ pos 1 *ℤ mainProblem coupledNets .X 0) ≡ 1 * 48)
+    × (natAbs (pos (S (dependentProblem coupledNets)) *ℤ farHeight₂ 0 -ℤ pos 1 *ℤ dependentProblem coupledNets .X 0) ≡ 1 * 112)
+limits-reached = (refl, refl)
 
-pub apart-here : Uncoupled (attached apart)
+pub apart-here : Uncoupled (attached uncoupledNets)
 apart-here = record { long = lit≤ tt; zeros = only _ refl; scale = refl }
 
-pub apart-sums : MeetsSums (apart .dependent)
+pub apart-sums : MeetsSums (uncoupledNets .dependent)
 unfolding residual rowSum apply sum sumℕ
 apart-sums = only _ refl
 
-pub apart-said : jointAnswer apart ≡ []
+pub apart-said : jointAnswer uncoupledNets ≡ []
 unfolding jointAnswer answer dependentAnswer dependentResidual dependentSlack bound boundWith boundFrom sizesWith exceeds rowSum residual margin load defect product apply identity sum sumℕ largest first ceilDiv allInRange inRange rangeOf ranges every
 apart-said = refl
 
@@ -94,5 +94,5 @@ mark-agrees d = record {
   weights = only _ refl;
 }
 
-pub both-agree : AgreeingNets both bothElse
+pub both-agree : AgreeingNets coupledNets bothElse
 both-agree = record { main = mark-agrees (pos 3); dependent = mark-agrees (pos 1); long = refl; long′ = refl; coupling = only _ refl }

@@ -128,16 +128,16 @@ pub record Passed (D : Attached) : Type 0 where
   pub margins : Margins (ownProblem D)
   pub residuals : DependentResiduals D
 
-passed : (D : Attached) {l : List ℕ} → StatedDependent D l → l ≡ [] → Passed D
-passed D (too-short e) z = absurd (nothing-is-not z)
-passed D (out-of-range e f) z = absurd (nothing-is-not z)
-passed D (margin-low m u l p h) z = absurd (nothing-is-not z)
-passed D (residual-large k u m l p h) z = absurd (nothing-is-not z)
-passed D (inverse-large j k u m r lj lk p q h) z = absurd (nothing-is-not z)
-passed D (accepted u m r c) z = record { usable = u; margins = m; residuals = r }
+accepted-passed : (D : Attached) {l : List ℕ} → StatedDependent D l → l ≡ [] → Passed D
+accepted-passed D (too-short e) z = absurd (nothing-is-not z)
+accepted-passed D (out-of-range e f) z = absurd (nothing-is-not z)
+accepted-passed D (margin-low m u l p h) z = absurd (nothing-is-not z)
+accepted-passed D (residual-large k u m l p h) z = absurd (nothing-is-not z)
+accepted-passed D (inverse-large j k u m r lj lk p q h) z = absurd (nothing-is-not z)
+accepted-passed D (accepted u m r c) z = record { usable = u; margins = m; residuals = r }
 
 pub passed-of : (D : Attached) → dependentAnswer D ≡ [] → Passed D
-passed-of D e = passed D (stated-dependent D) e
+passed-of D e = accepted-passed D (stated-dependent D) e
 
 -- ---- both nets
 module _ (J : Nets) where

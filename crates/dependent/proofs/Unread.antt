@@ -31,8 +31,8 @@ use Rattle.dependent.proofs.Largest.{joint-none}
 use Rattle.dependent.proofs.Statements.{passed-of, own-fit}
 
 -- ---- one list
-kept : (w : List ℕ) (n : ℕ) (xs : List ℕ) (f : ℕ → ℕ) {zs : List ℕ} → zs ≡ ifAccepted w (written xs 0 1 f n) xs → SameRest n zs xs
-kept w n xs f p i l = rw p (past-kept 0 w n xs f i l)
+same-rest : (w : List ℕ) (n : ℕ) (xs : List ℕ) (f : ℕ → ℕ) {zs : List ℕ} → zs ≡ ifAccepted w (written xs 0 1 f n) xs → SameRest n zs xs
+same-rest w n xs f p i l = rw p (past-kept 0 w n xs f i l)
 
 -- the limits of the inverse, place by place
 inverse-places : (I J : Input) (a : Agree I J) → 0 < I .n → (k : ℕ) → k < I .n * I .n →
@@ -89,8 +89,8 @@ same-together J K a {r} {r′} {E₁} {L₁} {E₂} {L₂} {E₁′} {L₁′} {
 
 pub rest-kept : (J : Nets) {r : CheckedNets} {E₁ L₁ E₂ L₂ : List ℕ} → CheckedTogether J r E₁ L₁ E₂ L₂ → RestKept J E₁ L₁ E₂ L₂
 rest-kept J c = record {
-  main-solution = kept (jointAnswer J) (J .main .n) (J .main .solutionBounds) _ (c .main-solution);
-  main-inverse = kept (jointAnswer J) (J .main .n * J .main .n) (J .main .inverseBounds) _ (c .main-inverse);
-  dependent-solution = kept (jointAnswer J) (J .dependent .n) (J .dependent .solutionBounds) _ (c .dependent-solution);
-  dependent-inverse = kept (jointAnswer J) (J .dependent .n * J .dependent .n) (J .dependent .inverseBounds) _ (c .dependent-inverse);
+  main-solution = same-rest (jointAnswer J) (J .main .n) (J .main .solutionBounds) _ (c .main-solution);
+  main-inverse = same-rest (jointAnswer J) (J .main .n * J .main .n) (J .main .inverseBounds) _ (c .main-inverse);
+  dependent-solution = same-rest (jointAnswer J) (J .dependent .n) (J .dependent .solutionBounds) _ (c .dependent-solution);
+  dependent-inverse = same-rest (jointAnswer J) (J .dependent .n * J .dependent .n) (J .dependent .inverseBounds) _ (c .dependent-inverse);
 }

@@ -1,4 +1,4 @@
--- Pairs of nets worked out by hand, as rows of a table; `Row`, `row`, `inputOf` and `sameNumbers` are of checked/specs/Cases.
+-- Pairs of nets worked out by hand, as rows of a table; `CaseRow`, `row`, `caseInput` and `sameNumbers` are of checked/specs/Cases.
 --   NetsRow, netsRow — both nets, C as it is handed in, what is said of them, and the dependent net's first two solution limits afterwards
 --   threeOf x d₁ d₂ d₃ — three marks, 1, 0 and 2 high, with these tolerances and the guess x of the first; weights 1, 2 and 3
 --   threeMarks — with the tolerances 1, 2 and 3, so with the limits 16, 32 and 48;  threeExact — with none and the limits 0;  threeFar — 4 steps off: 6, row 1
@@ -14,44 +14,44 @@ use Prim.Native.Nat.{ℕ}
 use lib.IntN.{ℤ, pos, negsuc}
 use lib.ListN.{replicate, take}
 use Rattle.enclosure.specs.Example.{padded}
-use Rattle.checked.specs.Cases.{Row, row, unwritten, inputOf, sameNumbers}
+use Rattle.checked.specs.Cases.{CaseRow, row, unwritten, caseInput, sameNumbers}
 use Rattle.dependent.specs.Nets.{Nets, nets, attached}
 use Rattle.dependent.specs.Order.{jointAnswer}
 use Rattle.dependent.specs.Together.{dependentSolutionAfter}
 
 pub record NetsRow : Type 0 where
-  pub main : Row
-  pub dependent : Row
+  pub main : CaseRow
+  pub dependent : CaseRow
   pub coupling : List ℤ
   pub says : List ℕ
   pub limits : List ℕ
 
-abbrev pub netsRow : Row → Row → List ℤ → List ℕ → List ℕ → NetsRow
+abbrev pub netsRow : CaseRow → CaseRow → List ℤ → List ℕ → List ℕ → NetsRow
 netsRow main dependent coupling says limits = record { main = main; dependent = dependent; coupling = coupling; says = says; limits = limits }
 
-abbrev pub threeOf : ℤ → ℤ → ℤ → ℤ → Row
+abbrev pub threeOf : ℤ → ℤ → ℤ → ℤ → CaseRow
 threeOf x d₁ d₂ d₃ =
     row 3 4 4 (pos 1 ∷ pos 0 ∷ pos 0 ∷ pos 0 ∷ pos 1 ∷ pos 0 ∷ pos 0 ∷ pos 0 ∷ pos 1 ∷ []) (pos 1 ∷ pos 0 ∷ pos 2 ∷ []) (d₁ ∷ d₂ ∷ d₃ ∷ [])
     (x ∷ pos 0 ∷ pos 32 ∷ []) (pos 16 ∷ pos 0 ∷ pos 0 ∷ pos 0 ∷ pos 16 ∷ pos 0 ∷ pos 0 ∷ pos 0 ∷ pos 16 ∷ []) (pos 1 ∷ pos 2 ∷ pos 3 ∷ []) [] []
 
-abbrev pub threeMarks : Row
+abbrev pub threeMarks : CaseRow
 threeMarks = threeOf (pos 16) (pos 1) (pos 2) (pos 3)
 
-abbrev pub threeExact : Row
+abbrev pub threeExact : CaseRow
 threeExact = threeOf (pos 16) (pos 0) (pos 0) (pos 0)
 
-abbrev pub threeFar : Row
+abbrev pub threeFar : CaseRow
 threeFar = threeOf (pos 20) (pos 1) (pos 2) (pos 3)
 
-abbrev pub twoOf : ℕ → ℤ → ℤ → ℤ → ℤ → Row
+abbrev pub twoOf : ℕ → ℤ → ℤ → ℤ → ℤ → CaseRow
 twoOf s x y g w =
     row 2 s 4 (pos 1 ∷ pos 0 ∷ pos 0 ∷ pos 1 ∷ []) (pos 10 ∷ pos 3 ∷ []) (pos 1 ∷ pos 4 ∷ []) (x ∷ y ∷ [])
     (pos 16 ∷ pos 0 ∷ g ∷ pos 16 ∷ []) (w ∷ pos 1 ∷ []) [] []
 
-abbrev pub twoMarks : Row
+abbrev pub twoMarks : CaseRow
 twoMarks = twoOf 4 (pos 50) (pos 15) (pos 0) (pos 1)
 
-abbrev pub twoAt : ℤ → Row
+abbrev pub twoAt : ℤ → CaseRow
 twoAt y = twoOf 4 (pos 50) y (pos 0) (pos 1)
 
 abbrev pub sixC : List ℤ
@@ -74,7 +74,7 @@ netsRows =
     ∷ []
 
 abbrev pub netsOf : NetsRow → Nets
-netsOf r = nets (inputOf (r .main)) (inputOf (r .dependent)) (r .coupling)
+netsOf r = nets (caseInput (r .main)) (caseInput (r .dependent)) (r .coupling)
 
 abbrev pub netsHold : NetsRow → Bool
 netsHold r =

@@ -1,7 +1,7 @@
 -- Two nets of one mark each, and a joint solution at the corners of both tolerances.
 --   oneMark d — 1·x = 0 with the tolerance d, both steps 1/16, guess 0, inverse 16/16; as a net by itself its limit is 16·d
 --   hanging c — x with the tolerance 3, so with the limit 48, and y with the tolerance 1 and 1·y + c·x = 0, so with the slack |c|·48 + 16
---   both, apart — these with c = −2 and with c = 0
+--   coupledNets, uncoupledNets — these with c = −2 and with c = 0
 --   farRight₁, farRight₂, farHeight₁, farHeight₂ — right sides 9/3 and 1/1 and the joint solution 3/1 and 7/1, which lies just 112 = 2·48 + 16 steps from
 --     the guess
 use mathlib.Core.List.{[], _∷_}
@@ -21,11 +21,11 @@ oneMark tolerance =
 abbrev pub hanging : ℤ → Nets
 hanging c = nets (oneMark (pos 3)) (oneMark (pos 1)) (padded (c ∷ []))
 
-abbrev pub both : Nets
-both = hanging (negsuc 1)
+abbrev pub coupledNets : Nets
+coupledNets = hanging (negsuc 1)
 
-abbrev pub apart : Nets
-apart = hanging (pos 0)
+abbrev pub uncoupledNets : Nets
+uncoupledNets = hanging (pos 0)
 
 abbrev pub farRight₁ : Vec
 farRight₁ = vectorOf (pos 9 ∷ [])

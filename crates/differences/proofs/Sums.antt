@@ -69,9 +69,9 @@ pub raised-small : {n : ℕ} (xs : ℕ → ℤ) → n ≤ 32 → ((i : ℕ) → 
 raised-small {n} xs few small = rw (abs-* (pos raisedBy) (sum n xs)) (mul-le-mul (le-refl raisedBy) (total-small xs few small))
 
 -- ---- what the sums stand for
-one-more : (c u d g a b : ℕ) (s : ℤ) →
+one-term-more : (c u d g a b : ℕ) (s : ℤ) →
     pos a -ℤ pos b -ℤ pos c *ℤ s +ℤ (pos u -ℤ pos d) *ℤ (pos g -ℤ pos c) ≡ pos (a + u * g) -ℤ pos (b + d * g) -ℤ pos c *ℤ (s +ℤ (pos u -ℤ pos d))
-one-more c u d g a b s = rw (is s) (simp zz (omega arith))
+one-term-more c u d g a b s = rw (is s) (simp zz (omega arith))
 
 sums-lowered : (c : ℕ) (xs : ℕ → ℤ) (g : ℕ → ℕ) (n : ℕ) →
     sum n (λ (k : ℕ). xs k *ℤ (pos (g k) -ℤ pos c)) ≡ pos (sumℕ n (λ (k : ℕ). up (xs k) * g k)) -ℤ pos (sumℕ n (λ (k : ℕ). down (xs k) * g k)) -ℤ pos c *ℤ sum n xs
@@ -80,7 +80,7 @@ sums-lowered c xs g zero = simp zz (omega arith)
 sums-lowered c xs g (suc n) =
     rw (sums-lowered c xs g n)
     (ap (λ (z : ℤ). pos (sumℕ n (λ (k : ℕ). up (xs k) * g k)) -ℤ pos (sumℕ n (λ (k : ℕ). down (xs k) * g k)) -ℤ pos c *ℤ sum n xs +ℤ z *ℤ (pos (g n) -ℤ pos c)) (signs (xs n))
-    ∙ one-more c (up (xs n)) (down (xs n)) (g n) _ _ (sum n xs)
+    ∙ one-term-more c (up (xs n)) (down (xs n)) (g n) _ _ (sum n xs)
     ∙ ap (λ (z : ℤ). pos (sumℕ n (λ (k : ℕ). up (xs k) * g k) + up (xs n) * g n) -ℤ pos (sumℕ n (λ (k : ℕ). down (xs k) * g k) + down (xs n) * g n) -ℤ pos c *ℤ (sum n xs +ℤ z)) (sym (signs (xs n))))
 
 put-right : (u v : ℤ) (a b : ℕ) → u +ℤ (v +ℤ pos b -ℤ pos a) ≡ u -ℤ (pos a -ℤ pos b -ℤ v)

@@ -19,13 +19,13 @@ use Rattle.doubles.specs.declared.DoubleParts.{DoubleParts}
 use Rattle.doubles.specs.declared.FoundSize.{FoundSize}
 use Rattle.doubles.proofs.Steps.{guess-signed, guess-in}
 
-never : (s : ℕ) (x : Float) → hasGuess s x ≡ false → GuessFoundAs s x (record { found = false; steps = pos 0 })
-never s x e = record { found = sym e; steps = λ h. absurd (subst T (sym h ∙ e) tt) }
+never-found : (s : ℕ) (x : Float) → hasGuess s x ≡ false → GuessFoundAs s x (record { found = false; steps = pos 0 })
+never-found s x e = record { found = sym e; steps = λ h. absurd (subst T (sym h ∙ e) tt) }
 
 module _ (s : ℕ) (x : Float) (p : DoubleParts) (d : Decoded x p) where
   pub none-outside : p .finite ≡ false → GuessFoundAs s x (record { found = false; steps = pos 0 })
   unfolding hasGuess
-  none-outside e = never s x (ap (λ (b : Bool). b && inRange kind.Guess (guessFor s x)) (sym (d .tells) ∙ e))
+  none-outside e = never-found s x (ap (λ (b : Bool). b && inRange kind.Guess (guessFor s x)) (sym (d .tells) ∙ e))
 
   module _ (f : p .finite ≡ true) (z : FoundSize) (h : SizeFoundAs (p .digits) (p .shift) s z) where
     guess-is : guessFor s x ≡ signedBy (p .negative) (sizeFor (p .digits) (p .shift) s)
@@ -43,7 +43,7 @@ module _ (s : ℕ) (x : Float) (p : DoubleParts) (d : Decoded x p) where
     size-small e = rw (h .steps e) (leb-true (sizeFor (p .digits) (p .shift) s) (2 ^ 36) (sym (h .found) ∙ e))
 
     pub none-large : z .found ≡ false → GuessFoundAs s x (record { found = false; steps = pos 0 })
-    none-large e = never s x (found-is ∙ e)
+    none-large e = never-found s x (found-is ∙ e)
 
     pub given : {v : ℤ} → z .found ≡ true → v ≡ signedBy (p .negative) (z .steps) → GuessFoundAs s x (record { found = true; steps = v })
     given e q = record {

@@ -83,15 +83,15 @@ unfolding roundDiv
 round-small (pos a) d h = let z : (2 * a + d) / (2 * d) ≡ 0 = div-eq-of-lt (omega arith) in ap pos z
 round-small (negsuc a) d h = let z : (2 * suc a + d) / (2 * d) ≡ 0 = div-eq-of-lt (omega arith) in ap (λ (n : ℕ). negℤ (pos n)) z
 
-scaled : (s : Bool) (a p : ℕ) → signedBy s a *ℤ pos p ≡ signedBy s (a * p)
-scaled false a p = pos-*ℤ-pos a p
-scaled true a p = neg-* (pos a) (pos p) ∙ ap negℤ (pos-*ℤ-pos a p)
+signed-scaled : (s : Bool) (a p : ℕ) → signedBy s a *ℤ pos p ≡ signedBy s (a * p)
+signed-scaled false a p = pos-*ℤ-pos a p
+signed-scaled true a p = neg-* (pos a) (pos p) ∙ ap negℤ (pos-*ℤ-pos a p)
 
 pub guess-signed : (x : Float) (neg : Bool) (q k s : ℕ) → HasValue x neg (q * 2 ^ k) (2 ^ 1074) → guessFor s x ≡ signedBy neg (sizeFor q k s)
 unfolding guessFor sizeFor
 guess-signed x neg q k s v =
     ap (λ (z : ℤ). roundDiv (z *ℤ pos (2 ^ s)) (2 ^ 1074)) (value-whole x neg (q * 2 ^ k) v)
-    ∙ ap (λ (z : ℤ). roundDiv z (2 ^ 1074)) (scaled neg (q * 2 ^ k) (2 ^ s))
+    ∙ ap (λ (z : ℤ). roundDiv z (2 ^ 1074)) (signed-scaled neg (q * 2 ^ k) (2 ^ s))
     ∙ round-signed neg (q * 2 ^ k * 2 ^ s) (2 ^ 1074) (pow-pos 1074)
 
 pub guess-in : (neg : Bool) (n : ℕ) → inRange kind.Guess (signedBy neg n) ≡ leb n (2 ^ 36)

@@ -25,9 +25,9 @@ use Rattle.enclosure.specs.Sound.{Margins}
 use Rattle.enclosure.specs.Schroeder.{image, u0, u1, v, Condition29, Steep}
 use Rattle.enclosure.proofs.Before.{sizes-before}
 use Rattle.enclosure.proofs.Bounds.{bound-at}
-use Rattle.enclosure.proofs.Enclosure.{apply-defect, image-near, split}
+use Rattle.enclosure.proofs.Enclosure.{apply-defect, image-near, abs-split}
 use Rattle.enclosure.proofs.Margin.{margin-sum, margin-above}
-use Rattle.enclosure.proofs.Tolerance.{shifted}
+use Rattle.enclosure.proofs.Tolerance.{residual-shifted}
 
 swap : (r d x y : ℤ) → r *ℤ (d +ℤ x) -ℤ (r *ℤ d +ℤ y) ≡ negℤ (y -ℤ r *ℤ x)
 swap r d x y = rw (*-+ r d x) (cancel (r *ℤ d) (r *ℤ x) y)
@@ -56,19 +56,19 @@ module _ (P : Problem) (β : Vec) (ρ : ℕ) where
       omega (
         arith,
         start-next i l,
-        split (apply (P .n) (P .G) away i) (pos ρ *ℤ p),
+        abs-split (apply (P .n) (P .G) away i) (pos ρ *ℤ p),
         abs-* (pos ρ) p,
         image-near P ρ away (residual P) (slack P) near i,
       )
     where
       near : (k : ℕ) → k < P .n → natAbs (away k -ℤ pos ρ *ℤ residual P k) ≤ ρ * slack P k
       near k lk =
-          rw (shifted (pos (S P)) (pos ρ) (β k) (apply (P .n) (P .A) (P .X) k) (P .b k), abs-* (pos (S P)) (β k -ℤ pos ρ *ℤ P .b k))
+          rw (residual-shifted (pos (S P)) (pos ρ) (β k) (apply (P .n) (P .A) (P .X) k) (P .b k), abs-* (pos (S P)) (β k -ℤ pos ρ *ℤ P .b k))
           (omega (arith, mul-le-mul-left (S P) (x .near k lk)))
 
 -- g·u + ρ·(L·z) ≤ ρ·(t·(w·z)) from u ≤ ρ·y, y·g ≤ z·h and h + L = t·w
-met : (g u ρ L z t w y h : ℕ) → u ≤ ρ * y → y * g ≤ z * h → h + L ≡ t * w → g * u + ρ * (L * z) ≤ ρ * (t * (w * z))
-met g u ρ L z t w y h a b e = omega (arith, mul-le-mul-left g a, mul-le-mul-left ρ b, ap (λ (x : ℕ). ρ * (z * x)) e)
+met-row : (g u ρ L z t w y h : ℕ) → u ≤ ρ * y → y * g ≤ z * h → h + L ≡ t * w → g * u + ρ * (L * z) ≤ ρ * (t * (w * z))
+met-row g u ρ L z t w y h a b e = omega (arith, mul-le-mul-left g a, mul-le-mul-left ρ b, ap (λ (x : ℕ). ρ * (z * x)) e)
 
 module _ (P : Problem) (hm : Margins P) where
   pub steepest : 0 < P .n → (k : ℕ) × Steep P k
@@ -80,7 +80,7 @@ module _ (P : Problem) (hm : Margins P) where
         let f : ℕ → ℕ = λ j. natAbs (defect P i j) * P .w j in
         let e : sumℕ (P .n) (λ (j : ℕ). natAbs (defect P i j) * v P k j) ≡ sumℕ (P .n) f * sizes P k =
         sumℕ-ext (P .n) (λ (j : ℕ). natAbs (defect P i j) * v P k j) (λ (j : ℕ). f j * sizes P k) (λ j lj. omega arith) ∙ sumℕ-* (P .n) (sizes P k) f in
-        rw e (met (natAbs (margin P k)) (natAbs (u0 P ρ i -ℤ u1 P β ρ i)) ρ (sumℕ (P .n) f) (sizes P k) (T P) (P .w i) (sizes P i) (natAbs (margin P i))
+        rw e (met-row (natAbs (margin P k)) (natAbs (u0 P ρ i -ℤ u1 P β ρ i)) ρ (sumℕ (P .n) f) (sizes P k) (T P) (P .w i) (sizes P i) (natAbs (margin P i))
         (next-near P β ρ y i l) (x .most i l) (unfold load in margin-sum P i (hm i l)));
   }
 

@@ -37,11 +37,11 @@ end-arith u v g wi wm q P E h k l o p =
     let x : u * g * wm ≤ q * E * g * wm = omega (arith, mul-le-mul-right g h, mul-le-mul-right wi k, mul-le-mul-right (q * wm) l) in
     le-of-mul-le-mul-right (le-of-mul-le-mul-right x o) p
 
-pub split : (y z : ℤ) → natAbs y ≤ natAbs (y -ℤ z) + natAbs z
-split y z = omega (arith, abs-+ (y -ℤ z) z, ap natAbs (-ℤ-+ℤ-cancel y z))
+pub abs-split : (y z : ℤ) → natAbs y ≤ natAbs (y -ℤ z) + natAbs z
+abs-split y z = omega (arith, abs-+ (y -ℤ z) z, ap natAbs (-ℤ-+ℤ-cancel y z))
 
-apart : (x y z : ℤ) → natAbs (x +ℤ y) ≤ natAbs x + (natAbs (y -ℤ z) + natAbs z)
-apart x y z = omega (arith, abs-+ x y, split y z)
+abs-apart : (x y z : ℤ) → natAbs (x +ℤ y) ≤ natAbs x + (natAbs (y -ℤ z) + natAbs z)
+abs-apart x y z = omega (arith, abs-+ x y, abs-split y z)
 
 -- y within q·σ of q·r: |G·y − q·G·r| ≤ q·Σ |G|·σ
 pub image-near : (P : Problem) (q : ℕ) (y r : Vec) (σ : ℕ → ℕ) → ((k : ℕ) → k < P .n → natAbs (y k -ℤ pos q *ℤ r k) ≤ q * σ k) →
@@ -67,7 +67,7 @@ module _ (P : Problem) (q : ℕ) (e r : Vec) (σ : ℕ → ℕ)
       omega (
         arith,
         simp abs-* at (ap natAbs (apply-defect P e m h)),
-        apart x y z,
+        abs-apart x y z,
         abs-* (pos q) (apply (P .n) (P .G) r m),
         image-near P q (apply (P .n) (P .A) e) r σ he m,
         abs-apply (P .n) (defect P) e m,

@@ -1,5 +1,5 @@
 -- Sizes and limits of a problem whose numbers are in their ranges.
---   Small P r σ — what is asked of it: at most 32 rows, the inverse at most 2^20 in size, weights at most 1,024, each residual with its slack at most 2^25 in size,
+--   SmallProblem P r σ — what is asked of it: at most 32 rows, the inverse at most 2^20 in size, weights at most 1,024, each residual with its slack at most 2^25 in size,
 --     margins above 0
 --   sizes-size, bound-size — then |p_m| with its slack is at most 2^50, and a limit at most 2^60
 use Prim.Native.Nat.{ℕ, _+_, _*_, _≤_, _<_, _^_}
@@ -13,14 +13,14 @@ use Rattle.enclosure.specs.Reckoning.{margin, allowedResidual, sizesWith
 use Rattle.enclosure.specs.Largest.{largestSize, largestBound}
 use Rattle.enclosure.proofs.Bounds.{bound-least}
 
-pub record Small (P : Problem) (r : Vec) (σ : ℕ → ℕ) : Type 0 where
+pub record SmallProblem (P : Problem) (r : Vec) (σ : ℕ → ℕ) : Type 0 where
   pub few : P .n ≤ 32
   pub inverse : (i j : ℕ) → i < P .n → j < P .n → natAbs (P .G i j) ≤ 2 ^ 20
   pub weights : (i : ℕ) → i < P .n → P .w i ≤ 1024
   pub residuals : (k : ℕ) → k < P .n → natAbs (r k) + σ k ≤ allowedResidual
   pub margins : (m : ℕ) → m < P .n → 0 < natAbs (margin P m)
 
-module _ (P : Problem) (r : Vec) (σ : ℕ → ℕ) (h : Small P r σ) where
+module _ (P : Problem) (r : Vec) (σ : ℕ → ℕ) (h : SmallProblem P r σ) where
   sizes-size : (m : ℕ) → m < P .n → sizesWith P r σ m ≤ largestSize
   unfolding sizesWith
   sizes-size m l =

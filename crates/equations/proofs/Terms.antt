@@ -42,18 +42,18 @@ module _ {a b x y : ℤ} (p : x ≡ a) (q : y ≡ b) (h : natAbs a ≤ 2 ^ 31) (
   pub minus-read : toZ w64 (ofZ w64 (x -ℤ y)) ≡ a -ℤ b
   minus-read = toZ-ofZ w64 (x -ℤ y) minus-fits ∙ rw (p, q)
 
-abbrev product : Observation → ℤ
-product l = pos (l .weight) *ℤ l .difference
+abbrev weightedDifference : Observation → ℤ
+weightedDifference l = pos (l .weight) *ℤ l .difference
 
 module _ (l : Observation) (proper : Proper l) where
-  pub product-size : natAbs (product l) ≤ 2 ^ 22
+  pub product-size : natAbs (weightedDifference l) ≤ 2 ^ 22
   product-size = omega (arith, abs-* (pos (l .weight)) (l .difference), mul-le-mul (proper .weight) (proper .difference))
 
   module _ {a b : ℤ} (p : a ≡ pos (l .weight)) (q : b ≡ l .difference) where
     pub product-fits : SFits w64 (a *ℤ b)
-    product-fits = rw (p, q) (small (product l) (omega (arith, product-size)))
+    product-fits = rw (p, q) (small (weightedDifference l) (omega (arith, product-size)))
 
-    pub product-read : toZ w64 (ofZ w64 (a *ℤ b)) ≡ product l
+    pub product-read : toZ w64 (ofZ w64 (a *ℤ b)) ≡ weightedDifference l
     product-read = toZ-ofZ w64 (a *ℤ b) product-fits ∙ rw (p, q)
 
 -- ---- a small row
@@ -63,16 +63,16 @@ module _ (row : Row) (room : SmallRow row) (l : Observation) (proper : Proper l)
   join-room k other p q e =
       ((p, q), (omega (arith, room .sums k p), (omega (arith, room .sums other q), rw e (omega (arith, proper .weight)))))
 
-  pub right-room : {a b : ℤ} → a ≡ row .right → b ≡ product l → (natAbs a ≤ 2 ^ 31) × (natAbs b ≤ 2 ^ 31)
+  pub right-room : {a b : ℤ} → a ≡ row .right → b ≡ weightedDifference l → (natAbs a ≤ 2 ^ 31) × (natAbs b ≤ 2 ^ 31)
   right-room p q = (rw p (omega (arith, room .right)), rw q (omega (arith, product-size l proper)))
 
 -- ---- what a line adds
 -- the place k and the other one, of a line with weight w
-abbrev added : ℕ → ℕ → ℤ → ℕ → ℤ
-added k other w m = cond (eqb k m) w (when (eqb other m) (negℤ w))
+abbrev addedAt : ℕ → ℕ → ℤ → ℕ → ℤ
+addedAt k other w m = cond (eqb k m) w (when (eqb other m) (negℤ w))
 
 pub joined : (l : List ℤ) (k other : ℕ) (w : ℤ) → (k ≡ other → ⊥) → k < length l → other < length l → (m : ℕ) →
-    at (set (set l k (at l k +ℤ w)) other (at l other -ℤ w)) m ≡ at l m +ℤ added k other w m
+    at (set (set l k (at l k +ℤ w)) other (at l other -ℤ w)) m ≡ at l m +ℤ addedAt k other w m
 joined l k other w apart p q m = go (eqb k m) refl (eqb other m) refl
   where
     two : List ℤ
@@ -99,13 +99,13 @@ module _ (k : ℕ) (l : Observation) (proper : Proper l) where
     away : eqb (l .«from») k ≡ false
     away = ne-eqb (l .«from») k (λ p. proper .apart (p ∙ sym e))
 
-    at-to : (m : ℕ) → weightAt k m l ≡ added k (l .«from») (pos (l .weight)) m
+    at-to : (m : ℕ) → weightAt k m l ≡ addedAt k (l .«from») (pos (l .weight)) m
     unfolding weightAt
     at-to m = rw (away, eq-eqb (l .to) k e, and-true (eqb (l .«from») m) refl)
 
-    gain-to : gain k l ≡ product l
+    gain-to : gain k l ≡ weightedDifference l
     unfolding gain
-    gain-to = rw (away, eq-eqb (l .to) k e) (+ℤ-idr (product l))
+    gain-to = rw (away, eq-eqb (l .to) k e) (+ℤ-idr (weightedDifference l))
 
   module _ (e : l .to ≡ k → ⊥) (t : touches k l ≡ true) where
     here : l .«from» ≡ k
@@ -115,13 +115,13 @@ module _ (k : ℕ) (l : Observation) (proper : Proper l) where
         go true p = refl
         go false p = p
 
-    at-from : (m : ℕ) → weightAt k m l ≡ added k (l .to) (pos (l .weight)) m
+    at-from : (m : ℕ) → weightAt k m l ≡ addedAt k (l .to) (pos (l .weight)) m
     unfolding weightAt
     at-from m = rw (ne-eqb (l .to) k e, eq-eqb (l .«from») k here, or-and-false (eqb (l .to) m) (eqb (l .«from») m))
 
-    gain-from : gain k l ≡ negℤ (product l)
+    gain-from : gain k l ≡ negℤ (weightedDifference l)
     unfolding gain
-    gain-from = rw (ne-eqb (l .to) k e, eq-eqb (l .«from») k here) (+ℤ-idl (negℤ (product l)))
+    gain-from = rw (ne-eqb (l .to) k e, eq-eqb (l .«from») k here) (+ℤ-idl (negℤ (weightedDifference l)))
 
 -- ---- a whole row
 module _ (k : ℕ) (l : Observation) (proper : Proper l) (few : k ≤ 32) (row : Row) (long : length (row .sums) ≡ 33) where
@@ -131,7 +131,7 @@ module _ (k : ℕ) (l : Observation) (proper : Proper l) (few : k ≤ 32) (row :
   twice-long : (other : ℕ) → length (twice other) ≡ 33
   twice-long other = length-set (set (row .sums) k _) other _ ∙ length-set (row .sums) k _ ∙ long
 
-  pub grown-to : {sums : List ℤ} {right : ℤ} → l .to ≡ k → sums ≡ twice (l .«from») → right ≡ row .right +ℤ product l → Grown k l row (record { sums = sums; right = right })
+  pub grown-to : {sums : List ℤ} {right : ℤ} → l .to ≡ k → sums ≡ twice (l .«from») → right ≡ row .right +ℤ weightedDifference l → Grown k l row (record { sums = sums; right = right })
   grown-to e p q = record {
     long = ap length p ∙ twice-long (l .«from»);
     sums = λ m b.
@@ -140,7 +140,7 @@ module _ (k : ℕ) (l : Observation) (proper : Proper l) (few : k ≤ 32) (row :
     right = q ∙ ap (λ (z : ℤ). row .right +ℤ z) (sym (gain-to k l proper e));
   }
 
-  pub grown-from : {sums : List ℤ} {right : ℤ} → (l .to ≡ k → ⊥) → touches k l ≡ true → sums ≡ twice (l .to) → right ≡ row .right -ℤ product l → Grown k l row (record { sums = sums; right = right })
+  pub grown-from : {sums : List ℤ} {right : ℤ} → (l .to ≡ k → ⊥) → touches k l ≡ true → sums ≡ twice (l .to) → right ≡ row .right -ℤ weightedDifference l → Grown k l row (record { sums = sums; right = right })
   grown-from e t p q = record {
     long = ap length p ∙ twice-long (l .to);
     sums = λ m b.

@@ -1,9 +1,9 @@
 -- None of Paper 11's theorems is empty.
 --   inward-accepts, outward-accepts — what passes the tests has an accepted call
---   zeros — a list of doubles that are 0
+--   zeroDoubles — a list of doubles that are 0
 --   fileEnds, file-between — 01's whole file: its exact heights 16/11 and 9/11 lie between the ends of its guesses and limits
 --   looseEnds, loose-between — a problem with a tolerance of 3 and the right side 9/3: its exact height, 3, lies between the ends
---   given, back, goes-and-comes — 2.5, with two steps to one, goes in as 5 and comes back as itself
+--   goingIn, comingOut, goes-and-comes — 2.5, with two steps to one, goes in as 5 and comes back as itself
 --   said-inward, said-outward — each number is said of some call, 8 before 3 and 3 before 19; the limit 2^60 is taken, and one more is 3
 use mathlib.Core.Path.{_≡_, refl, sym, ap, ap₂, _∙_, subst}
 use mathlib.Core.List.{List, [], _∷_}
@@ -65,8 +65,8 @@ outward-accepts I e = record {
       (outward (I .s) (at (I .guess) i) (getD (I .bounds) i 0) (k .guesses i l) (k .limits i l));
 }
 
-abbrev pub zeros : List Float
-zeros = replicate 32 plusZero
+abbrev pub zeroDoubles : List Float
+zeroDoubles = replicate 32 plusZero
 
 -- ---- 01's whole file
 accepts-checked : (J : Input) → Usable J → answer J ≡ [] → Checked J outcome.Accepted (solutionBoundsAfter J) (inverseBoundsAfter J)
@@ -79,15 +79,15 @@ file-checked : Checked fileInput outcome.Accepted (solutionBoundsAfter fileInput
 file-checked = accepts-checked fileInput file-usable file-accepted
 
 abbrev pub fileEnds : Outgoing
-fileEnds = outgoing 2 4 (fileInput .guess) (solutionBoundsAfter fileInput) zeros zeros
+fileEnds = outgoing 2 4 (fileInput .guess) (solutionBoundsAfter fileInput) zeroDoubles zeroDoubles
 
 pub file-between : AllBetween 2 (lowsAfter fileEnds) (highsAfter fileEnds) exact 11
 file-between =
-    checked-between-at-b fileInput file-checked refl (outward-accepts fileEnds (checked-taken fileInput file-checked refl zeros zeros (lit≤ tt) (lit≤ tt))) refl exact 11 (file-rounded-here .solution)
+    checked-between-at-b fileInput file-checked refl (outward-accepts fileEnds (checked-taken fileInput file-checked refl zeroDoubles zeroDoubles (lit≤ tt) (lit≤ tt))) refl exact 11 (file-rounded-here .solution)
 
 -- ---- a problem with a tolerance
 abbrev pub looseEnds : Outgoing
-looseEnds = outgoing 1 4 (replicate 32 (pos 0)) (replicate 32 48) zeros zeros
+looseEnds = outgoing 1 4 (replicate 32 (pos 0)) (replicate 32 48) zeroDoubles zeroDoubles
 
 loose-handed : Hands loose (bound loose) looseEnds
 loose-handed = record { n = refl; s = refl; guess = only _ refl; bounds = only _ (sym loose-bound) }
@@ -95,21 +95,21 @@ loose-handed = record { n = refl; s = refl; guess = only _ refl; bounds = only _
 pub loose-between : AllBetween 1 (lowsAfter looseEnds) (highsAfter looseEnds) farHeight 1
 loose-between =
     encloses-between loose (bound loose) looseEnds loose-handed
-    (outward-accepts looseEnds (numbers-taken 1 4 _ _ zeros zeros (lit< tt) (lit≤ tt) (lit≤ tt) (lit≤ tt) (lit≤ tt) (lit≤ tt) (lit≤ tt) (only _ (lit≤ tt)) (only _ (lit≤ tt)))) refl
+    (outward-accepts looseEnds (numbers-taken 1 4 _ _ zeroDoubles zeroDoubles (lit< tt) (lit≤ tt) (lit≤ tt) (lit≤ tt) (lit≤ tt) (lit≤ tt) (lit≤ tt) (only _ (lit≤ tt)) (only _ (lit≤ tt)))) refl
     loose-encloses farRight 3 loose-right farHeight 1 loose-exact
 
 -- ---- there and back
 abbrev two-and-a-half : Float
 two-and-a-half = ofBits binary64 4612811918334230528
 
-abbrev pub given : Incoming
-given = incoming 1 1 (replicate 32 two-and-a-half) (replicate 32 (pos 0))
+abbrev pub goingIn : Incoming
+goingIn = incoming 1 1 (replicate 32 two-and-a-half) (replicate 32 (pos 0))
 
-given-accepted : inwardAnswer given ≡ []
+given-accepted : inwardAnswer goingIn ≡ []
 unfolding inwardAnswer every hasGuess guessFor whole ofBits roundDiv inRange rangeOf ranges
 given-accepted = refl
 
-given-held : (i : ℕ) → T (fits binary64 (doubleAt (given .values) i))
+given-held : (i : ℕ) → T (fits binary64 (doubleAt (goingIn .values) i))
 unfolding fits
 given-held = go 32
   where
@@ -118,14 +118,14 @@ given-held = go 32
     go (suc n) zero = ofBits-fits binary64 4612811918334230528
     go (suc n) (suc i) = go n i
 
-abbrev pub back : Outgoing
-back = outgoing 1 1 (guessesAfter given) (replicate 32 0) zeros zeros
+abbrev pub comingOut : Outgoing
+comingOut = outgoing 1 1 (guessesAfter goingIn) (replicate 32 0) zeroDoubles zeroDoubles
 
-pub goes-and-comes : (at (guessesAfter given) 0 ≡ pos 5) × Returned 1 (pos 5) two-and-a-half (endsIn (lowsAfter back) (highsAfter back) 0)
+pub goes-and-comes : (at (guessesAfter goingIn) 0 ≡ pos 5) × Returned 1 (pos 5) two-and-a-half (endsIn (lowsAfter comingOut) (highsAfter comingOut) 0)
 unfolding whole ofBits
 goes-and-comes =
-    let g = inward-accepts given given-held given-accepted in
-    comes-back given g refl (outward-accepts back (guesses-taken given g refl (replicate 32 0) zeros zeros (lit≤ tt) (lit≤ tt) (lit≤ tt) (only _ (lit≤ tt)))) refl 0 (lit< tt) refl (pos 5) refl
+    let g = inward-accepts goingIn given-held given-accepted in
+    comes-back goingIn g refl (outward-accepts comingOut (guesses-taken goingIn g refl (replicate 32 0) zeroDoubles zeroDoubles (lit≤ tt) (lit≤ tt) (lit≤ tt) (only _ (lit≤ tt)))) refl 0 (lit< tt) refl (pos 5) refl
 
 -- ---- each refusal, and the ends of the ranges
 abbrev zero-guesses : List ℤ
@@ -139,12 +139,12 @@ unfolding inwardAnswer every hasGuess inRange rangeOf ranges
 said-inward = (refl, refl, refl)
 
 abbrev limits : ℕ → Outgoing
-limits e = outgoing 1 20 (replicate 32 (negsuc 68719476735)) (replicate 32 e) zeros zeros
+limits e = outgoing 1 20 (replicate 32 (negsuc 68719476735)) (replicate 32 e) zeroDoubles zeroDoubles
 
 pub said-outward :
-    (outwardAnswer (outgoing 33 0 zero-guesses (replicate 31 0) zeros zeros) ≡ 8 ∷ [])
+    (outwardAnswer (outgoing 33 0 zero-guesses (replicate 31 0) zeroDoubles zeroDoubles) ≡ 8 ∷ [])
     × (outwardAnswer (limits (2 ^ 60)) ≡ [])
     × (outwardAnswer (limits (2 ^ 60 + 1)) ≡ 3 ∷ [])
-    × (outwardAnswer (outgoing 1 0 (replicate 32 (negsuc 68719476736)) (replicate 32 0) zeros zeros) ≡ 3 ∷ [])
+    × (outwardAnswer (outgoing 1 0 (replicate 32 (negsuc 68719476736)) (replicate 32 0) zeroDoubles zeroDoubles) ≡ 3 ∷ [])
 unfolding outwardAnswer every allInRange inRange rangeOf ranges
 said-outward = (refl, refl, refl, refl)

@@ -1,5 +1,5 @@
 -- Doubles in: the contract of `guesses_of`, case by case, and that each refusal is said exactly where its case holds.
---   Ready, ready — input that passes 8 and 3 can be read and written
+--   ReadyInward, ready — input that passes 8 and 3 can be read and written
 --   in-short, in-range, in-none, in-all — the contract where 8, 3, 19 and nothing is said
 --   each-double — each of the first n is a finite double where each has a guess, in a list of doubles
 --   said-8, said-3, said-19, said-nothing — 8, 3, 19 and nothing are said exactly where 02 says so
@@ -36,13 +36,13 @@ use Rattle.exchange.specs.Inward.{Incoming, shortIncoming, allHaveGuess,
 use Rattle.exchange.specs.declared.Guessed.the-variants.{Accepted, Refused, NoGuess}
 use Rattle.rules.proofs.Every.{every-at, every-in, every-fails, every-not}
 
-pub record Ready (I : Incoming) : Type 0 where
+pub record ReadyInward (I : Incoming) : Type 0 where
   pub values : I .n ≤ length (I .values)
   pub guess : I .n ≤ length (I .guess)
   pub scale : I .s ≤ 20
 
 module _ (I : Incoming) where
-  pub ready : shortIncoming I ≡ false → exchangeSizes (I .n) (I .s) ≡ true → Ready I
+  pub ready : shortIncoming I ≡ false → exchangeSizes (I .n) (I .s) ≡ true → ReadyInward I
   ready e f =
       let few = size-range (I .n) (both-left (inRange kind.Size (pos (I .n))) _ f) .1 in
       record {

@@ -1,5 +1,5 @@
 -- Doubles out: the contract of `intervals_of`, case by case, and that each refusal is said exactly where its case holds.
---   Ready, ready, reckonable — input that passes 8 and 3 can be read, written and reckoned with
+--   ReadyOutward, ready, reckonable — input that passes 8 and 3 can be read, written and reckoned with
 --   out-short, out-range, out-all — the contract where 8, 3 and nothing is said
 --   said-8, said-3, said-nothing  — 8, 3 and nothing are said exactly where 02 says so
 --   low-after, high-after, ends-else — the lists after the call: their first n places where nothing is said, and every other place as before
@@ -32,14 +32,14 @@ use Rattle.exchange.specs.Lists.{doubleAt, exchangeSizes}
 use Rattle.exchange.specs.Outward.{Outgoing, shortOutgoing, boundsInRange, outgoingInRanges, outwardOrder, outwardAnswer, endsAt, lowsAfter, highsAfter, IntervalsOf, Reckonable}
 use Rattle.rules.proofs.Every.{every-at}
 
-pub record Ready (I : Outgoing) : Type 0 where
+pub record ReadyOutward (I : Outgoing) : Type 0 where
   pub guess : I .n ≤ length (I .guess)
   pub bounds : I .n ≤ length (I .bounds)
   pub low : I .n ≤ length (I .low)
   pub high : I .n ≤ length (I .high)
 
 module _ (I : Outgoing) where
-  pub ready : shortOutgoing I ≡ false → exchangeSizes (I .n) (I .s) ≡ true → Ready I
+  pub ready : shortOutgoing I ≡ false → exchangeSizes (I .n) (I .s) ≡ true → ReadyOutward I
   ready e1 f =
       let few = size-range (I .n) (both-left (inRange kind.Size (pos (I .n))) _ f) .1 in
       let e2 = neither-right (shortColumn (length (I .guess))) _ e1 in

@@ -31,7 +31,7 @@ use Rattle.file_check.specs.Shown.{inputAt, saidOf}
 use Rattle.listing.specs.Listing.{problemIn, answerOf, ListedAs, AnsweredAs}
 use Rattle.listing.proofs.Entire.{answer-refused, answer-open, listing-from, as-checked}
 use Rattle.file_stated.specs.Stated.{FileStated, line-refused, not-ended, checked}
-use Rattle.file_stated.proofs.Taken.{Runs, taken-runs, runs-taken, made-run, Split, all, refused, split, read-past}
+use Rattle.file_stated.proofs.Taken.{Runs, taken-runs, runs-taken, made-run, AllOrFirst, all, refused, all-or-first, read-past}
 
 module _ (file : List ℕ) where
   -- ---- what is said
@@ -75,9 +75,9 @@ module _ (file : List ℕ) where
       (printed 0 (answer (inputAt u)), checked u (answer (inputAt u)) (runs-taken (fromNew zeros) (linesOf file) new a) e (stated (inputAt u)))
 
   some-stated : (w : List ℕ) × FileStated file w
-  some-stated = go (split (fromNew zeros) (linesOf file))
+  some-stated = go (all-or-first (fromNew zeros) (linesOf file))
     where
-      go : Split (fromNew zeros) (linesOf file) → (w : List ℕ) × FileStated file w
+      go : AllOrFirst (fromNew zeros) (linesOf file) → (w : List ℕ) × FileStated file w
       go (all a) = at-end a (ended (run (fromNew zeros) (linesOf file) .loader .stage)) refl
       go (refused first line rest k vs p a e) =
           let u = run (fromNew zeros) first in (

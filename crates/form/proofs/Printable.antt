@@ -30,26 +30,26 @@ all-printable (b ∷ bs) = printable b && all-printable bs
 record Printable (l : List ℕ) : Type 0 where
   all : all-printable l ≡ true
 
-joined : (a b : List ℕ) → all-printable a ≡ true → all-printable b ≡ true → all-printable (a ++ b) ≡ true
+joined-printable : (a b : List ℕ) → all-printable a ≡ true → all-printable b ≡ true → all-printable (a ++ b) ≡ true
 unfolding all-printable
-joined [] b p q = q
-joined (x ∷ a) b p q = both (both-left (printable x) (all-printable a) p) (joined a b (both-right (printable x) (all-printable a) p) q)
+joined-printable [] b p q = q
+joined-printable (x ∷ a) b p q = both (both-left (printable x) (all-printable a) p) (joined-printable a b (both-right (printable x) (all-printable a) p) q)
 
 join : {a b : List ℕ} → Printable a → Printable b → Printable (a ++ b)
-join {a} {b} p q = record { all = joined a b (p .all) (q .all) }
+join {a} {b} p q = record { all = joined-printable a b (p .all) (q .all) }
 
 -- ---- numbers
-digit : (n : ℕ) → n < 10 → Printable ((48 + n) ∷ [])
+digit-printable : (n : ℕ) → n < 10 → Printable ((48 + n) ∷ [])
 unfolding all-printable printable
-digit n h = record { all = both (both (le-leb 32 (48 + n) (omega arith)) (le-leb (48 + n) 126 (omega arith))) refl }
+digit-printable n h = record { all = both (both (le-leb 32 (48 + n) (omega arith)) (le-leb (48 + n) 126 (omega arith))) refl }
 
-digits : (n : ℕ) → Printable (decimal n)
-digits = decimal-induction (λ n l. Printable l) digit (λ n h ih. join ih (digit (n % 10) (omega arith)))
+digits-printable : (n : ℕ) → Printable (decimal n)
+digits-printable = decimal-induction (λ n l. Printable l) digit-printable (λ n h ih. join ih (digit-printable (n % 10) (omega arith)))
 
-number : (z : ℤ) → Printable (numeral z)
+number-printable : (z : ℤ) → Printable (numeral z)
 unfolding numeral all-printable printable
-number (pos n) = digits n
-number (negsuc n) = record { all = both refl (digits (suc n) .all) }
+number-printable (pos n) = digits-printable n
+number-printable (negsuc n) = record { all = both refl (digits-printable (suc n) .all) }
 
 -- ---- the text around them
 opens : (w : Word) → Printable (opening w)
@@ -80,28 +80,28 @@ unfolding all-printable printable
 close-two = record { all = refl }
 
 -- ---- forms
-list : (a : ℤ) (zs : List ℤ) → Printable (numerals a zs)
+list-printable : (a : ℤ) (zs : List ℤ) → Printable (numerals a zs)
 unfolding numerals
-list a [] = number a
-list a (b ∷ zs) = join (join (number a) space) (list b zs)
+list-printable a [] = number-printable a
+list-printable a (b ∷ zs) = join (join (number-printable a) space) (list-printable b zs)
 
 two : {w : List ℕ} → Printable w → (i v : ℤ) → Printable (w ++ numeral i ++ bytes " " ++ numeral v ++ bytes ")")
-two p i v = join (join (join (join p (number i)) space) (number v)) close-one
+two p i v = join (join (join (join p (number-printable i)) space) (number-printable v)) close-one
 
-many : {w : List ℕ} → Printable w → (i a : ℤ) (zs : List ℤ) → Printable (w ++ numeral i ++ bytes " (" ++ numerals a zs ++ bytes "))")
-many p i a zs = join (join (join (join p (number i)) bracket) (list a zs)) close-two
+many-printable : {w : List ℕ} → Printable w → (i a : ℤ) (zs : List ℤ) → Printable (w ++ numeral i ++ bytes " (" ++ numerals a zs ++ bytes "))")
+many-printable p i a zs = join (join (join (join p (number-printable i)) bracket) (list-printable a zs)) close-two
 
-spelled : (f : Form) → Printable (spell f)
+spelled-printable : (f : Form) → Printable (spell f)
 unfolding spell
-spelled (problem n) = join (join (opens Problem) (number n)) close-one
-spelled (scale s t) = two (opens Scale) s t
-spelled (row i a others) = many (opens Row) i a others
-spelled (right i b) = two (opens Right) i b
-spelled (rightWithin i b d) = many (opens Right) i b (d ∷ [])
-spelled (guess i x) = two (opens Guess) i x
-spelled (inverse i g others) = many (opens Inverse) i g others
-spelled (weight i w) = two (opens Weight) i w
-spelled end = join (opens End) close-one
+spelled-printable (problem n) = join (join (opens Problem) (number-printable n)) close-one
+spelled-printable (scale s t) = two (opens Scale) s t
+spelled-printable (row i a others) = many-printable (opens Row) i a others
+spelled-printable (right i b) = two (opens Right) i b
+spelled-printable (rightWithin i b d) = many-printable (opens Right) i b (d ∷ [])
+spelled-printable (guess i x) = two (opens Guess) i x
+spelled-printable (inverse i g others) = many-printable (opens Inverse) i g others
+spelled-printable (weight i w) = two (opens Weight) i w
+spelled-printable end = join (opens End) close-one
 
 pub spell-some : (f : Form) → 0 < length (spell f)
 unfolding spell
@@ -124,7 +124,7 @@ byte-at (b ∷ l) e zero h =
 byte-at (b ∷ l) e (suc k) h = byte-at l (both-right (printable b) (all-printable l) e) k (omega arith)
 
 pub spell-printable : (f : Form) (k : ℕ) → k < length (spell f) → (32 ≤ getD (spell f) k 0) × (getD (spell f) k 0 ≤ 126)
-spell-printable f = byte-at (spell f) (spelled f .all)
+spell-printable f = byte-at (spell f) (spelled-printable f .all)
 
 -- past the end of a line the byte is 0
 no-feed : (l : List ℕ) → all-printable l ≡ true → (k : ℕ) → getD l k 0 ≡ 10 → ⊥
@@ -134,10 +134,10 @@ no-feed (b ∷ l) e zero h = omega (arith, byte-at (b ∷ l) e 0 (omega arith) .
 no-feed (b ∷ l) e (suc k) h = no-feed l (both-right (printable b) (all-printable l) e) k h
 
 pub spell-no-feed : (f : Form) (k : ℕ) → getD (spell f) k 0 ≡ 10 → ⊥
-spell-no-feed f = no-feed (spell f) (spelled f .all)
+spell-no-feed f = no-feed (spell f) (spelled-printable f .all)
 
 pub one-no-feed : (w : List ℕ) → all-printable w ≡ true → (i : ℤ) (k : ℕ) → getD (w ++ numeral i ++ bytes ")") k 0 ≡ 10 → ⊥
-one-no-feed w p i = no-feed (w ++ numeral i ++ bytes ")") (join (join (record { all = p }) (number i)) close-one .all)
+one-no-feed w p i = no-feed (w ++ numeral i ++ bytes ")") (join (join (record { all = p }) (number-printable i)) close-one .all)
 
 pub many-no-feed : (w : List ℕ) → all-printable w ≡ true → (i a : ℤ) (zs : List ℤ) (k : ℕ) → getD (w ++ numeral i ++ bytes " (" ++ numerals a zs ++ bytes "))") k 0 ≡ 10 → ⊥
-many-no-feed w p i a zs = no-feed (w ++ numeral i ++ bytes " (" ++ numerals a zs ++ bytes "))") (many (record { all = p }) i a zs .all)
+many-no-feed w p i a zs = no-feed (w ++ numeral i ++ bytes " (" ++ numerals a zs ++ bytes "))") (many-printable (record { all = p }) i a zs .all)

@@ -23,9 +23,9 @@ use Rattle.form.proofs.Shapes.{reads, headed, word-step, one-spelled, t
 use Rattle.form.proofs.Lists.{numerals-is, others-then}
 
 -- ---- what is read is spelled
-chosen : (t : Bool) (g f : Form) → cond t (some g) none ≡ some f → (t ≡ true) × (g ≡ f)
-chosen true g f e = (refl, cc)
-chosen false g f e =
+chosen-form : (t : Bool) (g f : Form) → cond t (some g) none ≡ some f → (t ≡ true) × (g ≡ f)
+chosen-form true g f e = (refl, cc)
+chosen-form false g f e =
     let z : _≡_ {A = ℕ} 0 1 = cc in
     absurd (omega arith)
 
@@ -77,7 +77,7 @@ module _ (s : List ℕ) where
   pub spelled-read : (f : Form) → reading s ≡ some f → s ≡ spell f
   unfolding reading
   spelled-read f e =
-      let c = chosen _ _ f e in
+      let c = chosen-form _ _ f e in
       ended (headAt s 0 .word) (headAt s 0 .next) (head-then s 0) (eqb-true _ (length s) (c .0)) ∙ ap spell (c .1)
 
 -- ---- what is spelled is read

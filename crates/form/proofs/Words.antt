@@ -121,10 +121,10 @@ or-lost : (s : List ℕ) (w v : Word) {b : ℕ} → wordAt s 0 (opening v) ≡ b
 unfolding orWord
 or-lost s w v e = rw (lt-leb (lost s) (length s) (omega arith), e)
 
-first-is : (s : List ℕ) (w : Word) (ws : List Word) → firstOf s 0 (record { word = w; next = lost s }) ws ≡ firstStart s (record { word = w; next = lost s }) ws
+first-start : (s : List ℕ) (w : Word) (ws : List Word) → firstOf s 0 (record { word = w; next = lost s }) ws ≡ firstStart s (record { word = w; next = lost s }) ws
 unfolding firstOf firstStart
-first-is s w [] = refl
-first-is s w (v ∷ ws) = go (starts (opening v) s) refl (first-is s v ws)
+first-start s w [] = refl
+first-start s w (v ∷ ws) = go (starts (opening v) s) refl (first-start s v ws)
   where
     go : (t : Bool) → starts (opening v) s ≡ t
         → firstOf s 0 (record { word = v; next = lost s }) ws ≡ firstStart s (record { word = v; next = lost s }) ws
@@ -137,11 +137,11 @@ first-is s w (v ∷ ws) = go (starts (opening v) s) refl (first-is s v ws)
 
 pub head-spelled : (w : Word) (t : List ℕ) → headAt (opening w ++ t) 0 ≡ record { word = w; next = length (opening w) }
 unfolding headAt firstStart starts
-head-spelled Problem t = first-is (opening Problem ++ t) End _
-head-spelled Scale t = first-is (opening Scale ++ t) End _
-head-spelled Row t = first-is (opening Row ++ t) End _
-head-spelled Right t = first-is (opening Right ++ t) End _
-head-spelled Guess t = first-is (opening Guess ++ t) End _
-head-spelled Inverse t = first-is (opening Inverse ++ t) End _
-head-spelled Weight t = first-is (opening Weight ++ t) End _
-head-spelled End t = first-is (opening End ++ t) End _
+head-spelled Problem t = first-start (opening Problem ++ t) End _
+head-spelled Scale t = first-start (opening Scale ++ t) End _
+head-spelled Row t = first-start (opening Row ++ t) End _
+head-spelled Right t = first-start (opening Right ++ t) End _
+head-spelled Guess t = first-start (opening Guess ++ t) End _
+head-spelled Inverse t = first-start (opening Inverse ++ t) End _
+head-spelled Weight t = first-start (opening Weight ++ t) End _
+head-spelled End t = first-start (opening End ++ t) End _

@@ -1,5 +1,5 @@
 -- Whole numbers between two natural numbers.
---   between — a number that is a to n, as a natural number;  not-negative — it is one
+--   from-to — a number that is a to n, as a natural number;  not-negative — it is one
 use mathlib.Core.Path.{_≡_, refl, sym, subst}
 use mathlib.Core.Bool.{true, _&&_}
 use Prim.Native.Nat.{ℕ, _≤_}
@@ -10,17 +10,17 @@ use lib.Signed.{leZ, nonNeg}
 use Rattle.rules.proofs.Ranges.{both-left, both-right}
 
 -- a number from a to n
-pub record Between (a n : ℕ) (i : ℤ) : Type 0 where
+pub record FromTo (a n : ℕ) (i : ℤ) : Type 0 where
   pub whole : i ≡ pos (natAbs i)
   pub from : a ≤ natAbs i
   pub to : natAbs i ≤ n
 
-by-sign : (a n : ℕ) (i : ℤ) → leZ (pos a) i ≡ true → leZ i (pos n) ≡ true → Between a n i
+by-sign : (a n : ℕ) (i : ℤ) → leZ (pos a) i ≡ true → leZ i (pos n) ≡ true → FromTo a n i
 by-sign a n (pos i) p q = record { whole = refl; from = leb-true a i p; to = leb-true i n q }
 by-sign a n (negsuc i) p q = absurd (subst T (sym p) tt)
 
-pub between : (a n : ℕ) (i : ℤ) → leZ (pos a) i && leZ i (pos n) ≡ true → Between a n i
-between a n i b = by-sign a n i (both-left (leZ (pos a) i) (leZ i (pos n)) b) (both-right (leZ (pos a) i) (leZ i (pos n)) b)
+pub from-to : (a n : ℕ) (i : ℤ) → leZ (pos a) i && leZ i (pos n) ≡ true → FromTo a n i
+from-to a n i b = by-sign a n i (both-left (leZ (pos a) i) (leZ i (pos n)) b) (both-right (leZ (pos a) i) (leZ i (pos n)) b)
 
-pub not-negative : {a n : ℕ} (i : ℤ) → Between a n i → T (nonNeg i)
+pub not-negative : {a n : ℕ} (i : ℤ) → FromTo a n i → T (nonNeg i)
 not-negative i h = rw (h .whole) tt

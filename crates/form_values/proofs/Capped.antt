@@ -23,7 +23,7 @@ use Rattle.form_values.specs.declared.Part.{Part}
 use Rattle.form_values.specs.declared.Part.the-variants.{Row, Right, Guess, Inverse, Weight}
 use Rattle.form_values.specs.Item.{itemOf, partIndex, placed, outside, miscounted}
 use Rattle.form_values.specs.Capped.{itemIn, outsideIn, miscountedIn}
-use Rattle.form_values.proofs.Between.{between}
+use Rattle.form_values.proofs.Between.{from-to}
 
 -- ---- the tests
 placed-cap : (n : ℕ) (i : ℤ) → n < capAt → leZ (pos 1) (cap i) && leZ (cap i) (pos n) ≡ leZ (pos 1) i && leZ i (pos n)
@@ -70,7 +70,7 @@ miscounted-capped n end = refl
 
 -- ---- a form that is not refused for its numbers
 of-exact : (p : Part) (n : ℕ) (i : ℤ) → n < capAt → leZ (pos 1) i && leZ i (pos n) ≡ true → Of p (cap i) ≡ Of p i
-of-exact p n i l h = ap (Of p) (cap-small i (omega (arith, between 1 n i h .to)))
+of-exact p n i l h = ap (Of p) (cap-small i (omega (arith, from-to 1 n i h .to)))
 
 scale-exact : (s t : ℤ) → inRange kind.SolutionScale s && inRange kind.InverseScale t ≡ true → Scale (cap s) (cap t) ≡ Scale s t
 scale-exact s t h =

@@ -1,6 +1,6 @@
 -- How the kept lines follow the lines taken.
 --   Follows n es g — nothing is said yet of the lines es, and the lines kept in g are theirs, each once
---   Step n es g l — a line more is refused, by the number that is said of it, or followed
+--   LineStep n es g l — a line more is refused, by the number that is said of it, or followed
 --   again, new — a line met before, and a line whose key is new, are followed
 use mathlib.Core.Path.{_≡_, sym, ap, subst, _∙_}
 use mathlib.Core.Bool.{false}
@@ -24,12 +24,12 @@ use Rattle.integer.specs.Among.{Among, here, there}
 use Rattle.observation.specs.Stated.{Passes}
 use Rattle.observation.proofs.Members.{key-here, key-none, clash-free, either}
 use Rattle.observation.proofs.Lines.{line-good}
-use Rattle.observation.proofs.Marks.{inside}
+use Rattle.observation.proofs.Marks.{inside-line}
 use Rattle.observation.proofs.Repeat.{share, share-met, share-new}
 use Rattle.gathering.proofs.Places.{with-length, with-other, with-same}
 
 -- a line is kept at a place
-pub record Met (g : Gathered) (e : Observation) : Type 0 where
+pub record MetLine (g : Gathered) (e : Observation) : Type 0 where
   pub place : ℕ
   pub below : place < g .progress .count
   pub is : keptAt g place ≡ e
@@ -41,13 +41,13 @@ pub record Follows (n : ℕ) (es : List Observation) (g : Gathered) : Type 0 whe
   pub few : g .progress .count ≤ 256
   pub lines : g .progress .lines ≡ length es
   pub among : (p : ℕ) → p < g .progress .count → Among (keptAt g p) es
-  pub met : (e : Observation) → Among e es → Met g e
+  pub met : (e : Observation) → Among e es → MetLine g e
   pub one : (d e : Observation) → Among d es → Among e es → d .key ≡ e .key → d ≡ e
   pub good : (e : Observation) → Among e es → Passes n e
 
-pub data Step (n : ℕ) (es : List Observation) (g : Gathered) (l : Observation) : Type 0 where
-  refused : (t : Built) (k : ℕ) (ks : List ℕ) → saidBuilt t ≡ k ∷ ks → added g l ≡ refusedAs (counted g) t → observationSays n es l ≡ saidBuilt t → Step n es g l
-  passed : observationSays n es l ≡ [] → Follows n (l ∷ es) (added g l) → ((f : Observation → ℤ) → keptSum f (added g l) ≡ keptSum f g +ℤ share f es l) → added g l .progress .count ≤ suc (g .progress .count) → Step n es g l
+pub data LineStep (n : ℕ) (es : List Observation) (g : Gathered) (l : Observation) : Type 0 where
+  refused : (t : Built) (k : ℕ) (ks : List ℕ) → saidBuilt t ≡ k ∷ ks → added g l ≡ refusedAs (counted g) t → observationSays n es l ≡ saidBuilt t → LineStep n es g l
+  passed : observationSays n es l ≡ [] → Follows n (l ∷ es) (added g l) → ((f : Observation → ℤ) → keptSum f (added g l) ≡ keptSum f g +ℤ share f es l) → added g l .progress .count ≤ suc (g .progress .count) → LineStep n es g l
 
 module _ (n : ℕ) (es : List Observation) (g : Gathered) (l : Observation) (fol : Follows n es g) (room : g .progress .count < 256) (early : g .progress .lines < 256) where
   pub all : g .progress .count ≡ places (g .progress .count)
@@ -57,7 +57,7 @@ module _ (n : ℕ) (es : List Observation) (g : Gathered) (l : Observation) (fol
   next = omega (arith, fol .lines)
 
   -- ---- a line met before, with the same contents
-  pub again : (i : ℕ) → i < g .progress .count → keptAt g i ≡ l → Passes n l → added g l ≡ counted g → Step n es g l
+  pub again : (i : ℕ) → i < g .progress .count → keptAt g i ≡ l → Passes n l → added g l ≡ counted g → LineStep n es g l
   again i b e good a =
       passed (line-good n es l good (clash-free es l (λ d j k. fol .one d l j in-es k)))
       (subst (Follows n (l ∷ es)) (sym a) (record {
@@ -92,9 +92,9 @@ module _ (n : ℕ) (es : List Observation) (g : Gathered) (l : Observation) (fol
   old p h = with-other (g .seen) (g .progress .count) l room p (omega arith) (λ e. omega (arith, e))
 
   last : Passes n l → keptAt grown (g .progress .count) ≡ l
-  last good = with-same (g .seen) (g .progress .count) l (fol .long) room (inside n l (good .inside) .difference)
+  last good = with-same (g .seen) (g .progress .count) l (fol .long) room (inside-line n l (good .inside) .difference)
 
-  pub new : Passes n l → hasKey es (l .key) ≡ false → added g l ≡ grown → Step n es g l
+  pub new : Passes n l → hasKey es (l .key) ≡ false → added g l ≡ grown → LineStep n es g l
   new good h a =
       passed (line-good n es l good (clash-free es l (λ d j k. absurd (key-none es d h j k))))
       (subst (Follows n (l ∷ es)) (sym a) (record {

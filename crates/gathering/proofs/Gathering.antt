@@ -1,5 +1,5 @@
 -- What is gathered of a whole list of lines.
---   Outcome — what is said, and of which line; where nothing is: the kept lines are ready, and their sums are those of the distinct lines
+--   GatheringAs — what is said, and of which line; where nothing is: the kept lines are ready, and their sums are those of the distinct lines
 --   gathered-folded, gathers — by places and line after line; from lines that follow
 --   old, still — after a refusal nothing changes
 use mathlib.Core.Path.{_≡_, refl, sym, ap, _∙_}
@@ -18,10 +18,10 @@ use Rattle.observation.specs.Line.{noObservation}
 use Rattle.observation.specs.Order.{saidBuilt, observationsSay}
 use Rattle.observation.specs.Refused.{refusedFrom}
 use Rattle.observation.specs.Distinct.{distinctAfter, total}
-use Rattle.gathering.specs.Gathered.{saying, counted, refusedAs, isRefused, taken, added, whenDone, lineOf, gathered, few, keptAt, keptSum}
+use Rattle.gathering.specs.Gathered.{saying, counted, refusedAs, isRefused, taken, added, whenDone, lineNumberOf, gathered, few, keptAt, keptSum}
 use Rattle.observation.specs.Stated.{Passes}
 use Rattle.observation.proofs.Repeat.{share, first}
-use Rattle.gathering.proofs.Follows.{Follows, Step, refused, passed}
+use Rattle.gathering.proofs.Follows.{Follows, LineStep, refused, passed}
 use Rattle.gathering.proofs.Step.{step}
 
 -- ---- by places, and line after line
@@ -29,15 +29,15 @@ unfoldable pub folded : Gathered → List Observation → Gathered
 folded g [] = g
 folded g (l ∷ ls) = folded (added g l) ls
 
-front : (g : Gathered) (l : Observation) (ls : List Observation) (k : ℕ) → gathered g (l ∷ ls) (suc k) ≡ gathered (added g l) ls k
+gathered-front : (g : Gathered) (l : Observation) (ls : List Observation) (k : ℕ) → gathered g (l ∷ ls) (suc k) ≡ gathered (added g l) ls k
 unfolding gathered
-front g l ls zero = refl
-front g l ls (suc k) = ap (λ (z : Gathered). added z (getD ls k noObservation)) (front g l ls k)
+gathered-front g l ls zero = refl
+gathered-front g l ls (suc k) = ap (λ (z : Gathered). added z (getD ls k noObservation)) (gathered-front g l ls k)
 
 pub gathered-folded : (g : Gathered) (ls : List Observation) → gathered g ls (length ls) ≡ folded g ls
 unfolding folded
 gathered-folded g [] = unfold gathered in refl
-gathered-folded g (l ∷ ls) = front g l ls (length ls) ∙ gathered-folded (added g l) ls
+gathered-folded g (l ∷ ls) = gathered-front g l ls (length ls) ∙ gathered-folded (added g l) ls
 
 -- ---- after a refusal nothing changes
 pub old : (b : Built) {k : ℕ} {ks : List ℕ} (x y : Gathered) → saidBuilt b ≡ k ∷ ks → whenDone b x y ≡ y
@@ -59,15 +59,15 @@ line-refused SameMark j e h = omega arith
 line-refused OtherContents j e h = omega arith
 
 -- ---- the lines that are left
-pub record Outcome (n : ℕ) (es ls : List Observation) (g r : Gathered) : Type 0 where
+pub record GatheringAs (n : ℕ) (es ls : List Observation) (g r : Gathered) : Type 0 where
   pub says : saidBuilt (r .progress .told) ≡ observationsSay n es ls
-  pub line : lineOf r ≡ refusedFrom n (g .progress .lines) es ls
+  pub line : lineNumberOf r ≡ refusedFrom n (g .progress .lines) es ls
   pub size : r .progress .n ≡ n
   pub few : saidBuilt (r .progress .told) ≡ [] → r .progress .count ≤ 256
   pub good : saidBuilt (r .progress .told) ≡ [] → (p : ℕ) → p < r .progress .count → Passes n (keptAt r p)
   pub sums : saidBuilt (r .progress .told) ≡ [] → (f : Observation → ℤ) → keptSum f r ≡ keptSum f g +ℤ total f (distinctAfter es ls)
 
-pub gathers : (n : ℕ) (es ls : List Observation) (g : Gathered) → Follows n es g → g .progress .count + length ls ≤ 256 → g .progress .lines + length ls ≤ 256 → Outcome n es ls g (folded g ls)
+pub gathers : (n : ℕ) (es ls : List Observation) (g : Gathered) → Follows n es g → g .progress .count + length ls ≤ 256 → g .progress .lines + length ls ≤ 256 → GatheringAs n es ls g (folded g ls)
 unfolding folded observationsSay refusedFrom
 gathers n es [] g fol room early = record {
   says = ap saidBuilt (fol .done);
@@ -79,13 +79,13 @@ gathers n es [] g fol room early = record {
 }
 gathers n es (l ∷ ls) g fol room early = go (step n es g l fol (omega arith) (omega arith)) (gathers n (l ∷ es) ls (added g l))
   where
-    go : Step n es g l → (Follows n (l ∷ es) (added g l) → added g l .progress .count + length ls ≤ 256 → added g l .progress .lines + length ls ≤ 256 → Outcome n (l ∷ es) ls (added g l) (folded (added g l) ls)) →
-        Outcome n es (l ∷ ls) g (folded (added g l) ls)
+    go : LineStep n es g l → (Follows n (l ∷ es) (added g l) → added g l .progress .count + length ls ≤ 256 → added g l .progress .lines + length ls ≤ 256 → GatheringAs n (l ∷ es) ls (added g l) (folded (added g l) ls)) →
+        GatheringAs n es (l ∷ ls) g (folded (added g l) ls)
     go (refused t k ks e a s) ih =
         let few : g .progress .lines < 256 = omega (arith, early) in
         let e₁ : saidBuilt (refusedAs (counted g) t .progress .told) ≡ k ∷ ks = unfold saying in e in
         let r : folded (added g l) ls ≡ refusedAs (counted g) t = ap (λ (z : Gathered). folded z ls) a ∙ still (refusedAs (counted g) t) ls e₁ in
-        let j : lineOf (refusedAs (counted g) t) ≡ g .progress .lines + 1 = unfold saying in line-refused t (g .progress .lines) e few in
+        let j : lineNumberOf (refusedAs (counted g) t) ≡ g .progress .lines + 1 = unfold saying in line-refused t (g .progress .lines) e few in
         rw r (record {
           says = e₁ ∙ sym (rw (s, e));
           line = j ∙ sym (rw (s, e));

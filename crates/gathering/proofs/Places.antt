@@ -17,13 +17,13 @@ use Rattle.gathering.specs.Gathered.{lineAt, withLine}
 pub lowest-size : (d : ℤ) → natAbs d ≤ 2 ^ 16 → natAbs (d +ℤ pos 65536) ≤ 2 ^ 17
 lowest-size d h = omega (arith, abs-+ d (pos 65536))
 
-natural : (d : ℤ) (k : ℕ) → pp d + 65536 ≡ nn d + k → d +ℤ pos 65536 ≡ pos k
-natural d k e = rw (is d) (simp zz (omega (arith, e)))
+natural-difference : (d : ℤ) (k : ℕ) → pp d + 65536 ≡ nn d + k → d +ℤ pos 65536 ≡ pos k
+natural-difference d k e = rw (is d) (simp zz (omega (arith, e)))
 
 pub lowest-whole : (d : ℤ) → natAbs d ≤ 2 ^ 16 → d +ℤ pos 65536 ≡ pos (natAbs (d +ℤ pos 65536))
 lowest-whole d h =
     let b : (pp d - nn d) + (nn d - pp d) ≤ 2 ^ 16 = rw (← dif-abs (pp d) (nn d), ← is d) h in
-    let e : d +ℤ pos 65536 ≡ pos (pp d + 65536 - nn d) = natural d (pp d + 65536 - nn d) (omega (arith, b)) in
+    let e : d +ℤ pos 65536 ≡ pos (pp d + 65536 - nn d) = natural-difference d (pp d + 65536 - nn d) (omega (arith, b)) in
     e ∙ ap pos (sym (ap natAbs e))
 
 there-and-back : (d : ℤ) → d +ℤ pos 65536 -ℤ pos 65536 ≡ d

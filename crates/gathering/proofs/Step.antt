@@ -17,7 +17,7 @@ use Rattle.gathering.specs.Gathered.{keyAt, lineAt, counted, isRefused, 
 use Rattle.observation.specs.Stated.{Passes}
 use Rattle.gathering.proofs.Adding.{taken-outside, taken-same, taken-clash, taken-again, taken-new, added-done}
 use Rattle.observation.proofs.Members.{same-line, line-same, has-line, clash-here}
-use Rattle.gathering.proofs.Follows.{Follows, Step, refused, all, kept-as, again, new}
+use Rattle.gathering.proofs.Follows.{Follows, LineStep, refused, all, kept-as, again, new}
 
 module _ (n : ℕ) (es : List Observation) (g : Gathered) (l : Observation) (fol : Follows n es g) (room : g .progress .count < 256) (early : g .progress .lines < 256) where
   -- ---- which of them
@@ -28,7 +28,7 @@ module _ (n : ℕ) (es : List Observation) (g : Gathered) (l : Observation) (fol
   unfolding lineAt
   key-of i p = ap (λ (z : Observation). z .key) p
 
-  pub step : Step n es g l
+  pub step : LineStep n es g l
   step = at (outsideRange n l) refl (sameMark l) refl
     where
       own : {b : Bool} → outsideRange n l ≡ b → outsideRange (g .progress .n) l ≡ b
@@ -37,13 +37,13 @@ module _ (n : ℕ) (es : List Observation) (g : Gathered) (l : Observation) (fol
       taken-is : {r : Gathered} → r ≡ taken (counted g) l → added g l ≡ r
       taken-is e = sym (added-done g l (ap isRefused (fol .done)) refl e)
 
-      search : Passes n l → Searched (g .progress .count) test → Step n es g l
+      search : Passes n l → Searched (g .progress .count) test → LineStep n es g l
       search good (found i b e p h) = contents (sameContents (keptAt g i) l) refl
         where
           key : keptAt g i .key ≡ l .key
           key = sym (key-of i refl) ∙ eqb-true (keyAt (g .seen) i) (l .key) p
 
-          contents : (c : Bool) → sameContents (keptAt g i) l ≡ c → Step n es g l
+          contents : (c : Bool) → sameContents (keptAt g i) l ≡ c → LineStep n es g l
           contents true c = again n es g l fol room early i b (same-line (keptAt g i) l key c) good (taken-is (taken-again (counted g) l (own (good .inside)) (good .apart) (all n es g l fol room early) (sym e) b c refl))
           contents false c =
               refused OtherContents 17 [] refl (taken-is (taken-clash (counted g) l (own (good .inside)) (good .apart) (all n es g l fol room early) (sym e) b c refl))
@@ -58,7 +58,7 @@ module _ (n : ℕ) (es : List Observation) (g : Gathered) (l : Observation) (fol
               let m = fol .met (x .line) (x .among) in
               absurd (clash (test (m .place)) (eq-eqb (keyAt (g .seen) (m .place)) (l .key) (key-of (m .place) (m .is) ∙ x .key)) (h (m .place) (m .below)))
 
-      at : (o : Bool) → outsideRange n l ≡ o → (s : Bool) → sameMark l ≡ s → Step n es g l
+      at : (o : Bool) → outsideRange n l ≡ o → (s : Bool) → sameMark l ≡ s → LineStep n es g l
       at true o s p = refused (Refused OutOfRange) 3 [] refl (taken-is (taken-outside (counted g) l (own o) refl)) (rw o)
       at false o true p = refused SameMark 16 [] refl (taken-is (taken-same (counted g) l (own o) (eqb-true (l .«from») (l .to) p) refl)) (rw (o, p))
       at false o false p = search (record { inside = o; apart = eqb-false (l .«from») (l .to) p }) (searched (g .progress .count) test)

@@ -26,12 +26,12 @@ use Rattle.observation.specs.Line.{noObservation}
 use Rattle.observation.specs.Order.{saidBuilt, observationsSay}
 use Rattle.observation.specs.Refused.{refusedFrom}
 use Rattle.observation.specs.Distinct.{distinct, total}
-use Rattle.gathering.specs.Gathered.{counted, taken, added, lineOf, gathered, few, openedAs, opening, noLines, opened, keptAt, keptSum, Proper, ReadyWhenDone}
+use Rattle.gathering.specs.Gathered.{counted, taken, added, lineNumberOf, gathered, few, openedAs, openingProgress, noLines, opened, keptAt, keptSum, Proper, ReadyWhenDone}
 use Rattle.observation.specs.Stated.{Passes}
-use Rattle.observation.proofs.Marks.{inside}
+use Rattle.observation.proofs.Marks.{inside-line}
 use Rattle.observation.proofs.Members.{nobody}
 use Rattle.gathering.proofs.Follows.{Follows}
-use Rattle.gathering.proofs.Gathering.{folded, gathered-folded, old, Outcome, gathers}
+use Rattle.gathering.proofs.Gathering.{folded, gathered-folded, old, GatheringAs, gathers}
 
 -- ---- the whole list
 still-at : (g : Gathered) (ls : List Observation) (k : ℕ) {j : ℕ} {js : List ℕ} → saidBuilt (g .progress .told) ≡ j ∷ js → gathered g ls k ≡ g
@@ -43,16 +43,16 @@ few-all : (k : ℕ) → k ≤ 256 → few k ≡ k
 unfolding few
 few-all k h = rw (le-leb k 256 h)
 
-none-yet : (n k : ℕ) → k ≤ 256 → opened n k .progress .count + k ≤ 256
-unfolding opening noLines
-none-yet n k h = omega arith
+none-counted : (n k : ℕ) → k ≤ 256 → opened n k .progress .count + k ≤ 256
+unfolding openingProgress noLines
+none-counted n k h = omega arith
 
 none-looked : (n k : ℕ) → k ≤ 256 → opened n k .progress .lines + k ≤ 256
-unfolding opening noLines
+unfolding openingProgress noLines
 none-looked n k h = omega arith
 
 begun : (n k : ℕ) → opened n k .progress .told ≡ Done → Follows n [] (opened n k)
-unfolding opening noLines
+unfolding openingProgress noLines
 begun n k d = record {
   size = refl;
   done = d;
@@ -67,7 +67,7 @@ begun n k d = record {
 
 properOf : (n : ℕ) (l : Observation) → n ≤ 32 → Passes n l → Proper l
 properOf n l few good =
-    let i = inside n l (good .inside) in
+    let i = inside-line n l (good .inside) in
     record { start = omega (arith, i .start, few); end = omega (arith, i .end, few); apart = good .apart; weight = i .weight; difference = i .difference }
 
 module _ (n : ℕ) (ls : List Observation) where
@@ -76,7 +76,7 @@ module _ (n : ℕ) (ls : List Observation) where
 
   pub record Whole : Type 0 where
     pub says : saidBuilt (gatheredOf .progress .told) ≡ orElse (cond (inRange kind.Size (pos n) && leb (length ls) 256) [] (3 ∷ [])) (observationsSay n [] ls)
-    pub line : lineOf gatheredOf ≡ ifAccepted (cond (inRange kind.Size (pos n) && leb (length ls) 256) [] (3 ∷ [])) (refusedFrom n 0 [] ls) 0
+    pub line : lineNumberOf gatheredOf ≡ ifAccepted (cond (inRange kind.Size (pos n) && leb (length ls) 256) [] (3 ∷ [])) (refusedFrom n 0 [] ls) 0
     pub size : gatheredOf .progress .n ≡ n
     pub sound : ReadyWhenDone gatheredOf
     pub sums : saidBuilt (gatheredOf .progress .told) ≡ [] → (f : Observation → ℤ) → keptSum f gatheredOf ≡ total f (distinct ls)
@@ -85,7 +85,7 @@ module _ (n : ℕ) (ls : List Observation) where
   whole = go (inRange kind.Size (pos n) && leb (length ls) 256) refl
     where
       refusal : (c : Bool) → inRange kind.Size (pos n) && leb (length ls) 256 ≡ c → opened n (length ls) .progress .told ≡ cond c Done (Refused OutOfRange)
-      refusal c e = unfold opening openedAs in rw e
+      refusal c e = unfold openingProgress openedAs in rw e
 
       go : (c : Bool) → inRange kind.Size (pos n) && leb (length ls) 256 ≡ c → Whole
       go false e =
@@ -94,8 +94,8 @@ module _ (n : ℕ) (ls : List Observation) where
           let s : saidBuilt (gatheredOf .progress .told) ≡ 3 ∷ [] = ap (λ (z : Gathered). saidBuilt (z .progress .told)) r ∙ ap saidBuilt t in
           record {
             says = s ∙ sym (rw e);
-            line = ap lineOf r ∙ (unfold opening openedAs in rw e);
-            size = ap (λ (z : Gathered). z .progress .n) r ∙ (unfold opening in refl);
+            line = ap lineNumberOf r ∙ (unfold openingProgress openedAs in rw e);
+            size = ap (λ (z : Gathered). z .progress .n) r ∙ (unfold openingProgress in refl);
             sound = record { ready = λ d. absurd (nothing-is-not (sym s ∙ ap saidBuilt d)) };
             sums = λ d. absurd (nothing-is-not (sym s ∙ d));
           }
@@ -104,8 +104,8 @@ module _ (n : ℕ) (ls : List Observation) where
           let k = leb-true (length ls) 256 (both-right (inRange kind.Size (pos n)) (leb (length ls) 256) e) in
           let z = size-range n (both-left (inRange kind.Size (pos n)) (leb (length ls) 256) e) in
           let r : gatheredOf ≡ folded (opened n (length ls)) ls = ap (gathered (opened n (length ls)) ls) (few-all (length ls) k) ∙ gathered-folded (opened n (length ls)) ls in
-          let o = gathers n [] ls (opened n (length ls)) (begun n (length ls) t) (none-yet n (length ls) k) (none-looked n (length ls) k) in
-          let w : Outcome n [] ls (opened n (length ls)) gatheredOf = subst (Outcome n [] ls (opened n (length ls))) (sym r) o in
+          let o = gathers n [] ls (opened n (length ls)) (begun n (length ls) t) (none-counted n (length ls) k) (none-looked n (length ls) k) in
+          let w : GatheringAs n [] ls (opened n (length ls)) gatheredOf = subst (GatheringAs n [] ls (opened n (length ls))) (sym r) o in
           record {
             says = w .says ∙ sym (rw e);
             line = w .line ∙ ap (λ (j : ℕ). refusedFrom n j [] ls) none-before ∙ sym (rw e);
@@ -123,10 +123,10 @@ module _ (n : ℕ) (ls : List Observation) where
           }
         where
           none-before : opened n (length ls) .progress .lines ≡ 0
-          none-before = unfold opening in refl
+          none-before = unfold openingProgress in refl
 
           none : (f : Observation → ℤ) → keptSum f (opened n (length ls)) ≡ pos 0
-          none f = unfold opening in sum-none (λ (p : ℕ). f (keptAt (opened n (length ls)) p))
+          none f = unfold openingProgress in sum-none (λ (p : ℕ). f (keptAt (opened n (length ls)) p))
 
 -- ---- for the loop over the lines
 module _ (g : Gathered) (ls : List Observation) where

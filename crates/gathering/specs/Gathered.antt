@@ -3,11 +3,11 @@
 --   lineAt seen p, withLine seen p l — the line kept at p, and what is kept with l there: key, from, to, difference from the lowest one on and weight, 256 places apart
 --   together p seen — what is gathered, of its two parts
 --   metAt g l   — the first kept line that has the key of l
---   withLines g k, counted g — g with k lines looked at, and with one more;  lineOf g — the number, from 1, of the line that is refused; 0 where none is
+--   withLines g k, counted g — g with k lines looked at, and with one more;  lineNumberOf g — the number, from 1, of the line that is refused; 0 where none is
 --   saying p t, refusedAs g t — p and g with t said;  kept g l — g with the line l kept
 --   isRefused t — something is said;  whenDone t new old — new where nothing is said, else old
 --   taken g l, added g l — a line more, where nothing is said yet, and whatever was said
---   gathered g ls k — g with the first k lines of ls added;  few k — how many of k lines are looked at;  openedAs, opening, opened n k, noLines — what is said before any line, how far they are taken, what is gathered, and what is kept
+--   gathered g ls k — g with the first k lines of ls added;  few k — how many of k lines are looked at;  openedAs, openingProgress, opened n k, noLines — what is said before any line, how far they are taken, what is gathered, and what is kept
 --   keptAt g p  — the kept line p;  keptSum f g — the sum of f over the kept lines
 --   Proper l    — the numbers of l are small enough for the sums, and its marks are two;  ProperLines seen c — the first c lines that are kept are proper
 --   Ready g     — n and the count are in their ranges, and the kept lines are proper;  ReadyWhenDone g — so where nothing is said
@@ -92,8 +92,8 @@ whenDone t new old = cond (isRefused t) old new
 unfoldable pub added : Gathered → Observation → Gathered
 added g l = whenDone (g .progress .told) (taken (counted g) l) g
 
-abbrev pub lineOf : Gathered → ℕ
-lineOf g = cond (isRefused (g .progress .told)) (g .progress .lines) 0
+abbrev pub lineNumberOf : Gathered → ℕ
+lineNumberOf g = cond (isRefused (g .progress .told)) (g .progress .lines) 0
 
 unfoldable pub gathered : Gathered → List Observation → ℕ → Gathered
 gathered g ls zero = g
@@ -105,14 +105,14 @@ few k = cond (leb k 256) k 0
 unfoldable pub openedAs : ℕ → ℕ → Built
 openedAs n k = cond (inRange kind.Size (pos n) && leb k 256) Done (Refused OutOfRange)
 
-unfoldable pub opening : ℕ → ℕ → Progress
-opening n k = record { n = n; count = 0; lines = 0; told = openedAs n k }
+unfoldable pub openingProgress : ℕ → ℕ → Progress
+openingProgress n k = record { n = n; count = 0; lines = 0; told = openedAs n k }
 
 unfoldable pub noLines : List ℕ
 noLines = replicate 1280 0
 
 abbrev pub opened : ℕ → ℕ → Gathered
-opened n k = together (opening n k) noLines
+opened n k = together (openingProgress n k) noLines
 
 abbrev pub keptAt : Gathered → ℕ → Observation
 keptAt g p = lineAt (g .seen) p

@@ -4,7 +4,7 @@ ghost use Prim.Native.Nat.{ℕ, _+_, _≤_, _<_, _^_, min};
 ghost use lib.Dec.{eqb};
 ghost use lib.IntN.{pos, natAbs, _+ℤ_, _-ℤ_};
 ghost use Rattle.integer.specs.Finite.{first};
-ghost use Rattle.gathering.specs.Gathered.{places, keyAt, lineAt, withLine, together, saying, isRefused, added, openedAs, opening, noLines, few, lineOf};
+ghost use Rattle.gathering.specs.Gathered.{places, keyAt, lineAt, withLine, together, saying, isRefused, added, openedAs, openingProgress, noLines, few, lineNumberOf};
 use observation::Built;
 use observation::Observation;
 use observation::has_contents;
@@ -169,7 +169,7 @@ fn opened_as(n: u32, lines: usize) -> Built
 
 // Before any line.
 pub fn open(n: u32, lines: usize) -> Progress
-    ensures { λ r. ⌜ r ≡ opening n lines ⌝ }
+    ensures { λ r. ⌜ r ≡ openingProgress n lines ⌝ }
 {
     let told = opened_as(n, lines);
     Progress {
@@ -195,7 +195,7 @@ pub fn as_gathered(progress: Progress, seen: [u32; 1280]) -> Gathered
 
 // The number, from 1, of the line that is refused; 0 where none is.
 pub fn line_of(g: Gathered) -> usize
-    ensures { λ r. ⌜ r ≡ lineOf g ⌝ }
+    ensures { λ r. ⌜ r ≡ lineNumberOf g ⌝ }
 {
     let progress = g.progress;
     let told = progress.told;

@@ -2,7 +2,7 @@
 --   setOf z p     — the set of a part; the number i, from 1, is its place i − 1
 --   given z p i   — the form of the part p for the number i was given
 --   marked z p i  — the sets with that form
---   counted       — the parts whose forms count as missing (02, Paper 1: "makes the weight form optional"): all but the weights
+--   countedParts  — the parts whose forms count as missing (02, Paper 1: "makes the weight form optional"): all but the weights
 --   totalOver ps f — the sum of f over the parts ps
 --   missing n z   — how many forms are still missing (02, Paper 1: "The count of forms still missing is now out of 4n"): each i from 1 to n not given, once
 --                   for each counted part
@@ -37,15 +37,15 @@ given z p i = hasPlace (setOf z p) (i - 1)
 abbrev pub marked : List ℕ → Part → ℕ → List ℕ
 marked z p i = set z (partIndex p) (withPlace (setOf z p) (i - 1))
 
-abbrev pub counted : List Part
-counted = Row ∷ Right ∷ Guess ∷ Inverse ∷ []
+abbrev pub countedParts : List Part
+countedParts = Row ∷ Right ∷ Guess ∷ Inverse ∷ []
 
 abbrev pub totalOver : List Part → (Part → ℕ) → ℕ
 totalOver [] f = 0
 totalOver (p ∷ ps) f = f p + totalOver ps f
 
 unfoldable pub missing : ℕ → List ℕ → ℕ
-missing n z = totalOver counted (λ (p : Part). lacking (setOf z p) n)
+missing n z = totalOver countedParts (λ (p : Part). lacking (setOf z p) n)
 
 abbrev pub sized : Stage → Bool
 sized Start = false

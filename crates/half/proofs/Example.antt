@@ -12,7 +12,7 @@ use Rattle.integer.specs.Finite.{sum, sumℕ}
 use Rattle.linear.specs.Matrix.{apply, product, identity}
 use Rattle.linear.specs.Slice.{at, matrixOf}
 use Rattle.linear.specs.Written.{written}
-use Rattle.integer.proofs.Below.{each, each₂}
+use Rattle.integer.proofs.Below.{each-of-two, each-of-four}
 use Rattle.rules.specs.Range.{inRange, rangeOf, ranges}
 use Rattle.enclosure.specs.Demand.{RoundedExact, sumOfSizes}
 use Rattle.enclosure.specs.Reckoning.{rowSum}
@@ -29,24 +29,24 @@ use Rattle.half.proofs.Square.{answers}
 pub file-half-long : shortHalf (length fileHalf) ≡ false
 file-half-long = refl
 
-same : (i j : ℕ) → i < 2 → j < 2 → matrixOf (fileInput .matrix) 2 i j ≡ at fileHalf (halfPlace i j)
+same-matrix : (i j : ℕ) → i < 2 → j < 2 → matrixOf (fileInput .matrix) 2 i j ≡ at fileHalf (halfPlace i j)
 unfolding halfPlace
-same = each₂ _ refl refl refl refl
+same-matrix = each-of-four _ refl refl refl refl
 
-long : short (filledInput fileHalved) ≡ false
-long = rw (filled-length 2 fileHalf)
+half-long : short (filledInput fileHalved) ≡ false
+half-long = rw (filled-length 2 fileHalf)
 
 pub file-half-accepted : answer (filledInput fileHalved) ≡ []
-file-half-accepted = answers fileHalved (fileInput .matrix) long refl same ∙ file-accepted
+file-half-accepted = answers fileHalved (fileInput .matrix) half-long refl same-matrix ∙ file-accepted
 
 pub file-half-rounded : RoundedExact (problem (filledInput fileHalved)) example.exact 11 example.exactInverse 11
 unfolding filledOut written halfPlace inRange rangeOf ranges apply product identity sum sumℕ rowSum sumOfSizes
 file-half-rounded = record {
   exact-right = file-rounded-here .exact-right;
-  solution = record { positive = lit≤ tt; solves = each _ refl refl };
+  solution = record { positive = lit≤ tt; solves = each-of-two _ refl refl };
   inverse = record {
-    inverse = record { positive = lit≤ tt; right = each₂ _ refl refl refl refl };
-    left = each₂ _ refl refl refl refl;
+    inverse = record { positive = lit≤ tt; right = each-of-four _ refl refl refl refl };
+    left = each-of-four _ refl refl refl refl;
   };
   near-solution = file-rounded-here .near-solution;
   near-inverse = file-rounded-here .near-inverse;

@@ -41,8 +41,8 @@ data Length (H : Input) : Type 0 where
   under : shortHalf (length (H .matrix)) ≡ true → Length H
   enough : shortHalf (length (H .matrix)) ≡ false → Length H
 
-lengthOf : (H : Input) → Length H
-lengthOf H = go (shortHalf (length (H .matrix))) refl
+half-length : (H : Input) → Length H
+half-length H = go (shortHalf (length (H .matrix))) refl
   where
     go : (b : Bool) → shortHalf (length (H .matrix)) ≡ b → Length H
     go true e = under e
@@ -50,7 +50,7 @@ lengthOf H = go (shortHalf (length (H .matrix))) refl
 
 module _ (H : Input) (r : Outcome) (E L : List ℕ) (h : CheckedHalf H r E L) where
   pub half-stated : {w : List ℕ} → (said r ≡ w) ↔ HalfStated H w
-  half-stated = (λ e. subst (HalfStated H) e (here (lengthOf H)), there)
+  half-stated = (λ e. subst (HalfStated H) e (here (half-length H)), there)
     where
       here : Length H → HalfStated H (said r)
       here (under e) = subst (HalfStated H) (sym (h .short-half e .0)) (half-too-short e)
@@ -62,7 +62,7 @@ module _ (H : Input) (r : Outcome) (E L : List ℕ) (h : CheckedHalf H r E L) wh
 
   pub half-8 : (said r ≡ 8 ∷ []) ↔ (shortHalf (length (H .matrix)) || short (filledInput H) ≡ true)
   unfolding answer
-  half-8 = go (lengthOf H)
+  half-8 = go (half-length H)
     where
       go : Length H → (said r ≡ 8 ∷ []) ↔ (shortHalf (length (H .matrix)) || short (filledInput H) ≡ true)
       go (under e) = (λ _. rw e, λ _. h .short-half e .0)
@@ -75,7 +75,7 @@ module _ (H : Input) (r : Outcome) (E L : List ℕ) (h : CheckedHalf H r E L) wh
   half-3 e f out = h .as-square e .says ∙ answer-range (filledInput H) f (not-first _ (not-first _ out))
 
   pub half-encloses : said r ≡ [] → Encloses (problem (filledInput H)) (λ (i : ℕ). getD E i 0) (λ (i j : ℕ). getD L (i * H .n + j) 0)
-  half-encloses t = go (lengthOf H)
+  half-encloses t = go (half-length H)
     where
       go : Length H → Encloses (problem (filledInput H)) (λ (i : ℕ). getD E i 0) (λ (i j : ℕ). getD L (i * H .n + j) 0)
       go (under e) = absurd (nothing-is-not (sym (h .short-half e .0) ∙ t))

@@ -4,7 +4,7 @@
 use mathlib.Core.List.{List, _∷_}
 use lib.IntN.{ℤ, pos, negsuc}
 use lib.ListN.{replicate}
-use Rattle.checked.specs.Cases.{inputOf, e}
+use Rattle.checked.specs.Cases.{caseInput, e}
 use Rattle.checked.specs.Input.{Input}
 use Rattle.half.specs.Checked.{withMatrix}
 
@@ -12,4 +12,4 @@ abbrev pub fileHalf : List ℤ
 fileHalf = pos 4 ∷ negsuc 0 ∷ pos 3 ∷ replicate 525 (pos 0)
 
 abbrev pub fileHalved : Input
-fileHalved = withMatrix (inputOf e) fileHalf
+fileHalved = withMatrix (caseInput e) fileHalf

@@ -63,8 +63,8 @@ round-size (pos a) d = omega (arith, div-mul-le-self (2 * a + d) (2 * d))
 round-size (negsuc a) d = rw (abs-neg (pos ((2 * suc a + d) / (2 * d)))) (omega (arith, div-mul-le-self (2 * suc a + d) (2 * d)))
 
 -- half a divisor at most, on either side, and at a half above
-near : (a d : ℕ) → 0 < d → ((2 * (a - d * ((2 * a + d) / (2 * d))) < d) × (2 * (d * ((2 * a + d) / (2 * d)) - a) ≤ d))
-near a d h =
+near-half : (a d : ℕ) → 0 < d → ((2 * (a - d * ((2 * a + d) / (2 * d))) < d) × (2 * (d * ((2 * a + d) / (2 * d)) - a) ≤ d))
+near-half a d h =
     let q : ℕ = (2 * a + d) / (2 * d) in
     let e : q * (2 * d) + (2 * a + d) % (2 * d) ≡ 2 * a + d = div-add-mod' (2 * a + d) (2 * d) in
     let l : (2 * a + d) % (2 * d) < 2 * d = mod-lt (2 * a + d) (omega arith) in
@@ -76,13 +76,13 @@ apart-neg a b = simp zz (omega arith)
 
 pub round-near : (x : ℤ) (d : ℕ) → 0 < d → 2 * natAbs (x -ℤ pos d *ℤ roundDiv x d) ≤ d
 unfolding roundDiv
-round-near (pos a) d h = rw (abs-difference a (d * ((2 * a + d) / (2 * d)))) (omega (arith, near a d h))
+round-near (pos a) d h = rw (abs-difference a (d * ((2 * a + d) / (2 * d)))) (omega (arith, near-half a d h))
 round-near (negsuc a) d h =
-    rw (*-neg (pos d) (pos ((2 * suc a + d) / (2 * d))), apart-neg (suc a) (d * ((2 * suc a + d) / (2 * d)))) (omega (arith, near (suc a) d h))
+    rw (*-neg (pos d) (pos ((2 * suc a + d) / (2 * d))), apart-neg (suc a) (d * ((2 * suc a + d) / (2 * d)))) (omega (arith, near-half (suc a) d h))
 
 pub round-half : (x : ℤ) (d : ℕ) → 0 < d → 2 * natAbs (x -ℤ pos d *ℤ roundDiv x d) ≡ d → natAbs x < d * natAbs (roundDiv x d)
 unfolding roundDiv
-round-half (pos a) d h e = omega (arith, near a d h, abs-difference a (d * ((2 * a + d) / (2 * d))))
+round-half (pos a) d h e = omega (arith, near-half a d h, abs-difference a (d * ((2 * a + d) / (2 * d))))
 round-half (negsuc a) d h e =
     rw (abs-neg (pos ((2 * suc a + d) / (2 * d))))
-    (omega (arith, near (suc a) d h, apart-neg (suc a) (d * ((2 * suc a + d) / (2 * d))), rw (*-neg (pos d) (pos ((2 * suc a + d) / (2 * d)))) at e))
+    (omega (arith, near-half (suc a) d h, apart-neg (suc a) (d * ((2 * suc a + d) / (2 * d))), rw (*-neg (pos d) (pos ((2 * suc a + d) / (2 * d)))) at e))

@@ -24,21 +24,21 @@ use Rattle.doubles.proofs.Steps.{guess-whole}
 use Rattle.interval.specs.Ends.{LowEnd, HighEnd}
 use Rattle.interval.specs.Interval.{unitsOf, intervalOf, Outward, Between, WithinLimit, Steps, Returned}
 use Rattle.interval.specs.declared.Interval.{Interval}
-use Rattle.interval.proofs.Ends.{room, low-end, high-end}
+use Rattle.interval.proofs.Ends.{endRoom, low-end, high-end}
 use Rattle.integer.proofs.Order.{le-trans, times, low-side, high-side}
 use Rattle.interval.proofs.Unique.{same-whole, ends-meet}
-use Rattle.interval.proofs.Values.{units-double, units-value, fine}
+use Rattle.interval.proofs.Values.{units-double, units-value, fine-size}
 
 -- z steps in units are few enough for a double
-small : (s : ℕ) (z : ℤ) → natAbs z < 2 ^ 61 → natAbs (unitsOf s z) < room
-small s z h =
+small-units : (s : ℕ) (z : ℤ) → natAbs z < 2 ^ 61 → natAbs (unitsOf s z) < endRoom
+small-units s z h =
     NatL.lt-of-le-of-lt (NatL.le-of-eq (abs-* (pos (2 ^ (1074 - s))) z ∙ NatL.mul-comm (2 ^ (1074 - s)) (natAbs z)))
     (NatL.lt-of-lt-of-le (shl-lt 61 (1074 - s) h) (pow-mono {i = 61 + (1074 - s)} {j = 2097} (omega arith)))
 
 pub outward : (s : ℕ) (x : ℤ) (e : ℕ) → natAbs x ≤ 2 ^ 36 → e ≤ 2 ^ 60 → Outward s x e (intervalOf s x e)
 outward s x e hx he = record {
-  low = low-end (unitsOf s (x -ℤ pos e)) (small s (x -ℤ pos e) (omega (arith, abs-sub x (pos e))));
-  high = high-end (unitsOf s (x +ℤ pos e)) (small s (x +ℤ pos e) (omega (arith, abs-+ x (pos e))));
+  low = low-end (unitsOf s (x -ℤ pos e)) (small-units s (x -ℤ pos e) (omega (arith, abs-sub x (pos e))));
+  high = high-end (unitsOf s (x +ℤ pos e)) (small-units s (x +ℤ pos e) (omega (arith, abs-+ x (pos e))));
 }
 
 -- a unit is 2 ^ -1074
@@ -90,7 +90,7 @@ module _ (s : ℕ) (x : ℤ) where
       let g = signs x in
       let n = natAbs x in
       let b : n ≤ 2 ^ 53 = omega arith in
-      let f = fine n (1074 - s) l (omega arith) in
+      let f = fine-size n (1074 - s) l (omega arith) in
       let y = units binary64 (g .0) n (1074 - s) in
       (y, units-double (g .0) n (1074 - s) b f, value-whole y (g .0) (n * 2 ^ (1074 - s)) (units-value (g .0) n (1074 - s) b f) ∙ sym (g .1))
     where

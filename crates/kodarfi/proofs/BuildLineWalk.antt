@@ -4,7 +4,7 @@
 --   Open, All, Fin — the contracts of `open`, `gather` and `finish_told`;  to-open, to-all, to-fin — what they are passed;  asked-.., said-.. — what they ask and say
 --   is-whole, is-sound — what was gathered is that of the whole list, and is sound;  lined — so what was said in the end is the exported contract
 --   passed, vals — what the exported call has, and its machine values;  Exits — what is asked of its end
---   following — the code after the first statement;  At — what is had after the first statement;  rest — the walk from there
+--   following-line — the code after the first statement;  At — what is had after the first statement;  rest — the walk from there
 use mathlib.Core.Path.{_≡_, refl, sym, ap, subst, _∙_}
 use Prim.Native.Nat.{ℕ, _<_, _^_}
 use mathlib.Core.List.{List, [], _∷_}
@@ -44,7 +44,7 @@ use denote.Triple.Walked.{says}
 use Rattle.observation.specs.declared.Observation.{Observation}
 use Rattle.gathering.specs.declared.Gathered.{Gathered}
 use Rattle.gathering.specs.declared.Progress.{Progress}
-use Rattle.gathering.specs.Gathered.{together, gathered, few, opening, noLines, ReadyWhenDone}
+use Rattle.gathering.specs.Gathered.{together, gathered, few, openingProgress, noLines, ReadyWhenDone}
 use Rattle.gathering.proofs.Gathered as S
 use Rattle.gathering.proofs.Gathered.Laws as S′
 use Rattle.gathering.proofs.Progress as P
@@ -71,15 +71,15 @@ abbrev pub pt : RefT ℕ → Val
 pt y = vptr (y .ptr .0) (y .ptr .1)
 
 -- the machine types of the locals
-abbrev long : Ty
-long = tyInt w64
+abbrev long-word : Ty
+long-word = tyInt w64
 
 abbrev line-ref : Ty
 line-ref = tyRef (named 3) mut (tyInt w64)
 
 -- the code after the first statement
-abbrev following : Body
-following =
+abbrev following-line : Body
+following-line =
     seq (assign (place 9 []) (rvOpd (copy (place 2 (field 1 ∷ [])))))
     (seq (call #gathering·open (copy (place 1 []) ∷ copy (place 9 []) ∷ []) (place 7 []))
     (seq (call #builder·gather (copy (place 2 []) ∷ copy (place 7 []) ∷ []) (place 8 []))
@@ -136,8 +136,8 @@ module _ {M : Type 1} (𝓤 : URA M) (H : Heap 𝓤) (A : Atoms 𝓤) (W : Given
   asked-open : ent 𝓤 (onEntry 𝓤 H A open-fn.signature tt tt (n, (k, tt)) (vint w32 n ∷ [], (vint w64 k ∷ [], tt))) (Open 𝓤 H A mem run .pre to-open)
   asked-open = qed W (‵ ftrue ∷ ‵ (owns (u32 ∷ usize ∷ []) (n, (k, tt)) (vint w32 n ∷ [], (vint w64 k ∷ [], tt))) ∷ []) ∵ join ! $ frame ! $ done !
 
-  said-open : (s : Progress) → ent 𝓤 (ensured 𝓤 H A open-fn.ended (open-fn.clauses 𝓤 H A mem run) tt (n, (k, tt)) tt s) (fact 𝓤 (s ≡ opening n k))
-  said-open s = exE 𝓤 _ (λ ws. snd∗ 𝓤 (sem 𝓤 H A (lasts open-fn.ended tt (n, (k, tt)) ws)) (fact 𝓤 (s ≡ opening n k)))
+  said-open : (s : Progress) → ent 𝓤 (ensured 𝓤 H A open-fn.ended (open-fn.clauses 𝓤 H A mem run) tt (n, (k, tt)) tt s) (fact 𝓤 (s ≡ openingProgress n k))
+  said-open s = exE 𝓤 _ (λ ws. snd∗ 𝓤 (sem 𝓤 H A (lasts open-fn.ended tt (n, (k, tt)) ws)) (fact 𝓤 (s ≡ openingProgress n k)))
 
   abbrev to-all : Progress → Val → All 𝓤 H A mem run .Ghost
   to-all s v = (((κ, tt), (q, tt), tt, (x, (s, tt)), (sl x ∷ [], (v ∷ [], tt))), tt)
@@ -149,7 +149,7 @@ module _ {M : Type 1} (𝓤 : URA M) (H : Heap 𝓤) (A : Atoms 𝓤) (W : Given
   said-all s g = exE 𝓤 _ (λ ws. snd∗ 𝓤 (sem 𝓤 H A (lasts all-fn.ended (κ, tt) (x, (s, tt)) ws)) (fact 𝓤 (g ≡ gathered (together s noLines) (x .now) (few k))))
 
   -- what was gathered
-  is-whole : (s : Progress) (g : Gathered) → s ≡ opening n k → g ≡ gathered (together s noLines) (x .now) (few k) → g ≡ gatheredOf n (x .now)
+  is-whole : (s : Progress) (g : Gathered) → s ≡ openingProgress n k → g ≡ gathered (together s noLines) (x .now) (few k) → g ≡ gatheredOf n (x .now)
   is-whole s g p e = e ∙ ap (λ (z : Progress). gathered (together z noLines) (x .now) (few k)) p
 
   is-sound : (g : Gathered) → g ≡ gatheredOf n (x .now) → ReadyWhenDone g
@@ -177,17 +177,17 @@ module _ {M : Type 1} (𝓤 : URA M) (H : Heap 𝓤) (A : Atoms 𝓤) (W : Given
   module _ (C : Calls 𝓤 H) (Λ : Loops 𝓤 H) (fm : FmC 𝓤 H (W .laws) C) (known-open : Triple 𝓤 (C #gathering·open) (Open 𝓤 H A mem run)) (known-all : Triple 𝓤 (C #builder·gather) (All 𝓤 H A mem run)) (known-fin : Triple 𝓤 (C #build-reply·finish-told) (Fin 𝓤 H A mem run))
       (rx : Room R (length (x .now))) (rm : Room i64 (length (m .now))) (rr : Room i64 (length (r .now))) (Post : Val → SProp 𝓤) (exits : Exits Post) (l₀ l₁ l₂ l₃ l₄ l₅ l₆ l₇ l₈ l₉ l₁₀ l₁₁ l₁₂ l₁₃ l₁₄ : ℕ) where
     abbrev pub En : Env 𝓤 H
-    En = (word, l₀) ∷ (word, l₁) ∷ (lines, l₂) ∷ (list 1, l₃) ∷ (list 2, l₄) ∷ (line-ref, l₅) ∷ (L′.mir, l₆) ∷ (P′.mir, l₇) ∷ (S′.mir, l₈) ∷ (long, l₉) ∷ (again, l₁₀) ∷ (sliceTy again, l₁₁) ∷ (again, l₁₂) ∷ (sliceTy again, l₁₃) ∷ (again, l₁₄) ∷ []
+    En = (word, l₀) ∷ (word, l₁) ∷ (lines, l₂) ∷ (list 1, l₃) ∷ (list 2, l₄) ∷ (line-ref, l₅) ∷ (L′.mir, l₆) ∷ (P′.mir, l₇) ∷ (S′.mir, l₈) ∷ (long-word, l₉) ∷ (again, l₁₀) ∷ (sliceTy again, l₁₁) ∷ (again, l₁₂) ∷ (sliceTy again, l₁₃) ∷ (again, l₁₄) ∷ []
 
     abbrev pub At : List (Item 𝓤)
     At = ‵ (froom again l₁₄ 0) ∷ ‵ (fdies again l₁₄) ∷ ‵ (froom (sliceTy again) l₁₃ 0) ∷ ‵ (fdies (sliceTy again) l₁₃) ∷ ‵ (froom again l₁₂ 0) ∷ ‵ (fdies again l₁₂) ∷ ‵ (froom (sliceTy again) l₁₁ 0) ∷ ‵ (fdies (sliceTy again) l₁₁) ∷ ‵ (froom again l₁₀ 0) ∷ ‵ (fdies again l₁₀)
-        ∷ ‵ (froom long l₉ 0) ∷ ‵ (fdies long l₉) ∷ ‵ (froom S′.mir l₈ 0) ∷ ‵ (fdies S′.mir l₈) ∷ ‵ (froom P′.mir l₇ 0) ∷ ‵ (fdies P′.mir l₇) ∷ ‵ (fat fullShare L′.mir l₆ 0 (laid lay)) ∷ ‵ (fdies L′.mir l₆)
+        ∷ ‵ (froom long-word l₉ 0) ∷ ‵ (fdies long-word l₉) ∷ ‵ (froom S′.mir l₈ 0) ∷ ‵ (fdies S′.mir l₈) ∷ ‵ (froom P′.mir l₇ 0) ∷ ‵ (fdies P′.mir l₇) ∷ ‵ (fat fullShare L′.mir l₆ 0 (laid lay)) ∷ ‵ (fdies L′.mir l₆)
         ∷ ‵ (fat fullShare line-ref l₅ 0 (pt y)) ∷ ‵ (fdies line-ref l₅) ∷ ‵ (fat fullShare (list 2) l₄ 0 (sl r)) ∷ ‵ (fdies (list 2) l₄) ∷ ‵ (fat fullShare (list 1) l₃ 0 (sl m)) ∷ ‵ (fdies (list 1) l₃)
         ∷ ‵ (fat fullShare lines l₂ 0 (sl x)) ∷ ‵ (fdies lines l₂) ∷ ‵ (fat fullShare word l₁ 0 (vint w32 n)) ∷ ‵ (fdies word l₁) ∷ ‵ (froom word l₀ 0) ∷ ‵ (fdies word l₀)
         ∷ (‵ (flft κ q) ⊛ ‵ (flft κ′ q′) ⊛ ‵ (flft κ″ q″) ⊛ ‵ (flft κ‴ q‴) ⊛ ‵ ftrue)
         ∷ ‵ (owns (u32 ∷ ShrSlice (named 0) κ R ∷ MutSlice (named 1) κ′ i64 ∷ MutSlice (named 2) κ″ i64 ∷ MutRef (named 3) κ‴ u64 ∷ []) passed vals) ∷ []
 
-    pub rest : Sq W At (runs C Λ En following (atRet En Post))
+    pub rest : Sq W At (runs C Λ En following-line (atRet En Post))
     rest =
         -- [_14; …; _0; …; the tokens; what is owned]
         assigns ! (of-opd ! (load ! (from ! (fld ! refl (stop !))) (look-in ! 24 (sub ! 1 refl (whole-part !))))) (from ! (stop !)) (init ! 10 refl (tt, record { fits = rx .0 })) $
@@ -195,7 +195,7 @@ module _ {M : Type 1} (𝓤 : URA M) (H : Heap 𝓤) (A : Atoms 𝓤) (W : Given
         use2 W (raw (Open 𝓤 H A mem run .pre to-open)) asked-open $
         calls-at ! fm (Open 𝓤 H A mem run) known-open to-open (and-then ! (load ! (from ! (stop !)) (look ! 27 refl)) (and-then ! (load ! (from ! (stop !)) (look ! 11 refl)) (no-more !))) (λ v.
         use1 W (later (some (λ (s : Progress). (‵ ftrue ⊛ ‵ (P.the-row .own s (v ∷ []))) ⊛ raw (ensured 𝓤 H A open-fn.ended (open-fn.clauses 𝓤 H A mem run) tt (n, (k, tt)) tt s)))) (id⊢ 𝓤 _) $ await ! tt $ pick ! (λ s.
-        split ! $ move ! (1 ∷ []) $ use1 W (raw (fact 𝓤 (s ≡ opening n k))) (said-open s) $ heard ! (s ≡ opening n k) (λ p. split ! $ move ! (1 ∷ []) $
+        split ! $ move ! (1 ∷ []) $ use1 W (raw (fact 𝓤 (s ≡ openingProgress n k))) (said-open s) $ heard ! (s ≡ openingProgress n k) (λ p. split ! $ move ! (1 ∷ []) $
         peeks ! P.the-row (Is P.the-row) (shows 𝓤 H A P.the-row) s (v ∷ []) (λ is₀. land ! (from ! (stop !)) (init ! 16 refl (typed-far s v is₀)) $ move ! (1 ∷ []) $ drop ! $
         -- [what was opened; _14; …; the tokens; what is owned]
         move ! (32 ∷ []) $ fsplit ! $ drop ! $ fsplit ! $ move ! (1 ∷ []) $ fsplit ! $ move ! (1 ∷ []) $ fsplit ! $ move ! (1 ∷ []) $ fsplit ! $ move ! (1 ∷ []) $ drop ! $

@@ -3,7 +3,7 @@ ghost use mathlib.Core.Path.{_≡_};
 ghost use Rattle.checked.specs.Input.{input};
 ghost use Rattle.lent_lists.specs.Lists.{lists};
 ghost use Rattle.loader.specs.Taken.{fresh};
-ghost use Rattle.loader.specs.Numbers.{numbersOf, loaderOf};
+ghost use Rattle.loader.specs.Numbers.{loaderNumbers, loaderOf};
 ghost use Rattle.calls.specs.Loader.{LoaderTakeExported, LoaderCheckExported};
 use loader_numbers::check;
 use loader_numbers::renew;
@@ -14,7 +14,7 @@ use reply::tell;
 // A loader that was given nothing: `loader_numbers::renew`.
 #[no_mangle]
 pub extern "C" fn kodarfi_loader_new(loader: &mut [u32; 9])
-    ensures { λ _. ⌜ now (loader .exit) ≡ numbersOf fresh ⌝ }
+    ensures { λ _. ⌜ now (loader .exit) ≡ loaderNumbers fresh ⌝ }
 {
     renew(loader);
 }

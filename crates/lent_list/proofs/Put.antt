@@ -15,7 +15,7 @@ use Rattle.form_values.specs.Item.{partIndex}
 use Rattle.form_values.specs.declared.Item.{Item}
 use Rattle.form_values.specs.declared.Item.the-variants.{Problem, Scale, Of, End}
 use Rattle.form_values.specs.declared.Part.{Part}
-use Rattle.form_values.proofs.Between.{between}
+use Rattle.form_values.proofs.Between.{from-to}
 use Rattle.lent_list.specs.declared.Span.{Span}
 use Rattle.lent_list.specs.Pasted.{Narrow, Room, nowhere, spanOf}
 
@@ -39,17 +39,17 @@ module _ (w : ℕ) (p : Part) {q : Part} {x : Item} {i : ℤ} (e : x ≡ Of q i)
   span-other s = rw (e, ne-eqb _ _ s)
 
 -- at most 32 places, which end inside the list
-pub record Inside (s : Span) (k : ℕ) : Type 0 where
+pub record InSpan (s : Span) (k : ℕ) : Type 0 where
   pub few : s .count ≤ 32
   pub end : s .at + s .count ≤ k
 
-by-part : (w k : ℕ) (i : ℤ) (b : Bool) → (w ≤ 32) × (32 * w ≤ k) × (leZ (pos 1) i && leZ i (pos 32) ≡ true) → Inside (cond b (record { at = (natAbs i - 1) * w; count = w }) nowhere) k
+by-part : (w k : ℕ) (i : ℤ) (b : Bool) → (w ≤ 32) × (32 * w ≤ k) × (leZ (pos 1) i && leZ i (pos 32) ≡ true) → InSpan (cond b (record { at = (natAbs i - 1) * w; count = w }) nowhere) k
 by-part w k i true h =
-    let b = between 1 32 i (h .2) in
+    let b = from-to 1 32 i (h .2) in
     record { few = h .0; end = omega (arith, stride (natAbs i) w (b .from) (b .to), h .1) }
 by-part w k i false h = record { few = omega arith; end = omega arith }
 
-pub span-fits : (p : Part) (w k : ℕ) (x : Item) → Room w k x → Inside (spanOf p x w) k
+pub span-fits : (p : Part) (w k : ℕ) (x : Item) → Room w k x → InSpan (spanOf p x w) k
 span-fits p w k (Problem n) h = record { few = omega arith; end = omega arith }
 span-fits p w k (Scale s t) h = record { few = omega arith; end = omega arith }
 span-fits p w k (Of q i) h = by-part w k i (eqb (partIndex p) (partIndex q)) h

@@ -31,7 +31,7 @@ use Rattle.lent_lists.specs.Put.{putItem, put, putAll}
 use Rattle.lent_list.specs.Pasted.{Narrow, Room, nowhere, spanOf, pastedAt}
 use Rattle.lent_lists.specs.Pasted.{writtenTo, pastedAll}
 use Rattle.lent_lists.proofs.Lists.{lists-≡, rooms}
-use Rattle.lent_list.proofs.Put.{Inside, span-fits}
+use Rattle.lent_list.proofs.Put.{InSpan, span-fits}
 use Rattle.lent_lists.proofs.Slot.{slotOf, of-part, of-right, other-part}
 
 -- ---- the numbers of a form
@@ -65,7 +65,7 @@ module _ (s : Slot) (n : ℕ) (us vs l : List ℤ) (many : length us ≡ 32) whe
       k : ℕ
       k = (natAbs i - 1) * width s n
 
-      go : (b : Bool) → eqb (partIndex (partOf s)) (partIndex q) ≡ b → Inside (cond b (record { at = k; count = width s n }) nowhere) (length l)
+      go : (b : Bool) → eqb (partIndex (partOf s)) (partIndex q) ≡ b → InSpan (cond b (record { at = k; count = width s n }) nowhere) (length l)
           → pastedAt (cond b (record { at = k; count = width s n }) nowhere) us l ≡ cond b (sets l k vs) l
       go true t h =
           pasted l us k (width s n) (h .end) (omega (arith, h .few))
@@ -81,8 +81,8 @@ written-same us Guess o = refl
 written-same us Inverse o = refl
 written-same us Weight o = refl
 
-wide : (s : Slot) (n : ℕ) {p : Part} (us vs : List ℤ) → (p ≡ part.Right → ⊥) → take (width (slotOf p) n) us ≡ vs → partOf s ≡ p → take (width s n) (writtenTo s us) ≡ vs
-wide s n us vs o h e = rw (written-same us s (λ x. o (sym e ∙ x))) (ap (λ (t : Slot). take (width t n) us) (of-part s e o) ∙ h)
+wide-part : (s : Slot) (n : ℕ) {p : Part} (us vs : List ℤ) → (p ≡ part.Right → ⊥) → take (width (slotOf p) n) us ≡ vs → partOf s ≡ p → take (width s n) (writtenTo s us) ≡ vs
+wide-part s n us vs o h e = rw (written-same us s (λ x. o (sym e ∙ x))) (ap (λ (t : Slot). take (width t n) us) (of-part s e o) ∙ h)
 
 -- a right side and its tolerance
 right-exact : (n : ℕ) (b d : ℤ) → inRange kind.Right b ≡ true → inRange kind.Tolerance d ≡ true
@@ -106,7 +106,7 @@ unfolding numbersOf cap
 put-exact s n (problem m) l few many r o c = sym (paste-zero l 0 (writtenTo s (noNumbers .values)))
 put-exact s n (scale u v) l few many r o c = sym (paste-zero l 0 (writtenTo s (noNumbers .values)))
 put-exact s n (row i a others) l few many r o c =
-    put-by s n (writtenTo s (firstValues 32 (a ∷ others))) (a ∷ others) l many part.Row i r (wide s n (firstValues 32 (a ∷ others)) (a ∷ others) (λ e. other-part e tt) (list-exact kind.Matrix n (a ∷ others) (few .0) o c))
+    put-by s n (writtenTo s (firstValues 32 (a ∷ others))) (a ∷ others) l many part.Row i r (wide-part s n (firstValues 32 (a ∷ others)) (a ∷ others) (λ e. other-part e tt) (list-exact kind.Matrix n (a ∷ others) (few .0) o c))
 put-exact s n (right i b) l few many r o c =
     put-by s n (writtenTo s (set (set (replicate 32 (pos 0)) 0 (cap b)) 1 (pos 0))) (rightValue s b (pos 0) ∷ []) l many part.Right i r (right-exact n b (pos 0) (not-false _ o) zero-tolerance s)
 put-exact s n (rightWithin i b d) l few many r o c =
@@ -114,11 +114,11 @@ put-exact s n (rightWithin i b d) l few many r o c =
     put-by s n (writtenTo s (set (set (replicate 32 (pos 0)) 0 (cap b)) 1 (cap d))) (rightValue s b d ∷ []) l many part.Right i r
     (right-exact n b d (both-left (inRange kind.Right b) (inRange kind.Tolerance d) h) (both-right (inRange kind.Right b) (inRange kind.Tolerance d) h) s)
 put-exact s n (guess i x) l few many r o c =
-    put-by s n (writtenTo s (set (replicate 32 (pos 0)) 0 (cap x))) (x ∷ []) l many part.Guess i r (wide s n (set (replicate 32 (pos 0)) 0 (cap x)) (x ∷ []) (λ e. other-part e tt) (one-exact kind.Guess x o))
+    put-by s n (writtenTo s (set (replicate 32 (pos 0)) 0 (cap x))) (x ∷ []) l many part.Guess i r (wide-part s n (set (replicate 32 (pos 0)) 0 (cap x)) (x ∷ []) (λ e. other-part e tt) (one-exact kind.Guess x o))
 put-exact s n (inverse i g others) l few many r o c =
-    put-by s n (writtenTo s (firstValues 32 (g ∷ others))) (g ∷ others) l many part.Inverse i r (wide s n (firstValues 32 (g ∷ others)) (g ∷ others) (λ e. other-part e tt) (list-exact kind.Inverse n (g ∷ others) (few .0) o c))
+    put-by s n (writtenTo s (firstValues 32 (g ∷ others))) (g ∷ others) l many part.Inverse i r (wide-part s n (firstValues 32 (g ∷ others)) (g ∷ others) (λ e. other-part e tt) (list-exact kind.Inverse n (g ∷ others) (few .0) o c))
 put-exact s n (weight i w) l few many r o c =
-    put-by s n (writtenTo s (set (replicate 32 (pos 0)) 0 (cap w))) (w ∷ []) l many part.Weight i r (wide s n (set (replicate 32 (pos 0)) 0 (cap w)) (w ∷ []) (λ e. other-part e tt) (one-exact kind.Weight w o))
+    put-by s n (writtenTo s (set (replicate 32 (pos 0)) 0 (cap w))) (w ∷ []) l many part.Weight i r (wide-part s n (set (replicate 32 (pos 0)) 0 (cap w)) (w ∷ []) (λ e. other-part e tt) (one-exact kind.Weight w o))
 put-exact s n end l few many r o c = sym (paste-zero l 0 (writtenTo s (noNumbers .values)))
 
 -- ---- all lists

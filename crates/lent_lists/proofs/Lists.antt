@@ -1,5 +1,5 @@
 -- Laws of the lent lists.
---   Long, long — lists that are not too short are long enough
+--   LongLists, long-lent — lists that are not too short are long enough
 --   rooms    — they have room for every item of a part
 --   lists-≡  — six equal lists;  nothing-pasted — an item of no part leaves them
 use mathlib.Core.Path.{_≡_, sym}
@@ -19,7 +19,7 @@ use Rattle.form_values.specs.declared.Item.{Item}
 use Rattle.form_values.specs.declared.Item.the-variants.{Problem, Scale, Of, End}
 use Rattle.lent_lists.specs.Lists.{Lists, lists, shortLists}
 
-pub record Long (l : Lists) : Type 0 where
+pub record LongLists (l : Lists) : Type 0 where
   pub matrix : 1024 ≤ length (l .matrix)
   pub right : 32 ≤ length (l .right)
   pub tolerance : 32 ≤ length (l .tolerance)
@@ -27,8 +27,8 @@ pub record Long (l : Lists) : Type 0 where
   pub inverse : 1024 ≤ length (l .inverse)
   pub weights : 32 ≤ length (l .weights)
 
-pub long : (l : Lists) → shortLists l ≡ false → Long l
-long l e =
+pub long-lent : (l : Lists) → shortLists l ≡ false → LongLists l
+long-lent l e =
     let s₂ = neither-right (shortMatrix (length (l .matrix))) _ e in
     let s₃ = neither-right (shortColumn (length (l .right))) _ s₂ in
     let s₄ = neither-right (shortColumn (length (l .tolerance))) _ s₃ in
@@ -49,7 +49,7 @@ pub rooms : (n : ℕ) (x : Item) (l : Lists) → shortLists l ≡ false → Narr
 rooms n (Problem m) l e h = record { matrix = h; right = h; tolerance = h; guess = h; inverse = h; weights = h; filled = h }
 rooms n (Scale s t) l e h = record { matrix = h; right = h; tolerance = h; guess = h; inverse = h; weights = h; filled = h }
 rooms n (Of p i) l e h =
-    let k = long l e in
+    let k = long-lent l e in
     record {
       matrix = (h .0, omega (arith, k .matrix, h .0), h .1);
       right = (omega arith, omega (arith, k .right), h .1);
@@ -59,7 +59,7 @@ rooms n (Of p i) l e h =
       weights = (omega arith, omega (arith, k .weights), h .1);
       filled = tt;
     }
-rooms n End l e h = record { matrix = h; right = omega arith; tolerance = omega arith; guess = omega arith; inverse = h; weights = omega arith; filled = (h, omega (arith, long l e .weights, h)) }
+rooms n End l e h = record { matrix = h; right = omega arith; tolerance = omega arith; guess = omega arith; inverse = h; weights = omega arith; filled = (h, omega (arith, long-lent l e .weights, h)) }
 
 -- an item of no part is written nowhere
 pub nothing-pasted : (vs : List ℤ) (l : Lists) → lists (pastedAt nowhere vs (l .matrix)) (pastedAt nowhere vs (l .right)) (pastedAt nowhere (secondOf vs) (l .tolerance)) (pastedAt nowhere vs (l .guess)) (pastedAt nowhere vs (l .inverse)) (pastedAt nowhere vs (l .weights)) ≡ l

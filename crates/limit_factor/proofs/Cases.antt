@@ -5,8 +5,8 @@ use Rattle.integer.specs.Finite.{sum, sumℕ, first}
 use Rattle.linear.specs.Matrix.{apply, product, identity}
 use Rattle.enclosure.specs.Reckoning.{defect, load, margin}
 use Rattle.limit_factor.specs.Peak.{peak}
-use Rattle.limit_factor.specs.Cases.{workedRows, allWorkedHold}
+use Rattle.limit_factor.specs.Cases.{factorCases, factorCasesHold}
 
-pub worked-hold : allWorkedHold workedRows ≡ true
+pub factor-cases-hold : factorCasesHold factorCases ≡ true
 unfolding sum sumℕ first apply product identity defect load margin peak
-worked-hold = refl
+factor-cases-hold = refl

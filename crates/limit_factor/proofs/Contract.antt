@@ -1,6 +1,6 @@
 -- The contract of a call for the factor, case by case.
---   LongInquiry, long-of — lists that are not too short are long enough
---   FitInquiry, fit-of — an inquiry that passes 8 and 3: n and t in their ranges, the numbers used in theirs
+--   LongInquiry, long-inquiry — lists that are not too short are long enough
+--   FitInquiry, fit-inquiry — an inquiry that passes 8 and 3: n and t in their ranges, the numbers used in theirs
 --   answer-short, answer-range, answer-low, answer-given — what is said
 --   factor-any, any-factor — a factor of the problem without a scale, right side, tolerance and guess is one with any, and the other way
 --   quality-short, quality-range, quality-low, quality-given — the contract where 8 is said, where 3 is, where 5 is, and where there is a factor
@@ -41,8 +41,8 @@ pub record LongInquiry (Q : Inquiry) : Type 0 where
   pub inverse : 1024 ≤ length (Q .inverse)
   pub weights : 32 ≤ length (Q .weights)
 
-pub long-of : (Q : Inquiry) → inquiryShort Q ≡ false → LongInquiry Q
-long-of Q h =
+pub long-inquiry : (Q : Inquiry) → inquiryShort Q ≡ false → LongInquiry Q
+long-inquiry Q h =
     let g = neither-right (shortMatrix (length (Q .matrix))) _ h in
     record {
       matrix = ltb-false _ 1024 (neither-left _ _ h);
@@ -58,9 +58,9 @@ pub record FitInquiry (Q : Inquiry) : Type 0 where
   pub inverse : MatrixList (Q .inverse) (Q .n)
   pub weights : ColumnList (Q .weights) (Q .n) 1024
 
-pub fit-of : (Q : Inquiry) → inquiryShort Q ≡ false → inquiryInRanges Q ≡ true → FitInquiry Q
-fit-of Q e f =
-    let long = long-of Q e in
+pub fit-inquiry : (Q : Inquiry) → inquiryShort Q ≡ false → inquiryInRanges Q ≡ true → FitInquiry Q
+fit-inquiry Q e f =
+    let long = long-inquiry Q e in
     let sizes : inquirySizes (Q .n) (Q .t) ≡ true = both-left _ _ f in
     let lists : inquiryLists (Q .n) (Q .matrix) (Q .inverse) (Q .weights) ≡ true = both-right (inquirySizes (Q .n) (Q .t)) _ f in
     let size = size-range (Q .n) (both-left _ _ sizes) in
@@ -136,7 +136,7 @@ module _ (Q : Inquiry) where
         let P = inquiryProblem Q in
         let z : Q .n ≤ firstMargin P = omega arith in
         let given = answer-given e f z in
-        let some = fit-of Q e f .some in
+        let some = fit-inquiry Q e f .some in
         let margins : Margins P = first-past (Q .n) (marginFails P) z in
         record {
           says = sym given;

@@ -30,8 +30,8 @@ pub record Leading (n : ℕ) (u v : ℕ → ℕ) (k : ℕ) : Type 0 where
   pub lowest : (j : ℕ) → j < k → u j * v k < u k * v j
 
 -- a / x is at most b / y, which is smaller than c / z
-carry : (a b c x y z : ℕ) → a * y ≤ b * x → b * z < c * y → 0 < x → a * z < c * x
-carry a b c x y z h k o =
+carry-strict : (a b c x y z : ℕ) → a * y ≤ b * x → b * z < c * y → 0 < x → a * z < c * x
+carry-strict a b c x y z h k o =
     let l : a * z * y < c * x * y = omega (arith, mul-le-mul-right z h, mul-le-mul-right x k) in lt-of-mul-lt-mul-right y l
 
 module _ (n : ℕ) (u v : ℕ → ℕ) where
@@ -45,7 +45,7 @@ module _ (n : ℕ) (u v : ℕ → ℕ) where
   pub leading-moves : (k : ℕ) → ((i : ℕ) → i < n → 0 < v i) → Leading n u v k → u k * v n < u n * v k → Leading (n + 1) u v n
   leading-moves k o s h = record {
     steepest = steepest-moves u v n k (o k (s .steepest .below)) (s .steepest) (omega arith);
-    lowest = λ j l. carry (u j) (u k) (u n) (v j) (v k) (v n) (s .steepest .most j l) h (o j l);
+    lowest = λ j l. carry-strict (u j) (u k) (u n) (v j) (v k) (v n) (s .steepest .most j l) h (o j l);
   }
 
   -- ---- the peak

@@ -32,7 +32,7 @@ use Rattle.limit_factor.specs.Inquiry.{Inquiry, inquiry, inquiryProblem,
 use Rattle.limit_factor.specs.Answer.{qualityAnswer}
 use Rattle.limit_factor.specs.Stated.{UsableInquiry, QualityStated, is-8, is-3, is-5, is-0}
 use Rattle.limit_factor.proofs.Peak.{steepest-row}
-use Rattle.limit_factor.proofs.Contract.{fit-of, answer-short, answer-range, answer-low, answer-given}
+use Rattle.limit_factor.proofs.Contract.{fit-inquiry, answer-short, answer-range, answer-low, answer-given}
 
 -- ---- what was said tells which case it was
 module _ (Q : Inquiry) where
@@ -82,7 +82,7 @@ module _ (Q : Inquiry) where
       let P = inquiryProblem Q in
       let u = given-usable z in
       let h = given-margins z in
-      let f = fit-of Q (u .long) (u .inside) in
+      let f = fit-inquiry Q (u .long) (u .inside) in
       let k : ℕ = peakRow P in
       let l = steepest-row P (f .some) h .below in
       let full : 2 ^ Q .t * natAbs (at (Q .weights) k) ≤ 2 ^ 20 * 1024 =

@@ -20,13 +20,13 @@ use Rattle.limit_factor.specs.Peak.{spread, peakRow, numerator, denomina
 use Rattle.limit_factor.specs.Inquiry.{Inquiry, inquiry, inquiryProblem, inquiryShort, inquiryInRanges}
 use Rattle.limit_factor.specs.Answer.{saidQuality, numeratorOf, denominatorOf, qualityAnswer, numeratorAfter, denominatorAfter, QualityAs}
 use Rattle.limit_factor.specs.Stated.{AgreeingInquiries}
-use Rattle.limit_factor.proofs.Contract.{fit-of}
+use Rattle.limit_factor.proofs.Contract.{fit-inquiry}
 use Rattle.limit_factor.proofs.Promises.{given-usable, given-margins}
 use Rattle.limit_factor.proofs.Peak.{peak-ext, steepest-row}
 
-kept : (w : List ℕ) (x y : ℕ) → (w ≡ [] → x ≡ y) → ifAccepted w x 0 ≡ ifAccepted w y 0
-kept [] x y h = h refl
-kept (k ∷ ks) x y h = refl
+accepted-alike : (w : List ℕ) (x y : ℕ) → (w ≡ [] → x ≡ y) → ifAccepted w x 0 ≡ ifAccepted w y 0
+accepted-alike [] x y h = h refl
+accepted-alike (k ∷ ks) x y h = refl
 
 -- ---- inquiries of the same n and t
 module _ (Q : Inquiry) (matrix inverse weights : List ℤ) (long : inquiryShort Q ≡ false)
@@ -76,19 +76,19 @@ module _ (Q : Inquiry) (matrix inverse weights : List ℤ) (long : inquiryShort 
     answer-here = rw (long, long′, ranges-here, low-here)
 
     row-below : qualityAnswer Q ≡ [] → peakRow (inquiryProblem Q) < Q .n
-    row-below z = let u = given-usable Q z in steepest-row (inquiryProblem Q) (fit-of Q (u .long) (u .inside) .some) (given-margins Q z) .below
+    row-below z = let u = given-usable Q z in steepest-row (inquiryProblem Q) (fit-inquiry Q (u .long) (u .inside) .some) (given-margins Q z) .below
 
     numerator-here : numeratorAfter Q ≡ numeratorAfter R
     unfolding numeratorAfter
     numerator-here =
-        kept (qualityAnswer Q) (numerator (inquiryProblem Q)) (numerator (inquiryProblem R))
+        accepted-alike (qualityAnswer Q) (numerator (inquiryProblem Q)) (numerator (inquiryProblem R))
         (λ z. spreads-here (peakRow (inquiryProblem Q)) (row-below z) ∙ ap (spread (inquiryProblem R)) row-here)
         ∙ ap (λ (w : List ℕ). ifAccepted w (numerator (inquiryProblem R)) 0) answer-here
 
     denominator-here : denominatorAfter Q ≡ denominatorAfter R
     unfolding denominatorAfter
     denominator-here =
-        kept (qualityAnswer Q) (denominator (inquiryProblem Q)) (denominator (inquiryProblem R))
+        accepted-alike (qualityAnswer Q) (denominator (inquiryProblem Q)) (denominator (inquiryProblem R))
         (λ z. ap natAbs (margins-here (peakRow (inquiryProblem Q)) (row-below z)) ∙ ap (λ (m : ℕ). natAbs (margin (inquiryProblem R) m)) row-here)
         ∙ ap (λ (w : List ℕ). ifAccepted w (denominator (inquiryProblem R)) 0) answer-here
 

@@ -19,7 +19,7 @@ use Rattle.lent_lists.specs.Lists.{Lists}
 use Rattle.form_values.specs.declared.Item.the-variants.{Of}
 use Rattle.form_values.specs.declared.Part.{Part}
 use Rattle.form_values.specs.declared.Part.the-variants.{Row, Right, Guess, Inverse, Weight}
-use Rattle.form_values.proofs.Between.{between}
+use Rattle.form_values.proofs.Between.{from-to}
 use Rattle.bit_set.specs.Places.{lacking}
 use Rattle.given_forms.specs.Progress.{setOf, given, missing, sized, scaled, ended, misplaced}
 use Rattle.given_forms.specs.declared.Stage.{Stage}
@@ -35,7 +35,7 @@ use Rattle.line_runs.specs.Acceptable.{linesMost, acceptable}
 use Rattle.line_runs.specs.Run.{State, fromNew, step}
 use Rattle.line_runs.specs.Accepts.{run, Accepts}
 use Rattle.line_runs.proofs.Marks.{ungiven-marked, ungiven-most, ungiven-is}
-use Rattle.line_runs.proofs.Sound.{Sound, fresh-sound, form-sound, line-sound}
+use Rattle.line_runs.proofs.Sound.{SoundLoader, fresh-sound, form-sound, line-sound}
 
 is-start : (s : Stage) → sized s ≡ false → s ≡ Start
 is-start Start e = refl
@@ -55,11 +55,11 @@ is-scaled Sized e f = clash false e refl
 is-scaled Scaled e f = refl
 is-scaled Ended e f = clash true refl f
 
-module _ (d : Loader) (h : Sound d) (going : ended (d .stage) ≡ false) where
+module _ (d : Loader) (h : SoundLoader d) (going : ended (d .stage) ≡ false) where
   part-falls : (p : Part) (i : ℤ) → not (scaled (d .stage)) ≡ false → misplaced (d .stage) (d .n) (Of p i) ≡ false → given (d .sets) p (natAbs i) ≡ false
       → acceptable d ≡ suc (acceptable (after d (Of p i)))
   part-falls p i e m g =
-      let b = between 1 (d .n) i (placed-of (d .stage) (d .n) (Of p i) m) in
+      let b = from-to 1 (d .n) i (placed-of (d .stage) (d .n) (Of p i) m) in
       rw (is-scaled (d .stage) (not-false _ e) going) (omega (arith, ungiven-marked (d .sets) (h .five) p (natAbs i) (d .n) (b .from) (b .to) g))
 
   form-falls : (f : Form) → Passed (formCase d f) → sized (d .stage) ≡ true → ended (after d (itemOf f) .stage) ≡ false → acceptable d ≡ suc (acceptable (after d (itemOf f)))
@@ -99,7 +99,7 @@ module _ (d : Loader) (h : Sound d) (going : ended (d .stage) ≡ false) where
   first-falls end p q = clash (sized (d .stage)) (late (d .stage) (p .early)) q
 
 -- ---- a line that is accepted
-module _ (d : Loader) (h : Sound d) (l : Lists) (line : List ℕ) (e : lineAnswer d l line ≡ []) where
+module _ (d : Loader) (h : SoundLoader d) (l : Lists) (line : List ℕ) (e : lineAnswer d l line ≡ []) where
   abbrev next : Loader
   next = loaderAfter d l line
 
@@ -124,7 +124,7 @@ module _ (d : Loader) (h : Sound d) (l : Lists) (line : List ℕ) (e : lineAnswe
       go false s false n = let a = accepted-form d l line e in rw (a .1 .loader) (first-falls d h (a .1 .going) (a .0) (a .1 .fine) s)
 
 -- every accepted line is one of those that could be
-lines-fall : (u : State) → Sound (u .loader) → (lines : List (List ℕ)) → Accepts u lines → length lines + acceptable (run u lines .loader) ≤ acceptable (u .loader)
+lines-fall : (u : State) → SoundLoader (u .loader) → (lines : List (List ℕ)) → Accepts u lines → length lines + acceptable (run u lines .loader) ≤ acceptable (u .loader)
 unfolding run
 lines-fall u h [] a = omega arith
 lines-fall u h (line ∷ lines) a =

@@ -28,7 +28,7 @@ use Rattle.integer.specs.Among.{Among}
 use Rattle.line_runs.specs.Holds.{HoldsItem, cell}
 use Rattle.line_runs.proofs.Sound.{fresh-sound}
 use Rattle.line_runs.proofs.Runs.{collected}
-use Rattle.line_runs.proofs.Sizes.{problem-line, scale-line}
+use Rattle.line_runs.proofs.Sizes.{problem-given, scale-given}
 use Rattle.line_runs.proofs.LeftOut.{not-given}
 use Rattle.line_runs.proofs.End.{is-scaled, from-line, left-out}
 
@@ -70,7 +70,7 @@ module _ (l l′ : Lists) (lines lines′ : List (List ℕ)) (a : Accepts (fromN
 
   same-size : one .loader .n ≡ two .loader .n
   same-size =
-      let r = problem-line (fromNew l) fresh-sound lines a refl (scaled-sized (one .loader .stage) (is-scaled l lines a e)) in
+      let r = problem-given (fromNew l) fresh-sound lines a refl (scaled-sized (one .loader .stage) (is-scaled l lines a e)) in
       let h = both-at (not-problem (r .0) (r .3)) (r .1) (r .3) in
       h .0 .size ∙ sym (h .1 .size)
 
@@ -86,7 +86,7 @@ module _ (l l′ : Lists) (lines lines′ : List (List ℕ)) (a : Accepts (fromN
 
   pub others-agree : OthersAgree one two
   others-agree =
-      let r = scale-line (fromNew l) fresh-sound lines a refl (is-scaled l lines a e) in
+      let r = scale-given (fromNew l) fresh-sound lines a refl (is-scaled l lines a e) in
       let h = both-at (not-scale (r .0) (r .4)) (r .1) (r .4) in
       record {
         size = same-size;

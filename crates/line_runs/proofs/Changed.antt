@@ -17,7 +17,7 @@ use Rattle.integer.proofs.Search.{clash}
 use Rattle.rules.specs.Order.{Test, number, verdict}
 use Rattle.rules.specs.Range.{inRange}
 use Rattle.rules.specs.declared.Kind.the-variants.{Size}
-use Rattle.rules.proofs.Tests.{None, skip, skipped, someOf, some-said, Moved, moved, same, other}
+use Rattle.rules.proofs.Tests.{None, skip-tests, skipped, someOf, some-said, Moved, moved, same, other}
 use Rattle.rules.proofs.Verdicts.{nothing-is-not}
 use Rattle.form.specs.Form.{Form, problem, scale, row, right, rightWithin, guess, inverse, weight, end}
 use Rattle.form.specs.Reading.{reading}
@@ -121,7 +121,7 @@ module _ (d : Loader) (l : Lists) (line : List ℕ) where
   by-tests n t s (some f) r =
       let m : misplaced (d .stage) (d .n) (itemOf f) ≡ false = rw r at (n .1 .1 .1 .1 .1 .0) in
       let b : answerBefore d l line ≡ ofValues d (outside f) (miscounted (d .n) f) =
-      skip first (drop 6 (orderBefore here)) n ∙ some-said values (drop 8 (orderBefore here)) s ∙ rw r in
+      skip-tests first (drop 6 (orderBefore here)) n ∙ some-said values (drop 8 (orderBefore here)) s ∙ rw r in
       changed f r m
       (rw b (form-becomes d f (rw r at t) (placed-of (d .stage) (d .n) (itemOf f) m) (rw r at s)))
       (said-12 here .1 (n, t))

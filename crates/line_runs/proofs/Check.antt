@@ -26,7 +26,7 @@ use Rattle.lent_lists.specs.Lists.{Lists, shortLists}
 use Rattle.lent_lists.specs.Put.{putItem, put}
 use Rattle.lent_list.specs.Filled.{closedWeights}
 use Rattle.lent_list.proofs.Filled.{length-filled}
-use Rattle.lent_lists.proofs.Lists.{Long, long}
+use Rattle.lent_lists.proofs.Lists.{LongLists, long-lent}
 use Rattle.given_forms.specs.Progress.{setOf, ended}
 use Rattle.checked.specs.Input.{problem, inRanges}
 use Rattle.checked.specs.Input as checker
@@ -91,7 +91,7 @@ reckons n m k i = go (ltb m n) (ltb k n) (ltb i (n * n))
 
 pub enough : (u : State) (E L : List ℕ) → shortLists (u .lists) ≡ false → 32 ≤ length E → 1024 ≤ length L → checker.short (inputOf u E L) ≡ false
 enough u E L s e l =
-    let h : Long (u .lists) = long (u .lists) s in
+    let h : LongLists (u .lists) = long-lent (u .lists) s in
     rw (le-ltb _ 1024 (h .matrix), le-ltb _ 32 (h .right), le-ltb _ 32 (h .tolerance), le-ltb _ 32 (h .guess), le-ltb _ 1024 (h .inverse), le-ltb _ 32 (h .weights), le-ltb _ 32 e, le-ltb _ 1024 l)
 
 pub inside : (u : State) (E L : List ℕ) → InRange u → inRanges (inputOf u E L) ≡ true

@@ -15,15 +15,15 @@ use Rattle.loader.specs.Answer.{lineAnswer}
 use Rattle.loader.proofs.Accepted.{accepted-form}
 use Rattle.line_runs.specs.Run.{State, step}
 use Rattle.line_runs.specs.Holds.{HoldsForm}
-use Rattle.line_runs.proofs.Sound.{Sound}
-use Rattle.line_runs.proofs.Collected.{next, holds-own}
+use Rattle.line_runs.proofs.Sound.{SoundLoader}
+use Rattle.line_runs.proofs.Collected.{nextState, holds-own}
 
-module _ (u : State) (sound : Sound (u .loader)) (line : List ℕ) (a : lineAnswer (u .loader) (u .lists) line ≡ []) where
-  taken : (f : Form) → reading line ≡ some f → HoldsForm f (next u f) × (step u line .lists ≡ next u f .lists)
+module _ (u : State) (sound : SoundLoader (u .loader)) (line : List ℕ) (a : lineAnswer (u .loader) (u .lists) line ≡ []) where
+  taken : (f : Form) → reading line ≡ some f → HoldsForm f (nextState u f) × (step u line .lists ≡ nextState u f .lists)
   taken f r =
       let x = accepted-form (u .loader) (u .lists) line a in
       let e : x .0 ≡ f = let o : some (x .0) ≡ some f = sym (x .1 .reads) ∙ r in cc in
-      subst (λ (g : Form). HoldsForm g (next u g) × (step u line .lists ≡ next u g .lists)) e (holds-own u sound (x .0) (x .1 .fine) (x .1 .long), x .1 .lists)
+      subst (λ (g : Form). HoldsForm g (nextState u g) × (step u line .lists ≡ nextState u g .lists)) e (holds-own u sound (x .0) (x .1 .fine) (x .1 .long), x .1 .lists)
 
   at-place : (i : ℤ) (l : Lists) {z : ℤ} → getD (l .tolerance) ((natAbs i - 1) * 1 + 0) (pos 0) ≡ z → step u line .lists ≡ l → getD (step u line .lists .tolerance) (natAbs i - 1) (pos 0) ≡ z
   at-place i l {z} h e =
@@ -33,9 +33,9 @@ module _ (u : State) (sound : Sound (u .loader)) (line : List ℕ) (a : lineAnsw
   pub right-clears : (i b : ℤ) → reading line ≡ some (right i b) → getD (step u line .lists .tolerance) (natAbs i - 1) (pos 0) ≡ pos 0
   right-clears i b r =
       let t = taken (right i b) r in
-      at-place i (next u (right i b) .lists) (t .0 .cells Tolerance refl 0 (omega arith)) (t .1)
+      at-place i (nextState u (right i b) .lists) (t .0 .cells Tolerance refl 0 (omega arith)) (t .1)
 
   pub within-writes : (i b d : ℤ) → reading line ≡ some (rightWithin i b d) → getD (step u line .lists .tolerance) (natAbs i - 1) (pos 0) ≡ d
   within-writes i b d r =
       let t = taken (rightWithin i b d) r in
-      at-place i (next u (rightWithin i b d) .lists) (t .0 .cells Tolerance refl 0 (omega arith)) (t .1)
+      at-place i (nextState u (rightWithin i b d) .lists) (t .0 .cells Tolerance refl 0 (omega arith)) (t .1)

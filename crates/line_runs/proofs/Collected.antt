@@ -1,5 +1,5 @@
 -- An accepted form: the state holds what it gives, and what was given before.
---   next u g     — the state after the form g
+--   nextState u g — the state after the form g
 --   holds-own    — a form that is accepted is held;  holds-kept — a form that is held stays so when another is accepted
 use mathlib.Core.Path.{_≡_, refl, sym, ap, subst, _∙_}
 use mathlib.Core.Bool.{true, false, not}
@@ -22,8 +22,8 @@ use Rattle.lent_lists.specs.Slot.{Slot, Matrix, Right, Tolerance, Guess, Invers
 use Rattle.lent_lists.specs.Lists.{Lists, shortLists}
 use Rattle.lent_lists.specs.ListOf.{listOf}
 use Rattle.lent_lists.specs.Put.{putAll, closed}
-use Rattle.lent_lists.proofs.Lists.{long}
-use Rattle.form_values.proofs.Between.{between}
+use Rattle.lent_lists.proofs.Lists.{long-lent}
+use Rattle.form_values.proofs.Between.{from-to}
 use Rattle.given_forms.specs.Progress.{setOf, given, sized, scaled, ended}
 use Rattle.given_forms.proofs.Progress.{scaled-sized, placed-of, size-of, late}
 use Rattle.loader.specs.Taken.{after, listsWith}
@@ -31,23 +31,23 @@ use Rattle.loader_order.proofs.Said.{Passed}
 use Rattle.loader.proofs.Exact.{formCase}
 use Rattle.line_runs.specs.Run.{State}
 use Rattle.line_runs.specs.Holds.{HoldsForm, HoldsItem, HoldsPart, kindFor}
-use Rattle.line_runs.proofs.Sound.{Sound}
+use Rattle.line_runs.proofs.Sound.{SoundLoader}
 use Rattle.line_runs.proofs.Marks.{given-own, given-else}
 use Rattle.line_runs.proofs.View.{View, view, a-problem, a-scale, a-part, an-end}
 use Rattle.line_runs.proofs.Cells.{cell-own, cell-else, cell-end}
 
-abbrev pub next : State → Form → State
-next u g = record { loader = after (u .loader) (itemOf g); lists = listsWith (u .loader) g (u .lists) }
+abbrev pub nextState : State → Form → State
+nextState u g = record { loader = after (u .loader) (itemOf g); lists = listsWith (u .loader) g (u .lists) }
 
-room : (l : Lists) (n : ℕ) → n ≤ 32 → shortLists l ≡ false → (s : Slot) → 32 * width s n ≤ length (listOf s l)
-room l n h e Matrix = omega (arith, long l e .matrix)
-room l n h e Right = omega (arith, long l e .right)
-room l n h e Tolerance = omega (arith, long l e .tolerance)
-room l n h e Guess = omega (arith, long l e .guess)
-room l n h e Inverse = omega (arith, long l e .inverse)
-room l n h e Weight = omega (arith, long l e .weights)
+slot-room : (l : Lists) (n : ℕ) → n ≤ 32 → shortLists l ≡ false → (s : Slot) → 32 * width s n ≤ length (listOf s l)
+slot-room l n h e Matrix = omega (arith, long-lent l e .matrix)
+slot-room l n h e Right = omega (arith, long-lent l e .right)
+slot-room l n h e Tolerance = omega (arith, long-lent l e .tolerance)
+slot-room l n h e Guess = omega (arith, long-lent l e .guess)
+slot-room l n h e Inverse = omega (arith, long-lent l e .inverse)
+slot-room l n h e Weight = omega (arith, long-lent l e .weights)
 
-module _ (u : State) (sound : Sound (u .loader)) (g : Form) (fine : Passed (formCase (u .loader) g)) where
+module _ (u : State) (sound : SoundLoader (u .loader)) (g : Form) (fine : Passed (formCase (u .loader) g)) where
   -- the state after g, g giving the item y
   abbrev values : Slot → List ℤ
   values s = valuesFor s g
@@ -70,26 +70,26 @@ module _ (u : State) (sound : Sound (u .loader)) (g : Form) (fine : Passed (form
         → HoldsItem (Of q i) values (by (Of q i))
     own-part q i e count inside =
         let a : not (scaled (u .loader .stage)) ≡ false = rw e at (fine .early) in
-        let b = between 1 (u .loader .n) i (placed-part e) in
+        let b = from-to 1 (u .loader .n) i (placed-part e) in
         record {
           stage = not-false _ a;
           place = placed-part e;
           mark = given-own (u .loader .sets) (sound .five) q (natAbs i);
           cells = λ s o j l.
-              cell-own (u .loader .n) g (u .lists) e count (b .from) s o j l (omega (arith, b .to, sized-part e .1)) (room (u .lists) (u .loader .n) (sized-part e .1) long-lists s);
+              cell-own (u .loader .n) g (u .lists) e count (b .from) s o j l (omega (arith, b .to, sized-part e .1)) (slot-room (u .lists) (u .loader .n) (sized-part e .1) long-lists s);
           inside = inside;
         }
 
-    own-at : {x : Item} → itemOf g ≡ x → HoldsItem x values (by x) → HoldsForm g (next u g)
+    own-at : {x : Item} → itemOf g ≡ x → HoldsItem x values (by x) → HoldsForm g (nextState u g)
     own-at e h = subst (λ (x : Item). HoldsItem x values (by x)) (sym e) h
 
-    own-view : View (u .loader .n) g → HoldsForm g (next u g)
+    own-view : View (u .loader .n) g → HoldsForm g (nextState u g)
     own-view (a-problem m e) = own-at e (record { stage = refl; size = refl })
     own-view (a-scale s t e) = own-at e (record { stage = refl; solution = refl; inverse = refl })
     own-view (a-part q i e count inside) = own-at e (own-part q i e count inside)
     own-view (an-end e) = own-at e refl
 
-    pub holds-own : HoldsForm g (next u g)
+    pub holds-own : HoldsForm g (nextState u g)
     holds-own = own-view (view (u .loader .n) g (fine .outside) (fine .miscounted))
 
   -- ---- a form that was held before
@@ -109,8 +109,8 @@ module _ (u : State) (sound : Sound (u .loader)) (g : Form) (fine : Passed (form
   part-kept : {p q : Part} {i k : ℤ} {vs : Slot → List ℤ} → itemOf g ≡ Of q k → ((s : Slot) → partOf s ≡ q → length (values s) ≡ width s (u .loader .n)) → HoldsPart p i vs u
       → HoldsPart p i vs (by (Of q k))
   part-kept {p} {q} {i} {k} {vs} e count h =
-      let b = between 1 (u .loader .n) i (h .place) in
-      let c = between 1 (u .loader .n) k (placed-part e) in
+      let b = from-to 1 (u .loader .n) i (h .place) in
+      let c = from-to 1 (u .loader .n) k (placed-part e) in
       record {
         stage = h .stage;
         place = h .place;
@@ -121,10 +121,10 @@ module _ (u : State) (sound : Sound (u .loader)) (g : Form) (fine : Passed (form
       }
 
   module _ (going : ended (u .loader .stage) ≡ false) where
-    kept-at : (x : Item) (vs : Slot → List ℤ) {y : Item} → itemOf g ≡ y → HoldsItem x vs (by y) → HoldsItem x vs (next u g)
+    kept-at : (x : Item) (vs : Slot → List ℤ) {y : Item} → itemOf g ≡ y → HoldsItem x vs (by y) → HoldsItem x vs (nextState u g)
     kept-at x vs e h = subst (λ (y : Item). HoldsItem x vs (by y)) (sym e) h
 
-    kept-view : (x : Item) (vs : Slot → List ℤ) → HoldsItem x vs u → View (u .loader .n) g → HoldsItem x vs (next u g)
+    kept-view : (x : Item) (vs : Slot → List ℤ) → HoldsItem x vs u → View (u .loader .n) g → HoldsItem x vs (nextState u g)
     kept-view (Problem n) vs h (a-problem m e) = not-problem e (h .stage)
     kept-view (Problem n) vs h (a-scale s t e) = kept-at (Problem n) vs e (record { stage = refl; size = h .size })
     kept-view (Problem n) vs h (a-part q k e count inside) = kept-at (Problem n) vs e (record { stage = h .stage; size = h .size })
@@ -143,12 +143,12 @@ module _ (u : State) (sound : Sound (u .loader)) (g : Form) (fine : Passed (form
           place = h .place;
           mark = h .mark;
           cells = λ s o j l.
-              cell-end (u .loader .n) g (u .lists) (setOf (u .loader .sets) part.Weight) e s (natAbs i) j (between 1 (u .loader .n) i (h .place) .from) l
+              cell-end (u .loader .n) g (u .lists) (setOf (u .loader .sets) part.Weight) e s (natAbs i) j (from-to 1 (u .loader .n) i (h .place) .from) l
               (λ q. subst (λ (r : Part). given (u .loader .sets) r (natAbs i) ≡ true) (sym o ∙ ap partOf q) (h .mark))
               ∙ h .cells s o j l;
           inside = h .inside;
         })
     kept-view End vs h v = clash (ended (u .loader .stage)) h going
 
-    pub holds-kept : (f : Form) → HoldsForm f u → HoldsForm f (next u g)
+    pub holds-kept : (f : Form) → HoldsForm f u → HoldsForm f (nextState u g)
     holds-kept f h = kept-view (itemOf f) (λ (s : Slot). valuesFor s f) h (view (u .loader .n) g (fine .outside) (fine .miscounted))

@@ -28,7 +28,7 @@ use Rattle.lent_lists.specs.ListOf.{listOf}
 use Rattle.form_values.proofs.Capped.{part-same}
 use Rattle.bit_set.specs.Places.{lacking}
 use Rattle.bit_set.proofs.Places.{lacking-none}
-use Rattle.given_forms.specs.Progress.{setOf, counted, totalOver, given, missing, scaled, ended}
+use Rattle.given_forms.specs.Progress.{setOf, countedParts, totalOver, given, missing, scaled, ended}
 use Rattle.given_forms.specs.declared.Stage.{Stage}
 use Rattle.given_forms.specs.declared.Stage.the-variants.{Start, Sized, Scaled, Ended}
 use Rattle.given_forms.proofs.Progress.{scaled-sized}
@@ -36,9 +36,9 @@ use Rattle.line_runs.specs.Run.{State, fromNew, step, forms}
 use Rattle.line_runs.specs.Accepts.{run, Accepts}
 use Rattle.line_runs.specs.Given.{absent, valueFrom, sizeFrom, scalesFrom}
 use Rattle.line_runs.specs.Holds.{HoldsItem, HoldsPart, InRange, kindFor, cell}
-use Rattle.line_runs.proofs.Sound.{Sound, fresh-sound, fresh-empty, line-sound}
+use Rattle.line_runs.proofs.Sound.{SoundLoader, fresh-sound, fresh-empty, line-sound}
 use Rattle.line_runs.proofs.Marks.{hits}
-use Rattle.line_runs.proofs.Runs.{collected, Found, found}
+use Rattle.line_runs.proofs.Runs.{collected, FoundForm, found}
 use Rattle.line_runs.proofs.LeftOut.{run-filled, not-given, value-absent}
 use Rattle.line_runs.proofs.Sizes.{HasScales, size-from, scales-from}
 
@@ -52,9 +52,9 @@ none-at p (q ∷ ps) f e h = go (eqb (partIndex p) (partIndex q)) refl h (none-a
     go true t l rest = subst (λ (r : Part). f r ≡ 0) (sym (part-same p q (eqb-true (partIndex p) (partIndex q) t))) (omega arith)
     go false t l rest = rest (omega arith)
 
-all-given : (n : ℕ) (z : List ℕ) → missing n z ≡ 0 → (p : Part) → 1 ≤ totalOver counted (hits p) → (k : ℕ) → 1 ≤ k → k ≤ n → given z p k ≡ true
+all-given : (n : ℕ) (z : List ℕ) → missing n z ≡ 0 → (p : Part) → 1 ≤ totalOver countedParts (hits p) → (k : ℕ) → 1 ≤ k → k ≤ n → given z p k ≡ true
 unfolding missing
-all-given n z e p c k l h = lacking-none (setOf z p) n (none-at p counted (λ (q : Part). lacking (setOf z q) n) e c) (k - 1) (omega arith)
+all-given n z e p c k l h = lacking-none (setOf z p) n (none-at p countedParts (λ (q : Part). lacking (setOf z q) n) e c) (k - 1) (omega arith)
 
 only-weight : (n : ℕ) (z : List ℕ) → missing n z ≡ 0 → (k : ℕ) → 1 ≤ k → k ≤ n → (s : Slot) → given z (partOf s) k ≡ false → s ≡ Weight
 only-weight n z e k l h Matrix g = clash (given z part.Row k) (all-given n z e part.Row (omega arith) k l h) g
@@ -64,7 +64,7 @@ only-weight n z e k l h Guess g = clash (given z part.Guess k) (all-given n z e 
 only-weight n z e k l h Inverse g = clash (given z part.Inverse k) (all-given n z e part.Inverse (omega arith) k l h) g
 only-weight n z e k l h Weight g = refl
 
-pub run-sound : (u : State) → Sound (u .loader) → (lines : List (List ℕ)) → Sound (run u lines .loader)
+pub run-sound : (u : State) → SoundLoader (u .loader) → (lines : List (List ℕ)) → SoundLoader (run u lines .loader)
 unfolding run
 run-sound u s [] = s
 run-sound u s (line ∷ lines) = run-sound (step u line) (line-sound (u .loader) (u .lists) line s) lines
@@ -86,14 +86,14 @@ module _ (l : Lists) (lines : List (List ℕ)) (a : Accepts (fromNew l) lines) (
   abbrev last : State
   last = run (fromNew l) lines
 
-  sound : Sound (last .loader)
+  sound : SoundLoader (last .loader)
   sound = run-sound (fromNew l) fresh-sound lines
 
   pub is-scaled : scaled (last .loader .stage) ≡ true
   is-scaled = ended-scaled (last .loader .stage) e
 
   -- the line that gave a number
-  pub from-line : (p : Part) (k : ℕ) → 1 ≤ k → given (last .loader .sets) p k ≡ true → Found p k (forms lines)
+  pub from-line : (p : Part) (k : ℕ) → 1 ≤ k → given (last .loader .sets) p k ≡ true → FoundForm p k (forms lines)
   from-line p k f h = found p k f (fromNew l) fresh-sound lines a (fresh-empty p k) h
 
   -- what no line gave: a weight, which is 1

@@ -1,8 +1,8 @@
 -- The first 65,536 bytes of a file decide what comes of its lines: at most 163 lines are accepted, each of at most 320 bytes and its line feed.
 --   length-cut, drop-take — the first line of a file's first N bytes, and what follows it
 --   long-line  — lines above 320 bytes are refused alike
---   Cut        — a file's first N bytes are the whole file, or both are refused alike, where N is large enough for the lines that may still be accepted
---   first-bytes — so it is with the first 65,536 bytes, from the start
+--   CutFile    — a file's first N bytes are the whole file, or both are refused alike, where N is large enough for the lines that may still be accepted
+--   file-first-bytes — so it is with the first 65,536 bytes, from the start
 use mathlib.Core.Path.{_≡_, refl, sym, ap, _∙_}
 use mathlib.Core.Bool.{Bool, true, false, cond}
 use mathlib.Core.List.{List, [], _∷_}
@@ -19,7 +19,7 @@ use Rattle.loader.specs.Answer.{lineAnswer}
 use Rattle.given_forms.specs.Progress.{ended}
 use Rattle.line_runs.specs.Acceptable.{lineMost, bytesMost, linesMost, acceptable}
 use Rattle.line_runs.specs.Run.{State, fromNew, step}
-use Rattle.line_runs.proofs.Sound.{Sound, fresh-sound, line-sound}
+use Rattle.line_runs.proofs.Sound.{SoundLoader, fresh-sound, line-sound}
 use Rattle.line_runs.proofs.Acceptable.{falls}
 use Rattle.line_runs.specs.Length.{lineLength}
 use Rattle.line_runs.specs.Lines.{linesOf}
@@ -62,13 +62,13 @@ long-refused d l = go (shortLists l) (ended (d .stage))
     go false false e = nothing-is-not e
 
 -- ---- a file's first N bytes
-pub data Cut (N k : ℕ) (u : State) (s : List ℕ) : Type 0 where
-  whole : take N s ≡ s → Cut N k u s
-  stopped : readFrom k u (linesOf (take N s)) ≡ readFrom k u (linesOf s) → (readFrom k u (linesOf s) .said ≡ [] → ⊥) → Cut N k u s
+pub data CutFile (N k : ℕ) (u : State) (s : List ℕ) : Type 0 where
+  whole : take N s ≡ s → CutFile N k u s
+  stopped : readFrom k u (linesOf (take N s)) ≡ readFrom k u (linesOf s) → (readFrom k u (linesOf s) .said ≡ [] → ⊥) → CutFile N k u s
 
 -- what is to be shown of a state at which fewer lines may be accepted
-abbrev Shown : State → Type 0
-Shown u = (N k : ℕ) → acceptable (u .loader) * lineMost + lineMost ≤ N → (s : List ℕ) → Cut N k u s
+abbrev CutShown : State → Type 0
+CutShown u = (N k : ℕ) → acceptable (u .loader) * lineMost + lineMost ≤ N → (s : List ℕ) → CutFile N k u s
 
 -- ---- one line: the first m bytes of a file that has some
 module _ (N k : ℕ) (u : State) (b : ℕ) (bs : List ℕ) where
@@ -102,17 +102,17 @@ module _ (N k : ℕ) (u : State) (b : ℕ) (bs : List ℕ) where
         let p : suc m + (suc N - suc m) ≡ suc N = omega arith in
         rw p at (take-add (suc m) (suc N - suc m) s) ∙ rw e (take-append-drop (suc m) s)
 
-    short-line : ((lineAnswer (u .loader) (u .lists) line ≡ []) → Cut (suc N - suc m) (k + 1) (step u line) rest) → Cut (suc N) k u s
+    short-line : ((lineAnswer (u .loader) (u .lists) line ≡ []) → CutFile (suc N - suc m) (k + 1) (step u line) rest) → CutFile (suc N) k u s
     short-line ih = go (lineAnswer (u .loader) (u .lists) line) refl
       where
-        go : (r : List ℕ) → lineAnswer (u .loader) (u .lists) line ≡ r → Cut (suc N) k u s
+        go : (r : List ℕ) → lineAnswer (u .loader) (u .lists) line ≡ r → CutFile (suc N) k u s
         go (n ∷ vs) e =
             let x = read-refused k u line (linesOf rest) e in
             let y = read-refused k u line (linesOf (take (suc N - suc m) rest)) e in
             stopped (rw (lines-kept, lines-next b bs) (y ∙ sym x)) (rw (lines-next b bs) (λ q. nothing-is-not (sym (ap (λ (R : Reading). R .said) x) ∙ q)))
         go [] e = by (ih e)
           where
-            by : Cut (suc N - suc m) (k + 1) (step u line) rest → Cut (suc N) k u s
+            by : CutFile (suc N - suc m) (k + 1) (step u line) rest → CutFile (suc N) k u s
             by (whole w) = whole (joined w)
             by (stopped q n) =
                 let x = read-accepted k u line (linesOf rest) e in
@@ -120,7 +120,7 @@ module _ (N k : ℕ) (u : State) (b : ℕ) (bs : List ℕ) where
                 stopped (rw (lines-kept, lines-next b bs) (y ∙ q ∙ sym x)) (rw (lines-next b bs) (λ z. n (sym (ap (λ (R : Reading). R .said) x) ∙ z)))
 
   -- a line above 320 bytes, cut or not
-  over-long : 321 ≤ m → 321 ≤ suc N → Cut (suc N) k u s
+  over-long : 321 ≤ m → 321 ≤ suc N → CutFile (suc N) k u s
   over-long h room = go (longAnswer (u .loader) (u .lists)) refl
     where
       long : lineAnswer (u .loader) (u .lists) line ≡ longAnswer (u .loader) (u .lists)
@@ -131,7 +131,7 @@ module _ (N k : ℕ) (u : State) (b : ℕ) (bs : List ℕ) where
           long-line (u .loader) (u .lists) cutLine
           (simp length-take (omega (arith, length-most s)))
 
-      go : (r : List ℕ) → longAnswer (u .loader) (u .lists) ≡ r → Cut (suc N) k u s
+      go : (r : List ℕ) → longAnswer (u .loader) (u .lists) ≡ r → CutFile (suc N) k u s
       go [] e = absurd (long-refused (u .loader) (u .lists) e)
       go (n ∷ vs) e =
           let x = read-refused k u line (linesOf (drop (suc m) s)) (long ∙ e) in
@@ -139,12 +139,12 @@ module _ (N k : ℕ) (u : State) (b : ℕ) (bs : List ℕ) where
           stopped (rw (lines-cut, lines-next b bs) (y ∙ sym x)) (rw (lines-next b bs) (λ q. nothing-is-not (sym (ap (λ (R : Reading). R .said) x) ∙ q)))
 
 -- ---- all lines
-one : (u : State) → Sound (u .loader) → ((v : State) → Sound (v .loader) → acceptable (v .loader) < acceptable (u .loader) → Shown v) → Shown u
-one u h ih N k r [] = whole (take-nil N)
-one u h ih zero k r (b ∷ bs) = absurd (omega arith)
-one u h ih (suc N) k r (b ∷ bs) = go (ltb (lineLength (b ∷ bs)) 321) refl
+cut-one : (u : State) → SoundLoader (u .loader) → ((v : State) → SoundLoader (v .loader) → acceptable (v .loader) < acceptable (u .loader) → CutShown v) → CutShown u
+cut-one u h ih N k r [] = whole (take-nil N)
+cut-one u h ih zero k r (b ∷ bs) = absurd (omega arith)
+cut-one u h ih (suc N) k r (b ∷ bs) = go (ltb (lineLength (b ∷ bs)) 321) refl
   where
-    go : (t : Bool) → ltb (lineLength (b ∷ bs)) 321 ≡ t → Cut (suc N) k u (b ∷ bs)
+    go : (t : Bool) → ltb (lineLength (b ∷ bs)) 321 ≡ t → CutFile (suc N) k u (b ∷ bs)
     go false e = over-long N k u b bs (ltb-false (lineLength (b ∷ bs)) 321 e) (omega arith)
     go true e =
         let l : lineLength (b ∷ bs) < 321 = ltb-true (lineLength (b ∷ bs)) 321 e in
@@ -154,9 +154,9 @@ one u h ih (suc N) k r (b ∷ bs) = go (ltb (lineLength (b ∷ bs)) 321) refl
         ih (step u line) (line-sound (u .loader) (u .lists) line h) f (suc N - suc (lineLength (b ∷ bs))) (k + 1)
         (omega (arith, f)) (drop (suc (lineLength (b ∷ bs))) (b ∷ bs)))
 
-cut-by : (o : ℕ) (u : State) → Sound (u .loader) → acceptable (u .loader) < o → Shown u
+cut-by : (o : ℕ) (u : State) → SoundLoader (u .loader) → acceptable (u .loader) < o → CutShown u
 cut-by zero u h l = absurd (omega arith)
-cut-by (suc o) u h l = one u h (λ v g f. cut-by o v g (omega arith))
+cut-by (suc o) u h l = cut-one u h (λ v g f. cut-by o v g (omega arith))
 
-pub first-bytes : (l : Lists) (s : List ℕ) → Cut bytesMost 0 (fromNew l) s
-first-bytes l s = cut-by (suc linesMost) (fromNew l) fresh-sound (omega arith) bytesMost 0 (omega arith) s
+pub file-first-bytes : (l : Lists) (s : List ℕ) → CutFile bytesMost 0 (fromNew l) s
+file-first-bytes l s = cut-by (suc linesMost) (fromNew l) fresh-sound (omega arith) bytesMost 0 (omega arith) s

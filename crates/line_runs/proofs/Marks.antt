@@ -21,7 +21,7 @@ use Rattle.form_values.specs.declared.Part.the-variants.{Row, Right, Guess, Inv
 use Rattle.form_values.proofs.Capped.{part-same, part-below}
 use Rattle.bit_set.specs.Places.{withPlace, lacking}
 use Rattle.bit_set.proofs.Places.{has-same, has-other, lacking-with, lacking-≤}
-use Rattle.given_forms.specs.Progress.{setOf, counted, totalOver, given, marked, missing}
+use Rattle.given_forms.specs.Progress.{setOf, countedParts, totalOver, given, marked, missing}
 use Rattle.line_runs.specs.Acceptable.{parts, ungiven}
 
 abbrev pub hits : Part → Part → ℕ
@@ -84,7 +84,7 @@ ungiven-most n z = totalOver-most parts (λ (q : Part). lacking (setOf z q) n) n
 
 pub missing-most : (n : ℕ) (z : List ℕ) → missing n z ≤ 4 * n
 unfolding missing
-missing-most n z = totalOver-most counted (λ (q : Part). lacking (setOf z q) n) n (λ q. lacking-≤ (setOf z q) n)
+missing-most n z = totalOver-most countedParts (λ (q : Part). lacking (setOf z q) n) n (λ q. lacking-≤ (setOf z q) n)
 
 pub ungiven-is : (n : ℕ) (z : List ℕ) → ungiven n z ≡ missing n z + lacking (setOf z Weight) n
 unfolding ungiven missing

@@ -19,17 +19,17 @@ shorter : (i b : ℤ) → length (spell (rightWithin i b (pos 0))) ≤ 320 → l
 unfolding spell numerals
 shorter i b h = simp length-append (omega (arith, simp length-append at h))
 
-either : (u : State) (i b : ℤ) → length (spell (rightWithin i b (pos 0))) ≤ 320 → Alike (u .loader) (u .lists) (spell (right i b)) (spell (rightWithin i b (pos 0)))
-either u i b h =
+either-spelling : (u : State) (i b : ℤ) → length (spell (rightWithin i b (pos 0))) ≤ 320 → Alike (u .loader) (u .lists) (spell (right i b)) (spell (rightWithin i b (pos 0)))
+either-spelling u i b h =
     alike (u .loader) (u .lists) i b (spell (right i b)) (spell (rightWithin i b (pos 0))) (shorter i b h) h (read-spelled (right i b)) (read-spelled (rightWithin i b (pos 0)))
 
 -- two lines that are taken alike, at the front of lines that are read alike
-front : (k : ℕ) (u : State) (line line′ : List ℕ) (lines lines′ : List (List ℕ)) → Alike (u .loader) (u .lists) line line′ →
+respelled-front : (k : ℕ) (u : State) (line line′ : List ℕ) (lines lines′ : List (List ℕ)) → Alike (u .loader) (u .lists) line line′ →
     ((j : ℕ) (v : State) → readFrom j v lines ≡ readFrom j v lines′) → readFrom k u (line ∷ lines) ≡ readFrom k u (line′ ∷ lines′)
 unfolding readFrom
-front k u line line′ lines lines′ a h = rw (a .says, a .loader, a .lists, h (k + 1) (step u line′))
+respelled-front k u line line′ lines lines′ a h = rw (a .says, a .loader, a .lists, h (k + 1) (step u line′))
 
 pub respelled-read : (k : ℕ) (u : State) {lines lines′ : List (List ℕ)} → Respelled lines lines′ → readFrom k u lines ≡ readFrom k u lines′
 respelled-read k u none = refl
-respelled-read k u (same {lines} {lines′} line h) = front k u line line lines lines′ (record { says = refl; loader = refl; lists = refl }) (λ j v. respelled-read j v h)
-respelled-read k u (alone {lines} {lines′} i b few h) = front k u (spell (right i b)) (spell (rightWithin i b (pos 0))) lines lines′ (either u i b few) (λ j v. respelled-read j v h)
+respelled-read k u (same {lines} {lines′} line h) = respelled-front k u line line lines lines′ (record { says = refl; loader = refl; lists = refl }) (λ j v. respelled-read j v h)
+respelled-read k u (alone {lines} {lines′} i b few h) = respelled-front k u (spell (right i b)) (spell (rightWithin i b (pos 0))) lines lines′ (either-spelling u i b few) (λ j v. respelled-read j v h)

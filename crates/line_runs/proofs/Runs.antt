@@ -19,27 +19,27 @@ use Rattle.form_values.specs.declared.Item.{Item}
 use Rattle.form_values.specs.declared.Item.the-variants.{Problem, Scale, Of, End}
 use Rattle.form_values.specs.declared.Part.{Part}
 use Rattle.form_values.proofs.Capped.{part-same}
-use Rattle.form_values.proofs.Between.{between}
+use Rattle.form_values.proofs.Between.{from-to}
 use Rattle.given_forms.specs.Progress.{given}
 use Rattle.given_forms.proofs.Progress.{placed-of}
 use Rattle.loader.specs.declared.Loader.{Loader}
 use Rattle.loader.specs.Taken.{after}
-use Rattle.loader.proofs.Accepted.{Accepted, accepted-form}
+use Rattle.loader.proofs.Accepted.{AcceptedLine, accepted-form}
 use Rattle.line_runs.specs.Run.{State, step, forms}
 use Rattle.line_runs.specs.Accepts.{run, Accepts}
 use Rattle.lent_lists.specs.Slot.{Slot, partOf, valuesFor}
 use Rattle.line_runs.specs.Given.{isOf, valueFrom}
 use Rattle.integer.specs.Among.{Among, here, there}
 use Rattle.line_runs.specs.Holds.{HoldsForm}
-use Rattle.line_runs.proofs.Sound.{Sound, line-sound}
-use Rattle.line_runs.proofs.Collected.{next, holds-own, holds-kept}
+use Rattle.line_runs.proofs.Sound.{SoundLoader, line-sound}
+use Rattle.line_runs.proofs.Collected.{nextState, holds-own, holds-kept}
 use Rattle.line_runs.proofs.Marks.{given-else}
 
 -- ---- one line
-pub step-next : (u : State) {line : List ℕ} {f : Form} → Accepted (u .loader) (u .lists) line f → step u line ≡ next u f
+pub step-next : (u : State) {line : List ℕ} {f : Form} → AcceptedLine (u .loader) (u .lists) line f → step u line ≡ nextState u f
 step-next u a = λ i. record { loader = a .loader i; lists = a .lists i }
 
-module _ (u : State) (sound : Sound (u .loader)) {line : List ℕ} {g : Form} (a : Accepted (u .loader) (u .lists) line g) where
+module _ (u : State) (sound : SoundLoader (u .loader)) {line : List ℕ} {g : Form} (a : AcceptedLine (u .loader) (u .lists) line g) where
   pub step-own : HoldsForm g (step u line)
   step-own = rw (step-next u a) (holds-own u sound g (a .fine) (a .long))
 
@@ -47,7 +47,7 @@ module _ (u : State) (sound : Sound (u .loader)) {line : List ℕ} {g : Form} (a
   step-kept f h = rw (step-next u a) (holds-kept u sound g (a .fine) (a .going) f h)
 
 -- ---- all lines
-pub kept-all : (u : State) → Sound (u .loader) → (lines : List (List ℕ)) → Accepts u lines → (f : Form) → HoldsForm f u → HoldsForm f (run u lines)
+pub kept-all : (u : State) → SoundLoader (u .loader) → (lines : List (List ℕ)) → Accepts u lines → (f : Form) → HoldsForm f u → HoldsForm f (run u lines)
 unfolding run
 kept-all u s [] a f h = h
 kept-all u s (line ∷ lines) a f h =
@@ -58,12 +58,12 @@ pub forms-next : (line : List ℕ) {f : Form} (lines : List (List ℕ)) → read
 unfolding forms
 forms-next line lines e = rw e
 
-none : List Form → Bool
-none [] = true
-none (f ∷ fs) = false
+noForms : List Form → Bool
+noForms [] = true
+noForms (f ∷ fs) = false
 
-in-some : {f : Form} {fs : List Form} → Among f fs → none fs ≡ false
-unfolding none
+in-some : {f : Form} {fs : List Form} → Among f fs → noForms fs ≡ false
+unfolding noForms
 in-some here = refl
 in-some (there i) = refl
 
@@ -71,13 +71,13 @@ in-cases : (P : Form → Type 0) {f g : Form} {fs : List Form} → Among f (g �
 in-cases P here h rest = h
 in-cases P (there i) h rest = rest i
 
-none-of : none (forms []) ≡ false → true ≡ false
-unfolding none forms
-none-of e = e
+some-forms : noForms (forms []) ≡ false → true ≡ false
+unfolding noForms forms
+some-forms e = e
 
-pub collected : (u : State) → Sound (u .loader) → (lines : List (List ℕ)) → Accepts u lines → (f : Form) → Among f (forms lines) → HoldsForm f (run u lines)
+pub collected : (u : State) → SoundLoader (u .loader) → (lines : List (List ℕ)) → Accepts u lines → (f : Form) → Among f (forms lines) → HoldsForm f (run u lines)
 unfolding run
-collected u s [] a f i = clash true refl (none-of (in-some i))
+collected u s [] a f i = clash true refl (some-forms (in-some i))
 collected u s (line ∷ lines) a f i =
     let r = accepted-form (u .loader) (u .lists) line (a .0) in
     let s′ = line-sound (u .loader) (u .lists) line s in
@@ -96,16 +96,16 @@ is-of p k (Of q i) e =
 is-of p k End e = clash false e refl
 
 -- a form of another part, or for another number, marks nothing there
-other-marks : (d : Loader) → Sound d → (p : Part) (k : ℕ) → 1 ≤ k → (x : Item) → placed (d .n) x ≡ true → isOf p k x ≡ false → given (after d x .sets) p k ≡ given (d .sets) p k
+other-marks : (d : Loader) → SoundLoader d → (p : Part) (k : ℕ) → 1 ≤ k → (x : Item) → placed (d .n) x ≡ true → isOf p k x ≡ false → given (after d x .sets) p k ≡ given (d .sets) p k
 other-marks d s p k l (Problem n) h e = refl
 other-marks d s p k l (Scale a b) h e = refl
 other-marks d s p k l (Of q i) h e =
-    given-else (d .sets) (s .five) q (natAbs i) p k l (between 1 (d .n) i h .from)
+    given-else (d .sets) (s .five) q (natAbs i) p k l (from-to 1 (d .n) i h .from)
     (λ a b. clash (isOf p k (Of q i)) (rw (eq-eqb (partIndex p) (partIndex q) a, eq-eqb k (natAbs i) b)) e)
 other-marks d s p k l End h e = refl
 
 -- the line that gave the part p for the number k, and its numbers
-pub record Found (p : Part) (k : ℕ) (fs : List Form) : Type 0 where
+pub record FoundForm (p : Part) (k : ℕ) (fs : List Form) : Type 0 where
   pub form : Form
   pub among : Among form fs
   pub place : ℤ
@@ -113,22 +113,22 @@ pub record Found (p : Part) (k : ℕ) (fs : List Form) : Type 0 where
   pub number : k ≡ natAbs place
   pub values : (s : Slot) → partOf s ≡ p → (j : ℕ) → valueFrom fs s k j ≡ getD (valuesFor s form) j (pos 0)
 
-found-next : (p : Part) (k : ℕ) (f : Form) (fs : List Form) → isOf p k (itemOf f) ≡ false → Found p k fs → Found p k (f ∷ fs)
+found-next : (p : Part) (k : ℕ) (f : Form) (fs : List Form) → isOf p k (itemOf f) ≡ false → FoundForm p k fs → FoundForm p k (f ∷ fs)
 unfolding valueFrom
 found-next p k f fs e h = record { form = h .form; among = there (h .among); place = h .place; item = h .item; number = h .number; values = λ s o j. rw (o, e) (h .values s o j) }
 
-found-here : (p : Part) (k : ℕ) (f : Form) (fs : List Form) → isOf p k (itemOf f) ≡ true → Found p k (f ∷ fs)
+found-here : (p : Part) (k : ℕ) (f : Form) (fs : List Form) → isOf p k (itemOf f) ≡ true → FoundForm p k (f ∷ fs)
 unfolding valueFrom
 found-here p k f fs e = let i = is-of p k (itemOf f) e in record { form = f; among = here; place = i .0; item = i .1; number = i .2; values = λ s o j. rw (o, e) }
 
-pub found : (p : Part) (k : ℕ) → 1 ≤ k → (u : State) → Sound (u .loader) → (lines : List (List ℕ)) → Accepts u lines
-    → given (u .loader .sets) p k ≡ false → given (run u lines .loader .sets) p k ≡ true → Found p k (forms lines)
+pub found : (p : Part) (k : ℕ) → 1 ≤ k → (u : State) → SoundLoader (u .loader) → (lines : List (List ℕ)) → Accepts u lines
+    → given (u .loader .sets) p k ≡ false → given (run u lines .loader .sets) p k ≡ true → FoundForm p k (forms lines)
 unfolding run
 found p k l u s [] a before after = clash (given (u .loader .sets) p k) after before
 found p k l u s (line ∷ lines) a before now =
     rw (forms-next line lines (r .1 .reads)) (go (isOf p k (itemOf (r .0))) refl (λ b. found p k l (step u line) (line-sound (u .loader) (u .lists) line s) lines (a .1) b now))
   where
-    r : (g : Form) × Accepted (u .loader) (u .lists) line g
+    r : (g : Form) × AcceptedLine (u .loader) (u .lists) line g
     r = accepted-form (u .loader) (u .lists) line (a .0)
 
     same : isOf p k (itemOf (r .0)) ≡ false → given (step u line .loader .sets) p k ≡ false
@@ -136,6 +136,6 @@ found p k l u s (line ∷ lines) a before now =
         rw (r .1 .loader)
         (other-marks (u .loader) s p k l (itemOf (r .0)) (placed-of (u .loader .stage) (u .loader .n) (itemOf (r .0)) (r .1 .fine .misplaced)) e ∙ before)
 
-    go : (b : Bool) → isOf p k (itemOf (r .0)) ≡ b → (given (step u line .loader .sets) p k ≡ false → Found p k (forms lines)) → Found p k (r .0 ∷ forms lines)
+    go : (b : Bool) → isOf p k (itemOf (r .0)) ≡ b → (given (step u line .loader .sets) p k ≡ false → FoundForm p k (forms lines)) → FoundForm p k (r .0 ∷ forms lines)
     go true e rest = found-here p k (r .0) (forms lines) e
     go false e rest = found-next p k (r .0) (forms lines) e (rest (same e))

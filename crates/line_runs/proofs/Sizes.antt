@@ -1,6 +1,6 @@
 -- n, s and t of a run of accepted lines are those of problem and scale.
 --   size-from, scales-from   — as the forms give them
---   problem-line, scale-line — and one of the lines gave them
+--   problem-given, scale-given — and one of the lines gave them
 use mathlib.Core.Path.{_≡_, subst}
 use mathlib.Core.Bool.{true, false}
 use mathlib.Core.List.{List, [], _∷_}
@@ -14,23 +14,23 @@ use Rattle.form_values.specs.declared.Item.{Item}
 use Rattle.form_values.specs.declared.Item.the-variants.{Problem, Scale}
 use Rattle.given_forms.specs.Progress.{sized, scaled}
 use Rattle.given_forms.proofs.Progress.{late}
-use Rattle.loader.proofs.Accepted.{Accepted, accepted-form}
+use Rattle.loader.proofs.Accepted.{AcceptedLine, accepted-form}
 use Rattle.line_runs.specs.Run.{State, step, forms}
 use Rattle.line_runs.specs.Accepts.{run, Accepts}
 use Rattle.lent_lists.specs.Slot.{Slot, valuesFor}
 use Rattle.line_runs.specs.Given.{sizeFrom, scalesFrom, sizeBy, scaleBy, Scales}
 use Rattle.integer.specs.Among.{Among, here, there}
 use Rattle.line_runs.specs.Holds.{HoldsForm, HoldsItem}
-use Rattle.line_runs.proofs.Sound.{Sound, line-sound}
+use Rattle.line_runs.proofs.Sound.{SoundLoader, line-sound}
 use Rattle.line_runs.proofs.View.{View, view, a-problem, a-scale, a-part, an-end}
 use Rattle.line_runs.proofs.Runs.{step-own, kept-all, forms-next}
 
 -- ---- n, s and t
-module _ (u : State) (s : Sound (u .loader)) (line : List ℕ) (lines : List (List ℕ)) (a : Accepts u (line ∷ lines)) where
+module _ (u : State) (s : SoundLoader (u .loader)) (line : List ℕ) (lines : List (List ℕ)) (a : Accepts u (line ∷ lines)) where
   form : Form
   form = accepted-form (u .loader) (u .lists) line (a .0) .0
 
-  accepted : Accepted (u .loader) (u .lists) line form
+  accepted : AcceptedLine (u .loader) (u .lists) line form
   unfolding form
   accepted = accepted-form (u .loader) (u .lists) line (a .0) .1
 
@@ -44,7 +44,7 @@ module _ (u : State) (s : Sound (u .loader)) (line : List ℕ) (lines : List (Li
   first-form : forms (line ∷ lines) ≡ form ∷ forms lines
   first-form = forms-next line lines (accepted .reads)
 
-pub size-from : (u : State) → Sound (u .loader) → (lines : List (List ℕ)) → Accepts u lines → sized (u .loader .stage) ≡ false → sized (run u lines .loader .stage) ≡ true
+pub size-from : (u : State) → SoundLoader (u .loader) → (lines : List (List ℕ)) → Accepts u lines → sized (u .loader .stage) ≡ false → sized (run u lines .loader .stage) ≡ true
     → run u lines .loader .n ≡ sizeFrom (forms lines)
 unfolding run sizeFrom
 size-from u s [] a before now = clash (sized (u .loader .stage)) now before
@@ -62,7 +62,7 @@ size-from u s (line ∷ lines) a before now = rw (first-form u s line lines a) (
 abbrev pub HasScales : State → Scales → Type 0
 HasScales u x = (u .loader .s ≡ x .solution) × (u .loader .t ≡ x .inverse)
 
-pub scales-from : (u : State) → Sound (u .loader) → (lines : List (List ℕ)) → Accepts u lines → scaled (u .loader .stage) ≡ false → scaled (run u lines .loader .stage) ≡ true
+pub scales-from : (u : State) → SoundLoader (u .loader) → (lines : List (List ℕ)) → Accepts u lines → scaled (u .loader .stage) ≡ false → scaled (run u lines .loader .stage) ≡ true
     → HasScales (run u lines) (scalesFrom (forms lines))
 unfolding run scalesFrom
 scales-from u s [] a before now = clash (scaled (u .loader .stage)) now before
@@ -80,11 +80,11 @@ scales-from u s (line ∷ lines) a before now =
     go (an-end e) h rest = clash (scaled (u .loader .stage)) (not-false _ (rw e at (accepted u s line lines a .fine .early))) before
 
 -- the line that gave n, and the one that gave s and t
-pub problem-line : (u : State) → Sound (u .loader) → (lines : List (List ℕ)) → Accepts u lines → sized (u .loader .stage) ≡ false → sized (run u lines .loader .stage) ≡ true
+pub problem-given : (u : State) → SoundLoader (u .loader) → (lines : List (List ℕ)) → Accepts u lines → sized (u .loader .stage) ≡ false → sized (run u lines .loader .stage) ≡ true
     → (f : Form) × Among f (forms lines) × (m : ℤ) × (itemOf f ≡ Problem m)
 unfolding run
-problem-line u s [] a before now = clash (sized (u .loader .stage)) now before
-problem-line u s (line ∷ lines) a before now = rw (first-form u s line lines a) (go (the-view u s line lines a))
+problem-given u s [] a before now = clash (sized (u .loader .stage)) now before
+problem-given u s (line ∷ lines) a before now = rw (first-form u s line lines a) (go (the-view u s line lines a))
   where
     f : Form
     f = form u s line lines a
@@ -95,13 +95,13 @@ problem-line u s (line ∷ lines) a before now = rw (first-form u s line lines a
     go (a-part q i e c r) = clash (sized (u .loader .stage)) (late (u .loader .stage) (rw e at (accepted u s line lines a .fine .early))) before
     go (an-end e) = clash (sized (u .loader .stage)) (late (u .loader .stage) (rw e at (accepted u s line lines a .fine .early))) before
 
-pub scale-line : (u : State) → Sound (u .loader) → (lines : List (List ℕ)) → Accepts u lines → scaled (u .loader .stage) ≡ false → scaled (run u lines .loader .stage) ≡ true
+pub scale-given : (u : State) → SoundLoader (u .loader) → (lines : List (List ℕ)) → Accepts u lines → scaled (u .loader .stage) ≡ false → scaled (run u lines .loader .stage) ≡ true
     → (f : Form) × Among f (forms lines) × (x : ℤ) × (y : ℤ) × (itemOf f ≡ Scale x y)
 unfolding run
-scale-line u s [] a before now = clash (scaled (u .loader .stage)) now before
-scale-line u s (line ∷ lines) a before now =
+scale-given u s [] a before now = clash (scaled (u .loader .stage)) now before
+scale-given u s (line ∷ lines) a before now =
     rw (first-form u s line lines a)
-    (go (the-view u s line lines a) (λ b. scale-line (step u line) (line-sound (u .loader) (u .lists) line s) lines (a .1) b now))
+    (go (the-view u s line lines a) (λ b. scale-given (step u line) (line-sound (u .loader) (u .lists) line s) lines (a .1) b now))
   where
     f : Form
     f = form u s line lines a

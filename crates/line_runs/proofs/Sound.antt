@@ -1,5 +1,5 @@
 -- What holds of every loader made by `new` and `take`.
---   Sound      — five sets; past problem n is in its range, past scale s and t in theirs; before the scale no form of a part was given; after the
+--   SoundLoader — five sets; past problem n is in its range, past scale s and t in theirs; before the scale no form of a part was given; after the
 --                end none is missing
 --   made-sound — every such loader is sound;  made-size — so none has an n of its own out of range
 use mathlib.Core.Path.{_≡_, refl}
@@ -34,7 +34,7 @@ use Rattle.loader.proofs.Said.{refused-leaves}
 use Rattle.loader.proofs.Accepted.{accepted-form}
 use Rattle.line_runs.specs.Accepts.{Made, new, taken}
 
-pub record Sound (d : Loader) : Type 0 where
+pub record SoundLoader (d : Loader) : Type 0 where
   pub five : length (d .sets) ≡ 5
   pub size : sized (d .stage) ≡ true → inRange kind.Size (pos (d .n)) ≡ true
   pub solution : scaled (d .stage) ≡ true → inRange kind.SolutionScale (pos (d .s)) ≡ true
@@ -70,7 +70,7 @@ fresh-empty Guess i = has-none (i - 1)
 fresh-empty Inverse i = has-none (i - 1)
 fresh-empty Weight i = has-none (i - 1)
 
-pub fresh-sound : Sound fresh
+pub fresh-sound : SoundLoader fresh
 fresh-sound = record {
   five = refl;
   size = λ e. clash false e refl;
@@ -80,8 +80,8 @@ fresh-sound = record {
   whole = λ e. clash false e refl;
 }
 
-module _ (d : Loader) (h : Sound d) (going : ended (d .stage) ≡ false) where
-  part-sound : (p : Part) (i : ℤ) → not (scaled (d .stage)) ≡ false → Sound (after d (Of p i))
+module _ (d : Loader) (h : SoundLoader d) (going : ended (d .stage) ≡ false) where
+  part-sound : (p : Part) (i : ℤ) → not (scaled (d .stage)) ≡ false → SoundLoader (after d (Of p i))
   part-sound p i e = record {
     five = simp length-set (h .five);
     size = h .size;
@@ -91,7 +91,7 @@ module _ (d : Loader) (h : Sound d) (going : ended (d .stage) ≡ false) where
     whole = λ q. clash (ended (d .stage)) q going;
   }
 
-  pub form-sound : (f : Form) → Passed (formCase d f) → Sound (after d (itemOf f))
+  pub form-sound : (f : Form) → Passed (formCase d f) → SoundLoader (after d (itemOf f))
   form-sound (problem n) p = record {
     five = h .five;
     size = λ e. size-kept n (not-false (inRange kind.Size n) (p .outside));
@@ -123,14 +123,14 @@ module _ (d : Loader) (h : Sound d) (going : ended (d .stage) ≡ false) where
     whole = λ e. omega (arith, ltb-false 0 (missing (d .n) (d .sets)) (p .incomplete));
   }
 
-pub line-sound : (d : Loader) (l : Lists) (line : List ℕ) → Sound d → Sound (loaderAfter d l line)
+pub line-sound : (d : Loader) (l : Lists) (line : List ℕ) → SoundLoader d → SoundLoader (loaderAfter d l line)
 line-sound d l line h = go (lineAnswer d l line) refl
   where
-    go : (w : List ℕ) → lineAnswer d l line ≡ w → Sound (loaderAfter d l line)
+    go : (w : List ℕ) → lineAnswer d l line ≡ w → SoundLoader (loaderAfter d l line)
     go [] e = let a = accepted-form d l line e in rw (a .1 .loader) (form-sound d h (a .1 .going) (a .0) (a .1 .fine))
     go (k ∷ ks) e = rw (refused-leaves d l line e .0) h
 
-pub made-sound : {d : Loader} → Made d → Sound d
+pub made-sound : {d : Loader} → Made d → SoundLoader d
 made-sound new = fresh-sound
 made-sound (taken {d} m l line) = line-sound d l line (made-sound m)
 

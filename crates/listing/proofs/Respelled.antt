@@ -46,11 +46,11 @@ module _ (file file′ : List ℕ) (h : Respelled (linesOf file) (linesOf file�
   respelled-listing = both (readingOf file .said) refl .1
 
 -- ---- the whole file: its forms before that line, and after it
-abbrev before : List Form
-before = problem (pos 2) ∷ scale (pos 4) (pos 4) ∷ row (pos 1) (pos 4) (negsuc 0 ∷ []) ∷ row (pos 2) (negsuc 0) (pos 3 ∷ []) ∷ []
+abbrev formsBefore : List Form
+formsBefore = problem (pos 2) ∷ scale (pos 4) (pos 4) ∷ row (pos 1) (pos 4) (negsuc 0 ∷ []) ∷ row (pos 2) (negsuc 0) (pos 3 ∷ []) ∷ []
 
-abbrev after : List Form
-after =
+abbrev formsAfter : List Form
+formsAfter =
     right (pos 2) (pos 1)
     ∷ guess (pos 1) (pos 23)
     ∷ guess (pos 2) (pos 13)
@@ -62,23 +62,23 @@ after =
     ∷ []
 
 abbrev spelledOutForms : List Form
-spelledOutForms = before ++ (rightWithin (pos 1) (pos 5) (pos 0) ∷ after)
+spelledOutForms = formsBefore ++ (rightWithin (pos 1) (pos 5) (pos 0) ∷ formsAfter)
 
 out-spelled : linesOf spelledOutFile ≡ spelled spelledOutForms
 unfolding linesOf spell numerals numeral decimal digits
 out-spelled = refl
 
-few : length (spell (rightWithin (pos 1) (pos 5) (pos 0))) ≤ 320
+few-bytes : length (spell (rightWithin (pos 1) (pos 5) (pos 0))) ≤ 320
 unfolding spell numerals numeral decimal digits
-few = lit≤ tt
+few-bytes = lit≤ tt
 
 -- the same lines, and others after them
-alike : (fs gs hs : List Form) → Respelled (spelled gs) (spelled hs) → Respelled (spelled (fs ++ gs)) (spelled (fs ++ hs))
-alike [] gs hs h = h
-alike (f ∷ fs) gs hs h = same (spell f) (alike fs gs hs h)
+respelled-behind : (fs gs hs : List Form) → Respelled (spelled gs) (spelled hs) → Respelled (spelled (fs ++ gs)) (spelled (fs ++ hs))
+respelled-behind [] gs hs h = h
+respelled-behind (f ∷ fs) gs hs h = same (spell f) (respelled-behind fs gs hs h)
 
 one-respelled : Respelled (spelled wholeForms) (spelled spelledOutForms)
-one-respelled = alike before (right (pos 1) (pos 5) ∷ after) (rightWithin (pos 1) (pos 5) (pos 0) ∷ after) (alone (pos 1) (pos 5) few (alike after [] [] none))
+one-respelled = respelled-behind formsBefore (right (pos 1) (pos 5) ∷ formsAfter) (rightWithin (pos 1) (pos 5) (pos 0) ∷ formsAfter) (alone (pos 1) (pos 5) few-bytes (respelled-behind formsAfter [] [] none))
 
 pub spelled-out : listingOf spelledOutFile ≡ wholeListing
 spelled-out =

@@ -1,5 +1,5 @@
 -- Cases a to l of document 01 and 02's own, and 01's whole file, follow from the definitions that the contracts cite.
---   cases-hold — one theorem for all rows of the table, computed
+--   listing-cases-hold — one theorem for all rows of the table, computed
 --   problem-is, complete-is, answer-is, listing-is — a file whose lines spell forms that are accepted, an end last, from those forms
 --   whole-file — the listing of 01's whole file is the one that it prints: its lines spell its forms, these are accepted, and the report of their
 --     problem has the listing's bytes, each computed
@@ -47,9 +47,9 @@ use Rattle.listing.specs.LeftOut.{NoWeights}
 use Rattle.listing.proofs.Entire.{zeros-long, listing-from, answer-judged}
 use Rattle.listing.proofs.WithOnes.{not-in-none}
 
-pub cases-hold : tableHolds table ≡ true
+pub listing-cases-hold : tableHolds table ≡ true
 unfolding check.answer solutionBoundsAfter inverseBoundsAfter written bound boundWith boundFrom sizesWith exceeds rowSum residual margin load defect product apply identity sum sumℕ largest first ceilDiv roundDiv entryBound allInRange inRange rangeOf ranges every
-cases-hold = refl
+listing-cases-hold = refl
 
 -- a file whose lines spell forms that are accepted, an end last
 module _ (file : List ℕ) (fs : List Form) (lines : linesOf file ≡ spelled fs) (passed : passes fresh fs ≡ true) where

@@ -20,7 +20,7 @@ use Rattle.line_runs.specs.Read.{readFrom, zeros}
 use Rattle.integer.specs.Among.{Among, here, there}
 use Rattle.line_runs.proofs.Passing.{spelled, forms-spelled}
 use Rattle.spelled_lines.specs.Ones.{onesFrom, textOf}
-use Rattle.spelled_lines.proofs.Text.{Split, lines-whole, lines-text, last-line}
+use Rattle.spelled_lines.proofs.Text.{LastLine, lines-whole, lines-text, last-line}
 use Rattle.spelled_lines.proofs.Runs.{read-run}
 use Rattle.spelled_lines.proofs.Ones.{with-ones}
 use Rattle.listing.specs.Listing.{problemIn, listingOf}
@@ -67,13 +67,13 @@ a-one i (suc c) here = (suc i, refl)
 a-one i (suc c) (there m) = a-one (suc i) c m
 
 -- ---- the file
-pub split-of : (file : List ℕ) → Complete file → Split file
+pub split-of : (file : List ℕ) → Complete file → LastLine file
 unfolding linesOf readFrom
 split-of [] c = clash false (c .end) refl
 split-of (b ∷ s) c = last-line b s
 
 module _ (file : List ℕ) (c : Complete file) (without : NoWeights (forms (linesOf file))) where
-  abbrev parts : Split file
+  abbrev parts : LastLine file
   parts = split-of file c
 
   abbrev front : List (List ℕ)

@@ -17,7 +17,7 @@ use Rattle.loader.specs.Taken.{after, listsWith, loaderAfter, listsAfter
 use Rattle.loader_order.proofs.Said.{Passed, passed}
 use Rattle.loader.proofs.Exact.{formCase, formSaid, answer-form}
 
-pub record Accepted (d : Loader) (l : Lists) (line : List ℕ) (f : Form) : Type 0 where
+pub record AcceptedLine (d : Loader) (l : Lists) (line : List ℕ) (f : Form) : Type 0 where
   pub reads : reading line ≡ some f
   pub long : shortLists l ≡ false
   pub going : ended (d .stage) ≡ false
@@ -25,14 +25,14 @@ pub record Accepted (d : Loader) (l : Lists) (line : List ℕ) (f : Form) : Type
   pub loader : loaderAfter d l line ≡ after d (itemOf f)
   pub lists : listsAfter d l line ≡ listsWith d f l
 
-pub accepted-form : (d : Loader) (l : Lists) (line : List ℕ) → lineAnswer d l line ≡ [] → (f : Form) × Accepted d l line f
+pub accepted-form : (d : Loader) (l : Lists) (line : List ℕ) → lineAnswer d l line ≡ [] → (f : Form) × AcceptedLine d l line f
 unfolding lineAnswer loaderAfter listsAfter formSaid
 accepted-form d l line e = go (reading line) refl (h .unspelled)
   where
     h : Passed (caseOf d l line)
     h = passed (caseOf d l line) e
 
-    go : (o : Option Form) → reading line ≡ o → ofForm o true (λ (f : Form). false) ≡ false → (f : Form) × Accepted d l line f
+    go : (o : Option Form) → reading line ≡ o → ofForm o true (λ (f : Form). false) ≡ false → (f : Form) × AcceptedLine d l line f
     go none r u = absurd (subst T u tt)
     go (some f) r u = (
       f,

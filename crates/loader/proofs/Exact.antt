@@ -24,7 +24,7 @@ use Rattle.form_values.specs.declared.Item.the-variants.{Of}
 use Rattle.form_values.specs.declared.Part.{Part}
 use Rattle.form_values.specs.declared.Part.the-variants.{Row, Right, Guess, Inverse, Weight}
 use Rattle.form_values.proofs.Capped.{placed-capped, outside-capped, miscounted-capped, item-exact}
-use Rattle.form_values.proofs.Between.{between}
+use Rattle.form_values.proofs.Between.{from-to}
 use Rattle.lent_lists.specs.Lists.{Lists, shortLists}
 use Rattle.lent_lists.specs.Pasted.{Rooms, pastedAll}
 use Rattle.lent_lists.specs.Put.{closed}
@@ -94,7 +94,7 @@ module _ (d : Loader) (f : Form) (small : d .n < capAt) where
   misplaced-capped = rw (placed-capped (d .n) f small)
 
   repeated-by : (p : Part) (i : ℤ) → placed (d .n) (Of p i) ≡ true → repeated (d .stage) (d .sets) (Of p (cap i)) ≡ repeated (d .stage) (d .sets) (Of p i)
-  repeated-by p i h = ap (λ (k : ℤ). repeated (d .stage) (d .sets) (Of p k)) (cap-small i (omega (arith, between 1 (d .n) i h .to)))
+  repeated-by p i h = ap (λ (k : ℤ). repeated (d .stage) (d .sets) (Of p k)) (cap-small i (omega (arith, from-to 1 (d .n) i h .to)))
 
   repeated-capped : (g : Form) → placed (d .n) (itemOf g) ≡ true → repeated (d .stage) (d .sets) (itemIn (cappedForm g)) ≡ repeated (d .stage) (d .sets) (itemOf g)
   repeated-capped (problem n) h = refl

@@ -8,7 +8,7 @@ ghost use Rattle.lent_lists.specs.Lists.{lists};
 ghost use Rattle.given_forms.specs.Progress.{ended};
 ghost use Rattle.loader_order.specs.Through.{CheckedThrough};
 ghost use Rattle.loader.specs.Taken.{fresh, after, TakenAs};
-ghost use Rattle.loader.specs.Numbers.{numbersOf, loaderOf};
+ghost use Rattle.loader.specs.Numbers.{loaderNumbers, loaderOf};
 ghost use Rattle.loader.specs.Decided.{saidIn, fits, refusedBy, DecidedIn, DecidedAs};
 use form::Numbers;
 use form_values::Item;
@@ -58,7 +58,7 @@ impl Loader {
 
     // The loader in nine numbers, for callers that cannot hold the struct.
     pub fn numbers(self) -> [u32; 9]
-        ensures { λ r. ⌜ r ≡ numbersOf self ⌝ }
+        ensures { λ r. ⌜ r ≡ loaderNumbers self ⌝ }
     {
         let stage = self.stage;
         let sets = self.sets;

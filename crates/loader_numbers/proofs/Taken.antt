@@ -15,7 +15,7 @@ use Rattle.loader.specs.declared.Loader.{Loader}
 use Rattle.loader.specs.declared.Taken.{Taken}
 use Rattle.loader.specs.Answer.{lineAnswer}
 use Rattle.loader.specs.Taken.{loaderAfter, listsAfter, TakenAs}
-use Rattle.loader.specs.Numbers.{loaderOf, numbersOf}
+use Rattle.loader.specs.Numbers.{loaderOf, loaderNumbers}
 use Rattle.loader_numbers.specs.Taken.{numbersAfter, LoaderTaken}
 use Rattle.loader.proofs.Numbers.{read-written}
 
@@ -23,11 +23,11 @@ module _ (w : List ℕ) {line : List ℕ} {l l′ : Lists} {d : Loader} {t : Tak
   own : TakenAs (loaderOf w) line l t l′
   own = subst (λ (d : Loader). TakenAs d line l t l′) e x
 
-  pub taken-accepted : {w′ : List ℕ} → t .outcome ≡ Accepted → w′ ≡ numbersOf (t .loader) → LoaderTaken w line l Accepted w′ l′
+  pub taken-accepted : {w′ : List ℕ} → t .outcome ≡ Accepted → w′ ≡ loaderNumbers (t .loader) → LoaderTaken w line l Accepted w′ l′
   unfolding numbersAfter
   taken-accepted o n =
       let a : lineAnswer (loaderOf w) l line ≡ [] = sym (own .says) ∙ ap said o in
-      record { says = sym a; numbers = n ∙ ap numbersOf (own .loader) ∙ sym (accepted-new _ _ a); lists = own .lists }
+      record { says = sym a; numbers = n ∙ ap loaderNumbers (own .loader) ∙ sym (accepted-new _ _ a); lists = own .lists }
 
   pub taken-refused : {f : Refusal} → t .outcome ≡ Refused f → LoaderTaken w line l (Refused f) w l′
   unfolding numbersAfter

@@ -40,8 +40,8 @@ below-power : (m : ℕ) → m < 10 ^ m
 below-power zero = omega arith
 below-power (suc m) = omega (arith, below-power m, pow-suc 10 m)
 
-enough : (n : ℕ) → n < 10 ^ (20 + n / 10 ^ 20)
-enough n =
+enough-digits : (n : ℕ) → n < 10 ^ (20 + n / 10 ^ 20)
+enough-digits n =
     let p : 10 ^ (20 + n / 10 ^ 20) ≡ 10 ^ 20 * 10 ^ (n / 10 ^ 20) = pow-add 10 20 (n / 10 ^ 20) in
     rw p (omega (arith, below-power (n / 10 ^ 20)))
 
@@ -50,7 +50,7 @@ decimal-is : (f n : ℕ) → n < 10 ^ suc f → decimal n ≡ digits (suc f) n
 unfolding decimal
 decimal-is f n h =
     let b : 20 + n / 10 ^ 20 ≡ suc (19 + n / 10 ^ 20) = omega arith in
-    rw b (digits-enough (19 + n / 10 ^ 20) f n (rw b at (enough n)) h)
+    rw b (digits-enough (19 + n / 10 ^ 20) f n (rw b at (enough-digits n)) h)
 
 pub decimal-small : (n : ℕ) → n < 10 → decimal n ≡ (48 + n) ∷ []
 decimal-small n h = decimal-is 0 n (omega (arith, pow-suc 10 0)) ∙ digits-small 0 n h
@@ -59,7 +59,7 @@ pub decimal-next : (n : ℕ) → 10 ≤ n → decimal n ≡ decimal (n / 10) ++ 
 decimal-next n h =
     let f = 19 + n / 10 ^ 20 in
     let b : 20 + n / 10 ^ 20 ≡ suc f = omega arith in
-    let e : n < 10 ^ suc f = rw b at (enough n) in
+    let e : n < 10 ^ suc f = rw b at (enough-digits n) in
     decimal-is (suc f) n (omega (arith, pow-suc 10 (suc f))) ∙ digits-next (suc f) n h
     ∙ rw (decimal-is f (n / 10) (omega (arith, pow-suc 10 f)))
 

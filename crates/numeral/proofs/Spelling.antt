@@ -53,8 +53,8 @@ unfolding numeral
 numeral-neg zero h = absurd (h refl)
 numeral-neg (suc v) h = refl
 
-above : {b d : ℕ} → eqb b 48 ≡ false → b ≡ 48 + d → 1 ≤ d
-above {b} {d} n e =
+digit-above : {b d : ℕ} → eqb b 48 ≡ false → b ≡ 48 + d → 1 ≤ d
+digit-above {b} {d} n e =
     let z : b ≡ 48 → ⊥ = eqb-false b 48 n in
     omega arith
 
@@ -91,7 +91,7 @@ module _ (s : List ℕ) where
           let b : getD s at 0 ≡ 48 + d = digit-byte (getD s at 0) l in
           let f : drop at s ≡ (48 + d) ∷ drop (at + 1) s = from s at (inside s at (omega arith)) ∙ ap (λ (x : ℕ). x ∷ drop (at + 1) s) b in
           let q : runAt 0 at (drop at s) ≡ runAt (0 * 10 + d) (at + 1) (drop (at + 1) s) = ap (runAt 0 at) f ∙ run-digit 0 at d (drop (at + 1) s) l in
-          let p : 1 ≤ d = above n b in
+          let p : 1 ≤ d = digit-above n b in
           let z : 0 * 10 + d ≡ d = omega arith in
           rw (q, z) (f ∙ (rw (decimal-small d l) at (run-read d (at + 1) (drop (at + 1) s) p refl)))
 

@@ -21,14 +21,14 @@ pub onto : List Observation → List Observation → List Observation
 onto [] es = es
 onto (x ∷ xs) es = onto xs (x ∷ es)
 
-either : {C : Type 0} {e x : Observation} (es xs : List Observation) → Among e (x ∷ es) → (Among e (x ∷ xs) → C) → (Among e es → C) → C
-either es xs here f g = f here
-either es xs (there j) f g = g j
+either-among : {C : Type 0} {e x : Observation} (es xs : List Observation) → Among e (x ∷ es) → (Among e (x ∷ xs) → C) → (Among e es → C) → C
+either-among es xs here f g = f here
+either-among es xs (there j) f g = g j
 
 pub onto-cases : {C : Type 0} {e : Observation} (xs es : List Observation) → Among e (onto xs es) → (Among e xs → C) → (Among e es → C) → C
 unfolding onto
 onto-cases [] es i f g = g i
-onto-cases (x ∷ xs) es i f g = onto-cases xs (x ∷ es) i (λ j. f (there j)) (λ j. either es xs j f g)
+onto-cases (x ∷ xs) es i f g = onto-cases xs (x ∷ es) i (λ j. f (there j)) (λ j. either-among es xs j f g)
 
 onto-back : {e : Observation} (xs es : List Observation) → Among e es → Among e (onto xs es)
 unfolding onto

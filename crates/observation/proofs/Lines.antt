@@ -1,6 +1,6 @@
 -- When a list builds, and at which line it does not.
 --   After n earlier ls — the lines ls are good and agree with the lines before them and with each other
---   after, nothing-said — nothing is said of ls exactly then
+--   after-of, nothing-said — nothing is said of ls exactly then
 --   usable, usable-said — nothing is said before any line exactly where all can be used
 --   builds-fits, fits-builds — a list builds exactly where it is usable and fits
 use mathlib.Core.Path.{_≡_, refl, sym, ap, _∙_}
@@ -16,7 +16,7 @@ use Rattle.observation.specs.declared.Observation.{Observation}
 use Rattle.observation.specs.Line.{clashes}
 use Rattle.observation.specs.Order.{observationOrder, observationSays, observationsSay, openOrder, buildAnswer}
 use Rattle.integer.specs.Among.{Among, here, there}
-use Rattle.observation.specs.Stated.{Passes, Fits, Admitted}
+use Rattle.observation.specs.Stated.{Passes, Buildable, Admitted}
 use Rattle.observation.proofs.Members.{no-clash, clash-free, nobody}
 
 pub record After (n : ℕ) (earlier ls : List Observation) : Type 0 where
@@ -33,10 +33,10 @@ good-line n earlier l e =
 pub line-good : (n : ℕ) (earlier : List Observation) (l : Observation) → Passes n l → clashes earlier l ≡ false → observationSays n earlier l ≡ []
 line-good n earlier l g c = silent (observationOrder n earlier l) (g .inside, (ne-eqb (l .«from») (l .to) (g .apart), (c, tt)))
 
-pub after : (n : ℕ) (earlier ls : List Observation) → observationsSay n earlier ls ≡ [] → After n earlier ls
+pub after-of : (n : ℕ) (earlier ls : List Observation) → observationsSay n earlier ls ≡ [] → After n earlier ls
 unfolding observationsSay
-after n earlier [] e = record { good = λ l i. nobody i; apart = λ d l i j k. nobody j; one = λ l m i j k. nobody i }
-after n earlier (l ∷ ls) e = go (good-line n earlier l (else-none _ _ e .0)) (after n (l ∷ earlier) ls (else-none (observationSays n earlier l) _ e .1))
+after-of n earlier [] e = record { good = λ l i. nobody i; apart = λ d l i j k. nobody j; one = λ l m i j k. nobody i }
+after-of n earlier (l ∷ ls) e = go (good-line n earlier l (else-none _ _ e .0)) (after-of n (l ∷ earlier) ls (else-none (observationSays n earlier l) _ e .1))
   where
     go : Passes n l × (clashes earlier l ≡ false) → After n (l ∷ earlier) ls → After n earlier (l ∷ ls)
     go g r = record {
@@ -74,10 +74,10 @@ nothing-said n earlier (l ∷ ls) r =
     apart e m here j k = r .one e m here (there j) k
     apart e m (there i) j k = r .apart e m i (there j) k
 
-pub lines-fit : (n : ℕ) (ls : List Observation) → observationsSay n [] ls ≡ [] → Fits n ls
-lines-fit n ls e = let r = after n [] ls e in record { good = r .good; one = r .one }
+pub lines-fit : (n : ℕ) (ls : List Observation) → observationsSay n [] ls ≡ [] → Buildable n ls
+lines-fit n ls e = let r = after-of n [] ls e in record { good = r .good; one = r .one }
 
-pub fit-lines : (n : ℕ) (ls : List Observation) → Fits n ls → observationsSay n [] ls ≡ []
+pub fit-lines : (n : ℕ) (ls : List Observation) → Buildable n ls → observationsSay n [] ls ≡ []
 fit-lines n ls f = nothing-said n [] ls (record { good = f .good; apart = λ e l i j k. nobody i; one = f .one })
 
 -- ---- before any line
@@ -92,7 +92,7 @@ module _ (n k : ℕ) (short : Bool) where
 
 -- ---- the whole
 module _ (n : ℕ) (ls : List Observation) (short : Bool) where
-  pub builds-fits : buildAnswer n ls short ≡ [] → Admitted n (length ls) short × Fits n ls
+  pub builds-fits : buildAnswer n ls short ≡ [] → Admitted n (length ls) short × Buildable n ls
   unfolding buildAnswer
   builds-fits e =
       let t = else-none (verdict (openOrder n (length ls) short)) (observationsSay n [] ls) e in
@@ -102,5 +102,5 @@ module _ (n : ℕ) (ls : List Observation) (short : Bool) where
   unfolding buildAnswer
   usable-answer u = rw (usable-said n (length ls) short u)
 
-  pub fits-builds : Admitted n (length ls) short → Fits n ls → buildAnswer n ls short ≡ []
+  pub fits-builds : Admitted n (length ls) short → Buildable n ls → buildAnswer n ls short ≡ []
   fits-builds u f = usable-answer u ∙ fit-lines n ls f

@@ -27,15 +27,15 @@ use Rattle.observation.specs.declared.Observation.{Observation}
 use Rattle.observation.specs.Distinct.{distinct, total, when, touches, joins, weightAt, gain, builtMatrix, builtRight}
 use Rattle.observation.specs.Heights.{unknowns, FitAll, fixedWeight, allWeight}
 use Rattle.integer.specs.Among.{Among}
-use Rattle.observation.specs.Stated.{Passes, Fits}
+use Rattle.observation.specs.Stated.{Passes, Buildable}
 use Rattle.observation.proofs.Totals.{distinct-among, distinct-length, total-ext, total-+, total-*, total-*r, total-swap, abs-total}
-use Rattle.observation.proofs.Marks.{Inside, inside, line-diagonal}
+use Rattle.observation.proofs.Marks.{InsideLine, inside-line, line-diagonal}
 use Rattle.observation.proofs.Rows.{line-row}
 
-twice : (z : ℤ) → z +ℤ z ≡ pos 2 *ℤ z
-twice z = sym (+-* (pos 1) (pos 1) z ∙ rw (one-* z))
+twice-sum : (z : ℤ) → z +ℤ z ≡ pos 2 *ℤ z
+twice-sum z = sym (+-* (pos 1) (pos 1) z ∙ rw (one-* z))
 
-module _ (n : ℕ) (ls : List Observation) (fit : Fits n ls) where
+module _ (n : ℕ) (ls : List Observation) (fit : Buildable n ls) where
   abbrev ds : List Observation
   ds = distinct ls
 
@@ -49,7 +49,7 @@ module _ (n : ℕ) (ls : List Observation) (fit : Fits n ls) where
       let rows : Observation → ℤ = λ (l : Observation). sum n (λ (i : ℕ). weightAt (i + 1) (i + 1) l) in
       ap (λ (z : ℤ). z +ℤ fixedWeight ls) (total-swap n (λ (i : ℕ). weightAt (i + 1) (i + 1)) ds) ∙ sym (total-+ rows fixed ds)
       ∙ total-ext (λ (l : Observation). rows l +ℤ fixed l) (λ (l : Observation). w l +ℤ w l) ds (λ l i. line-diagonal n l (good l i))
-      ∙ total-+ w w ds ∙ twice (total w ds)
+      ∙ total-+ w w ds ∙ twice-sum (total w ds)
 
   pub heights-solve : (q : ℕ) (h : ℕ → ℤ) → FitAll ls q h → (i : ℕ) → i < n → apply n (builtMatrix ls) (unknowns h) i ≡ pos q *ℤ builtRight ls i
   unfolding apply
@@ -85,9 +85,9 @@ gain-size k l = go (eqb (l .to) k) (eqb (l .«from») k) (pos (l .weight) *ℤ l
     go false true z e = omega (arith, abs-sub (pos 0) z, e)
     go false false z e = omega arith
 
-module _ (n : ℕ) (ls : List Observation) (fit : Fits n ls) (few : length ls ≤ 256) where
-  sized : (l : Observation) → Among l (distinct ls) → Inside n l
-  sized l i = inside n l (fit .good l (distinct-among [] ls l i) .inside)
+module _ (n : ℕ) (ls : List Observation) (fit : Buildable n ls) (few : length ls ≤ 256) where
+  sized : (l : Observation) → Among l (distinct ls) → InsideLine n l
+  sized l i = inside-line n l (fit .good l (distinct-among [] ls l i) .inside)
 
   pub matrix-size : (i j : ℕ) → natAbs (builtMatrix ls i j) ≤ 2 ^ 14
   matrix-size i j =

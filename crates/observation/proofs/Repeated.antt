@@ -1,5 +1,5 @@
 -- Theorem (b): in a list that builds, a copy of any of its lines at any place changes nothing.
---   repeated — the longer list builds, with the same matrix and the same right side, while it is at most 256 long
+--   repeated-builds — the longer list builds, with the same matrix and the same right side, while it is at most 256 long
 use mathlib.Core.Path.{_≡_, sym, subst}
 use mathlib.Core.Bool.{Bool}
 use mathlib.Core.List.{List, [], _∷_, _++_}
@@ -14,9 +14,9 @@ use Rattle.observation.proofs.Members.{joined}
 use Rattle.observation.proofs.Lines.{builds-fits, fits-builds}
 use Rattle.observation.proofs.Repeat.{repeated-total}
 
-pub repeated : (n : ℕ) (short : Bool) (l : Observation) (xs ys : List Observation) → buildAnswer n (xs ++ ys) short ≡ [] → Among l (xs ++ ys) → length (xs ++ l ∷ ys) ≤ 256 →
+pub repeated-builds : (n : ℕ) (short : Bool) (l : Observation) (xs ys : List Observation) → buildAnswer n (xs ++ ys) short ≡ [] → Among l (xs ++ ys) → length (xs ++ l ∷ ys) ≤ 256 →
     SameBuilt n (xs ++ ys) (xs ++ l ∷ ys) short
-repeated n short l xs ys e i few =
+repeated-builds n short l xs ys e i few =
     let t = builds-fits n (xs ++ ys) short e in
     let u = t .0 in
     let w = t .1 in

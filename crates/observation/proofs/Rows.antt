@@ -12,7 +12,7 @@ use Rattle.integer.proofs.Sum.{sum-ext, sum-zero}
 use Rattle.observation.specs.declared.Observation.{Observation}
 use Rattle.observation.specs.Distinct.{when, weightAt, gain}
 use Rattle.observation.specs.Stated.{Passes}
-use Rattle.observation.proofs.Marks.{inside, pick, sum-sub}
+use Rattle.observation.proofs.Marks.{inside-line, pick, sum-sub}
 
 less-none : (z : ℤ) → z ≡ z -ℤ pos 0
 less-none z = by-zero (simp ring (simp moves (simp ring₀)))
@@ -77,12 +77,12 @@ module _ (n : ℕ) (l : Observation) (q : ℕ) (h : ℕ → ℤ) (k : ℕ) (good
       go true p false r =
           sum-ext n term (λ (i : ℕ). at k i -ℤ at (l .to) i)
           (λ i s. rw (p, r) (leads-from (eqb k (i + 1)) (eqb (l .to) (i + 1)) (eqb (l .«from») (i + 1)) w (h (i + 1)) (λ c. ap (eqb (l .to)) (sym (eqb-true k (i + 1) c)) ∙ r)))
-          ∙ row (l .to) (inside n l (good .inside) .end) ∙ ap (λ (m : ℕ). w *ℤ h m -ℤ w *ℤ h (l .to)) (sym (eqb-true (l .«from») k p))
+          ∙ row (l .to) (inside-line n l (good .inside) .end) ∙ ap (λ (m : ℕ). w *ℤ h m -ℤ w *ℤ h (l .to)) (sym (eqb-true (l .«from») k p))
           ∙ fit-from w (h (l .«from»)) (h (l .to)) (pos q) (l .difference) fits ∙ sym (rw (p, r))
       go false p true r =
           sum-ext n term (λ (i : ℕ). at k i -ℤ at (l .«from») i)
           (λ i s. rw (p, r) (leads-to (eqb k (i + 1)) (eqb (l .to) (i + 1)) (eqb (l .«from») (i + 1)) w (h (i + 1)) (λ c. ap (eqb (l .«from»)) (sym (eqb-true k (i + 1) c)) ∙ p)))
-          ∙ row (l .«from») (inside n l (good .inside) .start) ∙ ap (λ (m : ℕ). w *ℤ h m -ℤ w *ℤ h (l .«from»)) (sym (eqb-true (l .to) k r))
+          ∙ row (l .«from») (inside-line n l (good .inside) .start) ∙ ap (λ (m : ℕ). w *ℤ h m -ℤ w *ℤ h (l .«from»)) (sym (eqb-true (l .to) k r))
           ∙ fit-to w (h (l .«from»)) (h (l .to)) (pos q) (l .difference) fits ∙ sym (rw (p, r))
       go false p false r =
           sum-ext n term (λ (i : ℕ). pos 0) (λ i s. rw (p, r) (leads-past (eqb k (i + 1)) (eqb (l .to) (i + 1)) (eqb (l .«from») (i + 1)) w (h (i + 1))))

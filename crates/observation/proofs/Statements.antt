@@ -16,7 +16,7 @@ use Rattle.rules.proofs.Verdicts.{nothing-is-not}
 use Rattle.observation.specs.declared.Observation.{Observation}
 use Rattle.observation.specs.Line.{outsideRange, sameMark, clashes}
 use Rattle.observation.specs.Order.{observationSays, observationsSay, buildAnswer}
-use Rattle.observation.specs.Stated.{Fits, Admitted, BuildStated, too-short, size-outside, too-many, line-outside, same-mark, other-contents, builds}
+use Rattle.observation.specs.Stated.{Buildable, Admitted, BuildStated, too-short, size-outside, too-many, line-outside, same-mark, other-contents, builds}
 use Rattle.observation.proofs.Members.{clash-here, nobody}
 use Rattle.observation.proofs.Lines.{lines-fit, fit-lines, usable-answer, fits-builds}
 use Rattle.observation.proofs.Firsts.{onto, onto-cases, onto-front, skip-lines, First, first-line, clash-line}
@@ -63,7 +63,7 @@ module _ (n : ℕ) (ls : List Observation) (short : Bool) where
           subst (BuildStated n ls short) (sym (usable-answer n ls short u)) (lines u (observationsSay n [] ls) refl)
 
   -- ---- what has its stated case is said
-  at : (xs ys : List Observation) (l : Observation) → ls ≡ xs ++ l ∷ ys → Fits n xs → observationsSay n [] ls ≡ orElse (observationSays n (onto xs []) l) (observationsSay n (l ∷ onto xs []) ys)
+  at : (xs ys : List Observation) (l : Observation) → ls ≡ xs ++ l ∷ ys → Buildable n xs → observationsSay n [] ls ≡ orElse (observationSays n (onto xs []) l) (observationsSay n (l ∷ onto xs []) ys)
   unfolding observationsSay
   at xs ys l e f = ap (observationsSay n []) e ∙ skip-lines n [] xs (l ∷ ys) (fit-lines n xs f)
 

@@ -27,9 +27,9 @@ refusals : (buildAnswer 33 net true ≡ 8 ∷ []) × (buildAnswer 0 net false �
 unfolding O.buildAnswer O.observationsSay L.outsideRange L.clashes L.sameContents R.inRange R.rangeOf R.ranges
 refusals = (refl, refl, refl, refl, refl, refl)
 
-equations : (builtMatrix net 0 0 ≡ pos 7) × (builtMatrix net 0 1 ≡ negsuc 4) × (builtMatrix net 1 0 ≡ negsuc 4) × (builtMatrix net 1 1 ≡ pos 6) × (builtRight net 0 ≡ pos 35) × (builtRight net 1 ≡ negsuc 18)
+net-equations : (builtMatrix net 0 0 ≡ pos 7) × (builtMatrix net 0 1 ≡ negsuc 4) × (builtMatrix net 1 0 ≡ negsuc 4) × (builtMatrix net 1 1 ≡ pos 6) × (builtRight net 0 ≡ pos 35) × (builtRight net 1 ≡ negsuc 18)
 unfolding D.distinctAfter D.total D.weightAt D.gain L.hasKey
-equations = (refl, refl, refl, refl, refl, refl)
+net-equations = (refl, refl, refl, refl, refl, refl)
 
 ends-build : buildAnswer 32 ends false ≡ []
 unfolding O.buildAnswer O.observationsSay L.outsideRange L.clashes L.sameContents R.inRange R.rangeOf R.ranges
@@ -44,11 +44,11 @@ counts : (buildAnswer 2 (replicate 256 near) false ≡ []) × (buildAnswer 2 (re
 unfolding O.buildAnswer O.observationsSay L.outsideRange L.clashes L.sameContents R.inRange R.rangeOf R.ranges
 counts = (refl, refl)
 
-abbrev Fit : Observation → Type 0
-Fit l = fitHeights (l .to) -ℤ fitHeights (l .«from») ≡ pos 2 *ℤ l .difference
+abbrev FitLine : Observation → Type 0
+FitLine l = fitHeights (l .to) -ℤ fitHeights (l .«from») ≡ pos 2 *ℤ l .difference
 
-each : {l x : Observation} {xs : List Observation} → Fit x → (Among l xs → Fit l) → Among l (x ∷ xs) → Fit l
-each f g i = either i (λ e. subst Fit (sym e) f) g
+each-fit : {l x : Observation} {xs : List Observation} → FitLine x → (Among l xs → FitLine l) → Among l (x ∷ xs) → FitLine l
+each-fit f g i = either i (λ e. subst FitLine (sym e) f) g
 
 fit-all : FitAll fitting 2 fitHeights
-fit-all = record { fixed = refl; fits = λ l. each refl (each refl (each refl nobody)) }
+fit-all = record { fixed = refl; fits = λ l. each-fit refl (each-fit refl (each-fit refl nobody)) }

@@ -29,18 +29,18 @@ use Rattle.old_edition.specs.Edition.{readingOfOld, CompleteOld}
 use Rattle.old_edition.specs.File.{formFor, rising, partsThen, oldForms, oldFile}
 use Rattle.old_edition.specs.Numbers.{NumbersInRange}
 use Rattle.old_edition.proofs.Numbers.{item-for, old-for, miscounted-for, outside-for}
-use Rattle.old_edition.proofs.Reached.{rank, Reached, reached-next, reached-part, reached-all, reached-old}
-use Rattle.old_edition.proofs.Taken.{PassesOld, Takes, now-complete, old-reading, old-complete}
+use Rattle.old_edition.proofs.Reached.{rank, GivenTo, reached-next, reached-part, reached-all, reached-old}
+use Rattle.old_edition.proofs.Taken.{PassesOld, TakesOld, now-complete, old-reading, old-complete}
 
 module _ (P : Problem) (w : NumbersInRange P) where
   size : (1 ≤ P .n) × (P .n ≤ 32)
   size = size-range (P .n) (w .size)
 
   abbrev After : ℕ → List Form → Type 0
-  After r fs = (d : Loader) → Reached (P .n) r d → Takes d fs
+  After r fs = (d : Loader) → GivenTo (P .n) r d → TakesOld d fs
 
   module _ (p : Part) where
-    passes-for : (i : ℕ) → i < P .n → {d : Loader} → Reached (P .n) (rank p i) d → PassesOld d (formFor P p i)
+    passes-for : (i : ℕ) → i < P .n → {d : Loader} → GivenTo (P .n) (rank p i) d → PassesOld d (formFor P p i)
     passes-for i l {d} h = record {
       now =
           passed-part d (rw (h .size) (w .size)) (h .ready) (formFor P p i) (item-for P p i) (rw (h .size) (both (le-leb 1 (suc i) (omega arith)) (le-leb (suc i) (P .n) (omega arith))))
@@ -51,7 +51,7 @@ module _ (P : Problem) (w : NumbersInRange P) where
 
     part-ends : (c i : ℕ) → i + c ≡ P .n → (rest : List Form) → After (rank p (P .n)) rest → After (rank p i) (rising (formFor P p) i c rest)
     unfolding rising
-    part-ends zero i e rest k d h = let j : i ≡ P .n = omega arith in k d (subst (λ (m : ℕ). Reached (P .n) (rank p m) d) j h)
+    part-ends zero i e rest k d h = let j : i ≡ P .n = omega arith in k d (subst (λ (m : ℕ). GivenTo (P .n) (rank p m) d) j h)
     part-ends (suc c) i e rest k d h =
         let next = reached-next (P .n) (size .1) h p (suc i) (omega arith) (omega arith) (omega arith) in
         (h .going, (passes-for i (omega arith) h, part-ends c (suc i) (omega arith) rest k (after d (itemOf (formFor P p i))) (rw (item-for P p i) next)))
@@ -62,13 +62,13 @@ module _ (P : Problem) (w : NumbersInRange P) where
   Follow m (p ∷ ps) = (partIndex p ≡ m) × Follow (suc m) ps
 
   parts-end : (m : ℕ) (ps : List Part) → Follow m ps → (rest : List Form) → After ((m + length ps) * 33) rest → After (m * 33) (partsThen P ps rest)
-  parts-end m [] o rest k d h = k d (subst (λ (r : ℕ). Reached (P .n) r d) (let e : m * 33 ≡ (m + 0) * 33 = omega arith in e) h)
+  parts-end m [] o rest k d h = k d (subst (λ (r : ℕ). GivenTo (P .n) r d) (let e : m * 33 ≡ (m + 0) * 33 = omega arith in e) h)
   parts-end m (p ∷ ps) o rest k d h =
       let a : m * 33 ≡ rank p 0 = omega (arith, o .0) in
       let b : (m + length (p ∷ ps)) * 33 ≡ (suc m + length ps) * 33 = omega arith in
       part-ends p (P .n) 0 (omega arith) (partsThen P ps rest)
       (λ v g. parts-end (suc m) ps (o .1) rest (subst (λ (r : ℕ). After r rest) b k) v (reached-part (P .n) (size .1) p m (o .0) g))
-      d (subst (λ (r : ℕ). Reached (P .n) r d) a h)
+      d (subst (λ (r : ℕ). GivenTo (P .n) r d) a h)
 
   end-ends : After 165 (end ∷ [])
   end-ends d h =
@@ -86,7 +86,7 @@ module _ (P : Problem) (w : NumbersInRange P) where
   abbrev ready : Loader
   ready = after sized (item.Scale (pos (P .s)) (pos (P .t)))
 
-  reached-none : Reached (P .n) 0 ready
+  reached-none : GivenTo (P .n) 0 ready
   reached-none = record {
     size = refl;
     ready = refl;
@@ -96,7 +96,7 @@ module _ (P : Problem) (w : NumbersInRange P) where
     clear = λ q k f t l. fresh-empty q k;
   }
 
-  pub forms-taken : Takes fresh (oldForms P)
+  pub forms-taken : TakesOld fresh (oldForms P)
   unfolding oldForms
   forms-taken = (
     refl,

@@ -52,7 +52,7 @@ use Rattle.old_edition.specs.Promised.{inputOld}
 use Rattle.old_edition.specs.Stated.{tolerance, too-small, converted}
 use Rattle.old_edition.proofs.Ends.{file-complete}
 use Rattle.old_edition.proofs.Promises.{same-limits}
-use Rattle.old_edition.proofs.Same.{again}
+use Rattle.old_edition.proofs.Same.{file-again}
 use Rattle.old_edition.proofs.Stated.{none-above, stated-said, always-fits}
 use Rattle.old_edition.proofs.Values.{no-tolerance}
 
@@ -208,7 +208,7 @@ unfolding numbersAlong rising oldForms textOf digits decimal numeral numerals sp
 longest-size = refl
 
 longest-new : newFile (oldFile longest) ≡ oldFile longest
-longest-new = again longest
+longest-new = file-again longest
 
 pub longest-converted : convertAnswer (oldFile longest) 21300 ≡ []
 longest-converted = always-fits (oldFile longest) 21300 (file-complete longest longest-in-range) (no-tolerance longest) (lit≤ tt)

@@ -22,7 +22,7 @@ use Rattle.checked.proofs.Limits01.{accepted-01, bound-01, inverse-bound-01}
 use Rattle.form.specs.Form.{Form}
 use Rattle.lent_lists.specs.Lists.{shortLists}
 use Rattle.lent_lists.specs.Slot.{Matrix, Right, Tolerance, Guess, Inverse, Weight}
-use Rattle.lent_lists.proofs.Lists.{long}
+use Rattle.lent_lists.proofs.Lists.{long-lent}
 use Rattle.line_runs.specs.Holds.{inputOf, InRange}
 use Rattle.line_runs.specs.Lines.{linesOf}
 use Rattle.line_runs.specs.Read.{zeros, readingOf}
@@ -86,20 +86,20 @@ module _ (u : State) (P : Problem) (same : SameNumbers (problem (inputAt u)) P) 
 
   accepts-here : checkedOf P ≡ [] → answer01 I ≡ []
   accepts-here e =
-      accepted-01 I (long (u .lists) lists .tolerance) none (answer-ready I (enough u E L lists few many) (inside u E L r) ∙ same-check (problem I) P same tolerances ∙ e)
+      accepted-01 I (long-lent (u .lists) lists .tolerance) none (answer-ready I (enough u E L lists few many) (inside u E L r) ∙ same-check (problem I) P same tolerances ∙ e)
 
   module _ (e : answer01 I ≡ []) where
     bound-here : (i : ℕ) → i < P .n → getD (solutionAfter01 I) i 0 ≡ bound P i
     bound-here i l =
         let m : i < u .loader .n = rw (same .size) l in
-        bound-01 I (long (u .lists) lists .tolerance) none e (omega (arith, small)) i m ∙ same-bound (problem I) P same tolerances i m
+        bound-01 I (long-lent (u .lists) lists .tolerance) none e (omega (arith, small)) i m ∙ same-bound (problem I) P same tolerances i m
 
     inverse-bound-here : (i j : ℕ) → i < P .n → j < P .n → getD (inverseAfter01 I) (i * P .n + j) 0 ≡ inverseBound P i j
     inverse-bound-here i j li lj =
         let m : i < u .loader .n = rw (same .size) li in
         let k : j < u .loader .n = rw (same .size) lj in
         ap (λ (n : ℕ). getD (inverseAfter01 I) (i * n + j) 0) (sym (same .size))
-        ∙ inverse-bound-01 I (long (u .lists) lists .tolerance) none e (omega (arith, square small)) i j m k
+        ∙ inverse-bound-01 I (long-lent (u .lists) lists .tolerance) none e (omega (arith, square small)) i j m k
         ∙ same-inverse-bound (problem I) P same tolerances i j m k
 
 -- ---- the new file of a complete file without tolerance

@@ -94,7 +94,7 @@ module _ (file : List ℕ) (room : ℕ) (e : convertAnswer file room ≡ []) whe
   same-limits = limits.same-limits file (convertible .complete) (convertible .untolerant)
 
   pub same-again : newFile (newFile file) ≡ newFile file
-  same-again = same.again (problemIn file)
+  same-again = same.file-again (problemIn file)
 
   pub again : (space : ℕ) → length (newFile file) ≤ space → convertAnswer (newFile file) space ≡ []
   again space l = stated-said (newFile file) space (converted (new-complete file (convertible .complete)) (no-tolerance (problemIn file)) (rw same-again l))

@@ -1,6 +1,6 @@
 -- A loader to which the forms of the parts are given in the order of the parts, each by rising i.
 --   rank p k      — the place of the form of the part p for the number k in that order
---   Reached n r d — at the scaled loader d, of n equations, the forms up to the rank r were given, and no other
+--   GivenTo n r d — at the scaled loader d, of n equations, the forms up to the rank r were given, and no other
 --   done-next, reached-next — one form more;  reached-part — from one part to the next
 --   total-none — where no part lacks a form, the sum is 0;  all-there, reached-all, reached-old — so it is after the last part: nothing is missing,
 --                   by the count in force and by 01's
@@ -19,7 +19,7 @@ use Rattle.form_values.proofs.Capped.{part-same, part-below}
 use Rattle.bit_set.specs.Places.{lacking}
 use Rattle.bit_set.proofs.Places.{none-lacking}
 use Rattle.given_forms.specs.Before.{counted01, missing01}
-use Rattle.given_forms.specs.Progress.{setOf, counted, totalOver, given, marked, missing, scaled, ended}
+use Rattle.given_forms.specs.Progress.{setOf, countedParts, totalOver, given, marked, missing, scaled, ended}
 use Rattle.loader.specs.declared.Loader.{Loader}
 use Rattle.loader.specs.Taken.{after}
 use Rattle.line_runs.proofs.Marks.{given-own, given-else}
@@ -27,7 +27,7 @@ use Rattle.line_runs.proofs.Marks.{given-own, given-else}
 abbrev pub rank : Part → ℕ → ℕ
 rank p k = partIndex p * 33 + k
 
-pub record Reached (n r : ℕ) (d : Loader) : Type 0 where
+pub record GivenTo (n r : ℕ) (d : Loader) : Type 0 where
   pub size : d .n ≡ n
   pub ready : scaled (d .stage) ≡ true
   pub going : ended (d .stage) ≡ false
@@ -37,7 +37,7 @@ pub record Reached (n r : ℕ) (d : Loader) : Type 0 where
 
 module _ (n : ℕ) (few : n ≤ 32) where
   -- one form more
-  module _ {r : ℕ} {d : Loader} (h : Reached n r d) (p : Part) (i : ℕ) (from : 1 ≤ i) (to : i ≤ n) (next : rank p i ≡ suc r) where
+  module _ {r : ℕ} {d : Loader} (h : GivenTo n r d) (p : Part) (i : ℕ) (from : 1 ≤ i) (to : i ≤ n) (next : rank p i ≡ suc r) where
     done-next : (q : Part) (k : ℕ) → 1 ≤ k → k ≤ n → rank q k ≤ rank p i → given (marked (d .sets) p i) q k ≡ true
     done-next q k f t l = go (ℕ-discrete (rank q k) (rank p i))
       where
@@ -48,7 +48,7 @@ module _ (n : ℕ) (few : n ≤ 32) where
             subst (λ (x : Part). given (marked (d .sets) p i) x k ≡ true) (part-same p q a) (subst (λ (m : ℕ). given (marked (d .sets) p i) p m ≡ true) b (given-own (d .sets) (h .five) p i))
         go (no e) = given-else (d .sets) (h .five) p i q k f from (λ a b. e (omega arith)) ∙ h .done q k f t (omega arith)
 
-    pub reached-next : Reached n (rank p i) (after d (Of p (pos i)))
+    pub reached-next : GivenTo n (rank p i) (after d (Of p (pos i)))
     reached-next = record {
       size = h .size;
       ready = h .ready;
@@ -58,7 +58,7 @@ module _ (n : ℕ) (few : n ≤ 32) where
       clear = λ q k f t l. given-else (d .sets) (h .five) p i q k f from (λ a b. omega arith) ∙ h .clear q k f t (omega arith);
     }
 
-  pub reached-part : {d : Loader} (p : Part) (m : ℕ) → partIndex p ≡ m → Reached n (rank p n) d → Reached n (suc m * 33) d
+  pub reached-part : {d : Loader} (p : Part) (m : ℕ) → partIndex p ≡ m → GivenTo n (rank p n) d → GivenTo n (suc m * 33) d
   reached-part p m e h = record {
     size = h .size;
     ready = h .ready;
@@ -73,7 +73,7 @@ total-none : (ps : List Part) (f : Part → ℕ) → ((q : Part) → f q ≡ 0) 
 total-none [] f h = refl
 total-none (q ∷ ps) f h = omega (arith, h q, total-none ps f h)
 
-module _ {n : ℕ} {d : Loader} (few : n ≤ 32) (h : Reached n 165 d) where
+module _ {n : ℕ} {d : Loader} (few : n ≤ 32) (h : GivenTo n 165 d) where
   all-there : (q : Part) → lacking (setOf (d .sets) q) n ≡ 0
   all-there q =
       none-lacking (setOf (d .sets) q) n
@@ -81,7 +81,7 @@ module _ {n : ℕ} {d : Loader} (few : n ≤ 32) (h : Reached n 165 d) where
 
   pub reached-all : missing (d .n) (d .sets) ≡ 0
   unfolding missing
-  reached-all = rw (h .size) (total-none counted (λ (q : Part). lacking (setOf (d .sets) q) n) all-there)
+  reached-all = rw (h .size) (total-none countedParts (λ (q : Part). lacking (setOf (d .sets) q) n) all-there)
 
   pub reached-old : missing01 (d .n) (d .sets) ≡ 0
   unfolding missing01

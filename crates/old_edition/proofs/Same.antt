@@ -2,7 +2,7 @@
 --   rising-ext     — equal forms;  form-same, parts-same, forms-same — the forms of a row, of the parts, and of the problem
 --   R, over-is     — Q with n, s and t of P, which are those of Q where they agree
 --   same-numbers   — problems that agree have equal files
---   again          — the file of the problem that a problem's file gives is that file
+--   file-again     — the file of the problem that a problem's file gives is that file
 --   same-check, same-report, same-bound, same-inverse-bound — problems that agree in their tolerances too are judged alike, with the same report and limits
 use mathlib.Core.Path.{_≡_, refl, ap, _∙_}
 use mathlib.Core.List.{List, [], _∷_}
@@ -73,5 +73,5 @@ module _ (P Q : Problem) (a : SameNumbers P Q) where
     pub same-inverse-bound : (i j : ℕ) → i < P .n → j < P .n → inverseBound P i j ≡ inverseBound Q i j
     same-inverse-bound i j li lj = inverse-same P Q agreeing i j li lj ∙ ap (λ (K : Problem). inverseBound K i j) over-is
 
-pub again : (P : Problem) → oldFile (problemIn (oldFile P)) ≡ oldFile P
-again P = same-numbers (problemIn (oldFile P)) P (same-file P)
+pub file-again : (P : Problem) → oldFile (problemIn (oldFile P)) ≡ oldFile P
+file-again P = same-numbers (problemIn (oldFile P)) P (same-file P)

@@ -1,5 +1,5 @@
 -- What a converter says of a file, each answer exactly in its stated case.
---   some-above, tolerance-said, none-said, none-above — some tolerance is above 0 exactly where the largest is
+--   some-above, tolerance-said, no-tolerance-said, none-above — some tolerance is above 0 exactly where the largest is
 --   said-of-line, said-open, said-complete — what is said where a line is refused, where the file stops before an end, and where it does not
 --   convert-stated — what is said is said by its stated case;  stated-said — and in its stated case it is said
 --   always-fits   — a buffer of 21,300 bytes is long enough for every new file
@@ -38,8 +38,8 @@ some-above (suc n) d h = go (decLt 0 (d n)) (some-above n d)
 tolerance-said : (P : Problem) (i : ℕ) → i < P .n → 0 < P .d i → someTolerance P ≡ true
 tolerance-said P i l h = lt-ltb 0 (largest (P .n) (P .d)) (omega (arith, largest-at (P .n) (P .d) i l))
 
-pub none-said : (P : Problem) → NoTolerance P → someTolerance P ≡ false
-none-said P h = le-ltb 0 (largest (P .n) (P .d)) (largest-≤ (P .n) (P .d) 0 (λ i l. omega (arith, h i l)))
+pub no-tolerance-said : (P : Problem) → NoTolerance P → someTolerance P ≡ false
+no-tolerance-said P h = le-ltb 0 (largest (P .n) (P .d)) (largest-≤ (P .n) (P .d) 0 (λ i l. omega (arith, h i l)))
 
 pub none-above : (P : Problem) → someTolerance P ≡ false → NoTolerance P
 none-above P e i l = omega (arith, ltb-false 0 (largest (P .n) (P .d)) e, largest-at (P .n) (P .d) i l)
@@ -86,7 +86,7 @@ module _ (file : List ℕ) (room : ℕ) where
   stated-said (not-ended q e) = said-open q e
   stated-said (tolerance c i l h) = said-complete c ∙ rw (tolerance-said (problemIn file) i l h)
   stated-said (too-small c l) = said-complete c ∙ rw (lt-ltb room (length (newFile file)) l) (either-way (someTolerance (problemIn file)) (22 ∷ []))
-  stated-said (converted c z l) = said-complete c ∙ rw (none-said (problemIn file) z, le-ltb room (length (newFile file)) l)
+  stated-said (converted c z l) = said-complete c ∙ rw (no-tolerance-said (problemIn file) z, le-ltb room (length (newFile file)) l)
 
   pub always-fits : Complete file → NoTolerance (problemIn file) → 21300 ≤ room → convertAnswer file room ≡ []
   always-fits c z l = stated-said (converted c z (omega (arith, new-size file c)))

@@ -1,6 +1,6 @@
 -- Forms that are all taken, one after another, and come to an end: by the loader in force, and by that of the old edition.
 --   PassesOld d f — no test refuses the form f at the loader d, and it is a form of 01 that 01's count does not refuse either
---   Takes d fs    — the forms fs are such, each at the loader after those before it, and the last is an end
+--   TakesOld d fs — the forms fs are such, each at the loader after those before it, and the last is an end
 --   weights-given, none-filled — at such a form no weight is filled in
 --   old-step, take-old, old-reading — what the loader of the old edition says of such forms and holds after them is what the loader in force does
 --   now-complete, old-complete — a file of such forms is complete at a new loader, and at one of the old edition
@@ -45,12 +45,12 @@ pub record PassesOld (d : Loader) (f : Form) : Type 0 where
   pub old : isOld f ≡ true
   pub counted : incomplete01 (d .n) (d .sets) (itemOf f) ≡ false
 
-abbrev pub Takes : Loader → List Form → Type 0
-Takes d [] = ended (d .stage) ≡ true
-Takes d (f ∷ fs) = (ended (d .stage) ≡ false) × (PassesOld d f × Takes (after d (itemOf f)) fs)
+abbrev pub TakesOld : Loader → List Form → Type 0
+TakesOld d [] = ended (d .stage) ≡ true
+TakesOld d (f ∷ fs) = (ended (d .stage) ≡ false) × (PassesOld d f × TakesOld (after d (itemOf f)) fs)
 
 -- ---- the loader in force
-take-now : (k : ℕ) (u : State) (fs : List Form) → shortLists (u .lists) ≡ false → Takes (u .loader) fs → Whole (readFrom k u (spelled fs))
+take-now : (k : ℕ) (u : State) (fs : List Form) → shortLists (u .lists) ≡ false → TakesOld (u .loader) fs → Whole (readFrom k u (spelled fs))
 take-now k u [] long t = rw (read-none k u) (refl, t)
 take-now k u (f ∷ fs) long t =
     let a = accepts-spelled (u .loader) (u .lists) long (t .0) f (t .1 .0 .now) in
@@ -114,7 +114,7 @@ module _ (u : State) (f : Form) (long : shortLists (u .lists) ≡ false) (going 
   unfolding readOld
   old-next k lines = rw (old-accepted, old-step)
 
-take-old : (k : ℕ) (u : State) (fs : List Form) → shortLists (u .lists) ≡ false → Takes (u .loader) fs → readOld k u (spelled fs) ≡ readFrom k u (spelled fs)
+take-old : (k : ℕ) (u : State) (fs : List Form) → shortLists (u .lists) ≡ false → TakesOld (u .loader) fs → readOld k u (spelled fs) ≡ readFrom k u (spelled fs)
 take-old k u [] long t = unfold readOld in sym (read-none k u)
 take-old k u (f ∷ fs) long t =
     let a = accepts-spelled (u .loader) (u .lists) long (t .0) f (t .1 .0 .now) in
@@ -124,7 +124,7 @@ take-old k u (f ∷ fs) long t =
     ∙ sym (read-accepted k u (spell f) (spelled fs) a)
 
 -- ---- a file of such forms
-module _ (fs : List Form) (t : Takes fresh fs) where
+module _ (fs : List Form) (t : TakesOld fresh fs) where
   pub now-complete : Complete (textOf fs)
   now-complete = let w = take-now 0 (fromNew zeros) fs zeros-long t in record { lines = rw (lines-of fs) (w .0); end = rw (lines-of fs) (w .1) }
 

@@ -1,7 +1,7 @@
 -- What the program prints of a file.
 --   text-is        — the text, from what is said;  text-refused — the line of a line's refusal
 --   answer-numbers — the numbers of the refusal's line, from what is said and the number of the line
---   first-bytes    — the first 65,536 bytes decide any file: the program may read into one buffer of that size
+--   text-first-bytes — the first 65,536 bytes decide any file: the program may read into one buffer of that size
 --   never-too-small — for a complete file without tolerance the program prints the new file: its buffer of 32,768 bytes is long enough
 use mathlib.Core.Path.{_≡_, refl}
 use mathlib.Core.List.{List, [], _∷_}
@@ -41,5 +41,5 @@ module _ (file : List ℕ) where
   pub never-too-small : Complete file → NoTolerance (problemIn file) → convertedText file ≡ newFile file
   never-too-small c z = text-is [] (always-fits file 32768 c z (omega arith))
 
-pub first-bytes : (s : List ℕ) → convertedText s ≡ convertedText (take bytesMost s)
-first-bytes = first-decide convertedText (λ s k vs q. text-refused s q)
+pub text-first-bytes : (s : List ℕ) → convertedText s ≡ convertedText (take bytesMost s)
+text-first-bytes = first-decide convertedText (λ s k vs q. text-refused s q)

@@ -3,7 +3,7 @@
 --   value-parts  — from the forms of parts, where that of the list is one of them
 --   value-from   — the numbers of every list, from the forms of a problem
 --   forms-of     — the forms of a problem's file
---   size-from, same-forms, same-file — the problem that the forms, or the file, of P give has the numbers of P;  no-tolerance — and no tolerance
+--   size-of-old, same-forms, same-file — the problem that the forms, or the file, of P give has the numbers of P;  no-tolerance — and no tolerance
 use mathlib.Core.Path.{_≡_, refl, sym, ap, subst, _∙_}
 use mathlib.Core.Bool.{Bool, true, false, cond}
 use mathlib.Core.List.{List, [], _∷_}
@@ -80,24 +80,24 @@ module _ (P : Problem) (i : ℕ) (l : i < P .n) (j : ℕ) where
   unfolding oldForms valueFrom
   value-from s = value-parts s parts (end ∷ []) (omega (arith, once (partOf s)))
 
-size-from : (P : Problem) → sizeFrom (oldForms P) ≡ P .n
+size-of-old : (P : Problem) → sizeFrom (oldForms P) ≡ P .n
 unfolding oldForms sizeFrom
-size-from P = refl
+size-of-old P = refl
 
 same-forms : (P : Problem) → SameNumbers (problemFrom (oldForms P)) P
 same-forms P = record {
-  size = size-from P;
+  size = size-of-old P;
   solution = unfold oldForms in unfold scalesFrom in refl;
   inverse-scale = unfold oldForms in unfold scalesFrom in refl;
-  matrix = λ i j li lj. value-from P i (rw (size-from P) at li) j Matrix ∙ row-at (P .A i) (P .n) (omega (arith, size-from P)) j (rw (size-from P) at lj);
-  right = λ i li. value-from P i (rw (size-from P) at li) 0 Right;
-  guess = λ i li. value-from P i (rw (size-from P) at li) 0 Guess;
-  inverse = λ i j li lj. value-from P i (rw (size-from P) at li) j Inverse ∙ row-at (P .G i) (P .n) (omega (arith, size-from P)) j (rw (size-from P) at lj);
-  weights = λ i li. ap natAbs (value-from P i (rw (size-from P) at li) 0 Weight);
+  matrix = λ i j li lj. value-from P i (rw (size-of-old P) at li) j Matrix ∙ row-at (P .A i) (P .n) (omega (arith, size-of-old P)) j (rw (size-of-old P) at lj);
+  right = λ i li. value-from P i (rw (size-of-old P) at li) 0 Right;
+  guess = λ i li. value-from P i (rw (size-of-old P) at li) 0 Guess;
+  inverse = λ i j li lj. value-from P i (rw (size-of-old P) at li) j Inverse ∙ row-at (P .G i) (P .n) (omega (arith, size-of-old P)) j (rw (size-of-old P) at lj);
+  weights = λ i li. ap natAbs (value-from P i (rw (size-of-old P) at li) 0 Weight);
 }
 
 none-in-forms : (P : Problem) → NoTolerance (problemFrom (oldForms P))
-none-in-forms P i li = ap natAbs (value-from P i (rw (size-from P) at li) 0 Tolerance)
+none-in-forms P i li = ap natAbs (value-from P i (rw (size-of-old P) at li) 0 Tolerance)
 
 pub forms-of : (P : Problem) → forms (linesOf (oldFile P)) ≡ oldForms P
 forms-of P = ap forms (lines-of (oldForms P)) ∙ forms-spelled (oldForms P)

@@ -75,8 +75,8 @@ pub listing-shows-limits : demand.ListingShowsLimits
 listing-shows-limits file old new count x b = x .bytes ∙ file-reported file (listed-none x b)
 
 -- an accepted file has a row
-some-row : (file : List ℕ) → answerOf file ≡ [] → 0 < problemIn file .n
-some-row file e =
+file-has-row : (file : List ℕ) → answerOf file ≡ [] → 0 < problemIn file .n
+file-has-row file e =
     let c = accepted-parts file e .complete in
     some (readingOf file .state) (forms (linesOf file)) (from file (c .lines) (c .end)) (inside file (c .lines) (c .end))
 
@@ -91,7 +91,7 @@ equal-listings-equal-limits file old new file′ old′ new′ count count′ x 
     let P′ = problemIn file′ in
     let b′ : take 8 (take count′ new′) ≡ bytes "(bounds " = subst (λ (l : List ℕ). take 8 l ≡ bytes "(bounds ") e b in
     let same = sym (listing-shows-limits file old new count x b) ∙ e ∙ listing-shows-limits file′ old′ new′ count′ y b′ in
-    let r = rows-one (P .n) (P .s) (P′ .n) (P′ .s) (P .X) (P′ .X) (bound P) (bound P′) (inverseBound P) (inverseBound P′) (some-row file (listed-none x b)) (some-row file′ (listed-none y b′)) same in
+    let r = rows-one (P .n) (P .s) (P′ .n) (P′ .s) (P .X) (P′ .X) (bound P) (bound P′) (inverseBound P) (inverseBound P′) (file-has-row file (listed-none x b)) (file-has-row file′ (listed-none y b′)) same in
     (r .size, λ i l. (r .guess i l, r .solution i l), r .inverse)
 
 pub check-refuses-as-stated : demand.CheckRefusesAsStated

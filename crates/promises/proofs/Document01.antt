@@ -218,4 +218,4 @@ whole-file-worked = file-worked
 
 -- ---- Marked for proof
 pub cases-hold : document.CasesHold
-cases-hold = table.cases-hold
+cases-hold = table.listing-cases-hold

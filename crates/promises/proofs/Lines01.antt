@@ -1,5 +1,5 @@
 -- The theorems for specs/Lines01, a theorem for each statement.
---   CaseOf d l line k — the case of the refusal k of a line, or of acceptance (0);  stated-case — what is stated has it
+--   LineCaseOf d l line k — the case of the refusal k of a line, or of acceptance (0);  stated-case — what is stated has it
 use mathlib.Core.Bool.{true, false}
 use mathlib.Core.List.{List, [], _∷_}
 use mathlib.Core.Logic.{_⊎_, inl, inr}
@@ -42,8 +42,8 @@ use Rattle.promises.proofs.Cases01.{Case}
 use Rattle.promises.proofs.Demands.{line-refuses-as-stated}
 use Rattle.promises.proofs.Places.{took, own-places, other-places-kept, taken-run}
 
-abbrev CaseOf : Loader → Lists → List ℕ → ℕ → Type 0
-CaseOf d l line k =
+abbrev LineCaseOf : Loader → Lists → List ℕ → ℕ → Type 0
+LineCaseOf d l line k =
     Case (eqb k 8) (shortLists l ≡ true)
     (Case (eqb k 14) ((shortLists l ≡ false) × (ended (d .stage) ≡ true))
     (Case (eqb k 1) ((shortLists l ≡ false) × ((ended (d .stage) ≡ false) × (320 < length line)))
@@ -55,7 +55,7 @@ CaseOf d l line k =
     Unit)))))))
 
 module _ (d : Loader) (l : Lists) (line : List ℕ) where
-  stated-case : {w : List ℕ} → LineStated d l line w → CaseOf d l line (getD w 0 0)
+  stated-case : {w : List ℕ} → LineStated d l line w → LineCaseOf d l line (getD w 0 0)
   stated-case (stated.too-short a) = a
   stated-case (stated.after-end a b) = (a, b)
   stated-case (stated.too-long a b c) = (a, (b, c))
@@ -69,7 +69,7 @@ module _ (d : Loader) (l : Lists) (line : List ℕ) where
   stated-case (stated.accepted f u o m i) = tt
 
 module _ (d : Loader) (line : List ℕ) (l : Lists) (r : Taken) (l′ : Lists) (x : TakenAs d line l r l′) (m : Made d) where
-  case-of : {w : List ℕ} → said (r .outcome) ≡ w → CaseOf d l line (getD w 0 0)
+  case-of : {w : List ℕ} → said (r .outcome) ≡ w → LineCaseOf d l line (getD w 0 0)
   case-of {w} e = stated-case d l line (line-refuses-as-stated d line l r l′ x m w .0 e)
 
   said-as : {w : List ℕ} → LineStated d l line w → said (r .outcome) ≡ w

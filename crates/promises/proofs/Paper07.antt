@@ -11,7 +11,7 @@ use Rattle.weight_sequence.specs.Request.{searchProblem}
 use Rattle.weight_sequence.specs.Search.{passed, weightsAfter}
 use Rattle.weight_sequence.specs.Sequence.{loads, shift, tried}
 use Rattle.weight_sequence.proofs.Bits.{bits-fit, bits-fewest}
-use Rattle.weight_sequence.proofs.Contract.{fit-of}
+use Rattle.weight_sequence.proofs.Contract.{fit-request}
 use Rattle.weight_sequence.proofs.First.{good-margins, margins-good}
 use Rattle.weight_sequence.proofs.Lists.{tried-first, tried-next}
 use Rattle.weight_sequence.proofs.Promises.{search-stated, said-search, found-usable, count-first, none-exactly, larger-allowance}
@@ -41,7 +41,7 @@ reports-place Q r weights x e =
     let z = sym (x .says) ∙ e in
     let u = found-usable Q z in (
       count-first Q r weights x e,
-      λ i l. rw (x .weights-are, z) (front-at (Q .weights) (λ (i : ℕ). pos (tried (searchProblem Q) (passed Q) i)) (pos 0) (Q .n) i l (fit-of Q (u .long) (u .inside) .long)),
+      λ i l. rw (x .weights-are, z) (front-at (Q .weights) (λ (i : ℕ). pos (tried (searchProblem Q) (passed Q) i)) (pos 0) (Q .n) i l (fit-request Q (u .long) (u .inside) .long)),
     )
 
 pub returns-margins : paper.ReturnsMargins

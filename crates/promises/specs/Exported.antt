@@ -14,7 +14,7 @@ use Rattle.half.specs.Stated.{HalfStated}
 use Rattle.lent_lists.specs.Lists.{Lists, shortLists}
 use Rattle.given_forms.specs.Progress.{ended}
 use Rattle.given_forms.specs.declared.Stage.{Stage}
-use Rattle.loader.specs.Numbers.{numbersOf, loaderOf}
+use Rattle.loader.specs.Numbers.{loaderNumbers, loaderOf}
 use Rattle.loader.specs.Taken.{fresh}
 use Rattle.line_runs.specs.Holds.{inputOf}
 use Rattle.line_runs.specs.Lines.{linesOf}
@@ -24,7 +24,7 @@ use Rattle.reply.specs.Told.{Told}
 use Rattle.calls.specs.Exported.{CheckExported, ListingExported}
 use Rattle.calls.specs.Half.{HalfExported}
 use Rattle.calls.specs.Loader.{LoaderTakeExported, LoaderCheckExported}
-use Rattle.calls.specs.Turns.{Turns, kept}
+use Rattle.calls.specs.Turns.{Turns, keptLines}
 use Rattle.promises.specs.Ways.{Accepted, StatedThrough}
 
 -- what number and places stand for has its stated case
@@ -67,10 +67,10 @@ abbrev pub RefusedTakeLeaves : Type 0
 RefusedTakeLeaves =
     (w line : List ℕ) (l : Lists) (number : ℕ) (places w′ : List ℕ) (l′ : Lists) → LoaderTakeExported w line l number places w′ l′ → (number ≡ 0 → ⊥) → (w′ ≡ w) × (l′ ≡ l)
 
--- line by line as by the whole file: the lines that were taken with 0 (`kept`), an accepted end and a check give the number and the places of the listing's call
+-- line by line as by the whole file: the lines that were taken with 0 (`keptLines`), an accepted end and a check give the number and the places of the listing's call
 abbrev pub LineByLineAsListing : Type 0
 LineByLineAsListing =
-    (l : Lists) → shortLists l ≡ false → (lines : List (List ℕ)) (numbers w′ : List ℕ) (l′ : Lists) → Turns (numbersOf fresh) l lines numbers w′ l′ →
-    ended (loaderOf w′ .stage) ≡ true → (file : List ℕ) → linesOf file ≡ kept lines numbers → (E L : List ℕ) → 32 ≤ length E → 1024 ≤ length L →
+    (l : Lists) → shortLists l ≡ false → (lines : List (List ℕ)) (numbers w′ : List ℕ) (l′ : Lists) → Turns (loaderNumbers fresh) l lines numbers w′ l′ →
+    ended (loaderOf w′ .stage) ≡ true → (file : List ℕ) → linesOf file ≡ keptLines lines numbers → (E L : List ℕ) → 32 ≤ length E → 1024 ≤ length L →
     (number : ℕ) (places E′ L′ : List ℕ) → LoaderCheckExported (loaderOf w′ .stage) (inputOf (record { loader = loaderOf w′; lists = l′ }) E L) number places E′ L′ →
     (old : List ℕ) (listed : ℕ) (shown new : List ℕ) (count : ℕ) → ListingExported file old listed shown new count → (number ≡ listed) × (places ≡ shown)

@@ -33,7 +33,7 @@ use Rattle.line_runs.specs.Run.{forms}
 use Rattle.line_runs.specs.Accepts.{Made}
 use Rattle.file_shape.specs.Given.{GivenBy}
 use Rattle.line_stated.specs.Stated.{Formed, Unrepeated}
-use Rattle.promises.specs.Ways.{numbersOf}
+use Rattle.promises.specs.Ways.{testNumbers}
 
 abbrev pub RefusedExactly : List ℕ → (Loader → Lists → List ℕ → Type 0) → Type 0
 RefusedExactly w holds =
@@ -119,7 +119,7 @@ AfterEndIs14 = RefusedExactly (14 ∷ []) (λ (d : Loader) (l : Lists) (line : L
 
 -- "Order for a line: 8, 14, 1, 2, 11, 3, 4, 12, 13"; 02, Paper 6: "8, 14, 1, 2, 11, 3 for i, 12, 3 for values, 4, 13"
 abbrev pub LineOrdered : Type 0
-LineOrdered = (c : LineCase) → numbersOf (lineOrder c) ≡ 8 ∷ 14 ∷ 1 ∷ 2 ∷ 11 ∷ 3 ∷ 12 ∷ 3 ∷ 4 ∷ 13 ∷ []
+LineOrdered = (c : LineCase) → testNumbers (lineOrder c) ≡ 8 ∷ 14 ∷ 1 ∷ 2 ∷ 11 ∷ 3 ∷ 12 ∷ 3 ∷ 4 ∷ 13 ∷ []
 
 -- "An accepted line puts n, or s and t, into the desk, or its form's other numbers at their own places in the lent lists" (`after`, `listsWith`)
 abbrev pub AcceptedLinePuts : Type 0

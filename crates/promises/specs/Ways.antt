@@ -1,6 +1,6 @@
 -- Words that many statements share. `said r` is nothing where a call accepts, else 01's number of the refusal and the places or the count that it gives.
 --   RangeIs k a b — a number of the kind k is in its range exactly where it is from a to b
---   numbersOf ts — the numbers of tests, in their order
+--   testNumbers ts — the numbers of tests, in their order
 --   Lowest n fails m — of the rows below n, m is the lowest that fails
 --   Refused w    — something is said
 --   Accepted P E L — the problem P was accepted with the limits E of the heights and L of the inverse: by a check on lists or through a loader, whose limits
@@ -35,8 +35,8 @@ use Rattle.listing.specs.Listing.{problemIn, ListedAs, AnsweredAs}
 abbrev pub RangeIs : Kind → ℤ → ℤ → Type 0
 RangeIs k a b = (z : ℤ) → inRange k z ≡ leZ a z && leZ z b
 
-abbrev pub numbersOf : List Test → List ℕ
-numbersOf ts = map (λ (t : Test). getD (t .says) 0 0) ts
+abbrev pub testNumbers : List Test → List ℕ
+testNumbers ts = map (λ (t : Test). getD (t .says) 0 0) ts
 
 pub record Lowest (n : ℕ) (fails : ℕ → Bool) (m : ℕ) : Type 0 where
   pub below : m < n

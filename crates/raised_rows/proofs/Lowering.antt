@@ -54,8 +54,8 @@ unfolding rowDot lowered
 row-dot-is {xs} {ys} {p} {q} n a b = rw (a .total, b .total) (dot-lowered 33554432 (λ (k : ℕ). getD xs (p + k) 0) (λ (k : ℕ). getD ys (q + k) 0) n)
 
 -- ---- what rows stand for
-near : (c x : ℕ) → x ≤ c + c → natAbs (pos x -ℤ pos c) ≤ c
-near c x h = simp zz (omega arith)
+near-raised : (c x : ℕ) → x ≤ c + c → natAbs (pos x -ℤ pos c) ≤ c
+near-raised c x h = simp zz (omega arith)
 
 pub lowered-below : (x : ℕ) → x ≤ raisedBy → natAbs (lowered x) ≡ raisedBy - x
 unfolding lowered
@@ -67,7 +67,7 @@ lowered-above x h = abs-difference x raisedBy ∙ omega arith
 
 pub lowered-size : (x : ℕ) → x ≤ 2 ^ 26 → natAbs (lowered x) ≤ 2 ^ 25
 unfolding lowered
-lowered-size x h = near 33554432 x h
+lowered-size x h = near-raised 33554432 x h
 
 pub row-dot-size : {xs ys : List ℕ} {p q n : ℕ} → n ≤ 32 → Small xs p n → Small ys q n → natAbs (rowDot xs p ys q n) ≤ 2 ^ 55
 unfolding rowDot

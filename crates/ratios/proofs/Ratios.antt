@@ -25,11 +25,11 @@ module _ (u v : ℕ → ℕ) where
   steepest-end {m} {n} {k} p q s = subst (λ (x : ℕ). Steepest x u v k) (le-antisymm p q) s
 
 -- by quotients, and by remainders
-less : (Q R G q r g : ℕ) → R < G → Q < q → (Q * G + R) * g ≤ (q * g + r) * G
-less Q R G q r g h l = omega (arith, mul-le-mul-right (g * G) l, mul-le-mul-right g h)
+quotient-less : (Q R G q r g : ℕ) → R < G → Q < q → (Q * G + R) * g ≤ (q * g + r) * G
+quotient-less Q R G q r g h l = omega (arith, mul-le-mul-right (g * G) l, mul-le-mul-right g h)
 
-same : (Q R G q r g : ℕ) → Q ≡ q → R * g ≤ r * G → (Q * G + R) * g ≤ (q * g + r) * G
-same Q R G q r g e h = rw e (omega arith)
+quotient-same : (Q R G q r g : ℕ) → Q ≡ q → R * g ≤ r * G → (Q * G + R) * g ≤ (q * g + r) * G
+quotient-same Q R G q r g e h = rw e (omega arith)
 
 -- which of two rows is steeper
 module _ (k P G m p g : ℕ) (hG : 0 < G) (hg : 0 < g) where
@@ -44,13 +44,13 @@ module _ (k P G m p g : ℕ) (hG : 0 < G) (hg : 0 < g) where
       go : (x : Bool) → ltb (P / G) (p / g) ≡ x → (y : Bool) → ltb (p / g) (P / G) ≡ y → (z : Bool) → ltb (P % G * g) (p % g * G) ≡ z →
           R (cond x (ratioOf m p g) (cond y (ratioOf k P G) (cond z (ratioOf m p g) (ratioOf k P G))))
       go true e y f z h =
-          b (rw (whole P G, whole p g) at (less (P / G) (P % G) G (p / g) (p % g) g (mod-lt P hG) (ltb-true (P / G) (p / g) e)))
+          b (rw (whole P G, whole p g) at (quotient-less (P / G) (P % G) G (p / g) (p % g) g (mod-lt P hG) (ltb-true (P / G) (p / g) e)))
       go false e true f z h =
-          a (rw (whole p g, whole P G) at (less (p / g) (p % g) g (P / G) (P % G) G (mod-lt p hg) (ltb-true (p / g) (P / G) f)))
+          a (rw (whole p g, whole P G) at (quotient-less (p / g) (p % g) g (P / G) (P % G) G (mod-lt p hg) (ltb-true (p / g) (P / G) f)))
       go false e false f true h =
-          b (rw (whole P G, whole p g) at (same (P / G) (P % G) G (p / g) (p % g) g (omega (arith, ltb-false (P / G) (p / g) e, ltb-false (p / g) (P / G) f)) (omega (arith, ltb-true (P % G * g) (p % g * G) h))))
+          b (rw (whole P G, whole p g) at (quotient-same (P / G) (P % G) G (p / g) (p % g) g (omega (arith, ltb-false (P / G) (p / g) e, ltb-false (p / g) (P / G) f)) (omega (arith, ltb-true (P % G * g) (p % g * G) h))))
       go false e false f false h =
-          a (rw (whole p g, whole P G) at (same (p / g) (p % g) g (P / G) (P % G) G (omega (arith, ltb-false (P / G) (p / g) e, ltb-false (p / g) (P / G) f)) (ltb-false (P % G * g) (p % g * G) h)))
+          a (rw (whole p g, whole P G) at (quotient-same (p / g) (p % g) g (P / G) (P % G) G (omega (arith, ltb-false (P / G) (p / g) e, ltb-false (p / g) (P / G) f)) (ltb-false (P % G * g) (p % g * G) h)))
 
 pub record Best (sizes margins : ℕ → ℕ) (n : ℕ) (best : Ratio) : Type 0 where
   pub at : ℕ

@@ -9,19 +9,19 @@ use Rattle.refusal.specs.Reply.{replyOf}
 use Rattle.refusal.specs.declared.Reply.{Reply}
 use Rattle.reply.specs.Told.{Told}
 
-abbrev places : Reply → List ℕ
-places r = r .first ∷ r .second ∷ []
+abbrev placesOf : Reply → List ℕ
+placesOf r = r .first ∷ r .second ∷ []
 
-told-of : (l : List ℕ) → Told l (replyOf l .number) (places (replyOf l))
+told-of : (l : List ℕ) → Told l (replyOf l .number) (placesOf (replyOf l))
 told-of [] = record { number-is = refl; places-are = refl }
 told-of (k ∷ vs) = record { number-is = refl; places-are = refl }
 
-alone-of : (l : List ℕ) → Told l (replyOf (printed 0 l) .number) (places (replyOf (printed 0 l)))
+alone-of : (l : List ℕ) → Told l (replyOf (printed 0 l) .number) (placesOf (replyOf (printed 0 l)))
 alone-of [] = record { number-is = refl; places-are = refl }
 alone-of (k ∷ []) = record { number-is = refl; places-are = refl }
 alone-of (k ∷ v ∷ vs) = record { number-is = refl; places-are = refl }
 
-module _ {r : Reply} {number : ℕ} {p : List ℕ} (l : List ℕ) (t : (number ≡ r .number) × (p ≡ places r)) where
+module _ {r : Reply} {number : ℕ} {p : List ℕ} (l : List ℕ) (t : (number ≡ r .number) × (p ≡ placesOf r)) where
   pub told : r ≡ replyOf l → Told l number p
   told e = rw (t .0, t .1, e) (told-of l)
 

@@ -63,16 +63,16 @@ and-true false e = refl
 abbrev pub sizeOf : Kind → ℕ
 sizeOf k = max (natAbs (rangeOf k .lowest)) (natAbs (rangeOf k .highest))
 
-between : (a b z : ℤ) → leZ a z ≡ true → leZ z b ≡ true → natAbs z ≤ max (natAbs a) (natAbs b)
-between a (pos b) (pos z) p q = omega (arith, leb-true z b q)
-between a (negsuc b) (pos z) p q = absurd (subst T (sym q) tt)
-between (pos a) b (negsuc z) p q = absurd (subst T (sym p) tt)
-between (negsuc a) b (negsuc z) p q = omega (arith, leb-true z a p)
+size-between : (a b z : ℤ) → leZ a z ≡ true → leZ z b ≡ true → natAbs z ≤ max (natAbs a) (natAbs b)
+size-between a (pos b) (pos z) p q = omega (arith, leb-true z b q)
+size-between a (negsuc b) (pos z) p q = absurd (subst T (sym q) tt)
+size-between (pos a) b (negsuc z) p q = absurd (subst T (sym p) tt)
+size-between (negsuc a) b (negsuc z) p q = omega (arith, leb-true z a p)
 
 pub range-size : (k : Kind) (z : ℤ) → inRange k z ≡ true → natAbs z ≤ sizeOf k
 unfolding inRange
 range-size k z e =
-    between (rangeOf k .lowest) (rangeOf k .highest) z
+    size-between (rangeOf k .lowest) (rangeOf k .highest) z
     (both-left (leZ (rangeOf k .lowest) z) (leZ z (rangeOf k .highest)) e)
     (both-right (leZ (rangeOf k .lowest) z) (leZ z (rangeOf k .highest)) e)
 
@@ -92,9 +92,9 @@ unfolding inRange
 range-test k z e = rw e
 
 -- a number of at most that size is in a range that is alike on both sides
-sized : (b : ℕ) (z : ℤ) → natAbs z ≤ suc b → leZ (negsuc b) z && leZ z (pos (suc b)) ≡ true
-sized b (pos z) h = le-leb z (suc b) h
-sized b (negsuc z) h = both (le-leb z b (omega arith)) refl
+sized-in-range : (b : ℕ) (z : ℤ) → natAbs z ≤ suc b → leZ (negsuc b) z && leZ z (pos (suc b)) ≡ true
+sized-in-range b (pos z) h = le-leb z (suc b) h
+sized-in-range b (negsuc z) h = both (le-leb z b (omega arith)) refl
 
 -- ---- the sizes of documents 01 and 02
 module _ (n : ℕ) where
@@ -165,8 +165,8 @@ module _ (z : ℤ) where
 
   pub in-matrix-range : natAbs z ≤ 2 ^ 20 → inRange Matrix z ≡ true
   unfolding inRange rangeOf ranges
-  in-matrix-range h = sized 1048575 z h
+  in-matrix-range h = sized-in-range 1048575 z h
 
   pub in-right-range : natAbs z ≤ 2 ^ 30 → inRange Right z ≡ true
   unfolding inRange rangeOf ranges
-  in-right-range h = sized 1073741823 z h
+  in-right-range h = sized-in-range 1073741823 z h

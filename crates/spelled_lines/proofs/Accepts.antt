@@ -27,7 +27,7 @@ use Rattle.lent_lists.specs.Lists.{Lists, shortLists}
 use Rattle.form_values.specs.declared.Item.the-variants.{Of}
 use Rattle.form_values.specs.declared.Part.{Part}
 use Rattle.form_values.specs.declared.Part.the-variants.{Row, Right, Guess, Inverse, Weight}
-use Rattle.form_values.proofs.Between.{between}
+use Rattle.form_values.proofs.Between.{from-to}
 use Rattle.given_forms.specs.Progress.{scaled, ended, misplaced}
 use Rattle.given_forms.proofs.Progress.{late, size-of, placed-of}
 use Rattle.loader.specs.declared.Loader.{Loader}
@@ -35,7 +35,7 @@ use Rattle.loader.specs.Answer.{lineAnswer}
 use Rattle.loader.specs.Taken.{loaderAfter, listsAfter}
 use Rattle.loader_order.proofs.Said.{Passed}
 use Rattle.loader.proofs.Exact.{formCase, formSaid, answer-form}
-use Rattle.loader.proofs.Accepted.{Accepted, accepted-form}
+use Rattle.loader.proofs.Accepted.{AcceptedLine, accepted-form}
 use Rattle.spelled_lines.proofs.Length.{bytesOf, kind-most, numerals-most, place-most, problem-length, scale-length, row-length, right-length, within-length, guess-length, inverse-length, weight-length, end-length}
 
 -- ---- the length
@@ -43,7 +43,7 @@ use Rattle.spelled_lines.proofs.Length.{bytesOf, kind-most, numerals-mo
 module _ (d : Loader) where
   place-bytes : (p : Part) (i : ℤ) → not (scaled (d .stage)) ≡ false → misplaced (d .stage) (d .n) (Of p i) ≡ false → length (numeral i) ≤ 2
   place-bytes p i a m =
-      let b = between 1 (d .n) i (placed-of (d .stage) (d .n) (Of p i) m) in
+      let b = from-to 1 (d .n) i (placed-of (d .stage) (d .n) (Of p i) m) in
       let s = size-of (d .stage) (d .n) (Of p i) (late (d .stage) a) m in
       subst (λ (z : ℤ). length (numeral z) ≤ 2) (sym (b .whole)) (place-most (natAbs i) (omega (arith, b .to, s .1)))
 
@@ -81,7 +81,7 @@ module _ (d : Loader) (l : Lists) (long : shortLists l ≡ false) (going : ended
   accepts-spelled f h =
       answer-form d l (spell f) f long going (le-ltb 320 (length (spell f)) (omega (arith, spelled-length d f h))) (read-spelled f) ∙ said-nothing d f h
 
-  pub spelled-accepted : (f : Form) → Passed (formCase d f) → Accepted d l (spell f) f
+  pub spelled-accepted : (f : Form) → Passed (formCase d f) → AcceptedLine d l (spell f) f
   unfolding loaderAfter listsAfter
   spelled-accepted f h = record {
     reads = read-spelled f;

@@ -1,6 +1,6 @@
 -- Where no line gives a weight, lines that give 1 for every i from 1 to n can stand before the end: all lines are accepted still.
 --   weight-form — a form of the part of weights is a weight form
---   Open, open-next, open-all — a loader at which nothing is missing and the weights above i were not given; (weight i + 1 1) is accepted there, and so are all
+--   OpenWeights, open-next, open-all — a loader at which nothing is missing and the weights above i were not given; (weight i + 1 1) is accepted there, and so are all
 --     the others
 --   end-form    — the line that brings a loader to its end is an end;  end-again — where nothing is missing it is accepted again
 --   with-ones   — so the lines before the end, the weights, and the end
@@ -37,7 +37,7 @@ use Rattle.loader.proofs.Accepted.{accepted-form}
 use Rattle.line_runs.specs.Run.{State, fromNew, step, forms}
 use Rattle.line_runs.specs.Accepts.{run, Accepts}
 use Rattle.integer.specs.Among.{Among}
-use Rattle.line_runs.proofs.Sound.{Sound, fresh-sound, fresh-empty, line-sound}
+use Rattle.line_runs.proofs.Sound.{SoundLoader, fresh-sound, fresh-empty, line-sound}
 use Rattle.line_runs.proofs.Marks.{given-else, missing-kept}
 use Rattle.line_runs.proofs.Runs.{found}
 use Rattle.line_runs.proofs.End.{run-sound}
@@ -49,23 +49,23 @@ use Rattle.spelled_lines.proofs.Forms.{passed-part, passed-end}
 use Rattle.spelled_lines.proofs.Runs.{run-both, accepts-both, accepts-first, accepts-second}
 
 -- ---- a weight form
-apart {ℓ} : {A : Type ℓ} (p q : Part) {i k : ℤ} → Of p i ≡ Of q k → (partIndex p ≡ partIndex q → ⊥) → A
-apart p q e n = absurd (n (let s : p ≡ q = cc in ap (λ (r : Part). partIndex r) s))
+parts-apart {ℓ} : {A : Type ℓ} (p q : Part) {i k : ℤ} → Of p i ≡ Of q k → (partIndex p ≡ partIndex q → ⊥) → A
+parts-apart p q e n = absurd (n (let s : p ≡ q = cc in ap (λ (r : Part). partIndex r) s))
 
 weight-form : (f : Form) {i : ℤ} → itemOf f ≡ Of part.Weight i → (k : ℤ) × (w : ℤ) × (f ≡ weight k w)
 weight-form (problem n) e = let z : _≡_ {A = ℕ} 0 1 = cc in absurd (omega arith)
 weight-form (scale s t) e = let z : _≡_ {A = ℕ} 0 1 = cc in absurd (omega arith)
-weight-form (row i a others) e = apart part.Row part.Weight e (λ z. omega arith)
-weight-form (right i b) e = apart part.Right part.Weight e (λ z. omega arith)
-weight-form (rightWithin i b c) e = apart part.Right part.Weight e (λ z. omega arith)
-weight-form (guess i x) e = apart part.Guess part.Weight e (λ z. omega arith)
-weight-form (inverse i g others) e = apart part.Inverse part.Weight e (λ z. omega arith)
+weight-form (row i a others) e = parts-apart part.Row part.Weight e (λ z. omega arith)
+weight-form (right i b) e = parts-apart part.Right part.Weight e (λ z. omega arith)
+weight-form (rightWithin i b c) e = parts-apart part.Right part.Weight e (λ z. omega arith)
+weight-form (guess i x) e = parts-apart part.Guess part.Weight e (λ z. omega arith)
+weight-form (inverse i g others) e = parts-apart part.Inverse part.Weight e (λ z. omega arith)
 weight-form (weight i w) e = (i, w, refl)
 weight-form end e = let z : _≡_ {A = ℕ} 0 1 = cc in absurd (omega arith)
 
 -- ---- one weight after another
-pub record Open (n i : ℕ) (u : State) : Type 0 where
-  pub sound : Sound (u .loader)
+pub record OpenWeights (n i : ℕ) (u : State) : Type 0 where
+  pub sound : SoundLoader (u .loader)
   pub size : u .loader .n ≡ n
   pub ready : scaled (u .loader .stage) ≡ true
   pub going : ended (u .loader .stage) ≡ false
@@ -73,7 +73,7 @@ pub record Open (n i : ℕ) (u : State) : Type 0 where
   pub clear : (k : ℕ) → i < k → k ≤ n → given (u .loader .sets) part.Weight k ≡ false
   pub long : shortLists (u .lists) ≡ false
 
-module _ (n i : ℕ) (u : State) (h : Open n i u) (l : i < n) where
+module _ (n i : ℕ) (u : State) (h : OpenWeights n i u) (l : i < n) where
   abbrev form : Form
   form = weight (pos (suc i)) (pos 1)
 
@@ -95,7 +95,7 @@ module _ (n i : ℕ) (u : State) (h : Open n i u) (l : i < n) where
   next-loader : step u (spell form) .loader ≡ next
   next-loader = spelled-accepted (u .loader) (u .lists) (h .long) (h .going) form passes .loader
 
-  open-next : Open n (suc i) (step u (spell form))
+  open-next : OpenWeights n (suc i) (step u (spell form))
   open-next = record {
     sound = line-sound (u .loader) (u .lists) (spell form) (h .sound);
     size = rw next-loader (h .size);
@@ -106,9 +106,9 @@ module _ (n i : ℕ) (u : State) (h : Open n i u) (l : i < n) where
     long = step-long u (spell form) next-accepted (h .long);
   }
 
-open-all : (n c i : ℕ) (u : State) → Open n i u → i + c ≡ n → Accepts u (spelled (onesFrom i c)) × Open n n (run u (spelled (onesFrom i c)))
+open-all : (n c i : ℕ) (u : State) → OpenWeights n i u → i + c ≡ n → Accepts u (spelled (onesFrom i c)) × OpenWeights n n (run u (spelled (onesFrom i c)))
 unfolding onesFrom run
-open-all n zero i u h e = let j : i ≡ n = omega arith in (tt, subst (λ (k : ℕ). Open n k u) j h)
+open-all n zero i u h e = let j : i ≡ n = omega arith in (tt, subst (λ (k : ℕ). OpenWeights n k u) j h)
 open-all n (suc c) i u h e =
     let r = open-all n c (suc i) (step u (spell (weight (pos (suc i)) (pos 1)))) (open-next n i u h (omega arith)) (omega arith) in
     ((next-accepted n i u h (omega arith), r .0), r .1)
@@ -125,7 +125,7 @@ end-item d (inverse i x others) g e = clash (ended (d .stage)) e g
 end-item d (weight i w) g e = clash (ended (d .stage)) e g
 end-item d end g e = refl
 
-module _ (u : State) (sound : Sound (u .loader)) (line : List ℕ) (a : lineAnswer (u .loader) (u .lists) line ≡ []) (e : ended (step u line .loader .stage) ≡ true) where
+module _ (u : State) (sound : SoundLoader (u .loader)) (line : List ℕ) (a : lineAnswer (u .loader) (u .lists) line ≡ []) (e : ended (step u line .loader .stage) ≡ true) where
   end-form : reading line ≡ some end
   end-form =
       let r = accepted-form (u .loader) (u .lists) line a in
@@ -146,7 +146,7 @@ module _ (u : State) (sound : Sound (u .loader)) (line : List ℕ) (a : lineAnsw
   unfolding lineAnswer
   short-line = passed (caseOf (u .loader) (u .lists) line) a .long
 
-  end-open : (n : ℕ) → u .loader .n ≡ n → shortLists (u .lists) ≡ false → ((k : ℕ) → 0 < k → k ≤ n → given (u .loader .sets) part.Weight k ≡ false) → Open n 0 u
+  end-open : (n : ℕ) → u .loader .n ≡ n → shortLists (u .lists) ≡ false → ((k : ℕ) → 0 < k → k ≤ n → given (u .loader .sets) part.Weight k ≡ false) → OpenWeights n 0 u
   end-open n z l c = record {
     sound = sound;
     size = z;
@@ -157,7 +157,7 @@ module _ (u : State) (sound : Sound (u .loader)) (line : List ℕ) (a : lineAnsw
     long = l;
   }
 
-  end-again : (n : ℕ) (v : State) → Open n n v → (lineAnswer (v .loader) (v .lists) line ≡ []) × (ended (step v line .loader .stage) ≡ true)
+  end-again : (n : ℕ) (v : State) → OpenWeights n n v → (lineAnswer (v .loader) (v .lists) line ≡ []) × (ended (step v line .loader .stage) ≡ true)
   unfolding loaderAfter
   end-again n v h =
       let p = passed-end (v .loader) (h .sound .size (late (v .loader .stage) (rw (h .ready)))) (h .ready) (rw (h .size) (h .complete)) in

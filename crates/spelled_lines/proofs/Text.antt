@@ -73,7 +73,7 @@ pub lines-of : (fs : List Form) → linesOf (textOf fs) ≡ spelled fs
 lines-of fs = ap linesOf (sym (append-nil (textOf fs))) ∙ lines-text fs [] ∙ unfold linesOf in append-nil (spelled fs)
 
 -- ---- the last line
-pub record Split (s : List ℕ) : Type 0 where
+pub record LastLine (s : List ℕ) : Type 0 where
   pub front : List ℕ
   pub tail : List ℕ
   pub line : List ℕ
@@ -81,24 +81,24 @@ pub record Split (s : List ℕ) : Type 0 where
   pub whole : wholeLines front ≡ true
   pub last : linesOf tail ≡ line ∷ []
 
-one-byte : (b : ℕ) → Split (b ∷ [])
+one-byte : (b : ℕ) → LastLine (b ∷ [])
 unfolding linesOf
 one-byte b = go (eqb b 10) refl
   where
-    go : (t : Bool) → eqb b 10 ≡ t → Split (b ∷ [])
+    go : (t : Bool) → eqb b 10 ≡ t → LastLine (b ∷ [])
     go true e = record { front = []; tail = b ∷ []; line = []; parts = refl; whole = refl; last = rw e }
     go false e = record { front = []; tail = b ∷ []; line = b ∷ []; parts = refl; whole = refl; last = rw e }
 
-one-more : (b : ℕ) (s front tail line : List ℕ) → s ≡ front ++ tail → wholeLines front ≡ true → linesOf tail ≡ line ∷ [] → Split (b ∷ s)
+last-line-more : (b : ℕ) (s front tail line : List ℕ) → s ≡ front ++ tail → wholeLines front ≡ true → linesOf tail ≡ line ∷ [] → LastLine (b ∷ s)
 unfolding linesOf
-one-more b s (c ∷ front) tail line p w e =
+last-line-more b s (c ∷ front) tail line p w e =
     record { front = b ∷ c ∷ front; tail = tail; line = line; parts = ap (λ (t : List ℕ). b ∷ t) p; whole = w; last = e }
-one-more b s [] tail line p w e = go (eqb b 10) refl
+last-line-more b s [] tail line p w e = go (eqb b 10) refl
   where
-    go : (t : Bool) → eqb b 10 ≡ t → Split (b ∷ s)
+    go : (t : Bool) → eqb b 10 ≡ t → LastLine (b ∷ s)
     go true f = record { front = b ∷ []; tail = tail; line = line; parts = ap (λ (t : List ℕ). b ∷ t) p; whole = f; last = e }
     go false f = record { front = []; tail = b ∷ s; line = b ∷ line; parts = refl; whole = refl; last = rw (f, p, e) }
 
-pub last-line : (b : ℕ) (s : List ℕ) → Split (b ∷ s)
+pub last-line : (b : ℕ) (s : List ℕ) → LastLine (b ∷ s)
 last-line b [] = one-byte b
-last-line b (c ∷ s) = let r = last-line c s in one-more b (c ∷ s) (r .front) (r .tail) (r .line) (r .parts) (r .whole) (r .last)
+last-line b (c ∷ s) = let r = last-line c s in last-line-more b (c ∷ s) (r .front) (r .tail) (r .line) (r .parts) (r .whole) (r .last)

@@ -1,5 +1,5 @@
 -- Laws of bytes written one after another.
---   none    — nothing was written
+--   wrote-nothing — nothing was written
 --   byte    — one byte was
 --   then    — one text after another: the second starts where the first ends
 --   wider   — a text of at most a bytes has at most b, a ≤ b
@@ -7,8 +7,8 @@
 --   copied, all-copied — one byte more of a text, and all of them
 --   decimal-length — a number below 10^(k + 1) has at most k + 1 digits;  decimal-digits, decimal-sized — 20 below 2^64, 19 up to 2^63
 --   small-length, next-length — one digit below 10; one more than n / 10 has, from 10 on
---   digit, digits — that digit was written; and the last one, after those of n / 10
---   minus, no-minus — the digits of a number's size were written, and a minus before them where it is negative
+--   wrote-digit, wrote-digits — that digit was written; and the last one, after those of n / 10
+--   minus, wrote-unsigned — the digits of a number's size were written, and a minus before them where it is negative
 use mathlib.Core.Path.{_≡_, refl, sym, ap, _∙_, subst}
 use mathlib.Core.List.{List, [], _∷_, _++_}
 use Prim.Native.Nat.{ℕ, zero, suc, _+_, _/_, _%_, _^_, _≤_, _<_}
@@ -49,8 +49,8 @@ all-copied {l} {new} {src} {at} {i} e s = record {
 }
 
 -- ---- one text after another
-pub none : (l : List ℕ) (at : ℕ) → Wrote 0 l at [] l at
-none l at = record { place = omega arith; stored = refl; few = omega arith }
+pub wrote-nothing : (l : List ℕ) (at : ℕ) → Wrote 0 l at [] l at
+wrote-nothing l at = record { place = omega arith; stored = refl; few = omega arith }
 
 pub byte : (l : List ℕ) (at b : ℕ) → Wrote 1 l at (b ∷ []) (set l at b) (at + 1)
 byte l at b = record { place = refl; stored = refl; few = omega arith }
@@ -95,11 +95,11 @@ pub next-length : (n : ℕ) → 10 ≤ n → length (decimal n) ≡ length (deci
 next-length n h = rw (decimal-next n h, length-append)
 
 -- ---- one digit after another
-pub digit : (l : List ℕ) (at n : ℕ) → n < 10 → Wrote (length (decimal n)) l at (decimal n) (set l at (48 + n)) (at + 1)
-digit l at n h = rw (decimal-small n h) (byte l at (48 + n))
+pub wrote-digit : (l : List ℕ) (at n : ℕ) → n < 10 → Wrote (length (decimal n)) l at (decimal n) (set l at (48 + n)) (at + 1)
+wrote-digit l at n h = rw (decimal-small n h) (byte l at (48 + n))
 
-pub digits : (n : ℕ) {o p : List ℕ} {at j : ℕ} → 10 ≤ n → Wrote (length (decimal (n / 10))) o at (decimal (n / 10)) p j → Wrote (length (decimal n)) o at (decimal n) (set p j (48 + n % 10)) (j + 1)
-digits n {o} {p} {at} {j} h x = rw (next-length n h, decimal-next n h) (then x (byte p j (48 + n % 10)))
+pub wrote-digits : (n : ℕ) {o p : List ℕ} {at j : ℕ} → 10 ≤ n → Wrote (length (decimal (n / 10))) o at (decimal (n / 10)) p j → Wrote (length (decimal n)) o at (decimal n) (set p j (48 + n % 10)) (j + 1)
+wrote-digits n {o} {p} {at} {j} h x = rw (next-length n h, decimal-next n h) (then x (byte p j (48 + n % 10)))
 
 -- ---- with a minus before them
 pub minus : (z : ℤ) {m : ℕ} {o p : List ℕ} {at j : ℕ} → ltZ z (pos 0) ≡ true → m ≡ natAbs z → natAbs z < 2 ^ 63 → Wrote (length (decimal m)) (set o at 45) (at + 1) (decimal m) p j → Wrote 20 o at (numeral z) p j
@@ -108,14 +108,14 @@ minus (pos n) t e h x = absurd (omega (arith, ltb-true n 0 t))
 minus (negsuc n) {m} {o} {p} {at} {j} t e h x =
     wider 20 (omega (arith, decimal-sized (suc n) (omega arith))) (rw e at (then (byte o at 45) x))
 
-pub no-minus : (z : ℤ) {m : ℕ} {o p : List ℕ} {at j : ℕ} → ltZ z (pos 0) ≡ false → m ≡ natAbs z → natAbs z < 2 ^ 63 → Wrote (length (decimal m)) o at (decimal m) p j → Wrote 20 o at (numeral z) p j
+pub wrote-unsigned : (z : ℤ) {m : ℕ} {o p : List ℕ} {at j : ℕ} → ltZ z (pos 0) ≡ false → m ≡ natAbs z → natAbs z < 2 ^ 63 → Wrote (length (decimal m)) o at (decimal m) p j → Wrote 20 o at (numeral z) p j
 unfolding numeral
-no-minus (pos n) {m} t e h x = wider 20 (omega (arith, decimal-sized n (omega arith))) (rw e at x)
-no-minus (negsuc n) t e h x = absurd (subst T t tt)
+wrote-unsigned (pos n) {m} t e h x = wider 20 (omega (arith, decimal-sized n (omega arith))) (rw e at x)
+wrote-unsigned (negsuc n) t e h x = absurd (subst T t tt)
 
 -- room for the digits of a size
-pub room : (z : ℤ) {m : ℕ} → m ≡ natAbs z → natAbs z < 2 ^ 63 → length (decimal m) ≤ 19
-room z {m} e h = decimal-sized m (omega arith)
+pub wrote-room : (z : ℤ) {m : ℕ} → m ≡ natAbs z → natAbs z < 2 ^ 63 → length (decimal m) ≤ 19
+wrote-room z {m} e h = decimal-sized m (omega arith)
 
-pub natural : {n : ℕ} {o p : List ℕ} {at j : ℕ} → n < 2 ^ 64 → Wrote (length (decimal n)) o at (decimal n) p j → Wrote 20 o at (decimal n) p j
-natural {n} h x = wider 20 (decimal-digits n h) x
+pub wrote-natural : {n : ℕ} {o p : List ℕ} {at j : ℕ} → n < 2 ^ 64 → Wrote (length (decimal n)) o at (decimal n) p j → Wrote 20 o at (decimal n) p j
+wrote-natural {n} h x = wider 20 (decimal-digits n h) x

@@ -1,5 +1,5 @@
 -- Where a search of the sequence stopped; cited by contracts inside.
---   Reached P a r — the search of the first a lists stopped at r: how many lists were passed over, and the list there
+--   SearchedTo P a r — the search of the first a lists stopped at r: how many lists were passed over, and the list there
 use mathlib.Core.Path.{_≡_}
 use Prim.Native.Nat.{ℕ}
 use Rattle.enclosure.specs.Problem.{Problem}
@@ -7,6 +7,6 @@ use Rattle.reckoning.specs.Arrays.{Begins}
 use Rattle.weight_sequence.specs.Sequence.{tried, firstGood}
 use Rattle.weight_search.specs.declared.Last.{Last}
 
-pub record Reached (P : Problem) (a : ℕ) (r : Last) : Type 0 where
+pub record SearchedTo (P : Problem) (a : ℕ) (r : Last) : Type 0 where
   pub place : r .passed ≡ firstGood P a
   pub list : Begins 0 (r .weights) (P .n) (tried P (r .passed))

@@ -11,7 +11,7 @@ ghost use Rattle.enclosure.specs.Problem.{problemOf};
 ghost use Rattle.weight_sequence.specs.Request.{request, searchShort, searchInRanges};
 ghost use Rattle.weight_sequence.specs.Search.{FoundAs};
 ghost use Rattle.weight_steps.specs.Steps.{Below};
-ghost use Rattle.weight_search.specs.Reached.{Reached};
+ghost use Rattle.weight_search.specs.Reached.{SearchedTo};
 use ranges::are_lists_in_range;
 use ranges::are_sizes_in_range;
 use rules::Refusal;
@@ -34,7 +34,7 @@ pub struct Last {
 fn search(t: u32, matrix: &[i64], inverse: &[i64], n: usize, allowance: u32) -> Last
     requires { ⌜ (t ≤ 20) × (n ≤ 32) ⌝ }
     requires { ⌜ MatrixList (now matrix) n × MatrixList (now inverse) n ⌝ }
-    ensures { λ r. ⌜ Reached (problemOf n 0 t (now (matrix .entry)) [] [] [] (now (inverse .entry)) []) allowance r ⌝ }
+    ensures { λ r. ⌜ SearchedTo (problemOf n 0 t (now (matrix .entry)) [] [] [] (now (inverse .entry)) []) allowance r ⌝ }
 {
     let sizes = defect_sizes(t, matrix, inverse, n);
     let mut weights = [1u64; 32];

@@ -16,26 +16,26 @@ use Rattle.integer.specs.Finite.{first}
 use Rattle.integer.proofs.Search.{Searched, found, nowhere, searched}
 use Rattle.weight_sequence.specs.Sequence.{bits}
 
-above : (k : ℕ) → k < 2 ^ k
-above zero = lit< tt
-above (suc k) = omega (arith, above k, two-pow-succ k)
+power-above : (k : ℕ) → k < 2 ^ k
+power-above zero = lit< tt
+power-above (suc k) = omega (arith, power-above k, two-pow-succ k)
 
-abbrev fits : ℕ → ℕ → Bool
-fits u k = leb (u / 2 ^ k) 1023
+abbrev fitsBits : ℕ → ℕ → Bool
+fitsBits u k = leb (u / 2 ^ k) 1023
 
 pub bits-fit : (u : ℕ) → u / 2 ^ bits u ≤ 1023
 unfolding bits
-bits-fit u = go (searched u (fits u))
+bits-fit u = go (searched u (fitsBits u))
   where
-    go : Searched u (fits u) → u / 2 ^ first u (fits u) ≤ 1023
+    go : Searched u (fitsBits u) → u / 2 ^ first u (fitsBits u) ≤ 1023
     go (found k l e p h) = rw e (leb-true (u / 2 ^ k) 1023 p)
-    go (nowhere e h) = rw e (rw (div-eq-of-lt (above u)) (omega arith))
+    go (nowhere e h) = rw e (rw (div-eq-of-lt (power-above u)) (omega arith))
 
 pub bits-fewest : (u k : ℕ) → k < bits u → 1023 < u / 2 ^ k
 unfolding bits
-bits-fewest u k l = go (searched u (fits u))
+bits-fewest u k l = go (searched u (fitsBits u))
   where
-    go : Searched u (fits u) → 1023 < u / 2 ^ k
+    go : Searched u (fitsBits u) → 1023 < u / 2 ^ k
     go (found i m e p h) = leb-false (u / 2 ^ k) 1023 (h k (omega arith))
     go (nowhere e h) = leb-false (u / 2 ^ k) 1023 (h k (omega arith))
 

@@ -5,8 +5,8 @@ use Rattle.integer.specs.Finite.{sum, sumℕ, largest, first}
 use Rattle.linear.specs.Matrix.{apply, product, identity}
 use Rattle.enclosure.specs.Reckoning.{defect, load, margin}
 use Rattle.weight_sequence.specs.Sequence.{bits, tried, good}
-use Rattle.weight_sequence.specs.Cases.{workedRows, allWorkedHold}
+use Rattle.weight_sequence.specs.Cases.{searchCases, searchCasesHold}
 
-pub worked-hold : allWorkedHold workedRows ≡ true
+pub search-cases-hold : searchCasesHold searchCases ≡ true
 unfolding sum sumℕ largest first apply product identity defect load margin bits tried good
-worked-hold = refl
+search-cases-hold = refl

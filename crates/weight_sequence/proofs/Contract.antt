@@ -1,6 +1,6 @@
 -- The contract of a search for weights, case by case.
---   LongRequest, long-of — lists that are not too short are long enough
---   FitRequest, fit-of — a request that passes 8 and 3: n, t and the allowance in their ranges, the numbers used in theirs, the weight
+--   LongRequest, long-request — lists that are not too short are long enough
+--   FitRequest, fit-request — a request that passes 8 and 3: n, t and the allowance in their ranges, the numbers used in theirs, the weight
 --     list long enough
 --   answer-short, answer-range, answer-found, answer-none — what is said
 --   found-short, found-range, found-none, found-list — the contract where 8 is said, where 3 is, where 18 is, and where a list is found
@@ -37,8 +37,8 @@ pub record LongRequest (Q : Request) : Type 0 where
   pub inverse : 1024 ≤ length (Q .inverse)
   pub weights : 32 ≤ length (Q .weights)
 
-pub long-of : (Q : Request) → searchShort Q ≡ false → LongRequest Q
-long-of Q h =
+pub long-request : (Q : Request) → searchShort Q ≡ false → LongRequest Q
+long-request Q h =
     let g = neither-right (shortMatrix (length (Q .matrix))) _ h in
     record {
       matrix = ltb-false _ 1024 (neither-left _ _ h);
@@ -54,9 +54,9 @@ pub record FitRequest (Q : Request) : Type 0 where
   pub inverse : MatrixList (Q .inverse) (Q .n)
   pub long : Q .n ≤ length (Q .weights)
 
-pub fit-of : (Q : Request) → searchShort Q ≡ false → searchInRanges Q ≡ true → FitRequest Q
-fit-of Q e f =
-    let long = long-of Q e in
+pub fit-request : (Q : Request) → searchShort Q ≡ false → searchInRanges Q ≡ true → FitRequest Q
+fit-request Q e f =
+    let long = long-request Q e in
     let sizes : searchSizes (Q .n) (Q .t) (Q .allowance) ≡ true = both-left _ _ f in
     let lists : searchLists (Q .n) (Q .matrix) (Q .inverse) ≡ true = both-right (searchSizes (Q .n) (Q .t) (Q .allowance)) _ f in
     let few : Q .n ≤ 32 = size-range (Q .n) (both-left _ _ sizes) .1 in
@@ -117,7 +117,7 @@ module _ (Q : Request) where
     unfolding countAfter weightsAfter
     first-written l =
         let a = answer-found e f l in
-        let long = fit-of Q e f .long in
+        let long = fit-request Q e f .long in
         record {
           says = sym a;
           count = sym (accepted-new _ _ a);

@@ -1,6 +1,6 @@
 -- Every list of the sequence holds weights.
 --   tried-first, tried-next — list 1, and the list after another
---   shifted — a shifted number is no larger than the shifted largest one
+--   shifted-small — a shifted number is no larger than the shifted largest one
 --   next-low, next-high, tried-low, tried-high — the numbers of a list are 1 to 1,024
 --   tried-range — so they are in the range of weights
 use mathlib.Core.Path.{_≡_, refl, ap}
@@ -20,8 +20,8 @@ use Rattle.enclosure.specs.Problem.{Problem}
 use Rattle.weight_sequence.specs.Sequence.{loads, bits, next, tried}
 use Rattle.weight_sequence.proofs.Bits.{bits-fit}
 
-pub shifted : (u x k : ℕ) → x ≤ u → u / 2 ^ k ≤ 1023 → x / 2 ^ k ≤ 1023
-shifted u x k l h =
+pub shifted-small : (u x k : ℕ) → x ≤ u → u / 2 ^ k ≤ 1023 → x / 2 ^ k ≤ 1023
+shifted-small u x k l h =
     let p : 0 < 2 ^ k = one-le-pow k 2 (omega arith) in
     let a : u < 1024 * 2 ^ k = div-lt-iff-lt-mul p .0 (omega arith) in
     let b : x / 2 ^ k < 1024 = div-lt-iff-lt-mul p .1 (omega arith) in
@@ -42,7 +42,7 @@ module _ (P : Problem) where
   next-high : (w : ℕ → ℕ) (i : ℕ) → i < P .n → next P w i ≤ 1024
   next-high w i l =
       let u : ℕ = largest (P .n) (loads P w) in
-      omega (arith, shifted u (loads P w i) (bits u) (largest-at (P .n) (loads P w) i l) (bits-fit u))
+      omega (arith, shifted-small u (loads P w i) (bits u) (largest-at (P .n) (loads P w) i l) (bits-fit u))
 
   pub tried-low : (k i : ℕ) → 1 ≤ tried P k i
   unfolding tried

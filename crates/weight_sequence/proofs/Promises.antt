@@ -27,7 +27,7 @@ use Rattle.weight_sequence.specs.declared.Found.{Found}
 use Rattle.weight_sequence.specs.Request.{Request, searchProblem, searchShort, searchInRanges, searchLists}
 use Rattle.weight_sequence.specs.Search.{saidFound, countOf, passed, searchAnswer, countAfter, weightsAfter, FoundAs}
 use Rattle.weight_sequence.specs.Promised.{UsableRequest, SearchStated, is-8, is-3, is-18, is-0, PlaceOfFirstGood, NoGood, allowing}
-use Rattle.weight_sequence.proofs.Contract.{fit-of, answer-short, answer-range, answer-found, answer-none}
+use Rattle.weight_sequence.proofs.Contract.{fit-request, answer-short, answer-range, answer-found, answer-none}
 use Rattle.weight_sequence.proofs.First as first
 use Rattle.weight_sequence.proofs.Sizes.{tried-load}
 
@@ -51,11 +51,11 @@ said-search Q (is-3 e f) = answer-range Q e f
 said-search Q (is-18 u l) = answer-none Q (u .long) (u .inside) l
 said-search Q (is-0 u l) = answer-found Q (u .long) (u .inside) l
 
-found-case : (Q : Request) {w : List ℕ} → SearchStated Q w → w ≡ [] → UsableRequest Q × (passed Q < Q .allowance)
-found-case Q (is-8 e) z = absurd (nothing-is-not z)
-found-case Q (is-3 e f) z = absurd (nothing-is-not z)
-found-case Q (is-18 u l) z = absurd (nothing-is-not z)
-found-case Q (is-0 u l) z = (u, l)
+search-found : (Q : Request) {w : List ℕ} → SearchStated Q w → w ≡ [] → UsableRequest Q × (passed Q < Q .allowance)
+search-found Q (is-8 e) z = absurd (nothing-is-not z)
+search-found Q (is-3 e f) z = absurd (nothing-is-not z)
+search-found Q (is-18 u l) z = absurd (nothing-is-not z)
+search-found Q (is-0 u l) z = (u, l)
 
 none-case : (Q : Request) {w : List ℕ} → SearchStated Q w → w ≡ 18 ∷ [] → UsableRequest Q × (Q .allowance ≤ passed Q)
 none-case Q (is-8 e) z = let y : _≡_ {A = ℕ} 8 18 = cc in absurd (omega arith)
@@ -64,7 +64,7 @@ none-case Q (is-18 u l) z = (u, l)
 none-case Q (is-0 u l) z = absurd (nothing-is-not (sym z))
 
 pub found-usable : (Q : Request) → searchAnswer Q ≡ [] → UsableRequest Q
-found-usable Q z = found-case Q (search-stated Q) z .0
+found-usable Q z = search-found Q (search-stated Q) z .0
 
 by-number : (Q : Request) {w : List ℕ} → SearchStated Q w → ((getD w 0 0 ≡ 0 → w ≡ []) × (getD w 0 0 ≡ 18 → w ≡ 18 ∷ []))
 by-number Q (is-8 e) = (λ z. absurd (omega arith), λ z. absurd (omega arith))
@@ -81,7 +81,7 @@ number-none Q = by-number Q (search-stated Q) .1
 -- ---- the count
 module _ (Q : Request) (r : Found) (weights : List ℤ) (x : FoundAs Q r weights) where
   found-here : saidFound r ≡ [] → UsableRequest Q × (passed Q < Q .allowance)
-  found-here z = found-case Q (search-stated Q) (sym (x .says) ∙ z)
+  found-here z = search-found Q (search-stated Q) (sym (x .says) ∙ z)
 
   pub count-first : saidFound r ≡ [] → PlaceOfFirstGood Q (countOf r)
   unfolding countAfter
@@ -107,7 +107,7 @@ module _ (Q : Request) (r : Found) (weights : List ℤ) (x : FoundAs Q r weights
 -- ---- sizes
 pub sums-fit : (Q : Request) → UsableRequest Q → (k m : ℕ) → m < Q .n → loads (searchProblem Q) (tried (searchProblem Q) k) m ≤ 2 ^ 60 + 2 ^ 35
 sums-fit Q u =
-    let f = fit-of Q (u .long) (u .inside) in
+    let f = fit-request Q (u .long) (u .inside) in
     tried-load (searchProblem Q)
     (record {
       few = f .few;
@@ -117,25 +117,25 @@ sums-fit Q u =
     })
 
 -- ---- a larger allowance
-other : (x y z z′ l : Bool) → (x && (y && z)) && l ≡ true → z′ ≡ true → (x && (y && z′)) && l ≡ true
-other false y z z′ l e f = e
-other true false z z′ l e f = e
-other true true false z′ l e f = absurd (subst T (sym e) tt)
-other true true true z′ l e f = rw f e
+other-test : (x y z z′ l : Bool) → (x && (y && z)) && l ≡ true → z′ ≡ true → (x && (y && z′)) && l ≡ true
+other-test false y z z′ l e f = e
+other-test true false z z′ l e f = e
+other-test true true false z′ l e f = absurd (subst T (sym e) tt)
+other-test true true true z′ l e f = rw f e
 
 module _ (Q : Request) (b : ℕ) (more : Q .allowance ≤ b) (most : b ≤ 64) (z : searchAnswer Q ≡ []) where
   usable : UsableRequest Q
   usable = found-usable Q z
 
   below : passed Q < Q .allowance
-  below = found-case Q (search-stated Q) z .1
+  below = search-found Q (search-stated Q) z .1
 
   same : passed (allowing Q b) ≡ passed Q
   same = first.larger-allowance (searchProblem Q) (Q .allowance) below b more
 
   ranges : searchInRanges (allowing Q b) ≡ true
   ranges =
-      other (inRange kind.Size (pos (Q .n))) (inRange kind.InverseScale (pos (Q .t))) (inRange kind.Allowance (pos (Q .allowance))) (inRange kind.Allowance (pos b))
+      other-test (inRange kind.Size (pos (Q .n))) (inRange kind.InverseScale (pos (Q .t))) (inRange kind.Allowance (pos (Q .allowance))) (inRange kind.Allowance (pos b))
       (searchLists (Q .n) (Q .matrix) (Q .inverse)) (usable .inside) (in-allowance-range b (omega (arith, below)) most)
 
   said-too : searchAnswer (allowing Q b) ≡ []

@@ -27,7 +27,7 @@ use Rattle.weight_sequence.specs.Sequence.{weighted, loads, bits, next, 
 use Rattle.weight_sequence.specs.Request.{Request, request, searchProblem, searchShort, searchInRanges}
 use Rattle.weight_sequence.specs.Search.{saidFound, countOf, passed, searchAnswer, countAfter, weightsAfter, FoundAs}
 use Rattle.weight_sequence.specs.Promised.{AgreeingRequests}
-use Rattle.weight_sequence.proofs.Contract.{fit-of}
+use Rattle.weight_sequence.proofs.Contract.{fit-request}
 use Rattle.weight_sequence.proofs.Listed.{listed-at}
 use Rattle.weight_sequence.proofs.Promises.{found-usable}
 
@@ -106,9 +106,9 @@ module _ (Q : Request) (matrix inverse weights : List ℤ) (long : searchShort Q
           let u = found-usable Q z in
           let v = found-usable R y in
           rw (accepted-new (written (Q .weights) 0 1 (λ (i : ℕ). pos (tried (searchProblem Q) (passed Q) i)) (Q .n)) (Q .weights) z, accepted-new (written weights 0 1 (λ (i : ℕ). pos (tried (searchProblem R) (passed R) i)) (Q .n)) weights y)
-          (listed-at (Q .n) (Q .t) (Q .matrix) (Q .inverse) (Q .weights) (passed Q) (fit-of Q (u .long) (u .inside) .long) i l
+          (listed-at (Q .n) (Q .t) (Q .matrix) (Q .inverse) (Q .weights) (passed Q) (fit-request Q (u .long) (u .inside) .long) i l
           ∙ ap pos (list-same (passed Q) i l ∙ ap (λ (x : ℕ). tried (searchProblem R) x i) passed-same)
-          ∙ sym (listed-at (Q .n) (Q .t) matrix inverse weights (passed R) (fit-of R (v .long) (v .inside) .long) i l))
+          ∙ sym (listed-at (Q .n) (Q .t) matrix inverse weights (passed R) (fit-request R (v .long) (v .inside) .long) i l))
 
     weights-here : Q .weights ≡ weights → weightsAfter Q ≡ weightsAfter R
     unfolding weightsAfter

@@ -16,7 +16,7 @@ use Rattle.dependent.specs.Nets.{Attached, attachedBy}
 use Rattle.dependent.specs.Order.{dependentShort}
 use Rattle.dependent.specs.Stated.{UsableDependent}
 use Rattle.dependent.proofs.Statements.{own-fit}
-use Rattle.attached_check.proofs.Handed.{Handed, coupling-list, scaled-list, own-slacks, workable, reckoned-attached}
+use Rattle.attached_check.proofs.Handed.{HandedDependent, coupling-list, scaled-list, own-slacks, workable, reckoned-attached}
 use Rattle.attached_check.proofs.Refused.{attached-short, attached-range}
 use borrow.Author.Needs.{needs}
 use Rattle.attached_check.proofs.check_attached.Statement.{statement}
@@ -101,7 +101,7 @@ abbrev place : tie.After-allowed-of2 → tie.Then6
 place z = at-base (at-sums (at-allowed z)) .before .before
 
 handed : (z : tie.After-allowed-of2) →
-    Handed (start6 (place z) .args .marks) (start6 (place z) .args .main-guess .now) (start6 (place z) .args .main-limits) (start6 (place z) .args .coupling .now) (I (start6 (place z)))
+    HandedDependent (start6 (place z) .args .marks) (start6 (place z) .args .main-guess .now) (start6 (place z) .args .main-limits) (start6 (place z) .args .coupling .now) (I (start6 (place z)))
     (at-base (at-sums (at-allowed z)) .before .scaled-right .result) (at-base (at-sums (at-allowed z)) .base-of .result) (at-sums (at-allowed z) .before .before .slacks-of .result)
     (at-sums (at-allowed z) .before .slacks-with .result) (at-allowed z .allowed-of .result) (at-sums (at-allowed z) .row-sums-of .result) (z .allowed-of2 .result)
 handed z = record {

@@ -13,7 +13,7 @@ use Rattle.raised_rows.specs.Raised.{loweredRows}
 use Rattle.raised_rows.proofs.Filling.{rows-room}
 use Rattle.reckoning.specs.Arrays.{Begins}
 use Rattle.reckoning.proofs.Filled.{begins-none, begins-more, begins-end}
-use Rattle.bounds.proofs.Column.{slack-sum, no-slack}
+use Rattle.bounds.proofs.Column.{slack-sum, no-slack-sum}
 use borrow.Author.Needs.{needs}
 use Rattle.bounds.proofs.add_slacks.Statement.{statement}
 use Rattle.bounds.proofs.add_slacks.Tie as tie
@@ -34,7 +34,7 @@ sum-of-requires c κs = let p = c .before .pre in (p .0, record { most = λ k l.
 returns : tie.Need-returns Inv-loop μ-loop
 returns c =
     let s = c .before .before .before in
-    record { each = λ m l. omega (arith, no-slack (s .args .n) (λ (j : ℕ). natAbs (loweredRows (s .args .rows .now) (s .args .n) m j)) (λ (j : ℕ). getD (s .args .slacks .now) j 0) (sym (c .before .sum-of .ensures) ∙ c .if1 .taken)) }
+    record { each = λ m l. omega (arith, no-slack-sum (s .args .n) (λ (j : ℕ). natAbs (loweredRows (s .args .rows .now) (s .args .n) m j)) (λ (j : ℕ). getD (s .args .slacks .now) j 0) (sym (c .before .sum-of .ensures) ∙ c .if1 .taken)) }
 
 loop-holds : tie.Need-loop-holds Inv-loop μ-loop
 loop-holds c = (omega arith, (carried-first _ _, (refl, begins-none _ _ _)))

@@ -8,7 +8,7 @@ use Rattle.raised_rows.proofs.Lowering.{row-as}
 use Rattle.enclosure.specs.Reckoning.{sizesWith}
 use Rattle.reckoning.specs.Arrays.{Begins}
 use Rattle.bounds.specs.Limits.{inversePart}
-use Rattle.bounds.proofs.Column.{image-size, slack-sizes, sized, slack-near, near-reach, bounds-of-sizes}
+use Rattle.bounds.proofs.Column.{image-size, slack-sizes, sizes-small, slack-near, near-reach, bounds-of-sizes}
 use borrow.Author.Needs.{needs}
 use Rattle.bounds.proofs.column_bounds.Statement.{statement}
 use Rattle.bounds.proofs.column_bounds.Tie as tie
@@ -60,7 +60,7 @@ bounds-of-requires : tie.Need-bounds-of-requires
 bounds-of-requires c κs =
     let a = c .before in
     let s = start (a .before) in
-    (s .pre .0, (sized (s .pre .0 .1) (s .pre .1 .0) (s .pre .1 .1 .0) (sizes-are a), s .pre .1 .1 .1))
+    (s .pre .0, (sizes-small (s .pre .0 .1) (s .pre .1 .0) (s .pre .1 .1 .0) (sizes-are a), s .pre .1 .1 .1))
 
 returns : tie.Need-returns
 returns c = bounds-of-sizes _ _ _ _ _ (sizes-are (c .before .before)) (c .bounds-of .ensures)

@@ -43,7 +43,7 @@ use Rattle.observation.specs.declared.Built.{Built}
 use Rattle.gathering.specs.declared.Gathered.{Gathered}
 use Rattle.gathering.specs.declared.Progress.{Progress}
 use Rattle.observation.specs.declared.Observation.{Observation}
-use Rattle.gathering.specs.Gathered.{together, gathered, few, opening, noLines}
+use Rattle.gathering.specs.Gathered.{together, gathered, few, openingProgress, noLines}
 use Rattle.observation.proofs.Built as B
 use Rattle.observation.proofs.Built.Laws as B′
 use Rattle.equations.specs.declared.Layout.{Layout}
@@ -103,7 +103,7 @@ module _ {M : Type 1} (𝓤 : URA M) (H : Heap 𝓤) (A : Atoms 𝓤) (W : Given
         use2 W (raw (Open 𝓤 H A mem run .pre (to-open 𝓤 H A W mem run κ κ′ κ″ q q′ q″ n x lay m r nf lf))) (asked-open 𝓤 H A W mem run κ κ′ κ″ q q′ q″ n x lay m r nf lf) $
         calls-at ! fm (Open 𝓤 H A mem run) known-open (to-open 𝓤 H A W mem run κ κ′ κ″ q q′ q″ n x lay m r nf lf) (and-then ! (load ! (from ! (stop !)) (look ! 23 refl)) (and-then ! (load ! (from ! (stop !)) (look ! 9 refl)) (no-more !))) (λ v.
         use1 W (later (some (λ (s : Progress). (‵ ftrue ⊛ ‵ (P.the-row .own s (v ∷ []))) ⊛ raw (ensured 𝓤 H A open-fn.ended (open-fn.clauses 𝓤 H A mem run) tt (n, (k, tt)) tt s)))) (id⊢ 𝓤 _) $ await ! tt $ pick ! (λ s.
-        split ! $ move ! (1 ∷ []) $ use1 W (raw (fact 𝓤 (s ≡ opening n k))) (said-open 𝓤 H A W mem run κ κ′ κ″ q q′ q″ n x lay m r nf lf s) $ heard ! (s ≡ opening n k) (λ p. split ! $ move ! (1 ∷ []) $
+        split ! $ move ! (1 ∷ []) $ use1 W (raw (fact 𝓤 (s ≡ openingProgress n k))) (said-open 𝓤 H A W mem run κ κ′ κ″ q q′ q″ n x lay m r nf lf s) $ heard ! (s ≡ openingProgress n k) (λ p. split ! $ move ! (1 ∷ []) $
         peeks ! P.the-row (Is P.the-row) (shows 𝓤 H A P.the-row) s (v ∷ []) (λ is₀. land ! (from ! (stop !)) (init ! 14 refl (typed-far 𝓤 H A W mem run κ κ′ κ″ q q′ q″ n x lay m r nf lf s v is₀)) $ move ! (1 ∷ []) $ drop ! $
         -- what each parameter owns: [what was opened; _12; …; the tokens; what is owned]
         move ! (28 ∷ []) $ fsplit ! $ drop ! $ fsplit ! $ move ! (1 ∷ []) $ fsplit ! $ drop ! $ fsplit ! $ move ! (1 ∷ []) $ fsplit ! $ move ! (1 ∷ []) $ drop ! $

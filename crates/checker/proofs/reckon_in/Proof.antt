@@ -9,7 +9,7 @@ use Rattle.reckoning.specs.Arrays.{Begins}
 use Rattle.reckoning.specs.Rows.{InverseRows}
 use Rattle.reckoning.proofs.Sizes.{raisable}
 use Rattle.checker.specs.Work.{Work, work}
-use Rattle.checker.proofs.Outcome.{Worked, refused, positive-here, weighed-here, near-here, columns-here, accepted-here}
+use Rattle.checker.proofs.Outcome.{WorkedOut, refused, positive-here, weighed-here, near-here, columns-here, accepted-here}
 use Rattle.checker.proofs.Rows.{inverse-rows, workColumn, margins-are, columns-are}
 use Rattle.checker.proofs.Mirror.{mirrored-product}
 use borrow.Author.Needs.{needs}
@@ -96,7 +96,7 @@ abbrev start : tie.After-judge → tie.Start
 start j = begun (raised j)
 
 abbrev worked : (j : tie.After-judge) →
-    Worked (W (start j)) (raised j .raise-rows .last .0) (with-margins j .margins-of .result) (at-zero (j .before) .before .before .residuals-of .result) (known j .inverse-residuals-of .last .0) (j .judge .result)
+    WorkedOut (W (start j)) (raised j .raise-rows .last .0) (with-margins j .margins-of .result) (at-zero (j .before) .before .before .residuals-of .result) (known j .inverse-residuals-of .last .0) (j .judge .result)
 worked j = record {
   raised = raised j .raise-rows .ensures;
   hm = margins-are (W (start j)) (with-margins j .margins-of .ensures);

@@ -7,7 +7,7 @@ use Rattle.linear.specs.Slice.{at as number}
 use Rattle.numeral.specs.Decimal.{numeral}
 use Rattle.text.specs.Wrote.{Wrote}
 use Rattle.listing_lines.specs.Line.{gap}
-use Rattle.listing_lines.proofs.Each.{wrote-none, wrote-more, wrote-end, room}
+use Rattle.listing_lines.proofs.Each.{wrote-none, wrote-more, wrote-end, next-room}
 use Rattle.conversion.specs.Written.{integers}
 use Rattle.conversion.proofs.Held.{small-read}
 use borrow.Author.Needs.{needs}
@@ -42,7 +42,7 @@ put-next-requires c κs =
     let l = c .before .before .before .loop in
     let s = c .before .before .before .before .before in
     let small = s .pre .1 (l .j) (c .before .before .loop-test .taken) in
-    (rw (small-read _ small) small, room 21 (s .args .n) (s .args .at) (c .before .before .loop-test .taken) (l .inv .2 .few) (omega (arith, l .inv .1, s .pre .0 .1 .1)))
+    (rw (small-read _ small) small, next-room 21 (s .args .n) (s .args .at) (c .before .before .loop-test .taken) (l .inv .2 .few) (omega (arith, l .inv .1, s .pre .0 .1 .1)))
 
 add-j : tie.Need-add-j Inv-loop μ-loop
 add-j c = search needs

@@ -2,7 +2,7 @@ use mathlib.Core.Path.{_≡_, sym, _∙_}
 use mathlib.Core.Bool.{true, false}
 use Rattle.exchange.specs.Lists.{exchangeSizes}
 use Rattle.exchange.specs.Inward.{Incoming, incoming, shortIncoming, allHaveGuess}
-use Rattle.exchange.proofs.Inward.{Ready, ready, in-short, in-range, in-none, in-all}
+use Rattle.exchange.proofs.Inward.{ReadyInward, ready, in-short, in-range, in-none, in-all}
 use borrow.Author.Needs.{needs}
 use borrow.Author.Tests.{lt-ltb, le-ltb}
 use Rattle.exchange.proofs.guesses_of.Statement.{statement}
@@ -22,7 +22,7 @@ long c = rw (le-ltb _ 32 (c .before .if1 .left), le-ltb _ 32 (c .if2 .left))
 sized : (c : tie.Then3) → exchangeSizes (start (c .before .before) .args .n) (start (c .before .before) .args .s) ≡ true
 sized c = sym (c .before .are-sizes-in-range .ensures) ∙ c .if3 .taken
 
-here : (c : tie.Then3) → Ready (I (start (c .before .before)))
+here : (c : tie.Then3) → ReadyInward (I (start (c .before .before)))
 here c = ready (I (start (c .before .before))) (long (c .before .before)) (sized c)
 
 have : (c : tie.Then4) → allHaveGuess (I (start (c .before .before .before .before))) ≡ true

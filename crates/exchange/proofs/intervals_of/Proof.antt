@@ -6,7 +6,7 @@ use Rattle.rules.specs.declared.Kind.the-variants as kind
 use Rattle.rules.proofs.Ranges.{both, not-both, not-first}
 use Rattle.exchange.specs.Lists.{exchangeSizes}
 use Rattle.exchange.specs.Outward.{Outgoing, outgoing, shortOutgoing, outgoingInRanges}
-use Rattle.exchange.proofs.Outward.{Ready, ready, reckonable, out-short, out-range, out-all}
+use Rattle.exchange.proofs.Outward.{ReadyOutward, ready, reckonable, out-short, out-range, out-all}
 use borrow.Author.Needs.{needs}
 use Rattle.exchange.proofs.intervals_of.Statement.{statement}
 use Rattle.exchange.proofs.intervals_of.Tie as tie
@@ -35,7 +35,7 @@ long c = sym (c .before .is-short .ensures) ∙ c .if1 .left
 sized : (c : tie.Then2) → exchangeSizes (at2 c .args .n) (at2 c .args .s) ≡ true
 sized c = sym (c .before .are-sizes-in-range .ensures) ∙ c .if2 .taken
 
-here : (c : tie.Then2) → Ready (I (at2 c))
+here : (c : tie.Then2) → ReadyOutward (I (at2 c))
 here c = ready (I (at2 c)) (long (c .before .before)) (sized c)
 
 guesses : (c : tie.Then3) → allInRange kind.Guess (at3 c .args .n) (at (at3 c .args .guess .now)) ≡ true

@@ -1,7 +1,7 @@
 use mathlib.Core.Path.{_≡_, refl, sym, ap, _∙_}
 use native.Mathlib.Omega.{arith}
 use borrow.Author.Tests.{lt-ltb, le-ltb}
-use Rattle.observation.proofs.Marks.{inside}
+use Rattle.observation.proofs.Marks.{inside-line}
 use Rattle.gathering.specs.declared.Progress.{Progress}
 use Rattle.gathering.specs.Gathered.{together, kept}
 use Rattle.gathering.proofs.Adding.{taken-outside, taken-same, taken-clash, taken-again, taken-new, added-done, added-refused}
@@ -92,7 +92,7 @@ returns-5 c =
 keep-requires : tie.Need-keep-requires
 keep-requires c κs =
     let t = at-range (at-places (c .before .before .before)) in
-    (c .before .if6 .taken, inside _ _ (sym (t .before .is-outside-range .ensures) ∙ t .if2 .left) .difference)
+    (c .before .if6 .taken, inside-line _ _ (sym (t .before .is-outside-range .ensures) ∙ t .if2 .left) .difference)
 
 add-g : tie.Need-add-g
 add-g c = search needs

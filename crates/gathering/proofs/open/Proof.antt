@@ -1,4 +1,4 @@
-use Rattle.gathering.specs.Gathered.{opening}
+use Rattle.gathering.specs.Gathered.{openingProgress}
 use borrow.Author.Needs.{needs}
 use Rattle.gathering.proofs.open.Statement.{statement}
 use Rattle.gathering.proofs.open.Tie as tie
@@ -7,7 +7,7 @@ opened-as-requires : tie.Need-opened-as-requires
 opened-as-requires c κs = search needs
 
 returns : tie.Need-returns
-returns c = unfold opening in rw (c .opened-as .ensures)
+returns c = unfold openingProgress in rw (c .opened-as .ensures)
 
 pub open-spec : {M : Type 1} → statement M
 open-spec = tie.close (tie.spec opened-as-requires returns)

@@ -21,7 +21,7 @@ use Rattle.reckoning.proofs.Sizes.{column-ends}
 use Rattle.bounds.specs.Limits.{inversePart, limitsOf}
 use Rattle.inverse_bounds.specs.Mirrored.{KnownColumns}
 use Rattle.inverse_bounds.proofs.Mirrored.{known-none, known-fewer, known-more, mirrored-sizes}
-use Rattle.bounds.proofs.Column.{plain-sizes, sized, columns-near, bounds-of-sizes, column-more}
+use Rattle.bounds.proofs.Column.{plain-sizes, sizes-small, columns-near, bounds-of-sizes, column-more}
 use borrow.Author.Needs.{needs}
 use Rattle.inverse_bounds.proofs.store_columns.Statement.{statement}
 use Rattle.inverse_bounds.proofs.store_columns.Tie as tie
@@ -107,7 +107,7 @@ bounds-of-requires c κs =
     let t = turn z in
     let p = start t .pre in (
       (p .0 .0, p .0 .1 .0),
-      (sized (p .0 .1 .0) (p .1 .0) (columns-near (t .before .loop .j) (t .loop-test .taken) (p .1 .1 .0)) (sizes-here z), p .1 .1 .1 .1),
+      (sizes-small (p .0 .1 .0) (p .1 .0) (columns-near (t .before .loop .j) (t .loop-test .taken) (p .1 .1 .0)) (sizes-here z), p .1 .1 .1 .1),
     )
 
 store-requires : tie.Need-store-requires Inv-loop μ-loop

@@ -5,7 +5,7 @@ use lib.ListN.{length}
 use Rattle.text.specs.Wrote.{Wrote}
 use Rattle.listing_lines.specs.Line.{each}
 use Rattle.report.specs.Ready.{blockLine, mostOf}
-use Rattle.listing_lines.proofs.Each.{wrote-none, wrote-more, wrote-end, room}
+use Rattle.listing_lines.proofs.Each.{wrote-none, wrote-more, wrote-end, next-room}
 use borrow.Author.Needs.{needs}
 use Rattle.report.proofs.put_lines.Statement.{statement}
 use Rattle.report.proofs.put_lines.Tie as tie
@@ -28,7 +28,7 @@ put-line-requires : tie.Need-put-line-requires Inv-loop μ-loop
 put-line-requires c κs =
     let l = c .before .before .loop in
     let s = start (c .before) in
-    (s .pre .0, (c .before .loop-test .taken, room (mostOf (s .args .block)) (s .args .n) (s .args .at) (c .before .loop-test .taken) (l .inv .2 .few) (omega (arith, l .inv .1, s .pre .1))))
+    (s .pre .0, (c .before .loop-test .taken, next-room (mostOf (s .args .block)) (s .args .n) (s .args .at) (c .before .loop-test .taken) (l .inv .2 .few) (omega (arith, l .inv .1, s .pre .1))))
 
 add-i : tie.Need-add-i Inv-loop μ-loop
 add-i c = search needs

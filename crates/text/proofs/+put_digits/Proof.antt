@@ -1,5 +1,5 @@
 use native.Mathlib.Omega.{arith}
-use Rattle.text.proofs.Wrote.{small-length, next-length, digit, digits}
+use Rattle.text.proofs.Wrote.{small-length, next-length, wrote-digit, wrote-digits}
 use borrow.Author.Needs.{needs}
 use Prim.Native.Nat.{ℕ, _<_}
 use borrow.Fn.Kinds.{In}
@@ -61,7 +61,7 @@ put-digits-returns :
     (put-digits-below t, put-digits.Post)
     (put-digits-at t)
     put-digits.Post
-put-digits-returns t c = digit _ _ _ (c .if1 .taken)
+put-digits-returns t c = wrote-digit _ _ _ (c .if1 .taken)
 
 put-digits-put-digits-requires : (t : ℕ) → put-digits-lts.Need-put-digits-requires (
   put-digits-below t,
@@ -107,7 +107,7 @@ put-digits-returns-2 : (t : ℕ) → put-digits-lts.Need-returns-2 (
   put-digits-below t,
   put-digits.Post,
 ) (put-digits-at t) put-digits.Post
-put-digits-returns-2 t c = let p = c .before .before in digits _ (p .before .before .if1 .left) (p .put-digits .ensures)
+put-digits-returns-2 t c = let p = c .before .before in wrote-digits _ (p .before .before .if1 .left) (p .put-digits .ensures)
 
 pub +put-digits-spec : {M : Type 1} → statement M
 +put-digits-spec = close μ-put-digits λ t. put-digits-lts.spec (

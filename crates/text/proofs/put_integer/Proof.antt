@@ -2,7 +2,7 @@ use mathlib.Core.Path.{_∙_}
 use native.Mathlib.Omega.{arith}
 use lib.ListN.{length-set}
 use Rattle.integer.proofs.Machine.{read}
-use Rattle.text.proofs.Wrote.{room, minus, no-minus}
+use Rattle.text.proofs.Wrote.{wrote-room, minus, wrote-unsigned}
 use borrow.Author.Needs.{needs}
 use Rattle.text.proofs.put_integer.Statement.{statement}
 use Rattle.text.proofs.put_integer.Tie as tie
@@ -23,7 +23,7 @@ add-put-digits c = search needs
 put-digits-requires : tie.Need-put-digits-requires
 put-digits-requires c κs =
     let s = start (c .before .before) in
-    simp length-set (omega (arith, room (s .args .z) (rw (read (s .args .z) (s .fits .z .sfits)) at (c .before .before .magnitude .ensures)) (s .pre .0)))
+    simp length-set (omega (arith, wrote-room (s .args .z) (rw (read (s .args .z) (s .fits .z .sfits)) at (c .before .before .magnitude .ensures)) (s .pre .0)))
 
 same-length : tie.Need-same-length
 same-length c = c .before .before .put-digits .kept .0 ∙ simp length-set
@@ -38,7 +38,7 @@ returns c =
 put-digits-requires-2 : tie.Need-put-digits-requires-2
 put-digits-requires-2 c κs =
     let s = start (c .before .before) in
-    omega (arith, room (s .args .z) (rw (read (s .args .z) (s .fits .z .sfits)) at (c .before .before .magnitude .ensures)) (s .pre .0))
+    omega (arith, wrote-room (s .args .z) (rw (read (s .args .z) (s .fits .z .sfits)) at (c .before .before .magnitude .ensures)) (s .pre .0))
 
 same-length-2 : tie.Need-same-length-2
 same-length-2 c = search needs
@@ -48,7 +48,7 @@ returns-2 c =
     let t = c .before .before .before .before in
     let s = start (t .before) in
     let e = read (s .args .z) (s .fits .z .sfits) in
-    no-minus (s .args .z) (rw e at (t .if1 .left)) (rw e at (t .before .magnitude .ensures)) (s .pre .0) (c .before .before .put-digits2 .ensures)
+    wrote-unsigned (s .args .z) (rw e at (t .if1 .left)) (rw e at (t .before .magnitude .ensures)) (s .pre .0) (c .before .before .put-digits2 .ensures)
 
 pub put-integer-spec : {M : Type 1} → statement M
 put-integer-spec =

@@ -1,5 +1,5 @@
 use native.Mathlib.Omega.{arith}
-use Rattle.text.proofs.Wrote.{decimal-digits, natural}
+use Rattle.text.proofs.Wrote.{decimal-digits, wrote-natural}
 use borrow.Author.Needs.{needs}
 use Rattle.text.proofs.put_natural.Statement.{statement}
 use Rattle.text.proofs.put_natural.Tie as tie
@@ -15,7 +15,7 @@ same-length : tie.Need-same-length
 same-length c = search needs
 
 returns : tie.Need-returns
-returns c = let p = c .before .before in natural (start p .fits .n .fits) (p .put-digits .ensures)
+returns c = let p = c .before .before in wrote-natural (start p .fits .n .fits) (p .put-digits .ensures)
 
 pub put-natural-spec : {M : Type 1} → statement M
 put-natural-spec = tie.close (tie.spec put-digits-requires same-length returns)

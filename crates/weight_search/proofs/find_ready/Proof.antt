@@ -1,6 +1,6 @@
 use native.Mathlib.Omega.{arith}
 use Rattle.weight_sequence.specs.Request.{Request, request, searchProblem}
-use Rattle.weight_sequence.proofs.Contract.{FitRequest, fit-of, found-list, found-none}
+use Rattle.weight_sequence.proofs.Contract.{FitRequest, fit-request, found-list, found-none}
 use Rattle.weight_sequence.proofs.First.{first-most}
 use Rattle.weight_steps.proofs.Stored.{below-of}
 use borrow.Author.Needs.{needs}
@@ -11,7 +11,7 @@ abbrev Q : tie.Start → Request
 Q s = let a = s .args in request (a .n) (a .t) (a .matrix .now) (a .inverse .now) (a .allowance) (a .weights .now)
 
 fit : (s : tie.Start) → FitRequest (Q s)
-fit s = fit-of (Q s) (s .pre .0) (s .pre .1)
+fit s = fit-request (Q s) (s .pre .0) (s .pre .1)
 
 search-requires : tie.Need-search-requires
 search-requires c κs = let f = fit c in ((f .scale, f .few), (f .matrix, f .inverse))

@@ -2,7 +2,7 @@ use mathlib.Core.Path.{_≡_, sym, _∙_}
 use mathlib.Core.Bool.{true, false}
 use Rattle.rules.proofs.Ranges.{both, both-left, not-both, not-first, size-range}
 use Rattle.weight_sequence.specs.Request.{Request, request, searchShort, searchInRanges, searchSizes}
-use Rattle.weight_sequence.proofs.Contract.{long-of, found-short, found-range}
+use Rattle.weight_sequence.proofs.Contract.{long-request, found-short, found-range}
 use borrow.Author.Needs.{needs}
 use Rattle.weight_search.proofs.find_weights.Statement.{statement}
 use Rattle.weight_search.proofs.find_weights.Tie as tie
@@ -38,7 +38,7 @@ are-sizes-in-range-requires c κs = search needs
 
 are-lists-in-range-requires : tie.Need-are-lists-in-range-requires
 are-lists-in-range-requires c κs =
-    let l = long-of (Q (start2 c)) (long (c .before .before)) in
+    let l = long-request (Q (start2 c)) (long (c .before .before)) in
     (size-range _ (both-left _ _ (sizes c)) .1, (l .matrix, l .inverse))
 
 find-ready-requires : tie.Need-find-ready-requires

@@ -8,7 +8,7 @@ use Rattle.reckoning.specs.Arrays.{Begins}
 use Rattle.reckoning.proofs.Filled.{begins-none, begins-more, begins-end}
 use Rattle.weight_sequence.specs.Sequence.{bits}
 use Rattle.weight_sequence.proofs.Bits.{bits-fit, bits-most}
-use Rattle.weight_sequence.proofs.Lists.{shifted}
+use Rattle.weight_sequence.proofs.Lists.{shifted-small}
 use Rattle.weight_steps.specs.Steps.{shiftedNext}
 use borrow.Author.Needs.{needs}
 use Rattle.weight_steps.proofs.next_weights.Statement.{statement}
@@ -31,7 +31,7 @@ module _ (c : tie.After-bits-of Inv-loop μ-loop) where
   small i l =
       let s = c .before .before in
       let f : ℕ → ℕ = λ m. getD (s .args .loads .now) m 0 in
-      rw count-is (shifted (largest (s .args .n) f) (f i) (bits (largest (s .args .n) f)) (largest-at (s .args .n) f i l) (bits-fit (largest (s .args .n) f)))
+      rw count-is (shifted-small (largest (s .args .n) f) (f i) (bits (largest (s .args .n) f)) (largest-at (s .args .n) f i l) (bits-fit (largest (s .args .n) f)))
 
 largest-of-requires : tie.Need-largest-of-requires Inv-loop μ-loop
 largest-of-requires c κs = search needs

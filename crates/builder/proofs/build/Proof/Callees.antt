@@ -39,7 +39,7 @@ use Rattle.observation.specs.declared.Built.{Built}
 use Rattle.gathering.specs.declared.Gathered.{Gathered}
 use Rattle.gathering.specs.declared.Progress.{Progress}
 use Rattle.observation.specs.declared.Observation.{Observation}
-use Rattle.gathering.specs.Gathered.{together, gathered, few, opening, noLines, ReadyWhenDone}
+use Rattle.gathering.specs.Gathered.{together, gathered, few, openingProgress, noLines, ReadyWhenDone}
 use Rattle.observation.proofs.Built as B
 use Rattle.equations.specs.declared.Layout.{Layout}
 use Rattle.equations.proofs.Layout as L
@@ -103,8 +103,8 @@ module _ {M : Type 1} (𝓤 : URA M) (H : Heap 𝓤) (A : Atoms 𝓤) (W : Given
   pub asked-open : ent 𝓤 (onEntry 𝓤 H A open-fn.signature tt tt (n, (k, tt)) (vint w32 n ∷ [], (vint w64 k ∷ [], tt))) (Open 𝓤 H A mem run .pre to-open)
   asked-open = qed W (‵ ftrue ∷ ‵ (owns (u32 ∷ usize ∷ []) (n, (k, tt)) (vint w32 n ∷ [], (vint w64 k ∷ [], tt))) ∷ []) ∵ join ! $ frame ! $ done !
 
-  pub said-open : (s : Progress) → ent 𝓤 (ensured 𝓤 H A open-fn.ended (open-fn.clauses 𝓤 H A mem run) tt (n, (k, tt)) tt s) (fact 𝓤 (s ≡ opening n k))
-  said-open s = exE 𝓤 _ (λ ws. snd∗ 𝓤 (sem 𝓤 H A (lasts open-fn.ended tt (n, (k, tt)) ws)) (fact 𝓤 (s ≡ opening n k)))
+  pub said-open : (s : Progress) → ent 𝓤 (ensured 𝓤 H A open-fn.ended (open-fn.clauses 𝓤 H A mem run) tt (n, (k, tt)) tt s) (fact 𝓤 (s ≡ openingProgress n k))
+  said-open s = exE 𝓤 _ (λ ws. snd∗ 𝓤 (sem 𝓤 H A (lasts open-fn.ended tt (n, (k, tt)) ws)) (fact 𝓤 (s ≡ openingProgress n k)))
 
   abbrev pub to-all : Progress → Val → All 𝓤 H A mem run .Ghost
   to-all s v = (((κ, tt), (q, tt), tt, (x, (s, tt)), (sl x ∷ [], (v ∷ [], tt))), tt)
@@ -116,7 +116,7 @@ module _ {M : Type 1} (𝓤 : URA M) (H : Heap 𝓤) (A : Atoms 𝓤) (W : Given
   said-all s g = exE 𝓤 _ (λ ws. snd∗ 𝓤 (sem 𝓤 H A (lasts all.ended (κ, tt) (x, (s, tt)) ws)) (fact 𝓤 (g ≡ gathered (together s noLines) (x .now) (few k))))
 
   -- what was gathered
-  pub is-whole : (s : Progress) (g : Gathered) → s ≡ opening n k → g ≡ gathered (together s noLines) (x .now) (few k) → g ≡ gatheredOf n (x .now)
+  pub is-whole : (s : Progress) (g : Gathered) → s ≡ openingProgress n k → g ≡ gathered (together s noLines) (x .now) (few k) → g ≡ gatheredOf n (x .now)
   is-whole s g p e = e ∙ ap (λ (z : Progress). gathered (together z noLines) (x .now) (few k)) p
 
   pub is-sound : (g : Gathered) → g ≡ gatheredOf n (x .now) → ReadyWhenDone g
