@@ -22,7 +22,7 @@ use Rattle.enclosure.specs.Reckoning.{defect, load, margin, residual, rowSum, e
 use Rattle.enclosure.specs.Quality.{trueError, NeverFar}
 use Rattle.enclosure.proofs.Demands.{encloses}
 use Rattle.checked.specs.Order.{answer}
-use Rattle.dependent.specs.Nets.{attached}
+use Rattle.dependent.specs.Nets.{dependentOf}
 use Rattle.dependent.specs.Reckoning.{dependentResidual, dependentSlack, dependentBound}
 use Rattle.dependent.specs.Order.{dependentAnswer, jointAnswer}
 use Rattle.dependent.specs.Joint.{C₂₁, mainProblem, dependentProblem, JointSolution}
@@ -33,7 +33,7 @@ pub fork-accepted : jointAnswer fork ≡ []
 unfolding jointAnswer answer dependentAnswer dependentResidual dependentSlack bound boundWith boundFrom sizesWith exceeds rowSum residual margin load defect product apply identity sum sumℕ largest first ceilDiv allInRange inRange rangeOf ranges every
 fork-accepted = refl
 
-pub fork-limits : (bound (mainProblem fork) 0 ≡ 48) × ((i : ℕ) → i < 2 → dependentBound (attached fork) i ≡ 144)
+pub fork-limits : (bound (mainProblem fork) 0 ≡ 48) × ((i : ℕ) → i < 2 → dependentBound (dependentOf fork) i ≡ 144)
 unfolding apply product identity sum sumℕ defect load margin residual sizesWith boundFrom boundWith bound largest ceilDiv dependentResidual dependentSlack
 fork-limits = (refl, each-of-two _ refl refl)
 
@@ -80,7 +80,7 @@ module _ (β₁ : Vec) (ρ₁ : ℕ) (β₂ : Vec) (ρ₂ : ℕ) (s₁ : RightSi
       each-of-two (λ (i : ℕ). trueError (dependentProblem fork) N₂ q i ≤ q * 48) (rw (from-zero (N₂ 0) q) (omega (arith, heights .0)))
       (rw (from-zero (N₂ 1) q) (omega (arith, heights .1, main-near)))
 
-  pub joint-not-far : NeverFar (dependentProblem fork) 16 16 (dependentBound (attached fork)) N₂ q → ⊥
+  pub joint-not-far : NeverFar (dependentProblem fork) 16 16 (dependentBound (dependentOf fork)) N₂ q → ⊥
   joint-not-far r =
       let P = dependentProblem fork in
       let e : ℕ = trueError P N₂ q (r .row) in

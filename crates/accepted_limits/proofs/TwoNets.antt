@@ -16,7 +16,7 @@ use Rattle.enclosure.specs.Reckoning.{defect, load, margin, residual, slack, si
 use Rattle.enclosure.specs.Sound.{Margins}
 use Rattle.enclosure.proofs.Bounds.{bound-ext}
 use Rattle.checked.specs.Order.{answer}
-use Rattle.dependent.specs.Nets.{Nets, Attached, couplingOf, attached}
+use Rattle.dependent.specs.Nets.{Nets, DependentNet, couplingOf, dependentOf}
 use Rattle.dependent.specs.Reckoning.{ownProblem, dependentResidual, dependentSlack, dependentBound}
 use Rattle.dependent.specs.Order.{dependentAnswer, jointAnswer, saidNets}
 use Rattle.dependent.specs.Together.{CheckedTogether}
@@ -29,7 +29,7 @@ use Rattle.accepted_limits.specs.TwoNets.{dependentInSteps, GoodNets}
 use Rattle.good_limits.proofs.Good.{limits-good, good-as}
 use Rattle.accepted_limits.proofs.Lists.{written-good, check-good}
 
-module _ (D : Attached) where
+module _ (D : DependentNet) where
   steps-residual : (k : ℕ) → residual (dependentInSteps D) k ≡ dependentResidual D k
   unfolding residual dependentResidual
   steps-residual k =
@@ -60,10 +60,10 @@ module _ (D : Attached) where
 
 -- ---- both nets
 module _ (J : Nets) where
-  both-parts : jointAnswer J ≡ [] → (answer (J .main) ≡ []) × (dependentAnswer (attached J) ≡ [])
-  both-parts j = go (answer (J .main)) refl (dependentAnswer (attached J)) refl
+  both-parts : jointAnswer J ≡ [] → (answer (J .main) ≡ []) × (dependentAnswer (dependentOf J) ≡ [])
+  both-parts j = go (answer (J .main)) refl (dependentAnswer (dependentOf J)) refl
     where
-      go : (x : List ℕ) → answer (J .main) ≡ x → (y : List ℕ) → dependentAnswer (attached J) ≡ y → (answer (J .main) ≡ []) × (dependentAnswer (attached J) ≡ [])
+      go : (x : List ℕ) → answer (J .main) ≡ x → (y : List ℕ) → dependentAnswer (dependentOf J) ≡ y → (answer (J .main) ≡ []) × (dependentAnswer (dependentOf J) ≡ [])
       go (k ∷ ks) e y f = absurd (nothing-is-not (sym (joint-main J e) ∙ j))
       go [] e (k ∷ ks) f = absurd (nothing-is-not (sym (joint-dependent J e f) ∙ j))
       go [] e [] f = (e, f)
@@ -72,13 +72,13 @@ module _ (J : Nets) where
   together-good r E₁ L₁ E₂ L₂ x e =
       let j : jointAnswer J ≡ [] = sym (x .says) ∙ e in
       let (m, d) = both-parts j in
-      let fit = own-fit (attached J) (passed-of (attached J) d .usable) in
+      let fit = own-fit (dependentOf J) (passed-of (dependentOf J) d .usable) in
       record {
         main = check-good (J .main) m (x .main-solution ∙ accepted-new _ _ j) (x .main-inverse ∙ accepted-new _ _ j);
         dependent =
-            written-good (dependentInSteps (attached J)) (dependentBound (attached J)) (inverseBound (ownProblem (attached J))) (J .dependent .solutionBounds) (J .dependent .inverseBounds)
+            written-good (dependentInSteps (dependentOf J)) (dependentBound (dependentOf J)) (inverseBound (ownProblem (dependentOf J))) (J .dependent .solutionBounds) (J .dependent .inverseBounds)
             (fit .few) (fit .solution-long) (fit .inverse-long) (x .dependent-solution ∙ accepted-new _ _ j) (x .dependent-inverse ∙ accepted-new _ _ j)
-            (steps-good (attached J) d);
+            (steps-good (dependentOf J) d);
       }
 
 pub together-zero-good : {J : Nets} {number net : ℕ} {places E₁ L₁ E₂ L₂ : List ℕ} → DependentExported J number net places E₁ L₁ E₂ L₂ → number ≡ 0 → GoodNets J E₁ L₁ E₂ L₂

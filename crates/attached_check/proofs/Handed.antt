@@ -2,7 +2,7 @@
 -- allowed is 2^25 less the slack; in the columns it is the sum along the row.
 --   coupling-list, scaled-list, own-slacks — sizes of C, S·b2 and S·d2
 --   HandedDependent — what the arrays hold;  workable — the reckoning may start on it
---   reckoned-attached — what the reckoning makes of it is the contract of the check
+--   reckoned-dependent — what the reckoning makes of it is the contract of the check
 use mathlib.Core.Path.{_≡_, refl, sym, ap, ap₂, _∙_}
 use mathlib.Core.Bool.{Bool, true, false, _||_}
 use mathlib.Core.List.{List, [], _∷_}
@@ -37,11 +37,11 @@ use Rattle.slacks.proofs.Allowed.{slack-size, allowed-size, allowed-test}
 use Rattle.checked.specs.Input.{Input, inRanges}
 use Rattle.checked.proofs.Fit.{Fit}
 use Rattle.checker.specs.Work.{Work, work, workProblem, workResidual, workSlack, workAnswer, Workable, ReckonedAs}
-use Rattle.dependent.specs.Nets.{Attached, attachedBy, couplingOf}
+use Rattle.dependent.specs.Nets.{DependentNet, dependentBy, couplingOf}
 use Rattle.dependent.specs.Reckoning.{ownProblem, dependentResidual, dependentSlack, dependentExceeds, dependentBound}
 use Rattle.dependent.specs.Order.{dependentReckoned, dependentAnswer}
 use Rattle.dependent.specs.Stated.{UsableDependent}
-use Rattle.dependent.specs.Attached.{AttachedAs}
+use Rattle.dependent.specs.Checked.{DependentAs}
 use Rattle.dependent.proofs.Statements.{answer-ready, own-fit, passed-of}
 use Rattle.couplings.specs.Carried.{baseFrom, cappedSum}
 use Rattle.couplings.proofs.Cap.{capped-test, capped-where}
@@ -90,8 +90,8 @@ pub own-slacks : (I : Input) → Fit I → {τ : List ℕ} → Begins 0 τ (I .n
 own-slacks I fit {τ} h k l = rw (h .each k l) (slack-size (I .s) (at (I .tolerance) k) (fit .solution-scale) (fit .tolerance .within .size k l))
 
 module _ (marks s₁ : ℕ) (guess : List ℤ) (limits : List ℕ) (coupling : List ℤ) (I : Input) where
-  abbrev D : Attached
-  D = attachedBy marks s₁ (vectorOf guess) (λ j. getD limits j 0) coupling I
+  abbrev D : DependentNet
+  D = dependentBy marks s₁ (vectorOf guess) (λ j. getD limits j 0) coupling I
 
   module _ (few : marks ≤ 32) (known : ColumnList guess marks (2 ^ 36)) (u : UsableDependent D)
       {p b a c : List ℤ} {τ σ w : List ℕ} (h : HandedDependent marks guess limits coupling I p b τ σ a w c) where
@@ -188,8 +188,8 @@ module _ (marks s₁ : ℕ) (guess : List ℤ) (limits : List ℕ) (coupling : L
     solution-is [] e = written-ext (I .solutionBounds) 0 1 (boundWith (workProblem W) (workResidual W) (workSlack W)) (dependentBound D) (I .n) (λ i l. bound-is e i)
     solution-is (k ∷ ks) e = refl
 
-    pub reckoned-attached : {r : Outcome} {E L : List ℕ} → ReckonedAs W r E L → AttachedAs D r E L
-    reckoned-attached {r} {E} {L} x =
+    pub reckoned-dependent : {r : Outcome} {E L : List ℕ} → ReckonedAs W r E L → DependentAs D r E L
+    reckoned-dependent {r} {E} {L} x =
         let y : dependentAnswer D ≡ dependentReckoned D = answer-ready D (u .long) (u .inside) in
         record {
           says = x .says ∙ (answer-is ∙ sym y);

@@ -4,8 +4,8 @@ ghost use lib.ListN.{getD};
 ghost use Rattle.linear.specs.Slice.{vectorOf};
 ghost use Rattle.linear.specs.Reach.{ColumnList};
 ghost use Rattle.checked.specs.Input.{input};
-ghost use Rattle.dependent.specs.Nets.{attachedBy};
-ghost use Rattle.dependent.specs.Attached.{AttachedAs};
+ghost use Rattle.dependent.specs.Nets.{dependentBy};
+ghost use Rattle.dependent.specs.Checked.{DependentAs};
 use admission::are_lists_in_range;
 use admission::are_sizes_in_range;
 use admission::is_short;
@@ -25,7 +25,7 @@ use slacks::slacks_of;
 
 // The check of a dependent net, from n, s, the guess and the limits of the main net. Order 8, 3, 5, 6, 7; a refusal leaves both limit lists as they were. The sums
 // along the rows are not asked of its heights.
-pub fn check_attached(
+pub fn check_dependent_net(
     marks: usize,
     main_scale: u32,
     main_guess: &[i64],
@@ -45,7 +45,7 @@ pub fn check_attached(
 ) -> Outcome
     requires { ⌜ marks ≤ 32 ⌝ }
     requires { ⌜ ColumnList (now «main_guess») marks (2 ^ 36) ⌝ }
-    ensures { λ r. ⌜ AttachedAs (attachedBy marks «main_scale» (vectorOf (now («main_guess» .entry))) (λ (j : ℕ). getD «main_limits» j 0)
+    ensures { λ r. ⌜ DependentAs (dependentBy marks «main_scale» (vectorOf (now («main_guess» .entry))) (λ (j : ℕ). getD «main_limits» j 0)
         (now (coupling .entry)) (input n s t (now (matrix .entry)) (now (right .entry)) (now (tolerance .entry)) (now (guess .entry))
         (now (inverse .entry)) (now (weights .entry)) (now («solution_bounds» .entry)) (now («inverse_bounds» .entry))))
         r (now («solution_bounds» .exit)) (now («inverse_bounds» .exit)) ⌝ }

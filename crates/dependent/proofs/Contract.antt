@@ -23,7 +23,7 @@ use Rattle.checked.proofs.Contract.{answer-ready, said-sound, written-encloses}
 use Rattle.checked.proofs.Fit.{Fit, fit-of}
 use Rattle.checked.proofs.Statements.{accepted-usable}
 use Rattle.dependent.specs.declared.CheckedNets.the-variants.{Accepted, Main, Dependent}
-use Rattle.dependent.specs.Nets.{Nets, attached}
+use Rattle.dependent.specs.Nets.{Nets, dependentOf}
 use Rattle.dependent.specs.Reckoning.{dependentBound}
 use Rattle.dependent.specs.Order.{dependentAnswer, jointAnswer}
 use Rattle.dependent.specs.Together.{CheckedTogether}
@@ -44,7 +44,7 @@ module _ (J : Nets) where
         encloses = λ n. absurd (nothing-is-not n);
       }
 
-  pub together-dependent : (x : Refusal) → answer (J .main) ≡ [] → said (outcome.Refused x) ≡ dependentAnswer (attached J) →
+  pub together-dependent : (x : Refusal) → answer (J .main) ≡ [] → said (outcome.Refused x) ≡ dependentAnswer (dependentOf J) →
       CheckedTogether J (Dependent x) (J .main .solutionBounds) (J .main .inverseBounds) (J .dependent .solutionBounds) (J .dependent .inverseBounds)
   together-dependent x e f =
       let j : jointAnswer J ≡ 2 ∷ numberOf x ∷ valuesOf x = joint-dependent J e (sym f) in
@@ -58,18 +58,18 @@ module _ (J : Nets) where
       }
 
   -- n and s of both nets, and their weights, where both are accepted
-  module _ (e : answer (J .main) ≡ []) (f : dependentAnswer (attached J) ≡ []) where
+  module _ (e : answer (J .main) ≡ []) (f : dependentAnswer (dependentOf J) ≡ []) where
     usable : Usable (J .main)
     usable = accepted-usable (J .main) e
 
     fit₁ : Fit (J .main)
     fit₁ = fit-of (J .main) (usable .long) (usable .inside)
 
-    passed : Passed (attached J)
-    passed = passed-of (attached J) f
+    passed : Passed (dependentOf J)
+    passed = passed-of (dependentOf J) f
 
     fit₂ : Fit (J .dependent)
-    fit₂ = own-fit (attached J) (passed .usable)
+    fit₂ = own-fit (dependentOf J) (passed .usable)
 
     one-scale : J .main .s ≡ J .dependent .s
     one-scale = sym (eqb-true (J .dependent .s) (J .main .s) (both-left _ _ (both-right (inRanges (J .dependent)) _ (passed .usable .inside))))
@@ -77,7 +77,7 @@ module _ (J : Nets) where
     pub together-accepted : {E₁ L₁ E₂ L₂ : List ℕ} →
         E₁ ≡ written (J .main .solutionBounds) 0 1 (bound (problem (J .main))) (J .main .n) →
         L₁ ≡ written (J .main .inverseBounds) 0 1 (λ (k : ℕ). inverseBound (problem (J .main)) (k / J .main .n) (k % J .main .n)) (J .main .n * J .main .n) →
-        E₂ ≡ written (J .dependent .solutionBounds) 0 1 (dependentBound (attached J)) (J .dependent .n) →
+        E₂ ≡ written (J .dependent .solutionBounds) 0 1 (dependentBound (dependentOf J)) (J .dependent .n) →
         L₂ ≡ written (J .dependent .inverseBounds) 0 1 (λ (k : ℕ). inverseBound (problem (J .dependent)) (k / J .dependent .n) (k % J .dependent .n)) (J .dependent .n * J .dependent .n) →
         CheckedTogether J Accepted E₁ L₁ E₂ L₂
     together-accepted {E₁} {L₁} {E₂} {L₂} h₁ g₁ h₂ g₂ =
@@ -92,10 +92,10 @@ module _ (J : Nets) where
           dependent-inverse = g₂ ∙ sym (accepted-new _ _ j);
           encloses = λ z.
               encloses-both-as J (bound (problem (J .main))) (λ (i : ℕ). getD E₁ i 0) (inverseBound (problem (J .main))) (λ (i j : ℕ). getD L₁ (i * J .main .n + j) 0)
-              (dependentBound (attached J)) (λ (i : ℕ). getD E₂ i 0) (inverseBound (problem (J .dependent))) (λ (i j : ℕ). getD L₂ (i * n + j) 0)
+              (dependentBound (dependentOf J)) (λ (i : ℕ). getD E₂ i 0) (inverseBound (problem (J .dependent))) (λ (i j : ℕ). getD L₂ (i * n + j) 0)
               (written-encloses (J .main) (usable .long) (usable .inside) h₁ g₁ margins)
               (λ i l. rw h₁ (front-at (J .main .solutionBounds) (bound (problem (J .main))) 0 (J .main .n) i l (omega (arith, fit₁ .few, fit₁ .solution-long))))
-              (λ i l. rw h₂ (front-at (J .dependent .solutionBounds) (dependentBound (attached J)) 0 n i l (omega (arith, fit₂ .few, fit₂ .solution-long))))
+              (λ i l. rw h₂ (front-at (J .dependent .solutionBounds) (dependentBound (dependentOf J)) 0 n i l (omega (arith, fit₂ .few, fit₂ .solution-long))))
               (λ i j li lj. rw g₂ (front-at (J .dependent .inverseBounds) (λ (k : ℕ). inverseBound (problem (J .dependent)) (k / n) (k % n)) 0 (n * n) (i * n + j) (place li lj)
               (omega (arith, square (fit₂ .few), fit₂ .inverse-long)) ∙ rw (place-column i j n lj, place-row i j n lj)))
               (encloses-both J one-scale (fit₁ .heavy) (fit₂ .heavy) margins (passed .margins));

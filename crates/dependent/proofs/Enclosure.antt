@@ -1,7 +1,7 @@
--- The enclosure of a net that hangs from marks with guesses X₁ and limits E₁, in the steps of its problem P, over plain vectors.
+-- The enclosure of a net that depends on marks with guesses X₁ and limits E₁, in the steps of its problem P, over plain vectors.
 --   shifted-both — A·(S·N − q·X) less q times the residual S·b − C·X₁ − A·X is S·(A·N + C·N₁ − q·b) less C·(S·N₁ − q·X₁)
 --   carried  — |C·(S·N₁ − q·X₁)| ≤ q·Σ|C|·E₁ where every S·N₁ is within q·E₁ of q·X₁
---   attached-within — then A·N + C·N₁ within q·d of q·b gives |S·N_i − q·X_i| ≤ q·E_i, for the limits E of that residual and the slack Σ|C|·E₁ + S·d
+--   dependent-within — then A·N + C·N₁ within q·d of q·b gives |S·N_i − q·X_i| ≤ q·E_i, for the limits E of that residual and the slack Σ|C|·E₁ + S·d
 use mathlib.Core.Path.{_≡_, ap, _∙_}
 use Prim.Native.Nat.{ℕ, _+_, _*_, _≤_, _<_}
 use native.Mathlib.Omega.{arith}
@@ -61,5 +61,5 @@ module _ (P : Problem) (n₁ : ℕ) (C : Mat) (X₁ : Vec) (E₁ : ℕ → ℕ) 
           )
           (omega (arith, abs-sub (pos (S P) *ℤ t) (pos (S P) *ℤ apply n₁ C N₁ k -ℤ pos q *ℤ apply n₁ C X₁ k), abs-* (pos (S P)) t, mul-le-mul-left (S P) (h k l), carried k))
 
-      pub attached-within : ((i : ℕ) → i < P .n → 1 ≤ P .w i) → Margins P → InLimits P (boundWith P r σ) N q
-      attached-within hw hm = within P hw hm q (λ i. pos (S P) *ℤ N i -ℤ pos q *ℤ P .X i) r σ near
+      pub dependent-within : ((i : ℕ) → i < P .n → 1 ≤ P .w i) → Margins P → InLimits P (boundWith P r σ) N q
+      dependent-within hw hm = within P hw hm q (λ i. pos (S P) *ℤ N i -ℤ pos q *ℤ P .X i) r σ near

@@ -21,7 +21,7 @@ use Rattle.enclosure.specs.Reckoning.{defect, load, margin, residual, rowSum, e
 use Rattle.checked.specs.Agree.{Agree}
 use Rattle.checked.specs.Input.{Input, input}
 use Rattle.checked.specs.Order.{answer}
-use Rattle.dependent.specs.Nets.{Nets, nets, attached}
+use Rattle.dependent.specs.Nets.{Nets, nets, dependentOf}
 use Rattle.dependent.specs.Reckoning.{dependentResidual, dependentSlack, dependentBound}
 use Rattle.dependent.specs.Order.{dependentAnswer, jointAnswer}
 use Rattle.dependent.specs.Joint.{mainProblem, dependentProblem, JointSolution, EnclosesBoth}
@@ -34,7 +34,7 @@ pub accepted-here : jointAnswer coupledNets ≡ []
 unfolding jointAnswer answer dependentAnswer dependentResidual dependentSlack bound boundWith boundFrom sizesWith exceeds rowSum residual margin load defect product apply identity sum sumℕ largest first ceilDiv allInRange inRange rangeOf ranges every
 accepted-here = refl
 
-pub encloses-here : EnclosesBoth coupledNets (bound (mainProblem coupledNets)) (inverseBound (mainProblem coupledNets)) (dependentBound (attached coupledNets)) (inverseBound (dependentProblem coupledNets))
+pub encloses-here : EnclosesBoth coupledNets (bound (mainProblem coupledNets)) (inverseBound (mainProblem coupledNets)) (dependentBound (dependentOf coupledNets)) (inverseBound (dependentProblem coupledNets))
 unfolding margin load defect product apply identity sum sumℕ
 encloses-here = encloses-both coupledNets refl (only _ (lit≤ tt)) (only _ (lit≤ tt)) (only _ refl) (only _ refl)
 
@@ -48,7 +48,7 @@ pub jointly-solved : JointSolution coupledNets farRight₁ 3 farRight₂ 1 farHe
 unfolding apply sum
 jointly-solved = record { positive = lit≤ tt; main = only _ refl; dependent = only _ refl }
 
-pub limits-here : (bound (mainProblem coupledNets) 0 ≡ 48) × (dependentBound (attached coupledNets) 0 ≡ 112)
+pub limits-here : (bound (mainProblem coupledNets) 0 ≡ 48) × (dependentBound (dependentOf coupledNets) 0 ≡ 112)
 unfolding apply product identity sum sumℕ defect load margin residual sizesWith boundFrom boundWith bound largest ceilDiv dependentResidual dependentSlack
 limits-here = (refl, refl)
 
@@ -56,7 +56,7 @@ pub limits-reached : (natAbs (pos (S (mainProblem coupledNets)) *ℤ farHeight�
     × (natAbs (pos (S (dependentProblem coupledNets)) *ℤ farHeight₂ 0 -ℤ pos 1 *ℤ dependentProblem coupledNets .X 0) ≡ 1 * 112)
 limits-reached = (refl, refl)
 
-pub apart-here : Uncoupled (attached uncoupledNets)
+pub apart-here : Uncoupled (dependentOf uncoupledNets)
 apart-here = record { long = lit≤ tt; zeros = only _ refl; scale = refl }
 
 pub apart-sums : MeetsSums (uncoupledNets .dependent)

@@ -17,10 +17,10 @@ use Rattle.enclosure.specs.Sound.{Margins}
 use Rattle.enclosure.specs.Reckoning.{bound, inverseBound}
 use Rattle.enclosure.proofs.Demands.{encloses}
 use Rattle.enclosure.proofs.Tolerance.{tolerated}
-use Rattle.dependent.specs.Nets.{Nets, attached}
+use Rattle.dependent.specs.Nets.{Nets, dependentOf}
 use Rattle.dependent.specs.Reckoning.{dependentResidual, dependentSlack, dependentBound}
 use Rattle.dependent.specs.Joint.{C₂₁, mainProblem, dependentProblem, JointSolution, JointHeights, JointKernel, SameHeights, WithinBoth, EnclosesBoth}
-use Rattle.dependent.proofs.Enclosure.{attached-within}
+use Rattle.dependent.proofs.Enclosure.{dependent-within}
 
 -- ---- laws of whole numbers
 regrouped : (q q′ a a′ c c′ : ℤ) → (q′ *ℤ a -ℤ q *ℤ a′) +ℤ (q′ *ℤ c -ℤ q *ℤ c′) ≡ q′ *ℤ (a +ℤ c) -ℤ q *ℤ (a′ +ℤ c′)
@@ -113,21 +113,21 @@ module _ (J : Nets) where
     own-encloses = encloses (dependentProblem J) heavy₂ margins₂
 
     within-both : (β₁ : Vec) (ρ₁ : ℕ) (β₂ : Vec) (ρ₂ : ℕ) → RightSide (mainProblem J) β₁ ρ₁ → RightSide (dependentProblem J) β₂ ρ₂ →
-        (N₁ N₂ : Vec) (q : ℕ) → JointSolution J β₁ ρ₁ β₂ ρ₂ N₁ N₂ q → WithinBoth J (bound (mainProblem J)) (dependentBound (attached J)) N₁ N₂ q
+        (N₁ N₂ : Vec) (q : ℕ) → JointSolution J β₁ ρ₁ β₂ ρ₂ N₁ N₂ q → WithinBoth J (bound (mainProblem J)) (dependentBound (dependentOf J)) N₁ N₂ q
     unfolding dependentResidual dependentSlack
     within-both β₁ ρ₁ β₂ ρ₂ t₁ t₂ N₁ N₂ q x =
         let h₁ : InLimits (mainProblem J) (bound (mainProblem J)) N₁ q = main-encloses .solution β₁ ρ₁ t₁ N₁ q (record { positive = x .positive; solves = x .main }) in
-        let h₂ : InLimits (dependentProblem J) (dependentBound (attached J)) N₂ q =
-        attached-within (dependentProblem J) n₁ C (mainProblem J .X) (bound (mainProblem J)) q N₁ (λ j l. rw (← same) (h₁ j l)) N₂
+        let h₂ : InLimits (dependentProblem J) (dependentBound (dependentOf J)) N₂ q =
+        dependent-within (dependentProblem J) n₁ C (mainProblem J .X) (bound (mainProblem J)) q N₁ (λ j l. rw (← same) (h₁ j l)) N₂
         (λ k l. tolerated ρ₂ q (dependentProblem J .d k) (apply n₂ A₂ N₂ k +ℤ apply n₁ C N₁ k) (dependentProblem J .b k) (β₂ k) (t₂ .positive) (x .dependent k l) (t₂ .near k l)) heavy₂ margins₂ in
         record {
           main = h₁;
           dependent = h₂;
           main-entry = λ i l. entry-covers (J .main .s) (mainProblem J .X i) (bound (mainProblem J) i) (N₁ i) q (h₁ i l);
-          dependent-entry = λ i l. entry-covers (J .dependent .s) (dependentProblem J .X i) (dependentBound (attached J) i) (N₂ i) q (h₂ i l);
+          dependent-entry = λ i l. entry-covers (J .dependent .s) (dependentProblem J .X i) (dependentBound (dependentOf J) i) (N₂ i) q (h₂ i l);
         }
 
-    pub encloses-both : EnclosesBoth J (bound (mainProblem J)) (inverseBound (mainProblem J)) (dependentBound (attached J)) (inverseBound (dependentProblem J))
+    pub encloses-both : EnclosesBoth J (bound (mainProblem J)) (inverseBound (mainProblem J)) (dependentBound (dependentOf J)) (inverseBound (dependentProblem J))
     encloses-both = record {
       main = main-encloses;
       joint = within-both;

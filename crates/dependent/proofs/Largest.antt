@@ -13,20 +13,20 @@ use Rattle.enclosure.specs.Reckoning.{allowedResidual}
 use Rattle.enclosure.proofs.Largest.{bound-size}
 use Rattle.enclosure.proofs.Margin.{margin-above}
 use Rattle.checked.specs.Order.{answer}
-use Rattle.dependent.specs.Nets.{Nets, Attached, attached}
+use Rattle.dependent.specs.Nets.{Nets, DependentNet, dependentOf}
 use Rattle.dependent.specs.Reckoning.{ownProblem, dependentResidual, dependentSlack, dependentBound}
 use Rattle.dependent.specs.Order.{dependentAnswer, jointAnswer}
 use Rattle.dependent.proofs.Statements.{own-fit, passed-of, joint-main, joint-dependent}
 
-pub joint-none : (J : Nets) → jointAnswer J ≡ [] → (answer (J .main) ≡ []) × (dependentAnswer (attached J) ≡ [])
-joint-none J e = go (answer (J .main)) refl (dependentAnswer (attached J)) refl
+pub joint-none : (J : Nets) → jointAnswer J ≡ [] → (answer (J .main) ≡ []) × (dependentAnswer (dependentOf J) ≡ [])
+joint-none J e = go (answer (J .main)) refl (dependentAnswer (dependentOf J)) refl
   where
-    go : (x : List ℕ) → answer (J .main) ≡ x → (y : List ℕ) → dependentAnswer (attached J) ≡ y → (answer (J .main) ≡ []) × (dependentAnswer (attached J) ≡ [])
+    go : (x : List ℕ) → answer (J .main) ≡ x → (y : List ℕ) → dependentAnswer (dependentOf J) ≡ y → (answer (J .main) ≡ []) × (dependentAnswer (dependentOf J) ≡ [])
     go (k ∷ ks) f y g = absurd (nothing-is-not (sym (joint-main J f) ∙ e))
     go [] f (k ∷ ks) g = absurd (nothing-is-not (sym (joint-dependent J f g) ∙ e))
     go [] f [] g = (f, g)
 
-pub dependent-size : (D : Attached) → dependentAnswer D ≡ [] → (i : ℕ) → i < D .own .n → dependentBound D i ≤ largestBound
+pub dependent-size : (D : DependentNet) → dependentAnswer D ≡ [] → (i : ℕ) → i < D .own .n → dependentBound D i ≤ largestBound
 dependent-size D e =
     let p = passed-of D e in
     let fit = own-fit D (p .usable) in

@@ -1,6 +1,6 @@
 -- The check of a dependent net reads only the first n1 of the main net's limits.
 --   slack-same, answer-same, bound-same — what is said and the limits, by limits E and F of the main net that agree there
---   attached-same — the contract of its check
+--   dependent-same — the contract of its check
 use mathlib.Core.Path.{_≡_, refl, ap, _∙_}
 use mathlib.Core.List.{List}
 use Prim.Native.Nat.{ℕ, _+_, _*_, _<_}
@@ -14,17 +14,17 @@ use Rattle.rules.specs.declared.Outcome.{Outcome}
 use Rattle.enclosure.specs.Reckoning.{slack, sizesWith, boundWith}
 use Rattle.enclosure.proofs.Bounds.{bound-ext}
 use Rattle.checked.specs.Input.{Input}
-use Rattle.dependent.specs.Nets.{Attached, attachedBy, couplingOf}
+use Rattle.dependent.specs.Nets.{DependentNet, dependentBy, couplingOf}
 use Rattle.dependent.specs.Reckoning.{ownProblem, dependentResidual, dependentSlack, dependentExceeds, dependentBound}
 use Rattle.dependent.specs.Order.{dependentAnswer}
-use Rattle.dependent.specs.Attached.{AttachedAs}
+use Rattle.dependent.specs.Checked.{DependentAs}
 
 module _ (n₁ s₁ : ℕ) (X₁ : Vec) (E F : ℕ → ℕ) (coupling : List ℤ) (own : Input) (h : (j : ℕ) → j < n₁ → E j ≡ F j) where
-  abbrev D : Attached
-  D = attachedBy n₁ s₁ X₁ E coupling own
+  abbrev D : DependentNet
+  D = dependentBy n₁ s₁ X₁ E coupling own
 
-  abbrev B : Attached
-  B = attachedBy n₁ s₁ X₁ F coupling own
+  abbrev B : DependentNet
+  B = dependentBy n₁ s₁ X₁ F coupling own
 
   residual-same : (k : ℕ) → dependentResidual D k ≡ dependentResidual B k
   unfolding dependentResidual
@@ -51,8 +51,8 @@ module _ (n₁ s₁ : ℕ) (X₁ : Vec) (E F : ℕ → ℕ) (coupling : List ℤ
       (λ j lj. residual-same j) (λ j lj. slack-same j))
       (λ m l. refl)
 
-  pub attached-same : {r : Outcome} {K L : List ℕ} → AttachedAs D r K L → AttachedAs B r K L
-  attached-same {r} {K} {L} x = record {
+  pub dependent-same : {r : Outcome} {K L : List ℕ} → DependentAs D r K L → DependentAs B r K L
+  dependent-same {r} {K} {L} x = record {
     says = x .says ∙ answer-same;
     solution-bounds = rw (answer-same, written-ext (own .solutionBounds) 0 1 (dependentBound D) (dependentBound B) (own .n) (λ i l. bound-same i)) at (x .solution-bounds);
     inverse-bounds = rw answer-same at (x .inverse-bounds);

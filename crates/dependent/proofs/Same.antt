@@ -26,7 +26,7 @@ use Rattle.enclosure.specs.Reckoning.{margin, marginFails, allowedResidual, exc
 use Rattle.checked.specs.Input.{problem}
 use Rattle.checked.specs.Order.{answer}
 use Rattle.checked.proofs.Agreed.{like, like-is, like-ranges, like-margin, like-columns, like-bound, same-answer}
-use Rattle.dependent.specs.Nets.{Nets, nets, Attached, attached, couplingOf}
+use Rattle.dependent.specs.Nets.{Nets, nets, DependentNet, dependentOf, couplingOf}
 use Rattle.dependent.specs.Reckoning.{ownProblem, dependentResidual, dependentSlack, dependentExceeds, dependentBound}
 use Rattle.dependent.specs.Order.{dependentShort, dependentInRanges, dependentTests, dependentAnswer, jointAnswer}
 use Rattle.dependent.specs.Agree.{AgreeingNets}
@@ -40,11 +40,11 @@ module _ (J K : Nets) (a : AgreeingNets J K) where
   pub K′-is : K′ ≡ K
   K′-is = rw (like-is (J .main) (K .main) (a .main), like-is (J .dependent) (K .dependent) (a .dependent))
 
-  abbrev D : Attached
-  D = attached J
+  abbrev D : DependentNet
+  D = dependentOf J
 
-  abbrev B : Attached
-  B = attached K′
+  abbrev B : DependentNet
+  B = dependentOf K′
 
   abbrev n₁ : ℕ
   n₁ = J .main .n

@@ -24,12 +24,12 @@ use Rattle.checked.specs.Stated.{Stated}
 use Rattle.checked.proofs.Fit.{Fit, fit-of}
 use Rattle.checked.proofs.Places.{first-place, no-place}
 use Rattle.checked.proofs.Statements as main
-use Rattle.dependent.specs.Nets.{Nets, Attached, attached}
+use Rattle.dependent.specs.Nets.{Nets, DependentNet, dependentOf}
 use Rattle.dependent.specs.Reckoning.{ownProblem, dependentExceeds}
 use Rattle.dependent.specs.Order.{dependentShort, dependentInRanges, firstDependentResidual, dependentReckoned, dependentAnswer, jointAnswer}
 use Rattle.dependent.specs.Stated.{UsableDependent, DependentResiduals, StatedDependent, too-short, out-of-range, margin-low, residual-large, inverse-large, accepted, StatedTogether, of-main, of-dependent, both-accepted}
 
-module _ (D : Attached) where
+module _ (D : DependentNet) where
   abbrev n : ℕ
   n = D .own .n
 
@@ -123,12 +123,12 @@ module _ (D : Attached) where
   said-of-dependent (accepted u m r c) = says u (said-0 (no-margin m) (no-residual r) (no-place (ownProblem D) (some u) c))
 
 -- ---- nothing is said of the dependent net
-pub record Passed (D : Attached) : Type 0 where
+pub record Passed (D : DependentNet) : Type 0 where
   pub usable : UsableDependent D
   pub margins : Margins (ownProblem D)
   pub residuals : DependentResiduals D
 
-accepted-passed : (D : Attached) {l : List ℕ} → StatedDependent D l → l ≡ [] → Passed D
+accepted-passed : (D : DependentNet) {l : List ℕ} → StatedDependent D l → l ≡ [] → Passed D
 accepted-passed D (too-short e) z = absurd (nothing-is-not z)
 accepted-passed D (out-of-range e f) z = absurd (nothing-is-not z)
 accepted-passed D (margin-low m u l p h) z = absurd (nothing-is-not z)
@@ -136,7 +136,7 @@ accepted-passed D (residual-large k u m l p h) z = absurd (nothing-is-not z)
 accepted-passed D (inverse-large j k u m r lj lk p q h) z = absurd (nothing-is-not z)
 accepted-passed D (accepted u m r c) z = record { usable = u; margins = m; residuals = r }
 
-pub passed-of : (D : Attached) → dependentAnswer D ≡ [] → Passed D
+pub passed-of : (D : DependentNet) → dependentAnswer D ≡ [] → Passed D
 passed-of D e = accepted-passed D (stated-dependent D) e
 
 -- ---- both nets
@@ -145,27 +145,27 @@ module _ (J : Nets) where
   unfolding jointAnswer
   joint-main e = rw e
 
-  pub joint-dependent : {k : ℕ} {ks : List ℕ} → answer (J .main) ≡ [] → dependentAnswer (attached J) ≡ k ∷ ks → jointAnswer J ≡ 2 ∷ k ∷ ks
+  pub joint-dependent : {k : ℕ} {ks : List ℕ} → answer (J .main) ≡ [] → dependentAnswer (dependentOf J) ≡ k ∷ ks → jointAnswer J ≡ 2 ∷ k ∷ ks
   unfolding jointAnswer
   joint-dependent e f = rw (e, f)
 
-  pub joint-accepted : answer (J .main) ≡ [] → dependentAnswer (attached J) ≡ [] → jointAnswer J ≡ []
+  pub joint-accepted : answer (J .main) ≡ [] → dependentAnswer (dependentOf J) ≡ [] → jointAnswer J ≡ []
   unfolding jointAnswer
   joint-accepted e f = rw (e, f)
 
   pub stated-together : StatedTogether J (jointAnswer J)
-  stated-together = go (answer (J .main)) refl (dependentAnswer (attached J)) refl
+  stated-together = go (answer (J .main)) refl (dependentAnswer (dependentOf J)) refl
     where
-      go : (x : List ℕ) → answer (J .main) ≡ x → (y : List ℕ) → dependentAnswer (attached J) ≡ y → StatedTogether J (jointAnswer J)
+      go : (x : List ℕ) → answer (J .main) ≡ x → (y : List ℕ) → dependentAnswer (dependentOf J) ≡ y → StatedTogether J (jointAnswer J)
       go (k ∷ ks) e y f = subst (StatedTogether J) (sym (joint-main e)) (of-main k ks (subst (Stated (J .main)) e (main.stated (J .main))))
       go [] e (k ∷ ks) f =
           subst (StatedTogether J) (sym (joint-dependent e f))
-          (of-dependent k ks (subst (Stated (J .main)) e (main.stated (J .main))) (subst (StatedDependent (attached J)) f (stated-dependent (attached J))))
+          (of-dependent k ks (subst (Stated (J .main)) e (main.stated (J .main))) (subst (StatedDependent (dependentOf J)) f (stated-dependent (dependentOf J))))
       go [] e [] f =
           subst (StatedTogether J) (sym (joint-accepted e f))
-          (both-accepted (subst (Stated (J .main)) e (main.stated (J .main))) (subst (StatedDependent (attached J)) f (stated-dependent (attached J))))
+          (both-accepted (subst (Stated (J .main)) e (main.stated (J .main))) (subst (StatedDependent (dependentOf J)) f (stated-dependent (dependentOf J))))
 
   pub said-of-together : {l : List ℕ} → StatedTogether J l → jointAnswer J ≡ l
   said-of-together (of-main k ks x) = joint-main (main.said-of (J .main) x)
-  said-of-together (of-dependent k ks x y) = joint-dependent (main.said-of (J .main) x) (said-of-dependent (attached J) y)
-  said-of-together (both-accepted x y) = joint-accepted (main.said-of (J .main) x) (said-of-dependent (attached J) y)
+  said-of-together (of-dependent k ks x y) = joint-dependent (main.said-of (J .main) x) (said-of-dependent (dependentOf J) y)
+  said-of-together (both-accepted x y) = joint-accepted (main.said-of (J .main) x) (said-of-dependent (dependentOf J) y)

@@ -33,7 +33,7 @@ use Rattle.enclosure.proofs.Bounds.{bound-ext}
 use Rattle.checked.specs.Checked.{solutionAfter}
 use Rattle.checked.specs.Input.{Input, problem, inRanges}
 use Rattle.checked.specs.Order.{answer}
-use Rattle.dependent.specs.Nets.{Nets, Attached, attached, couplingOf}
+use Rattle.dependent.specs.Nets.{Nets, DependentNet, dependentOf, couplingOf}
 use Rattle.dependent.specs.Reckoning.{ownProblem, dependentResidual, dependentSlack, dependentExceeds, dependentBound}
 use Rattle.dependent.specs.Order.{dependentAnswer, jointAnswer, dependentInRanges}
 use Rattle.dependent.specs.Together.{dependentSolutionAfter}
@@ -43,7 +43,7 @@ or-false : (a : Bool) {b : Bool} → b ≡ false → a || b ≡ a
 or-false true e = refl
 or-false false e = e
 
-module _ (D : Attached) (u : Uncoupled D) where
+module _ (D : DependentNet) (u : Uncoupled D) where
   abbrev P : Problem
   P = ownProblem D
 
@@ -90,7 +90,7 @@ exempt-answer : (I : Input) → MeetsSums I → exemptAnswer I ≡ answer I
 unfolding exemptAnswer answer
 exempt-answer I h = rw (first-ext (I .n) (exceeds05 (problem I)) (exceeds (problem I)) (λ k l. unfold exceeds in sym (or-false (exceeds05 (problem I) k) (h k l))))
 
-module _ (D : Attached) (u : Uncoupled D) (h : MeetsSums (D .own)) where
+module _ (D : DependentNet) (u : Uncoupled D) (h : MeetsSums (D .own)) where
   pub uncoupled-checked : dependentAnswer D ≡ answer (D .own)
   uncoupled-checked = uncoupled-answer D u ∙ exempt-answer (D .own) h
 
@@ -98,6 +98,6 @@ module _ (D : Attached) (u : Uncoupled D) (h : MeetsSums (D .own)) where
   uncoupled-solution said =
       rw (written-ext (D .own .solutionBounds) 0 1 (dependentBound D) (bound (problem (D .own))) (D .own .n) (λ i l. uncoupled-bound D u i))
 
-pub uncoupled-together : (J : Nets) → answer (J .main) ≡ [] → Uncoupled (attached J) → MeetsSums (J .dependent) → jointAnswer J ≡ verdict (ofOne 2 (answer (J .dependent)) ∷ [])
+pub uncoupled-together : (J : Nets) → answer (J .main) ≡ [] → Uncoupled (dependentOf J) → MeetsSums (J .dependent) → jointAnswer J ≡ verdict (ofOne 2 (answer (J .dependent)) ∷ [])
 unfolding jointAnswer
-uncoupled-together J e u h = rw (e, uncoupled-checked (attached J) u h)
+uncoupled-together J e u h = rw (e, uncoupled-checked (dependentOf J) u h)

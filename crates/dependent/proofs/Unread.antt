@@ -21,7 +21,7 @@ use Rattle.checked.proofs.Lengths.{long-of}
 use Rattle.checked.proofs.Statements.{accepted-usable}
 use Rattle.checked.proofs.Written.{past-kept}
 use Rattle.dependent.specs.declared.CheckedNets.{CheckedNets}
-use Rattle.dependent.specs.Nets.{Nets, attached}
+use Rattle.dependent.specs.Nets.{Nets, dependentOf}
 use Rattle.dependent.specs.Reckoning.{dependentBound}
 use Rattle.dependent.specs.Order.{jointAnswer, saidNets}
 use Rattle.dependent.specs.Together.{CheckedTogether}
@@ -55,7 +55,7 @@ same-together J K a {r} {r′} {E₁} {L₁} {E₂} {L₂} {E₁′} {L₁′} {
       (c .main-inverse ∙ accepted-new _ _ (none z)) (d′ .main-inverse ∙ accepted-new _ _ (none′ z));
   dependent-solution = λ z.
       let f = fit₂ z in
-      same-written 0 n₂ (J .dependent .solutionBounds) (K .dependent .solutionBounds) (dependentBound (attached J)) (dependentBound (attached (K′ J K a)))
+      same-written 0 n₂ (J .dependent .solutionBounds) (K .dependent .solutionBounds) (dependentBound (dependentOf J)) (dependentBound (dependentOf (K′ J K a)))
       (omega (arith, f .few, f .solution-long)) (omega (arith, f .few, long-of (K .dependent) (a .dependent .long′) .solution)) (bound-alike J K a)
       (c .dependent-solution ∙ accepted-new _ _ (none z)) (d′ .dependent-solution ∙ accepted-new _ _ (none′ z));
   dependent-inverse = λ z.
@@ -85,7 +85,7 @@ same-together J K a {r} {r′} {E₁} {L₁} {E₂} {L₂} {E₁′} {L₁′} {
     fit₁ z = let u = accepted-usable (J .main) (joint-none J (none z) .0) in fit-of (J .main) (u .long) (u .inside)
 
     fit₂ : saidNets r ≡ [] → Fit (J .dependent)
-    fit₂ z = own-fit (attached J) (passed-of (attached J) (joint-none J (none z) .1) .usable)
+    fit₂ z = own-fit (dependentOf J) (passed-of (dependentOf J) (joint-none J (none z) .1) .usable)
 
 pub rest-kept : (J : Nets) {r : CheckedNets} {E₁ L₁ E₂ L₂ : List ℕ} → CheckedTogether J r E₁ L₁ E₂ L₂ → RestKept J E₁ L₁ E₂ L₂
 rest-kept J c = record {

@@ -2,7 +2,7 @@
 --   NetsRow, netsRow — both nets, C as it is handed in, what is said of them, and the dependent net's first two solution limits afterwards
 --   threeOf x d₁ d₂ d₃ — three marks, 1, 0 and 2 high, with these tolerances and the guess x of the first; weights 1, 2 and 3
 --   threeMarks — with the tolerances 1, 2 and 3, so with the limits 16, 32 and 48;  threeExact — with none and the limits 0;  threeFar — 4 steps off: 6, row 1
---   twoOf s x y g w — two marks that hang from them: 1·y1 and 1·y2 are 10 and 3 less C's part, with the tolerances 1 and 4, the guess x and y, g in row 2 and
+--   twoOf s x y g w — two marks that depend on them: 1·y1 and 1·y2 are 10 and 3 less C's part, with the tolerances 1 and 4, the guess x and y, g in row 2 and
 --     column 1 of the inverse, and the weights w and 1
 --   sixC     — C with the rows 1 −2 3 and 4 0 −1
 --   twoMarks — by sixC its residuals are −2, which is above its row's sum, and 1, and its slacks 16 + 64 + 144 + 16 and 64 + 0 + 48 + 64
@@ -15,7 +15,7 @@ use lib.IntN.{ℤ, pos, negsuc}
 use lib.ListN.{replicate, take}
 use Rattle.enclosure.specs.Example.{padded}
 use Rattle.checked.specs.Cases.{CaseRow, row, unwritten, caseInput, sameNumbers}
-use Rattle.dependent.specs.Nets.{Nets, nets, attached}
+use Rattle.dependent.specs.Nets.{Nets, nets, dependentOf}
 use Rattle.dependent.specs.Order.{jointAnswer}
 use Rattle.dependent.specs.Together.{dependentSolutionAfter}
 
@@ -79,7 +79,7 @@ netsOf r = nets (caseInput (r .main)) (caseInput (r .dependent)) (r .coupling)
 abbrev pub netsHold : NetsRow → Bool
 netsHold r =
     sameNumbers (jointAnswer (netsOf r)) (r .says)
-    && sameNumbers (take 2 (dependentSolutionAfter (jointAnswer (netsOf r)) (attached (netsOf r)))) (r .limits)
+    && sameNumbers (take 2 (dependentSolutionAfter (jointAnswer (netsOf r)) (dependentOf (netsOf r)))) (r .limits)
 
 abbrev pub allNetsHold : List NetsRow → Bool
 allNetsHold [] = true

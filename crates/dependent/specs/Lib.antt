@@ -4,7 +4,7 @@ pub mod Order
 pub mod Joint
 pub mod Together
 pub mod Agree
-pub mod Attached
+pub mod Checked
 pub mod Stated
 pub mod Uncoupled
 pub mod Example

@@ -22,30 +22,30 @@ use Rattle.checked.specs.Input.{short, inRanges}
 use Rattle.checked.specs.Order.{firstMargin, firstInversePlace, reckoned, answer}
 use Rattle.dependent.specs.declared.CheckedNets.{CheckedNets}
 use Rattle.dependent.specs.declared.CheckedNets.the-variants.{Accepted, Main, Dependent}
-use Rattle.dependent.specs.Nets.{Nets, Attached, attached}
+use Rattle.dependent.specs.Nets.{Nets, DependentNet, dependentOf}
 use Rattle.dependent.specs.Reckoning.{ownProblem, dependentExceeds}
 
-abbrev pub dependentShort : Attached → Bool
+abbrev pub dependentShort : DependentNet → Bool
 dependentShort D = shortMatrix (length (D .coupling)) || short (D .own)
 
-abbrev pub dependentInRanges : Attached → Bool
+abbrev pub dependentInRanges : DependentNet → Bool
 dependentInRanges D =
     inRanges (D .own) && (eqb (D .own .s) (D .s₁) && allInRange kind.Matrix (D .own .n * D .n₁) (at (D .coupling)))
 
-abbrev pub firstDependentResidual : Attached → ℕ
+abbrev pub firstDependentResidual : DependentNet → ℕ
 firstDependentResidual D = first (D .own .n) (dependentExceeds D)
 
-abbrev pub dependentTests : Attached → List Test
+abbrev pub dependentTests : DependentNet → List Test
 dependentTests D = reckoned (D .own .n) (firstMargin (ownProblem D)) (firstDependentResidual D) (firstInversePlace (ownProblem D))
 
-abbrev pub dependentReckoned : Attached → List ℕ
+abbrev pub dependentReckoned : DependentNet → List ℕ
 dependentReckoned D = verdict (dependentTests D)
 
-unfoldable pub dependentAnswer : Attached → List ℕ
+unfoldable pub dependentAnswer : DependentNet → List ℕ
 dependentAnswer D = verdict (number 8 (dependentShort D) ∷ number 3 (not (dependentInRanges D)) ∷ dependentTests D)
 
 unfoldable pub jointAnswer : Nets → List ℕ
-jointAnswer J = verdict (ofOne 1 (answer (J .main)) ∷ ofOne 2 (dependentAnswer (attached J)) ∷ [])
+jointAnswer J = verdict (ofOne 1 (answer (J .main)) ∷ ofOne 2 (dependentAnswer (dependentOf J)) ∷ [])
 
 abbrev pub saidNets : CheckedNets → List ℕ
 saidNets Accepted = []

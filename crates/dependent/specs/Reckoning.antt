@@ -13,21 +13,21 @@ use Rattle.linear.specs.Matrix.{Vec, apply}
 use Rattle.enclosure.specs.Problem.{Problem, S}
 use Rattle.enclosure.specs.Reckoning.{slack, exceedsWith, boundWith}
 use Rattle.checked.specs.Input.{problem}
-use Rattle.dependent.specs.Nets.{Attached, couplingOf}
+use Rattle.dependent.specs.Nets.{DependentNet, couplingOf}
 
-abbrev pub ownProblem : Attached → Problem
+abbrev pub ownProblem : DependentNet → Problem
 ownProblem D = problem (D .own)
 
-unfoldable pub dependentResidual : Attached → Vec
+unfoldable pub dependentResidual : DependentNet → Vec
 dependentResidual D k =
     pos (S (ownProblem D)) *ℤ ownProblem D .b k -ℤ apply (D .n₁) (couplingOf D) (D .X₁) k
     -ℤ apply (ownProblem D .n) (ownProblem D .A) (ownProblem D .X) k
 
-unfoldable pub dependentSlack : Attached → ℕ → ℕ
+unfoldable pub dependentSlack : DependentNet → ℕ → ℕ
 dependentSlack D k = sumℕ (D .n₁) (λ (j : ℕ). natAbs (couplingOf D k j) * D .E₁ j) + slack (ownProblem D) k
 
-abbrev pub dependentExceeds : Attached → ℕ → Bool
+abbrev pub dependentExceeds : DependentNet → ℕ → Bool
 dependentExceeds D = exceedsWith (dependentResidual D) (dependentSlack D)
 
-abbrev pub dependentBound : Attached → ℕ → ℕ
+abbrev pub dependentBound : DependentNet → ℕ → ℕ
 dependentBound D = boundWith (ownProblem D) (dependentResidual D) (dependentSlack D)

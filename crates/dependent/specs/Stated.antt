@@ -11,18 +11,18 @@ use Rattle.enclosure.specs.Problem.{columnOf}
 use Rattle.enclosure.specs.Reckoning.{marginFails, exceeds}
 use Rattle.enclosure.specs.Sound.{Margins, Residuals}
 use Rattle.checked.specs.Stated.{Stated}
-use Rattle.dependent.specs.Nets.{Nets, Attached, attached}
+use Rattle.dependent.specs.Nets.{Nets, DependentNet, dependentOf}
 use Rattle.dependent.specs.Reckoning.{ownProblem, dependentExceeds}
 use Rattle.dependent.specs.Order.{dependentShort, dependentInRanges}
 
-pub record UsableDependent (D : Attached) : Type 0 where
+pub record UsableDependent (D : DependentNet) : Type 0 where
   pub long : dependentShort D ≡ false
   pub inside : dependentInRanges D ≡ true
 
-abbrev pub DependentResiduals : Attached → Type 0
+abbrev pub DependentResiduals : DependentNet → Type 0
 DependentResiduals D = (k : ℕ) → k < D .own .n → dependentExceeds D k ≡ false
 
-pub data StatedDependent (D : Attached) : List ℕ → Type 0 where
+pub data StatedDependent (D : DependentNet) : List ℕ → Type 0 where
   -- 8: C or a list of this net is too short
   too-short : dependentShort D ≡ true → StatedDependent D (8 ∷ [])
   -- 3: a number of this net or of C outside its range, or another s than the main net's
@@ -43,5 +43,5 @@ pub data StatedDependent (D : Attached) : List ℕ → Type 0 where
 
 pub data StatedTogether (J : Nets) : List ℕ → Type 0 where
   of-main : (k : ℕ) (ks : List ℕ) → Stated (J .main) (k ∷ ks) → StatedTogether J (1 ∷ k ∷ ks)
-  of-dependent : (k : ℕ) (ks : List ℕ) → Stated (J .main) [] → StatedDependent (attached J) (k ∷ ks) → StatedTogether J (2 ∷ k ∷ ks)
-  both-accepted : Stated (J .main) [] → StatedDependent (attached J) [] → StatedTogether J []
+  of-dependent : (k : ℕ) (ks : List ℕ) → Stated (J .main) [] → StatedDependent (dependentOf J) (k ∷ ks) → StatedTogether J (2 ∷ k ∷ ks)
+  both-accepted : Stated (J .main) [] → StatedDependent (dependentOf J) [] → StatedTogether J []

@@ -10,19 +10,19 @@ use Rattle.linear.specs.Written.{written}
 use Rattle.rules.specs.Order.{ifAccepted}
 use Rattle.checked.specs.Checked.{solutionAfter, inverseAfter}
 use Rattle.dependent.specs.declared.CheckedNets.{CheckedNets}
-use Rattle.dependent.specs.Nets.{Nets, Attached, attached}
+use Rattle.dependent.specs.Nets.{Nets, DependentNet, dependentOf}
 use Rattle.dependent.specs.Reckoning.{dependentBound}
 use Rattle.dependent.specs.Order.{jointAnswer, saidNets}
 use Rattle.dependent.specs.Joint.{EnclosesBoth}
 
-abbrev pub dependentSolutionAfter : List ℕ → Attached → List ℕ
+abbrev pub dependentSolutionAfter : List ℕ → DependentNet → List ℕ
 dependentSolutionAfter said D = ifAccepted said (written (D .own .solutionBounds) 0 1 (dependentBound D) (D .own .n)) (D .own .solutionBounds)
 
 pub record CheckedTogether (J : Nets) (r : CheckedNets) (E₁ L₁ E₂ L₂ : List ℕ) : Type 0 where
   pub says : saidNets r ≡ jointAnswer J
   pub main-solution : E₁ ≡ solutionAfter (jointAnswer J) (J .main)
   pub main-inverse : L₁ ≡ inverseAfter (jointAnswer J) (J .main)
-  pub dependent-solution : E₂ ≡ dependentSolutionAfter (jointAnswer J) (attached J)
+  pub dependent-solution : E₂ ≡ dependentSolutionAfter (jointAnswer J) (dependentOf J)
   pub dependent-inverse : L₂ ≡ inverseAfter (jointAnswer J) (J .dependent)
   pub encloses : saidNets r ≡ [] →
       EnclosesBoth J (λ (i : ℕ). getD E₁ i 0) (λ (i j : ℕ). getD L₁ (i * J .main .n + j) 0)

@@ -15,9 +15,9 @@ use Rattle.enclosure.specs.Reckoning.{exceedsRow}
 use Rattle.checked.specs.Input.{Input, problem, short, inRanges}
 use Rattle.checked.specs.Order.{firstMargin, firstInversePlace, reckoned}
 use Rattle.checked.specs.Before.{firstResidual05}
-use Rattle.dependent.specs.Nets.{Attached}
+use Rattle.dependent.specs.Nets.{DependentNet}
 
-pub record Uncoupled (D : Attached) : Type 0 where
+pub record Uncoupled (D : DependentNet) : Type 0 where
   pub long : 1024 ≤ length (D .coupling)
   pub zeros : (k : ℕ) → k < D .own .n * D .n₁ → at (D .coupling) k ≡ pos 0
   pub scale : D .own .s ≡ D .s₁

@@ -29,12 +29,12 @@ use Rattle.checked.proofs.Contract.{answer-short}
 use Rattle.checked.proofs.Fit.{Fit}
 use Rattle.checked.proofs.Written.{solution-written, inverse-written, accepted-fit, inverse-place, checked-fit, checked-solution}
 use Rattle.dependent.specs.declared.CheckedNets.the-variants.{Accepted, Main, Dependent}
-use Rattle.dependent.specs.Nets.{Nets, attachedBy, attached}
+use Rattle.dependent.specs.Nets.{Nets, dependentBy, dependentOf}
 use Rattle.dependent.specs.Order.{dependentAnswer}
-use Rattle.dependent.specs.Attached.{AttachedAs}
+use Rattle.dependent.specs.Checked.{DependentAs}
 use Rattle.dependent.specs.Together.{CheckedTogether}
 use Rattle.dependent.proofs.Contract.{together-main, together-dependent, together-accepted, lent, lent-answer}
-use Rattle.dependent.proofs.Limits.{attached-same}
+use Rattle.dependent.proofs.Limits.{dependent-same}
 
 -- 8 by one of the two limit lists, which come last
 by-limits : (I : Input) → shortColumn (length (I .solutionBounds)) || shortMatrix (length (I .inverseBounds)) ≡ true → short I ≡ true
@@ -102,19 +102,19 @@ module _ (J : Nets) where
           (inverse-place own (checked-fit own r E L x (ap said e)) k l)
 
       module _ {q : Outcome} {K M : List ℕ}
-          (y : AttachedAs (attachedBy (J .main .n) (J .main .s) (vectorOf (J .main .guess)) (λ (j : ℕ). getD E j 0) (J .coupling) (J .dependent)) q K M) where
-        z : AttachedAs (attached J) q K M
-        z = attached-same (J .main .n) (J .main .s) (vectorOf (J .main .guess)) (λ (j : ℕ). getD E j 0) (bound (problem (J .main))) (J .coupling) (J .dependent) limit-is y
+          (y : DependentAs (dependentBy (J .main .n) (J .main .s) (vectorOf (J .main .guess)) (λ (j : ℕ). getD E j 0) (J .coupling) (J .dependent)) q K M) where
+        z : DependentAs (dependentOf J) q K M
+        z = dependent-same (J .main .n) (J .main .s) (vectorOf (J .main .guess)) (λ (j : ℕ). getD E j 0) (bound (problem (J .main))) (J .coupling) (J .dependent) limit-is y
 
         pub dependent-refused : (w : Refusal) → q ≡ outcome.Refused w → CheckedTogether J (Dependent w) (J .main .solutionBounds) (J .main .inverseBounds) K M
         dependent-refused w f =
-            let s : said (outcome.Refused w) ≡ dependentAnswer (attached J) = ap said (sym f) ∙ z .says in
+            let s : said (outcome.Refused w) ≡ dependentAnswer (dependentOf J) = ap said (sym f) ∙ z .says in
             rw (z .solution-bounds ∙ accepted-old _ _ (sym s), z .inverse-bounds ∙ accepted-old _ _ (sym s)) (together-dependent J w main-accepted s)
 
         pub both-accepted : q ≡ outcome.Accepted → {A B : List ℕ} → A ≡ written (J .main .solutionBounds) 0 1 (λ (i : ℕ). getD E i 0) (J .main .n) →
             B ≡ written (J .main .inverseBounds) 0 1 (λ (i : ℕ). getD L i 0) (J .main .n * J .main .n) → CheckedTogether J Accepted A B K M
         both-accepted f {A} {B} a b =
-            let s : dependentAnswer (attached J) ≡ [] = sym (z .says) ∙ ap said f in
+            let s : dependentAnswer (dependentOf J) ≡ [] = sym (z .says) ∙ ap said f in
             together-accepted J main-accepted s
             (a ∙ written-ext (J .main .solutionBounds) 0 1 (λ (i : ℕ). getD E i 0) (bound (problem (J .main))) (J .main .n) limit-is)
             (b ∙ written-ext (J .main .inverseBounds) 0 1 (λ (i : ℕ). getD L i 0) (λ (k : ℕ). inverseBound (problem (J .main)) (k / J .main .n) (k % J .main .n)) (J .main .n * J .main .n) inverse-is)

@@ -1,4 +1,4 @@
-// The check of two nets, the second hung from the first (document 02, Paper 8).
+// The check of two nets, the second dependent on the first (document 02, Paper 8).
 ghost use Rattle.checked.specs.Input.{input};
 ghost use Rattle.dependent.specs.Nets.{nets};
 ghost use Rattle.calls.specs.TwoNets.{DependentExported};

@@ -23,7 +23,7 @@ use Rattle.exchange.specs.Outward.{IntervalsOf}
 use Rattle.exchange.proofs.Enclosed.{limits-between, encloses-between}
 use Rattle.exchange.proofs.Taken.{written-taken}
 use Rattle.dependent.specs.declared.CheckedNets.{CheckedNets}
-use Rattle.dependent.specs.Nets.{Nets, attached}
+use Rattle.dependent.specs.Nets.{Nets, dependentOf}
 use Rattle.dependent.specs.Reckoning.{dependentBound}
 use Rattle.dependent.specs.Order.{saidNets, jointAnswer}
 use Rattle.dependent.specs.Joint.{mainProblem, dependentProblem, WithinBoth}
@@ -38,13 +38,13 @@ module _ (J : Nets) {r : CheckedNets} {E₁ L₁ E₂ L₂ : List ℕ} (c : Chec
       let none : jointAnswer J ≡ [] = sym (c .says) ∙ yes′ in
       let each = joint-none J none in
       let u = accepted-usable (J .main) (each .0) in
-      let v = passed-of (attached J) (each .1) .usable in
+      let v = passed-of (dependentOf J) (each .1) .usable in
       record {
         main = written-taken (J .main) u (bound (problem (J .main))) (c .main-solution ∙ accepted-new _ _ none)
             (solution-size (J .main) (fit-of (J .main) (u .long) (u .inside)) (sym (answer-ready (J .main) (u .long) (u .inside)) ∙ each .0));
         dependent = written-taken (J .dependent)
             (record { long = neither-right (shortMatrix (length (J .coupling))) _ (v .long); inside = both-left _ _ (v .inside) })
-            (dependentBound (attached J)) (c .dependent-solution ∙ accepted-new _ _ none) (dependent-size (attached J) (each .1));
+            (dependentBound (dependentOf J)) (c .dependent-solution ∙ accepted-new _ _ none) (dependent-size (dependentOf J) (each .1));
       }
 
   module _ {low₀ high₀ low₁ high₁ : List Float} {a : Outcome} (x : IntervalsOf (mainOutgoing J E₁ low₀ high₀) a low₁ high₁) (ok : said a ≡ [])

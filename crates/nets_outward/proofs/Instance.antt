@@ -9,7 +9,7 @@ use Rattle.exchange.specs.Outward.{Outgoing, lowsAfter, highsAfter, IntervalsOf
 use Rattle.exchange.proofs.Instance.{outward-accepts, zeroDoubles}
 use Rattle.checked.specs.Checked.{solutionAfter, inverseAfter}
 use Rattle.dependent.specs.declared.CheckedNets.the-variants.{Accepted}
-use Rattle.dependent.specs.Nets.{attached}
+use Rattle.dependent.specs.Nets.{dependentOf}
 use Rattle.dependent.specs.Together.{CheckedTogether, dependentSolutionAfter}
 use Rattle.dependent.specs.Example.{coupledNets, farRight₁, farRight₂, farHeight₁, farHeight₂}
 use Rattle.dependent.proofs.Contract.{together-accepted}
@@ -18,14 +18,14 @@ use Rattle.dependent.proofs.Largest.{joint-none}
 use Rattle.nets_outward.specs.Heights.{mainOutgoing, dependentOutgoing, HeightsBetween}
 use Rattle.nets_outward.proofs.Heights.{both-taken, both-between}
 
-both-checked : CheckedTogether coupledNets Accepted (solutionAfter [] (coupledNets .main)) (inverseAfter [] (coupledNets .main)) (dependentSolutionAfter [] (attached coupledNets)) (inverseAfter [] (coupledNets .dependent))
+both-checked : CheckedTogether coupledNets Accepted (solutionAfter [] (coupledNets .main)) (inverseAfter [] (coupledNets .main)) (dependentSolutionAfter [] (dependentOf coupledNets)) (inverseAfter [] (coupledNets .dependent))
 both-checked = let e = joint-none coupledNets accepted-here in together-accepted coupledNets (e .0) (e .1) refl refl refl refl
 
 abbrev pub ends₁ : Outgoing
 ends₁ = mainOutgoing coupledNets (solutionAfter [] (coupledNets .main)) zeroDoubles zeroDoubles
 
 abbrev pub ends₂ : Outgoing
-ends₂ = dependentOutgoing coupledNets (dependentSolutionAfter [] (attached coupledNets)) zeroDoubles zeroDoubles
+ends₂ = dependentOutgoing coupledNets (dependentSolutionAfter [] (dependentOf coupledNets)) zeroDoubles zeroDoubles
 
 found₁ : IntervalsOf ends₁ outcome.Accepted (lowsAfter ends₁) (highsAfter ends₁)
 found₁ = outward-accepts ends₁ (both-taken coupledNets both-checked refl .main zeroDoubles zeroDoubles (lit≤ tt) (lit≤ tt))

@@ -28,7 +28,7 @@ use Rattle.checked.proofs.Contract.{checked-ready, checked-short}
 use Rattle.checked.proofs.Statements.{stated}
 use Rattle.checked.proofs.Written.{checked-solution, checked-inverse}
 use Rattle.dependent.specs.Example.{coupledNets}
-use Rattle.dependent.specs.Nets.{Nets, nets, attached}
+use Rattle.dependent.specs.Nets.{Nets, nets, dependentOf}
 use Rattle.dependent.specs.Stated.{StatedDependent, too-short}
 use Rattle.dependent.specs.declared.CheckedNets.the-variants.{Dependent}
 use Rattle.dependent.proofs.Contract.{together-dependent}
@@ -167,8 +167,8 @@ main-accepted = joint-none coupledNets accepted-here .0
 
 pub not-dependent-told-as-main : wrong.DependentToldAsMain → ⊥
 not-dependent-told-as-main h =
-    let short : StatedDependent (attached torn) (8 ∷ []) = too-short refl in
-    let x = together-dependent torn TooShort main-accepted (sym (said-of-dependent (attached torn) short)) in
+    let short : StatedDependent (dependentOf torn) (8 ∷ []) = too-short refl in
+    let x = together-dependent torn TooShort main-accepted (sym (said-of-dependent (dependentOf torn) short)) in
     let told = h torn (Dependent TooShort) _ _ _ _ x 8 [] (subst (Stated (coupledNets .main)) main-accepted (stated (coupledNets .main))) short in
     let z : _≡_ {A = ℕ} 2 1 = ap (λ (l : List ℕ). getD l 0 0) told in
     omega (arith, z)

@@ -7,7 +7,7 @@ use Rattle.linear.specs.Matrix.{apply}
 use Rattle.linear.proofs.Written.{front-at}
 use Rattle.checked.proofs.Fit.{Fit}
 use Rattle.checked.proofs.Written.{accepted-fit, solution-at, inverse-at}
-use Rattle.dependent.specs.Nets.{Nets, attached}
+use Rattle.dependent.specs.Nets.{Nets, dependentOf}
 use Rattle.dependent.specs.Order.{saidNets, jointAnswer}
 use Rattle.dependent.specs.Reckoning.{dependentResidual, dependentSlack, dependentBound}
 use Rattle.dependent.specs.Stated.{StatedTogether, of-main, of-dependent}
@@ -35,7 +35,7 @@ module _ (J : Nets) (r : CheckedNets) (E₁ L₁ E₂ L₂ : List ℕ) (x : Chec
   main-fit = accepted-fit (J .main) (joint-none J none .0)
 
   dependent-fit : Fit (J .dependent)
-  dependent-fit = own-fit (attached J) (passed-of (attached J) (joint-none J none .1) .usable)
+  dependent-fit = own-fit (dependentOf J) (passed-of (dependentOf J) (joint-none J none .1) .usable)
 
 pub both-limits-reckoned : paper.BothLimitsReckoned
 both-limits-reckoned J r E₁ L₁ E₂ L₂ x e =
@@ -43,7 +43,7 @@ both-limits-reckoned J r E₁ L₁ E₂ L₂ x e =
     let g = dependent-fit J r E₁ L₁ E₂ L₂ x e in
     let z = none J r E₁ L₁ E₂ L₂ x e in (
       λ i l. rw (x .main-solution, z) (solution-at (J .main) f i l),
-      λ i l. rw (x .dependent-solution, z) (front-at (J .dependent .solutionBounds) (dependentBound (attached J)) 0 (J .dependent .n) i l (omega (arith, g .few, g .solution-long))),
+      λ i l. rw (x .dependent-solution, z) (front-at (J .dependent .solutionBounds) (dependentBound (dependentOf J)) 0 (J .dependent .n) i l (omega (arith, g .few, g .solution-long))),
     )
 
 pub both-inverse-limits-reckoned : paper.BothInverseLimitsReckoned

@@ -14,7 +14,7 @@ use Rattle.enclosure.specs.Problem.{S}
 use Rattle.enclosure.specs.Reckoning.{bound, inverseBound, boundWith}
 use Rattle.checked.specs.Stated.{Stated}
 use Rattle.dependent.specs.Joint.{mainProblem, dependentProblem, JointSolution, WithinBoth}
-use Rattle.dependent.specs.Nets.{Nets, attached}
+use Rattle.dependent.specs.Nets.{Nets, dependentOf}
 use Rattle.dependent.specs.Order.{saidNets}
 use Rattle.dependent.specs.Reckoning.{dependentResidual, dependentSlack}
 use Rattle.dependent.specs.Stated.{StatedDependent, StatedTogether}
@@ -29,21 +29,21 @@ use Rattle.promises.specs.Ways.{Refused}
 abbrev pub DependentResidualIs : Type 0
 DependentResidualIs =
     (J : Nets) (k : ℕ) → let P = dependentProblem J in let n₁ = J .main .n in
-    dependentResidual (attached J) k
+    dependentResidual (dependentOf J) k
     ≡ pos (S P) *ℤ P .b k -ℤ sum n₁ (λ (j : ℕ). at (J .coupling) (k * n₁ + j) *ℤ mainProblem J .X j) -ℤ sum (P .n) (λ (j : ℕ). P .A k j *ℤ P .X j)
 
 -- "and its slack is |C|·E1 plus the tolerance slack", "With E1 the limits this call finds for the main net"
 abbrev pub DependentSlackIs : Type 0
 DependentSlackIs =
     (J : Nets) (k : ℕ) → let P = dependentProblem J in let n₁ = J .main .n in
-    dependentSlack (attached J) k ≡ sumℕ n₁ (λ (j : ℕ). natAbs (at (J .coupling) (k * n₁ + j)) * bound (mainProblem J) j) + S P * P .d k
+    dependentSlack (dependentOf J) k ≡ sumℕ n₁ (λ (j : ℕ). natAbs (at (J .coupling) (k * n₁ + j)) * bound (mainProblem J) j) + S P * P .d k
 
 -- what is written where both are accepted: the limits of Papers 1 to 5 with that residual and slack (demand 2)
 abbrev pub BothLimitsReckoned : Type 0
 BothLimitsReckoned =
     (J : Nets) (r : CheckedNets) (E₁ L₁ E₂ L₂ : List ℕ) → CheckedTogether J r E₁ L₁ E₂ L₂ → saidNets r ≡ [] →
     ((i : ℕ) → i < J .main .n → getD E₁ i 0 ≡ bound (mainProblem J) i)
-    × ((i : ℕ) → i < J .dependent .n → getD E₂ i 0 ≡ boundWith (dependentProblem J) (dependentResidual (attached J)) (dependentSlack (attached J)) i)
+    × ((i : ℕ) → i < J .dependent .n → getD E₂ i 0 ≡ boundWith (dependentProblem J) (dependentResidual (dependentOf J)) (dependentSlack (dependentOf J)) i)
 
 abbrev pub BothInverseLimitsReckoned : Type 0
 BothInverseLimitsReckoned =
@@ -62,7 +62,7 @@ JointEnclosed =
 abbrev pub RefusalNamesNet : Type 0
 RefusalNamesNet =
     (J : Nets) (r : CheckedNets) (E₁ L₁ E₂ L₂ : List ℕ) → CheckedTogether J r E₁ L₁ E₂ L₂ → (k : ℕ) (ks : List ℕ) →
-    (Stated (J .main) (k ∷ ks) → saidNets r ≡ 1 ∷ k ∷ ks) × (Stated (J .main) [] → StatedDependent (attached J) (k ∷ ks) → saidNets r ≡ 2 ∷ k ∷ ks)
+    (Stated (J .main) (k ∷ ks) → saidNets r ≡ 1 ∷ k ∷ ks) × (Stated (J .main) [] → StatedDependent (dependentOf J) (k ∷ ks) → saidNets r ≡ 2 ∷ k ∷ ks)
 
 -- "The main net is checked first and its refusals given; then the hung net in the usual order, C under 3 and 8 with its matrix, unequal s under 3" (`StatedTogether`)
 abbrev pub TogetherRefusesAsStated : Type 0

@@ -12,15 +12,15 @@ use Rattle.rules.proofs.Ranges.{both, both-left, not-both, not-first, neither, 
 use Rattle.checked.specs.Input.{Input, input, short, sizesInRange, inRanges}
 use Rattle.checked.proofs.Fit.{Fit}
 use Rattle.checked.proofs.Lengths.{long-of}
-use Rattle.dependent.specs.Nets.{Attached, attachedBy}
+use Rattle.dependent.specs.Nets.{DependentNet, dependentBy}
 use Rattle.dependent.specs.Order.{dependentShort}
 use Rattle.dependent.specs.Stated.{UsableDependent}
 use Rattle.dependent.proofs.Statements.{own-fit}
-use Rattle.attached_check.proofs.Handed.{HandedDependent, coupling-list, scaled-list, own-slacks, workable, reckoned-attached}
-use Rattle.attached_check.proofs.Refused.{attached-short, attached-range}
+use Rattle.attached_check.proofs.Handed.{HandedDependent, coupling-list, scaled-list, own-slacks, workable, reckoned-dependent}
+use Rattle.attached_check.proofs.Refused.{dependent-short, dependent-range}
 use borrow.Author.Needs.{needs}
-use Rattle.attached_check.proofs.check_attached.Statement.{statement}
-use Rattle.attached_check.proofs.check_attached.Tie as tie
+use Rattle.attached_check.proofs.check_dependent_net.Statement.{statement}
+use Rattle.attached_check.proofs.check_dependent_net.Tie as tie
 
 -- stages on the way: after the test of the lengths, the right side with its coupling, the sums along the rows, what is allowed, and all lists
 abbrev at-short : tie.Then4 → tie.Else2
@@ -43,8 +43,8 @@ I s =
     let a = s .args in
     input (a .n) (a .s) (a .t) (a .matrix .now) (a .right .now) (a .tolerance .now) (a .guess .now) (a .inverse .now) (a .weights .now) (a .solution-bounds .now) (a .inverse-bounds .now)
 
-abbrev D : tie.Start → Attached
-D s = attachedBy (s .args .marks) (s .args .main-scale) (vectorOf (s .args .main-guess .now)) (λ j. getD (s .args .main-limits) j 0) (s .args .coupling .now) (I s)
+abbrev D : tie.Start → DependentNet
+D s = dependentBy (s .args .marks) (s .args .main-scale) (vectorOf (s .args .main-guess .now)) (λ j. getD (s .args .main-limits) j 0) (s .args .coupling .now) (I s)
 
 -- places on the way, and what the tests showed
 abbrev start2 : tie.Else2 → tie.Start
@@ -119,14 +119,14 @@ handed z = record {
 }
 
 returns : tie.Need-returns
-returns c = attached-short (D (c .before .before .before)) (rw (lt-ltb _ _ (c .if1 .taken)))
+returns c = dependent-short (D (c .before .before .before)) (rw (lt-ltb _ _ (c .if1 .taken)))
 
 is-short-requires : tie.Need-is-short-requires
 is-short-requires c κs = search needs
 
 returns-2 : tie.Need-returns-2
 returns-2 c =
-    attached-short (D (c .before .before .before .before .before))
+    dependent-short (D (c .before .before .before .before .before))
     (rw (le-ltb _ _ (c .before .before .if1 .left)) (sym (c .before .is-short .ensures) ∙ c .if2 .taken))
 
 are-sizes-in-range-requires : tie.Need-are-sizes-in-range-requires
@@ -200,32 +200,32 @@ returns-3 c =
     let z = ready (r .before .before .before) in
     let t = place z in
     let s = start6 t in
-    reckoned-attached (s .args .marks) (s .args .main-scale) (s .args .main-guess .now) (s .args .main-limits) (s .args .coupling .now) (I s) (s .pre .0) (s .pre .1) (usable t) (handed z) (r .reckon .ensures)
+    reckoned-dependent (s .args .marks) (s .args .main-scale) (s .args .main-guess .now) (s .args .main-limits) (s .args .coupling .now) (I s) (s .pre .0) (s .pre .1) (usable t) (handed z) (r .reckon .ensures)
 
 returns-4 : tie.Need-returns-4
 returns-4 c =
     let t = c .before .before in
-    attached-range (D (start5 t)) (long (at-short (t .before)))
+    dependent-range (D (start5 t)) (long (at-short (t .before)))
     (not-both (within (t .before)) (not-both (one-scale t) (sym (c .before .all-in-range .ensures) ∙ c .if6 .left)))
 
 returns-5 : tie.Need-returns-5
 returns-5 c =
-    attached-range (D (start4 (c .before))) (long (at-short (c .before)))
+    dependent-range (D (start4 (c .before))) (long (at-short (c .before)))
     (not-both (within (c .before)) (not-first _ (ne-eqb _ _ (c .if5 .left))))
 
 returns-6 : tie.Need-returns-6
 returns-6 c =
     let t = c .before .before in
-    attached-range (D (start3 t)) (long (t .before .before))
+    dependent-range (D (start3 t)) (long (t .before .before))
     (not-first _ (not-both (sizes t) (sym (c .before .are-lists-in-range .ensures) ∙ c .if4 .left)))
 
 returns-7 : tie.Need-returns-7
 returns-7 c =
-    attached-range (D (start2 (c .before .before))) (long (c .before .before))
+    dependent-range (D (start2 (c .before .before))) (long (c .before .before))
     (not-first _ (not-first _ (sym (c .before .are-sizes-in-range .ensures) ∙ c .if3 .left)))
 
-pub check-attached-spec : {M : Type 1} → statement M
-check-attached-spec =
+pub check-dependent-net-spec : {M : Type 1} → statement M
+check-dependent-net-spec =
     tie.close
     (tie.spec
     returns

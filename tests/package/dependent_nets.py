@@ -14,7 +14,7 @@ PAIRS = 10
 MAIN_FILE = ROOT / "examples" / "whole-file.txt"
 
 
-class Hung:
+class DependentPair:
     """A main net's file and a suburb by chance, whose lines have ends like 4, 0 or 'main:3'."""
 
     def __init__(self, package, index, scale=6):
@@ -48,14 +48,14 @@ class Hung:
         return [row[:n2] for row in rows], [row[n2:] for row in rows], built.right[:n2], tolerance
 
 
-def proposed(package, hung):
+def proposed(package, dependent_net):
     """The suburb's problem, with what the package proposes for the second implementation's equations, and C row after row."""
-    calls, (matrix, coupling, right, tolerance) = package.calls, hung.equations()
+    calls, (matrix, coupling, right, tolerance) = package.calls, dependent_net.equations()
     propose = __import__("kodarfi.propose", fromlist=["propose_dependent"])
-    main = __import__("kodarfi.forms", fromlist=["read"]).read(hung.file)
+    main = __import__("kodarfi.forms", fromlist=["read"]).read(dependent_net.file)
     made = propose.propose_dependent(main, calls.check(main), calls.Net(matrix, right, tolerance), coupling)
     flat = lambda rows: [number for row in rows for number in row]
-    return Problem(hung.n2, made.s, made.t, flat(matrix), right, tolerance, made.guess, flat(made.inverse), made.weights), flat(coupling)
+    return Problem(dependent_net.n2, made.s, made.t, flat(matrix), right, tolerance, made.guess, flat(made.inverse), made.weights), flat(coupling)
 
 
 def report(problem, limits):
@@ -64,11 +64,11 @@ def report(problem, limits):
 
 def listings_of_two_nets(package):
     """Both listings, from text and from CSV, are those of the second implementation."""
-    for hung in (Hung(package, index) for index in range(PAIRS)):
-        problem, coupling = proposed(package, hung)
-        bounds = DependentCheck().check(Nets(Program().load(hung.file), problem, coupling))
-        both = Program().listing(hung.file) + report(problem, bounds.dependent)
-        if acted(package, "dependent", hung.file, hung.text()) != both or acted(package, "dependent", hung.file, hung.csv()) != both:
+    for dependent_net in (DependentPair(package, index) for index in range(PAIRS)):
+        problem, coupling = proposed(package, dependent_net)
+        bounds = DependentCheck().check(Nets(Program().load(dependent_net.file), problem, coupling))
+        both = Program().listing(dependent_net.file) + report(problem, bounds.dependent)
+        if acted(package, "dependent", dependent_net.file, dependent_net.text()) != both or acted(package, "dependent", dependent_net.file, dependent_net.csv()) != both:
             return False
     return True
 
@@ -82,17 +82,17 @@ def proposals_of_suburbs_are_good(package):
     """The guess is rounded from the exact heights above the main net's guess, so its residual is at most the sum along each row. Neither weights of 1 nor
     such as the slack of Paper 8 asks for have smaller entry limits, in sum, and those of 1 have wider ones for some."""
     narrower = 0
-    for hung in (Hung(package, index) for index in range(PAIRS)):
-        main, (matrix, rows, right, tolerance) = Program().load(hung.file), hung.equations()
-        problem, coupling = proposed(package, hung)
+    for dependent_net in (DependentPair(package, index) for index in range(PAIRS)):
+        main, (matrix, rows, right, tolerance) = Program().load(dependent_net.file), dependent_net.equations()
+        problem, coupling = proposed(package, dependent_net)
         S, E1 = 2**main.s, Program().reckoning().check(main).solution
         residual = [S * b - cx - ax for b, cx, ax in zip(right, product(rows, main.guess), product(matrix, problem.guess))]
         slack = [S * d + sum(abs(c) * E for c, E in zip(row, E1)) for d, row in zip(tolerance, rows)]
-        G = [problem.inverse[i * hung.n2 : (i + 1) * hung.n2] for i in range(hung.n2)]
+        G = [problem.inverse[i * dependent_net.n2 : (i + 1) * dependent_net.n2] for i in range(dependent_net.n2)]
         moved = [abs(p) + sum(abs(g) * one for g, one in zip(row, slack)) for p, row in zip(product(G, residual), G)]
-        weights = [max(1, ceil(Fraction(1024 * size, max(moved)))) for size in moved] if any(moved) else [1] * hung.n2
+        weights = [max(1, ceil(Fraction(1024 * size, max(moved)))) for size in moved] if any(moved) else [1] * dependent_net.n2
         limits = lambda weights: DependentCheck().check(Nets(main, problem._replace(weights=weights), coupling)).dependent
-        sums = [summed(problem, limits(one)) for one in (problem.weights, [1] * hung.n2, weights)]
+        sums = [summed(problem, limits(one)) for one in (problem.weights, [1] * dependent_net.n2, weights)]
         if any(abs(r) > sum(map(abs, row)) for r, row in zip(residual, matrix)) or sums[0] != min(sums):
             return False
         narrower += sums[0] < sums[1]
@@ -109,10 +109,10 @@ class Pair:
 
 def limits_hold_of_joint_solutions(package):
     """Every exact joint solution lies within what is printed, for right sides within both tolerances."""
-    for index, hung in enumerate(Hung(package, index) for index in range(PAIRS)):
-        problem, coupling = proposed(package, hung)
-        main = Program().load(hung.file)
-        printed = limits_of(acted(package, "dependent", hung.file, hung.text()))
+    for index, dependent_net in enumerate(DependentPair(package, index) for index in range(PAIRS)):
+        problem, coupling = proposed(package, dependent_net)
+        main = Program().load(dependent_net.file)
+        printed = limits_of(acted(package, "dependent", dependent_net.file, dependent_net.text()))
         if [one.guess for one in printed] != [main.guess[: main.n], problem.guess]:
             return False
         bounds = PairBounds(*printed)
@@ -235,9 +235,9 @@ WIDE = 2  # a pair whose main net has limits so wide that they need coarse steps
 
 def coarse_steps_leave_room(package):
     """What the main net's limits add to the slack has to fit beside the residual: propose --scale makes the steps for it."""
-    fine, coarse = Hung(package, WIDE, scale=10), Hung(package, WIDE)
+    fine, coarse = DependentPair(package, WIDE, scale=10), DependentPair(package, WIDE)
     made = command(package, "propose", "--scale", "6", input=coarse.main)
-    refused, accepted = (acted(package, "dependent", hung.file, hung.text()) for hung in (fine, coarse))
+    refused, accepted = (acted(package, "dependent", dependent_net.file, dependent_net.text()) for dependent_net in (fine, coarse))
     return refused == "(refused 6 (6))" and made == (0, coarse.file, b"") and isinstance(accepted, bytes)
 
 
