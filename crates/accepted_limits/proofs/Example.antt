@@ -18,7 +18,7 @@ use Rattle.integer.proofs.Rounding.{ceil-least}
 use Rattle.linear.specs.Matrix.{Vec, apply, product, identity}
 use Rattle.rules.specs.Range.{ranges, rangeOf, inRange, allInRange}
 use Rattle.enclosure.specs.Demand.{RightSide}
-use Rattle.enclosure.specs.Reckoning.{defect, load, margin, residual, rowSum, exceeds, sizesWith, boundFrom, boundWith, bound}
+use Rattle.enclosure.specs.Reckoning.{defect, load, margin, residual, rowSum, exceeds, magnitudesWith, boundFrom, boundWith, bound}
 use Rattle.enclosure.specs.Quality.{trueError, NeverFar}
 use Rattle.enclosure.proofs.Demands.{encloses}
 use Rattle.checked.specs.Order.{answer}
@@ -30,11 +30,11 @@ use Rattle.good_limits.specs.Good.{OwnFactor}
 use Rattle.accepted_limits.specs.Example.{fork}
 
 pub fork-accepted : jointAnswer fork ≡ []
-unfolding jointAnswer answer dependentAnswer dependentResidual dependentSlack bound boundWith boundFrom sizesWith exceeds rowSum residual margin load defect product apply identity sum sumℕ largest first ceilDiv allInRange inRange rangeOf ranges every
+unfolding jointAnswer answer dependentAnswer dependentResidual dependentSlack bound boundWith boundFrom magnitudesWith exceeds rowSum residual margin load defect product apply identity sum sumℕ largest first ceilDiv allInRange inRange rangeOf ranges every
 fork-accepted = refl
 
 pub fork-limits : (bound (mainProblem fork) 0 ≡ 48) × ((i : ℕ) → i < 2 → dependentBound (dependentOf fork) i ≡ 144)
-unfolding apply product identity sum sumℕ defect load margin residual sizesWith boundFrom boundWith bound largest ceilDiv dependentResidual dependentSlack
+unfolding apply product identity sum sumℕ defect load margin residual magnitudesWith boundFrom boundWith bound largest ceilDiv dependentResidual dependentSlack
 fork-limits = (refl, each-of-two _ refl refl)
 
 pub fork-factor : OwnFactor (dependentProblem fork) 16 16

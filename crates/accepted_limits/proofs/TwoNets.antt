@@ -12,7 +12,7 @@ use Rattle.linear.specs.Matrix.{apply}
 use Rattle.linear.proofs.Slack.{slack-ext}
 use Rattle.rules.proofs.Verdicts.{accepted-new, nothing-is-not}
 use Rattle.enclosure.specs.Problem.{S}
-use Rattle.enclosure.specs.Reckoning.{defect, load, margin, residual, slack, sizesWith, boundWith, bound, inverseBound}
+use Rattle.enclosure.specs.Reckoning.{defect, load, margin, residual, slack, magnitudesWith, boundWith, bound, inverseBound}
 use Rattle.enclosure.specs.Sound.{Margins}
 use Rattle.enclosure.proofs.Bounds.{bound-ext}
 use Rattle.checked.specs.Order.{answer}
@@ -40,7 +40,7 @@ module _ (D : DependentNet) where
   steps-slack k = omega arith
 
   pub steps-bound : (i : ℕ) → bound (dependentInSteps D) i ≡ dependentBound D i
-  unfolding bound boundWith sizesWith margin load defect
+  unfolding bound boundWith magnitudesWith margin load defect
   steps-bound i =
       bound-ext (ownProblem D .n) _ _ _ _ (ownProblem D .w) i
       (λ m l. slack-ext (ownProblem D .n) (ownProblem D .G) (ownProblem D .G) (residual (dependentInSteps D)) (dependentResidual D) (slack (dependentInSteps D)) (dependentSlack D) m

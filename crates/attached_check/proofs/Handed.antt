@@ -26,14 +26,14 @@ use Rattle.rules.specs.declared.Kind.the-variants as kind
 use Rattle.rules.specs.declared.Outcome.{Outcome}
 use Rattle.rules.proofs.AllInRange.{all-at}
 use Rattle.rules.proofs.Ranges.{both-right, matrix-range, neither-left}
-use Rattle.enclosure.specs.Reckoning.{margin, load, defect, residual, slack, allowedResidual, rowSum, exceeds, sizesWith, boundWith, bound}
+use Rattle.enclosure.specs.Reckoning.{margin, load, defect, residual, slack, allowedResidual, rowSum, exceeds, magnitudesWith, boundWith, bound}
 use Rattle.enclosure.proofs.Bounds.{bound-ext}
 use Rattle.reckoning.specs.Arrays.{Begins}
 use Rattle.reckoning.specs.Parts.{aboveAllowed}
-use Rattle.reckoning.proofs.Sizes.{scaled-size}
+use Rattle.reckoning.proofs.Magnitudes.{scaled-magnitude}
 use Rattle.row_sums.specs.Sum.{rowSumOf}
 use Rattle.slacks.specs.Allowed.{slackAt, allowedBeside}
-use Rattle.slacks.proofs.Allowed.{slack-size, allowed-size, allowed-test}
+use Rattle.slacks.proofs.Allowed.{slack-magnitude, allowed-magnitude, allowed-test}
 use Rattle.checked.specs.Input.{Input, inRanges}
 use Rattle.checked.proofs.Fit.{Fit}
 use Rattle.checker.specs.Work.{Work, work, workProblem, workResidual, workSlack, workAnswer, Workable, ReckonedAs}
@@ -45,7 +45,7 @@ use Rattle.dependent.specs.Checked.{DependentAs}
 use Rattle.dependent.proofs.Statements.{answer-ready, own-fit, passed-of}
 use Rattle.couplings.specs.Carried.{baseFrom, cappedSum}
 use Rattle.couplings.proofs.Cap.{capped-test, capped-where}
-use Rattle.couplings.proofs.Rows.{base-size}
+use Rattle.couplings.proofs.Rows.{base-magnitude}
 
 -- a size above what is allowed is so with its slack
 absorbed : (c z y : ℕ) → ltb c (z + y) || ltb c z ≡ ltb c (z + y)
@@ -76,18 +76,18 @@ pub coupling-list : (marks : ℕ) (coupling : List ℤ) (n : ℕ) → n ≤ 32 �
     ColumnList coupling (n * marks) (2 ^ 20)
 coupling-list marks coupling n few m long e = record {
   long = omega (arith, mul-le-mul-right marks few);
-  within = record { size = λ k l. matrix-range (at coupling k) (all-at kind.Matrix (n * marks) (at coupling) e k l) };
+  within = record { magnitudes = λ k l. matrix-range (at coupling k) (all-at kind.Matrix (n * marks) (at coupling) e k l) };
 }
 
 -- S·b2 and S·d2
 pub scaled-list : (I : Input) → Fit I → {p : List ℤ} → length p ≡ 32 → Begins (pos 0) p (I .n) (λ (k : ℕ). pos (2 ^ I .s) *ℤ at (I .right) k) → ColumnList p (I .n) (2 ^ 50)
 scaled-list I fit {p} long h = record {
   long = omega (arith, fit .few);
-  within = record { size = λ k l. rw (h .each k l) (scaled-size (I .s) (at (I .right) k) (fit .solution-scale) (fit .right .within .size k l)) };
+  within = record { magnitudes = λ k l. rw (h .each k l) (scaled-magnitude (I .s) (at (I .right) k) (fit .solution-scale) (fit .right .within .magnitudes k l)) };
 }
 
 pub own-slacks : (I : Input) → Fit I → {τ : List ℕ} → Begins 0 τ (I .n) (λ (k : ℕ). slackAt (I .s) (at (I .tolerance) k)) → (k : ℕ) → k < I .n → getD τ k 0 ≤ 2 ^ 40
-own-slacks I fit {τ} h k l = rw (h .each k l) (slack-size (I .s) (at (I .tolerance) k) (fit .solution-scale) (fit .tolerance .within .size k l))
+own-slacks I fit {τ} h k l = rw (h .each k l) (slack-magnitude (I .s) (at (I .tolerance) k) (fit .solution-scale) (fit .tolerance .within .magnitudes k l))
 
 module _ (marks s₁ : ℕ) (guess : List ℤ) (limits : List ℕ) (coupling : List ℤ) (I : Input) where
   abbrev D : DependentNet
@@ -128,15 +128,15 @@ module _ (marks s₁ : ℕ) (guess : List ℤ) (limits : List ℕ) (coupling : L
       base = record {
         long = omega (arith, h .base-long, fit .few);
         within = record {
-          size = λ k l. rw (h .base .each k l)
-              (base-size k p coupling guess few (scaled-list I fit (h .scaled-long) (h .scaled) .within .size k l) (row-reach coupled k l) known);
+          magnitudes = λ k l. rw (h .base .each k l)
+              (base-magnitude k p coupling guess few (scaled-list I fit (h .scaled-long) (h .scaled) .within .magnitudes k l) (row-reach coupled k l) known);
         };
       };
-      allowed = record { long = omega (arith, h .allowed-long, fit .few); within = record { size = λ k l. rw (h .allowed .each k l) (allowed-size (getD σ k 0) _) } };
+      allowed = record { long = omega (arith, h .allowed-long, fit .few); within = record { magnitudes = λ k l. rw (h .allowed .each k l) (allowed-magnitude (getD σ k 0) _) } };
       room = λ k l z e. ltb-false allowedResidual (natAbs z + getD σ k 0) (sym (allowed-is k l z) ∙ e);
       in-columns = record {
         long = omega (arith, h .in-columns-long, fit .few);
-        within = record { size = λ k l. rw (h .in-columns .each k l) (allowed-size (getD (replicate 32 0) k 0) (getD w k 0)) };
+        within = record { magnitudes = λ k l. rw (h .in-columns .each k l) (allowed-magnitude (getD (replicate 32 0) k 0) (getD w k 0)) };
       };
       column-rule = λ k l. h .in-columns .each k l ∙ ap₂ allowedBeside (getD-replicate 32 k 0 0 (omega (arith, fit .few))) (sum-is k l);
       guess = fit .guess;
@@ -176,7 +176,7 @@ module _ (marks s₁ : ℕ) (guess : List ℤ) (limits : List ℕ) (coupling : L
         (passed-of D (answer-ready D (u .long) (u .inside) ∙ e) .residuals k l))
 
     bound-is : dependentReckoned D ≡ [] → (i : ℕ) → boundWith (workProblem W) (workResidual W) (workSlack W) i ≡ dependentBound D i
-    unfolding boundWith sizesWith margin load defect
+    unfolding boundWith magnitudesWith margin load defect
     bound-is e i =
         bound-ext (I .n) _ _ _ _ _ i
         (λ m l. slack-ext (I .n) (ownProblem D .G) (ownProblem D .G) (workResidual W) (dependentResidual D) (workSlack W) (dependentSlack D) m (λ j lj. refl) residual-is (slack-is e))
@@ -194,5 +194,5 @@ module _ (marks s₁ : ℕ) (guess : List ℤ) (limits : List ℕ) (coupling : L
         record {
           says = x .says ∙ (answer-is ∙ sym y);
           solution-bounds = rw y ((rw answer-is at (x .solution-bounds)) ∙ solution-is (dependentReckoned D) refl);
-          inverse-bounds = rw y (unfold bound boundWith sizesWith residual margin load defect in rw answer-is at (x .inverse-bounds));
+          inverse-bounds = rw y (unfold bound boundWith magnitudesWith residual margin load defect in rw answer-is at (x .inverse-bounds));
         }

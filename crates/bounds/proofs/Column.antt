@@ -1,10 +1,10 @@
 -- The limits of a column.
---   image-is     — the code's sizes are those of G·r;  image-size — they are at most 2^55 whatever is raised
---   plain-sizes, slack-sizes — the code's sizes are the definition's, without slack and with it
---   sizes-small  — they are at most 2^50
+--   image-is     — the code's sizes are those of G·r;  image-magnitude — they are at most 2^55 whatever is raised
+--   plain-magnitudes, slack-magnitudes — the code's sizes are the definition's, without slack and with it
+--   magnitudes-small — they are at most 2^50
 --   slack-near, near-reach, columns-near — slacks and residuals that are near are small; residuals of columns are near
 --   slack-sum — a sum of slacks is at most 2^50 a term;  no-slack-sum — where no row has one it is 0
---   bounds-of-sizes, column-more — limits from an array of sizes, and one column more of the loop over all
+--   bounds-of-magnitudes, column-more — limits from an array of sizes, and one column more of the loop over all
 use mathlib.Core.Path.{_≡_, refl, sym, ap, _∙_}
 use mathlib.Core.List.{List}
 use Prim.Native.Nat.{ℕ, _+_, _*_, _≤_, _<_, _^_}
@@ -22,13 +22,13 @@ use Rattle.linear.proofs.Places.{place, list-reach}
 use Rattle.linear.proofs.Slack.{joint}
 use Rattle.linear.proofs.Written.{written-ext}
 use Rattle.raised_rows.specs.Raised.{raisedBy, lowered, RaisedRow, RaisedRows, loweredRows, rowDot, RowOf}
-use Rattle.raised_rows.proofs.Lowering.{lowered-size, row-dot-size, row-dot-shows, rows-themselves}
-use Rattle.enclosure.specs.Reckoning.{allowedResidual, sizesWith, boundFrom}
+use Rattle.raised_rows.proofs.Lowering.{lowered-magnitude, row-dot-magnitude, row-dot-shows, rows-themselves}
+use Rattle.enclosure.specs.Reckoning.{allowedResidual, magnitudesWith, boundFrom}
 use Rattle.enclosure.proofs.Bounds.{bound-ext}
 use Rattle.reckoning.specs.Arrays.{Begins, columnsWritten}
 use Rattle.reckoning.specs.Rows.{InverseRows}
 use Rattle.reckoning.proofs.Filled.{begins-as, columns-next}
-use Rattle.ratios.specs.Ratio.{Sized}
+use Rattle.ratios.specs.Ratio.{Bounded}
 use Rattle.bounds.specs.Limits.{inversePart, Near}
 
 module _ (n : ℕ) {rows residuals : List ℕ} {place : ℕ} {r : Vec} (h : RaisedRows rows n) (s : RowOf residuals place n r) where
@@ -36,27 +36,27 @@ module _ (n : ℕ) {rows residuals : List ℕ} {place : ℕ} {r : Vec} (h : Rais
   unfolding apply
   image-is m l = ap natAbs (row-dot-shows n (rows-themselves h .each m l) s)
 
-  pub image-size : {sizes : List ℕ} → n ≤ 32 → Begins 0 sizes n (λ (m : ℕ). natAbs (rowDot rows (m * (n + 1)) residuals place n)) →
-      (m : ℕ) → m < n → getD sizes m 0 ≤ 2 ^ 55
-  image-size few b m l = rw (b .each m l) (row-dot-size few (h .each m l .small) (s .row .small))
+  pub image-magnitude : {magnitudes : List ℕ} → n ≤ 32 → Begins 0 magnitudes n (λ (m : ℕ). natAbs (rowDot rows (m * (n + 1)) residuals place n)) →
+      (m : ℕ) → m < n → getD magnitudes m 0 ≤ 2 ^ 55
+  image-magnitude few b m l = rw (b .each m l) (row-dot-magnitude few (h .each m l .small) (s .row .small))
 
-  pub plain-sizes : {sizes : List ℕ} → Begins 0 sizes n (λ (m : ℕ). natAbs (rowDot rows (m * (n + 1)) residuals place n)) →
-      Begins 0 sizes n (sizesWith (inversePart n rows) r (λ (k : ℕ). 0))
-  unfolding sizesWith
-  plain-sizes b =
+  pub plain-magnitudes : {magnitudes : List ℕ} → Begins 0 magnitudes n (λ (m : ℕ). natAbs (rowDot rows (m * (n + 1)) residuals place n)) →
+      Begins 0 magnitudes n (magnitudesWith (inversePart n rows) r (λ (k : ℕ). 0))
+  unfolding magnitudesWith
+  plain-magnitudes b =
       begins-as 0 _ _ (λ m l. omega (arith, image-is m l, sumℕ-* n 0 (λ (j : ℕ). natAbs (loweredRows rows n m j)))) b
 
-  pub slack-sizes : {sizes out : List ℕ} (σ : ℕ → ℕ) → Begins 0 sizes n (λ (m : ℕ). natAbs (rowDot rows (m * (n + 1)) residuals place n)) →
-      Begins 0 out n (λ (m : ℕ). getD sizes m 0 + sumℕ n (λ (j : ℕ). natAbs (loweredRows rows n m j) * σ j)) → Begins 0 out n (sizesWith (inversePart n rows) r σ)
-  unfolding sizesWith
-  slack-sizes σ a b = begins-as 0 _ _ (λ m l. rw (a .each m l, image-is m l)) b
+  pub slack-magnitudes : {magnitudes out : List ℕ} (σ : ℕ → ℕ) → Begins 0 magnitudes n (λ (m : ℕ). natAbs (rowDot rows (m * (n + 1)) residuals place n)) →
+      Begins 0 out n (λ (m : ℕ). getD magnitudes m 0 + sumℕ n (λ (j : ℕ). natAbs (loweredRows rows n m j) * σ j)) → Begins 0 out n (magnitudesWith (inversePart n rows) r σ)
+  unfolding magnitudesWith
+  slack-magnitudes σ a b = begins-as 0 _ _ (λ m l. rw (a .each m l, image-is m l)) b
 
-pub sizes-small : {n : ℕ} {rows : List ℕ} {r : Vec} {σ : ℕ → ℕ} {out : List ℕ} → n ≤ 32 → InverseRows rows n → Near r σ n →
-    Begins 0 out n (sizesWith (inversePart n rows) r σ) → Sized out n
-unfolding sizesWith
-sizes-small {n} {rows} {r} {σ} few h near b = record {
+pub magnitudes-small : {n : ℕ} {rows : List ℕ} {r : Vec} {σ : ℕ → ℕ} {out : List ℕ} → n ≤ 32 → InverseRows rows n → Near r σ n →
+    Begins 0 out n (magnitudesWith (inversePart n rows) r σ) → Bounded out n
+unfolding magnitudesWith
+magnitudes-small {n} {rows} {r} {σ} few h near b = record {
   most = λ m l. rw (b .each m l)
-      (omega (arith, joint n (2 ^ 20) (2 ^ 25) (loweredRows rows n) r σ m (λ j lj. h .size m j l lj) (near .each), mul-le-mul-right (2 ^ 45) few));
+      (omega (arith, joint n (2 ^ 20) (2 ^ 25) (loweredRows rows n) r σ m (λ j lj. h .magnitudes m j l lj) (near .each), mul-le-mul-right (2 ^ 45) few));
 }
 
 pub slack-near : {n : ℕ} {r : Vec} {σ : ℕ → ℕ} → Near r σ n → (k : ℕ) → k < n → σ k ≤ allowedResidual
@@ -64,25 +64,25 @@ slack-near near k l = omega (arith, near .each k l)
 
 pub near-reach : {n : ℕ} {residuals : List ℤ} {σ : ℕ → ℕ} → Near (at residuals) σ n → n ≤ length residuals → Reach residuals 0 1 n raisedBy
 near-reach near long =
-    list-reach (record { long = long; within = record { size = λ k l. omega (arith, near .each k l) } })
+    list-reach (record { long = long; within = record { magnitudes = λ k l. omega (arith, near .each k l) } })
 
 pub columns-near : {n : ℕ} {residuals : List ℤ} (j : ℕ) → j < n → ColumnList residuals (n * n) allowedResidual →
     Near (λ (k : ℕ). at residuals (j * n + k)) (λ (k : ℕ). 0) n
-columns-near j l h = record { each = λ k lk. omega (arith, h .within .size _ (place l lk)) }
+columns-near j l h = record { each = λ k lk. omega (arith, h .within .magnitudes _ (place l lk)) }
 
 pub slack-sum : {rows : List ℕ} (slacks : List ℕ) {row n : ℕ} (j : ℕ) → j ≤ n → RaisedRow rows row n → ((k : ℕ) → k < n → getD slacks k 0 ≤ allowedResidual) →
     sumℕ j (λ (k : ℕ). natAbs (lowered (getD rows (row + k) 0)) * getD slacks k 0) ≤ j * 2 ^ 50
-slack-sum slacks j l h s = sumℕ≤ j (2 ^ 50) _ (λ k m. mul-le-mul (lowered-size _ (h .small .each k (omega arith))) (s k (omega arith)))
+slack-sum slacks j l h s = sumℕ≤ j (2 ^ 50) _ (λ k m. mul-le-mul (lowered-magnitude _ (h .small .each k (omega arith))) (s k (omega arith)))
 
 -- where no row has a slack there is none
 pub no-slack-sum : (n : ℕ) (a σ : ℕ → ℕ) → sumℕ n σ ≡ 0 → sumℕ n (λ (j : ℕ). a j * σ j) ≡ 0
 no-slack-sum n a σ e = sumℕ-ext n (λ (j : ℕ). a j * σ j) (λ (j : ℕ). 0) (λ j l. let z : σ j ≡ 0 = omega (arith, e, sumℕ-at n σ j l) in rw z (omega arith)) ∙ sumℕ-zero n
 
 -- limits from an array of sizes are those of the sizes that it begins with
-pub bounds-of-sizes : (n : ℕ) (sizes : List ℕ) (f margins w : ℕ → ℕ) {out : List ℕ} → Begins 0 sizes n f →
-    Begins 0 out n (boundFrom n (λ (m : ℕ). getD sizes m 0) margins w) → Begins 0 out n (boundFrom n f margins w)
-bounds-of-sizes n sizes f margins w h k =
-    begins-as 0 _ _ (λ i l. bound-ext n (λ (m : ℕ). getD sizes m 0) margins f margins w i (h .each) (λ m lm. refl)) k
+pub bounds-of-magnitudes : (n : ℕ) (magnitudes : List ℕ) (f margins w : ℕ → ℕ) {out : List ℕ} → Begins 0 magnitudes n f →
+    Begins 0 out n (boundFrom n (λ (m : ℕ). getD magnitudes m 0) margins w) → Begins 0 out n (boundFrom n f margins w)
+bounds-of-magnitudes n magnitudes f margins w h k =
+    begins-as 0 _ _ (λ i l. bound-ext n (λ (m : ℕ). getD magnitudes m 0) margins f margins w i (h .each) (λ m lm. refl)) k
 
 -- one column more
 pub column-more : (xs : List ℕ) (n : ℕ) (f : ℕ → ℕ → ℕ) (j : ℕ) {now after column : List ℕ} → now ≡ columnsWritten xs n f j →

@@ -14,20 +14,20 @@ ghost use Rattle.enclosure.specs.Reckoning.{allowedResidual};
 ghost use Rattle.reckoning.specs.Arrays.{Begins};
 ghost use Rattle.reckoning.specs.Rows.{InverseRows};
 ghost use Rattle.ratios.specs.Ratio.{Positive, Caps};
-ghost use Rattle.bounds.specs.Limits.{columnSize, Near, limitsOf};
+ghost use Rattle.bounds.specs.Limits.{columnMagnitude, Near, limitsOf};
 use integer::magnitude;
 use raised_rows::add_low;
-use raised_rows::lowered_size;
+use raised_rows::lowered_magnitude;
 use raised_rows::raise_row;
 use raised_rows::row_dot;
 use ratios::bounds_of;
 use ratios::sum_of;
 
 // The sizes of p = G·r, from the raised rows of G and the raised row that stands for r.
-fn sizes_of(rows: &[u64], residuals: &[u64], n: usize) -> [u64; 32]
+fn magnitudes_of(rows: &[u64], residuals: &[u64], n: usize) -> [u64; 32]
     requires { ⌜ n ≤ 32 ⌝ }
     requires { ⌜ RaisedRows (now rows) n × RaisedRow (now residuals) (0 * (n + 1)) n ⌝ }
-    ensures { λ r. ⌜ Begins 0 r n (λ (m : ℕ). columnSize (now (rows .entry)) (now (residuals .entry)) n m 0) ⌝ }
+    ensures { λ r. ⌜ Begins 0 r n (λ (m : ℕ). columnMagnitude (now (rows .entry)) (now (residuals .entry)) n m 0) ⌝ }
 {
     let mut out = [0u64; 32];
     let mut row = 0;
@@ -45,7 +45,7 @@ fn add_slack(sum: u64, rows: &[u64], row: usize, place: usize, slack: u64, j: us
     requires { ⌜ (sum ≤ 2 ^ 62) × (slack ≤ allowedResidual) ⌝ }
     ensures { λ r. ⌜ r ≡ sum + natAbs (lowered (getD (now (rows .entry)) (row + j) 0)) * slack ⌝ }
 {
-    add_low(sum, lowered_size(rows[place]), slack)
+    add_low(sum, lowered_magnitude(rows[place]), slack)
 }
 
 // The sum over j of |G_mj|·σ_j, for the raised row m of G that starts at place row.
@@ -66,21 +66,21 @@ fn slack_of(rows: &[u64], m: usize, row: usize, slacks: &[u64; 32], n: usize) ->
 }
 
 // Sizes, each with its slack; where no row has one, n·n products are saved.
-fn add_slacks(sizes: [u64; 32], rows: &[u64], slacks: &[u64; 32], n: usize) -> [u64; 32]
+fn add_slacks(magnitudes: [u64; 32], rows: &[u64], slacks: &[u64; 32], n: usize) -> [u64; 32]
     requires { ⌜ n ≤ 32 ⌝ }
     requires { ⌜ RaisedRows (now rows) n ⌝ }
     requires { ⌜ ((k : ℕ) → k < n → getD (now slacks) k 0 ≤ allowedResidual) ⌝ }
-    requires { ⌜ ((m : ℕ) → m < n → getD sizes m 0 ≤ 2 ^ 55) ⌝ }
-    ensures { λ r. ⌜ Begins 0 r n (λ (m : ℕ). getD sizes m 0
+    requires { ⌜ ((m : ℕ) → m < n → getD magnitudes m 0 ≤ 2 ^ 55) ⌝ }
+    ensures { λ r. ⌜ Begins 0 r n (λ (m : ℕ). getD magnitudes m 0
         + sumℕ n (λ (j : ℕ). natAbs (loweredRows (now (rows .entry)) n m j) * getD (now (slacks .entry)) j 0)) ⌝ }
 {
     if sum_of(slacks, n) == 0 {
-        return sizes;
+        return magnitudes;
     }
     let mut out = [0u64; 32];
     let mut row = 0;
     for m in 0..n {
-        out[m] = sizes[m] + slack_of(rows, m, row, slacks, n);
+        out[m] = magnitudes[m] + slack_of(rows, m, row, slacks, n);
         row += n + 1;
     }
     out
@@ -108,8 +108,8 @@ pub fn column_bounds(
 {
     let mut raised = [0u64; 33];
     raise_row(&mut raised, 0, residuals, 0, 1, n);
-    let sizes = add_slacks(sizes_of(rows, &raised, n), rows, slacks, n);
-    bounds_of(&sizes, margins, caps, weights, n)
+    let magnitudes = add_slacks(magnitudes_of(rows, &raised, n), rows, slacks, n);
+    bounds_of(&magnitudes, margins, caps, weights, n)
 }
 
 // Writes n limits from a place on, some places apart.

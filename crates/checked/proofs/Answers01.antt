@@ -8,7 +8,7 @@ use Rattle.integer.specs.Quotient.{ceilDiv}
 use Rattle.linear.specs.Matrix.{apply, product, identity}
 use Rattle.linear.specs.Written.{written}
 use Rattle.rules.specs.Range.{ranges, rangeOf, inRange, allInRange}
-use Rattle.enclosure.specs.Reckoning.{defect, load, margin, residual, sizesWith, boundFrom, boundWith, bound}
+use Rattle.enclosure.specs.Reckoning.{defect, load, margin, residual, magnitudesWith, boundFrom, boundWith, bound}
 use Rattle.enclosure.specs.Schroeder.{image}
 use Rattle.checked.specs.Before.{answer05, solutionAfter05, inverseAfter05, answer01, written01, solutionAfter01, inverseAfter01}
 use Rattle.checked.specs.Cases.{toleranceRows}
@@ -19,9 +19,9 @@ unfolding answer01 solutionAfter01 inverseAfter01 written01 boundFrom image resi
 cases-01 = refl
 
 pub cases-05 : allHold05 rows01 ≡ true
-unfolding answer05 solutionAfter05 inverseAfter05 written bound boundWith boundFrom sizesWith residual margin load defect product apply identity sum sumℕ largest first ceilDiv allInRange inRange rangeOf ranges every
+unfolding answer05 solutionAfter05 inverseAfter05 written bound boundWith boundFrom magnitudesWith residual margin load defect product apply identity sum sumℕ largest first ceilDiv allInRange inRange rangeOf ranges every
 cases-05 = refl
 
 pub tolerances-05 : allHold05 toleranceRows ≡ true
-unfolding answer05 solutionAfter05 inverseAfter05 written bound boundWith boundFrom sizesWith residual margin load defect product apply identity sum sumℕ largest first ceilDiv allInRange inRange rangeOf ranges every
+unfolding answer05 solutionAfter05 inverseAfter05 written bound boundWith boundFrom magnitudesWith residual margin load defect product apply identity sum sumℕ largest first ceilDiv allInRange inRange rangeOf ranges every
 tolerances-05 = refl

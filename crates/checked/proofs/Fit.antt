@@ -35,10 +35,10 @@ pub record Fit (I : Input) : Type 0 where
   pub inverse-long : 1024 ≤ length (I .inverseBounds)
 
 listed-column : (k : Kind) (xs : List ℤ) (n b : ℕ) → ((z : ℤ) → inRange k z ≡ true → natAbs z ≤ b) → allInRange k n (at xs) ≡ true → n ≤ length xs → ColumnList xs n b
-listed-column k xs n b h e long = record { long = long; within = record { size = λ i l. h (at xs i) (all-at k n (at xs) e i l) } }
+listed-column k xs n b h e long = record { long = long; within = record { magnitudes = λ i l. h (at xs i) (all-at k n (at xs) e i l) } }
 
 pub squared : (k : Kind) (xs : List ℤ) (n : ℕ) → ((z : ℤ) → inRange k z ≡ true → natAbs z ≤ 2 ^ 20) → allInRange k (n * n) (at xs) ≡ true → n * n ≤ length xs → MatrixList xs n
-squared k xs n h e long = record { long = long; within = record { size = λ i l. h (at xs i) (all-at k (n * n) (at xs) e i l) } }
+squared k xs n h e long = record { long = long; within = record { magnitudes = λ i l. h (at xs i) (all-at k (n * n) (at xs) e i l) } }
 
 pub fit-of : (I : Input) → short I ≡ false → inRanges I ≡ true → Fit I
 fit-of I e f =

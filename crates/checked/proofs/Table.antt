@@ -14,7 +14,7 @@ use Rattle.linear.specs.Written.{written}
 use Rattle.rules.specs.Range.{ranges, rangeOf, inRange, allInRange}
 use Rattle.enclosure.specs.Demand.{RoundedExact}
 use Rattle.enclosure.specs.Example as example
-use Rattle.enclosure.specs.Reckoning.{defect, load, margin, residual, rowSum, exceeds, sizesWith, boundFrom, boundWith, bound}
+use Rattle.enclosure.specs.Reckoning.{defect, load, margin, residual, rowSum, exceeds, magnitudesWith, boundFrom, boundWith, bound}
 use Rattle.enclosure.proofs.Instance.{file-rounded, file-sound}
 use Rattle.checked.specs.Cases.{rows, rowSumRows, toleranceRows, allRowsHold, caseInput, e}
 use Rattle.checked.specs.Cases01.{rows01, allLimitsHold}
@@ -25,19 +25,19 @@ use Rattle.checked.specs.Stated.{Usable}
 use Rattle.checked.proofs.Contract.{answer-ready, sound-said}
 
 pub check-cases-hold : allRowsHold rows ≡ true
-unfolding answer solutionBoundsAfter inverseBoundsAfter written bound boundWith boundFrom sizesWith exceeds rowSum residual margin load defect product apply identity sum sumℕ largest first ceilDiv allInRange inRange rangeOf ranges every
+unfolding answer solutionBoundsAfter inverseBoundsAfter written bound boundWith boundFrom magnitudesWith exceeds rowSum residual margin load defect product apply identity sum sumℕ largest first ceilDiv allInRange inRange rangeOf ranges every
 check-cases-hold = refl
 
 pub limits-hold : allLimitsHold rows01 ≡ true
-unfolding bound boundWith boundFrom sizesWith residual margin load defect product apply identity sum sumℕ largest ceilDiv
+unfolding bound boundWith boundFrom magnitudesWith residual margin load defect product apply identity sum sumℕ largest ceilDiv
 limits-hold = refl
 
 pub row-sums-hold : allRowsHold rowSumRows ≡ true
-unfolding answer solutionBoundsAfter inverseBoundsAfter written bound boundWith boundFrom sizesWith exceeds rowSum residual margin load defect product apply identity sum sumℕ largest first ceilDiv allInRange inRange rangeOf ranges every
+unfolding answer solutionBoundsAfter inverseBoundsAfter written bound boundWith boundFrom magnitudesWith exceeds rowSum residual margin load defect product apply identity sum sumℕ largest first ceilDiv allInRange inRange rangeOf ranges every
 row-sums-hold = refl
 
 pub tolerances-hold : allRowsHold toleranceRows ≡ true
-unfolding answer solutionBoundsAfter inverseBoundsAfter written bound boundWith boundFrom sizesWith exceeds rowSum residual margin load defect product apply identity sum sumℕ largest first ceilDiv allInRange inRange rangeOf ranges every
+unfolding answer solutionBoundsAfter inverseBoundsAfter written bound boundWith boundFrom magnitudesWith exceeds rowSum residual margin load defect product apply identity sum sumℕ largest first ceilDiv allInRange inRange rangeOf ranges every
 tolerances-hold = refl
 
 abbrev pub fileInput : Input

@@ -19,14 +19,14 @@ use Rattle.linear.proofs.Slack.{slack-ext}
 use Rattle.linear.proofs.Written.{written-ext}
 use Rattle.rules.proofs.Ranges.{neither-left}
 use Rattle.rules.specs.declared.Outcome.{Outcome}
-use Rattle.enclosure.specs.Reckoning.{margin, load, defect, residual, slack, allowedResidual, rowSum, exceeds, sizesWith, boundWith, bound}
+use Rattle.enclosure.specs.Reckoning.{margin, load, defect, residual, slack, allowedResidual, rowSum, exceeds, magnitudesWith, boundWith, bound}
 use Rattle.enclosure.proofs.Bounds.{bound-ext}
 use Rattle.reckoning.specs.Arrays.{Begins}
 use Rattle.reckoning.specs.Parts.{aboveAllowed}
-use Rattle.reckoning.proofs.Sizes.{scaled-size}
+use Rattle.reckoning.proofs.Magnitudes.{scaled-magnitude}
 use Rattle.row_sums.specs.Sum.{rowSumOf}
 use Rattle.slacks.specs.Allowed.{slackAt, allowedBeside}
-use Rattle.slacks.proofs.Allowed.{allowed-size, allowed-test}
+use Rattle.slacks.proofs.Allowed.{allowed-magnitude, allowed-test}
 use Rattle.checked.specs.Checked.{Checked}
 use Rattle.checked.specs.Input.{Input, problem, short, inRanges}
 use Rattle.checked.specs.Order.{checkedOf}
@@ -69,14 +69,14 @@ module _ (I : Input) {base allowed columns : List ℤ} {slacks sums : List ℕ} 
     matrix = fit .matrix;
     base = record {
       long = omega (arith, h .base-long, fit .few);
-      within = record { size = λ k l. rw (h .base .each k l) (omega (arith, scaled-size (I .s) (at (I .right) k) (fit .solution-scale) (fit .right .within .size k l))) };
+      within = record { magnitudes = λ k l. rw (h .base .each k l) (omega (arith, scaled-magnitude (I .s) (at (I .right) k) (fit .solution-scale) (fit .right .within .magnitudes k l))) };
     };
-    allowed = record { long = omega (arith, h .allowed-long, fit .few); within = record { size = λ k l. rw (h .allowed .each k l) (allowed-size (getD slacks k 0) (getD sums k 0)) } };
+    allowed = record { long = omega (arith, h .allowed-long, fit .few); within = record { magnitudes = λ k l. rw (h .allowed .each k l) (allowed-magnitude (getD slacks k 0) (getD sums k 0)) } };
     room = λ k l z p. ltb-false allowedResidual (natAbs z + getD slacks k 0)
         (neither-left _ (ltb (getD sums k 0) (natAbs z)) (sym (allowed-test (getD slacks k 0) (getD sums k 0) z) ∙ (rw (h .allowed .each k l) at p)));
     in-columns = record {
       long = omega (arith, h .in-columns-long, fit .few);
-      within = record { size = λ k l. rw (h .in-columns .each k l) (allowed-size (getD (replicate 32 0) k 0) (getD sums k 0)) };
+      within = record { magnitudes = λ k l. rw (h .in-columns .each k l) (allowed-magnitude (getD (replicate 32 0) k 0) (getD sums k 0)) };
     };
     column-rule = λ k l. h .in-columns .each k l ∙ ap₂ allowedBeside (getD-replicate 32 k 0 0 (omega (arith, fit .few))) (sum-is k l);
     guess = fit .guess;
@@ -102,7 +102,7 @@ module _ (I : Input) {base allowed columns : List ℤ} {slacks sums : List ℕ} 
   answer-is = rw (first-ext (I .n) (λ (k : ℕ). aboveAllowed (at allowed k) (workResidual W k)) (exceeds (problem I)) exceeds-is)
 
   bound-is : (i : ℕ) → boundWith (workProblem W) (workResidual W) (workSlack W) i ≡ bound (problem I) i
-  unfolding bound boundWith sizesWith margin load defect
+  unfolding bound boundWith magnitudesWith margin load defect
   bound-is i =
       bound-ext (I .n) _ _ _ _ _ i
       (λ m l. slack-ext (I .n) (problem I .G) (problem I .G) (workResidual W) (residual (problem I)) (workSlack W) (slack (problem I)) m (λ j lj. refl) residual-is (h .slacks .each))
@@ -114,4 +114,4 @@ module _ (I : Input) {base allowed columns : List ℤ} {slacks sums : List ℕ} 
   pub reckoned-checked : {r : Outcome} {E L : List ℕ} → ReckonedAs W r E L → Checked I r E L
   reckoned-checked {r} {E} {L} x =
       checked-ready I e f (x .says ∙ answer-is) (rw (answer-is, solution-is) at (x .solution-bounds))
-      (unfold bound boundWith sizesWith residual margin load defect in rw answer-is at (x .inverse-bounds))
+      (unfold bound boundWith magnitudesWith residual margin load defect in rw answer-is at (x .inverse-bounds))

@@ -10,7 +10,7 @@ use Rattle.linear.specs.Slice.{at}
 use Rattle.linear.proofs.Places.{place, place-column, place-row}
 use Rattle.raised_rows.specs.Place.{RowsOfMatrix}
 use Rattle.enclosure.specs.Problem.{T, columnOf}
-use Rattle.enclosure.specs.Reckoning.{defect, load, margin, residual, slack, sizesWith, boundWith, bound, inverseBound}
+use Rattle.enclosure.specs.Reckoning.{defect, load, margin, residual, slack, magnitudesWith, boundWith, bound, inverseBound}
 use Rattle.enclosure.proofs.Bounds.{bound-ext}
 use Rattle.enclosure.proofs.Margin.{margin-cut}
 use Rattle.reckoning.specs.Arrays.{Begins}
@@ -18,7 +18,7 @@ use Rattle.reckoning.specs.Parts.{cutMargin}
 use Rattle.bounds.specs.Limits.{inversePart, limitsOf}
 use Rattle.ratios.specs.Ratio.{Positive}
 use Rattle.checker.specs.Work.{Work, workProblem, workResidual, workSlack}
-use Rattle.checker.proofs.Rows.{workColumn, sizes-are}
+use Rattle.checker.proofs.Rows.{workColumn, magnitudes-are}
 
 module _ (W : Work) {rows : List ℕ} (raised : RowsOfMatrix rows (W .n) (W .inverse)) (margins : List ℕ)
     (hm : Begins 0 margins (W .n) (cutMargin (workProblem W))) (pm : Positive margins (W .n)) where
@@ -32,16 +32,16 @@ module _ (W : Work) {rows : List ℕ} (raised : RowsOfMatrix rows (W .n) (W .inv
       limitsOf (W .n) rows (at residuals) (workSlack W) margins (W .weights) i ≡ boundWith (workProblem W) (workResidual W) (workSlack W) i
   unfolding boundWith
   solution-limit residuals h i =
-      bound-ext (W .n) (sizesWith (inversePart (W .n) rows) (at residuals) (workSlack W)) (λ (m : ℕ). getD margins m 0) (sizesWith (workProblem W) (workResidual W) (workSlack W))
+      bound-ext (W .n) (magnitudesWith (inversePart (W .n) rows) (at residuals) (workSlack W)) (λ (m : ℕ). getD margins m 0) (magnitudesWith (workProblem W) (workResidual W) (workSlack W))
       (λ (m : ℕ). natAbs (margin (workProblem W) m)) (λ (k : ℕ). natAbs (at (W .weights) k)) i
-      (λ m l. sizes-are W raised (at residuals) (workResidual W) (workSlack W) (workSlack W) m l (h .each) (λ k lk. refl)) margin-here
+      (λ m l. magnitudes-are W raised (at residuals) (workResidual W) (workSlack W) (workSlack W) m l (h .each) (λ k lk. refl)) margin-here
 
   pub inverse-limit : (columns : List ℤ) → Begins (pos 0) columns (W .n * W .n) (workColumn W) →
       (i j : ℕ) → i < W .n → j < W .n →
       limitsOf (W .n) rows (λ (k : ℕ). at columns (j * W .n + k)) (λ (k : ℕ). 0) margins (W .weights) i ≡ inverseBound (workProblem W) i j
-  unfolding bound boundWith sizesWith margin load defect
+  unfolding bound boundWith magnitudesWith margin load defect
   inverse-limit columns h i j li lj =
-      bound-ext (W .n) (sizesWith (inversePart (W .n) rows) (λ (k : ℕ). at columns (j * W .n + k)) (λ (k : ℕ). 0)) (λ (m : ℕ). getD margins m 0)
-      (sizesWith (workProblem W) (residual (columnOf (workProblem W) j)) (slack (columnOf (workProblem W) j))) (λ (m : ℕ). natAbs (margin (workProblem W) m)) (λ (k : ℕ). natAbs (at (W .weights) k)) i
-      (λ m l. sizes-are W raised (λ (k : ℕ). at columns (j * W .n + k)) (residual (columnOf (workProblem W) j)) (λ (k : ℕ). 0) (slack (columnOf (workProblem W) j)) m l
+      bound-ext (W .n) (magnitudesWith (inversePart (W .n) rows) (λ (k : ℕ). at columns (j * W .n + k)) (λ (k : ℕ). 0)) (λ (m : ℕ). getD margins m 0)
+      (magnitudesWith (workProblem W) (residual (columnOf (workProblem W) j)) (slack (columnOf (workProblem W) j))) (λ (m : ℕ). natAbs (margin (workProblem W) m)) (λ (k : ℕ). natAbs (at (W .weights) k)) i
+      (λ m l. magnitudes-are W raised (λ (k : ℕ). at columns (j * W .n + k)) (residual (columnOf (workProblem W) j)) (λ (k : ℕ). 0) (slack (columnOf (workProblem W) j)) m l
       (λ k lk. h .each (j * W .n + k) (place lj lk) ∙ rw (place-column j k (W .n) lk, place-row j k (W .n) lk) (unfold residual in refl)) (λ k lk. omega arith)) margin-here

@@ -22,7 +22,7 @@ use Rattle.enclosure.proofs.Before.{no-slack}
 use Rattle.enclosure.proofs.Margin.{cut-test, margin-test}
 use Rattle.reckoning.specs.Arrays.{Begins}
 use Rattle.reckoning.specs.Parts.{cutMargin, aboveAllowed}
-use Rattle.reckoning.proofs.Sizes.{power-size}
+use Rattle.reckoning.proofs.Magnitudes.{power-magnitude}
 use Rattle.slacks.proofs.Allowed.{allowed-test}
 use Rattle.bounds.specs.Limits.{Near}
 use Rattle.ratios.specs.Ratio.{Positive}
@@ -42,7 +42,7 @@ module _ (W : Work) (ready : Workable W) where
     positive past = record {
       above = λ m l. above (getD margins m 0) (first-past (W .n) (λ (m : ℕ). eqb (getD margins m 0) 0) past m l);
       most = λ m l. rw (h .each m l)
-          (omega (arith, mul-le-mul (power-size (W .t) (ready .inverse-scale)) (ready .weights .within .size m l)));
+          (omega (arith, mul-le-mul (power-magnitude (W .t) (ready .inverse-scale)) (ready .weights .within .magnitudes m l)));
     }
       where
         above : (x : ℕ) → eqb x 0 ≡ false → 0 < x
@@ -87,7 +87,7 @@ module _ (W : Work) (ready : Workable W) where
     near-columns long past = record {
       long = long;
       within = record {
-        size = λ k l.
+        magnitudes = λ k l.
             let e = sym (here k) ∙ first-past (W .n * W .n) column-refused past k l in
             omega (arith, ltb-false allowedResidual (natAbs (at columns k) + 0) (neither-left (ltb allowedResidual (natAbs (at columns k) + 0)) _ e));
       };

@@ -2,7 +2,7 @@
 --   inverse-rows — they are what the reckoning asks
 --   margins-are  — margins of a problem without a guess are the problem's
 --   workColumn W — the residuals of the inverse, column after column;  columns-are — those from the rows are these
---   sizes-are    — sizes from the rows, of residuals and slacks that agree on the first n, are the problem's
+--   magnitudes-are — sizes from the rows, of residuals and slacks that agree on the first n, are the problem's
 use mathlib.Core.Path.{_≡_}
 use mathlib.Core.List.{List, []}
 use Prim.Native.Nat.{ℕ, _+_, _*_, _/_, _%_, _<_}
@@ -15,7 +15,7 @@ use Rattle.linear.proofs.Slack.{slack-ext}
 use Rattle.raised_rows.specs.Raised.{loweredRows}
 use Rattle.raised_rows.specs.Place.{RowsOfMatrix}
 use Rattle.enclosure.specs.Problem.{columnOf, problemOf}
-use Rattle.enclosure.specs.Reckoning.{defect, load, residual, sizesWith}
+use Rattle.enclosure.specs.Reckoning.{defect, load, residual, magnitudesWith}
 use Rattle.reckoning.specs.Arrays.{Begins}
 use Rattle.reckoning.specs.Parts.{rowsPart, columnResidual, cutMargin}
 use Rattle.reckoning.specs.Rows.{InverseRows}
@@ -32,7 +32,7 @@ module _ (n : ℕ) (inverse : List ℤ) {rows : List ℕ} (h : RowsOfMatrix rows
   pub inverse-rows : MatrixList inverse n → InverseRows rows n
   inverse-rows q = record {
     rows = h .rows;
-    size = λ i k li lk. rw (stands-for i k li lk) (q .within .size (i * n + k) (place li lk));
+    magnitudes = λ i k li lk. rw (stands-for i k li lk) (q .within .magnitudes (i * n + k) (place li lk));
   }
 
 abbrev pub workColumn : Work → Vec
@@ -51,7 +51,7 @@ module _ (W : Work) {rows : List ℕ} (h : RowsOfMatrix rows (W .n) (W .inverse)
       begins-as (pos 0) (λ (i : ℕ). residual (columnOf (rowsPart (W .n) (W .t) (W .matrix) rows) (i / W .n)) (i % W .n)) (workColumn W)
       (λ i l. residual-of-rows (W .n) (W .t) (W .matrix) h (i / W .n) (i % W .n) (in-square (W .n) i l .0) (in-square (W .n) i l .1))
 
-  pub sizes-are : (r r′ : Vec) (σ σ′ : ℕ → ℕ) (m : ℕ) → m < W .n → ((k : ℕ) → k < W .n → r k ≡ r′ k) → ((k : ℕ) → k < W .n → σ k ≡ σ′ k) →
-      sizesWith (inversePart (W .n) rows) r σ m ≡ sizesWith (workProblem W) r′ σ′ m
-  unfolding sizesWith
-  sizes-are r r′ σ σ′ m l e f = slack-ext (W .n) (loweredRows rows (W .n)) (matrixOf (W .inverse) (W .n)) r r′ σ σ′ m (λ j lj. stands-for (W .n) (W .inverse) h m j l lj) e f
+  pub magnitudes-are : (r r′ : Vec) (σ σ′ : ℕ → ℕ) (m : ℕ) → m < W .n → ((k : ℕ) → k < W .n → r k ≡ r′ k) → ((k : ℕ) → k < W .n → σ k ≡ σ′ k) →
+      magnitudesWith (inversePart (W .n) rows) r σ m ≡ magnitudesWith (workProblem W) r′ σ′ m
+  unfolding magnitudesWith
+  magnitudes-are r r′ σ σ′ m l e f = slack-ext (W .n) (loweredRows rows (W .n)) (matrixOf (W .inverse) (W .n)) r r′ σ σ′ m (λ j lj. stands-for (W .n) (W .inverse) h m j l lj) e f

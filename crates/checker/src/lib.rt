@@ -33,7 +33,7 @@ fn reckon_in(
     rows: &mut [u64],
     columns: &mut [i64],
     raised: &mut [u64],
-    sizes: &mut [u64],
+    magnitudes: &mut [u64],
     n: usize,
     t: u32,
     matrix: &[i64],
@@ -47,7 +47,7 @@ fn reckon_in(
     solution_bounds: &mut [u64],
     inverse_bounds: &mut [u64],
 ) -> Outcome
-    requires { ⌜ (n * (n + 1) ≤ length (now rows)) × ((n * n ≤ length (now columns)) × ((n * (n + 1) ≤ length (now raised)) × (n * n ≤ length (now sizes)))) ⌝ }
+    requires { ⌜ (n * (n + 1) ≤ length (now rows)) × ((n * n ≤ length (now columns)) × ((n * (n + 1) ≤ length (now raised)) × (n * n ≤ length (now magnitudes)))) ⌝ }
     requires { ⌜ Workable (work n t (now matrix) (now base) (now allowed) (now «allowed_in_columns») (now slacks) (now guess) (now inverse)
         (now weights) (now «solution_bounds») (now «inverse_bounds»)) ⌝ }
     ensures { λ r. ⌜ ReckonedAs (work n t (now (matrix .entry)) (now (base .entry)) (now (allowed .entry)) (now («allowed_in_columns» .entry))
@@ -74,7 +74,7 @@ fn reckon_in(
                 rows,
                 columns,
                 raised,
-                sizes,
+                magnitudes,
                 mirrored,
                 &margins,
                 &caps,
@@ -111,12 +111,12 @@ pub fn reckon(
         let mut rows = [0u64; 72];
         let mut columns = [0i64; 64];
         let mut raised = [0u64; 72];
-        let mut sizes = [0u64; 64];
+        let mut magnitudes = [0u64; 64];
         return reckon_in(
             &mut rows,
             &mut columns,
             &mut raised,
-            &mut sizes,
+            &mut magnitudes,
             n,
             t,
             matrix,
@@ -134,12 +134,12 @@ pub fn reckon(
     let mut rows = [0u64; 1056];
     let mut columns = [0i64; 1024];
     let mut raised = [0u64; 1056];
-    let mut sizes = [0u64; 1024];
+    let mut magnitudes = [0u64; 1024];
     reckon_in(
         &mut rows,
         &mut columns,
         &mut raised,
-        &mut sizes,
+        &mut magnitudes,
         n,
         t,
         matrix,

@@ -18,7 +18,7 @@ use Rattle.linear.specs.Written.{written}
 use Rattle.rules.specs.Range.{ranges, rangeOf, inRange, allInRange}
 use Rattle.enclosure.specs.Demand.{ExactSolution, ExactSolutionOf, RightSide}
 use Rattle.enclosure.specs.Example as example
-use Rattle.enclosure.specs.Reckoning.{defect, load, margin, residual, rowSum, exceeds, sizesWith, boundFrom, boundWith, bound}
+use Rattle.enclosure.specs.Reckoning.{defect, load, margin, residual, rowSum, exceeds, magnitudesWith, boundFrom, boundWith, bound}
 use Rattle.enclosure.proofs.Instance.{file-rounded}
 use Rattle.checked.specs.Agree.{Agree}
 use Rattle.checked.specs.Cases.{CaseRow, row, caseInput}
@@ -33,7 +33,7 @@ use Rattle.common.proofs.Contains.{contains}
 use Rattle.common.proofs.Statements.{found-case}
 
 pub common-hold : allCommonHold commonRows ≡ true
-unfolding sum sumℕ largest first ceilDiv apply product identity ranges rangeOf inRange allInRange defect load margin residual rowSum exceeds sizesWith boundFrom boundWith bound written answer allSame lowEnd highEnd commonAnswer lowAfter highAfter every
+unfolding sum sumℕ largest first ceilDiv apply product identity ranges rangeOf inRange allInRange defect load margin residual rowSum exceeds magnitudesWith boundFrom boundWith bound written answer allSame lowEnd highEnd commonAnswer lowAfter highAfter every
 common-hold = refl
 
 -- ---- two proposals for one net
@@ -41,7 +41,7 @@ abbrev pub pair : Proposals
 pair = commonInput (commonRow coarse fine [] [] [])
 
 pub pair-found : commonAnswer pair ≡ []
-unfolding sum sumℕ largest first ceilDiv apply product identity ranges rangeOf inRange allInRange defect load margin residual rowSum exceeds sizesWith boundFrom boundWith bound answer allSame commonAnswer every
+unfolding sum sumℕ largest first ceilDiv apply product identity ranges rangeOf inRange allInRange defect load margin residual rowSum exceeds magnitudesWith boundFrom boundWith bound answer allSame commonAnswer every
 pair-found = refl
 
 pub pair-exact : ExactSolution (problem (pair .first)) example.exact 11
@@ -62,7 +62,7 @@ unfolding apply sum
 corner-exact = record { positive = lit≤ tt; solves = each-of-two _ refl refl }
 
 pub corner-reached : pos 1 *ℤ lowEnd netInput netInput 0 ≡ pos (2 ^ 0) *ℤ broadHeight 0
-unfolding sum sumℕ largest ceilDiv apply product identity defect load margin residual sizesWith boundFrom boundWith bound lowEnd
+unfolding sum sumℕ largest ceilDiv apply product identity defect load margin residual magnitudesWith boundFrom boundWith bound lowEnd
 corner-reached = refl
 
 -- ---- other numbers past the places used

@@ -5,5 +5,5 @@ pub mod Contract
 pub mod Statements
 pub mod Exchanged
 pub mod Unread
-pub mod Sizes
+pub mod Magnitudes
 pub mod Cases

@@ -7,12 +7,12 @@ use Rattle.integer.specs.Quotient.{ceilDiv}
 use Rattle.linear.specs.Matrix.{apply, product, identity}
 use Rattle.linear.specs.Written.{written}
 use Rattle.rules.specs.Range.{ranges, rangeOf, inRange, allInRange}
-use Rattle.enclosure.specs.Reckoning.{defect, load, margin, residual, rowSum, exceeds, sizesWith, boundFrom, boundWith, bound}
+use Rattle.enclosure.specs.Reckoning.{defect, load, margin, residual, rowSum, exceeds, magnitudesWith, boundFrom, boundWith, bound}
 use Rattle.checked.specs.Order.{answer}
 use Rattle.dependent.specs.Reckoning.{dependentResidual, dependentSlack}
 use Rattle.dependent.specs.Order.{dependentAnswer, jointAnswer}
 use Rattle.dependent.specs.Cases.{netsRows, allNetsHold}
 
 pub nets-hold : allNetsHold netsRows ≡ true
-unfolding sum sumℕ largest first ceilDiv apply product identity ranges rangeOf inRange allInRange defect load margin residual rowSum exceeds sizesWith boundFrom boundWith bound written answer dependentResidual dependentSlack dependentAnswer jointAnswer every
+unfolding sum sumℕ largest first ceilDiv apply product identity ranges rangeOf inRange allInRange defect load margin residual rowSum exceeds magnitudesWith boundFrom boundWith bound written answer dependentResidual dependentSlack dependentAnswer jointAnswer every
 nets-hold = refl

@@ -17,7 +17,7 @@ use Rattle.linear.specs.Matrix.{apply, product, identity}
 use Rattle.rules.specs.Range.{ranges, rangeOf, inRange, allInRange}
 use Rattle.enclosure.specs.Demand.{RightSide}
 use Rattle.enclosure.specs.Problem.{S}
-use Rattle.enclosure.specs.Reckoning.{defect, load, margin, residual, rowSum, exceeds, sizesWith, boundFrom, boundWith, bound, inverseBound}
+use Rattle.enclosure.specs.Reckoning.{defect, load, margin, residual, rowSum, exceeds, magnitudesWith, boundFrom, boundWith, bound, inverseBound}
 use Rattle.checked.specs.Agree.{Agree}
 use Rattle.checked.specs.Input.{Input, input}
 use Rattle.checked.specs.Order.{answer}
@@ -31,7 +31,7 @@ use Rattle.dependent.specs.Example.{oneMark, coupledNets, uncoupledNets,
 use Rattle.dependent.proofs.Joint.{encloses-both}
 
 pub accepted-here : jointAnswer coupledNets ≡ []
-unfolding jointAnswer answer dependentAnswer dependentResidual dependentSlack bound boundWith boundFrom sizesWith exceeds rowSum residual margin load defect product apply identity sum sumℕ largest first ceilDiv allInRange inRange rangeOf ranges every
+unfolding jointAnswer answer dependentAnswer dependentResidual dependentSlack bound boundWith boundFrom magnitudesWith exceeds rowSum residual margin load defect product apply identity sum sumℕ largest first ceilDiv allInRange inRange rangeOf ranges every
 accepted-here = refl
 
 pub encloses-here : EnclosesBoth coupledNets (bound (mainProblem coupledNets)) (inverseBound (mainProblem coupledNets)) (dependentBound (dependentOf coupledNets)) (inverseBound (dependentProblem coupledNets))
@@ -49,7 +49,7 @@ unfolding apply sum
 jointly-solved = record { positive = lit≤ tt; main = only _ refl; dependent = only _ refl }
 
 pub limits-here : (bound (mainProblem coupledNets) 0 ≡ 48) × (dependentBound (dependentOf coupledNets) 0 ≡ 112)
-unfolding apply product identity sum sumℕ defect load margin residual sizesWith boundFrom boundWith bound largest ceilDiv dependentResidual dependentSlack
+unfolding apply product identity sum sumℕ defect load margin residual magnitudesWith boundFrom boundWith bound largest ceilDiv dependentResidual dependentSlack
 limits-here = (refl, refl)
 
 pub limits-reached : (natAbs (pos (S (mainProblem coupledNets)) *ℤ farHeight₁ 0 -ℤ pos 1 *ℤ mainProblem coupledNets .X 0) ≡ 1 * 48)
@@ -64,7 +64,7 @@ unfolding residual rowSum apply sum sumℕ
 apart-sums = only _ refl
 
 pub apart-said : jointAnswer uncoupledNets ≡ []
-unfolding jointAnswer answer dependentAnswer dependentResidual dependentSlack bound boundWith boundFrom sizesWith exceeds rowSum residual margin load defect product apply identity sum sumℕ largest first ceilDiv allInRange inRange rangeOf ranges every
+unfolding jointAnswer answer dependentAnswer dependentResidual dependentSlack bound boundWith boundFrom magnitudesWith exceeds rowSum residual margin load defect product apply identity sum sumℕ largest first ceilDiv allInRange inRange rangeOf ranges every
 apart-said = refl
 
 -- ---- other numbers past the places used

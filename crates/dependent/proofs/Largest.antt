@@ -1,6 +1,6 @@
 -- Where both nets are accepted, every limit of either is at most 2^60.
 --   joint-none — nothing is said of both exactly where nothing is said of each
---   dependent-size — the solution limits of an accepted dependent net: 6's test, with the slack of C and of the tolerances, bounds them
+--   dependent-magnitude — the solution limits of an accepted dependent net: 6's test, with the slack of C and of the tolerances, bounds them
 use mathlib.Core.Path.{_≡_, refl, sym, _∙_}
 use mathlib.Core.List.{List, [], _∷_}
 use Prim.Native.Nat.{ℕ, _+_, _*_, _≤_, _<_}
@@ -10,7 +10,7 @@ use Rattle.linear.proofs.Places.{place}
 use Rattle.rules.proofs.Verdicts.{nothing-is-not}
 use Rattle.enclosure.specs.Largest.{largestBound}
 use Rattle.enclosure.specs.Reckoning.{allowedResidual}
-use Rattle.enclosure.proofs.Largest.{bound-size}
+use Rattle.enclosure.proofs.Largest.{bound-magnitude}
 use Rattle.enclosure.proofs.Margin.{margin-above}
 use Rattle.checked.specs.Order.{answer}
 use Rattle.dependent.specs.Nets.{Nets, DependentNet, dependentOf}
@@ -26,14 +26,14 @@ joint-none J e = go (answer (J .main)) refl (dependentAnswer (dependentOf J)) re
     go [] f (k ∷ ks) g = absurd (nothing-is-not (sym (joint-dependent J f g) ∙ e))
     go [] f [] g = (f, g)
 
-pub dependent-size : (D : DependentNet) → dependentAnswer D ≡ [] → (i : ℕ) → i < D .own .n → dependentBound D i ≤ largestBound
-dependent-size D e =
+pub dependent-magnitude : (D : DependentNet) → dependentAnswer D ≡ [] → (i : ℕ) → i < D .own .n → dependentBound D i ≤ largestBound
+dependent-magnitude D e =
     let p = passed-of D e in
     let fit = own-fit D (p .usable) in
-    bound-size (ownProblem D) (dependentResidual D) (dependentSlack D) (record {
+    bound-magnitude (ownProblem D) (dependentResidual D) (dependentSlack D) (record {
       few = fit .few;
-      inverse = λ i j li lj. fit .inverse .within .size (i * D .own .n + j) (place li lj);
-      weights = fit .weights .within .size;
+      inverse = λ i j li lj. fit .inverse .within .magnitudes (i * D .own .n + j) (place li lj);
+      weights = fit .weights .within .magnitudes;
       residuals = λ k l. ltb-false allowedResidual (natAbs (dependentResidual D k) + dependentSlack D k) (p .residuals k l);
       margins = λ m l. margin-above (ownProblem D) m (p .margins m l);
     })

@@ -11,7 +11,7 @@ use Rattle.linear.specs.Matrix.{Vec}
 use Rattle.linear.proofs.Slack.{slack-ext}
 use Rattle.linear.proofs.Written.{written-ext}
 use Rattle.rules.specs.declared.Outcome.{Outcome}
-use Rattle.enclosure.specs.Reckoning.{slack, sizesWith, boundWith}
+use Rattle.enclosure.specs.Reckoning.{slack, magnitudesWith, boundWith}
 use Rattle.enclosure.proofs.Bounds.{bound-ext}
 use Rattle.checked.specs.Input.{Input}
 use Rattle.dependent.specs.Nets.{DependentNet, dependentBy, couplingOf}
@@ -44,7 +44,7 @@ module _ (n₁ s₁ : ℕ) (X₁ : Vec) (E F : ℕ → ℕ) (coupling : List ℤ
   answer-same = rw (first-ext (own .n) (dependentExceeds D) (dependentExceeds B) (λ k l. exceeds-same k))
 
   pub bound-same : (i : ℕ) → dependentBound D i ≡ dependentBound B i
-  unfolding boundWith sizesWith
+  unfolding boundWith magnitudesWith
   bound-same i =
       bound-ext (own .n) _ _ _ _ _ i
       (λ m l. slack-ext (own .n) (ownProblem D .G) (ownProblem D .G) (dependentResidual D) (dependentResidual B) (dependentSlack D) (dependentSlack B) m (λ j lj. refl)

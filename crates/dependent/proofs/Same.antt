@@ -22,7 +22,7 @@ use Rattle.rules.specs.Order.{verdict, ofOne}
 use Rattle.rules.specs.declared.Kind.the-variants as kind
 use Rattle.rules.proofs.AllInRange.{all-ext}
 use Rattle.enclosure.specs.Problem.{columnOf, S}
-use Rattle.enclosure.specs.Reckoning.{margin, marginFails, allowedResidual, exceeds, sizesWith, boundFrom, boundWith, bound}
+use Rattle.enclosure.specs.Reckoning.{margin, marginFails, allowedResidual, exceeds, magnitudesWith, boundFrom, boundWith, bound}
 use Rattle.checked.specs.Input.{problem}
 use Rattle.checked.specs.Order.{answer}
 use Rattle.checked.proofs.Agreed.{like, like-is, like-ranges, like-margin, like-columns, like-bound, same-answer}
@@ -110,12 +110,12 @@ module _ (J K : Nets) (a : AgreeingNets J K) where
   joint-alike = ap₂ (λ (x y : List ℕ). verdict (ofOne 1 x ∷ ofOne 2 y ∷ [])) main-alike dependent-alike
 
   pub bound-alike : (i : ℕ) → i < n₂ → dependentBound D i ≡ dependentBound B i
-  unfolding boundWith boundFrom sizesWith
+  unfolding boundWith boundFrom magnitudesWith
   bound-alike i l =
       let P = ownProblem D in
       let Q = ownProblem B in
-      largest-ext n₂ (λ (m : ℕ). ceilDiv (P .w i * sizesWith P (dependentResidual D) (dependentSlack D) m) (natAbs (margin P m)))
-      (λ (m : ℕ). ceilDiv (Q .w i * sizesWith Q (dependentResidual B) (dependentSlack B) m) (natAbs (margin Q m)))
+      largest-ext n₂ (λ (m : ℕ). ceilDiv (P .w i * magnitudesWith P (dependentResidual D) (dependentSlack D) m) (natAbs (margin P m)))
+      (λ (m : ℕ). ceilDiv (Q .w i * magnitudesWith Q (dependentResidual B) (dependentSlack B) m) (natAbs (margin Q m)))
       (λ m lm. rw (
         a .dependent .weights i l,
         slack-ext n₂ (P .G) (Q .G) (dependentResidual D) (dependentResidual B) (dependentSlack D) (dependentSlack B) m

@@ -28,7 +28,7 @@ use Rattle.rules.proofs.AllInRange.{all-in}
 use Rattle.rules.proofs.Ranges.{in-matrix-range, and-true}
 use Rattle.enclosure.specs.Before.{exceeds05}
 use Rattle.enclosure.specs.Problem.{Problem, S}
-use Rattle.enclosure.specs.Reckoning.{residual, slack, exceeds, sizesWith, boundWith, bound}
+use Rattle.enclosure.specs.Reckoning.{residual, slack, exceeds, magnitudesWith, boundWith, bound}
 use Rattle.enclosure.proofs.Bounds.{bound-ext}
 use Rattle.checked.specs.Checked.{solutionAfter}
 use Rattle.checked.specs.Input.{Input, problem, inRanges}
@@ -69,7 +69,7 @@ module _ (D : DependentNet) (u : Uncoupled D) where
   exceeds-is k l = rw (uncoupled-residual k l, uncoupled-slack k l)
 
   pub uncoupled-bound : (i : ℕ) → dependentBound D i ≡ bound P i
-  unfolding bound boundWith sizesWith
+  unfolding bound boundWith magnitudesWith
   uncoupled-bound i =
       bound-ext (P .n) _ _ _ _ _ i
       (λ m l. slack-ext (P .n) (P .G) (P .G) (dependentResidual D) (residual P) (dependentSlack D) (slack P) m (λ j lj. refl) uncoupled-residual uncoupled-slack)

@@ -1,5 +1,5 @@
 -- The two parts of a number, and one row more in the sums that it belongs to.
---   signs — a number is its part of 0 or more less its part below 0;  up-size, down-size — these are at most its size
+--   signs — a number is its part of 0 or more less its part below 0;  up-magnitude, down-magnitude — these are at most its size
 --   half-below, half-above — the code's test of the sign;  half-ends, half-room — the sums that a number belongs to end within the 64 and have room
 --   read-at — a small number of a list is read as it stands
 --   added-none, added-row — nothing for 0, and a row of multiples written into those sums;  written-ahead — what stands at the place that comes next
@@ -31,15 +31,15 @@ unfolding up down
 signs (pos a) = simp zz (omega arith)
 signs (negsuc a) = sym (+ℤ-idl (negsuc a))
 
-pub up-size : (x : ℤ) → up x ≤ natAbs x
+pub up-magnitude : (x : ℤ) → up x ≤ natAbs x
 unfolding up
-up-size (pos a) = omega arith
-up-size (negsuc a) = omega arith
+up-magnitude (pos a) = omega arith
+up-magnitude (negsuc a) = omega arith
 
-pub down-size : (x : ℤ) → down x ≤ natAbs x
+pub down-magnitude : (x : ℤ) → down x ≤ natAbs x
 unfolding down
-down-size (pos a) = omega arith
-down-size (negsuc a) = omega arith
+down-magnitude (pos a) = omega arith
+down-magnitude (negsuc a) = omega arith
 
 pub half-ends : (x : ℤ) {n : ℕ} → n ≤ 32 → halfOf x + n ≤ 64
 unfolding halfOf

@@ -16,7 +16,7 @@ use Rattle.integer.proofs.Sum.{sumℕ-none, sumℕ-next, sumℕ≤, abs-sum≤}
 use Rattle.raised_rows.specs.Raised.{raisedBy, lowered, loweredRows}
 use Rattle.raised_rows.specs.Place.{raisedPlace}
 use Rattle.reckoning.specs.Arrays.{Begins}
-use Rattle.differences.proofs.Halves.{signs, up-size, down-size}
+use Rattle.differences.proofs.Halves.{signs, up-magnitude, down-magnitude}
 use Rattle.differences.specs.Sums.{up, down, SmallSums, Added, SumsOf}
 
 -- ---- row after row
@@ -46,7 +46,7 @@ module _ (n : ℕ) (xs : ℕ → ℤ) (rows : ℕ → ℕ → ℕ) where
         rw (h .ups j l)
         (omega (
           arith,
-          sumℕ≤ k (2 ^ 46) (λ (i : ℕ). up (xs i) * rows i j) (λ i li. mul-le-mul (le-trans (up-size (xs i)) (small i li)) (low i j li l)),
+          sumℕ≤ k (2 ^ 46) (λ (i : ℕ). up (xs i) * rows i j) (λ i li. mul-le-mul (le-trans (up-magnitude (xs i)) (small i li)) (low i j li l)),
           mul-le-mul-right (2 ^ 46) few,
         ))
 
@@ -55,7 +55,7 @@ module _ (n : ℕ) (xs : ℕ → ℤ) (rows : ℕ → ℕ → ℕ) where
         rw (h .downs j l)
         (omega (
           arith,
-          sumℕ≤ k (2 ^ 46) (λ (i : ℕ). down (xs i) * rows i j) (λ i li. mul-le-mul (le-trans (down-size (xs i)) (small i li)) (low i j li l)),
+          sumℕ≤ k (2 ^ 46) (λ (i : ℕ). down (xs i) * rows i j) (λ i li. mul-le-mul (le-trans (down-magnitude (xs i)) (small i li)) (low i j li l)),
           mul-le-mul-right (2 ^ 46) few,
         ))
 

@@ -27,27 +27,27 @@ use raised_rows::raise_columns;
 use reckoning::unit_at;
 
 // Term j of a multiple of a raised row: sum + size·x, where x is number j of the row that starts at place row, by way of the place that was carried to it.
-fn add_scaled(sum: u64, size: u64, rows: &[u64], row: usize, place: usize, j: usize) -> u64
+fn add_scaled(sum: u64, magnitude: u64, rows: &[u64], row: usize, place: usize, j: usize) -> u64
     requires { ⌜ Carried row 1 j place ⌝ }
     requires { ⌜ (row + j < length (now rows)) × (getD (now rows) (row + j) 0 ≤ 2 * raisedBy) ⌝ }
-    requires { ⌜ (sum ≤ 2 ^ 62) × (size ≤ 2 ^ 20) ⌝ }
-    ensures { λ r. ⌜ r ≡ sum + size * getD (now (rows .entry)) (row + j) 0 ⌝ }
+    requires { ⌜ (sum ≤ 2 ^ 62) × (magnitude ≤ 2 ^ 20) ⌝ }
+    ensures { λ r. ⌜ r ≡ sum + magnitude * getD (now (rows .entry)) (row + j) 0 ⌝ }
 {
-    add_low(sum, size, rows[place])
+    add_low(sum, magnitude, rows[place])
 }
 
 // Adds size times a raised row, from place row on, to the half of the sums that begins at this place.
-fn add_row(sums: &mut [u64; 64], half: usize, size: u64, rows: &[u64], row: usize, n: usize)
-    requires { ⌜ (half + n ≤ 64) × (size ≤ 2 ^ 20) ⌝ }
+fn add_row(sums: &mut [u64; 64], half: usize, magnitude: u64, rows: &[u64], row: usize, n: usize)
+    requires { ⌜ (half + n ≤ 64) × (magnitude ≤ 2 ^ 20) ⌝ }
     requires { ⌜ RaisedRow (now rows) row n ⌝ }
     requires { ⌜ SmallSums (now sums) half n ⌝ }
     ensures { λ _. ⌜ now (sums .exit) ≡ written (now (sums .entry)) half 1
-        (λ (j : ℕ). getD (now (sums .entry)) (half + j) 0 + size * getD (now (rows .entry)) (row + j) 0) n ⌝ }
+        (λ (j : ℕ). getD (now (sums .entry)) (half + j) 0 + magnitude * getD (now (rows .entry)) (row + j) 0) n ⌝ }
 {
     let mut place = row;
     let mut to = half;
     for j in 0..n {
-        sums[to] = add_scaled(sums[to], size, rows, row, place, j);
+        sums[to] = add_scaled(sums[to], magnitude, rows, row, place, j);
         place += 1;
         to += 1;
     }

@@ -1,6 +1,6 @@
 -- The contract of `guess_of`, from what `decode` and `nearest` say.
 --   none-outside — a double that is not finite gives no guess
---   size-small   — a size that is found is at most 2^36
+--   magnitude-small — a size that is found is at most 2^36
 --   none-large, given — no guess where the size is not found, else the size with its sign
 use mathlib.Core.Path.{_≡_, sym, ap, _∙_, subst}
 use mathlib.Core.Bool.{Bool, true, false, _&&_}
@@ -14,9 +14,9 @@ use Rattle.rules.specs.Range.{inRange}
 use Rattle.rules.specs.declared.Kind.the-variants as kind
 use Rattle.doubles.specs.Units.{signedBy}
 use Rattle.doubles.specs.Decoded.{Decoded}
-use Rattle.doubles.specs.Guess.{hasGuess, guessFor, sizeFor, SizeFoundAs, GuessFoundAs}
+use Rattle.doubles.specs.Guess.{hasGuess, guessFor, magnitudeFor, MagnitudeFoundAs, GuessFoundAs}
 use Rattle.doubles.specs.declared.DoubleParts.{DoubleParts}
-use Rattle.doubles.specs.declared.FoundSize.{FoundSize}
+use Rattle.doubles.specs.declared.FoundMagnitude.{FoundMagnitude}
 use Rattle.doubles.proofs.Steps.{guess-signed, guess-in}
 
 never-found : (s : ℕ) (x : Float) → hasGuess s x ≡ false → GuessFoundAs s x (record { found = false; steps = pos 0 })
@@ -27,8 +27,8 @@ module _ (s : ℕ) (x : Float) (p : DoubleParts) (d : Decoded x p) where
   unfolding hasGuess
   none-outside e = never-found s x (ap (λ (b : Bool). b && inRange kind.Guess (guessFor s x)) (sym (d .tells) ∙ e))
 
-  module _ (f : p .finite ≡ true) (z : FoundSize) (h : SizeFoundAs (p .digits) (p .shift) s z) where
-    guess-is : guessFor s x ≡ signedBy (p .negative) (sizeFor (p .digits) (p .shift) s)
+  module _ (f : p .finite ≡ true) (z : FoundMagnitude) (h : MagnitudeFoundAs (p .digits) (p .shift) s z) where
+    guess-is : guessFor s x ≡ signedBy (p .negative) (magnitudeFor (p .digits) (p .shift) s)
     guess-is = guess-signed x (p .negative) (p .digits) (p .shift) s (d .value f)
 
     found-is : hasGuess s x ≡ z .found
@@ -36,11 +36,11 @@ module _ (s : ℕ) (x : Float) (p : DoubleParts) (d : Decoded x p) where
     found-is =
         ap (λ (b : Bool). b && inRange kind.Guess (guessFor s x)) (sym (d .tells) ∙ f)
         ∙ ap (inRange kind.Guess) guess-is
-        ∙ guess-in (p .negative) (sizeFor (p .digits) (p .shift) s)
+        ∙ guess-in (p .negative) (magnitudeFor (p .digits) (p .shift) s)
         ∙ sym (h .found)
 
-    pub size-small : z .found ≡ true → z .steps ≤ 2 ^ 36
-    size-small e = rw (h .steps e) (leb-true (sizeFor (p .digits) (p .shift) s) (2 ^ 36) (sym (h .found) ∙ e))
+    pub magnitude-small : z .found ≡ true → z .steps ≤ 2 ^ 36
+    magnitude-small e = rw (h .steps e) (leb-true (magnitudeFor (p .digits) (p .shift) s) (2 ^ 36) (sym (h .found) ∙ e))
 
     pub none-large : z .found ≡ false → GuessFoundAs s x (record { found = false; steps = pos 0 })
     none-large e = never-found s x (found-is ∙ e)

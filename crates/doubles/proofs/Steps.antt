@@ -1,5 +1,5 @@
 -- A double's exact value in steps.
---   size-down    — q · 2^k units in steps, by a shift;  size-none, size-far — where nothing is left of it, and where it is above 2^36
+--   magnitude-down — q · 2^k units in steps, by a shift;  magnitude-none, magnitude-far — where nothing is left of it, and where it is above 2^36
 --   guess-signed — the guess that ±q · 2^k units give is that size with its sign;  guess-in — and its range is that of the size
 --   guess-nearest — 2·|S·x − X| ≤ 1, exactly, and at a half X lies farther from zero
 --   guess-whole  — a whole number of steps gives just that number;  guess-zero, guess-tiny — either zero gives 0, and so does every subnormal
@@ -22,7 +22,7 @@ use Rattle.integer.proofs.Rounding.{round-near, round-half}
 use Rattle.rules.specs.Range.{inRange, rangeOf, ranges}
 use Rattle.rules.specs.declared.Kind.the-variants as kind
 use Rattle.doubles.specs.Units.{signedBy, whole}
-use Rattle.doubles.specs.Guess.{guessFor, sizeFor, Nearest}
+use Rattle.doubles.specs.Guess.{guessFor, magnitudeFor, Nearest}
 use Rattle.doubles.proofs.Exact.{value-whole}
 
 -- ---- sizes
@@ -37,9 +37,9 @@ module _ (q k s : ℕ) where
   joined : q * 2 ^ k * 2 ^ s ≡ q * 2 ^ (k + s)
   joined = mul-assoc q (2 ^ k) (2 ^ s) ∙ ap (λ (x : ℕ). q * x) (sym (pow-add 2 k s))
 
-  pub size-down : (d : ℕ) → k + s + d ≡ 1073 → sizeFor q k s ≡ (q / 2 ^ d + 1) / 2
-  unfolding sizeFor
-  size-down d sum =
+  pub magnitude-down : (d : ℕ) → k + s + d ≡ 1073 → magnitudeFor q k s ≡ (q / 2 ^ d + 1) / 2
+  unfolding magnitudeFor
+  magnitude-down d sum =
       let P = 2 ^ d in
       let p : 0 < P = pow-pos d in
       let e : 1074 ≡ d + 1 + (k + s) = omega arith in
@@ -50,13 +50,13 @@ module _ (q k s : ℕ) where
       ∙ sym (shr-shr (q + P) d 1 ∙ ap (λ (x : ℕ). (q + P) / x) (pow-add 2 d 1))
       ∙ ap (λ (x : ℕ). x / 2) (add-div-right q p)
 
-  pub size-none : (d : ℕ) → k + s + d ≡ 1073 → q < 2 ^ 53 → 53 ≤ d → sizeFor q k s ≡ 0
-  size-none d e h far =
-      size-down d e ∙ ap (λ (x : ℕ). (x + 1) / 2) (div-eq-of-lt (lt-of-lt-of-le h (pow-mono far)))
+  pub magnitude-none : (d : ℕ) → k + s + d ≡ 1073 → q < 2 ^ 53 → 53 ≤ d → magnitudeFor q k s ≡ 0
+  magnitude-none d e h far =
+      magnitude-down d e ∙ ap (λ (x : ℕ). (x + 1) / 2) (div-eq-of-lt (lt-of-lt-of-le h (pow-mono far)))
 
-  pub size-far : 1074 ≤ k + s → 2 ^ 52 ≤ q → 2 ^ 36 < sizeFor q k s
-  unfolding sizeFor
-  size-far h Q =
+  pub magnitude-far : 1074 ≤ k + s → 2 ^ 52 ≤ q → 2 ^ 36 < magnitudeFor q k s
+  unfolding magnitudeFor
+  magnitude-far h Q =
       let A = q * 2 ^ k * 2 ^ s in
       let C = 2 ^ 1074 in
       let big : 2 ^ 52 * C ≤ A = le-trans (le-trans (mul-le-mul-right C Q) (mul-le-mul-left q (pow-mono h))) (le-of-eq (sym joined)) in
@@ -87,8 +87,8 @@ signed-scaled : (s : Bool) (a p : ℕ) → signedBy s a *ℤ pos p ≡ signedBy 
 signed-scaled false a p = pos-*ℤ-pos a p
 signed-scaled true a p = neg-* (pos a) (pos p) ∙ ap negℤ (pos-*ℤ-pos a p)
 
-pub guess-signed : (x : Float) (neg : Bool) (q k s : ℕ) → HasValue x neg (q * 2 ^ k) (2 ^ 1074) → guessFor s x ≡ signedBy neg (sizeFor q k s)
-unfolding guessFor sizeFor
+pub guess-signed : (x : Float) (neg : Bool) (q k s : ℕ) → HasValue x neg (q * 2 ^ k) (2 ^ 1074) → guessFor s x ≡ signedBy neg (magnitudeFor q k s)
+unfolding guessFor magnitudeFor
 guess-signed x neg q k s v =
     ap (λ (z : ℤ). roundDiv (z *ℤ pos (2 ^ s)) (2 ^ 1074)) (value-whole x neg (q * 2 ^ k) v)
     ∙ ap (λ (z : ℤ). roundDiv z (2 ^ 1074)) (signed-scaled neg (q * 2 ^ k) (2 ^ s))

@@ -3,7 +3,7 @@
 --   hasGuess s x — x is finite, and that number is in the range of a guess; 19 where it is not so
 --   Nearest s x X — X is that number: |S·x − X| is at most a half, and at a half X lies farther from zero, in units of 2 ^ -1074
 --   GuessFoundAs s x r — the contract of `guess_of`
---   sizeFor q k s, SizeFoundAs — the size of q · 2^k units in steps, and whether it is at most 2^36; cited by `nearest` alone
+--   magnitudeFor q k s, MagnitudeFoundAs — the size of q · 2^k units in steps, and whether it is at most 2^36; cited by `nearest` alone
 use mathlib.Core.Bool.{Bool, true, _&&_}
 use mathlib.Core.Path.{_≡_}
 use Prim.Native.Nat.{ℕ, _+_, _*_, _/_, _^_, _≤_, _<_}
@@ -15,7 +15,7 @@ use Rattle.integer.specs.Quotient.{roundDiv}
 use Rattle.rules.specs.Range.{inRange}
 use Rattle.rules.specs.declared.Kind.the-variants as kind
 use Rattle.doubles.specs.Units.{whole}
-use Rattle.doubles.specs.declared.FoundSize.{FoundSize}
+use Rattle.doubles.specs.declared.FoundMagnitude.{FoundMagnitude}
 use Rattle.doubles.specs.declared.FoundGuess.{FoundGuess}
 
 unfoldable pub guessFor : ℕ → Float → ℤ
@@ -32,9 +32,9 @@ pub record GuessFoundAs (s : ℕ) (x : Float) (r : FoundGuess) : Type 0 where
   pub found : r .found ≡ hasGuess s x
   pub steps : hasGuess s x ≡ true → r .steps ≡ guessFor s x
 
-unfoldable pub sizeFor : ℕ → ℕ → ℕ → ℕ
-sizeFor q k s = (2 * (q * 2 ^ k * 2 ^ s) + 2 ^ 1074) / (2 * 2 ^ 1074)
+unfoldable pub magnitudeFor : ℕ → ℕ → ℕ → ℕ
+magnitudeFor q k s = (2 * (q * 2 ^ k * 2 ^ s) + 2 ^ 1074) / (2 * 2 ^ 1074)
 
-pub record SizeFoundAs (q k s : ℕ) (r : FoundSize) : Type 0 where
-  pub found : r .found ≡ leb (sizeFor q k s) (2 ^ 36)
-  pub steps : r .found ≡ true → r .steps ≡ sizeFor q k s
+pub record MagnitudeFoundAs (q k s : ℕ) (r : FoundMagnitude) : Type 0 where
+  pub found : r .found ≡ leb (magnitudeFor q k s) (2 ^ 36)
+  pub steps : r .found ≡ true → r .steps ≡ magnitudeFor q k s

@@ -3,7 +3,7 @@ ghost use mathlib.Core.Path.{_≡_};
 ghost use Prim.Native.Nat.{_+_, _*_, _%_, _≤_, _<_, _^_};
 ghost use Rattle.doubles.specs.Units.{signedBy};
 ghost use Rattle.doubles.specs.Decoded.{Decoded, Normal};
-ghost use Rattle.doubles.specs.Guess.{SizeFoundAs, GuessFoundAs};
+ghost use Rattle.doubles.specs.Guess.{MagnitudeFoundAs, GuessFoundAs};
 
 // The sign, the digits and the exponent of a double: ±digits · 2^shift units of 2^-1074.
 pub struct DoubleParts {
@@ -54,7 +54,7 @@ pub fn decode(x: f64) -> DoubleParts
 }
 
 // A size in steps; found is false where it is above 2^36.
-pub struct FoundSize {
+pub struct FoundMagnitude {
     pub found: bool,
     pub steps: u64,
 }
@@ -68,29 +68,29 @@ fn half_up(h: u64) -> u64
 }
 
 // The size of digits · 2^shift units in steps, 2^s to one: the nearest whole number, halves up.
-fn nearest(digits: u64, shift: u64, s: u64) -> FoundSize
+fn nearest(digits: u64, shift: u64, s: u64) -> FoundMagnitude
     requires { ⌜ Normal digits shift × (s ≤ 20) ⌝ }
-    ensures { λ r. ⌜ SizeFoundAs digits shift s r ⌝ }
+    ensures { λ r. ⌜ MagnitudeFoundAs digits shift s r ⌝ }
 {
     let t = shift + s;
     if 1074 <= t {
-        return FoundSize {
+        return FoundMagnitude {
             found: false,
             steps: 0,
         };
     }
     let d = 1073 - t;
     if 63 < d {
-        return FoundSize {
+        return FoundMagnitude {
             found: true,
             steps: 0,
         };
     }
     let steps = half_up(digits >> d);
     if steps <= 68719476736 {
-        return FoundSize { found: true, steps };
+        return FoundMagnitude { found: true, steps };
     }
-    FoundSize {
+    FoundMagnitude {
         found: false,
         steps: 0,
     }
@@ -117,9 +117,9 @@ pub fn guess_of(x: f64, s: u32) -> FoundGuess
 {
     let p = decode(x);
     if p.finite {
-        let size = nearest(p.digits, p.shift, s as u64);
-        if size.found {
-            let steps = signed(p.negative, size.steps);
+        let magnitude = nearest(p.digits, p.shift, s as u64);
+        if magnitude.found {
+            let steps = signed(p.negative, magnitude.steps);
             return FoundGuess { found: true, steps };
         }
     }

@@ -19,11 +19,11 @@ use Rattle.integer.proofs.Sum.{sumℕ-ext, sumℕ-*}
 use Rattle.linear.specs.Matrix.{Vec, apply}
 use Rattle.linear.proofs.Product.{apply-vectors}
 use Rattle.enclosure.specs.Problem.{Problem, S, T}
-use Rattle.enclosure.specs.Reckoning.{defect, load, margin, residual, slack, sizesWith, sizes, boundWith, bound}
+use Rattle.enclosure.specs.Reckoning.{defect, load, margin, residual, slack, magnitudesWith, magnitudes, boundWith, bound}
 use Rattle.enclosure.specs.Demand.{RightSide, NoTolerance}
 use Rattle.enclosure.specs.Sound.{Margins}
 use Rattle.enclosure.specs.Schroeder.{image, u0, u1, v, Condition29, Steep}
-use Rattle.enclosure.proofs.Before.{sizes-before}
+use Rattle.enclosure.proofs.Before.{magnitudes-before}
 use Rattle.enclosure.proofs.Bounds.{bound-at}
 use Rattle.enclosure.proofs.Enclosure.{apply-defect, image-near, abs-split}
 use Rattle.enclosure.proofs.Margin.{margin-sum, margin-above}
@@ -49,8 +49,8 @@ module _ (P : Problem) (β : Vec) (ρ : ℕ) where
       let e : pos ρ *ℤ (pos (T P) *ℤ P .X i) -ℤ (pos ρ *ℤ d +ℤ y) ≡ negℤ (y -ℤ pos ρ *ℤ x) = rw (apply-defect P (P .X) i l) (swap (pos ρ) d x y) in
       ap natAbs e ∙ abs-neg (y -ℤ pos ρ *ℤ x) ∙ ap natAbs (sym (apply-vectors (P .n) (P .G) (pos (S P)) (pos ρ) β (apply (P .n) (P .A) (P .X)) i))
 
-  next-near : RightSide P β ρ → (i : ℕ) → i < P .n → natAbs (u0 P ρ i -ℤ u1 P β ρ i) ≤ ρ * sizes P i
-  unfolding sizes sizesWith residual
+  next-near : RightSide P β ρ → (i : ℕ) → i < P .n → natAbs (u0 P ρ i -ℤ u1 P β ρ i) ≤ ρ * magnitudes P i
+  unfolding magnitudes magnitudesWith residual
   next-near x i l =
       let p : ℤ = apply (P .n) (P .G) (residual P) i in
       omega (
@@ -72,21 +72,21 @@ met-row g u ρ L z t w y h a b e = omega (arith, mul-le-mul-left g a, mul-le-mul
 
 module _ (P : Problem) (hm : Margins P) where
   pub steepest : 0 < P .n → (k : ℕ) × Steep P k
-  steepest = steepest-of (sizes P) (λ (m : ℕ). natAbs (margin P m)) (P .n) (λ m l. margin-above P m (hm m l))
+  steepest = steepest-of (magnitudes P) (λ (m : ℕ). natAbs (margin P m)) (P .n) (λ m l. margin-above P m (hm m l))
 
   pub condition : (k : ℕ) → Steep P k → Condition29 P k
   condition k x = record {
     holds = λ β ρ y i l.
         let f : ℕ → ℕ = λ j. natAbs (defect P i j) * P .w j in
-        let e : sumℕ (P .n) (λ (j : ℕ). natAbs (defect P i j) * v P k j) ≡ sumℕ (P .n) f * sizes P k =
-        sumℕ-ext (P .n) (λ (j : ℕ). natAbs (defect P i j) * v P k j) (λ (j : ℕ). f j * sizes P k) (λ j lj. omega arith) ∙ sumℕ-* (P .n) (sizes P k) f in
-        rw e (met-row (natAbs (margin P k)) (natAbs (u0 P ρ i -ℤ u1 P β ρ i)) ρ (sumℕ (P .n) f) (sizes P k) (T P) (P .w i) (sizes P i) (natAbs (margin P i))
+        let e : sumℕ (P .n) (λ (j : ℕ). natAbs (defect P i j) * v P k j) ≡ sumℕ (P .n) f * magnitudes P k =
+        sumℕ-ext (P .n) (λ (j : ℕ). natAbs (defect P i j) * v P k j) (λ (j : ℕ). f j * magnitudes P k) (λ j lj. omega arith) ∙ sumℕ-* (P .n) (magnitudes P k) f in
+        rw e (met-row (natAbs (margin P k)) (natAbs (u0 P ρ i -ℤ u1 P β ρ i)) ρ (sumℕ (P .n) f) (magnitudes P k) (T P) (P .w i) (magnitudes P i) (natAbs (margin P i))
         (next-near P β ρ y i l) (x .most i l) (unfold load in margin-sum P i (hm i l)));
   }
 
   pub bound-is-v : (k : ℕ) → Steep P k → (i : ℕ) → bound P i ≡ ceilDiv (v P k i) (natAbs (margin P k))
-  unfolding bound boundWith sizes
-  bound-is-v k x i = bound-at (P .n) (sizes P) (λ (m : ℕ). natAbs (margin P m)) (P .w) i k (λ m l. margin-above P m (hm m l)) x
+  unfolding bound boundWith magnitudes
+  bound-is-v k x i = bound-at (P .n) (magnitudes P) (λ (m : ℕ). natAbs (margin P m)) (P .w) i k (λ m l. margin-above P m (hm m l)) x
 
   pub v-before : NoTolerance P → (k i : ℕ) → v P k i ≡ P .w i * natAbs (image P k)
-  v-before h k i = ap (λ (x : ℕ). P .w i * x) (sizes-before P h k)
+  v-before h k i = ap (λ (x : ℕ). P .w i * x) (magnitudes-before P h k)

@@ -12,7 +12,7 @@ use Rattle.integer.specs.Finite.{sumℕ}
 use Rattle.integer.specs.Steepest.{Steepest}
 use Rattle.linear.specs.Matrix.{Vec, apply}
 use Rattle.enclosure.specs.Problem.{Problem, S, T}
-use Rattle.enclosure.specs.Reckoning.{defect, margin, residual, sizes}
+use Rattle.enclosure.specs.Reckoning.{defect, margin, residual, magnitudes}
 use Rattle.enclosure.specs.Demand.{RightSide}
 
 unfoldable pub image : Problem → Vec
@@ -25,11 +25,11 @@ unfoldable pub u1 : Problem → Vec → ℕ → Vec
 u1 P β ρ i = pos ρ *ℤ apply (P .n) (defect P) (P .X) i +ℤ pos (S P) *ℤ apply (P .n) (P .G) β i
 
 abbrev pub v : Problem → ℕ → ℕ → ℕ
-v P k i = P .w i * sizes P k
+v P k i = P .w i * magnitudes P k
 
 pub record Condition29 (P : Problem) (k : ℕ) : Type 0 where
   pub holds : (β : Vec) (ρ : ℕ) → RightSide P β ρ → (i : ℕ) → i < P .n →
       natAbs (margin P k) * natAbs (u0 P ρ i -ℤ u1 P β ρ i) + ρ * sumℕ (P .n) (λ (j : ℕ). natAbs (defect P i j) * v P k j) ≤ ρ * (T P * v P k i)
 
 abbrev pub Steep : Problem → ℕ → Type 0
-Steep P k = Steepest (P .n) (sizes P) (λ (m : ℕ). natAbs (margin P m)) k
+Steep P k = Steepest (P .n) (magnitudes P) (λ (m : ℕ). natAbs (margin P m)) k

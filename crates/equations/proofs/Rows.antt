@@ -12,7 +12,7 @@ use Rattle.integer.specs.Finite.{sum}
 use Rattle.integer.proofs.Sum.{sum-none, sum-next, abs-sum≤}
 use Rattle.linear.specs.Slice.{at}
 use Rattle.observation.specs.Distinct.{weightAt, gain}
-use Rattle.observation.proofs.Net.{weight-at-size, gain-size}
+use Rattle.observation.proofs.Net.{weight-at-magnitude, gain-magnitude}
 use Rattle.gathering.specs.declared.Gathered.{Gathered}
 use Rattle.gathering.specs.Gathered.{lineAt, ProperLines}
 use Rattle.equations.specs.declared.Row.{Row}
@@ -39,8 +39,8 @@ module _ (seen : List ℕ) (k : ℕ) where
   pub row-small : {c : ℕ} → ProperLines seen c → {p : ℕ} {r : Row} → p ≤ c → RowSums seen k p r → SmallRow r
   row-small lines {p} {r} h o = record {
     long = o .long;
-    sums = λ m b. rw (o .sums m b) (most (λ (i : ℕ). weightAt k m (lineAt seen i)) (λ i c. omega (arith, weight-at-size k m (lineAt seen i), lines .proper i (omega arith) .weight)));
-    right = rw (o .right) (most (λ (i : ℕ). gain k (lineAt seen i)) (λ i c. omega (arith, gain-size k (lineAt seen i), mul-le-mul (lines .proper i (omega arith) .weight) (lines .proper i (omega arith) .difference))));
+    sums = λ m b. rw (o .sums m b) (most (λ (i : ℕ). weightAt k m (lineAt seen i)) (λ i c. omega (arith, weight-at-magnitude k m (lineAt seen i), lines .proper i (omega arith) .weight)));
+    right = rw (o .right) (most (λ (i : ℕ). gain k (lineAt seen i)) (λ i c. omega (arith, gain-magnitude k (lineAt seen i), mul-le-mul (lines .proper i (omega arith) .weight) (lines .proper i (omega arith) .difference))));
   }
     where
       most : (f : ℕ → ℤ) → ((i : ℕ) → i < p → natAbs (f i) ≤ 2 ^ 22) → natAbs (sum p f) ≤ 2 ^ 30

@@ -46,12 +46,12 @@ abbrev weightedDifference : Observation → ℤ
 weightedDifference l = pos (l .weight) *ℤ l .difference
 
 module _ (l : Observation) (proper : Proper l) where
-  pub product-size : natAbs (weightedDifference l) ≤ 2 ^ 22
-  product-size = omega (arith, abs-* (pos (l .weight)) (l .difference), mul-le-mul (proper .weight) (proper .difference))
+  pub product-magnitude : natAbs (weightedDifference l) ≤ 2 ^ 22
+  product-magnitude = omega (arith, abs-* (pos (l .weight)) (l .difference), mul-le-mul (proper .weight) (proper .difference))
 
   module _ {a b : ℤ} (p : a ≡ pos (l .weight)) (q : b ≡ l .difference) where
     pub product-fits : SFits w64 (a *ℤ b)
-    product-fits = rw (p, q) (small (weightedDifference l) (omega (arith, product-size)))
+    product-fits = rw (p, q) (small (weightedDifference l) (omega (arith, product-magnitude)))
 
     pub product-read : toZ w64 (ofZ w64 (a *ℤ b)) ≡ weightedDifference l
     product-read = toZ-ofZ w64 (a *ℤ b) product-fits ∙ rw (p, q)
@@ -64,7 +64,7 @@ module _ (row : Row) (room : SmallRow row) (l : Observation) (proper : Proper l)
       ((p, q), (omega (arith, room .sums k p), (omega (arith, room .sums other q), rw e (omega (arith, proper .weight)))))
 
   pub right-room : {a b : ℤ} → a ≡ row .right → b ≡ weightedDifference l → (natAbs a ≤ 2 ^ 31) × (natAbs b ≤ 2 ^ 31)
-  right-room p q = (rw p (omega (arith, room .right)), rw q (omega (arith, product-size l proper)))
+  right-room p q = (rw p (omega (arith, room .right)), rw q (omega (arith, product-magnitude l proper)))
 
 -- ---- what a line adds
 -- the place k and the other one, of a line with weight w

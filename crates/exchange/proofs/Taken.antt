@@ -31,7 +31,7 @@ use Rattle.checked.specs.Checked.{Checked}
 use Rattle.checked.specs.Stated.{Usable}
 use Rattle.checked.proofs.Contract.{answer-ready}
 use Rattle.checked.proofs.Fit.{fit-of}
-use Rattle.checked.proofs.Largest.{solution-size}
+use Rattle.checked.proofs.Largest.{solution-magnitude}
 use Rattle.checked.proofs.Lengths.{long-of}
 use Rattle.checked.proofs.Statements.{accepted-usable}
 use Rattle.checked.proofs.Written as limits
@@ -77,7 +77,7 @@ written-taken J u f {E} e small low high hl hh =
     let fit = fit-of J (u .long) (u .inside) in
     let long : length E ≡ length (J .solutionBounds) = ap length e ∙ written-length (J .solutionBounds) 0 1 f (J .n) in
     let at-place : (i : ℕ) → i < J .n → getD E i 0 ≡ f i = λ i l. rw e (front-at (J .solutionBounds) f 0 (J .n) i l (omega (arith, fit .few, fit .solution-long))) in
-    numbers-taken (J .n) (J .s) (J .guess) E low high (fit .some) (fit .few) (fit .solution-scale) (long-of J (u .long) .guess) (omega (arith, long, fit .solution-long)) hl hh (fit .guess .within .size)
+    numbers-taken (J .n) (J .s) (J .guess) E low high (fit .some) (fit .few) (fit .solution-scale) (long-of J (u .long) .guess) (omega (arith, long, fit .solution-long)) hl hh (fit .guess .within .magnitudes)
     (λ i l. rw (at-place i l) (small i l))
 
 pub checked-taken : (J : Input) {a : Outcome} {E L : List ℕ} → Checked J a E L → said a ≡ [] → (low high : List Float) → 32 ≤ length low → 32 ≤ length high →
@@ -86,7 +86,7 @@ checked-taken J {a} {E} {L} c ok =
     let none : answer J ≡ [] = sym (c .says) ∙ ok in
     let u = accepted-usable J none in
     let fit = fit-of J (u .long) (u .inside) in
-    written-taken J u (bound (problem J)) (c .solution-bounds ∙ limits.solution-written J none) (solution-size J fit (sym (answer-ready J (u .long) (u .inside)) ∙ none))
+    written-taken J u (bound (problem J)) (c .solution-bounds ∙ limits.solution-written J none) (solution-magnitude J fit (sym (answer-ready J (u .long) (u .inside)) ∙ none))
 
 pub guesses-taken : (I : Incoming) {a : Guessed} {guess : List ℤ} → GuessesOf I a guess → saidGuessed a ≡ [] →
     (bounds : List ℕ) (low high : List Float) → 32 ≤ length bounds → 32 ≤ length low → 32 ≤ length high → ((i : ℕ) → i < I .n → getD bounds i 0 ≤ 2 ^ 60) →

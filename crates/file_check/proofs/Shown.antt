@@ -64,7 +64,7 @@ module _ (s : Stage) (I : Input) where
           guess-long = ready .guess .long;
           solution-long = omega (arith, ready .few, ready .solution-long, solution-length);
           inverse-long = omega (arith, square (ready .few), ready .inverse-long, inverse-length);
-          guess = ready .guess .within .size;
+          guess = ready .guess .within .magnitudes;
         })
 
     pub shown-accepted : {o p : List ℕ} {a : FileAnswer} {n t : ℕ} → n ≡ I .n → t ≡ I .s → a .reply ≡ replyOf [] → Wrote 32768 o 0 (reportIn n t (I .guess) E L) p (a .length) →

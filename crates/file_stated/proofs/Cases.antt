@@ -7,7 +7,7 @@ use Rattle.integer.specs.Finite.{sum, sumℕ, first}
 use Rattle.linear.specs.Matrix.{apply, product, identity}
 use Rattle.rules.specs.Range.{ranges, rangeOf, inRange}
 use Rattle.enclosure.specs.Reckoning.{defect, load, margin, residual, rowSum, exceeds}
-use Rattle.numeral.specs.Numeral.{runAt, sizeAt, numberAt}
+use Rattle.numeral.specs.Numeral.{runAt, magnitudeAt, numberAt}
 use Rattle.form.specs.Form.{bytes}
 use Rattle.form.specs.List.{allInside}
 use Rattle.form.specs.Reading.{reading, starts, wordAt, orWord, firstOf, headAt, othersAt}
@@ -33,7 +33,7 @@ FileRowsSaid [] = Unit
 FileRowsSaid (c ∷ cs) = (answerOf (c .file) ≡ c .says) × FileRowsSaid cs
 
 file-rows-said : FileRowsSaid fileRows
-unfolding answerOf readFrom lineAnswer loaderAfter listsAfter zeros linesOf forms reading starts wordAt orWord firstOf headAt othersAt runAt sizeAt numberAt missing misplaced filled withPlace lacking allInside sum sumℕ first inRange rangeOf ranges valueFrom sizeFrom scalesFrom margin load defect product apply identity residual rowSum exceeds
+unfolding answerOf readFrom lineAnswer loaderAfter listsAfter zeros linesOf forms reading starts wordAt orWord firstOf headAt othersAt runAt magnitudeAt numberAt missing misplaced filled withPlace lacking allInside sum sumℕ first inRange rangeOf ranges valueFrom sizeFrom scalesFrom margin load defect product apply identity residual rowSum exceeds
 file-rows-said = (refl, (refl, (refl, (refl, (refl, (refl, (refl, tt)))))))
 
 stated-rows : (cs : List FileRow) → FileRowsSaid cs → FileRowsStated cs

@@ -15,7 +15,7 @@ use lib.Dec.{eqb}
 use lib.IntN.{ℤ, pos, negsuc}
 use lib.ListN.{length, drop, getD, length-append, List·getD-eq-default}
 use Rattle.numeral.specs.Decimal.{numeral}
-use Rattle.numeral.specs.Numeral.{lost, sizeAt, numberAt}
+use Rattle.numeral.specs.Numeral.{lost, magnitudeAt, numberAt}
 use Rattle.numeral.proofs.Places.{by-test, head-at, from, inside, rest-at}
 use Rattle.numeral.proofs.Decimal.{decimal-small}
 use Rattle.numeral.proofs.Digits.{Stops, first-digit}
@@ -87,7 +87,7 @@ other-start (c ∷ l) b n = rw (ne-eqb c b n)
 
 module _ (s : List ℕ) where
   number-lost : numberAt s (lost s) .next ≡ lost s
-  unfolding numberAt sizeAt
+  unfolding numberAt magnitudeAt
   number-lost = rw (List·getD-eq-default s 0 {n = lost s} (omega arith))
 
   others-lost : (f : ℕ) → othersAt s f (lost s) .values ≡ []

@@ -9,7 +9,7 @@ use borrow.Author.Tests.{ne-eqb}
 use lib.IntN.{ℤ}
 use lib.ListN.{length, getD}
 use Rattle.numeral.specs.Decimal.{numeral}
-use Rattle.numeral.specs.Numeral.{lost, sizeAt, numberAt}
+use Rattle.numeral.specs.Numeral.{lost, magnitudeAt, numberAt}
 use Rattle.numeral.proofs.Places.{head-at}
 use Rattle.form.specs.declared.Word.the-variants.{Right}
 use Rattle.form.specs.Form.{bytes}
@@ -20,7 +20,7 @@ use Rattle.form.proofs.Shapes.{headed, after, number-step, word-step, m
 
 -- where a bracket stands, no number does
 no-number : (s : List ℕ) (at : ℕ) → getD s at 0 ≡ 40 → numberAt s at .next ≡ lost s
-unfolding numberAt sizeAt
+unfolding numberAt magnitudeAt
 no-number s at e = rw e
 
 module _ (s : List ℕ) (i a : ℤ) (zs : List ℤ) (e : s ≡ opening Right ++ numeral i ++ bytes " (" ++ numerals a zs ++ bytes "))") where

@@ -1,6 +1,6 @@
 -- Laws of the kept lines, by their places.
 --   with-length — a line more leaves the length;  with-other, with-same — the other lines stay, and the line itself is kept
---   lowest-size, lowest-whole, lowest-back — a difference counted from the lowest one is small, is a natural number, and back
+--   lowest-magnitude, lowest-whole, lowest-back — a difference counted from the lowest one is small, is a natural number, and back
 use mathlib.Core.Path.{_≡_, refl, sym, ap, _∙_}
 use mathlib.Core.List.{List}
 use Prim.Native.Nat.{ℕ, _+_, _-_, _≤_, _<_, _^_}
@@ -14,8 +14,8 @@ use Rattle.observation.specs.declared.Observation.{Observation}
 use Rattle.gathering.specs.Gathered.{lineAt, withLine}
 
 -- ---- differences
-pub lowest-size : (d : ℤ) → natAbs d ≤ 2 ^ 16 → natAbs (d +ℤ pos 65536) ≤ 2 ^ 17
-lowest-size d h = omega (arith, abs-+ d (pos 65536))
+pub lowest-magnitude : (d : ℤ) → natAbs d ≤ 2 ^ 16 → natAbs (d +ℤ pos 65536) ≤ 2 ^ 17
+lowest-magnitude d h = omega (arith, abs-+ d (pos 65536))
 
 natural-difference : (d : ℤ) (k : ℕ) → pp d + 65536 ≡ nn d + k → d +ℤ pos 65536 ≡ pos k
 natural-difference d k e = rw (is d) (simp zz (omega (arith, e)))

@@ -11,7 +11,7 @@ use lib.IntN.{ℤ, pos}
 use Rattle.integer.specs.Finite.{sum, sumℕ}
 use Rattle.integer.proofs.Below.{only, each-of-two}
 use Rattle.linear.specs.Matrix.{apply, product, identity}
-use Rattle.enclosure.specs.Demand.{sumOfSizes}
+use Rattle.enclosure.specs.Demand.{sumOfMagnitudes}
 use Rattle.enclosure.specs.Example.{file, exact, exactInverse, looseFile}
 use Rattle.enclosure.specs.Problem.{Problem, problemOf}
 use Rattle.enclosure.specs.Reckoning.{defect, load, margin, rowSum, bound, inverseBound}
@@ -28,7 +28,7 @@ unfolding apply product identity sum sumℕ defect load margin
 whole-own = record { row = 1; below = lit≤ tt; above-is = refl; under-is = refl; every-row = file-factor }
 
 pub whole-fine : FineRounded file exact 11 exactInverse 11
-unfolding sumℕ rowSum sumOfSizes
+unfolding sumℕ rowSum sumOfMagnitudes
 whole-fine = record { rounded = file-rounded; fine = lit≤ tt }
 
 pub whole-one-step : OneStep 2 (bound file) (inverseBound file)

@@ -14,7 +14,7 @@ use Rattle.linear.specs.Slice.{at, matrixOf}
 use Rattle.linear.specs.Written.{written}
 use Rattle.integer.proofs.Below.{each-of-two, each-of-four}
 use Rattle.rules.specs.Range.{inRange, rangeOf, ranges}
-use Rattle.enclosure.specs.Demand.{RoundedExact, sumOfSizes}
+use Rattle.enclosure.specs.Demand.{RoundedExact, sumOfMagnitudes}
 use Rattle.enclosure.specs.Reckoning.{rowSum}
 use Rattle.enclosure.specs.Example as example
 use Rattle.checked.specs.Input.{problem, short}
@@ -40,7 +40,7 @@ pub file-half-accepted : answer (filledInput fileHalved) ≡ []
 file-half-accepted = answers fileHalved (fileInput .matrix) half-long refl same-matrix ∙ file-accepted
 
 pub file-half-rounded : RoundedExact (problem (filledInput fileHalved)) example.exact 11 example.exactInverse 11
-unfolding filledOut written halfPlace inRange rangeOf ranges apply product identity sum sumℕ rowSum sumOfSizes
+unfolding filledOut written halfPlace inRange rangeOf ranges apply product identity sum sumℕ rowSum sumOfMagnitudes
 file-half-rounded = record {
   exact-right = file-rounded-here .exact-right;
   solution = record { positive = lit≤ tt; solves = each-of-two _ refl refl };

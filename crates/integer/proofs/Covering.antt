@@ -38,10 +38,10 @@ movedOutward : ℤ → ℕ → ℤ
 movedOutward (pos a) e = pos e
 movedOutward (negsuc a) e = negℤ (pos e)
 
-outward-size : (z : ℤ) (e : ℕ) → natAbs (movedOutward z e) ≡ e
+outward-magnitude : (z : ℤ) (e : ℕ) → natAbs (movedOutward z e) ≡ e
 unfolding movedOutward
-outward-size (pos a) e = refl
-outward-size (negsuc a) e = abs-neg (pos e)
+outward-magnitude (pos a) e = refl
+outward-magnitude (negsuc a) e = abs-neg (pos e)
 
 outward-far : (z : ℤ) (e : ℕ) → natAbs (z +ℤ movedOutward z e) ≡ e + natAbs z
 unfolding movedOutward
@@ -55,8 +55,8 @@ pub farthest-within : (s e : ℕ) (x v₀ : ℤ) → natAbs (pos s *ℤ farthest
 unfolding farthest
 farthest-within s e x v₀ =
     let y : ℤ = movedOutward (x -ℤ pos s *ℤ v₀) e in
-    let size : natAbs (pos s *ℤ y) ≡ s * natAbs y = abs-* (pos s) y in
-    rw (moved (pos s) x y, size, outward-size (x -ℤ pos s *ℤ v₀) e) (omega arith)
+    let magnitude : natAbs (pos s *ℤ y) ≡ s * natAbs y = abs-* (pos s) y in
+    rw (moved (pos s) x y, magnitude, outward-magnitude (x -ℤ pos s *ℤ v₀) e) (omega arith)
   where
     moved : (s x y : ℤ) → s *ℤ (x +ℤ y) -ℤ s *ℤ x ≡ s *ℤ y
     moved s x y = rw (is s, is x, is y) (simp zz (omega arith))

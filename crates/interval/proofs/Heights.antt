@@ -27,7 +27,7 @@ use Rattle.interval.specs.declared.Interval.{Interval}
 use Rattle.interval.proofs.Ends.{endRoom, low-end, high-end}
 use Rattle.integer.proofs.Order.{le-trans, times, low-side, high-side}
 use Rattle.interval.proofs.Unique.{same-whole, ends-meet}
-use Rattle.interval.proofs.Values.{units-double, units-value, fine-size}
+use Rattle.interval.proofs.Values.{units-double, units-value, fine-magnitude}
 
 -- z steps in units are few enough for a double
 small-units : (s : ℕ) (z : ℤ) → natAbs z < 2 ^ 61 → natAbs (unitsOf s z) < endRoom
@@ -90,7 +90,7 @@ module _ (s : ℕ) (x : ℤ) where
       let g = signs x in
       let n = natAbs x in
       let b : n ≤ 2 ^ 53 = omega arith in
-      let f = fine-size n (1074 - s) l (omega arith) in
+      let f = fine-magnitude n (1074 - s) l (omega arith) in
       let y = units binary64 (g .0) n (1074 - s) in
       (y, units-double (g .0) n (1074 - s) b f, value-whole y (g .0) (n * 2 ^ (1074 - s)) (units-value (g .0) n (1074 - s) b f) ∙ sym (g .1))
     where

@@ -1,6 +1,6 @@
 -- Doubles by sign, digits and shift (the kit's `units`).
 --   units-double, units-value — units negative q k is a finite double, ±q · 2^k units in value
---   units-is, units-same — a double of that value is it, and equal sizes give one double;  fine-size — a size that is no infinity
+--   units-is, units-same — a double of that value is it, and equal sizes give one double;  fine-magnitude — a size that is no infinity
 --   from-pattern — the double of a pattern whose fields are sign, shift and digits
 use mathlib.Core.Path.{_≡_, subst}
 use mathlib.Core.Bool.{Bool, true, false, cond}
@@ -42,8 +42,8 @@ units-same s q k q' k' h h' fine e =
     (subst (λ (n : ℕ). HasValue (units binary64 s q k) s n (2 ^ 1074)) e (units-value s q k h (lt-of-le-of-lt (le-of-eq e) fine)))
 
 -- 53 digits shifted up by at most 2045 stay below 2^2098
-pub fine-size : (q k : ℕ) → q < 2 ^ 53 → k ≤ 2045 → q * 2 ^ k < 2 ^ 2098
-fine-size q k h l = lt-of-lt-of-le (shl-lt 53 k h) (pow-mono {i = 53 + k} {j = 2098} (omega arith))
+pub fine-magnitude : (q k : ℕ) → q < 2 ^ 53 → k ≤ 2045 → q * 2 ^ k < 2 ^ 2098
+fine-magnitude q k h l = lt-of-lt-of-le (shl-lt 53 k h) (pow-mono {i = 53 + k} {j = 2098} (omega arith))
 
 pub from-pattern : (n k q : ℕ) (s : Bool) → k ≤ 2045 → 2 ^ 52 ≤ q → q < 2 ^ 53 → Read n k q s → ofBits binary64 n ≡ units binary64 s q k
-from-pattern n k q s K L H r = units-is s q k (omega arith) (fine-size q k H K) (ofBits binary64 n) (ofBits-fits binary64 n) (pattern-value n k q s K L r)
+from-pattern n k q s K L H r = units-is s q k (omega arith) (fine-magnitude q k H K) (ofBits binary64 n) (ofBits-fits binary64 n) (pattern-value n k q s K L r)

@@ -2,7 +2,7 @@
 --   known-none, known-fewer — the list begins with the sizes of no column, and of fewer than it does
 --   known-kept, known-more — it keeps them while column j is written after them, and then has that column too
 --   known-across — where p is symmetric, number j of column m is that of p_m of column j
---   mirrored-sizes — symmetric for the residuals themselves, then for the raised rows that stand for them
+--   mirrored-magnitudes — symmetric for the residuals themselves, then for the raised rows that stand for them
 use mathlib.Core.Path.{_≡_, sym, ap, _∙_}
 use mathlib.Core.List.{List}
 use Prim.Native.Nat.{ℕ, _+_, _*_, _≤_, _<_}
@@ -18,7 +18,7 @@ use Rattle.linear.proofs.Written.{written-at, written-else}
 use Rattle.raised_rows.specs.Raised.{RaisedRows}
 use Rattle.raised_rows.specs.Place.{RowsOfMatrix}
 use Rattle.raised_rows.proofs.Standing.{rows-stand}
-use Rattle.bounds.specs.Limits.{columnSize}
+use Rattle.bounds.specs.Limits.{columnMagnitude}
 use Rattle.inverse_bounds.specs.Mirrored.{KnownColumns, Mirrored, MirroredProduct}
 use Rattle.bounds.proofs.Column.{image-is}
 
@@ -37,24 +37,24 @@ module _ {list : List ℕ} {n : ℕ} {rows residuals : List ℕ} where
   }
 
   pub known-more : (j : ℕ) {after : List ℕ} → j * n + n ≤ length list → KnownColumns list n j rows residuals →
-      after ≡ written list (j * n) 1 (λ (m : ℕ). columnSize rows residuals n m j) n → KnownColumns after n (j + 1) rows residuals
+      after ≡ written list (j * n) 1 (λ (m : ℕ). columnMagnitude rows residuals n m j) n → KnownColumns after n (j + 1) rows residuals
   known-more j {after} long e s = record { each = λ i m l. all i l m }
     where
       f : ℕ → ℕ
-      f m = columnSize rows residuals n m j
+      f m = columnMagnitude rows residuals n m j
 
       new : (m : ℕ) → m < n → getD after (j * n + m) 0 ≡ f m
       new m lm = rw s (written-at list (j * n) 1 f 0 n m (omega arith) (omega arith) lm (λ k l. omega arith))
 
-      all : (i : ℕ) → i < j + 1 → (m : ℕ) → m < n → getD after (i * n + m) 0 ≡ columnSize rows residuals n m i
-      all = below-more (λ i. (m : ℕ) → m < n → getD after (i * n + m) 0 ≡ columnSize rows residuals n m i) j (λ i l m. known-kept f n (omega arith) e s .each i m l) new
+      all : (i : ℕ) → i < j + 1 → (m : ℕ) → m < n → getD after (i * n + m) 0 ≡ columnMagnitude rows residuals n m i
+      all = below-more (λ i. (m : ℕ) → m < n → getD after (i * n + m) 0 ≡ columnMagnitude rows residuals n m i) j (λ i l m. known-kept f n (omega arith) e s .each i m l) new
 
   pub known-across : {k m j across : ℕ} → m < k → k ≤ j → j < n → Carried j n m across → KnownColumns list n k rows residuals →
-      Mirrored rows residuals n → getD list across 0 ≡ columnSize rows residuals n m j
+      Mirrored rows residuals n → getD list across 0 ≡ columnMagnitude rows residuals n m j
   known-across {k} {m} {j} l h lj c e s = rw (column-place c) (e .each m j l lj ∙ s .each j m lj (omega arith))
 
-pub mirrored-sizes : {n : ℕ} {rows raised : List ℕ} {residuals : List ℤ} → RaisedRows rows n → RowsOfMatrix raised n residuals →
+pub mirrored-magnitudes : {n : ℕ} {rows raised : List ℕ} {residuals : List ℤ} → RaisedRows rows n → RowsOfMatrix raised n residuals →
     MirroredProduct rows residuals n → Mirrored rows raised n
-mirrored-sizes {n} h r s = record {
+mirrored-magnitudes {n} h r s = record {
   each = λ m j lm lj. image-is n h (rows-stand r .each j lj) m lm ∙ ap natAbs (s .each m j lm lj) ∙ sym (image-is n h (rows-stand r .each m lm) j lj);
 }

@@ -10,13 +10,13 @@ use lib.ListN.{getD}
 use Rattle.linear.specs.Matrix.{apply}
 use Rattle.linear.specs.Slice.{at}
 use Rattle.raised_rows.specs.Raised.{loweredRows}
-use Rattle.bounds.specs.Limits.{columnSize}
+use Rattle.bounds.specs.Limits.{columnMagnitude}
 
 pub record KnownColumns (list : List ℕ) (n k : ℕ) (rows residuals : List ℕ) : Type 0 where
-  pub each : (j m : ℕ) → j < k → m < n → getD list (j * n + m) 0 ≡ columnSize rows residuals n m j
+  pub each : (j m : ℕ) → j < k → m < n → getD list (j * n + m) 0 ≡ columnMagnitude rows residuals n m j
 
 pub record Mirrored (rows residuals : List ℕ) (n : ℕ) : Type 0 where
-  pub each : (m j : ℕ) → m < n → j < n → columnSize rows residuals n m j ≡ columnSize rows residuals n j m
+  pub each : (m j : ℕ) → m < n → j < n → columnMagnitude rows residuals n m j ≡ columnMagnitude rows residuals n j m
 
 pub record MirroredProduct (rows : List ℕ) (residuals : List ℤ) (n : ℕ) : Type 0 where
   pub each : (m j : ℕ) → m < n → j < n →

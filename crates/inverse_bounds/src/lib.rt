@@ -12,7 +12,7 @@ ghost use Rattle.enclosure.specs.Reckoning.{allowedResidual};
 ghost use Rattle.reckoning.specs.Arrays.{Begins, columnsWritten};
 ghost use Rattle.reckoning.specs.Rows.{InverseRows};
 ghost use Rattle.ratios.specs.Ratio.{Positive, Caps};
-ghost use Rattle.bounds.specs.Limits.{columnSize, limitsOf};
+ghost use Rattle.bounds.specs.Limits.{columnMagnitude, limitsOf};
 ghost use Rattle.inverse_bounds.specs.Mirrored.{KnownColumns, Mirrored, MirroredProduct};
 use bounds::store;
 use integer::magnitude;
@@ -21,7 +21,7 @@ use raised_rows::row_dot;
 use ratios::bounds_of;
 
 // The size of p_m of column j: where column m is one of the first `known`, read there as that of p_j of column m, else worked out.
-fn size_at(
+fn magnitude_at(
     list: &[u64],
     across: usize,
     known: usize,
@@ -38,7 +38,7 @@ fn size_at(
     requires { ⌜ RaisedRows (now rows) n × RaisedRow (now residuals) (j * (n + 1)) n ⌝ }
     requires { ⌜ KnownColumns (now list) n known (now rows) (now residuals) ⌝ }
     requires { ⌜ (m < known → Mirrored (now rows) (now residuals) n) ⌝ }
-    ensures { λ r. ⌜ r ≡ columnSize (now (rows .entry)) (now (residuals .entry)) n m j ⌝ }
+    ensures { λ r. ⌜ r ≡ columnMagnitude (now (rows .entry)) (now (residuals .entry)) n m j ⌝ }
 {
     if m < known {
         return list[across];
@@ -47,7 +47,7 @@ fn size_at(
 }
 
 // The sizes of p = G·r for column j, of which the first `known` are read across the columns before it; they are put in the list after these.
-fn column_sizes(
+fn column_magnitudes(
     list: &mut [u64],
     known: usize,
     rows: &[u64],
@@ -62,15 +62,15 @@ fn column_sizes(
     requires { ⌜ RaisedRows (now rows) n × RaisedRow (now residuals) (j * (n + 1)) n ⌝ }
     requires { ⌜ KnownColumns (now list) n known (now rows) (now residuals) ⌝ }
     requires { ⌜ (0 < known → Mirrored (now rows) (now residuals) n) ⌝ }
-    ensures { λ r. ⌜ Begins 0 r n (λ (m : ℕ). columnSize (now (rows .entry)) (now (residuals .entry)) n m j)
-        × (now (list .exit) ≡ written (now (list .entry)) (j * n) 1 (λ (m : ℕ). columnSize (now (rows .entry)) (now (residuals .entry)) n m j) n) ⌝ }
+    ensures { λ r. ⌜ Begins 0 r n (λ (m : ℕ). columnMagnitude (now (rows .entry)) (now (residuals .entry)) n m j)
+        × (now (list .exit) ≡ written (now (list .entry)) (j * n) 1 (λ (m : ℕ). columnMagnitude (now (rows .entry)) (now (residuals .entry)) n m j) n) ⌝ }
 {
     let mut out = [0u64; 32];
     let mut across = j;
     let mut along = start;
     let mut row = 0;
     for m in 0..n {
-        let x = size_at(list, across, known, rows, m, row, residuals, j, place, n);
+        let x = magnitude_at(list, across, known, rows, m, row, residuals, j, place, n);
         out[m] = x;
         list[along] = x;
         across += n;
@@ -110,8 +110,8 @@ pub fn store_columns(
     let mut start = 0;
     for j in 0..n {
         let known = if mirrored { j } else { 0 };
-        let sizes = column_sizes(list, known, rows, raised, j, place, start, n);
-        let column = bounds_of(&sizes, margins, caps, weights, n);
+        let magnitudes = column_magnitudes(list, known, rows, raised, j, place, start, n);
+        let column = bounds_of(&magnitudes, margins, caps, weights, n);
         store(dst, j, n, column, n);
         place += n + 1;
         start += n;

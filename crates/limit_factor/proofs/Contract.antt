@@ -75,7 +75,7 @@ fit-inquiry Q e f =
       inverse = squared kind.Inverse (Q .inverse) (Q .n) inverse-range (both-left _ _ rest) (omega (arith, square few, long .inverse));
       weights = record {
         long = omega (arith, long .weights);
-        within = record { size = λ i l. weight-range (at (Q .weights) i) (all-at kind.Weight (Q .n) (at (Q .weights)) light i l) .1 };
+        within = record { magnitudes = λ i l. weight-range (at (Q .weights) i) (all-at kind.Weight (Q .n) (at (Q .weights)) light i l) .1 };
       };
     }
 

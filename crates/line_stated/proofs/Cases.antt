@@ -8,7 +8,7 @@ use Prim.Native.Nat.{ℕ}
 use Rattle.integer.specs.Finite.{sumℕ}
 use Rattle.integer.proofs.Search.{clash}
 use Rattle.rules.specs.Range.{ranges, rangeOf, inRange}
-use Rattle.numeral.specs.Numeral.{runAt, sizeAt, numberAt}
+use Rattle.numeral.specs.Numeral.{runAt, magnitudeAt, numberAt}
 use Rattle.form.specs.Form.{bytes}
 use Rattle.form.specs.List.{allInside}
 use Rattle.form.specs.Reading.{reading, starts, wordAt, orWord, firstOf, headAt, othersAt}
@@ -32,7 +32,7 @@ at-first : OwnSize fresh
 at-first e = clash false e refl
 
 rows-said : RowsSaid lineRows
-unfolding lineAnswer zeros reading starts wordAt orWord firstOf headAt othersAt runAt sizeAt numberAt missing misplaced withPlace lacking allInside sumℕ inRange rangeOf ranges
+unfolding lineAnswer zeros reading starts wordAt orWord firstOf headAt othersAt runAt magnitudeAt numberAt missing misplaced withPlace lacking allInside sumℕ inRange rangeOf ranges
 rows-said =
     let own : true ≡ true → true ≡ true = λ e. e in (
       (own, refl),
@@ -64,7 +64,7 @@ rows-said =
     )
 
 forged-said : (lineAnswer forged zeros (bytes "(row 1 (4))") ≡ 3 ∷ []) × (lineAnswer forged zeros [] ≡ 2 ∷ [])
-unfolding lineAnswer zeros reading starts wordAt orWord firstOf headAt othersAt runAt sizeAt numberAt misplaced allInside inRange rangeOf ranges
+unfolding lineAnswer zeros reading starts wordAt orWord firstOf headAt othersAt runAt magnitudeAt numberAt misplaced allInside inRange rangeOf ranges
 forged-said = (refl, refl)
 
 module _ (l : Lists) (enough : shortLists l ≡ false) where

@@ -16,7 +16,7 @@ use Rattle.rules.proofs.Ranges.{both-left, both-right}
 use Rattle.rules.specs.Range.{ranges, rangeOf, inRange, allInRange}
 use Rattle.entry.specs.Entry.{entryBound}
 use Rattle.enclosure.specs.Problem.{Problem}
-use Rattle.enclosure.specs.Reckoning.{defect, load, margin, residual, rowSum, exceeds, sizesWith, boundFrom, boundWith, bound}
+use Rattle.enclosure.specs.Reckoning.{defect, load, margin, residual, rowSum, exceeds, magnitudesWith, boundFrom, boundWith, bound}
 use Rattle.checked.specs.Checked.{solutionBoundsAfter, inverseBoundsAfter}
 use Rattle.checked.specs.Order as check
 use Rattle.checked.specs.Order.{checkedOf}
@@ -48,7 +48,7 @@ use Rattle.listing.proofs.Entire.{zeros-long, listing-from, answer-judg
 use Rattle.listing.proofs.WithOnes.{not-in-none}
 
 pub listing-cases-hold : tableHolds table ≡ true
-unfolding check.answer solutionBoundsAfter inverseBoundsAfter written bound boundWith boundFrom sizesWith exceeds rowSum residual margin load defect product apply identity sum sumℕ largest first ceilDiv roundDiv entryBound allInRange inRange rangeOf ranges every
+unfolding check.answer solutionBoundsAfter inverseBoundsAfter written bound boundWith boundFrom magnitudesWith exceeds rowSum residual margin load defect product apply identity sum sumℕ largest first ceilDiv roundDiv entryBound allInRange inRange rangeOf ranges every
 listing-cases-hold = refl
 
 -- a file whose lines spell forms that are accepted, an end last
@@ -99,7 +99,7 @@ unfolding valueFrom sizeFrom scalesFrom exceeds rowSum residual margin load defe
 whole-checked = refl
 
 whole-reported : reportedOf (problemFrom wholeForms) ≡ wholeListing
-unfolding valueFrom sizeFrom scalesFrom digits decimal numeral each reportOf bound boundWith boundFrom sizesWith residual margin load defect product apply identity sum sumℕ largest ceilDiv roundDiv entryBound
+unfolding valueFrom sizeFrom scalesFrom digits decimal numeral each reportOf bound boundWith boundFrom magnitudesWith residual margin load defect product apply identity sum sumℕ largest ceilDiv roundDiv entryBound
 whole-reported = refl
 
 pub whole-file : listingOf wholeFile ≡ wholeListing
@@ -134,7 +134,7 @@ unfolding valueFrom sizeFrom scalesFrom exceeds rowSum residual margin load defe
 unweighted-checked = refl
 
 unweighted-reported : reportedOf (problemFrom unweightedForms) ≡ wholeListing
-unfolding valueFrom sizeFrom scalesFrom digits decimal numeral each reportOf bound boundWith boundFrom sizesWith residual margin load defect product apply identity sum sumℕ largest ceilDiv roundDiv entryBound
+unfolding valueFrom sizeFrom scalesFrom digits decimal numeral each reportOf bound boundWith boundFrom magnitudesWith residual margin load defect product apply identity sum sumℕ largest ceilDiv roundDiv entryBound
 unweighted-reported = refl
 
 pub unweighted-complete : Complete unweightedFile

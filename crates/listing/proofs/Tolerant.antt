@@ -17,7 +17,7 @@ use Rattle.entry.specs.Entry.{entryBound}
 use Rattle.enclosure.specs.Demand.{RightSide, ExactSolutionOf}
 use Rattle.enclosure.specs.Example.{farRight, farHeight}
 use Rattle.enclosure.specs.Problem.{Problem, S}
-use Rattle.enclosure.specs.Reckoning.{defect, load, margin, residual, rowSum, exceeds, sizesWith, boundFrom, boundWith, bound}
+use Rattle.enclosure.specs.Reckoning.{defect, load, margin, residual, rowSum, exceeds, magnitudesWith, boundFrom, boundWith, bound}
 use Rattle.checked.specs.Order.{checkedOf}
 use Rattle.numeral.specs.Decimal.{digits, decimal, numeral}
 use Rattle.form.specs.List.{allInside}
@@ -62,7 +62,7 @@ unfolding valueFrom sizeFrom scalesFrom exceeds rowSum residual margin load defe
 tolerant-checked = refl
 
 tolerant-reported : reportedOf (problemFrom tolerantForms) ≡ tolerantListing
-unfolding valueFrom sizeFrom scalesFrom digits decimal numeral each reportOf bound boundWith boundFrom sizesWith residual margin load defect product apply identity sum sumℕ largest ceilDiv roundDiv entryBound
+unfolding valueFrom sizeFrom scalesFrom digits decimal numeral each reportOf bound boundWith boundFrom magnitudesWith residual margin load defect product apply identity sum sumℕ largest ceilDiv roundDiv entryBound
 tolerant-reported = refl
 
 pub tolerant-accepted : answerOf tolerantFile ≡ []
@@ -84,5 +84,5 @@ unfolding valueFrom sizeFrom apply sum
 tolerant-exact = of-file (λ P. ExactSolutionOf P farRight 3 farHeight 1) (record { positive = lit≤ tt; solves = only _ refl })
 
 pub tolerant-reached : let P = problemIn tolerantFile in natAbs (pos (S P) *ℤ farHeight 0 -ℤ pos 1 *ℤ P .X 0) ≡ 1 * bound P 0
-unfolding valueFrom sizeFrom scalesFrom bound boundWith boundFrom sizesWith residual margin load defect product apply identity sum sumℕ largest ceilDiv
+unfolding valueFrom sizeFrom scalesFrom bound boundWith boundFrom magnitudesWith residual margin load defect product apply identity sum sumℕ largest ceilDiv
 tolerant-reached = of-file (λ P. natAbs (pos (S P) *ℤ farHeight 0 -ℤ pos 1 *ℤ P .X 0) ≡ 1 * bound P 0) refl

@@ -12,7 +12,7 @@ use lib.Signed.{leZ}
 use Rattle.rules.specs.Range.{inRange, rangeOf, ranges}
 use Rattle.rules.specs.declared.Kind.{Kind}
 use Rattle.rules.specs.declared.Kind.the-variants.{Size, SolutionScale, InverseScale}
-use Rattle.rules.proofs.Ranges.{both, both-left, both-right, range-size, range-natural, sizeOf}
+use Rattle.rules.proofs.Ranges.{both, both-left, both-right, range-magnitude, range-natural, magnitudeOf}
 use Rattle.form_values.specs.declared.Item.{Item}
 use Rattle.form_values.specs.declared.Item.the-variants.{Problem, Scale, Of, End}
 use Rattle.form_values.specs.declared.Part.{Part}
@@ -25,8 +25,8 @@ use Rattle.loader.specs.Decided.{fits}
 within-32 : (z : ℤ) → z ≡ pos (natAbs z) → natAbs z ≤ 32 → leZ (pos 0) z && leZ z (pos 32) ≡ true
 within-32 z e l = subst (λ (y : ℤ). leZ (pos 0) y && leZ y (pos 32) ≡ true) (sym e) (both (le-leb 0 (natAbs z) (omega arith)) (le-leb (natAbs z) 32 l))
 
-small-natural : (k : Kind) (a : ℕ) → rangeOf k .lowest ≡ pos a → sizeOf k ≤ 32 → (z : ℤ) → inRange k z ≡ true → leZ (pos 0) z && leZ z (pos 32) ≡ true
-small-natural k a e l z h = within-32 z (range-natural k a z e h .0) (omega (arith, range-size k z h))
+small-natural : (k : Kind) (a : ℕ) → rangeOf k .lowest ≡ pos a → magnitudeOf k ≤ 32 → (z : ℤ) → inRange k z ≡ true → leZ (pos 0) z && leZ z (pos 32) ≡ true
+small-natural k a e l z h = within-32 z (range-natural k a z e h .0) (omega (arith, range-magnitude k z h))
 
 module _ {x : Item} where
   pub size-small : {n : ℤ} → x ≡ Problem n → fits x ≡ true → leZ (pos 0) n && leZ n (pos 32) ≡ true

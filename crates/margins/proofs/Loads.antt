@@ -2,7 +2,7 @@
 --   residual-defect — where A and G are symmetric, the residual of row k of the inverse's column j is D_jk
 --   DefectList — the list begins with D;  residuals-mirrored — so do the residuals, where A and G are symmetric
 --   defects-within — its numbers are at most 2^46 in size, as `margins_from` asks;  defect-margins — the margins from it are those of the problem
---   term-size, load-size — a term of a load, and the load of fewer terms than n, are small
+--   term-magnitude, load-magnitude — a term of a load, and the load of fewer terms than n, are small
 use mathlib.Core.Path.{_≡_, ap, ap₂, _∙_}
 use mathlib.Core.List.{List, []}
 use Prim.Native.Nat.{ℕ, _+_, _*_, _-_, _/_, _%_, _≤_, _<_, _^_}
@@ -22,7 +22,7 @@ use Rattle.reckoning.specs.Arrays.{Begins}
 use Rattle.reckoning.specs.Parts.{columnResidual, cutMargin}
 use Rattle.reckoning.proofs.Columns.{in-square}
 use Rattle.reckoning.proofs.Filled.{begins-as}
-use Rattle.reckoning.proofs.Sizes.{defect-size}
+use Rattle.reckoning.proofs.Magnitudes.{defect-magnitude}
 use Rattle.symmetry.specs.Symmetric.{Symmetric}
 use Rattle.symmetry.proofs.Mirror.{matrix-mirror, difference-mirror}
 use Rattle.margins.specs.Load.{loadFrom}
@@ -46,7 +46,7 @@ module _ (n t : ℕ) (matrix inverse : List ℤ) where
       DefectList defects n t matrix inverse → ColumnList defects (n * n) (2 ^ 46)
   defects-within ht few hm hi long h = record {
     long = long;
-    within = record { size = λ i l. rw (h .each i l) (defect-size n t matrix inverse ht few hm hi (i / n) (i % n) (in-square n i l .0) (in-square n i l .1)) };
+    within = record { magnitudes = λ i l. rw (h .each i l) (defect-magnitude n t matrix inverse ht few hm hi (i / n) (i % n) (in-square n i l .0) (in-square n i l .1)) };
   }
 
   defect-at : {defects : List ℤ} → DefectList defects n t matrix inverse → (m j : ℕ) → m < n → j < n →
@@ -62,9 +62,9 @@ module _ (n t : ℕ) (matrix inverse : List ℤ) where
 
 -- ---- sizes of the terms
 module _ {defects weights : List ℤ} {n m : ℕ} (d : ColumnList defects (n * n) (2 ^ 46)) (w : ColumnList weights n 1024) (lm : m < n) where
-  term-size : (j : ℕ) → j < n → natAbs (at defects (m * n + j)) * natAbs (at weights j) ≤ 2 ^ 56
-  term-size j l = mul-le-mul (d .within .size (m * n + j) (place lm l)) (w .within .size j l)
+  term-magnitude : (j : ℕ) → j < n → natAbs (at defects (m * n + j)) * natAbs (at weights j) ≤ 2 ^ 56
+  term-magnitude j l = mul-le-mul (d .within .magnitudes (m * n + j) (place lm l)) (w .within .magnitudes j l)
 
-  pub load-size : {sum : ℕ} (j : ℕ) → n ≤ 32 → j ≤ n → sum ≡ sumℕ j (λ (k : ℕ). natAbs (at defects (m * n + k)) * natAbs (at weights k)) → sum ≤ 2 ^ 62
-  load-size j few l e =
-      omega (arith, e, sumℕ≤ j (2 ^ 56) (λ (k : ℕ). natAbs (at defects (m * n + k)) * natAbs (at weights k)) (λ k lk. term-size k (omega arith)))
+  pub load-magnitude : {sum : ℕ} (j : ℕ) → n ≤ 32 → j ≤ n → sum ≡ sumℕ j (λ (k : ℕ). natAbs (at defects (m * n + k)) * natAbs (at weights k)) → sum ≤ 2 ^ 62
+  load-magnitude j few l e =
+      omega (arith, e, sumℕ≤ j (2 ^ 56) (λ (k : ℕ). natAbs (at defects (m * n + k)) * natAbs (at weights k)) (λ k lk. term-magnitude k (omega arith)))

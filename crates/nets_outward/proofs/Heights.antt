@@ -16,7 +16,7 @@ use Rattle.enclosure.specs.Reckoning.{bound}
 use Rattle.checked.specs.Input.{problem}
 use Rattle.checked.proofs.Contract.{answer-ready}
 use Rattle.checked.proofs.Fit.{fit-of}
-use Rattle.checked.proofs.Largest.{solution-size}
+use Rattle.checked.proofs.Largest.{solution-magnitude}
 use Rattle.checked.proofs.Statements.{accepted-usable}
 use Rattle.exchange.specs.Hands.{Hands}
 use Rattle.exchange.specs.Outward.{IntervalsOf}
@@ -28,7 +28,7 @@ use Rattle.dependent.specs.Reckoning.{dependentBound}
 use Rattle.dependent.specs.Order.{saidNets, jointAnswer}
 use Rattle.dependent.specs.Joint.{mainProblem, dependentProblem, WithinBoth}
 use Rattle.dependent.specs.Together.{CheckedTogether}
-use Rattle.dependent.proofs.Largest.{joint-none, dependent-size}
+use Rattle.dependent.proofs.Largest.{joint-none, dependent-magnitude}
 use Rattle.dependent.proofs.Statements.{passed-of}
 use Rattle.nets_outward.specs.Heights.{mainOutgoing, dependentOutgoing, NoPairRefused, HeightsBetween, BetweenBoth}
 
@@ -41,10 +41,10 @@ module _ (J : Nets) {r : CheckedNets} {E₁ L₁ E₂ L₂ : List ℕ} (c : Chec
       let v = passed-of (dependentOf J) (each .1) .usable in
       record {
         main = written-taken (J .main) u (bound (problem (J .main))) (c .main-solution ∙ accepted-new _ _ none)
-            (solution-size (J .main) (fit-of (J .main) (u .long) (u .inside)) (sym (answer-ready (J .main) (u .long) (u .inside)) ∙ each .0));
+            (solution-magnitude (J .main) (fit-of (J .main) (u .long) (u .inside)) (sym (answer-ready (J .main) (u .long) (u .inside)) ∙ each .0));
         dependent = written-taken (J .dependent)
             (record { long = neither-right (shortMatrix (length (J .coupling))) _ (v .long); inside = both-left _ _ (v .inside) })
-            (dependentBound (dependentOf J)) (c .dependent-solution ∙ accepted-new _ _ none) (dependent-size (dependentOf J) (each .1));
+            (dependentBound (dependentOf J)) (c .dependent-solution ∙ accepted-new _ _ none) (dependent-magnitude (dependentOf J) (each .1));
       }
 
   module _ {low₀ high₀ low₁ high₁ : List Float} {a : Outcome} (x : IntervalsOf (mainOutgoing J E₁ low₀ high₀) a low₁ high₁) (ok : said a ≡ [])

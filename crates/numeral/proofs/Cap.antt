@@ -10,10 +10,10 @@ use borrow.Author.Tests.{leb-true, leb-false}
 use lib.Dec.{leb}
 use lib.IntN.{ℤ, pos, negsuc, negℤ, natAbs}
 use lib.Signed.{leZ}
-use Rattle.numeral.specs.Numeral.{cap, capAt, capSize}
+use Rattle.numeral.specs.Numeral.{cap, capAt, capMagnitude}
 use Rattle.rules.specs.Range.{rangeOf, inRange}
 use Rattle.rules.specs.declared.Kind.{Kind}
-use Rattle.rules.proofs.Ranges.{range-size}
+use Rattle.rules.proofs.Ranges.{range-magnitude}
 use Rattle.rules.proofs.Table.{range-good}
 
 leb-alike : (a b c d : ℕ) → (a ≤ b → c ≤ d) → (c ≤ d → a ≤ b) → leb a b ≡ leb c d
@@ -27,16 +27,16 @@ leb-alike a b c d f g = go (leb a b) refl (leb c d) refl
 
 cap-negsuc : (n : ℕ) → cap (negsuc n) ≡ negsuc (min n (capAt - 1))
 unfolding cap
-cap-negsuc n = ap (λ (m : ℕ). negℤ (pos m)) (let e : capSize (suc n) ≡ suc (min n (capAt - 1)) = omega arith in e)
+cap-negsuc n = ap (λ (m : ℕ). negℤ (pos m)) (let e : capMagnitude (suc n) ≡ suc (min n (capAt - 1)) = omega arith in e)
 
 low : (a z : ℤ) → natAbs a < capAt → leZ a (cap z) ≡ leZ a z
-low (pos a) (pos z) h = unfold cap in leb-alike a (capSize z) a z (λ l. omega arith) (λ l. omega arith)
+low (pos a) (pos z) h = unfold cap in leb-alike a (capMagnitude z) a z (λ l. omega arith) (λ l. omega arith)
 low (negsuc a) (pos z) h = unfold cap in refl
 low (pos a) (negsuc z) h = rw (cap-negsuc z)
 low (negsuc a) (negsuc z) h = rw (cap-negsuc z) (leb-alike (min z (capAt - 1)) a z a (λ l. omega arith) (λ l. omega arith))
 
 high : (z b : ℤ) → natAbs b < capAt → leZ (cap z) b ≡ leZ z b
-high (pos z) (pos b) h = unfold cap in leb-alike (capSize z) b z b (λ l. omega arith) (λ l. omega arith)
+high (pos z) (pos b) h = unfold cap in leb-alike (capMagnitude z) b z b (λ l. omega arith) (λ l. omega arith)
 high (pos z) (negsuc b) h = unfold cap in refl
 high (negsuc z) (pos b) h = rw (cap-negsuc z)
 high (negsuc z) (negsuc b) h = rw (cap-negsuc z) (leb-alike b (min z (capAt - 1)) b z (λ l. omega arith) (λ l. omega arith))
@@ -47,11 +47,11 @@ cap-between a b z p q = rw (low a z p, high z b q)
 pub cap-range : (k : Kind) (z : ℤ) → inRange k (cap z) ≡ inRange k z
 unfolding inRange
 cap-range k z =
-    cap-between (rangeOf k .lowest) (rangeOf k .highest) z (omega (arith, range-good k .low-size)) (omega (arith, range-good k .high-size))
+    cap-between (rangeOf k .lowest) (rangeOf k .highest) z (omega (arith, range-good k .low-magnitude)) (omega (arith, range-good k .high-magnitude))
 
 pub cap-small : (z : ℤ) → natAbs z ≤ capAt → cap z ≡ z
 cap-small (pos z) h = unfold cap in ap pos (omega arith)
 cap-small (negsuc z) h = cap-negsuc z ∙ ap negsuc (omega arith)
 
 pub cap-in : (k : Kind) (z : ℤ) → inRange k z ≡ true → cap z ≡ z
-cap-in k z e = cap-small z (omega (arith, range-size k z e, range-good k .low-size, range-good k .high-size))
+cap-in k z e = cap-small z (omega (arith, range-magnitude k z e, range-good k .low-magnitude, range-good k .high-magnitude))

@@ -12,9 +12,9 @@ use lib.Dec.{ltb, eqb}
 use lib.IntN.{ℤ, pos, negsuc, negℤ}
 use lib.ListN.{length, drop, getD, length-append}
 use Rattle.numeral.specs.declared.Number.{Number}
-use Rattle.numeral.specs.declared.Size.{Size}
+use Rattle.numeral.specs.declared.Magnitude.{Magnitude}
 use Rattle.numeral.specs.Decimal.{decimal, numeral}
-use Rattle.numeral.specs.Numeral.{digitOf, lost, runAt, sizeAt, numberAt, negativeOf}
+use Rattle.numeral.specs.Numeral.{digitOf, lost, runAt, magnitudeAt, numberAt, negativeOf}
 use Rattle.numeral.proofs.Decimal.{decimal-small, decimal-more, decimal-induction}
 use Rattle.numeral.proofs.Digits.{Stops, digit-byte, run-digit, run-decimal, run-stops, first-digit, no-minus}
 use Rattle.numeral.proofs.Places.{by-test, head-at, from, inside, rest-at}
@@ -26,12 +26,12 @@ numeral-length (negsuc n) = omega arith
 
 -- ---- what is spelled is read
 module _ (s t : List ℕ) (stop : Stops t) where
-  size-spelled : (at n : ℕ) → drop at s ≡ decimal n ++ t → sizeAt s at ≡ record { value = n; next = at + length (decimal n) }
-  unfolding sizeAt
-  size-spelled at zero e =
+  magnitude-spelled : (at n : ℕ) → drop at s ≡ decimal n ++ t → magnitudeAt s at ≡ record { value = n; next = at + length (decimal n) }
+  unfolding magnitudeAt
+  magnitude-spelled at zero e =
       let z : decimal 0 ≡ 48 ∷ [] = decimal-small 0 (omega arith) in
       rw (eq-eqb (getD s at 0) 48 (head-at s at ∙ rw (e, z)), z)
-  size-spelled at (suc n) e =
+  magnitude-spelled at (suc n) e =
       let f = first-digit (suc n) t (omega arith) in
       let h : getD s at 0 ≡ getD (decimal (suc n) ++ t) 0 0 = head-at s at ∙ ap (λ (l : List ℕ). getD l 0 0) e in
       rw (ne-eqb (getD s at 0) 48 (λ k. omega arith), le-ltb (getD s at 0) 48 (omega arith), lt-ltb (getD s at 0) 58 (omega arith), lt-ltb (getD s at 0 - 48) 10 (omega arith), e)
@@ -40,12 +40,12 @@ module _ (s t : List ℕ) (stop : Stops t) where
   pub number-spelled : (at : ℕ) (z : ℤ) → drop at s ≡ numeral z ++ t → numberAt s at ≡ record { value = z; next = at + length (numeral z) }
   unfolding numberAt numeral
   number-spelled at (pos n) e =
-      rw (ne-eqb (getD s at 0) 45 (λ k. no-minus n t (sym (head-at s at ∙ ap (λ (l : List ℕ). getD l 0 0) e) ∙ k)), size-spelled at n e)
+      rw (ne-eqb (getD s at 0) 45 (λ k. no-minus n t (sym (head-at s at ∙ ap (λ (l : List ℕ). getD l 0 0) e) ∙ k)), magnitude-spelled at n e)
   number-spelled at (negsuc n) e =
       let h : getD s at 0 ≡ 45 = head-at s at ∙ ap (λ (l : List ℕ). getD l 0 0) e in
       let r : drop (at + 1) s ≡ decimal (suc n) ++ t = rest-at s at (45 ∷ []) e in
       let l : at + 1 + length (decimal (suc n)) ≡ at + suc (length (decimal (suc n))) = omega arith in
-      rw (eq-eqb (getD s at 0) 45 h, size-spelled (at + 1) (suc n) r, ne-eqb (suc n) 0 (λ k. omega arith), l)
+      rw (eq-eqb (getD s at 0) 45 h, magnitude-spelled (at + 1) (suc n) r, ne-eqb (suc n) 0 (λ k. omega arith), l)
 
 -- ---- what is read is spelled
 numeral-neg : (v : ℕ) → (v ≡ 0 → ⊥) → numeral (negℤ (pos v)) ≡ 45 ∷ decimal v
@@ -72,11 +72,11 @@ module _ (s : List ℕ) where
       go true p ih = sym (rw (decimal-more v (digitOf b) h (ltb-true (digitOf b) 10 p), append-assoc, ← digit-byte b (ltb-true (digitOf b) 10 p))) ∙ ih
       go false p ih = rw e
 
-  size-read : (at : ℕ) → sizeAt s at .next ≤ length s → drop at s ≡ decimal (sizeAt s at .value) ++ drop (sizeAt s at .next) s
-  unfolding sizeAt
-  size-read at = by-test (Spelled at) (eqb (getD s at 0) 48) zeros (λ n. by-test (Spelled at) (ltb (digitOf (getD s at 0)) 10) (run n) (λ _ h. absurd (omega arith)))
+  magnitude-read : (at : ℕ) → magnitudeAt s at .next ≤ length s → drop at s ≡ decimal (magnitudeAt s at .value) ++ drop (magnitudeAt s at .next) s
+  unfolding magnitudeAt
+  magnitude-read at = by-test (Spelled at) (eqb (getD s at 0) 48) zeros (λ n. by-test (Spelled at) (ltb (digitOf (getD s at 0)) 10) (run n) (λ _ h. absurd (omega arith)))
     where
-      Spelled : ℕ → Size → Type 0
+      Spelled : ℕ → Magnitude → Type 0
       Spelled at z = z .next ≤ length s → drop at s ≡ decimal (z .value) ++ drop (z .next) s
 
       zeros : eqb (getD s at 0) 48 ≡ true → Spelled at (record { value = 0; next = at + 1 })
@@ -97,13 +97,13 @@ module _ (s : List ℕ) where
 
   pub number-read : (at : ℕ) → numberAt s at .next ≤ length s → drop at s ≡ numeral (numberAt s at .value) ++ drop (numberAt s at .next) s
   unfolding numberAt numeral
-  number-read at = by-test Spelled (eqb (getD s at 0) 45) minus (λ _ h. size-read at h)
+  number-read at = by-test Spelled (eqb (getD s at 0) 45) minus (λ _ h. magnitude-read at h)
     where
       Spelled : Number → Type 0
       Spelled z = z .next ≤ length s → drop at s ≡ numeral (z .value) ++ drop (z .next) s
 
-      minus : eqb (getD s at 0) 45 ≡ true → Spelled (negativeOf (lost s) (sizeAt s (at + 1)))
+      minus : eqb (getD s at 0) 45 ≡ true → Spelled (negativeOf (lost s) (magnitudeAt s (at + 1)))
       minus e =
           let b : getD s at 0 ≡ 45 = eqb-true (getD s at 0) 45 e in
-          by-test Spelled (eqb (sizeAt s (at + 1) .value) 0) (λ _ h. absurd (omega arith))
-          (λ n h. from s at (inside s at (omega arith)) ∙ rw (b, size-read (at + 1) h, numeral-neg (sizeAt s (at + 1) .value) (eqb-false _ 0 n)))
+          by-test Spelled (eqb (magnitudeAt s (at + 1) .value) 0) (λ _ h. absurd (omega arith))
+          (λ n h. from s at (inside s at (omega arith)) ∙ rw (b, magnitude-read (at + 1) h, numeral-neg (magnitudeAt s (at + 1) .value) (eqb-false _ 0 n)))

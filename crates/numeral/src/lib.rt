@@ -3,13 +3,13 @@ ghost use mathlib.Core.Path.{_≡_};
 ghost use Prim.Native.Nat.{_≤_};
 ghost use lib.IntN.{pos, negℤ};
 ghost use lib.ListN.{length, drop, getD};
-ghost use Rattle.numeral.specs.Numeral.{digitOf, lost, runAt, sizeAt, numberAt, positiveOf, negativeOf, capAt, capSize};
-ghost use Rattle.numeral.specs.Capped.{cappedSize, cappedNumber};
+ghost use Rattle.numeral.specs.Numeral.{digitOf, lost, runAt, magnitudeAt, numberAt, positiveOf, negativeOf, capAt, capMagnitude};
+ghost use Rattle.numeral.specs.Capped.{cappedMagnitude, cappedNumber};
 
 const CAP: u64 = 1099511627776;
 
 // The size of a number, and the place after it.
-struct Size {
+struct Magnitude {
     value: u64,
     next: usize,
 }
@@ -36,16 +36,16 @@ fn digit(b: u8) -> u64
 }
 
 // At most 2^40, so that no further digit wraps.
-fn cap_size(v: u64) -> u64
-    ensures { λ r. ⌜ (r ≡ capSize v) × (r ≤ capAt) ⌝ }
+fn cap_magnitude(v: u64) -> u64
+    ensures { λ r. ⌜ (r ≡ capMagnitude v) × (r ≤ capAt) ⌝ }
 {
     if v < CAP { v } else { CAP }
 }
 
 // All digits from a place on.
-fn run_at(s: &[u8], at: usize) -> Size
+fn run_at(s: &[u8], at: usize) -> Magnitude
     requires { ⌜ at ≤ length (now s) ⌝ }
-    ensures { λ r. ⌜ r ≡ cappedSize (runAt 0 at (drop at (now (s .entry)))) ⌝ }
+    ensures { λ r. ⌜ r ≡ cappedMagnitude (runAt 0 at (drop at (now (s .entry)))) ⌝ }
 {
     let mut v: u64 = 0;
     let mut i = at;
@@ -54,25 +54,25 @@ fn run_at(s: &[u8], at: usize) -> Size
         if 10 <= d {
             break;
         }
-        v = cap_size(v * 10 + d);
+        v = cap_magnitude(v * 10 + d);
         i += 1;
     }
-    Size { value: v, next: i }
+    Magnitude { value: v, next: i }
 }
 
 // 0, or digits without a leading 0.
-fn size_at(s: &[u8], at: usize) -> Size
-    ensures { λ r. ⌜ (r ≡ cappedSize (sizeAt (now (s .entry)) at)) × (r .value ≤ capAt) ⌝ }
+fn magnitude_at(s: &[u8], at: usize) -> Magnitude
+    ensures { λ r. ⌜ (r ≡ cappedMagnitude (magnitudeAt (now (s .entry)) at)) × (r .value ≤ capAt) ⌝ }
 {
     let b = byte_at(s, at);
     if b == b'0' {
-        return Size {
+        return Magnitude {
             value: 0,
             next: at + 1,
         };
     }
     if 10 <= digit(b) {
-        return Size {
+        return Magnitude {
             value: 0,
             next: s.len() + 1,
         };
@@ -94,7 +94,7 @@ fn minus(v: u64) -> i64
     0 - (v as i64)
 }
 
-fn positive(z: Size) -> Number
+fn positive(z: Magnitude) -> Number
     requires { ⌜ z .value ≤ capAt ⌝ }
     ensures { λ r. ⌜ r ≡ positiveOf z ⌝ }
 {
@@ -105,7 +105,7 @@ fn positive(z: Size) -> Number
 }
 
 // A minus before a size: −0 is no number.
-fn negative(z: Size, lost: usize) -> Number
+fn negative(z: Magnitude, lost: usize) -> Number
     requires { ⌜ z .value ≤ capAt ⌝ }
     ensures { λ r. ⌜ r ≡ negativeOf lost z ⌝ }
 {
@@ -126,8 +126,8 @@ pub fn number_at(s: &[u8], at: usize) -> Number
     ensures { λ r. ⌜ r ≡ cappedNumber (numberAt (now (s .entry)) at) ⌝ }
 {
     if byte_at(s, at) == b'-' {
-        negative(size_at(s, at + 1), s.len() + 1)
+        negative(magnitude_at(s, at + 1), s.len() + 1)
     } else {
-        positive(size_at(s, at))
+        positive(magnitude_at(s, at))
     }
 }

@@ -1,8 +1,8 @@
 -- Theorems (a), (c), (d) and (e) on the equations of a list that builds.
 --   diagonal  — (a) the diagonal summed, plus the weights of the distinct lines at the fixed mark, is twice the weight of all distinct lines
 --   symmetric — (c) A_ij = A_ji
---   weight-at-size, gain-size — the sizes of what one line adds
---   matrix-size, right-size — (d) A is at most 2 ^ 14 in size, b at most 2 ^ 30
+--   weight-at-magnitude, gain-magnitude — the sizes of what one line adds
+--   matrix-magnitude, right-magnitude — (d) A is at most 2 ^ 14 in size, b at most 2 ^ 30
 --   matrix-in-range, right-in-range — so both are in the ranges of a check
 --   heights-solve — (e) heights that fit every line solve the equations: A·h = q·b
 use mathlib.Core.Path.{_≡_, refl, sym, ap, _∙_}
@@ -62,22 +62,22 @@ module _ (n : ℕ) (ls : List Observation) (fit : Buildable n ls) where
       ∙ total-* (pos q) (gain (i + 1)) ds
 
 -- ---- sizes
-when-size : (b : Bool) (z : ℤ) → natAbs (when b z) ≤ natAbs z
-when-size true z = omega arith
-when-size false z = omega arith
+when-magnitude : (b : Bool) (z : ℤ) → natAbs (when b z) ≤ natAbs z
+when-magnitude true z = omega arith
+when-magnitude false z = omega arith
 
-pub weight-at-size : (k m : ℕ) (l : Observation) → natAbs (weightAt k m l) ≤ l .weight
+pub weight-at-magnitude : (k m : ℕ) (l : Observation) → natAbs (weightAt k m l) ≤ l .weight
 unfolding weightAt
-weight-at-size k m l = go (eqb k m) (when-size (touches k l) (pos (l .weight))) (when-size (joins k m l) (negℤ (pos (l .weight))))
+weight-at-magnitude k m l = go (eqb k m) (when-magnitude (touches k l) (pos (l .weight))) (when-magnitude (joins k m l) (negℤ (pos (l .weight))))
   where
     go : (b : Bool) → natAbs (when (touches k l) (pos (l .weight))) ≤ l .weight → natAbs (when (joins k m l) (negℤ (pos (l .weight)))) ≤ natAbs (negℤ (pos (l .weight))) →
         natAbs (cond b (when (touches k l) (pos (l .weight))) (when (joins k m l) (negℤ (pos (l .weight))))) ≤ l .weight
     go true p q = p
     go false p q = omega (arith, q, abs-neg (pos (l .weight)))
 
-pub gain-size : (k : ℕ) (l : Observation) → natAbs (gain k l) ≤ l .weight * natAbs (l .difference)
+pub gain-magnitude : (k : ℕ) (l : Observation) → natAbs (gain k l) ≤ l .weight * natAbs (l .difference)
 unfolding gain
-gain-size k l = go (eqb (l .to) k) (eqb (l .«from») k) (pos (l .weight) *ℤ l .difference) (abs-* (pos (l .weight)) (l .difference))
+gain-magnitude k l = go (eqb (l .to) k) (eqb (l .«from») k) (pos (l .weight) *ℤ l .difference) (abs-* (pos (l .weight)) (l .difference))
   where
     go : (a b : Bool) (z : ℤ) → natAbs z ≡ l .weight * natAbs (l .difference) → natAbs (when a z -ℤ when b z) ≤ l .weight * natAbs (l .difference)
     go true true z e = rw (+ℤ-invr z) (omega arith)
@@ -86,32 +86,32 @@ gain-size k l = go (eqb (l .to) k) (eqb (l .«from») k) (pos (l .weight) *ℤ l
     go false false z e = omega arith
 
 module _ (n : ℕ) (ls : List Observation) (fit : Buildable n ls) (few : length ls ≤ 256) where
-  sized : (l : Observation) → Among l (distinct ls) → InsideLine n l
-  sized l i = inside-line n l (fit .good l (distinct-among [] ls l i) .inside)
+  each-inside : (l : Observation) → Among l (distinct ls) → InsideLine n l
+  each-inside l i = inside-line n l (fit .good l (distinct-among [] ls l i) .inside)
 
-  pub matrix-size : (i j : ℕ) → natAbs (builtMatrix ls i j) ≤ 2 ^ 14
-  matrix-size i j =
+  pub matrix-magnitude : (i j : ℕ) → natAbs (builtMatrix ls i j) ≤ 2 ^ 14
+  matrix-magnitude i j =
       omega (
         arith,
-        abs-total 64 (weightAt (i + 1) (j + 1)) (distinct ls) (λ l k. omega (arith, weight-at-size (i + 1) (j + 1) l, sized l k .weight)),
+        abs-total 64 (weightAt (i + 1) (j + 1)) (distinct ls) (λ l k. omega (arith, weight-at-magnitude (i + 1) (j + 1) l, each-inside l k .weight)),
         mul-le-mul-right 64 (distinct-length [] ls),
         mul-le-mul-right 64 few,
       )
 
-  pub right-size : (i : ℕ) → natAbs (builtRight ls i) ≤ 2 ^ 30
-  right-size i =
+  pub right-magnitude : (i : ℕ) → natAbs (builtRight ls i) ≤ 2 ^ 30
+  right-magnitude i =
       omega (
         arith,
-        abs-total (2 ^ 22) (gain (i + 1)) (distinct ls) (λ l k. omega (arith, gain-size (i + 1) l, mul-le-mul (sized l k .weight) (sized l k .difference))),
+        abs-total (2 ^ 22) (gain (i + 1)) (distinct ls) (λ l k. omega (arith, gain-magnitude (i + 1) l, mul-le-mul (each-inside l k .weight) (each-inside l k .difference))),
         mul-le-mul-right (2 ^ 22) (distinct-length [] ls),
         mul-le-mul-right (2 ^ 22) few,
       )
 
   pub matrix-in-range : (i j : ℕ) → inRange kind.Matrix (builtMatrix ls i j) ≡ true
-  matrix-in-range i j = in-matrix-range (builtMatrix ls i j) (omega (arith, matrix-size i j))
+  matrix-in-range i j = in-matrix-range (builtMatrix ls i j) (omega (arith, matrix-magnitude i j))
 
   pub right-in-range : (i : ℕ) → inRange kind.Right (builtRight ls i) ≡ true
-  right-in-range i = in-right-range (builtRight ls i) (right-size i)
+  right-in-range i = in-right-range (builtRight ls i) (right-magnitude i)
 
 -- ---- the matrix is symmetric
 weight-at-turned : (k m : ℕ) (l : Observation) → weightAt k m l ≡ weightAt m k l

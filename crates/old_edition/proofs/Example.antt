@@ -21,7 +21,7 @@ use Rattle.enclosure.specs.Reckoning.{defect, load, margin, residual, rowSum, e
 use Rattle.checked.specs.Before.{answer01}
 use Rattle.checked.specs.Order.{checkedOf}
 use Rattle.numeral.specs.Decimal.{digits, decimal, numeral}
-use Rattle.numeral.specs.Numeral.{runAt, sizeAt, numberAt}
+use Rattle.numeral.specs.Numeral.{runAt, magnitudeAt, numberAt}
 use Rattle.form.specs.Form.{Form, problem, scale, row, right, rightWithin, guess, inverse, end}
 use Rattle.form.specs.Spelling.{numerals, spell}
 use Rattle.form.specs.List.{allInside}
@@ -179,11 +179,11 @@ unbounded-converted =
 
 -- ---- a file with a tolerance
 tolerant-above : 0 < problemIn tolerantFile .d 0
-unfolding linesOf forms valueFrom sizeFrom reading starts wordAt orWord firstOf headAt othersAt runAt sizeAt numberAt
+unfolding linesOf forms valueFrom sizeFrom reading starts wordAt orWord firstOf headAt othersAt runAt magnitudeAt numberAt
 tolerant-above = lit≤ tt
 
 tolerant-size : 0 < problemIn tolerantFile .n
-unfolding linesOf forms valueFrom sizeFrom reading starts wordAt orWord firstOf headAt othersAt runAt sizeAt numberAt
+unfolding linesOf forms valueFrom sizeFrom reading starts wordAt orWord firstOf headAt othersAt runAt magnitudeAt numberAt
 tolerant-size = lit≤ tt
 
 pub tolerant-refused : (room : ℕ) → convertAnswer tolerantFile room ≡ 22 ∷ []

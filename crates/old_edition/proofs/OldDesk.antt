@@ -5,7 +5,7 @@ use mathlib.Core.Path.{_≡_, refl}
 use mathlib.Core.List.{List, [], _∷_}
 use Rattle.integer.specs.Finite.{sumℕ}
 use Rattle.rules.specs.Range.{ranges, rangeOf, inRange}
-use Rattle.numeral.specs.Numeral.{runAt, sizeAt, numberAt}
+use Rattle.numeral.specs.Numeral.{runAt, magnitudeAt, numberAt}
 use Rattle.form.specs.List.{allInside}
 use Rattle.form.specs.Reading.{reading, starts, wordAt, orWord, firstOf, headAt, othersAt}
 use Rattle.bit_set.specs.Places.{withPlace, lacking}
@@ -21,5 +21,5 @@ OldHolds [] = Unit
 OldHolds (c ∷ cs) = (readingOfOld (c .file) .said ≡ c .says) × OldHolds cs
 
 pub old-cases-hold : OldHolds oldCases
-unfolding readOld answerOld loaderOld listsOld zeros linesOf reading starts wordAt orWord firstOf headAt othersAt runAt sizeAt numberAt missing01 misplaced withPlace lacking allInside sumℕ inRange rangeOf ranges
+unfolding readOld answerOld loaderOld listsOld zeros linesOf reading starts wordAt orWord firstOf headAt othersAt runAt magnitudeAt numberAt missing01 misplaced withPlace lacking allInside sumℕ inRange rangeOf ranges
 old-cases-hold = (refl, (refl, (refl, (refl, (refl, (refl, (refl, (refl, (refl, (refl, tt))))))))))

@@ -10,7 +10,7 @@ use Rattle.integer.specs.Finite.{sumℕ, largest}
 use Rattle.rules.specs.Order.{ifAccepted}
 use Rattle.rules.specs.Range.{ranges, rangeOf, inRange}
 use Rattle.numeral.specs.Decimal.{digits, decimal, numeral}
-use Rattle.numeral.specs.Numeral.{runAt, sizeAt, numberAt}
+use Rattle.numeral.specs.Numeral.{runAt, magnitudeAt, numberAt}
 use Rattle.form.specs.Form.{Form, problem, scale, row, right, rightWithin, guess, inverse, weight, end, bytes}
 use Rattle.form.specs.Spelling.{numerals, spell}
 use Rattle.form.specs.List.{allInside}
@@ -105,5 +105,5 @@ Prints [] = Unit
 Prints (c ∷ cs) = (convertedText (c .file) ≡ c .text) × Prints cs
 
 pub printed-cases : Prints printedCases
-unfolding convertedText readFrom lineAnswer loaderAfter listsAfter zeros linesOf forms reading starts wordAt orWord firstOf headAt othersAt runAt sizeAt numberAt missing misplaced withPlace lacking allInside sumℕ largest inRange rangeOf ranges valueFrom sizeFrom scalesFrom digits decimal each
+unfolding convertedText readFrom lineAnswer loaderAfter listsAfter zeros linesOf forms reading starts wordAt orWord firstOf headAt othersAt runAt magnitudeAt numberAt missing misplaced withPlace lacking allInside sumℕ largest inRange rangeOf ranges valueFrom sizeFrom scalesFrom digits decimal each
 printed-cases = (unlike-text, (tolerant-text, (refl, (refl, (refl, (refl, tt))))))

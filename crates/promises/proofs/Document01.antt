@@ -17,7 +17,7 @@ use Rattle.entry.specs.declared.Registered.{Registered}
 use Rattle.entry.specs.declared.Registered.the-variants.{Entry, Refused}
 use Rattle.entry.proofs.Limit.{entry-near}
 use Rattle.enclosure.specs.Problem.{Problem, S, columnOf}
-use Rattle.enclosure.specs.Reckoning.{defect, load, margin, residual, rowSum, exceeds, exceedsWith, exceedsRow, slack, bound, boundWith, boundFrom, sizesWith, inverseBound}
+use Rattle.enclosure.specs.Reckoning.{defect, load, margin, residual, rowSum, exceeds, exceedsWith, exceedsRow, slack, bound, boundWith, boundFrom, magnitudesWith, inverseBound}
 use Rattle.enclosure.proofs.Instance.{file-worked}
 use Rattle.checked.specs.Checked.{solutionBoundsAfter, inverseBoundsAfter}
 use Rattle.checked.specs.Input.{Input, problem, short}
@@ -115,7 +115,7 @@ unfolding residual rowSum apply
 residuals-small P E L a k l = within P k (accepted-sound P E L a .residuals k l)
 
 pub limit-is-largest : document.LimitIsLargest
-unfolding bound boundWith boundFrom sizesWith apply
+unfolding bound boundWith boundFrom magnitudesWith apply
 limit-is-largest P E L a i l = limits-reckoned P E L a .0 i l
 
 pub inverse-limit-is : document.InverseLimitIs

@@ -18,7 +18,7 @@ use Rattle.rules.specs.declared.Refusal.the-variants.{TooShort, Missing}
 use Rattle.entry.specs.Entry.{entryValue, entryBound}
 use Rattle.entry.specs.Register.{RegisteredAs}
 use Rattle.entry.specs.declared.Registered.the-variants.{Entry}
-use Rattle.enclosure.specs.Reckoning.{defect, load, margin, marginFails, residual, rowSum, exceeds, sizesWith, boundFrom, boundWith, bound, inverseBound}
+use Rattle.enclosure.specs.Reckoning.{defect, load, margin, marginFails, residual, rowSum, exceeds, magnitudesWith, boundFrom, boundWith, bound, inverseBound}
 use Rattle.checked.specs.Cases.{single, skewed, tolerant, caseInput}
 use Rattle.checked.specs.Checked.{Checked, solutionAfter, inverseAfter}
 use Rattle.checked.specs.Input.{Input, input, problem, inRanges}
@@ -70,11 +70,11 @@ unfolding allInRange inRange rangeOf ranges every
 poor-inside = refl
 
 poor-said : checkedOf (problem poor) ≡ []
-unfolding bound boundWith boundFrom sizesWith exceeds rowSum residual margin load defect product apply identity sum sumℕ largest first ceilDiv
+unfolding bound boundWith boundFrom magnitudesWith exceeds rowSum residual margin load defect product apply identity sum sumℕ largest first ceilDiv
 poor-said = refl
 
 poor-limits : (bound (problem poor) 0 ≡ 0) × ((inverseBound (problem poor) 0 0 ≡ 0) × (inverseBound (problem poor) 0 1 ≡ 2))
-unfolding bound boundWith boundFrom sizesWith residual margin load defect product apply identity sum sumℕ largest ceilDiv
+unfolding bound boundWith boundFrom magnitudesWith residual margin load defect product apply identity sum sumℕ largest ceilDiv
 poor-limits = (refl, (refl, refl))
 
 poor-checked : Checked poor outcome.Accepted heights inverses
@@ -136,11 +136,11 @@ unfolding allInRange inRange rangeOf ranges every
 loose-inside = refl
 
 loose-said : checkedOf (problem looseInput) ≡ []
-unfolding bound boundWith boundFrom sizesWith exceeds rowSum residual margin load defect product apply identity sum sumℕ largest first ceilDiv
+unfolding bound boundWith boundFrom magnitudesWith exceeds rowSum residual margin load defect product apply identity sum sumℕ largest first ceilDiv
 loose-said = refl
 
 loose-limit : bound (problem looseInput) 0 ≡ 48
-unfolding bound boundWith boundFrom sizesWith residual margin load defect product apply identity sum sumℕ largest ceilDiv
+unfolding bound boundWith boundFrom magnitudesWith residual margin load defect product apply identity sum sumℕ largest ceilDiv
 loose-limit = refl
 
 loose-checked : Checked looseInput outcome.Accepted (solutionAfter (checkedOf (problem looseInput)) looseInput) (inverseAfter (checkedOf (problem looseInput)) looseInput)

@@ -20,7 +20,7 @@ use Rattle.enclosure.specs.Reckoning.{load, margin, marginFails}
 use Rattle.enclosure.proofs.Margin.{cut-test, margin-test, margin-sum, margin-above, margin-cut}
 use Rattle.reckoning.specs.Arrays.{Begins}
 use Rattle.reckoning.specs.Parts.{cutMargin}
-use Rattle.reckoning.proofs.Sizes.{power-size}
+use Rattle.reckoning.proofs.Magnitudes.{power-magnitude}
 use Rattle.checked.specs.Order.{firstMargin}
 use Rattle.limit_factor.specs.Peak.{spread, peak, peakRow}
 use Rattle.limit_factor.specs.Inquiry.{Inquiry, inquiryProblem}
@@ -28,7 +28,7 @@ use Rattle.limit_factor.proofs.Contract.{FitInquiry}
 use Rattle.limit_factor.proofs.Peak.{peak-ext}
 
 pub full-small : (Q : Inquiry) → FitInquiry Q → (m : ℕ) → m < Q .n → 2 ^ Q .t * natAbs (at (Q .weights) m) ≤ 2 ^ 20 * 1024
-full-small Q f m l = mul-le-mul (power-size (Q .t) (f .scale)) (f .weights .within .size m l)
+full-small Q f m l = mul-le-mul (power-magnitude (Q .t) (f .scale)) (f .weights .within .magnitudes m l)
 
 module _ (Q : Inquiry) {margins : List ℕ} (hm : Begins 0 margins (Q .n) (cutMargin (inquiryProblem Q))) where
   abbrev P : Problem

@@ -22,7 +22,7 @@ use ranges::are_lists_in_range;
 use ranges::are_sizes_in_range;
 use rules::Refusal;
 use weight_sequence::is_short;
-use weight_steps::defect_sizes;
+use weight_steps::defect_magnitudes;
 use weight_steps::loads_of;
 use weight_steps::margins_from;
 
@@ -50,9 +50,9 @@ fn margins_for(t: u32, matrix: &[i64], inverse: &[i64], weights: &[i64], n: usiz
     ensures { λ r. ⌜ Begins 0 r n
         (cutMargin (problemOf n 0 t (now (matrix .entry)) [] [] [] (now (inverse .entry)) (now (weights .entry)))) ⌝ }
 {
-    let sizes = defect_sizes(t, matrix, inverse, n);
+    let magnitudes = defect_magnitudes(t, matrix, inverse, n);
     let list = weights_of(weights, n);
-    let loads = loads_of(&sizes, &list, n);
+    let loads = loads_of(&magnitudes, &list, n);
     margins_from(t, &loads, &list, n)
 }
 

@@ -1,8 +1,8 @@
 -- Raised numbers and the numbers they stand for.
 --   raised-is, raised-small, lowered-raised — x + 2^25 is a natural number, at most 2^26, and stands for x
---   lowered-below, lowered-above, lowered-size — the size of the number that x stands for: 2^25 − x or x − 2^25, at most 2^25
+--   lowered-below, lowered-above, lowered-magnitude — the size of the number that x stands for: 2^25 − x or x − 2^25, at most 2^25
 --   row-sum, row-products — a row's sum is at most 2^31, the sum of the products of two rows at most 2^57
---   row-dot-size, row-dot-shows — the size of a sum of products, and what it is of rows that stand for f and g;  rows-raised — these are raised rows;  row-as — of equal functions
+--   row-dot-magnitude, row-dot-shows — the size of a sum of products, and what it is of rows that stand for f and g;  rows-raised — these are raised rows;  row-as — of equal functions
 --   rows-themselves — raised rows stand for the matrix that they are lowered to
 --   dot-lowered, row-dot-is — a sum of products of raised numbers, put right, is that of the numbers that they stand for
 use mathlib.Core.List.{List}
@@ -65,17 +65,17 @@ pub lowered-above : (x : ℕ) → raisedBy ≤ x → natAbs (lowered x) ≡ x - 
 unfolding lowered
 lowered-above x h = abs-difference x raisedBy ∙ omega arith
 
-pub lowered-size : (x : ℕ) → x ≤ 2 ^ 26 → natAbs (lowered x) ≤ 2 ^ 25
+pub lowered-magnitude : (x : ℕ) → x ≤ 2 ^ 26 → natAbs (lowered x) ≤ 2 ^ 25
 unfolding lowered
-lowered-size x h = near-raised 33554432 x h
+lowered-magnitude x h = near-raised 33554432 x h
 
-pub row-dot-size : {xs ys : List ℕ} {p q n : ℕ} → n ≤ 32 → Small xs p n → Small ys q n → natAbs (rowDot xs p ys q n) ≤ 2 ^ 55
+pub row-dot-magnitude : {xs ys : List ℕ} {p q n : ℕ} → n ≤ 32 → Small xs p n → Small ys q n → natAbs (rowDot xs p ys q n) ≤ 2 ^ 55
 unfolding rowDot
-row-dot-size {xs} {ys} {p} {q} {n} few a b =
+row-dot-magnitude {xs} {ys} {p} {q} {n} few a b =
     omega (
       arith,
       abs-sum≤ n (2 ^ 50) (λ (k : ℕ). lowered (getD xs (p + k) 0) *ℤ lowered (getD ys (q + k) 0))
-          (λ k l. rw (abs-* (lowered (getD xs (p + k) 0)) (lowered (getD ys (q + k) 0))) (mul-le-mul (lowered-size _ (a .each k l)) (lowered-size _ (b .each k l)))),
+          (λ k l. rw (abs-* (lowered (getD xs (p + k) 0)) (lowered (getD ys (q + k) 0))) (mul-le-mul (lowered-magnitude _ (a .each k l)) (lowered-magnitude _ (b .each k l)))),
       mul-le-mul-right (2 ^ 50) few,
     )
 

@@ -30,7 +30,7 @@ fn raise(x: i64) -> u64
 }
 
 // The size of the number that x stands for.
-pub fn lowered_size(x: u64) -> u64
+pub fn lowered_magnitude(x: u64) -> u64
     ensures { λ r. ⌜ r ≡ natAbs (lowered x) ⌝ }
 {
     if x < RAISED_BY {

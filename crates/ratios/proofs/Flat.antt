@@ -25,36 +25,36 @@ cap-under n w i g c l e =
 pub small-each : (n : ℕ) (f : ℕ → ℕ) (b : ℕ) → sumℕ n f ≤ b → (m : ℕ) → m < n → f m ≤ b
 small-each n f b h m l = le-trans (sumℕ-at n f m l) h
 
-module _ (n : ℕ) (sizes margins : List ℕ) (weights : List ℤ) (positive : Positive margins n) where
-  abbrev size : ℕ → ℕ
-  size m = getD sizes m 0
+module _ (n : ℕ) (magnitudes margins : List ℕ) (weights : List ℤ) (positive : Positive margins n) where
+  abbrev magnitude : ℕ → ℕ
+  magnitude m = getD magnitudes m 0
 
   abbrev limit : ℕ → ℕ
-  limit = boundFrom n (λ (m : ℕ). getD sizes m 0) (λ (m : ℕ). getD margins m 0) (λ (i : ℕ). natAbs (at weights i))
+  limit = boundFrom n (λ (m : ℕ). getD magnitudes m 0) (λ (m : ℕ). getD margins m 0) (λ (i : ℕ). natAbs (at weights i))
 
-  pub flat-none : n ≤ 32 → sumℕ n (λ (m : ℕ). getD sizes m 0) ≡ 0 → Begins 0 (replicate 32 0) n limit
+  pub flat-none : n ≤ 32 → sumℕ n (λ (m : ℕ). getD magnitudes m 0) ≡ 0 → Begins 0 (replicate 32 0) n limit
   flat-none few e = record {
     each = λ i l. getD-replicate 32 i 0 0 (omega arith) ∙ le-antisymm (omega arith)
-        (bound-least n size (λ (m : ℕ). getD margins m 0) (λ (i : ℕ). natAbs (at weights i)) i 0 (positive .above)
-        (λ m lm. let z : size m ≡ 0 = omega (arith, e, sumℕ-at n size m lm) in rw z (omega arith)));
+        (bound-least n magnitude (λ (m : ℕ). getD margins m 0) (λ (i : ℕ). natAbs (at weights i)) i 0 (positive .above)
+        (λ m lm. let z : magnitude m ≡ 0 = omega (arith, e, sumℕ-at n magnitude m lm) in rw z (omega arith)));
   }
 
-  module _ {caps : List ℕ} (k : Caps caps margins weights n) (flat : Flat sizes caps n) where
+  module _ {caps : List ℕ} (k : Caps caps margins weights n) (flat : Flat magnitudes caps n) where
     most : (i : ℕ) → i < n → limit i ≤ 1
     most i l =
-        bound-least n size (λ (m : ℕ). getD margins m 0) (λ (i : ℕ). natAbs (at weights i)) i 1 (positive .above)
+        bound-least n magnitude (λ (m : ℕ). getD margins m 0) (λ (i : ℕ). natAbs (at weights i)) i 1 (positive .above)
         (λ m lm. omega (arith, mul-le-mul-left (natAbs (at weights i)) (flat .each m lm), k .under i m l lm))
 
     -- a size is 0 where a limit is
-    none : (i m : ℕ) → i < n → m < n → limit i ≡ 0 → size m ≡ 0
+    none : (i m : ℕ) → i < n → m < n → limit i ≡ 0 → magnitude m ≡ 0
     none i m l lm e =
-        let c : natAbs (at weights i) * size m ≤ 0 * getD margins m 0 =
-        rw e at (bound-covers n size (λ (m : ℕ). getD margins m 0) (λ (i : ℕ). natAbs (at weights i)) i m lm (positive .above m lm)) in
-        omega (arith, mul-le-mul-right (size m) (k .some i l))
+        let c : natAbs (at weights i) * magnitude m ≤ 0 * getD margins m 0 =
+        rw e at (bound-covers n magnitude (λ (m : ℕ). getD margins m 0) (λ (i : ℕ). natAbs (at weights i)) i m lm (positive .above m lm)) in
+        omega (arith, mul-le-mul-right (magnitude m) (k .some i l))
 
-    one : (i : ℕ) → i < n → (sumℕ n size ≡ 0 → ⊥) → (x : ℕ) → limit i ≡ x → 1 ≡ x
-    one i l some zero e = absurd (some (sumℕ-ext n size (λ (m : ℕ). 0) (λ m lm. none i m l lm e) ∙ sumℕ-zero n))
+    one : (i : ℕ) → i < n → (sumℕ n magnitude ≡ 0 → ⊥) → (x : ℕ) → limit i ≡ x → 1 ≡ x
+    one i l some zero e = absurd (some (sumℕ-ext n magnitude (λ (m : ℕ). 0) (λ m lm. none i m l lm e) ∙ sumℕ-zero n))
     one i l some (suc x) e = omega (arith, most i l)
 
-    pub flat-some : n ≤ 32 → (sumℕ n (λ (m : ℕ). getD sizes m 0) ≡ 0 → ⊥) → Begins 0 (replicate 32 1) n limit
+    pub flat-some : n ≤ 32 → (sumℕ n (λ (m : ℕ). getD magnitudes m 0) ≡ 0 → ⊥) → Begins 0 (replicate 32 1) n limit
     flat-some few some = record { each = λ i l. getD-replicate 32 i 1 0 (omega arith) ∙ one i l some (limit i) refl }

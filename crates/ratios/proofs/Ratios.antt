@@ -52,24 +52,24 @@ module _ (k P G m p g : ℕ) (hG : 0 < G) (hg : 0 < g) where
       go false e false f false h =
           a (rw (whole p g, whole P G) at (quotient-same (p / g) (p % g) g (P / G) (P % G) G (omega (arith, ltb-false (P / G) (p / g) e, ltb-false (p / g) (P / G) f)) (ltb-false (P % G * g) (p % g * G) h)))
 
-pub record Best (sizes margins : ℕ → ℕ) (n : ℕ) (best : Ratio) : Type 0 where
+pub record Best (magnitudes margins : ℕ → ℕ) (n : ℕ) (best : Ratio) : Type 0 where
   pub at : ℕ
-  pub is : best ≡ ratioOf at (sizes at) (margins at)
-  pub steepest : Steepest n sizes margins at
+  pub is : best ≡ ratioOf at (magnitudes at) (margins at)
+  pub steepest : Steepest n magnitudes margins at
 
-pub best-first : (sizes margins : ℕ → ℕ) {best : Ratio} → best ≡ ratioOf 0 (sizes 0) (margins 0) → Best sizes margins 1 best
-best-first sizes margins e = record { at = 0; is = e; steepest = steepest-one sizes margins }
+pub best-first : (magnitudes margins : ℕ → ℕ) {best : Ratio} → best ≡ ratioOf 0 (magnitudes 0) (margins 0) → Best magnitudes margins 1 best
+best-first magnitudes margins e = record { at = 0; is = e; steepest = steepest-one magnitudes margins }
 
-pub best-next : (sizes margins : ℕ → ℕ) (n : ℕ) {best next new : Ratio} → ((m : ℕ) → m < n + 1 → 0 < margins m) → Best sizes margins n best →
-    next ≡ ratioOf n (sizes n) (margins n) → new ≡ steeperOf best next → Best sizes margins (n + 1) new
-best-next sizes margins n pos b e f =
+pub best-next : (magnitudes margins : ℕ → ℕ) (n : ℕ) {best next new : Ratio} → ((m : ℕ) → m < n + 1 → 0 < margins m) → Best magnitudes margins n best →
+    next ≡ ratioOf n (magnitudes n) (margins n) → new ≡ steeperOf best next → Best magnitudes margins (n + 1) new
+best-next magnitudes margins n pos b e f =
     let k : ℕ = b .at in
     let above : 0 < margins k = pos k (omega (arith, b .steepest .below)) in
-    let w : steeperOf (ratioOf k (sizes k) (margins k)) (ratioOf n (sizes n) (margins n)) ≡ _ = sym (f ∙ rw (b .is, e)) in
-    subst (Best sizes margins (n + 1)) w
-    (steeper-outcome k (sizes k) (margins k) n (sizes n) (margins n) above (pos n (omega arith)) (Best sizes margins (n + 1))
-    (λ h. record { at = k; is = refl; steepest = steepest-stays sizes margins n k (b .steepest) h })
-    (λ h. record { at = n; is = refl; steepest = steepest-moves sizes margins n k above (b .steepest) h }))
+    let w : steeperOf (ratioOf k (magnitudes k) (margins k)) (ratioOf n (magnitudes n) (margins n)) ≡ _ = sym (f ∙ rw (b .is, e)) in
+    subst (Best magnitudes margins (n + 1)) w
+    (steeper-outcome k (magnitudes k) (margins k) n (magnitudes n) (margins n) above (pos n (omega arith)) (Best magnitudes margins (n + 1))
+    (λ h. record { at = k; is = refl; steepest = steepest-stays magnitudes margins n k (b .steepest) h })
+    (λ h. record { at = n; is = refl; steepest = steepest-moves magnitudes margins n k above (b .steepest) h }))
 
 pub narrow : (m p g : ℕ) {a : Ratio} → a ≡ ratioOf m p g → 0 < g → g ≤ 2 ^ 30 → SmallTerms a
 narrow m p g e h l = rw e (record { low = omega (arith, mod-lt p h); high = l })
@@ -96,7 +96,7 @@ module _ (a b : Ratio) where
   unfolding steeperOf
   steeper-4 h k l = rw (le-ltb _ _ h, le-ltb _ _ k, le-ltb _ _ l)
 
-pub best-end : (sizes margins : ℕ → ℕ) {m n : ℕ} (best : Ratio) → m ≤ n → n ≤ m → Best sizes margins m best → Steepest n sizes margins (best .row)
-best-end sizes margins best p q b =
+pub best-end : (magnitudes margins : ℕ → ℕ) {m n : ℕ} (best : Ratio) → m ≤ n → n ≤ m → Best magnitudes margins m best → Steepest n magnitudes margins (best .row)
+best-end magnitudes margins best p q b =
     let row : best .row ≡ b .at = ap (λ (r : Ratio). r .row) (b .is) in
     rw (row, ← le-antisymm p q) (b .steepest)

@@ -1,9 +1,9 @@
 -- Comparing |p_m| / g_m without products above 2^60: by quotients, then by remainders times the other margin; cited by contracts inside.
 --   ratioOf m p g  — row m with the quotient and the remainder of p by g
 --   steeperOf a b  — b where its ratio is larger, else a
---   Flat sizes caps n — each of n sizes is at most its cap
+--   Flat magnitudes caps n — each of n sizes is at most its cap
 --   Caps caps margins weights n — weights above 0, and each weight times a row's cap is at most its margin: a size at most its cap has limits of at most 1
---   SmallTerms, Positive, Sized — how large the numbers may be for the arithmetic to fit
+--   SmallTerms, Positive, Bounded — how large the numbers may be for the arithmetic to fit
 use mathlib.Core.Bool.{cond}
 use mathlib.Core.List.{List}
 use Prim.Native.Nat.{ℕ, _*_, _/_, _%_, _≤_, _<_, _^_}
@@ -11,7 +11,7 @@ use lib.Dec.{ltb}
 use lib.IntN.{ℤ, natAbs}
 use lib.ListN.{getD}
 use Rattle.linear.specs.Slice.{at}
-use Rattle.enclosure.specs.Largest.{largestSize}
+use Rattle.enclosure.specs.Largest.{largestMagnitude}
 use Rattle.ratios.specs.declared.Ratio.{Ratio}
 
 abbrev pub ratioOf : ℕ → ℕ → ℕ → Ratio
@@ -33,11 +33,11 @@ pub record Positive (margins : List ℕ) (n : ℕ) : Type 0 where
   pub most : (m : ℕ) → m < n → getD margins m 0 ≤ 2 ^ 30
 
 -- n sizes of at most 2^50
-pub record Sized (sizes : List ℕ) (n : ℕ) : Type 0 where
-  pub most : (m : ℕ) → m < n → getD sizes m 0 ≤ largestSize
+pub record Bounded (magnitudes : List ℕ) (n : ℕ) : Type 0 where
+  pub most : (m : ℕ) → m < n → getD magnitudes m 0 ≤ largestMagnitude
 
-pub record Flat (sizes caps : List ℕ) (n : ℕ) : Type 0 where
-  pub each : (m : ℕ) → m < n → getD sizes m 0 ≤ getD caps m 0
+pub record Flat (magnitudes caps : List ℕ) (n : ℕ) : Type 0 where
+  pub each : (m : ℕ) → m < n → getD magnitudes m 0 ≤ getD caps m 0
 
 pub record Caps (caps margins : List ℕ) (weights : List ℤ) (n : ℕ) : Type 0 where
   pub some : (i : ℕ) → i < n → 0 < natAbs (at weights i)

@@ -10,10 +10,10 @@ ghost use Rattle.integer.specs.Steepest.{Steepest};
 ghost use Rattle.integer.specs.Quotient.{ceilDiv};
 ghost use Rattle.linear.specs.Slice.{at};
 ghost use Rattle.linear.specs.Reach.{ColumnList};
-ghost use Rattle.enclosure.specs.Largest.{largestSize};
+ghost use Rattle.enclosure.specs.Largest.{largestMagnitude};
 ghost use Rattle.enclosure.specs.Reckoning.{boundFrom};
 ghost use Rattle.reckoning.specs.Arrays.{Begins};
-ghost use Rattle.ratios.specs.Ratio.{ratioOf, steeperOf, SmallTerms, Positive, Sized, Flat, Caps};
+ghost use Rattle.ratios.specs.Ratio.{ratioOf, steeperOf, SmallTerms, Positive, Bounded, Flat, Caps};
 use integer::ceil_div;
 use integer::larger;
 use integer::magnitude;
@@ -59,37 +59,37 @@ fn steeper(a: Ratio, b: Ratio) -> Ratio
 }
 
 // A row where sizes / margins is largest, found by quotients and remainders.
-fn steepest_by_quotients(sizes: &[u64; 32], margins: &[u64; 32], n: usize) -> usize
+fn steepest_by_quotients(magnitudes: &[u64; 32], margins: &[u64; 32], n: usize) -> usize
     requires { ⌜ (0 < n) × (n ≤ 32) ⌝ }
     requires { ⌜ Positive (now margins) n ⌝ }
-    ensures { λ r. ⌜ Steepest n (λ (m : ℕ). getD (now (sizes .entry)) m 0) (λ (m : ℕ). getD (now (margins .entry)) m 0) r ⌝ }
+    ensures { λ r. ⌜ Steepest n (λ (m : ℕ). getD (now (magnitudes .entry)) m 0) (λ (m : ℕ). getD (now (margins .entry)) m 0) r ⌝ }
 {
-    let mut best = ratio_of(0, sizes[0], margins[0]);
+    let mut best = ratio_of(0, magnitudes[0], margins[0]);
     for m in 1..n {
-        best = steeper(best, ratio_of(m, sizes[m], margins[m]));
+        best = steeper(best, ratio_of(m, magnitudes[m], margins[m]));
     }
     best.row
 }
 
 // Whether p / g is larger than size / margin, by products.
-fn is_steeper(size: u64, margin: u64, p: u64, g: u64) -> bool
-    requires { ⌜ (size ≤ 2 ^ 33) × (g ≤ 2 ^ 30) ⌝ }
+fn is_steeper(magnitude: u64, margin: u64, p: u64, g: u64) -> bool
+    requires { ⌜ (magnitude ≤ 2 ^ 33) × (g ≤ 2 ^ 30) ⌝ }
     requires { ⌜ (p ≤ 2 ^ 33) × (margin ≤ 2 ^ 30) ⌝ }
-    ensures { λ r. ⌜ r ≡ ltb (size * g) (p * margin) ⌝ }
+    ensures { λ r. ⌜ r ≡ ltb (magnitude * g) (p * margin) ⌝ }
 {
-    size * g < p * margin
+    magnitude * g < p * margin
 }
 
 // A row where sizes / margins is largest, found by products, for small sizes.
-fn steepest_by_products(sizes: &[u64; 32], margins: &[u64; 32], n: usize) -> usize
+fn steepest_by_products(magnitudes: &[u64; 32], margins: &[u64; 32], n: usize) -> usize
     requires { ⌜ (0 < n) × (n ≤ 32) ⌝ }
-    requires { ⌜ ((m : ℕ) → m < n → getD (now sizes) m 0 ≤ 2 ^ 33) ⌝ }
+    requires { ⌜ ((m : ℕ) → m < n → getD (now magnitudes) m 0 ≤ 2 ^ 33) ⌝ }
     requires { ⌜ Positive (now margins) n ⌝ }
-    ensures { λ r. ⌜ Steepest n (λ (m : ℕ). getD (now (sizes .entry)) m 0) (λ (m : ℕ). getD (now (margins .entry)) m 0) r ⌝ }
+    ensures { λ r. ⌜ Steepest n (λ (m : ℕ). getD (now (magnitudes .entry)) m 0) (λ (m : ℕ). getD (now (margins .entry)) m 0) r ⌝ }
 {
     let mut k = 0;
     for m in 1..n {
-        if is_steeper(sizes[k], margins[k], sizes[m], margins[m]) {
+        if is_steeper(magnitudes[k], margins[k], magnitudes[m], margins[m]) {
             k = m;
         }
     }
@@ -99,7 +99,7 @@ fn steepest_by_products(sizes: &[u64; 32], margins: &[u64; 32], n: usize) -> usi
 // The sum of n numbers.
 pub fn sum_of(xs: &[u64; 32], n: usize) -> u64
     requires { ⌜ n ≤ 32 ⌝ }
-    requires { ⌜ Sized (now xs) n ⌝ }
+    requires { ⌜ Bounded (now xs) n ⌝ }
     ensures { λ r. ⌜ r ≡ sumℕ n (λ (k : ℕ). getD (now (xs .entry)) k 0) ⌝ }
 {
     let mut sum: u64 = 0;
@@ -110,37 +110,37 @@ pub fn sum_of(xs: &[u64; 32], n: usize) -> u64
 }
 
 // A row where sizes / margins is largest.
-fn steepest_of(sizes: &[u64; 32], margins: &[u64; 32], n: usize) -> usize
+fn steepest_of(magnitudes: &[u64; 32], margins: &[u64; 32], n: usize) -> usize
     requires { ⌜ (0 < n) × (n ≤ 32) ⌝ }
-    requires { ⌜ Sized (now sizes) n ⌝ }
+    requires { ⌜ Bounded (now magnitudes) n ⌝ }
     requires { ⌜ Positive (now margins) n ⌝ }
-    ensures { λ r. ⌜ Steepest n (λ (m : ℕ). getD (now (sizes .entry)) m 0) (λ (m : ℕ). getD (now (margins .entry)) m 0) r ⌝ }
+    ensures { λ r. ⌜ Steepest n (λ (m : ℕ). getD (now (magnitudes .entry)) m 0) (λ (m : ℕ). getD (now (margins .entry)) m 0) r ⌝ }
 {
-    if sum_of(sizes, n) < SMALL_SUM {
-        return steepest_by_products(sizes, margins, n);
+    if sum_of(magnitudes, n) < SMALL_SUM {
+        return steepest_by_products(magnitudes, margins, n);
     }
-    steepest_by_quotients(sizes, margins, n)
+    steepest_by_quotients(magnitudes, margins, n)
 }
 
 // w·p / g rounded up, for the weight w.
 fn bound_of(w: i64, p: u64, g: u64) -> u64
-    requires { ⌜ (natAbs w ≤ 1024) × ((p ≤ largestSize) × ((0 < g) × (g ≤ 2 ^ 30))) ⌝ }
+    requires { ⌜ (natAbs w ≤ 1024) × ((p ≤ largestMagnitude) × ((0 < g) × (g ≤ 2 ^ 30))) ⌝ }
     ensures { λ r. ⌜ r ≡ ceilDiv (natAbs w * p) g ⌝ }
 {
     ceil_div(magnitude(w) * p, g)
 }
 
 // The limits of a column by its steepest row.
-fn steep_bounds(sizes: &[u64; 32], margins: &[u64; 32], weights: &[i64], n: usize) -> [u64; 32]
+fn steep_bounds(magnitudes: &[u64; 32], margins: &[u64; 32], weights: &[i64], n: usize) -> [u64; 32]
     requires { ⌜ (0 < n) × (n ≤ 32) ⌝ }
-    requires { ⌜ Sized (now sizes) n ⌝ }
+    requires { ⌜ Bounded (now magnitudes) n ⌝ }
     requires { ⌜ Positive (now margins) n ⌝ }
     requires { ⌜ ColumnList (now weights) n 1024 ⌝ }
-    ensures { λ r. ⌜ Begins 0 r n (boundFrom n (λ (m : ℕ). getD (now (sizes .entry)) m 0) (λ (m : ℕ). getD (now (margins .entry)) m 0)
+    ensures { λ r. ⌜ Begins 0 r n (boundFrom n (λ (m : ℕ). getD (now (magnitudes .entry)) m 0) (λ (m : ℕ). getD (now (margins .entry)) m 0)
         (λ (i : ℕ). natAbs (at (now (weights .entry)) i))) ⌝ }
 {
-    let k = steepest_of(sizes, margins, n);
-    let p = sizes[k];
+    let k = steepest_of(magnitudes, margins, n);
+    let p = magnitudes[k];
     let g = margins[k];
     let mut out = [0u64; 32];
     for i in 0..n {
@@ -150,13 +150,13 @@ fn steep_bounds(sizes: &[u64; 32], margins: &[u64; 32], weights: &[i64], n: usiz
 }
 
 // Whether every size is at most its cap.
-fn is_flat(sizes: &[u64; 32], caps: &[u64; 32], n: usize) -> bool
+fn is_flat(magnitudes: &[u64; 32], caps: &[u64; 32], n: usize) -> bool
     requires { ⌜ n ≤ 32 ⌝ }
-    ensures { λ r. ⌜ (r ≡ true → Flat (now (sizes .entry)) (now (caps .entry)) n) ⌝ }
+    ensures { λ r. ⌜ (r ≡ true → Flat (now (magnitudes .entry)) (now (caps .entry)) n) ⌝ }
 {
     let mut flat = true;
     for m in 0..n {
-        if caps[m] < sizes[m] {
+        if caps[m] < magnitudes[m] {
             flat = false;
         }
     }
@@ -165,27 +165,27 @@ fn is_flat(sizes: &[u64; 32], caps: &[u64; 32], n: usize) -> bool
 
 // The limits of a column. Where every size is at most its cap they are all 1, or all 0 where every size is 0: nothing is divided.
 pub fn bounds_of(
-    sizes: &[u64; 32],
+    magnitudes: &[u64; 32],
     margins: &[u64; 32],
     caps: &[u64; 32],
     weights: &[i64],
     n: usize,
 ) -> [u64; 32]
     requires { ⌜ (0 < n) × (n ≤ 32) ⌝ }
-    requires { ⌜ Sized (now sizes) n ⌝ }
+    requires { ⌜ Bounded (now magnitudes) n ⌝ }
     requires { ⌜ Positive (now margins) n ⌝ }
     requires { ⌜ ColumnList (now weights) n 1024 ⌝ }
     requires { ⌜ Caps (now caps) (now margins) (now weights) n ⌝ }
-    ensures { λ r. ⌜ Begins 0 r n (boundFrom n (λ (m : ℕ). getD (now (sizes .entry)) m 0) (λ (m : ℕ). getD (now (margins .entry)) m 0)
+    ensures { λ r. ⌜ Begins 0 r n (boundFrom n (λ (m : ℕ). getD (now (magnitudes .entry)) m 0) (λ (m : ℕ). getD (now (margins .entry)) m 0)
         (λ (i : ℕ). natAbs (at (now (weights .entry)) i))) ⌝ }
 {
-    if is_flat(sizes, caps, n) {
-        if sum_of(sizes, n) == 0 {
+    if is_flat(magnitudes, caps, n) {
+        if sum_of(magnitudes, n) == 0 {
             return [0u64; 32];
         }
         return [1u64; 32];
     }
-    steep_bounds(sizes, margins, weights, n)
+    steep_bounds(magnitudes, margins, weights, n)
 }
 
 // The largest weight.

@@ -1,3 +1,3 @@
 pub mod Filled
-pub mod Sizes
+pub mod Magnitudes
 pub mod Columns

@@ -7,4 +7,4 @@ use Rattle.raised_rows.specs.Raised.{RaisedRows, loweredRows}
 
 pub record InverseRows (xs : List ℕ) (n : ℕ) : Type 0 where
   pub rows : RaisedRows xs n
-  pub size : (i k : ℕ) → i < n → k < n → natAbs (loweredRows xs n i k) ≤ 2 ^ 20
+  pub magnitudes : (i k : ℕ) → i < n → k < n → natAbs (loweredRows xs n i k) ≤ 2 ^ 20

@@ -1,7 +1,7 @@
 -- Laws of a report's rows, from what its lists are known to be.
 --   guess-small, guess-read — a guess fits, and is read back as itself
 --   block-line — a block's line, by the block
---   entry-size — V fits
+--   entry-magnitude — V fits
 use mathlib.Core.Path.{_≡_}
 use mathlib.Core.List.{List}
 use Prim.Native.Nat.{ℕ, suc, _+_, _*_, _/_, _≤_, _<_, _^_}
@@ -30,10 +30,10 @@ module _ {n s : ℕ} {X : List ℤ} {E L : List ℕ} (ready : Reportable n s X E
   block-line {o} {p} {from} {end} i b e x = rw e x
 
 -- ---- sizes
-pub entry-size : (x : ℤ) (s : ℕ) → natAbs x ≤ 2 ^ 36 → s ≤ 20 → natAbs (roundDiv x (2 ^ s)) < 2 ^ 63
+pub entry-magnitude : (x : ℤ) (s : ℕ) → natAbs x ≤ 2 ^ 36 → s ≤ 20 → natAbs (roundDiv x (2 ^ s)) < 2 ^ 63
 unfolding roundDiv
-entry-size (pos a) s h l =
+entry-magnitude (pos a) s h l =
     omega (arith, pow-le-pow-right {n = 2} (omega arith) {i = s} {j = 20} l, div-le-self (2 * a + 2 ^ s) (2 * 2 ^ s))
-entry-size (negsuc a) s h l =
+entry-magnitude (negsuc a) s h l =
     rw (abs-neg (pos ((2 * suc a + 2 ^ s) / (2 * 2 ^ s))))
     (omega (arith, pow-le-pow-right {n = 2} (omega arith) {i = s} {j = 20} l, div-le-self (2 * suc a + 2 ^ s) (2 * 2 ^ s)))

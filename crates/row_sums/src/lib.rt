@@ -11,7 +11,7 @@ ghost use Rattle.row_sums.specs.Sum.{rowSumOf};
 use integer::magnitude;
 
 // Term j of a sum: sum + |a|, where a is number j of the row that starts at place row, by way of the place that was carried to it.
-fn add_size(sum: u64, matrix: &[i64], row: usize, place: usize, j: usize) -> u64
+fn add_magnitude(sum: u64, matrix: &[i64], row: usize, place: usize, j: usize) -> u64
     requires { ⌜ Carried row 1 j place ⌝ }
     requires { ⌜ (row + j < length (now matrix)) × (natAbs (at (now matrix) (row + j)) ≤ 2 ^ 20) ⌝ }
     requires { ⌜ sum ≤ 2 ^ 62 ⌝ }
@@ -30,7 +30,7 @@ fn row_sum(matrix: &[i64], k: usize, row: usize, n: usize) -> u64
     let mut sum: u64 = 0;
     let mut place = row;
     for j in 0..n {
-        sum = add_size(sum, matrix, row, place, j);
+        sum = add_magnitude(sum, matrix, row, place, j);
         place += 1;
     }
     sum

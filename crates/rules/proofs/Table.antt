@@ -52,15 +52,15 @@ index-below LineWeight = omega arith
 
 pub record GoodRange (r : Range) : Type 0 where
   pub ordered : leZ (r .lowest) (r .highest) ≡ true
-  pub low-size : natAbs (r .lowest) ≤ 2 ^ 36
-  pub high-size : natAbs (r .highest) ≤ 2 ^ 36
+  pub low-magnitude : natAbs (r .lowest) ≤ 2 ^ 36
+  pub high-magnitude : natAbs (r .highest) ≤ 2 ^ 36
 
 goodness : (r : Range) → goodRange r ≡ true → GoodRange r
 unfolding goodRange
 goodness r e = record {
   ordered = both-left (leZ (r .lowest) (r .highest)) _ e;
-  low-size = leb-true _ _ (both-left (leb (natAbs (r .lowest)) (2 ^ 36)) _ (both-right (leZ (r .lowest) (r .highest)) _ e));
-  high-size = leb-true _ _ (both-right (leb (natAbs (r .lowest)) (2 ^ 36)) _ (both-right (leZ (r .lowest) (r .highest)) _ e));
+  low-magnitude = leb-true _ _ (both-left (leb (natAbs (r .lowest)) (2 ^ 36)) _ (both-right (leZ (r .lowest) (r .highest)) _ e));
+  high-magnitude = leb-true _ _ (both-right (leb (natAbs (r .lowest)) (2 ^ 36)) _ (both-right (leZ (r .lowest) (r .highest)) _ e));
 }
 
 pub range-good : (k : Kind) → GoodRange (rangeOf k)

@@ -4,12 +4,12 @@ use crate::held::less_where;
 use crate::held::marked;
 use crate::held::marked_matrix;
 use crate::lent::build_first;
+use crate::print::magnitude_of;
 use crate::print::print_column;
 use crate::print::print_matrix;
 use crate::print::print_number;
 use crate::print::print_refusal;
 use crate::print::print_text;
-use crate::print::size_of;
 use equations::Layout;
 use numeral::Number;
 use observation::Built;
@@ -62,11 +62,11 @@ fn natural(x: i64) -> u32 {
     if x < 0 {
         return 0;
     }
-    let size = size_of(x);
-    if size > 4294967295 {
+    let magnitude = magnitude_of(x);
+    if magnitude > 4294967295 {
         return 4294967295;
     }
-    size as u32
+    magnitude as u32
 }
 
 fn line_from(text: &[u8], at: usize) -> Placed {

@@ -48,10 +48,10 @@ pub fn print_signed(x: i64) {
     } else {
         print_text(b" ");
     }
-    print_number(size_of(x));
+    print_number(magnitude_of(x));
 }
 
-pub fn size_of(x: i64) -> u64 {
+pub fn magnitude_of(x: i64) -> u64 {
     if x < -9223372036854775807 {
         return 9223372036854775808;
     }

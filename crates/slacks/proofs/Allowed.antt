@@ -1,6 +1,6 @@
 -- Laws of what is allowed of a residual.
---   slack-size    — S·d is at most 2^40
---   allowed-size  — what is allowed is at most 2^25 in size
+--   slack-magnitude — S·d is at most 2^40
+--   allowed-magnitude — what is allowed is at most 2^25 in size
 --   allowed-test  — a residual z is above what is allowed exactly where |z| + σ is above 2^25, or |z| above the sum along its row: |z| + σ is not formed
 use mathlib.Core.Path.{_≡_, refl, sym, ap, _∙_}
 use mathlib.Core.Bool.{Bool, true, false, _||_, cond}
@@ -12,14 +12,14 @@ use lib.Dec.{ltb, lit≤}
 use lib.IntN.{ℤ, pos, negsuc, natAbs}
 use Rattle.enclosure.specs.Reckoning.{allowedResidual}
 use Rattle.reckoning.specs.Parts.{aboveAllowed}
-use Rattle.reckoning.proofs.Sizes.{power-size}
+use Rattle.reckoning.proofs.Magnitudes.{power-magnitude}
 use Rattle.slacks.specs.Allowed.{slackAt, allowedBeside}
 
-pub slack-size : (s : ℕ) (d : ℤ) → s ≤ 20 → natAbs d ≤ 2 ^ 20 → slackAt s d ≤ 2 ^ 40
-slack-size s d h k = le-trans (mul-le-mul (power-size s h) k) (lit≤ tt)
+pub slack-magnitude : (s : ℕ) (d : ℤ) → s ≤ 20 → natAbs d ≤ 2 ^ 20 → slackAt s d ≤ 2 ^ 40
+slack-magnitude s d h k = le-trans (mul-le-mul (power-magnitude s h) k) (lit≤ tt)
 
-pub allowed-size : (σ m : ℕ) → natAbs (allowedBeside σ m) ≤ allowedResidual
-allowed-size σ m = go (ltb allowedResidual σ)
+pub allowed-magnitude : (σ m : ℕ) → natAbs (allowedBeside σ m) ≤ allowedResidual
+allowed-magnitude σ m = go (ltb allowedResidual σ)
   where
     go : (x : Bool) → natAbs (cond x (negsuc 0) (pos (min (allowedResidual - σ) m))) ≤ allowedResidual
     go true = lit≤ tt

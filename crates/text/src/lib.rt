@@ -42,10 +42,10 @@ pub fn put_integer(out: &mut [u8], at: usize, z: i64) -> usize
     requires { ⌜ (natAbs z < 2 ^ 63) × (at + 20 ≤ length (now out)) ⌝ }
     ensures { λ r. ⌜ Wrote 20 (now (out .entry)) at (numeral z) (now (out .exit)) r ⌝ }
 {
-    let size = integer::magnitude(z);
+    let magnitude = integer::magnitude(z);
     if z < 0 {
         out[at] = b'-';
-        return put_digits(out, at + 1, size);
+        return put_digits(out, at + 1, magnitude);
     }
-    put_digits(out, at, size)
+    put_digits(out, at, magnitude)
 }

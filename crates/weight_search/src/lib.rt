@@ -17,7 +17,7 @@ use ranges::are_sizes_in_range;
 use rules::Refusal;
 use weight_sequence::Found;
 use weight_sequence::is_short;
-use weight_steps::defect_sizes;
+use weight_steps::defect_magnitudes;
 use weight_steps::is_good;
 use weight_steps::loads_of;
 use weight_steps::next_weights;
@@ -36,11 +36,11 @@ fn search(t: u32, matrix: &[i64], inverse: &[i64], n: usize, allowance: u32) -> 
     requires { ⌜ MatrixList (now matrix) n × MatrixList (now inverse) n ⌝ }
     ensures { λ r. ⌜ SearchedTo (problemOf n 0 t (now (matrix .entry)) [] [] [] (now (inverse .entry)) []) allowance r ⌝ }
 {
-    let sizes = defect_sizes(t, matrix, inverse, n);
+    let magnitudes = defect_magnitudes(t, matrix, inverse, n);
     let mut weights = [1u64; 32];
     let mut passed = 0;
     while passed < allowance {
-        let loads = loads_of(&sizes, &weights, n);
+        let loads = loads_of(&magnitudes, &weights, n);
         if is_good(t, &loads, &weights, n) {
             return Last { passed, weights };
         }

@@ -1,7 +1,7 @@
 pub mod Cases
 pub mod Bits
 pub mod Lists
-pub mod Sizes
+pub mod Magnitudes
 pub mod First
 pub mod Listed
 pub mod Contract

@@ -29,7 +29,7 @@ use Rattle.weight_sequence.specs.Search.{saidFound, countOf, passed, sea
 use Rattle.weight_sequence.specs.Promised.{UsableRequest, SearchStated, is-8, is-3, is-18, is-0, PlaceOfFirstGood, NoGood, allowing}
 use Rattle.weight_sequence.proofs.Contract.{fit-request, answer-short, answer-range, answer-found, answer-none}
 use Rattle.weight_sequence.proofs.First as first
-use Rattle.weight_sequence.proofs.Sizes.{tried-load}
+use Rattle.weight_sequence.proofs.Magnitudes.{tried-load}
 
 -- ---- what was said tells which case it was
 pub search-stated : (Q : Request) → SearchStated Q (searchAnswer Q)
@@ -112,8 +112,8 @@ sums-fit Q u =
     (record {
       few = f .few;
       scale = f .scale;
-      matrix = λ i j li lj. f .matrix .within .size (i * Q .n + j) (place li lj);
-      inverse = λ i j li lj. f .inverse .within .size (i * Q .n + j) (place li lj);
+      matrix = λ i j li lj. f .matrix .within .magnitudes (i * Q .n + j) (place li lj);
+      inverse = λ i j li lj. f .inverse .within .magnitudes (i * Q .n + j) (place li lj);
     })
 
 -- ---- a larger allowance

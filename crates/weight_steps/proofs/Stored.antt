@@ -1,5 +1,5 @@
 -- What the arrays of a step hold is what the sequence says.
---   sizes-at, sizes-below — what `defect_sizes` gives is |D|, column after column, each at most 2^46
+--   magnitudes-at, magnitudes-below — what `defect_magnitudes` gives is |D|, column after column, each at most 2^46
 --   below-of  — the weights of a list of the sequence are at most 1,024
 --   load-is, good-is, next-is — the sums, the test and the next list;  ones — list 1
 use mathlib.Core.Path.{_≡_, sym, ap, ap₂, _∙_}
@@ -20,7 +20,7 @@ use Rattle.enclosure.proofs.Margin.{cut-test, margin-test}
 use Rattle.reckoning.specs.Arrays.{Begins}
 use Rattle.reckoning.specs.Parts.{columnResidual}
 use Rattle.reckoning.proofs.Columns.{in-square}
-use Rattle.reckoning.proofs.Sizes.{residual-exchanged, residual-size}
+use Rattle.reckoning.proofs.Magnitudes.{residual-exchanged, residual-magnitude}
 use Rattle.weight_sequence.specs.Sequence.{weighted, loads, bits, next, tried, good}
 use Rattle.weight_sequence.proofs.Lists.{tried-first, tried-high}
 use Rattle.weight_steps.specs.Steps.{Below, storedLoad, storedMargin, shiftedNext}
@@ -31,22 +31,22 @@ module _ (n t : ℕ) (matrix inverse : List ℤ) where
   P = problemOf n 0 t matrix [] [] [] inverse []
 
   module _ (ht : t ≤ 20) (few : n ≤ 32) (hm : MatrixList matrix n) (hi : MatrixList inverse n) where
-    pub sizes-at : {sizes : List ℕ} → Begins 0 sizes (n * n) (λ (i : ℕ). natAbs (columnResidual n t inverse matrix (i / n) (i % n))) →
-        (m j : ℕ) → m < n → j < n → getD sizes (j * n + m) 0 ≡ natAbs (defect P m j)
-    sizes-at h m j lm lj = h .each (j * n + m) (place lj lm) ∙ rw (place-column j m n lm, place-row j m n lm) (ap natAbs (residual-exchanged n t inverse matrix j m))
+    pub magnitudes-at : {magnitudes : List ℕ} → Begins 0 magnitudes (n * n) (λ (i : ℕ). natAbs (columnResidual n t inverse matrix (i / n) (i % n))) →
+        (m j : ℕ) → m < n → j < n → getD magnitudes (j * n + m) 0 ≡ natAbs (defect P m j)
+    magnitudes-at h m j lm lj = h .each (j * n + m) (place lj lm) ∙ rw (place-column j m n lm, place-row j m n lm) (ap natAbs (residual-exchanged n t inverse matrix j m))
 
-    pub sizes-below : {sizes : List ℕ} → Begins 0 sizes (n * n) (λ (i : ℕ). natAbs (columnResidual n t inverse matrix (i / n) (i % n))) → Below sizes (n * n) (2 ^ 46)
-    sizes-below h = record { each = λ i l. rw (h .each i l) (residual-size n t inverse matrix ht few hi hm (i / n) (i % n) (in-square n i l .0) (in-square n i l .1)) }
+    pub magnitudes-below : {magnitudes : List ℕ} → Begins 0 magnitudes (n * n) (λ (i : ℕ). natAbs (columnResidual n t inverse matrix (i / n) (i % n))) → Below magnitudes (n * n) (2 ^ 46)
+    magnitudes-below h = record { each = λ i l. rw (h .each i l) (residual-magnitude n t inverse matrix ht few hi hm (i / n) (i % n) (in-square n i l .0) (in-square n i l .1)) }
 
 -- ---- one step of the sequence
 pub below-of : {xs : List ℕ} (P : Problem) (k : ℕ) → Begins 0 xs (P .n) (tried P k) → Below xs (P .n) 1024
 below-of P k h = record { each = λ i l. rw (h .each i l) (tried-high P k i l) }
 
 module _ (P : Problem) (w : ℕ → ℕ) {weights : List ℕ} (hw : Begins 0 weights (P .n) w) where
-  pub load-is : (sizes : List ℕ) → ((m j : ℕ) → m < P .n → j < P .n → getD sizes (j * P .n + m) 0 ≡ natAbs (defect P m j)) →
-      (m : ℕ) → m < P .n → storedLoad (P .n) sizes weights m ≡ loads P w m
+  pub load-is : (magnitudes : List ℕ) → ((m j : ℕ) → m < P .n → j < P .n → getD magnitudes (j * P .n + m) 0 ≡ natAbs (defect P m j)) →
+      (m : ℕ) → m < P .n → storedLoad (P .n) magnitudes weights m ≡ loads P w m
   unfolding load defect
-  load-is sizes hs m lm = sumℕ-ext (P .n) _ _ (λ j lj. ap₂ (λ (x y : ℕ). x * y) (hs m j lm lj) (hw .each j lj))
+  load-is magnitudes hs m lm = sumℕ-ext (P .n) _ _ (λ j lj. ap₂ (λ (x y : ℕ). x * y) (hs m j lm lj) (hw .each j lj))
 
   module _ {sums : List ℕ} (hu : Begins 0 sums (P .n) (loads P w)) where
     pub good-is : leb (P .n) (first (P .n) (λ (m : ℕ). eqb (storedMargin (P .t) sums weights m) 0)) ≡ good P w

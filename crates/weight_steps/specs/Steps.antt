@@ -1,6 +1,6 @@
 -- One step of the sequence on arrays; cited by contracts inside.
 --   Below xs n b — the first n numbers are at most b
---   storedLoad n sizes weights m — the sum over j of |D_mj|·w_j, |D| column after column
+--   storedLoad n magnitudes weights m — the sum over j of |D_mj|·w_j, |D| column after column
 --   storedMargin t loads weights m — the margin of row m in ℕ: 0 where it is 0 or less
 --   shiftedNext n loads i — the next list from the sums of all rows
 use mathlib.Core.List.{List}
@@ -13,7 +13,7 @@ pub record Below (xs : List ℕ) (n b : ℕ) : Type 0 where
   pub each : (i : ℕ) → i < n → getD xs i 0 ≤ b
 
 abbrev pub storedLoad : ℕ → List ℕ → List ℕ → ℕ → ℕ
-storedLoad n sizes weights m = sumℕ n (λ (j : ℕ). getD sizes (j * n + m) 0 * getD weights j 0)
+storedLoad n magnitudes weights m = sumℕ n (λ (j : ℕ). getD magnitudes (j * n + m) 0 * getD weights j 0)
 
 abbrev pub storedMargin : ℕ → List ℕ → List ℕ → ℕ → ℕ
 storedMargin t loads weights m = 2 ^ t * getD weights m 0 - getD loads m 0

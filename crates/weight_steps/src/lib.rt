@@ -20,7 +20,7 @@ use raised_rows::ROWS_LENGTH;
 use raised_rows::raise_rows;
 
 // |D|, column after column: T·I − G·A is what the residuals of an inverse are with the two matrices exchanged.
-pub fn defect_sizes(t: u32, matrix: &[i64], inverse: &[i64], n: usize) -> [u64; 1024]
+pub fn defect_magnitudes(t: u32, matrix: &[i64], inverse: &[i64], n: usize) -> [u64; 1024]
     requires { ⌜ (t ≤ 20) × (n ≤ 32) ⌝ }
     requires { ⌜ MatrixList (now matrix) n × MatrixList (now inverse) n ⌝ }
     ensures { λ r. ⌜ Begins 0 r (n * n) (λ (i : ℕ). natAbs (columnResidual n t (now (inverse .entry)) (now (matrix .entry)) (i / n) (i % n))) ⌝ }
@@ -47,7 +47,7 @@ fn weigh(sum: u64, d: u64, w: u64) -> u64
 // Term j of a sum, where d is number m of column j of |D|, by way of the place that was carried to it.
 fn weigh_at(
     sum: u64,
-    sizes: &[u64; 1024],
+    magnitudes: &[u64; 1024],
     n: usize,
     m: usize,
     place: usize,
@@ -55,37 +55,37 @@ fn weigh_at(
     j: usize,
 ) -> u64
     requires { ⌜ Carried m n j place ⌝ }
-    requires { ⌜ (j * n + m < 1024) × (getD (now sizes) (j * n + m) 0 ≤ 2 ^ 46) ⌝ }
+    requires { ⌜ (j * n + m < 1024) × (getD (now magnitudes) (j * n + m) 0 ≤ 2 ^ 46) ⌝ }
     requires { ⌜ (sum ≤ 2 ^ 62) × (w ≤ 1024) ⌝ }
-    ensures { λ r. ⌜ r ≡ sum + getD (now (sizes .entry)) (j * n + m) 0 * w ⌝ }
+    ensures { λ r. ⌜ r ≡ sum + getD (now (magnitudes .entry)) (j * n + m) 0 * w ⌝ }
 {
-    weigh(sum, sizes[place], w)
+    weigh(sum, magnitudes[place], w)
 }
 
 // The sum over j of |D_mj|·w_j; the place is carried from column to column.
-fn load_of(sizes: &[u64; 1024], weights: &[u64; 32], n: usize, m: usize) -> u64
+fn load_of(magnitudes: &[u64; 1024], weights: &[u64; 32], n: usize, m: usize) -> u64
     requires { ⌜ (n ≤ 32) × (m < n) ⌝ }
-    requires { ⌜ Below (now sizes) (n * n) (2 ^ 46) × Below (now weights) n 1024 ⌝ }
-    ensures { λ r. ⌜ r ≡ storedLoad n (now (sizes .entry)) (now (weights .entry)) m ⌝ }
+    requires { ⌜ Below (now magnitudes) (n * n) (2 ^ 46) × Below (now weights) n 1024 ⌝ }
+    ensures { λ r. ⌜ r ≡ storedLoad n (now (magnitudes .entry)) (now (weights .entry)) m ⌝ }
 {
     let mut sum: u64 = 0;
     let mut place = m;
     for j in 0..n {
-        sum = weigh_at(sum, sizes, n, m, place, weights[j], j);
+        sum = weigh_at(sum, magnitudes, n, m, place, weights[j], j);
         place += n;
     }
     sum
 }
 
 // The sums of all rows.
-pub fn loads_of(sizes: &[u64; 1024], weights: &[u64; 32], n: usize) -> [u64; 32]
+pub fn loads_of(magnitudes: &[u64; 1024], weights: &[u64; 32], n: usize) -> [u64; 32]
     requires { ⌜ n ≤ 32 ⌝ }
-    requires { ⌜ Below (now sizes) (n * n) (2 ^ 46) × Below (now weights) n 1024 ⌝ }
-    ensures { λ r. ⌜ Begins 0 r n (storedLoad n (now (sizes .entry)) (now (weights .entry))) ⌝ }
+    requires { ⌜ Below (now magnitudes) (n * n) (2 ^ 46) × Below (now weights) n 1024 ⌝ }
+    ensures { λ r. ⌜ Begins 0 r n (storedLoad n (now (magnitudes .entry)) (now (weights .entry))) ⌝ }
 {
     let mut out = [0u64; 32];
     for m in 0..n {
-        out[m] = load_of(sizes, weights, n, m);
+        out[m] = load_of(magnitudes, weights, n, m);
     }
     out
 }

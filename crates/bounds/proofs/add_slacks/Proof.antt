@@ -19,11 +19,11 @@ use Rattle.bounds.proofs.add_slacks.Statement.{statement}
 use Rattle.bounds.proofs.add_slacks.Tie as tie
 
 abbrev Inv-loop : tie.InvT-loop
-Inv-loop rows slacks n sizes out₀ row₀ m₀ out row m =
-    (m ≤ n) × (Carried 0 (n + 1) m row × ((length out ≡ 32) × Begins 0 out m (λ (i : ℕ). getD sizes i 0 + sumℕ n (λ (j : ℕ). natAbs (loweredRows rows n i j) * getD slacks j 0))))
+Inv-loop rows slacks n magnitudes out₀ row₀ m₀ out row m =
+    (m ≤ n) × (Carried 0 (n + 1) m row × ((length out ≡ 32) × Begins 0 out m (λ (i : ℕ). getD magnitudes i 0 + sumℕ n (λ (j : ℕ). natAbs (loweredRows rows n i j) * getD slacks j 0))))
 
 abbrev μ-loop : tie.MeasureT-loop
-μ-loop rows slacks n sizes out₀ row₀ m₀ out row m = n - m
+μ-loop rows slacks n magnitudes out₀ row₀ m₀ out row m = n - m
 
 abbrev start : tie.In-loop Inv-loop μ-loop → tie.Start Inv-loop μ-loop
 start t = t .before .before .before .before .before

@@ -5,10 +5,10 @@ use lib.ListN.{getD, length}
 use Rattle.linear.specs.Slice.{at}
 use Rattle.raised_rows.specs.Raised.{RowOf}
 use Rattle.raised_rows.proofs.Lowering.{row-as}
-use Rattle.enclosure.specs.Reckoning.{sizesWith}
+use Rattle.enclosure.specs.Reckoning.{magnitudesWith}
 use Rattle.reckoning.specs.Arrays.{Begins}
 use Rattle.bounds.specs.Limits.{inversePart}
-use Rattle.bounds.proofs.Column.{image-size, slack-sizes, sizes-small, slack-near, near-reach, bounds-of-sizes}
+use Rattle.bounds.proofs.Column.{image-magnitude, slack-magnitudes, magnitudes-small, slack-near, near-reach, bounds-of-magnitudes}
 use borrow.Author.Needs.{needs}
 use Rattle.bounds.proofs.column_bounds.Statement.{statement}
 use Rattle.bounds.proofs.column_bounds.Tie as tie
@@ -20,19 +20,19 @@ begun r = r .before .before .before .before
 long : (c : tie.After-raise-row-arg) → length (c .before .before .before .args .residuals .now) ≡ 32
 long c = search needs
 
-abbrev start : tie.After-sizes-of → tie.Start
+abbrev start : tie.After-magnitudes-of → tie.Start
 start c = begun (c .before .before .before)
 
-row-is : (c : tie.After-sizes-of) → RowOf (c .before .before .before .raise-row .last .0) (0 * (start c .args .n + 1)) (start c .args .n) (at (start c .args .residuals .now))
+row-is : (c : tie.After-magnitudes-of) → RowOf (c .before .before .before .raise-row .last .0) (0 * (start c .args .n + 1)) (start c .args .n) (at (start c .args .residuals .now))
 row-is c =
     let first : 0 * (start c .args .n + 1) ≡ 0 = omega arith in
     rw first (row-as _ (λ k l. let e : 0 + k * 1 ≡ k = omega arith in rw e) (c .before .before .before .raise-row .ensures .0))
 
-sizes-are : (c : tie.After-add-slacks) →
-    Begins 0 (c .add-slacks .result) (start (c .before) .args .n) (sizesWith (inversePart (start (c .before) .args .n) (start (c .before) .args .rows .now)) (at (start (c .before) .args .residuals .now)) (λ (k : ℕ). getD (start (c .before) .args .slacks .now) k 0))
-sizes-are c =
+magnitudes-are : (c : tie.After-add-slacks) →
+    Begins 0 (c .add-slacks .result) (start (c .before) .args .n) (magnitudesWith (inversePart (start (c .before) .args .n) (start (c .before) .args .rows .now)) (at (start (c .before) .args .residuals .now)) (λ (k : ℕ). getD (start (c .before) .args .slacks .now) k 0))
+magnitudes-are c =
     let z = c .before in
-    slack-sizes (start z .args .n) (start z .pre .1 .0 .rows) (row-is z) (λ (k : ℕ). getD (start z .args .slacks .now) k 0) (z .sizes-of .ensures) (c .add-slacks .ensures)
+    slack-magnitudes (start z .args .n) (start z .pre .1 .0 .rows) (row-is z) (λ (k : ℕ). getD (start z .args .slacks .now) k 0) (z .magnitudes-of .ensures) (c .add-slacks .ensures)
 
 slice-aggregate-raise-row : tie.Need-slice-aggregate-raise-row
 slice-aggregate-raise-row c = search needs
@@ -42,11 +42,11 @@ raise-row-requires c κs =
     let s = c .before .before .before in
     ((s .pre .0 .1, (omega (arith, s .pre .0 .1), omega (arith, s .pre .0 .1))), near-reach (s .pre .1 .1 .0) (omega (arith, s .pre .0 .1, long c)))
 
-slice-aggregate-sizes-of : tie.Need-slice-aggregate-sizes-of
-slice-aggregate-sizes-of c = search needs
+slice-aggregate-magnitudes-of : tie.Need-slice-aggregate-magnitudes-of
+slice-aggregate-magnitudes-of c = search needs
 
-sizes-of-requires : tie.Need-sizes-of-requires
-sizes-of-requires c κs =
+magnitudes-of-requires : tie.Need-magnitudes-of-requires
+magnitudes-of-requires c κs =
     let r = c .before .before in
     let s = begun r in
     let first : 0 * (s .args .n + 1) ≡ 0 = omega arith in (s .pre .0 .1, (s .pre .1 .0 .rows, rw first (r .raise-row .ensures .0 .row)))
@@ -54,16 +54,16 @@ sizes-of-requires c κs =
 add-slacks-requires : tie.Need-add-slacks-requires
 add-slacks-requires c κs =
     let s = start c in
-    (s .pre .0 .1, (s .pre .1 .0 .rows, (slack-near (s .pre .1 .1 .0), image-size (s .args .n) (s .pre .1 .0 .rows) (row-is c) (s .pre .0 .1) (c .sizes-of .ensures))))
+    (s .pre .0 .1, (s .pre .1 .0 .rows, (slack-near (s .pre .1 .1 .0), image-magnitude (s .args .n) (s .pre .1 .0 .rows) (row-is c) (s .pre .0 .1) (c .magnitudes-of .ensures))))
 
 bounds-of-requires : tie.Need-bounds-of-requires
 bounds-of-requires c κs =
     let a = c .before in
     let s = start (a .before) in
-    (s .pre .0, (sizes-small (s .pre .0 .1) (s .pre .1 .0) (s .pre .1 .1 .0) (sizes-are a), s .pre .1 .1 .1))
+    (s .pre .0, (magnitudes-small (s .pre .0 .1) (s .pre .1 .0) (s .pre .1 .1 .0) (magnitudes-are a), s .pre .1 .1 .1))
 
 returns : tie.Need-returns
-returns c = bounds-of-sizes _ _ _ _ _ (sizes-are (c .before .before)) (c .bounds-of .ensures)
+returns c = bounds-of-magnitudes _ _ _ _ _ (magnitudes-are (c .before .before)) (c .bounds-of .ensures)
 
 pub column-bounds-spec : {M : Type 1} → statement M
 column-bounds-spec =
@@ -71,8 +71,8 @@ column-bounds-spec =
     (tie.spec
     slice-aggregate-raise-row
     raise-row-requires
-    slice-aggregate-sizes-of
-    sizes-of-requires
+    slice-aggregate-magnitudes-of
+    magnitudes-of-requires
     add-slacks-requires
     bounds-of-requires
     returns)

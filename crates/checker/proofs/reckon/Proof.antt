@@ -6,16 +6,16 @@ use Rattle.checker.proofs.reckon.Statement.{statement}
 use Rattle.checker.proofs.reckon.Tie as tie
 
 -- stages on the way: the test of n, from the lists of either length, and the reckoning, from where they are back
-abbrev few : tie.After-sizes → tie.Then1
+abbrev few : tie.After-magnitudes → tie.Then1
 few c = c .before .before .before .before
 
-abbrev many : tie.After-sizes3 → tie.Else1
+abbrev many : tie.After-magnitudes3 → tie.Else1
 many c = c .before .before .before .before
 
-abbrev reckoned : tie.After-sizes2 → tie.After-reckon-in
+abbrev reckoned : tie.After-magnitudes2 → tie.After-reckon-in
 reckoned c = c .before .before .before .before
 
-abbrev reckoned2 : tie.After-sizes4 → tie.After-reckon-in2
+abbrev reckoned2 : tie.After-magnitudes4 → tie.After-reckon-in2
 reckoned2 c = c .before .before .before .before
 
 -- lists for k rows have room for fewer

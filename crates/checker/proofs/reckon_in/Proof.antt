@@ -7,7 +7,7 @@ use lib.ListN.{length}
 use Rattle.linear.proofs.Places.{square}
 use Rattle.reckoning.specs.Arrays.{Begins}
 use Rattle.reckoning.specs.Rows.{InverseRows}
-use Rattle.reckoning.proofs.Sizes.{raisable}
+use Rattle.reckoning.proofs.Magnitudes.{raisable}
 use Rattle.checker.specs.Work.{Work, work}
 use Rattle.checker.proofs.Outcome.{WorkedOut, refused, positive-here, weighed-here, near-here, columns-here, accepted-here}
 use Rattle.checker.proofs.Rows.{inverse-rows, workColumn, margins-are, columns-are}

@@ -16,18 +16,18 @@ abbrev start : tie.After-magnitude → tie.Start
 start c = c .before .before
 
 -- the size of number j, at the place that was carried to it
-size-is : (c : tie.After-magnitude) →
+magnitude-is : (c : tie.After-magnitude) →
     c .magnitude .result ≡ natAbs (at (start c .args .coupling .now) (start c .args .row + start c .args .j))
-size-is c = rw (read _ (c .before .magnitude-arg .given), unit-place (start c .pre .0)) at (c .magnitude .ensures)
+magnitude-is c = rw (read _ (c .before .magnitude-arg .given), unit-place (start c .pre .0)) at (c .magnitude .ensures)
 
 product-is : (c : tie.After-capped) →
     c .before .magnitude .result * c .capped .result
     ≡ natAbs (at (start (c .before) .args .coupling .now) (start (c .before) .args .row + start (c .before) .args .j))
     * min (start (c .before) .args .limit) limitCap
-product-is c = ap₂ (λ (x y : ℕ). x * y) (size-is (c .before)) (c .capped .ensures)
+product-is c = ap₂ (λ (x y : ℕ). x * y) (magnitude-is (c .before)) (c .capped .ensures)
 
-product-size : (c : tie.After-capped) → c .before .magnitude .result * c .capped .result ≤ 2 ^ 20 * limitCap
-product-size c =
+product-magnitude : (c : tie.After-capped) → c .before .magnitude .result * c .capped .result ≤ 2 ^ 20 * limitCap
+product-magnitude c =
     let s = start (c .before) in
     let b : min (s .args .limit) limitCap ≤ limitCap = omega arith in rw (product-is c) (mul-le-mul (s .pre .1 .0 .1) b)
 
@@ -45,10 +45,10 @@ capped-requires : tie.Need-capped-requires
 capped-requires c κs = search needs
 
 mul-result : tie.Need-mul-result
-mul-result c = omega (arith, product-size c)
+mul-result c = omega (arith, product-magnitude c)
 
 add-result : tie.Need-add-result
-add-result c = omega (arith, product-size c, start (c .before) .pre .1 .1)
+add-result c = omega (arith, product-magnitude c, start (c .before) .pre .1 .1)
 
 returns : tie.Need-returns
 returns c = rw (product-is c)

@@ -36,7 +36,7 @@ base-at-requires c κs =
     let t = c .before in
     let s = t .before .before in
     let l = t .before .loop in (
-      (s .pre .0 .0, (omega (arith, t .loop-test .taken, s .pre .0 .1), rw (read _ (c .base-at-arg .given)) (s .pre .1 .0 .within .size (l .k) (t .loop-test .taken)))),
+      (s .pre .0 .0, (omega (arith, t .loop-test .taken, s .pre .0 .1), rw (read _ (c .base-at-arg .given)) (s .pre .1 .0 .within .magnitudes (l .k) (t .loop-test .taken)))),
       (l .inv .1 .0, (row-reach (s .pre .1 .1 .0) (l .k) (t .loop-test .taken), s .pre .1 .1 .1)),
     )
 

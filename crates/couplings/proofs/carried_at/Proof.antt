@@ -9,7 +9,7 @@ use Rattle.linear.specs.Place.{Carried}
 use Rattle.linear.specs.Slice.{matrixOf}
 use Rattle.linear.proofs.Carried.{start-place, row-place, carried, carried-first, carried-next}
 use Rattle.couplings.specs.Carried.{limitCap}
-use Rattle.couplings.proofs.Rows.{row-past, carried-size}
+use Rattle.couplings.proofs.Rows.{row-past, carried-magnitude}
 use borrow.Author.Needs.{needs}
 use Rattle.couplings.proofs.carried_at.Statement.{statement}
 use Rattle.couplings.proofs.carried_at.Tie as tie
@@ -39,8 +39,8 @@ add-carried-requires c κs =
     let e = row-place (s .args .marks) (s .args .k) (carried (s .args .k * s .args .marks) 1 (l .j)) in (
       l .inv .1 .0,
       (
-        (rw (start-place (s .pre .1 .0)) (rw e at (h .inside (l .j) (t .loop-test .taken))), rw (start-place (s .pre .1 .0)) (rw e at (h .size (l .j) (t .loop-test .taken)))),
-        omega (arith, l .inv .1 .1, carried-size (s .args .k) (s .pre .0 .0) h (s .args .limits .now) (l .j) (l .inv .0)),
+        (rw (start-place (s .pre .1 .0)) (rw e at (h .inside (l .j) (t .loop-test .taken))), rw (start-place (s .pre .1 .0)) (rw e at (h .magnitudes (l .j) (t .loop-test .taken)))),
+        omega (arith, l .inv .1 .1, carried-magnitude (s .args .k) (s .pre .0 .0) h (s .args .limits .now) (l .j) (l .inv .0)),
       ),
     )
 

@@ -8,7 +8,7 @@ use Rattle.reckoning.specs.Arrays.{Begins}
 use Rattle.reckoning.proofs.Filled.{begins-none, begins-more, begins-end}
 use Rattle.couplings.specs.Carried.{cappedSum}
 use Rattle.linear.proofs.Places.{row-reach}
-use Rattle.couplings.proofs.Rows.{row-past, carried-size}
+use Rattle.couplings.proofs.Rows.{row-past, carried-magnitude}
 use borrow.Author.Needs.{needs}
 use Rattle.couplings.proofs.slacks_with.Statement.{statement}
 use Rattle.couplings.proofs.slacks_with.Tie as tie
@@ -42,7 +42,7 @@ add-out c =
     let s = t .before .before in
     let l = t .before .loop in
     rw (c .carried-at .ensures)
-    (omega (arith, carried-size (l .k) (s .pre .0 .0) (row-reach (s .pre .1 .1) (l .k) (t .loop-test .taken)) (s .args .t3) (s .args .marks) (omega arith), s .pre .1 .0 (l .k) (t .loop-test .taken)))
+    (omega (arith, carried-magnitude (l .k) (s .pre .0 .0) (row-reach (s .pre .1 .1) (l .k) (t .loop-test .taken)) (s .args .t3) (s .args .marks) (omega arith), s .pre .1 .0 (l .k) (t .loop-test .taken)))
 
 mul-out-2 : tie.Need-mul-out-2 Inv-loop μ-loop
 mul-out-2 c = search needs

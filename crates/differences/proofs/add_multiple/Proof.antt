@@ -23,8 +23,8 @@ add-row-requires : tie.Need-add-row-requires
 add-row-requires c κs =
     let s = c .before .before .before .before .before in
     let half = rw (x-is s) at (c .before .half-of .ensures) in
-    let size = rw (x-is s) at (c .magnitude .ensures) in (
-      (rw half (half-ends (s .args .x) (s .pre .0 .0)), omega (arith, size, s .pre .0 .1)),
+    let magnitude-is = rw (x-is s) at (c .magnitude .ensures) in (
+      (rw half (half-ends (s .args .x) (s .pre .0 .0)), omega (arith, magnitude-is, s .pre .0 .1)),
       (rw (start-place (s .pre .1 .0)) (s .pre .1 .1 .0), rw half (half-room (s .args .x) (s .pre .1 .1 .1 .1 .0) (s .pre .1 .1 .1 .1 .1))),
     )
 
@@ -33,8 +33,8 @@ returns c =
     let h = c .before .before in
     let s = h .before .before .before .before in
     let half = rw (x-is s) at (h .half-of .ensures) in
-    let size = rw (x-is s) at (c .before .magnitude .ensures) in
-    rw (c .add-row .ensures, half, size, start-place (s .pre .1 .0)) (added-row _ _ (s .pre .0 .0) (s .pre .1 .1 .1 .0) _ (s .args .x))
+    let magnitude-is = rw (x-is s) at (c .before .magnitude .ensures) in
+    rw (c .add-row .ensures, half, magnitude-is, start-place (s .pre .1 .0)) (added-row _ _ (s .pre .0 .0) (s .pre .1 .1 .1 .0) _ (s .args .x))
 
 returns-2 : tie.Need-returns-2
 returns-2 c = rw (sym (x-is (c .before .before)) ∙ ap (toZ w64) (c .if1 .left)) (added-none _ _ _)

@@ -12,11 +12,11 @@ use Rattle.differences.proofs.add_row.Statement.{statement}
 use Rattle.differences.proofs.add_row.Tie as tie
 
 abbrev Inv-loop : tie.InvT-loop
-Inv-loop sums₀ half size rows row n place₀ to₀ j₀ sums place to j =
-    (j ≤ n) × ((Carried row 1 j place × Carried half 1 j to) × (sums ≡ written sums₀ half 1 (λ (i : ℕ). getD sums₀ (half + i) 0 + size * getD rows (row + i) 0) j))
+Inv-loop sums₀ half magnitude rows row n place₀ to₀ j₀ sums place to j =
+    (j ≤ n) × ((Carried row 1 j place × Carried half 1 j to) × (sums ≡ written sums₀ half 1 (λ (i : ℕ). getD sums₀ (half + i) 0 + magnitude * getD rows (row + i) 0) j))
 
 abbrev μ-loop : tie.MeasureT-loop
-μ-loop sums₀ half size rows row n place₀ to₀ j₀ sums place to j = n - j
+μ-loop sums₀ half magnitude rows row n place₀ to₀ j₀ sums place to j = n - j
 
 -- the start, from the turn
 abbrev start : tie.In-loop Inv-loop μ-loop → tie.Start Inv-loop μ-loop
@@ -75,7 +75,7 @@ loop-again c =
       (
         (carried-next (l .inv .1 .0 .0), carried-next (l .inv .1 .0 .1)),
         written-more _ _ _ _ (l .j) (l .inv .1 .1) (l .inv .1 .0 .1 .is)
-            (c .add-scaled .ensures ∙ ap (λ (x : ℕ). x + s .args .size * getD (s .args .rows .now) (s .args .row + l .j) 0) (ahead t)),
+            (c .add-scaled .ensures ∙ ap (λ (x : ℕ). x + s .args .magnitude * getD (s .args .rows .now) (s .args .row + l .j) 0) (ahead t)),
       ),
     )
 

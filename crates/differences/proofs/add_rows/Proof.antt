@@ -42,8 +42,8 @@ module _ (t : tie.In-loop Inv-loop μ-loop) where
   few : t .before .loop .k ≤ 32
   few = omega (arith, t .before .loop .inv .0, start t .pre .0 .0)
 
-  sizes : (i : ℕ) → i < t .before .loop .k → natAbs (X (start t) i) ≤ 2 ^ 20
-  sizes i l = start t .pre .1 .0 .size i (omega (arith, t .before .loop .inv .0))
+  magnitudes : (i : ℕ) → i < t .before .loop .k → natAbs (X (start t) i) ≤ 2 ^ 20
+  magnitudes i l = start t .pre .1 .0 .magnitudes i (omega (arith, t .before .loop .inv .0))
 
   total-fits : SFits w64 (sum (t .before .loop .k) (X (start t)) +ℤ X (start t) (t .before .loop .k))
   total-fits =
@@ -51,14 +51,14 @@ module _ (t : tie.In-loop Inv-loop μ-loop) where
       (omega (
         arith,
         abs-+ (sum (t .before .loop .k) (X (start t))) (X (start t) (t .before .loop .k)),
-        total-small (X (start t)) few sizes,
-        start t .pre .1 .0 .size (t .before .loop .k) (t .loop-test .taken),
+        total-small (X (start t)) few magnitudes,
+        start t .pre .1 .0 .magnitudes (t .before .loop .k) (t .loop-test .taken),
       ))
 
 x-is : (c : tie.After-number-at Inv-loop μ-loop) → toZ w64 (ofZ w64 (c .number-at .result)) ≡ X (start (c .before)) (c .before .before .loop .k)
 x-is c =
     let t = c .before in
-    ap (λ (z : ℤ). toZ w64 (ofZ w64 z)) (c .number-at .ensures) ∙ read-at (start t .args .xs .now) refl (start t .pre .1 .0 .size (t .before .loop .k) (t .loop-test .taken))
+    ap (λ (z : ℤ). toZ w64 (ofZ w64 z)) (c .number-at .ensures) ∙ read-at (start t .args .xs .now) refl (start t .pre .1 .0 .magnitudes (t .before .loop .k) (t .loop-test .taken))
 
 loop-holds : tie.Need-loop-holds Inv-loop μ-loop
 loop-holds c = (omega arith, ((carried-first _ _, carried-first _ _), (rw (sum-none _), (c .before .pre .1 .1 .1 .0, sums-none _ _ _ (c .before .pre .0 .0) (c .before .pre .1 .1 .1 .1)))))
@@ -66,21 +66,21 @@ loop-holds c = (omega arith, ((carried-first _ _, carried-first _ _), (rw (sum-n
 number-at-requires : tie.Need-number-at-requires Inv-loop μ-loop
 number-at-requires c κs =
     let s = start c in
-    (c .before .loop .inv .1 .0 .0, (s .pre .1 .0 .inside (c .before .loop .k) (c .loop-test .taken), s .pre .1 .0 .size (c .before .loop .k) (c .loop-test .taken)))
+    (c .before .loop .inv .1 .0 .0, (s .pre .1 .0 .inside (c .before .loop .k) (c .loop-test .taken), s .pre .1 .0 .magnitudes (c .before .loop .k) (c .loop-test .taken)))
 
 add-multiple-requires : tie.Need-add-multiple-requires Inv-loop μ-loop
 add-multiple-requires c κs =
     let t = c .before .before in
     let l = t .before .loop in
     let s = start t in (
-      (s .pre .0 .0, rw (x-is (c .before)) (s .pre .1 .0 .size (l .k) (t .loop-test .taken))),
+      (s .pre .0 .0, rw (x-is (c .before)) (s .pre .1 .0 .magnitudes (l .k) (t .loop-test .taken))),
       (
         l .inv .1 .0 .1,
         (
           s .pre .1 .1 .0 .each (l .k) (t .loop-test .taken),
           (
             l .inv .1 .1 .1 .0,
-            sums-room _ _ _ (few t) (sizes t) (λ i j li lj. s .pre .1 .1 .0 .each i (omega (arith, l .inv .0)) .small .each j lj) (l .inv .1 .1 .1 .1),
+            sums-room _ _ _ (few t) (magnitudes t) (λ i j li lj. s .pre .1 .1 .0 .each i (omega (arith, l .inv .0)) .small .each j lj) (l .inv .1 .1 .1 .1),
           ),
         ),
       ),

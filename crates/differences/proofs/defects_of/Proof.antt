@@ -6,7 +6,7 @@ use lib.IntN.{pos}
 use Rattle.linear.proofs.Places.{column-reach, square, square-list}
 use Rattle.reckoning.proofs.Columns.{in-square}
 use Rattle.reckoning.proofs.Filled.{begins-as}
-use Rattle.reckoning.proofs.Sizes.{raisable}
+use Rattle.reckoning.proofs.Magnitudes.{raisable}
 use Rattle.raised_rows.proofs.Filling.{rows-fit}
 use Rattle.differences.proofs.Product.{columns-defect}
 use borrow.Author.Needs.{needs}

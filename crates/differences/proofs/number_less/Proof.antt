@@ -6,7 +6,7 @@ use mir.Val.{SFits, toZ, ofZ}
 use mir.ValLaws.{toZ-ofZ, toZ-pos}
 use Rattle.integer.proofs.Absolute.{abs-+, abs-sub}
 use Rattle.integer.proofs.Machine.{small, read}
-use Rattle.reckoning.proofs.Sizes.{unit-size}
+use Rattle.reckoning.proofs.Magnitudes.{unit-magnitude}
 use borrow.Author.Needs.{needs}
 use Rattle.differences.proofs.number_less.Statement.{statement}
 use Rattle.differences.proofs.number_less.Tie as tie
@@ -45,7 +45,7 @@ whole c =
       arith,
       abs-+ (c .unit-at .result) (s .args .raised +ℤ pos (s .args .down) -ℤ pos (s .args .up)),
       ap natAbs (c .unit-at .ensures),
-      unit-size (s .args .t) (s .args .m) (s .args .j) (s .pre .0 .0),
+      unit-magnitude (s .args .t) (s .args .m) (s .args .j) (s .pre .0 .0),
       abs-sub (s .args .raised +ℤ pos (s .args .down)) (pos (s .args .up)),
       abs-+ (s .args .raised) (pos (s .args .down)),
     ))

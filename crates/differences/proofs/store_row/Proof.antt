@@ -39,7 +39,7 @@ module _ (c : tie.After-add-rows Inv-loop μ-loop) where
   start = c .before .before .before
 
   raised-most : natAbs (pos raisedBy *ℤ sum (start .args .n) (X start)) ≤ 2 ^ 50
-  raised-most = raised-small (X start) (start .pre .0 .1 .0) (start .pre .1 .0 .size)
+  raised-most = raised-small (X start) (start .pre .0 .1 .0) (start .pre .1 .0 .magnitudes)
 
   raised-fits : SFits w64 (pos raisedBy *ℤ sum (start .args .n) (X start))
   raised-fits = small (pos raisedBy *ℤ sum (start .args .n) (X start)) (omega (arith, raised-most))
@@ -97,8 +97,8 @@ number-less-requires c κs =
     let h = a .add-rows .ensures .1 in (
       (s .pre .0 .0, rw (raised-is a) (raised-most a)),
       (
-        ups-small _ _ _ few (s .pre .1 .0 .size) (low a) h _ (omega arith),
-        downs-small _ _ _ few (s .pre .1 .0 .size) (low a) h _ (omega arith),
+        ups-small _ _ _ few (s .pre .1 .0 .magnitudes) (low a) h _ (omega arith),
+        downs-small _ _ _ few (s .pre .1 .0 .magnitudes) (low a) h _ (omega arith),
       ),
     )
 

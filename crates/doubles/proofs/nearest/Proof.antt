@@ -5,17 +5,17 @@ use native.Mathlib.Nat.{div-le-self, lt-of-le-of-lt}
 use Prim.Native.Nat.{ℕ, _+_, _-_, _*_, _/_, _%_, _^_, _≤_, _<_}
 use borrow.Author.Tests.{le-leb, lt-leb}
 use lib.Dec.{T}
-use Rattle.doubles.specs.Guess.{sizeFor, SizeFoundAs}
-use Rattle.doubles.proofs.Steps.{size-down, size-none, size-far}
+use Rattle.doubles.specs.Guess.{magnitudeFor, MagnitudeFoundAs}
+use Rattle.doubles.proofs.Steps.{magnitude-down, magnitude-none, magnitude-far}
 use borrow.Author.Needs.{needs}
 use Rattle.doubles.proofs.nearest.Statement.{statement}
 use Rattle.doubles.proofs.nearest.Tie as tie
 
-here : (q k s n : ℕ) → sizeFor q k s ≡ n → n ≤ 2 ^ 36 → SizeFoundAs q k s (record { found = true; steps = n })
-here q k s n e h = record { found = sym (le-leb (sizeFor q k s) (2 ^ 36) (rw e h)); steps = λ w. sym e }
+here : (q k s n : ℕ) → magnitudeFor q k s ≡ n → n ≤ 2 ^ 36 → MagnitudeFoundAs q k s (record { found = true; steps = n })
+here q k s n e h = record { found = sym (le-leb (magnitudeFor q k s) (2 ^ 36) (rw e h)); steps = λ w. sym e }
 
-over : (q k s n : ℕ) → sizeFor q k s ≡ n → 2 ^ 36 < n → SizeFoundAs q k s (record { found = false; steps = 0 })
-over q k s n e h = record { found = sym (lt-leb (sizeFor q k s) (2 ^ 36) (rw e h)); steps = λ w. absurd (subst T (sym w) tt) }
+over : (q k s n : ℕ) → magnitudeFor q k s ≡ n → 2 ^ 36 < n → MagnitudeFoundAs q k s (record { found = false; steps = 0 })
+over q k s n e h = record { found = sym (lt-leb (magnitudeFor q k s) (2 ^ 36) (rw e h)); steps = λ w. absurd (subst T (sym w) tt) }
 
 add-t : tie.Need-add-t
 add-t c = search needs
@@ -24,7 +24,7 @@ returns : tie.Need-returns
 returns c =
     let s = c .before in
     over (s .args .digits) (s .args .shift) (s .args .s) _ refl
-    (size-far (s .args .digits) (s .args .shift) (s .args .s) (c .if1 .taken) (s .pre .0 .full (λ (z : s .args .shift ≡ 0). omega arith)))
+    (magnitude-far (s .args .digits) (s .args .shift) (s .args .s) (c .if1 .taken) (s .pre .0 .full (λ (z : s .args .shift ≡ 0). omega arith)))
 
 sub-d : tie.Need-sub-d
 sub-d c = search needs
@@ -33,7 +33,7 @@ returns-2 : tie.Need-returns-2
 returns-2 c =
     let s = c .before .before in
     here (s .args .digits) (s .args .shift) (s .args .s) 0
-    (size-none (s .args .digits) (s .args .shift) (s .args .s) (1073 - (s .args .shift + s .args .s)) (omega arith) (s .pre .0 .narrow) (omega arith)) (omega arith)
+    (magnitude-none (s .args .digits) (s .args .shift) (s .args .s) (1073 - (s .args .shift + s .args .s)) (omega arith) (s .pre .0 .narrow) (omega arith)) (omega arith)
 
 shr-half-up : tie.Need-shr-half-up
 shr-half-up c = search needs
@@ -44,10 +44,10 @@ half-up-requires c κs =
     lt-of-le-of-lt (div-le-self (s .args .digits) (2 ^ (1073 - (s .args .shift + s .args .s)))) (s .pre .0 .narrow)
 
 -- halves counted up, as the size in steps has them
-sized : (c : tie.After-half-up) → let s = c .before .before .before in sizeFor (s .args .digits) (s .args .shift) (s .args .s) ≡ c .half-up .result
-sized c =
+magnitude-is : (c : tie.After-half-up) → let s = c .before .before .before in magnitudeFor (s .args .digits) (s .args .shift) (s .args .s) ≡ c .half-up .result
+magnitude-is c =
     let s = c .before .before .before in
-    size-down (s .args .digits) (s .args .shift) (s .args .s) (1073 - (s .args .shift + s .args .s)) (omega arith) ∙ up _ _ (c .half-up .ensures)
+    magnitude-down (s .args .digits) (s .args .shift) (s .args .s) (1073 - (s .args .shift + s .args .s)) (omega arith) ∙ up _ _ (c .half-up .ensures)
   where
     up : (h r : ℕ) → 2 * r ≡ h + h % 2 → (h + 1) / 2 ≡ r
     up h r e = omega arith
@@ -55,12 +55,12 @@ sized c =
 returns-3 : tie.Need-returns-3
 returns-3 c =
     let s = c .before .before .before .before in
-    here (s .args .digits) (s .args .shift) (s .args .s) _ (sized (c .before)) (omega (arith, c .if3 .taken))
+    here (s .args .digits) (s .args .shift) (s .args .s) _ (magnitude-is (c .before)) (omega (arith, c .if3 .taken))
 
 returns-4 : tie.Need-returns-4
 returns-4 c =
     let s = c .before .before .before .before in
-    over (s .args .digits) (s .args .shift) (s .args .s) _ (sized (c .before)) (omega (arith, c .if3 .left))
+    over (s .args .digits) (s .args .shift) (s .args .s) _ (magnitude-is (c .before)) (omega (arith, c .if3 .left))
 
 pub nearest-spec : {M : Type 1} → statement M
 nearest-spec =

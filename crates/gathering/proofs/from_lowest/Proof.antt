@@ -1,5 +1,5 @@
 use Rattle.integer.proofs.Machine.{small}
-use Rattle.gathering.proofs.Places.{lowest-size, lowest-whole}
+use Rattle.gathering.proofs.Places.{lowest-magnitude, lowest-whole}
 use mir.Val.{SFits, toZ, ofZ}
 use mir.ValLaws.{toZ-ofZ}
 use lib.IntN.{pos, _+ℤ_}
@@ -11,7 +11,7 @@ use Rattle.gathering.proofs.from_lowest.Tie as tie
 
 module _ (c : tie.Start) where
   fits : SFits w64 (c .args .difference +ℤ pos 65536)
-  fits = small _ (omega (arith, lowest-size (c .args .difference) (c .pre)))
+  fits = small _ (omega (arith, lowest-magnitude (c .args .difference) (c .pre)))
 
   given : toZ w64 (ofZ w64 (c .args .difference)) ≡ c .args .difference
   given = toZ-ofZ w64 (c .args .difference) (c .fits .difference)
@@ -22,7 +22,7 @@ add-result c = rw (given c) (fits c)
 cast-result : tie.Need-cast-result
 cast-result c =
     rw (given c, toZ-ofZ w64 _ (fits c))
-    (rw (lowest-whole (c .args .difference) (c .pre)) tt, record { fits = omega (arith, lowest-size (c .args .difference) (c .pre)) })
+    (rw (lowest-whole (c .args .difference) (c .pre)) tt, record { fits = omega (arith, lowest-magnitude (c .args .difference) (c .pre)) })
 
 returns : tie.Need-returns
 returns c = rw (given c, toZ-ofZ w64 _ (fits c))

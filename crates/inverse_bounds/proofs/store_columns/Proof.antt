@@ -13,15 +13,15 @@ use Rattle.linear.proofs.Written.{written-length}
 use Rattle.raised_rows.specs.Raised.{RowOf}
 use Rattle.raised_rows.proofs.Filling.{rows-room}
 use Rattle.raised_rows.proofs.Standing.{rows-stand}
-use Rattle.enclosure.specs.Reckoning.{sizesWith}
+use Rattle.enclosure.specs.Reckoning.{magnitudesWith}
 use Rattle.reckoning.specs.Arrays.{Begins, columnsWritten}
 use Rattle.reckoning.proofs.Filled.{columns-none, columns-end, columns-length}
 use Rattle.linear.proofs.Places.{row-ends}
-use Rattle.reckoning.proofs.Sizes.{column-ends}
+use Rattle.reckoning.proofs.Magnitudes.{column-ends}
 use Rattle.bounds.specs.Limits.{inversePart, limitsOf}
 use Rattle.inverse_bounds.specs.Mirrored.{KnownColumns}
-use Rattle.inverse_bounds.proofs.Mirrored.{known-none, known-fewer, known-more, mirrored-sizes}
-use Rattle.bounds.proofs.Column.{plain-sizes, sizes-small, columns-near, bounds-of-sizes, column-more}
+use Rattle.inverse_bounds.proofs.Mirrored.{known-none, known-fewer, known-more, mirrored-magnitudes}
+use Rattle.bounds.proofs.Column.{plain-magnitudes, magnitudes-small, columns-near, bounds-of-magnitudes, column-more}
 use borrow.Author.Needs.{needs}
 use Rattle.inverse_bounds.proofs.store_columns.Statement.{statement}
 use Rattle.inverse_bounds.proofs.store_columns.Tie as tie
@@ -40,8 +40,8 @@ begun c = c .before .before .before .before .before
 abbrev raised : tie.In-loop Inv-loop μ-loop → tie.After-raise-rows Inv-loop μ-loop
 raised t = t .before .before .before .before
 
-abbrev at-sizes : tie.After-store-arg Inv-loop μ-loop → tie.After-column-sizes Inv-loop μ-loop
-at-sizes c = c .before .before .before .before .before
+abbrev at-magnitudes : tie.After-store-arg Inv-loop μ-loop → tie.After-column-magnitudes Inv-loop μ-loop
+at-magnitudes c = c .before .before .before .before .before
 
 abbrev start : tie.In-loop Inv-loop μ-loop → tie.Start Inv-loop μ-loop
 start t = begun (raised t .before)
@@ -55,24 +55,24 @@ row-is : (t : tie.In-loop Inv-loop μ-loop) →
 row-is t = rows-stand (raised t .raise-rows .ensures) .each (t .before .loop .j) (t .loop-test .taken)
 
 -- what the sizes hold
-abbrev turn : tie.After-column-sizes Inv-loop μ-loop → tie.In-loop Inv-loop μ-loop
+abbrev turn : tie.After-column-magnitudes Inv-loop μ-loop → tie.In-loop Inv-loop μ-loop
 turn c = c .before .before .before .before
 
-sizes-here : (c : tie.After-column-sizes Inv-loop μ-loop) →
-    Begins 0 (c .column-sizes .result) (start (turn c) .args .n) (sizesWith (inversePart (start (turn c) .args .n) (start (turn c) .args .rows .now)) (λ (k : ℕ). at (start (turn c) .args .residuals .now) (turn c .before .loop .j * start (turn c) .args .n + k)) (λ (k : ℕ). 0))
-sizes-here c =
+magnitudes-here : (c : tie.After-column-magnitudes Inv-loop μ-loop) →
+    Begins 0 (c .column-magnitudes .result) (start (turn c) .args .n) (magnitudesWith (inversePart (start (turn c) .args .n) (start (turn c) .args .rows .now)) (λ (k : ℕ). at (start (turn c) .args .residuals .now) (turn c .before .loop .j * start (turn c) .args .n + k)) (λ (k : ℕ). 0))
+magnitudes-here c =
     let t = turn c in
-    plain-sizes (start t .args .n) (start t .pre .1 .0 .rows) (row-is t) (c .column-sizes .ensures .0)
+    plain-magnitudes (start t .args .n) (start t .pre .1 .0 .rows) (row-is t) (c .column-magnitudes .ensures .0)
 
 -- the list, with this column's sizes
-list-next : (c : tie.After-column-sizes Inv-loop μ-loop) →
-    (length (c .column-sizes .last .0) ≡ length (start (turn c) .args .list .now))
-    × KnownColumns (c .column-sizes .last .0) (start (turn c) .args .n) (turn c .before .loop .j + 1) (start (turn c) .args .rows .now) (raised (turn c) .raise-rows .last .0)
+list-next : (c : tie.After-column-magnitudes Inv-loop μ-loop) →
+    (length (c .column-magnitudes .last .0) ≡ length (start (turn c) .args .list .now))
+    × KnownColumns (c .column-magnitudes .last .0) (start (turn c) .args .n) (turn c .before .loop .j + 1) (start (turn c) .args .rows .now) (raised (turn c) .raise-rows .last .0)
 list-next c =
     let t = turn c in
     let i = t .before .loop .inv .1 .1 .0 in (
-      ap length (c .column-sizes .ensures .1) ∙ written-length _ _ _ _ (start t .args .n) ∙ i .0,
-      known-more (t .before .loop .j) (omega (arith, i .0, mul-le-mul-right (start t .args .n) (t .loop-test .taken), start t .pre .0 .1 .1 .1 .1)) (i .1) (c .column-sizes .ensures .1),
+      ap length (c .column-magnitudes .ensures .1) ∙ written-length _ _ _ _ (start t .args .n) ∙ i .0,
+      known-more (t .before .loop .j) (omega (arith, i .0, mul-le-mul-right (start t .args .n) (t .loop-test .taken), start t .pre .0 .1 .1 .1 .1)) (i .1) (c .column-magnitudes .ensures .1),
     )
 
 raise-rows-requires : tie.Need-raise-rows-requires Inv-loop μ-loop
@@ -84,21 +84,21 @@ loop-holds : tie.Need-loop-holds Inv-loop μ-loop
 loop-holds c = (omega arith, ((carried-first _ _, carried-first _ _), ((refl, known-none), sym (columns-none _ _ _))))
 
 -- how many columns before it count as known
-known-is : (c : tie.After-column-sizes-arg2 Inv-loop μ-loop) →
+known-is : (c : tie.After-column-magnitudes-arg2 Inv-loop μ-loop) →
     let k = c .before .before in
     (k .if1 .known ≤ k .before .before .loop .j)
     × (0 < k .if1 .known → start (k .before) .args .mirrored ≡ true)
 known-is c =
     ⊎-elim (λ w. (omega (arith, w .1), λ h. w .0 .taken)) (λ w. (omega (arith, w .1), λ h. absurd (omega (arith, w .1, h)))) (c .before .before .if1 .came)
 
-column-sizes-requires : tie.Need-column-sizes-requires Inv-loop μ-loop
-column-sizes-requires c κs =
+column-magnitudes-requires : tie.Need-column-magnitudes-requires Inv-loop μ-loop
+column-magnitudes-requires c κs =
     let t = c .before .before .before in
     let i = t .before .loop .inv in
     let p = start t .pre in
     let k = known-is c in (
       (p .0 .1 .0, (t .loop-test .taken, (k .0, omega (arith, i .1 .1 .0 .0, p .0 .1 .1 .1 .1)))),
-      (i .1 .0, ((p .1 .0 .rows, row-is t .row), (known-fewer (k .0) (i .1 .1 .0 .1), λ h. mirrored-sizes (p .1 .0 .rows) (raised t .raise-rows .ensures) (p .1 .1 .1 .0 (k .1 h))))),
+      (i .1 .0, ((p .1 .0 .rows, row-is t .row), (known-fewer (k .0) (i .1 .1 .0 .1), λ h. mirrored-magnitudes (p .1 .0 .rows) (raised t .raise-rows .ensures) (p .1 .1 .1 .0 (k .1 h))))),
     )
 
 bounds-of-requires : tie.Need-bounds-of-requires Inv-loop μ-loop
@@ -107,12 +107,12 @@ bounds-of-requires c κs =
     let t = turn z in
     let p = start t .pre in (
       (p .0 .0, p .0 .1 .0),
-      (sizes-small (p .0 .1 .0) (p .1 .0) (columns-near (t .before .loop .j) (t .loop-test .taken) (p .1 .1 .0)) (sizes-here z), p .1 .1 .1 .1),
+      (magnitudes-small (p .0 .1 .0) (p .1 .0) (columns-near (t .before .loop .j) (t .loop-test .taken) (p .1 .1 .0)) (magnitudes-here z), p .1 .1 .1 .1),
     )
 
 store-requires : tie.Need-store-requires Inv-loop μ-loop
 store-requires c κs =
-    let t = turn (at-sizes c) in
+    let t = turn (at-magnitudes c) in
     let l = t .before .loop in
     let s = start t in (
       (omega (arith, s .pre .0 .1 .0), omega (arith, column-ends (t .loop-test .taken) (s .pre .0 .1 .0))),
@@ -120,21 +120,21 @@ store-requires c κs =
     )
 
 add-place : tie.Need-add-place Inv-loop μ-loop
-add-place c = omega (arith, start (turn (at-sizes (c .before .before .before))) .pre .0 .1 .0)
+add-place c = omega (arith, start (turn (at-magnitudes (c .before .before .before))) .pre .0 .1 .0)
 
 add-place-2 : tie.Need-add-place-2 Inv-loop μ-loop
 add-place-2 c =
-    let t = turn (at-sizes (c .before .before .before)) in
+    let t = turn (at-magnitudes (c .before .before .before)) in
     omega (arith, t .before .loop .inv .1 .0 .0 .is, rows-room (t .loop-test .taken) (start t .pre .0 .1 .0))
 
 add-start : tie.Need-add-start Inv-loop μ-loop
 add-start c =
-    let t = turn (at-sizes (c .before .before .before)) in
+    let t = turn (at-magnitudes (c .before .before .before)) in
     omega (arith, t .before .loop .inv .1 .0 .1 .is, row-ends (t .loop-test .taken) (start t .pre .0 .1 .0))
 
 add-j : tie.Need-add-j Inv-loop μ-loop
 add-j c =
-    let t = turn (at-sizes (c .before .before .before)) in
+    let t = turn (at-magnitudes (c .before .before .before)) in
     omega (arith, t .loop-test .taken, start t .pre .0 .1 .0)
 
 loop-less : tie.Need-loop-less Inv-loop μ-loop
@@ -142,7 +142,7 @@ loop-less c = search needs
 
 loop-again : tie.Need-loop-again Inv-loop μ-loop
 loop-again c =
-    let z = at-sizes (c .before .before .before) in
+    let z = at-magnitudes (c .before .before .before) in
     let k = c .before .before in
     let l = turn z .before .loop in
     let s = start (turn z) in (
@@ -151,7 +151,7 @@ loop-again c =
         (carried-next (l .inv .1 .0 .0), carried-next (l .inv .1 .0 .1)),
         (
           list-next z,
-          column-more (s .args .dst .now) (s .args .n) (F s) (l .j) (l .inv .1 .1 .1) (bounds-of-sizes _ _ _ _ _ (sizes-here z) (k .before .before .bounds-of .ensures)) (k .store .ensures),
+          column-more (s .args .dst .now) (s .args .n) (F s) (l .j) (l .inv .1 .1 .1) (bounds-of-magnitudes _ _ _ _ _ (magnitudes-here z) (k .before .before .bounds-of .ensures)) (k .store .ensures),
         ),
       ),
     )
@@ -176,7 +176,7 @@ store-columns-spec =
     μ-loop
     raise-rows-requires
     loop-holds
-    column-sizes-requires
+    column-magnitudes-requires
     bounds-of-requires
     store-requires
     add-place

@@ -9,7 +9,7 @@ use Rattle.linear.specs.Slice.{at}
 use Rattle.linear.specs.Place.{Carried}
 use Rattle.linear.proofs.Carried.{carried-first, carried-next, start-place}
 use Rattle.linear.proofs.Places.{place, square}
-use Rattle.margins.proofs.Loads.{load-size}
+use Rattle.margins.proofs.Loads.{load-magnitude}
 use borrow.Author.Needs.{needs}
 use Rattle.margins.proofs.load_of.Statement.{statement}
 use Rattle.margins.proofs.load_of.Tie as tie
@@ -44,10 +44,10 @@ weigh-at-requires c κs =
     let p = t .before .before .pre in (
       l .inv .1 .0,
       (
-        (omega (arith, place-in t, p .1 .0 .long), rw (start-is t) (p .1 .0 .within .size _ (place (p .0 .1 .0) (t .loop-test .taken)))),
+        (omega (arith, place-in t, p .1 .0 .long), rw (start-is t) (p .1 .0 .within .magnitudes _ (place (p .0 .1 .0) (t .loop-test .taken)))),
         (
-          load-size (p .1 .0) (p .1 .1) (p .0 .1 .0) (l .j) (p .0 .0) (l .inv .0) (l .inv .1 .1),
-          rw (read _ (c .weigh-at-arg .given)) (p .1 .1 .within .size _ (omega (arith, t .loop-test .taken, p .0 .1 .0))),
+          load-magnitude (p .1 .0) (p .1 .1) (p .0 .1 .0) (l .j) (p .0 .0) (l .inv .0) (l .inv .1 .1),
+          rw (read _ (c .weigh-at-arg .given)) (p .1 .1 .within .magnitudes _ (omega (arith, t .loop-test .taken, p .0 .1 .0))),
         ),
       ),
     )

@@ -5,20 +5,20 @@ use native.Mathlib.Nat.{mul-le-mul}
 use lib.IntN.{natAbs}
 use Rattle.integer.proofs.Machine.{read}
 use Rattle.linear.specs.Slice.{at}
-use Rattle.reckoning.proofs.Sizes.{power-size}
+use Rattle.reckoning.proofs.Magnitudes.{power-magnitude}
 use borrow.Author.Needs.{needs}
 use Rattle.margins.proofs.margin_of.Statement.{statement}
 use Rattle.margins.proofs.margin_of.Tie as tie
 
 weight-small : (c : tie.After-magnitude-arg) → natAbs (at (c .before .before .args .weights .now) (c .before .before .args .m)) ≤ 1024
-weight-small c = let s = c .before .before in s .pre .1 .1 .within .size (s .args .m) (s .pre .0 .1 .1 .0)
+weight-small c = let s = c .before .before in s .pre .1 .1 .within .magnitudes (s .args .m) (s .pre .0 .1 .1 .0)
 
 module _ (c : tie.After-magnitude) where
   weight-is : let s = c .before .before .before in c .magnitude .result ≡ natAbs (at (s .args .weights .now) (s .args .m))
   weight-is = rw (read _ (c .before .magnitude-arg .given)) at (c .magnitude .ensures)
 
   full-small : c .before .before .power .result * c .magnitude .result ≤ 2 ^ 20 * 1024
-  full-small = let p = c .before .before in rw (weight-is, p .power .ensures) (mul-le-mul (power-size _ (p .before .pre .0 .0)) (weight-small (c .before)))
+  full-small = let p = c .before .before in rw (weight-is, p .power .ensures) (mul-le-mul (power-magnitude _ (p .before .pre .0 .0)) (weight-small (c .before)))
 
 power-requires : tie.Need-power-requires
 power-requires c κs = search needs

@@ -2,14 +2,14 @@ use mathlib.Core.Path.{_≡_, _∙_}
 use Prim.Native.Nat.{_≤_, _-_}
 use lib.ListN.{length, drop}
 use Rattle.numeral.specs.Numeral.{runAt, capAt}
-use Rattle.numeral.specs.Capped.{cappedSize}
+use Rattle.numeral.specs.Capped.{cappedMagnitude}
 use Rattle.numeral.proofs.Steps.{run-digit, run-stop, run-end}
 use borrow.Author.Needs.{needs}
 use Rattle.numeral.proofs.run_at.Statement.{statement}
 use Rattle.numeral.proofs.run_at.Tie as tie
 
 abbrev Inv-loop : tie.InvT-loop
-Inv-loop s at v₀ i₀ v i = (i ≤ length s) × (v ≤ capAt) × (cappedSize (runAt v i (drop i s)) ≡ cappedSize (runAt 0 at (drop at s)))
+Inv-loop s at v₀ i₀ v i = (i ≤ length s) × (v ≤ capAt) × (cappedMagnitude (runAt v i (drop i s)) ≡ cappedMagnitude (runAt 0 at (drop at s)))
 
 abbrev μ-loop : tie.MeasureT-loop
 μ-loop s at v₀ i₀ v i = length s - i
@@ -23,14 +23,14 @@ shared-slice-read-digit c = search needs
 digit-requires : tie.Need-digit-requires Inv-loop μ-loop
 digit-requires c κs = search needs
 
-mul-cap-size : tie.Need-mul-cap-size Inv-loop μ-loop
-mul-cap-size c = search needs
+mul-cap-magnitude : tie.Need-mul-cap-magnitude Inv-loop μ-loop
+mul-cap-magnitude c = search needs
 
-add-cap-size : tie.Need-add-cap-size Inv-loop μ-loop
-add-cap-size c = search needs
+add-cap-magnitude : tie.Need-add-cap-magnitude Inv-loop μ-loop
+add-cap-magnitude c = search needs
 
-cap-size-requires : tie.Need-cap-size-requires Inv-loop μ-loop
-cap-size-requires c κs = search needs
+cap-magnitude-requires : tie.Need-cap-magnitude-requires Inv-loop μ-loop
+cap-magnitude-requires c κs = search needs
 
 add-i : tie.Need-add-i Inv-loop μ-loop
 add-i c = search needs
@@ -44,7 +44,7 @@ loop-again c =
     let l = d .before .before .before .loop in (
       search needs,
       search needs,
-      run-digit _ (l .v) _ (d .before .before .loop-test .taken) (d .digit .ensures .0) (c .before .if1 .left) (c .cap-size .ensures .0) ∙ l .inv .2,
+      run-digit _ (l .v) _ (d .before .before .loop-test .taken) (d .digit .ensures .0) (c .before .if1 .left) (c .cap-magnitude .ensures .0) ∙ l .inv .2,
     )
 
 returns : tie.Need-returns Inv-loop μ-loop
@@ -65,9 +65,9 @@ run-at-spec =
     loop-holds
     shared-slice-read-digit
     digit-requires
-    mul-cap-size
-    add-cap-size
-    cap-size-requires
+    mul-cap-magnitude
+    add-cap-magnitude
+    cap-magnitude-requires
     add-i
     loop-less
     loop-again

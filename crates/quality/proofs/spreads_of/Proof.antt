@@ -38,7 +38,7 @@ spread-of-requires c κs =
     let i = c .before .before in
     let s = i .before .before in
     let l = i .loop-test .taken in
-    rw (read _ (c .before .spread-of-arg .given)) (s .pre .0 .0, (s .pre .1 .0 .within .size _ l, s .pre .1 .1 _ l))
+    rw (read _ (c .before .spread-of-arg .given)) (s .pre .0 .0, (s .pre .1 .0 .within .magnitudes _ l, s .pre .1 .1 _ l))
 
 mul-out : tie.Need-mul-out Inv-loop μ-loop
 mul-out c = search needs

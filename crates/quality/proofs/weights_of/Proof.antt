@@ -30,7 +30,7 @@ shared-slice-copy-out-magnitude c = search needs
 magnitude-requires : tie.Need-magnitude-requires Inv-loop μ-loop
 magnitude-requires c κs =
     let i = c .before in
-    rw (read _ (c .magnitude-arg .given)) (omega (arith, i .before .before .pre .1 .within .size _ (i .loop-test .taken)))
+    rw (read _ (c .magnitude-arg .given)) (omega (arith, i .before .before .pre .1 .within .magnitudes _ (i .loop-test .taken)))
 
 mul-out : tie.Need-mul-out Inv-loop μ-loop
 mul-out c = search needs

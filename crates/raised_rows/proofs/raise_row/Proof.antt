@@ -28,7 +28,7 @@ raise-at-requires : tie.Need-raise-at-requires Inv-loop μ-loop
 raise-at-requires c κs =
     let l = c .before .loop in
     let s = c .before .before .before in
-    (l .inv .1 .0, (s .pre .1 .inside (l .k) (c .loop-test .taken), s .pre .1 .size (l .k) (c .loop-test .taken)))
+    (l .inv .1 .0, (s .pre .1 .inside (l .k) (c .loop-test .taken), s .pre .1 .magnitudes (l .k) (c .loop-test .taken)))
 
 mul-out : tie.Need-mul-out Inv-loop μ-loop
 mul-out c = search needs

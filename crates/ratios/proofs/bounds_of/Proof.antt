@@ -13,7 +13,7 @@ sum-of-requires c κs = search needs
 returns : tie.Need-returns
 returns c =
     let s = c .before .before .before .before in
-    flat-none _ (s .args .sizes .now) _ (s .args .weights .now) (s .pre .1 .1 .0) (s .pre .0 .1) (sym (c .before .sum-of .ensures) ∙ c .if2 .taken)
+    flat-none _ (s .args .magnitudes .now) _ (s .args .weights .now) (s .pre .1 .1 .0) (s .pre .0 .1) (sym (c .before .sum-of .ensures) ∙ c .if2 .taken)
 
 returns-2 : tie.Need-returns-2
 returns-2 c =

@@ -11,11 +11,11 @@ use Rattle.ratios.proofs.is_flat.Statement.{statement}
 use Rattle.ratios.proofs.is_flat.Tie as tie
 
 abbrev Inv-loop : tie.InvT-loop
-Inv-loop sizes caps n flat₀ m₀ flat m =
-    (m ≤ n) × (flat ≡ true → (k : ℕ) → k < m → getD sizes k 0 ≤ getD caps k 0)
+Inv-loop magnitudes caps n flat₀ m₀ flat m =
+    (m ≤ n) × (flat ≡ true → (k : ℕ) → k < m → getD magnitudes k 0 ≤ getD caps k 0)
 
 abbrev μ-loop : tie.MeasureT-loop
-μ-loop sizes caps n flat₀ m₀ flat m = n - m
+μ-loop magnitudes caps n flat₀ m₀ flat m = n - m
 
 loop-holds : tie.Need-loop-holds Inv-loop μ-loop
 loop-holds c = (omega arith, λ e k l. absurd (omega arith))

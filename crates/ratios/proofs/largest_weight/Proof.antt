@@ -27,7 +27,7 @@ shared-slice-copy-out-magnitude c = omega (arith, c .before .before .pre .1 .lon
 
 magnitude-requires : tie.Need-magnitude-requires Inv-loop μ-loop
 magnitude-requires c κs =
-    rw (read _ (c .magnitude-arg .given)) (omega (arith, c .before .before .before .pre .1 .within .size _ (c .before .loop-test .taken)))
+    rw (read _ (c .magnitude-arg .given)) (omega (arith, c .before .before .before .pre .1 .within .magnitudes _ (c .before .loop-test .taken)))
 
 larger-requires : tie.Need-larger-requires Inv-loop μ-loop
 larger-requires c κs = search needs

@@ -14,11 +14,11 @@ use Rattle.ratios.proofs.steep_bounds.Statement.{statement}
 use Rattle.ratios.proofs.steep_bounds.Tie as tie
 
 abbrev Inv-loop : tie.InvT-loop
-Inv-loop sizes margins weights n k p g out₀ i₀ out i =
+Inv-loop magnitudes margins weights n k p g out₀ i₀ out i =
     (i ≤ n) × ((length out ≡ 32) × Begins 0 out i (λ (j : ℕ). ceilDiv (natAbs (at weights j) * p) g))
 
 abbrev μ-loop : tie.MeasureT-loop
-μ-loop sizes margins weights n k p g out₀ i₀ out i = n - i
+μ-loop magnitudes margins weights n k p g out₀ i₀ out i = n - i
 
 -- after the search of the steepest row
 abbrev at-steepest : tie.In-loop Inv-loop μ-loop → tie.After-steepest-of Inv-loop μ-loop
@@ -53,7 +53,7 @@ bound-of-requires c κs =
     let s = at-steepest (c .before) .before in
     let k = at-steepest (c .before) .steepest-of .ensures .below in
     rw (read _ (c .bound-of-arg .given))
-    (s .pre .1 .1 .1 .within .size _ (c .before .loop-test .taken), (s .pre .1 .0 .most _ k, (s .pre .1 .1 .0 .above _ k, s .pre .1 .1 .0 .most _ k)))
+    (s .pre .1 .1 .1 .within .magnitudes _ (c .before .loop-test .taken), (s .pre .1 .0 .most _ k, (s .pre .1 .1 .0 .above _ k, s .pre .1 .1 .0 .most _ k)))
 
 mul-out : tie.Need-mul-out Inv-loop μ-loop
 mul-out c = search needs

@@ -10,11 +10,11 @@ use Rattle.ratios.proofs.steepest_by_products.Statement.{statement}
 use Rattle.ratios.proofs.steepest_by_products.Tie as tie
 
 abbrev Inv-loop : tie.InvT-loop
-Inv-loop sizes margins n k₀ m₀ k m =
-    (1 ≤ m) × ((m ≤ n) × Steepest m (λ (i : ℕ). getD sizes i 0) (λ (i : ℕ). getD margins i 0) k)
+Inv-loop magnitudes margins n k₀ m₀ k m =
+    (1 ≤ m) × ((m ≤ n) × Steepest m (λ (i : ℕ). getD magnitudes i 0) (λ (i : ℕ). getD margins i 0) k)
 
 abbrev μ-loop : tie.MeasureT-loop
-μ-loop sizes margins n k₀ m₀ k m = n - m
+μ-loop magnitudes margins n k₀ m₀ k m = n - m
 
 -- stages on the way: the start, and in the turn
 abbrev start : tie.In-loop Inv-loop μ-loop → tie.Start Inv-loop μ-loop

@@ -7,11 +7,11 @@ use Rattle.ratios.proofs.steepest_by_quotients.Statement.{statement}
 use Rattle.ratios.proofs.steepest_by_quotients.Tie as tie
 
 abbrev Inv-loop : tie.InvT-loop
-Inv-loop sizes margins n best₀ m₀ best m =
-    (1 ≤ m) × ((m ≤ n) × Best (λ (k : ℕ). getD sizes k 0) (λ (k : ℕ). getD margins k 0) m best)
+Inv-loop magnitudes margins n best₀ m₀ best m =
+    (1 ≤ m) × ((m ≤ n) × Best (λ (k : ℕ). getD magnitudes k 0) (λ (k : ℕ). getD margins k 0) m best)
 
 abbrev μ-loop : tie.MeasureT-loop
-μ-loop sizes margins n best₀ m₀ best m = n - m
+μ-loop magnitudes margins n best₀ m₀ best m = n - m
 
 -- the start, from the turn
 abbrev start : tie.In-loop Inv-loop μ-loop → tie.Start Inv-loop μ-loop

@@ -4,7 +4,7 @@ use native.Mathlib.Omega.{arith}
 use lib.ListN.{getD}
 use Rattle.integer.specs.Finite.{sumℕ}
 use Rattle.integer.proofs.Sum.{sumℕ-none, sumℕ-next, sumℕ-end, sumℕ≤}
-use Rattle.enclosure.specs.Largest.{largestSize}
+use Rattle.enclosure.specs.Largest.{largestMagnitude}
 use borrow.Author.Needs.{needs}
 use Rattle.ratios.proofs.sum_of.Statement.{statement}
 use Rattle.ratios.proofs.sum_of.Tie as tie
@@ -16,8 +16,8 @@ abbrev μ-loop : tie.MeasureT-loop
 μ-loop xs n sum₀ k₀ sum k = n - k
 
 -- a partial sum
-partial : (s : tie.Start Inv-loop μ-loop) (k : ℕ) → k ≤ s .args .n → sumℕ k (λ (i : ℕ). getD (s .args .xs .now) i 0) ≤ k * largestSize
-partial s k l = sumℕ≤ k largestSize _ (λ i h. s .pre .1 .most i (omega arith))
+partial : (s : tie.Start Inv-loop μ-loop) (k : ℕ) → k ≤ s .args .n → sumℕ k (λ (i : ℕ). getD (s .args .xs .now) i 0) ≤ k * largestMagnitude
+partial s k l = sumℕ≤ k largestMagnitude _ (λ i h. s .pre .1 .most i (omega arith))
 
 loop-holds : tie.Need-loop-holds Inv-loop μ-loop
 loop-holds c = (omega arith, sym (sumℕ-none _))

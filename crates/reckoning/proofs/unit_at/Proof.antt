@@ -2,19 +2,19 @@ use Prim.Native.Nat.{_<_, _^_}
 use native.Mathlib.Omega.{arith}
 use mir.Syntax.{w64}
 use mir.ValLaws.{toZ-pos}
-use Rattle.reckoning.proofs.Sizes.{power-size, unit-same, unit-other}
+use Rattle.reckoning.proofs.Magnitudes.{power-magnitude, unit-same, unit-other}
 use borrow.Author.Needs.{needs}
 use Rattle.reckoning.proofs.unit_at.Statement.{statement}
 use Rattle.reckoning.proofs.unit_at.Tie as tie
 
 small : (c : tie.After-power) → c .power .result < 2 ^ 63
-small c = omega (arith, c .power .ensures, power-size _ (c .before .before .pre))
+small c = omega (arith, c .power .ensures, power-magnitude _ (c .before .before .pre))
 
 power-requires : tie.Need-power-requires
 power-requires c κs = search needs
 
 cast-result : tie.Need-cast-result
-cast-result c = omega (arith, c .power .ensures, power-size _ (c .before .before .pre))
+cast-result c = omega (arith, c .power .ensures, power-magnitude _ (c .before .before .pre))
 
 returns : tie.Need-returns
 returns c = rw (toZ-pos w64 _ (small c), c .power .ensures) (unit-same _ _ _ (c .before .if1 .taken))

@@ -47,7 +47,7 @@ shared-slice-copy-out-is-above c = search needs
 
 is-above-requires : tie.Need-is-above-requires Inv-loop μ-loop
 is-above-requires c κs =
-    let t = c .before .before in rw (read _ (c .before .is-above-arg .given)) (start t .pre .1 .within .size (t .before .loop .k) (t .loop-test .taken))
+    let t = c .before .before in rw (read _ (c .before .is-above-arg .given)) (start t .pre .1 .within .magnitudes (t .before .loop .k) (t .loop-test .taken))
 
 returns : tie.Need-returns Inv-loop μ-loop
 returns c =

@@ -5,7 +5,7 @@ use mir.Val.{SFits}
 use mir.ValLaws.{toZ-ofZ}
 use Rattle.integer.proofs.Absolute.{abs-sub}
 use Rattle.integer.proofs.Machine.{small}
-use Rattle.reckoning.proofs.Sizes.{above-below, above-above}
+use Rattle.reckoning.proofs.Magnitudes.{above-below, above-above}
 use Rattle.residuals.proofs.is_above.Statement.{statement}
 use Rattle.residuals.proofs.is_above.Tie as tie
 

@@ -35,7 +35,7 @@ difference-requires c κs =
     let t = c .before in
     let s = t .before .before in
     let l = t .before .loop in (
-      (s .pre .0, (t .loop-test .taken, rw (read _ (c .difference-arg .given)) (s .pre .1 .0 .within .size (l .k) (t .loop-test .taken)))),
+      (s .pre .0, (t .loop-test .taken, rw (read _ (c .difference-arg .given)) (s .pre .1 .0 .within .magnitudes (l .k) (t .loop-test .taken)))),
       (l .inv .1 .0, s .pre .1 .1),
     )
 

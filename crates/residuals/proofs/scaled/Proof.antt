@@ -5,17 +5,17 @@ use mir.Syntax.{w64}
 use mir.Val.{SFits}
 use mir.ValLaws.{toZ-ofZ, toZ-pos}
 use Rattle.integer.proofs.Machine.{small}
-use Rattle.reckoning.proofs.Sizes.{power-size, scaled-size}
+use Rattle.reckoning.proofs.Magnitudes.{power-magnitude, scaled-magnitude}
 use borrow.Author.Needs.{needs}
 use Rattle.residuals.proofs.scaled.Statement.{statement}
 use Rattle.residuals.proofs.scaled.Tie as tie
 
 module _ (c : tie.After-power) where
   small-power : c .power .result < 2 ^ 63
-  small-power = omega (arith, c .power .ensures, power-size _ (c .before .pre .0))
+  small-power = omega (arith, c .power .ensures, power-magnitude _ (c .before .pre .0))
 
   fits : SFits w64 (pos (2 ^ c .before .args .s) *ℤ c .before .args .b)
-  fits = small _ (omega (arith, scaled-size (c .before .args .s) (c .before .args .b) (c .before .pre .0) (c .before .pre .1)))
+  fits = small _ (omega (arith, scaled-magnitude (c .before .args .s) (c .before .args .b) (c .before .pre .0) (c .before .pre .1)))
 
 power-requires : tie.Need-power-requires
 power-requires c κs = search needs

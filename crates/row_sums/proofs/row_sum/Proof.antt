@@ -8,7 +8,7 @@ use Rattle.linear.specs.Place.{Carried}
 use Rattle.linear.specs.Slice.{matrixOf}
 use Rattle.linear.proofs.Carried.{start-place, carried-first, carried-next}
 use Rattle.linear.proofs.Places.{place, square}
-use Rattle.row_sums.proofs.Size.{partial-size}
+use Rattle.row_sums.proofs.Magnitudes.{partial-magnitude}
 use borrow.Author.Needs.{needs}
 use Rattle.row_sums.proofs.row_sum.Statement.{statement}
 use Rattle.row_sums.proofs.row_sum.Tie as tie
@@ -23,15 +23,15 @@ abbrev μ-loop : tie.MeasureT-loop
 loop-holds : tie.Need-loop-holds Inv-loop μ-loop
 loop-holds c = (omega arith, (carried-first _ _, sym (sumℕ-none _)))
 
-add-size-requires : tie.Need-add-size-requires Inv-loop μ-loop
-add-size-requires c κs =
+add-magnitude-requires : tie.Need-add-magnitude-requires Inv-loop μ-loop
+add-magnitude-requires c κs =
     let s = c .before .before in
     let l = c .before .loop in
     let h = place (s .pre .0 .1) (c .loop-test .taken) in (
       l .inv .1 .0,
       (
-        (rw (start-place (s .pre .1 .0)) (omega (arith, h, s .pre .1 .1 .long)), rw (start-place (s .pre .1 .0)) (s .pre .1 .1 .within .size _ h)),
-        omega (arith, l .inv .1 .1, partial-size (s .pre .0 .0) (s .pre .1 .1) _ (s .pre .0 .1) (l .j) (l .inv .0)),
+        (rw (start-place (s .pre .1 .0)) (omega (arith, h, s .pre .1 .1 .long)), rw (start-place (s .pre .1 .0)) (s .pre .1 .1 .within .magnitudes _ h)),
+        omega (arith, l .inv .1 .1, partial-magnitude (s .pre .0 .0) (s .pre .1 .1) _ (s .pre .0 .1) (l .j) (l .inv .0)),
       ),
     )
 
@@ -51,7 +51,7 @@ loop-again : tie.Need-loop-again Inv-loop μ-loop
 loop-again c =
     let l = c .before .before .loop in
     let s = c .before .before .before in
-    (omega arith, (carried-next (l .inv .1 .0), (rw (start-place (s .pre .1 .0), l .inv .1 .1) at (c .add-size .ensures)) ∙ sym (sumℕ-next _ _)))
+    (omega arith, (carried-next (l .inv .1 .0), (rw (start-place (s .pre .1 .0), l .inv .1 .1) at (c .add-magnitude .ensures)) ∙ sym (sumℕ-next _ _)))
 
 returns : tie.Need-returns Inv-loop μ-loop
 returns c = c .before .loop .inv .1 .1 ∙ sumℕ-end _ (c .before .loop .inv .0) (c .loop-test .left)
@@ -63,7 +63,7 @@ row-sum-spec =
     Inv-loop
     μ-loop
     loop-holds
-    add-size-requires
+    add-magnitude-requires
     add-place
     add-j
     loop-less

@@ -29,7 +29,7 @@ shared-slice-copy-out-slack-at c = search needs
 slack-at-requires : tie.Need-slack-at-requires Inv-loop μ-loop
 slack-at-requires c κs =
     let s = c .before .before .before in
-    rw (read _ (c .slack-at-arg .given)) (omega (arith, s .pre .0 .0), s .pre .1 .within .size (c .before .before .loop .k) (c .before .loop-test .taken))
+    rw (read _ (c .slack-at-arg .given)) (omega (arith, s .pre .0 .0), s .pre .1 .within .magnitudes (c .before .before .loop .k) (c .before .loop-test .taken))
 
 mul-out : tie.Need-mul-out Inv-loop μ-loop
 mul-out c = search needs

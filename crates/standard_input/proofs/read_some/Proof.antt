@@ -7,7 +7,7 @@ use lib.IntN.{pos, natAbs}
 use lib.Signed.{ltZ}
 use Rattle.integer.proofs.Absolute.{not-below-zero}
 use Rattle.integer.proofs.Machine as machine
-use Rattle.standard_input.proofs.Moves.{moved-size, some-moved}
+use Rattle.standard_input.proofs.Moves.{moved-magnitude, some-moved}
 use borrow.Rule.Slice.PartMut.{putMid, take-put}
 use borrow.Author.Needs.{needs}
 use Rattle.standard_input.proofs.read_some.Statement.{statement}
@@ -57,7 +57,7 @@ module _ (c : tie.Else2) where
   natural = not-below-zero _ not-failed
 
   bounded : natAbs (at-read c .read .result) ≤ length (start (at-read c) .args .buf .now) - start (at-read c) .args .from
-  bounded = omega (arith, simp (length-take, length-drop) at (moved-size _ (at-read c .read .result) (at-read c .read .ensures) not-failed))
+  bounded = omega (arith, simp (length-take, length-drop) at (moved-magnitude _ (at-read c .read .result) (at-read c .read .ensures) not-failed))
 
 cast-t5 : tie.Need-cast-t5
 cast-t5 c = rw (machine.read _ (at-read c .read .ok)) (rw (natural c) (tt, omega (arith, bounded c)))

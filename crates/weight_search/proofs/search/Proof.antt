@@ -16,22 +16,22 @@ use Rattle.reckoning.proofs.Filled.{begins-as}
 use Rattle.weight_sequence.specs.Sequence.{loads, tried, good}
 use Rattle.weight_sequence.proofs.Lists.{tried-next}
 use Rattle.weight_steps.specs.Steps.{Below, storedMargin}
-use Rattle.weight_steps.proofs.Stored.{sizes-at, sizes-below, below-of, load-is, good-is, next-is, ones}
+use Rattle.weight_steps.proofs.Stored.{magnitudes-at, magnitudes-below, below-of, load-is, good-is, next-is, ones}
 use borrow.Author.Needs.{needs}
 use Rattle.weight_search.proofs.search.Statement.{statement}
 use Rattle.weight_search.proofs.search.Tie as tie
 
 abbrev Inv-loop : tie.InvT-loop
-Inv-loop t matrix inverse n allowance sizes weights₀ passed₀ weights passed =
+Inv-loop t matrix inverse n allowance magnitudes weights₀ passed₀ weights passed =
     (passed ≤ allowance)
     × (Begins 0 weights n (tried (problemOf n 0 t matrix [] [] [] inverse []) passed)
     × ((k : ℕ) → k < passed → good (problemOf n 0 t matrix [] [] [] inverse []) (tried (problemOf n 0 t matrix [] [] [] inverse []) k) ≡ false))
 
 abbrev μ-loop : tie.MeasureT-loop
-μ-loop t matrix inverse n allowance sizes weights₀ passed₀ weights passed = allowance - passed
+μ-loop t matrix inverse n allowance magnitudes weights₀ passed₀ weights passed = allowance - passed
 
 -- stages on the way: after the sizes of the defect, and in the turn
-abbrev sized : tie.In-loop Inv-loop μ-loop → tie.After-defect-sizes Inv-loop μ-loop
+abbrev sized : tie.In-loop Inv-loop μ-loop → tie.After-defect-magnitudes Inv-loop μ-loop
 sized t = t .before .before
 
 abbrev turn : tie.After-loads-of Inv-loop μ-loop → tie.In-loop Inv-loop μ-loop
@@ -43,12 +43,12 @@ start c = sized (turn c) .before
 abbrev P : tie.Start Inv-loop μ-loop → Problem
 P s = problemOf (s .args .n) 0 (s .args .t) (s .args .matrix .now) [] [] [] (s .args .inverse .now) []
 
-module _ (d : tie.After-defect-sizes Inv-loop μ-loop) where
-  sizes-here : (m j : ℕ) → m < d .before .args .n → j < d .before .args .n → getD (d .defect-sizes .result) (j * d .before .args .n + m) 0 ≡ natAbs (defect (P (d .before)) m j)
-  sizes-here = let s = d .before in sizes-at (s .args .n) (s .args .t) (s .args .matrix .now) (s .args .inverse .now) (s .pre .0 .0) (s .pre .0 .1) (s .pre .1 .0) (s .pre .1 .1) (d .defect-sizes .ensures)
+module _ (d : tie.After-defect-magnitudes Inv-loop μ-loop) where
+  magnitudes-here : (m j : ℕ) → m < d .before .args .n → j < d .before .args .n → getD (d .defect-magnitudes .result) (j * d .before .args .n + m) 0 ≡ natAbs (defect (P (d .before)) m j)
+  magnitudes-here = let s = d .before in magnitudes-at (s .args .n) (s .args .t) (s .args .matrix .now) (s .args .inverse .now) (s .pre .0 .0) (s .pre .0 .1) (s .pre .1 .0) (s .pre .1 .1) (d .defect-magnitudes .ensures)
 
-  small-here : Below (d .defect-sizes .result) (d .before .args .n * d .before .args .n) (2 ^ 46)
-  small-here = let s = d .before in sizes-below (s .args .n) (s .args .t) (s .args .matrix .now) (s .args .inverse .now) (s .pre .0 .0) (s .pre .0 .1) (s .pre .1 .0) (s .pre .1 .1) (d .defect-sizes .ensures)
+  small-here : Below (d .defect-magnitudes .result) (d .before .args .n * d .before .args .n) (2 ^ 46)
+  small-here = let s = d .before in magnitudes-below (s .args .n) (s .args .t) (s .args .matrix .now) (s .args .inverse .now) (s .pre .0 .0) (s .pre .0 .1) (s .pre .1 .0) (s .pre .1 .1) (d .defect-magnitudes .ensures)
 
 -- the sums of the list that is tried
 module _ (c : tie.After-loads-of Inv-loop μ-loop) where
@@ -56,7 +56,7 @@ module _ (c : tie.After-loads-of Inv-loop μ-loop) where
   list = tried (P (start c)) (turn c .before .loop .passed)
 
   sums : Begins 0 (c .loads-of .result) (start c .args .n) (loads (P (start c)) list)
-  sums = begins-as 0 _ (loads (P (start c)) list) (load-is (P (start c)) list (turn c .before .loop .inv .1 .0) (sized (turn c) .defect-sizes .result) (sizes-here (sized (turn c)))) (c .loads-of .ensures)
+  sums = begins-as 0 _ (loads (P (start c)) list) (load-is (P (start c)) list (turn c .before .loop .inv .1 .0) (sized (turn c) .defect-magnitudes .result) (magnitudes-here (sized (turn c)))) (c .loads-of .ensures)
 
   test-is : leb (start c .args .n) (first (start c .args .n) (λ (m : ℕ). eqb (storedMargin (start c .args .t) (c .loads-of .result) (turn c .before .loop .weights) m) 0)) ≡ good (P (start c)) list
   test-is = good-is (P (start c)) list (turn c .before .loop .inv .1 .0) sums
@@ -69,8 +69,8 @@ module _ (c : tie.After-is-good Inv-loop μ-loop) where
   told : (b : Bool) → c .is-good .result ≡ b → good (P (start sums-of)) (list sums-of) ≡ b
   told b e = rw (c .is-good .ensures, test-is sums-of) at e
 
-defect-sizes-requires : tie.Need-defect-sizes-requires Inv-loop μ-loop
-defect-sizes-requires c κs = search needs
+defect-magnitudes-requires : tie.Need-defect-magnitudes-requires Inv-loop μ-loop
+defect-magnitudes-requires c κs = search needs
 
 loop-holds : tie.Need-loop-holds Inv-loop μ-loop
 loop-holds c = (omega arith, (ones (P (c .before)) (c .before .pre .0 .1), λ k l. absurd (omega arith)))
@@ -133,7 +133,7 @@ search-spec =
     (tie.spec
     Inv-loop
     μ-loop
-    defect-sizes-requires
+    defect-magnitudes-requires
     loop-holds
     loads-of-requires
     is-good-requires

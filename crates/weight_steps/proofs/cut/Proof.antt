@@ -1,13 +1,13 @@
 use Prim.Native.Nat.{_*_, _≤_, _^_}
 use native.Mathlib.Omega.{arith}
 use native.Mathlib.Nat.{mul-le-mul}
-use Rattle.reckoning.proofs.Sizes.{power-size}
+use Rattle.reckoning.proofs.Magnitudes.{power-magnitude}
 use borrow.Author.Needs.{needs}
 use Rattle.weight_steps.proofs.cut.Statement.{statement}
 use Rattle.weight_steps.proofs.cut.Tie as tie
 
 full-small : (c : tie.After-power) → c .power .result * c .before .args .w ≤ 2 ^ 20 * 1024
-full-small c = rw (c .power .ensures) (mul-le-mul (power-size _ (c .before .pre .0)) (c .before .pre .1))
+full-small c = rw (c .power .ensures) (mul-le-mul (power-magnitude _ (c .before .pre .0)) (c .before .pre .1))
 
 power-requires : tie.Need-power-requires
 power-requires c κs = search needs

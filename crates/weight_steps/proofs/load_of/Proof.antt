@@ -13,17 +13,17 @@ use Rattle.weight_steps.proofs.load_of.Statement.{statement}
 use Rattle.weight_steps.proofs.load_of.Tie as tie
 
 abbrev Inv-loop : tie.InvT-loop
-Inv-loop sizes weights n m sum₀ place₀ j₀ sum place j = (j ≤ n) × (Carried m n j place × (sum ≡ sumℕ j (λ (k : ℕ). getD sizes (k * n + m) 0 * getD weights k 0)))
+Inv-loop magnitudes weights n m sum₀ place₀ j₀ sum place j = (j ≤ n) × (Carried m n j place × (sum ≡ sumℕ j (λ (k : ℕ). getD magnitudes (k * n + m) 0 * getD weights k 0)))
 
 abbrev μ-loop : tie.MeasureT-loop
-μ-loop sizes weights n m sum₀ place₀ j₀ sum place j = n - j
+μ-loop magnitudes weights n m sum₀ place₀ j₀ sum place j = n - j
 
 -- the start, from the turn
 abbrev start : tie.In-loop Inv-loop μ-loop → tie.Start Inv-loop μ-loop
 start c = c .before .before
 
-sized : (s : tie.Start Inv-loop μ-loop) (j : ℕ) → j < s .args .n → getD (s .args .sizes .now) (j * s .args .n + s .args .m) 0 * getD (s .args .weights .now) j 0 ≤ 2 ^ 56
-sized s j l = mul-le-mul (s .pre .1 .0 .each _ (place l (s .pre .0 .1))) (s .pre .1 .1 .each j l)
+term-magnitude : (s : tie.Start Inv-loop μ-loop) (j : ℕ) → j < s .args .n → getD (s .args .magnitudes .now) (j * s .args .n + s .args .m) 0 * getD (s .args .weights .now) j 0 ≤ 2 ^ 56
+term-magnitude s j l = mul-le-mul (s .pre .1 .0 .each _ (place l (s .pre .0 .1))) (s .pre .1 .1 .each j l)
 
 module _ (c : tie.In-loop Inv-loop μ-loop) where
   inside : c .before .loop .j * start c .args .n + start c .args .m < start c .args .n * start c .args .n
@@ -49,7 +49,7 @@ weigh-at-requires c κs =
       (
         (short t, s .pre .1 .0 .each _ (inside t)),
         (
-          omega (arith, t .before .loop .inv .1 .1, sumℕ≤ (t .before .loop .j) (2 ^ 56) _ (λ k l. sized s k (omega arith))),
+          omega (arith, t .before .loop .inv .1 .1, sumℕ≤ (t .before .loop .j) (2 ^ 56) _ (λ k l. term-magnitude s k (omega arith))),
           s .pre .1 .1 .each _ (t .loop-test .taken),
         ),
       ),

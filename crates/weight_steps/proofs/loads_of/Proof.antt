@@ -10,10 +10,10 @@ use Rattle.weight_steps.proofs.loads_of.Statement.{statement}
 use Rattle.weight_steps.proofs.loads_of.Tie as tie
 
 abbrev Inv-loop : tie.InvT-loop
-Inv-loop sizes weights n out₀ m₀ out m = (m ≤ n) × ((length out ≡ 32) × Begins 0 out m (storedLoad n sizes weights))
+Inv-loop magnitudes weights n out₀ m₀ out m = (m ≤ n) × ((length out ≡ 32) × Begins 0 out m (storedLoad n magnitudes weights))
 
 abbrev μ-loop : tie.MeasureT-loop
-μ-loop sizes weights n out₀ m₀ out m = n - m
+μ-loop magnitudes weights n out₀ m₀ out m = n - m
 
 loop-holds : tie.Need-loop-holds Inv-loop μ-loop
 loop-holds c = (omega arith, (refl, begins-none _ _ _))

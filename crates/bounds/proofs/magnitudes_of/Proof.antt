@@ -6,17 +6,17 @@ use Rattle.integer.proofs.Machine.{read}
 use Rattle.linear.specs.Place.{Carried}
 use Rattle.linear.proofs.Carried.{carried-first, carried-next}
 use Rattle.raised_rows.proofs.Filling.{rows-room}
-use Rattle.raised_rows.proofs.Lowering.{row-dot-size}
+use Rattle.raised_rows.proofs.Lowering.{row-dot-magnitude}
 use Rattle.reckoning.specs.Arrays.{Begins}
 use Rattle.reckoning.proofs.Filled.{begins-none, begins-more, begins-end}
-use Rattle.bounds.specs.Limits.{columnSize}
+use Rattle.bounds.specs.Limits.{columnMagnitude}
 use borrow.Author.Needs.{needs}
-use Rattle.bounds.proofs.sizes_of.Statement.{statement}
-use Rattle.bounds.proofs.sizes_of.Tie as tie
+use Rattle.bounds.proofs.magnitudes_of.Statement.{statement}
+use Rattle.bounds.proofs.magnitudes_of.Tie as tie
 
 abbrev Inv-loop : tie.InvT-loop
 Inv-loop rows residuals n out₀ row₀ m₀ out row m =
-    (m ≤ n) × (Carried 0 (n + 1) m row × ((length out ≡ 32) × Begins 0 out m (λ (i : ℕ). columnSize rows residuals n i 0)))
+    (m ≤ n) × (Carried 0 (n + 1) m row × ((length out ≡ 32) × Begins 0 out m (λ (i : ℕ). columnMagnitude rows residuals n i 0)))
 
 abbrev μ-loop : tie.MeasureT-loop
 μ-loop rows residuals n out₀ row₀ m₀ out row m = n - m
@@ -37,7 +37,7 @@ magnitude-requires : tie.Need-magnitude-requires Inv-loop μ-loop
 magnitude-requires c κs =
     let t = c .before in
     let s = start t in
-    rw (read _ (c .row-dot .ok), c .row-dot .ensures) (omega (arith, row-dot-size (s .pre .0) (s .pre .1 .0 .each (t .before .loop .m) (t .loop-test .taken) .small) (s .pre .1 .1 .small)))
+    rw (read _ (c .row-dot .ok), c .row-dot .ensures) (omega (arith, row-dot-magnitude (s .pre .0) (s .pre .1 .0 .each (t .before .loop .m) (t .loop-test .taken) .small) (s .pre .1 .1 .small)))
 
 mul-out : tie.Need-mul-out Inv-loop μ-loop
 mul-out c = search needs
@@ -75,8 +75,8 @@ loop-again c =
 returns : tie.Need-returns Inv-loop μ-loop
 returns c = begins-end 0 (c .before .loop .inv .0) (c .loop-test .left) (c .before .loop .inv .1 .1 .1)
 
-pub sizes-of-spec : {M : Type 1} → statement M
-sizes-of-spec =
+pub magnitudes-of-spec : {M : Type 1} → statement M
+magnitudes-of-spec =
     tie.close
     (tie.spec
     Inv-loop

@@ -10,21 +10,21 @@ use Rattle.linear.proofs.Written.{written-none, written-more, written-end, writ
 use Rattle.raised_rows.proofs.Filling.{rows-room}
 use Rattle.reckoning.specs.Arrays.{Begins}
 use Rattle.reckoning.proofs.Filled.{begins-none, begins-more, begins-end}
-use Rattle.bounds.specs.Limits.{columnSize}
+use Rattle.bounds.specs.Limits.{columnMagnitude}
 use Rattle.inverse_bounds.proofs.Mirrored.{known-kept}
 use borrow.Author.Needs.{needs}
-use Rattle.inverse_bounds.proofs.column_sizes.Statement.{statement}
-use Rattle.inverse_bounds.proofs.column_sizes.Tie as tie
+use Rattle.inverse_bounds.proofs.column_magnitudes.Statement.{statement}
+use Rattle.inverse_bounds.proofs.column_magnitudes.Tie as tie
 
 abbrev Inv-loop : tie.InvT-loop
 Inv-loop list₀ known rows residuals j place start n out₀ across₀ along₀ row₀ m₀ list out across along row m =
     (m ≤ n) × ((Carried j n m across × (Carried start 1 m along × Carried 0 (n + 1) m row)) × ((length out ≡ 32)
-    × (Begins 0 out m (λ (i : ℕ). columnSize rows residuals n i j) × (list ≡ written list₀ (j * n) 1 (λ (i : ℕ). columnSize rows residuals n i j) m))))
+    × (Begins 0 out m (λ (i : ℕ). columnMagnitude rows residuals n i j) × (list ≡ written list₀ (j * n) 1 (λ (i : ℕ). columnMagnitude rows residuals n i j) m))))
 
 abbrev μ-loop : tie.MeasureT-loop
 μ-loop list₀ known rows residuals j place start n out₀ across₀ along₀ row₀ m₀ list out across along row m = n - m
 
-abbrev turn : tie.After-size-at Inv-loop μ-loop → tie.In-loop Inv-loop μ-loop
+abbrev turn : tie.After-magnitude-at Inv-loop μ-loop → tie.In-loop Inv-loop μ-loop
 turn c = c .before .before
 
 abbrev start : tie.In-loop Inv-loop μ-loop → tie.Start Inv-loop μ-loop
@@ -48,8 +48,8 @@ loop-holds : tie.Need-loop-holds Inv-loop μ-loop
 loop-holds c =
     (omega arith, ((carried-first _ _, (carried-first _ _, carried-first _ _)), (refl, (begins-none _ _ _, sym (written-none _ _ _ _)))))
 
-size-at-requires : tie.Need-size-at-requires Inv-loop μ-loop
-size-at-requires c κs =
+magnitude-at-requires : tie.Need-magnitude-at-requires Inv-loop μ-loop
+magnitude-at-requires c κs =
     let t = c .before in
     let l = t .before .loop in
     let p = start t .pre in (
@@ -106,8 +106,8 @@ loop-again c =
         (
           simp length-set (i .1 .1 .0),
           (
-            begins-more _ _ _ _ _ (i .1 .1 .1 .0) (omega arith) (c .size-at .ensures),
-            written-more _ _ _ _ (turn c .before .loop .m) (i .1 .1 .1 .1) (along-is (turn c)) (c .size-at .ensures),
+            begins-more _ _ _ _ _ (i .1 .1 .1 .0) (omega arith) (c .magnitude-at .ensures),
+            written-more _ _ _ _ (turn c .before .loop .m) (i .1 .1 .1 .1) (along-is (turn c)) (c .magnitude-at .ensures),
           ),
         ),
       ),
@@ -121,14 +121,14 @@ returns c =
     let i = c .before .loop .inv in
     (begins-end 0 (i .0) (c .loop-test .left) (i .1 .1 .1 .0), i .1 .1 .1 .1 ∙ written-end _ _ _ _ (i .0) (c .loop-test .left))
 
-pub column-sizes-spec : {M : Type 1} → statement M
-column-sizes-spec =
+pub column-magnitudes-spec : {M : Type 1} → statement M
+column-magnitudes-spec =
     tie.close
     (tie.spec
     Inv-loop
     μ-loop
     loop-holds
-    size-at-requires
+    magnitude-at-requires
     mul-out
     array-write-out
     mul-list

@@ -6,14 +6,14 @@ use Rattle.integer.proofs.Machine.{read}
 use Rattle.linear.specs.Slice.{at}
 use Rattle.linear.proofs.Carried.{unit-place}
 use borrow.Author.Needs.{needs}
-use Rattle.row_sums.proofs.add_size.Statement.{statement}
-use Rattle.row_sums.proofs.add_size.Tie as tie
+use Rattle.row_sums.proofs.add_magnitude.Statement.{statement}
+use Rattle.row_sums.proofs.add_magnitude.Tie as tie
 
 -- the size of number j, at the place that was carried to it
-size-is : (c : tie.After-magnitude) →
+magnitude-is : (c : tie.After-magnitude) →
     let s = c .before .before in
     c .magnitude .result ≡ natAbs (at (s .args .matrix .now) (s .args .row + s .args .j))
-size-is c = rw (read _ (c .before .magnitude-arg .given), unit-place (c .before .before .pre .0)) at (c .magnitude .ensures)
+magnitude-is c = rw (read _ (c .before .magnitude-arg .given), unit-place (c .before .before .pre .0)) at (c .magnitude .ensures)
 
 mul-magnitude : tie.Need-mul-magnitude
 mul-magnitude c = search needs
@@ -26,12 +26,12 @@ magnitude-requires c κs =
     let s = c .before in rw (read _ (c .magnitude-arg .given), unit-place (s .pre .0)) (omega (arith, s .pre .1 .0 .1))
 
 add-result : tie.Need-add-result
-add-result c = let s = c .before .before in omega (arith, size-is c, s .pre .1 .0 .1, s .pre .1 .1)
+add-result c = let s = c .before .before in omega (arith, magnitude-is c, s .pre .1 .0 .1, s .pre .1 .1)
 
 returns : tie.Need-returns
-returns c = ap (λ (x : ℕ). c .before .before .args .sum + x) (size-is c)
+returns c = ap (λ (x : ℕ). c .before .before .args .sum + x) (magnitude-is c)
 
-pub add-size-spec : {M : Type 1} → statement M
-add-size-spec =
+pub add-magnitude-spec : {M : Type 1} → statement M
+add-magnitude-spec =
     tie.close
     (tie.spec mul-magnitude shared-slice-copy-out-magnitude magnitude-requires add-result returns)

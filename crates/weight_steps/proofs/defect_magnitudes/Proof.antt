@@ -10,11 +10,11 @@ use Rattle.reckoning.specs.Arrays.{Begins}
 use Rattle.reckoning.specs.Parts.{columnResidual}
 use Rattle.reckoning.proofs.Columns.{in-square}
 use Rattle.reckoning.proofs.Filled.{begins-none, begins-more, begins-end}
-use Rattle.reckoning.proofs.Sizes.{raisable, residual-size}
+use Rattle.reckoning.proofs.Magnitudes.{raisable, residual-magnitude}
 use Rattle.differences.proofs.Product.{residual-of-rows}
 use borrow.Author.Needs.{needs}
-use Rattle.weight_steps.proofs.defect_sizes.Statement.{statement}
-use Rattle.weight_steps.proofs.defect_sizes.Tie as tie
+use Rattle.weight_steps.proofs.defect_magnitudes.Statement.{statement}
+use Rattle.weight_steps.proofs.defect_magnitudes.Tie as tie
 
 abbrev Inv-loop : tie.InvT-loop
 Inv-loop t matrix inverse n columns out₀ i₀ i-end out i = (i ≤ n * n) × ((length out ≡ 1024) × Begins 0 out i (λ (k : ℕ). natAbs (columnResidual n t inverse matrix (k / n) (k % n))))
@@ -46,7 +46,7 @@ module _ (c : tie.In-loop Inv-loop μ-loop) where
       let i = c .before .loop .i in
       let l = in-square (s .args .n) i (c .loop-test .taken) in
       rw residual-is
-      (omega (arith, residual-size (s .args .n) (s .args .t) (s .args .inverse .now) (s .args .matrix .now) (s .pre .0 .0) (s .pre .0 .1) (s .pre .1 .1) (s .pre .1 .0) (i / s .args .n) (i % s .args .n) (l .0) (l .1)))
+      (omega (arith, residual-magnitude (s .args .n) (s .args .t) (s .args .inverse .now) (s .args .matrix .now) (s .pre .0 .0) (s .pre .0 .1) (s .pre .1 .1) (s .pre .1 .0) (i / s .args .n) (i % s .args .n) (l .0) (l .1)))
 
   inside : c .before .loop .i < 1024
   inside = omega (arith, square (start c .pre .0 .1), c .loop-test .taken)
@@ -109,8 +109,8 @@ loop-again c =
 returns : tie.Need-returns Inv-loop μ-loop
 returns c = begins-end _ (c .before .loop .inv .0) (c .loop-test .left) (c .before .loop .inv .1 .1)
 
-pub defect-sizes-spec : {M : Type 1} → statement M
-defect-sizes-spec =
+pub defect-magnitudes-spec : {M : Type 1} → statement M
+defect-magnitudes-spec =
     tie.close
     (tie.spec
     Inv-loop

@@ -2,10 +2,10 @@ use Prim.Native.Nat.{_*_, _<_}
 use native.Mathlib.Omega.{arith}
 use Rattle.integer.proofs.Machine.{read}
 use Rattle.linear.proofs.Places.{place, square}
-use Rattle.raised_rows.proofs.Lowering.{row-dot-size}
+use Rattle.raised_rows.proofs.Lowering.{row-dot-magnitude}
 use Rattle.inverse_bounds.proofs.Mirrored.{known-across}
-use Rattle.inverse_bounds.proofs.size_at.Statement.{statement}
-use Rattle.inverse_bounds.proofs.size_at.Tie as tie
+use Rattle.inverse_bounds.proofs.magnitude_at.Statement.{statement}
+use Rattle.inverse_bounds.proofs.magnitude_at.Tie as tie
 
 inside : (s : tie.Start) → s .args .across < s .args .n * s .args .n
 inside s = omega (arith, s .pre .1 .0 .0 .is, place (s .pre .0 .1 .0) (s .pre .0 .1 .1 .0))
@@ -30,13 +30,13 @@ magnitude-requires : tie.Need-magnitude-requires
 magnitude-requires c κs =
     let s = c .before .before .before .before .before in
     let p = s .pre in
-    rw (read _ (c .row-dot .ok), c .row-dot .ensures) (omega (arith, row-dot-size (p .0 .0) (p .1 .1 .0 .0 .each (s .args .m) (p .0 .1 .0) .small) (p .1 .1 .0 .1 .small)))
+    rw (read _ (c .row-dot .ok), c .row-dot .ensures) (omega (arith, row-dot-magnitude (p .0 .0) (p .1 .1 .0 .0 .each (s .args .m) (p .0 .1 .0) .small) (p .1 .1 .0 .1 .small)))
 
 returns-2 : tie.Need-returns-2
 returns-2 c = rw (read _ (c .before .row-dot .ok), c .before .row-dot .ensures) at (c .magnitude .ensures)
 
-pub size-at-spec : {M : Type 1} → statement M
-size-at-spec =
+pub magnitude-at-spec : {M : Type 1} → statement M
+magnitude-at-spec =
     tie.close
     (tie.spec
     mul-result

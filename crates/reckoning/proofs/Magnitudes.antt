@@ -1,9 +1,9 @@
 -- Sizes of the reckoning's numbers, all within an i64.
---   power-size, unit-same, unit-other, unit-size, scaled-size — of 2^t, of the numbers of T·I and of S·b
+--   power-magnitude, unit-same, unit-other, unit-magnitude, scaled-magnitude — of 2^t, of the numbers of T·I and of S·b
 --   raisable — a matrix list, as `raise_rows` and `raise_columns` ask for it
 --   Ranged P, defect-most — n at most 32, t at most 20, A and G at most 2^20 in size: then |D_mj| ≤ 2^45 + 2^20
---   ranged-of, defect-size — of lists in these ranges;  residual-exchanged — a residual of the inverse is a number of D with the two matrices exchanged
---   residual-size — its size
+--   ranged-of, defect-magnitude — of lists in these ranges;  residual-exchanged — a residual of the inverse is a number of D with the two matrices exchanged
+--   residual-magnitude — its size
 --   column-ends — places of columns;  above-below, above-above — the code's test of a residual
 use mathlib.Core.Path.{_≡_, refl, sym, ap, subst}
 use mathlib.Core.Bool.{Bool, true, false, cond}
@@ -27,19 +27,19 @@ use Rattle.enclosure.specs.Problem.{Problem, problemOf}
 use Rattle.enclosure.specs.Reckoning.{defect, residual}
 use Rattle.reckoning.specs.Parts.{columnResidual, aboveAllowed}
 
-pub power-size : (t : ℕ) → t ≤ 20 → 2 ^ t ≤ 2 ^ 20
-power-size t h = pow-le-pow-right {n = 2} (omega arith) {i = t} {j = 20} h
+pub power-magnitude : (t : ℕ) → t ≤ 20 → 2 ^ t ≤ 2 ^ 20
+power-magnitude t h = pow-le-pow-right {n = 2} (omega arith) {i = t} {j = 20} h
 
-identity-size : (i j : ℕ) → natAbs (identity i j) ≤ 1
+identity-magnitude : (i j : ℕ) → natAbs (identity i j) ≤ 1
 unfolding identity
-identity-size i j = go (eqb i j)
+identity-magnitude i j = go (eqb i j)
   where
     go : (b : Bool) → natAbs (cond b (pos 1) (pos 0)) ≤ 1
     go true = lit≤ tt
     go false = lit≤ tt
 
-pub unit-size : (t i j : ℕ) → t ≤ 20 → natAbs (pos (2 ^ t) *ℤ identity i j) ≤ 2 ^ 20
-unit-size t i j h = rw (abs-* (pos (2 ^ t)) (identity i j)) (le-trans (mul-le-mul (power-size t h) (identity-size i j)) (lit≤ tt))
+pub unit-magnitude : (t i j : ℕ) → t ≤ 20 → natAbs (pos (2 ^ t) *ℤ identity i j) ≤ 2 ^ 20
+unit-magnitude t i j h = rw (abs-* (pos (2 ^ t)) (identity i j)) (le-trans (mul-le-mul (power-magnitude t h) (identity-magnitude i j)) (lit≤ tt))
 
 pub unit-same : (x i j : ℕ) → i ≡ j → pos x ≡ pos x *ℤ identity i j
 unit-same x i j e = rw (e, identity-same j) (ap pos (omega arith))
@@ -47,12 +47,12 @@ unit-same x i j e = rw (e, identity-same j) (ap pos (omega arith))
 pub unit-other : (x i j : ℕ) → (i ≡ j → ⊥) → pos 0 ≡ pos x *ℤ identity i j
 unit-other x i j e = rw (identity-other i j e) (ap pos (omega arith))
 
-pub scaled-size : (s : ℕ) (b : ℤ) → s ≤ 20 → natAbs b ≤ 2 ^ 30 → natAbs (pos (2 ^ s) *ℤ b) ≤ 2 ^ 50
-scaled-size s b h k = rw (abs-* (pos (2 ^ s)) b) (le-trans (mul-le-mul (power-size s h) k) (lit≤ tt))
+pub scaled-magnitude : (s : ℕ) (b : ℤ) → s ≤ 20 → natAbs b ≤ 2 ^ 30 → natAbs (pos (2 ^ s) *ℤ b) ≤ 2 ^ 50
+scaled-magnitude s b h k = rw (abs-* (pos (2 ^ s)) b) (le-trans (mul-le-mul (power-magnitude s h) k) (lit≤ tt))
 
 -- a matrix list, as `raise_rows` and `raise_columns` ask for it
 pub raisable : {xs : List ℤ} {n : ℕ} → MatrixList xs n → ColumnList xs (n * n) raisedBy
-raisable q = record { long = q .long; within = record { size = λ k l. le-trans (q .within .size k l) (lit≤ tt) } }
+raisable q = record { long = q .long; within = record { magnitudes = λ k l. le-trans (q .within .magnitudes k l) (lit≤ tt) } }
 
 -- the numbers of D, for a problem in 01's ranges
 pub record Ranged (P : Problem) : Type 0 where
@@ -67,7 +67,7 @@ defect-most P r m j lm lj =
     omega (
       arith,
       abs-sub (pos (2 ^ P .t) *ℤ identity m j) (sum (P .n) (λ (k : ℕ). P .G m k *ℤ P .A k j)),
-      unit-size (P .t) m j (r .scale),
+      unit-magnitude (P .t) m j (r .scale),
       abs-sum≤ (P .n) (2 ^ 40) (λ (k : ℕ). P .G m k *ℤ P .A k j)
           (λ k lk. rw (abs-* (P .G m k) (P .A k j)) (mul-le-mul (r .inverse m k lm lk) (r .matrix k j lk lj))),
       mul-le-mul-right (2 ^ 40) (r .few),
@@ -79,20 +79,20 @@ module _ (n t : ℕ) (matrix inverse : List ℤ) (ht : t ≤ 20) (few : n ≤ 32
   ranged-of = record {
     few = few;
     scale = ht;
-    matrix = λ i j li lj. hm .within .size (i * n + j) (place li lj);
-    inverse = λ i j li lj. hi .within .size (i * n + j) (place li lj);
+    matrix = λ i j li lj. hm .within .magnitudes (i * n + j) (place li lj);
+    inverse = λ i j li lj. hi .within .magnitudes (i * n + j) (place li lj);
   }
 
-  pub defect-size : (m j : ℕ) → m < n → j < n → natAbs (defect (problemOf n 0 t matrix [] [] [] inverse []) m j) ≤ 2 ^ 46
-  defect-size m j lm lj = omega (arith, defect-most (problemOf n 0 t matrix [] [] [] inverse []) ranged-of m j lm lj)
+  pub defect-magnitude : (m j : ℕ) → m < n → j < n → natAbs (defect (problemOf n 0 t matrix [] [] [] inverse []) m j) ≤ 2 ^ 46
+  defect-magnitude m j lm lj = omega (arith, defect-most (problemOf n 0 t matrix [] [] [] inverse []) ranged-of m j lm lj)
 
 pub residual-exchanged : (n t : ℕ) (matrix inverse : List ℤ) (j k : ℕ) → columnResidual n t matrix inverse j k ≡ defect (problemOf n 0 t inverse [] [] [] matrix []) k j
 unfolding residual defect product
 residual-exchanged n t matrix inverse j k = refl
 
-pub residual-size : (n t : ℕ) (matrix inverse : List ℤ) → t ≤ 20 → n ≤ 32 → MatrixList matrix n → MatrixList inverse n →
+pub residual-magnitude : (n t : ℕ) (matrix inverse : List ℤ) → t ≤ 20 → n ≤ 32 → MatrixList matrix n → MatrixList inverse n →
     (j k : ℕ) → j < n → k < n → natAbs (columnResidual n t matrix inverse j k) ≤ 2 ^ 46
-residual-size n t matrix inverse ht few hm hi j k lj lk = rw (residual-exchanged n t matrix inverse j k) (defect-size n t inverse matrix ht few hi hm k j lk lj)
+residual-magnitude n t matrix inverse ht few hm hi j k lj lk = rw (residual-exchanged n t matrix inverse j k) (defect-magnitude n t inverse matrix ht few hi hm k j lk lj)
 
 -- places of a column stay small
 pub column-ends : {j n : ℕ} → j < n → n ≤ 32 → j + n * n < 2048

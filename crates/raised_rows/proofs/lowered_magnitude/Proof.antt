@@ -2,8 +2,8 @@ use mathlib.Core.Path.{sym}
 use native.Mathlib.Omega.{arith}
 use Rattle.raised_rows.proofs.Lowering.{lowered-below, lowered-above}
 use borrow.Author.Needs.{needs}
-use Rattle.raised_rows.proofs.lowered_size.Statement.{statement}
-use Rattle.raised_rows.proofs.lowered_size.Tie as tie
+use Rattle.raised_rows.proofs.lowered_magnitude.Statement.{statement}
+use Rattle.raised_rows.proofs.lowered_magnitude.Tie as tie
 
 sub-result : tie.Need-sub-result
 sub-result c = search needs
@@ -14,5 +14,5 @@ returns c = sym (lowered-below _ (omega (arith, c .if1 .taken)))
 returns-2 : tie.Need-returns-2
 returns-2 c = sym (lowered-above _ (c .if1 .left))
 
-pub lowered-size-spec : {M : Type 1} → statement M
-lowered-size-spec = tie.close (tie.spec sub-result returns returns-2)
+pub lowered-magnitude-spec : {M : Type 1} → statement M
+lowered-magnitude-spec = tie.close (tie.spec sub-result returns returns-2)

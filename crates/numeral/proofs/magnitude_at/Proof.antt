@@ -1,9 +1,9 @@
 use native.Mathlib.Omega.{arith}
 use Rattle.numeral.proofs.Places.{inside-byte}
-use Rattle.numeral.proofs.Steps.{size-zero, size-other, size-run, digit-inside}
+use Rattle.numeral.proofs.Steps.{magnitude-zero, magnitude-other, magnitude-run, digit-inside}
 use borrow.Author.Needs.{needs}
-use Rattle.numeral.proofs.size_at.Statement.{statement}
-use Rattle.numeral.proofs.size_at.Tie as tie
+use Rattle.numeral.proofs.magnitude_at.Statement.{statement}
+use Rattle.numeral.proofs.magnitude_at.Tie as tie
 
 byte-at-requires : tie.Need-byte-at-requires
 byte-at-requires c κs = search needs
@@ -14,7 +14,7 @@ add-t5 c =
     omega (arith, inside-byte (a .s .now) (a .at) (c .before .byte-at .ensures) (omega arith))
 
 returns : tie.Need-returns
-returns c = (size-zero _ _ (c .before .byte-at .ensures) (c .if1 .taken), search needs)
+returns c = (magnitude-zero _ _ (c .before .byte-at .ensures) (c .if1 .taken), search needs)
 
 digit-requires : tie.Need-digit-requires
 digit-requires c κs = search needs
@@ -25,7 +25,7 @@ add-t8 c = search needs
 returns-2 : tie.Need-returns-2
 returns-2 c =
     let b = c .before .before in
-    (size-other _ _ (b .before .byte-at .ensures) (b .if1 .left) (c .before .digit .ensures .0) (c .if2 .taken), search needs)
+    (magnitude-other _ _ (b .before .byte-at .ensures) (b .if1 .left) (c .before .digit .ensures .0) (c .if2 .taken), search needs)
 
 run-at-requires : tie.Need-run-at-requires
 run-at-requires c κs =
@@ -36,12 +36,12 @@ run-at-requires c κs =
 returns-3 : tie.Need-returns-3
 returns-3 c =
     let b = c .before .before .before in (
-      size-run _ _ (b .before .byte-at .ensures) (b .if1 .left) (c .before .before .digit .ensures .0) (c .before .if2 .left) (c .run-at .ensures),
+      magnitude-run _ _ (b .before .byte-at .ensures) (b .if1 .left) (c .before .before .digit .ensures .0) (c .before .if2 .left) (c .run-at .ensures),
       rw (c .run-at .ensures) (omega arith),
     )
 
-pub size-at-spec : {M : Type 1} → statement M
-size-at-spec =
+pub magnitude-at-spec : {M : Type 1} → statement M
+magnitude-at-spec =
     tie.close
     (tie.spec
     byte-at-requires

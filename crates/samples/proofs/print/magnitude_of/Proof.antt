@@ -7,8 +7,8 @@ use lib.IntN.{ℤ, pos, negsuc, natAbs}
 use lib.Signed.{ltZ, mag}
 use Rattle.integer.proofs.Machine.{read}
 use borrow.Author.Needs.{needs}
-use Rattle.samples.proofs.print.size_of.Statement.{statement}
-use Rattle.samples.proofs.print.size_of.Tie as tie
+use Rattle.samples.proofs.print.magnitude_of.Statement.{statement}
+use Rattle.samples.proofs.print.magnitude_of.Tie as tie
 
 above : (z : ℤ) → mag z < 2 ^ 63 → ltZ z (negsuc 9223372036854775806) ≡ false → natAbs z < 2 ^ 63
 above (pos n) f h = f
@@ -25,5 +25,5 @@ magnitude-requires c κs =
 returns-2 : tie.Need-returns-2
 returns-2 c = search needs
 
-pub size-of-spec : {M : Type 1} → statement M
-size-of-spec = tie.close (tie.spec returns magnitude-requires returns-2)
+pub magnitude-of-spec : {M : Type 1} → statement M
+magnitude-of-spec = tie.close (tie.spec returns magnitude-requires returns-2)
