@@ -35,7 +35,8 @@ use Rattle.loader.specs.declared.Loader.{Loader}
 use Rattle.loader.specs.Answer.{caseOf, lineAnswer}
 use Rattle.loader.specs.Taken.{loaderAfter, listsAfter}
 use Rattle.line_runs.specs.Accepts.{Made}
-use Rattle.line_runs.specs.Before.{orderBefore, answerBefore, loaderBefore, listsBefore, ThreeOrFour, three, four, Becomes12, part, second-problem, second-scale, OwnSize}
+use Rattle.line_runs.specs.Before.{orderBefore, answerBefore, loaderBefore, listsBefore, ThreeOrFour, three, four, Becomes12, part, second-problem, second-scale}
+use Rattle.line_runs.specs.OwnSize.{OwnSize}
 use Rattle.line_runs.proofs.Sound.{made-size}
 
 -- ---- 3 or 4

@@ -4,15 +4,12 @@
 --   readBefore k u lines — the lines at the state u, after k others;  refusedBefore u lines — the first of them that was refused
 --   Becomes12 d x w — w, said before of the form x at the loader d, becomes 12 (02: "exactly each 3 or 4 for a kind and i given already, i in range, and each 3
 --     for a second problem or scale form");  ThreeOrFour w — w is 3 or 4
---   OwnSize d     — the loader's own n is in its range once it was given, as it is at every loader made by `new` and `take`
 use mathlib.Core.Bool.{true}
 use mathlib.Core.List.{List, [], _∷_}
 use mathlib.Core.Path.{_≡_}
 use Prim.Native.Nat.{ℕ, _+_}
-use lib.IntN.{ℤ, pos, natAbs}
+use lib.IntN.{ℤ, natAbs}
 use Rattle.rules.specs.Order.{Test, number, verdict, ifAccepted}
-use Rattle.rules.specs.Range.{inRange}
-use Rattle.rules.specs.declared.Kind.the-variants.{Size}
 use Rattle.form.specs.Form.{Form}
 use Rattle.form.specs.Reading.{reading}
 use Rattle.form_values.specs.Item.{itemOf, placed}
@@ -72,6 +69,3 @@ pub data Becomes12 (d : Loader) : Item → List ℕ → Type 0 where
   part : {p : Part} {i : ℤ} {w : List ℕ} → given (d .sets) p (natAbs i) ≡ true → placed (d .n) (Of p i) ≡ true → ThreeOrFour w → Becomes12 d (Of p i) w
   second-problem : {n : ℤ} → sized (d .stage) ≡ true → Becomes12 d (Problem n) (3 ∷ [])
   second-scale : {s t : ℤ} → scaled (d .stage) ≡ true → Becomes12 d (Scale s t) (3 ∷ [])
-
-abbrev pub OwnSize : Loader → Type 0
-OwnSize d = sized (d .stage) ≡ true → inRange Size (pos (d .n)) ≡ true

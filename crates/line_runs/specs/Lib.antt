@@ -5,6 +5,7 @@ pub mod Accepts
 pub mod Given
 pub mod Read
 pub mod Holds
+pub mod OwnSize
 pub mod Before
 pub mod Acceptable
 pub mod Respelled

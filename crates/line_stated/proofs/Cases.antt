@@ -20,7 +20,8 @@ use Rattle.loader.specs.Answer.{lineAnswer}
 use Rattle.loader.specs.Taken.{fresh}
 use Rattle.line_runs.specs.Read.{zeros}
 use Rattle.line_stated.specs.Cases.{LineRow, afterForms, lineRows, RowsStated, shortOnes, forged}
-use Rattle.line_stated.specs.Stated.{LineStated, too-short, OwnSize, OtherStated}
+use Rattle.line_runs.specs.OwnSize.{OwnSize}
+use Rattle.line_stated.specs.Stated.{LineStated, too-short, OtherStated}
 use Rattle.line_stated.proofs.Stated.{line-exactly, other-exactly}
 
 abbrev RowsSaid : List LineRow → Type 0

@@ -22,7 +22,8 @@ use Rattle.loader_order.specs.Order.{lineOrder}
 use Rattle.loader.specs.declared.Loader.{Loader}
 use Rattle.loader.specs.Answer.{lineAnswer}
 use Rattle.loader.proofs.Exact.{formCase, formSaid, answer-form}
-use Rattle.line_stated.specs.Stated.{OwnSize, Formed, Unrepeated, LineStated, too-short, after-end, too-long, no-form, too-early, i-outside, again, value-outside, wrong-count, forms-missing, accepted}
+use Rattle.line_runs.specs.OwnSize.{OwnSize}
+use Rattle.line_stated.specs.Stated.{Formed, Unrepeated, LineStated, too-short, after-end, too-long, no-form, too-early, i-outside, again, value-outside, wrong-count, forms-missing, accepted}
 
 pub own-placed : (d : Loader) → OwnSize d → (x : Item) → misplaced (d .stage) (d .n) x ≡ not (placed (d .n) x)
 unfolding misplaced

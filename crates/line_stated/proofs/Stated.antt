@@ -31,7 +31,8 @@ use Rattle.loader.specs.Answer.{lineAnswer}
 use Rattle.loader.proofs.Exact.{formSaid}
 use Rattle.line_runs.specs.Accepts.{Made}
 use Rattle.line_runs.proofs.Sound.{made-size}
-use Rattle.line_stated.specs.Stated.{OwnSize, Formed, LineStated, too-short, after-end, too-long, no-form, too-early, i-outside, again, value-outside, wrong-count, forms-missing, accepted, OtherStated, own-size, no-such-form}
+use Rattle.line_runs.specs.OwnSize.{OwnSize}
+use Rattle.line_stated.specs.Stated.{Formed, LineStated, too-short, after-end, too-long, no-form, too-early, i-outside, again, value-outside, wrong-count, forms-missing, accepted, OtherStated, own-size, no-such-form}
 use Rattle.line_stated.proofs.Said.{own-placed, said-form, said-by}
 
 module _ (d : Loader) (l : Lists) (line : List ℕ) where

@@ -1,6 +1,5 @@
 -- What is said of a line at a loader, each refusal written out in the order 8, 14, 1, 2, 11, 3 for i, 12, 3 for values, 4, 13 (02, Paper 6): each case holds
 -- only where no earlier one does. Nothing here reads a line: that it is one of the eight forms, spelled exactly, is line ≡ spell f.
---   OwnSize d              — once problem was given, the loader's own n is in its range; so it is at every loader that `new` and `take` make
 --   Formed d l line f      — the line is the form f: none of 8, 14, 1 and 2
 --   Unrepeated d l line f  — and it comes neither too early, nor with its i out of range, nor a second time: none of 11, 3 for i and 12 either
 --   LineStated d l line w  — the case that is stated for w, at a loader d with its own n in range
@@ -9,19 +8,13 @@ use mathlib.Core.Bool.{true, false}
 use mathlib.Core.List.{List, [], _∷_}
 use mathlib.Core.Path.{_≡_}
 use Prim.Native.Nat.{ℕ, _≤_, _<_}
-use lib.IntN.{pos}
 use lib.ListN.{length}
-use Rattle.rules.specs.Range.{inRange}
-use Rattle.rules.specs.declared.Kind.the-variants.{Size}
 use Rattle.form.specs.Form.{Form}
 use Rattle.form.specs.Spelling.{spell}
 use Rattle.form_values.specs.Item.{itemOf, placed, outside, miscounted}
 use Rattle.lent_lists.specs.Lists.{Lists, shortLists}
-use Rattle.given_forms.specs.Progress.{missing, sized, ended, early, repeated, incomplete}
+use Rattle.given_forms.specs.Progress.{missing, ended, early, repeated, incomplete}
 use Rattle.loader.specs.declared.Loader.{Loader}
-
-abbrev pub OwnSize : Loader → Type 0
-OwnSize d = sized (d .stage) ≡ true → inRange Size (pos (d .n)) ≡ true
 
 pub record Formed (d : Loader) (l : Lists) (line : List ℕ) (f : Form) : Type 0 where
   pub long : shortLists l ≡ false

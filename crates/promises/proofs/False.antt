@@ -45,7 +45,8 @@ use Rattle.loader.specs.Taken.{TakenAs}
 use Rattle.loader.specs.declared.Loader.{Loader}
 use Rattle.loader.proofs.Said.{refused-leaves}
 use Rattle.line_runs.specs.Read.{zeros}
-use Rattle.line_stated.specs.Stated.{OwnSize, Unrepeated, forms-missing}
+use Rattle.line_runs.specs.OwnSize.{OwnSize}
+use Rattle.line_stated.specs.Stated.{Unrepeated, forms-missing}
 use Rattle.line_stated.proofs.Stated.{line-exactly}
 use Rattle.listing.specs.Cases.{wholeFile, wholeListing}
 use Rattle.listing.specs.Listing.{ListedAs}

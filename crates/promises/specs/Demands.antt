@@ -27,7 +27,8 @@ use Rattle.loader.specs.Taken.{TakenAs}
 use Rattle.loader.specs.declared.Loader.{Loader}
 use Rattle.loader.specs.declared.Taken.{Taken}
 use Rattle.line_runs.specs.Accepts.{Made}
-use Rattle.line_stated.specs.Stated.{OwnSize, LineStated, OtherStated}
+use Rattle.line_runs.specs.OwnSize.{OwnSize}
+use Rattle.line_stated.specs.Stated.{LineStated, OtherStated}
 use Rattle.form.specs.Form.{bytes}
 use Rattle.report.specs.Report.{reportOf}
 use Rattle.refusal.specs.Reply.{replyOf}
