@@ -8,18 +8,18 @@ use Prim.Native.Nat.{ℕ}
 use lib.ListN.{getD, length}
 use Rattle.linear.specs.Matrix.{Vec, Mat}
 use Rattle.enclosure.specs.Reckoning.{bound, inverseBound}
-use Rattle.checked.specs.Input.{Input, problem, short, inRanges}
-use Rattle.lower_half.specs.Half.{shortHalf}
-use Rattle.half.specs.Checked.{filledInput}
-use Rattle.given_forms.specs.Progress.{ended}
-use Rattle.given_forms.specs.declared.Stage.{Stage}
+use Rattle.check_spec.specs.Input.{Input, problem, short, inRanges}
+use Rattle.half_fill.specs.Half.{shortHalf}
+use Rattle.half_check.specs.Checked.{filledInput}
+use Rattle.loader_progress.specs.Progress.{ended}
+use Rattle.loader_progress.specs.declared.Stage.{Stage}
 use Rattle.listing.specs.Listing.{problemIn}
 use Rattle.listing.specs.Complete.{Complete}
-use Rattle.calls.specs.Exported.{CheckExported, ListingExported}
-use Rattle.calls.specs.Half.{HalfExported}
-use Rattle.calls.specs.Loader.{LoaderCheckExported}
-use Rattle.calls.proofs.Meaning.{zero-said, zero-answer}
-use Rattle.calls.proofs.Half.{half-zero}
+use Rattle.calls_spec.specs.Exported.{CheckExported, ListingExported}
+use Rattle.calls_spec.specs.Half.{HalfExported}
+use Rattle.calls_spec.specs.Loader.{LoaderCheckExported}
+use Rattle.calls_spec.proofs.Meaning.{zero-said, zero-answer}
+use Rattle.calls_spec.proofs.Half.{half-zero}
 use Rattle.good_limits.specs.Good.{FineRounded, OneStep, Good}
 use Rattle.accepted_limits.specs.Lists.{GoodLists, OneStepLists}
 use Rattle.accepted_limits.proofs.Lists.{checked-good, checked-one-step, half-good, half-one-step, through-good, through-one-step}

@@ -21,11 +21,11 @@ use Rattle.enclosure.specs.Demand.{RightSide}
 use Rattle.enclosure.specs.Reckoning.{defect, load, margin, residual, rowSum, exceeds, magnitudesWith, boundFrom, boundWith, bound}
 use Rattle.enclosure.specs.Quality.{trueError, NeverFar}
 use Rattle.enclosure.proofs.Demands.{encloses}
-use Rattle.checked.specs.Order.{answer}
-use Rattle.dependent.specs.Nets.{dependentOf}
-use Rattle.dependent.specs.Reckoning.{dependentResidual, dependentSlack, dependentBound}
-use Rattle.dependent.specs.Order.{dependentAnswer, jointAnswer}
-use Rattle.dependent.specs.Joint.{C₂₁, mainProblem, dependentProblem, JointSolution}
+use Rattle.check_spec.specs.Order.{answer}
+use Rattle.dependent_spec.specs.Nets.{dependentOf}
+use Rattle.dependent_spec.specs.Reckoning.{dependentResidual, dependentSlack, dependentBound}
+use Rattle.dependent_spec.specs.Order.{dependentAnswer, jointAnswer}
+use Rattle.dependent_spec.specs.Joint.{C₂₁, mainProblem, dependentProblem, JointSolution}
 use Rattle.good_limits.specs.Good.{OwnFactor}
 use Rattle.accepted_limits.specs.Example.{fork}
 

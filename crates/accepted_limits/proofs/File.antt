@@ -8,12 +8,12 @@ use Prim.Native.Nat.{ℕ}
 use lib.ListN.{take}
 use Rattle.linear.specs.Matrix.{Vec, Mat}
 use Rattle.enclosure.specs.Reckoning.{bound, inverseBound}
-use Rattle.checked.proofs.Contract.{said-sound}
-use Rattle.form.specs.Form.{bytes}
-use Rattle.line_runs.specs.Lines.{linesOf}
-use Rattle.line_runs.specs.Read.{readingOf}
-use Rattle.line_runs.specs.Run.{forms}
-use Rattle.refusal.specs.declared.FileAnswer.{FileAnswer}
+use Rattle.check_spec.proofs.Contract.{said-sound}
+use Rattle.line_form.specs.Form.{bytes}
+use Rattle.loader_runs.specs.Lines.{linesOf}
+use Rattle.loader_runs.specs.Read.{readingOf}
+use Rattle.loader_runs.specs.Run.{forms}
+use Rattle.listing_refusal.specs.declared.FileAnswer.{FileAnswer}
 use Rattle.file_check.proofs.Forms.{some, heavy}
 use Rattle.listing.specs.Listing.{problemIn, answerOf, ListedAs, AnsweredAs}
 use Rattle.listing.specs.Complete.{Complete}

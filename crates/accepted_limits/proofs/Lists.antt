@@ -17,16 +17,16 @@ use Rattle.rules.specs.declared.Outcome.{Outcome}
 use Rattle.rules.proofs.Verdicts.{accepted-new, nothing-is-not}
 use Rattle.enclosure.specs.Problem.{Problem}
 use Rattle.enclosure.specs.Reckoning.{bound, inverseBound}
-use Rattle.checked.specs.Checked.{solutionBoundsAfter, inverseBoundsAfter, Checked}
-use Rattle.checked.specs.Input.{Input, problem, short, inRanges}
-use Rattle.checked.specs.Order.{answer}
-use Rattle.checked.proofs.Contract.{answer-ready, said-sound}
-use Rattle.checked.proofs.Fit.{fit-of}
-use Rattle.checked.proofs.Statements.{accepted-usable}
-use Rattle.lower_half.specs.Half.{shortHalf}
-use Rattle.half.specs.Checked.{filledInput, CheckedHalf}
-use Rattle.given_forms.specs.Progress.{ended}
-use Rattle.given_forms.specs.declared.Stage.{Stage}
+use Rattle.check_spec.specs.Checked.{solutionBoundsAfter, inverseBoundsAfter, Checked}
+use Rattle.check_spec.specs.Input.{Input, problem, short, inRanges}
+use Rattle.check_spec.specs.Order.{answer}
+use Rattle.check_spec.proofs.Contract.{answer-ready, said-sound}
+use Rattle.check_spec.proofs.Fit.{fit-of}
+use Rattle.check_spec.proofs.Statements.{accepted-usable}
+use Rattle.half_fill.specs.Half.{shortHalf}
+use Rattle.half_check.specs.Checked.{filledInput, CheckedHalf}
+use Rattle.loader_progress.specs.Progress.{ended}
+use Rattle.loader_progress.specs.declared.Stage.{Stage}
 use Rattle.loader_order.specs.Through.{answerThrough, solutionBoundsThrough, inverseBoundsThrough, CheckedThrough}
 use Rattle.loader_order.proofs.Through.{answer-ended}
 use Rattle.good_limits.specs.Good.{FineRounded, Good}

@@ -15,15 +15,15 @@ use Rattle.enclosure.specs.Problem.{S}
 use Rattle.enclosure.specs.Reckoning.{defect, load, margin, residual, slack, magnitudesWith, boundWith, bound, inverseBound}
 use Rattle.enclosure.specs.Sound.{Margins}
 use Rattle.enclosure.proofs.Bounds.{bound-ext}
-use Rattle.checked.specs.Order.{answer}
-use Rattle.dependent.specs.Nets.{Nets, DependentNet, couplingOf, dependentOf}
-use Rattle.dependent.specs.Reckoning.{ownProblem, dependentResidual, dependentSlack, dependentBound}
-use Rattle.dependent.specs.Order.{dependentAnswer, jointAnswer, saidNets}
-use Rattle.dependent.specs.Together.{CheckedTogether}
-use Rattle.dependent.specs.declared.CheckedNets.{CheckedNets}
-use Rattle.dependent.proofs.Statements.{own-fit, passed-of, joint-main, joint-dependent}
-use Rattle.calls.specs.TwoNets.{DependentExported}
-use Rattle.calls.proofs.TwoNets.{together-zero}
+use Rattle.check_spec.specs.Order.{answer}
+use Rattle.dependent_spec.specs.Nets.{Nets, DependentNet, couplingOf, dependentOf}
+use Rattle.dependent_spec.specs.Reckoning.{ownProblem, dependentResidual, dependentSlack, dependentBound}
+use Rattle.dependent_spec.specs.Order.{dependentAnswer, jointAnswer, saidNets}
+use Rattle.dependent_spec.specs.Together.{CheckedTogether}
+use Rattle.dependent_spec.specs.declared.CheckedNets.{CheckedNets}
+use Rattle.dependent_spec.proofs.Statements.{own-fit, passed-of, joint-main, joint-dependent}
+use Rattle.calls_spec.specs.TwoNets.{DependentExported}
+use Rattle.calls_spec.proofs.TwoNets.{together-zero}
 use Rattle.good_limits.specs.Good.{Good}
 use Rattle.accepted_limits.specs.TwoNets.{dependentInSteps, GoodNets}
 use Rattle.good_limits.proofs.Good.{limits-good, good-as}

@@ -10,9 +10,9 @@ use lib.IntN.{pos, _-ℤ_, _*ℤ_}
 use lib.ListN.{getD}
 use Rattle.linear.specs.Matrix.{apply}
 use Rattle.enclosure.specs.Problem.{Problem, S}
-use Rattle.dependent.specs.Nets.{Nets, DependentNet, couplingOf, dependentOf}
-use Rattle.dependent.specs.Reckoning.{ownProblem, dependentSlack}
-use Rattle.dependent.specs.Joint.{mainProblem}
+use Rattle.dependent_spec.specs.Nets.{Nets, DependentNet, couplingOf, dependentOf}
+use Rattle.dependent_spec.specs.Reckoning.{ownProblem, dependentSlack}
+use Rattle.dependent_spec.specs.Joint.{mainProblem}
 use Rattle.good_limits.specs.Good.{Good}
 
 abbrev pub dependentInSteps : DependentNet → Problem

@@ -14,7 +14,7 @@ use Rattle.integer.proofs.Search.{largest-none, largest-next, largest-end, larg
 use Rattle.linear.specs.Reach.{ColumnList}
 use Rattle.integer.specs.Same.{sameNumber}
 use Rattle.rules.proofs.Every.{every-none, every-next, every-end}
-use Rattle.common.specs.Proposals.{allSame, mostSteps}
+use Rattle.common_spec.specs.Proposals.{allSame, mostSteps}
 use Rattle.common_ends.specs.Met.{limitAt, wideLimits, Fitting}
 
 module _ (f g : ℕ → ℤ) where

@@ -21,21 +21,21 @@ use Rattle.rules.specs.declared.Outcome.the-variants.{Accepted, Refused}
 use Rattle.rules.specs.declared.Refusal.{Refusal}
 use Rattle.rules.proofs.Ranges.{neither}
 use Rattle.enclosure.specs.Reckoning.{bound}
-use Rattle.checked.specs.Input.{Input, problem}
-use Rattle.checked.specs.Order.{answer}
-use Rattle.checked.proofs.Fit.{Fit}
-use Rattle.checked.proofs.Lengths.{Long, long-of}
-use Rattle.checked.proofs.Statements.{accepted-usable}
-use Rattle.checked.proofs.Written.{solution-written, accepted-fit, solution-at}
-use Rattle.common.specs.declared.Common.{Common}
-use Rattle.common.specs.Answer.{CommonAs}
-use Rattle.common.specs.Ends.{finer, lowEnd, highEnd}
-use Rattle.common.specs.Proposals.{Proposals, shortIntervals, sameEquations, mostSteps, tooWide}
-use Rattle.common.proofs.Contract.{long-low, long-high, common-wide, common-found}
-use Rattle.common.proofs.Equations.{same-of}
+use Rattle.check_spec.specs.Input.{Input, problem}
+use Rattle.check_spec.specs.Order.{answer}
+use Rattle.check_spec.proofs.Fit.{Fit}
+use Rattle.check_spec.proofs.Lengths.{Long, long-of}
+use Rattle.check_spec.proofs.Statements.{accepted-usable}
+use Rattle.check_spec.proofs.Written.{solution-written, accepted-fit, solution-at}
+use Rattle.common_spec.specs.declared.Common.{Common}
+use Rattle.common_spec.specs.Answer.{CommonAs}
+use Rattle.common_spec.specs.Ends.{finer, lowEnd, highEnd}
+use Rattle.common_spec.specs.Proposals.{Proposals, shortIntervals, sameEquations, mostSteps, tooWide}
+use Rattle.common_spec.proofs.Contract.{long-low, long-high, common-wide, common-found}
+use Rattle.common_spec.proofs.Equations.{same-of}
 use Rattle.common_ends.specs.Met.{limitAt, wideLimits, lowsOf, highsOf, Met, too-wide, narrow}
-use Rattle.held_check.specs.Held.{HeldAs}
-use Rattle.held_check.specs.declared.Held.{Held}
+use Rattle.check_held.specs.Held.{HeldAs}
+use Rattle.check_held.specs.declared.Held.{Held}
 
 module _ (Q : Proposals) where
   pub short-low : length (Q .low) < 32 → shortIntervals Q ≡ true

@@ -1,10 +1,10 @@
 // Two proposals for the same equations: each height's common interval (document 02, Paper 13).
-ghost use Rattle.common.specs.Answer.{CommonAs};
-ghost use Rattle.common.specs.Proposals.{proposal, proposals};
-use common::Common;
+ghost use Rattle.common_spec.specs.Answer.{CommonAs};
+ghost use Rattle.common_spec.specs.Proposals.{proposal, proposals};
+use check_held::check_held;
 use common_ends::are_equations_same;
 use common_ends::meet;
-use held_check::check_held;
+use common_spec::Common;
 use rules::COLUMN_LENGTH;
 use rules::Outcome;
 

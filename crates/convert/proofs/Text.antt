@@ -10,19 +10,19 @@ use lib.Seq.{take-at}
 use Rattle.rules.specs.Refusal.{numberOf, valuesOf}
 use Rattle.rules.specs.declared.Refusal.{Refusal}
 use Rattle.rules.proofs.Verdicts.{accepted-new}
-use Rattle.form.specs.Form.{bytes}
-use Rattle.listing_lines.specs.Line.{each, listLine}
-use Rattle.text.specs.Wrote.{Wrote}
-use Rattle.text.proofs.Wrote.{wider}
-use Rattle.refusal.specs.Refused.{printed, refusedOf}
-use Rattle.refusal.specs.Answered.{Answered}
-use Rattle.refusal.specs.declared.FileAnswer.{FileAnswer}
+use Rattle.line_form.specs.Form.{bytes}
+use Rattle.listing_text.specs.Line.{each, listLine}
+use Rattle.listing_text.specs.Wrote.{Wrote}
+use Rattle.listing_text.proofs.Wrote.{wider}
+use Rattle.listing_refusal.specs.Refused.{printed, refusedOf}
+use Rattle.listing_refusal.specs.Answered.{Answered}
+use Rattle.listing_refusal.specs.declared.FileAnswer.{FileAnswer}
 use Rattle.file_check.specs.Judged.{lineOr}
-use Rattle.old_edition.specs.declared.Conversion.{Conversion}
-use Rattle.old_edition.specs.declared.Converted.the-variants.{Length, Refused, NotConvertible}
-use Rattle.old_edition.specs.Converted.{saidConverted, lengthOf, convertAnswer, convertedText, ConvertedAt}
-use Rattle.old_edition.specs.File.{newFile}
-use Rattle.old_edition.proofs.Text.{text-is}
+use Rattle.convert_spec.specs.declared.Conversion.{Conversion}
+use Rattle.convert_spec.specs.declared.Converted.the-variants.{Length, Refused, NotConvertible}
+use Rattle.convert_spec.specs.Converted.{saidConverted, lengthOf, convertAnswer, convertedText, ConvertedAt}
+use Rattle.convert_spec.specs.File.{newFile}
+use Rattle.convert_spec.proofs.Text.{text-is}
 use Rattle.converter.proofs.Handed.{taken-text}
 
 abbrev pub Shown : List ℕ → ℕ → List ℕ → Type 0

@@ -14,26 +14,26 @@ use Rattle.integer.proofs.Search.{largest-ext}
 use Rattle.rules.specs.Refusal.{said, numberOf, valuesOf}
 use Rattle.rules.specs.declared.Outcome.the-variants.{Accepted, Refused}
 use Rattle.rules.specs.declared.Refusal.{Refusal}
-use Rattle.given_forms.specs.Progress.{ended}
-use Rattle.line_runs.specs.Holds.{InRange}
-use Rattle.line_runs.specs.Lines.{linesOf}
-use Rattle.line_runs.specs.Read.{readingOf}
-use Rattle.line_runs.specs.Run.{State, forms}
-use Rattle.line_runs.proofs.End.{FromForms}
+use Rattle.loader_progress.specs.Progress.{ended}
+use Rattle.loader_runs.specs.Holds.{InRange}
+use Rattle.loader_runs.specs.Lines.{linesOf}
+use Rattle.loader_runs.specs.Read.{readingOf}
+use Rattle.loader_runs.specs.Run.{State, forms}
+use Rattle.loader_runs.proofs.End.{FromForms}
 use Rattle.file.specs.declared.Collected.{Collected}
 use Rattle.file.specs.Read.{stateOf, ReadAs}
 use Rattle.listing.specs.Listing.{problemIn}
 use Rattle.listing.specs.Complete.{Complete}
 use Rattle.listing.proofs.Entire.{from, inside}
-use Rattle.old_edition.specs.declared.Converted.{Converted}
-use Rattle.old_edition.specs.declared.Converted.the-variants as converted
-use Rattle.old_edition.specs.Converted.{someTolerance, convertAnswer, Delivered, ConvertedAs, ConvertedAt}
-use Rattle.old_edition.specs.File.{oldFile, newFile}
-use Rattle.old_edition.specs.Numbers.{SameNumbers, SameTolerances}
-use Rattle.old_edition.proofs.Limits.{held-numbers, held-tolerances}
-use Rattle.old_edition.proofs.Same.{same-numbers}
-use Rattle.old_edition.proofs.Stated.{said-of-line, said-open, said-complete}
-use Rattle.conversion.specs.Written.{heldBy}
+use Rattle.convert_spec.specs.declared.Converted.{Converted}
+use Rattle.convert_spec.specs.declared.Converted.the-variants as converted
+use Rattle.convert_spec.specs.Converted.{someTolerance, convertAnswer, Delivered, ConvertedAs, ConvertedAt}
+use Rattle.convert_spec.specs.File.{oldFile, newFile}
+use Rattle.convert_spec.specs.Numbers.{SameNumbers, SameTolerances}
+use Rattle.convert_spec.proofs.Limits.{held-numbers, held-tolerances}
+use Rattle.convert_spec.proofs.Same.{same-numbers}
+use Rattle.convert_spec.proofs.Stated.{said-of-line, said-open, said-complete}
+use Rattle.convert_writer.specs.Written.{heldBy}
 use Rattle.converter.specs.Held.{InRangeAtEnd, heldAnswer}
 
 module _ (file : List ℕ) {c : Collected} (read : ReadAs file c) (e : c .outcome ≡ Accepted) where

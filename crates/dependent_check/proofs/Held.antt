@@ -22,19 +22,19 @@ use Rattle.rules.specs.declared.Refusal.the-variants.{TooShort}
 use Rattle.rules.proofs.Ranges.{or-right}
 use Rattle.rules.proofs.Verdicts.{accepted-new, accepted-old}
 use Rattle.enclosure.specs.Reckoning.{bound, inverseBound}
-use Rattle.checked.specs.Checked.{Checked}
-use Rattle.checked.specs.Input.{Input, problem, short}
-use Rattle.checked.specs.Order.{answer}
-use Rattle.checked.proofs.Contract.{answer-short}
-use Rattle.checked.proofs.Fit.{Fit}
-use Rattle.checked.proofs.Written.{solution-written, inverse-written, accepted-fit, inverse-place, checked-fit, checked-solution}
-use Rattle.dependent.specs.declared.CheckedNets.the-variants.{Accepted, Main, Dependent}
-use Rattle.dependent.specs.Nets.{Nets, dependentBy, dependentOf}
-use Rattle.dependent.specs.Order.{dependentAnswer}
-use Rattle.dependent.specs.Checked.{DependentAs}
-use Rattle.dependent.specs.Together.{CheckedTogether}
-use Rattle.dependent.proofs.Contract.{together-main, together-dependent, together-accepted, lent, lent-answer}
-use Rattle.dependent.proofs.Limits.{dependent-same}
+use Rattle.check_spec.specs.Checked.{Checked}
+use Rattle.check_spec.specs.Input.{Input, problem, short}
+use Rattle.check_spec.specs.Order.{answer}
+use Rattle.check_spec.proofs.Contract.{answer-short}
+use Rattle.check_spec.proofs.Fit.{Fit}
+use Rattle.check_spec.proofs.Written.{solution-written, inverse-written, accepted-fit, inverse-place, checked-fit, checked-solution}
+use Rattle.dependent_spec.specs.declared.CheckedNets.the-variants.{Accepted, Main, Dependent}
+use Rattle.dependent_spec.specs.Nets.{Nets, dependentBy, dependentOf}
+use Rattle.dependent_spec.specs.Order.{dependentAnswer}
+use Rattle.dependent_spec.specs.Checked.{DependentAs}
+use Rattle.dependent_spec.specs.Together.{CheckedTogether}
+use Rattle.dependent_spec.proofs.Contract.{together-main, together-dependent, together-accepted, lent, lent-answer}
+use Rattle.dependent_spec.proofs.Limits.{dependent-same}
 
 -- 8 by one of the two limit lists, which come last
 by-limits : (I : Input) → shortColumn (length (I .solutionBounds)) || shortMatrix (length (I .inverseBounds)) ≡ true → short I ≡ true

@@ -8,8 +8,8 @@ use native.Mathlib.Omega.{arith}
 use borrow.Author.Tests.{eqb-false}
 use lib.Dec.{eqb}
 use lib.ListN.{length, getD, drop}
-use Rattle.line_runs.specs.Length.{lineLength}
-use Rattle.line_runs.proofs.Lines.{length-byte}
+use Rattle.loader_runs.specs.Length.{lineLength}
+use Rattle.loader_runs.proofs.Lines.{length-byte}
 use Rattle.file.specs.Feeds.{FeedWithin}
 
 pub no-bytes : (s : List ℕ) (at : ℕ) (b : Bool) → FeedWithin s at 0 b

@@ -11,17 +11,17 @@ use Rattle.rules.specs.declared.Outcome.{Outcome}
 use Rattle.rules.specs.declared.Outcome.the-variants.{Accepted, Refused}
 use Rattle.rules.specs.declared.Refusal.{Refusal}
 use Rattle.rules.proofs.Verdicts.{accepted-old}
-use Rattle.lent_lists.specs.Lists.{Lists}
+use Rattle.loader_lists.specs.Lists.{Lists}
 use Rattle.loader.specs.declared.Loader.{Loader}
 use Rattle.loader.specs.declared.Taken.{Taken}
 use Rattle.loader.specs.Answer.{lineAnswer}
 use Rattle.loader.specs.Taken.{fresh, listsAfter, TakenAs}
-use Rattle.line_runs.specs.Length.{lineLength}
-use Rattle.line_runs.specs.Lines.{linesOf}
-use Rattle.line_runs.specs.Read.{Reading, readFrom, zeros, readingOf}
-use Rattle.line_runs.specs.Run.{State}
-use Rattle.line_runs.proofs.Lines.{lines-at, lines-end}
-use Rattle.line_runs.proofs.Read.{read-none, read-accepted, read-refused}
+use Rattle.loader_runs.specs.Length.{lineLength}
+use Rattle.loader_runs.specs.Lines.{linesOf}
+use Rattle.loader_runs.specs.Read.{Reading, readFrom, zeros, readingOf}
+use Rattle.loader_runs.specs.Run.{State}
+use Rattle.loader_runs.proofs.Lines.{lines-at, lines-end}
+use Rattle.loader_runs.proofs.Read.{read-none, read-accepted, read-refused}
 use Rattle.file.specs.declared.Collected.{Collected}
 use Rattle.file.specs.Read.{ReadAs}
 

@@ -5,7 +5,7 @@ use mathlib.Core.List.{List}
 use mathlib.Core.Path.{_≡_}
 use Prim.Native.Nat.{ℕ, _+_}
 use lib.ListN.{drop}
-use Rattle.line_runs.specs.Length.{lineLength}
+use Rattle.loader_runs.specs.Length.{lineLength}
 
 abbrev pub FeedWithin : List ℕ → ℕ → ℕ → Bool → Type 0
 FeedWithin file at k b = b ≡ false → at + k + lineLength (drop (at + k) file) ≡ at + lineLength (drop at file)

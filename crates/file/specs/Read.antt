@@ -4,9 +4,9 @@ use mathlib.Core.List.{List}
 use mathlib.Core.Path.{_≡_}
 use Prim.Native.Nat.{ℕ}
 use Rattle.rules.specs.Refusal.{said}
-use Rattle.lent_lists.specs.Lists.{lists}
-use Rattle.line_runs.specs.Run.{State}
-use Rattle.line_runs.specs.Read.{readingOf}
+use Rattle.loader_lists.specs.Lists.{lists}
+use Rattle.loader_runs.specs.Run.{State}
+use Rattle.loader_runs.specs.Read.{readingOf}
 use Rattle.file.specs.declared.Collected.{Collected}
 
 abbrev pub stateOf : Collected → State

@@ -2,7 +2,7 @@
 ghost use mathlib.Core.Path.{_≡_};
 ghost use Prim.Native.Nat.{_+_, _≤_};
 ghost use lib.ListN.{length, drop};
-ghost use Rattle.line_runs.specs.Length.{lineLength};
+ghost use Rattle.loader_runs.specs.Length.{lineLength};
 ghost use Rattle.file.specs.Read.{ReadAs};
 ghost use Rattle.file.specs.Feeds.{FeedWithin};
 use loader::Loader;

@@ -14,20 +14,20 @@ use Rattle.linear.specs.Slice.{at}
 use Rattle.linear.proofs.Places.{square}
 use Rattle.linear.proofs.Written.{written-length}
 use Rattle.enclosure.specs.Reckoning.{bound, inverseBound}
-use Rattle.checked.specs.Checked.{Checked}
-use Rattle.checked.specs.Input.{Input, problem}
-use Rattle.checked.proofs.Fit.{Fit}
-use Rattle.checked.proofs.Written.{solution-written, inverse-written, checked-fit, checked-solution, checked-inverse}
-use Rattle.given_forms.specs.declared.Stage.{Stage}
+use Rattle.check_spec.specs.Checked.{Checked}
+use Rattle.check_spec.specs.Input.{Input, problem}
+use Rattle.check_spec.proofs.Fit.{Fit}
+use Rattle.check_spec.proofs.Written.{solution-written, inverse-written, checked-fit, checked-solution, checked-inverse}
+use Rattle.loader_progress.specs.declared.Stage.{Stage}
 use Rattle.loader_order.specs.Through.{answerThrough, CheckedThrough}
 use Rattle.loader_order.proofs.Through.{nothing-said, through-lists}
-use Rattle.text.specs.Wrote.{Wrote}
-use Rattle.text.proofs.Wrote.{called}
-use Rattle.report.specs.Ready.{Reportable, reportIn}
-use Rattle.refusal.specs.Refused.{printed, refusedOf}
-use Rattle.refusal.specs.Reply.{replyOf}
-use Rattle.refusal.specs.Answered.{Answered}
-use Rattle.refusal.specs.declared.FileAnswer.{FileAnswer}
+use Rattle.listing_text.specs.Wrote.{Wrote}
+use Rattle.listing_text.proofs.Wrote.{called}
+use Rattle.listing_report.specs.Ready.{Reportable, reportIn}
+use Rattle.listing_refusal.specs.Refused.{printed, refusedOf}
+use Rattle.listing_refusal.specs.Reply.{replyOf}
+use Rattle.listing_refusal.specs.Answered.{Answered}
+use Rattle.listing_refusal.specs.declared.FileAnswer.{FileAnswer}
 use Rattle.file_check.specs.Judged.{reportedOf, lineOr}
 use Rattle.file_check.proofs.Agreed.{report-same}
 

@@ -6,11 +6,11 @@
 use mathlib.Core.List.{List}
 use Prim.Native.Nat.{ℕ}
 use lib.ListN.{replicate}
-use Rattle.checked.specs.Input.{Input, problem}
+use Rattle.check_spec.specs.Input.{Input, problem}
 use Rattle.loader_order.specs.Through.{answerThrough, CheckedThrough}
-use Rattle.line_runs.specs.Run.{State}
-use Rattle.line_runs.specs.Holds.{inputOf}
-use Rattle.refusal.specs.Refused.{printed}
+use Rattle.loader_runs.specs.Run.{State}
+use Rattle.loader_runs.specs.Holds.{inputOf}
+use Rattle.listing_refusal.specs.Refused.{printed}
 use Rattle.file_check.specs.declared.CheckedFile.{CheckedFile}
 use Rattle.file_check.specs.Judged.{reportedOf, lineOr}
 

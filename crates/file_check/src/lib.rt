@@ -1,14 +1,14 @@
 // The check of a file whose lines are all accepted: what it says, as a line, or the report.
 ghost use Prim.Native.Nat.{_≤_};
 ghost use lib.ListN.{length};
-ghost use Rattle.refusal.specs.Answered.{Answered};
+ghost use Rattle.listing_refusal.specs.Answered.{Answered};
 ghost use Rattle.file.specs.Read.{stateOf};
 ghost use Rattle.file_check.specs.Shown.{CheckedAs, saidOf, shownOf};
 use file::Collected;
-use refusal::FileAnswer;
-use refusal::no_refusal;
-use refusal::put_refusal;
-use report::put_report;
+use listing_refusal::FileAnswer;
+use listing_refusal::no_refusal;
+use listing_refusal::put_refusal;
+use listing_report::put_report;
 use rules::Outcome;
 
 // What the check of a file says, and the limits that it wrote.

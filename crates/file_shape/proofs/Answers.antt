@@ -13,11 +13,11 @@ use lib.ListN.{take}
 use Rattle.linear.specs.Matrix.{Vec, Mat}
 use Rattle.enclosure.specs.Demand.{RoundedExact}
 use Rattle.enclosure.specs.Problem.{Problem}
-use Rattle.checked.specs.Order.{firstMargin, firstResidual, firstInversePlace, checkedOf}
-use Rattle.form.specs.Form.{Form, bytes}
-use Rattle.line_runs.specs.Holds.{ReckoningSays, accepted, margin, residual, inverseResidual}
-use Rattle.line_runs.proofs.Check.{reckons}
-use Rattle.refusal.specs.Refused.{printed}
+use Rattle.check_spec.specs.Order.{firstMargin, firstResidual, firstInversePlace, checkedOf}
+use Rattle.line_form.specs.Form.{Form, bytes}
+use Rattle.loader_runs.specs.Holds.{ReckoningSays, accepted, margin, residual, inverseResidual}
+use Rattle.loader_runs.proofs.Check.{reckons}
+use Rattle.listing_refusal.specs.Refused.{printed}
 use Rattle.file_check.specs.Judged.{reportedOf, lineOr}
 use Rattle.file_check.specs.Problem.{problemFrom}
 use Rattle.listing.specs.Cases.{wholeFile, unweightedFile}

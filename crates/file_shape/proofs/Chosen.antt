@@ -11,12 +11,12 @@ use native.Mathlib.Omega.{arith}
 use lib.IntN.{ℤ, pos}
 use Rattle.integer.specs.Among.{Among, here, there}
 use Rattle.integer.proofs.Search.{clash}
-use Rattle.form.specs.Form.{Form, problem, scale, row, right, rightWithin, guess, inverse, weight, end}
-use Rattle.form_values.specs.Item.{itemOf, partIndex}
-use Rattle.form_values.specs.declared.Part.{Part}
-use Rattle.form_values.specs.declared.Part.the-variants.{Row, Right, Guess, Inverse, Weight}
-use Rattle.line_runs.specs.Given.{isOf}
-use Rattle.spelled_lines.specs.Ones.{textOf}
+use Rattle.line_form.specs.Form.{Form, problem, scale, row, right, rightWithin, guess, inverse, weight, end}
+use Rattle.loader_values.specs.Item.{itemOf, partIndex}
+use Rattle.loader_values.specs.declared.Part.{Part}
+use Rattle.loader_values.specs.declared.Part.the-variants.{Row, Right, Guess, Inverse, Weight}
+use Rattle.loader_runs.specs.Given.{isOf}
+use Rattle.loader_spelled.specs.Ones.{textOf}
 use Rattle.listing.specs.Complete.{Complete}
 use Rattle.file_shape.specs.Chosen.{stays, chosen}
 use Rattle.file_shape.specs.Shape.{howMany, Times, Shape}

@@ -11,15 +11,15 @@ use mathlib.Core.List.{List, [], _∷_, _++_}
 use mathlib.Core.Logic.{_↔_}
 use Prim.Native.Nat.{ℕ}
 use lib.IntN.{pos}
-use Rattle.form.specs.Form.{Form, problem, scale, end}
-use Rattle.form.specs.Spelling.{spell}
-use Rattle.given_forms.specs.Progress.{ended}
-use Rattle.line_runs.specs.Lines.{linesOf}
-use Rattle.line_runs.specs.Read.{zeros}
-use Rattle.line_runs.specs.Run.{State, fromNew, forms}
-use Rattle.line_runs.proofs.Passing.{spelled, forms-spelled}
-use Rattle.spelled_lines.specs.Ones.{textOf}
-use Rattle.spelled_lines.proofs.Runs.{read-run}
+use Rattle.line_form.specs.Form.{Form, problem, scale, end}
+use Rattle.line_form.specs.Spelling.{spell}
+use Rattle.loader_progress.specs.Progress.{ended}
+use Rattle.loader_runs.specs.Lines.{linesOf}
+use Rattle.loader_runs.specs.Read.{zeros}
+use Rattle.loader_runs.specs.Run.{State, fromNew, forms}
+use Rattle.loader_runs.proofs.Passing.{spelled, forms-spelled}
+use Rattle.loader_spelled.specs.Ones.{textOf}
+use Rattle.loader_spelled.proofs.Runs.{read-run}
 use Rattle.listing.specs.Complete.{Complete}
 use Rattle.listing.proofs.Entire.{zeros-long, accepts, ended-run}
 use Rattle.file_shape.specs.Shape.{Shape, Spells, fed, unfed, Shaped}

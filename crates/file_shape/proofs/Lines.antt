@@ -12,12 +12,12 @@ use Prim.Native.Nat.{ℕ}
 use native.Mathlib.Omega.{arith}
 use borrow.Author.Tests.{eqb-true}
 use lib.Dec.{eqb}
-use Rattle.form.specs.Form.{Form, end}
-use Rattle.form.specs.Spelling.{spell}
-use Rattle.line_runs.specs.Lines.{before, linesOf}
-use Rattle.line_runs.proofs.Passing.{spelled}
-use Rattle.spelled_lines.specs.Ones.{textOf}
-use Rattle.spelled_lines.proofs.Text.{lines-text, lines-of}
+use Rattle.line_form.specs.Form.{Form, end}
+use Rattle.line_form.specs.Spelling.{spell}
+use Rattle.loader_runs.specs.Lines.{before, linesOf}
+use Rattle.loader_runs.proofs.Passing.{spelled}
+use Rattle.loader_spelled.specs.Ones.{textOf}
+use Rattle.loader_spelled.proofs.Text.{lines-text, lines-of}
 use Rattle.file_shape.specs.Shape.{Spells, fed, unfed}
 
 -- ---- from forms to lines

@@ -7,10 +7,10 @@ use mathlib.Core.Bool.{false}
 use mathlib.Core.List.{List}
 use mathlib.Core.Logic.{_↔_}
 use Prim.Native.Nat.{ℕ}
-use Rattle.form.specs.Form.{Form}
-use Rattle.lent_lists.specs.Lists.{Lists, shortLists}
-use Rattle.line_runs.specs.Run.{fromNew}
-use Rattle.line_runs.proofs.Passing.{spelled}
+use Rattle.line_form.specs.Form.{Form}
+use Rattle.loader_lists.specs.Lists.{Lists, shortLists}
+use Rattle.loader_runs.specs.Run.{fromNew}
+use Rattle.loader_runs.proofs.Passing.{spelled}
 use Rattle.file_shape.specs.Shape.{Shape}
 use Rattle.file_shape.proofs.Forms.{shape-takes, takes-shape}
 use Rattle.file_shape.proofs.Takes.{AcceptsToEnd, takes-ends, ends-takes}

@@ -18,19 +18,19 @@ use Rattle.integer.specs.Among.{Among, here, there}
 use Rattle.integer.proofs.Search.{clash}
 use Rattle.rules.specs.Range.{inRange}
 use Rattle.rules.specs.declared.Kind.the-variants as kind
-use Rattle.form.specs.Form.{Form, end}
-use Rattle.form_values.specs.Item.{itemOf}
-use Rattle.form_values.specs.declared.Item.{Item}
-use Rattle.form_values.specs.declared.Item.the-variants.{Of, End}
-use Rattle.form_values.specs.declared.Part.{Part}
-use Rattle.form_values.proofs.Between.{from-to}
-use Rattle.given_forms.specs.Progress.{given, missing, scaled, ended}
-use Rattle.given_forms.proofs.Progress.{placed-of}
+use Rattle.line_form.specs.Form.{Form, end}
+use Rattle.loader_values.specs.Item.{itemOf}
+use Rattle.loader_values.specs.declared.Item.{Item}
+use Rattle.loader_values.specs.declared.Item.the-variants.{Of, End}
+use Rattle.loader_values.specs.declared.Part.{Part}
+use Rattle.loader_values.proofs.Between.{from-to}
+use Rattle.loader_progress.specs.Progress.{given, missing, scaled, ended}
+use Rattle.loader_progress.proofs.Progress.{placed-of}
 use Rattle.loader_order.proofs.Said.{Passed}
 use Rattle.loader.specs.declared.Loader.{Loader}
 use Rattle.loader.specs.Taken.{after}
 use Rattle.loader.proofs.Exact.{formCase}
-use Rattle.spelled_lines.proofs.Forms.{passed-part, passed-end}
+use Rattle.loader_spelled.proofs.Forms.{passed-part, passed-end}
 use Rattle.listing.proofs.WithOnes.{not-in-none}
 use Rattle.file_shape.specs.Shape.{Fits, howMany, Times}
 use Rattle.file_shape.proofs.Fits.{fits-part, Next, a-part, the-end, next-form}

@@ -11,25 +11,25 @@ use native.Mathlib.Omega.{arith}
 use lib.Dec.{eqb}
 use Rattle.integer.specs.Finite.{sumℕ}
 use Rattle.integer.proofs.Sum.{sumℕ-ext}
-use Rattle.form.specs.Form.{Form}
-use Rattle.form_values.specs.Item.{itemOf}
-use Rattle.form_values.specs.declared.Item.{Item}
-use Rattle.form_values.specs.declared.Item.the-variants.{Problem, Scale, Of, End}
-use Rattle.form_values.specs.declared.Part.{Part}
-use Rattle.form_values.specs.declared.Part.the-variants.{Row, Right, Guess, Inverse}
-use Rattle.form_values.proofs.Between.{from-to}
-use Rattle.bit_set.specs.Places.{hasPlace, lacking}
-use Rattle.lent_lists.specs.Lists.{Lists}
-use Rattle.given_forms.specs.Progress.{setOf, given, missing, misplaced, repeated}
-use Rattle.given_forms.proofs.Progress.{placed-of}
+use Rattle.line_form.specs.Form.{Form}
+use Rattle.loader_values.specs.Item.{itemOf}
+use Rattle.loader_values.specs.declared.Item.{Item}
+use Rattle.loader_values.specs.declared.Item.the-variants.{Problem, Scale, Of, End}
+use Rattle.loader_values.specs.declared.Part.{Part}
+use Rattle.loader_values.specs.declared.Part.the-variants.{Row, Right, Guess, Inverse}
+use Rattle.loader_values.proofs.Between.{from-to}
+use Rattle.loader_bit_set.specs.Places.{hasPlace, lacking}
+use Rattle.loader_lists.specs.Lists.{Lists}
+use Rattle.loader_progress.specs.Progress.{setOf, given, missing, misplaced, repeated}
+use Rattle.loader_progress.proofs.Progress.{placed-of}
 use Rattle.loader.specs.declared.Loader.{Loader}
 use Rattle.loader.specs.Taken.{fresh, after}
 use Rattle.loader.proofs.Accepted.{accepted-form}
-use Rattle.line_runs.specs.Given.{isOf}
-use Rattle.line_runs.specs.Run.{State, fromNew, step, forms}
-use Rattle.line_runs.specs.Accepts.{run, Accepts}
-use Rattle.line_runs.proofs.Runs.{forms-next}
-use Rattle.line_runs.proofs.Sound.{SoundLoader, fresh-sound, fresh-empty, line-sound}
+use Rattle.loader_runs.specs.Given.{isOf}
+use Rattle.loader_runs.specs.Run.{State, fromNew, step, forms}
+use Rattle.loader_runs.specs.Accepts.{run, Accepts}
+use Rattle.loader_runs.proofs.Runs.{forms-next}
+use Rattle.loader_runs.proofs.Sound.{SoundLoader, fresh-sound, fresh-empty, line-sound}
 use Rattle.file_shape.specs.Given.{missingOf}
 use Rattle.file_shape.specs.Shape.{howMany}
 use Rattle.file_shape.proofs.Marks.{mark, mark-one, count-none, count-next, moved}

@@ -11,9 +11,9 @@ use lib.Dec.{eqb}
 use lib.IntN.{ℤ}
 use Rattle.integer.specs.Among.{Among}
 use Rattle.integer.specs.Finite.{sumℕ}
-use Rattle.form.specs.Form.{Form, problem, scale, end}
-use Rattle.form_values.specs.declared.Part.{Part}
-use Rattle.given_forms.specs.Progress.{given, countedParts, totalOver, missing, sized, scaled, ended}
+use Rattle.line_form.specs.Form.{Form, problem, scale, end}
+use Rattle.loader_values.specs.declared.Part.{Part}
+use Rattle.loader_progress.specs.Progress.{given, countedParts, totalOver, missing, sized, scaled, ended}
 use Rattle.loader.specs.declared.Loader.{Loader}
 use Rattle.file_shape.specs.Shape.{howMany}
 

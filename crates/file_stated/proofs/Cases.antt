@@ -7,19 +7,19 @@ use Rattle.integer.specs.Finite.{sum, sumℕ, first}
 use Rattle.linear.specs.Matrix.{apply, product, identity}
 use Rattle.rules.specs.Range.{ranges, rangeOf, inRange}
 use Rattle.enclosure.specs.Reckoning.{defect, load, margin, residual, rowSum, exceeds}
-use Rattle.numeral.specs.Numeral.{runAt, magnitudeAt, numberAt}
-use Rattle.form.specs.Form.{bytes}
-use Rattle.form.specs.List.{allInside}
-use Rattle.form.specs.Reading.{reading, starts, wordAt, orWord, firstOf, headAt, othersAt}
-use Rattle.bit_set.specs.Places.{withPlace, lacking}
-use Rattle.lent_list.specs.Filled.{filled}
-use Rattle.given_forms.specs.Progress.{missing, misplaced}
+use Rattle.line_numeral.specs.Numeral.{runAt, magnitudeAt, numberAt}
+use Rattle.line_form.specs.Form.{bytes}
+use Rattle.line_form.specs.List.{allInside}
+use Rattle.line_form.specs.Reading.{reading, starts, wordAt, orWord, firstOf, headAt, othersAt}
+use Rattle.loader_bit_set.specs.Places.{withPlace, lacking}
+use Rattle.loader_lists.specs.Filled.{filled}
+use Rattle.loader_progress.specs.Progress.{missing, misplaced}
 use Rattle.loader.specs.Answer.{lineAnswer}
 use Rattle.loader.specs.Taken.{loaderAfter, listsAfter}
-use Rattle.line_runs.specs.Given.{valueFrom, sizeFrom, scalesFrom}
-use Rattle.line_runs.specs.Lines.{linesOf}
-use Rattle.line_runs.specs.Read.{readFrom, zeros}
-use Rattle.line_runs.specs.Run.{forms}
+use Rattle.loader_runs.specs.Given.{valueFrom, sizeFrom, scalesFrom}
+use Rattle.loader_runs.specs.Lines.{linesOf}
+use Rattle.loader_runs.specs.Read.{readFrom, zeros}
+use Rattle.loader_runs.specs.Run.{forms}
 use Rattle.listing.specs.Cases.{wholeFile}
 use Rattle.listing.specs.Listing.{answerOf, listingOf}
 use Rattle.listing.proofs.Meaning.{begins-bounds}

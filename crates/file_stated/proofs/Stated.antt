@@ -11,21 +11,21 @@ use mathlib.Core.Logic.{_↔_}
 use Prim.Native.Nat.{ℕ, _+_}
 use native.Mathlib.Omega.{arith}
 use lib.ListN.{length, take}
-use Rattle.checked.specs.Order.{answer}
-use Rattle.checked.proofs.Statements.{stated, said-of}
-use Rattle.given_forms.specs.Progress.{ended}
+use Rattle.check_spec.specs.Order.{answer}
+use Rattle.check_spec.proofs.Statements.{stated, said-of}
+use Rattle.loader_progress.specs.Progress.{ended}
 use Rattle.loader.specs.Answer.{lineAnswer}
 use Rattle.loader_order.proofs.Through.{answer-ended}
-use Rattle.line_runs.specs.Lines.{linesOf}
-use Rattle.line_runs.specs.Read.{Reading, readFrom, zeros, readingOf}
-use Rattle.line_runs.specs.Run.{State, fromNew}
-use Rattle.line_runs.specs.Accepts.{run, Accepts, Made, new}
-use Rattle.line_runs.proofs.Read.{read-refused}
-use Rattle.line_stated.proofs.Stated.{made-exactly}
-use Rattle.spelled_lines.proofs.Runs.{read-run}
-use Rattle.refusal.specs.Refused.{printed}
-use Rattle.refusal.specs.Reply.{replyOf}
-use Rattle.refusal.specs.declared.FileAnswer.{FileAnswer}
+use Rattle.loader_runs.specs.Lines.{linesOf}
+use Rattle.loader_runs.specs.Read.{Reading, readFrom, zeros, readingOf}
+use Rattle.loader_runs.specs.Run.{State, fromNew}
+use Rattle.loader_runs.specs.Accepts.{run, Accepts, Made, new}
+use Rattle.loader_runs.proofs.Read.{read-refused}
+use Rattle.loader_stated.proofs.Stated.{made-exactly}
+use Rattle.loader_spelled.proofs.Runs.{read-run}
+use Rattle.listing_refusal.specs.Refused.{printed}
+use Rattle.listing_refusal.specs.Reply.{replyOf}
+use Rattle.listing_refusal.specs.declared.FileAnswer.{FileAnswer}
 use Rattle.file_check.specs.Judged.{reportedOf, lineOr}
 use Rattle.file_check.specs.Shown.{inputAt, saidOf}
 use Rattle.listing.specs.Listing.{problemIn, answerOf, ListedAs, AnsweredAs}

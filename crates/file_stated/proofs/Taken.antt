@@ -10,18 +10,18 @@ use mathlib.Core.Option.{some}
 use Prim.Native.Nat.{ℕ, _+_}
 use native.Mathlib.Omega.{arith}
 use lib.ListN.{length}
-use Rattle.form.specs.Form.{Form}
-use Rattle.form.specs.Spelling.{spell}
-use Rattle.form.specs.Reading.{reading}
-use Rattle.form.proofs.Spelling.{read-spelled, spelled-read}
+use Rattle.line_form.specs.Form.{Form}
+use Rattle.line_form.specs.Spelling.{spell}
+use Rattle.line_form.specs.Reading.{reading}
+use Rattle.line_form.proofs.Spelling.{read-spelled, spelled-read}
 use Rattle.loader.specs.Answer.{lineAnswer}
 use Rattle.loader.proofs.Accepted.{accepted-form}
-use Rattle.line_runs.specs.Read.{readFrom}
-use Rattle.line_runs.specs.Run.{State, step}
-use Rattle.line_runs.specs.Accepts.{run, Accepts, Made, taken}
-use Rattle.line_runs.proofs.Read.{read-accepted}
-use Rattle.line_stated.specs.Stated.{LineStated}
-use Rattle.line_stated.proofs.Stated.{made-exactly}
+use Rattle.loader_runs.specs.Read.{readFrom}
+use Rattle.loader_runs.specs.Run.{State, step}
+use Rattle.loader_runs.specs.Accepts.{run, Accepts, Made, taken}
+use Rattle.loader_runs.proofs.Read.{read-accepted}
+use Rattle.loader_stated.specs.Stated.{LineStated}
+use Rattle.loader_stated.proofs.Stated.{made-exactly}
 use Rattle.file_stated.specs.Stated.{afterForm, TakenLines, none, next}
 
 -- ---- a line

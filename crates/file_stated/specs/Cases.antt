@@ -4,7 +4,7 @@
 --   FileRowsStated — what is said of each has its stated case
 use mathlib.Core.List.{List, [], _∷_}
 use Prim.Native.Nat.{ℕ}
-use Rattle.form.specs.Form.{bytes}
+use Rattle.line_form.specs.Form.{bytes}
 use Rattle.file_stated.specs.Stated.{FileStated}
 
 pub record FileRow : Type 0 where

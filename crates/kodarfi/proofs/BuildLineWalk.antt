@@ -41,29 +41,29 @@ use denote.Triple.Statement.{Contract, Triple}
 use denote.Triple.Call.{calls-at}
 use denote.Triple.Clauses.{ensured, lasts}
 use denote.Triple.Walked.{says}
-use Rattle.observation.specs.declared.Observation.{Observation}
-use Rattle.gathering.specs.declared.Gathered.{Gathered}
-use Rattle.gathering.specs.declared.Progress.{Progress}
-use Rattle.gathering.specs.Gathered.{together, gathered, few, openingProgress, noLines, ReadyWhenDone}
-use Rattle.gathering.proofs.Gathered as S
-use Rattle.gathering.proofs.Gathered.Laws as S′
-use Rattle.gathering.proofs.Progress as P
-use Rattle.gathering.proofs.Progress.Laws as P′
-use Rattle.gathering.proofs.Whole.{gatheredOf, whole}
-use Rattle.gathering.proofs.open as open-fn
-use Rattle.gathering.proofs.open.Symbol.{name as #gathering·open}
-use Rattle.equations.specs.declared.Layout.{Layout}
-use Rattle.equations.proofs.Layout as L
-use Rattle.equations.proofs.Layout.Laws as L′
-use Rattle.built.specs.BuiltAs.{shortFor}
-use Rattle.built.proofs.Contract.{built}
-use Rattle.builder.proofs.gather as all-fn
-use Rattle.builder.proofs.gather.Symbol.{name as #builder·gather}
-use Rattle.build_reply.specs.Told.{FinishedTold}
-use Rattle.build_reply.proofs.Line.{built-line}
-use Rattle.build_reply.proofs.finish_told as fin-fn
-use Rattle.build_reply.proofs.finish_told.Symbol.{name as #build-reply·finish-told}
-use Rattle.calls.specs.Build.{BuildLineExported}
+use Rattle.build_lines.specs.declared.Observation.{Observation}
+use Rattle.build_gathering.specs.declared.Gathered.{Gathered}
+use Rattle.build_gathering.specs.declared.Progress.{Progress}
+use Rattle.build_gathering.specs.Gathered.{together, gathered, few, openingProgress, noLines, ReadyWhenDone}
+use Rattle.build_gathering.proofs.Gathered as S
+use Rattle.build_gathering.proofs.Gathered.Laws as S′
+use Rattle.build_gathering.proofs.Progress as P
+use Rattle.build_gathering.proofs.Progress.Laws as P′
+use Rattle.build_gathering.proofs.Whole.{gatheredOf, whole}
+use Rattle.build_gathering.proofs.open as open-fn
+use Rattle.build_gathering.proofs.open.Symbol.{name as #gathering·open}
+use Rattle.build_equations.specs.declared.Layout.{Layout}
+use Rattle.build_equations.proofs.Layout as L
+use Rattle.build_equations.proofs.Layout.Laws as L′
+use Rattle.build.specs.BuiltAs.{shortFor}
+use Rattle.build.proofs.Contract.{built}
+use Rattle.build.proofs.gather as all-fn
+use Rattle.build.proofs.gather.Symbol.{name as #builder·gather}
+use Rattle.reply.specs.Builds.{FinishedTold}
+use Rattle.reply.proofs.Builds.{built-line}
+use Rattle.reply.proofs.builds.finish_told as fin-fn
+use Rattle.reply.proofs.builds.finish_told.Symbol.{name as #build-reply·finish-told}
+use Rattle.calls_spec.specs.Build.{BuildLineExported}
 use Rattle.kodarfi.proofs.BuildParts.{R, sl, laid, word, lines, list, again, lend}
 
 -- the machine value of a reference to a number

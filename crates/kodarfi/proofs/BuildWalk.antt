@@ -36,18 +36,18 @@ use denote.Triple.Spec.{tripleOf}
 use denote.Triple.Statement.{Contract, Triple}
 use denote.Triple.Call.{calls-at}
 use denote.Triple.Clauses.{ensured, lasts}
-use Rattle.observation.specs.declared.Built.{Built}
-use Rattle.observation.specs.declared.Observation.{Observation}
-use Rattle.observation.specs.Order.{saidBuilt}
-use Rattle.observation.proofs.Built as B
-use Rattle.observation.proofs.Built.Laws as B′
-use Rattle.equations.specs.declared.Layout.{Layout}
-use Rattle.equations.proofs.Layout as L
-use Rattle.equations.proofs.Layout.Laws as L′
-use Rattle.built.specs.BuiltAs.{BuiltAs}
-use Rattle.builder.proofs.build as build-fn
-use Rattle.builder.proofs.build.Symbol.{name as #builder·build}
-use Rattle.calls.specs.Build.{BuildExported}
+use Rattle.build_lines.specs.declared.Built.{Built}
+use Rattle.build_lines.specs.declared.Observation.{Observation}
+use Rattle.build_lines.specs.Order.{saidBuilt}
+use Rattle.build_lines.proofs.Built as B
+use Rattle.build_lines.proofs.Built.Laws as B′
+use Rattle.build_equations.specs.declared.Layout.{Layout}
+use Rattle.build_equations.proofs.Layout as L
+use Rattle.build_equations.proofs.Layout.Laws as L′
+use Rattle.build.specs.BuiltAs.{BuiltAs}
+use Rattle.build.proofs.build as build-fn
+use Rattle.build.proofs.build.Symbol.{name as #builder·build}
+use Rattle.calls_spec.specs.Build.{BuildExported}
 use Rattle.reply.proofs.built_number as number-fn
 use Rattle.reply.proofs.built_number.Symbol.{name as #reply·built-number}
 use Rattle.kodarfi.proofs.BuildParts.{R, sl, laid, word, lines, list, again, lend}

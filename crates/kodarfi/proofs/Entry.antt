@@ -9,7 +9,7 @@ use Rattle.rules.specs.declared.Refusal.{Refusal}
 use Rattle.entry.specs.Register.{saidEntry, RegisteredAs}
 use Rattle.entry.specs.declared.Registered.{Registered}
 use Rattle.entry.specs.declared.Registered.the-variants.{Entry, Refused}
-use Rattle.calls.specs.Exported.{EntryExported}
+use Rattle.calls_spec.specs.Exported.{EntryExported}
 use Rattle.reply.specs.Told.{Told}
 
 -- V and its limit in an answer, where it has them

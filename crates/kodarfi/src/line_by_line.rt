@@ -1,10 +1,10 @@
 // The loader (01: desk), for callers that hand over a file's lines one at a time. Its state stands in nine numbers that the caller lends.
 ghost use mathlib.Core.Path.{_≡_};
-ghost use Rattle.checked.specs.Input.{input};
-ghost use Rattle.lent_lists.specs.Lists.{lists};
+ghost use Rattle.check_spec.specs.Input.{input};
+ghost use Rattle.loader_lists.specs.Lists.{lists};
 ghost use Rattle.loader.specs.Taken.{fresh};
 ghost use Rattle.loader.specs.Numbers.{loaderNumbers, loaderOf};
-ghost use Rattle.calls.specs.Loader.{LoaderTakeExported, LoaderCheckExported};
+ghost use Rattle.calls_spec.specs.Loader.{LoaderTakeExported, LoaderCheckExported};
 use loader_numbers::check;
 use loader_numbers::renew;
 use loader_numbers::take;

@@ -1,9 +1,9 @@
 // Files for offices on the old edition (document 02, Paper 14).
-ghost use Rattle.calls.specs.Conversion.{ConvertExported, ConvertLineExported};
-use conversion_reply::converted_reply;
-use conversion_reply::length_or;
+ghost use Rattle.calls_spec.specs.Conversion.{ConvertExported, ConvertLineExported};
 use converter::convert;
 use converter::convert_file;
+use reply::conversions::converted_reply;
+use reply::conversions::length_or;
 use reply::tell;
 
 // A file as one of the old edition: `converter::convert`.

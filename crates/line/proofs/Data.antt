@@ -21,14 +21,14 @@ use denote.Plain.{uint-tells, uint-lawful, uint-makes}
 use denote.RattleType.{RattleType}
 use denote.Steps.{only}
 use denote.Struct.Laws as LL
-use Rattle.numeral.proofs.Number as Number
-use Rattle.numeral.proofs.Number.Laws as Number′
-use Rattle.form.proofs.Head as Head
-use Rattle.form.proofs.Head.Laws as Head′
-use Rattle.form.proofs.Listed as Listed
-use Rattle.form.proofs.Listed.Laws as Listed′
-use Rattle.form.proofs.Word as Word
-use Rattle.form.proofs.Word.Laws as Word′
+use Rattle.line_numeral.proofs.Number as Number
+use Rattle.line_numeral.proofs.Number.Laws as Number′
+use Rattle.line_form.proofs.Head as Head
+use Rattle.line_form.proofs.Head.Laws as Head′
+use Rattle.line_form.proofs.Listed as Listed
+use Rattle.line_form.proofs.Listed.Laws as Listed′
+use Rattle.line_form.proofs.Word as Word
+use Rattle.line_form.proofs.Word.Laws as Word′
 use Rattle.line_parts.proofs.Line as Line
 use Rattle.line_parts.proofs.Line.Laws as Line′
 

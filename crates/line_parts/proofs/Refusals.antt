@@ -17,16 +17,16 @@ use borrow.Author.Tests.{ltb-true, ltb-false, lt-ltb, le-ltb, eq-eqb}
 use lib.Dec.{T, ltb, eqb}
 use lib.IntN.{ℤ, pos}
 use lib.ListN.{length, getD}
-use Rattle.numeral.specs.Decimal.{numeral}
+use Rattle.line_numeral.specs.Decimal.{numeral}
 use Rattle.rules.specs.declared.Refusal.the-variants.{TooLong}
 use Rattle.line_parts.specs.declared.Line.{Line}
-use Rattle.form.specs.Form.{bytes, Form, right, rightWithin}
-use Rattle.form.specs.Spelling.{numerals, spell}
-use Rattle.form.specs.Reading.{reading}
+use Rattle.line_form.specs.Form.{bytes, Form, right, rightWithin}
+use Rattle.line_form.specs.Spelling.{numerals, spell}
+use Rattle.line_form.specs.Reading.{reading}
 use Rattle.line_parts.specs.Line.{lineOf, ofReading, refused, saidOfLine}
-use Rattle.form.proofs.Printable.{spell-some, spell-printable}
-use Rattle.form.proofs.Rights.{right-unread}
-use Rattle.form.proofs.Spelling.{spelled-read, read-spelled}
+use Rattle.line_form.proofs.Printable.{spell-some, spell-printable}
+use Rattle.line_form.proofs.Rights.{right-unread}
+use Rattle.line_form.proofs.Spelling.{spelled-read, read-spelled}
 
 pub spell-one : (f g : Form) → spell f ≡ spell g → f ≡ g
 spell-one f g e =

@@ -11,7 +11,7 @@ use Prim.Native.Nat.{ℕ}
 use lib.Dec.{ltb}
 use lib.IntN.{pos}
 use lib.ListN.{length}
-use Rattle.numeral.specs.Numeral.{cap}
+use Rattle.line_numeral.specs.Numeral.{cap}
 use Rattle.rules.specs.Refusal.{said}
 use Rattle.rules.specs.declared.Kind.the-variants as kind
 use Rattle.rules.specs.declared.Outcome.the-variants.{Refused}
@@ -22,10 +22,10 @@ use Rattle.line_parts.specs.declared.Answer.the-variants as answer
 use Rattle.line_parts.specs.declared.CappedForm.{CappedForm}
 use Rattle.line_parts.specs.declared.CappedForm.the-variants.{Problem, Scale, Row, Right, Guess, Inverse, Weight, End}
 use Rattle.line_parts.specs.declared.Line.{Line}
-use Rattle.form.specs.declared.Numbers.{Numbers}
-use Rattle.form.specs.Form.{Form, problem, scale, row, right, rightWithin, guess, inverse, weight, end}
-use Rattle.form.specs.Reading.{reading}
-use Rattle.form.specs.List.{noNumbers, numbersOf}
+use Rattle.line_form.specs.declared.Numbers.{Numbers}
+use Rattle.line_form.specs.Form.{Form, problem, scale, row, right, rightWithin, guess, inverse, weight, end}
+use Rattle.line_form.specs.Reading.{reading}
+use Rattle.line_form.specs.List.{noNumbers, numbersOf}
 
 abbrev pub cappedForm : Form → CappedForm
 cappedForm (problem n) = Problem (cap n)

@@ -10,16 +10,16 @@ use lib.Dec.{ltb}
 use lib.ListN.{getD}
 use Rattle.rules.specs.Order.{verdict, ifAccepted, orElse}
 use Rattle.enclosure.specs.Problem.{Problem}
-use Rattle.checked.specs.Order.{firstMargin, firstResidual, firstInversePlace, reckoned, checkedOf}
-use Rattle.lent_lists.specs.Lists.{shortLists}
+use Rattle.check_spec.specs.Order.{firstMargin, firstResidual, firstInversePlace, reckoned, checkedOf}
+use Rattle.loader_lists.specs.Lists.{shortLists}
 use Rattle.loader_order.specs.Order.{LineCase, lineOrder}
 use Rattle.loader.specs.Answer.{caseOf, lineAnswer}
-use Rattle.line_runs.specs.Run.{State, fromNew, step}
-use Rattle.line_runs.proofs.Passing.{step-long}
-use Rattle.given_forms.specs.Progress.{ended}
-use Rattle.refusal.specs.Refused.{printed}
-use Rattle.line_runs.specs.Lines.{linesOf}
-use Rattle.line_runs.specs.Read.{Reading, readFrom, zeros, readingOf}
+use Rattle.loader_runs.specs.Run.{State, fromNew, step}
+use Rattle.loader_runs.proofs.Passing.{step-long}
+use Rattle.loader_progress.specs.Progress.{ended}
+use Rattle.listing_refusal.specs.Refused.{printed}
+use Rattle.loader_runs.specs.Lines.{linesOf}
+use Rattle.loader_runs.specs.Read.{Reading, readFrom, zeros, readingOf}
 use Rattle.listing.specs.Answers.{Alone, too-long, no-form, out-of-range, wrong-count, too-early, repeated, after-end, Answers, of-line, margin, residual, inverse-residual, missing, not-ended}
 use Rattle.listing.specs.Answers as answers
 use Rattle.listing.specs.Listing.{problemIn, answerOf}

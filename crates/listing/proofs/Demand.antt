@@ -15,13 +15,13 @@ use Rattle.enclosure.specs.Demand.{Encloses, RoundedExact}
 use Rattle.enclosure.specs.Height.{OneHeight}
 use Rattle.enclosure.proofs.Acceptance.{rounded-sound}
 use Rattle.enclosure.proofs.Demands.{encloses, one-height}
-use Rattle.checked.specs.Order.{checkedOf}
-use Rattle.checked.proofs.Contract.{sound-said, said-sound}
-use Rattle.line_runs.specs.Run.{forms}
-use Rattle.given_forms.specs.Progress.{ended}
-use Rattle.refusal.specs.Refused.{printed}
-use Rattle.line_runs.specs.Lines.{linesOf}
-use Rattle.line_runs.specs.Read.{readingOf}
+use Rattle.check_spec.specs.Order.{checkedOf}
+use Rattle.check_spec.proofs.Contract.{sound-said, said-sound}
+use Rattle.loader_runs.specs.Run.{forms}
+use Rattle.loader_progress.specs.Progress.{ended}
+use Rattle.listing_refusal.specs.Refused.{printed}
+use Rattle.loader_runs.specs.Lines.{linesOf}
+use Rattle.loader_runs.specs.Read.{readingOf}
 use Rattle.file_check.specs.Judged.{reportedOf}
 use Rattle.file_check.proofs.Forms.{some, fine, heavy}
 use Rattle.listing.specs.Listing.{problemIn, answerOf, listingOf}

@@ -14,27 +14,27 @@ use lib.Seq.{sets-eq, take-at, drop-at}
 use Rattle.rules.specs.Refusal.{said, numberOf, valuesOf}
 use Rattle.rules.specs.declared.Outcome.the-variants.{Accepted, Refused}
 use Rattle.rules.specs.declared.Refusal.{Refusal}
-use Rattle.checked.specs.Order.{checkedOf}
-use Rattle.checked.specs.Input.{Input, short}
-use Rattle.lent_lists.specs.Lists.{shortLists}
-use Rattle.given_forms.specs.Progress.{ended}
+use Rattle.check_spec.specs.Order.{checkedOf}
+use Rattle.check_spec.specs.Input.{Input, short}
+use Rattle.loader_lists.specs.Lists.{shortLists}
+use Rattle.loader_progress.specs.Progress.{ended}
 use Rattle.loader_order.specs.Through.{answerThrough}
 use Rattle.loader_order.proofs.Through.{answer-ended}
-use Rattle.line_runs.specs.Run.{State, fromNew, forms}
-use Rattle.line_runs.specs.Accepts.{run, Accepts}
-use Rattle.line_runs.specs.Holds.{InRange}
-use Rattle.line_runs.proofs.Check.{run-long, enough}
-use Rattle.line_runs.proofs.End.{FromForms, from-forms, in-range}
-use Rattle.text.specs.Wrote.{Wrote}
-use Rattle.refusal.specs.Refused.{printed, refusedOf}
-use Rattle.refusal.specs.Answered.{Answered}
-use Rattle.refusal.specs.declared.FileAnswer.{FileAnswer}
-use Rattle.refusal.proofs.Refused.{same-answer}
+use Rattle.loader_runs.specs.Run.{State, fromNew, forms}
+use Rattle.loader_runs.specs.Accepts.{run, Accepts}
+use Rattle.loader_runs.specs.Holds.{InRange}
+use Rattle.loader_runs.proofs.Check.{run-long, enough}
+use Rattle.loader_runs.proofs.End.{FromForms, from-forms, in-range}
+use Rattle.listing_text.specs.Wrote.{Wrote}
+use Rattle.listing_refusal.specs.Refused.{printed, refusedOf}
+use Rattle.listing_refusal.specs.Answered.{Answered}
+use Rattle.listing_refusal.specs.declared.FileAnswer.{FileAnswer}
+use Rattle.listing_refusal.proofs.Refused.{same-answer}
 use Rattle.file.specs.declared.Collected.{Collected}
-use Rattle.line_runs.specs.Lines.{linesOf}
-use Rattle.line_runs.specs.Read.{Reading, zeros, readingOf}
+use Rattle.loader_runs.specs.Lines.{linesOf}
+use Rattle.loader_runs.specs.Read.{Reading, zeros, readingOf}
 use Rattle.file.specs.Read.{stateOf, ReadAs}
-use Rattle.line_runs.proofs.Whole.{all-accepted, all-run}
+use Rattle.loader_runs.proofs.Whole.{all-accepted, all-run}
 use Rattle.file_check.specs.Judged.{reportedOf, lineOr}
 use Rattle.listing.specs.Listing.{problemIn, answerOf, listingOf, ListedAs, AnsweredAs}
 use Rattle.file_check.specs.Shown.{inputAt, saidOf, shownOf}

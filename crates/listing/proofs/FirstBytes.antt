@@ -5,12 +5,12 @@ use mathlib.Core.Path.{_≡_, refl, sym, ap, _∙_}
 use mathlib.Core.List.{List, [], _∷_}
 use Prim.Native.Nat.{ℕ}
 use lib.ListN.{take}
-use Rattle.line_runs.specs.Acceptable.{bytesMost}
-use Rattle.line_runs.specs.Run.{fromNew}
-use Rattle.line_runs.specs.Read.{Reading, zeros, readingOf}
-use Rattle.line_runs.proofs.FirstBytes.{CutFile, whole, stopped}
-use Rattle.line_runs.proofs.FirstBytes as file
-use Rattle.refusal.specs.Refused.{printed, refusedOf}
+use Rattle.loader_runs.specs.Acceptable.{bytesMost}
+use Rattle.loader_runs.specs.Run.{fromNew}
+use Rattle.loader_runs.specs.Read.{Reading, zeros, readingOf}
+use Rattle.loader_runs.proofs.FirstBytes.{CutFile, whole, stopped}
+use Rattle.loader_runs.proofs.FirstBytes as file
+use Rattle.listing_refusal.specs.Refused.{printed, refusedOf}
 use Rattle.listing.specs.Listing.{listingOf}
 use Rattle.listing.proofs.Entire.{answer-refused, listing-from}
 

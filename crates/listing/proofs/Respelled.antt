@@ -7,16 +7,16 @@ use Prim.Native.Nat.{ℕ, _≤_}
 use lib.Dec.{lit≤}
 use lib.IntN.{pos, negsuc}
 use lib.ListN.{length}
-use Rattle.numeral.specs.Decimal.{digits, decimal, numeral}
-use Rattle.form.specs.Form.{Form, problem, scale, row, right, rightWithin, guess, inverse, weight, end}
-use Rattle.form.specs.Spelling.{numerals, spell}
-use Rattle.line_runs.specs.Lines.{linesOf}
-use Rattle.line_runs.specs.Read.{Reading, zeros, readingOf}
-use Rattle.line_runs.specs.Respelled.{Respelled, none, same, alone}
-use Rattle.line_runs.specs.Run.{fromNew}
-use Rattle.line_runs.proofs.Respelled.{respelled-read}
-use Rattle.line_runs.proofs.Passing.{spelled}
-use Rattle.refusal.specs.Refused.{printed}
+use Rattle.line_numeral.specs.Decimal.{digits, decimal, numeral}
+use Rattle.line_form.specs.Form.{Form, problem, scale, row, right, rightWithin, guess, inverse, weight, end}
+use Rattle.line_form.specs.Spelling.{numerals, spell}
+use Rattle.loader_runs.specs.Lines.{linesOf}
+use Rattle.loader_runs.specs.Read.{Reading, zeros, readingOf}
+use Rattle.loader_runs.specs.Respelled.{Respelled, none, same, alone}
+use Rattle.loader_runs.specs.Run.{fromNew}
+use Rattle.loader_runs.proofs.Respelled.{respelled-read}
+use Rattle.loader_runs.proofs.Passing.{spelled}
+use Rattle.listing_refusal.specs.Refused.{printed}
 use Rattle.file_check.specs.Shown.{saidOf, shownOf}
 use Rattle.listing.specs.Cases.{wholeFile, spelledOutFile, wholeListing}
 use Rattle.listing.specs.Listing.{answerOf, listingOf}

@@ -17,27 +17,27 @@ use Rattle.rules.specs.Range.{ranges, rangeOf, inRange, allInRange}
 use Rattle.entry.specs.Entry.{entryBound}
 use Rattle.enclosure.specs.Problem.{Problem}
 use Rattle.enclosure.specs.Reckoning.{defect, load, margin, residual, rowSum, exceeds, magnitudesWith, boundFrom, boundWith, bound}
-use Rattle.checked.specs.Checked.{solutionBoundsAfter, inverseBoundsAfter}
-use Rattle.checked.specs.Order as check
-use Rattle.checked.specs.Order.{checkedOf}
-use Rattle.numeral.specs.Decimal.{digits, decimal, numeral}
-use Rattle.form.specs.List.{allInside}
-use Rattle.form.specs.Form.{Form, problem, scale, row, right, rightWithin, guess, inverse, weight, end}
-use Rattle.form.specs.Spelling.{numerals, spell}
-use Rattle.bit_set.specs.Places.{withPlace, lacking}
-use Rattle.given_forms.specs.Progress.{missing, misplaced}
+use Rattle.check_spec.specs.Checked.{solutionBoundsAfter, inverseBoundsAfter}
+use Rattle.check_spec.specs.Order as check
+use Rattle.check_spec.specs.Order.{checkedOf}
+use Rattle.line_numeral.specs.Decimal.{digits, decimal, numeral}
+use Rattle.line_form.specs.List.{allInside}
+use Rattle.line_form.specs.Form.{Form, problem, scale, row, right, rightWithin, guess, inverse, weight, end}
+use Rattle.line_form.specs.Spelling.{numerals, spell}
+use Rattle.loader_bit_set.specs.Places.{withPlace, lacking}
+use Rattle.loader_progress.specs.Progress.{missing, misplaced}
 use Rattle.loader.specs.Taken.{fresh}
 use Rattle.loader.proofs.Exact.{formSaid}
-use Rattle.line_runs.specs.Given.{valueFrom, sizeFrom, scalesFrom}
-use Rattle.line_runs.specs.Run.{fromNew, forms}
-use Rattle.line_runs.proofs.Passing.{spelled, forms-spelled, passes, pass-all}
-use Rattle.listing_lines.specs.Line.{each}
-use Rattle.report.specs.Report.{reportOf}
-use Rattle.refusal.specs.Refused.{printed}
+use Rattle.loader_runs.specs.Given.{valueFrom, sizeFrom, scalesFrom}
+use Rattle.loader_runs.specs.Run.{fromNew, forms}
+use Rattle.loader_runs.proofs.Passing.{spelled, forms-spelled, passes, pass-all}
+use Rattle.listing_text.specs.Line.{each}
+use Rattle.listing_report.specs.Report.{reportOf}
+use Rattle.listing_refusal.specs.Refused.{printed}
 use Rattle.file_check.specs.Judged.{reportedOf}
 use Rattle.file_check.specs.Problem.{problemFrom}
-use Rattle.line_runs.specs.Lines.{linesOf}
-use Rattle.line_runs.specs.Read.{zeros}
+use Rattle.loader_runs.specs.Lines.{linesOf}
+use Rattle.loader_runs.specs.Read.{zeros}
 use Rattle.integer.specs.Among.{here, there}
 use Rattle.linear.specs.Written.{written}
 use Rattle.listing.specs.Cases.{table, tableHolds, wholeFile, unweightedFile, wholeListing}

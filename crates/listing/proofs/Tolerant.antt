@@ -18,20 +18,20 @@ use Rattle.enclosure.specs.Demand.{RightSide, ExactSolutionOf}
 use Rattle.enclosure.specs.Example.{farRight, farHeight}
 use Rattle.enclosure.specs.Problem.{Problem, S}
 use Rattle.enclosure.specs.Reckoning.{defect, load, margin, residual, rowSum, exceeds, magnitudesWith, boundFrom, boundWith, bound}
-use Rattle.checked.specs.Order.{checkedOf}
-use Rattle.numeral.specs.Decimal.{digits, decimal, numeral}
-use Rattle.form.specs.List.{allInside}
-use Rattle.form.specs.Form.{Form, problem, scale, row, rightWithin, guess, inverse, end}
-use Rattle.form.specs.Spelling.{numerals, spell}
-use Rattle.bit_set.specs.Places.{withPlace, lacking}
-use Rattle.given_forms.specs.Progress.{missing, misplaced}
+use Rattle.check_spec.specs.Order.{checkedOf}
+use Rattle.line_numeral.specs.Decimal.{digits, decimal, numeral}
+use Rattle.line_form.specs.List.{allInside}
+use Rattle.line_form.specs.Form.{Form, problem, scale, row, rightWithin, guess, inverse, end}
+use Rattle.line_form.specs.Spelling.{numerals, spell}
+use Rattle.loader_bit_set.specs.Places.{withPlace, lacking}
+use Rattle.loader_progress.specs.Progress.{missing, misplaced}
 use Rattle.loader.specs.Taken.{fresh}
 use Rattle.loader.proofs.Exact.{formSaid}
-use Rattle.line_runs.specs.Given.{valueFrom, sizeFrom, scalesFrom}
-use Rattle.line_runs.specs.Lines.{linesOf}
-use Rattle.line_runs.proofs.Passing.{spelled, passes}
-use Rattle.listing_lines.specs.Line.{each}
-use Rattle.report.specs.Report.{reportOf}
+use Rattle.loader_runs.specs.Given.{valueFrom, sizeFrom, scalesFrom}
+use Rattle.loader_runs.specs.Lines.{linesOf}
+use Rattle.loader_runs.proofs.Passing.{spelled, passes}
+use Rattle.listing_text.specs.Line.{each}
+use Rattle.listing_report.specs.Report.{reportOf}
 use Rattle.file_check.specs.Judged.{reportedOf}
 use Rattle.file_check.specs.Problem.{problemFrom}
 use Rattle.listing.specs.Cases.{tolerantFile, tolerantListing}

@@ -10,8 +10,8 @@ use Prim.Native.Nat.{ℕ}
 use lib.Dec.{eqb}
 use lib.IntN.{ℤ, pos, negsuc}
 use Rattle.integer.specs.Same.{sameNumber}
-use Rattle.checked.specs.Cases as check
-use Rattle.form.specs.Form.{bytes}
+use Rattle.check_spec.specs.Cases as check
+use Rattle.line_form.specs.Form.{bytes}
 use Rattle.entry.specs.Entry.{entryValue, entryBound}
 
 pub data TableRow : Type 0 where

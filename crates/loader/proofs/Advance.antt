@@ -13,11 +13,11 @@ use Rattle.rules.specs.Range.{inRange, rangeOf, ranges}
 use Rattle.rules.specs.declared.Kind.{Kind}
 use Rattle.rules.specs.declared.Kind.the-variants.{Size, SolutionScale, InverseScale}
 use Rattle.rules.proofs.Ranges.{both, both-left, both-right, range-magnitude, range-natural, magnitudeOf}
-use Rattle.form_values.specs.declared.Item.{Item}
-use Rattle.form_values.specs.declared.Item.the-variants.{Problem, Scale, Of, End}
-use Rattle.form_values.specs.declared.Part.{Part}
-use Rattle.given_forms.specs.Progress.{marked}
-use Rattle.given_forms.specs.declared.Stage.the-variants.{Sized, Scaled, Ended}
+use Rattle.loader_values.specs.declared.Item.{Item}
+use Rattle.loader_values.specs.declared.Item.the-variants.{Problem, Scale, Of, End}
+use Rattle.loader_values.specs.declared.Part.{Part}
+use Rattle.loader_progress.specs.Progress.{marked}
+use Rattle.loader_progress.specs.declared.Stage.the-variants.{Sized, Scaled, Ended}
 use Rattle.loader.specs.declared.Loader.{Loader}
 use Rattle.loader.specs.Taken.{after}
 use Rattle.loader.specs.Decided.{fits}

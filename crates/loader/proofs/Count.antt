@@ -11,14 +11,14 @@ use native.Mathlib.Decide.{decLt}
 use native.Mathlib.Omega.{arith}
 use borrow.Author.Tests.{lt-ltb, le-ltb}
 use lib.Dec.{ltb}
-use Rattle.form.specs.Form.{Form, problem, scale, row, right, rightWithin, guess, inverse, weight, end}
-use Rattle.form.specs.Reading.{reading}
-use Rattle.bit_set.specs.Places.{lacking}
-use Rattle.form_values.specs.Item.{itemOf}
-use Rattle.form_values.specs.declared.Part.the-variants.{Weight}
-use Rattle.lent_lists.specs.Lists.{Lists}
-use Rattle.given_forms.specs.Progress.{setOf, missing, incomplete}
-use Rattle.given_forms.specs.Before.{missing01, incomplete01}
+use Rattle.line_form.specs.Form.{Form, problem, scale, row, right, rightWithin, guess, inverse, weight, end}
+use Rattle.line_form.specs.Reading.{reading}
+use Rattle.loader_bit_set.specs.Places.{lacking}
+use Rattle.loader_values.specs.Item.{itemOf}
+use Rattle.loader_values.specs.declared.Part.the-variants.{Weight}
+use Rattle.loader_lists.specs.Lists.{Lists}
+use Rattle.loader_progress.specs.Progress.{setOf, missing, incomplete}
+use Rattle.loader_progress.specs.Before.{missing01, incomplete01}
 use Rattle.loader_order.specs.Order.{LineCase}
 use Rattle.loader.specs.declared.Loader.{Loader}
 use Rattle.loader.specs.Answer.{ofForm, caseOf, lineAnswer}

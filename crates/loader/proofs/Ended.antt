@@ -8,15 +8,15 @@ use Prim.Native.Nat.{ℕ, _-_, _≤_}
 use native.Mathlib.Omega.{arith}
 use lib.IntN.{pos}
 use lib.ListN.{length, getD}
-use Rattle.form.specs.Form.{end}
-use Rattle.form.specs.Reading.{reading}
-use Rattle.form_values.specs.declared.Item.the-variants.{End}
-use Rattle.form_values.specs.declared.Part.the-variants.{Weight}
-use Rattle.lent_lists.specs.Lists.{Lists}
-use Rattle.lent_lists.proofs.Lists.{long-lent}
-use Rattle.lent_list.proofs.Filled.{length-filled, filled-given, filled-one, filled-past}
-use Rattle.given_forms.specs.Progress.{setOf, given}
-use Rattle.given_forms.proofs.Progress.{end-size}
+use Rattle.line_form.specs.Form.{end}
+use Rattle.line_form.specs.Reading.{reading}
+use Rattle.loader_values.specs.declared.Item.the-variants.{End}
+use Rattle.loader_values.specs.declared.Part.the-variants.{Weight}
+use Rattle.loader_lists.specs.Lists.{Lists}
+use Rattle.loader_lists.proofs.Lists.{long-lent}
+use Rattle.loader_lists.proofs.Filled.{length-filled, filled-given, filled-one, filled-past}
+use Rattle.loader_progress.specs.Progress.{setOf, given}
+use Rattle.loader_progress.proofs.Progress.{end-size}
 use Rattle.loader_order.proofs.Said.{Passed, passed}
 use Rattle.loader.specs.declared.Loader.{Loader}
 use Rattle.loader.specs.Answer.{caseOf, lineAnswer}

@@ -13,33 +13,33 @@ use lib.Dec.{ltb}
 use lib.IntN.{ℤ}
 use lib.ListN.{length}
 use Rattle.rules.specs.Order.{verdict}
-use Rattle.numeral.specs.Numeral.{cap, capAt}
-use Rattle.numeral.proofs.Cap.{cap-small}
-use Rattle.form.specs.Form.{Form, problem, scale, row, right, rightWithin, guess, inverse, weight, end}
-use Rattle.form.specs.Reading.{reading}
+use Rattle.line_numeral.specs.Numeral.{cap, capAt}
+use Rattle.line_numeral.proofs.Cap.{cap-small}
+use Rattle.line_form.specs.Form.{Form, problem, scale, row, right, rightWithin, guess, inverse, weight, end}
+use Rattle.line_form.specs.Reading.{reading}
 use Rattle.line_parts.specs.Line.{cappedForm, numbersIn}
-use Rattle.form_values.specs.Item.{itemOf, placed, outside, miscounted}
-use Rattle.form_values.specs.Capped.{itemIn, valuesIn}
-use Rattle.form_values.specs.declared.Item.the-variants.{Of}
-use Rattle.form_values.specs.declared.Part.{Part}
-use Rattle.form_values.specs.declared.Part.the-variants.{Row, Right, Guess, Inverse, Weight}
-use Rattle.form_values.proofs.Capped.{placed-capped, outside-capped, miscounted-capped, item-exact}
-use Rattle.form_values.proofs.Between.{from-to}
-use Rattle.lent_lists.specs.Lists.{Lists, shortLists}
-use Rattle.lent_lists.specs.Pasted.{Rooms, pastedAll}
-use Rattle.lent_lists.specs.Put.{closed}
-use Rattle.lent_list.specs.Pasted.{Narrow}
-use Rattle.lent_lists.proofs.Lists.{rooms}
-use Rattle.lent_lists.proofs.Exact.{all-exact}
+use Rattle.loader_values.specs.Item.{itemOf, placed, outside, miscounted}
+use Rattle.loader_values.specs.Capped.{itemIn, valuesIn}
+use Rattle.loader_values.specs.declared.Item.the-variants.{Of}
+use Rattle.loader_values.specs.declared.Part.{Part}
+use Rattle.loader_values.specs.declared.Part.the-variants.{Row, Right, Guess, Inverse, Weight}
+use Rattle.loader_values.proofs.Capped.{placed-capped, outside-capped, miscounted-capped, item-exact}
+use Rattle.loader_values.proofs.Between.{from-to}
+use Rattle.loader_lists.specs.Lists.{Lists, shortLists}
+use Rattle.loader_lists.specs.Pasted.{Rooms, pastedAll}
+use Rattle.loader_lists.specs.Put.{closed}
+use Rattle.loader_lists.specs.Span.{Narrow}
+use Rattle.loader_lists.proofs.Lists.{rooms}
+use Rattle.loader_lists.proofs.Exact.{all-exact}
 use Rattle.loader_order.specs.Order.{LineCase, lineOrder}
 use Rattle.loader_order.proofs.Said.{Passed, passed}
 use Rattle.loader.specs.declared.Loader.{Loader}
-use Rattle.given_forms.specs.declared.Stage.{Stage}
-use Rattle.given_forms.specs.Progress.{setOf, ended, early, misplaced, repeated, incomplete, missing}
+use Rattle.loader_progress.specs.declared.Stage.{Stage}
+use Rattle.loader_progress.specs.Progress.{setOf, ended, early, misplaced, repeated, incomplete, missing}
 use Rattle.loader.specs.Answer.{lineAnswer}
 use Rattle.loader.specs.Taken.{after, listsWith}
 use Rattle.loader.specs.Decided.{saidIn}
-use Rattle.given_forms.proofs.Progress.{placed-of}
+use Rattle.loader_progress.proofs.Progress.{placed-of}
 use Rattle.loader.proofs.Form.{narrow-by}
 
 abbrev pub formCase : Loader → Form → LineCase

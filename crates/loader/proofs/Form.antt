@@ -13,18 +13,18 @@ use Rattle.rules.specs.declared.Outcome.the-variants.{Accepted, Refused}
 use Rattle.rules.specs.declared.Refusal.{Refusal}
 use Rattle.line_parts.specs.declared.CappedForm.{CappedForm}
 use Rattle.line_parts.specs.declared.CappedForm.the-variants as form
-use Rattle.form.specs.declared.Numbers.{Numbers}
-use Rattle.form_values.specs.Item.{placed}
-use Rattle.form_values.specs.Capped.{itemIn, outsideIn, valuesIn}
-use Rattle.form_values.specs.declared.Item.{Item}
-use Rattle.form_values.specs.declared.Item.the-variants.{Problem, Scale, Of, End}
+use Rattle.line_form.specs.declared.Numbers.{Numbers}
+use Rattle.loader_values.specs.Item.{placed}
+use Rattle.loader_values.specs.Capped.{itemIn, outsideIn, valuesIn}
+use Rattle.loader_values.specs.declared.Item.{Item}
+use Rattle.loader_values.specs.declared.Item.the-variants.{Problem, Scale, Of, End}
 use Rattle.loader.specs.declared.Loader.{Loader}
-use Rattle.lent_list.specs.Pasted.{Narrow}
-use Rattle.given_forms.specs.Progress.{early, misplaced}
+use Rattle.loader_lists.specs.Span.{Narrow}
+use Rattle.loader_progress.specs.Progress.{early, misplaced}
 use Rattle.loader_order.proofs.Said.{Passed, passed}
 use Rattle.loader.specs.Taken.{after}
 use Rattle.loader.specs.Decided.{caseIn, saidIn, fits, nothing, DecidedIn}
-use Rattle.given_forms.proofs.Progress.{placed-32, size-of, late}
+use Rattle.loader_progress.proofs.Progress.{placed-32, size-of, late}
 
 -- ---- a form of which nothing is said
 fits-by : (m : CappedForm) (inside : Bool) → placed 32 (itemIn m) ≡ true → outsideIn m inside ≡ false → fits (itemIn m) ≡ true

@@ -5,9 +5,9 @@ use mathlib.Core.Bool.{Bool, true, false, cond}
 use mathlib.Core.List.{List, [], _∷_}
 use Prim.Native.Nat.{ℕ}
 use Rattle.line_parts.specs.declared.CappedForm.{CappedForm}
-use Rattle.form_values.specs.Capped.{itemIn, outsideIn, miscountedIn}
-use Rattle.form_values.specs.declared.Item.{Item}
-use Rattle.given_forms.specs.Progress.{early, misplaced, repeated, incomplete, missing}
+use Rattle.loader_values.specs.Capped.{itemIn, outsideIn, miscountedIn}
+use Rattle.loader_values.specs.declared.Item.{Item}
+use Rattle.loader_progress.specs.Progress.{early, misplaced, repeated, incomplete, missing}
 use Rattle.loader.specs.declared.Loader.{Loader}
 use Rattle.loader.specs.Decided.{saidIn}
 

@@ -14,21 +14,21 @@ use lib.ListN.{length, replicate}
 use Rattle.rules.specs.Refusal.{numberOf, valuesOf}
 use Rattle.rules.specs.declared.Refusal.{Refusal}
 use Rattle.rules.specs.declared.Refusal.the-variants.{TooShort, AfterEnd, TooLong, NoForm}
-use Rattle.numeral.specs.Numeral.{capAt}
-use Rattle.form.specs.Form.{Form}
-use Rattle.form.specs.Reading.{reading}
+use Rattle.line_numeral.specs.Numeral.{capAt}
+use Rattle.line_form.specs.Form.{Form}
+use Rattle.line_form.specs.Reading.{reading}
 use Rattle.line_parts.specs.Line.{cappedForm, numbersIn, lineOf, ofReading, refused}
 use Rattle.line_parts.specs.declared.Answer.the-variants as answer
 use Rattle.line_parts.specs.declared.CappedForm.{CappedForm}
 use Rattle.line_parts.specs.declared.Line.{Line}
-use Rattle.form.specs.declared.Numbers.{Numbers}
-use Rattle.form_values.specs.Capped.{itemIn}
-use Rattle.form_values.specs.declared.Part.the-variants.{Weight}
-use Rattle.lent_lists.specs.Lists.{Lists, shortLists}
-use Rattle.lent_lists.specs.Pasted.{pastedAll}
-use Rattle.lent_lists.specs.Put.{closed}
-use Rattle.lent_lists.proofs.Lists.{nothing-pasted}
-use Rattle.given_forms.specs.Progress.{setOf, ended}
+use Rattle.line_form.specs.declared.Numbers.{Numbers}
+use Rattle.loader_values.specs.Capped.{itemIn}
+use Rattle.loader_values.specs.declared.Part.the-variants.{Weight}
+use Rattle.loader_lists.specs.Lists.{Lists, shortLists}
+use Rattle.loader_lists.specs.Pasted.{pastedAll}
+use Rattle.loader_lists.specs.Put.{closed}
+use Rattle.loader_lists.proofs.Lists.{nothing-pasted}
+use Rattle.loader_progress.specs.Progress.{setOf, ended}
 use Rattle.loader.specs.declared.Decided.{Decided}
 use Rattle.loader.specs.declared.Loader.{Loader}
 use Rattle.loader.specs.Answer.{lineAnswer}

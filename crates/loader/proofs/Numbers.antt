@@ -9,9 +9,9 @@ use Prim.Native.Nat.{ℕ, suc, _+_}
 use native.Mathlib.Omega.{arith}
 use lib.ListN.{length, getD, drop, replicate, drop-of-length-le}
 use lib.Seq.{drop-cons}
-use Rattle.given_forms.specs.declared.Stage.{Stage}
-use Rattle.given_forms.specs.declared.Stage.the-variants.{Start, Sized, Scaled, Ended}
-use Rattle.given_forms.specs.StageNumber.{stageNumber, stageOf}
+use Rattle.loader_progress.specs.declared.Stage.{Stage}
+use Rattle.loader_progress.specs.declared.Stage.the-variants.{Start, Sized, Scaled, Ended}
+use Rattle.loader_progress.specs.StageNumber.{stageNumber, stageOf}
 use Rattle.loader.specs.declared.Loader.{Loader}
 use Rattle.loader.specs.Taken.{fresh}
 use Rattle.loader.specs.Numbers.{loaderOf, loaderNumbers}

@@ -20,16 +20,16 @@ use Rattle.rules.specs.declared.Kind.the-variants as kind
 use Rattle.rules.specs.declared.Outcome.the-variants.{Refused}
 use Rattle.rules.specs.declared.Refusal.{Refusal}
 use Rattle.line_parts.specs.declared.CappedForm.{CappedForm}
-use Rattle.form.specs.declared.Numbers.{Numbers}
-use Rattle.form_values.specs.Item.{placed}
-use Rattle.form_values.specs.Capped.{itemIn, outsideIn, miscountedIn, valuesIn}
-use Rattle.form_values.specs.declared.Item.{Item}
-use Rattle.form_values.specs.declared.Item.the-variants.{Problem, Scale, Of, End}
-use Rattle.form_values.specs.declared.Part.the-variants.{Weight}
-use Rattle.lent_lists.specs.Lists.{Lists, shortLists}
-use Rattle.lent_lists.specs.Pasted.{Rooms, pastedAll}
-use Rattle.lent_lists.specs.Put.{closed}
-use Rattle.given_forms.specs.Progress.{setOf, missing, early, misplaced, repeated, incomplete}
+use Rattle.line_form.specs.declared.Numbers.{Numbers}
+use Rattle.loader_values.specs.Item.{placed}
+use Rattle.loader_values.specs.Capped.{itemIn, outsideIn, miscountedIn, valuesIn}
+use Rattle.loader_values.specs.declared.Item.{Item}
+use Rattle.loader_values.specs.declared.Item.the-variants.{Problem, Scale, Of, End}
+use Rattle.loader_values.specs.declared.Part.the-variants.{Weight}
+use Rattle.loader_lists.specs.Lists.{Lists, shortLists}
+use Rattle.loader_lists.specs.Pasted.{Rooms, pastedAll}
+use Rattle.loader_lists.specs.Put.{closed}
+use Rattle.loader_progress.specs.Progress.{setOf, missing, early, misplaced, repeated, incomplete}
 use Rattle.loader_order.specs.Order.{LineCase, lineOrder}
 use Rattle.loader.specs.declared.Decided.{Decided}
 use Rattle.loader.specs.declared.Loader.{Loader}

@@ -5,7 +5,7 @@
 use mathlib.Core.List.{List, _∷_}
 use Prim.Native.Nat.{ℕ}
 use lib.ListN.{getD, drop}
-use Rattle.given_forms.specs.StageNumber.{stageNumber, stageOf}
+use Rattle.loader_progress.specs.StageNumber.{stageNumber, stageOf}
 use Rattle.loader.specs.declared.Loader.{Loader}
 
 abbrev pub loaderNumbers : Loader → List ℕ

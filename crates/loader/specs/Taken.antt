@@ -12,16 +12,16 @@ use lib.IntN.{natAbs}
 use lib.ListN.{replicate}
 use Rattle.rules.specs.Order.{ifAccepted}
 use Rattle.rules.specs.Refusal.{said}
-use Rattle.form.specs.Form.{Form}
-use Rattle.form.specs.Reading.{reading}
-use Rattle.form_values.specs.Item.{itemOf}
-use Rattle.form_values.specs.declared.Item.{Item}
-use Rattle.form_values.specs.declared.Item.the-variants.{Problem, Scale, Of, End}
-use Rattle.form_values.specs.declared.Part.the-variants.{Weight}
-use Rattle.lent_lists.specs.Lists.{Lists}
-use Rattle.lent_lists.specs.Put.{putAll, closed}
-use Rattle.given_forms.specs.Progress.{setOf, marked}
-use Rattle.given_forms.specs.declared.Stage.the-variants.{Start, Sized, Scaled, Ended}
+use Rattle.line_form.specs.Form.{Form}
+use Rattle.line_form.specs.Reading.{reading}
+use Rattle.loader_values.specs.Item.{itemOf}
+use Rattle.loader_values.specs.declared.Item.{Item}
+use Rattle.loader_values.specs.declared.Item.the-variants.{Problem, Scale, Of, End}
+use Rattle.loader_values.specs.declared.Part.the-variants.{Weight}
+use Rattle.loader_lists.specs.Lists.{Lists}
+use Rattle.loader_lists.specs.Put.{putAll, closed}
+use Rattle.loader_progress.specs.Progress.{setOf, marked}
+use Rattle.loader_progress.specs.declared.Stage.the-variants.{Start, Sized, Scaled, Ended}
 use Rattle.loader.specs.declared.Loader.{Loader}
 use Rattle.loader.specs.declared.Taken.{Taken}
 use Rattle.loader.specs.Answer.{lineAnswer, ofForm}

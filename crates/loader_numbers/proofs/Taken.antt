@@ -10,7 +10,7 @@ use Rattle.rules.specs.declared.Outcome.{Outcome}
 use Rattle.rules.specs.declared.Outcome.the-variants.{Accepted, Refused}
 use Rattle.rules.specs.declared.Refusal.{Refusal}
 use Rattle.rules.proofs.Verdicts.{accepted-new, accepted-old}
-use Rattle.lent_lists.specs.Lists.{Lists}
+use Rattle.loader_lists.specs.Lists.{Lists}
 use Rattle.loader.specs.declared.Loader.{Loader}
 use Rattle.loader.specs.declared.Taken.{Taken}
 use Rattle.loader.specs.Answer.{lineAnswer}

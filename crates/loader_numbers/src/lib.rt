@@ -1,7 +1,7 @@
 // A loader in nine numbers that a caller lends (01: desk), for callers that cannot hold the struct.
 ghost use mathlib.Core.Path.{_≡_};
-ghost use Rattle.checked.specs.Input.{input};
-ghost use Rattle.lent_lists.specs.Lists.{lists};
+ghost use Rattle.check_spec.specs.Input.{input};
+ghost use Rattle.loader_lists.specs.Lists.{lists};
 ghost use Rattle.loader_order.specs.Through.{CheckedThrough};
 ghost use Rattle.loader.specs.Taken.{fresh};
 ghost use Rattle.loader.specs.Numbers.{loaderOf, loaderNumbers};

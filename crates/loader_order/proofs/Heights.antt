@@ -8,8 +8,8 @@ use Rattle.rules.specs.Refusal.{said}
 use Rattle.rules.specs.declared.Outcome.{Outcome}
 use Rattle.enclosure.specs.Height.{OneHeight}
 use Rattle.enclosure.proofs.Demands.{one-height}
-use Rattle.checked.specs.Input.{Input, problem}
-use Rattle.given_forms.specs.declared.Stage.{Stage}
+use Rattle.check_spec.specs.Input.{Input, problem}
+use Rattle.loader_progress.specs.declared.Stage.{Stage}
 use Rattle.loader_order.specs.Through.{CheckedThrough}
 
 pub through-height : (s : Stage) (I : Input) (r : Outcome) (E L : List ℕ) → CheckedThrough s I r E L → said r ≡ [] →

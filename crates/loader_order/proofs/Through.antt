@@ -16,11 +16,11 @@ use Rattle.rules.specs.Refusal.{said}
 use Rattle.rules.specs.declared.Outcome.{Outcome}
 use Rattle.rules.proofs.Verdicts.{nothing-is-not}
 use Rattle.rules.proofs.Tests.{None, said-exactly}
-use Rattle.checked.specs.Input.{Input, short, inRanges}
-use Rattle.checked.specs.Order.{answer}
-use Rattle.checked.specs.Checked.{Checked, solutionBoundsAfter, inverseBoundsAfter}
-use Rattle.given_forms.specs.Progress.{ended}
-use Rattle.given_forms.specs.declared.Stage.{Stage}
+use Rattle.check_spec.specs.Input.{Input, short, inRanges}
+use Rattle.check_spec.specs.Order.{answer}
+use Rattle.check_spec.specs.Checked.{Checked, solutionBoundsAfter, inverseBoundsAfter}
+use Rattle.loader_progress.specs.Progress.{ended}
+use Rattle.loader_progress.specs.declared.Stage.{Stage}
 use Rattle.loader_order.specs.Through.{orderThrough, answerThrough, solutionBoundsThrough, inverseBoundsThrough, CheckedThrough}
 
 module _ (s : Stage) (I : Input) where

@@ -12,11 +12,11 @@ use Rattle.rules.specs.Refusal.{said}
 use Rattle.rules.specs.declared.Outcome.{Outcome}
 use Rattle.linear.specs.Matrix.{Vec, Mat}
 use Rattle.enclosure.specs.Demand.{Encloses, RoundedExact}
-use Rattle.checked.specs.Input.{Input, problem, short, inRanges}
-use Rattle.checked.specs.Order.{reckonedOf}
-use Rattle.checked.specs.Checked.{solutionAfter, inverseAfter}
-use Rattle.given_forms.specs.Progress.{ended}
-use Rattle.given_forms.specs.declared.Stage.{Stage}
+use Rattle.check_spec.specs.Input.{Input, problem, short, inRanges}
+use Rattle.check_spec.specs.Order.{reckonedOf}
+use Rattle.check_spec.specs.Checked.{solutionAfter, inverseAfter}
+use Rattle.loader_progress.specs.Progress.{ended}
+use Rattle.loader_progress.specs.declared.Stage.{Stage}
 
 abbrev pub orderThrough : Stage → Input → List Test
 orderThrough s I =

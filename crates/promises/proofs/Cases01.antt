@@ -17,9 +17,9 @@ use Rattle.rules.specs.declared.Outcome.{Outcome}
 use Rattle.enclosure.specs.Sound.{Margins, Residuals}
 use Rattle.enclosure.specs.Problem.{columnOf}
 use Rattle.enclosure.specs.Reckoning.{marginFails, exceeds}
-use Rattle.checked.specs.Checked.{Checked}
-use Rattle.checked.specs.Input.{Input, problem, short, inRanges}
-use Rattle.checked.specs.Stated.{Usable, Stated, too-short, out-of-range, margin-low, residual-large, inverse-large, accepted}
+use Rattle.check_spec.specs.Checked.{Checked}
+use Rattle.check_spec.specs.Input.{Input, problem, short, inRanges}
+use Rattle.check_spec.specs.Stated.{Usable, Stated, too-short, out-of-range, margin-low, residual-large, inverse-large, accepted}
 use Rattle.promises.specs.Ways.{Lowest}
 use Rattle.promises.proofs.Demands.{check-refuses-as-stated}
 

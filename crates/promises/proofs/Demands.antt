@@ -6,28 +6,28 @@ use Prim.Native.Nat.{ℕ, zero, suc, _<_}
 use native.Mathlib.Omega.{arith}
 use lib.IntN.{ℤ}
 use lib.ListN.{take}
-use Rattle.checked.specs.Checked.{solutionBoundsAfter, inverseBoundsAfter}
-use Rattle.checked.specs.Input.{Input, short}
-use Rattle.checked.specs.Stated.{Stated}
-use Rattle.checked.proofs.Statements.{stated, said-of}
-use Rattle.checked.proofs.Written.{checked-solution, checked-inverse}
-use Rattle.given_forms.specs.Progress.{ended}
-use Rattle.given_forms.specs.declared.Stage.{Stage}
+use Rattle.check_spec.specs.Checked.{solutionBoundsAfter, inverseBoundsAfter}
+use Rattle.check_spec.specs.Input.{Input, short}
+use Rattle.check_spec.specs.Stated.{Stated}
+use Rattle.check_spec.proofs.Statements.{stated, said-of}
+use Rattle.check_spec.proofs.Written.{checked-solution, checked-inverse}
+use Rattle.loader_progress.specs.Progress.{ended}
+use Rattle.loader_progress.specs.declared.Stage.{Stage}
 use Rattle.loader_order.specs.Through.{answerThrough, solutionBoundsThrough, inverseBoundsThrough}
 use Rattle.loader_order.proofs.Through.{answer-ended, through-lists, check-8, check-15}
 use Rattle.loader.specs.Taken.{loaderAfter, listsAfter}
-use Rattle.half.specs.Checked.{filledInput}
-use Rattle.half.proofs.Promises.{half-stated}
-use Rattle.line_stated.proofs.Stated.{line-exactly, made-exactly}
-use Rattle.line_stated.proofs.Taken.{taken-other}
+use Rattle.half_check.specs.Checked.{filledInput}
+use Rattle.half_check.proofs.Promises.{half-stated}
+use Rattle.loader_stated.proofs.Stated.{line-exactly, made-exactly}
+use Rattle.loader_stated.proofs.Taken.{taken-other}
 use Rattle.file_stated.proofs.Stated.{file-exactly, answered-stated, listed-stated}
 use Rattle.enclosure.specs.Reckoning.{bound, inverseBound}
-use Rattle.form.specs.Form.{bytes}
-use Rattle.report.specs.Report.{reportOf}
-use Rattle.report.proofs.OneToOne.{SameShown, report-one}
-use Rattle.line_runs.specs.Lines.{linesOf}
-use Rattle.line_runs.specs.Read.{readingOf}
-use Rattle.line_runs.specs.Run.{forms}
+use Rattle.line_form.specs.Form.{bytes}
+use Rattle.listing_report.specs.Report.{reportOf}
+use Rattle.listing_report.proofs.OneToOne.{SameShown, report-one}
+use Rattle.loader_runs.specs.Lines.{linesOf}
+use Rattle.loader_runs.specs.Read.{readingOf}
+use Rattle.loader_runs.specs.Run.{forms}
 use Rattle.file_check.proofs.Forms.{some}
 use Rattle.listing.specs.Listing.{problemIn, answerOf}
 use Rattle.listing.proofs.Entire.{from, inside}

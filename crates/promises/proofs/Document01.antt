@@ -19,19 +19,19 @@ use Rattle.entry.proofs.Limit.{entry-near}
 use Rattle.enclosure.specs.Problem.{Problem, S, columnOf}
 use Rattle.enclosure.specs.Reckoning.{defect, load, margin, residual, rowSum, exceeds, exceedsWith, exceedsRow, slack, bound, boundWith, boundFrom, magnitudesWith, inverseBound}
 use Rattle.enclosure.proofs.Instance.{file-worked}
-use Rattle.checked.specs.Checked.{solutionBoundsAfter, inverseBoundsAfter}
-use Rattle.checked.specs.Input.{Input, problem, short}
-use Rattle.checked.specs.Order.{answer}
-use Rattle.checked.specs.Stated.{too-short, out-of-range, margin-low, residual-large, inverse-large}
-use Rattle.checked.proofs.Agreed.{same-answer, same-solution, same-inverse}
-use Rattle.checked.proofs.Lengths.{long-of}
-use Rattle.checked.proofs.Written.{past-kept}
-use Rattle.given_forms.specs.Progress.{ended}
+use Rattle.check_spec.specs.Checked.{solutionBoundsAfter, inverseBoundsAfter}
+use Rattle.check_spec.specs.Input.{Input, problem, short}
+use Rattle.check_spec.specs.Order.{answer}
+use Rattle.check_spec.specs.Stated.{too-short, out-of-range, margin-low, residual-large, inverse-large}
+use Rattle.check_spec.proofs.Agreed.{same-answer, same-solution, same-inverse}
+use Rattle.check_spec.proofs.Lengths.{long-of}
+use Rattle.check_spec.proofs.Written.{past-kept}
+use Rattle.loader_progress.specs.Progress.{ended}
 use Rattle.file_shape.proofs.Complete.{exactly}
-use Rattle.line_runs.specs.Lines.{before, linesOf}
-use Rattle.form.proofs.Printable.{spell-printable}
+use Rattle.loader_runs.specs.Lines.{before, linesOf}
+use Rattle.line_form.proofs.Printable.{spell-printable}
 use Rattle.file_stated.proofs.Stated.{file-exactly}
-use Rattle.spelled_lines.proofs.Text.{lines-feed}
+use Rattle.loader_spelled.proofs.Text.{lines-feed}
 use Rattle.listing.specs.Listing.{answerOf, listingOf}
 use Rattle.listing.proofs.Answers.{file-answers}
 use Rattle.listing.proofs.Table as table

@@ -4,10 +4,10 @@ use Rattle.rules.specs.Refusal.{said}
 use Rattle.listing.specs.Listing.{answerOf}
 use Rattle.listing.proofs.Meaning.{bounds-begin}
 use Rattle.file_stated.proofs.Stated.{file-exactly}
-use Rattle.calls.proofs.Half.{half-number, half-zero}
-use Rattle.calls.proofs.Loader.{take-refused}
-use Rattle.calls.proofs.LoaderListing.{turns-listing}
-use Rattle.calls.proofs.Meaning.{zero-said, zero-answer}
+use Rattle.calls_spec.proofs.Half.{half-number, half-zero}
+use Rattle.calls_spec.proofs.Loader.{take-refused}
+use Rattle.calls_spec.proofs.LoaderListing.{turns-listing}
+use Rattle.calls_spec.proofs.Meaning.{zero-said, zero-answer}
 use Rattle.promises.specs.Exported as exported
 use Rattle.promises.specs.Ways.{on-lists, through-loader, by-half, of-listing}
 use Rattle.promises.proofs.Demands.{check-refuses-as-stated, through-refuses-as-stated}

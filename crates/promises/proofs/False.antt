@@ -19,35 +19,35 @@ use Rattle.entry.specs.Entry.{entryValue, entryBound}
 use Rattle.entry.specs.Register.{RegisteredAs}
 use Rattle.entry.specs.declared.Registered.the-variants.{Entry}
 use Rattle.enclosure.specs.Reckoning.{defect, load, margin, marginFails, residual, rowSum, exceeds, magnitudesWith, boundFrom, boundWith, bound, inverseBound}
-use Rattle.checked.specs.Cases.{single, skewed, tolerant, caseInput}
-use Rattle.checked.specs.Checked.{Checked, solutionAfter, inverseAfter}
-use Rattle.checked.specs.Input.{Input, input, problem, inRanges}
-use Rattle.checked.specs.Order.{checkedOf, answer}
-use Rattle.checked.specs.Stated.{Stated}
-use Rattle.checked.proofs.Contract.{checked-ready, checked-short}
-use Rattle.checked.proofs.Statements.{stated}
-use Rattle.checked.proofs.Written.{checked-solution, checked-inverse}
-use Rattle.dependent.specs.Example.{coupledNets}
-use Rattle.dependent.specs.Nets.{Nets, nets, dependentOf}
-use Rattle.dependent.specs.Stated.{StatedDependent, too-short}
-use Rattle.dependent.specs.declared.CheckedNets.the-variants.{Dependent}
-use Rattle.dependent.proofs.Contract.{together-dependent}
-use Rattle.dependent.proofs.Instance.{accepted-here}
-use Rattle.dependent.proofs.Largest.{joint-none}
-use Rattle.dependent.proofs.Statements.{said-of-dependent}
-use Rattle.form.specs.Form.{end}
-use Rattle.form.specs.Spelling.{spell}
-use Rattle.bit_set.specs.Places.{lacking as lackingIn}
-use Rattle.given_forms.specs.Progress.{missing}
-use Rattle.given_forms.specs.declared.Stage.the-variants.{Scaled}
+use Rattle.check_spec.specs.Cases.{single, skewed, tolerant, caseInput}
+use Rattle.check_spec.specs.Checked.{Checked, solutionAfter, inverseAfter}
+use Rattle.check_spec.specs.Input.{Input, input, problem, inRanges}
+use Rattle.check_spec.specs.Order.{checkedOf, answer}
+use Rattle.check_spec.specs.Stated.{Stated}
+use Rattle.check_spec.proofs.Contract.{checked-ready, checked-short}
+use Rattle.check_spec.proofs.Statements.{stated}
+use Rattle.check_spec.proofs.Written.{checked-solution, checked-inverse}
+use Rattle.dependent_spec.specs.Example.{coupledNets}
+use Rattle.dependent_spec.specs.Nets.{Nets, nets, dependentOf}
+use Rattle.dependent_spec.specs.Stated.{StatedDependent, too-short}
+use Rattle.dependent_spec.specs.declared.CheckedNets.the-variants.{Dependent}
+use Rattle.dependent_spec.proofs.Contract.{together-dependent}
+use Rattle.dependent_spec.proofs.Instance.{accepted-here}
+use Rattle.dependent_spec.proofs.Largest.{joint-none}
+use Rattle.dependent_spec.proofs.Statements.{said-of-dependent}
+use Rattle.line_form.specs.Form.{end}
+use Rattle.line_form.specs.Spelling.{spell}
+use Rattle.loader_bit_set.specs.Places.{lacking as lackingIn}
+use Rattle.loader_progress.specs.Progress.{missing}
+use Rattle.loader_progress.specs.declared.Stage.the-variants.{Scaled}
 use Rattle.loader.specs.Answer.{lineAnswer}
 use Rattle.loader.specs.Taken.{TakenAs}
 use Rattle.loader.specs.declared.Loader.{Loader}
 use Rattle.loader.proofs.Said.{refused-leaves}
-use Rattle.line_runs.specs.Read.{zeros}
-use Rattle.line_runs.specs.OwnSize.{OwnSize}
-use Rattle.line_stated.specs.Stated.{Unrepeated, forms-missing}
-use Rattle.line_stated.proofs.Stated.{line-exactly}
+use Rattle.loader_runs.specs.Read.{zeros}
+use Rattle.loader_runs.specs.OwnSize.{OwnSize}
+use Rattle.loader_stated.specs.Stated.{Unrepeated, forms-missing}
+use Rattle.loader_stated.proofs.Stated.{line-exactly}
 use Rattle.listing.specs.Cases.{wholeFile, wholeListing}
 use Rattle.listing.specs.Listing.{ListedAs}
 use Rattle.listing.proofs.Entire.{zeros-long}

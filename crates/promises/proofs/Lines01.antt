@@ -11,17 +11,17 @@ use borrow.Author.Tests.{ltb-true, lt-ltb}
 use lib.Dec.{eqb}
 use lib.ListN.{getD, length}
 use Rattle.integer.proofs.Search.{clash}
-use Rattle.form.specs.Form.{Form, problem, scale, row, right, rightWithin, guess, inverse, weight, end}
-use Rattle.form.specs.Spelling.{spell}
-use Rattle.form.proofs.Printable.{spell-some, spell-no-feed}
-use Rattle.form.proofs.Spelling.{spelled-read}
-use Rattle.form_values.specs.Item.{itemOf, placed, outside, miscounted}
-use Rattle.form_values.specs.declared.Part.{Part}
-use Rattle.form_values.specs.declared.Part.the-variants.{Row, Right, Guess, Inverse}
-use Rattle.bit_set.specs.Places.{lacking}
-use Rattle.bit_set.proofs.Places.{lacking-≤}
-use Rattle.lent_lists.specs.Lists.{Lists, shortLists}
-use Rattle.given_forms.specs.Progress.{missing, setOf, ended, early, repeated, incomplete}
+use Rattle.line_form.specs.Form.{Form, problem, scale, row, right, rightWithin, guess, inverse, weight, end}
+use Rattle.line_form.specs.Spelling.{spell}
+use Rattle.line_form.proofs.Printable.{spell-some, spell-no-feed}
+use Rattle.line_form.proofs.Spelling.{spelled-read}
+use Rattle.loader_values.specs.Item.{itemOf, placed, outside, miscounted}
+use Rattle.loader_values.specs.declared.Part.{Part}
+use Rattle.loader_values.specs.declared.Part.the-variants.{Row, Right, Guess, Inverse}
+use Rattle.loader_bit_set.specs.Places.{lacking}
+use Rattle.loader_bit_set.proofs.Places.{lacking-≤}
+use Rattle.loader_lists.specs.Lists.{Lists, shortLists}
+use Rattle.loader_progress.specs.Progress.{missing, setOf, ended, early, repeated, incomplete}
 use Rattle.loader_order.proofs.Said.{count-13}
 use Rattle.rules.specs.Refusal.{said}
 use Rattle.loader.specs.Answer.{caseOf, lineAnswer}
@@ -30,12 +30,12 @@ use Rattle.loader.specs.declared.Loader.{Loader}
 use Rattle.loader.specs.declared.Taken.{Taken}
 use Rattle.loader.proofs.Accepted.{accepted-form}
 use Rattle.loader.specs.Taken.{fresh}
-use Rattle.line_runs.specs.Run.{State, forms}
-use Rattle.line_runs.specs.Accepts.{Made}
+use Rattle.loader_runs.specs.Run.{State, forms}
+use Rattle.loader_runs.specs.Accepts.{Made}
 use Rattle.file_shape.specs.Given.{GivenBy}
 use Rattle.file_shape.proofs.Stage.{given-by}
-use Rattle.line_stated.specs.Stated as stated
-use Rattle.line_stated.specs.Stated.{Formed, Unrepeated, LineStated}
+use Rattle.loader_stated.specs.Stated as stated
+use Rattle.loader_stated.specs.Stated.{Formed, Unrepeated, LineStated}
 use Rattle.promises.specs.Lines01.{InTime, notGiven}
 use Rattle.promises.specs.Lines01 as line
 use Rattle.promises.proofs.Cases01.{Case}

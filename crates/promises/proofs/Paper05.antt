@@ -8,9 +8,9 @@ use native.Mathlib.Omega.{arith}
 use borrow.Author.Tests.{ltb-true, lt-ltb}
 use lib.Dec.{ltb}
 use Rattle.rules.specs.Range.{inRange, rangeOf, ranges}
-use Rattle.form.specs.Spelling.{spell}
-use Rattle.form.proofs.Rights.{right-unread}
-use Rattle.form.proofs.Spelling.{read-spelled}
+use Rattle.line_form.specs.Spelling.{spell}
+use Rattle.line_form.proofs.Rights.{right-unread}
+use Rattle.line_form.proofs.Spelling.{read-spelled}
 use Rattle.enclosure.specs.Reckoning.{rowSum, exceeds}
 use Rattle.promises.specs.Paper05 as paper
 use Rattle.promises.proofs.Demands.{accepted-encloses}

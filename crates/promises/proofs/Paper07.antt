@@ -6,15 +6,15 @@ use Rattle.integer.specs.Finite.{largest}
 use Rattle.linear.proofs.Written.{front-at}
 use Rattle.rules.specs.Range.{inRange, rangeOf, ranges}
 use Rattle.enclosure.specs.Reckoning.{defect, load}
-use Rattle.weight_sequence.specs.Promised.{SearchStated}
-use Rattle.weight_sequence.specs.Request.{searchProblem}
-use Rattle.weight_sequence.specs.Search.{passed, weightsAfter}
-use Rattle.weight_sequence.specs.Sequence.{loads, shift, tried}
-use Rattle.weight_sequence.proofs.Bits.{bits-fit, bits-fewest}
-use Rattle.weight_sequence.proofs.Contract.{fit-request}
-use Rattle.weight_sequence.proofs.First.{good-margins, margins-good}
-use Rattle.weight_sequence.proofs.Lists.{tried-first, tried-next}
-use Rattle.weight_sequence.proofs.Promises.{search-stated, said-search, found-usable, count-first, none-exactly, larger-allowance}
+use Rattle.weights_spec.specs.Promised.{SearchStated}
+use Rattle.weights_spec.specs.Request.{searchProblem}
+use Rattle.weights_spec.specs.Search.{passed, weightsAfter}
+use Rattle.weights_spec.specs.Sequence.{loads, shift, tried}
+use Rattle.weights_spec.proofs.Bits.{bits-fit, bits-fewest}
+use Rattle.weights_spec.proofs.Contract.{fit-request}
+use Rattle.weights_spec.proofs.First.{good-margins, margins-good}
+use Rattle.weights_spec.proofs.Lists.{tried-first, tried-next}
+use Rattle.weights_spec.proofs.Promises.{search-stated, said-search, found-usable, count-first, none-exactly, larger-allowance}
 use Rattle.promises.specs.Paper07 as paper
 use Rattle.promises.specs.Ways.{Refused}
 use Rattle.promises.proofs.Ways.{refused-old}

@@ -5,16 +5,16 @@ use Prim.Native.Nat.{ℕ}
 use native.Mathlib.Omega.{arith}
 use Rattle.linear.specs.Matrix.{apply}
 use Rattle.linear.proofs.Written.{front-at}
-use Rattle.checked.proofs.Fit.{Fit}
-use Rattle.checked.proofs.Written.{accepted-fit, solution-at, inverse-at}
-use Rattle.dependent.specs.Nets.{Nets, dependentOf}
-use Rattle.dependent.specs.Order.{saidNets, jointAnswer}
-use Rattle.dependent.specs.Reckoning.{dependentResidual, dependentSlack, dependentBound}
-use Rattle.dependent.specs.Stated.{StatedTogether, of-main, of-dependent}
-use Rattle.dependent.specs.Together.{CheckedTogether}
-use Rattle.dependent.specs.declared.CheckedNets.{CheckedNets}
-use Rattle.dependent.proofs.Largest.{joint-none}
-use Rattle.dependent.proofs.Statements.{own-fit, passed-of, stated-together, said-of-together}
+use Rattle.check_spec.proofs.Fit.{Fit}
+use Rattle.check_spec.proofs.Written.{accepted-fit, solution-at, inverse-at}
+use Rattle.dependent_spec.specs.Nets.{Nets, dependentOf}
+use Rattle.dependent_spec.specs.Order.{saidNets, jointAnswer}
+use Rattle.dependent_spec.specs.Reckoning.{dependentResidual, dependentSlack, dependentBound}
+use Rattle.dependent_spec.specs.Stated.{StatedTogether, of-main, of-dependent}
+use Rattle.dependent_spec.specs.Together.{CheckedTogether}
+use Rattle.dependent_spec.specs.declared.CheckedNets.{CheckedNets}
+use Rattle.dependent_spec.proofs.Largest.{joint-none}
+use Rattle.dependent_spec.proofs.Statements.{own-fit, passed-of, stated-together, said-of-together}
 use Rattle.promises.specs.Paper08 as paper
 use Rattle.promises.specs.Ways.{Refused}
 use Rattle.promises.proofs.Ways.{refused-old}

@@ -6,14 +6,14 @@ use mathlib.Core.Bool.{true}
 use Prim.Native.Nat.{ℕ}
 use lib.Ieee.{fin}
 use lib.IntN.{pos}
-use Rattle.doubles.proofs.Exact.{minus-zero}
-use Rattle.doubles.proofs.Steps.{guess-zero}
-use Rattle.exchange.specs.Inward.{guessesAfter}
-use Rattle.exchange.specs.Outward.{lowsAfter, highsAfter}
-use Rattle.exchange.proofs.Enclosed.{encloses-between}
-use Rattle.exchange.proofs.Inward as inward
-use Rattle.exchange.proofs.Outward as outward
-use Rattle.exchange.proofs.Promises.{guess-at, no-double-between}
+use Rattle.doubles_guess.proofs.Exact.{minus-zero}
+use Rattle.doubles_guess.proofs.Steps.{guess-zero}
+use Rattle.doubles_lists.specs.Inward.{guessesAfter}
+use Rattle.doubles_lists.specs.Outward.{lowsAfter, highsAfter}
+use Rattle.doubles_lists.proofs.Enclosed.{encloses-between}
+use Rattle.doubles_lists.proofs.Inward as inward
+use Rattle.doubles_lists.proofs.Outward as outward
+use Rattle.doubles_lists.proofs.Promises.{guess-at, no-double-between}
 use Rattle.promises.specs.Paper11 as paper
 use Rattle.promises.specs.Ways.{Refused}
 use Rattle.promises.proofs.Demands.{accepted-encloses}

@@ -17,34 +17,34 @@ use lib.IntN.{ℤ, pos, natAbs}
 use lib.ListN.{getD, length}
 use lib.Seq.{sets}
 use Rattle.rules.specs.Refusal.{said}
-use Rattle.form.specs.Form.{Form}
-use Rattle.form.specs.Spelling.{spell}
-use Rattle.form.proofs.Spelling.{read-spelled}
-use Rattle.form_values.specs.Item.{itemOf, partIndex}
-use Rattle.form_values.specs.declared.Item.{Item}
-use Rattle.form_values.specs.declared.Item.the-variants.{Problem, Scale, Of, End}
-use Rattle.form_values.specs.declared.Part.{Part}
-use Rattle.form_values.specs.declared.Part.the-variants as part
-use Rattle.form_values.proofs.Capped.{part-same}
-use Rattle.lent_list.specs.Filled.{filled}
-use Rattle.lent_list.proofs.Filled.{filled-given, filled-past}
-use Rattle.lent_lists.specs.Lists.{Lists}
-use Rattle.lent_lists.specs.ListOf.{listOf}
-use Rattle.lent_lists.specs.Put.{put}
-use Rattle.lent_lists.specs.Slot.{Slot, Matrix, Right, Tolerance, Guess, Inverse, Weight, partOf, width, valuesFor}
-use Rattle.given_forms.specs.Progress.{given, setOf}
+use Rattle.line_form.specs.Form.{Form}
+use Rattle.line_form.specs.Spelling.{spell}
+use Rattle.line_form.proofs.Spelling.{read-spelled}
+use Rattle.loader_values.specs.Item.{itemOf, partIndex}
+use Rattle.loader_values.specs.declared.Item.{Item}
+use Rattle.loader_values.specs.declared.Item.the-variants.{Problem, Scale, Of, End}
+use Rattle.loader_values.specs.declared.Part.{Part}
+use Rattle.loader_values.specs.declared.Part.the-variants as part
+use Rattle.loader_values.proofs.Capped.{part-same}
+use Rattle.loader_lists.specs.Filled.{filled}
+use Rattle.loader_lists.proofs.Filled.{filled-given, filled-past}
+use Rattle.loader_lists.specs.Lists.{Lists}
+use Rattle.loader_lists.specs.ListOf.{listOf}
+use Rattle.loader_lists.specs.Put.{put}
+use Rattle.loader_lists.specs.Slot.{Slot, Matrix, Right, Tolerance, Guess, Inverse, Weight, partOf, width, valuesFor}
+use Rattle.loader_progress.specs.Progress.{given, setOf}
 use Rattle.loader.specs.Answer.{lineAnswer}
 use Rattle.loader.specs.Taken.{TakenAs, after, listsWith}
 use Rattle.loader.specs.declared.Loader.{Loader}
 use Rattle.loader.specs.declared.Taken.{Taken}
 use Rattle.loader.proofs.Accepted.{AcceptedLine, accepted-form}
-use Rattle.line_runs.specs.Holds.{HoldsItem, HoldsPart}
-use Rattle.line_runs.specs.Run.{State, step}
-use Rattle.line_runs.specs.Accepts.{run, Accepts, Made}
-use Rattle.line_runs.proofs.Cells.{sets-before, sets-after}
-use Rattle.line_runs.proofs.Collected as collected
-use Rattle.line_runs.proofs.Sound.{made-sound}
-use Rattle.line_runs.proofs.View.{View, a-problem, a-scale, a-part, an-end, view}
+use Rattle.loader_runs.specs.Holds.{HoldsItem, HoldsPart}
+use Rattle.loader_runs.specs.Run.{State, step}
+use Rattle.loader_runs.specs.Accepts.{run, Accepts, Made}
+use Rattle.loader_runs.proofs.Cells.{sets-before, sets-after}
+use Rattle.loader_runs.proofs.Collected as collected
+use Rattle.loader_runs.proofs.Sound.{made-sound}
+use Rattle.loader_runs.proofs.View.{View, a-problem, a-scale, a-part, an-end, view}
 use Rattle.promises.specs.Lines01.{Own, of-form, of-end, TakenAll, none, next}
 
 -- ---- an accepted line is its form

@@ -13,12 +13,12 @@ use Rattle.rules.specs.declared.Outcome.{Outcome}
 use Rattle.rules.proofs.Verdicts.{nothing-is-not}
 use Rattle.enclosure.specs.Sound.{Sound}
 use Rattle.enclosure.specs.Problem.{Problem}
-use Rattle.checked.specs.Input.{Input, problem}
-use Rattle.checked.specs.Checked.{Checked}
-use Rattle.checked.proofs.Contract.{answer-ready, said-sound}
-use Rattle.checked.proofs.Statements.{accepted-usable}
-use Rattle.lower_half.specs.Half.{shortHalf}
-use Rattle.half.specs.Checked.{filledInput, CheckedHalf}
+use Rattle.check_spec.specs.Input.{Input, problem}
+use Rattle.check_spec.specs.Checked.{Checked}
+use Rattle.check_spec.proofs.Contract.{answer-ready, said-sound}
+use Rattle.check_spec.proofs.Statements.{accepted-usable}
+use Rattle.half_fill.specs.Half.{shortHalf}
+use Rattle.half_check.specs.Checked.{filledInput, CheckedHalf}
 use Rattle.loader_order.proofs.Through.{through-lists}
 use Rattle.listing.proofs.Demand.{accepted-parts}
 use Rattle.listing.proofs.Meaning.{answered-none, listed-none}

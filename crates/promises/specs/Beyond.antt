@@ -7,25 +7,25 @@ use lib.IntN.{ℤ}
 use lib.ListN.{take}
 use Rattle.integer.specs.Among.{Among}
 use Rattle.linear.specs.Matrix.{Vec}
-use Rattle.form.specs.Form.{Form}
+use Rattle.line_form.specs.Form.{Form}
 use Rattle.enclosure.specs.Demand.{NoTolerance, ExactSolution}
 use Rattle.enclosure.specs.Problem.{Problem, problemOf}
 use Rattle.enclosure.specs.Quality.{Factor, NeverFar}
 use Rattle.good_limits.specs.Good.{Good}
-use Rattle.limit_factor.specs.Answer.{saidQuality, numeratorOf, denominatorOf, QualityAs}
-use Rattle.limit_factor.specs.Inquiry.{Inquiry}
-use Rattle.limit_factor.specs.declared.Quality.{Quality}
-use Rattle.dependent.specs.Nets.{Nets}
-use Rattle.dependent.specs.Order.{saidNets}
-use Rattle.dependent.specs.Together.{CheckedTogether}
-use Rattle.dependent.specs.declared.CheckedNets.{CheckedNets}
+use Rattle.quality_spec.specs.Answer.{saidQuality, numeratorOf, denominatorOf, QualityAs}
+use Rattle.quality_spec.specs.Inquiry.{Inquiry}
+use Rattle.quality_spec.specs.declared.Quality.{Quality}
+use Rattle.dependent_spec.specs.Nets.{Nets}
+use Rattle.dependent_spec.specs.Order.{saidNets}
+use Rattle.dependent_spec.specs.Together.{CheckedTogether}
+use Rattle.dependent_spec.specs.declared.CheckedNets.{CheckedNets}
 use Rattle.accepted_limits.specs.TwoNets.{GoodNets}
-use Rattle.line_runs.specs.Holds.{ReckoningSays}
-use Rattle.line_runs.specs.Lines.{linesOf}
-use Rattle.line_runs.specs.Run.{forms}
+use Rattle.loader_runs.specs.Holds.{ReckoningSays}
+use Rattle.loader_runs.specs.Lines.{linesOf}
+use Rattle.loader_runs.specs.Run.{forms}
 use Rattle.file_shape.specs.Shape.{Shaped}
-use Rattle.refusal.specs.Reply.{replyOf}
-use Rattle.refusal.specs.declared.FileAnswer.{FileAnswer}
+use Rattle.listing_refusal.specs.Reply.{replyOf}
+use Rattle.listing_refusal.specs.declared.FileAnswer.{FileAnswer}
 use Rattle.listing.specs.Listing.{ListedAs, AnsweredAs}
 use Rattle.listing.specs.Complete.{Complete}
 use Rattle.promises.specs.Ways.{Accepted}

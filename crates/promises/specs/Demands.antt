@@ -14,25 +14,25 @@ use Rattle.rules.specs.declared.Outcome.{Outcome}
 use Rattle.enclosure.specs.Problem.{Problem}
 use Rattle.enclosure.specs.Reckoning.{bound, inverseBound}
 use Rattle.enclosure.specs.Demand.{Encloses, RoundedExact}
-use Rattle.checked.specs.Input.{Input, problem, short, inRanges}
-use Rattle.checked.specs.Checked.{Checked}
-use Rattle.checked.specs.Stated.{Stated}
-use Rattle.half.specs.Checked.{CheckedHalf}
-use Rattle.half.specs.Stated.{HalfStated}
-use Rattle.given_forms.specs.Progress.{ended, sized}
-use Rattle.given_forms.specs.declared.Stage.{Stage}
+use Rattle.check_spec.specs.Input.{Input, problem, short, inRanges}
+use Rattle.check_spec.specs.Checked.{Checked}
+use Rattle.check_spec.specs.Stated.{Stated}
+use Rattle.half_check.specs.Checked.{CheckedHalf}
+use Rattle.half_check.specs.Stated.{HalfStated}
+use Rattle.loader_progress.specs.Progress.{ended, sized}
+use Rattle.loader_progress.specs.declared.Stage.{Stage}
 use Rattle.loader_order.specs.Through.{CheckedThrough}
-use Rattle.lent_lists.specs.Lists.{Lists}
+use Rattle.loader_lists.specs.Lists.{Lists}
 use Rattle.loader.specs.Taken.{TakenAs}
 use Rattle.loader.specs.declared.Loader.{Loader}
 use Rattle.loader.specs.declared.Taken.{Taken}
-use Rattle.line_runs.specs.Accepts.{Made}
-use Rattle.line_runs.specs.OwnSize.{OwnSize}
-use Rattle.line_stated.specs.Stated.{LineStated, OtherStated}
-use Rattle.form.specs.Form.{bytes}
-use Rattle.report.specs.Report.{reportOf}
-use Rattle.refusal.specs.Reply.{replyOf}
-use Rattle.refusal.specs.declared.FileAnswer.{FileAnswer}
+use Rattle.loader_runs.specs.Accepts.{Made}
+use Rattle.loader_runs.specs.OwnSize.{OwnSize}
+use Rattle.loader_stated.specs.Stated.{LineStated, OtherStated}
+use Rattle.line_form.specs.Form.{bytes}
+use Rattle.listing_report.specs.Report.{reportOf}
+use Rattle.listing_refusal.specs.Reply.{replyOf}
+use Rattle.listing_refusal.specs.declared.FileAnswer.{FileAnswer}
 use Rattle.file_check.specs.Judged.{reportedOf, lineOr}
 use Rattle.file_stated.specs.Stated.{FileStated}
 use Rattle.listing.specs.Listing.{problemIn, ListedAs, AnsweredAs}

@@ -1,5 +1,5 @@
 -- The calls for C: a number and two places that stand for what is said (`Told`), and the promises above for each way in. The contracts of
--- the other calls for C (calls/specs: `EntryExported`, `BuildExported`, `SearchExported`, `GuessesExported`, `IntervalsExported`, `DependentExported`, `CommonExported`,
+-- the other calls for C (calls_spec/specs: `EntryExported`, `BuildExported`, `SearchExported`, `GuessesExported`, `IntervalsExported`, `DependentExported`, `CommonExported`,
 -- `QualityExported`, `ConvertExported`) have the contract that the papers' statements are over as a field.
 use mathlib.Core.Bool.{true, false}
 use mathlib.Core.List.{List}
@@ -7,24 +7,24 @@ use mathlib.Core.Path.{_≡_}
 use Prim.Native.Nat.{ℕ, _+_, _*_, _≤_}
 use lib.ListN.{getD, length}
 use Rattle.enclosure.specs.Reckoning.{bound, inverseBound}
-use Rattle.checked.specs.Input.{Input, problem}
-use Rattle.checked.specs.Stated.{Stated}
-use Rattle.half.specs.Checked.{filledInput}
-use Rattle.half.specs.Stated.{HalfStated}
-use Rattle.lent_lists.specs.Lists.{Lists, shortLists}
-use Rattle.given_forms.specs.Progress.{ended}
-use Rattle.given_forms.specs.declared.Stage.{Stage}
+use Rattle.check_spec.specs.Input.{Input, problem}
+use Rattle.check_spec.specs.Stated.{Stated}
+use Rattle.half_check.specs.Checked.{filledInput}
+use Rattle.half_check.specs.Stated.{HalfStated}
+use Rattle.loader_lists.specs.Lists.{Lists, shortLists}
+use Rattle.loader_progress.specs.Progress.{ended}
+use Rattle.loader_progress.specs.declared.Stage.{Stage}
 use Rattle.loader.specs.Numbers.{loaderNumbers, loaderOf}
 use Rattle.loader.specs.Taken.{fresh}
-use Rattle.line_runs.specs.Holds.{inputOf}
-use Rattle.line_runs.specs.Lines.{linesOf}
+use Rattle.loader_runs.specs.Holds.{inputOf}
+use Rattle.loader_runs.specs.Lines.{linesOf}
 use Rattle.file_stated.specs.Stated.{FileStated}
 use Rattle.listing.specs.Listing.{problemIn}
 use Rattle.reply.specs.Told.{Told}
-use Rattle.calls.specs.Exported.{CheckExported, ListingExported}
-use Rattle.calls.specs.Half.{HalfExported}
-use Rattle.calls.specs.Loader.{LoaderTakeExported, LoaderCheckExported}
-use Rattle.calls.specs.Turns.{Turns, keptLines}
+use Rattle.calls_spec.specs.Exported.{CheckExported, ListingExported}
+use Rattle.calls_spec.specs.Half.{HalfExported}
+use Rattle.calls_spec.specs.Loader.{LoaderTakeExported, LoaderCheckExported}
+use Rattle.calls_spec.specs.Turns.{Turns, keptLines}
 use Rattle.promises.specs.Ways.{Accepted, StatedThrough}
 
 -- what number and places stand for has its stated case

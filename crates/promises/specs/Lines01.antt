@@ -14,25 +14,25 @@ use lib.IntN.{ℤ, pos, natAbs}
 use lib.ListN.{getD, length}
 use Rattle.integer.specs.Finite.{sumℕ}
 use Rattle.rules.specs.Refusal.{said}
-use Rattle.form.specs.Form.{Form, end}
-use Rattle.form.specs.Spelling.{spell}
-use Rattle.form_values.specs.Item.{itemOf, placed, outside, miscounted}
-use Rattle.form_values.specs.declared.Item.the-variants.{Of, End}
-use Rattle.form_values.specs.declared.Part.{Part}
-use Rattle.form_values.specs.declared.Part.the-variants as part
-use Rattle.form_values.specs.declared.Part.the-variants.{Row, Right, Guess, Inverse}
-use Rattle.lent_lists.specs.Lists.{Lists, shortLists}
-use Rattle.lent_lists.specs.ListOf.{listOf}
-use Rattle.lent_lists.specs.Slot.{Slot, Weight, partOf, width, valuesFor}
-use Rattle.given_forms.specs.Progress.{missing, ended, early, repeated, given}
+use Rattle.line_form.specs.Form.{Form, end}
+use Rattle.line_form.specs.Spelling.{spell}
+use Rattle.loader_values.specs.Item.{itemOf, placed, outside, miscounted}
+use Rattle.loader_values.specs.declared.Item.the-variants.{Of, End}
+use Rattle.loader_values.specs.declared.Part.{Part}
+use Rattle.loader_values.specs.declared.Part.the-variants as part
+use Rattle.loader_values.specs.declared.Part.the-variants.{Row, Right, Guess, Inverse}
+use Rattle.loader_lists.specs.Lists.{Lists, shortLists}
+use Rattle.loader_lists.specs.ListOf.{listOf}
+use Rattle.loader_lists.specs.Slot.{Slot, Weight, partOf, width, valuesFor}
+use Rattle.loader_progress.specs.Progress.{missing, ended, early, repeated, given}
 use Rattle.loader_order.specs.Order.{LineCase, lineOrder}
 use Rattle.loader.specs.Taken.{TakenAs, fresh, after, listsWith}
 use Rattle.loader.specs.declared.Loader.{Loader}
 use Rattle.loader.specs.declared.Taken.{Taken}
-use Rattle.line_runs.specs.Run.{forms}
-use Rattle.line_runs.specs.Accepts.{Made}
+use Rattle.loader_runs.specs.Run.{forms}
+use Rattle.loader_runs.specs.Accepts.{Made}
 use Rattle.file_shape.specs.Given.{GivenBy}
-use Rattle.line_stated.specs.Stated.{Formed, Unrepeated}
+use Rattle.loader_stated.specs.Stated.{Formed, Unrepeated}
 use Rattle.promises.specs.Ways.{testNumbers}
 
 abbrev pub RefusedExactly : List ℕ → (Loader → Lists → List ℕ → Type 0) → Type 0

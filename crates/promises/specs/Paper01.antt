@@ -7,16 +7,16 @@ use Prim.Native.Nat.{ℕ, suc, _≤_, _<_}
 use lib.IntN.{pos}
 use lib.ListN.{getD, take}
 use Rattle.rules.specs.Refusal.{said}
-use Rattle.form.specs.Form.{end}
-use Rattle.form.specs.Spelling.{spell}
-use Rattle.form_values.specs.declared.Part.the-variants.{Weight}
-use Rattle.lent_lists.specs.Lists.{Lists, lists}
-use Rattle.given_forms.specs.Progress.{given}
+use Rattle.line_form.specs.Form.{end}
+use Rattle.line_form.specs.Spelling.{spell}
+use Rattle.loader_values.specs.declared.Part.the-variants.{Weight}
+use Rattle.loader_lists.specs.Lists.{Lists, lists}
+use Rattle.loader_progress.specs.Progress.{given}
 use Rattle.loader.specs.Taken.{TakenAs}
 use Rattle.loader.specs.declared.Loader.{Loader}
 use Rattle.loader.specs.declared.Taken.{Taken}
-use Rattle.line_runs.specs.Lines.{linesOf}
-use Rattle.line_runs.specs.Run.{forms}
+use Rattle.loader_runs.specs.Lines.{linesOf}
+use Rattle.loader_runs.specs.Run.{forms}
 use Rattle.listing.specs.LeftOut.{OnlyOnes, NoWeights, SameOthers}
 use Rattle.listing.specs.Listing.{ListedAs}
 use Rattle.listing.specs.Complete.{Complete}

@@ -1,5 +1,5 @@
 -- 02, Paper 3. Equations from the field lines. "Offices wish to send the crew's work and have the equations built" is its reason. The distinct lines and what
--- each adds: observation/specs/Distinct.
+-- each adds: build_lines/specs/Distinct.
 use mathlib.Core.Bool.{cond}
 use mathlib.Core.List.{List, [], _∷_, _++_}
 use mathlib.Core.Logic.{_↔_}
@@ -11,19 +11,19 @@ use lib.ListN.{length}
 use Rattle.integer.specs.Among.{Among}
 use Rattle.linear.specs.Slice.{at}
 use Rattle.rules.specs.declared.Kind.the-variants as kind
-use Rattle.observation.specs.Distinct.{distinct, total, touches, joins}
-use Rattle.observation.specs.Order.{saidBuilt}
-use Rattle.observation.specs.Stated.{BuildStated}
-use Rattle.observation.specs.declared.Built.{Built}
-use Rattle.observation.specs.declared.Observation.{Observation}
-use Rattle.equations.specs.declared.Layout.{Layout}
-use Rattle.equations.specs.declared.Layout.the-variants.{Square}
-use Rattle.built.specs.BuiltAs.{shortFor, BuiltAs}
-use Rattle.built.specs.Diagonal.{TwiceTheWeight}
+use Rattle.build_lines.specs.Distinct.{distinct, total, touches, joins}
+use Rattle.build_lines.specs.Order.{saidBuilt}
+use Rattle.build_lines.specs.Stated.{BuildStated}
+use Rattle.build_lines.specs.declared.Built.{Built}
+use Rattle.build_lines.specs.declared.Observation.{Observation}
+use Rattle.build_equations.specs.declared.Layout.{Layout}
+use Rattle.build_equations.specs.declared.Layout.the-variants.{Square}
+use Rattle.build.specs.BuiltAs.{shortFor, BuiltAs}
+use Rattle.build.specs.Diagonal.{TwiceTheWeight}
 use Rattle.promises.specs.Ways.{RangeIs, Refused}
 
 -- "A field line has a key (1 to 65,535), two marks from and to (0 to n [..]), a difference in whole units (−65,536 to 65,536) and a weight (1 to 64)". A mark is
--- one of 32 here, and at most n by `outsideRange` of observation/specs/Line; "0 is the fixed mark of height 0": `FitAll` of observation/specs/Heights
+-- one of 32 here, and at most n by `outsideRange` of build_lines/specs/Line; "0 is the fixed mark of height 0": `FitAll` of build_lines/specs/Heights
 abbrev pub LinesRanged : Type 0
 LinesRanged =
     RangeIs kind.Key (pos 1) (pos 65535) × (RangeIs kind.Mark (pos 0) (pos 32) × (RangeIs kind.Difference (negℤ (pos 65536)) (pos 65536) × RangeIs kind.LineWeight (pos 1) (pos 64)))

@@ -1,4 +1,4 @@
--- 02, Paper 7. Weights found by the program. "Some solvers supply no useful weights" is its reason. The sequence: weight_sequence/specs/Sequence.
+-- 02, Paper 7. Weights found by the program. "Some solvers supply no useful weights" is its reason. The sequence: weights_spec/specs/Sequence.
 use mathlib.Core.Bool.{true}
 use mathlib.Core.List.{List, [], _∷_}
 use mathlib.Core.Logic.{_↔_}
@@ -11,11 +11,11 @@ use Rattle.rules.specs.declared.Kind.the-variants as kind
 use Rattle.enclosure.specs.Sound.{Margins}
 use Rattle.enclosure.specs.Problem.{Problem, problemOf}
 use Rattle.enclosure.specs.Reckoning.{defect}
-use Rattle.weight_sequence.specs.Promised.{SearchStated, UsableRequest, PlaceOfFirstGood, NoGood, allowing}
-use Rattle.weight_sequence.specs.Request.{Request, searchProblem}
-use Rattle.weight_sequence.specs.Search.{saidFound, countOf, passed, FoundAs}
-use Rattle.weight_sequence.specs.Sequence.{good, tried, weighted}
-use Rattle.weight_sequence.specs.declared.Found.{Found}
+use Rattle.weights_spec.specs.Promised.{SearchStated, UsableRequest, PlaceOfFirstGood, NoGood, allowing}
+use Rattle.weights_spec.specs.Request.{Request, searchProblem}
+use Rattle.weights_spec.specs.Search.{saidFound, countOf, passed, FoundAs}
+use Rattle.weights_spec.specs.Sequence.{good, tried, weighted}
+use Rattle.weights_spec.specs.declared.Found.{Found}
 use Rattle.promises.specs.Ways.{RangeIs, Refused}
 
 -- "Begin with 1 everywhere"

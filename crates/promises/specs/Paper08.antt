@@ -12,17 +12,17 @@ use Rattle.linear.specs.Slice.{at}
 use Rattle.enclosure.specs.Demand.{RightSide}
 use Rattle.enclosure.specs.Problem.{S}
 use Rattle.enclosure.specs.Reckoning.{bound, inverseBound, boundWith}
-use Rattle.checked.specs.Stated.{Stated}
-use Rattle.dependent.specs.Joint.{mainProblem, dependentProblem, JointSolution, WithinBoth}
-use Rattle.dependent.specs.Nets.{Nets, dependentOf}
-use Rattle.dependent.specs.Order.{saidNets}
-use Rattle.dependent.specs.Reckoning.{dependentResidual, dependentSlack}
-use Rattle.dependent.specs.Stated.{StatedDependent, StatedTogether}
-use Rattle.dependent.specs.Together.{CheckedTogether}
-use Rattle.dependent.specs.declared.CheckedNets.{CheckedNets}
+use Rattle.check_spec.specs.Stated.{Stated}
+use Rattle.dependent_spec.specs.Joint.{mainProblem, dependentProblem, JointSolution, WithinBoth}
+use Rattle.dependent_spec.specs.Nets.{Nets, dependentOf}
+use Rattle.dependent_spec.specs.Order.{saidNets}
+use Rattle.dependent_spec.specs.Reckoning.{dependentResidual, dependentSlack}
+use Rattle.dependent_spec.specs.Stated.{StatedDependent, StatedTogether}
+use Rattle.dependent_spec.specs.Together.{CheckedTogether}
+use Rattle.dependent_spec.specs.declared.CheckedNets.{CheckedNets}
 use Rattle.promises.specs.Ways.{Refused}
 
--- "a hung net has equations A2·u2 = b2 − C·u1": `JointSolution` of dependent/specs/Joint; "with C in the matrix range", "both nets at the same s":
+-- "a hung net has equations A2·u2 = b2 − C·u1": `JointSolution` of dependent_spec/specs/Joint; "with C in the matrix range", "both nets at the same s":
 -- `TogetherRefusesAsStated`. "Demand 3's second half is not asked of a hung net, since a rounded one may meet 6
 -- through its slack": there is no such statement.
 -- "Its residual is S·b2 − C·X1 − A2·X2", C "row after row without gaps", "one row for each hung mark and one column for each main mark"

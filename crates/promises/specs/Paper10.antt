@@ -9,15 +9,15 @@ use lib.ListN.{length}
 use Rattle.linear.specs.Slice.{at}
 use Rattle.rules.specs.Refusal.{said}
 use Rattle.rules.specs.declared.Outcome.{Outcome}
-use Rattle.checked.specs.Checked.{Checked}
-use Rattle.checked.specs.Input.{Input}
-use Rattle.lower_half.specs.Half.{filledOut}
-use Rattle.half.specs.Checked.{filledInput, CheckedHalf}
-use Rattle.observation.specs.Order.{saidBuilt}
-use Rattle.observation.specs.declared.Built.{Built}
-use Rattle.observation.specs.declared.Observation.{Observation}
-use Rattle.equations.specs.declared.Layout.the-variants.{Square, Lower}
-use Rattle.built.specs.BuiltAs.{shortFor, BuiltAs}
+use Rattle.check_spec.specs.Checked.{Checked}
+use Rattle.check_spec.specs.Input.{Input}
+use Rattle.half_fill.specs.Half.{filledOut}
+use Rattle.half_check.specs.Checked.{filledInput, CheckedHalf}
+use Rattle.build_lines.specs.Order.{saidBuilt}
+use Rattle.build_lines.specs.declared.Built.{Built}
+use Rattle.build_lines.specs.declared.Observation.{Observation}
+use Rattle.build_equations.specs.declared.Layout.the-variants.{Square, Lower}
+use Rattle.build.specs.BuiltAs.{shortFor, BuiltAs}
 
 -- "A second entry takes A as rows of 1, 2, .. n numbers, row i and column j (j up to i) at place i(i − 1)/2 + j from 1, in a list of at least 528
 -- (`ShortHalfIs8`)": so the filled-out matrix, on both sides

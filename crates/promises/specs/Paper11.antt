@@ -15,14 +15,14 @@ use Rattle.rules.specs.Refusal.{said}
 use Rattle.rules.specs.declared.Outcome.{Outcome}
 use Rattle.enclosure.specs.Demand.{RightSide, ExactSolutionOf}
 use Rattle.enclosure.specs.Problem.{Problem}
-use Rattle.doubles.specs.Guess.{guessFor, hasGuess, Nearest}
-use Rattle.doubles.specs.Units.{whole, Double}
-use Rattle.interval.specs.Interval.{unitsOf, Outward}
-use Rattle.exchange.specs.Hands.{Hands, AllBetween}
-use Rattle.exchange.specs.Inward.{saidGuessed, Incoming, shortIncoming, GuessesOf}
-use Rattle.exchange.specs.Lists.{doubleAt, exchangeSizes}
-use Rattle.exchange.specs.Outward.{Outgoing, shortOutgoing, outgoingInRanges, endsIn, IntervalsOf}
-use Rattle.exchange.specs.declared.Guessed.{Guessed}
+use Rattle.doubles_guess.specs.Guess.{guessFor, hasGuess, Nearest}
+use Rattle.doubles_guess.specs.Units.{whole, Double}
+use Rattle.doubles_interval.specs.Interval.{unitsOf, Outward}
+use Rattle.doubles_lists.specs.Hands.{Hands, AllBetween}
+use Rattle.doubles_lists.specs.Inward.{saidGuessed, Incoming, shortIncoming, GuessesOf}
+use Rattle.doubles_lists.specs.Lists.{doubleAt, exchangeSizes}
+use Rattle.doubles_lists.specs.Outward.{Outgoing, shortOutgoing, outgoingInRanges, endsIn, IntervalsOf}
+use Rattle.doubles_lists.specs.declared.Guessed.{Guessed}
 use Rattle.promises.specs.Ways.{Refused, Accepted}
 
 -- "A double becomes a guess by rounding its exact value times S to a nearest whole number, halves away from zero"
@@ -36,7 +36,7 @@ abbrev pub MinusZeroGives0 : Type 0
 MinusZeroGives0 = (s : ℕ) → guessFor s (fin true 0 (pos 0)) ≡ pos 0
 
 -- "Outward, each height is a pair of doubles, low and high: the largest double not above (X − E)/S and the smallest not below (X + E)/S, zero always plus zero"
--- (`Outward`: `LowEnd` and `HighEnd` of interval/specs/Ends are these words)
+-- (`Outward`: `LowEnd` and `HighEnd` of doubles_interval/specs/Ends are these words)
 abbrev pub EndsOutward : Type 0
 EndsOutward =
     (I : Outgoing) (r : Outcome) (low high : List Float) → IntervalsOf I r low high → said r ≡ [] → (i : ℕ) → i < I .n →

@@ -9,13 +9,13 @@ use Rattle.linear.specs.Matrix.{Vec}
 use Rattle.linear.specs.Slice.{at}
 use Rattle.enclosure.specs.Demand.{RightSide, ExactSolutionOf}
 use Rattle.enclosure.specs.Reckoning.{bound}
-use Rattle.checked.specs.Input.{Input, problem}
-use Rattle.common.specs.Answer.{saidCommon, CommonAs}
-use Rattle.common.specs.Ends.{maxℤ, minℤ, WithinEnds}
-use Rattle.common.specs.Promised.{OwnEnds}
-use Rattle.common.specs.Proposals.{Proposals, proposals}
-use Rattle.common.specs.Stated.{CommonStated}
-use Rattle.common.specs.declared.Common.{Common}
+use Rattle.check_spec.specs.Input.{Input, problem}
+use Rattle.common_spec.specs.Answer.{saidCommon, CommonAs}
+use Rattle.common_spec.specs.Ends.{maxℤ, minℤ, WithinEnds}
+use Rattle.common_spec.specs.Promised.{OwnEnds}
+use Rattle.common_spec.specs.Proposals.{Proposals, proposals}
+use Rattle.common_spec.specs.Stated.{CommonStated}
+use Rattle.common_spec.specs.declared.Common.{Common}
 use Rattle.promises.specs.Ways.{Refused}
 
 -- "From two accepted proposals give each height's common interval, in the finer of the two steps: the larger lower end and the smaller upper end"

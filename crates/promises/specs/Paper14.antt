@@ -5,19 +5,19 @@ use mathlib.Core.Path.{_≡_}
 use Prim.Native.Nat.{ℕ, _≤_}
 use lib.IntN.{pos}
 use lib.ListN.{length, drop}
-use Rattle.form.specs.Form.{problem, scale, end}
-use Rattle.form_values.specs.declared.Part.the-variants.{Row, Right, Guess, Inverse, Weight}
+use Rattle.line_form.specs.Form.{problem, scale, end}
+use Rattle.loader_values.specs.declared.Part.the-variants.{Row, Right, Guess, Inverse, Weight}
 use Rattle.enclosure.specs.Demand.{NoTolerance}
-use Rattle.spelled_lines.specs.Ones.{textOf}
+use Rattle.loader_spelled.specs.Ones.{textOf}
 use Rattle.listing.specs.Listing.{problemIn}
 use Rattle.listing.specs.Complete.{Complete}
-use Rattle.old_edition.specs.Converted.{saidConverted, lengthOf, ConvertedAs}
-use Rattle.old_edition.specs.Edition.{CompleteOld}
-use Rattle.old_edition.specs.File.{partsThen, newFile}
-use Rattle.old_edition.specs.Numbers.{SameNumbers}
-use Rattle.old_edition.specs.Promised.{EqualChecks}
-use Rattle.old_edition.specs.Stated.{ConvertStated}
-use Rattle.old_edition.specs.declared.Converted.{Converted}
+use Rattle.convert_spec.specs.Converted.{saidConverted, lengthOf, ConvertedAs}
+use Rattle.convert_spec.specs.Edition.{CompleteOld}
+use Rattle.convert_spec.specs.File.{partsThen, newFile}
+use Rattle.convert_spec.specs.Numbers.{SameNumbers}
+use Rattle.convert_spec.specs.Promised.{EqualChecks}
+use Rattle.convert_spec.specs.Stated.{ConvertStated}
+use Rattle.convert_spec.specs.declared.Converted.{Converted}
 use Rattle.promises.specs.Ways.{Refused}
 
 -- "A converter takes any file whose every line the desk accepts, end among them, and writes problem, scale, rows, right sides without tolerance, guesses, inverse

@@ -21,15 +21,15 @@ use Rattle.rules.specs.declared.Kind.{Kind}
 use Rattle.rules.specs.declared.Outcome.{Outcome}
 use Rattle.enclosure.specs.Problem.{Problem}
 use Rattle.enclosure.specs.Reckoning.{bound, inverseBound}
-use Rattle.checked.specs.Input.{Input, problem, short}
-use Rattle.checked.specs.Checked.{Checked}
-use Rattle.checked.specs.Stated.{Stated}
-use Rattle.half.specs.Checked.{filledInput, CheckedHalf}
-use Rattle.given_forms.specs.Progress.{ended}
-use Rattle.given_forms.specs.declared.Stage.{Stage}
+use Rattle.check_spec.specs.Input.{Input, problem, short}
+use Rattle.check_spec.specs.Checked.{Checked}
+use Rattle.check_spec.specs.Stated.{Stated}
+use Rattle.half_check.specs.Checked.{filledInput, CheckedHalf}
+use Rattle.loader_progress.specs.Progress.{ended}
+use Rattle.loader_progress.specs.declared.Stage.{Stage}
 use Rattle.loader_order.specs.Through.{CheckedThrough}
-use Rattle.form.specs.Form.{bytes}
-use Rattle.refusal.specs.declared.FileAnswer.{FileAnswer}
+use Rattle.line_form.specs.Form.{bytes}
+use Rattle.listing_refusal.specs.declared.FileAnswer.{FileAnswer}
 use Rattle.listing.specs.Listing.{problemIn, ListedAs, AnsweredAs}
 
 abbrev pub RangeIs : Kind → ℤ → ℤ → Type 0

@@ -18,14 +18,14 @@ use Rattle.enclosure.specs.Sound.{Margins}
 use Rattle.enclosure.specs.Problem.{Problem, T}
 use Rattle.enclosure.specs.Reckoning.{load, margin, marginFails}
 use Rattle.enclosure.proofs.Margin.{cut-test, margin-test, margin-sum, margin-above, margin-cut}
-use Rattle.reckoning.specs.Arrays.{Begins}
-use Rattle.reckoning.specs.Parts.{cutMargin}
-use Rattle.reckoning.proofs.Magnitudes.{power-magnitude}
-use Rattle.checked.specs.Order.{firstMargin}
-use Rattle.limit_factor.specs.Peak.{spread, peak, peakRow}
-use Rattle.limit_factor.specs.Inquiry.{Inquiry, inquiryProblem}
-use Rattle.limit_factor.proofs.Contract.{FitInquiry}
-use Rattle.limit_factor.proofs.Peak.{peak-ext}
+use Rattle.check_arrays.specs.Arrays.{Begins}
+use Rattle.check_arrays.specs.Parts.{cutMargin}
+use Rattle.check_arrays.proofs.Magnitudes.{power-magnitude}
+use Rattle.check_spec.specs.Order.{firstMargin}
+use Rattle.quality_spec.specs.Peak.{spread, peak, peakRow}
+use Rattle.quality_spec.specs.Inquiry.{Inquiry, inquiryProblem}
+use Rattle.quality_spec.proofs.Contract.{FitInquiry}
+use Rattle.quality_spec.proofs.Peak.{peak-ext}
 
 pub full-small : (Q : Inquiry) → FitInquiry Q → (m : ℕ) → m < Q .n → 2 ^ Q .t * natAbs (at (Q .weights) m) ≤ 2 ^ 20 * 1024
 full-small Q f m l = mul-le-mul (power-magnitude (Q .t) (f .scale)) (f .weights .within .magnitudes m l)

@@ -4,9 +4,9 @@
 use mathlib.Core.Path.{_≡_, refl}
 use mathlib.Core.List.{List, [], _∷_}
 use Prim.Native.Nat.{ℕ}
-use Rattle.refusal.specs.Refused.{printed}
-use Rattle.refusal.specs.Reply.{replyOf}
-use Rattle.refusal.specs.declared.Reply.{Reply}
+use Rattle.listing_refusal.specs.Refused.{printed}
+use Rattle.listing_refusal.specs.Reply.{replyOf}
+use Rattle.listing_refusal.specs.declared.Reply.{Reply}
 use Rattle.reply.specs.Told.{Told}
 
 abbrev placesOf : Reply → List ℕ

@@ -3,15 +3,23 @@ ghost use mathlib.Core.Path.{_≡_};
 ghost use mathlib.Core.List.{[], _∷_};
 ghost use lib.ListN.{getD};
 ghost use Rattle.rules.specs.Refusal.{said, numberOf};
-ghost use Rattle.refusal.specs.Refused.{printed};
-ghost use Rattle.refusal.specs.Reply.{replyOf};
-ghost use Rattle.observation.specs.Order.{saidBuilt};
-use observation::Built;
-use refusal::Reply;
-use refusal::no_refusal;
-use refusal::reply_of;
+ghost use Rattle.listing_refusal.specs.Refused.{printed};
+ghost use Rattle.listing_refusal.specs.Reply.{replyOf};
+ghost use Rattle.build_lines.specs.Order.{saidBuilt};
+use build_lines::Built;
+use listing_refusal::Reply;
+use listing_refusal::no_refusal;
+use listing_refusal::reply_of;
 use rules::Outcome;
 use rules::Refusal;
+
+pub mod builds;
+pub mod conversions;
+pub mod factors;
+pub mod guesses;
+pub mod nets;
+pub mod proposals;
+pub mod searches;
 
 // What an outcome says; a refusal that gives its number alone leaves both places 0.
 pub fn outcome_reply(outcome: Outcome) -> Reply

@@ -10,10 +10,10 @@ use crate::print::print_matrix;
 use crate::print::print_number;
 use crate::print::print_refusal;
 use crate::print::print_text;
-use equations::Layout;
-use numeral::Number;
-use observation::Built;
-use observation::Observation;
+use build_equations::Layout;
+use build_lines::Built;
+use build_lines::Observation;
+use line_numeral::Number;
 
 struct Placed {
     line: Observation,
@@ -50,7 +50,7 @@ fn after(at: usize, length: usize) -> usize {
 
 // A number, and the place after the space behind it.
 fn number_from(text: &[u8], at: usize) -> Number {
-    let number = numeral::number_at(text, at);
+    let number = line_numeral::number_at(text, at);
     Number {
         value: number.value,
         next: after(number.next, text.len()),

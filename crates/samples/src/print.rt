@@ -28,7 +28,7 @@ fn print_outcome(outcome: Outcome) {
 
 // 01's number, and the places or the count that it gives: each is 1 or more.
 pub fn print_refusal(refusal: Refusal) {
-    let reply = refusal::reply_of(refusal, 0);
+    let reply = listing_refusal::reply_of(refusal, 0);
     print_number(reply.number as u64);
     print_given(reply.first);
     print_given(reply.second);

@@ -6,8 +6,8 @@ use mir.Val.{SFits}
 use mir.ValLaws.{toZ-ofZ, toZ-pos}
 use Rattle.integer.proofs.Absolute.{abs-+, abs-sub}
 use Rattle.integer.proofs.Machine.{small}
-use Rattle.reckoning.proofs.Magnitudes.{power-magnitude}
-use Rattle.common.proofs.Magnitudes.{stepped-magnitude}
+use Rattle.check_arrays.proofs.Magnitudes.{power-magnitude}
+use Rattle.common_spec.proofs.Magnitudes.{stepped-magnitude}
 use borrow.Author.Needs.{needs}
 use Rattle.common_ends.proofs.ends_of.Statement.{statement}
 use Rattle.common_ends.proofs.ends_of.Tie as tie

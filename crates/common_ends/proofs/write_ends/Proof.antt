@@ -8,7 +8,7 @@ use mir.ValLaws.{toZ-ofZ}
 use Rattle.linear.specs.Written.{written}
 use Rattle.integer.proofs.Machine.{read}
 use Rattle.linear.proofs.Written.{written-none, written-more, written-end, written-length}
-use Rattle.common.specs.Ends.{maxℤ, minℤ}
+use Rattle.common_spec.specs.Ends.{maxℤ, minℤ}
 use Prim.Native.Nat.{ℕ, _≤_, _-_}
 use mathlib.Core.Path.{_≡_}
 use Rattle.common_ends.specs.Met.{lowsOf, highsOf}

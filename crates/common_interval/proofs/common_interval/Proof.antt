@@ -1,9 +1,9 @@
 use mathlib.Core.Bool.{true, false}
 use mathlib.Core.List.{[]}
 use mathlib.Core.Path.{_≡_, sym, _∙_}
-use Rattle.checked.specs.Order.{answer}
-use Rattle.common.specs.Proposals.{Proposals, proposal, proposals, shortIntervals, sameEquations}
-use Rattle.common.proofs.Contract.{common-short, common-first, common-second, common-different}
+use Rattle.check_spec.specs.Order.{answer}
+use Rattle.common_spec.specs.Proposals.{Proposals, proposal, proposals, shortIntervals, sameEquations}
+use Rattle.common_spec.proofs.Contract.{common-short, common-first, common-second, common-different}
 use Rattle.common_interval.proofs.Meeting.{short-low, short-high, long-both, said-refused, said-accepted, equations-ready, meeting-ready, common-met}
 use borrow.Author.Needs.{needs}
 use Rattle.common_interval.proofs.common_interval.Statement.{statement}

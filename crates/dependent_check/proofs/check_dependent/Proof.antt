@@ -1,8 +1,8 @@
 use mathlib.Core.Path.{sym}
 use native.Mathlib.Omega.{arith}
 use Rattle.linear.proofs.Places.{square}
-use Rattle.checked.specs.Input.{input}
-use Rattle.dependent.specs.Nets.{Nets, nets}
+use Rattle.check_spec.specs.Input.{input}
+use Rattle.dependent_spec.specs.Nets.{Nets, nets}
 use Rattle.dependent_check.proofs.Held.{short-solution, short-inverse, main-refused, marks-few, guess-known, limits-long, inverse-long, dependent-refused, both-accepted}
 use borrow.Author.Needs.{needs}
 use Rattle.dependent_check.proofs.check_dependent.Statement.{statement}

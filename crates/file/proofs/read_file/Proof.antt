@@ -1,8 +1,8 @@
 use mathlib.Core.Path.{_≡_, refl, _∙_}
 use Prim.Native.Nat.{_-_}
 use lib.ListN.{length}
-use Rattle.lent_lists.specs.Lists.{lists}
-use Rattle.line_runs.specs.Read.{zeros}
+use Rattle.loader_lists.specs.Lists.{lists}
+use Rattle.loader_runs.specs.Read.{zeros}
 use Rattle.file.proofs.Turns.{ReadUpTo, at-start, at-end, read-on, read-refusal}
 use borrow.Author.Needs.{needs}
 use Rattle.file.proofs.read_file.Statement.{statement}

@@ -1,4 +1,4 @@
-use Rattle.weight_sequence.specs.Search.{saidFound}
+use Rattle.weights_spec.specs.Search.{saidFound}
 use Rattle.reply.proofs.Told.{told-alone}
 use borrow.Author.Needs.{needs}
 use Rattle.kodarfi.proofs.kodarfi_find_weights.Statement.{statement}

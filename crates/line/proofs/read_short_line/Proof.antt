@@ -27,14 +27,14 @@ use denote.Triple.Entry.{alive, onEntry}
 use denote.Triple.Spec.{tripleOf}
 use denote.Triple.Statement.{Contract}
 use denote.Triple.Table.{entered, cited}
-use Rattle.numeral.specs.declared.Number.{Number}
-use Rattle.numeral.proofs.Number as N
-use Rattle.numeral.proofs.Number.Laws as Number′
-use Rattle.form.specs.declared.Head.{Head}
-use Rattle.form.proofs.Head as H
-use Rattle.form.proofs.Head.Laws as Head′
-use Rattle.form.proofs.Word.Laws as Word′
-use Rattle.form.specs.Reading.{reading}
+use Rattle.line_numeral.specs.declared.Number.{Number}
+use Rattle.line_numeral.proofs.Number as N
+use Rattle.line_numeral.proofs.Number.Laws as Number′
+use Rattle.line_form.specs.declared.Head.{Head}
+use Rattle.line_form.proofs.Head as H
+use Rattle.line_form.proofs.Head.Laws as Head′
+use Rattle.line_form.proofs.Word.Laws as Word′
+use Rattle.line_form.specs.Reading.{reading}
 use Rattle.line_parts.specs.Line.{ofReading}
 use Rattle.line_parts.proofs.Line.Laws as Line′
 use Rattle.line.proofs.reader.LineReader.Laws as T′

@@ -4,10 +4,10 @@ use Prim.Native.Nat.{ℕ, _*_, _-_, _^_}
 use lib.IntN.{natAbs}
 use Rattle.linear.specs.Slice.{at}
 use Rattle.enclosure.specs.Problem.{problemOf}
-use Rattle.reckoning.specs.Parts.{cutMargin}
-use Rattle.reckoning.proofs.Filled.{begins-as}
-use Rattle.weight_steps.specs.Steps.{Below, storedMargin}
-use Rattle.weight_steps.proofs.Stored.{magnitudes-at, magnitudes-below, load-is}
+use Rattle.check_arrays.specs.Parts.{cutMargin}
+use Rattle.check_arrays.proofs.Filled.{begins-as}
+use Rattle.weights_steps.specs.Steps.{Below, storedMargin}
+use Rattle.weights_steps.proofs.Stored.{magnitudes-at, magnitudes-below, load-is}
 use borrow.Author.Needs.{needs}
 use Rattle.quality.proofs.margins_for.Statement.{statement}
 use Rattle.quality.proofs.margins_for.Tie as tie

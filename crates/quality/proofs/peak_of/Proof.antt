@@ -4,7 +4,7 @@ use Prim.Native.Nat.{ℕ, _≤_, _<_, _-_}
 use native.Mathlib.Omega.{arith}
 use borrow.Author.Tests.{ltb-true, ltb-false}
 use lib.ListN.{getD}
-use Rattle.limit_factor.proofs.Peak.{Leading, leading-one, leading-stays, leading-moves, leading-end, peak-is}
+use Rattle.quality_spec.proofs.Peak.{Leading, leading-one, leading-stays, leading-moves, leading-end, peak-is}
 use borrow.Author.Needs.{needs}
 use Rattle.quality.proofs.peak_of.Statement.{statement}
 use Rattle.quality.proofs.peak_of.Tie as tie

@@ -1,8 +1,8 @@
 use mathlib.Core.Path.{_≡_, sym, _∙_}
 use mathlib.Core.Bool.{true, false}
 use Rattle.rules.proofs.Ranges.{both, both-left, not-both, not-first, size-range}
-use Rattle.limit_factor.specs.Inquiry.{Inquiry, inquiry, inquiryShort, inquiryInRanges, inquirySizes}
-use Rattle.limit_factor.proofs.Contract.{long-inquiry, quality-short, quality-range}
+use Rattle.quality_spec.specs.Inquiry.{Inquiry, inquiry, inquiryShort, inquiryInRanges, inquirySizes}
+use Rattle.quality_spec.proofs.Contract.{long-inquiry, quality-short, quality-range}
 use borrow.Author.Needs.{needs}
 use Rattle.quality.proofs.quality.Statement.{statement}
 use Rattle.quality.proofs.quality.Tie as tie

@@ -5,9 +5,9 @@ use lib.IntN.{natAbs}
 use Rattle.integer.proofs.Search.{first-past}
 use Rattle.enclosure.specs.Sound.{Margins}
 use Rattle.enclosure.specs.Reckoning.{margin, marginFails}
-use Rattle.limit_factor.specs.Peak.{spread}
-use Rattle.limit_factor.specs.Inquiry.{Inquiry, inquiry, inquiryProblem}
-use Rattle.limit_factor.proofs.Contract.{FitInquiry, fit-inquiry, quality-low, quality-given}
+use Rattle.quality_spec.specs.Peak.{spread}
+use Rattle.quality_spec.specs.Inquiry.{Inquiry, inquiry, inquiryProblem}
+use Rattle.quality_spec.proofs.Contract.{FitInquiry, fit-inquiry, quality-low, quality-given}
 use Rattle.quality.proofs.Rows.{full-small, low-is, under, margin-is, above, spread-is, row-is}
 use Rattle.quality.proofs.rate.Statement.{statement}
 use Rattle.quality.proofs.rate.Tie as tie

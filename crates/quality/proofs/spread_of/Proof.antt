@@ -4,7 +4,7 @@ use native.Mathlib.Omega.{arith}
 use native.Mathlib.Nat.{mul-le-mul}
 use lib.IntN.{natAbs}
 use Rattle.integer.proofs.Machine.{read}
-use Rattle.reckoning.proofs.Magnitudes.{power-magnitude}
+use Rattle.check_arrays.proofs.Magnitudes.{power-magnitude}
 use borrow.Author.Needs.{needs}
 use Rattle.quality.proofs.spread_of.Statement.{statement}
 use Rattle.quality.proofs.spread_of.Tie as tie

@@ -5,8 +5,8 @@ use lib.IntN.{natAbs}
 use lib.ListN.{getD, length, length-set}
 use Rattle.integer.proofs.Machine.{read}
 use Rattle.linear.specs.Slice.{at}
-use Rattle.reckoning.specs.Arrays.{Begins}
-use Rattle.reckoning.proofs.Filled.{begins-none, begins-more, begins-end}
+use Rattle.check_arrays.specs.Arrays.{Begins}
+use Rattle.check_arrays.proofs.Filled.{begins-none, begins-more, begins-end}
 use borrow.Author.Needs.{needs}
 use Rattle.quality.proofs.spreads_of.Statement.{statement}
 use Rattle.quality.proofs.spreads_of.Tie as tie

@@ -1,8 +1,8 @@
 use mathlib.Core.Path.{sym, ap, _∙_}
 use Rattle.rules.specs.Refusal.{said}
 use Rattle.rules.specs.declared.Outcome.{Outcome}
-use Rattle.refusal.specs.Refused.{printed}
-use Rattle.refusal.specs.Reply.{replyOf}
+use Rattle.listing_refusal.specs.Refused.{printed}
+use Rattle.listing_refusal.specs.Reply.{replyOf}
 use borrow.Author.Needs.{needs}
 use Rattle.reply.proofs.outcome_reply.Statement.{statement}
 use Rattle.reply.proofs.outcome_reply.Tie as tie

@@ -1,4 +1,4 @@
-use Rattle.limit_factor.specs.Answer.{saidQuality}
+use Rattle.quality_spec.specs.Answer.{saidQuality}
 use Rattle.reply.proofs.Told.{told-alone}
 use borrow.Author.Needs.{needs}
 use Rattle.kodarfi.proofs.how_good.kodarfi_quality.Statement.{statement}

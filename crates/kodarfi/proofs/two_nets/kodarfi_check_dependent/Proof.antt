@@ -1,5 +1,5 @@
 use Rattle.rules.specs.Order.{refusalOf}
-use Rattle.dependent.specs.Order.{saidNets}
+use Rattle.dependent_spec.specs.Order.{saidNets}
 use Rattle.reply.proofs.Told.{told-alone}
 use borrow.Author.Needs.{needs}
 use Rattle.kodarfi.proofs.two_nets.kodarfi_check_dependent.Statement.{statement}

@@ -1,5 +1,5 @@
 use Rattle.rules.specs.Order.{refusalOf}
-use Rattle.common.specs.Answer.{saidCommon}
+use Rattle.common_spec.specs.Answer.{saidCommon}
 use Rattle.reply.proofs.Told.{told-alone}
 use borrow.Author.Needs.{needs}
 use Rattle.kodarfi.proofs.two_proposals.kodarfi_common.Statement.{statement}

@@ -1,4 +1,4 @@
-use Rattle.exchange.specs.Inward.{saidGuessed}
+use Rattle.doubles_lists.specs.Inward.{saidGuessed}
 use Rattle.reply.proofs.Told.{told-alone}
 use borrow.Author.Needs.{needs}
 use Rattle.kodarfi.proofs.with_doubles.kodarfi_guesses.Statement.{statement}

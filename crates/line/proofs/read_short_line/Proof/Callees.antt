@@ -26,19 +26,19 @@ use denote.Slice.{sliceVal, slice-vals, shr-slice-copy}
 use denote.Triple.Entry.{alive}
 use denote.Triple.Spec.{tripleOf}
 use denote.Triple.Statement.{Triple}
-use Rattle.numeral.specs.Numeral.{numberAt}
-use Rattle.numeral.specs.Capped.{cappedNumber}
-use Rattle.numeral.specs.declared.Number.{Number}
-use Rattle.numeral.proofs.Number.Laws as Number′
-use Rattle.form.specs.Form.{bytes}
-use Rattle.form.specs.ListAt.{listedAt}
-use Rattle.form.specs.Reading.{wordAt, headAt}
-use Rattle.form.specs.declared.Head.{Head}
-use Rattle.form.specs.declared.Listed.{Listed}
-use Rattle.form.specs.declared.Word.{Word}
-use Rattle.form.proofs.Head.Laws as Head′
-use Rattle.form.proofs.Listed.Laws as Listed′
-use Rattle.form.proofs.Word.Laws as Word′
+use Rattle.line_numeral.specs.Numeral.{numberAt}
+use Rattle.line_numeral.specs.Capped.{cappedNumber}
+use Rattle.line_numeral.specs.declared.Number.{Number}
+use Rattle.line_numeral.proofs.Number.Laws as Number′
+use Rattle.line_form.specs.Form.{bytes}
+use Rattle.line_form.specs.ListAt.{listedAt}
+use Rattle.line_form.specs.Reading.{wordAt, headAt}
+use Rattle.line_form.specs.declared.Head.{Head}
+use Rattle.line_form.specs.declared.Listed.{Listed}
+use Rattle.line_form.specs.declared.Word.{Word}
+use Rattle.line_form.proofs.Head.Laws as Head′
+use Rattle.line_form.proofs.Listed.Laws as Listed′
+use Rattle.line_form.proofs.Word.Laws as Word′
 use Rattle.line_parts.specs.Parts.{kindOf, lastIn, decided}
 use Rattle.line.specs.declared.reader.LineReader.{LineReader}
 use Rattle.line_parts.proofs.Line.Laws as Line′

@@ -44,20 +44,20 @@ use denote.Triple.Table.{entered, cited}
 use denote.Triple.Walked.{goes-none, goes-gave-slice, Walks, walked, walk-meets}
 use denote.Exit.{yes}
 use denote.Signature.{plain}
-use Rattle.observation.specs.declared.Built.{Built}
-use Rattle.observation.specs.declared.Observation.{Observation}
-use Rattle.observation.proofs.Built as B
-use Rattle.observation.proofs.Built.Laws as B′
-use Rattle.observation.proofs.Observation as T
-use Rattle.observation.proofs.Observation.Laws as T′
-use Rattle.equations.specs.declared.Layout.{Layout}
-use Rattle.equations.proofs.Layout as L
-use Rattle.equations.proofs.Layout.Laws as L′
-use Rattle.built.specs.BuiltAs.{BuiltAs}
-use Rattle.builder.proofs.build as build-fn
-use Rattle.builder.proofs.build.Symbol as build-def
-use Rattle.builder.proofs.build.Symbol.{name as #builder·build}
-use Rattle.builder.proofs.build.Met as build-thm
+use Rattle.build_lines.specs.declared.Built.{Built}
+use Rattle.build_lines.specs.declared.Observation.{Observation}
+use Rattle.build_lines.proofs.Built as B
+use Rattle.build_lines.proofs.Built.Laws as B′
+use Rattle.build_lines.proofs.Observation as T
+use Rattle.build_lines.proofs.Observation.Laws as T′
+use Rattle.build_equations.specs.declared.Layout.{Layout}
+use Rattle.build_equations.proofs.Layout as L
+use Rattle.build_equations.proofs.Layout.Laws as L′
+use Rattle.build.specs.BuiltAs.{BuiltAs}
+use Rattle.build.proofs.build as build-fn
+use Rattle.build.proofs.build.Symbol as build-def
+use Rattle.build.proofs.build.Symbol.{name as #builder·build}
+use Rattle.build.proofs.build.Met as build-thm
 use Rattle.samples.proofs.lent.build_first.Key.{name as #build-first}
 use Rattle.samples.proofs.lent.build_first as self
 use Rattle.samples.proofs.lent.build_first.Statement as stated

@@ -7,8 +7,8 @@ use sound.WpLaws.{fmOf}
 use denote.Builtin.{usize}
 use denote.Triple.Spec.{tripleOf}
 use denote.Triple.Table.{entered, cited}
-use Rattle.form.specs.Form.{bytes}
-use Rattle.form.specs.Reading.{wordAt}
+use Rattle.line_form.specs.Form.{bytes}
+use Rattle.line_form.specs.Reading.{wordAt}
 use Rattle.line_parts.proofs.close_at as core
 use Rattle.line_parts.proofs.close_at.Symbol as core-def
 use Rattle.line_parts.proofs.close_at.Symbol.{name as #close-at}

@@ -1,15 +1,15 @@
--- `LineReader::head`: `form::head_at` on its slice and place.
+-- `LineReader::head`: `line_form::head_at` on its slice and place.
 use mathlib.Core.Path.{refl}
 use contract.Running.{givenOf, tables, tablesOf}
 use sound.WpLaws.{fmOf}
 use denote.Triple.Spec.{tripleOf}
 use denote.Triple.Table.{entered, cited}
-use Rattle.form.specs.Reading.{headAt}
-use Rattle.form.proofs.Head as R
-use Rattle.form.proofs.head_at as core
-use Rattle.form.proofs.head_at.Symbol as core-def
-use Rattle.form.proofs.head_at.Symbol.{name as #head-at}
-use Rattle.form.proofs.head_at.Met as met
+use Rattle.line_form.specs.Reading.{headAt}
+use Rattle.line_form.proofs.Head as R
+use Rattle.line_form.proofs.head_at as core
+use Rattle.line_form.proofs.head_at.Symbol as core-def
+use Rattle.line_form.proofs.head_at.Symbol.{name as #head-at}
+use Rattle.line_form.proofs.head_at.Met as met
 use Rattle.line.proofs.reader.LineReader.head.Key.{name as #head}
 use Rattle.line.proofs.reader.LineReader.head as self
 use Rattle.line.proofs.reader.LineReader.head.Statement.{statement}

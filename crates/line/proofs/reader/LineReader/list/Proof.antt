@@ -22,12 +22,12 @@ use denote.Triple.Entry.{Vals, alive, onEntry}
 use denote.Triple.Spec.{tripleOf}
 use denote.Triple.Statement.{Contract, Triple}
 use denote.Triple.Table.{entered, cited}
-use Rattle.form.specs.ListAt.{listedAt}
-use Rattle.form.specs.declared.Listed.{Listed}
-use Rattle.form.specs.declared.Word.{Word}
-use Rattle.form.proofs.Word as W′
-use Rattle.form.proofs.Word.Laws as Word′
-use Rattle.form.proofs.Listed.Laws as Listed′
+use Rattle.line_form.specs.ListAt.{listedAt}
+use Rattle.line_form.specs.declared.Listed.{Listed}
+use Rattle.line_form.specs.declared.Word.{Word}
+use Rattle.line_form.proofs.Word as W′
+use Rattle.line_form.proofs.Word.Laws as Word′
+use Rattle.line_form.proofs.Listed.Laws as Listed′
 use Rattle.line.specs.declared.reader.LineReader.{LineReader}
 use Rattle.line_parts.specs.Parts.{kindOf}
 use Rattle.line.proofs.reader.LineReader as T

@@ -1,4 +1,4 @@
--- `LineReader::number`: `numeral::number_at` on its slice and place.
+-- `LineReader::number`: `line_numeral::number_at` on its slice and place.
 use mathlib.Core.Path.{refl}
 use mathlib.Core.List.{List}
 use Prim.Native.Nat.{ℕ}
@@ -6,14 +6,14 @@ use contract.Running.{givenOf, tables, tablesOf}
 use sound.WpLaws.{fmOf}
 use denote.Triple.Spec.{tripleOf}
 use denote.Triple.Table.{entered, cited}
-use Rattle.numeral.specs.Numeral.{numberAt}
-use Rattle.numeral.specs.Capped.{cappedNumber}
-use Rattle.numeral.specs.declared.Number.{Number}
-use Rattle.numeral.proofs.Number as R
-use Rattle.numeral.proofs.number_at as core
-use Rattle.numeral.proofs.number_at.Symbol as core-def
-use Rattle.numeral.proofs.number_at.Symbol.{name as #number-at}
-use Rattle.numeral.proofs.number_at.Met as met
+use Rattle.line_numeral.specs.Numeral.{numberAt}
+use Rattle.line_numeral.specs.Capped.{cappedNumber}
+use Rattle.line_numeral.specs.declared.Number.{Number}
+use Rattle.line_numeral.proofs.Number as R
+use Rattle.line_numeral.proofs.number_at as core
+use Rattle.line_numeral.proofs.number_at.Symbol as core-def
+use Rattle.line_numeral.proofs.number_at.Symbol.{name as #number-at}
+use Rattle.line_numeral.proofs.number_at.Met as met
 use Rattle.line.proofs.reader.LineReader.number.Key.{name as #number}
 use Rattle.line.proofs.reader.LineReader.number as self
 use Rattle.line.proofs.reader.LineReader.number.Statement.{statement}

@@ -1,0 +1,42 @@
+-- The exported call for the factor.
+--   quality-told   — the number and the places are those of the order of tests, 8, 3, 5
+--   factor-told    — 0 is said of a factor alone: *numerator over *denominator is one of the problem with any scale, right side, tolerance and guess
+--   least-told     — and none of these is smaller
+--   accepted-told  — of the lists of an accepted check 0 is said
+use mathlib.Core.List.{List, []}
+use mathlib.Core.Path.{_≡_, sym, ap, _∙_}
+use Prim.Native.Nat.{ℕ, _*_, _≤_}
+use lib.IntN.{ℤ}
+use lib.ListN.{getD}
+use Rattle.rules.proofs.Verdicts.{accepted-new}
+use Rattle.enclosure.specs.Problem.{problemOf}
+use Rattle.enclosure.specs.Quality.{Factor}
+use Rattle.check_spec.specs.Input.{Input}
+use Rattle.check_spec.specs.Order.{answer}
+use Rattle.quality_spec.specs.Inquiry.{Inquiry, inquiry}
+use Rattle.quality_spec.specs.Answer.{saidQuality, qualityAnswer}
+use Rattle.quality_spec.proofs.Promises as promises
+use Rattle.reply.specs.Told.{Told}
+use Rattle.calls_spec.specs.Quality.{QualityExported}
+
+module _ {Q : Inquiry} {oldA oldC number : ℕ} {places : List ℕ} {a c : ℕ} (x : QualityExported Q oldA oldC number places a c) where
+  pub quality-told : Told (qualityAnswer Q) number places
+  quality-told = rw (x .holds .says) at (x .told)
+
+  said-zero : number ≡ 0 → saidQuality (x .answer) ≡ []
+  said-zero e = x .holds .says ∙ promises.zero-given Q (sym (quality-told .number-is) ∙ e)
+
+  module _ (e : number ≡ 0) (s : ℕ) (right tolerance guess : List ℤ) where
+    pub factor-told : Factor (problemOf (Q .n) s (Q .t) (Q .matrix) right tolerance guess (Q .inverse) (Q .weights)) a c
+    factor-told =
+        rw (x .numerator-is ∙ accepted-new _ _ (said-zero e), x .denominator-is ∙ accepted-new _ _ (said-zero e))
+        (x .holds .factor (said-zero e) s right tolerance guess)
+
+    pub least-told : (b d : ℕ) → Factor (problemOf (Q .n) s (Q .t) (Q .matrix) right tolerance guess (Q .inverse) (Q .weights)) b d → a * d ≤ b * c
+    least-told =
+        rw (x .numerator-is ∙ accepted-new _ _ (said-zero e), x .denominator-is ∙ accepted-new _ _ (said-zero e))
+        (x .holds .least (said-zero e) s right tolerance guess)
+
+pub accepted-told : (I : Input) {oldA oldC number : ℕ} {places : List ℕ} {a c : ℕ} →
+    QualityExported (inquiry (I .n) (I .t) (I .matrix) (I .inverse) (I .weights)) oldA oldC number places a c → answer I ≡ [] → number ≡ 0
+accepted-told I x z = quality-told x .number-is ∙ ap (λ (l : List ℕ). getD l 0 0) (promises.accepted-given I z)
