@@ -18,7 +18,7 @@ use Rattle.listing.specs.Complete.{Complete}
 use Rattle.calls_spec.specs.Exported.{CheckExported, ListingExported}
 use Rattle.calls_spec.specs.Half.{HalfExported}
 use Rattle.calls_spec.specs.Loader.{LoaderCheckExported}
-use Rattle.calls_spec.proofs.Meaning.{zero-said, zero-answer}
+use Rattle.calls_spec.proofs.Meaning.{zero-code, zero-answer}
 use Rattle.calls_spec.proofs.Half.{half-zero}
 use Rattle.good_limits.specs.Good.{FineRounded, OneStep, Good}
 use Rattle.accepted_limits.specs.Lists.{GoodLists, OneStepLists}
@@ -30,7 +30,7 @@ first-equal e = ap (λ (l : List ℕ). getD l 0 0) e
 
 module _ {I : Input} {number : ℕ} {places E L : List ℕ} (x : CheckExported I number places E L) where
   pub zero-good : number ≡ 0 → GoodLists I E L
-  zero-good e = checked-good I (x .outcome) E L (x .checked) (zero-said (x .outcome) (sym (x .told .number-is) ∙ e))
+  zero-good e = checked-good I (x .outcome) E L (x .checked) (zero-code (x .outcome) (sym (x .told .number-is) ∙ e))
 
   pub zero-one-step : (N : Vec) (q : ℕ) (H : Mat) (q′ : ℕ) → short I ≡ false → inRanges I ≡ true → FineRounded (problem I) N q H q′ →
       (number ≡ 0) × OneStepLists I E L
@@ -48,7 +48,7 @@ module _ {H : Input} {number : ℕ} {places E L : List ℕ} (x : HalfExported H 
 
 module _ {stage : Stage} {I : Input} {number : ℕ} {places E L : List ℕ} (x : LoaderCheckExported stage I number places E L) where
   pub through-zero-good : number ≡ 0 → GoodLists I E L
-  through-zero-good e = through-good stage I (x .outcome) E L (x .checked) (zero-said (x .outcome) (sym (x .told .number-is) ∙ e))
+  through-zero-good e = through-good stage I (x .outcome) E L (x .checked) (zero-code (x .outcome) (sym (x .told .number-is) ∙ e))
 
   pub through-zero-one-step : (N : Vec) (q : ℕ) (H : Mat) (q′ : ℕ) → short I ≡ false → ended stage ≡ true → inRanges I ≡ true → FineRounded (problem I) N q H q′ →
       (number ≡ 0) × OneStepLists I E L

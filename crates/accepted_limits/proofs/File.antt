@@ -8,7 +8,7 @@ use Prim.Native.Nat.{ℕ}
 use lib.ListN.{take}
 use Rattle.linear.specs.Matrix.{Vec, Mat}
 use Rattle.enclosure.specs.Reckoning.{bound, inverseBound}
-use Rattle.check_spec.proofs.Contract.{said-sound}
+use Rattle.check_spec.proofs.Contract.{code-sound}
 use Rattle.line_form.specs.Form.{bytes}
 use Rattle.loader_runs.specs.Lines.{linesOf}
 use Rattle.loader_runs.specs.Read.{readingOf}
@@ -31,7 +31,7 @@ module _ (file : List ℕ) where
       let u = readingOf file .state in
       let f = from file (c .lines) (c .end) in
       let r = inside file (c .lines) (c .end) in
-      limits-good (problemIn file) (some u (forms (linesOf file)) f r) (heavy u (forms (linesOf file)) f r) (said-sound (problemIn file) (a .quiet) .margins)
+      limits-good (problemIn file) (some u (forms (linesOf file)) f r) (heavy u (forms (linesOf file)) f r) (code-sound (problemIn file) (a .quiet) .margins)
 
   pub file-one-step : Complete file → (N : Vec) (q : ℕ) (H : Mat) (q′ : ℕ) → FineRounded (problemIn file) N q H q′ →
       (answerOf file ≡ []) × OneStep (problemIn file .n) (bound (problemIn file)) (inverseBound (problemIn file))

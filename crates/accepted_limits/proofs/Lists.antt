@@ -12,7 +12,7 @@ use Rattle.linear.specs.Matrix.{Vec, Mat}
 use Rattle.linear.specs.Written.{written}
 use Rattle.linear.proofs.Places.{place, square, place-column, place-row}
 use Rattle.linear.proofs.Written.{front-at}
-use Rattle.rules.specs.Refusal.{said}
+use Rattle.rules.specs.Refusal.{code}
 use Rattle.rules.specs.declared.Outcome.{Outcome}
 use Rattle.rules.proofs.Verdicts.{accepted-new, nothing-is-not}
 use Rattle.enclosure.specs.Problem.{Problem}
@@ -20,7 +20,7 @@ use Rattle.enclosure.specs.Reckoning.{bound, inverseBound}
 use Rattle.check_spec.specs.Checked.{solutionBoundsAfter, inverseBoundsAfter, Checked}
 use Rattle.check_spec.specs.Input.{Input, problem, short, inRanges}
 use Rattle.check_spec.specs.Order.{answer}
-use Rattle.check_spec.proofs.Contract.{answer-ready, said-sound}
+use Rattle.check_spec.proofs.Contract.{answer-ready, code-sound}
 use Rattle.check_spec.proofs.Fit.{fit-of}
 use Rattle.check_spec.proofs.Statements.{accepted-usable}
 use Rattle.half_fill.specs.Half.{shortHalf}
@@ -50,24 +50,24 @@ check-good I e hE hL =
     let fit = fit-of I (u .long) (u .inside) in
     let P : Problem = problem I in
     written-good P (bound P) (inverseBound P) (I .solutionBounds) (I .inverseBounds) (fit .few) (fit .solution-long) (fit .inverse-long) hE hL
-    (limits-good P (fit .some) (fit .heavy) (said-sound P (sym (answer-ready I (u .long) (u .inside)) ∙ e) .margins))
+    (limits-good P (fit .some) (fit .heavy) (code-sound P (sym (answer-ready I (u .long) (u .inside)) ∙ e) .margins))
 
 -- ---- lists
 module _ (I : Input) (r : Outcome) (E L : List ℕ) (x : Checked I r E L) where
-  pub checked-good : said r ≡ [] → GoodLists I E L
+  pub checked-good : code r ≡ [] → GoodLists I E L
   unfolding solutionBoundsAfter inverseBoundsAfter
   checked-good e =
       let a : answer I ≡ [] = sym (x .says) ∙ e in
       check-good I a (x .solution-bounds ∙ accepted-new _ _ a) (x .inverse-bounds ∙ accepted-new _ _ a)
 
   pub checked-one-step : (N : Vec) (q : ℕ) (H : Mat) (q′ : ℕ) → short I ≡ false → inRanges I ≡ true → FineRounded (problem I) N q H q′ →
-      (said r ≡ []) × OneStepLists I E L
+      (code r ≡ []) × OneStepLists I E L
   checked-one-step N q H q′ s i y =
       let a = x .accepts N q H q′ s i (y .rounded) in (a, checked-good a .one-step N q H q′ y)
 
 -- ---- by half
 module _ (H : Input) (r : Outcome) (E L : List ℕ) (x : CheckedHalf H r E L) where
-  pub half-good : said r ≡ [] → GoodLists (filledInput H) E L
+  pub half-good : code r ≡ [] → GoodLists (filledInput H) E L
   half-good e = go (shortHalf (length (H .matrix))) refl
     where
       go : (b : Bool) → shortHalf (length (H .matrix)) ≡ b → GoodLists (filledInput H) E L
@@ -75,7 +75,7 @@ module _ (H : Input) (r : Outcome) (E L : List ℕ) (x : CheckedHalf H r E L) wh
       go false s = checked-good (filledInput H) r E L (x .as-square s) e
 
   pub half-one-step : (N : Vec) (q : ℕ) (G : Mat) (q′ : ℕ) → shortHalf (length (H .matrix)) ≡ false → short (filledInput H) ≡ false → inRanges (filledInput H) ≡ true →
-      FineRounded (problem (filledInput H)) N q G q′ → (said r ≡ []) × OneStepLists (filledInput H) E L
+      FineRounded (problem (filledInput H)) N q G q′ → (code r ≡ []) × OneStepLists (filledInput H) E L
   half-one-step N q G q′ s = checked-one-step (filledInput H) r E L (x .as-square s) N q G q′
 
 -- ---- through a loader
@@ -89,7 +89,7 @@ module _ (s : Stage) (I : Input) (r : Outcome) (E L : List ℕ) (x : CheckedThro
       go true h = nothing-is-not (rw h at e)
       go false h = nothing-is-not (rw (h, o) at e)
 
-  pub through-good : said r ≡ [] → GoodLists I E L
+  pub through-good : code r ≡ [] → GoodLists I E L
   unfolding solutionBoundsThrough inverseBoundsThrough
   through-good e = go (ended s) refl
     where
@@ -101,6 +101,6 @@ module _ (s : Stage) (I : Input) (r : Outcome) (E L : List ℕ) (x : CheckedThro
       go false o = absurd (open-not o t)
 
   pub through-one-step : (N : Vec) (q : ℕ) (H : Mat) (q′ : ℕ) → short I ≡ false → ended s ≡ true → inRanges I ≡ true → FineRounded (problem I) N q H q′ →
-      (said r ≡ []) × OneStepLists I E L
+      (code r ≡ []) × OneStepLists I E L
   through-one-step N q H q′ h o i y =
       let a = x .accepts N q H q′ h o i (y .rounded) in (a, through-good a .one-step N q H q′ y)

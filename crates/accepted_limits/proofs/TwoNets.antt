@@ -18,7 +18,7 @@ use Rattle.enclosure.proofs.Bounds.{bound-ext}
 use Rattle.check_spec.specs.Order.{answer}
 use Rattle.dependent_spec.specs.Nets.{Nets, DependentNet, couplingOf, dependentOf}
 use Rattle.dependent_spec.specs.Reckoning.{ownProblem, dependentResidual, dependentSlack, dependentBound}
-use Rattle.dependent_spec.specs.Order.{dependentAnswer, jointAnswer, saidNets}
+use Rattle.dependent_spec.specs.Order.{dependentAnswer, jointAnswer, netsCode}
 use Rattle.dependent_spec.specs.Together.{CheckedTogether}
 use Rattle.dependent_spec.specs.declared.CheckedNets.{CheckedNets}
 use Rattle.dependent_spec.proofs.Statements.{own-fit, passed-of, joint-main, joint-dependent}
@@ -68,7 +68,7 @@ module _ (J : Nets) where
       go [] e (k ∷ ks) f = absurd (nothing-is-not (sym (joint-dependent J e f) ∙ j))
       go [] e [] f = (e, f)
 
-  pub together-good : (r : CheckedNets) (E₁ L₁ E₂ L₂ : List ℕ) → CheckedTogether J r E₁ L₁ E₂ L₂ → saidNets r ≡ [] → GoodNets J E₁ L₁ E₂ L₂
+  pub together-good : (r : CheckedNets) (E₁ L₁ E₂ L₂ : List ℕ) → CheckedTogether J r E₁ L₁ E₂ L₂ → netsCode r ≡ [] → GoodNets J E₁ L₁ E₂ L₂
   together-good r E₁ L₁ E₂ L₂ x e =
       let j : jointAnswer J ≡ [] = sym (x .says) ∙ e in
       let (m, d) = both-parts j in

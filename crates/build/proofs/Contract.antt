@@ -17,12 +17,12 @@ use Rattle.rules.proofs.Verdicts.{nothing-is-not}
 use Rattle.build_lines.specs.declared.Built.{Built}
 use Rattle.build_lines.specs.declared.Observation.{Observation}
 use Rattle.build_lines.specs.Distinct.{builtMatrix, builtRight, weightAt, gain}
-use Rattle.build_lines.specs.Order.{saidBuilt, observationsSay, buildAnswer}
+use Rattle.build_lines.specs.Order.{buildCode, observationsSay, buildAnswer}
 use Rattle.build_gathering.proofs.Whole.{gatheredOf, Whole, whole}
 use Rattle.build_equations.specs.declared.Layout.{Layout}
 use Rattle.build_equations.specs.Written.{widthOf, matrixWritten, rightWritten}
 use Rattle.build_equations.specs.Kept.{keptMatrix, keptRight}
-use Rattle.build.specs.Finished.{saidFinally, Finished}
+use Rattle.build.specs.Finished.{finalCode, Finished}
 use Rattle.build_equations.proofs.Places.{rows-ext}
 use Rattle.build.specs.BuiltAs.{shortFor, BuiltAs}
 
@@ -44,10 +44,10 @@ module _ (n : ℕ) (ls : List Observation) (layout : Layout) (a b : List ℤ) wh
   w : Whole n ls
   w = whole n ls
 
-  says : saidFinally (shortFor layout a b) (saidBuilt (gatheredOf n ls .progress .told)) ≡ buildAnswer n ls (shortFor layout a b)
+  says : finalCode (shortFor layout a b) (buildCode (gatheredOf n ls .progress .told)) ≡ buildAnswer n ls (shortFor layout a b)
   unfolding buildAnswer
   says =
-      ap (saidFinally (shortFor layout a b)) (w .says)
+      ap (finalCode (shortFor layout a b)) (w .says)
       ∙ finally (shortFor layout a b) (inRange kind.Size (pos n)) (leb (length ls) 256) (observationsSay n [] ls)
       ∙ ap (λ (m : Bool). orElse (cond (shortFor layout a b) (8 ∷ []) (cond (not (inRange kind.Size (pos n))) (3 ∷ []) (cond m (3 ∷ []) []))) (observationsSay n [] ls)) (many (length ls))
 
@@ -56,7 +56,7 @@ module _ (n : ℕ) (ls : List Observation) (layout : Layout) (a b : List ℤ) wh
   lines-silent true t e = absurd (nothing-is-not e)
   lines-silent false t e = e
 
-  kept : (t : List ℕ) → t ≡ saidFinally (shortFor layout a b) (saidBuilt (gatheredOf n ls .progress .told)) → {A : Type 0} (new new′ old : A) → (saidBuilt (gatheredOf n ls .progress .told) ≡ [] → new ≡ new′) → ifAccepted t new old ≡ ifAccepted t new′ old
+  kept : (t : List ℕ) → t ≡ finalCode (shortFor layout a b) (buildCode (gatheredOf n ls .progress .told)) → {A : Type 0} (new new′ old : A) → (buildCode (gatheredOf n ls .progress .told) ≡ [] → new ≡ new′) → ifAccepted t new old ≡ ifAccepted t new′ old
   kept [] e new new′ old h = h (lines-silent (shortFor layout a b) _ (sym e))
   kept (k ∷ ks) e new new′ old h = refl
 
@@ -65,12 +65,12 @@ module _ (n : ℕ) (ls : List Observation) (layout : Layout) (a b : List ℤ) wh
     says = f .says ∙ says;
     matrix =
         f .matrix
-        ∙ kept (saidBuilt r) (f .says) (matrixWritten layout (gatheredOf n ls .progress .n) (keptMatrix (gatheredOf n ls)) a) (matrixWritten layout n (builtMatrix ls) a) a
+        ∙ kept (buildCode r) (f .says) (matrixWritten layout (gatheredOf n ls .progress .n) (keptMatrix (gatheredOf n ls)) a) (matrixWritten layout n (builtMatrix ls) a) a
         (λ e. ap (λ (k : ℕ). matrixWritten layout k (keptMatrix (gatheredOf n ls)) a) (w .size) ∙ rows-ext (widthOf layout n) n (keptMatrix (gatheredOf n ls)) (builtMatrix ls) a (λ i j. w .sums e (weightAt (i + 1) (j + 1))))
         ∙ ap (λ (t : List ℕ). ifAccepted t (matrixWritten layout n (builtMatrix ls) a) a) (f .says ∙ says);
     right =
         f .right
-        ∙ kept (saidBuilt r) (f .says) (rightWritten (gatheredOf n ls .progress .n) (keptRight (gatheredOf n ls)) b) (rightWritten n (builtRight ls) b) b
+        ∙ kept (buildCode r) (f .says) (rightWritten (gatheredOf n ls .progress .n) (keptRight (gatheredOf n ls)) b) (rightWritten n (builtRight ls) b) b
         (λ e. ap (λ (k : ℕ). rightWritten k (keptRight (gatheredOf n ls)) b) (w .size) ∙ written-ext b 0 1 (keptRight (gatheredOf n ls)) (builtRight ls) n (λ i m. w .sums e (gain (i + 1))))
         ∙ ap (λ (t : List ℕ). ifAccepted t (rightWritten n (builtRight ls) b) b) (f .says ∙ says);
   }

@@ -24,7 +24,7 @@ use Rattle.build_lines.specs.Example.{net}
 use Rattle.build_lines.specs.Heights.{fixedWeight, allWeight}
 use Rattle.build_lines.specs.Line as L
 use Rattle.build_lines.specs.Order as O
-use Rattle.build_lines.specs.Order.{saidBuilt, buildAnswer}
+use Rattle.build_lines.specs.Order.{buildCode, buildAnswer}
 use Rattle.build_lines.proofs.Net.{diagonal}
 use Rattle.build_equations.specs.declared.Layout.{Layout}
 use Rattle.build_equations.specs.declared.Layout.the-variants.{Square, Lower}
@@ -35,12 +35,12 @@ use Rattle.build.specs.Diagonal.{diagonalPlace, diagonalOf, TwiceTheWeig
 use Rattle.build.proofs.Held.{fitting, held}
 use Rattle.build.proofs.Halves.{held-half}
 
-on-diagonal : (layout : Layout) (n : ℕ) (ls : List Observation) (a b : List ℤ) {r : Built} {a′ b′ : List ℤ} → BuiltAs n ls layout a b r a′ b′ → saidBuilt r ≡ [] →
+on-diagonal : (layout : Layout) (n : ℕ) (ls : List Observation) (a b : List ℤ) {r : Built} {a′ b′ : List ℤ} → BuiltAs n ls layout a b r a′ b′ → buildCode r ≡ [] →
     (i : ℕ) → i < n → at a′ (diagonalPlace layout n i) ≡ builtMatrix ls i i
 on-diagonal Square n ls a b built done i l = held n ls a b built done .matrix i i l l
 on-diagonal Lower n ls a b {r} {a′} built done i l = sym (ap (at a′) (place-lower (omega arith))) ∙ held-half n ls a b built done .matrix i i l l
 
-pub diagonal-held : (layout : Layout) (n : ℕ) (ls : List Observation) (a b : List ℤ) {r : Built} {a′ b′ : List ℤ} → BuiltAs n ls layout a b r a′ b′ → saidBuilt r ≡ [] →
+pub diagonal-held : (layout : Layout) (n : ℕ) (ls : List Observation) (a b : List ℤ) {r : Built} {a′ b′ : List ℤ} → BuiltAs n ls layout a b r a′ b′ → buildCode r ≡ [] →
     TwiceTheWeight layout n ls a′
 diagonal-held layout n ls a b {r} {a′} built done =
     ap (λ (z : ℤ). z +ℤ fixedWeight ls) (sum-ext n (λ (i : ℕ). at a′ (diagonalPlace layout n i)) (λ (i : ℕ). builtMatrix ls i i) (on-diagonal layout n ls a b built done))

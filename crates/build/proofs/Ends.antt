@@ -14,7 +14,7 @@ use Rattle.rules.proofs.Ranges.{neither-left, neither-right}
 use Rattle.half_fill.proofs.Places.{count-few}
 use Rattle.build_lines.specs.declared.Built.the-variants.{Done, Refused}
 use Rattle.build_gathering.specs.declared.Gathered.{Gathered}
-use Rattle.build_lines.specs.Order.{saidBuilt}
+use Rattle.build_lines.specs.Order.{buildCode}
 use Rattle.build_equations.specs.declared.Layout.{Layout}
 use Rattle.build_equations.specs.declared.Layout.the-variants.{Square, Lower}
 use Rattle.build_equations.specs.Written.{widthOf, matrixWritten, rightWritten}
@@ -41,7 +41,7 @@ module _ (g : Gathered) (layout : Layout) (a b : List ℤ) {s : Bool} (t : s ≡
   finish-short e = record { says = rw (← t, e); matrix = refl; right = refl }
 
   pub finish-done : s ≡ false → g .progress .told ≡ Done → {a′ b′ : List ℤ} → a′ ≡ matrixWritten layout (g .progress .n) (keptMatrix g) a → b′ ≡ rightWritten (g .progress .n) (keptRight g) b → Finished g layout a b Done a′ b′
-  finish-done e d p q = record { says = rw (← t, e) (sym (ap saidBuilt d)); matrix = p; right = q }
+  finish-done e d p q = record { says = rw (← t, e) (sym (ap buildCode d)); matrix = p; right = q }
 
-  pub finish-refused : {k : ℕ} {ks : List ℕ} → s ≡ false → saidBuilt (g .progress .told) ≡ k ∷ ks → Finished g layout a b (g .progress .told) a b
+  pub finish-refused : {k : ℕ} {ks : List ℕ} → s ≡ false → buildCode (g .progress .told) ≡ k ∷ ks → Finished g layout a b (g .progress .told) a b
   finish-refused e d = record { says = rw (← t, e); matrix = rw d; right = rw d }

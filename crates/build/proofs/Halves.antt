@@ -21,7 +21,7 @@ use Rattle.half_fill.proofs.Filling.{filled-at}
 use Rattle.build_lines.specs.declared.Built.{Built}
 use Rattle.build_lines.specs.declared.Observation.{Observation}
 use Rattle.build_lines.specs.Distinct.{builtMatrix}
-use Rattle.build_lines.specs.Order.{saidBuilt, buildAnswer}
+use Rattle.build_lines.specs.Order.{buildCode, buildAnswer}
 use Rattle.build_lines.proofs.Net.{symmetric}
 use Rattle.build_equations.specs.declared.Layout.the-variants.{Square, Lower}
 use Rattle.build_equations.specs.Written.{widthOf, matrixWritten}
@@ -35,7 +35,7 @@ use Rattle.build.proofs.Held.{new-matrix, fitting, few-rows, right-held
 start-is : (n i : ℕ) → sumℕ i (widthOf Lower n) ≡ i * (i + 1) / 2
 start-is n i = omega (arith, lower-start n i)
 
-module _ (n : ℕ) (ls : List Observation) (h b : List ℤ) {r : Built} {h′ b′ : List ℤ} (built : BuiltAs n ls Lower h b r h′ b′) (done : saidBuilt r ≡ []) where
+module _ (n : ℕ) (ls : List Observation) (h b : List ℤ) {r : Built} {h′ b′ : List ℤ} (built : BuiltAs n ls Lower h b r h′ b′) (done : buildCode r ≡ []) where
   lower : (i j : ℕ) → i < n → j ≤ i → at h′ (lowerPlace i j) ≡ builtMatrix ls i j
   lower i j p q =
       ap (λ (l : List ℤ). at l (lowerPlace i j)) (new-matrix n ls Lower h b built done)
@@ -65,7 +65,7 @@ module _ (n : ℕ) (ls : List Observation) (h b : List ℤ) {r : Built} {h′ b�
   pub half-in-check-ranges : (allInRange kind.Matrix (n * n) (at (filledOut n h′)) ≡ true) × (allInRange kind.Right n (at b′) ≡ true)
   half-in-check-ranges = (matrix-in-check-range n ls Lower h b built done (filledOut n h′) filled-held, right-in-check-range n ls Lower h b built done)
 
-  module _ (a c : List ℤ) {s : Built} {a′ c′ : List ℤ} (square : BuiltAs n ls Square a c s a′ c′) (done′ : saidBuilt s ≡ []) where
+  module _ (a c : List ℤ) {s : Built} {a′ c′ : List ℤ} (square : BuiltAs n ls Square a c s a′ c′) (done′ : buildCode s ≡ []) where
     pub half-is-square : ((k : ℕ) → k < n * n → at (filledOut n h′) k ≡ at a′ k) × ((i : ℕ) → i < n → at b′ i ≡ at c′ i)
     half-is-square = (
       λ k l.
@@ -77,5 +77,5 @@ module _ (n : ℕ) (ls : List Observation) (h b : List ℤ) {r : Built} {h′ b�
     )
 
 pub same-refusals : (n : ℕ) (ls : List Observation) (h b a c : List ℤ) {r s : Built} {h′ b′ a′ c′ : List ℤ} → BuiltAs n ls Lower h b r h′ b′ → BuiltAs n ls Square a c s a′ c′ →
-    shortFor Lower h b ≡ shortFor Square a c → saidBuilt r ≡ saidBuilt s
+    shortFor Lower h b ≡ shortFor Square a c → buildCode r ≡ buildCode s
 same-refusals n ls h b a c f g e = f .says ∙ ap (buildAnswer n ls) e ∙ sym (g .says)

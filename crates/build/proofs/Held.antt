@@ -21,7 +21,7 @@ use Rattle.rules.proofs.Verdicts.{accepted-new, accepted-old}
 use Rattle.build_lines.specs.declared.Built.{Built}
 use Rattle.build_lines.specs.declared.Observation.{Observation}
 use Rattle.build_lines.specs.Distinct.{builtMatrix, builtRight}
-use Rattle.build_lines.specs.Order.{saidBuilt, buildAnswer}
+use Rattle.build_lines.specs.Order.{buildCode, buildAnswer}
 use Rattle.integer.specs.Among.{Among}
 use Rattle.linear.proofs.Written.{front-at, front-else, written-ext}
 use Rattle.build_lines.specs.Stated.{Admitted, Buildable}
@@ -38,12 +38,12 @@ use Rattle.build.specs.BuiltAs.{shortFor, BuiltAs}
 use Rattle.build.specs.Held.{HeldSquare}
 
 module _ (n : ℕ) (ls : List Observation) (layout : Layout) (a b : List ℤ) {r : Built} {a′ b′ : List ℤ} (built : BuiltAs n ls layout a b r a′ b′) where
-  pub untouched : {k : ℕ} {ks : List ℕ} → saidBuilt r ≡ k ∷ ks → (a′ ≡ a) × (b′ ≡ b)
+  pub untouched : {k : ℕ} {ks : List ℕ} → buildCode r ≡ k ∷ ks → (a′ ≡ a) × (b′ ≡ b)
   untouched e =
       let s = sym (built .says) ∙ e in
       (built .matrix ∙ accepted-old (matrixWritten layout n (builtMatrix ls) a) a s, built .right ∙ accepted-old (rightWritten n (builtRight ls) b) b s)
 
-  module _ (done : saidBuilt r ≡ []) where
+  module _ (done : buildCode r ≡ []) where
     silent : buildAnswer n ls (shortFor layout a b) ≡ []
     silent = sym (built .says) ∙ done
 
@@ -81,7 +81,7 @@ module _ (n : ℕ) (ls : List Observation) (layout : Layout) (a b : List ℤ) {r
         place : (p : ℕ) → p < n * n → at A p ≡ builtMatrix ls (p / n) (p % n)
         place p m = ap (at A) (sym (div-add-mod' p n)) ∙ h (p / n) (p % n) (div-lt-iff-lt-mul (some p m) .1 m) (mod-lt p (some p m))
 
-module _ (n : ℕ) (ls : List Observation) (a b : List ℤ) {r : Built} {a′ b′ : List ℤ} (built : BuiltAs n ls Square a b r a′ b′) (done : saidBuilt r ≡ []) where
+module _ (n : ℕ) (ls : List Observation) (a b : List ℤ) {r : Built} {a′ b′ : List ℤ} (built : BuiltAs n ls Square a b r a′ b′) (done : buildCode r ≡ []) where
   pub held : HeldSquare n ls a b a′ b′
   held =
       let few = few-rows n ls Square a b built done in
@@ -97,7 +97,7 @@ module _ (n : ℕ) (ls : List Observation) (a b : List ℤ) {r : Built} {a′ b�
   in-check-ranges = (matrix-in-check-range n ls Square a b built done a′ (held .matrix), right-in-check-range n ls Square a b built done)
 
 pub repeated-built : (n : ℕ) (l : Observation) (xs ys : List Observation) (layout : Layout) (a b : List ℤ) {r s : Built} {a′ b′ a″ b″ : List ℤ} →
-    BuiltAs n (xs ++ ys) layout a b r a′ b′ → saidBuilt r ≡ [] → Among l (xs ++ ys) → length (xs ++ l ∷ ys) ≤ 256 → BuiltAs n (xs ++ l ∷ ys) layout a b s a″ b″ → (saidBuilt s ≡ []) × (a″ ≡ a′) × (b″ ≡ b′)
+    BuiltAs n (xs ++ ys) layout a b r a′ b′ → buildCode r ≡ [] → Among l (xs ++ ys) → length (xs ++ l ∷ ys) ≤ 256 → BuiltAs n (xs ++ l ∷ ys) layout a b s a″ b″ → (buildCode s ≡ []) × (a″ ≡ a′) × (b″ ≡ b′)
 repeated-built n l xs ys layout a b f done i few g =
     let same = repeated-builds n (shortFor layout a b) l xs ys (sym (f .says) ∙ done) i few in
     let again = g .says ∙ same .builds in (

@@ -16,7 +16,7 @@ use Rattle.half_fill.specs.Half.{shortHalf}
 use Rattle.build_lines.specs.declared.Built.{Built}
 use Rattle.build_lines.specs.declared.Observation.{Observation}
 use Rattle.build_lines.specs.Distinct.{builtMatrix, builtRight}
-use Rattle.build_lines.specs.Order.{saidBuilt, buildAnswer}
+use Rattle.build_lines.specs.Order.{buildCode, buildAnswer}
 use Rattle.build_equations.specs.declared.Layout.{Layout}
 use Rattle.build_equations.specs.declared.Layout.the-variants.{Square, Lower}
 use Rattle.build_equations.specs.Written.{matrixWritten, rightWritten}
@@ -31,6 +31,6 @@ shortFor layout a b = shortAs layout (length a) || shortColumn (length b)
 
 -- 02, Paper 3: "The builder takes a list of field lines, at most 256, and fills matrix and right side from zero."
 pub record BuiltAs (n : ℕ) (ls : List Observation) (layout : Layout) (a b : List ℤ) (r : Built) (a′ b′ : List ℤ) : Type 0 where
-  pub says : saidBuilt r ≡ buildAnswer n ls (shortFor layout a b)
+  pub says : buildCode r ≡ buildAnswer n ls (shortFor layout a b)
   pub matrix : a′ ≡ ifAccepted (buildAnswer n ls (shortFor layout a b)) (matrixWritten layout n (builtMatrix ls) a) a
   pub right : b′ ≡ ifAccepted (buildAnswer n ls (shortFor layout a b)) (rightWritten n (builtRight ls) b) b

@@ -18,7 +18,7 @@ use Rattle.build_lines.specs.declared.Built.the-variants.{Done}
 use Rattle.build_gathering.specs.declared.Gathered.{Gathered}
 use Rattle.build_lines.specs.declared.Observation.{Observation}
 use Rattle.build_lines.specs.Line.{hasKey}
-use Rattle.build_lines.specs.Order.{saidBuilt, observationSays}
+use Rattle.build_lines.specs.Order.{buildCode, observationSays}
 use Rattle.build_gathering.specs.Gathered.{places, withLine, together, counted, refusedAs, kept, added, keptAt, keptSum}
 use Rattle.integer.specs.Among.{Among, here, there}
 use Rattle.build_lines.specs.Stated.{Passes}
@@ -46,7 +46,7 @@ pub record Follows (n : ℕ) (es : List Observation) (g : Gathered) : Type 0 whe
   pub good : (e : Observation) → Among e es → Passes n e
 
 pub data LineStep (n : ℕ) (es : List Observation) (g : Gathered) (l : Observation) : Type 0 where
-  refused : (t : Built) (k : ℕ) (ks : List ℕ) → saidBuilt t ≡ k ∷ ks → added g l ≡ refusedAs (counted g) t → observationSays n es l ≡ saidBuilt t → LineStep n es g l
+  refused : (t : Built) (k : ℕ) (ks : List ℕ) → buildCode t ≡ k ∷ ks → added g l ≡ refusedAs (counted g) t → observationSays n es l ≡ buildCode t → LineStep n es g l
   passed : observationSays n es l ≡ [] → Follows n (l ∷ es) (added g l) → ((f : Observation → ℤ) → keptSum f (added g l) ≡ keptSum f g +ℤ share f es l) → added g l .progress .count ≤ suc (g .progress .count) → LineStep n es g l
 
 module _ (n : ℕ) (es : List Observation) (g : Gathered) (l : Observation) (fol : Follows n es g) (room : g .progress .count < 256) (early : g .progress .lines < 256) where

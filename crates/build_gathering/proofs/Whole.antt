@@ -23,7 +23,7 @@ use Rattle.build_lines.specs.declared.Built.the-variants.{Done, Refused}
 use Rattle.build_gathering.specs.declared.Gathered.{Gathered}
 use Rattle.build_lines.specs.declared.Observation.{Observation}
 use Rattle.build_lines.specs.Line.{noObservation}
-use Rattle.build_lines.specs.Order.{saidBuilt, observationsSay}
+use Rattle.build_lines.specs.Order.{buildCode, observationsSay}
 use Rattle.build_lines.specs.Refused.{refusedFrom}
 use Rattle.build_lines.specs.Distinct.{distinct, total}
 use Rattle.build_gathering.specs.Gathered.{counted, taken, added, lineNumberOf, gathered, few, openedAs, openingProgress, noLines, opened, keptAt, keptSum, Proper, ReadyWhenDone}
@@ -34,7 +34,7 @@ use Rattle.build_gathering.proofs.Follows.{Follows}
 use Rattle.build_gathering.proofs.Gathering.{folded, gathered-folded, old, GatheringAs, gathers}
 
 -- ---- the whole list
-still-at : (g : Gathered) (ls : List Observation) (k : ℕ) {j : ℕ} {js : List ℕ} → saidBuilt (g .progress .told) ≡ j ∷ js → gathered g ls k ≡ g
+still-at : (g : Gathered) (ls : List Observation) (k : ℕ) {j : ℕ} {js : List ℕ} → buildCode (g .progress .told) ≡ j ∷ js → gathered g ls k ≡ g
 unfolding gathered added
 still-at g ls zero e = refl
 still-at g ls (suc k) e = ap (λ (z : Gathered). added z (getD ls k noObservation)) (still-at g ls k e) ∙ old (g .progress .told) (taken (counted g) (getD ls k noObservation)) g e
@@ -75,11 +75,11 @@ module _ (n : ℕ) (ls : List Observation) where
   gatheredOf = gathered (opened n (length ls)) ls (few (length ls))
 
   pub record Whole : Type 0 where
-    pub says : saidBuilt (gatheredOf .progress .told) ≡ orElse (cond (inRange kind.Size (pos n) && leb (length ls) 256) [] (3 ∷ [])) (observationsSay n [] ls)
+    pub says : buildCode (gatheredOf .progress .told) ≡ orElse (cond (inRange kind.Size (pos n) && leb (length ls) 256) [] (3 ∷ [])) (observationsSay n [] ls)
     pub line : lineNumberOf gatheredOf ≡ ifAccepted (cond (inRange kind.Size (pos n) && leb (length ls) 256) [] (3 ∷ [])) (refusedFrom n 0 [] ls) 0
     pub size : gatheredOf .progress .n ≡ n
     pub sound : ReadyWhenDone gatheredOf
-    pub sums : saidBuilt (gatheredOf .progress .told) ≡ [] → (f : Observation → ℤ) → keptSum f gatheredOf ≡ total f (distinct ls)
+    pub sums : buildCode (gatheredOf .progress .told) ≡ [] → (f : Observation → ℤ) → keptSum f gatheredOf ≡ total f (distinct ls)
 
   pub whole : Whole
   whole = go (inRange kind.Size (pos n) && leb (length ls) 256) refl
@@ -90,13 +90,13 @@ module _ (n : ℕ) (ls : List Observation) where
       go : (c : Bool) → inRange kind.Size (pos n) && leb (length ls) 256 ≡ c → Whole
       go false e =
           let t = refusal false e in
-          let r : gatheredOf ≡ opened n (length ls) = still-at (opened n (length ls)) ls (few (length ls)) (ap saidBuilt t) in
-          let s : saidBuilt (gatheredOf .progress .told) ≡ 3 ∷ [] = ap (λ (z : Gathered). saidBuilt (z .progress .told)) r ∙ ap saidBuilt t in
+          let r : gatheredOf ≡ opened n (length ls) = still-at (opened n (length ls)) ls (few (length ls)) (ap buildCode t) in
+          let s : buildCode (gatheredOf .progress .told) ≡ 3 ∷ [] = ap (λ (z : Gathered). buildCode (z .progress .told)) r ∙ ap buildCode t in
           record {
             says = s ∙ sym (rw e);
             line = ap lineNumberOf r ∙ (unfold openingProgress openedAs in rw e);
             size = ap (λ (z : Gathered). z .progress .n) r ∙ (unfold openingProgress in refl);
-            sound = record { ready = λ d. absurd (nothing-is-not (sym s ∙ ap saidBuilt d)) };
+            sound = record { ready = λ d. absurd (nothing-is-not (sym s ∙ ap buildCode d)) };
             sums = λ d. absurd (nothing-is-not (sym s ∙ d));
           }
       go true e =
@@ -112,7 +112,7 @@ module _ (n : ℕ) (ls : List Observation) where
             size = w .size;
             sound = record {
               ready = λ d.
-                  let q = ap saidBuilt d in
+                  let q = ap buildCode d in
                   record {
                     some = rw (w .size) (z .0);
                     size = rw (w .size) (z .1);

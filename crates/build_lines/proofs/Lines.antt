@@ -1,7 +1,7 @@
 -- When a list builds, and at which line it does not.
 --   After n earlier ls — the lines ls are good and agree with the lines before them and with each other
---   after-of, nothing-said — nothing is said of ls exactly then
---   usable, usable-said — nothing is said before any line exactly where all can be used
+--   after-of, without-code — nothing is said of ls exactly then
+--   usable, usable-code — nothing is said before any line exactly where all can be used
 --   builds-fits, fits-builds — a list builds exactly where it is usable and fits
 use mathlib.Core.Path.{_≡_, refl, sym, ap, _∙_}
 use mathlib.Core.Bool.{Bool, false, not}
@@ -10,7 +10,7 @@ use Prim.Native.Nat.{ℕ}
 use borrow.Author.Tests.{not-false, eqb-false, ne-eqb, ltb-false, le-ltb}
 use lib.ListN.{length}
 use Rattle.rules.specs.Order.{verdict}
-use Rattle.rules.proofs.Tests.{none-said, silent}
+use Rattle.rules.proofs.Tests.{no-code, silent}
 use Rattle.rules.proofs.Verdicts.{else-none}
 use Rattle.build_lines.specs.declared.Observation.{Observation}
 use Rattle.build_lines.specs.Line.{clashes}
@@ -27,7 +27,7 @@ pub record After (n : ℕ) (earlier ls : List Observation) : Type 0 where
 -- one line
 pub good-line : (n : ℕ) (earlier : List Observation) (l : Observation) → observationSays n earlier l ≡ [] → Passes n l × (clashes earlier l ≡ false)
 good-line n earlier l e =
-    let t = none-said (observationOrder n earlier l) [] refl e in
+    let t = no-code (observationOrder n earlier l) [] refl e in
     (record { inside = t .0; apart = eqb-false (l .«from») (l .to) (t .1 .0) }, t .1 .1 .0)
 
 pub line-good : (n : ℕ) (earlier : List Observation) (l : Observation) → Passes n l → clashes earlier l ≡ false → observationSays n earlier l ≡ []
@@ -59,12 +59,12 @@ after-of n earlier (l ∷ ls) e = go (good-line n earlier l (else-none _ _ e .0)
         one x y (there i) here k = sym (r .apart y x here i (sym k))
         one x y (there i) (there j) k = r .one x y i j k
 
-pub nothing-said : (n : ℕ) (earlier ls : List Observation) → After n earlier ls → observationsSay n earlier ls ≡ []
+pub without-code : (n : ℕ) (earlier ls : List Observation) → After n earlier ls → observationsSay n earlier ls ≡ []
 unfolding observationsSay
-nothing-said n earlier [] r = refl
-nothing-said n earlier (l ∷ ls) r =
+without-code n earlier [] r = refl
+without-code n earlier (l ∷ ls) r =
     rw (line-good n earlier l (r .good l here) (clash-free earlier l (λ e i k. r .apart e l i here k)))
-    (nothing-said n (l ∷ earlier) ls (record {
+    (without-code n (l ∷ earlier) ls (record {
       good = λ m i. r .good m (there i);
       apart = apart;
       one = λ x y i j k. r .one x y (there i) (there j) k;
@@ -78,17 +78,17 @@ pub lines-fit : (n : ℕ) (ls : List Observation) → observationsSay n [] ls �
 lines-fit n ls e = let r = after-of n [] ls e in record { good = r .good; one = r .one }
 
 pub fit-lines : (n : ℕ) (ls : List Observation) → Buildable n ls → observationsSay n [] ls ≡ []
-fit-lines n ls f = nothing-said n [] ls (record { good = f .good; apart = λ e l i j k. nobody i; one = f .one })
+fit-lines n ls f = without-code n [] ls (record { good = f .good; apart = λ e l i j k. nobody i; one = f .one })
 
 -- ---- before any line
 module _ (n k : ℕ) (short : Bool) where
   pub usable : verdict (openOrder n k short) ≡ [] → Admitted n k short
   usable e =
-      let t = none-said (openOrder n k short) [] refl e in
+      let t = no-code (openOrder n k short) [] refl e in
       record { long = t .0; size = not-false _ (t .1 .0); few = ltb-false 256 k (t .1 .1 .0) }
 
-  usable-said : Admitted n k short → verdict (openOrder n k short) ≡ []
-  usable-said u = silent (openOrder n k short) (u .long, (ap not (u .size), (le-ltb 256 k (u .few), tt)))
+  usable-code : Admitted n k short → verdict (openOrder n k short) ≡ []
+  usable-code u = silent (openOrder n k short) (u .long, (ap not (u .size), (le-ltb 256 k (u .few), tt)))
 
 -- ---- the whole
 module _ (n : ℕ) (ls : List Observation) (short : Bool) where
@@ -100,7 +100,7 @@ module _ (n : ℕ) (ls : List Observation) (short : Bool) where
 
   pub usable-answer : Admitted n (length ls) short → buildAnswer n ls short ≡ observationsSay n [] ls
   unfolding buildAnswer
-  usable-answer u = rw (usable-said n (length ls) short u)
+  usable-answer u = rw (usable-code n (length ls) short u)
 
   pub fits-builds : Admitted n (length ls) short → Buildable n ls → buildAnswer n ls short ≡ []
   fits-builds u f = usable-answer u ∙ fit-lines n ls f

@@ -28,7 +28,7 @@ pub record Stopped (n k : ℕ) (es ls : List Observation) : Type 0 where
   pub parts : ls ≡ before ++ (line ∷ after)
   pub place : refusedFrom n k es ls ≡ k + suc (length before)
   pub quiet : observationsSay n es before ≡ []
-  pub said : observationSays n (past before es) line ≡ observationsSay n es ls
+  pub code : observationSays n (past before es) line ≡ observationsSay n es ls
 
 quiet-next : (n : ℕ) (es : List Observation) (l : Observation) (ls : List Observation) → observationSays n es l ≡ [] → observationsSay n (l ∷ es) ls ≡ [] → observationsSay n es (l ∷ ls) ≡ []
 unfolding observationsSay
@@ -51,12 +51,12 @@ stopped n k es (l ∷ ls) {j} {js} e = go (observationSays n es l) refl (stopped
           parts = ap (λ (z : List Observation). l ∷ z) (s .parts);
           place = later ∙ s .place ∙ omega arith;
           quiet = quiet-next n es l (s .before) a (s .quiet);
-          said = s .said ∙ sym next;
+          code = s .code ∙ sym next;
         }
     go (m ∷ ws) a rest =
         let here : observationsSay n es (l ∷ ls) ≡ m ∷ ws = rw a in
         let own : refusedFrom n k es (l ∷ ls) ≡ k + 1 = rw a in
-        record { before = []; line = l; after = ls; parts = refl; place = own ∙ omega arith; quiet = refl; said = a ∙ sym here }
+        record { before = []; line = l; after = ls; parts = refl; place = own ∙ omega arith; quiet = refl; code = a ∙ sym here }
 
 pub none-refused : (n k : ℕ) (es ls : List Observation) → observationsSay n es ls ≡ [] → refusedFrom n k es ls ≡ 0
 unfolding observationsSay refusedFrom
@@ -99,7 +99,7 @@ module _ (n : ℕ) (ls : List Observation) (short : Bool) where
           let s = stopped n 0 [] ls b in
           let here : buildLine n ls short ≡ refusedFrom n 0 [] ls = rw a in
           let says : buildAnswer n ls short ≡ observationsSay n [] ls = rw a in
-          record { stop = s; line-is = here ∙ s .place ∙ omega arith; answer = says ∙ sym (s .said) }
+          record { stop = s; line-is = here ∙ s .place ∙ omega arith; answer = says ∙ sym (s .code) }
 
       go : (r : List ℕ) → verdict (openOrder n (length ls) short) ≡ r → First
       go [] a = lines a (observationsSay n [] ls) refl

@@ -1,6 +1,6 @@
 -- Each refusal is said exactly where its stated case holds (specs/Stated).
 --   stated  — what is said has its stated case
---   said-of — what has its stated case is said
+--   code-of — what has its stated case is said
 use mathlib.Core.Path.{_≡_, refl, sym, ap, subst, _∙_}
 use mathlib.Core.Bool.{Bool, true, false}
 use mathlib.Core.List.{List, [], _∷_, _++_}
@@ -22,17 +22,17 @@ use Rattle.build_lines.proofs.Lines.{lines-fit, fit-lines, usable-answe
 use Rattle.build_lines.proofs.Firsts.{onto, onto-cases, onto-front, skip-lines, First, first-line, clash-line}
 
 module _ (n : ℕ) (ls : List Observation) (short : Bool) where
-  short-said : short ≡ true → buildAnswer n ls short ≡ 8 ∷ []
+  short-code : short ≡ true → buildAnswer n ls short ≡ 8 ∷ []
   unfolding buildAnswer
-  short-said p = rw p
+  short-code p = rw p
 
-  size-said : short ≡ false → inRange kind.Size (pos n) ≡ false → buildAnswer n ls short ≡ 3 ∷ []
+  size-code : short ≡ false → inRange kind.Size (pos n) ≡ false → buildAnswer n ls short ≡ 3 ∷ []
   unfolding buildAnswer
-  size-said p q = rw (p, q)
+  size-code p q = rw (p, q)
 
-  many-said : short ≡ false → inRange kind.Size (pos n) ≡ true → ltb 256 (length ls) ≡ true → buildAnswer n ls short ≡ 3 ∷ []
+  many-code : short ≡ false → inRange kind.Size (pos n) ≡ true → ltb 256 (length ls) ≡ true → buildAnswer n ls short ≡ 3 ∷ []
   unfolding buildAnswer
-  many-said p q r = rw (p, q, r)
+  many-code p q r = rw (p, q, r)
 
   -- ---- what is said has its stated case
   at-line : Admitted n (length ls) short → (o s c : Bool) (f : First n [] ls) → outsideRange n (f .line) ≡ o → sameMark (f .line) ≡ s → clashes (onto (f .before) []) (f .line) ≡ c →
@@ -55,9 +55,9 @@ module _ (n : ℕ) (ls : List Observation) (short : Bool) where
       lines u (k ∷ ks) e = let f = first-line n [] ls e in at-line u _ _ _ f refl refl refl e
 
       go : (x : Bool) → short ≡ x → (y : Bool) → inRange kind.Size (pos n) ≡ y → (z : Bool) → ltb 256 (length ls) ≡ z → BuildStated n ls short (buildAnswer n ls short)
-      go true p y q z r = subst (BuildStated n ls short) (sym (short-said p)) (too-short p)
-      go false p false q z r = subst (BuildStated n ls short) (sym (size-said p q)) (size-outside p q)
-      go false p true q true r = subst (BuildStated n ls short) (sym (many-said p q r)) (too-many p q (ltb-true 256 (length ls) r))
+      go true p y q z r = subst (BuildStated n ls short) (sym (short-code p)) (too-short p)
+      go false p false q z r = subst (BuildStated n ls short) (sym (size-code p q)) (size-outside p q)
+      go false p true q true r = subst (BuildStated n ls short) (sym (many-code p q r)) (too-many p q (ltb-true 256 (length ls) r))
       go false p true q false r =
           let u : Admitted n (length ls) short = record { long = p; size = q; few = ltb-false 256 (length ls) r } in
           subst (BuildStated n ls short) (sym (usable-answer n ls short u)) (lines u (observationsSay n [] ls) refl)
@@ -67,12 +67,12 @@ module _ (n : ℕ) (ls : List Observation) (short : Bool) where
   unfolding observationsSay
   at xs ys l e f = ap (observationsSay n []) e ∙ skip-lines n [] xs (l ∷ ys) (fit-lines n xs f)
 
-  pub said-of : {w : List ℕ} → BuildStated n ls short w → buildAnswer n ls short ≡ w
-  said-of (too-short p) = short-said p
-  said-of (size-outside p q) = size-said p q
-  said-of (too-many p q r) = many-said p q (lt-ltb 256 (length ls) r)
-  said-of (line-outside u xs ys l e f o) = usable-answer n ls short u ∙ at xs ys l e f ∙ rw o
-  said-of (same-mark u xs ys l e f o s) = usable-answer n ls short u ∙ at xs ys l e f ∙ rw (o, eq-eqb (l .«from») (l .to) s)
-  said-of (other-contents u xs ys l m e f g i k h) =
+  pub code-of : {w : List ℕ} → BuildStated n ls short w → buildAnswer n ls short ≡ w
+  code-of (too-short p) = short-code p
+  code-of (size-outside p q) = size-code p q
+  code-of (too-many p q r) = many-code p q (lt-ltb 256 (length ls) r)
+  code-of (line-outside u xs ys l e f o) = usable-answer n ls short u ∙ at xs ys l e f ∙ rw o
+  code-of (same-mark u xs ys l e f o s) = usable-answer n ls short u ∙ at xs ys l e f ∙ rw (o, eq-eqb (l .«from») (l .to) s)
+  code-of (other-contents u xs ys l m e f g i k h) =
       usable-answer n ls short u ∙ at xs ys l e f ∙ rw (g .inside, ne-eqb (l .«from») (l .to) (g .apart), clash-here (onto xs []) l m (onto-front xs [] i) k h)
-  said-of (builds u f) = fits-builds n ls short u f
+  code-of (builds u f) = fits-builds n ls short u f

@@ -1,5 +1,5 @@
 -- What is said of a list of field lines (document 02, Paper 3): 8, 3 for n, 3 for a list above 256, then line by line 3, 16, 17.
---   saidBuilt b — what an answer says, in the documents' numbers; nothing where the equations are built
+--   buildCode b — what an answer says, in the documents' numbers; nothing where the equations are built
 --   observationOrder n earlier l — the tests of the line l after the lines `earlier`;  observationSays — what is said of it
 --   observationsSay n earlier ls — what is said of the lines ls, in order: the first refusal ends it
 --   openOrder n k short — the tests before any line: n, the count k of lines, and whether a lent list is too short, which depends on the layout (build/specs/BuiltAs)
@@ -19,11 +19,11 @@ use Rattle.build_lines.specs.declared.Built.the-variants.{Done, Refused,
 use Rattle.build_lines.specs.declared.Observation.{Observation}
 use Rattle.build_lines.specs.Line.{outsideRange, sameMark, clashes}
 
-abbrev pub saidBuilt : Built → List ℕ
-saidBuilt Done = []
-saidBuilt (Refused r) = numberOf r ∷ valuesOf r
-saidBuilt SameMark = 16 ∷ []
-saidBuilt OtherContents = 17 ∷ []
+abbrev pub buildCode : Built → List ℕ
+buildCode Done = []
+buildCode (Refused r) = numberOf r ∷ valuesOf r
+buildCode SameMark = 16 ∷ []
+buildCode OtherContents = 17 ∷ []
 
 -- 02: "For each line: 3 for ranges, then new 16, from equals to, then new 17, a key met before with other contents."
 abbrev pub observationOrder : ℕ → List Observation → Observation → List Test

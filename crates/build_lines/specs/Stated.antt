@@ -2,7 +2,7 @@
 --   Passes n l — every number of l is in its range, and from is not to
 --   Buildable n ls — a list that builds: every line passes, and lines with one key are equal
 --   Admitted n k short — the lent lists are long enough, n is in its range and there are at most 256 lines: neither 8 nor 3 before any line
---   BuildStated n ls short said — the case that is stated for what is said, `short` being whether a lent list is too short; the line of 3, 16 and 17 is the first that does not pass or has a key met with other contents
+--   BuildStated n ls short code — the case that is stated for what is said, `short` being whether a lent list is too short; the line of 3, 16 and 17 is the first that does not pass or has a key met with other contents
 use mathlib.Core.Bool.{Bool, true, false}
 use mathlib.Core.List.{List, [], _∷_, _++_}
 use mathlib.Core.Path.{_≡_}

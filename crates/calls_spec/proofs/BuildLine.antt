@@ -8,7 +8,7 @@ use Prim.Native.Nat.{ℕ, zero, suc}
 use native.Mathlib.Omega.{arith}
 use lib.IntN.{ℤ}
 use lib.ListN.{getD, length}
-use Rattle.rules.proofs.Tests.{without, none-said, silent}
+use Rattle.rules.proofs.Tests.{without, no-code, silent}
 use Rattle.rules.proofs.Verdicts.{nothing-is-not}
 use Rattle.build_lines.specs.declared.Observation.{Observation}
 use Rattle.build_lines.specs.Order.{observationOrder, observationSays, observationsSay}
@@ -16,7 +16,7 @@ use Rattle.build_lines.proofs.Refused.{past, First, line-silent, line-stopped}
 use Rattle.build_equations.specs.declared.Layout.{Layout}
 use Rattle.build.specs.BuiltAs.{shortFor}
 use Rattle.calls_spec.specs.Build.{BuildLineExported}
-use Rattle.calls_spec.proofs.Build.{build-told, said-zero}
+use Rattle.calls_spec.proofs.Build.{build-told, code-zero}
 
 pub record FirstRefusedLine (n : ℕ) (ls : List Observation) (line number : ℕ) : Type 0 where
   pub before : List Observation
@@ -35,7 +35,7 @@ line-not-8 n es l e = go (observationSays n es l) refl
     go [] a = let z : _≡_ {A = ℕ} 0 8 = sym (ap (λ (w : List ℕ). getD w 0 0) a) ∙ e in omega (arith, z)
     go (k ∷ ks) a =
         let z : k ≡ 8 = sym (ap (λ (w : List ℕ). getD w 0 0) a) ∙ e in
-        nothing-is-not (sym a ∙ silent (observationOrder n es l) (none-said (observationOrder n es l) (k ∷ ks) (subst (λ (j : ℕ). without j (observationOrder n es l) ≡ true) (sym z) refl) a))
+        nothing-is-not (sym a ∙ silent (observationOrder n es l) (no-code (observationOrder n es l) (k ∷ ks) (subst (λ (j : ℕ). without j (observationOrder n es l) ≡ true) (sym z) refl) a))
 
 module _ {n : ℕ} {ls : List Observation} {layout : Layout} {a b : List ℤ} {number : ℕ} {a′ b′ : List ℤ} {line : ℕ} (x : BuildLineExported n ls layout a b number a′ b′ line) where
   pub build-line-first : {j : ℕ} → line ≡ suc j → FirstRefusedLine n ls line number
@@ -52,7 +52,7 @@ module _ {n : ℕ} {ls : List Observation} {layout : Layout} {a b : List ℤ} {n
       }
 
   pub build-line-zero : number ≡ 0 → line ≡ 0
-  build-line-zero e = x .line-is ∙ line-silent n ls (shortFor layout a b) (sym (x .exported .built .says) ∙ said-zero (x .exported) e)
+  build-line-zero e = x .line-is ∙ line-silent n ls (shortFor layout a b) (sym (x .exported .built .says) ∙ code-zero (x .exported) e)
 
   pub build-line-short : number ≡ 8 → line ≡ 0
   build-line-short e = go line refl

@@ -12,19 +12,19 @@ use Rattle.rules.specs.declared.Outcome.the-variants as outcome
 use Rattle.rules.proofs.Verdicts.{accepted-new, accepted-old}
 use Rattle.convert_spec.specs.declared.Converted.{Converted}
 use Rattle.convert_spec.specs.declared.Converted.the-variants.{Length, Refused, NotConvertible}
-use Rattle.convert_spec.specs.Converted.{saidConverted, convertAnswer}
+use Rattle.convert_spec.specs.Converted.{convertCode, convertAnswer}
 use Rattle.convert_spec.specs.File.{newFile}
 use Rattle.calls_spec.specs.Conversion.{ConvertExported}
 use Rattle.reply.specs.Told.{Told}
-use Rattle.calls_spec.proofs.Meaning.{zero-said}
+use Rattle.calls_spec.proofs.Meaning.{zero-code}
 
-zero-converted : (r : Converted) → getD (saidConverted r) 0 0 ≡ 0 → saidConverted r ≡ []
+zero-converted : (r : Converted) → getD (convertCode r) 0 0 ≡ 0 → convertCode r ≡ []
 zero-converted (Length n) e = refl
-zero-converted (Refused x) e = zero-said (outcome.Refused x) e
+zero-converted (Refused x) e = zero-code (outcome.Refused x) e
 zero-converted NotConvertible e = absurd (omega arith)
 
 pub record Exported (file old new : List ℕ) (written : ℕ) : Type 0 where
-  pub said : convertAnswer file (length old) ≡ []
+  pub code : convertAnswer file (length old) ≡ []
   pub bytes : new ≡ newFile file ++ drop (length (newFile file)) old
   pub size : written ≡ length (newFile file)
 
@@ -41,10 +41,10 @@ module _ {file old : List ℕ} {w₀ number : ℕ} {places new : List ℕ} {w : 
 
   pub convert-zero : number ≡ 0 → Exported file old new w
   convert-zero e =
-      let s : saidConverted (x .answer) ≡ [] = zero-converted (x .answer) (sym (x .told .number-is) ∙ e) in
+      let s : convertCode (x .answer) ≡ [] = zero-converted (x .answer) (sym (x .told .number-is) ∙ e) in
       let a : convertAnswer file (length old) ≡ [] = sym (x .converted .says) ∙ s in
       record {
-        said = a;
+        code = a;
         bytes = x .converted .bytes ∙ accepted-new _ _ a;
         size = x .written-is ∙ accepted-new _ _ s ∙ x .converted .size ∙ accepted-new _ _ a;
       }

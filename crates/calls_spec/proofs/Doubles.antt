@@ -21,29 +21,29 @@ use Rattle.check_spec.specs.Input.{Input, problem}
 use Rattle.doubles_guess.specs.Guess.{Nearest}
 use Rattle.doubles_guess.specs.Units.{Double}
 use Rattle.doubles_interval.specs.Interval.{Outward}
-use Rattle.rules.specs.Refusal.{said}
+use Rattle.rules.specs.Refusal.{code}
 use Rattle.doubles_lists.specs.Lists.{doubleAt}
-use Rattle.doubles_lists.specs.Inward.{saidGuessed, Incoming, inwardAnswer}
+use Rattle.doubles_lists.specs.Inward.{guessesCode, Incoming, inwardAnswer}
 use Rattle.doubles_lists.specs.Outward.{Outgoing, outgoing, endsIn, outwardAnswer}
 use Rattle.doubles_lists.specs.Hands.{AllBetween}
 use Rattle.doubles_lists.proofs.Enclosed.{checked-between}
 use Rattle.doubles_lists.proofs.Inward.{zero-accepted}
 use Rattle.dependent_spec.specs.Nets.{Nets}
-use Rattle.dependent_spec.specs.Order.{saidNets}
+use Rattle.dependent_spec.specs.Order.{netsCode}
 use Rattle.dependent_outward.specs.Heights.{mainOutgoing, dependentOutgoing, NoPairRefused, BetweenBoth}
 use Rattle.dependent_outward.proofs.Heights.{both-taken, both-between}
 use Rattle.reply.specs.Told.{Told}
 use Rattle.calls_spec.specs.Exported.{CheckExported}
 use Rattle.calls_spec.specs.TwoNets.{DependentExported}
 use Rattle.calls_spec.specs.Doubles.{GuessesExported, IntervalsExported}
-use Rattle.calls_spec.proofs.Meaning.{zero-said}
+use Rattle.calls_spec.proofs.Meaning.{zero-code}
 use Rattle.calls_spec.proofs.TwoNets.{together-zero}
 
 module _ {I : Incoming} {number : ℕ} {places : List ℕ} {guess : List ℤ} (x : GuessesExported I number places guess) where
   pub guesses-told : Told (inwardAnswer I) number places
   guesses-told = rw (x .guessed .says) at (x .told)
 
-  zero-guessed : number ≡ 0 → saidGuessed (x .answer) ≡ []
+  zero-guessed : number ≡ 0 → guessesCode (x .answer) ≡ []
   zero-guessed e = x .guessed .says ∙ zero-accepted I (sym (guesses-told .number-is) ∙ e)
 
   pub zero-doubles : number ≡ 0 → (i : ℕ) → i < I .n → Double (doubleAt (I .values) i)
@@ -56,8 +56,8 @@ module _ {I : Outgoing} {number : ℕ} {places : List ℕ} {low high : List Floa
   pub ends-told : Told (outwardAnswer I) number places
   ends-told = rw (x .ends .says) at (x .told)
 
-  pub zero-ends : number ≡ 0 → said (x .outcome) ≡ []
-  zero-ends e = zero-said (x .outcome) (sym (x .told .number-is) ∙ e)
+  pub zero-ends : number ≡ 0 → code (x .outcome) ≡ []
+  zero-ends e = zero-code (x .outcome) (sym (x .told .number-is) ∙ e)
 
   pub zero-outward : number ≡ 0 → (i : ℕ) → i < I .n → Outward (I .s) (at (I .guess) i) (getD (I .bounds) i 0) (endsIn low high i)
   zero-outward e = x .ends .outward (zero-ends e)
@@ -65,10 +65,10 @@ module _ {I : Outgoing} {number : ℕ} {places : List ℕ} {low high : List Floa
 module _ {J : Input} {number′ : ℕ} {places′ E L : List ℕ} (k : CheckExported J number′ places′ E L) {low₀ high₀ : List Float} {number : ℕ} {places : List ℕ} {low high : List Float}
     (x : IntervalsExported (outgoing (J .n) (J .s) (J .guess) E low₀ high₀) number places low high) where
   pub zero-between : number′ ≡ 0 → number ≡ 0 → (β : Vec) (ρ : ℕ) → RightSide (problem J) β ρ → (N : Vec) (q : ℕ) → ExactSolutionOf (problem J) β ρ N q → AllBetween (J .n) low high N q
-  zero-between e f = checked-between J (k .checked) (zero-said (k .outcome) (sym (k .told .number-is) ∙ e)) (x .ends) (zero-ends x f)
+  zero-between e f = checked-between J (k .checked) (zero-code (k .outcome) (sym (k .told .number-is) ∙ e)) (x .ends) (zero-ends x f)
 
 module _ {J : Nets} {number net : ℕ} {places E₁ L₁ E₂ L₂ : List ℕ} (k : DependentExported J number net places E₁ L₁ E₂ L₂) (e : number ≡ 0) where
-  accepted-nets : saidNets (k .answer) ≡ []
+  accepted-nets : netsCode (k .answer) ≡ []
   accepted-nets = k .checked .says ∙ together-zero k e
 
   pub nets-taken : NoPairRefused J E₁ E₂

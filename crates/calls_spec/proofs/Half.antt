@@ -8,7 +8,7 @@ use mathlib.Core.Path.{_≡_, refl, sym, ap, _∙_}
 use Prim.Native.Nat.{ℕ, _+_, _*_}
 use lib.ListN.{getD, length}
 use Rattle.linear.specs.Matrix.{Vec, Mat}
-use Rattle.rules.specs.Refusal.{said}
+use Rattle.rules.specs.Refusal.{code}
 use Rattle.enclosure.specs.Demand.{Encloses, RoundedExact}
 use Rattle.check_spec.specs.Input.{Input, problem, short, inRanges}
 use Rattle.half_fill.specs.Half.{shortHalf}
@@ -17,14 +17,14 @@ use Rattle.half_check.specs.Stated.{HalfStated}
 use Rattle.half_check.proofs.Promises.{half-stated, half-encloses, half-accepts}
 use Rattle.calls_spec.specs.Half.{HalfExported}
 use Rattle.reply.specs.Told.{Told}
-use Rattle.calls_spec.proofs.Meaning.{zero-said}
+use Rattle.calls_spec.proofs.Meaning.{zero-code}
 
 module _ {H : Input} {number : ℕ} {places E L : List ℕ} (x : HalfExported H number places E L) where
   pub half-number : (w : List ℕ) × (HalfStated H w × Told w number places)
-  half-number = (said (x .outcome), (half-stated H (x .outcome) E L (x .checked) .0 refl, x .told))
+  half-number = (code (x .outcome), (half-stated H (x .outcome) E L (x .checked) .0 refl, x .told))
 
-  pub half-zero : number ≡ 0 → said (x .outcome) ≡ []
-  half-zero e = zero-said (x .outcome) (sym (x .told .number-is) ∙ e)
+  pub half-zero : number ≡ 0 → code (x .outcome) ≡ []
+  half-zero e = zero-code (x .outcome) (sym (x .told .number-is) ∙ e)
 
   pub half-zero-encloses : number ≡ 0 → Encloses (problem (filledInput H)) (λ (i : ℕ). getD E i 0) (λ (i j : ℕ). getD L (i * H .n + j) 0)
   half-zero-encloses e = half-encloses H (x .outcome) E L (x .checked) (half-zero e)

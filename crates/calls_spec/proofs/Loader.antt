@@ -30,7 +30,7 @@ use Rattle.loader_numbers.proofs.Taken.{numbers-next, numbers-refused, lists-re
 use Rattle.loader_runs.specs.Run.{State, step}
 use Rattle.reply.specs.Told.{Told}
 use Rattle.calls_spec.specs.Loader.{LoaderTakeExported, LoaderCheckExported}
-use Rattle.calls_spec.proofs.Meaning.{zero-said}
+use Rattle.calls_spec.proofs.Meaning.{zero-code}
 
 abbrev pub stateWith : Loader → Lists → State
 stateWith d l = record { loader = d; lists = l }
@@ -42,9 +42,9 @@ head-first (k ∷ ks) = refl
 
 thirteen : (c : LineCase) → getD (verdict (lineOrder c)) 0 0 ≡ 13 → verdict (lineOrder c) ≡ 13 ∷ c .missing ∷ []
 thirteen c e =
-    let said = verdict (lineOrder c) in
-    let h : head said ≡ 13 = head-first said ∙ e in
-    go (c .incomplete) (skipped (take 9 (lineOrder c)) (drop 9 (lineOrder c)) said (ap (λ (k : ℕ). without k (take 9 (lineOrder c))) h) refl .1)
+    let code = verdict (lineOrder c) in
+    let h : head code ≡ 13 = head-first code ∙ e in
+    go (c .incomplete) (skipped (take 9 (lineOrder c)) (drop 9 (lineOrder c)) code (ap (λ (k : ℕ). without k (take 9 (lineOrder c))) h) refl .1)
   where
     go : (b : Bool) → cond b (13 ∷ c .missing ∷ []) [] ≡ verdict (lineOrder c) → verdict (lineOrder c) ≡ 13 ∷ c .missing ∷ []
     go true a = sym a
@@ -58,7 +58,7 @@ module _ {w line : List ℕ} {l : Lists} {number : ℕ} {places w′ : List ℕ}
   take-next = ap loaderOf (x .taken .numbers) ∙ numbers-next w l line
 
   pub take-zero : number ≡ 0 → lineAnswer (loaderOf w) l line ≡ []
-  take-zero e = sym (x .taken .says) ∙ zero-said (x .outcome) (sym (x .told .number-is) ∙ e)
+  take-zero e = sym (x .taken .says) ∙ zero-code (x .outcome) (sym (x .told .number-is) ∙ e)
 
   pub take-accepted : lineAnswer (loaderOf w) l line ≡ [] → number ≡ 0
   take-accepted e = take-told .number-is ∙ ap (λ (a : List ℕ). getD a 0 0) e
@@ -86,7 +86,7 @@ module _ {stage : Stage} {I : Input} {number : ℕ} {places E L : List ℕ} (x :
   check-told = rw (x .checked .says) at (x .told)
 
   pub check-encloses : number ≡ 0 → Encloses (problem I) (λ (i : ℕ). getD E i 0) (λ (i j : ℕ). getD L (i * I .n + j) 0)
-  check-encloses e = x .checked .encloses (zero-said (x .outcome) (sym (x .told .number-is) ∙ e))
+  check-encloses e = x .checked .encloses (zero-code (x .outcome) (sym (x .told .number-is) ∙ e))
 
   pub check-exact : (N : Vec) (q : ℕ) (H : Mat) (q′ : ℕ) → short I ≡ false → ended stage ≡ true → inRanges I ≡ true → RoundedExact (problem I) N q H q′ → number ≡ 0
   check-exact N q H q′ s d r h = x .told .number-is ∙ ap (λ (a : List ℕ). getD a 0 0) (x .checked .accepts N q H q′ s d r h)

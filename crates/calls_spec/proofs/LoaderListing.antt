@@ -43,20 +43,20 @@ module _ (d : Loader) (l m : Lists) (line : List ℕ) (same : shortLists l ≡ s
   loader-any = rw answer-any
 
 pub record ReadTo (k : ℕ) (u : State) (lines : List (List ℕ)) (d : Loader) : Type 0 where
-  pub said : readFrom k u lines .said ≡ []
+  pub code : readFrom k u lines .code ≡ []
   pub loader : readFrom k u lines .state .loader ≡ d
 
 pub read-any : (k : ℕ) (d : Loader) (l m : Lists) (lines : List (List ℕ)) → shortLists l ≡ false → shortLists m ≡ false → Accepts (stateWith d l) lines
     → ReadTo k (stateWith d m) lines (run (stateWith d l) lines .loader)
 unfolding run
-read-any k d l m [] hl hm a = record { said = rw (read-none k (stateWith d m)); loader = rw (read-none k (stateWith d m)) }
+read-any k d l m [] hl hm a = record { code = rw (read-none k (stateWith d m)); loader = rw (read-none k (stateWith d m)) }
 read-any k d l m (line ∷ lines) hl hm a =
     let e : lineAnswer d m line ≡ [] = sym (answer-any d l m line (hl ∙ sym hm)) ∙ a .0 in
     let rest : ReadTo (k + 1) (stateWith (loaderAfter d l line) (listsAfter d m line)) lines (run (step (stateWith d l) line) lines .loader) =
     read-any (k + 1) (loaderAfter d l line) (listsAfter d l line) (listsAfter d m line) lines (step-long (stateWith d l) line (a .0) hl) (step-long (stateWith d m) line e hm) (a .1) in
     let own : ReadTo (k + 1) (step (stateWith d m) line) lines (run (step (stateWith d l) line) lines .loader) =
     subst (λ (x : Loader). ReadTo (k + 1) (stateWith x (listsAfter d m line)) lines (run (step (stateWith d l) line) lines .loader)) (loader-any d l m line (hl ∙ sym hm)) rest in
-    record { said = rw (read-accepted k (stateWith d m) line lines e) (own .said); loader = rw (read-accepted k (stateWith d m) line lines e) (own .loader) }
+    record { code = rw (read-accepted k (stateWith d m) line lines e) (own .code); loader = rw (read-accepted k (stateWith d m) line lines e) (own .loader) }
 
 -- a refusal that gives its number alone stands with 0
 told-printed : (x : List ℕ) {number : ℕ} {places : List ℕ} → Told (printed 0 x) number places → Told x number places
@@ -71,7 +71,7 @@ module _ (l : Lists) (long : shortLists l ≡ false) (lines : List (List ℕ)) {
       let r : ReadTo 0 (fromNew zeros) (linesOf file) (run (fromNew l) (keptLines lines numbers) .loader) =
       subst (λ (ls : List (List ℕ)). ReadTo 0 (fromNew zeros) ls (run (fromNew l) (keptLines lines numbers) .loader)) (sym own)
       (read-any 0 fresh l zeros (keptLines lines numbers) long zeros-long (turns-kept t .accepts)) in
-      record { lines = r .said; end = ap (λ (d : Loader). ended (d .stage)) (r .loader ∙ sym (ap (λ (u : State). u .loader) (turns-kept t .state))) ∙ e }
+      record { lines = r .code; end = ap (λ (d : Loader). ended (d .stage)) (r .loader ∙ sym (ap (λ (u : State). u .loader) (turns-kept t .state))) ∙ e }
 
   pub turns-listing : (E L : List ℕ) → 32 ≤ length E → 1024 ≤ length L → {number : ℕ} {places E′ L′ : List ℕ}
       → LoaderCheckExported (loaderOf w′ .stage) (inputOf (stateWith (loaderOf w′) l′) E L) number places E′ L′

@@ -136,14 +136,14 @@ module _ (l : Lists) (long : shortLists l ≡ false) (lines : List (List ℕ)) {
 
 -- ---- 01's whole file
 module _ (l : Lists) (long : shortLists l ≡ false) {numbers w′ : List ℕ} {l′ : Lists} (t : Turns (loaderNumbers fresh) l (linesOf wholeFile) numbers w′ l′) where
-  whole-read : (readFrom 0 (fromNew l) (linesOf wholeFile) .said ≡ []) × (ended (readFrom 0 (fromNew l) (linesOf wholeFile) .state .loader .stage) ≡ true)
+  whole-read : (readFrom 0 (fromNew l) (linesOf wholeFile) .code ≡ []) × (ended (readFrom 0 (fromNew l) (linesOf wholeFile) .state .loader .stage) ≡ true)
   whole-read = rw whole-spelled (pass-all 0 (fromNew l) wholeForms long whole-passes)
 
   pub whole-turns : AllZero numbers × (ended (loaderOf w′ .stage) ≡ true)
   whole-turns =
-      let said = whole-read .0 in
-      let run-is : readFrom 0 (fromNew l) (linesOf wholeFile) .state ≡ stateWith (loaderOf w′) l′ = all-run 0 (fromNew l) (linesOf wholeFile) said ∙ sym (turns-run t) in
-      (turns-zero t (all-accepted 0 (fromNew l) (linesOf wholeFile) said), subst (λ (u : State). ended (u .loader .stage) ≡ true) run-is (whole-read .1))
+      let code = whole-read .0 in
+      let run-is : readFrom 0 (fromNew l) (linesOf wholeFile) .state ≡ stateWith (loaderOf w′) l′ = all-run 0 (fromNew l) (linesOf wholeFile) code ∙ sym (turns-run t) in
+      (turns-zero t (all-accepted 0 (fromNew l) (linesOf wholeFile) code), subst (λ (u : State). ended (u .loader .stage) ≡ true) run-is (whole-read .1))
 
   whole-quiet : checkedOf (problemFrom (forms (keptLines (linesOf wholeFile) numbers))) ≡ []
   whole-quiet = ap (λ (z : List (List ℕ)). checkedOf (problemFrom (forms z))) (zeros-kept t (whole-turns .0) ∙ whole-spelled) ∙ ap (λ fs. checkedOf (problemFrom fs)) (forms-spelled wholeForms) ∙ whole-checked

@@ -1,6 +1,6 @@
 -- The exported calls in 01's words.
 --   told-answer — the number and the values are those of 01's order of tests
---   zero-said   — the number 0 is said of nothing but acceptance
+--   zero-code   — the number 0 is said of nothing but acceptance
 --   zero-answer, zero-reported — of a listing the number 0 is said of an accepted file alone, and then the report stands there
 --   zero-encloses, exact-zero — both halves of demand 3: 0 gives limits that enclose; a rounded exact proposal gets 0
 --   reported-encloses, exact-reported — the same of a file
@@ -15,7 +15,7 @@ use native.Mathlib.Omega.{arith}
 use lib.IntN.{ℤ}
 use lib.ListN.{getD, take}
 use Rattle.linear.specs.Matrix.{Vec, Mat}
-use Rattle.rules.specs.Refusal.{said}
+use Rattle.rules.specs.Refusal.{code}
 use Rattle.rules.specs.declared.Outcome.{Outcome}
 use Rattle.rules.specs.declared.Outcome.the-variants.{Accepted, Refused}
 use Rattle.rules.specs.declared.Refusal.the-variants.{TooLong, NoForm, OutOfRange, WrongCount, Margin, Residual, InverseResidual, TooShort, TooEarly, Repeated, Missing, AfterEnd, NotEnded}
@@ -36,28 +36,28 @@ use Rattle.listing.proofs.Answers.{answer-zero}
 use Rattle.reply.specs.Told.{Told}
 use Rattle.calls_spec.specs.Exported.{CheckExported, ListingExported, EntryExported}
 
-pub zero-said : (o : Outcome) → getD (said o) 0 0 ≡ 0 → said o ≡ []
-zero-said Accepted e = refl
-zero-said (Refused TooLong) e = absurd (omega arith)
-zero-said (Refused NoForm) e = absurd (omega arith)
-zero-said (Refused OutOfRange) e = absurd (omega arith)
-zero-said (Refused WrongCount) e = absurd (omega arith)
-zero-said (Refused (Margin row)) e = absurd (omega arith)
-zero-said (Refused (Residual row)) e = absurd (omega arith)
-zero-said (Refused (InverseResidual column row)) e = absurd (omega arith)
-zero-said (Refused TooShort) e = absurd (omega arith)
-zero-said (Refused TooEarly) e = absurd (omega arith)
-zero-said (Refused Repeated) e = absurd (omega arith)
-zero-said (Refused (Missing count)) e = absurd (omega arith)
-zero-said (Refused AfterEnd) e = absurd (omega arith)
-zero-said (Refused NotEnded) e = absurd (omega arith)
+pub zero-code : (o : Outcome) → getD (code o) 0 0 ≡ 0 → code o ≡ []
+zero-code Accepted e = refl
+zero-code (Refused TooLong) e = absurd (omega arith)
+zero-code (Refused NoForm) e = absurd (omega arith)
+zero-code (Refused OutOfRange) e = absurd (omega arith)
+zero-code (Refused WrongCount) e = absurd (omega arith)
+zero-code (Refused (Margin row)) e = absurd (omega arith)
+zero-code (Refused (Residual row)) e = absurd (omega arith)
+zero-code (Refused (InverseResidual column row)) e = absurd (omega arith)
+zero-code (Refused TooShort) e = absurd (omega arith)
+zero-code (Refused TooEarly) e = absurd (omega arith)
+zero-code (Refused Repeated) e = absurd (omega arith)
+zero-code (Refused (Missing count)) e = absurd (omega arith)
+zero-code (Refused AfterEnd) e = absurd (omega arith)
+zero-code (Refused NotEnded) e = absurd (omega arith)
 
 module _ {I : Input} {number : ℕ} {places E L : List ℕ} (x : CheckExported I number places E L) where
   pub told-answer : Told (answer I) number places
   told-answer = rw (x .checked .says) at (x .told)
 
   pub zero-encloses : number ≡ 0 → Encloses (problem I) (λ (i : ℕ). getD E i 0) (λ (i j : ℕ). getD L (i * I .n + j) 0)
-  zero-encloses e = x .checked .encloses (zero-said (x .outcome) (sym (x .told .number-is) ∙ e))
+  zero-encloses e = x .checked .encloses (zero-code (x .outcome) (sym (x .told .number-is) ∙ e))
 
   pub zero-height : number ≡ 0 → OneHeight (problem I) (λ (i : ℕ). getD E i 0)
   zero-height e = one-height (problem I) (λ i. getD E i 0) (λ i j. getD L (i * I .n + j) 0) (zero-encloses e)
@@ -84,10 +84,10 @@ module _ {file old : List ℕ} {number : ℕ} {places new : List ℕ} {written :
 module _ {x : ℤ} {e s : ℕ} {v₀ : ℤ} {b₀ number : ℕ} {places : List ℕ} {v : ℤ} {b : ℕ} (y : EntryExported x e s v₀ b₀ number places v b) where
   pub entry-zero : entry.canEnter x s ≡ true → (number ≡ 0) × ((v ≡ entryValue s x) × (b ≡ entryBound s x e))
   entry-zero h =
-      let q : entry.saidEntry (y .answer) ≡ [] = y .registered .says ∙ rw h in
+      let q : entry.entryCode (y .answer) ≡ [] = y .registered .says ∙ rw h in
       (rw q at (y .told .number-is), (y .value-is ∙ accepted-new _ _ q, y .bound-is ∙ accepted-new _ _ q))
 
   pub entry-three : entry.canEnter x s ≡ false → (number ≡ 3) × ((v ≡ v₀) × (b ≡ b₀))
   entry-three h =
-      let q : entry.saidEntry (y .answer) ≡ 3 ∷ [] = y .registered .says ∙ rw h in
+      let q : entry.entryCode (y .answer) ≡ 3 ∷ [] = y .registered .says ∙ rw h in
       (rw q at (y .told .number-is), (y .value-is ∙ accepted-old _ _ q, y .bound-is ∙ accepted-old _ _ q))

@@ -14,7 +14,7 @@ use Rattle.enclosure.specs.Quality.{Factor}
 use Rattle.check_spec.specs.Input.{Input}
 use Rattle.check_spec.specs.Order.{answer}
 use Rattle.quality_spec.specs.Inquiry.{Inquiry, inquiry}
-use Rattle.quality_spec.specs.Answer.{saidQuality, qualityAnswer}
+use Rattle.quality_spec.specs.Answer.{qualityCode, qualityAnswer}
 use Rattle.quality_spec.proofs.Promises as promises
 use Rattle.reply.specs.Told.{Told}
 use Rattle.calls_spec.specs.Quality.{QualityExported}
@@ -23,19 +23,19 @@ module _ {Q : Inquiry} {oldA oldC number : ℕ} {places : List ℕ} {a c : ℕ} 
   pub quality-told : Told (qualityAnswer Q) number places
   quality-told = rw (x .holds .says) at (x .told)
 
-  said-zero : number ≡ 0 → saidQuality (x .answer) ≡ []
-  said-zero e = x .holds .says ∙ promises.zero-given Q (sym (quality-told .number-is) ∙ e)
+  code-zero : number ≡ 0 → qualityCode (x .answer) ≡ []
+  code-zero e = x .holds .says ∙ promises.zero-given Q (sym (quality-told .number-is) ∙ e)
 
   module _ (e : number ≡ 0) (s : ℕ) (right tolerance guess : List ℤ) where
     pub factor-told : Factor (problemOf (Q .n) s (Q .t) (Q .matrix) right tolerance guess (Q .inverse) (Q .weights)) a c
     factor-told =
-        rw (x .numerator-is ∙ accepted-new _ _ (said-zero e), x .denominator-is ∙ accepted-new _ _ (said-zero e))
-        (x .holds .factor (said-zero e) s right tolerance guess)
+        rw (x .numerator-is ∙ accepted-new _ _ (code-zero e), x .denominator-is ∙ accepted-new _ _ (code-zero e))
+        (x .holds .factor (code-zero e) s right tolerance guess)
 
     pub least-told : (b d : ℕ) → Factor (problemOf (Q .n) s (Q .t) (Q .matrix) right tolerance guess (Q .inverse) (Q .weights)) b d → a * d ≤ b * c
     least-told =
-        rw (x .numerator-is ∙ accepted-new _ _ (said-zero e), x .denominator-is ∙ accepted-new _ _ (said-zero e))
-        (x .holds .least (said-zero e) s right tolerance guess)
+        rw (x .numerator-is ∙ accepted-new _ _ (code-zero e), x .denominator-is ∙ accepted-new _ _ (code-zero e))
+        (x .holds .least (code-zero e) s right tolerance guess)
 
 pub accepted-told : (I : Input) {oldA oldC number : ℕ} {places : List ℕ} {a c : ℕ} →
     QualityExported (inquiry (I .n) (I .t) (I .matrix) (I .inverse) (I .weights)) oldA oldC number places a c → answer I ≡ [] → number ≡ 0

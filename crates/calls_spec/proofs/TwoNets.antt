@@ -12,17 +12,17 @@ use Rattle.rules.proofs.Verdicts.{nothing-is-not}
 use Rattle.dependent_spec.specs.declared.CheckedNets.{CheckedNets}
 use Rattle.dependent_spec.specs.declared.CheckedNets.the-variants.{Accepted, Main, Dependent}
 use Rattle.dependent_spec.specs.Nets.{Nets}
-use Rattle.dependent_spec.specs.Order.{saidNets, jointAnswer}
+use Rattle.dependent_spec.specs.Order.{netsCode, jointAnswer}
 use Rattle.dependent_spec.specs.Joint.{EnclosesBoth}
 use Rattle.reply.specs.Told.{Told}
 use Rattle.calls_spec.specs.TwoNets.{DependentExported}
-use Rattle.calls_spec.proofs.Meaning.{zero-said}
+use Rattle.calls_spec.proofs.Meaning.{zero-code}
 
 -- no refusal has the number 0
-zero-nets : (r : CheckedNets) → getD (refusalOf (saidNets r)) 0 0 ≡ 0 → saidNets r ≡ []
+zero-nets : (r : CheckedNets) → getD (refusalOf (netsCode r)) 0 0 ≡ 0 → netsCode r ≡ []
 zero-nets Accepted e = refl
-zero-nets (Main x) e = absurd (nothing-is-not (zero-said (outcome.Refused x) e))
-zero-nets (Dependent x) e = absurd (nothing-is-not (zero-said (outcome.Refused x) e))
+zero-nets (Main x) e = absurd (nothing-is-not (zero-code (outcome.Refused x) e))
+zero-nets (Dependent x) e = absurd (nothing-is-not (zero-code (outcome.Refused x) e))
 
 module _ {J : Nets} {number net : ℕ} {places E₁ L₁ E₂ L₂ : List ℕ} (x : DependentExported J number net places E₁ L₁ E₂ L₂) where
   pub net-told : net ≡ whichOf (jointAnswer J)

@@ -17,7 +17,7 @@ use Rattle.rules.proofs.Verdicts.{nothing-is-not}
 use Rattle.check_spec.specs.Order.{answer}
 use Rattle.common_spec.specs.declared.Common.{Common}
 use Rattle.common_spec.specs.declared.Common.the-variants.{Found, TooShort, First, Second, Different, TooWide}
-use Rattle.common_spec.specs.Answer.{saidCommon, commonAnswer}
+use Rattle.common_spec.specs.Answer.{commonCode, commonAnswer}
 use Rattle.common_spec.specs.Ends.{Contains}
 use Rattle.common_spec.specs.Promised.{exchanged}
 use Rattle.common_spec.specs.Proposals.{Proposals}
@@ -25,13 +25,13 @@ use Rattle.common_spec.proofs.Exchanged.{calls-exchanged}
 use Rattle.common_spec.proofs.Statements.{found-case}
 use Rattle.reply.specs.Told.{Told}
 use Rattle.calls_spec.specs.TwoProposals.{CommonExported}
-use Rattle.calls_spec.proofs.Meaning.{zero-said}
+use Rattle.calls_spec.proofs.Meaning.{zero-code}
 
-pub zero-common : (c : Common) → getD (refusalOf (saidCommon c)) 0 0 ≡ 0 → saidCommon c ≡ []
+pub zero-common : (c : Common) → getD (refusalOf (commonCode c)) 0 0 ≡ 0 → commonCode c ≡ []
 zero-common Found e = refl
 zero-common TooShort e = absurd (omega arith)
-zero-common (First r) e = absurd (nothing-is-not (zero-said (Refused r) e))
-zero-common (Second r) e = absurd (nothing-is-not (zero-said (Refused r) e))
+zero-common (First r) e = absurd (nothing-is-not (zero-code (Refused r) e))
+zero-common (Second r) e = absurd (nothing-is-not (zero-code (Refused r) e))
 zero-common Different e = absurd (omega arith)
 zero-common TooWide e = absurd (omega arith)
 
@@ -42,14 +42,14 @@ module _ {Q : Proposals} {number proposal : ℕ} {places : List ℕ} {low high :
   pub common-proposal : proposal ≡ whichOf (commonAnswer Q)
   common-proposal = rw (x .found .says) at (x .proposal-is)
 
-  said-nothing : number ≡ 0 → saidCommon (x .answer) ≡ []
-  said-nothing e = zero-common (x .answer) (sym (x .told .number-is) ∙ e)
+  code-nothing : number ≡ 0 → commonCode (x .answer) ≡ []
+  code-nothing e = zero-common (x .answer) (sym (x .told .number-is) ∙ e)
 
   pub zero-contains : number ≡ 0 → Contains (Q .first) (Q .second) (at low) (at high)
-  zero-contains e = x .found .contains (said-nothing e)
+  zero-contains e = x .found .contains (code-nothing e)
 
   pub zero-unrefused : number ≡ 0 → (answer (Q .first) ≡ []) × (answer (Q .second) ≡ [])
-  zero-unrefused e = let c = found-case Q (sym (x .found .says) ∙ said-nothing e) in (c .first, c .second)
+  zero-unrefused e = let c = found-case Q (sym (x .found .says) ∙ code-nothing e) in (c .first, c .second)
 
   pub order-exported : {number′ proposal′ : ℕ} {places′ : List ℕ} {low′ high′ : List ℤ} → CommonExported (exchanged Q) number′ proposal′ places′ low′ high′ → (low′ ≡ low) × (high′ ≡ high)
   order-exported y = calls-exchanged Q (x .answer) (y .answer) low high _ _ (x .found) (y .found) .1

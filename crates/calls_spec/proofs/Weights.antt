@@ -13,7 +13,7 @@ use Rattle.rules.proofs.Verdicts.{accepted-new}
 use Rattle.check_spec.specs.Input.{input}
 use Rattle.check_spec.specs.Order.{answer}
 use Rattle.weights_spec.specs.Request.{Request}
-use Rattle.weights_spec.specs.Search.{saidFound, searchAnswer}
+use Rattle.weights_spec.specs.Search.{searchCode, searchAnswer}
 use Rattle.weights_spec.specs.Promised.{UsableRequest, PlaceOfFirstGood, NoGood}
 use Rattle.weights_spec.proofs.Promises.{zero-found, number-none, count-first, none-exactly}
 use Rattle.weights_spec.proofs.Checks.{never-five}
@@ -24,11 +24,11 @@ module _ {Q : Request} {old number : ℕ} {places : List ℕ} {tried : ℕ} {wei
   pub search-told : Told (searchAnswer Q) number places
   search-told = rw (x .found .says) at (x .told)
 
-  said-zero : number ≡ 0 → saidFound (x .answer) ≡ []
-  said-zero e = x .found .says ∙ zero-found Q (sym (search-told .number-is) ∙ e)
+  code-zero : number ≡ 0 → searchCode (x .answer) ≡ []
+  code-zero e = x .found .says ∙ zero-found Q (sym (search-told .number-is) ∙ e)
 
   pub found-first : number ≡ 0 → PlaceOfFirstGood Q tried
-  found-first e = rw (x .tried-is ∙ accepted-new _ _ (said-zero e)) (count-first Q (x .answer) weights (x .found) (said-zero e))
+  found-first e = rw (x .tried-is ∙ accepted-new _ _ (code-zero e)) (count-first Q (x .answer) weights (x .found) (code-zero e))
 
   pub none-good : (number ≡ 18) ↔ (UsableRequest Q × NoGood Q)
   none-good = (
@@ -38,4 +38,4 @@ module _ {Q : Request} {old number : ℕ} {places : List ℕ} {tried : ℕ} {wei
 
   pub check-not-five : number ≡ 0 → (s : ℕ) (right tolerance guess : List ℤ) (E L l : List ℕ) →
       answer (input (Q .n) s (Q .t) (Q .matrix) right tolerance guess (Q .inverse) weights E L) ≡ 5 ∷ l → ⊥
-  check-not-five e = never-five Q (x .answer) weights (x .found) (said-zero e)
+  check-not-five e = never-five Q (x .answer) weights (x .found) (code-zero e)

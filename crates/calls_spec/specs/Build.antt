@@ -9,7 +9,7 @@ use lib.IntN.{ℤ}
 use lib.ListN.{getD}
 use Rattle.build_lines.specs.declared.Built.{Built}
 use Rattle.build_lines.specs.declared.Observation.{Observation}
-use Rattle.build_lines.specs.Order.{saidBuilt}
+use Rattle.build_lines.specs.Order.{buildCode}
 use Rattle.build_lines.specs.Refused.{buildLine}
 use Rattle.build_equations.specs.declared.Layout.{Layout}
 use Rattle.build.specs.BuiltAs.{shortFor, BuiltAs}
@@ -17,7 +17,7 @@ use Rattle.build.specs.BuiltAs.{shortFor, BuiltAs}
 pub record BuildExported (n : ℕ) (ls : List Observation) (layout : Layout) (matrix right : List ℤ) (number : ℕ) (newMatrix newRight : List ℤ) : Type 0 where
   pub answer : Built
   pub built : BuiltAs n ls layout matrix right answer newMatrix newRight
-  pub number-is : number ≡ getD (saidBuilt answer) 0 0
+  pub number-is : number ≡ getD (buildCode answer) 0 0
 
 pub record BuildLineExported (n : ℕ) (ls : List Observation) (layout : Layout) (matrix right : List ℤ) (number : ℕ) (newMatrix newRight : List ℤ) (line : ℕ) : Type 0 where
   pub exported : BuildExported n ls layout matrix right number newMatrix newRight

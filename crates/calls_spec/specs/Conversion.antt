@@ -9,17 +9,17 @@ use Prim.Native.Nat.{ℕ}
 use Rattle.rules.specs.Order.{ifAccepted}
 use Rattle.loader_runs.specs.Read.{readingOf}
 use Rattle.convert_spec.specs.declared.Converted.{Converted}
-use Rattle.convert_spec.specs.Converted.{saidConverted, lengthOf, ConvertedAs}
+use Rattle.convert_spec.specs.Converted.{convertCode, lengthOf, ConvertedAs}
 use Rattle.reply.specs.Told.{Told}
 
 pub record ConvertExported (file old : List ℕ) (oldWritten number : ℕ) (places new : List ℕ) (written : ℕ) : Type 0 where
   pub answer : Converted
   pub converted : ConvertedAs file old new answer
-  pub told : Told (saidConverted answer) number places
-  pub written-is : written ≡ ifAccepted (saidConverted answer) (lengthOf answer) oldWritten
+  pub told : Told (convertCode answer) number places
+  pub written-is : written ≡ ifAccepted (convertCode answer) (lengthOf answer) oldWritten
 
 abbrev pub refusedLine : List ℕ → ℕ
-refusedLine file = ifAccepted (readingOf file .said) 0 (readingOf file .line)
+refusedLine file = ifAccepted (readingOf file .code) 0 (readingOf file .line)
 
 pub record ConvertLineExported (file old : List ℕ) (oldWritten number : ℕ) (places new : List ℕ) (written line : ℕ) : Type 0 where
   pub exported : ConvertExported file old oldWritten number places new written

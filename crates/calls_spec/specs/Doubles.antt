@@ -7,19 +7,19 @@ use mathlib.Core.List.{List}
 use Prim.Native.Nat.{ℕ}
 use lib.IntN.{ℤ}
 use lib.Ieee.{Float}
-use Rattle.rules.specs.Refusal.{said}
+use Rattle.rules.specs.Refusal.{code}
 use Rattle.rules.specs.declared.Outcome.{Outcome}
 use Rattle.doubles_lists.specs.declared.Guessed.{Guessed}
-use Rattle.doubles_lists.specs.Inward.{saidGuessed, Incoming, GuessesOf}
+use Rattle.doubles_lists.specs.Inward.{guessesCode, Incoming, GuessesOf}
 use Rattle.doubles_lists.specs.Outward.{Outgoing, IntervalsOf}
 use Rattle.reply.specs.Told.{Told}
 
 pub record GuessesExported (I : Incoming) (number : ℕ) (places : List ℕ) (guess : List ℤ) : Type 0 where
   pub answer : Guessed
   pub guessed : GuessesOf I answer guess
-  pub told : Told (saidGuessed answer) number places
+  pub told : Told (guessesCode answer) number places
 
 pub record IntervalsExported (I : Outgoing) (number : ℕ) (places : List ℕ) (low high : List Float) : Type 0 where
   pub outcome : Outcome
   pub ends : IntervalsOf I outcome low high
-  pub told : Told (said outcome) number places
+  pub told : Told (code outcome) number places

@@ -10,7 +10,7 @@ use mathlib.Core.Path.{_≡_}
 use Prim.Native.Nat.{ℕ}
 use lib.IntN.{ℤ}
 use Rattle.rules.specs.Order.{ifAccepted}
-use Rattle.rules.specs.Refusal.{said}
+use Rattle.rules.specs.Refusal.{code}
 use Rattle.rules.specs.declared.Outcome.{Outcome}
 use Rattle.check_spec.specs.Input.{Input}
 use Rattle.check_spec.specs.Checked.{Checked}
@@ -24,7 +24,7 @@ use Rattle.reply.specs.Told.{Told}
 pub record CheckExported (I : Input) (number : ℕ) (places E L : List ℕ) : Type 0 where
   pub outcome : Outcome
   pub checked : Checked I outcome E L
-  pub told : Told (said outcome) number places
+  pub told : Told (code outcome) number places
 
 pub record ListingExported (file old : List ℕ) (number : ℕ) (places new : List ℕ) (written : ℕ) : Type 0 where
   pub told : Told (answerOf file) number places
@@ -33,6 +33,6 @@ pub record ListingExported (file old : List ℕ) (number : ℕ) (places new : Li
 pub record EntryExported (x : ℤ) (e s : ℕ) (oldValue : ℤ) (oldBound number : ℕ) (places : List ℕ) (value : ℤ) (bound : ℕ) : Type 0 where
   pub answer : Registered
   pub registered : RegisteredAs x e s answer
-  pub told : Told (entry.saidEntry answer) number places
-  pub value-is : value ≡ ifAccepted (entry.saidEntry answer) (entryValue s x) oldValue
-  pub bound-is : bound ≡ ifAccepted (entry.saidEntry answer) (entryBound s x e) oldBound
+  pub told : Told (entry.entryCode answer) number places
+  pub value-is : value ≡ ifAccepted (entry.entryCode answer) (entryValue s x) oldValue
+  pub bound-is : bound ≡ ifAccepted (entry.entryCode answer) (entryBound s x e) oldBound

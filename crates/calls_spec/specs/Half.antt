@@ -3,7 +3,7 @@
 --                  contract of `half_check::check_half`, holds of, with the two limit lists as there
 use mathlib.Core.List.{List}
 use Prim.Native.Nat.{ℕ}
-use Rattle.rules.specs.Refusal.{said}
+use Rattle.rules.specs.Refusal.{code}
 use Rattle.rules.specs.declared.Outcome.{Outcome}
 use Rattle.check_spec.specs.Input.{Input}
 use Rattle.half_check.specs.Checked.{CheckedHalf}
@@ -12,4 +12,4 @@ use Rattle.reply.specs.Told.{Told}
 pub record HalfExported (H : Input) (number : ℕ) (places E L : List ℕ) : Type 0 where
   pub outcome : Outcome
   pub checked : CheckedHalf H outcome E L
-  pub told : Told (said outcome) number places
+  pub told : Told (code outcome) number places

@@ -5,7 +5,7 @@
 --                       holds of, with the two limit lists as there
 use mathlib.Core.List.{List}
 use Prim.Native.Nat.{ℕ}
-use Rattle.rules.specs.Refusal.{said}
+use Rattle.rules.specs.Refusal.{code}
 use Rattle.rules.specs.declared.Outcome.{Outcome}
 use Rattle.check_spec.specs.Input.{Input}
 use Rattle.loader_lists.specs.Lists.{Lists}
@@ -17,9 +17,9 @@ use Rattle.reply.specs.Told.{Told}
 pub record LoaderTakeExported (w line : List ℕ) (l : Lists) (number : ℕ) (places w′ : List ℕ) (l′ : Lists) : Type 0 where
   pub outcome : Outcome
   pub taken : LoaderTaken w line l outcome w′ l′
-  pub told : Told (said outcome) number places
+  pub told : Told (code outcome) number places
 
 pub record LoaderCheckExported (stage : Stage) (I : Input) (number : ℕ) (places E L : List ℕ) : Type 0 where
   pub outcome : Outcome
   pub checked : CheckedThrough stage I outcome E L
-  pub told : Told (said outcome) number places
+  pub told : Told (code outcome) number places

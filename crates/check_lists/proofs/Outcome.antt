@@ -18,7 +18,7 @@ use Rattle.linear.proofs.Written.{written-ext}
 use Rattle.linear.proofs.Places.{square}
 use Rattle.check_biased_rows.specs.Place.{RowsOfMatrix}
 use Rattle.rules.specs.Order.{verdict}
-use Rattle.rules.specs.Refusal.{said}
+use Rattle.rules.specs.Refusal.{code}
 use Rattle.rules.specs.declared.Outcome.{Outcome}
 use Rattle.rules.specs.declared.Outcome.the-variants.{Accepted, Refused}
 use Rattle.rules.specs.declared.Refusal.{Refusal}
@@ -53,11 +53,11 @@ pub record WorkedOut (W : Work) (rows margins : List ℕ) (residuals columns : L
   pub em : m ≡ first (W .n) (λ (x : ℕ). eqb (getD margins x 0) 0)
   pub ek : k ≡ first (W .n) (λ (x : ℕ). aboveAllowed (at (W .allowed) x) (at residuals (0 + x)))
   pub ei : i ≡ first (W .n * W .n) (λ (x : ℕ). aboveAllowed (at (W .allowedInColumns) (x % W .n)) (at columns x))
-  pub er : said r ≡ verdict (reckoned (W .n) m k i)
+  pub er : code r ≡ verdict (reckoned (W .n) m k i)
 
 module _ (W : Work) (ready : Workable W) {rows margins : List ℕ} {residuals columns : List ℤ} {r : Outcome} (a : WorkedOut W rows margins residuals columns r) where
-  said-is : said r ≡ workAnswer W
-  said-is =
+  code-is : code r ≡ workAnswer W
+  code-is =
       a .er
       ∙ rw (
         a .em ∙ first-margin W ready margins (a .hm),
@@ -67,12 +67,12 @@ module _ (W : Work) (ready : Workable W) {rows margins : List ℕ} {residuals co
 
   pub refused : (x : Refusal) → r ≡ Refused x → ReckonedAs W (Refused x) (W .solutionBounds) (W .inverseBounds)
   refused x e =
-      let s : said (Refused x) ≡ workAnswer W = ap said (sym e) ∙ said-is in
+      let s : code (Refused x) ≡ workAnswer W = ap code (sym e) ∙ code-is in
       record { says = s; solution-bounds = sym (accepted-old _ _ (sym s)); inverse-bounds = sym (accepted-old _ _ (sym s)) }
 
   module _ (e : r ≡ Accepted) where
     none : NoPlace (W .n) (a .m) (a .k) (a .i)
-    none = accepted-places (W .n) (a .m) (a .k) (a .i) (sym (a .er) ∙ ap said e)
+    none = accepted-places (W .n) (a .m) (a .k) (a .i) (sym (a .er) ∙ ap code e)
 
     pub positive-here : Positive margins (W .n)
     positive-here = positive W ready margins (a .hm) (omega (arith, none .margin, a .em))
@@ -91,7 +91,7 @@ module _ (W : Work) (ready : Workable W) {rows margins : List ℕ} {residuals co
         L ≡ columnsWritten (W .inverseBounds) (W .n) (λ (b c : ℕ). limitsOf (W .n) rows (λ (x : ℕ). at columns (c * W .n + x)) (λ (x : ℕ). 0) margins (W .weights) b) (W .n) →
         ReckonedAs W Accepted E L
     accepted-here {column} {E} {L} h eE eL =
-        let s : [] ≡ workAnswer W = ap said (sym e) ∙ said-is in
+        let s : [] ≡ workAnswer W = ap code (sym e) ∙ code-is in
         record {
           says = s;
           solution-bounds = eE

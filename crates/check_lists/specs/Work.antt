@@ -21,7 +21,7 @@ use Rattle.linear.specs.Slice.{at}
 use Rattle.linear.specs.Reach.{ColumnList, MatrixList}
 use Rattle.linear.specs.Written.{written}
 use Rattle.rules.specs.Order.{verdict, ifAccepted}
-use Rattle.rules.specs.Refusal.{said}
+use Rattle.rules.specs.Refusal.{code}
 use Rattle.rules.specs.declared.Outcome.{Outcome}
 use Rattle.enclosure.specs.Problem.{Problem, problemOf}
 use Rattle.enclosure.specs.Reckoning.{allowedResidual, rowSum, boundWith, inverseBound}
@@ -100,6 +100,6 @@ inverseOf W =
     (written (W .inverseBounds) 0 1 (λ (k : ℕ). inverseBound (workProblem W) (k / W .n) (k % W .n)) (W .n * W .n)) (W .inverseBounds)
 
 pub record ReckonedAs (W : Work) (r : Outcome) (E L : List ℕ) : Type 0 where
-  pub says : said r ≡ workAnswer W
+  pub says : code r ≡ workAnswer W
   pub solution-bounds : E ≡ solutionOf W
   pub inverse-bounds : L ≡ inverseOf W

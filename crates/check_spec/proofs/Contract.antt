@@ -1,7 +1,7 @@
 -- The contract of the check on lists, case by case.
 --   answer-short, answer-range, answer-ready — what is said, by the tests 8 and 3
 --   accepted-places — nothing is said of 5, 6 and 7 only where none has a place
---   sound-said, said-sound — the reckoning says nothing exactly where the problem is sound
+--   sound-code, code-sound — the reckoning says nothing exactly where the problem is sound
 --   written-encloses — the limits of a reckoning whose margins are above 0, once written, enclose
 --   checked-short, checked-range, checked-ready — the contract where 8 is said, where 3 is, and where the reckoning decides
 use mathlib.Core.Path.{_≡_, refl, sym, _∙_}
@@ -17,7 +17,7 @@ use Rattle.integer.proofs.Search.{first-past, first-never, clash}
 use Rattle.linear.proofs.Places.{place, square, place-column, place-row}
 use Rattle.linear.proofs.Written.{front-at}
 use Rattle.rules.specs.Order.{verdict}
-use Rattle.rules.specs.Refusal.{said}
+use Rattle.rules.specs.Refusal.{code}
 use Rattle.rules.specs.declared.Outcome.{Outcome}
 use Rattle.rules.specs.declared.Outcome.the-variants.{Refused}
 use Rattle.rules.specs.declared.Refusal.the-variants.{TooShort, OutOfRange}
@@ -62,14 +62,14 @@ accepted-places n m k i e = go (ltb m n) refl (ltb k n) refl (ltb i (n * n)) ref
     go false p false q true r = absurd (nothing-is-not (rw (p, q, r) at e))
     go false p false q false r = record { margin = ltb-false m n p; residual = ltb-false k n q; column = ltb-false i (n * n) r }
 
-pub sound-said : (P : Problem) → 0 < P .n → Sound P → checkedOf P ≡ []
-sound-said P some x =
+pub sound-code : (P : Problem) → 0 < P .n → Sound P → checkedOf P ≡ []
+sound-code P some x =
     let m : firstMargin P ≡ P .n = first-never (P .n) (marginFails P) (x .margins) in
     let k : firstResidual P ≡ P .n = first-never (P .n) (exceeds P) (x .residuals) in
     rw (m, k, no-place P some (x .columns)) (rw (le-ltb (P .n) (P .n) (omega arith), le-ltb (P .n * P .n) (P .n * P .n) (omega arith)))
 
-pub said-sound : (P : Problem) → checkedOf P ≡ [] → Sound P
-said-sound P e =
+pub code-sound : (P : Problem) → checkedOf P ≡ [] → Sound P
+code-sound P e =
     let none = accepted-places (P .n) (firstMargin P) (firstResidual P) (firstInversePlace P) e in
     record {
       margins = first-past (P .n) (marginFails P) (none .margin);
@@ -113,7 +113,7 @@ module _ (I : Input) (e : short I ≡ false) (f : inRanges I ≡ true) where
       ∙ rw (place-column i j (I .n) lj, place-row i j (I .n) lj)))
       (encloses P (fit .heavy) margins)
 
-  pub checked-ready : {r : Outcome} {E L : List ℕ} → said r ≡ checkedOf (problem I) → E ≡ solutionAfter (checkedOf (problem I)) I → L ≡ inverseAfter (checkedOf (problem I)) I → Checked I r E L
+  pub checked-ready : {r : Outcome} {E L : List ℕ} → code r ≡ checkedOf (problem I) → E ≡ solutionAfter (checkedOf (problem I)) I → L ≡ inverseAfter (checkedOf (problem I)) I → Checked I r E L
   unfolding solutionBoundsAfter inverseBoundsAfter
   checked-ready {r} {E} {L} says hE hL =
       let fit = fit-of I e f in
@@ -124,6 +124,6 @@ module _ (I : Input) (e : short I ≡ false) (f : inRanges I ≡ true) where
         inverse-bounds = rw a hL;
         encloses = λ n.
             let s : checkedOf (problem I) ≡ [] = sym says ∙ n in
-            written-encloses (hE ∙ accepted-new _ _ s) (hL ∙ accepted-new _ _ s) (said-sound (problem I) s .margins);
-        accepts = λ N q H q′ s r x. says ∙ sound-said (problem I) (fit .some) (rounded-sound (problem I) N q H q′ (fit .inverse-scale) x);
+            written-encloses (hE ∙ accepted-new _ _ s) (hL ∙ accepted-new _ _ s) (code-sound (problem I) s .margins);
+        accepts = λ N q H q′ s r x. says ∙ sound-code (problem I) (fit .some) (rounded-sound (problem I) N q H q′ (fit .inverse-scale) x);
       }

@@ -14,7 +14,7 @@ use Rattle.enclosure.proofs.Margin.{margin-above}
 use Rattle.enclosure.proofs.Before.{exceeds-05}
 use Rattle.check_spec.specs.Order.{checkedOf}
 use Rattle.check_spec.specs.Input.{Input, problem}
-use Rattle.check_spec.proofs.Contract.{said-sound}
+use Rattle.check_spec.proofs.Contract.{code-sound}
 use Rattle.check_spec.proofs.Fit.{Fit}
 
 module _ (I : Input) (fit : Fit I) (e : checkedOf (problem I) ≡ []) where
@@ -24,8 +24,8 @@ module _ (I : Input) (fit : Fit I) (e : checkedOf (problem I) ≡ []) where
     few = fit .few;
     inverse = λ i j li lj. fit .inverse .within .magnitudes (i * I .n + j) (place li lj);
     weights = fit .weights .within .magnitudes;
-    residuals = λ k l. ltb-false allowedResidual (natAbs (residual (problem I) k) + slack (problem I) k) (exceeds-05 (problem I) k (said-sound (problem I) e .residuals k l));
-    margins = λ m l. margin-above (problem I) m (said-sound (problem I) e .margins m l);
+    residuals = λ k l. ltb-false allowedResidual (natAbs (residual (problem I) k) + slack (problem I) k) (exceeds-05 (problem I) k (code-sound (problem I) e .residuals k l));
+    margins = λ m l. margin-above (problem I) m (code-sound (problem I) e .margins m l);
   })
 
   pub inverse-magnitude : (i j : ℕ) → i < I .n → j < I .n → inverseBound (problem I) i j ≤ largestBound
@@ -34,6 +34,6 @@ module _ (I : Input) (fit : Fit I) (e : checkedOf (problem I) ≡ []) where
     few = fit .few;
     inverse = λ i j li lj. fit .inverse .within .magnitudes (i * I .n + j) (place li lj);
     weights = fit .weights .within .magnitudes;
-    residuals = λ k l. ltb-false allowedResidual (natAbs (residual (columnOf (problem I) j) k) + slack (columnOf (problem I) j) k) (exceeds-05 (columnOf (problem I) j) k (said-sound (problem I) e .columns j lj k l));
-    margins = λ m l. margin-above (problem I) m (said-sound (problem I) e .margins m l);
+    residuals = λ k l. ltb-false allowedResidual (natAbs (residual (columnOf (problem I) j) k) + slack (columnOf (problem I) j) k) (exceeds-05 (columnOf (problem I) j) k (code-sound (problem I) e .columns j lj k l));
+    margins = λ m l. margin-above (problem I) m (code-sound (problem I) e .margins m l);
   }) i li

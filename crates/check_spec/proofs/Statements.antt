@@ -1,5 +1,5 @@
 -- Each refusal is said exactly where its stated case holds and nothing earlier does (specs/Stated).
---   stated — what is said has its stated case;  said-of — what has its stated case is said;  accepted-usable — what is accepted passes 8 and 3
+--   stated — what is said has its stated case;  code-of — what has its stated case is said;  accepted-usable — what is accepted passes 8 and 3
 use mathlib.Core.Path.{_≡_, refl, sym, _∙_, subst}
 use mathlib.Core.Bool.{Bool, true, false}
 use mathlib.Core.List.{List, [], _∷_}
@@ -16,7 +16,7 @@ use Rattle.enclosure.specs.Reckoning.{marginFails, exceeds}
 use Rattle.check_spec.specs.Input.{Input, problem, short, inRanges}
 use Rattle.check_spec.specs.Order.{firstMargin, firstResidual, firstInversePlace, answer, checkedOf}
 use Rattle.check_spec.specs.Stated.{Usable, Stated, too-short, out-of-range, margin-low, residual-large, inverse-large, accepted}
-use Rattle.check_spec.proofs.Contract.{answer-short, answer-range, answer-ready, sound-said}
+use Rattle.check_spec.proofs.Contract.{answer-short, answer-range, answer-ready, sound-code}
 use Rattle.check_spec.proofs.Fit.{fit-of}
 use Rattle.check_spec.proofs.Places.{first-place}
 
@@ -26,17 +26,17 @@ module _ (I : Input) where
   large i = exceeds (columnOf (problem I) (i / I .n)) (i % I .n)
 
   -- what is said, by the first row of each kind
-  said-5 : (m : ℕ) → firstMargin (problem I) ≡ m → m < I .n → checkedOf (problem I) ≡ 5 ∷ (m + 1) ∷ []
-  said-5 m e l = rw e (rw (lt-ltb m (I .n) l))
+  code-5 : (m : ℕ) → firstMargin (problem I) ≡ m → m < I .n → checkedOf (problem I) ≡ 5 ∷ (m + 1) ∷ []
+  code-5 m e l = rw e (rw (lt-ltb m (I .n) l))
 
-  said-6 : (k : ℕ) → firstMargin (problem I) ≡ I .n → firstResidual (problem I) ≡ k → k < I .n → checkedOf (problem I) ≡ 6 ∷ (k + 1) ∷ []
-  said-6 k e f l = rw (e, f) (rw (le-ltb (I .n) (I .n) (omega arith), lt-ltb k (I .n) l))
+  code-6 : (k : ℕ) → firstMargin (problem I) ≡ I .n → firstResidual (problem I) ≡ k → k < I .n → checkedOf (problem I) ≡ 6 ∷ (k + 1) ∷ []
+  code-6 k e f l = rw (e, f) (rw (le-ltb (I .n) (I .n) (omega arith), lt-ltb k (I .n) l))
 
-  said-7 : (i : ℕ) → firstMargin (problem I) ≡ I .n → firstResidual (problem I) ≡ I .n → firstInversePlace (problem I) ≡ i → i < I .n * I .n → checkedOf (problem I) ≡ 7 ∷ (i / I .n + 1) ∷ (i % I .n + 1) ∷ []
-  said-7 i e f g l = rw (e, f, g) (rw (le-ltb (I .n) (I .n) (omega arith), lt-ltb i (I .n * I .n) l))
+  code-7 : (i : ℕ) → firstMargin (problem I) ≡ I .n → firstResidual (problem I) ≡ I .n → firstInversePlace (problem I) ≡ i → i < I .n * I .n → checkedOf (problem I) ≡ 7 ∷ (i / I .n + 1) ∷ (i % I .n + 1) ∷ []
+  code-7 i e f g l = rw (e, f, g) (rw (le-ltb (I .n) (I .n) (omega arith), lt-ltb i (I .n * I .n) l))
 
-  said-0 : firstMargin (problem I) ≡ I .n → firstResidual (problem I) ≡ I .n → firstInversePlace (problem I) ≡ I .n * I .n → checkedOf (problem I) ≡ []
-  said-0 e f g = rw (e, f, g) (rw (le-ltb (I .n) (I .n) (omega arith), le-ltb (I .n * I .n) (I .n * I .n) (omega arith)))
+  code-0 : firstMargin (problem I) ≡ I .n → firstResidual (problem I) ≡ I .n → firstInversePlace (problem I) ≡ I .n * I .n → checkedOf (problem I) ≡ []
+  code-0 e f g = rw (e, f, g) (rw (le-ltb (I .n) (I .n) (omega arith), le-ltb (I .n * I .n) (I .n * I .n) (omega arith)))
 
   module _ (u : Usable I) where
     says : {l : List ℕ} → checkedOf (problem I) ≡ l → answer I ≡ l
@@ -49,7 +49,7 @@ module _ (I : Input) where
     at-columns : Margins (problem I) → Residuals (problem I) → firstMargin (problem I) ≡ I .n → firstResidual (problem I) ≡ I .n → Searched (I .n * I .n) large → Stated I (answer I)
     unfolding large
     at-columns m r e f (found i l g p h) =
-        subst (Stated I) (sym (says (said-7 i e f g l)))
+        subst (Stated I) (sym (says (code-7 i e f g l)))
         (inverse-large (i / I .n) (i % I .n) u m r (div-lt-iff-lt-mul some .1 l) (mod-lt i some) p
         (λ c lc x lx. rw (place-column c x (I .n) lx, place-row c x (I .n) lx) at (h (c * I .n + x) (below c x lc lx)))
         (λ x lx. rw (place-column (i / I .n) x (I .n) (omega (arith, mod-lt i some)), place-row (i / I .n) x (I .n) (omega (arith, mod-lt i some))) at (h (i / I .n * I .n + x) (omega (arith, div-add-mod' i (I .n))))))
@@ -57,15 +57,15 @@ module _ (I : Input) where
         below : (c x : ℕ) → c < i / I .n → x < I .n → c * I .n + x < i
         below c x lc lx = omega (arith, div-add-mod' i (I .n), mul-le-mul-right (I .n) lc)
     at-columns m r e f (nowhere g h) =
-        subst (Stated I) (sym (says (said-0 e f g)))
+        subst (Stated I) (sym (says (code-0 e f g)))
         (accepted u (record { margins = m; residuals = r; columns = λ j lj k lk. rw (place-column j k (I .n) lk, place-row j k (I .n) lk) at (h (j * I .n + k) (place lj lk)) }))
 
     at-residuals : Margins (problem I) → firstMargin (problem I) ≡ I .n → Searched (I .n) (exceeds (problem I)) → Stated I (answer I)
-    at-residuals m e (found k l f p h) = subst (Stated I) (sym (says (said-6 k e f l))) (residual-large k u m l p h)
+    at-residuals m e (found k l f p h) = subst (Stated I) (sym (says (code-6 k e f l))) (residual-large k u m l p h)
     at-residuals m e (nowhere f h) = at-columns m h e f (searched (I .n * I .n) large)
 
     at-margins : Searched (I .n) (marginFails (problem I)) → Stated I (answer I)
-    at-margins (found m l e p h) = subst (Stated I) (sym (says (said-5 m e l))) (margin-low m u l p h)
+    at-margins (found m l e p h) = subst (Stated I) (sym (says (code-5 m e l))) (margin-low m u l p h)
     at-margins (nowhere e h) = at-residuals h e (searched (I .n) (exceeds (problem I)))
 
   pub stated : Stated I (answer I)
@@ -82,16 +82,16 @@ module _ (I : Input) where
   no-residual : Residuals (problem I) → firstResidual (problem I) ≡ I .n
   no-residual r = first-never (I .n) (exceeds (problem I)) r
 
-  pub said-of : {l : List ℕ} → Stated I l → answer I ≡ l
-  said-of (too-short e) = answer-short I e
-  said-of (out-of-range e f) = answer-range I e f
-  said-of (margin-low m u l p h) = says u (said-5 m (first-is (I .n) (marginFails (problem I)) m l p h) l)
-  said-of (residual-large k u m l p h) =
-      says u (said-6 k (no-margin m) (first-is (I .n) (exceeds (problem I)) k l p h) l)
-  said-of (inverse-large j k u m r lj lk p q h) =
-      says u (said-7 (j * I .n + k) (no-margin m) (no-residual r) (first-place (problem I) j k lj lk p q h) (place lj lk)
+  pub code-of : {l : List ℕ} → Stated I l → answer I ≡ l
+  code-of (too-short e) = answer-short I e
+  code-of (out-of-range e f) = answer-range I e f
+  code-of (margin-low m u l p h) = says u (code-5 m (first-is (I .n) (marginFails (problem I)) m l p h) l)
+  code-of (residual-large k u m l p h) =
+      says u (code-6 k (no-margin m) (first-is (I .n) (exceeds (problem I)) k l p h) l)
+  code-of (inverse-large j k u m r lj lk p q h) =
+      says u (code-7 (j * I .n + k) (no-margin m) (no-residual r) (first-place (problem I) j k lj lk p q h) (place lj lk)
       ∙ rw (place-column j k (I .n) lk, place-row j k (I .n) lk))
-  said-of (accepted u x) = says u (sound-said (problem I) (some u) x)
+  code-of (accepted u x) = says u (sound-code (problem I) (some u) x)
 
 -- what is accepted is usable
 usable-of : (I : Input) {l : List ℕ} → Stated I l → l ≡ [] → Usable I

@@ -22,7 +22,7 @@ use Rattle.check_spec.specs.Checked.{solutionBoundsAfter, inverseBoundsA
 use Rattle.check_spec.specs.Input.{Input, problem}
 use Rattle.check_spec.specs.Order.{answer}
 use Rattle.check_spec.specs.Stated.{Usable}
-use Rattle.check_spec.proofs.Contract.{answer-ready, sound-said}
+use Rattle.check_spec.proofs.Contract.{answer-ready, sound-code}
 
 pub check-cases-hold : allRowsHold rows ≡ true
 unfolding answer solutionBoundsAfter inverseBoundsAfter written bound boundWith boundFrom magnitudesWith exceeds rowSum residual margin load defect product apply identity sum sumℕ largest first ceilDiv allInRange inRange rangeOf ranges every
@@ -51,4 +51,4 @@ pub file-rounded-here : RoundedExact (problem fileInput) example.exact 11 exampl
 file-rounded-here = file-rounded
 
 pub file-accepted : answer fileInput ≡ []
-file-accepted = answer-ready fileInput (file-usable .long) (file-usable .inside) ∙ sound-said (problem fileInput) (lit< tt) file-sound
+file-accepted = answer-ready fileInput (file-usable .long) (file-usable .inside) ∙ sound-code (problem fileInput) (lit< tt) file-sound

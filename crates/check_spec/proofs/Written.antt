@@ -14,7 +14,7 @@ use Rattle.linear.specs.Written.{written}
 use Rattle.linear.proofs.Places.{place, square, place-column, place-row}
 use Rattle.linear.proofs.Written.{front-at, front-else}
 use Rattle.rules.specs.Order.{ifAccepted}
-use Rattle.rules.specs.Refusal.{said}
+use Rattle.rules.specs.Refusal.{code}
 use Rattle.rules.specs.declared.Outcome.{Outcome}
 use Rattle.rules.proofs.Verdicts.{accepted-new}
 use Rattle.enclosure.specs.Reckoning.{bound, inverseBound}
@@ -51,7 +51,7 @@ module _ (I : Input) (fit : Fit I) where
   pub inverse-at : (i j : ℕ) → i < I .n → j < I .n → getD (inverseAfter [] I) (i * I .n + j) 0 ≡ inverseBound (problem I) i j
   inverse-at i j li lj = inverse-place (i * I .n + j) (place li lj) ∙ rw (place-column i j (I .n) lj, place-row i j (I .n) lj)
 
-module _ (I : Input) (r : Outcome) (E L : List ℕ) (x : Checked I r E L) (e : said r ≡ []) where
+module _ (I : Input) (r : Outcome) (E L : List ℕ) (x : Checked I r E L) (e : code r ≡ []) where
   pub checked-fit : Fit I
   checked-fit = accepted-fit I (sym (x .says) ∙ e)
 

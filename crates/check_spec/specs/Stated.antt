@@ -1,7 +1,7 @@
 -- What document 01 says of each refusal of a check, with the order 8, 3, 5, 6, 7 written out: each case holds only where no earlier one
 -- does. Rows and columns count from 0 here, and from 1 in what is said.
 --   Usable I  — no lent list is too short, and n, s, t and every number used are in their ranges: neither 8 nor 3
---   Stated I said — the case that is stated for what is said;  `Margins` is no 5, `Residuals` no 6, `Sound` none of 5, 6 and 7
+--   Stated I code — the case that is stated for what is said;  `Margins` is no 5, `Residuals` no 6, `Sound` none of 5, 6 and 7
 --     (enclosure/specs/Demand)
 use mathlib.Core.Bool.{true, false}
 use mathlib.Core.List.{List, [], _∷_}

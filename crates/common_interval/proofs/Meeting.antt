@@ -1,6 +1,6 @@
 -- From two checks and what is made of their limits to the contract.
 --   short-low, short-high, long-both — 8, by the lengths of the interval lists
---   said-refused, said-accepted — what a check by value says, by its outcome
+--   code-refused, code-accepted — what a check by value says, by its outcome
 --   limit-is — its limits are those of the reckoning
 --   equations-ready, meeting-ready — what the comparison and the ends ask
 --   common-met — the contract, where both are accepted and of the same equations
@@ -16,7 +16,7 @@ use Rattle.integer.specs.Finite.{largest}
 use Rattle.integer.proofs.Search.{largest-ext}
 use Rattle.linear.specs.Reach.{ColumnList}
 use Rattle.linear.proofs.Written.{written-ext}
-use Rattle.rules.specs.Refusal.{said}
+use Rattle.rules.specs.Refusal.{code}
 use Rattle.rules.specs.declared.Outcome.the-variants.{Accepted, Refused}
 use Rattle.rules.specs.declared.Refusal.{Refusal}
 use Rattle.rules.proofs.Ranges.{neither}
@@ -48,11 +48,11 @@ module _ (Q : Proposals) where
   long-both l h = neither (le-ltb (length (Q .low)) 32 l) (le-ltb (length (Q .high)) 32 h)
 
 module _ (I : Input) (c : Held) (x : HeldAs I c) where
-  pub said-refused : (r : Refusal) → c .outcome ≡ Refused r → said (Refused r) ≡ answer I
-  said-refused r e = ap said (sym e) ∙ x .says
+  pub code-refused : (r : Refusal) → c .outcome ≡ Refused r → code (Refused r) ≡ answer I
+  code-refused r e = ap code (sym e) ∙ x .says
 
-  pub said-accepted : c .outcome ≡ Accepted → answer I ≡ []
-  said-accepted e = sym (x .says) ∙ ap said e
+  pub code-accepted : c .outcome ≡ Accepted → answer I ≡ []
+  code-accepted e = sym (x .says) ∙ ap code e
 
 module _ (I : Input) (a : answer I ≡ []) where
   pub fit : Fit I

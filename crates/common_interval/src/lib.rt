@@ -54,8 +54,8 @@ pub fn common_interval(
         inverse1,
         weights1,
     );
-    let said1 = first.outcome;
-    match said1 {
+    let code1 = first.outcome;
+    match code1 {
         Outcome::Refused(refusal) => Common::First(refusal),
         Outcome::Accepted => {
             let second = check_held(
@@ -69,8 +69,8 @@ pub fn common_interval(
                 inverse2,
                 weights2,
             );
-            let said2 = second.outcome;
-            match said2 {
+            let code2 = second.outcome;
+            match code2 {
                 Outcome::Refused(refusal) => Common::Second(refusal),
                 Outcome::Accepted => {
                     let size = n1 as usize;

@@ -17,7 +17,7 @@ use Rattle.enclosure.specs.Reckoning.{bound, inverseBound}
 use Rattle.enclosure.proofs.Demands.{encloses}
 use Rattle.check_spec.specs.Input.{Input, problem}
 use Rattle.check_spec.specs.Order.{answer}
-use Rattle.check_spec.proofs.Contract.{answer-ready, said-sound}
+use Rattle.check_spec.proofs.Contract.{answer-ready, code-sound}
 use Rattle.check_spec.proofs.Fit.{fit-of}
 use Rattle.check_spec.proofs.Statements.{accepted-usable}
 use Rattle.common_spec.specs.Ends.{finer, lowOf, highOf, lowEnd, highEnd, WithinEnds, Contains}
@@ -30,7 +30,7 @@ pub proposal-encloses : (I : Input) → answer I ≡ [] → Encloses (problem I)
 proposal-encloses I e =
     let u = accepted-usable I e in
     encloses (problem I) (fit-of I (u .long) (u .inside) .heavy)
-    (said-sound (problem I) (sym (answer-ready I (u .long) (u .inside)) ∙ e) .margins)
+    (code-sound (problem I) (sym (answer-ready I (u .long) (u .inside)) ∙ e) .margins)
 
 pub finer-steps : (s r : ℕ) → r ≤ s → (N : ℤ) → pos (2 ^ (s - r)) *ℤ (pos (2 ^ r) *ℤ N) ≡ pos (2 ^ s) *ℤ N
 finer-steps s r h N =

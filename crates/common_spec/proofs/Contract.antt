@@ -16,7 +16,7 @@ use Rattle.linear.specs.Slice.{at}
 use Rattle.linear.specs.Written.{written}
 use Rattle.linear.proofs.Written.{front-at}
 use Rattle.rules.specs.Range.{shortColumn}
-use Rattle.rules.specs.Refusal.{said}
+use Rattle.rules.specs.Refusal.{code}
 use Rattle.rules.specs.declared.Outcome.the-variants.{Refused}
 use Rattle.rules.specs.declared.Refusal.{Refusal}
 use Rattle.rules.proofs.Ranges.{neither-left, neither-right}
@@ -29,7 +29,7 @@ use Rattle.common_spec.specs.declared.Common.{Common}
 use Rattle.common_spec.specs.declared.Common.the-variants.{Found, TooShort, First, Second, Different, TooWide}
 use Rattle.common_spec.specs.Proposals.{Proposals, shortIntervals, sameEquations, tooWide}
 use Rattle.common_spec.specs.Ends.{lowEnd, highEnd}
-use Rattle.common_spec.specs.Answer.{saidCommon, commonAnswer, lowAfter, highAfter, CommonAs}
+use Rattle.common_spec.specs.Answer.{commonCode, commonAnswer, lowAfter, highAfter, CommonAs}
 use Rattle.common_spec.proofs.Contains.{contains, contains-as}
 use Rattle.common_spec.proofs.Equations.{same-of}
 
@@ -76,7 +76,7 @@ module _ (Q : Proposals) (e : shortIntervals Q ≡ false) (a : answer (Q .first)
 
 -- ---- the contract
 module _ (Q : Proposals) where
-  refused : (r : Common) {k : ℕ} {l : List ℕ} → saidCommon r ≡ k ∷ l → commonAnswer Q ≡ k ∷ l → CommonAs Q r (Q .low) (Q .high)
+  refused : (r : Common) {k : ℕ} {l : List ℕ} → commonCode r ≡ k ∷ l → commonAnswer Q ≡ k ∷ l → CommonAs Q r (Q .low) (Q .high)
   unfolding lowAfter highAfter
   refused r s a = record {
     says = s ∙ sym a;
@@ -89,11 +89,11 @@ module _ (Q : Proposals) where
   common-short e = refused TooShort refl (answer-short Q e)
 
   module _ (e : shortIntervals Q ≡ false) where
-    pub common-first : (r : Refusal) → said (Refused r) ≡ answer (Q .first) → CommonAs Q (First r) (Q .low) (Q .high)
+    pub common-first : (r : Refusal) → code (Refused r) ≡ answer (Q .first) → CommonAs Q (First r) (Q .low) (Q .high)
     common-first r a = refused (First r) refl (answer-first Q e (sym a))
 
     module _ (a : answer (Q .first) ≡ []) where
-      pub common-second : (r : Refusal) → said (Refused r) ≡ answer (Q .second) → CommonAs Q (Second r) (Q .low) (Q .high)
+      pub common-second : (r : Refusal) → code (Refused r) ≡ answer (Q .second) → CommonAs Q (Second r) (Q .low) (Q .high)
       common-second r b = refused (Second r) refl (answer-second Q e a (sym b))
 
       module _ (b : answer (Q .second) ≡ []) where

@@ -1,9 +1,9 @@
 -- The same two proposals in the other order, a proposal with itself, and what the contract gives beside (specs/Promised).
 --   low-end-exchanged, high-end-exchanged — the ends of the common interval, in either order;  own-low, own-high — of a proposal with itself
---   exchanged-said — what is said in the other order
+--   exchanged-code — what is said in the other order
 --   low-exchanged, high-exchanged — the interval lists after the call are the same in either order, whatever is said
 --   calls-exchanged — the same of two calls
---   own-said   — an accepted proposal whose limits are at most 2^36 is found with itself;  own-ends — with X − E and X + E as its ends
+--   own-code   — an accepted proposal whose limits are at most 2^36 is found with itself;  own-ends — with X − E and X + E as its ends
 use mathlib.Core.Path.{_≡_, refl, sym, ap, subst, _∙_}
 use mathlib.Core.Bool.{false}
 use mathlib.Core.List.{List, [], _∷_}
@@ -24,14 +24,14 @@ use Rattle.check_spec.proofs.Statements as check
 use Rattle.common_spec.specs.declared.Common.{Common}
 use Rattle.common_spec.specs.Proposals.{Proposals, proposals, shortIntervals}
 use Rattle.common_spec.specs.Ends.{maxℤ, minℤ, finer, inSteps, lowOf, highOf, lowEnd, highEnd}
-use Rattle.common_spec.specs.Answer.{saidCommon, commonAnswer, lowAfter, highAfter, CommonAs}
+use Rattle.common_spec.specs.Answer.{commonCode, commonAnswer, lowAfter, highAfter, CommonAs}
 use Rattle.common_spec.specs.Stated.{SameEquations, NoneWide, BothAccepted, CommonStated, interval-short, of-first, of-second, different, first-wide, second-wide, found}
 use Rattle.common_spec.specs.Promised.{exchanged, Exchanged, of-neither, first-alone, second-alone, both, OwnEnds}
 use Rattle.common_spec.specs.Promised as promised
 use Rattle.common_spec.proofs.Equations.{exchanged-same}
 use Rattle.common_spec.proofs.Contract.{answer-short, answer-first, answer-second, long-low, long-high}
 use Rattle.common_spec.proofs.Order.{max-comm, min-comm, max-self, min-self}
-use Rattle.common_spec.proofs.Statements.{stated, said-of, found-case}
+use Rattle.common_spec.proofs.Statements.{stated, code-of, found-case}
 
 -- ---- the ends
 finer-exchanged : (I J : Input) → finer J I ≡ finer I J
@@ -60,28 +60,28 @@ own-high I i = min-self (highOf (finer I I) I i) ∙ own-steps I (at (I .guess) 
 
 -- ---- what is said
 module _ (Q : Proposals) where
-  as-said : {w w′ : List ℕ} → commonAnswer (exchanged Q) ≡ w′ → Exchanged Q w w′ → Exchanged Q w (commonAnswer (exchanged Q))
-  as-said {w} e x = subst (Exchanged Q w) (sym e) x
+  as-code : {w w′ : List ℕ} → commonAnswer (exchanged Q) ≡ w′ → Exchanged Q w w′ → Exchanged Q w (commonAnswer (exchanged Q))
+  as-code {w} e x = subst (Exchanged Q w) (sym e) x
 
   -- where the first is refused
   by-second : (k : ℕ) (l : List ℕ) → shortIntervals Q ≡ false → answer (Q .first) ≡ k ∷ l → (m : List ℕ) → answer (Q .second) ≡ m → Exchanged Q (1 ∷ k ∷ l) (commonAnswer (exchanged Q))
-  by-second k l e a [] b = as-said (answer-second (exchanged Q) e b a) (first-alone k l b)
-  by-second k l e a (k′ ∷ l′) b = as-said (answer-first (exchanged Q) e b) (both k k′ l l′ a b)
+  by-second k l e a [] b = as-code (answer-second (exchanged Q) e b a) (first-alone k l b)
+  by-second k l e a (k′ ∷ l′) b = as-code (answer-first (exchanged Q) e b) (both k k′ l l′ a b)
 
   other : BothAccepted Q → BothAccepted (exchanged Q)
   other x = record { long = x .long; first = x .second; second = x .first }
 
   turned : {w : List ℕ} → CommonStated Q w → Exchanged Q w (commonAnswer (exchanged Q))
-  turned (interval-short e) = as-said (answer-short (exchanged Q) e) (of-neither 8)
-  turned (of-first k l e x) = by-second k l e (check.said-of (Q .first) x) (answer (Q .second)) refl
-  turned (of-second k l e x y) = as-said (answer-first (exchanged Q) e (check.said-of (Q .second) y)) (second-alone k l (check.said-of (Q .first) x))
-  turned (different x d) = as-said (said-of (exchanged Q) (different (other x) (λ s. d (exchanged-same (Q .second) (Q .first) s)))) (of-neither 20)
-  turned (first-wide x s w) = as-said (said-of (exchanged Q) (second-wide (other x) (exchanged-same (Q .first) (Q .second) s) w)) (of-neither 21)
-  turned (second-wide x s w) = as-said (said-of (exchanged Q) (first-wide (other x) (exchanged-same (Q .first) (Q .second) s) w)) (of-neither 21)
-  turned (found x s u v) = as-said (said-of (exchanged Q) (found (other x) (exchanged-same (Q .first) (Q .second) s) v u)) promised.found
+  turned (interval-short e) = as-code (answer-short (exchanged Q) e) (of-neither 8)
+  turned (of-first k l e x) = by-second k l e (check.code-of (Q .first) x) (answer (Q .second)) refl
+  turned (of-second k l e x y) = as-code (answer-first (exchanged Q) e (check.code-of (Q .second) y)) (second-alone k l (check.code-of (Q .first) x))
+  turned (different x d) = as-code (code-of (exchanged Q) (different (other x) (λ s. d (exchanged-same (Q .second) (Q .first) s)))) (of-neither 20)
+  turned (first-wide x s w) = as-code (code-of (exchanged Q) (second-wide (other x) (exchanged-same (Q .first) (Q .second) s) w)) (of-neither 21)
+  turned (second-wide x s w) = as-code (code-of (exchanged Q) (first-wide (other x) (exchanged-same (Q .first) (Q .second) s) w)) (of-neither 21)
+  turned (found x s u v) = as-code (code-of (exchanged Q) (found (other x) (exchanged-same (Q .first) (Q .second) s) v u)) promised.found
 
-  pub exchanged-said : Exchanged Q (commonAnswer Q) (commonAnswer (exchanged Q))
-  exchanged-said = turned (stated Q)
+  pub exchanged-code : Exchanged Q (commonAnswer Q) (commonAnswer (exchanged Q))
+  exchanged-code = turned (stated Q)
 
   -- ---- the lists
   either-way : (old new new′ : List ℤ) {w w′ : List ℕ} → Exchanged Q w w′ → (w ≡ [] → new′ ≡ new) → ifAccepted w′ new′ old ≡ ifAccepted w new old
@@ -99,19 +99,19 @@ module _ (Q : Proposals) where
   pub low-exchanged : lowAfter (exchanged Q) ≡ lowAfter Q
   unfolding lowAfter
   low-exchanged =
-      either-way (Q .low) _ _ exchanged-said
+      either-way (Q .low) _ _ exchanged-code
       (written-exchanged (lowEnd (Q .first) (Q .second)) (lowEnd (Q .second) (Q .first)) (Q .low) (low-end-exchanged (Q .first) (Q .second)))
 
   pub high-exchanged : highAfter (exchanged Q) ≡ highAfter Q
   unfolding highAfter
   high-exchanged =
-      either-way (Q .high) _ _ exchanged-said
+      either-way (Q .high) _ _ exchanged-code
       (written-exchanged (highEnd (Q .first) (Q .second)) (highEnd (Q .second) (Q .first)) (Q .high) (high-end-exchanged (Q .first) (Q .second)))
 
 pub calls-exchanged : (Q : Proposals) (r r′ : Common) (low high low′ high′ : List ℤ) → CommonAs Q r low high → CommonAs (exchanged Q) r′ low′ high′ →
-    Exchanged Q (saidCommon r) (saidCommon r′) × ((low′ ≡ low) × (high′ ≡ high))
+    Exchanged Q (commonCode r) (commonCode r′) × ((low′ ≡ low) × (high′ ≡ high))
 calls-exchanged Q r r′ low high low′ high′ x y = (
-  rw (x .says, y .says) (exchanged-said Q),
+  rw (x .says, y .says) (exchanged-code Q),
   (y .low-is ∙ low-exchanged Q ∙ sym (x .low-is), y .high-is ∙ high-exchanged Q ∙ sym (x .high-is)),
 )
 
@@ -123,12 +123,12 @@ module _ (I : Input) (low high : List ℤ) where
   abbrev twice : Proposals
   twice = proposals I I low high
 
-  pub own-said : shortIntervals twice ≡ false → answer I ≡ [] → NoneWide I → commonAnswer twice ≡ []
-  own-said e a u =
+  pub own-code : shortIntervals twice ≡ false → answer I ≡ [] → NoneWide I → commonAnswer twice ≡ []
+  own-code e a u =
       let x : Stated I [] = subst (Stated I) a (check.stated I) in
-      said-of twice (found (record { long = e; first = x; second = x }) (itself I) u u)
+      code-of twice (found (record { long = e; first = x; second = x }) (itself I) u u)
 
-  pub own-ends : (r : Common) (low′ high′ : List ℤ) → CommonAs twice r low′ high′ → saidCommon r ≡ [] → OwnEnds I (at low′) (at high′)
+  pub own-ends : (r : Common) (low′ high′ : List ℤ) → CommonAs twice r low′ high′ → commonCode r ≡ [] → OwnEnds I (at low′) (at high′)
   unfolding lowAfter highAfter
   own-ends r low′ high′ x z =
       let s : commonAnswer twice ≡ [] = sym (x .says) ∙ z in

@@ -1,6 +1,6 @@
 -- Each refusal is said exactly where its stated case holds and nothing earlier does (specs/Stated).
 --   wide-of, narrow-of, of-wide, of-narrow — the test of 21, and its two cases
---   stated — what is said has its stated case;  said-of — what has its stated case is said
+--   stated — what is said has its stated case;  code-of — what has its stated case is said
 --   found-case — what is found: both are accepted, of the same equations, and narrow
 use mathlib.Core.Path.{_≡_, refl, sym, subst}
 use mathlib.Core.Bool.{Bool, true, false, _||_}
@@ -58,8 +58,8 @@ module _ (I : Input) where
 
 -- ---- what is said has its stated case
 module _ (Q : Proposals) where
-  said-as : {w : List ℕ} → commonAnswer Q ≡ w → CommonStated Q w → CommonStated Q (commonAnswer Q)
-  said-as e x = subst (CommonStated Q) (sym e) x
+  code-as : {w : List ℕ} → commonAnswer Q ≡ w → CommonStated Q w → CommonStated Q (commonAnswer Q)
+  code-as e x = subst (CommonStated Q) (sym e) x
 
   case : {I : Input} {l : List ℕ} → answer I ≡ l → Stated I l
   case {I} e = subst (Stated I) e (check.stated I)
@@ -75,57 +75,57 @@ module _ (Q : Proposals) where
         same = same-of (Q .first) (Q .second) s
 
         go : (x : Bool) → tooWide (Q .first) ≡ x → (y : Bool) → tooWide (Q .second) ≡ y → CommonStated Q (commonAnswer Q)
-        go true u y v = said-as (answer-wide Q e a b s (or-left _ u)) (first-wide ready same (wide-of (Q .first) u))
-        go false u true v = said-as (answer-wide Q e a b s (or-right (tooWide (Q .first)) v)) (second-wide ready same (wide-of (Q .second) v))
+        go true u y v = code-as (answer-wide Q e a b s (or-left _ u)) (first-wide ready same (wide-of (Q .first) u))
+        go false u true v = code-as (answer-wide Q e a b s (or-right (tooWide (Q .first)) v)) (second-wide ready same (wide-of (Q .second) v))
         go false u false v =
-            said-as (answer-found Q e a b s (neither u v)) (found ready same (narrow-of (Q .first) u) (narrow-of (Q .second) v))
+            code-as (answer-found Q e a b s (neither u v)) (found ready same (narrow-of (Q .first) u) (narrow-of (Q .second) v))
 
     by-equations : CommonStated Q (commonAnswer Q)
     by-equations = go (sameEquations (Q .first) (Q .second)) refl
       where
         go : (x : Bool) → sameEquations (Q .first) (Q .second) ≡ x → CommonStated Q (commonAnswer Q)
         go true s = by-width s
-        go false s = said-as (answer-different Q e a b s) (different ready (λ x. clash (sameEquations (Q .first) (Q .second)) (of-same (Q .first) (Q .second) x) s))
+        go false s = code-as (answer-different Q e a b s) (different ready (λ x. clash (sameEquations (Q .first) (Q .second)) (of-same (Q .first) (Q .second) x) s))
 
   pub stated : CommonStated Q (commonAnswer Q)
   stated = go (shortIntervals Q) refl (answer (Q .first)) refl (answer (Q .second)) refl
     where
       go : (x : Bool) → shortIntervals Q ≡ x → (l : List ℕ) → answer (Q .first) ≡ l → (m : List ℕ) → answer (Q .second) ≡ m → CommonStated Q (commonAnswer Q)
-      go true e l a m b = said-as (answer-short Q e) (interval-short e)
-      go false e (k ∷ l) a m b = said-as (answer-first Q e a) (of-first k l e (case a))
-      go false e [] a (k ∷ m) b = said-as (answer-second Q e a b) (of-second k m e (case a) (case b))
+      go true e l a m b = code-as (answer-short Q e) (interval-short e)
+      go false e (k ∷ l) a m b = code-as (answer-first Q e a) (of-first k l e (case a))
+      go false e [] a (k ∷ m) b = code-as (answer-second Q e a b) (of-second k m e (case a) (case b))
       go false e [] a [] b = by-equations e a b
 
   -- ---- what has its stated case is said
   module _ (x : BothAccepted Q) where
-    first-said : answer (Q .first) ≡ []
-    first-said = check.said-of (Q .first) (x .first)
+    first-code : answer (Q .first) ≡ []
+    first-code = check.code-of (Q .first) (x .first)
 
-    second-said : answer (Q .second) ≡ []
-    second-said = check.said-of (Q .second) (x .second)
+    second-code : answer (Q .second) ≡ []
+    second-code = check.code-of (Q .second) (x .second)
 
-    said-20 : (SameEquations (Q .first) (Q .second) → ⊥) → commonAnswer Q ≡ 0 ∷ 20 ∷ []
-    said-20 d = answer-different Q (x .long) first-said second-said (go (sameEquations (Q .first) (Q .second)) refl)
+    code-20 : (SameEquations (Q .first) (Q .second) → ⊥) → commonAnswer Q ≡ 0 ∷ 20 ∷ []
+    code-20 d = answer-different Q (x .long) first-code second-code (go (sameEquations (Q .first) (Q .second)) refl)
       where
         go : (b : Bool) → sameEquations (Q .first) (Q .second) ≡ b → sameEquations (Q .first) (Q .second) ≡ false
         go true s = absurd (d (same-of (Q .first) (Q .second) s))
         go false s = s
 
     module _ (s : SameEquations (Q .first) (Q .second)) where
-      said-21 : (tooWide (Q .first) || tooWide (Q .second)) ≡ true → commonAnswer Q ≡ 0 ∷ 21 ∷ []
-      said-21 = answer-wide Q (x .long) first-said second-said (of-same (Q .first) (Q .second) s)
+      code-21 : (tooWide (Q .first) || tooWide (Q .second)) ≡ true → commonAnswer Q ≡ 0 ∷ 21 ∷ []
+      code-21 = answer-wide Q (x .long) first-code second-code (of-same (Q .first) (Q .second) s)
 
-      said-0 : (tooWide (Q .first) || tooWide (Q .second)) ≡ false → commonAnswer Q ≡ []
-      said-0 = answer-found Q (x .long) first-said second-said (of-same (Q .first) (Q .second) s)
+      code-0 : (tooWide (Q .first) || tooWide (Q .second)) ≡ false → commonAnswer Q ≡ []
+      code-0 = answer-found Q (x .long) first-code second-code (of-same (Q .first) (Q .second) s)
 
-  pub said-of : {w : List ℕ} → CommonStated Q w → commonAnswer Q ≡ w
-  said-of (interval-short e) = answer-short Q e
-  said-of (of-first k l e x) = answer-first Q e (check.said-of (Q .first) x)
-  said-of (of-second k l e x y) = answer-second Q e (check.said-of (Q .first) x) (check.said-of (Q .second) y)
-  said-of (different x d) = said-20 x d
-  said-of (first-wide x s w) = said-21 x s (or-left _ (of-wide (Q .first) w))
-  said-of (second-wide x s w) = said-21 x s (or-right (tooWide (Q .first)) (of-wide (Q .second) w))
-  said-of (found x s u v) = said-0 x s (neither (of-narrow (Q .first) u) (of-narrow (Q .second) v))
+  pub code-of : {w : List ℕ} → CommonStated Q w → commonAnswer Q ≡ w
+  code-of (interval-short e) = answer-short Q e
+  code-of (of-first k l e x) = answer-first Q e (check.code-of (Q .first) x)
+  code-of (of-second k l e x y) = answer-second Q e (check.code-of (Q .first) x) (check.code-of (Q .second) y)
+  code-of (different x d) = code-20 x d
+  code-of (first-wide x s w) = code-21 x s (or-left _ (of-wide (Q .first) w))
+  code-of (second-wide x s w) = code-21 x s (or-right (tooWide (Q .first)) (of-wide (Q .second) w))
+  code-of (found x s u v) = code-0 x s (neither (of-narrow (Q .first) u) (of-narrow (Q .second) v))
 
 -- ---- what is found
 pub record FoundCase (Q : Proposals) : Type 0 where
@@ -145,8 +145,8 @@ found-of Q (first-wide x s w) z = absurd (nothing-is-not z)
 found-of Q (second-wide x s w) z = absurd (nothing-is-not z)
 found-of Q (found x s u v) z = record {
   long = x .long;
-  first = first-said Q x;
-  second = second-said Q x;
+  first = first-code Q x;
+  second = second-code Q x;
   same = s;
   first-narrow = u;
   second-narrow = v;

@@ -19,7 +19,7 @@ use Rattle.check_spec.proofs.Agreed.{like, like-is, like-bound, same-answer}
 use Rattle.common_spec.specs.declared.Common.{Common}
 use Rattle.common_spec.specs.Proposals.{Proposals, proposals, sameEquations, mostSteps, tooWide}
 use Rattle.common_spec.specs.Ends.{maxℤ, minℤ, finer, inSteps, lowEnd, highEnd}
-use Rattle.common_spec.specs.Answer.{saidCommon, commonAnswer, lowAfter, highAfter, CommonAs}
+use Rattle.common_spec.specs.Answer.{commonCode, commonAnswer, lowAfter, highAfter, CommonAs}
 use Rattle.common_spec.specs.Stated.{SameEquations}
 use Rattle.common_spec.specs.Agree.{AgreeingProposals, SameCommon}
 use Rattle.common_spec.proofs.Contract.{long-low, long-high}
@@ -108,23 +108,23 @@ same-common Q R a {r} {r′} {low} {high} {low′} {high′} c d = record {
   low-same = λ z.
       let f = found-case Q (none z) in
       same-written (pos 0) (Q .first .n) (Q .low) (R .low) (lowEnd (Q .first) (Q .second)) (lowEnd (R′ Q R a .first) (R′ Q R a .second))
-      (long-low Q (a .long) (f .first)) (long-low (R′ Q R a) (a .long′) (first-said z)) (low-alike Q R a f)
+      (long-low Q (a .long) (f .first)) (long-low (R′ Q R a) (a .long′) (first-code z)) (low-alike Q R a f)
       (c .low-is ∙ accepted-new _ _ (none z)) (d′ .low-is ∙ accepted-new _ _ (none′ z));
   high-same = λ z.
       let f = found-case Q (none z) in
       same-written (pos 0) (Q .first .n) (Q .high) (R .high) (highEnd (Q .first) (Q .second)) (highEnd (R′ Q R a .first) (R′ Q R a .second))
-      (long-high Q (a .long) (f .first)) (long-high (R′ Q R a) (a .long′) (first-said z)) (high-alike Q R a f)
+      (long-high Q (a .long) (f .first)) (long-high (R′ Q R a) (a .long′) (first-code z)) (high-alike Q R a f)
       (c .high-is ∙ accepted-new _ _ (none z)) (d′ .high-is ∙ accepted-new _ _ (none′ z));
 }
   where
     d′ : CommonAs (R′ Q R a) r′ low′ high′
     d′ = subst (λ (X : Proposals). CommonAs X r′ low′ high′) (sym (R′-is Q R a)) d
 
-    none : saidCommon r ≡ [] → commonAnswer Q ≡ []
+    none : commonCode r ≡ [] → commonAnswer Q ≡ []
     none z = sym (c .says) ∙ z
 
-    none′ : saidCommon r ≡ [] → commonAnswer (R′ Q R a) ≡ []
+    none′ : commonCode r ≡ [] → commonAnswer (R′ Q R a) ≡ []
     none′ z = ap commonAnswer (R′-is Q R a) ∙ sym (answer-alike Q R a) ∙ none z
 
-    first-said : saidCommon r ≡ [] → answer (R′ Q R a .first) ≡ []
-    first-said z = found-case (R′ Q R a) (none′ z) .first
+    first-code : commonCode r ≡ [] → answer (R′ Q R a .first) ≡ []
+    first-code z = found-case (R′ Q R a) (none′ z) .first

@@ -10,7 +10,7 @@ use Rattle.linear.specs.Slice.{at}
 use Rattle.check_spec.specs.Agree.{Agree}
 use Rattle.common_spec.specs.declared.Common.{Common}
 use Rattle.common_spec.specs.Proposals.{Proposals, shortIntervals}
-use Rattle.common_spec.specs.Answer.{saidCommon}
+use Rattle.common_spec.specs.Answer.{commonCode}
 
 pub record AgreeingProposals (Q R : Proposals) : Type 0 where
   pub first : Agree (Q .first) (R .first)
@@ -19,6 +19,6 @@ pub record AgreeingProposals (Q R : Proposals) : Type 0 where
   pub long′ : shortIntervals R ≡ false
 
 pub record SameCommon (Q : Proposals) (r r′ : Common) (low high low′ high′ : List ℤ) : Type 0 where
-  pub says : saidCommon r ≡ saidCommon r′
-  pub low-same : saidCommon r ≡ [] → (i : ℕ) → i < Q .first .n → at low i ≡ at low′ i
-  pub high-same : saidCommon r ≡ [] → (i : ℕ) → i < Q .first .n → at high i ≡ at high′ i
+  pub says : commonCode r ≡ commonCode r′
+  pub low-same : commonCode r ≡ [] → (i : ℕ) → i < Q .first .n → at low i ≡ at low′ i
+  pub high-same : commonCode r ≡ [] → (i : ℕ) → i < Q .first .n → at high i ≡ at high′ i

@@ -1,7 +1,7 @@
 -- What is said of two proposals, and what is left (document 02, Paper 13: "8 for an interval list comes first and is of neither proposal. Then each proposal is
 -- checked, in order, and its refusal says which one it is of. New 20 [..]; then new 21 [..]. The call writes only the interval lists, and no refusal touches
 -- them.").
---   saidCommon r — what an answer says: nothing where the intervals are found, else of which proposal the refusal is, 1 or 2, or 0 where it is of neither, then
+--   commonCode r — what an answer says: nothing where the intervals are found, else of which proposal the refusal is, 1 or 2, or 0 where it is of neither, then
 --     its number, then its values
 --   commonOrder Q — the tests in their order, 8, the first, the second, 20, 21;  commonAnswer Q — what is said of them
 --   lowAfter Q, highAfter Q — the interval lists after the call: the ends at the first n places, the rest as before; all as before on a refusal
@@ -21,13 +21,13 @@ use Rattle.common_spec.specs.declared.Common.the-variants.{Found, TooSho
 use Rattle.common_spec.specs.Proposals.{Proposals, shortIntervals, sameEquations, tooWide}
 use Rattle.common_spec.specs.Ends.{lowEnd, highEnd, Contains}
 
-abbrev pub saidCommon : Common → List ℕ
-saidCommon Found = []
-saidCommon TooShort = 0 ∷ 8 ∷ []
-saidCommon (First r) = 1 ∷ numberOf r ∷ valuesOf r
-saidCommon (Second r) = 2 ∷ numberOf r ∷ valuesOf r
-saidCommon Different = 0 ∷ 20 ∷ []
-saidCommon TooWide = 0 ∷ 21 ∷ []
+abbrev pub commonCode : Common → List ℕ
+commonCode Found = []
+commonCode TooShort = 0 ∷ 8 ∷ []
+commonCode (First r) = 1 ∷ numberOf r ∷ valuesOf r
+commonCode (Second r) = 2 ∷ numberOf r ∷ valuesOf r
+commonCode Different = 0 ∷ 20 ∷ []
+commonCode TooWide = 0 ∷ 21 ∷ []
 
 abbrev pub commonOrder : Proposals → List Test
 commonOrder Q =
@@ -48,7 +48,7 @@ unfoldable pub highAfter : Proposals → List ℤ
 highAfter Q = ifAccepted (commonAnswer Q) (written (Q .high) 0 1 (highEnd (Q .first) (Q .second)) (Q .first .n)) (Q .high)
 
 pub record CommonAs (Q : Proposals) (r : Common) (low high : List ℤ) : Type 0 where
-  pub says : saidCommon r ≡ commonAnswer Q
+  pub says : commonCode r ≡ commonAnswer Q
   pub low-is : low ≡ lowAfter Q
   pub high-is : high ≡ highAfter Q
-  pub contains : saidCommon r ≡ [] → Contains (Q .first) (Q .second) (at low) (at high)
+  pub contains : commonCode r ≡ [] → Contains (Q .first) (Q .second) (at low) (at high)

@@ -1,6 +1,6 @@
 -- The same two proposals in the other order, and a proposal with itself; theorems in proofs/Exchanged.
 --   exchanged Q — the same two in the other order, with the same interval lists
---   Exchanged Q said said′ — what is said of Q, what is said of exchanged Q, and when: what is of neither stays as it is, and what is found stays found; a
+--   Exchanged Q code code′ — what is said of Q, what is said of exchanged Q, and when: what is of neither stays as it is, and what is found stays found; a
 --     refusal of the one that alone is refused is of the other number; where both are refused each order names the one that comes first
 --   OwnEnds I low high — X − E and X + E of every height, in the proposal's own steps
 use mathlib.Core.List.{List, [], _∷_}

@@ -2,7 +2,7 @@
 --   SameEquations I J — size, matrix, right side and tolerances of both, as far as they are used, are the same
 --   NoneWide I    — no solution limit of I is above 2^36;  Wide I — one is
 --   BothAccepted Q — the interval lists are long enough, and each proposal is accepted by itself
---   CommonStated Q said — the case that is stated for what is said; `Stated` (check_spec/specs/Stated) has the cases of one proposal
+--   CommonStated Q code — the case that is stated for what is said; `Stated` (check_spec/specs/Stated) has the cases of one proposal
 use mathlib.Core.Bool.{true, false}
 use mathlib.Core.List.{List, [], _∷_}
 use mathlib.Core.Path.{_≡_}

@@ -29,7 +29,7 @@ use Rattle.line_form.specs.Reading.{reading, starts, wordAt, orWord, firstOf, h
 use Rattle.loader_bit_set.specs.Places.{withPlace, lacking}
 use Rattle.loader_progress.specs.Progress.{missing, misplaced}
 use Rattle.loader.specs.Taken.{fresh}
-use Rattle.loader.proofs.Exact.{formSaid}
+use Rattle.loader.proofs.Exact.{formCode}
 use Rattle.loader_runs.specs.Given.{valueFrom, sizeFrom, scalesFrom}
 use Rattle.loader_runs.specs.Lines.{linesOf}
 use Rattle.loader_runs.specs.Run.{forms}
@@ -53,7 +53,7 @@ use Rattle.convert_spec.specs.Stated.{tolerance, too-small, converted}
 use Rattle.convert_spec.proofs.Ends.{file-complete}
 use Rattle.convert_spec.proofs.Promises.{same-limits}
 use Rattle.convert_spec.proofs.Same.{file-again}
-use Rattle.convert_spec.proofs.Stated.{none-above, stated-said, always-fits}
+use Rattle.convert_spec.proofs.Stated.{none-above, stated-code, always-fits}
 use Rattle.convert_spec.proofs.Values.{no-tolerance}
 
 -- the problem of a file whose lines spell forms
@@ -81,7 +81,7 @@ unfolding linesOf spell numerals numeral decimal digits
 shuffled-spelled = refl
 
 shuffled-passes : passes fresh shuffledForms ≡ true
-unfolding passes formSaid spell numerals numeral decimal digits missing misplaced withPlace lacking allInside sumℕ inRange rangeOf ranges
+unfolding passes formCode spell numerals numeral decimal digits missing misplaced withPlace lacking allInside sumℕ inRange rangeOf ranges
 shuffled-passes = refl
 
 shuffled-complete : Complete shuffledFile
@@ -110,11 +110,11 @@ shuffled-new = ap oldFile shuffled-problem ∙ shuffled-bytes
 
 pub shuffled-converted : convertAnswer shuffledFile 172 ≡ []
 shuffled-converted =
-    stated-said shuffledFile 172
+    stated-code shuffledFile 172
     (converted shuffled-complete (none-above (problemIn shuffledFile) (ap someTolerance shuffled-problem ∙ shuffled-none)) (rw shuffled-new (lit≤ tt)))
 
 pub shuffled-too-small : convertAnswer shuffledFile 171 ≡ 22 ∷ []
-shuffled-too-small = stated-said shuffledFile 171 (too-small shuffled-complete (rw shuffled-new (lit≤ tt)))
+shuffled-too-small = stated-code shuffledFile 171 (too-small shuffled-complete (rw shuffled-new (lit≤ tt)))
 
 shuffled-checked : checkedOf (problemFrom shuffledForms) ≡ []
 unfolding valueFrom sizeFrom scalesFrom exceeds rowSum residual margin load defect product apply identity sum sumℕ first
@@ -142,7 +142,7 @@ unfolding linesOf spell numerals numeral decimal digits
 unbounded-spelled = refl
 
 unbounded-passes : passes fresh unboundedForms ≡ true
-unfolding passes formSaid spell numerals numeral decimal digits missing misplaced withPlace lacking allInside sumℕ inRange rangeOf ranges
+unfolding passes formCode spell numerals numeral decimal digits missing misplaced withPlace lacking allInside sumℕ inRange rangeOf ranges
 unbounded-passes = refl
 
 unbounded-complete : Complete unboundedFile
@@ -174,7 +174,7 @@ unbounded-new = ap oldFile unbounded-problem ∙ unbounded-bytes
 
 pub unbounded-converted : convertAnswer unboundedFile 32768 ≡ []
 unbounded-converted =
-    stated-said unboundedFile 32768
+    stated-code unboundedFile 32768
     (converted unbounded-complete (none-above (problemIn unboundedFile) (ap someTolerance unbounded-problem ∙ unbounded-none)) (rw unbounded-new (lit≤ tt)))
 
 -- ---- a file with a tolerance
@@ -187,7 +187,7 @@ unfolding linesOf forms valueFrom sizeFrom reading starts wordAt orWord firstOf 
 tolerant-size = lit≤ tt
 
 pub tolerant-refused : (room : ℕ) → convertAnswer tolerantFile room ≡ 22 ∷ []
-tolerant-refused room = stated-said tolerantFile room (tolerance (accepted-parts tolerantFile tolerant-accepted .complete) 0 tolerant-size tolerant-above)
+tolerant-refused room = stated-code tolerantFile room (tolerance (accepted-parts tolerantFile tolerant-accepted .complete) 0 tolerant-size tolerant-above)
 
 -- ---- the longest
 longest-in-range : NumbersInRange longest
@@ -214,4 +214,4 @@ pub longest-converted : convertAnswer (oldFile longest) 21300 ≡ []
 longest-converted = always-fits (oldFile longest) 21300 (file-complete longest longest-in-range) (no-tolerance longest) (lit≤ tt)
 
 pub longest-too-small : convertAnswer (oldFile longest) 21299 ≡ 22 ∷ []
-longest-too-small = stated-said (oldFile longest) 21299 (too-small (file-complete longest longest-in-range) (rw (longest-new, longest-size) (lit≤ tt)))
+longest-too-small = stated-code (oldFile longest) 21299 (too-small (file-complete longest longest-in-range) (rw (longest-new, longest-size) (lit≤ tt)))

@@ -18,7 +18,7 @@ use Rattle.convert_spec.specs.Edition.{answerOld, loaderOld, listsOld, r
 
 abbrev pub OldHolds : List OldCase → Type 0
 OldHolds [] = Unit
-OldHolds (c ∷ cs) = (readingOfOld (c .file) .said ≡ c .says) × OldHolds cs
+OldHolds (c ∷ cs) = (readingOfOld (c .file) .code ≡ c .says) × OldHolds cs
 
 pub old-cases-hold : OldHolds oldCases
 unfolding readOld answerOld loaderOld listsOld zeros linesOf reading starts wordAt orWord firstOf headAt othersAt runAt magnitudeAt numberAt missing01 misplaced withPlace lacking allInside sumℕ inRange rangeOf ranges

@@ -19,7 +19,7 @@ use Rattle.loader_bit_set.specs.Places.{withPlace, lacking}
 use Rattle.loader_progress.specs.Progress.{missing, misplaced}
 use Rattle.loader.specs.Answer.{lineAnswer}
 use Rattle.loader.specs.Taken.{fresh, loaderAfter, listsAfter}
-use Rattle.loader.proofs.Exact.{formSaid}
+use Rattle.loader.proofs.Exact.{formCode}
 use Rattle.loader_runs.specs.Given.{valueFrom, sizeFrom, scalesFrom}
 use Rattle.loader_runs.specs.Lines.{linesOf}
 use Rattle.loader_runs.specs.Read.{readFrom, zeros, readingOf}
@@ -65,7 +65,7 @@ unfolding linesOf spell numerals numeral decimal digits
 unlike-spelled = refl
 
 unlike-passes : passes fresh unlikeForms ≡ true
-unfolding passes formSaid spell numerals numeral decimal digits missing misplaced withPlace lacking allInside sumℕ inRange rangeOf ranges
+unfolding passes formCode spell numerals numeral decimal digits missing misplaced withPlace lacking allInside sumℕ inRange rangeOf ranges
 unlike-passes = refl
 
 unlike-problem : problemIn unlikeFile ≡ problemFrom unlikeForms
@@ -96,7 +96,7 @@ tolerant-line = refl
 tolerant-text : convertedText tolerantFile ≡ bytes "(refused 22 (0))\n"
 tolerant-text =
     text-is tolerantFile (22 ∷ []) (tolerant-refused 32768)
-    ∙ ap (λ (said : List ℕ). lineOr (printed (ifAccepted said 0 (readingOf tolerantFile .line)) (22 ∷ [])) (newFile tolerantFile)) (accepted-parts tolerantFile tolerant-accepted .complete .lines)
+    ∙ ap (λ (code : List ℕ). lineOr (printed (ifAccepted code 0 (readingOf tolerantFile .line)) (22 ∷ [])) (newFile tolerantFile)) (accepted-parts tolerantFile tolerant-accepted .complete .lines)
     ∙ tolerant-line
 
 -- ---- the table; files that are not complete are computed line by line

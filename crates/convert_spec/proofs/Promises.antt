@@ -34,7 +34,7 @@ use Rattle.convert_spec.proofs.Equal.{new-complete, new-complete-old, n
 use Rattle.convert_spec.proofs.Limits as limits
 use Rattle.convert_spec.proofs.Orders.{equal-bytes}
 use Rattle.convert_spec.proofs.Same as same
-use Rattle.convert_spec.proofs.Stated.{convert-stated, stated-said}
+use Rattle.convert_spec.proofs.Stated.{convert-stated, stated-code}
 use Rattle.convert_spec.proofs.Values.{forms-of, same-file, no-tolerance}
 
 -- ---- the forms of a problem
@@ -97,10 +97,10 @@ module _ (file : List ℕ) (room : ℕ) (e : convertAnswer file room ≡ []) whe
   same-again = same.file-again (problemIn file)
 
   pub again : (space : ℕ) → length (newFile file) ≤ space → convertAnswer (newFile file) space ≡ []
-  again space l = stated-said (newFile file) space (converted (new-complete file (convertible .complete)) (no-tolerance (problemIn file)) (rw same-again l))
+  again space l = stated-code (newFile file) space (converted (new-complete file (convertible .complete)) (no-tolerance (problemIn file)) (rw same-again l))
 
   pub alike : (space : ℕ) → length (newFile file) ≤ space → (other : List ℕ) → Complete other → NoTolerance (problemIn other) → SameNumbers (problemIn file) (problemIn other) →
       (convertAnswer other space ≡ []) × (newFile other ≡ newFile file)
   alike space l other c z same =
       let b = equal-bytes file other same in
-      (stated-said other space (converted c z (rw (← b) l)), sym b)
+      (stated-code other space (converted c z (rw (← b) l)), sym b)

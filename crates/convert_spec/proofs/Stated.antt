@@ -1,7 +1,7 @@
 -- What a converter says of a file, each answer exactly in its stated case.
---   some-above, tolerance-said, no-tolerance-said, none-above — some tolerance is above 0 exactly where the largest is
---   said-of-line, said-open, said-complete — what is said where a line is refused, where the file stops before an end, and where it does not
---   convert-stated — what is said is said by its stated case;  stated-said — and in its stated case it is said
+--   some-above, tolerance-code, no-tolerance-code, none-above — some tolerance is above 0 exactly where the largest is
+--   code-of-line, code-open, code-complete — what is said where a line is refused, where the file stops before an end, and where it does not
+--   convert-stated — what is said is said by its stated case;  stated-code — and in its stated case it is said
 --   always-fits   — a buffer of 21,300 bytes is long enough for every new file
 use mathlib.Core.Path.{_≡_, refl, _∙_}
 use mathlib.Core.Bool.{Bool, true, false, cond, _||_}
@@ -35,11 +35,11 @@ some-above (suc n) d h = go (decLt 0 (d n)) (some-above n d)
     go (yes a) before = (n, (omega arith, a))
     go (no a) before = let r = before (omega arith) in (r .0, (omega (arith, r .1 .0), r .1 .1))
 
-tolerance-said : (P : Problem) (i : ℕ) → i < P .n → 0 < P .d i → someTolerance P ≡ true
-tolerance-said P i l h = lt-ltb 0 (largest (P .n) (P .d)) (omega (arith, largest-at (P .n) (P .d) i l))
+tolerance-code : (P : Problem) (i : ℕ) → i < P .n → 0 < P .d i → someTolerance P ≡ true
+tolerance-code P i l h = lt-ltb 0 (largest (P .n) (P .d)) (omega (arith, largest-at (P .n) (P .d) i l))
 
-pub no-tolerance-said : (P : Problem) → NoTolerance P → someTolerance P ≡ false
-no-tolerance-said P h = le-ltb 0 (largest (P .n) (P .d)) (largest-≤ (P .n) (P .d) 0 (λ i l. omega (arith, h i l)))
+pub no-tolerance-code : (P : Problem) → NoTolerance P → someTolerance P ≡ false
+no-tolerance-code P h = le-ltb 0 (largest (P .n) (P .d)) (largest-≤ (P .n) (P .d) 0 (λ i l. omega (arith, h i l)))
 
 pub none-above : (P : Problem) → someTolerance P ≡ false → NoTolerance P
 none-above P e i l = omega (arith, ltb-false 0 (largest (P .n) (P .d)) e, largest-at (P .n) (P .d) i l)
@@ -50,17 +50,17 @@ either-way false w = refl
 
 module _ (file : List ℕ) (room : ℕ) where
   -- ---- what is said, once every line is accepted
-  pub said-of-line : {k : ℕ} {vs : List ℕ} → readingOf file .said ≡ k ∷ vs → convertAnswer file room ≡ k ∷ vs
+  pub code-of-line : {k : ℕ} {vs : List ℕ} → readingOf file .code ≡ k ∷ vs → convertAnswer file room ≡ k ∷ vs
   unfolding convertAnswer
-  said-of-line e = rw e
+  code-of-line e = rw e
 
-  pub said-open : readingOf file .said ≡ [] → ended (readingOf file .state .loader .stage) ≡ false → convertAnswer file room ≡ 15 ∷ []
+  pub code-open : readingOf file .code ≡ [] → ended (readingOf file .state .loader .stage) ≡ false → convertAnswer file room ≡ 15 ∷ []
   unfolding convertAnswer
-  said-open q e = rw (q, e)
+  code-open q e = rw (q, e)
 
-  pub said-complete : Complete file → convertAnswer file room ≡ cond (someTolerance (problemIn file) || ltb room (length (newFile file))) (22 ∷ []) []
+  pub code-complete : Complete file → convertAnswer file room ≡ cond (someTolerance (problemIn file) || ltb room (length (newFile file))) (22 ∷ []) []
   unfolding convertAnswer
-  said-complete c = rw (c .lines, c .end)
+  code-complete c = rw (c .lines, c .end)
 
   -- ---- by its stated case
   by-tests : Complete file → (a b : Bool) → someTolerance (problemIn file) ≡ a → ltb room (length (newFile file)) ≡ b → ConvertStated file room (cond (a || b) (22 ∷ []) [])
@@ -71,22 +71,22 @@ module _ (file : List ℕ) (room : ℕ) where
   by-tests c false false p q = converted c (none-above (problemIn file) p) (omega (arith, ltb-false room (length (newFile file)) q))
 
   pub convert-stated : ConvertStated file room (convertAnswer file room)
-  convert-stated = go (readingOf file .said) refl (ended (readingOf file .state .loader .stage)) refl
+  convert-stated = go (readingOf file .code) refl (ended (readingOf file .state .loader .stage)) refl
     where
-      go : (w : List ℕ) → readingOf file .said ≡ w → (b : Bool) → ended (readingOf file .state .loader .stage) ≡ b → ConvertStated file room (convertAnswer file room)
-      go (k ∷ vs) q b e = rw (said-of-line q) (line-refused k vs q)
-      go [] q false e = rw (said-open q e) (not-ended q e)
+      go : (w : List ℕ) → readingOf file .code ≡ w → (b : Bool) → ended (readingOf file .state .loader .stage) ≡ b → ConvertStated file room (convertAnswer file room)
+      go (k ∷ vs) q b e = rw (code-of-line q) (line-refused k vs q)
+      go [] q false e = rw (code-open q e) (not-ended q e)
       go [] q true e =
           let c : Complete file = record { lines = q; end = e } in
-          rw (said-complete c) (by-tests c (someTolerance (problemIn file)) (ltb room (length (newFile file))) refl refl)
+          rw (code-complete c) (by-tests c (someTolerance (problemIn file)) (ltb room (length (newFile file))) refl refl)
 
   -- ---- and in its stated case
-  pub stated-said : {w : List ℕ} → ConvertStated file room w → convertAnswer file room ≡ w
-  stated-said (line-refused k vs q) = said-of-line q
-  stated-said (not-ended q e) = said-open q e
-  stated-said (tolerance c i l h) = said-complete c ∙ rw (tolerance-said (problemIn file) i l h)
-  stated-said (too-small c l) = said-complete c ∙ rw (lt-ltb room (length (newFile file)) l) (either-way (someTolerance (problemIn file)) (22 ∷ []))
-  stated-said (converted c z l) = said-complete c ∙ rw (no-tolerance-said (problemIn file) z, le-ltb room (length (newFile file)) l)
+  pub stated-code : {w : List ℕ} → ConvertStated file room w → convertAnswer file room ≡ w
+  stated-code (line-refused k vs q) = code-of-line q
+  stated-code (not-ended q e) = code-open q e
+  stated-code (tolerance c i l h) = code-complete c ∙ rw (tolerance-code (problemIn file) i l h)
+  stated-code (too-small c l) = code-complete c ∙ rw (lt-ltb room (length (newFile file)) l) (either-way (someTolerance (problemIn file)) (22 ∷ []))
+  stated-code (converted c z l) = code-complete c ∙ rw (no-tolerance-code (problemIn file) z, le-ltb room (length (newFile file)) l)
 
   pub always-fits : Complete file → NoTolerance (problemIn file) → 21300 ≤ room → convertAnswer file room ≡ []
-  always-fits c z l = stated-said (converted c z (omega (arith, new-size file c)))
+  always-fits c z l = stated-code (converted c z (omega (arith, new-size file c)))

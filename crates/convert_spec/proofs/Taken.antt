@@ -25,7 +25,7 @@ use Rattle.loader_lists.specs.Lists.{Lists, lists, shortLists}
 use Rattle.loader_lists.specs.Put.{putAll}
 use Rattle.loader_progress.specs.Before.{missing01, incomplete01}
 use Rattle.loader_progress.specs.Progress.{setOf, ended}
-use Rattle.loader_order.proofs.Said.{Passed}
+use Rattle.loader_order.proofs.CodeLaws.{Passed}
 use Rattle.loader.specs.declared.Loader.{Loader}
 use Rattle.loader.specs.Taken.{fresh, after, listsWith, loaderAfter, listsAfter}
 use Rattle.loader.proofs.Exact.{formCase}

@@ -22,19 +22,19 @@ use Rattle.convert_spec.specs.File.{newFile}
 use Rattle.convert_spec.proofs.Stated.{always-fits}
 
 module _ (file : List ℕ) where
-  answer-numbers : (room : ℕ) → refusalNumbers file room ≡ printed (ifAccepted (readingOf file .said) 0 (readingOf file .line)) (convertAnswer file room)
+  answer-numbers : (room : ℕ) → refusalNumbers file room ≡ printed (ifAccepted (readingOf file .code) 0 (readingOf file .line)) (convertAnswer file room)
   unfolding convertAnswer
-  answer-numbers room = go (readingOf file .said) (readingOf file .line)
+  answer-numbers room = go (readingOf file .code) (readingOf file .line)
     where
       go : (w : List ℕ) (k : ℕ) → ifAccepted (printed k w) (printed 0 (verdict (conversionOrder file room))) (printed k w) ≡ printed (ifAccepted w 0 k) (ifAccepted w (verdict (conversionOrder file room)) w)
       go [] k = refl
       go (n ∷ vs) k = refl
 
-  pub text-is : (w : List ℕ) → convertAnswer file 32768 ≡ w → convertedText file ≡ lineOr (printed (ifAccepted (readingOf file .said) 0 (readingOf file .line)) w) (newFile file)
+  pub text-is : (w : List ℕ) → convertAnswer file 32768 ≡ w → convertedText file ≡ lineOr (printed (ifAccepted (readingOf file .code) 0 (readingOf file .line)) w) (newFile file)
   unfolding convertedText
   text-is w e = rw (answer-numbers 32768, e)
 
-  text-refused : {k : ℕ} {vs : List ℕ} → readingOf file .said ≡ k ∷ vs → convertedText file ≡ refusedOf (printed (readingOf file .line) (k ∷ vs))
+  text-refused : {k : ℕ} {vs : List ℕ} → readingOf file .code ≡ k ∷ vs → convertedText file ≡ refusedOf (printed (readingOf file .line) (k ∷ vs))
   unfolding convertedText
   text-refused e = rw e
 

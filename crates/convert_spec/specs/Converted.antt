@@ -1,11 +1,11 @@
 -- What a converter says and writes. Document 02, Paper 14: "A converter takes any file whose every line the desk accepts, end among them [..] The answer is
 -- the new file's length, and the buffer past it stays as it was. [..] (The desk's refusals first, and 15 where the file stops before an end. New 22, after
 -- them, if any tolerance is above 0, or the output buffer is shorter than the new file; nothing is written.)"
---   saidConverted r — what an answer says, in the documents' numbers: nothing where a file is written;  lengthOf r — the length it gives; 0 on a refusal
+--   convertCode r — what an answer says, in the documents' numbers: nothing where a file is written;  lengthOf r — the length it gives; 0 on a refusal
 --   someTolerance P — a tolerance is above 0
 --   conversionOrder file room — the tests of a file whose lines are all accepted, for a buffer of the length room
 --   convertAnswer file room — what is said: the loader's first refusal of a line, with its count for 13, or what these tests say
---   Delivered said text old new r — the answer r says this, and gives the text's length where nothing is said, 0 on a refusal; the buffer, `old` before the
+--   Delivered code text old new r — the answer r says this, and gives the text's length where nothing is said, 0 on a refusal; the buffer, `old` before the
 --     call and `new` after it, starts with the text and past it is as before where nothing is said, and is all as before on a refusal
 --   ConvertedAs file old new r — the contract of `convert`: what is said of the file is delivered, with its new file
 --   refusalNumbers file room — what is said in the numbers of a refusal's line, as `register` prints it: with the number of the line where a line is refused
@@ -31,10 +31,10 @@ use Rattle.convert_spec.specs.declared.Converted.{Converted}
 use Rattle.convert_spec.specs.declared.Converted.the-variants.{Length, Refused, NotConvertible}
 use Rattle.convert_spec.specs.File.{newFile}
 
-abbrev pub saidConverted : Converted → List ℕ
-saidConverted (Length n) = []
-saidConverted (Refused r) = numberOf r ∷ valuesOf r
-saidConverted NotConvertible = 22 ∷ []
+abbrev pub convertCode : Converted → List ℕ
+convertCode (Length n) = []
+convertCode (Refused r) = numberOf r ∷ valuesOf r
+convertCode NotConvertible = 22 ∷ []
 
 abbrev pub lengthOf : Converted → ℕ
 lengthOf (Length n) = n
@@ -51,22 +51,22 @@ conversionOrder file room =
     ∷ []
 
 unfoldable pub convertAnswer : List ℕ → ℕ → List ℕ
-convertAnswer file room = orElse (readingOf file .said) (verdict (conversionOrder file room))
+convertAnswer file room = orElse (readingOf file .code) (verdict (conversionOrder file room))
 
-pub record Delivered (said text old new : List ℕ) (r : Converted) : Type 0 where
-  pub says : saidConverted r ≡ said
-  pub size : lengthOf r ≡ ifAccepted said (length text) 0
-  pub bytes : new ≡ ifAccepted said (text ++ drop (length text) old) old
+pub record Delivered (code text old new : List ℕ) (r : Converted) : Type 0 where
+  pub says : convertCode r ≡ code
+  pub size : lengthOf r ≡ ifAccepted code (length text) 0
+  pub bytes : new ≡ ifAccepted code (text ++ drop (length text) old) old
 
 abbrev pub ConvertedAs : List ℕ → List ℕ → List ℕ → Converted → Type 0
 ConvertedAs file old new r = Delivered (convertAnswer file (length old)) (newFile file) old new r
 
 abbrev pub refusalNumbers : List ℕ → ℕ → List ℕ
-refusalNumbers file room = orElse (printed (readingOf file .line) (readingOf file .said)) (printed 0 (verdict (conversionOrder file room)))
+refusalNumbers file room = orElse (printed (readingOf file .line) (readingOf file .code)) (printed 0 (verdict (conversionOrder file room)))
 
 unfoldable pub convertedText : List ℕ → List ℕ
 convertedText file = lineOr (refusalNumbers file 32768) (newFile file)
 
 pub record ConvertedAt (file old new : List ℕ) (r : Conversion) : Type 0 where
   pub answer : ConvertedAs file old new (r .answer)
-  pub line : r .line ≡ ifAccepted (readingOf file .said) 0 (readingOf file .line)
+  pub line : r .line ≡ ifAccepted (readingOf file .code) 0 (readingOf file .line)

@@ -72,14 +72,14 @@ abbrev pub stepOld : State → List ℕ → State
 stepOld u line = record { loader = loaderOld (u .loader) (u .lists) line; lists = listsOld (u .loader) (u .lists) line }
 
 unfoldable pub readOld : ℕ → State → List (List ℕ) → Reading
-readOld k u [] = record { said = []; line = k; state = u }
+readOld k u [] = record { code = []; line = k; state = u }
 readOld k u (line ∷ lines) =
-    let said = answerOld (u .loader) (u .lists) line in
-    ifAccepted said (readOld (k + 1) (stepOld u line) lines) (record { said = said; line = k + 1; state = u })
+    let code = answerOld (u .loader) (u .lists) line in
+    ifAccepted code (readOld (k + 1) (stepOld u line) lines) (record { code = code; line = k + 1; state = u })
 
 abbrev pub readingOfOld : List ℕ → Reading
 readingOfOld file = readOld 0 (fromNew zeros) (linesOf file)
 
 pub record CompleteOld (file : List ℕ) : Type 0 where
-  pub lines : readingOfOld file .said ≡ []
+  pub lines : readingOfOld file .code ≡ []
   pub end : ended (readingOfOld file .state .loader .stage) ≡ true

@@ -14,9 +14,9 @@ use Rattle.convert_spec.specs.File.{newFile}
 
 pub data ConvertStated (file : List ℕ) (room : ℕ) : List ℕ → Type 0 where
   -- the desk's refusals: 1 to 4 and 11 to 14, as the loader says them
-  line-refused : (k : ℕ) (vs : List ℕ) → readingOf file .said ≡ k ∷ vs → ConvertStated file room (k ∷ vs)
+  line-refused : (k : ℕ) (vs : List ℕ) → readingOf file .code ≡ k ∷ vs → ConvertStated file room (k ∷ vs)
   -- 15: the file stops before an end
-  not-ended : readingOf file .said ≡ [] → ended (readingOf file .state .loader .stage) ≡ false → ConvertStated file room (15 ∷ [])
+  not-ended : readingOf file .code ≡ [] → ended (readingOf file .state .loader .stage) ≡ false → ConvertStated file room (15 ∷ [])
   -- 22: a tolerance is above 0
   tolerance : Complete file → (i : ℕ) → i < problemIn file .n → 0 < problemIn file .d i → ConvertStated file room (22 ∷ [])
   -- 22: the buffer is shorter than the new file

@@ -7,7 +7,7 @@ use Prim.Native.Nat.{ℕ}
 use lib.ListN.{length, getD}
 use lib.Ieee.{Float}
 use Rattle.rules.specs.Range.{shortMatrix}
-use Rattle.rules.specs.Refusal.{said}
+use Rattle.rules.specs.Refusal.{code}
 use Rattle.rules.specs.declared.Outcome.{Outcome}
 use Rattle.rules.proofs.Ranges.{both-left, neither-right}
 use Rattle.rules.proofs.Verdicts.{accepted-new}
@@ -25,14 +25,14 @@ use Rattle.doubles_lists.proofs.Taken.{written-taken}
 use Rattle.dependent_spec.specs.declared.CheckedNets.{CheckedNets}
 use Rattle.dependent_spec.specs.Nets.{Nets, dependentOf}
 use Rattle.dependent_spec.specs.Reckoning.{dependentBound}
-use Rattle.dependent_spec.specs.Order.{saidNets, jointAnswer}
+use Rattle.dependent_spec.specs.Order.{netsCode, jointAnswer}
 use Rattle.dependent_spec.specs.Joint.{mainProblem, dependentProblem, WithinBoth}
 use Rattle.dependent_spec.specs.Together.{CheckedTogether}
 use Rattle.dependent_spec.proofs.Largest.{joint-none, dependent-magnitude}
 use Rattle.dependent_spec.proofs.Statements.{passed-of}
 use Rattle.dependent_outward.specs.Heights.{mainOutgoing, dependentOutgoing, NoPairRefused, HeightsBetween, BetweenBoth}
 
-module _ (J : Nets) {r : CheckedNets} {E₁ L₁ E₂ L₂ : List ℕ} (c : CheckedTogether J r E₁ L₁ E₂ L₂) (yes′ : saidNets r ≡ []) where
+module _ (J : Nets) {r : CheckedNets} {E₁ L₁ E₂ L₂ : List ℕ} (c : CheckedTogether J r E₁ L₁ E₂ L₂) (yes′ : netsCode r ≡ []) where
   pub both-taken : NoPairRefused J E₁ E₂
   both-taken =
       let none : jointAnswer J ≡ [] = sym (c .says) ∙ yes′ in
@@ -47,8 +47,8 @@ module _ (J : Nets) {r : CheckedNets} {E₁ L₁ E₂ L₂ : List ℕ} (c : Chec
             (dependentBound (dependentOf J)) (c .dependent-solution ∙ accepted-new _ _ none) (dependent-magnitude (dependentOf J) (each .1));
       }
 
-  module _ {low₀ high₀ low₁ high₁ : List Float} {a : Outcome} (x : IntervalsOf (mainOutgoing J E₁ low₀ high₀) a low₁ high₁) (ok : said a ≡ [])
-      {low₀′ high₀′ low₂ high₂ : List Float} {a′ : Outcome} (y : IntervalsOf (dependentOutgoing J E₂ low₀′ high₀′) a′ low₂ high₂) (ok′ : said a′ ≡ []) where
+  module _ {low₀ high₀ low₁ high₁ : List Float} {a : Outcome} (x : IntervalsOf (mainOutgoing J E₁ low₀ high₀) a low₁ high₁) (ok : code a ≡ [])
+      {low₀′ high₀′ low₂ high₂ : List Float} {a′ : Outcome} (y : IntervalsOf (dependentOutgoing J E₂ low₀′ high₀′) a′ low₂ high₂) (ok′ : code a′ ≡ []) where
     handed₁ : Hands (mainProblem J) (λ (i : ℕ). getD E₁ i 0) (mainOutgoing J E₁ low₀ high₀)
     handed₁ = record { n = refl; s = refl; guess = λ i l. refl; bounds = λ i l. refl }
 

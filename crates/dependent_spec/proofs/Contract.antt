@@ -10,7 +10,7 @@ use lib.ListN.{getD, length}
 use Rattle.linear.specs.Written.{written}
 use Rattle.linear.proofs.Places.{place, square, place-column, place-row}
 use Rattle.linear.proofs.Written.{front-at}
-use Rattle.rules.specs.Refusal.{said, numberOf, valuesOf}
+use Rattle.rules.specs.Refusal.{code, numberOf, valuesOf}
 use Rattle.rules.specs.declared.Outcome.the-variants as outcome
 use Rattle.rules.specs.declared.Refusal.{Refusal}
 use Rattle.rules.proofs.Ranges.{both-left, both-right}
@@ -19,7 +19,7 @@ use Rattle.enclosure.specs.Reckoning.{bound, inverseBound}
 use Rattle.check_spec.specs.Input.{Input, input, problem, inRanges}
 use Rattle.check_spec.specs.Order.{answer}
 use Rattle.check_spec.specs.Stated.{Usable}
-use Rattle.check_spec.proofs.Contract.{answer-ready, said-sound, written-encloses}
+use Rattle.check_spec.proofs.Contract.{answer-ready, code-sound, written-encloses}
 use Rattle.check_spec.proofs.Fit.{Fit, fit-of}
 use Rattle.check_spec.proofs.Statements.{accepted-usable}
 use Rattle.dependent_spec.specs.declared.CheckedNets.the-variants.{Accepted, Main, Dependent}
@@ -31,7 +31,7 @@ use Rattle.dependent_spec.proofs.Joint.{encloses-both, encloses-both-as
 use Rattle.dependent_spec.proofs.Statements.{own-fit, Passed, passed-of, joint-main, joint-dependent, joint-accepted}
 
 module _ (J : Nets) where
-  pub together-main : (x : Refusal) → said (outcome.Refused x) ≡ answer (J .main) →
+  pub together-main : (x : Refusal) → code (outcome.Refused x) ≡ answer (J .main) →
       CheckedTogether J (Main x) (J .main .solutionBounds) (J .main .inverseBounds) (J .dependent .solutionBounds) (J .dependent .inverseBounds)
   together-main x e =
       let j : jointAnswer J ≡ 1 ∷ numberOf x ∷ valuesOf x = joint-main J (sym e) in
@@ -44,7 +44,7 @@ module _ (J : Nets) where
         encloses = λ n. absurd (nothing-is-not n);
       }
 
-  pub together-dependent : (x : Refusal) → answer (J .main) ≡ [] → said (outcome.Refused x) ≡ dependentAnswer (dependentOf J) →
+  pub together-dependent : (x : Refusal) → answer (J .main) ≡ [] → code (outcome.Refused x) ≡ dependentAnswer (dependentOf J) →
       CheckedTogether J (Dependent x) (J .main .solutionBounds) (J .main .inverseBounds) (J .dependent .solutionBounds) (J .dependent .inverseBounds)
   together-dependent x e f =
       let j : jointAnswer J ≡ 2 ∷ numberOf x ∷ valuesOf x = joint-dependent J e (sym f) in
@@ -83,7 +83,7 @@ module _ (J : Nets) where
     together-accepted {E₁} {L₁} {E₂} {L₂} h₁ g₁ h₂ g₂ =
         let j : jointAnswer J ≡ [] = joint-accepted J e f in
         let n : ℕ = J .dependent .n in
-        let margins = said-sound (problem (J .main)) (sym (answer-ready (J .main) (usable .long) (usable .inside)) ∙ e) .margins in
+        let margins = code-sound (problem (J .main)) (sym (answer-ready (J .main) (usable .long) (usable .inside)) ∙ e) .margins in
         record {
           says = sym j;
           main-solution = h₁ ∙ sym (accepted-new _ _ j);

@@ -3,7 +3,7 @@
 --   near₁, near₂, jointly-solved — the right sides 9/3 and 1/1 are within the tolerances, and 3 and 7 are their joint solution
 --   limits-here, limits-reached — the limits are 48 and 112, and that joint solution lies just so far from both guesses, so that no smaller slack would do
 --   bothElse, both-agree — the same nets in lists with a 7 at every place past those used agree with them
---   apart-here, apart-sums, apart-said — with C = 0 the nets are uncoupled, the guess meets Paper 9's sums, and both are accepted
+--   apart-here, apart-sums, apart-code — with C = 0 the nets are uncoupled, the guess meets Paper 9's sums, and both are accepted
 use mathlib.Core.Path.{_≡_, refl}
 use mathlib.Core.List.{List, [], _∷_, _++_}
 use Prim.Native.Nat.{_*_}
@@ -63,9 +63,9 @@ pub apart-sums : MeetsSums (uncoupledNets .dependent)
 unfolding residual rowSum apply sum sumℕ
 apart-sums = only _ refl
 
-pub apart-said : jointAnswer uncoupledNets ≡ []
+pub apart-code : jointAnswer uncoupledNets ≡ []
 unfolding jointAnswer answer dependentAnswer dependentResidual dependentSlack bound boundWith boundFrom magnitudesWith exceeds rowSum residual margin load defect product apply identity sum sumℕ largest first ceilDiv allInRange inRange rangeOf ranges every
-apart-said = refl
+apart-code = refl
 
 -- ---- other numbers past the places used
 abbrev followed : List ℤ → List ℤ

@@ -1,7 +1,7 @@
 -- Each refusal of two nets is said exactly where its stated case holds and nothing earlier does (specs/Stated).
 --   answer-short, answer-range, answer-ready — what is said of the dependent net, by the tests 8 and 3
---   stated-dependent, said-of-dependent — of the dependent net: what is said has its stated case, and what has its stated case is said
---   stated-together, said-of-together — of both
+--   stated-dependent, code-of-dependent — of the dependent net: what is said has its stated case, and what has its stated case is said
+--   stated-together, code-of-together — of both
 --   Passed D, passed-of — what holds where nothing is said of the dependent net
 use mathlib.Core.Path.{_≡_, refl, sym, _∙_, subst}
 use mathlib.Core.Bool.{Bool, true, false}
@@ -54,18 +54,18 @@ module _ (D : DependentNet) where
   large i = exceeds (columnOf (ownProblem D) (i / n)) (i % n)
 
   -- what is said, by the first row of each kind
-  said-5 : (m : ℕ) → firstMargin (ownProblem D) ≡ m → m < n → dependentReckoned D ≡ 5 ∷ (m + 1) ∷ []
-  said-5 m e l = rw e (rw (lt-ltb m n l))
+  code-5 : (m : ℕ) → firstMargin (ownProblem D) ≡ m → m < n → dependentReckoned D ≡ 5 ∷ (m + 1) ∷ []
+  code-5 m e l = rw e (rw (lt-ltb m n l))
 
-  said-6 : (k : ℕ) → firstMargin (ownProblem D) ≡ n → firstDependentResidual D ≡ k → k < n → dependentReckoned D ≡ 6 ∷ (k + 1) ∷ []
-  said-6 k e f l = rw (e, f) (rw (le-ltb n n (omega arith), lt-ltb k n l))
+  code-6 : (k : ℕ) → firstMargin (ownProblem D) ≡ n → firstDependentResidual D ≡ k → k < n → dependentReckoned D ≡ 6 ∷ (k + 1) ∷ []
+  code-6 k e f l = rw (e, f) (rw (le-ltb n n (omega arith), lt-ltb k n l))
 
-  said-7 : (i : ℕ) → firstMargin (ownProblem D) ≡ n → firstDependentResidual D ≡ n → firstInversePlace (ownProblem D) ≡ i → i < n * n →
+  code-7 : (i : ℕ) → firstMargin (ownProblem D) ≡ n → firstDependentResidual D ≡ n → firstInversePlace (ownProblem D) ≡ i → i < n * n →
       dependentReckoned D ≡ 7 ∷ (i / n + 1) ∷ (i % n + 1) ∷ []
-  said-7 i e f g l = rw (e, f, g) (rw (le-ltb n n (omega arith), lt-ltb i (n * n) l))
+  code-7 i e f g l = rw (e, f, g) (rw (le-ltb n n (omega arith), lt-ltb i (n * n) l))
 
-  said-0 : firstMargin (ownProblem D) ≡ n → firstDependentResidual D ≡ n → firstInversePlace (ownProblem D) ≡ n * n → dependentReckoned D ≡ []
-  said-0 e f g = rw (e, f, g) (rw (le-ltb n n (omega arith), le-ltb (n * n) (n * n) (omega arith)))
+  code-0 : firstMargin (ownProblem D) ≡ n → firstDependentResidual D ≡ n → firstInversePlace (ownProblem D) ≡ n * n → dependentReckoned D ≡ []
+  code-0 e f g = rw (e, f, g) (rw (le-ltb n n (omega arith), le-ltb (n * n) (n * n) (omega arith)))
 
   module _ (u : UsableDependent D) where
     says : {l : List ℕ} → dependentReckoned D ≡ l → dependentAnswer D ≡ l
@@ -79,7 +79,7 @@ module _ (D : DependentNet) where
         StatedDependent D (dependentAnswer D)
     unfolding large
     at-columns m r e f (found i l g p h) =
-        subst (StatedDependent D) (sym (says (said-7 i e f g l)))
+        subst (StatedDependent D) (sym (says (code-7 i e f g l)))
         (inverse-large (i / n) (i % n) u m r (div-lt-iff-lt-mul some .1 l) (mod-lt i some) p
         (λ c lc x lx. rw (place-column c x n lx, place-row c x n lx) at (h (c * n + x) (below c x lc lx)))
         (λ x lx. rw (place-column (i / n) x n (omega (arith, mod-lt i some)), place-row (i / n) x n (omega (arith, mod-lt i some))) at (h (i / n * n + x) (omega (arith, div-add-mod' i n)))))
@@ -87,15 +87,15 @@ module _ (D : DependentNet) where
         below : (c x : ℕ) → c < i / n → x < n → c * n + x < i
         below c x lc lx = omega (arith, div-add-mod' i n, mul-le-mul-right n lc)
     at-columns m r e f (nowhere g h) =
-        subst (StatedDependent D) (sym (says (said-0 e f g)))
+        subst (StatedDependent D) (sym (says (code-0 e f g)))
         (accepted u m r (λ j lj k lk. rw (place-column j k n lk, place-row j k n lk) at (h (j * n + k) (place lj lk))))
 
     at-residuals : Margins (ownProblem D) → firstMargin (ownProblem D) ≡ n → Searched n (dependentExceeds D) → StatedDependent D (dependentAnswer D)
-    at-residuals m e (found k l f p h) = subst (StatedDependent D) (sym (says (said-6 k e f l))) (residual-large k u m l p h)
+    at-residuals m e (found k l f p h) = subst (StatedDependent D) (sym (says (code-6 k e f l))) (residual-large k u m l p h)
     at-residuals m e (nowhere f h) = at-columns m h e f (searched (n * n) large)
 
     at-margins : Searched n (marginFails (ownProblem D)) → StatedDependent D (dependentAnswer D)
-    at-margins (found m l e p h) = subst (StatedDependent D) (sym (says (said-5 m e l))) (margin-low m u l p h)
+    at-margins (found m l e p h) = subst (StatedDependent D) (sym (says (code-5 m e l))) (margin-low m u l p h)
     at-margins (nowhere e h) = at-residuals h e (searched n (dependentExceeds D))
 
   pub stated-dependent : StatedDependent D (dependentAnswer D)
@@ -112,15 +112,15 @@ module _ (D : DependentNet) where
   no-residual : DependentResiduals D → firstDependentResidual D ≡ n
   no-residual r = first-never n (dependentExceeds D) r
 
-  pub said-of-dependent : {l : List ℕ} → StatedDependent D l → dependentAnswer D ≡ l
-  said-of-dependent (too-short e) = answer-short e
-  said-of-dependent (out-of-range e f) = answer-range e f
-  said-of-dependent (margin-low m u l p h) = says u (said-5 m (first-is n (marginFails (ownProblem D)) m l p h) l)
-  said-of-dependent (residual-large k u m l p h) = says u (said-6 k (no-margin m) (first-is n (dependentExceeds D) k l p h) l)
-  said-of-dependent (inverse-large j k u m r lj lk p q h) =
-      says u (said-7 (j * n + k) (no-margin m) (no-residual r) (first-place (ownProblem D) j k lj lk p q h) (place lj lk)
+  pub code-of-dependent : {l : List ℕ} → StatedDependent D l → dependentAnswer D ≡ l
+  code-of-dependent (too-short e) = answer-short e
+  code-of-dependent (out-of-range e f) = answer-range e f
+  code-of-dependent (margin-low m u l p h) = says u (code-5 m (first-is n (marginFails (ownProblem D)) m l p h) l)
+  code-of-dependent (residual-large k u m l p h) = says u (code-6 k (no-margin m) (first-is n (dependentExceeds D) k l p h) l)
+  code-of-dependent (inverse-large j k u m r lj lk p q h) =
+      says u (code-7 (j * n + k) (no-margin m) (no-residual r) (first-place (ownProblem D) j k lj lk p q h) (place lj lk)
       ∙ rw (place-column j k n lk, place-row j k n lk))
-  said-of-dependent (accepted u m r c) = says u (said-0 (no-margin m) (no-residual r) (no-place (ownProblem D) (some u) c))
+  code-of-dependent (accepted u m r c) = says u (code-0 (no-margin m) (no-residual r) (no-place (ownProblem D) (some u) c))
 
 -- ---- nothing is said of the dependent net
 pub record Passed (D : DependentNet) : Type 0 where
@@ -165,7 +165,7 @@ module _ (J : Nets) where
           subst (StatedTogether J) (sym (joint-accepted e f))
           (both-accepted (subst (Stated (J .main)) e (main.stated (J .main))) (subst (StatedDependent (dependentOf J)) f (stated-dependent (dependentOf J))))
 
-  pub said-of-together : {l : List ℕ} → StatedTogether J l → jointAnswer J ≡ l
-  said-of-together (of-main k ks x) = joint-main (main.said-of (J .main) x)
-  said-of-together (of-dependent k ks x y) = joint-dependent (main.said-of (J .main) x) (said-of-dependent (dependentOf J) y)
-  said-of-together (both-accepted x y) = joint-accepted (main.said-of (J .main) x) (said-of-dependent (dependentOf J) y)
+  pub code-of-together : {l : List ℕ} → StatedTogether J l → jointAnswer J ≡ l
+  code-of-together (of-main k ks x) = joint-main (main.code-of (J .main) x)
+  code-of-together (of-dependent k ks x y) = joint-dependent (main.code-of (J .main) x) (code-of-dependent (dependentOf J) y)
+  code-of-together (both-accepted x y) = joint-accepted (main.code-of (J .main) x) (code-of-dependent (dependentOf J) y)

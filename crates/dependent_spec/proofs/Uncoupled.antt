@@ -94,8 +94,8 @@ module _ (D : DependentNet) (u : Uncoupled D) (h : MeetsSums (D .own)) where
   pub uncoupled-checked : dependentAnswer D ≡ answer (D .own)
   uncoupled-checked = uncoupled-answer D u ∙ exempt-answer (D .own) h
 
-  pub uncoupled-solution : (said : List ℕ) → dependentSolutionAfter said D ≡ solutionAfter said (D .own)
-  uncoupled-solution said =
+  pub uncoupled-solution : (code : List ℕ) → dependentSolutionAfter code D ≡ solutionAfter code (D .own)
+  uncoupled-solution code =
       rw (written-ext (D .own .solutionBounds) 0 1 (dependentBound D) (bound (problem (D .own))) (D .own .n) (λ i l. uncoupled-bound D u i))
 
 pub uncoupled-together : (J : Nets) → answer (J .main) ≡ [] → Uncoupled (dependentOf J) → MeetsSums (J .dependent) → jointAnswer J ≡ verdict (ofOne 2 (answer (J .dependent)) ∷ [])

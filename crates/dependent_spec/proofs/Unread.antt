@@ -23,7 +23,7 @@ use Rattle.check_spec.proofs.Written.{past-kept}
 use Rattle.dependent_spec.specs.declared.CheckedNets.{CheckedNets}
 use Rattle.dependent_spec.specs.Nets.{Nets, dependentOf}
 use Rattle.dependent_spec.specs.Reckoning.{dependentBound}
-use Rattle.dependent_spec.specs.Order.{jointAnswer, saidNets}
+use Rattle.dependent_spec.specs.Order.{jointAnswer, netsCode}
 use Rattle.dependent_spec.specs.Together.{CheckedTogether}
 use Rattle.dependent_spec.specs.Agree.{AgreeingNets, SameTogether, SameRest, RestKept}
 use Rattle.dependent_spec.proofs.Same.{K′, K′-is, joint-alike, bound-alike}
@@ -75,16 +75,16 @@ same-together J K a {r} {r′} {E₁} {L₁} {E₂} {L₂} {E₁′} {L₁′} {
     d′ : CheckedTogether (K′ J K a) r′ E₁′ L₁′ E₂′ L₂′
     d′ = subst (λ (X : Nets). CheckedTogether X r′ E₁′ L₁′ E₂′ L₂′) (sym (K′-is J K a)) d
 
-    none : saidNets r ≡ [] → jointAnswer J ≡ []
+    none : netsCode r ≡ [] → jointAnswer J ≡ []
     none z = sym (c .says) ∙ z
 
-    none′ : saidNets r ≡ [] → jointAnswer (K′ J K a) ≡ []
+    none′ : netsCode r ≡ [] → jointAnswer (K′ J K a) ≡ []
     none′ z = sym (joint-alike J K a) ∙ none z
 
-    fit₁ : saidNets r ≡ [] → Fit (J .main)
+    fit₁ : netsCode r ≡ [] → Fit (J .main)
     fit₁ z = let u = accepted-usable (J .main) (joint-none J (none z) .0) in fit-of (J .main) (u .long) (u .inside)
 
-    fit₂ : saidNets r ≡ [] → Fit (J .dependent)
+    fit₂ : netsCode r ≡ [] → Fit (J .dependent)
     fit₂ z = own-fit (dependentOf J) (passed-of (dependentOf J) (joint-none J (none z) .1) .usable)
 
 pub rest-kept : (J : Nets) {r : CheckedNets} {E₁ L₁ E₂ L₂ : List ℕ} → CheckedTogether J r E₁ L₁ E₂ L₂ → RestKept J E₁ L₁ E₂ L₂

@@ -12,7 +12,7 @@ use Rattle.rules.specs.Range.{shortMatrix}
 use Rattle.check_spec.specs.Agree.{Agree}
 use Rattle.dependent_spec.specs.declared.CheckedNets.{CheckedNets}
 use Rattle.dependent_spec.specs.Nets.{Nets}
-use Rattle.dependent_spec.specs.Order.{saidNets}
+use Rattle.dependent_spec.specs.Order.{netsCode}
 
 pub record AgreeingNets (J K : Nets) : Type 0 where
   pub main : Agree (J .main) (K .main)
@@ -26,11 +26,11 @@ abbrev pub SameFirst : ℕ → List ℕ → List ℕ → Type 0
 SameFirst n xs ys = (i : ℕ) → i < n → getD xs i 0 ≡ getD ys i 0
 
 pub record SameTogether (J : Nets) (r r′ : CheckedNets) (E₁ L₁ E₂ L₂ E₁′ L₁′ E₂′ L₂′ : List ℕ) : Type 0 where
-  pub says : saidNets r ≡ saidNets r′
-  pub main-solution : saidNets r ≡ [] → SameFirst (J .main .n) E₁ E₁′
-  pub main-inverse : saidNets r ≡ [] → SameFirst (J .main .n * J .main .n) L₁ L₁′
-  pub dependent-solution : saidNets r ≡ [] → SameFirst (J .dependent .n) E₂ E₂′
-  pub dependent-inverse : saidNets r ≡ [] → SameFirst (J .dependent .n * J .dependent .n) L₂ L₂′
+  pub says : netsCode r ≡ netsCode r′
+  pub main-solution : netsCode r ≡ [] → SameFirst (J .main .n) E₁ E₁′
+  pub main-inverse : netsCode r ≡ [] → SameFirst (J .main .n * J .main .n) L₁ L₁′
+  pub dependent-solution : netsCode r ≡ [] → SameFirst (J .dependent .n) E₂ E₂′
+  pub dependent-inverse : netsCode r ≡ [] → SameFirst (J .dependent .n * J .dependent .n) L₂ L₂′
 
 -- past its first n numbers a list is as another
 abbrev pub SameRest : ℕ → List ℕ → List ℕ → Type 0

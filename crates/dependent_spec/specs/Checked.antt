@@ -3,7 +3,7 @@
 use mathlib.Core.List.{List}
 use mathlib.Core.Path.{_≡_}
 use Prim.Native.Nat.{ℕ}
-use Rattle.rules.specs.Refusal.{said}
+use Rattle.rules.specs.Refusal.{code}
 use Rattle.rules.specs.declared.Outcome.{Outcome}
 use Rattle.check_spec.specs.Checked.{inverseAfter}
 use Rattle.dependent_spec.specs.Nets.{DependentNet}
@@ -11,6 +11,6 @@ use Rattle.dependent_spec.specs.Order.{dependentAnswer}
 use Rattle.dependent_spec.specs.Together.{dependentSolutionAfter}
 
 pub record DependentAs (D : DependentNet) (r : Outcome) (E L : List ℕ) : Type 0 where
-  pub says : said r ≡ dependentAnswer D
+  pub says : code r ≡ dependentAnswer D
   pub solution-bounds : E ≡ dependentSolutionAfter (dependentAnswer D) D
   pub inverse-bounds : L ≡ inverseAfter (dependentAnswer D) (D .own)

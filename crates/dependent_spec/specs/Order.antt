@@ -6,7 +6,7 @@
 --   dependentTests D — 5, 6 and 7 at the first place of each;  dependentReckoned D — what is said of these
 --   dependentAnswer D — what is said of the dependent net: 8, 3, 5, 6, 7
 --   jointAnswer J — what is said of both: of the main net what its check says, and of the other where the main net is accepted
---   saidNets r   — what an answer says: nothing where both nets are accepted, else the net, 1 or 2, the number of the refusal and its values
+--   netsCode r   — what an answer says: nothing where both nets are accepted, else the net, 1 or 2, the number of the refusal and its values
 use mathlib.Core.Bool.{Bool, not, _&&_, _||_}
 use mathlib.Core.List.{List, [], _∷_}
 use Prim.Native.Nat.{ℕ, _*_}
@@ -47,7 +47,7 @@ dependentAnswer D = verdict (number 8 (dependentShort D) ∷ number 3 (not (depe
 unfoldable pub jointAnswer : Nets → List ℕ
 jointAnswer J = verdict (ofOne 1 (answer (J .main)) ∷ ofOne 2 (dependentAnswer (dependentOf J)) ∷ [])
 
-abbrev pub saidNets : CheckedNets → List ℕ
-saidNets Accepted = []
-saidNets (Main r) = 1 ∷ numberOf r ∷ valuesOf r
-saidNets (Dependent r) = 2 ∷ numberOf r ∷ valuesOf r
+abbrev pub netsCode : CheckedNets → List ℕ
+netsCode Accepted = []
+netsCode (Main r) = 1 ∷ numberOf r ∷ valuesOf r
+netsCode (Dependent r) = 2 ∷ numberOf r ∷ valuesOf r

@@ -1,8 +1,8 @@
 -- What Paper 8 says of each refusal of two nets, with the order written out: each case holds only where no earlier one does. Rows and columns count from 0
 -- here, and from 1 in what is said; the net comes first.
 --   UsableDependent D — neither 8 nor 3 of the dependent net;  DependentResiduals D — no 6 of it
---   StatedDependent D said — the case that is stated for what is said of the dependent net
---   StatedTogether J said — the case that is stated for what is said: of the main net, what a check on lists states (check_spec/specs/Stated)
+--   StatedDependent D code — the case that is stated for what is said of the dependent net
+--   StatedTogether J code — the case that is stated for what is said: of the main net, what a check on lists states (check_spec/specs/Stated)
 use mathlib.Core.Bool.{true, false}
 use mathlib.Core.List.{List, [], _∷_}
 use mathlib.Core.Path.{_≡_}

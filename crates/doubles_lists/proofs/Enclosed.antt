@@ -10,7 +10,7 @@ use Prim.Native.Nat.{ℕ}
 use lib.ListN.{getD}
 use lib.Ieee.{Float}
 use Rattle.linear.specs.Matrix.{Vec}
-use Rattle.rules.specs.Refusal.{said}
+use Rattle.rules.specs.Refusal.{code}
 use Rattle.rules.specs.declared.Outcome.{Outcome}
 use Rattle.enclosure.specs.Problem.{Problem}
 use Rattle.enclosure.specs.Demand.{Encloses, RightSide, ExactSolution, ExactSolutionOf, InLimits}
@@ -22,7 +22,7 @@ use Rattle.doubles_lists.specs.Outward.{Outgoing, outgoing, IntervalsOf}
 use Rattle.doubles_lists.specs.Hands.{Hands, AllBetween}
 use Rattle.doubles_lists.proofs.Promises.{within-between}
 
-module _ (P : Problem) (E : ℕ → ℕ) (I : Outgoing) (h : Hands P E I) {r : Outcome} {low high : List Float} (c : IntervalsOf I r low high) (ok : said r ≡ []) where
+module _ (P : Problem) (E : ℕ → ℕ) (I : Outgoing) (h : Hands P E I) {r : Outcome} {low high : List Float} (c : IntervalsOf I r low high) (ok : code r ≡ []) where
   pub limits-between : (N : Vec) (q : ℕ) → InLimits P E N q → AllBetween (P .n) low high N q
   limits-between N q w i l = within-between I c ok i (rw (h .n) l) (N i) q (rw (h .s, h .guess i l, h .bounds i l) (w i l))
 
@@ -33,8 +33,8 @@ module _ (P : Problem) (E : ℕ → ℕ) (I : Outgoing) (h : Hands P E I) {r : O
     encloses-between-at-b : (N : Vec) (q : ℕ) → ExactSolution P N q → AllBetween (P .n) low high N q
     encloses-between-at-b N q x = limits-between N q (e .solution-at-b N q x)
 
-module _ (J : Input) {a : Outcome} {E L : List ℕ} (k : Checked J a E L) (yes′ : said a ≡ []) {low₀ high₀ : List Float} {r : Outcome} {low high : List Float}
-    (c : IntervalsOf (outgoing (J .n) (J .s) (J .guess) E low₀ high₀) r low high) (ok : said r ≡ []) where
+module _ (J : Input) {a : Outcome} {E L : List ℕ} (k : Checked J a E L) (yes′ : code a ≡ []) {low₀ high₀ : List Float} {r : Outcome} {low high : List Float}
+    (c : IntervalsOf (outgoing (J .n) (J .s) (J .guess) E low₀ high₀) r low high) (ok : code r ≡ []) where
   handed : Hands (problem J) (λ (i : ℕ). getD E i 0) (outgoing (J .n) (J .s) (J .guess) E low₀ high₀)
   handed = record { n = refl; s = refl; guess = λ i l. refl; bounds = λ i l. refl }
 

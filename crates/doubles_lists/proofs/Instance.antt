@@ -4,7 +4,7 @@
 --   fileEnds, file-between — 01's whole file: its exact heights 16/11 and 9/11 lie between the ends of its guesses and limits
 --   looseEnds, loose-between — a problem with a tolerance of 3 and the right side 9/3: its exact height, 3, lies between the ends
 --   goingIn, comingOut, goes-and-comes — 2.5, with two steps to one, goes in as 5 and comes back as itself
---   said-inward, said-outward — each number is said of some call, 8 before 3 and 3 before 19; the limit 2^60 is taken, and one more is 3
+--   code-inward, code-outward — each number is said of some call, 8 before 3 and 3 before 19; the limit 2^60 is taken, and one more is 3
 use mathlib.Core.Path.{_≡_, refl, sym, ap, ap₂, _∙_, subst}
 use mathlib.Core.List.{List, [], _∷_}
 use Prim.Native.Nat.{ℕ, zero, suc, _+_, _^_}
@@ -42,7 +42,7 @@ use Rattle.doubles_lists.specs.declared.Guessed.the-variants as guessed
 use Rattle.doubles_lists.proofs.Enclosed.{encloses-between, checked-between-at-b}
 use Rattle.doubles_lists.proofs.Inward.{after-at, each-double}
 use Rattle.doubles_lists.proofs.Inward as inward
-use Rattle.doubles_lists.proofs.Outward.{low-after, high-after, said-nothing, reckonable}
+use Rattle.doubles_lists.proofs.Outward.{low-after, high-after, code-nothing, reckonable}
 use Rattle.doubles_lists.proofs.Promises.{comes-back}
 use Rattle.doubles_lists.proofs.Taken.{numbers-taken, checked-taken, guesses-taken}
 
@@ -50,7 +50,7 @@ inward-accepts : (I : Incoming) → ((i : ℕ) → T (fits binary64 (doubleAt (I
 inward-accepts I held e = record {
   says = sym e;
   guesses = refl;
-  doubles = λ n. each-double I held (every-in (I .n) _ (inward.said-nothing I .0 e .2));
+  doubles = λ n. each-double I held (every-in (I .n) _ (inward.code-nothing I .0 e .2));
   nearest = λ n i l. subst (Nearest (I .s) (doubleAt (I .values) i)) (sym (after-at I e i l)) (guess-nearest (I .s) (doubleAt (I .values) i));
 }
 
@@ -60,7 +60,7 @@ outward-accepts I e = record {
   lows = refl;
   highs = refl;
   outward = λ n i l.
-      let k = reckonable I (said-nothing I .0 e .1) in
+      let k = reckonable I (code-nothing I .0 e .1) in
       subst (Outward (I .s) (at (I .guess) i) (getD (I .bounds) i 0)) (ap₂ (λ (x y : Float). record { low = x; high = y }) (sym (low-after I e i l)) (sym (high-after I e i l)))
       (outward (I .s) (at (I .guess) i) (getD (I .bounds) i 0) (k .guesses i l) (k .limits i l));
 }
@@ -131,20 +131,20 @@ goes-and-comes =
 abbrev zero-guesses : List ℤ
 zero-guesses = replicate 32 (pos 0)
 
-pub said-inward :
+pub code-inward :
     (inwardAnswer (incoming 33 0 (replicate 31 nan) zero-guesses) ≡ 8 ∷ [])
     × (inwardAnswer (incoming 1 21 (replicate 32 nan) zero-guesses) ≡ 3 ∷ [])
     × (inwardAnswer (incoming 1 20 (replicate 32 nan) zero-guesses) ≡ 19 ∷ [])
 unfolding inwardAnswer every hasGuess inRange rangeOf ranges
-said-inward = (refl, refl, refl)
+code-inward = (refl, refl, refl)
 
 abbrev limits : ℕ → Outgoing
 limits e = outgoing 1 20 (replicate 32 (negsuc 68719476735)) (replicate 32 e) zeroDoubles zeroDoubles
 
-pub said-outward :
+pub code-outward :
     (outwardAnswer (outgoing 33 0 zero-guesses (replicate 31 0) zeroDoubles zeroDoubles) ≡ 8 ∷ [])
     × (outwardAnswer (limits (2 ^ 60)) ≡ [])
     × (outwardAnswer (limits (2 ^ 60 + 1)) ≡ 3 ∷ [])
     × (outwardAnswer (outgoing 1 0 (replicate 32 (negsuc 68719476736)) (replicate 32 0) zeroDoubles zeroDoubles) ≡ 3 ∷ [])
 unfolding outwardAnswer every allInRange inRange rangeOf ranges
-said-outward = (refl, refl, refl, refl)
+code-outward = (refl, refl, refl, refl)

@@ -2,7 +2,7 @@
 --   ReadyInward, ready — input that passes 8 and 3 can be read and written
 --   in-short, in-range, in-none, in-all — the contract where 8, 3, 19 and nothing is said
 --   each-double — each of the first n is a finite double where each has a guess, in a list of doubles
---   said-8, said-3, said-19, said-nothing — 8, 3, 19 and nothing are said exactly where 02 says so
+--   code-8, code-3, code-19, code-nothing — 8, 3, 19 and nothing are said exactly where 02 says so
 --   zero-accepted — by the number alone: 0 is said where nothing is
 --   after-at, after-else — the guess list after the call: its first n places where nothing is said, and every other place as before;  after-length — its length
 use mathlib.Core.Path.{_≡_, refl, sym, ap, subst, _∙_}
@@ -25,7 +25,7 @@ use Rattle.rules.specs.Range.{inRange, shortColumn}
 use Rattle.rules.specs.declared.Kind.the-variants as kind
 use Rattle.rules.specs.declared.Refusal.the-variants.{TooShort, OutOfRange}
 use Rattle.rules.proofs.Ranges.{both-left, both-right, neither-left, neither-right, size-range, solution-scale-range}
-use Rattle.rules.proofs.Tests.{said-exactly, none-said, silent}
+use Rattle.rules.proofs.Tests.{code-exactly, no-code, silent}
 use Rattle.rules.proofs.Verdicts.{accepted-new, accepted-old, nothing-is-not}
 use Rattle.check_spec.proofs.Written.{past-kept}
 use Rattle.doubles_guess.specs.Guess.{guessFor, hasGuess, Nearest}
@@ -107,30 +107,30 @@ module _ (I : Incoming) where
   abbrev t19 : Test
   t19 = number 19 (not (allHaveGuess I))
 
-  pub said-8 : (inwardAnswer I ≡ 8 ∷ []) ↔ (shortIncoming I ≡ true)
+  pub code-8 : (inwardAnswer I ≡ 8 ∷ []) ↔ (shortIncoming I ≡ true)
   unfolding inwardAnswer
-  said-8 = let x = said-exactly [] t8 (t3 ∷ t19 ∷ []) refl refl in (λ e. x .0 e .1, λ h. x .1 (tt, h))
+  code-8 = let x = code-exactly [] t8 (t3 ∷ t19 ∷ []) refl refl in (λ e. x .0 e .1, λ h. x .1 (tt, h))
 
-  pub said-3 : (inwardAnswer I ≡ 3 ∷ []) ↔ ((shortIncoming I ≡ false) × (exchangeSizes (I .n) (I .s) ≡ false))
+  pub code-3 : (inwardAnswer I ≡ 3 ∷ []) ↔ ((shortIncoming I ≡ false) × (exchangeSizes (I .n) (I .s) ≡ false))
   unfolding inwardAnswer
-  said-3 =
-      let x = said-exactly (t8 ∷ []) t3 (t19 ∷ []) refl refl in
+  code-3 =
+      let x = code-exactly (t8 ∷ []) t3 (t19 ∷ []) refl refl in
       (λ e. (x .0 e .0 .0, not-true _ (x .0 e .1)), λ h. x .1 ((h .0, tt), ap not (h .1)))
 
-  pub said-19 : (inwardAnswer I ≡ 19 ∷ []) ↔
+  pub code-19 : (inwardAnswer I ≡ 19 ∷ []) ↔
       ((shortIncoming I ≡ false) × (exchangeSizes (I .n) (I .s) ≡ true) × ((i : ℕ) × (i < I .n) × (hasGuess (I .s) (doubleAt (I .values) i) ≡ false)))
   unfolding inwardAnswer
-  said-19 =
-      let x = said-exactly (t8 ∷ t3 ∷ []) t19 [] refl refl in (
+  code-19 =
+      let x = code-exactly (t8 ∷ t3 ∷ []) t19 [] refl refl in (
         λ e. (x .0 e .0 .0, not-false _ (x .0 e .0 .1 .0), every-fails (I .n) _ (not-true _ (x .0 e .1))),
         λ h. x .1 ((h .0, (ap not (h .1), tt)), ap not (every-not (I .n) _ (h .2 .0) (h .2 .1) (h .2 .2))),
       )
 
-  pub said-nothing : (inwardAnswer I ≡ []) ↔
+  pub code-nothing : (inwardAnswer I ≡ []) ↔
       ((shortIncoming I ≡ false) × (exchangeSizes (I .n) (I .s) ≡ true) × ((i : ℕ) → i < I .n → hasGuess (I .s) (doubleAt (I .values) i) ≡ true))
   unfolding inwardAnswer
-  said-nothing = (
-    λ e. let n = none-said (inwardOrder I) [] refl e in (n .0, not-false _ (n .1 .0), every-at (I .n) _ (not-false _ (n .1 .1 .0))),
+  code-nothing = (
+    λ e. let n = no-code (inwardOrder I) [] refl e in (n .0, not-false _ (n .1 .0), every-at (I .n) _ (not-false _ (n .1 .1 .0))),
     λ h. silent (inwardOrder I) (h .0, (ap not (h .1), (ap not (every-in (I .n) _ (h .2)), tt))),
   )
 
@@ -148,7 +148,7 @@ module _ (I : Incoming) where
   pub after-at : inwardAnswer I ≡ [] → (i : ℕ) → i < I .n → at (guessesAfter I) i ≡ guessFor (I .s) (doubleAt (I .values) i)
   unfolding guessesAfter
   after-at e i l =
-      let n = said-nothing .0 e in
+      let n = code-nothing .0 e in
       ap (λ (xs : List ℤ). at xs i) (accepted-new _ _ e) ∙ front-at (I .guess) _ (pos 0) (I .n) i l (ready (n .0) (n .1) .guess)
 
   pub after-else : (i : ℕ) → I .n ≤ i → at (guessesAfter I) i ≡ at (I .guess) i

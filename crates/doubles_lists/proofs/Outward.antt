@@ -1,7 +1,7 @@
 -- Doubles out: the contract of `intervals_of`, case by case, and that each refusal is said exactly where its case holds.
 --   ReadyOutward, ready, reckonable — input that passes 8 and 3 can be read, written and reckoned with
 --   out-short, out-range, out-all — the contract where 8, 3 and nothing is said
---   said-8, said-3, said-nothing  — 8, 3 and nothing are said exactly where 02 says so
+--   code-8, code-3, code-nothing  — 8, 3 and nothing are said exactly where 02 says so
 --   low-after, high-after, ends-else — the lists after the call: their first n places where nothing is said, and every other place as before
 use mathlib.Core.Path.{_≡_, refl, sym, ap, ap₂, subst, _∙_}
 use mathlib.Core.Bool.{true, false, not}
@@ -23,7 +23,7 @@ use Rattle.rules.specs.declared.Outcome.the-variants.{Accepted, Refused}
 use Rattle.rules.specs.declared.Refusal.the-variants.{TooShort, OutOfRange}
 use Rattle.rules.proofs.AllInRange.{all-at}
 use Rattle.rules.proofs.Ranges.{both-left, both-right, neither-left, neither-right, size-range, solution-scale-range, guess-range}
-use Rattle.rules.proofs.Tests.{said-exactly, none-said, silent}
+use Rattle.rules.proofs.Tests.{code-exactly, no-code, silent}
 use Rattle.rules.proofs.Verdicts.{accepted-new, accepted-old, nothing-is-not}
 use Rattle.check_spec.proofs.Written.{past-kept}
 use Rattle.doubles_interval.specs.Interval.{Outward}
@@ -117,19 +117,19 @@ module _ (I : Outgoing) where
   abbrev t3 : Test
   t3 = number 3 (not (outgoingInRanges I))
 
-  pub said-8 : (outwardAnswer I ≡ 8 ∷ []) ↔ (shortOutgoing I ≡ true)
+  pub code-8 : (outwardAnswer I ≡ 8 ∷ []) ↔ (shortOutgoing I ≡ true)
   unfolding outwardAnswer
-  said-8 = let x = said-exactly [] t8 (t3 ∷ []) refl refl in (λ e. x .0 e .1, λ h. x .1 (tt, h))
+  code-8 = let x = code-exactly [] t8 (t3 ∷ []) refl refl in (λ e. x .0 e .1, λ h. x .1 (tt, h))
 
-  pub said-3 : (outwardAnswer I ≡ 3 ∷ []) ↔ ((shortOutgoing I ≡ false) × (outgoingInRanges I ≡ false))
+  pub code-3 : (outwardAnswer I ≡ 3 ∷ []) ↔ ((shortOutgoing I ≡ false) × (outgoingInRanges I ≡ false))
   unfolding outwardAnswer
-  said-3 =
-      let x = said-exactly (t8 ∷ []) t3 [] refl refl in (λ e. (x .0 e .0 .0, not-true _ (x .0 e .1)), λ h. x .1 ((h .0, tt), ap not (h .1)))
+  code-3 =
+      let x = code-exactly (t8 ∷ []) t3 [] refl refl in (λ e. (x .0 e .0 .0, not-true _ (x .0 e .1)), λ h. x .1 ((h .0, tt), ap not (h .1)))
 
-  pub said-nothing : (outwardAnswer I ≡ []) ↔ ((shortOutgoing I ≡ false) × (outgoingInRanges I ≡ true))
+  pub code-nothing : (outwardAnswer I ≡ []) ↔ ((shortOutgoing I ≡ false) × (outgoingInRanges I ≡ true))
   unfolding outwardAnswer
-  said-nothing = (
-    λ e. let n = none-said (outwardOrder I) [] refl e in (n .0, not-false _ (n .1 .0)),
+  code-nothing = (
+    λ e. let n = no-code (outwardOrder I) [] refl e in (n .0, not-false _ (n .1 .0)),
     λ h. silent (outwardOrder I) (h .0, (ap not (h .1), tt)),
   )
 
@@ -137,13 +137,13 @@ module _ (I : Outgoing) where
   pub low-after : outwardAnswer I ≡ [] → (i : ℕ) → i < I .n → doubleAt (lowsAfter I) i ≡ endsAt I i .low
   unfolding lowsAfter
   low-after e i l =
-      let n = said-nothing .0 e in
+      let n = code-nothing .0 e in
       ap (λ (xs : List Float). doubleAt xs i) (accepted-new _ _ e) ∙ front-at (I .low) _ nan (I .n) i l (ready (n .0) (both-left (exchangeSizes (I .n) (I .s)) _ (n .1)) .low)
 
   pub high-after : outwardAnswer I ≡ [] → (i : ℕ) → i < I .n → doubleAt (highsAfter I) i ≡ endsAt I i .high
   unfolding highsAfter
   high-after e i l =
-      let n = said-nothing .0 e in
+      let n = code-nothing .0 e in
       ap (λ (xs : List Float). doubleAt xs i) (accepted-new _ _ e) ∙ front-at (I .high) _ nan (I .n) i l (ready (n .0) (both-left (exchangeSizes (I .n) (I .s)) _ (n .1)) .high)
 
   pub ends-else : (i : ℕ) → I .n ≤ i → (doubleAt (lowsAfter I) i ≡ doubleAt (I .low) i) × (doubleAt (highsAfter I) i ≡ doubleAt (I .high) i)

@@ -14,7 +14,7 @@ use lib.ListN.{getD}
 use lib.Signed.{_≤ℤ_, _<ℤ_}
 use lib.Ieee.{Float}
 use Rattle.linear.specs.Slice.{at}
-use Rattle.rules.specs.Refusal.{said}
+use Rattle.rules.specs.Refusal.{code}
 use Rattle.rules.specs.declared.Outcome.{Outcome}
 use Rattle.doubles_guess.specs.Guess.{guessFor}
 use Rattle.doubles_guess.specs.Units.{whole, Double}
@@ -23,13 +23,13 @@ use Rattle.doubles_interval.specs.Interval.{unitsOf, Outward, Between, WithinLi
 use Rattle.doubles_interval.proofs.Ends.{nothing-below, nothing-above}
 use Rattle.doubles_interval.proofs.Heights.{between, ordered, wider, meets, again, round-trip}
 use Rattle.doubles_lists.specs.Lists.{doubleAt}
-use Rattle.doubles_lists.specs.Inward.{saidGuessed, Incoming, GuessesOf}
+use Rattle.doubles_lists.specs.Inward.{guessesCode, Incoming, GuessesOf}
 use Rattle.doubles_lists.specs.Outward.{Outgoing, outgoing, endsIn, IntervalsOf}
 use Rattle.doubles_lists.specs.declared.Guessed.{Guessed}
 use Rattle.doubles_lists.proofs.Inward as inward
 use Rattle.doubles_lists.proofs.Outward as outward
 
-module _ (I : Outgoing) {r : Outcome} {low high : List Float} (c : IntervalsOf I r low high) (ok : said r ≡ []) (i : ℕ) (l : i < I .n) where
+module _ (I : Outgoing) {r : Outcome} {low high : List Float} (c : IntervalsOf I r low high) (ok : code r ≡ []) (i : ℕ) (l : i < I .n) where
   abbrev X : ℤ
   X = at (I .guess) i
 
@@ -37,7 +37,7 @@ module _ (I : Outgoing) {r : Outcome} {low high : List Float} (c : IntervalsOf I
   E = getD (I .bounds) i 0
 
   scale : I .s ≤ 1074
-  scale = omega (arith, outward.reckonable I (outward.said-nothing I .0 (sym (c .says) ∙ ok) .1) .scale)
+  scale = omega (arith, outward.reckonable I (outward.code-nothing I .0 (sym (c .says) ∙ ok) .1) .scale)
 
   pub no-double-between : (y : Float) → Double y →
       ((whole (doubleAt low i) <ℤ whole y) × (whole y ≤ℤ unitsOf (I .s) (X -ℤ pos E)) → ⊥)
@@ -57,17 +57,17 @@ module _ (I : Outgoing) {r : Outcome} {low high : List Float} (c : IntervalsOf I
   pub exact-at-0 : E ≡ 0 → (whole (doubleAt low i) ≡ unitsOf (I .s) X) × (doubleAt low i ≡ doubleAt high i) × (guessFor (I .s) (doubleAt low i) ≡ X)
   exact-at-0 e =
       let o : Outward (I .s) X 0 (endsIn low high i) = rw e at (c .outward ok i l) in
-      let small : natAbs X < 2 ^ 53 = omega (arith, outward.reckonable I (outward.said-nothing I .0 (sym (c .says) ∙ ok) .1) .guesses i l) in
+      let small : natAbs X < 2 ^ 53 = omega (arith, outward.reckonable I (outward.code-nothing I .0 (sym (c .says) ∙ ok) .1) .guesses i l) in
       let m = meets (I .s) X small (endsIn low high i) o in
       (m .0, m .1, again (I .s) X scale small (endsIn low high i) o)
 
 -- ---- there and back
-pub guess-at : (I : Incoming) {r : Guessed} {guess : List ℤ} → GuessesOf I r guess → saidGuessed r ≡ [] → (i : ℕ) → i < I .n →
+pub guess-at : (I : Incoming) {r : Guessed} {guess : List ℤ} → GuessesOf I r guess → guessesCode r ≡ [] → (i : ℕ) → i < I .n →
     at guess i ≡ guessFor (I .s) (doubleAt (I .values) i)
 guess-at I c ok i l = ap (λ (xs : List ℤ). at xs i) (c .guesses) ∙ inward.after-at I (sym (c .says) ∙ ok) i l
 
-pub comes-back : (I : Incoming) {a : Guessed} {guess : List ℤ} → GuessesOf I a guess → saidGuessed a ≡ [] →
-    {bounds : List ℕ} {r : Outcome} {low₀ high₀ low high : List Float} → IntervalsOf (outgoing (I .n) (I .s) guess bounds low₀ high₀) r low high → said r ≡ [] →
+pub comes-back : (I : Incoming) {a : Guessed} {guess : List ℤ} → GuessesOf I a guess → guessesCode a ≡ [] →
+    {bounds : List ℕ} {r : Outcome} {low₀ high₀ low high : List Float} → IntervalsOf (outgoing (I .n) (I .s) guess bounds low₀ high₀) r low high → code r ≡ [] →
     (i : ℕ) → i < I .n → getD bounds i 0 ≡ 0 → (x : ℤ) → Steps (I .s) x (doubleAt (I .values) i) →
     (at guess i ≡ x) × Returned (I .s) x (doubleAt (I .values) i) (endsIn low high i)
 comes-back I {a} {guess} g yes′ {bounds} {r} {low₀} {high₀} {low} {high} c ok i l e x w =
@@ -77,7 +77,7 @@ comes-back I {a} {guess} g yes′ {bounds} {r} {low₀} {high₀} {low} {high} c
     (is, round-trip (I .s) x y (scale O c ok i l) (g .doubles yes′ i l) w (endsIn low high i) (rw (is, e) at (c .outward ok i l)))
 
 -- ---- wider limits
-pub never-narrower : (I J : Outgoing) {r r′ : Outcome} {low high low′ high′ : List Float} → IntervalsOf I r low high → said r ≡ [] → IntervalsOf J r′ low′ high′ → said r′ ≡ [] →
+pub never-narrower : (I J : Outgoing) {r r′ : Outcome} {low high low′ high′ : List Float} → IntervalsOf I r low high → code r ≡ [] → IntervalsOf J r′ low′ high′ → code r′ ≡ [] →
     I .s ≡ J .s → (i : ℕ) → i < I .n → i < J .n → at (I .guess) i ≡ at (J .guess) i → getD (I .bounds) i 0 ≤ getD (J .bounds) i 0 →
     (whole (doubleAt low′ i) ≤ℤ whole (doubleAt low i)) × (whole (doubleAt high i) ≤ℤ whole (doubleAt high′ i))
 never-narrower I J {r} {r′} {low} {high} {low′} {high′} a ok b ok′ es i l l′ ex h =

@@ -19,7 +19,7 @@ use Rattle.linear.specs.Slice.{at}
 use Rattle.linear.specs.Written.{written}
 use Rattle.linear.proofs.Written.{written-length, front-at}
 use Rattle.rules.specs.Range.{inRange, rangeOf, ranges, shortColumn}
-use Rattle.rules.specs.Refusal.{said}
+use Rattle.rules.specs.Refusal.{code}
 use Rattle.rules.specs.declared.Kind.the-variants as kind
 use Rattle.rules.specs.declared.Outcome.{Outcome}
 use Rattle.rules.proofs.AllInRange.{all-in}
@@ -40,7 +40,7 @@ use Rattle.doubles_guess.specs.Units.{Double}
 use Rattle.doubles_guess.proofs.Steps.{guess-whole}
 use Rattle.doubles_interval.specs.Interval.{Steps}
 use Rattle.doubles_lists.specs.Lists.{doubleAt}
-use Rattle.doubles_lists.specs.Inward.{Incoming, saidGuessed, inwardAnswer, GuessesOf}
+use Rattle.doubles_lists.specs.Inward.{Incoming, guessesCode, inwardAnswer, GuessesOf}
 use Rattle.doubles_lists.specs.Outward.{outgoing, outwardAnswer}
 use Rattle.doubles_lists.specs.declared.Guessed.{Guessed}
 use Rattle.doubles_lists.proofs.Inward as inward
@@ -65,7 +65,7 @@ module _ (n s : ℕ) (guess : List ℤ) (bounds : List ℕ) (low high : List Flo
   pub numbers-taken : 0 < n → n ≤ 32 → s ≤ 20 → 32 ≤ length guess → 32 ≤ length bounds → 32 ≤ length low → 32 ≤ length high →
       ((i : ℕ) → i < n → natAbs (at guess i) ≤ 2 ^ 36) → ((i : ℕ) → i < n → getD bounds i 0 ≤ 2 ^ 60) → outwardAnswer (outgoing n s guess bounds low high) ≡ []
   numbers-taken some few scale hx he hl hh x e =
-      outward.said-nothing (outgoing n s guess bounds low high) .1 (
+      outward.code-nothing (outgoing n s guess bounds low high) .1 (
         rw (le-ltb (length guess) 32 hx, le-ltb (length bounds) 32 he, le-ltb (length low) 32 hl, le-ltb (length high) 32 hh),
         both (both (in-size-range n some few) (in-scale s scale))
             (both (all-in kind.Guess n (at guess) (λ i l. in-guess (at guess i) (x i l))) (every-in n _ (λ i l. le-leb (getD bounds i 0) (2 ^ 60) (e i l)))),
@@ -80,7 +80,7 @@ written-taken J u f {E} e small low high hl hh =
     numbers-taken (J .n) (J .s) (J .guess) E low high (fit .some) (fit .few) (fit .solution-scale) (long-of J (u .long) .guess) (omega (arith, long, fit .solution-long)) hl hh (fit .guess .within .magnitudes)
     (λ i l. rw (at-place i l) (small i l))
 
-pub checked-taken : (J : Input) {a : Outcome} {E L : List ℕ} → Checked J a E L → said a ≡ [] → (low high : List Float) → 32 ≤ length low → 32 ≤ length high →
+pub checked-taken : (J : Input) {a : Outcome} {E L : List ℕ} → Checked J a E L → code a ≡ [] → (low high : List Float) → 32 ≤ length low → 32 ≤ length high →
     outwardAnswer (outgoing (J .n) (J .s) (J .guess) E low high) ≡ []
 checked-taken J {a} {E} {L} c ok =
     let none : answer J ≡ [] = sym (c .says) ∙ ok in
@@ -88,12 +88,12 @@ checked-taken J {a} {E} {L} c ok =
     let fit = fit-of J (u .long) (u .inside) in
     written-taken J u (bound (problem J)) (c .solution-bounds ∙ limits.solution-written J none) (solution-magnitude J fit (sym (answer-ready J (u .long) (u .inside)) ∙ none))
 
-pub guesses-taken : (I : Incoming) {a : Guessed} {guess : List ℤ} → GuessesOf I a guess → saidGuessed a ≡ [] →
+pub guesses-taken : (I : Incoming) {a : Guessed} {guess : List ℤ} → GuessesOf I a guess → guessesCode a ≡ [] →
     (bounds : List ℕ) (low high : List Float) → 32 ≤ length bounds → 32 ≤ length low → 32 ≤ length high → ((i : ℕ) → i < I .n → getD bounds i 0 ≤ 2 ^ 60) →
     outwardAnswer (outgoing (I .n) (I .s) guess bounds low high) ≡ []
 guesses-taken I {a} {guess} c ok bounds low high hb hl hh e =
     let none : inwardAnswer I ≡ [] = sym (c .says) ∙ ok in
-    let n = inward.said-nothing I .0 none in
+    let n = inward.code-nothing I .0 none in
     let size = size-range (I .n) (both-left (inRange kind.Size (pos (I .n))) _ (n .1)) in
     let long : length guess ≡ length (I .guess) = ap length (c .guesses) ∙ inward.after-length I in
     numbers-taken (I .n) (I .s) guess bounds low high (size .0) (size .1) (inward.ready I (n .0) (n .1) .scale)

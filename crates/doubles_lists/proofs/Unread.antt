@@ -1,7 +1,7 @@
 -- What is past the first n places is not read, nor what the lists that are written held before.
---   same-said-in, same-guesses — of two calls of `guesses_of` with lists long enough that agree on n, s and the first n doubles: what is said, and the first n
+--   same-code-in, same-guesses — of two calls of `guesses_of` with lists long enough that agree on n, s and the first n doubles: what is said, and the first n
 --     guesses where nothing is said
---   same-said-out, same-ends — the same of two calls of `intervals_of` that agree on n, s and the first n guesses and limits
+--   same-code-out, same-ends — the same of two calls of `intervals_of` that agree on n, s and the first n guesses and limits
 use mathlib.Core.Path.{_≡_, sym, ap, ap₂, _∙_}
 use mathlib.Core.Bool.{Bool, false, not, _&&_}
 use mathlib.Core.List.{List, [], _∷_}
@@ -32,15 +32,15 @@ module _ (n s : ℕ) (values values′ : List Float) (guess guess′ : List ℤ)
   I′ = incoming n s values′ guess′
 
   module _ (long : shortIncoming I ≡ false) (long′ : shortIncoming I′ ≡ false) where
-    pub same-said-in : inwardAnswer I ≡ inwardAnswer I′
+    pub same-code-in : inwardAnswer I ≡ inwardAnswer I′
     unfolding inwardAnswer
-    same-said-in =
+    same-code-in =
         rw (long, long′)
         (ap (λ (b : Bool). verdict (number 8 false ∷ number 3 (not (exchangeSizes n s)) ∷ number 19 (not b) ∷ []))
         (every-ext n _ _ (λ i l. ap (hasGuess s) (h i l))))
 
     pub same-guesses : inwardAnswer I ≡ [] → (i : ℕ) → i < n → at (guessesAfter I) i ≡ at (guessesAfter I′) i
-    same-guesses e i l = after-at I e i l ∙ ap (guessFor s) (h i l) ∙ sym (after-at I′ (sym same-said-in ∙ e) i l)
+    same-guesses e i l = after-at I e i l ∙ ap (guessFor s) (h i l) ∙ sym (after-at I′ (sym same-code-in ∙ e) i l)
 
 module _ (n s : ℕ) (guess guess′ : List ℤ) (bounds bounds′ : List ℕ) (low low′ high high′ : List Float)
     (hx : (i : ℕ) → i < n → at guess i ≡ at guess′ i) (he : (i : ℕ) → i < n → getD bounds i 0 ≡ getD bounds′ i 0) where
@@ -51,9 +51,9 @@ module _ (n s : ℕ) (guess guess′ : List ℤ) (bounds bounds′ : List ℕ) (
   O′ = outgoing n s guess′ bounds′ low′ high′
 
   module _ (long : shortOutgoing O ≡ false) (long′ : shortOutgoing O′ ≡ false) where
-    pub same-said-out : outwardAnswer O ≡ outwardAnswer O′
+    pub same-code-out : outwardAnswer O ≡ outwardAnswer O′
     unfolding outwardAnswer
-    same-said-out =
+    same-code-out =
         rw (long, long′)
         (ap₂ (λ (x e : Bool). verdict (number 8 false ∷ number 3 (not (exchangeSizes n s && (x && e))) ∷ []))
         (all-ext kind.Guess n _ _ hx) (every-ext n _ _ (λ i l. ap (λ (e : ℕ). leb e (2 ^ 60)) (he i l))))
@@ -61,6 +61,6 @@ module _ (n s : ℕ) (guess guess′ : List ℤ) (bounds bounds′ : List ℕ) (
     pub same-ends : outwardAnswer O ≡ [] → (i : ℕ) → i < n →
         (doubleAt (lowsAfter O) i ≡ doubleAt (lowsAfter O′) i) × (doubleAt (highsAfter O) i ≡ doubleAt (highsAfter O′) i)
     same-ends e i l =
-        let e′ = sym same-said-out ∙ e in
+        let e′ = sym same-code-out ∙ e in
         let v : intervalOf s (at guess i) (getD bounds i 0) ≡ intervalOf s (at guess′ i) (getD bounds′ i 0) = ap₂ (intervalOf s) (hx i l) (he i l) in
         (low-after O e i l ∙ ap (λ (x : Interval). x .low) v ∙ sym (low-after O′ e′ i l), high-after O e i l ∙ ap (λ (x : Interval). x .high) v ∙ sym (high-after O′ e′ i l))

@@ -1,7 +1,7 @@
 -- Doubles in: what `guesses_of` says and leaves. Document 02, Paper 11: "A double becomes a guess by rounding its exact value times S to a nearest whole
 -- number, halves away from zero; minus zero gives 0. [..] (8 and 3 first, then new 19, for a double that is not finite or whose guess leaves its range; the
 -- guess list is untouched. [..])"
---   saidGuessed r — what an answer says: nothing where it is accepted, else the number of the refusal and its values
+--   guessesCode r — what an answer says: nothing where it is accepted, else the number of the refusal and its values
 --   Incoming, incoming — n, s, the doubles, and the guess list as it comes in
 --   shortIncoming I — 8: a lent list is too short
 --   allHaveGuess I — each of the first n doubles is finite and gives a guess in its range; 19 where not
@@ -28,10 +28,10 @@ use Rattle.doubles_guess.specs.Units.{Double}
 use Rattle.doubles_lists.specs.declared.Guessed.{Guessed}
 use Rattle.doubles_lists.specs.declared.Guessed.the-variants.{Accepted, Refused, NoGuess}
 
-abbrev pub saidGuessed : Guessed → List ℕ
-saidGuessed Accepted = []
-saidGuessed (Refused r) = numberOf r ∷ valuesOf r
-saidGuessed NoGuess = 19 ∷ []
+abbrev pub guessesCode : Guessed → List ℕ
+guessesCode Accepted = []
+guessesCode (Refused r) = numberOf r ∷ valuesOf r
+guessesCode NoGuess = 19 ∷ []
 
 pub record Incoming : Type 0 where
   pub n : ℕ
@@ -62,7 +62,7 @@ unfoldable pub guessesAfter : Incoming → List ℤ
 guessesAfter I = ifAccepted (inwardAnswer I) (written (I .guess) 0 1 (λ (i : ℕ). guessFor (I .s) (doubleAt (I .values) i)) (I .n)) (I .guess)
 
 pub record GuessesOf (I : Incoming) (r : Guessed) (guess : List ℤ) : Type 0 where
-  pub says : saidGuessed r ≡ inwardAnswer I
+  pub says : guessesCode r ≡ inwardAnswer I
   pub guesses : guess ≡ guessesAfter I
-  pub doubles : saidGuessed r ≡ [] → (i : ℕ) → i < I .n → Double (doubleAt (I .values) i)
-  pub nearest : saidGuessed r ≡ [] → (i : ℕ) → i < I .n → Nearest (I .s) (doubleAt (I .values) i) (at guess i)
+  pub doubles : guessesCode r ≡ [] → (i : ℕ) → i < I .n → Double (doubleAt (I .values) i)
+  pub nearest : guessesCode r ≡ [] → (i : ℕ) → i < I .n → Nearest (I .s) (doubleAt (I .values) i) (at guess i)

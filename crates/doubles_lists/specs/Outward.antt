@@ -23,7 +23,7 @@ use Rattle.linear.specs.Slice.{at}
 use Rattle.linear.specs.Written.{written}
 use Rattle.rules.specs.Order.{Test, number, verdict, ifAccepted}
 use Rattle.rules.specs.Range.{allInRange, shortColumn}
-use Rattle.rules.specs.Refusal.{said}
+use Rattle.rules.specs.Refusal.{code}
 use Rattle.rules.specs.declared.Kind.the-variants as kind
 use Rattle.rules.specs.declared.Outcome.{Outcome}
 use Rattle.doubles_interval.specs.Interval.{intervalOf, Outward}
@@ -72,10 +72,10 @@ unfoldable pub highsAfter : Outgoing → List Float
 highsAfter I = ifAccepted (outwardAnswer I) (written (I .high) 0 1 (λ (i : ℕ). endsAt I i .high) (I .n)) (I .high)
 
 pub record IntervalsOf (I : Outgoing) (r : Outcome) (low high : List Float) : Type 0 where
-  pub says : said r ≡ outwardAnswer I
+  pub says : code r ≡ outwardAnswer I
   pub lows : low ≡ lowsAfter I
   pub highs : high ≡ highsAfter I
-  pub outward : said r ≡ [] → (i : ℕ) → i < I .n → Outward (I .s) (at (I .guess) i) (getD (I .bounds) i 0) (endsIn low high i)
+  pub outward : code r ≡ [] → (i : ℕ) → i < I .n → Outward (I .s) (at (I .guess) i) (getD (I .bounds) i 0) (endsIn low high i)
 
 pub record Reckonable (n s : ℕ) (guess : List ℤ) (bounds : List ℕ) : Type 0 where
   pub scale : s ≤ 20

@@ -6,7 +6,7 @@ use mathlib.Core.List.{List, [], _∷_}
 use Prim.Native.Nat.{ℕ, _+_, _-_, _≤_, _<_}
 use native.Mathlib.Omega.{arith}
 use lib.ListN.{length, take, drop}
-use Rattle.rules.specs.Refusal.{said, numberOf, valuesOf}
+use Rattle.rules.specs.Refusal.{code, numberOf, valuesOf}
 use Rattle.rules.specs.declared.Outcome.{Outcome}
 use Rattle.rules.specs.declared.Outcome.the-variants.{Accepted, Refused}
 use Rattle.rules.specs.declared.Refusal.{Refusal}
@@ -42,8 +42,8 @@ abbrev collectedAs : Outcome → ℕ → Loader → Lists → Collected
 collectedAs o k d l =
     record { outcome = o; line = k; loader = d; matrix = l .matrix; right = l .right; tolerance = l .tolerance; guess = l .guess; inverse = l .inverse; weights = l .weights }
 
-read-as : (file : List ℕ) {l : Lists} {k : ℕ} {d : Loader} (o : Outcome) → record { said = said o; line = k; state = state d l } ≡ readingOf file → ReadAs file (collectedAs o k d l)
-read-as file o e = record { says = ap (λ (R : Reading). R .said) e; line = ap (λ (R : Reading). R .line) e; state = ap (λ (R : Reading). R .state) e }
+read-as : (file : List ℕ) {l : Lists} {k : ℕ} {d : Loader} (o : Outcome) → record { code = code o; line = k; state = state d l } ≡ readingOf file → ReadAs file (collectedAs o k d l)
+read-as file o e = record { says = ap (λ (R : Reading). R .code) e; line = ap (λ (R : Reading). R .line) e; state = ap (λ (R : Reading). R .state) e }
 
 pub at-end : (file : List ℕ) {l : Lists} {k at : ℕ} {d : Loader} → ReadUpTo file k at d l → length file ≤ at → ReadAs file (collectedAs Accepted k d l)
 at-end file {l} {k} {at} {d} h m = read-as file Accepted (sym (read-none k (state d l)) ∙ rw (lines-end file m) at (h .so))
@@ -61,7 +61,7 @@ module _ (file : List ℕ) {l l′ : Lists} {k at end : ℕ} {d : Loader} {r : T
 
   pub read-on : r .outcome ≡ Accepted → ReadUpTo file (k + 1) (end + 1) (r .loader) l′
   read-on e =
-      let s : lineAnswer d l line ≡ [] = sym (taken .says) ∙ ap said e in
+      let s : lineAnswer d l line ≡ [] = sym (taken .says) ∙ ap code e in
       record {
         so = rw (taken .loader, taken .lists) (sym (read-accepted k (state d l) line rest s) ∙ split);
         few = omega (arith, h .few, place .0);
@@ -71,6 +71,6 @@ module _ (file : List ℕ) {l l′ : Lists} {k at end : ℕ} {d : Loader} {r : T
   pub read-refusal : (x : Refusal) → r .outcome ≡ Refused x → ReadAs file (collectedAs (Refused x) (k + 1) d l′)
   unfolding listsAfter
   read-refusal x s =
-      let a : lineAnswer d l line ≡ numberOf x ∷ valuesOf x = sym (taken .says) ∙ ap said s in
+      let a : lineAnswer d l line ≡ numberOf x ∷ valuesOf x = sym (taken .says) ∙ ap code s in
       let same : l′ ≡ l = taken .lists ∙ accepted-old _ _ a in
       read-as file (Refused x) (rw same (sym (read-refused k (state d l) line rest a) ∙ split))

@@ -26,7 +26,7 @@ use Rattle.loader_values.specs.declared.Part.{Part}
 use Rattle.loader_values.proofs.Between.{from-to}
 use Rattle.loader_progress.specs.Progress.{given, missing, scaled, ended}
 use Rattle.loader_progress.proofs.Progress.{placed-of}
-use Rattle.loader_order.proofs.Said.{Passed}
+use Rattle.loader_order.proofs.CodeLaws.{Passed}
 use Rattle.loader.specs.declared.Loader.{Loader}
 use Rattle.loader.specs.Taken.{after}
 use Rattle.loader.proofs.Exact.{formCase}

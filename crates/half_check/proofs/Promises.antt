@@ -15,11 +15,11 @@ use Rattle.linear.specs.Matrix.{Vec, Mat}
 use Rattle.linear.specs.Slice.{at}
 use Rattle.rules.specs.Order.{number}
 use Rattle.rules.specs.Range.{inRange}
-use Rattle.rules.specs.Refusal.{said}
+use Rattle.rules.specs.Refusal.{code}
 use Rattle.rules.specs.declared.Kind.the-variants as kind
 use Rattle.rules.specs.declared.Outcome.{Outcome}
 use Rattle.rules.proofs.Ranges.{not-first}
-use Rattle.rules.proofs.Tests.{said-exactly}
+use Rattle.rules.proofs.Tests.{code-exactly}
 use Rattle.rules.proofs.Verdicts.{nothing-is-not}
 use Rattle.enclosure.specs.Demand.{Encloses, RoundedExact}
 use Rattle.check_spec.specs.Checked.{solutionBoundsAfter, inverseBoundsAfter}
@@ -27,7 +27,7 @@ use Rattle.check_spec.specs.Input.{Input, problem, short, inRanges}
 use Rattle.check_spec.specs.Stated.{Stated}
 use Rattle.check_spec.specs.Order.{answer, reckonedOf}
 use Rattle.check_spec.proofs.Contract.{answer-short, answer-range}
-use Rattle.check_spec.proofs.Statements.{stated, said-of}
+use Rattle.check_spec.proofs.Statements.{stated, code-of}
 use Rattle.half_fill.specs.Half.{halfCount, shortHalf}
 use Rattle.half_fill.proofs.Filling.{filled-same}
 use Rattle.half_check.specs.Checked.{withMatrix, filledInput, CheckedHalf}
@@ -49,32 +49,32 @@ half-length H = go (shortHalf (length (H .matrix))) refl
     go false e = enough e
 
 module _ (H : Input) (r : Outcome) (E L : List ℕ) (h : CheckedHalf H r E L) where
-  pub half-stated : {w : List ℕ} → (said r ≡ w) ↔ HalfStated H w
+  pub half-stated : {w : List ℕ} → (code r ≡ w) ↔ HalfStated H w
   half-stated = (λ e. subst (HalfStated H) e (here (half-length H)), there)
     where
-      here : Length H → HalfStated H (said r)
+      here : Length H → HalfStated H (code r)
       here (under e) = subst (HalfStated H) (sym (h .short-half e .0)) (half-too-short e)
       here (enough e) = as-stated e (subst (Stated (filledInput H)) (sym (h .as-square e .says)) (stated (filledInput H)))
 
-      there : {w : List ℕ} → HalfStated H w → said r ≡ w
+      there : {w : List ℕ} → HalfStated H w → code r ≡ w
       there (half-too-short e) = h .short-half e .0
-      there (as-stated e t) = h .as-square e .says ∙ said-of (filledInput H) t
+      there (as-stated e t) = h .as-square e .says ∙ code-of (filledInput H) t
 
-  pub half-8 : (said r ≡ 8 ∷ []) ↔ (shortHalf (length (H .matrix)) || short (filledInput H) ≡ true)
+  pub half-8 : (code r ≡ 8 ∷ []) ↔ (shortHalf (length (H .matrix)) || short (filledInput H) ≡ true)
   unfolding answer
   half-8 = go (half-length H)
     where
-      go : Length H → (said r ≡ 8 ∷ []) ↔ (shortHalf (length (H .matrix)) || short (filledInput H) ≡ true)
+      go : Length H → (code r ≡ 8 ∷ []) ↔ (shortHalf (length (H .matrix)) || short (filledInput H) ≡ true)
       go (under e) = (λ _. rw e, λ _. h .short-half e .0)
       go (enough e) =
-          let exact = said-exactly [] (number 8 (short (filledInput H))) (number 3 (not (inRanges (filledInput H))) ∷ reckonedOf (problem (filledInput H))) refl refl in
+          let exact = code-exactly [] (number 8 (short (filledInput H))) (number 3 (not (inRanges (filledInput H))) ∷ reckonedOf (problem (filledInput H))) refl refl in
           let s = h .as-square e .says in
           (λ t. rw e (exact .0 (sym s ∙ t) .1), λ t. s ∙ answer-short (filledInput H) (rw e at t))
 
-  pub half-3 : shortHalf (length (H .matrix)) ≡ false → short (filledInput H) ≡ false → inRange kind.Size (pos (H .n)) ≡ false → said r ≡ 3 ∷ []
+  pub half-3 : shortHalf (length (H .matrix)) ≡ false → short (filledInput H) ≡ false → inRange kind.Size (pos (H .n)) ≡ false → code r ≡ 3 ∷ []
   half-3 e f out = h .as-square e .says ∙ answer-range (filledInput H) f (not-first _ (not-first _ out))
 
-  pub half-encloses : said r ≡ [] → Encloses (problem (filledInput H)) (λ (i : ℕ). getD E i 0) (λ (i j : ℕ). getD L (i * H .n + j) 0)
+  pub half-encloses : code r ≡ [] → Encloses (problem (filledInput H)) (λ (i : ℕ). getD E i 0) (λ (i j : ℕ). getD L (i * H .n + j) 0)
   half-encloses t = go (half-length H)
     where
       go : Length H → Encloses (problem (filledInput H)) (λ (i : ℕ). getD E i 0) (λ (i j : ℕ). getD L (i * H .n + j) 0)
@@ -82,12 +82,12 @@ module _ (H : Input) (r : Outcome) (E L : List ℕ) (h : CheckedHalf H r E L) wh
       go (enough e) = h .as-square e .encloses t
 
   pub half-accepts : (N : Vec) (q : ℕ) (G : Mat) (q′ : ℕ) → shortHalf (length (H .matrix)) ≡ false → short (filledInput H) ≡ false → inRanges (filledInput H) ≡ true →
-      RoundedExact (problem (filledInput H)) N q G q′ → said r ≡ []
+      RoundedExact (problem (filledInput H)) N q G q′ → code r ≡ []
   half-accepts N q G q′ e = h .as-square e .accepts N q G q′
 
 module _ (H : Input) (other : List ℤ) (r r′ : Outcome) (E L E′ L′ : List ℕ) where
   pub half-rest : CheckedHalf H r E L → CheckedHalf (withMatrix H other) r′ E′ L′ → shortHalf (length (H .matrix)) ≡ false → shortHalf (length other) ≡ false →
-      ((k : ℕ) → k < halfCount (H .n) → at (H .matrix) k ≡ at other k) → (said r ≡ said r′) × ((E ≡ E′) × (L ≡ L′))
+      ((k : ℕ) → k < halfCount (H .n) → at (H .matrix) k ≡ at other k) → (code r ≡ code r′) × ((E ≡ E′) × (L ≡ L′))
   half-rest h h′ e e′ same =
       let a = h .as-square e in
       let b = h′ .as-square e′ in

@@ -12,7 +12,7 @@ use lib.IntN.{ℤ, pos}
 use lib.ListN.{getD, length}
 use Rattle.linear.specs.Slice.{at, matrixOf}
 use Rattle.rules.specs.Range.{inRange, shortMatrix}
-use Rattle.rules.specs.Refusal.{said}
+use Rattle.rules.specs.Refusal.{code}
 use Rattle.rules.specs.declared.Kind.the-variants as kind
 use Rattle.rules.specs.declared.Outcome.{Outcome}
 use Rattle.rules.proofs.Ranges.{both-left, not-first, neither-right, size-range}
@@ -65,10 +65,10 @@ module _ (H : Input) (A : List ℤ) (long : short (filledInput H) ≡ false) (wi
       go false e = answer-range (filledInput H) long (not-first _ (not-first _ e)) ∙ sym (answer-range (withMatrix H A) long-square (not-first _ (not-first _ e)))
 
   module _ (r r′ : Outcome) (E L E′ L′ : List ℕ) (h : CheckedHalf H r E L) (h′ : Checked (withMatrix H A) r′ E′ L′) (enough : shortHalf (length (H .matrix)) ≡ false) where
-    pub square-says : said r ≡ said r′
+    pub square-says : code r ≡ code r′
     square-says = h .as-square enough .says ∙ answers ∙ sym (h′ .says)
 
-    module _ (taken : said r ≡ []) where
+    module _ (taken : code r ≡ []) where
       nothing : answer (filledInput H) ≡ []
       nothing = sym (h .as-square enough .says) ∙ taken
 

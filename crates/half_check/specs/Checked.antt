@@ -9,7 +9,7 @@ use mathlib.Core.Path.{_≡_}
 use Prim.Native.Nat.{ℕ}
 use lib.IntN.{ℤ}
 use lib.ListN.{length}
-use Rattle.rules.specs.Refusal.{said}
+use Rattle.rules.specs.Refusal.{code}
 use Rattle.rules.specs.declared.Outcome.{Outcome}
 use Rattle.check_spec.specs.Checked.{Checked}
 use Rattle.check_spec.specs.Input.{Input, input}
@@ -25,5 +25,5 @@ filledInput H = withMatrix H (filledOut (H .n) (H .matrix))
 -- 02: "Where the lent lists are long enough, its outcome for every input equals that of the square entry on the filled-out matrix, refusals and written limits
 -- included." "(8 for a list under 528.)"
 pub record CheckedHalf (H : Input) (r : Outcome) (E L : List ℕ) : Type 0 where
-  pub short-half : shortHalf (length (H .matrix)) ≡ true → (said r ≡ 8 ∷ []) × ((E ≡ H .solutionBounds) × (L ≡ H .inverseBounds))
+  pub short-half : shortHalf (length (H .matrix)) ≡ true → (code r ≡ 8 ∷ []) × ((E ≡ H .solutionBounds) × (L ≡ H .inverseBounds))
   pub as-square : shortHalf (length (H .matrix)) ≡ false → Checked (filledInput H) r E L

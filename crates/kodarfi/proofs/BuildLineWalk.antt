@@ -136,8 +136,8 @@ module _ {M : Type 1} (𝓤 : URA M) (H : Heap 𝓤) (A : Atoms 𝓤) (W : Given
   asked-open : ent 𝓤 (onEntry 𝓤 H A open-fn.signature tt tt (n, (k, tt)) (vint w32 n ∷ [], (vint w64 k ∷ [], tt))) (Open 𝓤 H A mem run .pre to-open)
   asked-open = qed W (‵ ftrue ∷ ‵ (owns (u32 ∷ usize ∷ []) (n, (k, tt)) (vint w32 n ∷ [], (vint w64 k ∷ [], tt))) ∷ []) ∵ join ! $ frame ! $ done !
 
-  said-open : (s : Progress) → ent 𝓤 (ensured 𝓤 H A open-fn.ended (open-fn.clauses 𝓤 H A mem run) tt (n, (k, tt)) tt s) (fact 𝓤 (s ≡ openingProgress n k))
-  said-open s = exE 𝓤 _ (λ ws. snd∗ 𝓤 (sem 𝓤 H A (lasts open-fn.ended tt (n, (k, tt)) ws)) (fact 𝓤 (s ≡ openingProgress n k)))
+  code-open : (s : Progress) → ent 𝓤 (ensured 𝓤 H A open-fn.ended (open-fn.clauses 𝓤 H A mem run) tt (n, (k, tt)) tt s) (fact 𝓤 (s ≡ openingProgress n k))
+  code-open s = exE 𝓤 _ (λ ws. snd∗ 𝓤 (sem 𝓤 H A (lasts open-fn.ended tt (n, (k, tt)) ws)) (fact 𝓤 (s ≡ openingProgress n k)))
 
   abbrev to-all : Progress → Val → All 𝓤 H A mem run .Ghost
   to-all s v = (((κ, tt), (q, tt), tt, (x, (s, tt)), (sl x ∷ [], (v ∷ [], tt))), tt)
@@ -145,8 +145,8 @@ module _ {M : Type 1} (𝓤 : URA M) (H : Heap 𝓤) (A : Atoms 𝓤) (W : Given
   asked-all : (s : Progress) (v : Val) → ent 𝓤 (onEntry 𝓤 H A all-fn.signature (κ, tt) (q, tt) (x, (s, tt)) (sl x ∷ [], (v ∷ [], tt))) (All 𝓤 H A mem run .pre (to-all s v))
   asked-all s v = qed W ((‵ (flft κ q) ⊛ ‵ ftrue) ∷ ‵ (owns (ShrSlice (named 0) κ R ∷ P.the-row ∷ []) (x, (s, tt)) (sl x ∷ [], (v ∷ [], tt))) ∷ []) ∵ join ! $ frame ! $ done !
 
-  said-all : (s : Progress) (g : Gathered) → ent 𝓤 (ensured 𝓤 H A all-fn.ended (all-fn.clauses 𝓤 H A mem run) (κ, tt) (x, (s, tt)) tt g) (fact 𝓤 (g ≡ gathered (together s noLines) (x .now) (few k)))
-  said-all s g = exE 𝓤 _ (λ ws. snd∗ 𝓤 (sem 𝓤 H A (lasts all-fn.ended (κ, tt) (x, (s, tt)) ws)) (fact 𝓤 (g ≡ gathered (together s noLines) (x .now) (few k))))
+  code-all : (s : Progress) (g : Gathered) → ent 𝓤 (ensured 𝓤 H A all-fn.ended (all-fn.clauses 𝓤 H A mem run) (κ, tt) (x, (s, tt)) tt g) (fact 𝓤 (g ≡ gathered (together s noLines) (x .now) (few k)))
+  code-all s g = exE 𝓤 _ (λ ws. snd∗ 𝓤 (sem 𝓤 H A (lasts all-fn.ended (κ, tt) (x, (s, tt)) ws)) (fact 𝓤 (g ≡ gathered (together s noLines) (x .now) (few k))))
 
   -- what was gathered
   is-whole : (s : Progress) (g : Gathered) → s ≡ openingProgress n k → g ≡ gathered (together s noLines) (x .now) (few k) → g ≡ gatheredOf n (x .now)
@@ -195,7 +195,7 @@ module _ {M : Type 1} (𝓤 : URA M) (H : Heap 𝓤) (A : Atoms 𝓤) (W : Given
         use2 W (raw (Open 𝓤 H A mem run .pre to-open)) asked-open $
         calls-at ! fm (Open 𝓤 H A mem run) known-open to-open (and-then ! (load ! (from ! (stop !)) (look ! 27 refl)) (and-then ! (load ! (from ! (stop !)) (look ! 11 refl)) (no-more !))) (λ v.
         use1 W (later (some (λ (s : Progress). (‵ ftrue ⊛ ‵ (P.the-row .own s (v ∷ []))) ⊛ raw (ensured 𝓤 H A open-fn.ended (open-fn.clauses 𝓤 H A mem run) tt (n, (k, tt)) tt s)))) (id⊢ 𝓤 _) $ await ! tt $ pick ! (λ s.
-        split ! $ move ! (1 ∷ []) $ use1 W (raw (fact 𝓤 (s ≡ openingProgress n k))) (said-open s) $ heard ! (s ≡ openingProgress n k) (λ p. split ! $ move ! (1 ∷ []) $
+        split ! $ move ! (1 ∷ []) $ use1 W (raw (fact 𝓤 (s ≡ openingProgress n k))) (code-open s) $ heard ! (s ≡ openingProgress n k) (λ p. split ! $ move ! (1 ∷ []) $
         peeks ! P.the-row (Is P.the-row) (shows 𝓤 H A P.the-row) s (v ∷ []) (λ is₀. land ! (from ! (stop !)) (init ! 16 refl (typed-far s v is₀)) $ move ! (1 ∷ []) $ drop ! $
         -- [what was opened; _14; …; the tokens; what is owned]
         move ! (32 ∷ []) $ fsplit ! $ drop ! $ fsplit ! $ move ! (1 ∷ []) $ fsplit ! $ move ! (1 ∷ []) $ fsplit ! $ move ! (1 ∷ []) $ fsplit ! $ move ! (1 ∷ []) $ drop ! $
@@ -207,7 +207,7 @@ module _ {M : Type 1} (𝓤 : URA M) (H : Heap 𝓤) (A : Atoms 𝓤) (W : Given
         use2 W (raw (All 𝓤 H A mem run .pre (to-all s v))) (asked-all s v) $
         calls-at ! fm (All 𝓤 H A mem run) known-all (to-all s v) (and-then ! (load ! (from ! (stop !)) (look ! 30 refl)) (and-then ! (load ! (from ! (stop !)) (look ! 20 refl)) (no-more !))) (λ u.
         use1 W (later (some (λ (g : Gathered). ((‵ (flft κ q) ⊛ ‵ ftrue) ⊛ ‵ (S.the-row .own g (u ∷ []))) ⊛ raw (ensured 𝓤 H A all-fn.ended (all-fn.clauses 𝓤 H A mem run) (κ, tt) (x, (s, tt)) tt g)))) (id⊢ 𝓤 _) $ await ! tt $ pick ! (λ g.
-        split ! $ move ! (1 ∷ []) $ use1 W (raw (fact 𝓤 (g ≡ gathered (together s noLines) (x .now) (few k)))) (said-all s g) $ heard ! (g ≡ gathered (together s noLines) (x .now) (few k)) (λ e. split ! $ move ! (1 ∷ []) $
+        split ! $ move ! (1 ∷ []) $ use1 W (raw (fact 𝓤 (g ≡ gathered (together s noLines) (x .now) (few k)))) (code-all s g) $ heard ! (g ≡ gathered (together s noLines) (x .now) (few k)) (λ e. split ! $ move ! (1 ∷ []) $
         peeks ! S.the-row (Is S.the-row) (shows 𝓤 H A S.the-row) g (u ∷ []) (λ is. land ! (from ! (stop !)) (init ! 19 refl (typed g u is)) $
         -- [what was gathered; the token; the others; lines; line; right; matrix; _14; …]
         assigns ! (addr ! (from ! (fld ! refl (hop ! (look-in ! 29 (sub ! 0 refl (whole-part !))) (stop !))))) (from ! (stop !)) (init ! 15 refl (tt, tt)) $

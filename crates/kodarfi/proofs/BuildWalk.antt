@@ -38,7 +38,7 @@ use denote.Triple.Call.{calls-at}
 use denote.Triple.Clauses.{ensured, lasts}
 use Rattle.build_lines.specs.declared.Built.{Built}
 use Rattle.build_lines.specs.declared.Observation.{Observation}
-use Rattle.build_lines.specs.Order.{saidBuilt}
+use Rattle.build_lines.specs.Order.{buildCode}
 use Rattle.build_lines.proofs.Built as B
 use Rattle.build_lines.proofs.Built.Laws as B′
 use Rattle.build_equations.specs.declared.Layout.{Layout}
@@ -107,8 +107,8 @@ module _ {M : Type 1} (𝓤 : URA M) (H : Heap 𝓤) (A : Atoms 𝓤) (W : Given
   asked-number : (b : Built) (w : Val) → ent 𝓤 (onEntry 𝓤 H A number-fn.signature tt tt (b, tt) (w ∷ [], tt)) (Number 𝓤 H A mem run .pre (to-number b w))
   asked-number b w = qed W (‵ ftrue ∷ ‵ (owns (B.the-row ∷ []) (b, tt) (w ∷ [], tt)) ∷ []) ∵ join ! $ frame ! $ done !
 
-  said-number : (b : Built) (z : ℕ) → ent 𝓤 (ensured 𝓤 H A number-fn.ended (number-fn.clauses 𝓤 H A mem run) tt (b, tt) tt z) (fact 𝓤 (z ≡ getD (saidBuilt b) 0 0))
-  said-number b z = exE 𝓤 _ (λ ws. snd∗ 𝓤 (sem 𝓤 H A (lasts number-fn.ended tt (b, tt) ws)) (fact 𝓤 (z ≡ getD (saidBuilt b) 0 0)))
+  code-number : (b : Built) (z : ℕ) → ent 𝓤 (ensured 𝓤 H A number-fn.ended (number-fn.clauses 𝓤 H A mem run) tt (b, tt) tt z) (fact 𝓤 (z ≡ getD (buildCode b) 0 0))
+  code-number b z = exE 𝓤 _ (λ ws. snd∗ 𝓤 (sem 𝓤 H A (lasts number-fn.ended tt (b, tt) ws)) (fact 𝓤 (z ≡ getD (buildCode b) 0 0)))
 
   module _ (C : Calls 𝓤 H) (Λ : Loops 𝓤 H) (fm : FmC 𝓤 H (W .laws) C) (known-build : Triple 𝓤 (C #builder·build) (Build 𝓤 H A mem run)) (known-number : Triple 𝓤 (C #reply·built-number) (Number 𝓤 H A mem run))
       (rm : Room i64 (length (m .now))) (rr : Room i64 (length (r .now))) (Post : Val → SProp 𝓤) (exits : Exits Post) (l₀ l₁ l₂ l₃ l₄ l₅ l₆ l₇ l₈ l₉ l₁₀ : ℕ) where
@@ -152,7 +152,7 @@ module _ {M : Type 1} (𝓤 : URA M) (H : Heap 𝓤) (A : Atoms 𝓤) (W : Given
         -- [what built_number asks; the tokens; last right; last matrix; lines; _10; …]
         calls-at ! fm (Number 𝓤 H A mem run) known-number (to-number b w) (and-then ! (load ! (from ! (stop !)) (look ! 15 refl)) (no-more !)) (λ v.
         use1 W (later (some (λ (z : ℕ). (‵ ftrue ⊛ ‵ (u32 .own z (v ∷ []))) ⊛ raw (ensured 𝓤 H A number-fn.ended (number-fn.clauses 𝓤 H A mem run) tt (b, tt) tt z)))) (id⊢ 𝓤 _) $ await ! tt $ pick ! (λ z.
-        split ! $ move ! (1 ∷ []) $ use1 W (raw (fact 𝓤 (z ≡ getD (saidBuilt b) 0 0))) (said-number b z) $ heard ! (z ≡ getD (saidBuilt b) 0 0) (λ e. split ! $ move ! (1 ∷ []) $
+        split ! $ move ! (1 ∷ []) $ use1 W (raw (fact 𝓤 (z ≡ getD (buildCode b) 0 0))) (code-number b z) $ heard ! (z ≡ getD (buildCode b) 0 0) (λ e. split ! $ move ! (1 ∷ []) $
         peeks ! u32 (Is u32) (shows 𝓤 H A u32) z (v ∷ []) (λ is′. land ! (from ! (stop !)) (init ! 26 refl (uint-lawful 𝓤 H A W w32 .typed z _ is′ .0)) $ move ! (1 ∷ []) $ drop ! $
         -- [the number; the tokens; last right; last matrix; lines; _10; …]
         returns ! (look ! 25 refl) $ forget ! 5 refl $ forget ! 7 refl $ forget ! 9 refl $ forget ! 11 refl $ forget ! 13 refl $ forget ! 15 refl $ forget ! 17 refl $ forget ! 19 refl $ forget ! 21 refl $ forget ! 23 refl $ forget ! 25 refl $

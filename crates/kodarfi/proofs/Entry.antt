@@ -6,7 +6,7 @@ use Prim.Native.Nat.{ℕ}
 use lib.IntN.{ℤ}
 use Rattle.rules.specs.Refusal.{numberOf, valuesOf}
 use Rattle.rules.specs.declared.Refusal.{Refusal}
-use Rattle.entry.specs.Register.{saidEntry, RegisteredAs}
+use Rattle.entry.specs.Register.{entryCode, RegisteredAs}
 use Rattle.entry.specs.declared.Registered.{Registered}
 use Rattle.entry.specs.declared.Registered.the-variants.{Entry, Refused}
 use Rattle.calls_spec.specs.Exported.{EntryExported}
@@ -27,8 +27,8 @@ module _ {x : ℤ} {e s : ℕ} {r : Registered} (g : RegisteredAs x e s r) (v₀
     answer = r;
     registered = g;
     told = rw q t;
-    value-is = rw q (p ∙ ap (valueIn v₀) (sym q ∙ g .entry (ap saidEntry q)));
-    bound-is = rw q (ap boundIn (sym q ∙ g .entry (ap saidEntry q)));
+    value-is = rw q (p ∙ ap (valueIn v₀) (sym q ∙ g .entry (ap entryCode q)));
+    bound-is = rw q (ap boundIn (sym q ∙ g .entry (ap entryCode q)));
   }
 
   pub refusal-exported : {f : Refusal} {number : ℕ} {places : List ℕ} → r ≡ Refused f → Told (numberOf f ∷ valuesOf f) number places → EntryExported x e s v₀ b₀ number places v₀ b₀

@@ -15,14 +15,14 @@ use Rattle.listing.specs.Listing.{listingOf}
 use Rattle.listing.proofs.Entire.{answer-refused, listing-from}
 
 -- a text that is the refusal's line where a line of the file is refused
-module _ (text : List ℕ → List ℕ) (refused : (s : List ℕ) (k : ℕ) (vs : List ℕ) → readingOf s .said ≡ k ∷ vs → text s ≡ refusedOf (printed (readingOf s .line) (k ∷ vs))) where
+module _ (text : List ℕ → List ℕ) (refused : (s : List ℕ) (k : ℕ) (vs : List ℕ) → readingOf s .code ≡ k ∷ vs → text s ≡ refusedOf (printed (readingOf s .line) (k ∷ vs))) where
   -- a refusal decides the text
-  refused-alike : (s t : List ℕ) → readingOf t ≡ readingOf s → (readingOf s .said ≡ [] → ⊥) → text s ≡ text t
-  refused-alike s t e n = go (readingOf s .said) refl
+  refused-alike : (s t : List ℕ) → readingOf t ≡ readingOf s → (readingOf s .code ≡ [] → ⊥) → text s ≡ text t
+  refused-alike s t e n = go (readingOf s .code) refl
     where
-      go : (r : List ℕ) → readingOf s .said ≡ r → text s ≡ text t
+      go : (r : List ℕ) → readingOf s .code ≡ r → text s ≡ text t
       go [] q = absurd (n q)
-      go (k ∷ vs) q = refused s k vs q ∙ ap (λ (R : Reading). refusedOf (printed (R .line) (k ∷ vs))) (sym e) ∙ sym (refused t k vs (ap (λ (R : Reading). R .said) e ∙ q))
+      go (k ∷ vs) q = refused s k vs q ∙ ap (λ (R : Reading). refusedOf (printed (R .line) (k ∷ vs))) (sym e) ∙ sym (refused t k vs (ap (λ (R : Reading). R .code) e ∙ q))
 
   pub first-decide : (s : List ℕ) → text s ≡ text (take bytesMost s)
   first-decide s = go (file.file-first-bytes zeros s)

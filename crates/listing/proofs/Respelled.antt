@@ -17,7 +17,7 @@ use Rattle.loader_runs.specs.Run.{fromNew}
 use Rattle.loader_runs.proofs.Respelled.{respelled-read}
 use Rattle.loader_runs.proofs.Passing.{spelled}
 use Rattle.listing_refusal.specs.Refused.{printed}
-use Rattle.file_check.specs.Shown.{saidOf, shownOf}
+use Rattle.file_check.specs.Shown.{codeOf, shownOf}
 use Rattle.listing.specs.Cases.{wholeFile, spelledOutFile, wholeListing}
 use Rattle.listing.specs.Listing.{answerOf, listingOf}
 use Rattle.listing.proofs.Entire.{answer-refused, listing-from, as-checked}
@@ -27,23 +27,23 @@ module _ (file file′ : List ℕ) (h : Respelled (linesOf file) (linesOf file�
   read : readingOf file ≡ readingOf file′
   read = respelled-read 0 (fromNew zeros) h
 
-  both : (l : List ℕ) → readingOf file .said ≡ l → (answerOf file ≡ answerOf file′) × (listingOf file ≡ listingOf file′)
+  both : (l : List ℕ) → readingOf file .code ≡ l → (answerOf file ≡ answerOf file′) × (listingOf file ≡ listingOf file′)
   both [] e =
       let c = as-checked file e in
-      let d = as-checked file′ (ap (λ (R : Reading). R .said) (sym read) ∙ e) in
+      let d = as-checked file′ (ap (λ (R : Reading). R .code) (sym read) ∙ e) in
       let states : readingOf file .state ≡ readingOf file′ .state = ap (λ (R : Reading). R .state) read in
-      (c .answer ∙ ap saidOf states ∙ sym (d .answer), c .listing ∙ ap shownOf states ∙ sym (d .listing))
+      (c .answer ∙ ap codeOf states ∙ sym (d .answer), c .listing ∙ ap shownOf states ∙ sym (d .listing))
   both (k ∷ vs) e =
       let a = answer-refused file e in
-      let b = answer-refused file′ (ap (λ (R : Reading). R .said) (sym read) ∙ e) in
+      let b = answer-refused file′ (ap (λ (R : Reading). R .code) (sym read) ∙ e) in
       let lines : printed (readingOf file .line) (k ∷ vs) ≡ printed (readingOf file′ .line) (k ∷ vs) = ap (λ (R : Reading). printed (R .line) (k ∷ vs)) read in
       (a ∙ lines ∙ sym b, listing-from file (a ∙ lines) ∙ sym (listing-from file′ b))
 
   pub respelled-answer : answerOf file ≡ answerOf file′
-  respelled-answer = both (readingOf file .said) refl .0
+  respelled-answer = both (readingOf file .code) refl .0
 
   pub respelled-listing : listingOf file ≡ listingOf file′
-  respelled-listing = both (readingOf file .said) refl .1
+  respelled-listing = both (readingOf file .code) refl .1
 
 -- ---- the whole file: its forms before that line, and after it
 abbrev formsBefore : List Form

@@ -27,7 +27,7 @@ use Rattle.line_form.specs.Spelling.{numerals, spell}
 use Rattle.loader_bit_set.specs.Places.{withPlace, lacking}
 use Rattle.loader_progress.specs.Progress.{missing, misplaced}
 use Rattle.loader.specs.Taken.{fresh}
-use Rattle.loader.proofs.Exact.{formSaid}
+use Rattle.loader.proofs.Exact.{formCode}
 use Rattle.loader_runs.specs.Given.{valueFrom, sizeFrom, scalesFrom}
 use Rattle.loader_runs.specs.Run.{fromNew, forms}
 use Rattle.loader_runs.proofs.Passing.{spelled, forms-spelled, passes, pass-all}
@@ -91,7 +91,7 @@ unfolding linesOf spell numerals numeral decimal digits
 whole-spelled = refl
 
 pub whole-passes : passes fresh wholeForms ≡ true
-unfolding passes formSaid spell numerals numeral decimal digits missing misplaced withPlace lacking allInside sumℕ inRange rangeOf ranges
+unfolding passes formCode spell numerals numeral decimal digits missing misplaced withPlace lacking allInside sumℕ inRange rangeOf ranges
 whole-passes = refl
 
 pub whole-checked : checkedOf (problemFrom wholeForms) ≡ []
@@ -126,7 +126,7 @@ unfolding linesOf spell numerals numeral decimal digits
 unweighted-spelled = refl
 
 unweighted-passes : passes fresh unweightedForms ≡ true
-unfolding passes formSaid spell numerals numeral decimal digits missing misplaced withPlace lacking allInside sumℕ inRange rangeOf ranges
+unfolding passes formCode spell numerals numeral decimal digits missing misplaced withPlace lacking allInside sumℕ inRange rangeOf ranges
 unweighted-passes = refl
 
 unweighted-checked : checkedOf (problemFrom unweightedForms) ≡ []

@@ -26,7 +26,7 @@ use Rattle.line_form.specs.Spelling.{numerals, spell}
 use Rattle.loader_bit_set.specs.Places.{withPlace, lacking}
 use Rattle.loader_progress.specs.Progress.{missing, misplaced}
 use Rattle.loader.specs.Taken.{fresh}
-use Rattle.loader.proofs.Exact.{formSaid}
+use Rattle.loader.proofs.Exact.{formCode}
 use Rattle.loader_runs.specs.Given.{valueFrom, sizeFrom, scalesFrom}
 use Rattle.loader_runs.specs.Lines.{linesOf}
 use Rattle.loader_runs.proofs.Passing.{spelled, passes}
@@ -54,7 +54,7 @@ unfolding linesOf spell numerals numeral decimal digits
 tolerant-spelled = refl
 
 tolerant-passes : passes fresh tolerantForms ≡ true
-unfolding passes formSaid spell numerals numeral decimal digits missing misplaced withPlace lacking allInside sumℕ inRange rangeOf ranges
+unfolding passes formCode spell numerals numeral decimal digits missing misplaced withPlace lacking allInside sumℕ inRange rangeOf ranges
 tolerant-passes = refl
 
 tolerant-checked : checkedOf (problemFrom tolerantForms) ≡ []

@@ -8,5 +8,5 @@ use Rattle.loader_progress.specs.Progress.{ended}
 use Rattle.loader_runs.specs.Read.{readingOf}
 
 pub record Complete (file : List ℕ) : Type 0 where
-  pub lines : readingOf file .said ≡ []
+  pub lines : readingOf file .code ≡ []
   pub end : ended (readingOf file .state .loader .stage) ≡ true

@@ -29,7 +29,7 @@ problemIn file = problemFrom (forms (linesOf file))
 unfoldable pub answerOf : List ℕ → List ℕ
 answerOf file =
     let r = readingOf file in
-    orElse (printed (r .line) (r .said)) (printed 0 (cond (ended (r .state .loader .stage)) (checkedOf (problemIn file)) (15 ∷ [])))
+    orElse (printed (r .line) (r .code)) (printed 0 (cond (ended (r .state .loader .stage)) (checkedOf (problemIn file)) (15 ∷ [])))
 
 unfoldable pub listingOf : List ℕ → List ℕ
 listingOf file = lineOr (answerOf file) (reportedOf (problemIn file))

@@ -1,7 +1,7 @@
 -- The one line of a refused file (01: "It stops at its first refusal and prints one line, (refused 5 (1))").
 --   shown line vs     — what stands in the inner brackets: the values that the refusal gives (the row for 5 and 6, column and row for 7, the count for 13);
 --     the number of the line where it gives its number alone, which is 0 for 15
---   printed line said — the numbers of the line of a refusal, said in 01's number and values: the number, then what stands in the inner brackets;
+--   printed line code — the numbers of the line of a refusal, said in 01's number and values: the number, then what stands in the inner brackets;
 --     none where nothing is said
 --   refusedOf numbers — the line
 use mathlib.Core.List.{List, [], _∷_}

@@ -14,8 +14,8 @@ use Rattle.loader_progress.specs.Progress.{ended}
 use Rattle.loader.specs.declared.Loader.{Loader}
 use Rattle.loader.specs.Answer.{caseOf, lineAnswer, ofForm}
 use Rattle.loader.specs.Taken.{after, listsWith, loaderAfter, listsAfter}
-use Rattle.loader_order.proofs.Said.{Passed, passed}
-use Rattle.loader.proofs.Exact.{formCase, formSaid, answer-form}
+use Rattle.loader_order.proofs.CodeLaws.{Passed, passed}
+use Rattle.loader.proofs.Exact.{formCase, formCode, answer-form}
 
 pub record AcceptedLine (d : Loader) (l : Lists) (line : List ℕ) (f : Form) : Type 0 where
   pub reads : reading line ≡ some f
@@ -26,7 +26,7 @@ pub record AcceptedLine (d : Loader) (l : Lists) (line : List ℕ) (f : Form) : 
   pub lists : listsAfter d l line ≡ listsWith d f l
 
 pub accepted-form : (d : Loader) (l : Lists) (line : List ℕ) → lineAnswer d l line ≡ [] → (f : Form) × AcceptedLine d l line f
-unfolding lineAnswer loaderAfter listsAfter formSaid
+unfolding lineAnswer loaderAfter listsAfter formCode
 accepted-form d l line e = go (reading line) refl (h .unspelled)
   where
     h : Passed (caseOf d l line)

@@ -17,7 +17,7 @@ use Rattle.loader_lists.proofs.Lists.{long-lent}
 use Rattle.loader_lists.proofs.Filled.{length-filled, filled-given, filled-one, filled-past}
 use Rattle.loader_progress.specs.Progress.{setOf, given}
 use Rattle.loader_progress.proofs.Progress.{end-size}
-use Rattle.loader_order.proofs.Said.{Passed, passed}
+use Rattle.loader_order.proofs.CodeLaws.{Passed, passed}
 use Rattle.loader.specs.declared.Loader.{Loader}
 use Rattle.loader.specs.Answer.{caseOf, lineAnswer}
 use Rattle.loader.specs.Taken.{listsWith, listsAfter}

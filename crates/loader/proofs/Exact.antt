@@ -1,7 +1,7 @@
 -- What is said of a line, of the form it is, and of that form as the code has it.
---   formCase, formSaid — the cases of a form that is read at a loader that has not ended, and what is said
+--   formCase, formCode — the cases of a form that is read at a loader that has not ended, and what is said
 --   answer-form  — what is said of a line that is a form is what is said of the form
---   said-capped  — and of its capped form
+--   code-capped  — and of its capped form
 --   exact-loader, exact-lists — where nothing is said, both leave the same;  exact-room — and there is room for the form
 use mathlib.Core.Path.{_≡_, refl, ap}
 use mathlib.Core.Bool.{Bool, true, false}
@@ -32,13 +32,13 @@ use Rattle.loader_lists.specs.Span.{Narrow}
 use Rattle.loader_lists.proofs.Lists.{rooms}
 use Rattle.loader_lists.proofs.Exact.{all-exact}
 use Rattle.loader_order.specs.Order.{LineCase, lineOrder}
-use Rattle.loader_order.proofs.Said.{Passed, passed}
+use Rattle.loader_order.proofs.CodeLaws.{Passed, passed}
 use Rattle.loader.specs.declared.Loader.{Loader}
 use Rattle.loader_progress.specs.declared.Stage.{Stage}
 use Rattle.loader_progress.specs.Progress.{setOf, ended, early, misplaced, repeated, incomplete, missing}
 use Rattle.loader.specs.Answer.{lineAnswer}
 use Rattle.loader.specs.Taken.{after, listsWith}
-use Rattle.loader.specs.Decided.{saidIn}
+use Rattle.loader.specs.Decided.{codeIn}
 use Rattle.loader_progress.proofs.Progress.{placed-of}
 use Rattle.loader.proofs.Form.{narrow-by}
 
@@ -57,12 +57,12 @@ formCase d f = record {
   missing = missing (d .n) (d .sets);
 }
 
-unfoldable pub formSaid : Loader → Form → List ℕ
-formSaid d f = verdict (lineOrder (formCase d f))
+unfoldable pub formCode : Loader → Form → List ℕ
+formCode d f = verdict (lineOrder (formCase d f))
 
 pub answer-form : (d : Loader) (l : Lists) (line : List ℕ) (f : Form) → shortLists l ≡ false → ended (d .stage) ≡ false → ltb 320 (length line) ≡ false → reading line ≡ some f
-    → lineAnswer d l line ≡ formSaid d f
-unfolding lineAnswer formSaid
+    → lineAnswer d l line ≡ formCode d f
+unfolding lineAnswer formCode
 answer-form d l line f a b c e = rw (a, b, c, e)
 
 -- ---- the tests of the capped form
@@ -108,19 +108,19 @@ module _ (d : Loader) (f : Form) (small : d .n < capAt) where
   repeated-capped end h = refl
 
   -- the test of the place comes before that of repetition
-  pub said-capped : saidIn d (cappedForm f) (numbersIn f .count) (numbersIn f .inside) ≡ formSaid d f
-  unfolding saidIn formSaid
-  said-capped = go (misplaced (d .stage) (d .n) (itemOf f)) refl
+  pub code-capped : codeIn d (cappedForm f) (numbersIn f .count) (numbersIn f .inside) ≡ formCode d f
+  unfolding codeIn formCode
+  code-capped = go (misplaced (d .stage) (d .n) (itemOf f)) refl
     where
-      go : (b : Bool) → misplaced (d .stage) (d .n) (itemOf f) ≡ b → saidIn d (cappedForm f) (numbersIn f .count) (numbersIn f .inside) ≡ formSaid d f
+      go : (b : Bool) → misplaced (d .stage) (d .n) (itemOf f) ≡ b → codeIn d (cappedForm f) (numbersIn f .count) (numbersIn f .inside) ≡ formCode d f
       go true e = rw (early-capped (d .stage) f, misplaced-capped, outside-capped f, miscounted-capped (d .n) f, incomplete-capped (d .n) (d .sets) f, e)
       go false e =
           rw (early-capped (d .stage) f, misplaced-capped, outside-capped f, miscounted-capped (d .n) f, incomplete-capped (d .n) (d .sets) f, repeated-capped f (placed-of (d .stage) (d .n) (itemOf f) e))
 
 -- ---- what an accepted form leaves
-module _ (d : Loader) (f : Form) (small : d .n < capAt) (none : formSaid d f ≡ []) where
+module _ (d : Loader) (f : Form) (small : d .n < capAt) (none : formCode d f ≡ []) where
   holds : Passed (formCase d f)
-  unfolding formSaid
+  unfolding formCode
   holds = passed (formCase d f) none
 
   exact : itemIn (cappedForm f) ≡ itemOf f

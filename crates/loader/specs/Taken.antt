@@ -11,7 +11,7 @@ use Prim.Native.Nat.{ℕ}
 use lib.IntN.{natAbs}
 use lib.ListN.{replicate}
 use Rattle.rules.specs.Order.{ifAccepted}
-use Rattle.rules.specs.Refusal.{said}
+use Rattle.rules.specs.Refusal.{code}
 use Rattle.line_form.specs.Form.{Form}
 use Rattle.line_form.specs.Reading.{reading}
 use Rattle.loader_values.specs.Item.{itemOf}
@@ -45,6 +45,6 @@ unfoldable pub listsAfter : Loader → Lists → List ℕ → Lists
 listsAfter d l line = ifAccepted (lineAnswer d l line) (ofForm (reading line) l (λ (f : Form). listsWith d f l)) l
 
 pub record TakenAs (d : Loader) (line : List ℕ) (l : Lists) (r : Taken) (l′ : Lists) : Type 0 where
-  pub says : said (r .outcome) ≡ lineAnswer d l line
+  pub says : code (r .outcome) ≡ lineAnswer d l line
   pub loader : r .loader ≡ loaderAfter d l line
   pub lists : l′ ≡ listsAfter d l line

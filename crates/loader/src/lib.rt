@@ -2,14 +2,14 @@
 ghost use mathlib.Core.Path.{_≡_};
 ghost use mathlib.Core.Bool.{true, cond};
 ghost use mathlib.Core.List.{[], _∷_};
-ghost use Rattle.rules.specs.Refusal.{said};
+ghost use Rattle.rules.specs.Refusal.{code};
 ghost use Rattle.check_spec.specs.Input.{input};
 ghost use Rattle.loader_lists.specs.Lists.{lists};
 ghost use Rattle.loader_progress.specs.Progress.{ended};
 ghost use Rattle.loader_order.specs.Through.{CheckedThrough};
 ghost use Rattle.loader.specs.Taken.{fresh, after, TakenAs};
 ghost use Rattle.loader.specs.Numbers.{loaderNumbers, loaderOf};
-ghost use Rattle.loader.specs.Decided.{saidIn, fits, refusedBy, DecidedIn, DecidedAs};
+ghost use Rattle.loader.specs.Decided.{codeIn, fits, refusedBy, DecidedIn, DecidedAs};
 use line_form::Numbers;
 use line_parts::Answer;
 use line_parts::CappedForm;
@@ -120,7 +120,7 @@ impl Loader {
 
     // What is said of a form: 11, 3 for i, 12, 3 for values, 4 and 13, in this order.
     fn judge_form(self, form: CappedForm, count: usize, inside: bool) -> Outcome
-        ensures { λ r. ⌜ said r ≡ saidIn self form count inside ⌝ }
+        ensures { λ r. ⌜ code r ≡ codeIn self form count inside ⌝ }
     {
         let n = self.n;
         let stage = self.stage;
@@ -348,7 +348,7 @@ impl Loader {
 
 // What is said of a check before an accepted end; short tells whether a lent list is too short.
 fn not_ended(short: bool) -> Outcome
-    ensures { λ r. ⌜ said r ≡ cond short (8 ∷ []) (15 ∷ []) ⌝ }
+    ensures { λ r. ⌜ code r ≡ cond short (8 ∷ []) (15 ∷ []) ⌝ }
 {
     if short {
         return Outcome::Refused(Refusal::TooShort);

@@ -5,7 +5,7 @@
 use mathlib.Core.Path.{_≡_, refl, sym, ap, subst, _∙_}
 use mathlib.Core.List.{List, [], _∷_}
 use Prim.Native.Nat.{ℕ}
-use Rattle.rules.specs.Refusal.{said, numberOf, valuesOf}
+use Rattle.rules.specs.Refusal.{code, numberOf, valuesOf}
 use Rattle.rules.specs.declared.Outcome.{Outcome}
 use Rattle.rules.specs.declared.Outcome.the-variants.{Accepted, Refused}
 use Rattle.rules.specs.declared.Refusal.{Refusal}
@@ -26,13 +26,13 @@ module _ (w : List ℕ) {line : List ℕ} {l l′ : Lists} {d : Loader} {t : Tak
   pub taken-accepted : {w′ : List ℕ} → t .outcome ≡ Accepted → w′ ≡ loaderNumbers (t .loader) → LoaderTaken w line l Accepted w′ l′
   unfolding numbersAfter
   taken-accepted o n =
-      let a : lineAnswer (loaderOf w) l line ≡ [] = sym (own .says) ∙ ap said o in
+      let a : lineAnswer (loaderOf w) l line ≡ [] = sym (own .says) ∙ ap code o in
       record { says = sym a; numbers = n ∙ ap loaderNumbers (own .loader) ∙ sym (accepted-new _ _ a); lists = own .lists }
 
   pub taken-refused : {f : Refusal} → t .outcome ≡ Refused f → LoaderTaken w line l (Refused f) w l′
   unfolding numbersAfter
   taken-refused {f} o =
-      let a : lineAnswer (loaderOf w) l line ≡ numberOf f ∷ valuesOf f = sym (own .says) ∙ ap said o in
+      let a : lineAnswer (loaderOf w) l line ≡ numberOf f ∷ valuesOf f = sym (own .says) ∙ ap code o in
       record { says = sym a; numbers = sym (accepted-old _ _ a); lists = own .lists }
 
 module _ (w : List ℕ) (l : Lists) (line : List ℕ) where

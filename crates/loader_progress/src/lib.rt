@@ -3,7 +3,7 @@ ghost use mathlib.Core.Path.{_≡_};
 ghost use mathlib.Core.Bool.{true, false, cond};
 ghost use mathlib.Core.List.{[], _∷_};
 ghost use Prim.Native.Nat.{_≤_};
-ghost use Rattle.rules.specs.Refusal.{said};
+ghost use Rattle.rules.specs.Refusal.{code};
 ghost use Rattle.loader_values.specs.Item.{placed};
 ghost use Rattle.loader_progress.specs.Progress.{setOf, given, marked, missing, sized, scaled, ended, early, misplaced, repeated, incomplete};
 ghost use Rattle.loader_progress.specs.StageNumber.{stageNumber, stageOf};
@@ -163,7 +163,7 @@ fn count_missing(sets: [u32; 5], n: u32) -> u32
 // 13: end with forms outstanding, and their count. Any other form is accepted here.
 pub fn judge_end(stage: Stage, n: u32, sets: [u32; 5], item: Item) -> Outcome
     requires { ⌜ (early stage item ≡ false) × (misplaced stage n item ≡ false) ⌝ }
-    ensures { λ r. ⌜ said r ≡ cond (incomplete n sets item) (13 ∷ missing n sets ∷ []) [] ⌝ }
+    ensures { λ r. ⌜ code r ≡ cond (incomplete n sets item) (13 ∷ missing n sets ∷ []) [] ⌝ }
 {
     match item {
         Item::Problem(_) => Outcome::Accepted,

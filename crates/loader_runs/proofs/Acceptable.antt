@@ -28,7 +28,7 @@ use Rattle.loader_progress.proofs.Progress.{late, placed-of}
 use Rattle.loader.specs.declared.Loader.{Loader}
 use Rattle.loader.specs.Answer.{lineAnswer}
 use Rattle.loader.specs.Taken.{after, loaderAfter}
-use Rattle.loader_order.proofs.Said.{Passed}
+use Rattle.loader_order.proofs.CodeLaws.{Passed}
 use Rattle.loader.proofs.Exact.{formCase}
 use Rattle.loader.proofs.Accepted.{accepted-form}
 use Rattle.loader_runs.specs.Acceptable.{linesMost, acceptable}

@@ -17,7 +17,7 @@ use Rattle.integer.proofs.Search.{clash}
 use Rattle.rules.specs.Order.{Test, number, verdict}
 use Rattle.rules.specs.Range.{inRange}
 use Rattle.rules.specs.declared.Kind.the-variants.{Size}
-use Rattle.rules.proofs.Tests.{None, skip-tests, skipped, someOf, some-said, Moved, moved, same, other}
+use Rattle.rules.proofs.Tests.{None, skip-tests, skipped, someOf, some-code, Moved, moved, same, other}
 use Rattle.rules.proofs.Verdicts.{nothing-is-not}
 use Rattle.line_form.specs.Form.{Form, problem, scale, row, right, rightWithin, guess, inverse, weight, end}
 use Rattle.line_form.specs.Reading.{reading}
@@ -30,7 +30,7 @@ use Rattle.loader_lists.specs.Lists.{Lists}
 use Rattle.loader_progress.specs.Progress.{given, sized, misplaced, repeated}
 use Rattle.loader_progress.proofs.Progress.{placed-of, size-in, misplaced-by, misplaced-start}
 use Rattle.loader_order.specs.Order.{LineCase, lineOrder}
-use Rattle.loader_order.proofs.Said.{said-12}
+use Rattle.loader_order.proofs.CodeLaws.{code-12}
 use Rattle.loader.specs.declared.Loader.{Loader}
 use Rattle.loader.specs.Answer.{caseOf, lineAnswer}
 use Rattle.loader.specs.Taken.{loaderAfter, listsAfter}
@@ -122,10 +122,10 @@ module _ (d : Loader) (l : Lists) (line : List ℕ) where
   by-tests n t s (some f) r =
       let m : misplaced (d .stage) (d .n) (itemOf f) ≡ false = rw r at (n .1 .1 .1 .1 .1 .0) in
       let b : answerBefore d l line ≡ ofValues d (outside f) (miscounted (d .n) f) =
-      skip-tests first (drop 6 (orderBefore here)) n ∙ some-said values (drop 8 (orderBefore here)) s ∙ rw r in
+      skip-tests first (drop 6 (orderBefore here)) n ∙ some-code values (drop 8 (orderBefore here)) s ∙ rw r in
       changed f r m
       (rw b (form-becomes d f (rw r at t) (placed-of (d .stage) (d .n) (itemOf f) m) (rw r at s)))
-      (said-12 here .1 (n, t))
+      (code-12 here .1 (n, t))
 
   pub compared : Compared
   unfolding lineAnswer answerBefore
@@ -147,7 +147,7 @@ module _ (d : Loader) (l : Lists) (line : List ℕ) where
   told-12 o f r t =
       let n = passes-11 here (is-3-or-4 d t) refl in
       let m : here .misplaced ≡ false = rw r (own-place d o (itemOf f) (is-placed d t)) in
-      said-12 here .1 ((n .0, (n .1 .0, (n .1 .1 .0, (n .1 .1 .1 .0, (n .1 .1 .1 .1 .0, (m, tt)))))), rw r (is-repeated d t))
+      code-12 here .1 ((n .0, (n .1 .0, (n .1 .1 .0, (n .1 .1 .1 .0, (n .1 .1 .1 .1 .0, (m, tt)))))), rw r (is-repeated d t))
 
   pub changes : OwnSize d → (lineAnswer d l line ≡ answerBefore d l line → ⊥) ↔ ((f : Form) × ((reading line ≡ some f) × Becomes12 d (itemOf f) (answerBefore d l line)))
   changes o = (λ n. go n compared, λ h. λ e. not-12 (is-3-or-4 d (h .1 .1)) (sym (told-12 o (h .0) (h .1 .0) (h .1 .1)) ∙ e))

@@ -22,8 +22,8 @@ use Rattle.loader_runs.proofs.Changed.{changes, becomes-12, accepted-sa
 
 -- R is a reading in the new order, B in that before, and line the one at which B stopped
 pub data BothOrders (R B : Reading) (line : List ℕ) : Type 0 where
-  all-accepted : R ≡ B → B .said ≡ [] → BothOrders R B line
-  refused-at : SoundLoader (B .state .loader) → R .said ≡ lineAnswer (B .state .loader) (B .state .lists) line → B .said ≡ answerBefore (B .state .loader) (B .state .lists) line → R .line ≡ B .line
+  all-accepted : R ≡ B → B .code ≡ [] → BothOrders R B line
+  refused-at : SoundLoader (B .state .loader) → R .code ≡ lineAnswer (B .state .loader) (B .state .lists) line → B .code ≡ answerBefore (B .state .loader) (B .state .lists) line → R .line ≡ B .line
       → R .state ≡ B .state → BothOrders R B line
 
 module _ (k : ℕ) (u : State) (line : List ℕ) (lines : List (List ℕ)) where
@@ -35,7 +35,7 @@ module _ (k : ℕ) (u : State) (line : List ℕ) (lines : List (List ℕ)) where
   before-accepted e = (rw (e, step-same), rw (e, step-same))
 
   before-refused : {n : ℕ} {vs : List ℕ} → answerBefore (u .loader) (u .lists) line ≡ n ∷ vs
-      → (readBefore k u (line ∷ lines) ≡ record { said = n ∷ vs; line = k + 1; state = u }) × (refusedBefore u (line ∷ lines) ≡ line)
+      → (readBefore k u (line ∷ lines) ≡ record { code = n ∷ vs; line = k + 1; state = u }) × (refusedBefore u (line ∷ lines) ≡ line)
   unfolding readBefore refusedBefore
   before-refused e = (rw e, rw e)
 
@@ -72,30 +72,30 @@ module _ (file : List ℕ) where
   refused = refusedBefore start (linesOf file)
 
   abbrev pub Changes : Type 0
-  Changes = (f : Form) × ((reading refused ≡ some f) × Becomes12 (readingBefore .state .loader) (itemOf f) (readingBefore .said))
+  Changes = (f : Form) × ((reading refused ≡ some f) × Becomes12 (readingBefore .state .loader) (itemOf f) (readingBefore .code))
 
   the-file : BothOrders (readingOf file) readingBefore refused
   the-file = both-orders 0 start fresh-sound (linesOf file)
 
-  pub file-changes : (readingOf file .said ≡ readingBefore .said → ⊥) ↔ Changes
+  pub file-changes : (readingOf file .code ≡ readingBefore .code → ⊥) ↔ Changes
   file-changes = go the-file
     where
-      go : BothOrders (readingOf file) readingBefore refused → (readingOf file .said ≡ readingBefore .said → ⊥) ↔ Changes
-      go (all-accepted e z) = (λ n. absurd (n (ap (λ (R : Reading). R .said) e)), λ h. absurd (some-number (is-3-or-4 (readingBefore .state .loader) (h .1 .1)) z))
+      go : BothOrders (readingOf file) readingBefore refused → (readingOf file .code ≡ readingBefore .code → ⊥) ↔ Changes
+      go (all-accepted e z) = (λ n. absurd (n (ap (λ (R : Reading). R .code) e)), λ h. absurd (some-number (is-3-or-4 (readingBefore .state .loader) (h .1 .1)) z))
       go (refused-at s a b p q) = rw (a, b) (changes (readingBefore .state .loader) (readingBefore .state .lists) refused (s .size))
 
-  pub file-becomes-12 : (readingOf file .said ≡ readingBefore .said → ⊥) → readingOf file .said ≡ 12 ∷ []
+  pub file-becomes-12 : (readingOf file .code ≡ readingBefore .code → ⊥) → readingOf file .code ≡ 12 ∷ []
   file-becomes-12 n = go the-file
     where
-      go : BothOrders (readingOf file) readingBefore refused → readingOf file .said ≡ 12 ∷ []
-      go (all-accepted e z) = absurd (n (ap (λ (R : Reading). R .said) e))
+      go : BothOrders (readingOf file) readingBefore refused → readingOf file .code ≡ 12 ∷ []
+      go (all-accepted e z) = absurd (n (ap (λ (R : Reading). R .code) e))
       go (refused-at s a b p q) = a ∙ becomes-12 (readingBefore .state .loader) (readingBefore .state .lists) refused (λ e. n (a ∙ e ∙ sym b))
 
-  pub file-accepted-same : (readingOf file .said ≡ []) ↔ (readingBefore .said ≡ [])
+  pub file-accepted-same : (readingOf file .code ≡ []) ↔ (readingBefore .code ≡ [])
   file-accepted-same = go the-file
     where
-      go : BothOrders (readingOf file) readingBefore refused → (readingOf file .said ≡ []) ↔ (readingBefore .said ≡ [])
-      go (all-accepted e z) = (λ h. z, λ h. ap (λ (R : Reading). R .said) e ∙ z)
+      go : BothOrders (readingOf file) readingBefore refused → (readingOf file .code ≡ []) ↔ (readingBefore .code ≡ [])
+      go (all-accepted e z) = (λ h. z, λ h. ap (λ (R : Reading). R .code) e ∙ z)
       go (refused-at s a b p q) = rw (a, b) (accepted-same (readingBefore .state .loader) (readingBefore .state .lists) refused)
 
   pub file-place : (readingOf file .line ≡ readingBefore .line) × (readingOf file .state ≡ readingBefore .state)

@@ -27,7 +27,7 @@ use Rattle.loader_values.proofs.Between.{from-to}
 use Rattle.loader_progress.specs.Progress.{setOf, given, sized, scaled, ended}
 use Rattle.loader_progress.proofs.Progress.{scaled-sized, placed-of, size-of, late}
 use Rattle.loader.specs.Taken.{after, listsWith}
-use Rattle.loader_order.proofs.Said.{Passed}
+use Rattle.loader_order.proofs.CodeLaws.{Passed}
 use Rattle.loader.proofs.Exact.{formCase}
 use Rattle.loader_runs.specs.Run.{State}
 use Rattle.loader_runs.specs.Holds.{HoldsForm, HoldsItem, HoldsPart, kindFor}

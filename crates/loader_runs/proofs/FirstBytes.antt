@@ -64,7 +64,7 @@ long-refused d l = go (shortLists l) (ended (d .stage))
 -- ---- a file's first N bytes
 pub data CutFile (N k : ℕ) (u : State) (s : List ℕ) : Type 0 where
   whole : take N s ≡ s → CutFile N k u s
-  stopped : readFrom k u (linesOf (take N s)) ≡ readFrom k u (linesOf s) → (readFrom k u (linesOf s) .said ≡ [] → ⊥) → CutFile N k u s
+  stopped : readFrom k u (linesOf (take N s)) ≡ readFrom k u (linesOf s) → (readFrom k u (linesOf s) .code ≡ [] → ⊥) → CutFile N k u s
 
 -- what is to be shown of a state at which fewer lines may be accepted
 abbrev CutShown : State → Type 0
@@ -109,7 +109,7 @@ module _ (N k : ℕ) (u : State) (b : ℕ) (bs : List ℕ) where
         go (n ∷ vs) e =
             let x = read-refused k u line (linesOf rest) e in
             let y = read-refused k u line (linesOf (take (suc N - suc m) rest)) e in
-            stopped (rw (lines-kept, lines-next b bs) (y ∙ sym x)) (rw (lines-next b bs) (λ q. nothing-is-not (sym (ap (λ (R : Reading). R .said) x) ∙ q)))
+            stopped (rw (lines-kept, lines-next b bs) (y ∙ sym x)) (rw (lines-next b bs) (λ q. nothing-is-not (sym (ap (λ (R : Reading). R .code) x) ∙ q)))
         go [] e = by (ih e)
           where
             by : CutFile (suc N - suc m) (k + 1) (step u line) rest → CutFile (suc N) k u s
@@ -117,7 +117,7 @@ module _ (N k : ℕ) (u : State) (b : ℕ) (bs : List ℕ) where
             by (stopped q n) =
                 let x = read-accepted k u line (linesOf rest) e in
                 let y = read-accepted k u line (linesOf (take (suc N - suc m) rest)) e in
-                stopped (rw (lines-kept, lines-next b bs) (y ∙ q ∙ sym x)) (rw (lines-next b bs) (λ z. n (sym (ap (λ (R : Reading). R .said) x) ∙ z)))
+                stopped (rw (lines-kept, lines-next b bs) (y ∙ q ∙ sym x)) (rw (lines-next b bs) (λ z. n (sym (ap (λ (R : Reading). R .code) x) ∙ z)))
 
   -- a line above 320 bytes, cut or not
   over-long : 321 ≤ m → 321 ≤ suc N → CutFile (suc N) k u s
@@ -136,7 +136,7 @@ module _ (N k : ℕ) (u : State) (b : ℕ) (bs : List ℕ) where
       go (n ∷ vs) e =
           let x = read-refused k u line (linesOf (drop (suc m) s)) (long ∙ e) in
           let y = read-refused k u cutLine (linesOf (drop (suc (min (suc N) m)) (take (suc N) s))) (long-cut ∙ e) in
-          stopped (rw (lines-cut, lines-next b bs) (y ∙ sym x)) (rw (lines-next b bs) (λ q. nothing-is-not (sym (ap (λ (R : Reading). R .said) x) ∙ q)))
+          stopped (rw (lines-cut, lines-next b bs) (y ∙ sym x)) (rw (lines-next b bs) (λ q. nothing-is-not (sym (ap (λ (R : Reading). R .code) x) ∙ q)))
 
 -- ---- all lines
 cut-one : (u : State) → SoundLoader (u .loader) → ((v : State) → SoundLoader (v .loader) → acceptable (v .loader) < acceptable (u .loader) → CutShown v) → CutShown u

@@ -20,7 +20,7 @@ use Rattle.loader_progress.specs.Progress.{ended}
 use Rattle.loader.specs.declared.Loader.{Loader}
 use Rattle.loader.specs.Answer.{lineAnswer}
 use Rattle.loader.specs.Taken.{after, loaderAfter}
-use Rattle.loader.proofs.Exact.{formSaid, answer-form}
+use Rattle.loader.proofs.Exact.{formCode, answer-form}
 use Rattle.loader_runs.specs.Read.{Reading, readFrom}
 use Rattle.loader_runs.specs.Run.{State, step, forms}
 use Rattle.loader_runs.specs.Accepts.{run}
@@ -40,19 +40,19 @@ pub forms-spelled : (fs : List Form) → forms (spelled fs) ≡ fs
 forms-spelled [] = no-forms
 forms-spelled (f ∷ fs) = forms-next (spell f) (spelled fs) (read-spelled f) ∙ ap (λ (gs : List Form). f ∷ gs) (forms-spelled fs)
 
-abbrev noneSaid : List ℕ → Bool
-noneSaid [] = true
-noneSaid (k ∷ ks) = false
+abbrev noCode : List ℕ → Bool
+noCode [] = true
+noCode (k ∷ ks) = false
 
 unfoldable pub passes : Loader → List Form → Bool
 passes d [] = ended (d .stage)
-passes d (f ∷ fs) = not (ended (d .stage)) && (not (ltb 320 (length (spell f))) && (noneSaid (formSaid d f) && passes (after d (itemOf f)) fs))
+passes d (f ∷ fs) = not (ended (d .stage)) && (not (ltb 320 (length (spell f))) && (noCode (formCode d f) && passes (after d (itemOf f)) fs))
 
 -- every line is accepted, and the last is an end
 abbrev pub Whole : Reading → Type 0
-Whole R = (R .said ≡ []) × (ended (R .state .loader .stage) ≡ true)
+Whole R = (R .code ≡ []) × (ended (R .state .loader .stage) ≡ true)
 
-is-none : (l : List ℕ) → noneSaid l ≡ true → l ≡ []
+is-none : (l : List ℕ) → noCode l ≡ true → l ≡ []
 is-none [] e = refl
 is-none (k ∷ ks) e = absurd (subst T (sym e) tt)
 
@@ -70,7 +70,7 @@ pass-all k u (f ∷ fs) h p =
     let few = both-left (not (ltb 320 (length (spell f)))) _ q in
     let r = both-right (not (ltb 320 (length (spell f)))) _ q in
     let e : lineAnswer d (u .lists) (spell f) ≡ [] =
-    answer-form d (u .lists) (spell f) f h (not-true _ going) (not-true _ few) (read-spelled f) ∙ is-none (formSaid d f) (both-left (noneSaid (formSaid d f)) _ r) in
+    answer-form d (u .lists) (spell f) f h (not-true _ going) (not-true _ few) (read-spelled f) ∙ is-none (formCode d f) (both-left (noCode (formCode d f)) _ r) in
     let next : loaderAfter d (u .lists) (spell f) ≡ after d (itemOf f) = rw (e, read-spelled f) in
     rw (read-accepted k u (spell f) (spelled fs) e)
-    (pass-all (k + 1) (step u (spell f)) fs (step-long u (spell f) e h) (rw next (both-right (noneSaid (formSaid d f)) _ r)))
+    (pass-all (k + 1) (step u (spell f)) fs (step-long u (spell f) e h) (rw next (both-right (noCode (formCode d f)) _ r)))

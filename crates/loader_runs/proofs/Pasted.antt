@@ -22,7 +22,7 @@ use Rattle.loader_progress.specs.Progress.{misplaced}
 use Rattle.loader.specs.declared.Loader.{Loader}
 use Rattle.loader.specs.Answer.{lineAnswer}
 use Rattle.loader.specs.Taken.{fresh, after}
-use Rattle.loader.proofs.Exact.{formCase, formSaid, answer-form}
+use Rattle.loader.proofs.Exact.{formCase, formCode, answer-form}
 use Rattle.loader_runs.specs.Before.{orderBefore, answerBefore}
 
 abbrev rowGiven : Loader
@@ -32,22 +32,22 @@ module _ (l : Lists) (enough : shortLists l ≡ false) where
   abbrev Becomes : List ℕ → Form → Type 0
   Becomes w f = (answerBefore rowGiven l (spell f) ≡ w) × (lineAnswer rowGiven l (spell f) ≡ 12 ∷ [])
 
-  becomes : {w : List ℕ} (f : Form) → ltb 320 (length (spell f)) ≡ false → verdict (orderBefore (formCase rowGiven f)) ≡ w → formSaid rowGiven f ≡ 12 ∷ [] → Becomes w f
+  becomes : {w : List ℕ} (f : Form) → ltb 320 (length (spell f)) ≡ false → verdict (orderBefore (formCase rowGiven f)) ≡ w → formCode rowGiven f ≡ 12 ∷ [] → Becomes w f
   unfolding answerBefore
   becomes f c b a = (rw (enough, c, read-spelled f) b, rw (answer-form rowGiven l (spell f) f enough refl c (read-spelled f)) a)
 
   pub pasted-numbers : Becomes (3 ∷ []) (row (pos 1) (pos 1048577) (negsuc 0 ∷ []))
-  unfolding formSaid spell numerals numeral decimal digits misplaced withPlace allInside inRange rangeOf ranges
+  unfolding formCode spell numerals numeral decimal digits misplaced withPlace allInside inRange rangeOf ranges
   pasted-numbers = becomes (row (pos 1) (pos 1048577) (negsuc 0 ∷ [])) refl refl refl
 
   pub pasted-count : Becomes (4 ∷ []) (row (pos 1) (pos 4) [])
-  unfolding formSaid spell numerals numeral decimal digits misplaced withPlace allInside inRange rangeOf ranges
+  unfolding formCode spell numerals numeral decimal digits misplaced withPlace allInside inRange rangeOf ranges
   pasted-count = becomes (row (pos 1) (pos 4) []) refl refl refl
 
   pub again-problem : Becomes (3 ∷ []) (problem (pos 33))
-  unfolding formSaid spell numerals numeral decimal digits misplaced withPlace inRange rangeOf ranges
+  unfolding formCode spell numerals numeral decimal digits misplaced withPlace inRange rangeOf ranges
   again-problem = becomes (problem (pos 33)) refl refl refl
 
   pub again-scale : Becomes (3 ∷ []) (scale (pos 21) (pos 4))
-  unfolding formSaid spell numerals numeral decimal digits misplaced withPlace inRange rangeOf ranges
+  unfolding formCode spell numerals numeral decimal digits misplaced withPlace inRange rangeOf ranges
   again-scale = becomes (scale (pos 21) (pos 4)) refl refl refl

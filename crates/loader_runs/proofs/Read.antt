@@ -7,7 +7,7 @@ use Rattle.loader.specs.Answer.{lineAnswer}
 use Rattle.loader_runs.specs.Run.{State, step}
 use Rattle.loader_runs.specs.Read.{readFrom}
 
-pub read-none : (k : ℕ) (u : State) → readFrom k u [] ≡ record { said = []; line = k; state = u }
+pub read-none : (k : ℕ) (u : State) → readFrom k u [] ≡ record { code = []; line = k; state = u }
 unfolding readFrom
 read-none k u = refl
 
@@ -16,6 +16,6 @@ module _ (k : ℕ) (u : State) (line : List ℕ) (lines : List (List ℕ)) where
   unfolding readFrom
   read-accepted e = rw e
 
-  pub read-refused : {n : ℕ} {vs : List ℕ} → lineAnswer (u .loader) (u .lists) line ≡ n ∷ vs → readFrom k u (line ∷ lines) ≡ record { said = n ∷ vs; line = k + 1; state = u }
+  pub read-refused : {n : ℕ} {vs : List ℕ} → lineAnswer (u .loader) (u .lists) line ≡ n ∷ vs → readFrom k u (line ∷ lines) ≡ record { code = n ∷ vs; line = k + 1; state = u }
   unfolding readFrom
   read-refused e = rw e

@@ -28,9 +28,9 @@ use Rattle.loader_progress.proofs.Progress.{late}
 use Rattle.loader.specs.declared.Loader.{Loader}
 use Rattle.loader.specs.Answer.{lineAnswer}
 use Rattle.loader.specs.Taken.{fresh, after, loaderAfter}
-use Rattle.loader_order.proofs.Said.{Passed}
+use Rattle.loader_order.proofs.CodeLaws.{Passed}
 use Rattle.loader.proofs.Exact.{formCase}
-use Rattle.loader.proofs.Said.{refused-leaves}
+use Rattle.loader.proofs.CodeLaws.{refused-leaves}
 use Rattle.loader.proofs.Accepted.{accepted-form}
 use Rattle.loader_runs.specs.Accepts.{Made, new, taken}
 

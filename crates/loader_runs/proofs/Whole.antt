@@ -11,23 +11,23 @@ use Rattle.loader_runs.specs.Read.{Reading, readFrom}
 use Rattle.loader_runs.proofs.Read.{read-none, read-accepted, read-refused}
 
 -- the first line is accepted
-first-accepted : (k : ℕ) (u : State) (line : List ℕ) (lines : List (List ℕ)) → readFrom k u (line ∷ lines) .said ≡ [] → lineAnswer (u .loader) (u .lists) line ≡ []
+first-accepted : (k : ℕ) (u : State) (line : List ℕ) (lines : List (List ℕ)) → readFrom k u (line ∷ lines) .code ≡ [] → lineAnswer (u .loader) (u .lists) line ≡ []
 first-accepted k u line lines e = go (lineAnswer (u .loader) (u .lists) line) refl
   where
     go : (r : List ℕ) → lineAnswer (u .loader) (u .lists) line ≡ r → r ≡ []
     go [] a = refl
-    go (n ∷ vs) a = absurd (nothing-is-not (sym (ap (λ (R : Reading). R .said) (read-refused k u line lines a)) ∙ e))
+    go (n ∷ vs) a = absurd (nothing-is-not (sym (ap (λ (R : Reading). R .code) (read-refused k u line lines a)) ∙ e))
 
-rest-said : (k : ℕ) (u : State) (line : List ℕ) (lines : List (List ℕ)) → readFrom k u (line ∷ lines) .said ≡ [] → readFrom (k + 1) (step u line) lines .said ≡ []
-rest-said k u line lines e = sym (ap (λ (R : Reading). R .said) (read-accepted k u line lines (first-accepted k u line lines e))) ∙ e
+rest-code : (k : ℕ) (u : State) (line : List ℕ) (lines : List (List ℕ)) → readFrom k u (line ∷ lines) .code ≡ [] → readFrom (k + 1) (step u line) lines .code ≡ []
+rest-code k u line lines e = sym (ap (λ (R : Reading). R .code) (read-accepted k u line lines (first-accepted k u line lines e))) ∙ e
 
-pub all-accepted : (k : ℕ) (u : State) (lines : List (List ℕ)) → readFrom k u lines .said ≡ [] → Accepts u lines
+pub all-accepted : (k : ℕ) (u : State) (lines : List (List ℕ)) → readFrom k u lines .code ≡ [] → Accepts u lines
 all-accepted k u [] e = tt
-all-accepted k u (line ∷ lines) e = (first-accepted k u line lines e, all-accepted (k + 1) (step u line) lines (rest-said k u line lines e))
+all-accepted k u (line ∷ lines) e = (first-accepted k u line lines e, all-accepted (k + 1) (step u line) lines (rest-code k u line lines e))
 
-pub all-run : (k : ℕ) (u : State) (lines : List (List ℕ)) → readFrom k u lines .said ≡ [] → readFrom k u lines .state ≡ run u lines
+pub all-run : (k : ℕ) (u : State) (lines : List (List ℕ)) → readFrom k u lines .code ≡ [] → readFrom k u lines .state ≡ run u lines
 unfolding run
 all-run k u [] e = ap (λ (R : Reading). R .state) (read-none k u)
 all-run k u (line ∷ lines) e =
     ap (λ (R : Reading). R .state) (read-accepted k u line lines (first-accepted k u line lines e))
-    ∙ all-run (k + 1) (step u line) lines (rest-said k u line lines e)
+    ∙ all-run (k + 1) (step u line) lines (rest-code k u line lines e)

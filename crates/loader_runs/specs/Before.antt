@@ -52,10 +52,10 @@ abbrev pub stepBefore : State → List ℕ → State
 stepBefore u line = record { loader = loaderBefore (u .loader) (u .lists) line; lists = listsBefore (u .loader) (u .lists) line }
 
 unfoldable pub readBefore : ℕ → State → List (List ℕ) → Reading
-readBefore k u [] = record { said = []; line = k; state = u }
+readBefore k u [] = record { code = []; line = k; state = u }
 readBefore k u (line ∷ lines) =
-    let said = answerBefore (u .loader) (u .lists) line in
-    ifAccepted said (readBefore (k + 1) (stepBefore u line) lines) (record { said = said; line = k + 1; state = u })
+    let code = answerBefore (u .loader) (u .lists) line in
+    ifAccepted code (readBefore (k + 1) (stepBefore u line) lines) (record { code = code; line = k + 1; state = u })
 
 unfoldable pub refusedBefore : State → List (List ℕ) → List ℕ
 refusedBefore u [] = []

@@ -14,15 +14,15 @@ use Rattle.loader_runs.specs.Lines.{linesOf}
 use Rattle.loader_runs.specs.Run.{State, fromNew, step}
 
 pub record Reading : Type 0 where
-  pub said : List ℕ
+  pub code : List ℕ
   pub line : ℕ
   pub state : State
 
 unfoldable pub readFrom : ℕ → State → List (List ℕ) → Reading
-readFrom k u [] = record { said = []; line = k; state = u }
+readFrom k u [] = record { code = []; line = k; state = u }
 readFrom k u (line ∷ lines) =
-    let said = lineAnswer (u .loader) (u .lists) line in
-    ifAccepted said (readFrom (k + 1) (step u line) lines) (record { said = said; line = k + 1; state = u })
+    let code = lineAnswer (u .loader) (u .lists) line in
+    ifAccepted code (readFrom (k + 1) (step u line) lines) (record { code = code; line = k + 1; state = u })
 
 unfoldable pub zeros : Lists
 zeros = lists (replicate 1024 (pos 0)) (replicate 32 (pos 0)) (replicate 32 (pos 0)) (replicate 32 (pos 0)) (replicate 1024 (pos 0)) (replicate 32 (pos 0))

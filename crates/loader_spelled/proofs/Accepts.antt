@@ -1,7 +1,7 @@
 -- The spelling of a form that no test of forms refuses is accepted: it is never too long.
 --   place-bytes, list-bytes — the bytes of its i, and of its list
 --   spelled-length   — such a spelling has at most 302 bytes, below the 320 of refusal 1
---   said-nothing, accepts-spelled — nothing is said of the form, and its spelling is accepted at a loader that has not ended, with lists that are long enough
+--   code-nothing, accepts-spelled — nothing is said of the form, and its spelling is accepted at a loader that has not ended, with lists that are long enough
 --   spelled-accepted — and leaves what the form gives
 --   accepted-length  — so no accepted line has more than 302 bytes
 use mathlib.Core.Path.{_≡_, sym, subst, _∙_}
@@ -33,8 +33,8 @@ use Rattle.loader_progress.proofs.Progress.{late, size-of, placed-of}
 use Rattle.loader.specs.declared.Loader.{Loader}
 use Rattle.loader.specs.Answer.{lineAnswer}
 use Rattle.loader.specs.Taken.{loaderAfter, listsAfter}
-use Rattle.loader_order.proofs.Said.{Passed}
-use Rattle.loader.proofs.Exact.{formCase, formSaid, answer-form}
+use Rattle.loader_order.proofs.CodeLaws.{Passed}
+use Rattle.loader.proofs.Exact.{formCase, formCode, answer-form}
 use Rattle.loader.proofs.Accepted.{AcceptedLine, accepted-form}
 use Rattle.loader_spelled.proofs.Length.{bytesOf, kind-most, numerals-most, place-most, problem-length, scale-length, row-length, right-length, within-length, guess-length, inverse-length, weight-length, end-length}
 
@@ -72,14 +72,14 @@ module _ (d : Loader) where
   spelled-length end h = omega (arith, end-length)
 
 -- ---- acceptance
-pub said-nothing : (d : Loader) (f : Form) → Passed (formCase d f) → formSaid d f ≡ []
-unfolding formSaid
-said-nothing d f h = rw (h .early, h .misplaced, h .outside, h .miscounted, h .repeated, h .incomplete)
+pub code-nothing : (d : Loader) (f : Form) → Passed (formCase d f) → formCode d f ≡ []
+unfolding formCode
+code-nothing d f h = rw (h .early, h .misplaced, h .outside, h .miscounted, h .repeated, h .incomplete)
 
 module _ (d : Loader) (l : Lists) (long : shortLists l ≡ false) (going : ended (d .stage) ≡ false) where
   pub accepts-spelled : (f : Form) → Passed (formCase d f) → lineAnswer d l (spell f) ≡ []
   accepts-spelled f h =
-      answer-form d l (spell f) f long going (le-ltb 320 (length (spell f)) (omega (arith, spelled-length d f h))) (read-spelled f) ∙ said-nothing d f h
+      answer-form d l (spell f) f long going (le-ltb 320 (length (spell f)) (omega (arith, spelled-length d f h))) (read-spelled f) ∙ code-nothing d f h
 
   pub spelled-accepted : (f : Form) → Passed (formCase d f) → AcceptedLine d l (spell f) f
   unfolding loaderAfter listsAfter

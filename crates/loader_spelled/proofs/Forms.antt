@@ -20,7 +20,7 @@ use Rattle.loader_progress.specs.Progress.{given, sized, scaled, ended, missing
 use Rattle.loader_progress.proofs.Progress.{scaled-sized, misplaced-by, misplaced-start}
 use Rattle.loader.specs.declared.Loader.{Loader}
 use Rattle.loader.specs.Answer.{lineAnswer}
-use Rattle.loader_order.proofs.Said.{Passed}
+use Rattle.loader_order.proofs.CodeLaws.{Passed}
 use Rattle.loader.proofs.Exact.{formCase}
 use Rattle.loader_spelled.proofs.Accepts.{accepts-spelled}
 

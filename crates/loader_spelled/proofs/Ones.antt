@@ -28,7 +28,7 @@ use Rattle.loader_values.specs.declared.Part.the-variants as part
 use Rattle.loader_lists.specs.Lists.{Lists, shortLists}
 use Rattle.loader_progress.specs.Progress.{given, missing, scaled, ended}
 use Rattle.loader_progress.proofs.Progress.{late}
-use Rattle.loader_order.proofs.Said.{Passed, passed}
+use Rattle.loader_order.proofs.CodeLaws.{Passed, passed}
 use Rattle.loader.specs.declared.Loader.{Loader}
 use Rattle.loader.specs.Answer.{caseOf, lineAnswer}
 use Rattle.loader.specs.Taken.{after, loaderAfter}
@@ -44,7 +44,7 @@ use Rattle.loader_runs.proofs.End.{run-sound}
 use Rattle.loader_runs.proofs.Check.{run-long}
 use Rattle.loader_runs.proofs.Passing.{spelled, step-long}
 use Rattle.loader_spelled.specs.Ones.{onesFrom}
-use Rattle.loader_spelled.proofs.Accepts.{said-nothing, accepts-spelled, spelled-accepted}
+use Rattle.loader_spelled.proofs.Accepts.{code-nothing, accepts-spelled, spelled-accepted}
 use Rattle.loader_spelled.proofs.Forms.{passed-part, passed-end}
 use Rattle.loader_spelled.proofs.Runs.{run-both, accepts-both, accepts-first, accepts-second}
 
@@ -161,7 +161,7 @@ module _ (u : State) (sound : SoundLoader (u .loader)) (line : List ℕ) (a : li
   unfolding loaderAfter
   end-again n v h =
       let p = passed-end (v .loader) (h .sound .size (late (v .loader .stage) (rw (h .ready)))) (h .ready) (rw (h .size) (h .complete)) in
-      let q : lineAnswer (v .loader) (v .lists) line ≡ [] = answer-form (v .loader) (v .lists) line end (h .long) (h .going) short-line end-form ∙ said-nothing (v .loader) end p in
+      let q : lineAnswer (v .loader) (v .lists) line ≡ [] = answer-form (v .loader) (v .lists) line end (h .long) (h .going) short-line end-form ∙ code-nothing (v .loader) end p in
       (q, rw (q, end-form))
 
 -- ---- all lines

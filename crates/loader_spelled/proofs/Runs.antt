@@ -28,10 +28,10 @@ unfolding run
 accepts-second u [] ys a = a
 accepts-second u (x ∷ xs) ys a = accepts-second (step u x) xs ys (a .1)
 
-pub read-run : (k : ℕ) (u : State) (lines : List (List ℕ)) → Accepts u lines → (readFrom k u lines .said ≡ []) × (readFrom k u lines .state ≡ run u lines)
+pub read-run : (k : ℕ) (u : State) (lines : List (List ℕ)) → Accepts u lines → (readFrom k u lines .code ≡ []) × (readFrom k u lines .state ≡ run u lines)
 unfolding run
-read-run k u [] a = (ap (λ (R : Reading). R .said) (read-none k u), ap (λ (R : Reading). R .state) (read-none k u))
+read-run k u [] a = (ap (λ (R : Reading). R .code) (read-none k u), ap (λ (R : Reading). R .state) (read-none k u))
 read-run k u (line ∷ lines) a =
     let e = read-accepted k u line lines (a .0) in
     let r = read-run (k + 1) (step u line) lines (a .1) in
-    (ap (λ (R : Reading). R .said) e ∙ r .0, ap (λ (R : Reading). R .state) e ∙ r .1)
+    (ap (λ (R : Reading). R .code) e ∙ r .0, ap (λ (R : Reading). R .state) e ∙ r .1)

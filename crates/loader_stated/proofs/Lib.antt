@@ -1,4 +1,4 @@
-pub mod Said
+pub mod CodeLaws
 pub mod Stated
 pub mod Taken
 pub mod Cases

@@ -1,8 +1,8 @@
 -- Each refusal of a line is said exactly in its stated case (specs/Stated).
 --   Reached, reached — a line is refused with 8, 14, 1, 2 or 11, or it is a form in time
 --   in-time, some-stated, some-other — so there is a stated case of every line, at every loader
---   said-stated, line-exactly — what is said is what is stated, at a loader whose own n is in range;  made-exactly — so it is at every loader made by `new` and `take`
---   said-own, said-other, other-exactly — and at any other loader
+--   code-stated, line-exactly — what is said is what is stated, at a loader whose own n is in range;  made-exactly — so it is at every loader made by `new` and `take`
+--   code-own, code-other, other-exactly — and at any other loader
 use mathlib.Core.Path.{_≡_, refl, sym, subst, _∙_}
 use mathlib.Core.Bool.{Bool, true, false}
 use mathlib.Core.List.{List, [], _∷_}
@@ -28,12 +28,12 @@ use Rattle.loader_progress.specs.Progress.{missing, sized, ended, early, repeat
 use Rattle.loader_progress.proofs.Progress.{misplaced-own}
 use Rattle.loader.specs.declared.Loader.{Loader}
 use Rattle.loader.specs.Answer.{lineAnswer}
-use Rattle.loader.proofs.Exact.{formSaid}
+use Rattle.loader.proofs.Exact.{formCode}
 use Rattle.loader_runs.specs.Accepts.{Made}
 use Rattle.loader_runs.proofs.Sound.{made-size}
 use Rattle.loader_runs.specs.OwnSize.{OwnSize}
 use Rattle.loader_stated.specs.Stated.{Formed, LineStated, too-short, after-end, too-long, no-form, too-early, i-outside, again, value-outside, wrong-count, forms-missing, accepted, OtherStated, own-size, no-such-form}
-use Rattle.loader_stated.proofs.Said.{own-placed, said-form, said-by}
+use Rattle.loader_stated.proofs.CodeLaws.{own-placed, code-form, code-by}
 
 module _ (d : Loader) (l : Lists) (line : List ℕ) where
   abbrev NoneInTime : Type 0
@@ -95,23 +95,23 @@ module _ (d : Loader) (l : Lists) (line : List ℕ) where
       go (formed f h t) = (3 ∷ [], own-size f h t)
 
   -- ---- a loader whose own n is in range
-  said-stated : OwnSize d → {w : List ℕ} → LineStated d l line w → lineAnswer d l line ≡ w
-  said-stated own s = said-by d l line (λ f h t. own-placed d own (itemOf f)) s
+  code-stated : OwnSize d → {w : List ℕ} → LineStated d l line w → lineAnswer d l line ≡ w
+  code-stated own s = code-by d l line (λ f h t. own-placed d own (itemOf f)) s
 
   pub line-exactly : OwnSize d → (w : List ℕ) → (lineAnswer d l line ≡ w) ↔ LineStated d l line w
-  line-exactly own w = let s = some-stated in (λ e. subst (LineStated d l line) (sym (said-stated own (s .1)) ∙ e) (s .1), said-stated own)
+  line-exactly own w = let s = some-stated in (λ e. subst (LineStated d l line) (sym (code-stated own (s .1)) ∙ e) (s .1), code-stated own)
 
   pub made-exactly : Made d → (w : List ℕ) → (lineAnswer d l line ≡ w) ↔ LineStated d l line w
   made-exactly m = line-exactly (made-size m)
 
   -- ---- any other loader
   module _ (given : sized (d .stage) ≡ true) (out : inRange Size (pos (d .n)) ≡ false) where
-    said-own : {f : Form} → Formed d l line f → early (d .stage) (itemOf f) ≡ false → lineAnswer d l line ≡ 3 ∷ []
-    said-own {f} h t = said-form d l line h ∙ unfold formSaid in rw (t, ← misplaced-own (d .stage) (d .n) (itemOf f) given out)
+    code-own : {f : Form} → Formed d l line f → early (d .stage) (itemOf f) ≡ false → lineAnswer d l line ≡ 3 ∷ []
+    code-own {f} h t = code-form d l line h ∙ unfold formCode in rw (t, ← misplaced-own (d .stage) (d .n) (itemOf f) given out)
 
-    said-other : {w : List ℕ} → OtherStated d l line w → lineAnswer d l line ≡ w
-    said-other (own-size f h t) = said-own h t
-    said-other (no-such-form w late s) = said-by d l line (λ f h t. clash (early (d .stage) (itemOf f)) (late f h) t) s
+    code-other : {w : List ℕ} → OtherStated d l line w → lineAnswer d l line ≡ w
+    code-other (own-size f h t) = code-own h t
+    code-other (no-such-form w late s) = code-by d l line (λ f h t. clash (early (d .stage) (itemOf f)) (late f h) t) s
 
     pub other-exactly : (w : List ℕ) → (lineAnswer d l line ≡ w) ↔ OtherStated d l line w
-    other-exactly w = let s = some-other in (λ e. subst (OtherStated d l line) (sym (said-other (s .1)) ∙ e) (s .1), said-other)
+    other-exactly w = let s = some-other in (λ e. subst (OtherStated d l line) (sym (code-other (s .1)) ∙ e) (s .1), code-other)

@@ -7,7 +7,7 @@ use mathlib.Core.Logic.{_↔_}
 use Prim.Native.Nat.{ℕ}
 use lib.IntN.{pos}
 use Rattle.rules.specs.Range.{inRange}
-use Rattle.rules.specs.Refusal.{said}
+use Rattle.rules.specs.Refusal.{code}
 use Rattle.rules.specs.declared.Kind.the-variants.{Size}
 use Rattle.line_form.specs.Form.{Form}
 use Rattle.line_form.specs.Spelling.{spell}
@@ -20,7 +20,7 @@ use Rattle.loader.specs.declared.Taken.{Taken}
 use Rattle.loader.specs.Answer.{lineAnswer}
 use Rattle.loader.specs.Taken.{after, listsWith, TakenAs}
 use Rattle.loader.proofs.Accepted.{accepted-form}
-use Rattle.loader.proofs.Said.{refused-leaves}
+use Rattle.loader.proofs.CodeLaws.{refused-leaves}
 use Rattle.loader_runs.specs.Accepts.{Made}
 use Rattle.loader_stated.specs.Stated.{OtherStated}
 use Rattle.loader_stated.specs.Taken.{TakenStated}
@@ -32,7 +32,7 @@ module _ (d : Loader) (line : List ℕ) (l : Lists) (r : Taken) (l′ : Lists) (
       let a = accepted-form d l line e in
       (a .0, (spelled-read line (a .0) (a .1 .reads), (x .loader ∙ a .1 .loader, x .lists ∙ a .1 .lists)))
 
-  both-left : (said (r .outcome) ≡ [] → ⊥) → (r .loader ≡ d) × (l′ ≡ l)
+  both-left : (code (r .outcome) ≡ [] → ⊥) → (r .loader ≡ d) × (l′ ≡ l)
   both-left h = go (lineAnswer d l line) refl
     where
       go : (w : List ℕ) → lineAnswer d l line ≡ w → (r .loader ≡ d) × (l′ ≡ l)
@@ -46,5 +46,5 @@ module _ (d : Loader) (line : List ℕ) (l : Lists) (r : Taken) (l′ : Lists) (
     refused = both-left;
   }
 
-  pub taken-other : sized (d .stage) ≡ true → inRange Size (pos (d .n)) ≡ false → (w : List ℕ) → (said (r .outcome) ≡ w) ↔ OtherStated d l line w
+  pub taken-other : sized (d .stage) ≡ true → inRange Size (pos (d .n)) ≡ false → (w : List ℕ) → (code (r .outcome) ≡ w) ↔ OtherStated d l line w
   taken-other given out w = let s = other-exactly d l line given out w in (λ e. s .0 (sym (x .says) ∙ e), λ y. x .says ∙ s .1 y)

@@ -6,7 +6,7 @@ use mathlib.Core.List.{List, []}
 use mathlib.Core.Logic.{_↔_}
 use mathlib.Core.Path.{_≡_}
 use Prim.Native.Nat.{ℕ}
-use Rattle.rules.specs.Refusal.{said}
+use Rattle.rules.specs.Refusal.{code}
 use Rattle.line_form.specs.Form.{Form}
 use Rattle.line_form.specs.Spelling.{spell}
 use Rattle.loader_values.specs.Item.{itemOf}
@@ -17,6 +17,6 @@ use Rattle.loader.specs.Taken.{after, listsWith}
 use Rattle.loader_stated.specs.Stated.{LineStated}
 
 pub record TakenStated (d : Loader) (line : List ℕ) (l : Lists) (r : Taken) (l′ : Lists) : Type 0 where
-  pub says : (w : List ℕ) → (said (r .outcome) ≡ w) ↔ LineStated d l line w
-  pub accepted : said (r .outcome) ≡ [] → (f : Form) × ((line ≡ spell f) × ((r .loader ≡ after d (itemOf f)) × (l′ ≡ listsWith d f l)))
-  pub refused : (said (r .outcome) ≡ [] → ⊥) → (r .loader ≡ d) × (l′ ≡ l)
+  pub says : (w : List ℕ) → (code (r .outcome) ≡ w) ↔ LineStated d l line w
+  pub accepted : code (r .outcome) ≡ [] → (f : Form) × ((line ≡ spell f) × ((r .loader ≡ after d (itemOf f)) × (l′ ≡ listsWith d f l)))
+  pub refused : (code (r .outcome) ≡ [] → ⊥) → (r .loader ≡ d) × (l′ ≡ l)

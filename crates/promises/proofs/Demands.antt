@@ -9,7 +9,7 @@ use lib.ListN.{take}
 use Rattle.check_spec.specs.Checked.{solutionBoundsAfter, inverseBoundsAfter}
 use Rattle.check_spec.specs.Input.{Input, short}
 use Rattle.check_spec.specs.Stated.{Stated}
-use Rattle.check_spec.proofs.Statements.{stated, said-of}
+use Rattle.check_spec.proofs.Statements.{stated, code-of}
 use Rattle.check_spec.proofs.Written.{checked-solution, checked-inverse}
 use Rattle.loader_progress.specs.Progress.{ended}
 use Rattle.loader_progress.specs.declared.Stage.{Stage}
@@ -95,7 +95,7 @@ equal-listings-equal-limits file old new file′ old′ new′ count count′ x 
     (r .size, λ i l. (r .guess i l, r .solution i l), r .inverse)
 
 pub check-refuses-as-stated : demand.CheckRefusesAsStated
-check-refuses-as-stated I r E L x w = (λ e. subst (Stated I) (sym (x .says) ∙ e) (stated I), λ y. x .says ∙ said-of I y)
+check-refuses-as-stated I r E L x w = (λ e. subst (Stated I) (sym (x .says) ∙ e) (stated I), λ y. x .says ∙ code-of I y)
 
 module _ (s : Stage) (I : Input) where
   through-stated : StatedThrough s I (answerThrough s I)
@@ -106,13 +106,13 @@ module _ (s : Stage) (I : Input) where
       go false p false q = subst (StatedThrough s I) (sym (check-15 s I .1 ((p, tt), rw q))) (not-ended p q)
       go false p true q = as-on-lists _ q (subst (Stated I) (sym (answer-ended s I q)) (stated I))
 
-  through-said : (w : List ℕ) → StatedThrough s I w → answerThrough s I ≡ w
-  through-said w (too-short p) = check-8 s I .1 (tt, p)
-  through-said w (not-ended p q) = check-15 s I .1 ((p, tt), rw q)
-  through-said w (as-on-lists v q y) = answer-ended s I q ∙ said-of I y
+  through-code : (w : List ℕ) → StatedThrough s I w → answerThrough s I ≡ w
+  through-code w (too-short p) = check-8 s I .1 (tt, p)
+  through-code w (not-ended p q) = check-15 s I .1 ((p, tt), rw q)
+  through-code w (as-on-lists v q y) = answer-ended s I q ∙ code-of I y
 
 pub through-refuses-as-stated : demand.ThroughRefusesAsStated
-through-refuses-as-stated s I r E L x w = (λ e. subst (StatedThrough s I) (sym (x .says) ∙ e) (through-stated s I), λ y. x .says ∙ through-said s I w y)
+through-refuses-as-stated s I r E L x w = (λ e. subst (StatedThrough s I) (sym (x .says) ∙ e) (through-stated s I), λ y. x .says ∙ through-code s I w y)
 
 pub half-refuses-as-stated : demand.HalfRefusesAsStated
 half-refuses-as-stated H r E L x w = half-stated H r E L x

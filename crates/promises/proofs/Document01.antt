@@ -40,7 +40,7 @@ use Rattle.promises.specs.Document01 as document
 use Rattle.promises.specs.Ways.{StatedThrough, not-ended, as-on-lists}
 use Rattle.promises.specs.Ways as ways
 use Rattle.promises.proofs.Ways.{accepted-sound}
-use Rattle.promises.proofs.Cases01.{LargeInverse, back, case-of, said-as, never-15}
+use Rattle.promises.proofs.Cases01.{LargeInverse, back, case-of, code-as, never-15}
 use Rattle.promises.proofs.Demands.{limits-reckoned, through-refuses-as-stated}
 
 -- ---- The system and its steps
@@ -166,21 +166,21 @@ whole-files-shaped = exactly
 
 -- ---- Refused for what was handed in
 pub short-list-is-8 : document.ShortListIs8
-short-list-is-8 I r E L x = (case-of I r E L x, λ p. said-as I r E L x (too-short p))
+short-list-is-8 I r E L x = (case-of I r E L x, λ p. code-as I r E L x (too-short p))
 
 pub out-of-range-is-3 : document.OutOfRangeIs3
-out-of-range-is-3 I r E L x = (case-of I r E L x, λ p. said-as I r E L x (out-of-range (p .0) (p .1)))
+out-of-range-is-3 I r E L x = (case-of I r E L x, λ p. code-as I r E L x (out-of-range (p .0) (p .1)))
 
 pub low-margin-is-5 : document.LowMarginIs5
 low-margin-is-5 I r E L x m = (
   λ e. let c = case-of I r E L x e in (c .0, rw (← back m) (c .1)),
-  λ c. said-as I r E L x (margin-low m (c .0) (c .1 .below) (c .1 .here) (c .1 .before)),
+  λ c. code-as I r E L x (margin-low m (c .0) (c .1 .below) (c .1 .here) (c .1 .before)),
 )
 
 pub large-residual-is-6 : document.LargeResidualIs6
 large-residual-is-6 I r E L x k = (
   λ e. let c = case-of I r E L x e in (c .0, (c .1 .0, rw (← back k) (c .1 .1))),
-  λ c. said-as I r E L x (residual-large k (c .0) (c .1 .0) (c .1 .1 .below) (c .1 .1 .here) (c .1 .1 .before)),
+  λ c. code-as I r E L x (residual-large k (c .0) (c .1 .0) (c .1 .1 .below) (c .1 .1 .here) (c .1 .1 .before)),
 )
 
 pub large-inverse-is-7 : document.LargeInverseIs7
@@ -188,7 +188,7 @@ large-inverse-is-7 I r E L x j k = (
   λ e. let c : LargeInverse I (j + 1 - 1) (k + 1 - 1) = case-of I r E L x e in subst (λ (a : ℕ). LargeInverse I a k) (back j) (subst (λ (b : ℕ). LargeInverse I (j + 1 - 1) b) (back k) c),
   λ c.
       let low = c .1 .1 .1 .1 .1 in
-      said-as I r E L x (inverse-large j k (c .0) (c .1 .0) (c .1 .1 .0) (c .1 .1 .1 .0) (low .below) (low .here) (c .1 .1 .1 .1 .0) (low .before)),
+      code-as I r E L x (inverse-large j k (c .0) (c .1 .0) (c .1 .1 .0) (c .1 .1 .1 .0) (low .below) (low .here) (c .1 .1 .1 .1 .0) (low .before)),
 )
 
 -- ---- Refused for how far the desk has come

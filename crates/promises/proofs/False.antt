@@ -34,7 +34,7 @@ use Rattle.dependent_spec.specs.declared.CheckedNets.the-variants.{Dependent}
 use Rattle.dependent_spec.proofs.Contract.{together-dependent}
 use Rattle.dependent_spec.proofs.Instance.{accepted-here}
 use Rattle.dependent_spec.proofs.Largest.{joint-none}
-use Rattle.dependent_spec.proofs.Statements.{said-of-dependent}
+use Rattle.dependent_spec.proofs.Statements.{code-of-dependent}
 use Rattle.line_form.specs.Form.{end}
 use Rattle.line_form.specs.Spelling.{spell}
 use Rattle.loader_bit_set.specs.Places.{lacking as lackingIn}
@@ -43,7 +43,7 @@ use Rattle.loader_progress.specs.declared.Stage.the-variants.{Scaled}
 use Rattle.loader.specs.Answer.{lineAnswer}
 use Rattle.loader.specs.Taken.{TakenAs}
 use Rattle.loader.specs.declared.Loader.{Loader}
-use Rattle.loader.proofs.Said.{refused-leaves}
+use Rattle.loader.proofs.CodeLaws.{refused-leaves}
 use Rattle.loader_runs.specs.Read.{zeros}
 use Rattle.loader_runs.specs.OwnSize.{OwnSize}
 use Rattle.loader_stated.specs.Stated.{Unrepeated, forms-missing}
@@ -70,16 +70,16 @@ poor-inside : inRanges poor ≡ true
 unfolding allInRange inRange rangeOf ranges every
 poor-inside = refl
 
-poor-said : checkedOf (problem poor) ≡ []
+poor-code : checkedOf (problem poor) ≡ []
 unfolding bound boundWith boundFrom magnitudesWith exceeds rowSum residual margin load defect product apply identity sum sumℕ largest first ceilDiv
-poor-said = refl
+poor-code = refl
 
 poor-limits : (bound (problem poor) 0 ≡ 0) × ((inverseBound (problem poor) 0 0 ≡ 0) × (inverseBound (problem poor) 0 1 ≡ 2))
 unfolding bound boundWith boundFrom magnitudesWith residual margin load defect product apply identity sum sumℕ largest ceilDiv
 poor-limits = (refl, (refl, refl))
 
 poor-checked : Checked poor outcome.Accepted heights inverses
-poor-checked = checked-ready poor refl poor-inside (sym poor-said) refl refl
+poor-checked = checked-ready poor refl poor-inside (sym poor-code) refl refl
 
 pub not-accepted-leaves : wrong.AcceptedLeaves → ⊥
 not-accepted-leaves h =
@@ -136,16 +136,16 @@ loose-inside : inRanges looseInput ≡ true
 unfolding allInRange inRange rangeOf ranges every
 loose-inside = refl
 
-loose-said : checkedOf (problem looseInput) ≡ []
+loose-code : checkedOf (problem looseInput) ≡ []
 unfolding bound boundWith boundFrom magnitudesWith exceeds rowSum residual margin load defect product apply identity sum sumℕ largest first ceilDiv
-loose-said = refl
+loose-code = refl
 
 loose-limit : bound (problem looseInput) 0 ≡ 48
 unfolding bound boundWith boundFrom magnitudesWith residual margin load defect product apply identity sum sumℕ largest ceilDiv
 loose-limit = refl
 
 loose-checked : Checked looseInput outcome.Accepted (solutionAfter (checkedOf (problem looseInput)) looseInput) (inverseAfter (checkedOf (problem looseInput)) looseInput)
-loose-checked = checked-ready looseInput refl loose-inside (sym loose-said) refl refl
+loose-checked = checked-ready looseInput refl loose-inside (sym loose-code) refl refl
 
 loose-zero : (natAbs (sum 1 (λ (j : ℕ). problem looseInput .G 0 j *ℤ residual (problem looseInput) j))) ≡ 0
 unfolding residual apply sum
@@ -169,7 +169,7 @@ main-accepted = joint-none coupledNets accepted-here .0
 pub not-dependent-told-as-main : wrong.DependentToldAsMain → ⊥
 not-dependent-told-as-main h =
     let short : StatedDependent (dependentOf torn) (8 ∷ []) = too-short refl in
-    let x = together-dependent torn TooShort main-accepted (sym (said-of-dependent (dependentOf torn) short)) in
+    let x = together-dependent torn TooShort main-accepted (sym (code-of-dependent (dependentOf torn) short)) in
     let told = h torn (Dependent TooShort) _ _ _ _ x 8 [] (subst (Stated (coupledNets .main)) main-accepted (stated (coupledNets .main))) short in
     let z : _≡_ {A = ℕ} 2 1 = ap (λ (l : List ℕ). getD l 0 0) told in
     omega (arith, z)
@@ -214,14 +214,14 @@ begun-end = record {
   first = refl;
 }
 
-begun-said : lineAnswer begunLoader zeros (spell end) ≡ 13 ∷ 4 ∷ []
+begun-code : lineAnswer begunLoader zeros (spell end) ≡ 13 ∷ 4 ∷ []
 unfolding missing lackingIn sumℕ
-begun-said = line-exactly begunLoader zeros (spell end) begun-own (13 ∷ 4 ∷ []) .1 (forms-missing end begun-end refl refl refl)
+begun-code = line-exactly begunLoader zeros (spell end) begun-own (13 ∷ 4 ∷ []) .1 (forms-missing end begun-end refl refl refl)
 
 begun-taken : TakenAs begunLoader (spell end) zeros (record { loader = begunLoader; outcome = outcome.Refused (Missing 4) }) zeros
 begun-taken =
-    let left = refused-leaves begunLoader zeros (spell end) begun-said in
-    record { says = sym begun-said; loader = sym (left .0); lists = sym (left .1) }
+    let left = refused-leaves begunLoader zeros (spell end) begun-code in
+    record { says = sym begun-code; loader = sym (left .0); lists = sym (left .1) }
 
 pub not-three-kinds-missing : wrong.ThreeKindsMissing → ⊥
 unfolding sumℕ

@@ -22,8 +22,8 @@ use Rattle.loader_bit_set.specs.Places.{lacking}
 use Rattle.loader_bit_set.proofs.Places.{lacking-≤}
 use Rattle.loader_lists.specs.Lists.{Lists, shortLists}
 use Rattle.loader_progress.specs.Progress.{missing, setOf, ended, early, repeated, incomplete}
-use Rattle.loader_order.proofs.Said.{count-13}
-use Rattle.rules.specs.Refusal.{said}
+use Rattle.loader_order.proofs.CodeLaws.{count-13}
+use Rattle.rules.specs.Refusal.{code}
 use Rattle.loader.specs.Answer.{caseOf, lineAnswer}
 use Rattle.loader.specs.Taken.{TakenAs}
 use Rattle.loader.specs.declared.Loader.{Loader}
@@ -69,17 +69,17 @@ module _ (d : Loader) (l : Lists) (line : List ℕ) where
   stated-case (stated.accepted f u o m i) = tt
 
 module _ (d : Loader) (line : List ℕ) (l : Lists) (r : Taken) (l′ : Lists) (x : TakenAs d line l r l′) (m : Made d) where
-  case-of : {w : List ℕ} → said (r .outcome) ≡ w → LineCaseOf d l line (getD w 0 0)
+  case-of : {w : List ℕ} → code (r .outcome) ≡ w → LineCaseOf d l line (getD w 0 0)
   case-of {w} e = stated-case d l line (line-refuses-as-stated d line l r l′ x m w .0 e)
 
-  said-as : {w : List ℕ} → LineStated d l line w → said (r .outcome) ≡ w
-  said-as {w} y = line-refuses-as-stated d line l r l′ x m w .1 y
+  code-as : {w : List ℕ} → LineStated d l line w → code (r .outcome) ≡ w
+  code-as {w} y = line-refuses-as-stated d line l r l′ x m w .1 y
 
 pub long-line-is-1 : line.LongLineIs1
-long-line-is-1 d line l r l′ x m = (case-of d line l r l′ x m, λ c. said-as d line l r l′ x m (stated.too-long (c .0) (c .1 .0) (c .1 .1)))
+long-line-is-1 d line l r l′ x m = (case-of d line l r l′ x m, λ c. code-as d line l r l′ x m (stated.too-long (c .0) (c .1 .0) (c .1 .1)))
 
 pub no-form-is-2 : line.NoFormIs2
-no-form-is-2 d line l r l′ x m = (case-of d line l r l′ x m, λ c. said-as d line l r l′ x m (stated.no-form (c .0) (c .1 .0) (c .1 .1 .0) (c .1 .1 .1)))
+no-form-is-2 d line l r l′ x m = (case-of d line l r l′ x m, λ c. code-as d line l r l′ x m (stated.no-form (c .0) (c .1 .0) (c .1 .1 .0) (c .1 .1 .1)))
 
 pub no-form-is-empty : line.NoFormIsEmpty
 no-form-is-empty f e = let h = spell-some f in omega (arith, h, ap (λ (s : List ℕ). length s) e)
@@ -88,25 +88,25 @@ pub no-form-has-feed : line.NoFormHasFeed
 no-form-has-feed = spell-no-feed
 
 pub outside-is-3 : line.OutsideIs3
-outside-is-3 d line l r l′ x m = (case-of d line l r l′ x m, λ c. said-as d line l r l′ x m (go (c .0) (c .1)))
+outside-is-3 d line l r l′ x m = (case-of d line l r l′ x m, λ c. code-as d line l r l′ x m (go (c .0) (c .1)))
   where
     go : (f : Form) → (InTime d l line f × (placed (d .n) (itemOf f) ≡ false)) ⊎ (Unrepeated d l line f × (outside f ≡ true)) → LineStated d l line (3 ∷ [])
     go f (inl h) = stated.i-outside f (h .0 .formed) (h .0 .timely) (h .1)
     go f (inr h) = stated.value-outside f (h .0) (h .1)
 
 pub wrong-count-is-4 : line.WrongCountIs4
-wrong-count-is-4 d line l r l′ x m = (case-of d line l r l′ x m, λ c. said-as d line l r l′ x m (stated.wrong-count (c .0) (c .1 .0) (c .1 .1 .0) (c .1 .1 .1)))
+wrong-count-is-4 d line l r l′ x m = (case-of d line l r l′ x m, λ c. code-as d line l r l′ x m (stated.wrong-count (c .0) (c .1 .0) (c .1 .1 .0) (c .1 .1 .1)))
 
 pub short-line-is-8 : line.ShortLineIs8
-short-line-is-8 d line l r l′ x m = (case-of d line l r l′ x m, λ c. said-as d line l r l′ x m (stated.too-short c))
+short-line-is-8 d line l r l′ x m = (case-of d line l r l′ x m, λ c. code-as d line l r l′ x m (stated.too-short c))
 
 pub early-is-11 : line.EarlyIs11
-early-is-11 d line l r l′ x m = (case-of d line l r l′ x m, λ c. said-as d line l r l′ x m (stated.too-early (c .0) (c .1 .0) (c .1 .1)))
+early-is-11 d line l r l′ x m = (case-of d line l r l′ x m, λ c. code-as d line l r l′ x m (stated.too-early (c .0) (c .1 .0) (c .1 .1)))
 
 pub repeated-is-12 : line.RepeatedIs12
 repeated-is-12 d line l r l′ x m = (
   case-of d line l r l′ x m,
-  λ c. said-as d line l r l′ x m (stated.again (c .0) (c .1 .0 .formed) (c .1 .0 .timely) (c .1 .1 .0) (c .1 .1 .1)),
+  λ c. code-as d line l r l′ x m (stated.again (c .0) (c .1 .0 .formed) (c .1 .0 .timely) (c .1 .1 .0) (c .1 .1 .1)),
 )
 
 pub missing-is-13 : line.MissingIs13
@@ -149,12 +149,12 @@ pub outstanding-is-13 : line.OutstandingIs13
 outstanding-is-13 d line l r l′ x m k = (
   λ e. outstanding d l line k (line-refuses-as-stated d line l r l′ x m (13 ∷ k ∷ []) .0 e) refl,
   λ c.
-      said-as d line l r l′ x m (stated.forms-missing end (c .0) refl refl (lt-ltb 0 (missing (d .n) (d .sets)) (c .1)))
+      code-as d line l r l′ x m (stated.forms-missing end (c .0) refl refl (lt-ltb 0 (missing (d .n) (d .sets)) (c .1)))
       ∙ ap (λ (j : ℕ). 13 ∷ j ∷ []) (sym (c .2)),
 )
 
 pub after-end-is-14 : line.AfterEndIs14
-after-end-is-14 d line l r l′ x m = (case-of d line l r l′ x m, λ c. said-as d line l r l′ x m (stated.after-end (c .0) (c .1)))
+after-end-is-14 d line l r l′ x m = (case-of d line l r l′ x m, λ c. code-as d line l r l′ x m (stated.after-end (c .0) (c .1)))
 
 pub line-ordered : line.LineOrdered
 line-ordered c = refl

@@ -14,7 +14,7 @@ use Rattle.weights_spec.proofs.Bits.{bits-fit, bits-fewest}
 use Rattle.weights_spec.proofs.Contract.{fit-request}
 use Rattle.weights_spec.proofs.First.{good-margins, margins-good}
 use Rattle.weights_spec.proofs.Lists.{tried-first, tried-next}
-use Rattle.weights_spec.proofs.Promises.{search-stated, said-search, found-usable, count-first, none-exactly, larger-allowance}
+use Rattle.weights_spec.proofs.Promises.{search-stated, code-search, found-usable, count-first, none-exactly, larger-allowance}
 use Rattle.promises.specs.Paper07 as paper
 use Rattle.promises.specs.Ways.{Refused}
 use Rattle.promises.proofs.Ways.{refused-old}
@@ -51,7 +51,7 @@ pub larger-allowance-same : paper.LargerAllowance
 larger-allowance-same = larger-allowance
 
 pub search-refuses-as-stated : paper.SearchRefusesAsStated
-search-refuses-as-stated Q r weights x w = (λ e. subst (SearchStated Q) (sym (x .says) ∙ e) (search-stated Q), λ y. x .says ∙ said-search Q y)
+search-refuses-as-stated Q r weights x w = (λ e. subst (SearchStated Q) (sym (x .says) ∙ e) (search-stated Q), λ y. x .says ∙ code-search Q y)
 
 pub none-good-is-18 : paper.NoneGoodIs18
 none-good-is-18 Q r weights x = none-exactly Q r weights x

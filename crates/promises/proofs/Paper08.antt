@@ -8,13 +8,13 @@ use Rattle.linear.proofs.Written.{front-at}
 use Rattle.check_spec.proofs.Fit.{Fit}
 use Rattle.check_spec.proofs.Written.{accepted-fit, solution-at, inverse-at}
 use Rattle.dependent_spec.specs.Nets.{Nets, dependentOf}
-use Rattle.dependent_spec.specs.Order.{saidNets, jointAnswer}
+use Rattle.dependent_spec.specs.Order.{netsCode, jointAnswer}
 use Rattle.dependent_spec.specs.Reckoning.{dependentResidual, dependentSlack, dependentBound}
 use Rattle.dependent_spec.specs.Stated.{StatedTogether, of-main, of-dependent}
 use Rattle.dependent_spec.specs.Together.{CheckedTogether}
 use Rattle.dependent_spec.specs.declared.CheckedNets.{CheckedNets}
 use Rattle.dependent_spec.proofs.Largest.{joint-none}
-use Rattle.dependent_spec.proofs.Statements.{own-fit, passed-of, stated-together, said-of-together}
+use Rattle.dependent_spec.proofs.Statements.{own-fit, passed-of, stated-together, code-of-together}
 use Rattle.promises.specs.Paper08 as paper
 use Rattle.promises.specs.Ways.{Refused}
 use Rattle.promises.proofs.Ways.{refused-old}
@@ -27,7 +27,7 @@ pub dependent-slack-is : paper.DependentSlackIs
 unfolding dependentSlack
 dependent-slack-is J k = refl
 
-module _ (J : Nets) (r : CheckedNets) (E₁ L₁ E₂ L₂ : List ℕ) (x : CheckedTogether J r E₁ L₁ E₂ L₂) (e : saidNets r ≡ []) where
+module _ (J : Nets) (r : CheckedNets) (E₁ L₁ E₂ L₂ : List ℕ) (x : CheckedTogether J r E₁ L₁ E₂ L₂) (e : netsCode r ≡ []) where
   none : jointAnswer J ≡ []
   none = sym (x .says) ∙ e
 
@@ -58,10 +58,10 @@ joint-enclosed J r E₁ L₁ E₂ L₂ x e = x .encloses e .joint
 
 pub refusal-names-net : paper.RefusalNamesNet
 refusal-names-net J r E₁ L₁ E₂ L₂ x k ks =
-    (λ y. x .says ∙ said-of-together J (of-main k ks y), λ y z. x .says ∙ said-of-together J (of-dependent k ks y z))
+    (λ y. x .says ∙ code-of-together J (of-main k ks y), λ y z. x .says ∙ code-of-together J (of-dependent k ks y z))
 
 pub together-refuses-as-stated : paper.TogetherRefusesAsStated
-together-refuses-as-stated J r E₁ L₁ E₂ L₂ x w = (λ e. subst (StatedTogether J) (sym (x .says) ∙ e) (stated-together J), λ y. x .says ∙ said-of-together J y)
+together-refuses-as-stated J r E₁ L₁ E₂ L₂ x w = (λ e. subst (StatedTogether J) (sym (x .says) ∙ e) (stated-together J), λ y. x .says ∙ code-of-together J y)
 
 pub refused-together-leaves : paper.RefusedTogetherLeaves
 refused-together-leaves J r E₁ L₁ E₂ L₂ x h =

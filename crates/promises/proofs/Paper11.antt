@@ -39,10 +39,10 @@ pub no-double-lies-between : paper.NoDoubleBetween
 no-double-lies-between I r low high x e i l = no-double-between I x e i l
 
 pub inward-refusals : paper.InwardRefusals
-inward-refusals I r guess x = (carried-over (x .says) (inward.said-8 I), carried-over (x .says) (inward.said-3 I), carried-over (x .says) (inward.said-19 I))
+inward-refusals I r guess x = (carried-over (x .says) (inward.code-8 I), carried-over (x .says) (inward.code-3 I), carried-over (x .says) (inward.code-19 I))
 
 pub inward-accepted : paper.InwardAccepted
-inward-accepted I r guess x = carried-over (x .says) (inward.said-nothing I)
+inward-accepted I r guess x = carried-over (x .says) (inward.code-nothing I)
 
 pub refused-inward-leaves : paper.RefusedInwardLeaves
 unfolding guessesAfter
@@ -51,7 +51,7 @@ refused-inward-leaves I r guess x h =
     x .guesses ∙ refused-old _ _ _ k
 
 pub outward-refusals : paper.OutwardRefusals
-outward-refusals I r low high x = (carried-over (x .says) (outward.said-8 I), carried-over (x .says) (outward.said-3 I), carried-over (x .says) (outward.said-nothing I))
+outward-refusals I r low high x = (carried-over (x .says) (outward.code-8 I), carried-over (x .says) (outward.code-3 I), carried-over (x .says) (outward.code-nothing I))
 
 pub refused-outward-leaves : paper.RefusedOutwardLeaves
 unfolding lowsAfter highsAfter

@@ -16,7 +16,7 @@ use lib.Dec.{eqb}
 use lib.IntN.{ℤ, pos, natAbs}
 use lib.ListN.{getD, length}
 use lib.Seq.{sets}
-use Rattle.rules.specs.Refusal.{said}
+use Rattle.rules.specs.Refusal.{code}
 use Rattle.line_form.specs.Form.{Form}
 use Rattle.line_form.specs.Spelling.{spell}
 use Rattle.line_form.proofs.Spelling.{read-spelled}
@@ -52,7 +52,7 @@ pub record Took (d : Loader) (f : Form) (l l′ : Lists) : Type 0 where
   pub accepted : AcceptedLine d l (spell f) f
   pub lists : l′ ≡ listsWith d f l
 
-pub took : (d : Loader) (f : Form) (l : Lists) (r : Taken) (l′ : Lists) → TakenAs d (spell f) l r l′ → said (r .outcome) ≡ [] → Took d f l l′
+pub took : (d : Loader) (f : Form) (l : Lists) (r : Taken) (l′ : Lists) → TakenAs d (spell f) l r l′ → code (r .outcome) ≡ [] → Took d f l l′
 took d f l r l′ x e =
     let a = accepted-form d l (spell f) (sym (x .says) ∙ e) in
     let read : some (a .0) ≡ some f = sym (a .1 .reads) ∙ read-spelled f in

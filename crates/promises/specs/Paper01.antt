@@ -6,7 +6,7 @@ use mathlib.Core.Path.{_≡_}
 use Prim.Native.Nat.{ℕ, suc, _≤_, _<_}
 use lib.IntN.{pos}
 use lib.ListN.{getD, take}
-use Rattle.rules.specs.Refusal.{said}
+use Rattle.rules.specs.Refusal.{code}
 use Rattle.line_form.specs.Form.{end}
 use Rattle.line_form.specs.Spelling.{spell}
 use Rattle.loader_values.specs.declared.Part.the-variants.{Weight}
@@ -24,7 +24,7 @@ use Rattle.listing.specs.Complete.{Complete}
 -- "A weight not given stands for 1, and an accepted end writes 1 into every such place of the lent list": the others stay, and so do the other lists
 abbrev pub EndWritesOnes : Type 0
 EndWritesOnes =
-    (d : Loader) (l : Lists) (r : Taken) (l′ : Lists) → TakenAs d (spell end) l r l′ → said (r .outcome) ≡ [] → (i : ℕ) →
+    (d : Loader) (l : Lists) (r : Taken) (l′ : Lists) → TakenAs d (spell end) l r l′ → code (r .outcome) ≡ [] → (i : ℕ) →
     (i < d .n → given (d .sets) Weight (suc i) ≡ false → getD (l′ .weights) i (pos 0) ≡ pos 1)
     × ((given (d .sets) Weight (suc i) ≡ true → getD (l′ .weights) i (pos 0) ≡ getD (l .weights) i (pos 0))
     × ((d .n ≤ i → getD (l′ .weights) i (pos 0) ≡ getD (l .weights) i (pos 0))

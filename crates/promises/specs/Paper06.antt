@@ -5,7 +5,7 @@ use mathlib.Core.List.{List, [], _∷_}
 use mathlib.Core.Logic.{_↔_}
 use mathlib.Core.Path.{_≡_}
 use Prim.Native.Nat.{ℕ}
-use Rattle.rules.specs.Refusal.{said}
+use Rattle.rules.specs.Refusal.{code}
 use Rattle.line_form.specs.Form.{Form}
 use Rattle.line_form.specs.Spelling.{spell}
 use Rattle.loader_values.specs.Item.{itemOf}
@@ -21,9 +21,9 @@ use Rattle.loader_runs.specs.Accepts.{Made}
 abbrev pub AnswersChanged : Type 0
 AnswersChanged =
     (d : Loader) (line : List ℕ) (l : Lists) (r : Taken) (l′ : Lists) → TakenAs d line l r l′ → Made d →
-    (said (r .outcome) ≡ answerBefore d l line → ⊥) ↔ ((f : Form) × ((line ≡ spell f) × Becomes12 d (itemOf f) (answerBefore d l line)))
+    (code (r .outcome) ≡ answerBefore d l line → ⊥) ↔ ((f : Form) × ((line ≡ spell f) × Becomes12 d (itemOf f) (answerBefore d l line)))
 
 -- "they become 12"
 abbrev pub ChangedAnswersAre12 : Type 0
 ChangedAnswersAre12 =
-    (d : Loader) (line : List ℕ) (l : Lists) (r : Taken) (l′ : Lists) → TakenAs d line l r l′ → (said (r .outcome) ≡ answerBefore d l line → ⊥) → said (r .outcome) ≡ 12 ∷ []
+    (d : Loader) (line : List ℕ) (l : Lists) (r : Taken) (l′ : Lists) → TakenAs d line l r l′ → (code (r .outcome) ≡ answerBefore d l line → ⊥) → code (r .outcome) ≡ 12 ∷ []

@@ -1,4 +1,4 @@
--- Words that many statements share. `said r` is nothing where a call accepts, else 01's number of the refusal and the places or the count that it gives.
+-- Words that many statements share. `code r` is nothing where a call accepts, else 01's number of the refusal and the places or the count that it gives.
 --   RangeIs k a b — a number of the kind k is in its range exactly where it is from a to b
 --   testNumbers ts — the numbers of tests, in their order
 --   Lowest n fails m — of the rows below n, m is the lowest that fails
@@ -16,7 +16,7 @@ use lib.ListN.{getD, take}
 use lib.Signed.{leZ}
 use Rattle.rules.specs.Order.{Test}
 use Rattle.rules.specs.Range.{inRange}
-use Rattle.rules.specs.Refusal.{said}
+use Rattle.rules.specs.Refusal.{code}
 use Rattle.rules.specs.declared.Kind.{Kind}
 use Rattle.rules.specs.declared.Outcome.{Outcome}
 use Rattle.enclosure.specs.Problem.{Problem}
@@ -47,11 +47,11 @@ abbrev pub Refused : List ℕ → Type 0
 Refused w = w ≡ [] → ⊥
 
 pub data Accepted : Problem → (ℕ → ℕ) → (ℕ → ℕ → ℕ) → Type 0 where
-  on-lists : (I : Input) (r : Outcome) (E L : List ℕ) → Checked I r E L → said r ≡ [] →
+  on-lists : (I : Input) (r : Outcome) (E L : List ℕ) → Checked I r E L → code r ≡ [] →
       Accepted (problem I) (λ (i : ℕ). getD E i 0) (λ (i j : ℕ). getD L (i * I .n + j) 0)
-  through-loader : (s : Stage) (I : Input) (r : Outcome) (E L : List ℕ) → CheckedThrough s I r E L → said r ≡ [] →
+  through-loader : (s : Stage) (I : Input) (r : Outcome) (E L : List ℕ) → CheckedThrough s I r E L → code r ≡ [] →
       Accepted (problem I) (λ (i : ℕ). getD E i 0) (λ (i j : ℕ). getD L (i * I .n + j) 0)
-  by-half : (H : Input) (r : Outcome) (E L : List ℕ) → CheckedHalf H r E L → said r ≡ [] →
+  by-half : (H : Input) (r : Outcome) (E L : List ℕ) → CheckedHalf H r E L → code r ≡ [] →
       Accepted (problem (filledInput H)) (λ (i : ℕ). getD E i 0) (λ (i j : ℕ). getD L (i * H .n + j) 0)
   of-file : (file old new : List ℕ) (r : FileAnswer) → AnsweredAs file old new r → r .reply .number ≡ 0 →
       Accepted (problemIn file) (bound (problemIn file)) (inverseBound (problemIn file))

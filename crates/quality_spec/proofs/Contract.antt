@@ -32,7 +32,7 @@ use Rattle.quality_spec.specs.declared.Quality.{Quality}
 use Rattle.quality_spec.specs.declared.Quality.the-variants as variant
 use Rattle.quality_spec.specs.Peak.{numerator, denominator}
 use Rattle.quality_spec.specs.Inquiry.{Inquiry, inquiryProblem, inquiryShort, inquiryInRanges, inquirySizes, inquiryLists}
-use Rattle.quality_spec.specs.Answer.{saidQuality, numeratorOf, denominatorOf, qualityAnswer, numeratorAfter, denominatorAfter, QualityAs}
+use Rattle.quality_spec.specs.Answer.{qualityCode, numeratorOf, denominatorOf, qualityAnswer, numeratorAfter, denominatorAfter, QualityAs}
 use Rattle.quality_spec.proofs.Peak.{peak-factor, peak-least}
 
 -- ---- 8 and 3
@@ -109,7 +109,7 @@ module _ (Q : Inquiry) where
     any-factor f = record { positive = f .positive; rows = f .rows }
 
   -- ---- the contract
-  refusal : (r : Quality) (k : ℕ) (ks : List ℕ) → saidQuality r ≡ k ∷ ks → qualityAnswer Q ≡ k ∷ ks → numeratorOf r ≡ 0 → denominatorOf r ≡ 0 → QualityAs Q r
+  refusal : (r : Quality) (k : ℕ) (ks : List ℕ) → qualityCode r ≡ k ∷ ks → qualityAnswer Q ≡ k ∷ ks → numeratorOf r ≡ 0 → denominatorOf r ≡ 0 → QualityAs Q r
   unfolding numeratorAfter denominatorAfter
   refusal r k ks s a x y = record {
     says = s ∙ sym a;

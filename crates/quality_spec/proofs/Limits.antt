@@ -13,9 +13,9 @@ use Rattle.enclosure.specs.Quality.{NeverFar}
 use Rattle.good_limits.specs.Good.{Good}
 use Rattle.quality_spec.specs.declared.Quality.{Quality}
 use Rattle.quality_spec.specs.Inquiry.{Inquiry}
-use Rattle.quality_spec.specs.Answer.{saidQuality, numeratorOf, denominatorOf, QualityAs}
+use Rattle.quality_spec.specs.Answer.{qualityCode, numeratorOf, denominatorOf, QualityAs}
 
-module _ (Q : Inquiry) (r : Quality) (x : QualityAs Q r) (z : saidQuality r ≡ []) (s : ℕ) (right tolerance guess : List ℤ) where
+module _ (Q : Inquiry) (r : Quality) (x : QualityAs Q r) (z : qualityCode r ≡ []) (s : ℕ) (right tolerance guess : List ℤ) where
   abbrev P : Problem
   P = problemOf (Q .n) s (Q .t) (Q .matrix) right tolerance guess (Q .inverse) (Q .weights)
 

@@ -1,5 +1,5 @@
 -- What the contract of `quality` promises (specs/Stated).
---   quality-stated, said-quality — each of 8, 3 and 5 is said exactly where its stated case holds, and nothing exactly where there is a factor
+--   quality-stated, code-quality — each of 8, 3 and 5 is said exactly where its stated case holds, and nothing exactly where there is a factor
 --   given-usable   — there is a factor of a usable inquiry alone;  given-margins — and where every margin is above 0
 --   zero-given     — by the number alone: 0 is said where there is a factor
 --   parts-fit      — the numerator is below 2^31 and the denominator at most 2^30, so the product of one row's and another's is below 2^62
@@ -48,12 +48,12 @@ module _ (Q : Inquiry) where
       go false e false f = subst (QualityStated Q) (sym (answer-range Q e f)) (is-3 e f)
       go false e true f = at-margins (record { long = e; inside = f }) (searched (Q .n) (marginFails (inquiryProblem Q)))
 
-  pub said-quality : {w : List ℕ} → QualityStated Q w → qualityAnswer Q ≡ w
-  said-quality (is-8 e) = answer-short Q e
-  said-quality (is-3 e f) = answer-range Q e f
-  said-quality (is-5 m u l p h) =
+  pub code-quality : {w : List ℕ} → QualityStated Q w → qualityAnswer Q ≡ w
+  code-quality (is-8 e) = answer-short Q e
+  code-quality (is-3 e f) = answer-range Q e f
+  code-quality (is-5 m u l p h) =
       answer-low Q (u .long) (u .inside) m (sym (first-is (Q .n) (marginFails (inquiryProblem Q)) m l p h)) l
-  said-quality (is-0 u h) = answer-given Q (u .long) (u .inside) (omega (arith, first-never (Q .n) (marginFails (inquiryProblem Q)) h))
+  code-quality (is-0 u h) = answer-given Q (u .long) (u .inside) (omega (arith, first-never (Q .n) (marginFails (inquiryProblem Q)) h))
 
   given-case : {w : List ℕ} → QualityStated Q w → w ≡ [] → UsableInquiry Q × Margins (inquiryProblem Q)
   given-case (is-8 e) z = absurd (nothing-is-not z)
@@ -122,4 +122,4 @@ module _ (I : check.Input) where
       }
 
   pub accepted-given : checking.answer I ≡ [] → qualityAnswer asked ≡ []
-  accepted-given z = said-quality asked (is-0 (usable-too (accepted-usable I z)) (margins-too (sound-case (stated I) z)))
+  accepted-given z = code-quality asked (is-0 (usable-too (accepted-usable I z)) (margins-too (sound-case (stated I) z)))

@@ -1,5 +1,5 @@
 -- The rest of each list is not read: inquiries that agree on the places used get the same answer and the same two numbers.
---   same-said, same-numerator, same-denominator — of two calls
+--   same-code, same-numerator, same-denominator — of two calls
 use mathlib.Core.Path.{_≡_, refl, sym, ap, ap₂, _∙_}
 use mathlib.Core.Bool.{false}
 use mathlib.Core.List.{List, [], _∷_}
@@ -18,7 +18,7 @@ use Rattle.check_spec.specs.Order.{firstMargin}
 use Rattle.quality_spec.specs.declared.Quality.{Quality}
 use Rattle.quality_spec.specs.Peak.{spread, peakRow, numerator, denominator}
 use Rattle.quality_spec.specs.Inquiry.{Inquiry, inquiry, inquiryProblem, inquiryShort, inquiryInRanges}
-use Rattle.quality_spec.specs.Answer.{saidQuality, numeratorOf, denominatorOf, qualityAnswer, numeratorAfter, denominatorAfter, QualityAs}
+use Rattle.quality_spec.specs.Answer.{qualityCode, numeratorOf, denominatorOf, qualityAnswer, numeratorAfter, denominatorAfter, QualityAs}
 use Rattle.quality_spec.specs.Stated.{AgreeingInquiries}
 use Rattle.quality_spec.proofs.Contract.{fit-inquiry}
 use Rattle.quality_spec.proofs.Promises.{given-usable, given-margins}
@@ -103,8 +103,8 @@ module _ (Q R : Inquiry) (a : AgreeingInquiries Q R) (r r′ : Quality) (x : Qua
   K-long : inquiryShort K ≡ false
   K-long = ap inquiryShort K-is ∙ a .long′
 
-  pub same-said : saidQuality r ≡ saidQuality r′
-  same-said =
+  pub same-code : qualityCode r ≡ qualityCode r′
+  same-code =
       x .says
       ∙ answer-here Q (R .matrix) (R .inverse) (R .weights) (a .long) (a .matrix) (a .inverse) (a .weights) K-long
       ∙ ap qualityAnswer K-is

@@ -1,5 +1,5 @@
 -- What a call for the factor says and gives: 8, 3, 5 in this order, 5 with its lowest row as a check gives it, or the factor.
---   saidQuality r — what an answer says: nothing where there is a factor, else the number of the refusal and its values
+--   qualityCode r — what an answer says: nothing where there is a factor, else the number of the refusal and its values
 --   numeratorOf r, denominatorOf r — the factor, where there is one; 0 on a refusal
 --   qualityOrder Q — the tests in their order, 8, 3, 5;  qualityAnswer Q — what is said of them
 --   numeratorAfter Q, denominatorAfter Q — the problem's (specs/Peak) where nothing is said; 0 on a refusal
@@ -21,9 +21,9 @@ use Rattle.quality_spec.specs.declared.Quality.{Quality}
 use Rattle.quality_spec.specs.declared.Quality.the-variants as variant
 use Rattle.quality_spec.specs.Inquiry.{Inquiry, inquiryProblem, inquiryShort, inquiryInRanges}
 
-abbrev pub saidQuality : Quality → List ℕ
-saidQuality (variant.Factor a c) = []
-saidQuality (variant.Refused r) = numberOf r ∷ valuesOf r
+abbrev pub qualityCode : Quality → List ℕ
+qualityCode (variant.Factor a c) = []
+qualityCode (variant.Refused r) = numberOf r ∷ valuesOf r
 
 abbrev pub numeratorOf : Quality → ℕ
 numeratorOf (variant.Factor a c) = a
@@ -51,10 +51,10 @@ unfoldable pub denominatorAfter : Inquiry → ℕ
 denominatorAfter Q = ifAccepted (qualityAnswer Q) (denominator (inquiryProblem Q)) 0
 
 pub record QualityAs (Q : Inquiry) (r : Quality) : Type 0 where
-  pub says : saidQuality r ≡ qualityAnswer Q
+  pub says : qualityCode r ≡ qualityAnswer Q
   pub numerator-is : numeratorOf r ≡ numeratorAfter Q
   pub denominator-is : denominatorOf r ≡ denominatorAfter Q
-  pub factor : saidQuality r ≡ [] → (s : ℕ) (right tolerance guess : List ℤ) →
+  pub factor : qualityCode r ≡ [] → (s : ℕ) (right tolerance guess : List ℤ) →
       Factor (problemOf (Q .n) s (Q .t) (Q .matrix) right tolerance guess (Q .inverse) (Q .weights)) (numeratorOf r) (denominatorOf r)
-  pub least : saidQuality r ≡ [] → (s : ℕ) (right tolerance guess : List ℤ) (a c : ℕ) →
+  pub least : qualityCode r ≡ [] → (s : ℕ) (right tolerance guess : List ℤ) (a c : ℕ) →
       Factor (problemOf (Q .n) s (Q .t) (Q .matrix) right tolerance guess (Q .inverse) (Q .weights)) a c → numeratorOf r * c ≤ a * denominatorOf r

@@ -8,7 +8,7 @@ use Prim.Native.Nat.{ℕ}
 use lib.IntN.{ℤ}
 use lib.ListN.{getD}
 use Rattle.build_lines.specs.declared.Built.{Built}
-use Rattle.build_lines.specs.Order.{saidBuilt}
+use Rattle.build_lines.specs.Order.{buildCode}
 use Rattle.build_gathering.specs.declared.Gathered.{Gathered}
 use Rattle.build_gathering.specs.Gathered.{lineNumberOf}
 use Rattle.build_equations.specs.declared.Layout.{Layout}
@@ -18,5 +18,5 @@ use Rattle.build.specs.Finished.{Finished}
 pub record FinishedTold (g : Gathered) (layout : Layout) (a b : List ℤ) (number : ℕ) (a′ b′ : List ℤ) (line : ℕ) : Type 0 where
   pub answer : Built
   pub finished : Finished g layout a b answer a′ b′
-  pub number-is : number ≡ getD (saidBuilt answer) 0 0
+  pub number-is : number ≡ getD (buildCode answer) 0 0
   pub line-is : line ≡ cond (shortFor layout a b) 0 (lineNumberOf g)

@@ -3,7 +3,7 @@ ghost use mathlib.Core.Path.{_≡_};
 ghost use Rattle.rules.specs.Order.{ifAccepted};
 ghost use Rattle.listing_refusal.specs.Refused.{printed};
 ghost use Rattle.listing_refusal.specs.Reply.{replyOf};
-ghost use Rattle.convert_spec.specs.Converted.{saidConverted, lengthOf};
+ghost use Rattle.convert_spec.specs.Converted.{convertCode, lengthOf};
 use convert_spec::Converted;
 use listing_refusal::Reply;
 use listing_refusal::no_refusal;
@@ -11,7 +11,7 @@ use listing_refusal::reply_of;
 
 // What is said; a refusal that gives its number alone leaves both places 0.
 pub fn converted_reply(converted: Converted) -> Reply
-    ensures { λ r. ⌜ r ≡ replyOf (printed 0 (saidConverted converted)) ⌝ }
+    ensures { λ r. ⌜ r ≡ replyOf (printed 0 (convertCode converted)) ⌝ }
 {
     match converted {
         Converted::Length(_) => no_refusal(),
@@ -27,7 +27,7 @@ pub fn converted_reply(converted: Converted) -> Reply
 
 // The new file's length where it is written, and what was there before where it is not.
 pub fn length_or(converted: Converted, before: usize) -> usize
-    ensures { λ r. ⌜ r ≡ ifAccepted (saidConverted converted) (lengthOf converted) before ⌝ }
+    ensures { λ r. ⌜ r ≡ ifAccepted (convertCode converted) (lengthOf converted) before ⌝ }
 {
     match converted {
         Converted::Length(length) => length,

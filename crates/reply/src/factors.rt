@@ -3,7 +3,7 @@ ghost use mathlib.Core.Path.{_≡_};
 ghost use Rattle.rules.specs.Order.{ifAccepted};
 ghost use Rattle.listing_refusal.specs.Refused.{printed};
 ghost use Rattle.listing_refusal.specs.Reply.{replyOf};
-ghost use Rattle.quality_spec.specs.Answer.{saidQuality, numeratorOf, denominatorOf};
+ghost use Rattle.quality_spec.specs.Answer.{qualityCode, numeratorOf, denominatorOf};
 use listing_refusal::Reply;
 use listing_refusal::no_refusal;
 use listing_refusal::reply_of;
@@ -11,7 +11,7 @@ use quality_spec::Quality;
 
 // What is said; 8 and 3 give their number alone, so both places are 0.
 pub fn quality_reply(quality: Quality) -> Reply
-    ensures { λ r. ⌜ r ≡ replyOf (printed 0 (saidQuality quality)) ⌝ }
+    ensures { λ r. ⌜ r ≡ replyOf (printed 0 (qualityCode quality)) ⌝ }
 {
     match quality {
         Quality::Factor(_, _) => no_refusal(),
@@ -21,7 +21,7 @@ pub fn quality_reply(quality: Quality) -> Reply
 
 // The numerator where there is a factor, and what was there before where there is none.
 pub fn numerator_or(quality: Quality, before: u64) -> u64
-    ensures { λ r. ⌜ r ≡ ifAccepted (saidQuality quality) (numeratorOf quality) before ⌝ }
+    ensures { λ r. ⌜ r ≡ ifAccepted (qualityCode quality) (numeratorOf quality) before ⌝ }
 {
     match quality {
         Quality::Factor(numerator, _) => numerator,
@@ -31,7 +31,7 @@ pub fn numerator_or(quality: Quality, before: u64) -> u64
 
 // The same of the denominator.
 pub fn denominator_or(quality: Quality, before: u64) -> u64
-    ensures { λ r. ⌜ r ≡ ifAccepted (saidQuality quality) (denominatorOf quality) before ⌝ }
+    ensures { λ r. ⌜ r ≡ ifAccepted (qualityCode quality) (denominatorOf quality) before ⌝ }
 {
     match quality {
         Quality::Factor(_, denominator) => denominator,

@@ -2,7 +2,7 @@
 ghost use mathlib.Core.Path.{_≡_};
 ghost use Rattle.listing_refusal.specs.Refused.{printed};
 ghost use Rattle.listing_refusal.specs.Reply.{replyOf};
-ghost use Rattle.doubles_lists.specs.Inward.{saidGuessed};
+ghost use Rattle.doubles_lists.specs.Inward.{guessesCode};
 use doubles_lists::Guessed;
 use listing_refusal::Reply;
 use listing_refusal::no_refusal;
@@ -10,7 +10,7 @@ use listing_refusal::reply_of;
 
 // What is said; a refusal gives its number alone, so both places are 0.
 pub fn guessed_reply(guessed: Guessed) -> Reply
-    ensures { λ r. ⌜ r ≡ replyOf (printed 0 (saidGuessed guessed)) ⌝ }
+    ensures { λ r. ⌜ r ≡ replyOf (printed 0 (guessesCode guessed)) ⌝ }
 {
     match guessed {
         Guessed::Accepted => no_refusal(),

@@ -2,10 +2,10 @@
 ghost use mathlib.Core.Path.{_≡_};
 ghost use mathlib.Core.List.{[], _∷_};
 ghost use lib.ListN.{getD};
-ghost use Rattle.rules.specs.Refusal.{said, numberOf};
+ghost use Rattle.rules.specs.Refusal.{code, numberOf};
 ghost use Rattle.listing_refusal.specs.Refused.{printed};
 ghost use Rattle.listing_refusal.specs.Reply.{replyOf};
-ghost use Rattle.build_lines.specs.Order.{saidBuilt};
+ghost use Rattle.build_lines.specs.Order.{buildCode};
 use build_lines::Built;
 use listing_refusal::Reply;
 use listing_refusal::no_refusal;
@@ -23,7 +23,7 @@ pub mod searches;
 
 // What an outcome says; a refusal that gives its number alone leaves both places 0.
 pub fn outcome_reply(outcome: Outcome) -> Reply
-    ensures { λ r. ⌜ r ≡ replyOf (printed 0 (said outcome)) ⌝ }
+    ensures { λ r. ⌜ r ≡ replyOf (printed 0 (code outcome)) ⌝ }
 {
     match outcome {
         Outcome::Accepted => no_refusal(),
@@ -49,7 +49,7 @@ fn refused_number(refusal: Refusal) -> u32
 
 // The number of what is said of field lines, 0 where the equations are built.
 pub fn built_number(built: Built) -> u32
-    ensures { λ r. ⌜ r ≡ getD (saidBuilt built) 0 0 ⌝ }
+    ensures { λ r. ⌜ r ≡ getD (buildCode built) 0 0 ⌝ }
 {
     match built {
         Built::Done => 0,

@@ -3,7 +3,7 @@ ghost use mathlib.Core.Path.{_≡_};
 ghost use Rattle.rules.specs.Order.{whichOf, refusalOf};
 ghost use Rattle.listing_refusal.specs.Refused.{printed};
 ghost use Rattle.listing_refusal.specs.Reply.{replyOf};
-ghost use Rattle.dependent_spec.specs.Order.{saidNets};
+ghost use Rattle.dependent_spec.specs.Order.{netsCode};
 use dependent_spec::CheckedNets;
 use listing_refusal::Reply;
 use listing_refusal::no_refusal;
@@ -11,7 +11,7 @@ use listing_refusal::reply_of;
 
 // What is said, without the net that it is of.
 pub fn nets_reply(checked: CheckedNets) -> Reply
-    ensures { λ r. ⌜ r ≡ replyOf (printed 0 (refusalOf (saidNets checked))) ⌝ }
+    ensures { λ r. ⌜ r ≡ replyOf (printed 0 (refusalOf (netsCode checked))) ⌝ }
 {
     match checked {
         CheckedNets::Accepted => no_refusal(),
@@ -22,7 +22,7 @@ pub fn nets_reply(checked: CheckedNets) -> Reply
 
 // The net that a refusal is of, 1 or 2; 0 where nothing is refused.
 pub fn net_of(checked: CheckedNets) -> u32
-    ensures { λ r. ⌜ r ≡ whichOf (saidNets checked) ⌝ }
+    ensures { λ r. ⌜ r ≡ whichOf (netsCode checked) ⌝ }
 {
     match checked {
         CheckedNets::Accepted => 0,

@@ -4,7 +4,7 @@ ghost use mathlib.Core.List.{[], _∷_};
 ghost use Rattle.rules.specs.Order.{whichOf, refusalOf};
 ghost use Rattle.listing_refusal.specs.Refused.{printed};
 ghost use Rattle.listing_refusal.specs.Reply.{replyOf};
-ghost use Rattle.common_spec.specs.Answer.{saidCommon};
+ghost use Rattle.common_spec.specs.Answer.{commonCode};
 use common_spec::Common;
 use listing_refusal::Reply;
 use listing_refusal::no_refusal;
@@ -25,7 +25,7 @@ fn alone(number: u32) -> Reply
 
 // What is said; a refusal that gives its number alone leaves both places 0.
 pub fn common_reply(common: Common) -> Reply
-    ensures { λ r. ⌜ r ≡ replyOf (printed 0 (refusalOf (saidCommon common))) ⌝ }
+    ensures { λ r. ⌜ r ≡ replyOf (printed 0 (refusalOf (commonCode common))) ⌝ }
 {
     match common {
         Common::Found => no_refusal(),
@@ -39,7 +39,7 @@ pub fn common_reply(common: Common) -> Reply
 
 // Of which proposal the refusal is.
 pub fn proposal_of(common: Common) -> u32
-    ensures { λ r. ⌜ r ≡ whichOf (saidCommon common) ⌝ }
+    ensures { λ r. ⌜ r ≡ whichOf (commonCode common) ⌝ }
 {
     match common {
         Common::Found => 0,

@@ -16,7 +16,7 @@ use Rattle.check_spec.specs.Stated.{Stated, too-short, out-of-range, margin-low
 use Rattle.check_spec.proofs.Statements.{stated}
 use Rattle.weights_spec.specs.declared.Found.{Found}
 use Rattle.weights_spec.specs.Request.{Request}
-use Rattle.weights_spec.specs.Search.{saidFound, FoundAs}
+use Rattle.weights_spec.specs.Search.{searchCode, FoundAs}
 
 five : (I : check.Input) {w : List ℕ} → Stated I w → Margins (check.problem I) → (l : List ℕ) → w ≡ 5 ∷ l → ⊥
 five I (too-short e) h l z = let y : _≡_ {A = ℕ} 8 5 = cc in omega arith
@@ -29,7 +29,7 @@ five I (accepted u s) h l z = nothing-is-not (sym z)
 pub no-five : (I : check.Input) → Margins (check.problem I) → (l : List ℕ) → checking.answer I ≡ 5 ∷ l → ⊥
 no-five I = five I (stated I)
 
-pub never-five : (Q : Request) (r : Found) (weights : List ℤ) → FoundAs Q r weights → saidFound r ≡ [] →
+pub never-five : (Q : Request) (r : Found) (weights : List ℤ) → FoundAs Q r weights → searchCode r ≡ [] →
     (s : ℕ) (right tolerance guess : List ℤ) (E L l : List ℕ) →
     checking.answer (check.input (Q .n) s (Q .t) (Q .matrix) right tolerance guess (Q .inverse) weights E L) ≡ 5 ∷ l → ⊥
 never-five Q r weights x z s right tolerance guess E L =

@@ -28,7 +28,7 @@ use Rattle.weights_spec.specs.declared.Found.{Found}
 use Rattle.weights_spec.specs.declared.Found.the-variants.{Tried, Refused, NoneGood}
 use Rattle.weights_spec.specs.Sequence.{tried}
 use Rattle.weights_spec.specs.Request.{Request, searchProblem, searchShort, searchInRanges, searchSizes, searchLists}
-use Rattle.weights_spec.specs.Search.{saidFound, countOf, passed, searchAnswer, countAfter, weightsAfter, FoundAs}
+use Rattle.weights_spec.specs.Search.{searchCode, countOf, passed, searchAnswer, countAfter, weightsAfter, FoundAs}
 use Rattle.weights_spec.proofs.Listed.{listed-inside, listed-margins}
 
 -- ---- 8 and 3
@@ -91,7 +91,7 @@ module _ (Q : Request) where
     answer-none l = rw (e, f, le-leb (Q .allowance) (passed Q) l)
 
   -- ---- the contract
-  refusal : (r : Found) (k : ℕ) (ks : List ℕ) → saidFound r ≡ k ∷ ks → searchAnswer Q ≡ k ∷ ks → countOf r ≡ 0 → FoundAs Q r (Q .weights)
+  refusal : (r : Found) (k : ℕ) (ks : List ℕ) → searchCode r ≡ k ∷ ks → searchAnswer Q ≡ k ∷ ks → countOf r ≡ 0 → FoundAs Q r (Q .weights)
   unfolding countAfter weightsAfter
   refusal r k ks s a c = record {
     says = s ∙ sym a;

@@ -1,5 +1,5 @@
 -- What the contract of `find_weights` promises (specs/Promised).
---   search-stated, said-search — each of 8, 3 and 18 is said exactly where its stated case holds, and nothing exactly where a list is found
+--   search-stated, code-search — each of 8, 3 and 18 is said exactly where its stated case holds, and nothing exactly where a list is found
 --   found-usable   — a list is found of a usable request alone
 --   zero-found, number-none — by the number alone: 0 is said where a list is found, and 18 where none is
 --   count-first    — the tried count is the place of the first good list, at most the allowance
@@ -25,7 +25,7 @@ use Rattle.rules.proofs.Verdicts.{nothing-is-not, accepted-new}
 use Rattle.weights_spec.specs.Sequence.{loads, tried}
 use Rattle.weights_spec.specs.declared.Found.{Found}
 use Rattle.weights_spec.specs.Request.{Request, searchProblem, searchShort, searchInRanges, searchLists}
-use Rattle.weights_spec.specs.Search.{saidFound, countOf, passed, searchAnswer, countAfter, weightsAfter, FoundAs}
+use Rattle.weights_spec.specs.Search.{searchCode, countOf, passed, searchAnswer, countAfter, weightsAfter, FoundAs}
 use Rattle.weights_spec.specs.Promised.{UsableRequest, SearchStated, is-8, is-3, is-18, is-0, PlaceOfFirstGood, NoGood, allowing}
 use Rattle.weights_spec.proofs.Contract.{fit-request, answer-short, answer-range, answer-found, answer-none}
 use Rattle.weights_spec.proofs.First as first
@@ -45,11 +45,11 @@ search-stated Q = go (searchShort Q) refl (searchInRanges Q) refl (ltb (passed Q
         let l = ltb-false (passed Q) (Q .allowance) g in
         subst (SearchStated Q) (sym (answer-none Q e f l)) (is-18 (record { long = e; inside = f }) l)
 
-pub said-search : (Q : Request) {w : List ℕ} → SearchStated Q w → searchAnswer Q ≡ w
-said-search Q (is-8 e) = answer-short Q e
-said-search Q (is-3 e f) = answer-range Q e f
-said-search Q (is-18 u l) = answer-none Q (u .long) (u .inside) l
-said-search Q (is-0 u l) = answer-found Q (u .long) (u .inside) l
+pub code-search : (Q : Request) {w : List ℕ} → SearchStated Q w → searchAnswer Q ≡ w
+code-search Q (is-8 e) = answer-short Q e
+code-search Q (is-3 e f) = answer-range Q e f
+code-search Q (is-18 u l) = answer-none Q (u .long) (u .inside) l
+code-search Q (is-0 u l) = answer-found Q (u .long) (u .inside) l
 
 search-found : (Q : Request) {w : List ℕ} → SearchStated Q w → w ≡ [] → UsableRequest Q × (passed Q < Q .allowance)
 search-found Q (is-8 e) z = absurd (nothing-is-not z)
@@ -80,10 +80,10 @@ number-none Q = by-number Q (search-stated Q) .1
 
 -- ---- the count
 module _ (Q : Request) (r : Found) (weights : List ℤ) (x : FoundAs Q r weights) where
-  found-here : saidFound r ≡ [] → UsableRequest Q × (passed Q < Q .allowance)
+  found-here : searchCode r ≡ [] → UsableRequest Q × (passed Q < Q .allowance)
   found-here z = search-found Q (search-stated Q) (sym (x .says) ∙ z)
 
-  pub count-first : saidFound r ≡ [] → PlaceOfFirstGood Q (countOf r)
+  pub count-first : searchCode r ≡ [] → PlaceOfFirstGood Q (countOf r)
   unfolding countAfter
   count-first z =
       let l : passed Q < Q .allowance = found-here z .1 in
@@ -96,7 +96,7 @@ module _ (Q : Request) (r : Found) (weights : List ℤ) (x : FoundAs Q r weights
         none-before = first.found-first (searchProblem Q) (Q .allowance) l;
       }
 
-  pub none-exactly : (saidFound r ≡ 18 ∷ []) ↔ (UsableRequest Q × NoGood Q)
+  pub none-exactly : (searchCode r ≡ 18 ∷ []) ↔ (UsableRequest Q × NoGood Q)
   none-exactly = (
     λ z.
         let n = none-case Q (search-stated Q) (sym (x .says) ∙ z) in
@@ -138,25 +138,25 @@ module _ (Q : Request) (b : ℕ) (more : Q .allowance ≤ b) (most : b ≤ 64) (
       other-test (inRange kind.Size (pos (Q .n))) (inRange kind.InverseScale (pos (Q .t))) (inRange kind.Allowance (pos (Q .allowance))) (inRange kind.Allowance (pos b))
       (searchLists (Q .n) (Q .matrix) (Q .inverse)) (usable .inside) (in-allowance-range b (omega (arith, below)) most)
 
-  said-too : searchAnswer (allowing Q b) ≡ []
-  said-too = answer-found (allowing Q b) (usable .long) ranges (omega (arith, same, below))
+  code-too : searchAnswer (allowing Q b) ≡ []
+  code-too = answer-found (allowing Q b) (usable .long) ranges (omega (arith, same, below))
 
   pub same-count : countAfter (allowing Q b) ≡ countAfter Q
   unfolding countAfter
-  same-count = accepted-new _ _ said-too ∙ ap (λ (k : ℕ). k + 1) same ∙ sym (accepted-new _ _ z)
+  same-count = accepted-new _ _ code-too ∙ ap (λ (k : ℕ). k + 1) same ∙ sym (accepted-new _ _ z)
 
   pub same-weights : weightsAfter (allowing Q b) ≡ weightsAfter Q
   unfolding weightsAfter
   same-weights =
-      accepted-new _ _ said-too
+      accepted-new _ _ code-too
       ∙ ap (λ (k : ℕ). written (Q .weights) 0 1 (λ (i : ℕ). pos (tried (searchProblem Q) k i)) (Q .n)) same
       ∙ sym (accepted-new _ _ z)
 
 pub larger-allowance : (Q : Request) (b : ℕ) (r r′ : Found) (weights weights′ : List ℤ) → FoundAs Q r weights → FoundAs (allowing Q b) r′ weights′ →
-    Q .allowance ≤ b → b ≤ 64 → saidFound r ≡ [] → (saidFound r′ ≡ []) × ((countOf r′ ≡ countOf r) × (weights′ ≡ weights))
+    Q .allowance ≤ b → b ≤ 64 → searchCode r ≡ [] → (searchCode r′ ≡ []) × ((countOf r′ ≡ countOf r) × (weights′ ≡ weights))
 larger-allowance Q b r r′ weights weights′ x y more most z =
     let a : searchAnswer Q ≡ [] = sym (x .says) ∙ z in (
-      y .says ∙ said-too Q b more most a,
+      y .says ∙ code-too Q b more most a,
       (
         y .count ∙ same-count Q b more most a ∙ sym (x .count),
         y .weights-are ∙ same-weights Q b more most a ∙ sym (x .weights-are),

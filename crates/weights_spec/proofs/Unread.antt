@@ -1,6 +1,6 @@
 -- The rest of each list is not read: requests that agree on the places used get the same answer, count and list.
 --   tried-same, first-same — the lists of the sequence, and the first good place, of two problems that agree on the first n numbers
---   same-said, same-count — what is said and the tried count;  same-list — the first n weights where a list is found
+--   same-code, same-count — what is said and the tried count;  same-list — the first n weights where a list is found
 --   same-weights — the whole weight list, where the same one was handed in
 use mathlib.Core.Path.{_≡_, refl, sym, ap, ap₂, _∙_}
 use mathlib.Core.Bool.{false}
@@ -25,7 +25,7 @@ use Rattle.enclosure.proofs.Agreement.{Agreeing, load-same, margin-same}
 use Rattle.weights_spec.specs.declared.Found.{Found}
 use Rattle.weights_spec.specs.Sequence.{weighted, loads, bits, next, tried, good, firstGood}
 use Rattle.weights_spec.specs.Request.{Request, request, searchProblem, searchShort, searchInRanges}
-use Rattle.weights_spec.specs.Search.{saidFound, countOf, passed, searchAnswer, countAfter, weightsAfter, FoundAs}
+use Rattle.weights_spec.specs.Search.{searchCode, countOf, passed, searchAnswer, countAfter, weightsAfter, FoundAs}
 use Rattle.weights_spec.specs.Promised.{AgreeingRequests}
 use Rattle.weights_spec.proofs.Contract.{fit-request}
 use Rattle.weights_spec.proofs.Listed.{listed-at}
@@ -129,8 +129,8 @@ module _ (Q R : Request) (a : AgreeingRequests Q R) (r r′ : Found) (weights we
   answers : searchAnswer Q ≡ searchAnswer R
   answers = answer-here Q (R .matrix) (R .inverse) (R .weights) (a .long) (a .matrix) (a .inverse) (ap searchShort K-is ∙ a .long′) ∙ ap searchAnswer K-is
 
-  pub same-said : saidFound r ≡ saidFound r′
-  same-said = x .says ∙ answers ∙ sym (y .says)
+  pub same-code : searchCode r ≡ searchCode r′
+  same-code = x .says ∙ answers ∙ sym (y .says)
 
   pub same-count : countOf r ≡ countOf r′
   same-count =
@@ -139,7 +139,7 @@ module _ (Q R : Request) (a : AgreeingRequests Q R) (r r′ : Found) (weights we
       ∙ ap countAfter K-is
       ∙ sym (y .count)
 
-  pub same-list : saidFound r ≡ [] → (i : ℕ) → i < Q .n → at weights i ≡ at weights′ i
+  pub same-list : searchCode r ≡ [] → (i : ℕ) → i < Q .n → at weights i ≡ at weights′ i
   same-list z i l =
       ap (λ (w : List ℤ). at w i) (x .weights-are)
       ∙ list-here Q (R .matrix) (R .inverse) (R .weights) (a .long) (a .matrix) (a .inverse) (ap searchShort K-is ∙ a .long′) (sym (x .says) ∙ z) i l

@@ -1,7 +1,7 @@
 -- What a search for weights says and leaves. Document 02, Paper 7: "The finder reports how many lists it tried, which is the place of the first good
 -- one in this sequence. [..] (8 first, then 3, also if the allowance is outside 1 to 64. New 18, after 3, if none of the allowed lists is good; the weight
 -- list is then untouched.)"
---   saidFound r — what an answer says: nothing where a good list was found, else the number of the refusal and its values
+--   searchCode r — what an answer says: nothing where a good list was found, else the number of the refusal and its values
 --   countOf r  — how many lists were tried, where one was found; 0 on a refusal
 --   passed Q   — how many lists of the sequence stand before the first good one; the allowance where none of the allowed lists is good
 --   searchOrder Q — the tests in their order, 8, 3, 18;  searchAnswer Q — what is said of them
@@ -28,10 +28,10 @@ use Rattle.weights_spec.specs.declared.Found.{Found}
 use Rattle.weights_spec.specs.declared.Found.the-variants.{Tried, Refused, NoneGood}
 use Rattle.weights_spec.specs.Request.{Request, searchProblem, searchShort, searchInRanges}
 
-abbrev pub saidFound : Found → List ℕ
-saidFound (Tried count) = []
-saidFound (Refused r) = numberOf r ∷ valuesOf r
-saidFound NoneGood = 18 ∷ []
+abbrev pub searchCode : Found → List ℕ
+searchCode (Tried count) = []
+searchCode (Refused r) = numberOf r ∷ valuesOf r
+searchCode NoneGood = 18 ∷ []
 
 abbrev pub countOf : Found → ℕ
 countOf (Tried count) = count
@@ -59,8 +59,8 @@ weightsAfter Q =
     ifAccepted (searchAnswer Q) (written (Q .weights) 0 1 (λ (i : ℕ). pos (tried (searchProblem Q) (passed Q) i)) (Q .n)) (Q .weights)
 
 pub record FoundAs (Q : Request) (r : Found) (weights : List ℤ) : Type 0 where
-  pub says : saidFound r ≡ searchAnswer Q
+  pub says : searchCode r ≡ searchAnswer Q
   pub count : countOf r ≡ countAfter Q
   pub weights-are : weights ≡ weightsAfter Q
-  pub margins : saidFound r ≡ [] → (s : ℕ) (right tolerance guess : List ℤ) → Margins (problemOf (Q .n) s (Q .t) (Q .matrix) right tolerance guess (Q .inverse) weights)
-  pub inside : saidFound r ≡ [] → allInRange kind.Weight (Q .n) (at weights) ≡ true
+  pub margins : searchCode r ≡ [] → (s : ℕ) (right tolerance guess : List ℤ) → Margins (problemOf (Q .n) s (Q .t) (Q .matrix) right tolerance guess (Q .inverse) weights)
+  pub inside : searchCode r ≡ [] → allInRange kind.Weight (Q .n) (at weights) ≡ true

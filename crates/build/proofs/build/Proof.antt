@@ -69,7 +69,7 @@ use Rattle.build.proofs.build.Key.{name as #builder·build}
 use Rattle.build.proofs.build as self
 use Rattle.build.proofs.build.Statement as stated
 use Rattle.build.proofs.build.Code as code
-use Rattle.build.proofs.build.Proof.Callees.{R, stayed, laid, sl, Open, All, Fin, a as args-of, vals as vals-of, Post as post-of, to-open, asked-open, said-open, to-all, asked-all, said-all, is-whole, is-sound, to-fin, asked-fin, typed, typed-far, exits}
+use Rattle.build.proofs.build.Proof.Callees.{R, stayed, laid, sl, Open, All, Fin, a as args-of, vals as vals-of, Post as post-of, to-open, asked-open, code-open, to-all, asked-all, code-all, is-whole, is-sound, to-fin, asked-fin, typed, typed-far, exits}
 
 module _ {M : Type 1} (𝓤 : URA M) (H : Heap 𝓤) (A : Atoms 𝓤) (W : Given 𝓤 H A) (mem : Memory → SProp 𝓤) (run : Routine → Fun 𝓤) (κ κ′ κ″ : Lft) (q q′ q″ : Share)
     (n : ℕ) (x : RefT (List Observation)) (lay : Layout) (m r : RefT (List ℤ)) (nf : n < 2 ^ 32) (lf : Is L.the-row lay (laid lay ∷ [])) where
@@ -103,7 +103,7 @@ module _ {M : Type 1} (𝓤 : URA M) (H : Heap 𝓤) (A : Atoms 𝓤) (W : Given
         use2 W (raw (Open 𝓤 H A mem run .pre (to-open 𝓤 H A W mem run κ κ′ κ″ q q′ q″ n x lay m r nf lf))) (asked-open 𝓤 H A W mem run κ κ′ κ″ q q′ q″ n x lay m r nf lf) $
         calls-at ! fm (Open 𝓤 H A mem run) known-open (to-open 𝓤 H A W mem run κ κ′ κ″ q q′ q″ n x lay m r nf lf) (and-then ! (load ! (from ! (stop !)) (look ! 23 refl)) (and-then ! (load ! (from ! (stop !)) (look ! 9 refl)) (no-more !))) (λ v.
         use1 W (later (some (λ (s : Progress). (‵ ftrue ⊛ ‵ (P.the-row .own s (v ∷ []))) ⊛ raw (ensured 𝓤 H A open-fn.ended (open-fn.clauses 𝓤 H A mem run) tt (n, (k, tt)) tt s)))) (id⊢ 𝓤 _) $ await ! tt $ pick ! (λ s.
-        split ! $ move ! (1 ∷ []) $ use1 W (raw (fact 𝓤 (s ≡ openingProgress n k))) (said-open 𝓤 H A W mem run κ κ′ κ″ q q′ q″ n x lay m r nf lf s) $ heard ! (s ≡ openingProgress n k) (λ p. split ! $ move ! (1 ∷ []) $
+        split ! $ move ! (1 ∷ []) $ use1 W (raw (fact 𝓤 (s ≡ openingProgress n k))) (code-open 𝓤 H A W mem run κ κ′ κ″ q q′ q″ n x lay m r nf lf s) $ heard ! (s ≡ openingProgress n k) (λ p. split ! $ move ! (1 ∷ []) $
         peeks ! P.the-row (Is P.the-row) (shows 𝓤 H A P.the-row) s (v ∷ []) (λ is₀. land ! (from ! (stop !)) (init ! 14 refl (typed-far 𝓤 H A W mem run κ κ′ κ″ q q′ q″ n x lay m r nf lf s v is₀)) $ move ! (1 ∷ []) $ drop ! $
         -- what each parameter owns: [what was opened; _12; …; the tokens; what is owned]
         move ! (28 ∷ []) $ fsplit ! $ drop ! $ fsplit ! $ move ! (1 ∷ []) $ fsplit ! $ drop ! $ fsplit ! $ move ! (1 ∷ []) $ fsplit ! $ move ! (1 ∷ []) $ drop ! $
@@ -115,7 +115,7 @@ module _ {M : Type 1} (𝓤 : URA M) (H : Heap 𝓤) (A : Atoms 𝓤) (W : Given
         use2 W (raw (All 𝓤 H A mem run .pre (to-all 𝓤 H A W mem run κ κ′ κ″ q q′ q″ n x lay m r nf lf s v))) (asked-all 𝓤 H A W mem run κ κ′ κ″ q q′ q″ n x lay m r nf lf s v) $
         calls-at ! fm (All 𝓤 H A mem run) known-all (to-all 𝓤 H A W mem run κ κ′ κ″ q q′ q″ n x lay m r nf lf s v) (and-then ! (load ! (from ! (stop !)) (look ! 25 refl)) (and-then ! (load ! (from ! (stop !)) (look ! 17 refl)) (no-more !))) (λ u.
         use1 W (later (some (λ (g : Gathered). ((‵ (flft κ q) ⊛ ‵ ftrue) ⊛ ‵ (S.the-row .own g (u ∷ []))) ⊛ raw (ensured 𝓤 H A all.ended (all.clauses 𝓤 H A mem run) (κ, tt) (x, (s, tt)) tt g)))) (id⊢ 𝓤 _) $ await ! tt $ pick ! (λ g.
-        split ! $ move ! (1 ∷ []) $ use1 W (raw (fact 𝓤 (g ≡ gathered (together s noLines) (x .now) (few k)))) (said-all 𝓤 H A W mem run κ κ′ κ″ q q′ q″ n x lay m r nf lf s g) $ heard ! (g ≡ gathered (together s noLines) (x .now) (few k)) (λ e. split ! $ move ! (1 ∷ []) $
+        split ! $ move ! (1 ∷ []) $ use1 W (raw (fact 𝓤 (g ≡ gathered (together s noLines) (x .now) (few k)))) (code-all 𝓤 H A W mem run κ κ′ κ″ q q′ q″ n x lay m r nf lf s g) $ heard ! (g ≡ gathered (together s noLines) (x .now) (few k)) (λ e. split ! $ move ! (1 ∷ []) $
         peeks ! S.the-row (Is S.the-row) (shows 𝓤 H A S.the-row) g (u ∷ []) (λ is. land ! (from ! (stop !)) (init ! 16 refl (typed 𝓤 H A W mem run κ κ′ κ″ q q′ q″ n x lay m r nf lf g u is)) $
         -- [what was gathered; the token; the others; lines; right; matrix; _12; …]
         assigns ! (addr ! (from ! (fld ! refl (hop ! (look-in ! 22 (sub ! 0 refl (whole-part !))) (stop !))))) (from ! (stop !)) (init ! 12 refl (tt, tt)) $

@@ -1,5 +1,5 @@
 use Rattle.build.proofs.Ends.{finish-short, finish-done, finish-refused, long-right, matrix-room}
-use Rattle.build_lines.specs.Order.{saidBuilt}
+use Rattle.build_lines.specs.Order.{buildCode}
 use native.Mathlib.Omega.{arith}
 use mathlib.Core.Path.{sym, ap, _∙_}
 use borrow.Author.Needs.{needs}
@@ -55,19 +55,19 @@ returns-3 : tie.Need-returns-3
 returns-3 c =
     let long = c .before .before .before in
     let s = start long in
-    finish-refused (s .args .g) (s .args .layout) (s .args .matrix .now) (s .args .right .now) (long .before .is-short .ensures) (long .if1 .left) (ap saidBuilt (c .enum-told2 .given .1))
+    finish-refused (s .args .g) (s .args .layout) (s .args .matrix .now) (s .args .right .now) (long .before .is-short .ensures) (long .if1 .left) (ap buildCode (c .enum-told2 .given .1))
 
 returns-4 : tie.Need-returns-4
 returns-4 c =
     let long = c .before .before .before in
     let s = start long in
-    finish-refused (s .args .g) (s .args .layout) (s .args .matrix .now) (s .args .right .now) (long .before .is-short .ensures) (long .if1 .left) (ap saidBuilt (c .enum-told3 .given .1))
+    finish-refused (s .args .g) (s .args .layout) (s .args .matrix .now) (s .args .right .now) (long .before .is-short .ensures) (long .if1 .left) (ap buildCode (c .enum-told3 .given .1))
 
 returns-5 : tie.Need-returns-5
 returns-5 c =
     let long = c .before .before .before in
     let s = start long in
-    finish-refused (s .args .g) (s .args .layout) (s .args .matrix .now) (s .args .right .now) (long .before .is-short .ensures) (long .if1 .left) (ap saidBuilt (c .enum-told4 .given .1))
+    finish-refused (s .args .g) (s .args .layout) (s .args .matrix .now) (s .args .right .now) (long .before .is-short .ensures) (long .if1 .left) (ap buildCode (c .enum-told4 .given .1))
 
 pub finish-spec : {M : Type 1} → statement M
 finish-spec =

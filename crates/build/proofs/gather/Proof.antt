@@ -66,7 +66,7 @@ use Rattle.build.proofs.gather as self
 use Rattle.build.proofs.gather.Statement as stated
 use Rattle.build.proofs.gather.Code as code
 use Rattle.build.proofs.gather.Proof.Lending.{AR, arr, the-one, array-val, told-array, typed-array}
-use Rattle.build.proofs.gather.Proof.Callees.{R, word, far, Arg, stayed, One, Fews, None, All, to-few, to-none, typed-far, typed-word, asked-few, said-few, asked-none, said-none}
+use Rattle.build.proofs.gather.Proof.Callees.{R, word, far, Arg, stayed, One, Fews, None, All, to-few, to-none, typed-far, typed-word, asked-few, code-few, asked-none, code-none}
 use Rattle.build.proofs.gather.Proof.Turn.{x as args-of, at as vals-of, Post as post-of, looped}
 
 module _ {M : Type 1} (𝓤 : URA M) (H : Heap 𝓤) (A : Atoms 𝓤) (W : Given 𝓤 H A) (mem : Memory → SProp 𝓤) (run : Routine → Fun 𝓤) (κ : Lft) (q : Share) (b o : ℕ) (γ : GName) (ys : List Observation) (start : Progress) where
@@ -97,7 +97,7 @@ module _ {M : Type 1} (𝓤 : URA M) (H : Heap 𝓤) (A : Atoms 𝓤) (W : Given
       nothing ! $ nothing ! $ use2 W (raw (None 𝓤 H A mem run .pre (to-none 𝓤 H A mem run))) (asked-none 𝓤 H A W mem run) $
       calls-at ! fm (None 𝓤 H A mem run) known-none (to-none 𝓤 H A mem run) (no-more !) (λ v.
       use1 W (later (some (λ (z : List ℕ). (‵ ftrue ⊛ ‵ (AR .own z (v ∷ []))) ⊛ raw (ensured 𝓤 H A none.ended (none.clauses 𝓤 H A mem run) tt tt tt z)))) (id⊢ 𝓤 _) $ await ! tt $ pick ! (λ z.
-      split ! $ move ! (1 ∷ []) $ use1 W (raw (fact 𝓤 (z ≡ noLines))) (said-none 𝓤 H A W mem run z) $ heard ! (z ≡ noLines) (λ d. split ! $ move ! (1 ∷ []) $
+      split ! $ move ! (1 ∷ []) $ use1 W (raw (fact 𝓤 (z ≡ noLines))) (code-none 𝓤 H A W mem run z) $ heard ! (z ≡ noLines) (λ d. split ! $ move ! (1 ∷ []) $
       peeks ! AR (Is AR) (shows 𝓤 H A AR) z (v ∷ []) (λ isz. land ! (from ! (stop !)) (init ! 14 refl (typed-array 𝓤 H A W z v isz)) $
       rewrite ! 14 (λ (us : List Val). ‵ (fat fullShare arr l₇ 0 (the-one us))) (told-array z (v ∷ []) isz) refl $
       rewrite ! 14 (λ (y : List ℕ). ‵ (fat fullShare arr l₇ 0 (array-val y))) d refl $ drop ! $ drop ! $
@@ -108,7 +108,7 @@ module _ {M : Type 1} (𝓤 : URA M) (H : Heap 𝓤) (A : Atoms 𝓤) (W : Given
       use2 W (raw (Fews 𝓤 H A mem run .pre (to-few 𝓤 H A mem run n))) (asked-few 𝓤 H A W mem run n) $
       calls-at ! fm (Fews 𝓤 H A mem run) known-few (to-few 𝓤 H A mem run n) (and-then ! (load ! (from ! (stop !)) (look ! 11 refl)) (no-more !)) (λ u.
       use1 W (later (some (λ (r : ℕ). (‵ ftrue ⊛ ‵ (usize .own r (u ∷ []))) ⊛ raw (ensured 𝓤 H A fews.ended (fews.clauses 𝓤 H A mem run) tt (n, tt) tt r)))) (id⊢ 𝓤 _) $ await ! tt $ pick ! (λ r.
-      split ! $ move ! (1 ∷ []) $ use1 W (raw (fact 𝓤 (r ≡ end))) (said-few 𝓤 H A W mem run n r) $ heard ! (r ≡ end) (λ e. split ! $ move ! (1 ∷ []) $
+      split ! $ move ! (1 ∷ []) $ use1 W (raw (fact 𝓤 (r ≡ end))) (code-few 𝓤 H A W mem run n r) $ heard ! (r ≡ end) (λ e. split ! $ move ! (1 ∷ []) $
       peeks ! usize (Is usize) (shows 𝓤 H A usize) r (u ∷ []) (λ is. land ! (from ! (stop !)) (init ! 18 refl (typed-word 𝓤 H A W mem run r u is)) $
       rewrite ! 18 (λ (us : List Val). ‵ (fat fullShare word l₅ 0 (the-one us))) (uint-tells w64 r (u ∷ []) is) refl $
       rewrite ! 18 (λ (z : ℕ). ‵ (fat fullShare word l₅ 0 (vint w64 z))) e refl $ drop ! $ drop ! $

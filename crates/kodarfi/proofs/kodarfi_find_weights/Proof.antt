@@ -1,4 +1,4 @@
-use Rattle.weights_spec.specs.Search.{saidFound}
+use Rattle.weights_spec.specs.Search.{searchCode}
 use Rattle.reply.proofs.Told.{told-alone}
 use borrow.Author.Needs.{needs}
 use Rattle.kodarfi.proofs.kodarfi_find_weights.Statement.{statement}
@@ -27,7 +27,7 @@ returns c =
     record {
       answer = k .find-weights .result;
       found = k .find-weights .ensures;
-      told = told-alone (saidFound (k .find-weights .result)) (c .tell .ensures) (r .found-reply .ensures);
+      told = told-alone (searchCode (k .find-weights .result)) (c .tell .ensures) (r .found-reply .ensures);
       tried-is = o .tried-or .ensures;
     }
 

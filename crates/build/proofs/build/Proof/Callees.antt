@@ -103,8 +103,8 @@ module _ {M : Type 1} (𝓤 : URA M) (H : Heap 𝓤) (A : Atoms 𝓤) (W : Given
   pub asked-open : ent 𝓤 (onEntry 𝓤 H A open-fn.signature tt tt (n, (k, tt)) (vint w32 n ∷ [], (vint w64 k ∷ [], tt))) (Open 𝓤 H A mem run .pre to-open)
   asked-open = qed W (‵ ftrue ∷ ‵ (owns (u32 ∷ usize ∷ []) (n, (k, tt)) (vint w32 n ∷ [], (vint w64 k ∷ [], tt))) ∷ []) ∵ join ! $ frame ! $ done !
 
-  pub said-open : (s : Progress) → ent 𝓤 (ensured 𝓤 H A open-fn.ended (open-fn.clauses 𝓤 H A mem run) tt (n, (k, tt)) tt s) (fact 𝓤 (s ≡ openingProgress n k))
-  said-open s = exE 𝓤 _ (λ ws. snd∗ 𝓤 (sem 𝓤 H A (lasts open-fn.ended tt (n, (k, tt)) ws)) (fact 𝓤 (s ≡ openingProgress n k)))
+  pub code-open : (s : Progress) → ent 𝓤 (ensured 𝓤 H A open-fn.ended (open-fn.clauses 𝓤 H A mem run) tt (n, (k, tt)) tt s) (fact 𝓤 (s ≡ openingProgress n k))
+  code-open s = exE 𝓤 _ (λ ws. snd∗ 𝓤 (sem 𝓤 H A (lasts open-fn.ended tt (n, (k, tt)) ws)) (fact 𝓤 (s ≡ openingProgress n k)))
 
   abbrev pub to-all : Progress → Val → All 𝓤 H A mem run .Ghost
   to-all s v = (((κ, tt), (q, tt), tt, (x, (s, tt)), (sl x ∷ [], (v ∷ [], tt))), tt)
@@ -112,8 +112,8 @@ module _ {M : Type 1} (𝓤 : URA M) (H : Heap 𝓤) (A : Atoms 𝓤) (W : Given
   pub asked-all : (s : Progress) (v : Val) → ent 𝓤 (onEntry 𝓤 H A all.signature (κ, tt) (q, tt) (x, (s, tt)) (sl x ∷ [], (v ∷ [], tt))) (All 𝓤 H A mem run .pre (to-all s v))
   asked-all s v = qed W ((‵ (flft κ q) ⊛ ‵ ftrue) ∷ ‵ (owns (ShrSlice (named 0) κ R ∷ P.the-row ∷ []) (x, (s, tt)) (sl x ∷ [], (v ∷ [], tt))) ∷ []) ∵ join ! $ frame ! $ done !
 
-  pub said-all : (s : Progress) (g : Gathered) → ent 𝓤 (ensured 𝓤 H A all.ended (all.clauses 𝓤 H A mem run) (κ, tt) (x, (s, tt)) tt g) (fact 𝓤 (g ≡ gathered (together s noLines) (x .now) (few k)))
-  said-all s g = exE 𝓤 _ (λ ws. snd∗ 𝓤 (sem 𝓤 H A (lasts all.ended (κ, tt) (x, (s, tt)) ws)) (fact 𝓤 (g ≡ gathered (together s noLines) (x .now) (few k))))
+  pub code-all : (s : Progress) (g : Gathered) → ent 𝓤 (ensured 𝓤 H A all.ended (all.clauses 𝓤 H A mem run) (κ, tt) (x, (s, tt)) tt g) (fact 𝓤 (g ≡ gathered (together s noLines) (x .now) (few k)))
+  code-all s g = exE 𝓤 _ (λ ws. snd∗ 𝓤 (sem 𝓤 H A (lasts all.ended (κ, tt) (x, (s, tt)) ws)) (fact 𝓤 (g ≡ gathered (together s noLines) (x .now) (few k))))
 
   -- what was gathered
   pub is-whole : (s : Progress) (g : Gathered) → s ≡ openingProgress n k → g ≡ gathered (together s noLines) (x .now) (few k) → g ≡ gatheredOf n (x .now)

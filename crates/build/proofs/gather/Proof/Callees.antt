@@ -125,20 +125,20 @@ module _ {M : Type 1} (𝓤 : URA M) (H : Heap 𝓤) (A : Atoms 𝓤) (W : Given
   pub asked-few : (n : ℕ) → ent 𝓤 (onEntry 𝓤 H A fews.signature tt tt (n, tt) (vint w64 n ∷ [], tt)) (Fews 𝓤 H A mem run .pre (to-few 𝓤 H A mem run n))
   asked-few n = qed W (‵ ftrue ∷ ‵ (owns (usize ∷ []) (n, tt) (vint w64 n ∷ [], tt)) ∷ []) ∵ join ! $ frame ! $ done !
 
-  pub said-few : (n r : ℕ) → ent 𝓤 (ensured 𝓤 H A fews.ended (fews.clauses 𝓤 H A mem run) tt (n, tt) tt r) (fact 𝓤 (r ≡ few n))
-  said-few n r = exE 𝓤 _ (λ ws. snd∗ 𝓤 (sem 𝓤 H A (lasts fews.ended tt (n, tt) ws)) (fact 𝓤 (r ≡ few n)))
+  pub code-few : (n r : ℕ) → ent 𝓤 (ensured 𝓤 H A fews.ended (fews.clauses 𝓤 H A mem run) tt (n, tt) tt r) (fact 𝓤 (r ≡ few n))
+  code-few n r = exE 𝓤 _ (λ ws. snd∗ 𝓤 (sem 𝓤 H A (lasts fews.ended tt (n, tt) ws)) (fact 𝓤 (r ≡ few n)))
 
   pub asked-none : ent 𝓤 (onEntry 𝓤 H A none.signature tt tt tt tt) (None 𝓤 H A mem run .pre (to-none 𝓤 H A mem run))
   asked-none = qed W (‵ ftrue ∷ ‵ (owns [] tt tt) ∷ []) ∵ join ! $ frame ! $ done !
 
-  pub said-none : (r : List ℕ) → ent 𝓤 (ensured 𝓤 H A none.ended (none.clauses 𝓤 H A mem run) tt tt tt r) (fact 𝓤 (r ≡ noLines))
-  said-none r = exE 𝓤 _ (λ ws. snd∗ 𝓤 (sem 𝓤 H A (lasts none.ended tt tt ws)) (fact 𝓤 (r ≡ noLines)))
+  pub code-none : (r : List ℕ) → ent 𝓤 (ensured 𝓤 H A none.ended (none.clauses 𝓤 H A mem run) tt tt tt r) (fact 𝓤 (r ≡ noLines))
+  code-none r = exE 𝓤 _ (λ ws. snd∗ 𝓤 (sem 𝓤 H A (lasts none.ended tt tt ws)) (fact 𝓤 (r ≡ noLines)))
 
   pub asked-all : (p : Progress) (xs : List ℕ) → ent 𝓤 (onEntry 𝓤 H A all.signature tt tt (p, (xs, tt)) (far p ∷ [], (array-val xs ∷ [], tt))) (All 𝓤 H A mem run .pre (to-all 𝓤 H A mem run p xs))
   asked-all p xs = qed W (‵ ftrue ∷ ‵ (owns (P.the-row ∷ AR ∷ []) (p, (xs, tt)) (far p ∷ [], (array-val xs ∷ [], tt))) ∷ []) ∵ join ! $ frame ! $ done !
 
-  pub said-all : (p : Progress) (xs : List ℕ) (r : Gathered) → ent 𝓤 (ensured 𝓤 H A all.ended (all.clauses 𝓤 H A mem run) tt (p, (xs, tt)) tt r) (fact 𝓤 (r ≡ together p xs))
-  said-all p xs r = exE 𝓤 _ (λ ws. snd∗ 𝓤 (sem 𝓤 H A (lasts all.ended tt (p, (xs, tt)) ws)) (fact 𝓤 (r ≡ together p xs)))
+  pub code-all : (p : Progress) (xs : List ℕ) (r : Gathered) → ent 𝓤 (ensured 𝓤 H A all.ended (all.clauses 𝓤 H A mem run) tt (p, (xs, tt)) tt r) (fact 𝓤 (r ≡ together p xs))
+  code-all p xs r = exE 𝓤 _ (λ ws. snd∗ 𝓤 (sem 𝓤 H A (lasts all.ended tt (p, (xs, tt)) ws)) (fact 𝓤 (r ≡ together p xs)))
 
   pub typed-word : (r : ℕ) (v : Val) → Is usize r (v ∷ []) → Holds (hasTy word v) × WT v
   typed-word r v is = uint-lawful 𝓤 H A W w64 .typed r _ is .0

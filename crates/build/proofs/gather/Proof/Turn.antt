@@ -62,7 +62,7 @@ use Rattle.build_gathering.proofs.as_gathered.Symbol.{name as #gathering·as-ga
 use Rattle.build.proofs.gather as self
 use Rattle.build.proofs.gather.Code.Mir as pieces
 use Rattle.build.proofs.gather.Proof.Lending.{AR, arr, the-one, array-val, typed-array, made, stored, back}
-use Rattle.build.proofs.gather.Proof.Callees.{R, word, slice, lent, far, lined, Arg, stayed, ref, One, All, to, to-all, typed, typed-far, typed-line, asked, asked-all, said-all}
+use Rattle.build.proofs.gather.Proof.Callees.{R, word, slice, lent, far, lined, Arg, stayed, ref, One, All, to, to-all, typed, typed-far, typed-line, asked, asked-all, code-all}
 
 module _ {M : Type 1} (𝓤 : URA M) (H : Heap 𝓤) (A : Atoms 𝓤) (W : Given 𝓤 H A) (mem : Memory → SProp 𝓤) (run : Routine → Fun 𝓤) (κ : Lft) (q : Share) (b o : ℕ) (γ : GName) (ys : List Observation) (start : Progress) where
   abbrev pub n : ℕ
@@ -201,7 +201,7 @@ module _ {M : Type 1} (𝓤 : URA M) (H : Heap 𝓤) (A : Atoms 𝓤) (W : Given
         use2 W (raw (All 𝓤 H A mem run .pre (to-all 𝓤 H A mem run (t .1) (t .2)))) (asked-all 𝓤 H A W mem run (t .1) (t .2)) $
         calls-at ! fm (All 𝓤 H A mem run) known-all (to-all 𝓤 H A mem run (t .1) (t .2)) (and-then ! (load ! (from ! (stop !)) (look ! 23 refl)) (and-then ! (load ! (from ! (stop !)) (look ! 15 refl)) (no-more !))) (λ u.
         use1 W (later (some (λ (r : Gathered). (‵ ftrue ⊛ ‵ (S.the-row .own r (u ∷ []))) ⊛ raw (ensured 𝓤 H A all.ended (all.clauses 𝓤 H A mem run) tt (t .1, (t .2, tt)) tt r)))) (id⊢ 𝓤 _) $ await ! tt $ pick ! (λ r.
-        split ! $ move ! (1 ∷ []) $ use1 W (raw (fact 𝓤 (r ≡ together (t .1) (t .2)))) (said-all 𝓤 H A W mem run (t .1) (t .2) r) $ heard ! (r ≡ together (t .1) (t .2)) (λ e. split ! $ move ! (1 ∷ []) $
+        split ! $ move ! (1 ∷ []) $ use1 W (raw (fact 𝓤 (r ≡ together (t .1) (t .2)))) (code-all 𝓤 H A W mem run (t .1) (t .2) r) $ heard ! (r ≡ together (t .1) (t .2)) (λ e. split ! $ move ! (1 ∷ []) $
         peeks ! S.the-row (Is S.the-row) (shows 𝓤 H A S.the-row) r (u ∷ []) (λ is.
         -- [what the result owns; true; the token; the borrow; _13; …]
         land ! (from ! (stop !)) (init ! 30 refl (typed 𝓤 H A W mem run r u is)) $

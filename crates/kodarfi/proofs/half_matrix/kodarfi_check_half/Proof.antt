@@ -1,4 +1,4 @@
-use Rattle.rules.specs.Refusal.{said}
+use Rattle.rules.specs.Refusal.{code}
 use Rattle.reply.proofs.Told.{told-alone}
 use borrow.Author.Needs.{needs}
 use Rattle.kodarfi.proofs.half_matrix.kodarfi_check_half.Statement.{statement}
@@ -23,7 +23,7 @@ returns : tie.Need-returns
 returns c =
     let r = c .before .before in
     let k = r .before .before .before .before .before in
-    record { outcome = k .check-half .result; checked = k .check-half .ensures; told = told-alone (said (k .check-half .result)) (c .tell .ensures) (r .outcome-reply .ensures) }
+    record { outcome = k .check-half .result; checked = k .check-half .ensures; told = told-alone (code (k .check-half .result)) (c .tell .ensures) (r .outcome-reply .ensures) }
 
 pub kodarfi-check-half-spec : {M : Type 1} → statement M
 kodarfi-check-half-spec =

@@ -1,4 +1,4 @@
-use Rattle.quality_spec.specs.Answer.{saidQuality}
+use Rattle.quality_spec.specs.Answer.{qualityCode}
 use Rattle.reply.proofs.Told.{told-alone}
 use borrow.Author.Needs.{needs}
 use Rattle.kodarfi.proofs.how_good.kodarfi_quality.Statement.{statement}
@@ -28,7 +28,7 @@ returns c =
     record {
       answer = k .quality .result;
       holds = k .quality .ensures;
-      told = told-alone (saidQuality (k .quality .result)) (c .tell .ensures) (r .quality-reply .ensures);
+      told = told-alone (qualityCode (k .quality .result)) (c .tell .ensures) (r .quality-reply .ensures);
       numerator-is = o .numerator-or .ensures;
       denominator-is = d .denominator-or .ensures;
     }

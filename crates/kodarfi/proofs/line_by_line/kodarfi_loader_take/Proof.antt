@@ -1,4 +1,4 @@
-use Rattle.rules.specs.Refusal.{said}
+use Rattle.rules.specs.Refusal.{code}
 use Rattle.reply.proofs.Told.{told-alone}
 use borrow.Author.Needs.{needs}
 use Rattle.kodarfi.proofs.line_by_line.kodarfi_loader_take.Statement.{statement}
@@ -42,7 +42,7 @@ returns : tie.Need-returns
 returns c =
     let r = c .before .before in
     let k = at-take r in
-    record { outcome = k .take .result; taken = k .take .ensures; told = told-alone (said (k .take .result)) (c .tell .ensures) (r .outcome-reply .ensures) }
+    record { outcome = k .take .result; taken = k .take .ensures; told = told-alone (code (k .take .result)) (c .tell .ensures) (r .outcome-reply .ensures) }
 
 pub kodarfi-loader-take-spec : {M : Type 1} → statement M
 kodarfi-loader-take-spec =

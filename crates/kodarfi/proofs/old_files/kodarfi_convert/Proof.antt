@@ -1,4 +1,4 @@
-use Rattle.convert_spec.specs.Converted.{saidConverted}
+use Rattle.convert_spec.specs.Converted.{convertCode}
 use Rattle.reply.proofs.Told.{told-alone}
 use borrow.Author.Needs.{needs}
 use Rattle.kodarfi.proofs.old_files.kodarfi_convert.Statement.{statement}
@@ -27,7 +27,7 @@ returns c =
     record {
       answer = k .convert .result;
       converted = k .convert .ensures;
-      told = told-alone (saidConverted (k .convert .result)) (c .tell .ensures) (r .converted-reply .ensures);
+      told = told-alone (convertCode (k .convert .result)) (c .tell .ensures) (r .converted-reply .ensures);
       written-is = o .length-or .ensures;
     }
 

@@ -1,4 +1,4 @@
-use Rattle.convert_spec.specs.Converted.{saidConverted}
+use Rattle.convert_spec.specs.Converted.{convertCode}
 use Rattle.reply.proofs.Told.{told-alone}
 use borrow.Author.Needs.{needs}
 use Rattle.kodarfi.proofs.old_files.kodarfi_convert_line.Statement.{statement}
@@ -28,7 +28,7 @@ returns c =
       exported = record {
         answer = k .convert-file .result .answer;
         converted = k .convert-file .ensures .answer;
-        told = told-alone (saidConverted (k .convert-file .result .answer)) (c .tell .ensures) (r .converted-reply .ensures);
+        told = told-alone (convertCode (k .convert-file .result .answer)) (c .tell .ensures) (r .converted-reply .ensures);
         written-is = o .length-or .ensures;
       };
       line-is = k .convert-file .ensures .line;

@@ -1,5 +1,5 @@
 use Rattle.rules.specs.Order.{refusalOf}
-use Rattle.dependent_spec.specs.Order.{saidNets}
+use Rattle.dependent_spec.specs.Order.{netsCode}
 use Rattle.reply.proofs.Told.{told-alone}
 use borrow.Author.Needs.{needs}
 use Rattle.kodarfi.proofs.two_nets.kodarfi_check_dependent.Statement.{statement}
@@ -39,7 +39,7 @@ returns c =
       answer = k .check-dependent .result;
       checked = k .check-dependent .ensures;
       net-is = o .net-of .ensures;
-      told = told-alone (refusalOf (saidNets (k .check-dependent .result))) (c .tell .ensures) (r .nets-reply .ensures);
+      told = told-alone (refusalOf (netsCode (k .check-dependent .result))) (c .tell .ensures) (r .nets-reply .ensures);
     }
 
 pub kodarfi-check-dependent-spec : {M : Type 1} → statement M

@@ -1,5 +1,5 @@
 use Rattle.rules.specs.Order.{refusalOf}
-use Rattle.common_spec.specs.Answer.{saidCommon}
+use Rattle.common_spec.specs.Answer.{commonCode}
 use Rattle.reply.proofs.Told.{told-alone}
 use borrow.Author.Needs.{needs}
 use Rattle.kodarfi.proofs.two_proposals.kodarfi_common.Statement.{statement}
@@ -31,7 +31,7 @@ returns c =
     record {
       answer = k .common-interval .result;
       found = k .common-interval .ensures;
-      told = told-alone (refusalOf (saidCommon (k .common-interval .result))) (c .tell .ensures) (r .common-reply .ensures);
+      told = told-alone (refusalOf (commonCode (k .common-interval .result))) (c .tell .ensures) (r .common-reply .ensures);
       proposal-is = o .proposal-of .ensures;
     }
 

@@ -1,4 +1,4 @@
-use Rattle.doubles_lists.specs.Inward.{saidGuessed}
+use Rattle.doubles_lists.specs.Inward.{guessesCode}
 use Rattle.reply.proofs.Told.{told-alone}
 use borrow.Author.Needs.{needs}
 use Rattle.kodarfi.proofs.with_doubles.kodarfi_guesses.Statement.{statement}
@@ -23,7 +23,7 @@ returns c =
     record {
       answer = k .guesses-of .result;
       guessed = k .guesses-of .ensures;
-      told = told-alone (saidGuessed (k .guesses-of .result)) (c .tell .ensures) (r .guessed-reply .ensures);
+      told = told-alone (guessesCode (k .guesses-of .result)) (c .tell .ensures) (r .guessed-reply .ensures);
     }
 
 pub kodarfi-guesses-spec : {M : Type 1} → statement M

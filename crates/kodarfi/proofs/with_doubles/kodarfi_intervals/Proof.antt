@@ -1,4 +1,4 @@
-use Rattle.rules.specs.Refusal.{said}
+use Rattle.rules.specs.Refusal.{code}
 use Rattle.reply.proofs.Told.{told-alone}
 use borrow.Author.Needs.{needs}
 use Rattle.kodarfi.proofs.with_doubles.kodarfi_intervals.Statement.{statement}
@@ -26,7 +26,7 @@ returns c =
     record {
       outcome = k .intervals-of .result;
       ends = k .intervals-of .ensures;
-      told = told-alone (said (k .intervals-of .result)) (c .tell .ensures) (r .outcome-reply .ensures);
+      told = told-alone (code (k .intervals-of .result)) (c .tell .ensures) (r .outcome-reply .ensures);
     }
 
 pub kodarfi-intervals-spec : {M : Type 1} → statement M

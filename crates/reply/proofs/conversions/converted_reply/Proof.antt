@@ -1,7 +1,7 @@
 use mathlib.Core.Path.{sym, ap, _∙_}
 use Rattle.listing_refusal.specs.Refused.{printed}
 use Rattle.listing_refusal.specs.Reply.{replyOf}
-use Rattle.convert_spec.specs.Converted.{saidConverted}
+use Rattle.convert_spec.specs.Converted.{convertCode}
 use Rattle.convert_spec.specs.declared.Converted.{Converted}
 use borrow.Author.Needs.{needs}
 use Rattle.reply.proofs.conversions.converted_reply.Statement.{statement}
@@ -27,10 +27,10 @@ returns c = search needs
 
 returns-2 : tie.Need-returns-2
 returns-2 c =
-    c .reply-of .ensures ∙ ap (λ (r : Converted). replyOf (printed 0 (saidConverted r))) (sym (c .before .before .converted .given .1))
+    c .reply-of .ensures ∙ ap (λ (r : Converted). replyOf (printed 0 (convertCode r))) (sym (c .before .before .converted .given .1))
 
 returns-3 : tie.Need-returns-3
-returns-3 c = ap (λ (r : Converted). replyOf (printed 0 (saidConverted r))) (sym (c .enum-told2 .given .1))
+returns-3 c = ap (λ (r : Converted). replyOf (printed 0 (convertCode r))) (sym (c .enum-told2 .given .1))
 
 pub converted-reply-spec : {M : Type 1} → statement M
 converted-reply-spec =

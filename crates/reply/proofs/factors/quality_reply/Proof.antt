@@ -1,7 +1,7 @@
 use mathlib.Core.Path.{sym, ap, _∙_}
 use Rattle.listing_refusal.specs.Refused.{printed}
 use Rattle.listing_refusal.specs.Reply.{replyOf}
-use Rattle.quality_spec.specs.Answer.{saidQuality}
+use Rattle.quality_spec.specs.Answer.{qualityCode}
 use Rattle.quality_spec.specs.declared.Quality.{Quality}
 use borrow.Author.Needs.{needs}
 use Rattle.reply.proofs.factors.quality_reply.Statement.{statement}
@@ -23,7 +23,7 @@ returns : tie.Need-returns
 returns c = search needs
 
 returns-2 : tie.Need-returns-2
-returns-2 c = c .reply-of .ensures ∙ ap (λ (q : Quality). replyOf (printed 0 (saidQuality q))) (sym (c .before .before .quality .given .1))
+returns-2 c = c .reply-of .ensures ∙ ap (λ (q : Quality). replyOf (printed 0 (qualityCode q))) (sym (c .before .before .quality .given .1))
 
 pub quality-reply-spec : {M : Type 1} → statement M
 quality-reply-spec =

@@ -1,7 +1,7 @@
 use mathlib.Core.Path.{sym, ap, _∙_}
 use Rattle.listing_refusal.specs.Refused.{printed}
 use Rattle.listing_refusal.specs.Reply.{replyOf}
-use Rattle.doubles_lists.specs.Inward.{saidGuessed}
+use Rattle.doubles_lists.specs.Inward.{guessesCode}
 use Rattle.doubles_lists.specs.declared.Guessed.{Guessed}
 use borrow.Author.Needs.{needs}
 use Rattle.reply.proofs.guesses.guessed_reply.Statement.{statement}
@@ -26,10 +26,10 @@ returns : tie.Need-returns
 returns c = search needs
 
 returns-2 : tie.Need-returns-2
-returns-2 c = c .reply-of .ensures ∙ ap (λ (f : Guessed). replyOf (printed 0 (saidGuessed f))) (sym (c .before .before .guessed .given .1))
+returns-2 c = c .reply-of .ensures ∙ ap (λ (f : Guessed). replyOf (printed 0 (guessesCode f))) (sym (c .before .before .guessed .given .1))
 
 returns-3 : tie.Need-returns-3
-returns-3 c = ap (λ (f : Guessed). replyOf (printed 0 (saidGuessed f))) (sym (c .enum-told2 .given .1))
+returns-3 c = ap (λ (f : Guessed). replyOf (printed 0 (guessesCode f))) (sym (c .enum-told2 .given .1))
 
 pub guessed-reply-spec : {M : Type 1} → statement M
 guessed-reply-spec =

@@ -2,7 +2,7 @@ use mathlib.Core.Path.{sym, ap, _∙_}
 use Rattle.rules.specs.Order.{refusalOf}
 use Rattle.listing_refusal.specs.Refused.{printed}
 use Rattle.listing_refusal.specs.Reply.{replyOf}
-use Rattle.dependent_spec.specs.Order.{saidNets}
+use Rattle.dependent_spec.specs.Order.{netsCode}
 use Rattle.dependent_spec.specs.declared.CheckedNets.{CheckedNets}
 use borrow.Author.Needs.{needs}
 use Rattle.reply.proofs.nets.nets_reply.Statement.{statement}
@@ -30,10 +30,10 @@ returns : tie.Need-returns
 returns c = search needs
 
 returns-2 : tie.Need-returns-2
-returns-2 c = c .reply-of .ensures ∙ ap (λ (r : CheckedNets). replyOf (printed 0 (refusalOf (saidNets r)))) (sym (c .before .before .checked .given .1))
+returns-2 c = c .reply-of .ensures ∙ ap (λ (r : CheckedNets). replyOf (printed 0 (refusalOf (netsCode r)))) (sym (c .before .before .checked .given .1))
 
 returns-3 : tie.Need-returns-3
-returns-3 c = c .reply-of2 .ensures ∙ ap (λ (r : CheckedNets). replyOf (printed 0 (refusalOf (saidNets r)))) (sym (c .before .before .checked2 .given .1))
+returns-3 c = c .reply-of2 .ensures ∙ ap (λ (r : CheckedNets). replyOf (printed 0 (refusalOf (netsCode r)))) (sym (c .before .before .checked2 .given .1))
 
 pub nets-reply-spec : {M : Type 1} → statement M
 nets-reply-spec =

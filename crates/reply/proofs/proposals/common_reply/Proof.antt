@@ -2,14 +2,14 @@ use mathlib.Core.Path.{_≡_, sym, ap, _∙_}
 use Rattle.rules.specs.Order.{refusalOf}
 use Rattle.listing_refusal.specs.Refused.{printed}
 use Rattle.listing_refusal.specs.Reply.{replyOf}
-use Rattle.common_spec.specs.Answer.{saidCommon}
+use Rattle.common_spec.specs.Answer.{commonCode}
 use Rattle.common_spec.specs.declared.Common.{Common}
 use borrow.Author.Needs.{needs}
 use Rattle.reply.proofs.proposals.common_reply.Statement.{statement}
 use Rattle.reply.proofs.proposals.common_reply.Tie as tie
 
-told-of : {a b : Common} → a ≡ b → replyOf (printed 0 (refusalOf (saidCommon b))) ≡ replyOf (printed 0 (refusalOf (saidCommon a)))
-told-of e = ap (λ (f : Common). replyOf (printed 0 (refusalOf (saidCommon f)))) (sym e)
+told-of : {a b : Common} → a ≡ b → replyOf (printed 0 (refusalOf (commonCode b))) ≡ replyOf (printed 0 (refusalOf (commonCode a)))
+told-of e = ap (λ (f : Common). replyOf (printed 0 (refusalOf (commonCode f)))) (sym e)
 
 enum-told : tie.Need-enum-told
 enum-told c = search needs

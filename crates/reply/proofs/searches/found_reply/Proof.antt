@@ -1,7 +1,7 @@
 use mathlib.Core.Path.{sym, ap, _∙_}
 use Rattle.listing_refusal.specs.Refused.{printed}
 use Rattle.listing_refusal.specs.Reply.{replyOf}
-use Rattle.weights_spec.specs.Search.{saidFound}
+use Rattle.weights_spec.specs.Search.{searchCode}
 use Rattle.weights_spec.specs.declared.Found.{Found}
 use borrow.Author.Needs.{needs}
 use Rattle.reply.proofs.searches.found_reply.Statement.{statement}
@@ -26,10 +26,10 @@ returns : tie.Need-returns
 returns c = search needs
 
 returns-2 : tie.Need-returns-2
-returns-2 c = c .reply-of .ensures ∙ ap (λ (f : Found). replyOf (printed 0 (saidFound f))) (sym (c .before .before .found .given .1))
+returns-2 c = c .reply-of .ensures ∙ ap (λ (f : Found). replyOf (printed 0 (searchCode f))) (sym (c .before .before .found .given .1))
 
 returns-3 : tie.Need-returns-3
-returns-3 c = ap (λ (f : Found). replyOf (printed 0 (saidFound f))) (sym (c .enum-told2 .given .1))
+returns-3 c = ap (λ (f : Found). replyOf (printed 0 (searchCode f))) (sym (c .enum-told2 .given .1))
 
 pub found-reply-spec : {M : Type 1} → statement M
 found-reply-spec =

@@ -18,7 +18,7 @@ use Rattle.loader_lists.specs.Lists.{Lists}
 use Rattle.loader_progress.specs.Progress.{sized}
 use Rattle.loader_progress.proofs.Progress.{misplaced-own}
 use Rattle.loader_order.specs.Order.{lineOrder}
-use Rattle.loader_order.proofs.Said.{said-3}
+use Rattle.loader_order.proofs.CodeLaws.{code-3}
 use Rattle.loader.specs.declared.Loader.{Loader}
 use Rattle.loader.specs.Answer.{caseOf, lineAnswer}
 use Rattle.loader.specs.Taken.{loaderAfter, listsAfter}
@@ -31,4 +31,4 @@ module _ (d : Loader) (l : Lists) (line : List ℕ) where
   pub own-size : {f : Form} → reading line ≡ some f → sized (d .stage) ≡ true → inRange Size (pos (d .n)) ≡ false → None (take 5 (lineOrder (caseOf d l line)))
       → lineAnswer d l line ≡ 3 ∷ []
   unfolding lineAnswer
-  own-size {f} e s o n = said-3 (caseOf d l line) .1 (n, rw (e, ← misplaced-own (d .stage) (d .n) (itemOf f) s o))
+  own-size {f} e s o n = code-3 (caseOf d l line) .1 (n, rw (e, ← misplaced-own (d .stage) (d .n) (itemOf f) s o))
