@@ -44,7 +44,7 @@ module _ (n : ℕ) (ls : List Observation) (layout : Layout) (a b : List ℤ) wh
   w : Whole n ls
   w = whole n ls
 
-  says : finalCode (shortFor layout a b) (buildCode (gatheredOf n ls .progress .told)) ≡ buildAnswer n ls (shortFor layout a b)
+  says : finalCode (shortFor layout a b) (buildCode (gatheredOf n ls .progress .status)) ≡ buildAnswer n ls (shortFor layout a b)
   unfolding buildAnswer
   says =
       ap (finalCode (shortFor layout a b)) (w .says)
@@ -56,7 +56,7 @@ module _ (n : ℕ) (ls : List Observation) (layout : Layout) (a b : List ℤ) wh
   lines-silent true t e = absurd (nothing-is-not e)
   lines-silent false t e = e
 
-  kept : (t : List ℕ) → t ≡ finalCode (shortFor layout a b) (buildCode (gatheredOf n ls .progress .told)) → {A : Type 0} (new new′ old : A) → (buildCode (gatheredOf n ls .progress .told) ≡ [] → new ≡ new′) → ifAccepted t new old ≡ ifAccepted t new′ old
+  kept : (t : List ℕ) → t ≡ finalCode (shortFor layout a b) (buildCode (gatheredOf n ls .progress .status)) → {A : Type 0} (new new′ old : A) → (buildCode (gatheredOf n ls .progress .status) ≡ [] → new ≡ new′) → ifAccepted t new old ≡ ifAccepted t new′ old
   kept [] e new new′ old h = h (lines-silent (shortFor layout a b) _ (sym e))
   kept (k ∷ ks) e new new′ old h = refl
 

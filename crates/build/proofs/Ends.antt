@@ -40,8 +40,8 @@ module _ (g : Gathered) (layout : Layout) (a b : List ℤ) {s : Bool} (t : s ≡
   pub finish-short : s ≡ true → Finished g layout a b (Refused TooShort) a b
   finish-short e = record { says = rw (← t, e); matrix = refl; right = refl }
 
-  pub finish-done : s ≡ false → g .progress .told ≡ Done → {a′ b′ : List ℤ} → a′ ≡ matrixWritten layout (g .progress .n) (keptMatrix g) a → b′ ≡ rightWritten (g .progress .n) (keptRight g) b → Finished g layout a b Done a′ b′
+  pub finish-done : s ≡ false → g .progress .status ≡ Done → {a′ b′ : List ℤ} → a′ ≡ matrixWritten layout (g .progress .n) (keptMatrix g) a → b′ ≡ rightWritten (g .progress .n) (keptRight g) b → Finished g layout a b Done a′ b′
   finish-done e d p q = record { says = rw (← t, e) (sym (ap buildCode d)); matrix = p; right = q }
 
-  pub finish-refused : {k : ℕ} {ks : List ℕ} → s ≡ false → buildCode (g .progress .told) ≡ k ∷ ks → Finished g layout a b (g .progress .told) a b
+  pub finish-refused : {k : ℕ} {ks : List ℕ} → s ≡ false → buildCode (g .progress .status) ≡ k ∷ ks → Finished g layout a b (g .progress .status) a b
   finish-refused e d = record { says = rw (← t, e); matrix = rw d; right = rw d }

@@ -19,6 +19,6 @@ abbrev pub finalCode : Bool → List ℕ → List ℕ
 finalCode short lines = cond short (8 ∷ []) lines
 
 pub record Finished (g : Gathered) (layout : Layout) (a b : List ℤ) (r : Built) (a′ b′ : List ℤ) : Type 0 where
-  pub says : buildCode r ≡ finalCode (shortFor layout a b) (buildCode (g .progress .told))
+  pub says : buildCode r ≡ finalCode (shortFor layout a b) (buildCode (g .progress .status))
   pub matrix : a′ ≡ ifAccepted (buildCode r) (matrixWritten layout (g .progress .n) (keptMatrix g) a) a
   pub right : b′ ≡ ifAccepted (buildCode r) (rightWritten (g .progress .n) (keptRight g) b) b

@@ -49,15 +49,15 @@ pub fn finish(g: Gathered, layout: Layout, matrix: &mut [i64], right: &mut [i64]
         return Built::Refused(Refusal::TooShort);
     }
     let progress = g.progress;
-    let told = progress.told;
-    match told {
+    let status = progress.status;
+    match status {
         Built::Done => {
             write_equations(g, layout, matrix, right);
             Built::Done
         }
-        Built::Refused(_) => told,
-        Built::SameMark => told,
-        Built::OtherContents => told,
+        Built::Refused(_) => status,
+        Built::SameMark => status,
+        Built::OtherContents => status,
     }
 }
 

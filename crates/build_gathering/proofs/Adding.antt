@@ -41,11 +41,11 @@ module _ (g : Gathered) (l : Observation) {r : Gathered} where
     unfolding taken
     taken-new m e = rw (o, ne-eqb _ _ s, ← p, ← q, le-ltb at end m) e
 
-  pub added-done : isRefused (g .progress .told) ≡ false → {k : ℕ} → k ≡ min (g .progress .lines + 1) 256 → r ≡ taken (withLines g k) l → r ≡ added g l
+  pub added-done : isRefused (g .progress .status) ≡ false → {k : ℕ} → k ≡ min (g .progress .lines + 1) 256 → r ≡ taken (withLines g k) l → r ≡ added g l
   unfolding added
   added-done d h e = rw d (e ∙ ap (λ (j : ℕ). taken (withLines g j) l) h)
 
-pub added-refused : (g : Gathered) (l : Observation) → isRefused (g .progress .told) ≡ true → g ≡ added g l
+pub added-refused : (g : Gathered) (l : Observation) → isRefused (g .progress .status) ≡ true → g ≡ added g l
 unfolding added
 added-refused g l d = rw d
 

@@ -36,7 +36,7 @@ pub record MetLine (g : Gathered) (e : Observation) : Type 0 where
 
 pub record Follows (n : ℕ) (es : List Observation) (g : Gathered) : Type 0 where
   pub size : g .progress .n ≡ n
-  pub done : g .progress .told ≡ Done
+  pub done : g .progress .status ≡ Done
   pub long : length (g .seen) ≡ 1280
   pub few : g .progress .count ≤ 256
   pub lines : g .progress .lines ≡ length es
@@ -82,7 +82,7 @@ module _ (n : ℕ) (es : List Observation) (g : Gathered) (l : Observation) (fol
 
   -- ---- a line whose key is new
   abbrev pub grown : Gathered
-  grown = together (record { n = g .progress .n; count = g .progress .count + 1; lines = min (g .progress .lines + 1) 256; told = g .progress .told }) (withLine (g .seen) (g .progress .count) l)
+  grown = together (record { n = g .progress .n; count = g .progress .count + 1; lines = min (g .progress .lines + 1) 256; status = g .progress .status }) (withLine (g .seen) (g .progress .count) l)
 
   pub kept-as : kept (counted g) l ≡ grown
   unfolding kept

@@ -46,10 +46,10 @@ old (Refused r) x y e = refl
 old SameMark x y e = refl
 old OtherContents x y e = refl
 
-still : (g : Gathered) (ls : List Observation) {k : ℕ} {ks : List ℕ} → buildCode (g .progress .told) ≡ k ∷ ks → folded g ls ≡ g
+still : (g : Gathered) (ls : List Observation) {k : ℕ} {ks : List ℕ} → buildCode (g .progress .status) ≡ k ∷ ks → folded g ls ≡ g
 unfolding folded added
 still g [] e = refl
-still g (l ∷ ls) e = ap (λ (z : Gathered). folded z ls) (old (g .progress .told) (taken (counted g) l) g e) ∙ still g ls e
+still g (l ∷ ls) e = ap (λ (z : Gathered). folded z ls) (old (g .progress .status) (taken (counted g) l) g e) ∙ still g ls e
 
 -- ---- the line that is refused
 line-refused : (t : Built) {k : ℕ} {ks : List ℕ} (j : ℕ) → buildCode t ≡ k ∷ ks → j < 256 → cond (isRefused t) (min (j + 1) 256) 0 ≡ j + 1
@@ -60,12 +60,12 @@ line-refused OtherContents j e h = omega arith
 
 -- ---- the lines that are left
 pub record GatheringAs (n : ℕ) (es ls : List Observation) (g r : Gathered) : Type 0 where
-  pub says : buildCode (r .progress .told) ≡ observationsSay n es ls
+  pub says : buildCode (r .progress .status) ≡ observationsSay n es ls
   pub line : lineNumberOf r ≡ refusedFrom n (g .progress .lines) es ls
   pub size : r .progress .n ≡ n
-  pub few : buildCode (r .progress .told) ≡ [] → r .progress .count ≤ 256
-  pub good : buildCode (r .progress .told) ≡ [] → (p : ℕ) → p < r .progress .count → Passes n (keptAt r p)
-  pub sums : buildCode (r .progress .told) ≡ [] → (f : Observation → ℤ) → keptSum f r ≡ keptSum f g +ℤ total f (distinctAfter es ls)
+  pub few : buildCode (r .progress .status) ≡ [] → r .progress .count ≤ 256
+  pub good : buildCode (r .progress .status) ≡ [] → (p : ℕ) → p < r .progress .count → Passes n (keptAt r p)
+  pub sums : buildCode (r .progress .status) ≡ [] → (f : Observation → ℤ) → keptSum f r ≡ keptSum f g +ℤ total f (distinctAfter es ls)
 
 pub gathers : (n : ℕ) (es ls : List Observation) (g : Gathered) → Follows n es g → g .progress .count + length ls ≤ 256 → g .progress .lines + length ls ≤ 256 → GatheringAs n es ls g (folded g ls)
 unfolding folded observationsSay refusedFrom
@@ -83,7 +83,7 @@ gathers n es (l ∷ ls) g fol room early = go (step n es g l fol (omega arith) (
         GatheringAs n es (l ∷ ls) g (folded (added g l) ls)
     go (refused t k ks e a s) ih =
         let few : g .progress .lines < 256 = omega (arith, early) in
-        let e₁ : buildCode (refusedAs (counted g) t .progress .told) ≡ k ∷ ks = unfold saying in e in
+        let e₁ : buildCode (refusedAs (counted g) t .progress .status) ≡ k ∷ ks = unfold saying in e in
         let r : folded (added g l) ls ≡ refusedAs (counted g) t = ap (λ (z : Gathered). folded z ls) a ∙ still (refusedAs (counted g) t) ls e₁ in
         let j : lineNumberOf (refusedAs (counted g) t) ≡ g .progress .lines + 1 = unfold saying in line-refused t (g .progress .lines) e few in
         rw r (record {

@@ -34,10 +34,10 @@ use Rattle.build_gathering.proofs.Follows.{Follows}
 use Rattle.build_gathering.proofs.Gathering.{folded, gathered-folded, old, GatheringAs, gathers}
 
 -- ---- the whole list
-still-at : (g : Gathered) (ls : List Observation) (k : ℕ) {j : ℕ} {js : List ℕ} → buildCode (g .progress .told) ≡ j ∷ js → gathered g ls k ≡ g
+still-at : (g : Gathered) (ls : List Observation) (k : ℕ) {j : ℕ} {js : List ℕ} → buildCode (g .progress .status) ≡ j ∷ js → gathered g ls k ≡ g
 unfolding gathered added
 still-at g ls zero e = refl
-still-at g ls (suc k) e = ap (λ (z : Gathered). added z (getD ls k noObservation)) (still-at g ls k e) ∙ old (g .progress .told) (taken (counted g) (getD ls k noObservation)) g e
+still-at g ls (suc k) e = ap (λ (z : Gathered). added z (getD ls k noObservation)) (still-at g ls k e) ∙ old (g .progress .status) (taken (counted g) (getD ls k noObservation)) g e
 
 few-all : (k : ℕ) → k ≤ 256 → few k ≡ k
 unfolding few
@@ -51,7 +51,7 @@ none-looked : (n k : ℕ) → k ≤ 256 → opened n k .progress .lines + k ≤ 
 unfolding openingProgress noLines
 none-looked n k h = omega arith
 
-begun : (n k : ℕ) → opened n k .progress .told ≡ Done → Follows n [] (opened n k)
+begun : (n k : ℕ) → opened n k .progress .status ≡ Done → Follows n [] (opened n k)
 unfolding openingProgress noLines
 begun n k d = record {
   size = refl;
@@ -75,23 +75,23 @@ module _ (n : ℕ) (ls : List Observation) where
   gatheredOf = gathered (opened n (length ls)) ls (few (length ls))
 
   pub record Whole : Type 0 where
-    pub says : buildCode (gatheredOf .progress .told) ≡ orElse (cond (inRange kind.Size (pos n) && leb (length ls) 256) [] (3 ∷ [])) (observationsSay n [] ls)
+    pub says : buildCode (gatheredOf .progress .status) ≡ orElse (cond (inRange kind.Size (pos n) && leb (length ls) 256) [] (3 ∷ [])) (observationsSay n [] ls)
     pub line : lineNumberOf gatheredOf ≡ ifAccepted (cond (inRange kind.Size (pos n) && leb (length ls) 256) [] (3 ∷ [])) (refusedFrom n 0 [] ls) 0
     pub size : gatheredOf .progress .n ≡ n
     pub sound : ReadyWhenDone gatheredOf
-    pub sums : buildCode (gatheredOf .progress .told) ≡ [] → (f : Observation → ℤ) → keptSum f gatheredOf ≡ total f (distinct ls)
+    pub sums : buildCode (gatheredOf .progress .status) ≡ [] → (f : Observation → ℤ) → keptSum f gatheredOf ≡ total f (distinct ls)
 
   pub whole : Whole
   whole = go (inRange kind.Size (pos n) && leb (length ls) 256) refl
     where
-      refusal : (c : Bool) → inRange kind.Size (pos n) && leb (length ls) 256 ≡ c → opened n (length ls) .progress .told ≡ cond c Done (Refused OutOfRange)
+      refusal : (c : Bool) → inRange kind.Size (pos n) && leb (length ls) 256 ≡ c → opened n (length ls) .progress .status ≡ cond c Done (Refused OutOfRange)
       refusal c e = unfold openingProgress openedAs in rw e
 
       go : (c : Bool) → inRange kind.Size (pos n) && leb (length ls) 256 ≡ c → Whole
       go false e =
           let t = refusal false e in
           let r : gatheredOf ≡ opened n (length ls) = still-at (opened n (length ls)) ls (few (length ls)) (ap buildCode t) in
-          let s : buildCode (gatheredOf .progress .told) ≡ 3 ∷ [] = ap (λ (z : Gathered). buildCode (z .progress .told)) r ∙ ap buildCode t in
+          let s : buildCode (gatheredOf .progress .status) ≡ 3 ∷ [] = ap (λ (z : Gathered). buildCode (z .progress .status)) r ∙ ap buildCode t in
           record {
             says = s ∙ sym (rw e);
             line = ap lineNumberOf r ∙ (unfold openingProgress openedAs in rw e);

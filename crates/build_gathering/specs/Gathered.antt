@@ -55,13 +55,13 @@ abbrev pub metAt : Gathered → Observation → ℕ
 metAt g l = first (places (g .progress .count)) (λ (i : ℕ). eqb (keyAt (g .seen) i) (l .key))
 
 unfoldable pub saying : Progress → Built → Progress
-saying p t = record { n = p .n; count = p .count; lines = p .lines; told = t }
+saying p t = record { n = p .n; count = p .count; lines = p .lines; status = t }
 
 abbrev pub refusedAs : Gathered → Built → Gathered
 refusedAs g t = together (saying (g .progress) t) (g .seen)
 
 abbrev pub withLines : Gathered → ℕ → Gathered
-withLines g k = together (record { n = g .progress .n; count = g .progress .count; lines = k; told = g .progress .told }) (g .seen)
+withLines g k = together (record { n = g .progress .n; count = g .progress .count; lines = k; status = g .progress .status }) (g .seen)
 
 abbrev pub counted : Gathered → Gathered
 counted g = withLines g (min (g .progress .lines + 1) 256)
@@ -69,7 +69,7 @@ counted g = withLines g (min (g .progress .lines + 1) 256)
 unfoldable pub kept : Gathered → Observation → Gathered
 kept g l =
     cond (ltb (places (g .progress .count)) 256)
-    (together (record { n = g .progress .n; count = places (g .progress .count) + 1; lines = g .progress .lines; told = g .progress .told })
+    (together (record { n = g .progress .n; count = places (g .progress .count) + 1; lines = g .progress .lines; status = g .progress .status })
     (withLine (g .seen) (places (g .progress .count)) l)) g
 
 unfoldable pub taken : Gathered → Observation → Gathered
@@ -90,10 +90,10 @@ abbrev pub whenDone : Built → Gathered → Gathered → Gathered
 whenDone t new old = cond (isRefused t) old new
 
 unfoldable pub added : Gathered → Observation → Gathered
-added g l = whenDone (g .progress .told) (taken (counted g) l) g
+added g l = whenDone (g .progress .status) (taken (counted g) l) g
 
 abbrev pub lineNumberOf : Gathered → ℕ
-lineNumberOf g = cond (isRefused (g .progress .told)) (g .progress .lines) 0
+lineNumberOf g = cond (isRefused (g .progress .status)) (g .progress .lines) 0
 
 unfoldable pub gathered : Gathered → List Observation → ℕ → Gathered
 gathered g ls zero = g
@@ -106,7 +106,7 @@ unfoldable pub openedAs : ℕ → ℕ → Built
 openedAs n k = cond (inRange kind.Size (pos n) && leb k 256) Done (Refused OutOfRange)
 
 unfoldable pub openingProgress : ℕ → ℕ → Progress
-openingProgress n k = record { n = n; count = 0; lines = 0; told = openedAs n k }
+openingProgress n k = record { n = n; count = 0; lines = 0; status = openedAs n k }
 
 unfoldable pub noLines : List ℕ
 noLines = replicate 1280 0
@@ -137,4 +137,4 @@ pub record Ready (g : Gathered) : Type 0 where
   pub lines : ProperLines (g .seen) (g .progress .count)
 
 pub record ReadyWhenDone (g : Gathered) : Type 0 where
-  pub ready : g .progress .told ≡ Done → Ready g
+  pub ready : g .progress .status ≡ Done → Ready g

@@ -18,7 +18,7 @@ pub struct Progress {
     pub n: u32,
     pub count: usize,
     pub lines: usize,
-    pub told: Built,
+    pub status: Built,
 }
 
 // The lines taken so far. Those whose key no earlier line has are kept in `seen`, as numbers, because a list of numbers can be lent to the adder: line p has its key
@@ -42,22 +42,22 @@ fn next_line(lines: usize) -> usize
     if lines < 256 { lines + 1 } else { 256 }
 }
 
-fn refuse(g: Progress, told: Built) -> Progress
-    ensures { λ r. ⌜ r ≡ saying g told ⌝ }
+fn refuse(g: Progress, status: Built) -> Progress
+    ensures { λ r. ⌜ r ≡ saying g status ⌝ }
 {
     Progress {
         n: g.n,
         count: g.count,
         lines: g.lines,
-        told,
+        status,
     }
 }
 
 // Whether something is said already.
-fn is_refused(told: Built) -> bool
-    ensures { λ r. ⌜ r ≡ isRefused told ⌝ }
+fn is_refused(status: Built) -> bool
+    ensures { λ r. ⌜ r ≡ isRefused status ⌝ }
 {
-    match told {
+    match status {
         Built::Done => false,
         Built::Refused(_) => true,
         Built::SameMark => true,
@@ -124,8 +124,8 @@ fn met_at(seen: &[u32; 1280], end: usize, key: u32) -> usize
 pub fn add_observation(mut g: Progress, seen: &mut [u32; 1280], l: Observation) -> Progress
     ensures { λ r. ⌜ together r (now (seen .exit)) ≡ added (together g (now (seen .entry))) l ⌝ }
 {
-    let told = g.told;
-    if is_refused(told) {
+    let status = g.status;
+    if is_refused(status) {
         return g;
     }
     g.lines = next_line(g.lines);
@@ -171,12 +171,12 @@ fn opened_as(n: u32, lines: usize) -> Built
 pub fn open(n: u32, lines: usize) -> Progress
     ensures { λ r. ⌜ r ≡ openingProgress n lines ⌝ }
 {
-    let told = opened_as(n, lines);
+    let status = opened_as(n, lines);
     Progress {
         n,
         count: 0,
         lines: 0,
-        told,
+        status,
     }
 }
 
@@ -198,6 +198,10 @@ pub fn line_of(g: Gathered) -> usize
     ensures { λ r. ⌜ r ≡ lineNumberOf g ⌝ }
 {
     let progress = g.progress;
-    let told = progress.told;
-    if is_refused(told) { progress.lines } else { 0 }
+    let status = progress.status;
+    if is_refused(status) {
+        progress.lines
+    } else {
+        0
+    }
 }

@@ -1,5 +1,5 @@
 -- The exported builder, in the words of 02's Papers 3 and 10.
---   build-told    — the number is that of the order of tests, 8, 3, and of each line 3, 16, 17
+--   build-status    — the number is that of the order of tests, 8, 3, and of each line 3, 16, 17
 --   build-refused — every other number is said with both lists as before
 --   code-zero     — 0 is said of a list that builds alone
 --   build-zero, build-half-zero — and then the equations stand in the two lists, the matrix square or by its lower half
@@ -38,8 +38,8 @@ zero-built SameMark e = absurd (omega arith)
 zero-built OtherContents e = absurd (omega arith)
 
 module _ {n : ℕ} {ls : List Observation} {layout : Layout} {a b : List ℤ} {number : ℕ} {a′ b′ : List ℤ} (x : BuildExported n ls layout a b number a′ b′) where
-  pub build-told : number ≡ getD (buildAnswer n ls (shortFor layout a b)) 0 0
-  build-told = x .number-is ∙ ap (λ (l : List ℕ). getD l 0 0) (x .built .says)
+  pub build-status : number ≡ getD (buildAnswer n ls (shortFor layout a b)) 0 0
+  build-status = x .number-is ∙ ap (λ (l : List ℕ). getD l 0 0) (x .built .says)
 
   pub build-refused : {k : ℕ} → number ≡ suc k → (a′ ≡ a) × (b′ ≡ b)
   build-refused e = go (buildCode (x .answer)) refl (sym e ∙ x .number-is)

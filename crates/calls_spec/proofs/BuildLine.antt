@@ -16,7 +16,7 @@ use Rattle.build_lines.proofs.Refused.{past, First, line-silent, line-stopped}
 use Rattle.build_equations.specs.declared.Layout.{Layout}
 use Rattle.build.specs.BuiltAs.{shortFor}
 use Rattle.calls_spec.specs.Build.{BuildLineExported}
-use Rattle.calls_spec.proofs.Build.{build-told, code-zero}
+use Rattle.calls_spec.proofs.Build.{build-status, code-zero}
 
 pub record FirstRefusedLine (n : ℕ) (ls : List Observation) (line number : ℕ) : Type 0 where
   pub before : List Observation
@@ -48,7 +48,7 @@ module _ {n : ℕ} {ls : List Observation} {layout : Layout} {a b : List ℤ} {n
         parts = f .stop .parts;
         place = x .line-is ∙ f .line-is;
         pass = f .stop .quiet;
-        refused = build-told (x .exported) ∙ ap (λ (w : List ℕ). getD w 0 0) (f .answer);
+        refused = build-status (x .exported) ∙ ap (λ (w : List ℕ). getD w 0 0) (f .answer);
       }
 
   pub build-line-zero : number ≡ 0 → line ≡ 0

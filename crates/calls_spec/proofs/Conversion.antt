@@ -1,5 +1,5 @@
 -- The exported converter, in the words of 02's Paper 14.
---   convert-told    — the number and the count are those of the order of tests: the desk's refusals, 15, 22
+--   convert-status    — the number and the count are those of the order of tests: the desk's refusals, 15, 22
 --   convert-refused — every number but 0 is said with buffer and length as before
 --   convert-zero    — 0 is said of a file that is converted alone; then its new file stands at the start of the buffer, the rest is as before, and `written` is its
 --     length
@@ -15,7 +15,7 @@ use Rattle.convert_spec.specs.declared.Converted.the-variants.{Length, Refused,
 use Rattle.convert_spec.specs.Converted.{convertCode, convertAnswer}
 use Rattle.convert_spec.specs.File.{newFile}
 use Rattle.calls_spec.specs.Conversion.{ConvertExported}
-use Rattle.reply.specs.Told.{Told}
+use Rattle.reply.specs.ReplyIs.{ReplyIs}
 use Rattle.calls_spec.proofs.Meaning.{zero-code}
 
 zero-converted : (r : Converted) → getD (convertCode r) 0 0 ≡ 0 → convertCode r ≡ []
@@ -29,11 +29,11 @@ pub record Exported (file old new : List ℕ) (written : ℕ) : Type 0 where
   pub size : written ≡ length (newFile file)
 
 module _ {file old : List ℕ} {w₀ number : ℕ} {places new : List ℕ} {w : ℕ} (x : ConvertExported file old w₀ number places new w) where
-  pub convert-told : Told (convertAnswer file (length old)) number places
-  convert-told = subst (λ (l : List ℕ). Told l number places) (x .converted .says) (x .told)
+  pub convert-status : ReplyIs (convertAnswer file (length old)) number places
+  convert-status = subst (λ (l : List ℕ). ReplyIs l number places) (x .converted .says) (x .status)
 
   pub convert-refused : {k : ℕ} → number ≡ suc k → (new ≡ old) × (w ≡ w₀)
-  convert-refused e = go (convertAnswer file (length old)) refl (sym e ∙ convert-told .number-is)
+  convert-refused e = go (convertAnswer file (length old)) refl (sym e ∙ convert-status .number-is)
     where
       go : {k : ℕ} (l : List ℕ) → convertAnswer file (length old) ≡ l → suc k ≡ getD (convertAnswer file (length old)) 0 0 → (new ≡ old) × (w ≡ w₀)
       go [] p q = absurd (omega (arith, q ∙ ap (λ (l : List ℕ). getD l 0 0) p))
@@ -41,7 +41,7 @@ module _ {file old : List ℕ} {w₀ number : ℕ} {places new : List ℕ} {w : 
 
   pub convert-zero : number ≡ 0 → Exported file old new w
   convert-zero e =
-      let s : convertCode (x .answer) ≡ [] = zero-converted (x .answer) (sym (x .told .number-is) ∙ e) in
+      let s : convertCode (x .answer) ≡ [] = zero-converted (x .answer) (sym (x .status .number-is) ∙ e) in
       let a : convertAnswer file (length old) ≡ [] = sym (x .converted .says) ∙ s in
       record {
         code = a;

@@ -16,19 +16,19 @@ use Rattle.half_check.specs.Checked.{filledInput}
 use Rattle.half_check.specs.Stated.{HalfStated}
 use Rattle.half_check.proofs.Promises.{half-stated, half-encloses, half-accepts}
 use Rattle.calls_spec.specs.Half.{HalfExported}
-use Rattle.reply.specs.Told.{Told}
+use Rattle.reply.specs.ReplyIs.{ReplyIs}
 use Rattle.calls_spec.proofs.Meaning.{zero-code}
 
 module _ {H : Input} {number : ℕ} {places E L : List ℕ} (x : HalfExported H number places E L) where
-  pub half-number : (w : List ℕ) × (HalfStated H w × Told w number places)
-  half-number = (code (x .outcome), (half-stated H (x .outcome) E L (x .checked) .0 refl, x .told))
+  pub half-number : (w : List ℕ) × (HalfStated H w × ReplyIs w number places)
+  half-number = (code (x .outcome), (half-stated H (x .outcome) E L (x .checked) .0 refl, x .status))
 
   pub half-zero : number ≡ 0 → code (x .outcome) ≡ []
-  half-zero e = zero-code (x .outcome) (sym (x .told .number-is) ∙ e)
+  half-zero e = zero-code (x .outcome) (sym (x .status .number-is) ∙ e)
 
   pub half-zero-encloses : number ≡ 0 → Encloses (problem (filledInput H)) (λ (i : ℕ). getD E i 0) (λ (i j : ℕ). getD L (i * H .n + j) 0)
   half-zero-encloses e = half-encloses H (x .outcome) E L (x .checked) (half-zero e)
 
   pub half-exact-zero : (N : Vec) (q : ℕ) (G : Mat) (q′ : ℕ) → shortHalf (length (H .matrix)) ≡ false → short (filledInput H) ≡ false → inRanges (filledInput H) ≡ true →
       RoundedExact (problem (filledInput H)) N q G q′ → number ≡ 0
-  half-exact-zero N q G q′ e s r h = x .told .number-is ∙ ap (λ (l : List ℕ). getD l 0 0) (half-accepts H (x .outcome) E L (x .checked) N q G q′ e s r h)
+  half-exact-zero N q G q′ e s r h = x .status .number-is ∙ ap (λ (l : List ℕ). getD l 0 0) (half-accepts H (x .outcome) E L (x .checked) N q G q′ e s r h)

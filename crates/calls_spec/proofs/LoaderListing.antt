@@ -26,7 +26,7 @@ use Rattle.file_check.specs.Problem.{problemFrom}
 use Rattle.listing.specs.Listing.{answerOf}
 use Rattle.listing.specs.Complete.{Complete}
 use Rattle.listing.proofs.Entire.{zeros-long, answer-judged}
-use Rattle.reply.specs.Told.{Told}
+use Rattle.reply.specs.ReplyIs.{ReplyIs}
 use Rattle.calls_spec.specs.Exported.{ListingExported}
 use Rattle.calls_spec.specs.Loader.{LoaderCheckExported}
 use Rattle.calls_spec.specs.Turns.{Turns, keptLines}
@@ -59,10 +59,10 @@ read-any k d l m (line ∷ lines) hl hm a =
     record { code = rw (read-accepted k (stateWith d m) line lines e) (own .code); loader = rw (read-accepted k (stateWith d m) line lines e) (own .loader) }
 
 -- a refusal that gives its number alone stands with 0
-told-printed : (x : List ℕ) {number : ℕ} {places : List ℕ} → Told (printed 0 x) number places → Told x number places
-told-printed [] t = record { number-is = t .number-is; places-are = t .places-are }
-told-printed (k ∷ []) t = record { number-is = t .number-is; places-are = t .places-are }
-told-printed (k ∷ v ∷ vs) t = record { number-is = t .number-is; places-are = t .places-are }
+status-printed : (x : List ℕ) {number : ℕ} {places : List ℕ} → ReplyIs (printed 0 x) number places → ReplyIs x number places
+status-printed [] t = record { number-is = t .number-is; places-are = t .places-are }
+status-printed (k ∷ []) t = record { number-is = t .number-is; places-are = t .places-are }
+status-printed (k ∷ v ∷ vs) t = record { number-is = t .number-is; places-are = t .places-are }
 
 module _ (l : Lists) (long : shortLists l ≡ false) (lines : List (List ℕ)) {numbers w′ : List ℕ} {l′ : Lists} (t : Turns (loaderNumbers fresh) l lines numbers w′ l′)
     (e : ended (loaderOf w′ .stage) ≡ true) (file : List ℕ) (own : linesOf file ≡ keptLines lines numbers) where
@@ -80,5 +80,5 @@ module _ (l : Lists) (long : shortLists l ≡ false) (lines : List (List ℕ)) {
       let a = turns-check l long lines t e E L few many x in
       let q : answerOf file ≡ printed 0 (checkedOf (problemFrom (forms (keptLines lines numbers)))) =
       answer-judged file (complete .lines) (complete .end) ∙ ap (λ (ls : List (List ℕ)). printed 0 (checkedOf (problemFrom (forms ls)))) own in
-      let b = told-printed (checkedOf (problemFrom (forms (keptLines lines numbers)))) (subst (λ (z : List ℕ). Told z listed shown) q (y .told)) in
+      let b = status-printed (checkedOf (problemFrom (forms (keptLines lines numbers)))) (subst (λ (z : List ℕ). ReplyIs z listed shown) q (y .status)) in
       (a .number-is ∙ sym (b .number-is), a .places-are ∙ sym (b .places-are))

@@ -17,7 +17,7 @@ use Rattle.loader_order.specs.Through.{orderThrough, answerThrough}
 use Rattle.loader.specs.Answer.{caseOf, lineAnswer}
 use Rattle.loader.specs.Numbers.{loaderOf}
 use Rattle.calls_spec.specs.Loader.{LoaderTakeExported, LoaderCheckExported}
-use Rattle.calls_spec.proofs.Loader.{take-told, check-told}
+use Rattle.calls_spec.proofs.Loader.{take-status, check-status}
 
 abbrev firsts : List Test → List ℕ
 firsts [] = []
@@ -38,8 +38,8 @@ code-among (t ∷ ts) = go (t .holds) (code-among ts)
 pub take-numbers : {w line : List ℕ} {l : Lists} {number : ℕ} {places w′ : List ℕ} {l′ : Lists} → LoaderTakeExported w line l number places w′ l′
     → Among number (0 ∷ 8 ∷ 14 ∷ 1 ∷ 2 ∷ 11 ∷ 3 ∷ 12 ∷ 3 ∷ 4 ∷ 13 ∷ [])
 unfolding lineAnswer
-take-numbers {w} {line} {l} x = subst (λ (k : ℕ). Among k (0 ∷ 8 ∷ 14 ∷ 1 ∷ 2 ∷ 11 ∷ 3 ∷ 12 ∷ 3 ∷ 4 ∷ 13 ∷ [])) (sym (take-told x .number-is)) (code-among (lineOrder (caseOf (loaderOf w) l line)))
+take-numbers {w} {line} {l} x = subst (λ (k : ℕ). Among k (0 ∷ 8 ∷ 14 ∷ 1 ∷ 2 ∷ 11 ∷ 3 ∷ 12 ∷ 3 ∷ 4 ∷ 13 ∷ [])) (sym (take-status x .number-is)) (code-among (lineOrder (caseOf (loaderOf w) l line)))
 
 pub check-numbers : {stage : Stage} {I : Input} {number : ℕ} {places E L : List ℕ} → LoaderCheckExported stage I number places E L → Among number (0 ∷ 8 ∷ 15 ∷ 3 ∷ 5 ∷ 6 ∷ 7 ∷ [])
 unfolding answerThrough
-check-numbers {stage} {I} x = subst (λ (k : ℕ). Among k (0 ∷ 8 ∷ 15 ∷ 3 ∷ 5 ∷ 6 ∷ 7 ∷ [])) (sym (check-told x .number-is)) (code-among (orderThrough stage I))
+check-numbers {stage} {I} x = subst (λ (k : ℕ). Among k (0 ∷ 8 ∷ 15 ∷ 3 ∷ 5 ∷ 6 ∷ 7 ∷ [])) (sym (check-status x .number-is)) (code-among (orderThrough stage I))

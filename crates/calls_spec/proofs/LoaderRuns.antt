@@ -36,10 +36,10 @@ use Rattle.file_check.specs.Shown.{inputAt}
 use Rattle.file_check.proofs.Forms.{answer-forms}
 use Rattle.listing.specs.Cases.{wholeFile}
 use Rattle.listing.proofs.Table.{wholeForms, whole-spelled, whole-passes, whole-checked}
-use Rattle.reply.specs.Told.{Told}
+use Rattle.reply.specs.ReplyIs.{ReplyIs}
 use Rattle.calls_spec.specs.Loader.{LoaderTakeExported, LoaderCheckExported}
 use Rattle.calls_spec.specs.Turns.{Turns, keptLines, none, next}
-use Rattle.calls_spec.proofs.Loader.{stateWith, take-zero, take-accepted, take-refused, step-is, check-told}
+use Rattle.calls_spec.proofs.Loader.{stateWith, take-zero, take-accepted, take-refused, step-is, check-status}
 
 -- ---- line by line
 abbrev pub AllZero : List ℕ → Type 0
@@ -131,8 +131,8 @@ module _ (l : Lists) (long : shortLists l ≡ false) (lines : List (List ℕ)) {
       ∙ answer-forms last (forms given) from inside own-long
 
   pub turns-check : {number : ℕ} {places E′ L′ : List ℕ} → LoaderCheckExported (loaderOf w′ .stage) (inputOf last E L) number places E′ L′
-      → Told (checkedOf (problemFrom (forms (keptLines lines numbers)))) number places
-  turns-check {number} {places} x = subst (λ (a : List ℕ). Told a number places) says (check-told x)
+      → ReplyIs (checkedOf (problemFrom (forms (keptLines lines numbers)))) number places
+  turns-check {number} {places} x = subst (λ (a : List ℕ). ReplyIs a number places) says (check-status x)
 
 -- ---- 01's whole file
 module _ (l : Lists) (long : shortLists l ≡ false) {numbers w′ : List ℕ} {l′ : Lists} (t : Turns (loaderNumbers fresh) l (linesOf wholeFile) numbers w′ l′) where

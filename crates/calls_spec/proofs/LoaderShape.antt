@@ -28,7 +28,7 @@ use Rattle.file_check.specs.Problem.{problemFrom}
 use Rattle.file_shape.specs.Shape.{Shape, fed}
 use Rattle.file_shape.proofs.Answers.{shape-answer, shape-accepted}
 use Rattle.file_shape.proofs.Loader.{ShapedLines, shape-ends, ends-shape}
-use Rattle.reply.specs.Told.{Told}
+use Rattle.reply.specs.ReplyIs.{ReplyIs}
 use Rattle.calls_spec.specs.Loader.{LoaderCheckExported}
 use Rattle.calls_spec.specs.Turns.{Turns, keptLines}
 use Rattle.calls_spec.proofs.Loader.{stateWith}
@@ -59,9 +59,9 @@ module _ (l : Lists) (long : shortLists l ≡ false) {n s t : ℕ} {fs : List Fo
 
   module _ (E L : List ℕ) (few : 32 ≤ length E) (many : 1024 ≤ length L) {number : ℕ} {places E′ L′ : List ℕ}
       (c : LoaderCheckExported (loaderOf w′ .stage) (inputOf (stateWith (loaderOf w′) l′) E L) number places E′ L′) where
-    pub shape-check : Told (checkedOf (problemFrom fs)) number places
+    pub shape-check : ReplyIs (checkedOf (problemFrom fs)) number places
     shape-check =
-        subst (λ (gs : List Form). Told (checkedOf (problemFrom gs)) number places) (ap forms (zeros-kept x (shape-turns .0)) ∙ forms-spelled fs)
+        subst (λ (gs : List Form). ReplyIs (checkedOf (problemFrom gs)) number places) (ap forms (zeros-kept x (shape-turns .0)) ∙ forms-spelled fs)
         (turns-check l long (spelled fs) x (shape-turns .1) E L few many c)
 
     pub shape-exact : (N : Vec) (q : ℕ) (H : Mat) (q′ : ℕ) → RoundedExact (problemFrom fs) N q H q′ → number ≡ 0

@@ -1,5 +1,5 @@
 -- The exported calls in 01's words.
---   told-answer — the number and the values are those of 01's order of tests
+--   status-answer — the number and the values are those of 01's order of tests
 --   zero-code   — the number 0 is said of nothing but acceptance
 --   zero-answer, zero-reported — of a listing the number 0 is said of an accepted file alone, and then the report stands there
 --   zero-encloses, exact-zero — both halves of demand 3: 0 gives limits that enclose; a rounded exact proposal gets 0
@@ -33,7 +33,7 @@ use Rattle.listing.specs.Listing.{problemIn, answerOf}
 use Rattle.listing.specs.Complete.{Complete}
 use Rattle.listing.proofs.Demand.{file-reported, file-encloses, file-height, exact-accepted}
 use Rattle.listing.proofs.Answers.{answer-zero}
-use Rattle.reply.specs.Told.{Told}
+use Rattle.reply.specs.ReplyIs.{ReplyIs}
 use Rattle.calls_spec.specs.Exported.{CheckExported, ListingExported, EntryExported}
 
 pub zero-code : (o : Outcome) → getD (code o) 0 0 ≡ 0 → code o ≡ []
@@ -53,21 +53,21 @@ zero-code (Refused AfterEnd) e = absurd (omega arith)
 zero-code (Refused NotEnded) e = absurd (omega arith)
 
 module _ {I : Input} {number : ℕ} {places E L : List ℕ} (x : CheckExported I number places E L) where
-  pub told-answer : Told (answer I) number places
-  told-answer = rw (x .checked .says) at (x .told)
+  pub status-answer : ReplyIs (answer I) number places
+  status-answer = rw (x .checked .says) at (x .status)
 
   pub zero-encloses : number ≡ 0 → Encloses (problem I) (λ (i : ℕ). getD E i 0) (λ (i j : ℕ). getD L (i * I .n + j) 0)
-  zero-encloses e = x .checked .encloses (zero-code (x .outcome) (sym (x .told .number-is) ∙ e))
+  zero-encloses e = x .checked .encloses (zero-code (x .outcome) (sym (x .status .number-is) ∙ e))
 
   pub zero-height : number ≡ 0 → OneHeight (problem I) (λ (i : ℕ). getD E i 0)
   zero-height e = one-height (problem I) (λ i. getD E i 0) (λ i j. getD L (i * I .n + j) 0) (zero-encloses e)
 
   pub exact-zero : (N : Vec) (q : ℕ) (H : Mat) (q′ : ℕ) → short I ≡ false → inRanges I ≡ true → RoundedExact (problem I) N q H q′ → number ≡ 0
-  exact-zero N q H q′ s r h = x .told .number-is ∙ ap (λ (l : List ℕ). getD l 0 0) (x .checked .accepts N q H q′ s r h)
+  exact-zero N q H q′ s r h = x .status .number-is ∙ ap (λ (l : List ℕ). getD l 0 0) (x .checked .accepts N q H q′ s r h)
 
 module _ {file old : List ℕ} {number : ℕ} {places new : List ℕ} {written : ℕ} (x : ListingExported file old number places new written) where
   pub zero-answer : number ≡ 0 → answerOf file ≡ []
-  zero-answer e = answer-zero file (sym (x .told .number-is) ∙ e)
+  zero-answer e = answer-zero file (sym (x .status .number-is) ∙ e)
 
   pub zero-reported : number ≡ 0 → take written new ≡ reportedOf (problemIn file)
   zero-reported e = x .listed .bytes ∙ file-reported file (zero-answer e)
@@ -79,15 +79,15 @@ module _ {file old : List ℕ} {number : ℕ} {places new : List ℕ} {written :
   reported-height e = file-height file (zero-answer e)
 
   pub exact-reported : Complete file → (N : Vec) (q : ℕ) (H : Mat) (q′ : ℕ) → RoundedExact (problemIn file) N q H q′ → number ≡ 0
-  exact-reported c N q H q′ h = x .told .number-is ∙ ap (λ (l : List ℕ). getD l 0 0) (exact-accepted file c N q H q′ h)
+  exact-reported c N q H q′ h = x .status .number-is ∙ ap (λ (l : List ℕ). getD l 0 0) (exact-accepted file c N q H q′ h)
 
 module _ {x : ℤ} {e s : ℕ} {v₀ : ℤ} {b₀ number : ℕ} {places : List ℕ} {v : ℤ} {b : ℕ} (y : EntryExported x e s v₀ b₀ number places v b) where
   pub entry-zero : entry.canEnter x s ≡ true → (number ≡ 0) × ((v ≡ entryValue s x) × (b ≡ entryBound s x e))
   entry-zero h =
       let q : entry.entryCode (y .answer) ≡ [] = y .registered .says ∙ rw h in
-      (rw q at (y .told .number-is), (y .value-is ∙ accepted-new _ _ q, y .bound-is ∙ accepted-new _ _ q))
+      (rw q at (y .status .number-is), (y .value-is ∙ accepted-new _ _ q, y .bound-is ∙ accepted-new _ _ q))
 
   pub entry-three : entry.canEnter x s ≡ false → (number ≡ 3) × ((v ≡ v₀) × (b ≡ b₀))
   entry-three h =
       let q : entry.entryCode (y .answer) ≡ 3 ∷ [] = y .registered .says ∙ rw h in
-      (rw q at (y .told .number-is), (y .value-is ∙ accepted-old _ _ q, y .bound-is ∙ accepted-old _ _ q))
+      (rw q at (y .status .number-is), (y .value-is ∙ accepted-old _ _ q, y .bound-is ∙ accepted-old _ _ q))

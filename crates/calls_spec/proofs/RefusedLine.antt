@@ -25,7 +25,7 @@ use Rattle.loader_runs.proofs.Read.{read-none, read-accepted, read-refused}
 use Rattle.loader_runs.proofs.Whole.{all-accepted}
 use Rattle.convert_spec.specs.Converted.{convertAnswer, conversionOrder}
 use Rattle.calls_spec.specs.Conversion.{refusedLine, ConvertLineExported}
-use Rattle.calls_spec.proofs.Conversion.{convert-told}
+use Rattle.calls_spec.proofs.Conversion.{convert-status}
 
 line-quiet : (d : Loader) (l : Lists) (line : List ℕ) {k : ℕ} {vs : List ℕ} → lineAnswer d l line ≡ k ∷ vs → without k (lineOrder (caseOf d l line)) ≡ true → ⊥
 unfolding lineAnswer
@@ -85,7 +85,7 @@ module _ {file old : List ℕ} {w₀ number : ℕ} {places new : List ℕ} {w li
   -- what is said of a file with a refused line is what is said of that line
   number-code : {k : ℕ} {vs : List ℕ} → readingOf file .code ≡ k ∷ vs → number ≡ k
   unfolding convertAnswer
-  number-code {k} {vs} e = convert-told (x .exported) .number-is ∙ ap (λ (l : List ℕ). getD (orElse l (verdict (conversionOrder file (length old)))) 0 0) e
+  number-code {k} {vs} e = convert-status (x .exported) .number-is ∙ ap (λ (l : List ℕ). getD (orElse l (verdict (conversionOrder file (length old)))) 0 0) e
 
   quiet : (k : ℕ) → ((c : LineCase) → without k (lineOrder c) ≡ true) → number ≡ k → line ≡ 0
   quiet k w e = x .line-is ∙ go (readingOf file .code) refl

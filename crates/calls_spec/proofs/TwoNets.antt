@@ -1,5 +1,5 @@
 -- The exported check of two nets, in the words of 02's Paper 8.
---   net-told, together-told — the net, the number and the values are those of the order of tests of both nets
+--   net-status, together-status — the net, the number and the values are those of the order of tests of both nets
 --   together-zero — 0 is said of the acceptance of both nets alone
 --   together-encloses — and then every joint solution of right sides within the tolerances lies within both lists of limits, and there is one, and one only
 use mathlib.Core.List.{List, []}
@@ -14,7 +14,7 @@ use Rattle.dependent_spec.specs.declared.CheckedNets.the-variants.{Accepted, Ma
 use Rattle.dependent_spec.specs.Nets.{Nets}
 use Rattle.dependent_spec.specs.Order.{netsCode, jointAnswer}
 use Rattle.dependent_spec.specs.Joint.{EnclosesBoth}
-use Rattle.reply.specs.Told.{Told}
+use Rattle.reply.specs.ReplyIs.{ReplyIs}
 use Rattle.calls_spec.specs.TwoNets.{DependentExported}
 use Rattle.calls_spec.proofs.Meaning.{zero-code}
 
@@ -25,14 +25,14 @@ zero-nets (Main x) e = absurd (nothing-is-not (zero-code (outcome.Refused x) e))
 zero-nets (Dependent x) e = absurd (nothing-is-not (zero-code (outcome.Refused x) e))
 
 module _ {J : Nets} {number net : ℕ} {places E₁ L₁ E₂ L₂ : List ℕ} (x : DependentExported J number net places E₁ L₁ E₂ L₂) where
-  pub net-told : net ≡ whichOf (jointAnswer J)
-  net-told = x .net-is ∙ ap whichOf (x .checked .says)
+  pub net-status : net ≡ whichOf (jointAnswer J)
+  net-status = x .net-is ∙ ap whichOf (x .checked .says)
 
-  pub together-told : Told (refusalOf (jointAnswer J)) number places
-  together-told = rw (x .checked .says) at (x .told)
+  pub together-status : ReplyIs (refusalOf (jointAnswer J)) number places
+  together-status = rw (x .checked .says) at (x .status)
 
   pub together-zero : number ≡ 0 → jointAnswer J ≡ []
-  together-zero e = sym (x .checked .says) ∙ zero-nets (x .answer) (sym (x .told .number-is) ∙ e)
+  together-zero e = sym (x .checked .says) ∙ zero-nets (x .answer) (sym (x .status .number-is) ∙ e)
 
   pub together-encloses : number ≡ 0 →
       EnclosesBoth J (λ (i : ℕ). getD E₁ i 0) (λ (i j : ℕ). getD L₁ (i * J .main .n + j) 0) (λ (i : ℕ). getD E₂ i 0) (λ (i j : ℕ). getD L₂ (i * J .dependent .n + j) 0)

@@ -1,5 +1,5 @@
 -- The exported call on two proposals, in the words of 02's Paper 13.
---   common-told, common-proposal — the number, the values and the proposal are those of the order of tests: 8, the first, the second, 20, 21
+--   common-status, common-proposal — the number, the values and the proposal are those of the order of tests: 8, the first, the second, 20, 21
 --   zero-common    — 0 is said of intervals that are found alone
 --   zero-contains  — then the intervals contain the exact height for every right side within the tolerance, and no lower end is above its upper
 --   zero-unrefused — then both proposals are accepted by themselves
@@ -23,7 +23,7 @@ use Rattle.common_spec.specs.Promised.{exchanged}
 use Rattle.common_spec.specs.Proposals.{Proposals}
 use Rattle.common_spec.proofs.Exchanged.{calls-exchanged}
 use Rattle.common_spec.proofs.Statements.{found-case}
-use Rattle.reply.specs.Told.{Told}
+use Rattle.reply.specs.ReplyIs.{ReplyIs}
 use Rattle.calls_spec.specs.TwoProposals.{CommonExported}
 use Rattle.calls_spec.proofs.Meaning.{zero-code}
 
@@ -36,14 +36,14 @@ zero-common Different e = absurd (omega arith)
 zero-common TooWide e = absurd (omega arith)
 
 module _ {Q : Proposals} {number proposal : ℕ} {places : List ℕ} {low high : List ℤ} (x : CommonExported Q number proposal places low high) where
-  pub common-told : Told (refusalOf (commonAnswer Q)) number places
-  common-told = rw (x .found .says) at (x .told)
+  pub common-status : ReplyIs (refusalOf (commonAnswer Q)) number places
+  common-status = rw (x .found .says) at (x .status)
 
   pub common-proposal : proposal ≡ whichOf (commonAnswer Q)
   common-proposal = rw (x .found .says) at (x .proposal-is)
 
   code-nothing : number ≡ 0 → commonCode (x .answer) ≡ []
-  code-nothing e = zero-common (x .answer) (sym (x .told .number-is) ∙ e)
+  code-nothing e = zero-common (x .answer) (sym (x .status .number-is) ∙ e)
 
   pub zero-contains : number ≡ 0 → Contains (Q .first) (Q .second) (at low) (at high)
   zero-contains e = x .found .contains (code-nothing e)

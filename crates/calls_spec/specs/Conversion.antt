@@ -10,12 +10,12 @@ use Rattle.rules.specs.Order.{ifAccepted}
 use Rattle.loader_runs.specs.Read.{readingOf}
 use Rattle.convert_spec.specs.declared.Converted.{Converted}
 use Rattle.convert_spec.specs.Converted.{convertCode, lengthOf, ConvertedAs}
-use Rattle.reply.specs.Told.{Told}
+use Rattle.reply.specs.ReplyIs.{ReplyIs}
 
 pub record ConvertExported (file old : List ℕ) (oldWritten number : ℕ) (places new : List ℕ) (written : ℕ) : Type 0 where
   pub answer : Converted
   pub converted : ConvertedAs file old new answer
-  pub told : Told (convertCode answer) number places
+  pub status : ReplyIs (convertCode answer) number places
   pub written-is : written ≡ ifAccepted (convertCode answer) (lengthOf answer) oldWritten
 
 abbrev pub refusedLine : List ℕ → ℕ

@@ -12,14 +12,14 @@ use Rattle.rules.specs.declared.Outcome.{Outcome}
 use Rattle.doubles_lists.specs.declared.Guessed.{Guessed}
 use Rattle.doubles_lists.specs.Inward.{guessesCode, Incoming, GuessesOf}
 use Rattle.doubles_lists.specs.Outward.{Outgoing, IntervalsOf}
-use Rattle.reply.specs.Told.{Told}
+use Rattle.reply.specs.ReplyIs.{ReplyIs}
 
 pub record GuessesExported (I : Incoming) (number : ℕ) (places : List ℕ) (guess : List ℤ) : Type 0 where
   pub answer : Guessed
   pub guessed : GuessesOf I answer guess
-  pub told : Told (guessesCode answer) number places
+  pub status : ReplyIs (guessesCode answer) number places
 
 pub record IntervalsExported (I : Outgoing) (number : ℕ) (places : List ℕ) (low high : List Float) : Type 0 where
   pub outcome : Outcome
   pub ends : IntervalsOf I outcome low high
-  pub told : Told (code outcome) number places
+  pub status : ReplyIs (code outcome) number places

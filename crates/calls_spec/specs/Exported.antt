@@ -19,20 +19,20 @@ use Rattle.listing.specs.Listing.{answerOf, ListedAs}
 use Rattle.entry.specs.Register.{RegisteredAs}
 use Rattle.entry.specs.Register as entry
 use Rattle.entry.specs.declared.Registered.{Registered}
-use Rattle.reply.specs.Told.{Told}
+use Rattle.reply.specs.ReplyIs.{ReplyIs}
 
 pub record CheckExported (I : Input) (number : ℕ) (places E L : List ℕ) : Type 0 where
   pub outcome : Outcome
   pub checked : Checked I outcome E L
-  pub told : Told (code outcome) number places
+  pub status : ReplyIs (code outcome) number places
 
 pub record ListingExported (file old : List ℕ) (number : ℕ) (places new : List ℕ) (written : ℕ) : Type 0 where
-  pub told : Told (answerOf file) number places
+  pub status : ReplyIs (answerOf file) number places
   pub listed : ListedAs file old new written
 
 pub record EntryExported (x : ℤ) (e s : ℕ) (oldValue : ℤ) (oldBound number : ℕ) (places : List ℕ) (value : ℤ) (bound : ℕ) : Type 0 where
   pub answer : Registered
   pub registered : RegisteredAs x e s answer
-  pub told : Told (entry.entryCode answer) number places
+  pub status : ReplyIs (entry.entryCode answer) number places
   pub value-is : value ≡ ifAccepted (entry.entryCode answer) (entryValue s x) oldValue
   pub bound-is : bound ≡ ifAccepted (entry.entryCode answer) (entryBound s x e) oldBound

@@ -7,9 +7,9 @@ use Rattle.rules.specs.Refusal.{code}
 use Rattle.rules.specs.declared.Outcome.{Outcome}
 use Rattle.check_spec.specs.Input.{Input}
 use Rattle.half_check.specs.Checked.{CheckedHalf}
-use Rattle.reply.specs.Told.{Told}
+use Rattle.reply.specs.ReplyIs.{ReplyIs}
 
 pub record HalfExported (H : Input) (number : ℕ) (places E L : List ℕ) : Type 0 where
   pub outcome : Outcome
   pub checked : CheckedHalf H outcome E L
-  pub told : Told (code outcome) number places
+  pub status : ReplyIs (code outcome) number places

@@ -12,14 +12,14 @@ use Rattle.loader_lists.specs.Lists.{Lists}
 use Rattle.loader_progress.specs.declared.Stage.{Stage}
 use Rattle.loader_order.specs.Through.{CheckedThrough}
 use Rattle.loader_numbers.specs.Taken.{LoaderTaken}
-use Rattle.reply.specs.Told.{Told}
+use Rattle.reply.specs.ReplyIs.{ReplyIs}
 
 pub record LoaderTakeExported (w line : List ℕ) (l : Lists) (number : ℕ) (places w′ : List ℕ) (l′ : Lists) : Type 0 where
   pub outcome : Outcome
   pub taken : LoaderTaken w line l outcome w′ l′
-  pub told : Told (code outcome) number places
+  pub status : ReplyIs (code outcome) number places
 
 pub record LoaderCheckExported (stage : Stage) (I : Input) (number : ℕ) (places E L : List ℕ) : Type 0 where
   pub outcome : Outcome
   pub checked : CheckedThrough stage I outcome E L
-  pub told : Told (code outcome) number places
+  pub status : ReplyIs (code outcome) number places

@@ -8,11 +8,11 @@ use Rattle.rules.specs.Order.{ifAccepted}
 use Rattle.quality_spec.specs.declared.Quality.{Quality}
 use Rattle.quality_spec.specs.Inquiry.{Inquiry}
 use Rattle.quality_spec.specs.Answer.{qualityCode, numeratorOf, denominatorOf, QualityAs}
-use Rattle.reply.specs.Told.{Told}
+use Rattle.reply.specs.ReplyIs.{ReplyIs}
 
 pub record QualityExported (Q : Inquiry) (oldNumerator oldDenominator number : ℕ) (places : List ℕ) (numerator denominator : ℕ) : Type 0 where
   pub answer : Quality
   pub holds : QualityAs Q answer
-  pub told : Told (qualityCode answer) number places
+  pub status : ReplyIs (qualityCode answer) number places
   pub numerator-is : numerator ≡ ifAccepted (qualityCode answer) (numeratorOf answer) oldNumerator
   pub denominator-is : denominator ≡ ifAccepted (qualityCode answer) (denominatorOf answer) oldDenominator

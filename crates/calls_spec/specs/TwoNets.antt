@@ -9,10 +9,10 @@ use Rattle.dependent_spec.specs.declared.CheckedNets.{CheckedNets}
 use Rattle.dependent_spec.specs.Nets.{Nets}
 use Rattle.dependent_spec.specs.Order.{netsCode}
 use Rattle.dependent_spec.specs.Together.{CheckedTogether}
-use Rattle.reply.specs.Told.{Told}
+use Rattle.reply.specs.ReplyIs.{ReplyIs}
 
 pub record DependentExported (J : Nets) (number net : ℕ) (places E₁ L₁ E₂ L₂ : List ℕ) : Type 0 where
   pub answer : CheckedNets
   pub checked : CheckedTogether J answer E₁ L₁ E₂ L₂
   pub net-is : net ≡ whichOf (netsCode answer)
-  pub told : Told (refusalOf (netsCode answer)) number places
+  pub status : ReplyIs (refusalOf (netsCode answer)) number places

@@ -10,10 +10,10 @@ use Rattle.rules.specs.Order.{whichOf, refusalOf}
 use Rattle.common_spec.specs.declared.Common.{Common}
 use Rattle.common_spec.specs.Answer.{commonCode, CommonAs}
 use Rattle.common_spec.specs.Proposals.{Proposals}
-use Rattle.reply.specs.Told.{Told}
+use Rattle.reply.specs.ReplyIs.{ReplyIs}
 
 pub record CommonExported (Q : Proposals) (number proposal : ℕ) (places : List ℕ) (low high : List ℤ) : Type 0 where
   pub answer : Common
   pub found : CommonAs Q answer low high
-  pub told : Told (refusalOf (commonCode answer)) number places
+  pub status : ReplyIs (refusalOf (commonCode answer)) number places
   pub proposal-is : proposal ≡ whichOf (commonCode answer)

@@ -9,10 +9,10 @@ use Rattle.rules.specs.Order.{ifAccepted}
 use Rattle.weights_spec.specs.declared.Found.{Found}
 use Rattle.weights_spec.specs.Request.{Request}
 use Rattle.weights_spec.specs.Search.{searchCode, countOf, FoundAs}
-use Rattle.reply.specs.Told.{Told}
+use Rattle.reply.specs.ReplyIs.{ReplyIs}
 
 pub record SearchExported (Q : Request) (oldTried number : ℕ) (places : List ℕ) (tried : ℕ) (weights : List ℤ) : Type 0 where
   pub answer : Found
   pub found : FoundAs Q answer weights
-  pub told : Told (searchCode answer) number places
+  pub status : ReplyIs (searchCode answer) number places
   pub tried-is : tried ≡ ifAccepted (searchCode answer) (countOf answer) oldTried

@@ -35,8 +35,8 @@ fn put_text(file: &[u8], out: &mut [u8; 32768]) -> usize
     match answer {
         Converted::Length(length) => length,
         Converted::Refused(refusal) => {
-            let told = put_refusal(out, refusal, conversion.line);
-            told.length
+            let status = put_refusal(out, refusal, conversion.line);
+            status.length
         }
         Converted::NotConvertible => {
             let shown = [conversion.line];

@@ -1,7 +1,7 @@
 -- The walk of the exported builder that gives the refused line, for both layouts: the code of `kodarfi_build_line` and of `kodarfi_build_half_line` differs in the
 -- first statement alone, which makes the layout; `rest` is the walk of what follows it. `open` makes what is gathered before any line, `gather` adds the lines of
--- the slice, and `finish_told` says what is said, writes the two lists, and writes the line. The slice's lists and the line are handed on to it.
---   Open, All, Fin — the contracts of `open`, `gather` and `finish_told`;  to-open, to-all, to-fin — what they are passed;  asked-.., said-.. — what they ask and say
+-- the slice, and `finish_status` says what is said, writes the two lists, and writes the line. The slice's lists and the line are handed on to it.
+--   Open, All, Fin — the contracts of `open`, `gather` and `finish_status`;  to-open, to-all, to-fin — what they are passed;  asked-.., said-.. — what they ask and say
 --   is-whole, is-sound — what was gathered is that of the whole list, and is sound;  lined — so what was said in the end is the exported contract
 --   passed, vals — what the exported call has, and its machine values;  Exits — what is asked of its end
 --   following-line — the code after the first statement;  At — what is had after the first statement;  rest — the walk from there
@@ -59,10 +59,10 @@ use Rattle.build.specs.BuiltAs.{shortFor}
 use Rattle.build.proofs.Contract.{built}
 use Rattle.build.proofs.gather as all-fn
 use Rattle.build.proofs.gather.Symbol.{name as #builder·gather}
-use Rattle.reply.specs.Builds.{FinishedTold}
+use Rattle.reply.specs.Builds.{FinishedStatus}
 use Rattle.reply.proofs.Builds.{built-line}
-use Rattle.reply.proofs.builds.finish_told as fin-fn
-use Rattle.reply.proofs.builds.finish_told.Symbol.{name as #build-reply·finish-told}
+use Rattle.reply.proofs.builds.finish_status as fin-fn
+use Rattle.reply.proofs.builds.finish_status.Symbol.{name as #build-reply·finish-status}
 use Rattle.calls_spec.specs.Build.{BuildLineExported}
 use Rattle.kodarfi.proofs.BuildParts.{R, sl, laid, word, lines, list, again, lend}
 
@@ -86,7 +86,7 @@ following-line =
     (lend 3 10
     (lend 4 12
     (seq (assign (place 14 []) (addrOf (place 5 (deref (tyInt w64) ∷ []))))
-    (seq (call #build-reply·finish-told (copy (place 8 []) ∷ copy (place 6 []) ∷ copy (place 11 []) ∷ copy (place 13 []) ∷ copy (place 14 []) ∷ []) (place 0 [])) return))))))
+    (seq (call #build-reply·finish-status (copy (place 8 []) ∷ copy (place 6 []) ∷ copy (place 11 []) ∷ copy (place 13 []) ∷ copy (place 14 []) ∷ []) (place 0 [])) return))))))
 
 module _ {M : Type 1} (𝓤 : URA M) (H : Heap 𝓤) (A : Atoms 𝓤) (mem : Memory → SProp 𝓤) (run : Routine → Fun 𝓤) where
   abbrev pub Open : Contract 𝓤
@@ -98,7 +98,7 @@ module _ {M : Type 1} (𝓤 : URA M) (H : Heap 𝓤) (A : Atoms 𝓤) (mem : Mem
   abbrev pub Fin : Contract 𝓤
   Fin = tripleOf 𝓤 H A fin-fn.signature (fin-fn.spec 𝓤 H A mem run)
 
-lined : (n : ℕ) (ls : List Observation) (lay : Layout) (a b : List ℤ) {z : ℕ} {a′ b′ : List ℤ} {line : ℕ} → FinishedTold (gatheredOf n ls) lay a b z a′ b′ line → BuildLineExported n ls lay a b z a′ b′ line
+lined : (n : ℕ) (ls : List Observation) (lay : Layout) (a b : List ℤ) {z : ℕ} {a′ b′ : List ℤ} {line : ℕ} → FinishedStatus (gatheredOf n ls) lay a b z a′ b′ line → BuildLineExported n ls lay a b z a′ b′ line
 lined n ls lay a b d = record {
   exported = record { answer = d .answer; built = built n ls lay a b (d .finished); number-is = d .number-is };
   line-is = d .line-is ∙ built-line n ls (shortFor lay a b);
@@ -174,7 +174,7 @@ module _ {M : Type 1} (𝓤 : URA M) (H : Heap 𝓤) (A : Atoms 𝓤) (W : Given
   typed-far : (s : Progress) (v : Val) → Is P.the-row s (v ∷ []) → Holds (hasTy P′.mir v) × WT v
   typed-far s v g = LL.lawful P.the-type P′.the-laws 𝓤 H A W .typed s _ g .0
 
-  module _ (C : Calls 𝓤 H) (Λ : Loops 𝓤 H) (fm : FmC 𝓤 H (W .laws) C) (known-open : Triple 𝓤 (C #gathering·open) (Open 𝓤 H A mem run)) (known-all : Triple 𝓤 (C #builder·gather) (All 𝓤 H A mem run)) (known-fin : Triple 𝓤 (C #build-reply·finish-told) (Fin 𝓤 H A mem run))
+  module _ (C : Calls 𝓤 H) (Λ : Loops 𝓤 H) (fm : FmC 𝓤 H (W .laws) C) (known-open : Triple 𝓤 (C #gathering·open) (Open 𝓤 H A mem run)) (known-all : Triple 𝓤 (C #builder·gather) (All 𝓤 H A mem run)) (known-fin : Triple 𝓤 (C #build-reply·finish-status) (Fin 𝓤 H A mem run))
       (rx : Room R (length (x .now))) (rm : Room i64 (length (m .now))) (rr : Room i64 (length (r .now))) (Post : Val → SProp 𝓤) (exits : Exits Post) (l₀ l₁ l₂ l₃ l₄ l₅ l₆ l₇ l₈ l₉ l₁₀ l₁₁ l₁₂ l₁₃ l₁₄ : ℕ) where
     abbrev pub En : Env 𝓤 H
     En = (word, l₀) ∷ (word, l₁) ∷ (lines, l₂) ∷ (list 1, l₃) ∷ (list 2, l₄) ∷ (line-ref, l₅) ∷ (L′.mir, l₆) ∷ (P′.mir, l₇) ∷ (S′.mir, l₈) ∷ (long-word, l₉) ∷ (again, l₁₀) ∷ (sliceTy again, l₁₁) ∷ (again, l₁₂) ∷ (sliceTy again, l₁₃) ∷ (again, l₁₄) ∷ []
@@ -218,12 +218,12 @@ module _ {M : Type 1} (𝓤 : URA M) (H : Heap 𝓤) (A : Atoms 𝓤) (W : Given
         nothing ! $ move ! (5 ∷ 0 ∷ []) $ fjoin ! $ move ! (5 ∷ 0 ∷ []) $ fjoin ! $ move ! (5 ∷ 0 ∷ []) $ fjoin ! $
         owned ! L.the-row (Is L.the-row) (EL.makes L.the-type L′.the-plain 𝓤 H A) lay _ lf $ fjoin ! $ move ! (1 ∷ 0 ∷ []) $ fjoin ! $ move ! (2 ∷ 0 ∷ []) $
         use2 W (raw (Fin 𝓤 H A mem run .pre (to-fin g u))) (asked-fin g u (is-sound g (is-whole s g p e))) $
-        -- [what finish_told asks; the token; lines; _14; …]
+        -- [what finish_status asks; the token; lines; _14; …]
         calls-at ! fm (Fin 𝓤 H A mem run) known-fin (to-fin g u)
         (and-then ! (load ! (from ! (stop !)) (look ! 15 refl)) (and-then ! (load ! (from ! (stop !)) (look ! 19 refl)) (and-then ! (load ! (from ! (stop !)) (look ! 9 refl)) (and-then ! (load ! (from ! (stop !)) (look ! 5 refl)) (and-then ! (load ! (from ! (stop !)) (look ! 3 refl)) (no-more !)))))) (λ v′.
         use1 W (later (some (λ (z : ℕ). (Others ⊛ ‵ (u32 .own z (v′ ∷ []))) ⊛ raw (ensured 𝓤 H A fin-fn.ended (fin-fn.clauses 𝓤 H A mem run) (κ′, (κ″, (κ‴, tt))) (f-args g) tt z)))) (id⊢ 𝓤 _) $ await ! tt $ pick ! (λ z.
-        split ! $ move ! (1 ∷ []) $ use1 W (some (λ (zs : Unit {0} × (Unit {0} × (List ℤ × (List ℤ × (ℕ × Unit {0}))))). ‵ (lasts fin-fn.ended (κ′, (κ″, (κ‴, tt))) (f-args g) zs) ⊛ raw (fact 𝓤 (FinishedTold g lay (m .now) (r .now) z (zs .1 .1 .0) (zs .1 .1 .1 .0) (zs .1 .1 .1 .1 .0))))) (id⊢ 𝓤 _) $ pick ! (λ zs.
-        split ! $ move ! (1 ∷ []) $ heard ! (FinishedTold g lay (m .now) (r .now) z (zs .1 .1 .0) (zs .1 .1 .1 .0) (zs .1 .1 .1 .1 .0)) (λ d.
+        split ! $ move ! (1 ∷ []) $ use1 W (some (λ (zs : Unit {0} × (Unit {0} × (List ℤ × (List ℤ × (ℕ × Unit {0}))))). ‵ (lasts fin-fn.ended (κ′, (κ″, (κ‴, tt))) (f-args g) zs) ⊛ raw (fact 𝓤 (FinishedStatus g lay (m .now) (r .now) z (zs .1 .1 .0) (zs .1 .1 .1 .0) (zs .1 .1 .1 .1 .0))))) (id⊢ 𝓤 _) $ pick ! (λ zs.
+        split ! $ move ! (1 ∷ []) $ heard ! (FinishedStatus g lay (m .now) (r .now) z (zs .1 .1 .0) (zs .1 .1 .1 .0) (zs .1 .1 .1 .1 .0)) (λ d.
         fsplit ! $ drop ! $ fsplit ! $ drop ! $ fsplit ! $ fsplit ! $ move ! (1 ∷ []) $ feqL ! (λ lm. move ! (1 ∷ []) $ fsplit ! $ fsplit ! $ move ! (1 ∷ []) $ feqL ! (λ lr.
         move ! (1 ∷ []) $ fsplit ! $ move ! (1 ∷ []) $ drop ! $
         -- [last line; last right; last matrix; the others and the number; the token; lines; _14; …]
@@ -232,4 +232,4 @@ module _ {M : Type 1} (𝓤 : URA M) (H : Heap 𝓤) (A : Atoms 𝓤) (W : Given
         returns ! (look ! 35 refl) $ forget ! 7 refl $ forget ! 9 refl $ forget ! 11 refl $ forget ! 13 refl $ forget ! 15 refl $ forget ! 17 refl $ forget ! 19 refl $ forget ! 21 refl $ forget ! 23 refl $ forget ! 25 refl $ forget ! 27 refl $ forget ! 29 refl $ forget ! 31 refl $ forget ! 33 refl $ forget ! 35 refl $
         move ! (35 ∷ 36 ∷ []) $ free1 ! $ move ! (33 ∷ 34 ∷ []) $ free1 ! $ move ! (31 ∷ 32 ∷ []) $ free1 ! $ move ! (29 ∷ 30 ∷ []) $ free1 ! $ move ! (27 ∷ 28 ∷ []) $ free1 ! $ move ! (25 ∷ 26 ∷ []) $ free1 ! $ move ! (23 ∷ 24 ∷ []) $ free1 ! $ move ! (21 ∷ 22 ∷ []) $ free1 ! $
         move ! (19 ∷ 20 ∷ []) $ free1 ! $ move ! (17 ∷ 18 ∷ []) $ free1 ! $ move ! (15 ∷ 16 ∷ []) $ free1 ! $ move ! (13 ∷ 14 ∷ []) $ free1 ! $ move ! (11 ∷ 12 ∷ []) $ free1 ! $ move ! (9 ∷ 10 ∷ []) $ free1 ! $ move ! (7 ∷ 8 ∷ []) $ free1 ! $ free0 ! $
-        by ! (exits z v′ (zs .1 .1 .0) (zs .1 .1 .1 .0) (zs .1 .1 .1 .1 .0) (lined n (x .now) lay (m .now) (r .now) (subst (λ (h : Gathered). FinishedTold h lay (m .now) (r .now) z (zs .1 .1 .0) (zs .1 .1 .1 .0) (zs .1 .1 .1 .1 .0)) (is-whole s g p e) d)) lm lr))))))))))))))))
+        by ! (exits z v′ (zs .1 .1 .0) (zs .1 .1 .1 .0) (zs .1 .1 .1 .1 .0) (lined n (x .now) lay (m .now) (r .now) (subst (λ (h : Gathered). FinishedStatus h lay (m .now) (r .now) z (zs .1 .1 .0) (zs .1 .1 .1 .0) (zs .1 .1 .1 .1 .0)) (is-whole s g p e) d)) lm lr))))))))))))))))

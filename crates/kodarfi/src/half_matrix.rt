@@ -9,7 +9,7 @@ use build_lines::Observation;
 use half_check::check_half;
 use reply::built_number;
 use reply::outcome_reply;
-use reply::tell;
+use reply::write_reply;
 
 // The check of a matrix by its lower half: `half_check::check_half`.
 #[no_mangle]
@@ -45,7 +45,7 @@ pub extern "C" fn kodarfi_check_half(
         solution_bounds,
         inverse_bounds,
     );
-    tell(outcome_reply(outcome), places)
+    write_reply(outcome_reply(outcome), places)
 }
 
 // Equations from the field lines: `build::build`, the matrix by its lower half.

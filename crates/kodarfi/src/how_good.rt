@@ -5,7 +5,7 @@ use quality::quality;
 use reply::factors::denominator_or;
 use reply::factors::numerator_or;
 use reply::factors::quality_reply;
-use reply::tell;
+use reply::write_reply;
 
 // How far the limits of a proposal can lie above true errors: `quality::quality`.
 #[no_mangle]
@@ -24,5 +24,5 @@ pub extern "C" fn kodarfi_quality(
     let found = quality(n, t, matrix, inverse, weights);
     *numerator = numerator_or(found, *numerator);
     *denominator = denominator_or(found, *denominator);
-    tell(quality_reply(found), places)
+    write_reply(quality_reply(found), places)
 }

@@ -18,7 +18,7 @@ use reply::built_number;
 use reply::outcome_reply;
 use reply::searches::found_reply;
 use reply::searches::tried_or;
-use reply::tell;
+use reply::write_reply;
 use weights_search::find_weights;
 
 mod half_matrix;
@@ -64,7 +64,7 @@ pub extern "C" fn kodarfi_check(
         solution_bounds,
         inverse_bounds,
     );
-    tell(outcome_reply(outcome), places)
+    write_reply(outcome_reply(outcome), places)
 }
 
 // The listing of a file, and what is said in it: `listing::answer_file`.
@@ -79,7 +79,7 @@ pub extern "C" fn kodarfi_listing(
 {
     let answer = answer_file(file, listing);
     *written = answer.length;
-    tell(answer.reply, places)
+    write_reply(answer.reply, places)
 }
 
 // The register entry of a guess and its limit: `entry::register_entry`.
@@ -100,9 +100,9 @@ pub extern "C" fn kodarfi_entry(
         Registered::Entry(v, e) => {
             *value = v;
             *value_bound = e;
-            tell(no_refusal(), places)
+            write_reply(no_refusal(), places)
         }
-        Registered::Refused(refusal) => tell(reply_of(refusal, 0), places),
+        Registered::Refused(refusal) => write_reply(reply_of(refusal, 0), places),
     }
 }
 
@@ -122,7 +122,7 @@ pub extern "C" fn kodarfi_find_weights(
 {
     let found = find_weights(n, t, matrix, inverse, allowance, weights);
     *tried = tried_or(found, *tried);
-    tell(found_reply(found), places)
+    write_reply(found_reply(found), places)
 }
 
 // Equations from the field lines: `build::build`, the matrix square.

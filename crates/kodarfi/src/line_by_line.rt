@@ -9,7 +9,7 @@ use loader_numbers::check;
 use loader_numbers::renew;
 use loader_numbers::take;
 use reply::outcome_reply;
-use reply::tell;
+use reply::write_reply;
 
 // A loader that was given nothing: `loader_numbers::renew`.
 #[no_mangle]
@@ -47,7 +47,7 @@ pub extern "C" fn kodarfi_loader_take(
         inverse,
         weights,
     );
-    tell(outcome_reply(outcome), places)
+    write_reply(outcome_reply(outcome), places)
 }
 
 // The check of what was collected: `loader_numbers::check`.
@@ -81,5 +81,5 @@ pub extern "C" fn kodarfi_loader_check(
         solution_bounds,
         inverse_bounds,
     );
-    tell(outcome_reply(outcome), places)
+    write_reply(outcome_reply(outcome), places)
 }

@@ -5,7 +5,7 @@ ghost use Rattle.calls_spec.specs.TwoNets.{DependentExported};
 use dependent_check::check_dependent;
 use reply::nets::net_of;
 use reply::nets::nets_reply;
-use reply::tell;
+use reply::write_reply;
 
 // `dependent_check::check_dependent`; `*net` is the net that a refusal is of, and 0 where nothing is refused.
 #[no_mangle]
@@ -71,5 +71,5 @@ pub extern "C" fn kodarfi_check_dependent(
         inverse_bounds2,
     );
     *net = net_of(checked);
-    tell(nets_reply(checked), places)
+    write_reply(nets_reply(checked), places)
 }

@@ -4,7 +4,7 @@ ghost use Rattle.calls_spec.specs.TwoProposals.{CommonExported};
 use common_interval::common_interval;
 use reply::proposals::common_reply;
 use reply::proposals::proposal_of;
-use reply::tell;
+use reply::write_reply;
 
 // The common intervals of two proposals: `common_interval::common_interval`.
 #[no_mangle]
@@ -60,5 +60,5 @@ pub extern "C" fn kodarfi_common(
         high,
     );
     *of_proposal = proposal_of(common);
-    tell(common_reply(common), places)
+    write_reply(common_reply(common), places)
 }

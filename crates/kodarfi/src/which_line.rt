@@ -5,7 +5,7 @@ use build::gather;
 use build_equations::Layout;
 use build_gathering::open;
 use build_lines::Observation;
-use reply::builds::finish_told;
+use reply::builds::finish_status;
 
 // The matrix square.
 #[no_mangle]
@@ -21,7 +21,7 @@ pub extern "C" fn kodarfi_build_line(
     let layout = Layout::Square;
     let start = open(n, observations.len());
     let g = gather(observations, start);
-    finish_told(g, layout, matrix, right, line)
+    finish_status(g, layout, matrix, right, line)
 }
 
 // The matrix by its lower half.
@@ -38,5 +38,5 @@ pub extern "C" fn kodarfi_build_half_line(
     let layout = Layout::Lower;
     let start = open(n, observations.len());
     let g = gather(observations, start);
-    finish_told(g, layout, half, right, line)
+    finish_status(g, layout, half, right, line)
 }

@@ -6,7 +6,7 @@ use doubles_lists::guesses_of;
 use doubles_lists::intervals_of;
 use reply::guesses::guessed_reply;
 use reply::outcome_reply;
-use reply::tell;
+use reply::write_reply;
 
 // Doubles in: `doubles_lists::guesses_of`.
 #[no_mangle]
@@ -20,7 +20,7 @@ pub extern "C" fn kodarfi_guesses(
     ensures { λ r. ⌜ GuessesExported (incoming n s (now (values .entry)) (now (guess .entry))) r (now (places .exit)) (now (guess .exit)) ⌝ }
 {
     let guessed = guesses_of(n, s, values, guess);
-    tell(guessed_reply(guessed), places)
+    write_reply(guessed_reply(guessed), places)
 }
 
 // Doubles out: `doubles_lists::intervals_of`.
@@ -37,5 +37,5 @@ pub extern "C" fn kodarfi_intervals(
     ensures { λ r. ⌜ IntervalsExported (outgoing n s (now (guess .entry)) (now (bounds .entry)) (now (low .entry)) (now (high .entry))) r (now (places .exit)) (now (low .exit)) (now (high .exit)) ⌝ }
 {
     let outcome = intervals_of(n, s, guess, bounds, low, high);
-    tell(outcome_reply(outcome), places)
+    write_reply(outcome_reply(outcome), places)
 }

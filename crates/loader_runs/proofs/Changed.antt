@@ -142,15 +142,15 @@ module _ (d : Loader) (l : Lists) (line : List ℕ) where
       go (unchanged e) = absurd (n e)
       go (changed f r m t e) = e
 
-  told-12 : OwnSize d → (f : Form) → reading line ≡ some f → Becomes12 d (itemOf f) (answerBefore d l line) → lineAnswer d l line ≡ 12 ∷ []
+  status-12 : OwnSize d → (f : Form) → reading line ≡ some f → Becomes12 d (itemOf f) (answerBefore d l line) → lineAnswer d l line ≡ 12 ∷ []
   unfolding lineAnswer answerBefore
-  told-12 o f r t =
+  status-12 o f r t =
       let n = passes-11 here (is-3-or-4 d t) refl in
       let m : here .misplaced ≡ false = rw r (own-place d o (itemOf f) (is-placed d t)) in
       code-12 here .1 ((n .0, (n .1 .0, (n .1 .1 .0, (n .1 .1 .1 .0, (n .1 .1 .1 .1 .0, (m, tt)))))), rw r (is-repeated d t))
 
   pub changes : OwnSize d → (lineAnswer d l line ≡ answerBefore d l line → ⊥) ↔ ((f : Form) × ((reading line ≡ some f) × Becomes12 d (itemOf f) (answerBefore d l line)))
-  changes o = (λ n. go n compared, λ h. λ e. not-12 (is-3-or-4 d (h .1 .1)) (sym (told-12 o (h .0) (h .1 .0) (h .1 .1)) ∙ e))
+  changes o = (λ n. go n compared, λ h. λ e. not-12 (is-3-or-4 d (h .1 .1)) (sym (status-12 o (h .0) (h .1 .0) (h .1 .1)) ∙ e))
     where
       go : (lineAnswer d l line ≡ answerBefore d l line → ⊥) → Compared → (f : Form) × ((reading line ≡ some f) × Becomes12 d (itemOf f) (answerBefore d l line))
       go n (unchanged e) = absurd (n e)

@@ -90,9 +90,9 @@ not-accepted-leaves h =
 
 pub not-first-column-everywhere : wrong.FirstColumnEverywhere → ⊥
 not-first-column-everywhere h =
-    let told = h (problem poor) _ _ (on-lists poor outcome.Accepted heights inverses poor-checked refl) 0 1 (lit< tt) (lit< tt) ∙ poor-limits .1 .0 in
+    let status = h (problem poor) _ _ (on-lists poor outcome.Accepted heights inverses poor-checked refl) 0 1 (lit< tt) (lit< tt) ∙ poor-limits .1 .0 in
     let limit = checked-inverse poor outcome.Accepted heights inverses poor-checked refl 0 1 (lit< tt) (lit< tt) ∙ poor-limits .1 .1 in
-    let z : _≡_ {A = ℕ} 0 2 = sym told ∙ limit in
+    let z : _≡_ {A = ℕ} 0 2 = sym status ∙ limit in
     omega (arith, z)
 
 -- ---- lists that are too short, with a margin of 0
@@ -105,8 +105,8 @@ lacking-lowest = record { below = lit< tt; here = refl; before = λ k l. absurd 
 
 pub not-margin-alone-is-5 : wrong.MarginAloneIs5 → ⊥
 not-margin-alone-is-5 h =
-    let told = h lackingInput (outcome.Refused TooShort) [] [] (checked-short lackingInput refl) 0 lacking-lowest in
-    let z : _≡_ {A = ℕ} 8 5 = ap (λ (l : List ℕ). getD l 0 0) told in
+    let status = h lackingInput (outcome.Refused TooShort) [] [] (checked-short lackingInput refl) 0 lacking-lowest in
+    let z : _≡_ {A = ℕ} 8 5 = ap (λ (l : List ℕ). getD l 0 0) status in
     omega (arith, z)
 
 -- ---- 4·x = 0 with a guess of 2: a margin of 16 and a residual above the sum along its row
@@ -154,9 +154,9 @@ loose-zero = refl
 pub not-limit-without-tolerance : wrong.LimitWithoutTolerance → ⊥
 unfolding largest ceilDiv residual apply sum margin load defect product identity sumℕ
 not-limit-without-tolerance h =
-    let told = h (problem looseInput) _ _ (on-lists looseInput outcome.Accepted _ _ loose-checked refl) 0 (lit< tt) in
+    let status = h (problem looseInput) _ _ (on-lists looseInput outcome.Accepted _ _ loose-checked refl) 0 (lit< tt) in
     let limit = checked-solution looseInput outcome.Accepted _ _ loose-checked refl 0 (lit< tt) ∙ loose-limit in
-    let z : _≡_ {A = ℕ} 0 48 = sym told ∙ limit in
+    let z : _≡_ {A = ℕ} 0 48 = sym status ∙ limit in
     omega (arith, z)
 
 -- ---- a main net that is accepted, and a dependent one whose lists are too short
@@ -166,12 +166,12 @@ torn = nets (coupledNets .main) lackingInput []
 main-accepted : answer (coupledNets .main) ≡ []
 main-accepted = joint-none coupledNets accepted-here .0
 
-pub not-dependent-told-as-main : wrong.DependentToldAsMain → ⊥
-not-dependent-told-as-main h =
+pub not-dependent-status-as-main : wrong.DependentStatusAsMain → ⊥
+not-dependent-status-as-main h =
     let short : StatedDependent (dependentOf torn) (8 ∷ []) = too-short refl in
     let x = together-dependent torn TooShort main-accepted (sym (code-of-dependent (dependentOf torn) short)) in
-    let told = h torn (Dependent TooShort) _ _ _ _ x 8 [] (subst (Stated (coupledNets .main)) main-accepted (stated (coupledNets .main))) short in
-    let z : _≡_ {A = ℕ} 2 1 = ap (λ (l : List ℕ). getD l 0 0) told in
+    let status = h torn (Dependent TooShort) _ _ _ _ x 8 [] (subst (Stated (coupledNets .main)) main-accepted (stated (coupledNets .main))) short in
+    let z : _≡_ {A = ℕ} 2 1 = ap (λ (l : List ℕ). getD l 0 0) status in
     omega (arith, z)
 
 -- ---- the whole file, into a buffer with a byte to spare
@@ -183,8 +183,8 @@ spare = record { size = sym (ap length whole-file); bytes = sym whole-file; othe
 
 pub not-listing-one-longer : wrong.ListingOneLonger → ⊥
 not-listing-one-longer h =
-    let told = ap (λ (l : List ℕ). length l) (h buffer buffer (length wholeListing) spare) in
-    omega (arith, told)
+    let status = ap (λ (l : List ℕ). length l) (h buffer buffer (length wholeListing) spare) in
+    omega (arith, status)
 
 -- ---- 8 of 16 steps to a unit: the entry is 1
 half-way : RegisteredAs (pos 8) 0 4 (Entry (entryValue 4 (pos 8)) (entryBound 4 (pos 8) 0))
@@ -194,8 +194,8 @@ half-way = record { says = refl; entry = λ e. refl }
 pub not-halves-toward-zero : wrong.HalvesTowardZero → ⊥
 unfolding roundDiv
 not-halves-toward-zero h =
-    let told = h (pos 8) 0 4 (entryValue 4 (pos 8)) (entryBound 4 (pos 8) 0) half-way .1 refl in
-    omega (arith, told)
+    let status = h (pos 8) 0 4 (entryValue 4 (pos 8)) (entryBound 4 (pos 8) 0) half-way .1 refl in
+    omega (arith, status)
 
 -- ---- an end at a desk of n = 1 that was given problem and scale alone: four forms are missing, one of them the row of the inverse
 abbrev begunLoader : Loader

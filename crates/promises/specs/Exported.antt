@@ -1,4 +1,4 @@
--- The calls for C: a number and two places that stand for what is said (`Told`), and the promises above for each way in. The contracts of
+-- The calls for C: a number and two places that stand for what is said (`ReplyIs`), and the promises above for each way in. The contracts of
 -- the other calls for C (calls_spec/specs: `EntryExported`, `BuildExported`, `SearchExported`, `GuessesExported`, `IntervalsExported`, `DependentExported`, `CommonExported`,
 -- `QualityExported`, `ConvertExported`) have the contract that the papers' statements are over as a field.
 use mathlib.Core.Bool.{true, false}
@@ -20,7 +20,7 @@ use Rattle.loader_runs.specs.Holds.{inputOf}
 use Rattle.loader_runs.specs.Lines.{linesOf}
 use Rattle.file_stated.specs.Stated.{FileStated}
 use Rattle.listing.specs.Listing.{problemIn}
-use Rattle.reply.specs.Told.{Told}
+use Rattle.reply.specs.ReplyIs.{ReplyIs}
 use Rattle.calls_spec.specs.Exported.{CheckExported, ListingExported}
 use Rattle.calls_spec.specs.Half.{HalfExported}
 use Rattle.calls_spec.specs.Loader.{LoaderTakeExported, LoaderCheckExported}
@@ -28,19 +28,19 @@ use Rattle.calls_spec.specs.Turns.{Turns, keptLines}
 use Rattle.promises.specs.Ways.{Accepted, StatedThrough}
 
 -- what number and places stand for has its stated case
-abbrev pub CheckTold : Type 0
-CheckTold = (I : Input) (number : ℕ) (places E L : List ℕ) → CheckExported I number places E L → (w : List ℕ) × (Stated I w × Told w number places)
+abbrev pub CheckStatus : Type 0
+CheckStatus = (I : Input) (number : ℕ) (places E L : List ℕ) → CheckExported I number places E L → (w : List ℕ) × (Stated I w × ReplyIs w number places)
 
-abbrev pub HalfTold : Type 0
-HalfTold = (H : Input) (number : ℕ) (places E L : List ℕ) → HalfExported H number places E L → (w : List ℕ) × (HalfStated H w × Told w number places)
+abbrev pub HalfStatus : Type 0
+HalfStatus = (H : Input) (number : ℕ) (places E L : List ℕ) → HalfExported H number places E L → (w : List ℕ) × (HalfStated H w × ReplyIs w number places)
 
-abbrev pub ThroughTold : Type 0
-ThroughTold =
-    (s : Stage) (I : Input) (number : ℕ) (places E L : List ℕ) → LoaderCheckExported s I number places E L → (w : List ℕ) × (StatedThrough s I w × Told w number places)
+abbrev pub ThroughStatus : Type 0
+ThroughStatus =
+    (s : Stage) (I : Input) (number : ℕ) (places E L : List ℕ) → LoaderCheckExported s I number places E L → (w : List ℕ) × (StatedThrough s I w × ReplyIs w number places)
 
-abbrev pub ListingTold : Type 0
-ListingTold =
-    (file old : List ℕ) (number : ℕ) (places new : List ℕ) (count : ℕ) → ListingExported file old number places new count → (w : List ℕ) × (FileStated file w × Told w number places)
+abbrev pub ListingStatus : Type 0
+ListingStatus =
+    (file old : List ℕ) (number : ℕ) (places new : List ℕ) (count : ℕ) → ListingExported file old number places new count → (w : List ℕ) × (FileStated file w × ReplyIs w number places)
 
 -- 0 is acceptance and nothing else, so that all that is stated of `Accepted` holds
 abbrev pub CheckZeroAccepted : Type 0

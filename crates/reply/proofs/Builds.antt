@@ -1,7 +1,7 @@
 -- The line that a build gives, from what was gathered.
 --   line-finally — 8 comes first, then 3 for n, 3 for a list above 256, then the lines
 --   built-line   — the line of a whole list
---   line-told    — the line, from what is said of the lists' lengths and what was gathered
+--   line-status    — the line, from what is said of the lists' lengths and what was gathered
 use mathlib.Core.Bool.{Bool, true, false, not, cond, _&&_}
 use mathlib.Core.List.{List, [], _∷_}
 use mathlib.Core.Path.{_≡_, refl, ap, _∙_}
@@ -31,5 +31,5 @@ built-line n ls short =
     ∙ line-finally short (inRange kind.Size (pos n)) (leb (length ls) 256) (refusedFrom n 0 [] ls)
     ∙ ap (λ (m : Bool). ifAccepted (cond short (8 ∷ []) (cond (not (inRange kind.Size (pos n))) (3 ∷ []) (cond m (3 ∷ []) []))) (refusedFrom n 0 [] ls) 0) (many (length ls))
 
-pub line-told : {r line line′ : ℕ} {short short′ : Bool} → r ≡ cond short 0 line → short ≡ short′ → line ≡ line′ → r ≡ cond short′ 0 line′
-line-told {line = line} {short′ = short′} e s l = e ∙ ap (λ (b : Bool). cond b 0 line) s ∙ ap (cond short′ 0) l
+pub line-status : {r line line′ : ℕ} {short short′ : Bool} → r ≡ cond short 0 line → short ≡ short′ → line ≡ line′ → r ≡ cond short′ 0 line′
+line-status {line = line} {short′ = short′} e s l = e ∙ ap (λ (b : Bool). cond b 0 line) s ∙ ap (cond short′ 0) l

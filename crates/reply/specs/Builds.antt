@@ -1,5 +1,5 @@
--- What the last step of a build says in numbers; cited by the contract of `finish_told` alone.
---   FinishedTold — the number of an answer that `Finished` holds of, with both lists as there; and the line: none where a list is too short, else that which was
+-- What the last step of a build says in numbers; cited by the contract of `finish_status` alone.
+--   FinishedStatus — the number of an answer that `Finished` holds of, with both lists as there; and the line: none where a list is too short, else that which was
 --                  refused while the lines were gathered
 use mathlib.Core.Bool.{cond}
 use mathlib.Core.List.{List}
@@ -15,7 +15,7 @@ use Rattle.build_equations.specs.declared.Layout.{Layout}
 use Rattle.build.specs.BuiltAs.{shortFor}
 use Rattle.build.specs.Finished.{Finished}
 
-pub record FinishedTold (g : Gathered) (layout : Layout) (a b : List ℤ) (number : ℕ) (a′ b′ : List ℤ) (line : ℕ) : Type 0 where
+pub record FinishedStatus (g : Gathered) (layout : Layout) (a b : List ℤ) (number : ℕ) (a′ b′ : List ℤ) (line : ℕ) : Type 0 where
   pub answer : Built
   pub finished : Finished g layout a b answer a′ b′
   pub number-is : number ≡ getD (buildCode answer) 0 0

@@ -32,7 +32,7 @@ pub fn outcome_reply(outcome: Outcome) -> Reply
 }
 
 // Writes the two places of a reply; gives its number.
-pub fn tell(reply: Reply, places: &mut [u64; 2]) -> u32
+pub fn write_reply(reply: Reply, places: &mut [u64; 2]) -> u32
     ensures { λ r. ⌜ (r ≡ reply .number) × (now (places .exit) ≡ reply .first ∷ reply .second ∷ []) ⌝ }
 {
     *places = [reply.first, reply.second];
@@ -43,8 +43,8 @@ pub fn tell(reply: Reply, places: &mut [u64; 2]) -> u32
 fn refused_number(refusal: Refusal) -> u32
     ensures { λ r. ⌜ r ≡ numberOf refusal ⌝ }
 {
-    let told = reply_of(refusal, 0);
-    told.number
+    let status = reply_of(refusal, 0);
+    status.number
 }
 
 // The number of what is said of field lines, 0 where the equations are built.

@@ -21,10 +21,10 @@ enum-told c = search needs
 
 write-equations-requires : tie.Need-write-equations-requires
 write-equations-requires c κs =
-    let told = c .before .before in
-    let long = told .before .before .before in
+    let status = c .before .before in
+    let long = status .before .before .before in
     let s = start long in
-    let r = s .pre .ready (told .enum-told .given .1) in
+    let r = s .pre .ready (status .enum-told .given .1) in
     let l = sym (long .before .is-short .ensures) ∙ long .if1 .left in
     (r, (matrix-room (s .args .layout) (s .args .g .progress .n) (s .args .matrix .now) (s .args .right .now) (r .size) l, omega (arith, r .size, long-right (s .args .layout) (s .args .matrix .now) (s .args .right .now) l)))
 

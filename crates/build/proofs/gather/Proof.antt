@@ -65,7 +65,7 @@ use Rattle.build.proofs.gather.Key.{name as #builder·gather}
 use Rattle.build.proofs.gather as self
 use Rattle.build.proofs.gather.Statement as stated
 use Rattle.build.proofs.gather.Code as code
-use Rattle.build.proofs.gather.Proof.Lending.{AR, arr, the-one, array-val, told-array, typed-array}
+use Rattle.build.proofs.gather.Proof.Lending.{AR, arr, the-one, array-val, status-array, typed-array}
 use Rattle.build.proofs.gather.Proof.Callees.{R, word, far, Arg, stayed, One, Fews, None, All, to-few, to-none, typed-far, typed-word, asked-few, code-few, asked-none, code-none}
 use Rattle.build.proofs.gather.Proof.Turn.{x as args-of, at as vals-of, Post as post-of, looped}
 
@@ -99,7 +99,7 @@ module _ {M : Type 1} (𝓤 : URA M) (H : Heap 𝓤) (A : Atoms 𝓤) (W : Given
       use1 W (later (some (λ (z : List ℕ). (‵ ftrue ⊛ ‵ (AR .own z (v ∷ []))) ⊛ raw (ensured 𝓤 H A none.ended (none.clauses 𝓤 H A mem run) tt tt tt z)))) (id⊢ 𝓤 _) $ await ! tt $ pick ! (λ z.
       split ! $ move ! (1 ∷ []) $ use1 W (raw (fact 𝓤 (z ≡ noLines))) (code-none 𝓤 H A W mem run z) $ heard ! (z ≡ noLines) (λ d. split ! $ move ! (1 ∷ []) $
       peeks ! AR (Is AR) (shows 𝓤 H A AR) z (v ∷ []) (λ isz. land ! (from ! (stop !)) (init ! 14 refl (typed-array 𝓤 H A W z v isz)) $
-      rewrite ! 14 (λ (us : List Val). ‵ (fat fullShare arr l₇ 0 (the-one us))) (told-array z (v ∷ []) isz) refl $
+      rewrite ! 14 (λ (us : List Val). ‵ (fat fullShare arr l₇ 0 (the-one us))) (status-array z (v ∷ []) isz) refl $
       rewrite ! 14 (λ (y : List ℕ). ‵ (fat fullShare arr l₇ 0 (array-val y))) d refl $ drop ! $ drop ! $
       assigns ! (of-opd ! (load ! (from ! (stop !)) (look ! 12 refl))) (from ! (stop !)) (init ! 18 refl (typed-array 𝓤 H A W noLines _ (none-is z v d isz))) $
       assigns ! (of-opd ! (load ! (from ! (fld ! refl (stop !))) (look-in ! 24 (sub ! 1 refl (whole !))))) (from ! (stop !)) (init ! 10 refl (tt, record { fits = gn .0 })) $
@@ -121,7 +121,7 @@ module _ {M : Type 1} (𝓤 : URA M) (H : Heap 𝓤) (A : Atoms 𝓤) (W : Given
       looped 𝓤 H A W mem run κ q b o γ ys start 𝓣 fm known known-all gn g₀ l₀ l₁ l₂ l₃ l₄ l₅ l₆ l₇ l₈ l₉ l₁₀ l₁₁ l₁₂ l₁₃ (none-is z v d isz)))))))))))))))))))))))
     where
       none-is : (z : List ℕ) (v : Val) → z ≡ noLines → Is AR z (v ∷ []) → Is AR noLines (array-val noLines ∷ [])
-      none-is z v d is = subst (λ (y : List ℕ). Is AR y (array-val y ∷ [])) d (subst (Is AR z) (told-array z (v ∷ []) is) is)
+      none-is z v d is = subst (λ (y : List ℕ). Is AR y (array-val y ∷ [])) d (subst (Is AR z) (status-array z (v ∷ []) is) is)
 
 module _ {M : Type 1} (𝓤 : URA M) (H : Heap 𝓤) (A : Atoms 𝓤) (W : Given 𝓤 H A) (mem : Memory → SProp 𝓤) (run : Routine → Fun 𝓤) where
   gather-walks : (𝓣 : Tables 𝓤 H) → Triple 𝓤 (𝓣 .C #gathering·add-observation) (One 𝓤 H A mem run) → Triple 𝓤 (𝓣 .C #gathering·few-of) (Fews 𝓤 H A mem run) → Triple 𝓤 (𝓣 .C #gathering·no-lines) (None 𝓤 H A mem run) → Triple 𝓤 (𝓣 .C #gathering·as-gathered) (All 𝓤 H A mem run) → Walks 𝓤 H A self.ended stayed (WpFn 𝓤 H (𝓣 .C) (𝓣 .Λ) code.function) (self.clauses 𝓤 H A mem run)

@@ -125,55 +125,55 @@ same-length c = search needs
 
 returns : tie.Need-returns
 returns c =
-    let told = at-row (c .before .before .before) in
-    let s = told .before .before .before in
+    let status = at-row (c .before .before .before) in
+    let s = status .before .before .before in
     let e = s .pre .1 .0 in
     let l = inside s in
-    line-of (s .args .c) (s .pre .0) (s .args .i) l Row (told .enum-told .given .1) (row-text (s .args .c) (s .pre .0) (s .args .i)) (rw e at (c .before .before .put-row .ensures))
+    line-of (s .args .c) (s .pre .0) (s .args .i) l Row (status .enum-told .given .1) (row-text (s .args .c) (s .pre .0) (s .args .i)) (rw e at (c .before .before .put-row .ensures))
 
 same-length-2 : tie.Need-same-length-2
 same-length-2 c = search needs
 
 returns-2 : tie.Need-returns-2
 returns-2 c =
-    let told = at-right (c .before .before .before) in
-    let s = told .before .before .before in
+    let status = at-right (c .before .before .before) in
+    let s = status .before .before .before in
     let l = inside s in
     let h = right-small (s .args .c) (s .pre .0) (s .args .i) l in
-    line-of (s .args .c) (s .pre .0) (s .args .i) l Right (told .enum-told2 .given .1) (right-text (s .args .c) (s .pre .0) (s .args .i)) (rw (small-read _ h) at (c .before .before .put-value .ensures))
+    line-of (s .args .c) (s .pre .0) (s .args .i) l Right (status .enum-told2 .given .1) (right-text (s .args .c) (s .pre .0) (s .args .i)) (rw (small-read _ h) at (c .before .before .put-value .ensures))
 
 same-length-3 : tie.Need-same-length-3
 same-length-3 c = search needs
 
 returns-3 : tie.Need-returns-3
 returns-3 c =
-    let told = at-guess (c .before .before .before) in
-    let s = told .before .before .before in
+    let status = at-guess (c .before .before .before) in
+    let s = status .before .before .before in
     let l = inside s in
     let h = guess-small (s .args .c) (s .pre .0) (s .args .i) l in
-    line-of (s .args .c) (s .pre .0) (s .args .i) l Guess (told .enum-told3 .given .1) (guess-text (s .args .c) (s .pre .0) (s .args .i)) (rw (small-read _ h) at (c .before .before .put-value2 .ensures))
+    line-of (s .args .c) (s .pre .0) (s .args .i) l Guess (status .enum-told3 .given .1) (guess-text (s .args .c) (s .pre .0) (s .args .i)) (rw (small-read _ h) at (c .before .before .put-value2 .ensures))
 
 same-length-4 : tie.Need-same-length-4
 same-length-4 c = search needs
 
 returns-4 : tie.Need-returns-4
 returns-4 c =
-    let told = at-inverse (c .before .before .before) in
-    let s = told .before .before .before in
+    let status = at-inverse (c .before .before .before) in
+    let s = status .before .before .before in
     let e = s .pre .1 .0 in
     let l = inside s in
-    line-of (s .args .c) (s .pre .0) (s .args .i) l Inverse (told .enum-told4 .given .1) (inverse-text (s .args .c) (s .pre .0) (s .args .i)) (rw e at (c .before .before .put-row2 .ensures))
+    line-of (s .args .c) (s .pre .0) (s .args .i) l Inverse (status .enum-told4 .given .1) (inverse-text (s .args .c) (s .pre .0) (s .args .i)) (rw e at (c .before .before .put-row2 .ensures))
 
 same-length-5 : tie.Need-same-length-5
 same-length-5 c = search needs
 
 returns-5 : tie.Need-returns-5
 returns-5 c =
-    let told = at-weight (c .before .before .before) in
-    let s = told .before .before .before in
+    let status = at-weight (c .before .before .before) in
+    let s = status .before .before .before in
     let l = inside s in
     let h = weight-small (s .args .c) (s .pre .0) (s .args .i) l in
-    line-of (s .args .c) (s .pre .0) (s .args .i) l Weight (told .enum-told5 .given .1) (weight-text (s .args .c) (s .pre .0) (s .args .i) l) (rw (small-read _ h) at (c .before .before .put-value3 .ensures))
+    line-of (s .args .c) (s .pre .0) (s .args .i) l Weight (status .enum-told5 .given .1) (weight-text (s .args .c) (s .pre .0) (s .args .i) l) (rw (small-read _ h) at (c .before .before .put-value3 .ensures))
 
 pub put-line-spec : {M : Type 1} → statement M
 put-line-spec =

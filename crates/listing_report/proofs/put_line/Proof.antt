@@ -41,9 +41,9 @@ shared-slice-read-put-pair c = search needs
 
 put-pair-requires : tie.Need-put-pair-requires
 put-pair-requires c κs =
-    let told = c .before .before .before .before in
-    let s = told .before .before .before .before .before in
-    let m = ap mostOf (told .enum-told .given .1) in
+    let status = c .before .before .before .before in
+    let s = status .before .before .before .before .before in
+    let m = ap mostOf (status .enum-told .given .1) in
     (omega arith, (rw (guess-read (s .pre .0) (s .pre .1 .0)) (guess-small (s .pre .0) (s .pre .1 .0)), omega (arith, m)))
 
 enum-told-2 : tie.Need-enum-told-2
@@ -63,9 +63,9 @@ shared-slice-read-put-entry c = search needs
 
 put-entry-requires : tie.Need-put-entry-requires
 put-entry-requires c κs =
-    let told = c .before .before .before in
-    let s = told .before .before .before .before .before in
-    let m = ap mostOf (told .enum-told2 .given .1) in
+    let status = c .before .before .before in
+    let s = status .before .before .before .before .before in
+    let m = ap mostOf (status .enum-told2 .given .1) in
     (rw (guess-read (s .pre .0) (s .pre .1 .0)) (s .pre .0 .guess _ (s .pre .1 .0)), (s .pre .0 .scale, omega (arith, m)))
 
 enum-told-3 : tie.Need-enum-told-3
@@ -76,15 +76,15 @@ slice-aggregate-put-list c = search needs
 
 mul-put-list : tie.Need-mul-put-list
 mul-put-list c =
-    let told = c .before .before in
-    let s = told .before .before .before .before .before in
+    let status = c .before .before in
+    let s = status .before .before .before .before .before in
     record { fits = row-fits (s .pre .1 .0) (s .pre .0 .few) }
 
 put-list-requires : tie.Need-put-list-requires
 put-list-requires c κs =
-    let told = c .before .before in
-    let s = told .before .before .before .before .before in
-    let m = ap mostOf (told .enum-told3 .given .1) in
+    let status = c .before .before in
+    let s = status .before .before .before .before .before in
+    let m = ap mostOf (status .enum-told3 .given .1) in
     (omega arith, (s .pre .0 .few, (row-room (s .pre .1 .0) (s .pre .0 .inverse-long), omega (arith, m))))
 
 same-length : tie.Need-same-length
@@ -93,9 +93,9 @@ same-length c = search needs
 returns : tie.Need-returns
 returns c =
     let p = c .before .before in
-    let told = at-solution p in
-    let s = told .before .before .before .before .before in
-    block-line (s .pre .0) (s .args .i) Solution (told .enum-told .given .1) (rw (guess-read (s .pre .0) (s .pre .1 .0)) at (p .put-pair .ensures))
+    let status = at-solution p in
+    let s = status .before .before .before .before .before in
+    block-line (s .pre .0) (s .args .i) Solution (status .enum-told .given .1) (rw (guess-read (s .pre .0) (s .pre .1 .0)) at (p .put-pair .ensures))
 
 same-length-2 : tie.Need-same-length-2
 same-length-2 c = search needs
@@ -103,9 +103,9 @@ same-length-2 c = search needs
 returns-2 : tie.Need-returns-2
 returns-2 c =
     let p = c .before .before in
-    let told = at-entry p in
-    let s = told .before .before .before .before .before in
-    block-line (s .pre .0) (s .args .i) Entry (told .enum-told2 .given .1) (rw (guess-read (s .pre .0) (s .pre .1 .0)) at (p .put-entry .ensures))
+    let status = at-entry p in
+    let s = status .before .before .before .before .before in
+    block-line (s .pre .0) (s .args .i) Entry (status .enum-told2 .given .1) (rw (guess-read (s .pre .0) (s .pre .1 .0)) at (p .put-entry .ensures))
 
 same-length-3 : tie.Need-same-length-3
 same-length-3 c = search needs
@@ -113,9 +113,9 @@ same-length-3 c = search needs
 returns-3 : tie.Need-returns-3
 returns-3 c =
     let p = c .before .before in
-    let told = at-inverse p in
-    let s = told .before .before .before .before .before in
-    block-line (s .pre .0) (s .args .i) Inverse (told .enum-told3 .given .1) (p .put-list .ensures)
+    let status = at-inverse p in
+    let s = status .before .before .before .before .before in
+    block-line (s .pre .0) (s .args .i) Inverse (status .enum-told3 .given .1) (p .put-list .ensures)
 
 pub put-line-spec : {M : Type 1} → statement M
 put-line-spec =

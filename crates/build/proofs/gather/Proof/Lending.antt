@@ -37,8 +37,8 @@ the-one (v ∷ vs) = v
 abbrev pub array-val : List ℕ → Val
 array-val xs = the-one (array-vals (uint-vals w32) xs)
 
-pub told-array : (xs : List ℕ) (vs : List Val) → Is AR xs vs → vs ≡ array-val xs ∷ []
-told-array xs vs is = array-tells u32 (uint-vals w32) (uint-tells w32) 1280 xs vs is
+pub status-array : (xs : List ℕ) (vs : List Val) → Is AR xs vs → vs ≡ array-val xs ∷ []
+status-array xs vs is = array-tells u32 (uint-vals w32) (uint-tells w32) 1280 xs vs is
 
 module _ {M : Type 1} (𝓤 : URA M) (H : Heap 𝓤) (A : Atoms 𝓤) (W : Given 𝓤 H A) where
   pub typed-array : (xs : List ℕ) (v : Val) → Is AR xs (v ∷ []) → Holds (hasTy arr v) × WT v
@@ -59,5 +59,5 @@ module _ {M : Type 1} (𝓤 : URA M) (H : Heap 𝓤) (A : Atoms 𝓤) (W : Given
     unfolding partOf
     back =
         qed W (‵ (mem AR .lies xs l 0) ∷ []) ∵ fpick ! (λ vs. fsplit ! $ move ! (1 ∷ []) $ peeks ! AR (Is AR) (shows 𝓤 H A AR) xs vs (λ is. drop ! $
-        rewrite ! 0 (λ (us : List Val). ‵ (cellAt fullShare (arr ∷ []) us l 0)) (told-array xs vs is) refl $
-        use1 W (‵ (fat fullShare arr l 0 (array-val xs))) (W .laws .raw-at fullShare arr l 0 (array-val xs)) $ says ! (subst (Is AR xs) (told-array xs vs is) is) $ done !))
+        rewrite ! 0 (λ (us : List Val). ‵ (cellAt fullShare (arr ∷ []) us l 0)) (status-array xs vs is) refl $
+        use1 W (‵ (fat fullShare arr l 0 (array-val xs))) (W .laws .raw-at fullShare arr l 0 (array-val xs)) $ says ! (subst (Is AR xs) (status-array xs vs is) is) $ done !))

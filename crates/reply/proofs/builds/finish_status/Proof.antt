@@ -1,7 +1,7 @@
-use Rattle.reply.proofs.Builds.{line-told}
+use Rattle.reply.proofs.Builds.{line-status}
 use borrow.Author.Needs.{needs}
-use Rattle.reply.proofs.builds.finish_told.Statement.{statement}
-use Rattle.reply.proofs.builds.finish_told.Tie as tie
+use Rattle.reply.proofs.builds.finish_status.Statement.{statement}
+use Rattle.reply.proofs.builds.finish_status.Tie as tie
 
 is-short-requires : tie.Need-is-short-requires
 is-short-requires c κs = search needs
@@ -9,8 +9,8 @@ is-short-requires c κs = search needs
 line-of-requires : tie.Need-line-of-requires
 line-of-requires c κs = search needs
 
-told-line-requires : tie.Need-told-line-requires
-told-line-requires c κs = search needs
+status-line-requires : tie.Need-status-line-requires
+status-line-requires c κs = search needs
 
 finish-requires : tie.Need-finish-requires
 finish-requires c κs = search needs
@@ -32,16 +32,16 @@ returns c =
       answer = f .finish .result;
       finished = f .finish .ensures;
       number-is = c .built-number .ensures;
-      line-is = line-told (t .told-line .ensures) (t .before .before .is-short .ensures) (t .before .line-of .ensures);
+      line-is = line-status (t .status-line .ensures) (t .before .before .is-short .ensures) (t .before .line-of .ensures);
     }
 
-pub finish-told-spec : {M : Type 1} → statement M
-finish-told-spec =
+pub finish-status-spec : {M : Type 1} → statement M
+finish-status-spec =
     tie.close
     (tie.spec
     is-short-requires
     line-of-requires
-    told-line-requires
+    status-line-requires
     finish-requires
     built-number-requires
     same-length
