@@ -2,7 +2,7 @@
 -- the sum along the row; in the columns, which have no slack, it is at most that sum.
 --   workOf I base allowed allowedInColumns slacks — the work
 --   Handed   — what the arrays hold;  workable — the reckoning may start on it
---   reckoned-checked — what the reckoning makes of it is the contract of the check
+--   computed-checked — what the reckoning makes of it is the contract of the check
 use mathlib.Core.Path.{_≡_, refl, sym, ap, ap₂, _∙_}
 use mathlib.Core.Bool.{true, false}
 use mathlib.Core.List.{List}
@@ -32,7 +32,7 @@ use Rattle.check_spec.specs.Input.{Input, problem, short, inRanges}
 use Rattle.check_spec.specs.Order.{checkedOf}
 use Rattle.check_spec.proofs.Contract.{checked-ready}
 use Rattle.check_spec.proofs.Fit.{Fit, fit-of}
-use Rattle.check_lists.specs.Work.{Work, work, workProblem, workResidual, workSlack, workAnswer, Workable, ReckonedAs}
+use Rattle.check_lists.specs.Work.{Work, work, workProblem, workResidual, workSlack, workAnswer, Workable, ComputedAs}
 
 abbrev pub workOf : Input → List ℤ → List ℤ → List ℤ → List ℕ → Work
 workOf I base allowed allowedInColumns slacks =
@@ -111,7 +111,7 @@ module _ (I : Input) {base allowed columns : List ℤ} {slacks sums : List ℕ} 
   solution-is : written (I .solutionBounds) 0 1 (boundWith (workProblem W) (workResidual W) (workSlack W)) (I .n) ≡ written (I .solutionBounds) 0 1 (bound (problem I)) (I .n)
   solution-is = written-ext (I .solutionBounds) 0 1 (boundWith (workProblem W) (workResidual W) (workSlack W)) (bound (problem I)) (I .n) (λ i l. bound-is i)
 
-  pub reckoned-checked : {r : Outcome} {E L : List ℕ} → ReckonedAs W r E L → Checked I r E L
-  reckoned-checked {r} {E} {L} x =
+  pub computed-checked : {r : Outcome} {E L : List ℕ} → ComputedAs W r E L → Checked I r E L
+  computed-checked {r} {E} {L} x =
       checked-ready I e f (x .says ∙ answer-is) (rw (answer-is, solution-is) at (x .solution-bounds))
       (unfold bound boundWith magnitudesWith residual margin load defect in rw answer-is at (x .inverse-bounds))

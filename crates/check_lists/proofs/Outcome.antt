@@ -28,9 +28,9 @@ use Rattle.check_arrays.specs.Arrays.{Begins, columnsWritten}
 use Rattle.check_arrays.specs.Parts.{cutMargin, aboveAllowed}
 use Rattle.check_bounds.specs.Limits.{Near, limitsOf}
 use Rattle.check_ratios.specs.Ratio.{Positive}
-use Rattle.check_spec.specs.Order.{reckoned}
+use Rattle.check_spec.specs.Order.{computed}
 use Rattle.check_spec.proofs.Contract.{NoPlace, accepted-places}
-use Rattle.check_lists.specs.Work.{Work, workProblem, workResidual, workSlack, workAnswer, Workable, ReckonedAs}
+use Rattle.check_lists.specs.Work.{Work, workProblem, workResidual, workSlack, workAnswer, Workable, ComputedAs}
 use Rattle.check_lists.proofs.Rows.{workColumn}
 use Rattle.check_lists.proofs.Limits.{solution-limit, inverse-limit}
 use Rattle.check_lists.proofs.Places.{first-margin, first-residual, first-column, positive, near, near-columns}
@@ -53,7 +53,7 @@ pub record WorkedOut (W : Work) (rows margins : List ℕ) (residuals columns : L
   pub em : m ≡ first (W .n) (λ (x : ℕ). eqb (getD margins x 0) 0)
   pub ek : k ≡ first (W .n) (λ (x : ℕ). aboveAllowed (at (W .allowed) x) (at residuals (0 + x)))
   pub ei : i ≡ first (W .n * W .n) (λ (x : ℕ). aboveAllowed (at (W .allowedInColumns) (x % W .n)) (at columns x))
-  pub er : code r ≡ verdict (reckoned (W .n) m k i)
+  pub er : code r ≡ verdict (computed (W .n) m k i)
 
 module _ (W : Work) (ready : Workable W) {rows margins : List ℕ} {residuals columns : List ℤ} {r : Outcome} (a : WorkedOut W rows margins residuals columns r) where
   code-is : code r ≡ workAnswer W
@@ -65,7 +65,7 @@ module _ (W : Work) (ready : Workable W) {rows margins : List ℕ} {residuals co
         a .ei ∙ first-column W ready columns (a .hc),
       )
 
-  pub refused : (x : Refusal) → r ≡ Refused x → ReckonedAs W (Refused x) (W .solutionBounds) (W .inverseBounds)
+  pub refused : (x : Refusal) → r ≡ Refused x → ComputedAs W (Refused x) (W .solutionBounds) (W .inverseBounds)
   refused x e =
       let s : code (Refused x) ≡ workAnswer W = ap code (sym e) ∙ code-is in
       record { says = s; solution-bounds = sym (accepted-old _ _ (sym s)); inverse-bounds = sym (accepted-old _ _ (sym s)) }
@@ -89,7 +89,7 @@ module _ (W : Work) (ready : Workable W) {rows margins : List ℕ} {residuals co
     pub accepted-here : {column E L : List ℕ} → Begins 0 column (W .n) (limitsOf (W .n) rows (at residuals) (workSlack W) margins (W .weights)) →
         E ≡ written (W .solutionBounds) 0 1 (λ (x : ℕ). getD column x 0) (W .n) →
         L ≡ columnsWritten (W .inverseBounds) (W .n) (λ (b c : ℕ). limitsOf (W .n) rows (λ (x : ℕ). at columns (c * W .n + x)) (λ (x : ℕ). 0) margins (W .weights) b) (W .n) →
-        ReckonedAs W Accepted E L
+        ComputedAs W Accepted E L
     accepted-here {column} {E} {L} h eE eL =
         let s : [] ≡ workAnswer W = ap code (sym e) ∙ code-is in
         record {

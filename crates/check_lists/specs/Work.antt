@@ -1,4 +1,4 @@
--- What is handed to the reckoning once 8 and 3 are passed, and what it makes of it; cited by the contract of `reckon` alone.
+-- What is handed to the reckoning once 8 and 3 are passed, and what it makes of it; cited by the contract of `compute_bounds` alone.
 --   Work     — n, t and the lists of a problem; `base`, from which A·X is taken to give the residuals of the guess; `allowed`, how large
 --     they may be, row by row; `allowedInColumns`, the same of the inverse's columns; `check_allowances`, what may be missing in the sizes of the guess's; and the two
 --     limit lists as they come in
@@ -8,7 +8,7 @@
 --   Workable W — what the reckoning asks: n and t in their ranges, the lists long enough, every number used in its range, room for the slack wherever a
 --     residual is allowed, and of the columns just what 02's Paper 9 allows
 --   solutionOf W, inverseOf W — the two limit lists afterwards
---   ReckonedAs W r E L — what is said, and the two limit lists
+--   ComputedAs W r E L — what is said, and the two limit lists
 use mathlib.Core.Bool.{false}
 use mathlib.Core.List.{List, []}
 use mathlib.Core.Path.{_≡_}
@@ -27,7 +27,7 @@ use Rattle.enclosure.specs.Problem.{Problem, problemOf}
 use Rattle.enclosure.specs.Reckoning.{allowedResidual, rowSum, boundWith, inverseBound}
 use Rattle.check_arrays.specs.Parts.{residualFrom, aboveAllowed}
 use Rattle.check_allowances.specs.Allowed.{allowedBeside}
-use Rattle.check_spec.specs.Order.{firstMargin, firstInversePlace, reckoned}
+use Rattle.check_spec.specs.Order.{firstMargin, firstInversePlace, computed}
 
 pub record Work : Type 0 where
   pub n : ℕ
@@ -70,7 +70,7 @@ workSlack W k = getD (W .slacks) k 0
 
 abbrev pub workAnswer : Work → List ℕ
 workAnswer W =
-    verdict (reckoned (W .n) (firstMargin (workProblem W)) (first (W .n) (λ (k : ℕ). aboveAllowed (at (W .allowed) k) (workResidual W k)))
+    verdict (computed (W .n) (firstMargin (workProblem W)) (first (W .n) (λ (k : ℕ). aboveAllowed (at (W .allowed) k) (workResidual W k)))
     (firstInversePlace (workProblem W)))
 
 pub record Workable (W : Work) : Type 0 where
@@ -99,7 +99,7 @@ inverseOf W =
     ifAccepted (workAnswer W)
     (written (W .inverseBounds) 0 1 (λ (k : ℕ). inverseBound (workProblem W) (k / W .n) (k % W .n)) (W .n * W .n)) (W .inverseBounds)
 
-pub record ReckonedAs (W : Work) (r : Outcome) (E L : List ℕ) : Type 0 where
+pub record ComputedAs (W : Work) (r : Outcome) (E L : List ℕ) : Type 0 where
   pub says : code r ≡ workAnswer W
   pub solution-bounds : E ≡ solutionOf W
   pub inverse-bounds : L ≡ inverseOf W

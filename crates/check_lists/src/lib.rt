@@ -3,7 +3,7 @@ ghost use Prim.Native.Nat.{_+_, _*_, _≤_};
 ghost use lib.ListN.{length};
 ghost use Rattle.check_spec.specs.Checked.{Checked};
 ghost use Rattle.check_spec.specs.Input.{input};
-ghost use Rattle.check_lists.specs.Work.{work, Workable, ReckonedAs};
+ghost use Rattle.check_lists.specs.Work.{work, Workable, ComputedAs};
 use check_allowances::allowed_of;
 use check_allowances::row_sums_of;
 use check_allowances::slacks_of;
@@ -29,7 +29,7 @@ use rules::Refusal;
 
 // The reckoning of what passes 8 and 3, from a base of the residuals, what is allowed of them and of the inverse's columns, and their slacks: all refusals are
 // decided before the first limit is written. Four lists to work in are lent: the raised rows of the inverse, its residuals, these raised, and the sizes of p.
-fn reckon_in(
+fn compute_bounds_in(
     rows: &mut [u64],
     columns: &mut [i64],
     raised: &mut [u64],
@@ -50,7 +50,7 @@ fn reckon_in(
     requires { ⌜ (n * (n + 1) ≤ length (now rows)) × ((n * n ≤ length (now columns)) × ((n * (n + 1) ≤ length (now raised)) × (n * n ≤ length (now magnitudes)))) ⌝ }
     requires { ⌜ Workable (work n t (now matrix) (now base) (now allowed) (now «allowed_in_columns») (now slacks) (now guess) (now inverse)
         (now weights) (now «solution_bounds») (now «inverse_bounds»)) ⌝ }
-    ensures { λ r. ⌜ ReckonedAs (work n t (now (matrix .entry)) (now (base .entry)) (now (allowed .entry)) (now («allowed_in_columns» .entry))
+    ensures { λ r. ⌜ ComputedAs (work n t (now (matrix .entry)) (now (base .entry)) (now (allowed .entry)) (now («allowed_in_columns» .entry))
         (now (slacks .entry)) (now (guess .entry)) (now (inverse .entry)) (now (weights .entry)) (now («solution_bounds» .entry)) (now («inverse_bounds» .entry)))
         r (now («solution_bounds» .exit)) (now («inverse_bounds» .exit)) ⌝ }
 {
@@ -87,7 +87,7 @@ fn reckon_in(
 }
 
 // The same in lists of its own. Filling them takes longer than the rest where n is small, so there are two lengths of them.
-pub fn reckon(
+pub fn compute_bounds(
     n: usize,
     t: u32,
     matrix: &[i64],
@@ -103,7 +103,7 @@ pub fn reckon(
 ) -> Outcome
     requires { ⌜ Workable (work n t (now matrix) (now base) (now allowed) (now «allowed_in_columns») (now slacks) (now guess) (now inverse)
         (now weights) (now «solution_bounds») (now «inverse_bounds»)) ⌝ }
-    ensures { λ r. ⌜ ReckonedAs (work n t (now (matrix .entry)) (now (base .entry)) (now (allowed .entry)) (now («allowed_in_columns» .entry))
+    ensures { λ r. ⌜ ComputedAs (work n t (now (matrix .entry)) (now (base .entry)) (now (allowed .entry)) (now («allowed_in_columns» .entry))
         (now (slacks .entry)) (now (guess .entry)) (now (inverse .entry)) (now (weights .entry)) (now («solution_bounds» .entry)) (now («inverse_bounds» .entry)))
         r (now («solution_bounds» .exit)) (now («inverse_bounds» .exit)) ⌝ }
 {
@@ -112,7 +112,7 @@ pub fn reckon(
         let mut columns = [0i64; 64];
         let mut raised = [0u64; 72];
         let mut magnitudes = [0u64; 64];
-        return reckon_in(
+        return compute_bounds_in(
             &mut rows,
             &mut columns,
             &mut raised,
@@ -135,7 +135,7 @@ pub fn reckon(
     let mut columns = [0i64; 1024];
     let mut raised = [0u64; 1056];
     let mut magnitudes = [0u64; 1024];
-    reckon_in(
+    compute_bounds_in(
         &mut rows,
         &mut columns,
         &mut raised,
@@ -193,7 +193,7 @@ pub fn check(
             let base = scaled_right(s, right, size);
             let allowed = allowed_of(&slacks, &sums, size);
             let allowed_in_columns = allowed_of(&[0u64; 32], &sums, size);
-            return reckon(
+            return compute_bounds(
                 size,
                 t,
                 matrix,

@@ -5,7 +5,7 @@ ghost use lib.ListN.{length};
 ghost use Rattle.rules.specs.Order.{verdict};
 ghost use Rattle.rules.specs.Refusal.{code};
 ghost use Rattle.check_spec.specs.Input.{anyShort, sizesInRange, listsInRange};
-ghost use Rattle.check_spec.specs.Order.{reckoned};
+ghost use Rattle.check_spec.specs.Order.{computed};
 use rules::COLUMN_LENGTH;
 use rules::Kind;
 use rules::MATRIX_LENGTH;
@@ -76,7 +76,7 @@ pub fn are_lists_in_range(
 // 5, 6 and 7 in their order, from the first row of each; n, or n·n, where there is none.
 pub fn judge(n: usize, m: usize, k: usize, i: usize) -> Outcome
     requires { ⌜ (0 < n) × (n ≤ 32) ⌝ }
-    ensures { λ r. ⌜ code r ≡ verdict (reckoned n m k i) ⌝ }
+    ensures { λ r. ⌜ code r ≡ verdict (computed n m k i) ⌝ }
 {
     if m < n {
         return Outcome::Refused(Refusal::Margin(m as u32 + 1));

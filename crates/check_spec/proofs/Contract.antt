@@ -29,7 +29,7 @@ use Rattle.enclosure.specs.Sound.{Margins, Sound}
 use Rattle.enclosure.proofs.Acceptance.{rounded-sound}
 use Rattle.enclosure.proofs.Demands.{encloses, encloses-as}
 use Rattle.check_spec.specs.Input.{Input, problem, short, inRanges}
-use Rattle.check_spec.specs.Order.{firstMargin, firstResidual, firstInversePlace, reckoned, answer, checkedOf}
+use Rattle.check_spec.specs.Order.{firstMargin, firstResidual, firstInversePlace, computed, answer, checkedOf}
 use Rattle.check_spec.specs.Checked.{solutionAfter, inverseAfter, solutionBoundsAfter, inverseBoundsAfter, Checked}
 use Rattle.check_spec.proofs.Fit.{fit-of}
 use Rattle.check_spec.proofs.Places.{no-place, none-placed}
@@ -53,7 +53,7 @@ pub record NoPlace (n m k i : ℕ) : Type 0 where
   pub residual : n ≤ k
   pub column : n * n ≤ i
 
-pub accepted-places : (n m k i : ℕ) → verdict (reckoned n m k i) ≡ [] → NoPlace n m k i
+pub accepted-places : (n m k i : ℕ) → verdict (computed n m k i) ≡ [] → NoPlace n m k i
 accepted-places n m k i e = go (ltb m n) refl (ltb k n) refl (ltb i (n * n)) refl
   where
     go : (x : Bool) → ltb m n ≡ x → (y : Bool) → ltb k n ≡ y → (z : Bool) → ltb i (n * n) ≡ z → NoPlace n m k i

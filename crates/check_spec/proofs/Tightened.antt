@@ -23,7 +23,7 @@ use Rattle.enclosure.specs.Reckoning.{marginFails, exceedsRow, exceeds}
 use Rattle.check_spec.specs.Before.{firstResidual05, firstInversePlace05, checkedOf05, answer05, solutionAfter05, inverseAfter05}
 use Rattle.check_spec.specs.Checked.{solutionBoundsAfter, inverseBoundsAfter}
 use Rattle.check_spec.specs.Input.{Input, problem, short, inRanges}
-use Rattle.check_spec.specs.Order.{firstMargin, firstResidual, firstInversePlace, reckoned, checkedOf, answer}
+use Rattle.check_spec.specs.Order.{firstMargin, firstResidual, firstInversePlace, computed, checkedOf, answer}
 use Rattle.check_spec.specs.Tightened.{exceedsRowAt, RowsKept, PlacesKept, FirstRow, FirstPlace, at-row, at-place, Tightened}
 use Rattle.check_spec.specs.Tightened as change
 use Rattle.check_spec.proofs.Contract.{answer-short, answer-range, answer-ready, accepted-places, written-encloses}
@@ -52,16 +52,16 @@ first-of-two n a b = go (searched (first n a) b) (searched n a)
 
 -- ---- what is said of the first places
 module _ (n : ℕ) where
-  says-5 : (m k i : ℕ) → m < n → verdict (reckoned n m k i) ≡ 5 ∷ (m + 1) ∷ []
+  says-5 : (m k i : ℕ) → m < n → verdict (computed n m k i) ≡ 5 ∷ (m + 1) ∷ []
   says-5 m k i l = rw (lt-ltb m n l)
 
-  says-6 : (m k i : ℕ) → n ≤ m → k < n → verdict (reckoned n m k i) ≡ at-row k
+  says-6 : (m k i : ℕ) → n ≤ m → k < n → verdict (computed n m k i) ≡ at-row k
   says-6 m k i a l = rw (le-ltb m n a, lt-ltb k n l)
 
-  says-7 : (m k i : ℕ) → n ≤ m → n ≤ k → i < n * n → verdict (reckoned n m k i) ≡ at-place n i
+  says-7 : (m k i : ℕ) → n ≤ m → n ≤ k → i < n * n → verdict (computed n m k i) ≡ at-place n i
   says-7 m k i a b l = rw (le-ltb m n a, le-ltb k n b, lt-ltb i (n * n) l)
 
-  says-0 : (m k i : ℕ) → n ≤ m → n ≤ k → n * n ≤ i → verdict (reckoned n m k i) ≡ []
+  says-0 : (m k i : ℕ) → n ≤ m → n ≤ k → n * n ≤ i → verdict (computed n m k i) ≡ []
   says-0 m k i a b c = rw (le-ltb m n a, le-ltb k n b, le-ltb i (n * n) c)
 
 module _ (I : Input) where
@@ -75,10 +75,10 @@ module _ (I : Input) where
 
   module _ (m k k′ i i′ : ℕ) where
     abbrev was : List ℕ
-    was = verdict (reckoned (I .n) m k i)
+    was = verdict (computed (I .n) m k i)
 
     abbrev is : List ℕ
-    is = verdict (reckoned (I .n) m k′ i′)
+    is = verdict (computed (I .n) m k′ i′)
 
     -- a row of the guess is above its sum, before the old row
     to-row : I .n ≤ m → k ≤ I .n → k′ < k → FirstRow (problem I) k′ → Tightened I was is
@@ -99,10 +99,10 @@ module _ (I : Input) where
 
   -- the same places
   stays-here : (m k i : ℕ) → I .n ≤ m → i ≤ I .n * I .n → RowsKept (problem I) k → (I .n ≤ k → PlacesKept (problem I) i) →
-      Tightened I (verdict (reckoned (I .n) m k i)) (verdict (reckoned (I .n) m k i))
+      Tightened I (verdict (computed (I .n) m k i)) (verdict (computed (I .n) m k i))
   stays-here m k i a few h p = go (decLe (I .n) k) (decLe (I .n * I .n) i)
     where
-      go : Dec (I .n ≤ k) → Dec (I .n * I .n ≤ i) → Tightened I (verdict (reckoned (I .n) m k i)) (verdict (reckoned (I .n) m k i))
+      go : Dec (I .n ≤ k) → Dec (I .n * I .n ≤ i) → Tightened I (verdict (computed (I .n) m k i)) (verdict (computed (I .n) m k i))
       go (no b) c = pair (says-6 (I .n) m k i a (omega arith)) (says-6 (I .n) m k i a (omega arith)) (change.row-stays k h)
       go (yes b) (no c) = pair (says-7 (I .n) m k i a b (omega arith)) (says-7 (I .n) m k i a b (omega arith)) (change.place-stays i (λ x l. h x (omega arith)) (p b))
       go (yes b) (yes c) =
@@ -110,7 +110,7 @@ module _ (I : Input) where
 
   at-columns : (m : ℕ) → I .n ≤ m → I .n ≤ firstResidual05 (problem I) → firstResidual (problem I) ≡ firstResidual05 (problem I) → RowsKept (problem I) (I .n) →
       FirstOfTwo (I .n * I .n) large (exceedsRowAt (problem I)) →
-      Tightened I (verdict (reckoned (I .n) m (firstResidual05 (problem I)) (firstInversePlace05 (problem I)))) (verdict (reckoned (I .n) m (firstResidual (problem I)) (firstInversePlace (problem I))))
+      Tightened I (verdict (computed (I .n) m (firstResidual05 (problem I)) (firstInversePlace05 (problem I)))) (verdict (computed (I .n) m (firstResidual (problem I)) (firstInversePlace (problem I))))
   unfolding large exceeds
   at-columns m a b e h (stays f p) =
       rw (e, f) (stays-here m (firstResidual05 (problem I)) (firstInversePlace05 (problem I)) a (first-most (I .n * I .n) large refl) (λ x l. h x (omega (arith, first-most (I .n) (exceeds05 (problem I)) refl))) (λ _. p))
@@ -119,21 +119,21 @@ module _ (I : Input) where
       (to-place m (firstResidual05 (problem I)) (firstResidual05 (problem I)) (firstInversePlace05 (problem I)) i a b b (first-most (I .n * I .n) large refl) l h (record { fails = p; before = r }))
 
   at-rows : (m : ℕ) → I .n ≤ m → FirstOfTwo (I .n) (exceeds05 (problem I)) (exceedsRow (problem I)) →
-      Tightened I (verdict (reckoned (I .n) m (firstResidual05 (problem I)) (firstInversePlace05 (problem I)))) (verdict (reckoned (I .n) m (firstResidual (problem I)) (firstInversePlace (problem I))))
+      Tightened I (verdict (computed (I .n) m (firstResidual05 (problem I)) (firstInversePlace05 (problem I)))) (verdict (computed (I .n) m (firstResidual (problem I)) (firstInversePlace (problem I))))
   unfolding exceeds
   at-rows m a (lower k l e p r) =
       rw e (to-row m (firstResidual05 (problem I)) k (firstInversePlace05 (problem I)) (firstInversePlace (problem I)) a (first-most (I .n) (exceeds05 (problem I)) refl) l (record { fails = p; before = r }))
   at-rows m a (stays e h) = go (decLe (I .n) (firstResidual05 (problem I)))
     where
       go : Dec (I .n ≤ firstResidual05 (problem I)) →
-          Tightened I (verdict (reckoned (I .n) m (firstResidual05 (problem I)) (firstInversePlace05 (problem I)))) (verdict (reckoned (I .n) m (firstResidual (problem I)) (firstInversePlace (problem I))))
+          Tightened I (verdict (computed (I .n) m (firstResidual05 (problem I)) (firstInversePlace05 (problem I)))) (verdict (computed (I .n) m (firstResidual (problem I)) (firstInversePlace (problem I))))
       go (yes b) = at-columns m a b e (λ x l. h x (omega arith)) (first-of-two (I .n * I .n) large (exceedsRowAt (problem I)))
       go (no b) =
           pair (says-6 (I .n) m (firstResidual05 (problem I)) (firstInversePlace05 (problem I)) a (omega arith))
           (rw e (says-6 (I .n) m (firstResidual05 (problem I)) (firstInversePlace (problem I)) a (omega arith))) (change.row-stays (firstResidual05 (problem I)) h)
 
-  reckoned-here : Tightened I (checkedOf05 (problem I)) (checkedOf (problem I))
-  reckoned-here = go (decLe (I .n) (firstMargin (problem I)))
+  computed-here : Tightened I (checkedOf05 (problem I)) (checkedOf (problem I))
+  computed-here = go (decLe (I .n) (firstMargin (problem I)))
     where
       go : Dec (I .n ≤ firstMargin (problem I)) → Tightened I (checkedOf05 (problem I)) (checkedOf (problem I))
       go (yes a) = at-rows (firstMargin (problem I)) a (first-of-two (I .n) (exceeds05 (problem I)) (exceedsRow (problem I)))
@@ -148,7 +148,7 @@ module _ (I : Input) where
       go : (x : Bool) → short I ≡ x → (y : Bool) → inRanges I ≡ y → Tightened I (answer05 I) (answer I)
       go true e y f = pair (rw e) (answer-short I e) change.too-short
       go false e false f = pair (rw (e, f)) (answer-range I e f) change.out-of-range
-      go false e true f = pair (rw (e, f)) (answer-ready I e f) reckoned-here
+      go false e true f = pair (rw (e, f)) (answer-ready I e f) computed-here
 
 -- ---- what stays
 accepted-of : (I : Input) {was is : List ℕ} → Tightened I was is → is ≡ [] → was ≡ []

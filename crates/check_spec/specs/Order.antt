@@ -3,7 +3,7 @@
 --   firstResidual P — the lowest row whose residual is too large, with its slack above 2^25 or without it above the sum along its row; n where there is none
 --   firstInversePlace P — the lowest column, then its lowest row, of a residual of the inverse that is too large: column · n + row;
 --     n · n where there is none
---   reckoned n m k i — 5 at row m, 6 at row k, 7 at place i;  reckonedOf P — at the first of each
+--   computed n m k i — 5 at row m, 6 at row k, 7 at place i;  computedOf P — at the first of each
 --   checkedOf P     — what is said of these: 5, 6 or 7, or nothing
 --   orderOnLists I  — the tests in their order;  answer I — what is said of them: nothing where the proposal is accepted
 use mathlib.Core.Bool.{not}
@@ -25,24 +25,24 @@ firstResidual P = first (P .n) (exceeds P)
 abbrev pub firstInversePlace : Problem → ℕ
 firstInversePlace P = first (P .n * P .n) (λ (i : ℕ). exceeds (columnOf P (i / P .n)) (i % P .n))
 
-abbrev pub reckoned : ℕ → ℕ → ℕ → ℕ → List Test
-reckoned n m k i =
+abbrev pub computed : ℕ → ℕ → ℕ → ℕ → List Test
+computed n m k i =
     record { says = 5 ∷ (m + 1) ∷ []; holds = ltb m n }
     ∷ record { says = 6 ∷ (k + 1) ∷ []; holds = ltb k n }
     ∷ record { says = 7 ∷ (i / n + 1) ∷ (i % n + 1) ∷ []; holds = ltb i (n * n) }
     ∷ []
 
-abbrev pub reckonedOf : Problem → List Test
-reckonedOf P = reckoned (P .n) (firstMargin P) (firstResidual P) (firstInversePlace P)
+abbrev pub computedOf : Problem → List Test
+computedOf P = computed (P .n) (firstMargin P) (firstResidual P) (firstInversePlace P)
 
 abbrev pub checkedOf : Problem → List ℕ
-checkedOf P = verdict (reckonedOf P)
+checkedOf P = verdict (computedOf P)
 
 abbrev pub orderOnLists : Input → List Test
 orderOnLists I =
     number 8 (short I)
     ∷ number 3 (not (inRanges I))
-    ∷ reckonedOf (problem I)
+    ∷ computedOf (problem I)
 
 unfoldable pub answer : Input → List ℕ
 answer I = verdict (orderOnLists I)

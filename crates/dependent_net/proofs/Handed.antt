@@ -2,7 +2,7 @@
 -- allowed is 2^25 less the slack; in the columns it is the sum along the row.
 --   coupling-list, scaled-list, own-slacks — sizes of C, S·b2 and S·d2
 --   HandedDependent — what the arrays hold;  workable — the reckoning may start on it
---   reckoned-dependent — what the reckoning makes of it is the contract of the check
+--   computed-dependent — what the reckoning makes of it is the contract of the check
 use mathlib.Core.Path.{_≡_, refl, sym, ap, ap₂, _∙_}
 use mathlib.Core.Bool.{Bool, true, false, _||_}
 use mathlib.Core.List.{List, [], _∷_}
@@ -36,10 +36,10 @@ use Rattle.check_allowances.specs.Allowed.{slackAt, allowedBeside}
 use Rattle.check_allowances.proofs.Allowed.{slack-magnitude, allowed-magnitude, allowed-test}
 use Rattle.check_spec.specs.Input.{Input, inRanges}
 use Rattle.check_spec.proofs.Fit.{Fit}
-use Rattle.check_lists.specs.Work.{Work, work, workProblem, workResidual, workSlack, workAnswer, Workable, ReckonedAs}
+use Rattle.check_lists.specs.Work.{Work, work, workProblem, workResidual, workSlack, workAnswer, Workable, ComputedAs}
 use Rattle.dependent_spec.specs.Nets.{DependentNet, dependentBy, couplingOf}
 use Rattle.dependent_spec.specs.Reckoning.{ownProblem, dependentResidual, dependentSlack, dependentExceeds, dependentBound}
-use Rattle.dependent_spec.specs.Order.{dependentReckoned, dependentAnswer}
+use Rattle.dependent_spec.specs.Order.{dependentComputed, dependentAnswer}
 use Rattle.dependent_spec.specs.Stated.{UsableDependent}
 use Rattle.dependent_spec.specs.Checked.{DependentAs}
 use Rattle.dependent_spec.proofs.Statements.{answer-ready, own-fit, passed-of}
@@ -162,12 +162,12 @@ module _ (marks s₁ : ℕ) (guess : List ℤ) (limits : List ℕ) (coupling : L
         ∙ rw (residual-is k l, slack-here k l)
         (capped-test marks allowedResidual (λ j. natAbs (couplingOf D k j)) (D .E₁) (natAbs (dependentResidual D k)) (slack (ownProblem D) k))
 
-    answer-is : workAnswer W ≡ dependentReckoned D
+    answer-is : workAnswer W ≡ dependentComputed D
     unfolding margin load defect exceeds rowSum residual
     answer-is = rw (first-ext (I .n) (λ (k : ℕ). aboveAllowed (at a k) (workResidual W k)) (dependentExceeds D) exceeds-is)
 
     -- where 6 is not said, the slack is the exact one
-    slack-is : dependentReckoned D ≡ [] → (k : ℕ) → k < I .n → workSlack W k ≡ dependentSlack D k
+    slack-is : dependentComputed D ≡ [] → (k : ℕ) → k < I .n → workSlack W k ≡ dependentSlack D k
     unfolding dependentSlack
     slack-is e k l =
         slack-here k l
@@ -175,24 +175,24 @@ module _ (marks s₁ : ℕ) (guess : List ℤ) (limits : List ℕ) (coupling : L
         (capped-where marks allowedResidual (λ j. natAbs (couplingOf D k j)) (D .E₁) (natAbs (dependentResidual D k)) (slack (ownProblem D) k)
         (passed-of D (answer-ready D (u .long) (u .inside) ∙ e) .residuals k l))
 
-    bound-is : dependentReckoned D ≡ [] → (i : ℕ) → boundWith (workProblem W) (workResidual W) (workSlack W) i ≡ dependentBound D i
+    bound-is : dependentComputed D ≡ [] → (i : ℕ) → boundWith (workProblem W) (workResidual W) (workSlack W) i ≡ dependentBound D i
     unfolding boundWith magnitudesWith margin load defect
     bound-is e i =
         bound-ext (I .n) _ _ _ _ _ i
         (λ m l. slack-ext (I .n) (ownProblem D .G) (ownProblem D .G) (workResidual W) (dependentResidual D) (workSlack W) (dependentSlack D) m (λ j lj. refl) residual-is (slack-is e))
         (λ m l. refl)
 
-    solution-is : (l : List ℕ) → dependentReckoned D ≡ l →
+    solution-is : (l : List ℕ) → dependentComputed D ≡ l →
         ifAccepted l (written (I .solutionBounds) 0 1 (boundWith (workProblem W) (workResidual W) (workSlack W)) (I .n)) (I .solutionBounds)
         ≡ ifAccepted l (written (I .solutionBounds) 0 1 (dependentBound D) (I .n)) (I .solutionBounds)
     solution-is [] e = written-ext (I .solutionBounds) 0 1 (boundWith (workProblem W) (workResidual W) (workSlack W)) (dependentBound D) (I .n) (λ i l. bound-is e i)
     solution-is (k ∷ ks) e = refl
 
-    pub reckoned-dependent : {r : Outcome} {E L : List ℕ} → ReckonedAs W r E L → DependentAs D r E L
-    reckoned-dependent {r} {E} {L} x =
-        let y : dependentAnswer D ≡ dependentReckoned D = answer-ready D (u .long) (u .inside) in
+    pub computed-dependent : {r : Outcome} {E L : List ℕ} → ComputedAs W r E L → DependentAs D r E L
+    computed-dependent {r} {E} {L} x =
+        let y : dependentAnswer D ≡ dependentComputed D = answer-ready D (u .long) (u .inside) in
         record {
           says = x .says ∙ (answer-is ∙ sym y);
-          solution-bounds = rw y ((rw answer-is at (x .solution-bounds)) ∙ solution-is (dependentReckoned D) refl);
+          solution-bounds = rw y ((rw answer-is at (x .solution-bounds)) ∙ solution-is (dependentComputed D) refl);
           inverse-bounds = rw y (unfold bound boundWith magnitudesWith residual margin load defect in rw answer-is at (x .inverse-bounds));
         }

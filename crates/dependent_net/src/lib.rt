@@ -10,7 +10,7 @@ use check_allowances::ALLOWED_RESIDUAL;
 use check_allowances::allowed_of;
 use check_allowances::row_sums_of;
 use check_allowances::slacks_of;
-use check_lists::reckon;
+use check_lists::compute_bounds;
 use check_ranges::are_lists_in_range;
 use check_ranges::are_sizes_in_range;
 use check_ranges::is_short;
@@ -77,7 +77,7 @@ pub fn check_dependent_net(
                     let sums = row_sums_of(matrix, size);
                     let allowed = allowed_of(&slacks, &[ALLOWED_RESIDUAL; 32], size);
                     let allowed_in_columns = allowed_of(&[0u64; 32], &sums, size);
-                    return reckon(
+                    return compute_bounds(
                         size,
                         t,
                         matrix,

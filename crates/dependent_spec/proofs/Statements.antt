@@ -26,7 +26,7 @@ use Rattle.check_spec.proofs.Places.{first-place, no-place}
 use Rattle.check_spec.proofs.Statements as main
 use Rattle.dependent_spec.specs.Nets.{Nets, DependentNet, dependentOf}
 use Rattle.dependent_spec.specs.Reckoning.{ownProblem, dependentExceeds}
-use Rattle.dependent_spec.specs.Order.{dependentShort, dependentInRanges, firstDependentResidual, dependentReckoned, dependentAnswer, jointAnswer}
+use Rattle.dependent_spec.specs.Order.{dependentShort, dependentInRanges, firstDependentResidual, dependentComputed, dependentAnswer, jointAnswer}
 use Rattle.dependent_spec.specs.Stated.{UsableDependent, DependentResiduals, StatedDependent, too-short, out-of-range, margin-low, residual-large, inverse-large, accepted, StatedTogether, of-main, of-dependent, both-accepted}
 
 module _ (D : DependentNet) where
@@ -41,7 +41,7 @@ module _ (D : DependentNet) where
   unfolding dependentAnswer
   answer-range e f = rw (e, f)
 
-  pub answer-ready : dependentShort D ≡ false → dependentInRanges D ≡ true → dependentAnswer D ≡ dependentReckoned D
+  pub answer-ready : dependentShort D ≡ false → dependentInRanges D ≡ true → dependentAnswer D ≡ dependentComputed D
   unfolding dependentAnswer
   answer-ready e f = rw (e, f)
 
@@ -54,21 +54,21 @@ module _ (D : DependentNet) where
   large i = exceeds (columnOf (ownProblem D) (i / n)) (i % n)
 
   -- what is said, by the first row of each kind
-  code-5 : (m : ℕ) → firstMargin (ownProblem D) ≡ m → m < n → dependentReckoned D ≡ 5 ∷ (m + 1) ∷ []
+  code-5 : (m : ℕ) → firstMargin (ownProblem D) ≡ m → m < n → dependentComputed D ≡ 5 ∷ (m + 1) ∷ []
   code-5 m e l = rw e (rw (lt-ltb m n l))
 
-  code-6 : (k : ℕ) → firstMargin (ownProblem D) ≡ n → firstDependentResidual D ≡ k → k < n → dependentReckoned D ≡ 6 ∷ (k + 1) ∷ []
+  code-6 : (k : ℕ) → firstMargin (ownProblem D) ≡ n → firstDependentResidual D ≡ k → k < n → dependentComputed D ≡ 6 ∷ (k + 1) ∷ []
   code-6 k e f l = rw (e, f) (rw (le-ltb n n (omega arith), lt-ltb k n l))
 
   code-7 : (i : ℕ) → firstMargin (ownProblem D) ≡ n → firstDependentResidual D ≡ n → firstInversePlace (ownProblem D) ≡ i → i < n * n →
-      dependentReckoned D ≡ 7 ∷ (i / n + 1) ∷ (i % n + 1) ∷ []
+      dependentComputed D ≡ 7 ∷ (i / n + 1) ∷ (i % n + 1) ∷ []
   code-7 i e f g l = rw (e, f, g) (rw (le-ltb n n (omega arith), lt-ltb i (n * n) l))
 
-  code-0 : firstMargin (ownProblem D) ≡ n → firstDependentResidual D ≡ n → firstInversePlace (ownProblem D) ≡ n * n → dependentReckoned D ≡ []
+  code-0 : firstMargin (ownProblem D) ≡ n → firstDependentResidual D ≡ n → firstInversePlace (ownProblem D) ≡ n * n → dependentComputed D ≡ []
   code-0 e f g = rw (e, f, g) (rw (le-ltb n n (omega arith), le-ltb (n * n) (n * n) (omega arith)))
 
   module _ (u : UsableDependent D) where
-    says : {l : List ℕ} → dependentReckoned D ≡ l → dependentAnswer D ≡ l
+    says : {l : List ℕ} → dependentComputed D ≡ l → dependentAnswer D ≡ l
     says e = answer-ready (u .long) (u .inside) ∙ e
 
     some : 0 < n

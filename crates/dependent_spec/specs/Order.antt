@@ -3,7 +3,7 @@
 --   dependentShort D    — 8 of the dependent net: C, a list of its own or one of its two limit lists is too short
 --   dependentInRanges D — no 3 of it: its own numbers are in their ranges, its s is the main net's, and C is in the matrix range
 --   firstDependentResidual D — the lowest row whose residual with its slack is above 2^25; n where there is none
---   dependentTests D — 5, 6 and 7 at the first place of each;  dependentReckoned D — what is said of these
+--   dependentTests D — 5, 6 and 7 at the first place of each;  dependentComputed D — what is said of these
 --   dependentAnswer D — what is said of the dependent net: 8, 3, 5, 6, 7
 --   jointAnswer J — what is said of both: of the main net what its check says, and of the other where the main net is accepted
 --   netsCode r   — what an answer says: nothing where both nets are accepted, else the net, 1 or 2, the number of the refusal and its values
@@ -19,7 +19,7 @@ use Rattle.rules.specs.Range.{allInRange, shortMatrix}
 use Rattle.rules.specs.Refusal.{numberOf, valuesOf}
 use Rattle.rules.specs.declared.Kind.the-variants as kind
 use Rattle.check_spec.specs.Input.{short, inRanges}
-use Rattle.check_spec.specs.Order.{firstMargin, firstInversePlace, reckoned, answer}
+use Rattle.check_spec.specs.Order.{firstMargin, firstInversePlace, computed, answer}
 use Rattle.dependent_spec.specs.declared.CheckedNets.{CheckedNets}
 use Rattle.dependent_spec.specs.declared.CheckedNets.the-variants.{Accepted, Main, Dependent}
 use Rattle.dependent_spec.specs.Nets.{Nets, DependentNet, dependentOf}
@@ -36,10 +36,10 @@ abbrev pub firstDependentResidual : DependentNet → ℕ
 firstDependentResidual D = first (D .own .n) (dependentExceeds D)
 
 abbrev pub dependentTests : DependentNet → List Test
-dependentTests D = reckoned (D .own .n) (firstMargin (ownProblem D)) (firstDependentResidual D) (firstInversePlace (ownProblem D))
+dependentTests D = computed (D .own .n) (firstMargin (ownProblem D)) (firstDependentResidual D) (firstInversePlace (ownProblem D))
 
-abbrev pub dependentReckoned : DependentNet → List ℕ
-dependentReckoned D = verdict (dependentTests D)
+abbrev pub dependentComputed : DependentNet → List ℕ
+dependentComputed D = verdict (dependentTests D)
 
 unfoldable pub dependentAnswer : DependentNet → List ℕ
 dependentAnswer D = verdict (number 8 (dependentShort D) ∷ number 3 (not (dependentInRanges D)) ∷ dependentTests D)

@@ -13,7 +13,7 @@ use Rattle.linear.specs.Slice.{at}
 use Rattle.rules.specs.Order.{Test, number, verdict}
 use Rattle.enclosure.specs.Reckoning.{exceedsRow}
 use Rattle.check_spec.specs.Input.{Input, problem, short, inRanges}
-use Rattle.check_spec.specs.Order.{firstMargin, firstInversePlace, reckoned}
+use Rattle.check_spec.specs.Order.{firstMargin, firstInversePlace, computed}
 use Rattle.check_spec.specs.Before.{firstResidual05}
 use Rattle.dependent_spec.specs.Nets.{DependentNet}
 
@@ -23,7 +23,7 @@ pub record Uncoupled (D : DependentNet) : Type 0 where
   pub scale : D .own .s ≡ D .s₁
 
 abbrev pub exemptTests : Input → List Test
-exemptTests I = reckoned (I .n) (firstMargin (problem I)) (firstResidual05 (problem I)) (firstInversePlace (problem I))
+exemptTests I = computed (I .n) (firstMargin (problem I)) (firstResidual05 (problem I)) (firstInversePlace (problem I))
 
 unfoldable pub exemptAnswer : Input → List ℕ
 exemptAnswer I = verdict (number 8 (short I) ∷ number 3 (not (inRanges I)) ∷ exemptTests I)

@@ -42,7 +42,7 @@ use Rattle.doubles_lists.specs.declared.Guessed.the-variants as guessed
 use Rattle.doubles_lists.proofs.Enclosed.{encloses-between, checked-between-at-b}
 use Rattle.doubles_lists.proofs.Inward.{after-at, each-double}
 use Rattle.doubles_lists.proofs.Inward as inward
-use Rattle.doubles_lists.proofs.Outward.{low-after, high-after, code-nothing, reckonable}
+use Rattle.doubles_lists.proofs.Outward.{low-after, high-after, code-nothing, small-intervals}
 use Rattle.doubles_lists.proofs.Promises.{comes-back}
 use Rattle.doubles_lists.proofs.Taken.{numbers-taken, checked-taken, guesses-taken}
 
@@ -60,7 +60,7 @@ outward-accepts I e = record {
   lows = refl;
   highs = refl;
   outward = λ n i l.
-      let k = reckonable I (code-nothing I .0 e .1) in
+      let k = small-intervals I (code-nothing I .0 e .1) in
       subst (Outward (I .s) (at (I .guess) i) (getD (I .bounds) i 0)) (ap₂ (λ (x y : Float). record { low = x; high = y }) (sym (low-after I e i l)) (sym (high-after I e i l)))
       (outward (I .s) (at (I .guess) i) (getD (I .bounds) i 0) (k .guesses i l) (k .limits i l));
 }

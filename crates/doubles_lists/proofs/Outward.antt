@@ -1,5 +1,5 @@
 -- Doubles out: the contract of `intervals_of`, case by case, and that each refusal is said exactly where its case holds.
---   ReadyOutward, ready, reckonable — input that passes 8 and 3 can be read, written and reckoned with
+--   ReadyOutward, ready, small_intervals — input that passes 8 and 3 can be read, written and reckoned with
 --   out-short, out-range, out-all — the contract where 8, 3 and nothing is said
 --   code-8, code-3, code-nothing  — 8, 3 and nothing are said exactly where 02 says so
 --   low-after, high-after, ends-else — the lists after the call: their first n places where nothing is said, and every other place as before
@@ -29,7 +29,7 @@ use Rattle.check_spec.proofs.Written.{past-kept}
 use Rattle.doubles_interval.specs.Interval.{Outward}
 use Rattle.doubles_interval.proofs.Heights.{outward}
 use Rattle.doubles_lists.specs.Lists.{doubleAt, exchangeSizes}
-use Rattle.doubles_lists.specs.Outward.{Outgoing, shortOutgoing, boundsInRange, outgoingInRanges, outwardOrder, outwardAnswer, endsAt, lowsAfter, highsAfter, IntervalsOf, Reckonable}
+use Rattle.doubles_lists.specs.Outward.{Outgoing, shortOutgoing, boundsInRange, outgoingInRanges, outwardOrder, outwardAnswer, endsAt, lowsAfter, highsAfter, IntervalsOf, SmallIntervals}
 use Rattle.rules.proofs.Every.{every-at}
 
 pub record ReadyOutward (I : Outgoing) : Type 0 where
@@ -51,8 +51,8 @@ module _ (I : Outgoing) where
         high = omega (arith, few, ltb-false (length (I .high)) 32 (neither-right (shortColumn (length (I .low))) _ e3));
       }
 
-  pub reckonable : outgoingInRanges I ≡ true → Reckonable (I .n) (I .s) (I .guess) (I .bounds)
-  reckonable f =
+  pub small-intervals : outgoingInRanges I ≡ true → SmallIntervals (I .n) (I .s) (I .guess) (I .bounds)
+  small-intervals f =
       let sizes = both-left (exchangeSizes (I .n) (I .s)) _ f in
       let lists = both-right (exchangeSizes (I .n) (I .s)) _ f in
       record {
@@ -98,7 +98,7 @@ module _ (I : Outgoing) where
   unfolding lowsAfter highsAfter
   out-all {low} {high} e f l h =
       let r = ready e (both-left (exchangeSizes (I .n) (I .s)) _ f) in
-      let k = reckonable f in
+      let k = small-intervals f in
       record {
         says = sym (answer-0 e f);
         lows = l ∙ sym (accepted-new _ _ (answer-0 e f));

@@ -37,7 +37,7 @@ module _ (I : Outgoing) {r : Outcome} {low high : List Float} (c : IntervalsOf I
   E = getD (I .bounds) i 0
 
   scale : I .s ≤ 1074
-  scale = omega (arith, outward.reckonable I (outward.code-nothing I .0 (sym (c .says) ∙ ok) .1) .scale)
+  scale = omega (arith, outward.small-intervals I (outward.code-nothing I .0 (sym (c .says) ∙ ok) .1) .scale)
 
   pub no-double-between : (y : Float) → Double y →
       ((whole (doubleAt low i) <ℤ whole y) × (whole y ≤ℤ unitsOf (I .s) (X -ℤ pos E)) → ⊥)
@@ -57,7 +57,7 @@ module _ (I : Outgoing) {r : Outcome} {low high : List Float} (c : IntervalsOf I
   pub exact-at-0 : E ≡ 0 → (whole (doubleAt low i) ≡ unitsOf (I .s) X) × (doubleAt low i ≡ doubleAt high i) × (guessFor (I .s) (doubleAt low i) ≡ X)
   exact-at-0 e =
       let o : Outward (I .s) X 0 (endsIn low high i) = rw e at (c .outward ok i l) in
-      let small : natAbs X < 2 ^ 53 = omega (arith, outward.reckonable I (outward.code-nothing I .0 (sym (c .says) ∙ ok) .1) .guesses i l) in
+      let small : natAbs X < 2 ^ 53 = omega (arith, outward.small-intervals I (outward.code-nothing I .0 (sym (c .says) ∙ ok) .1) .guesses i l) in
       let m = meets (I .s) X small (endsIn low high i) o in
       (m .0, m .1, again (I .s) X scale small (endsIn low high i) o)
 

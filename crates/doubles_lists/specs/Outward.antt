@@ -9,7 +9,7 @@
 --   endsAt I i — the two ends of height i;  endsIn low high i — those at place i of two lists
 --   lowsAfter I, highsAfter I — the lists after the call: the first n ends where nothing is said, the rest as before; all as before on a refusal
 --   IntervalsOf — the contract of `intervals_of`: what is said, the two lists, and each pair of ends in 02's words
---   Reckonable  — numbers in their ranges; cited by `write_intervals` alone
+--   SmallIntervals  — numbers in their ranges; cited by `write_intervals` alone
 use mathlib.Core.Bool.{Bool, not, _&&_, _||_}
 use mathlib.Core.List.{List, [], _∷_}
 use mathlib.Core.Path.{_≡_}
@@ -77,7 +77,7 @@ pub record IntervalsOf (I : Outgoing) (r : Outcome) (low high : List Float) : Ty
   pub highs : high ≡ highsAfter I
   pub outward : code r ≡ [] → (i : ℕ) → i < I .n → Outward (I .s) (at (I .guess) i) (getD (I .bounds) i 0) (endsIn low high i)
 
-pub record Reckonable (n s : ℕ) (guess : List ℤ) (bounds : List ℕ) : Type 0 where
+pub record SmallIntervals (n s : ℕ) (guess : List ℤ) (bounds : List ℕ) : Type 0 where
   pub scale : s ≤ 20
   pub guesses : (i : ℕ) → i < n → natAbs (at guess i) ≤ 2 ^ 36
   pub limits : (i : ℕ) → i < n → getD bounds i 0 ≤ 2 ^ 60

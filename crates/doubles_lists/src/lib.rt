@@ -11,7 +11,7 @@ ghost use Rattle.doubles_guess.specs.Guess.{hasGuess, guessFor};
 ghost use Rattle.doubles_interval.specs.Interval.{intervalOf};
 ghost use Rattle.doubles_lists.specs.Lists.{doubleAt, exchangeSizes};
 ghost use Rattle.doubles_lists.specs.Inward.{GuessesOf, incoming};
-ghost use Rattle.doubles_lists.specs.Outward.{IntervalsOf, outgoing, Reckonable, anyOutgoingShort};
+ghost use Rattle.doubles_lists.specs.Outward.{IntervalsOf, outgoing, SmallIntervals, anyOutgoingShort};
 use doubles_guess::guess_of;
 use doubles_interval::interval_of;
 use rules::COLUMN_LENGTH;
@@ -103,7 +103,7 @@ fn write_intervals(
     high: &mut [f64],
 )
     requires { ⌜ (n ≤ length (now guess)) × ((n ≤ length (now bounds)) × ((n ≤ length (now low)) × (n ≤ length (now high)))) ⌝ }
-    requires { ⌜ Reckonable n s (now guess) (now bounds) ⌝ }
+    requires { ⌜ SmallIntervals n s (now guess) (now bounds) ⌝ }
     ensures { λ _. ⌜ now (low .exit) ≡ written (now (low .entry)) 0 1 (λ (i : ℕ). intervalOf s (at (now (guess .entry)) i) (getD (now (bounds .entry)) i 0) .low) n ⌝ }
     ensures { λ _. ⌜ now (high .exit) ≡ written (now (high .entry)) 0 1 (λ (i : ℕ). intervalOf s (at (now (guess .entry)) i) (getD (now (bounds .entry)) i 0) .high) n ⌝ }
 {

@@ -25,7 +25,7 @@ use Rattle.enclosure.specs.Demand.{Encloses, RoundedExact}
 use Rattle.check_spec.specs.Checked.{solutionBoundsAfter, inverseBoundsAfter}
 use Rattle.check_spec.specs.Input.{Input, problem, short, inRanges}
 use Rattle.check_spec.specs.Stated.{Stated}
-use Rattle.check_spec.specs.Order.{answer, reckonedOf}
+use Rattle.check_spec.specs.Order.{answer, computedOf}
 use Rattle.check_spec.proofs.Contract.{answer-short, answer-range}
 use Rattle.check_spec.proofs.Statements.{stated, code-of}
 use Rattle.half_fill.specs.Half.{halfCount, shortHalf}
@@ -67,7 +67,7 @@ module _ (H : Input) (r : Outcome) (E L : List ℕ) (h : CheckedHalf H r E L) wh
       go : Length H → (code r ≡ 8 ∷ []) ↔ (shortHalf (length (H .matrix)) || short (filledInput H) ≡ true)
       go (under e) = (λ _. rw e, λ _. h .short-half e .0)
       go (enough e) =
-          let exact = code-exactly [] (number 8 (short (filledInput H))) (number 3 (not (inRanges (filledInput H))) ∷ reckonedOf (problem (filledInput H))) refl refl in
+          let exact = code-exactly [] (number 8 (short (filledInput H))) (number 3 (not (inRanges (filledInput H))) ∷ computedOf (problem (filledInput H))) refl refl in
           let s = h .as-square e .says in
           (λ t. rw e (exact .0 (sym s ∙ t) .1), λ t. s ∙ answer-short (filledInput H) (rw e at t))
 

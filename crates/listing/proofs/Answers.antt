@@ -10,7 +10,7 @@ use lib.Dec.{ltb}
 use lib.ListN.{getD}
 use Rattle.rules.specs.Order.{verdict, ifAccepted, orElse}
 use Rattle.enclosure.specs.Problem.{Problem}
-use Rattle.check_spec.specs.Order.{firstMargin, firstResidual, firstInversePlace, reckoned, checkedOf}
+use Rattle.check_spec.specs.Order.{firstMargin, firstResidual, firstInversePlace, computed, checkedOf}
 use Rattle.loader_lists.specs.Lists.{shortLists}
 use Rattle.loader_order.specs.Order.{LineCase, lineOrder}
 use Rattle.loader.specs.Answer.{caseOf, lineAnswer}
@@ -64,8 +64,8 @@ lines-answer k u (line ∷ lines) h =
     (λ e. lines-answer (k + 1) (step u line) lines (step-long u line e h))
 
 -- ---- the check
-reckoned-answers : (n m k i : ℕ) → Answers (printed 0 (verdict (reckoned n m k i)))
-reckoned-answers n m k i = go (ltb m n) (ltb k n) (ltb i (n * n))
+computed-answers : (n m k i : ℕ) → Answers (printed 0 (verdict (computed n m k i)))
+computed-answers n m k i = go (ltb m n) (ltb k n) (ltb i (n * n))
   where
     go : (a b c : Bool) → Answers (printed 0 (cond a (5 ∷ (m + 1) ∷ []) (cond b (6 ∷ (k + 1) ∷ []) (cond c (7 ∷ (i / n + 1) ∷ (i % n + 1) ∷ []) []))))
     go true b c = margin (m + 1) (omega arith)
@@ -74,7 +74,7 @@ reckoned-answers n m k i = go (ltb m n) (ltb k n) (ltb i (n * n))
     go false false false = answers.accepted
 
 checked-answers : (P : Problem) → Answers (printed 0 (checkedOf P))
-checked-answers P = reckoned-answers (P .n) (firstMargin P) (firstResidual P) (firstInversePlace P)
+checked-answers P = computed-answers (P .n) (firstMargin P) (firstResidual P) (firstInversePlace P)
 
 -- ---- the file
 later-answers : (b : Bool) (l : List ℕ) → Answers (printed 0 l) → Answers (printed 0 (cond b l (15 ∷ [])))

@@ -13,7 +13,7 @@ use Rattle.rules.specs.declared.Outcome.{Outcome}
 use Rattle.linear.specs.Matrix.{Vec, Mat}
 use Rattle.enclosure.specs.Demand.{Encloses, RoundedExact}
 use Rattle.check_spec.specs.Input.{Input, problem, short, inRanges}
-use Rattle.check_spec.specs.Order.{reckonedOf}
+use Rattle.check_spec.specs.Order.{computedOf}
 use Rattle.check_spec.specs.Checked.{solutionAfter, inverseAfter}
 use Rattle.loader_progress.specs.Progress.{ended}
 use Rattle.loader_progress.specs.declared.Stage.{Stage}
@@ -23,7 +23,7 @@ orderThrough s I =
     number 8 (short I)
     ∷ number 15 (not (ended s))
     ∷ number 3 (not (inRanges I))
-    ∷ reckonedOf (problem I)
+    ∷ computedOf (problem I)
 
 unfoldable pub answerThrough : Stage → Input → List ℕ
 answerThrough s I = verdict (orderThrough s I)

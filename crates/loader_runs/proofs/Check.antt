@@ -2,7 +2,7 @@
 --   length-put  — a line leaves the lengths of the lists
 --   run-long, lists-long — lists that are long enough stay so, and at an accepted end they are
 --   enough      — with limit lists that are long enough too, a check does not say 8
---   reckons, end-answers — the check answers accepted, 5, 6 or 7 only
+--   computes, end-answers — the check answers accepted, 5, 6 or 7 only
 --   inside      — nor 3, where every number is in its range
 use mathlib.Core.Path.{_≡_, refl, _∙_}
 use mathlib.Core.Bool.{Bool, true, false, cond}
@@ -30,7 +30,7 @@ use Rattle.loader_lists.proofs.Lists.{LongLists, long-lent}
 use Rattle.loader_progress.specs.Progress.{setOf, ended}
 use Rattle.check_spec.specs.Input.{problem, inRanges}
 use Rattle.check_spec.specs.Input as checker
-use Rattle.check_spec.specs.Order.{reckoned, firstMargin, firstResidual, firstInversePlace}
+use Rattle.check_spec.specs.Order.{computed, firstMargin, firstResidual, firstInversePlace}
 use Rattle.check_spec.proofs.Contract.{answer-ready}
 use Rattle.loader_order.specs.Through.{answerThrough}
 use Rattle.loader.specs.declared.Loader.{Loader}
@@ -39,7 +39,7 @@ use Rattle.loader.proofs.Accepted.{accepted-form}
 use Rattle.loader_order.proofs.Through.{answer-ended}
 use Rattle.loader_runs.specs.Run.{State, fromNew, step}
 use Rattle.loader_runs.specs.Accepts.{run, Accepts}
-use Rattle.loader_runs.specs.Holds.{inputOf, InRange, ReckoningSays, accepted, margin, residual, inverseResidual}
+use Rattle.loader_runs.specs.Holds.{inputOf, InRange, ComputedSays, accepted, margin, residual, inverseResidual}
 use Rattle.loader_runs.proofs.End.{in-range}
 
 -- ---- lengths
@@ -80,10 +80,10 @@ lists-long l (line ∷ lines) a e =
     run-long (fromNew l) (line ∷ lines) a (r .1 .long)
 
 -- ---- the check
-pub reckons : (n m k i : ℕ) → ReckoningSays (verdict (reckoned n m k i))
-reckons n m k i = go (ltb m n) (ltb k n) (ltb i (n * n))
+pub computes : (n m k i : ℕ) → ComputedSays (verdict (computed n m k i))
+computes n m k i = go (ltb m n) (ltb k n) (ltb i (n * n))
   where
-    go : (a b c : Bool) → ReckoningSays (cond a (5 ∷ (m + 1) ∷ []) (cond b (6 ∷ (k + 1) ∷ []) (cond c (7 ∷ (i / n + 1) ∷ (i % n + 1) ∷ []) [])))
+    go : (a b c : Bool) → ComputedSays (cond a (5 ∷ (m + 1) ∷ []) (cond b (6 ∷ (k + 1) ∷ []) (cond c (7 ∷ (i / n + 1) ∷ (i % n + 1) ∷ []) [])))
     go true b c = margin (m + 1)
     go false true c = residual (k + 1)
     go false false true = inverseResidual (i / n + 1) (i % n + 1)
@@ -101,7 +101,7 @@ module _ (l : Lists) (lines : List (List ℕ)) (a : Accepts (fromNew l) lines) (
   abbrev last : State
   last = run (fromNew l) lines
 
-  pub end-answers : ReckoningSays (answerThrough (last .loader .stage) (inputOf last E L))
+  pub end-answers : ComputedSays (answerThrough (last .loader .stage) (inputOf last E L))
   end-answers =
       rw (answer-ended (last .loader .stage) (inputOf last E L) e, answer-ready (inputOf last E L) (enough last E L (lists-long l lines a e) few many) (inside last E L (in-range l lines a e)))
-      (reckons (last .loader .n) (firstMargin (problem (inputOf last E L))) (firstResidual (problem (inputOf last E L))) (firstInversePlace (problem (inputOf last E L))))
+      (computes (last .loader .n) (firstMargin (problem (inputOf last E L))) (firstResidual (problem (inputOf last E L))) (firstInversePlace (problem (inputOf last E L))))

@@ -5,7 +5,7 @@
 --   cell l n s i j — its number j, from 0, for the number i, from 1, in lists of a system of n equations
 --   inputOf u E L — what the loader and its lists hand to a check, with the limit lists E and L
 --   InRange u    — every number that a check uses is in its range
---   ReckoningSays w — w is nothing, 5, 6 or 7
+--   ComputedSays w — w is nothing, 5, 6 or 7
 use mathlib.Core.Bool.{true}
 use mathlib.Core.List.{List, [], _∷_}
 use mathlib.Core.Path.{_≡_}
@@ -79,8 +79,8 @@ pub record InRange (u : State) : Type 0 where
   pub weights : allInRange kind.Weight (u .loader .n) (λ (k : ℕ). getD (u .lists .weights) k (pos 0)) ≡ true
 
 -- what a check can still say when 8, 15 and 3 do not hold
-pub data ReckoningSays : List ℕ → Type 0 where
-  accepted : ReckoningSays []
-  margin : (row : ℕ) → ReckoningSays (5 ∷ row ∷ [])
-  residual : (row : ℕ) → ReckoningSays (6 ∷ row ∷ [])
-  inverseResidual : (column row : ℕ) → ReckoningSays (7 ∷ column ∷ row ∷ [])
+pub data ComputedSays : List ℕ → Type 0 where
+  accepted : ComputedSays []
+  margin : (row : ℕ) → ComputedSays (5 ∷ row ∷ [])
+  residual : (row : ℕ) → ComputedSays (6 ∷ row ∷ [])
+  inverseResidual : (column row : ℕ) → ComputedSays (7 ∷ column ∷ row ∷ [])

@@ -57,16 +57,16 @@ refused-line-leaves d line l r l′ x h =
     (x .loader ∙ refused-old _ _ _ a, x .lists ∙ refused-old _ _ _ a)
 
 -- ---- Demand 2
-pub limits-reckoned : demand.LimitsReckoned
-limits-reckoned P E L (on-lists I r E′ L′ x e) = (checked-solution I r E′ L′ x e, checked-inverse I r E′ L′ x e)
-limits-reckoned P E L (through-loader s I r E′ L′ x e) =
+pub limits-computed : demand.LimitsComputed
+limits-computed P E L (on-lists I r E′ L′ x e) = (checked-solution I r E′ L′ x e, checked-inverse I r E′ L′ x e)
+limits-computed P E L (through-loader s I r E′ L′ x e) =
     let y = through-lists s I x e in
     (checked-solution I r E′ L′ y e, checked-inverse I r E′ L′ y e)
-limits-reckoned P E L (by-half H r E′ L′ x e) =
+limits-computed P E L (by-half H r E′ L′ x e) =
     let y = half-lists H r E′ L′ x e in
     (checked-solution (filledInput H) r E′ L′ y e, checked-inverse (filledInput H) r E′ L′ y e)
-limits-reckoned P E L (of-file file old new r x z) = (λ i l. refl, λ i j li lj. refl)
-limits-reckoned P E L (of-listing file old new count x b) = (λ i l. refl, λ i j li lj. refl)
+limits-computed P E L (of-file file old new r x z) = (λ i l. refl, λ i j li lj. refl)
+limits-computed P E L (of-listing file old new count x b) = (λ i l. refl, λ i j li lj. refl)
 
 pub file-shows-limits : demand.FileShowsLimits
 file-shows-limits file old new r x z = x .listed .bytes ∙ file-reported file (answered-none x z)

@@ -41,7 +41,7 @@ use Rattle.promises.specs.Ways.{StatedThrough, not-ended, as-on-lists}
 use Rattle.promises.specs.Ways as ways
 use Rattle.promises.proofs.Ways.{accepted-sound}
 use Rattle.promises.proofs.Cases01.{LargeInverse, back, case-of, code-as, never-15}
-use Rattle.promises.proofs.Demands.{limits-reckoned, through-refuses-as-stated}
+use Rattle.promises.proofs.Demands.{limits-computed, through-refuses-as-stated}
 
 -- ---- The system and its steps
 pub sizes-ranged : document.SizesRanged
@@ -116,12 +116,12 @@ residuals-small P E L a k l = within P k (accepted-sound P E L a .residuals k l)
 
 pub limit-is-largest : document.LimitIsLargest
 unfolding bound boundWith boundFrom magnitudesWith apply
-limit-is-largest P E L a i l = limits-reckoned P E L a .0 i l
+limit-is-largest P E L a i l = limits-computed P E L a .0 i l
 
 pub inverse-limit-is : document.InverseLimitIs
 inverse-limit-is P E L a i j li lj k lk =
     let h = within (columnOf P j) k (accepted-sound P E L a .columns j lj k lk) .0 in
-    (limits-reckoned P E L a .1 i j li lj, (refl, (refl, (refl, omega (arith, h)))))
+    (limits-computed P E L a .1 i j li lj, (refl, (refl, (refl, omega (arith, h)))))
 
 abbrev value-of : Registered → ℤ → ℤ
 value-of (Entry v b) z = v

@@ -37,8 +37,8 @@ module _ (J : Nets) (r : CheckedNets) (E₁ L₁ E₂ L₂ : List ℕ) (x : Chec
   dependent-fit : Fit (J .dependent)
   dependent-fit = own-fit (dependentOf J) (passed-of (dependentOf J) (joint-none J none .1) .usable)
 
-pub both-limits-reckoned : paper.BothLimitsReckoned
-both-limits-reckoned J r E₁ L₁ E₂ L₂ x e =
+pub both-limits-computed : paper.BothLimitsComputed
+both-limits-computed J r E₁ L₁ E₂ L₂ x e =
     let f = main-fit J r E₁ L₁ E₂ L₂ x e in
     let g = dependent-fit J r E₁ L₁ E₂ L₂ x e in
     let z = none J r E₁ L₁ E₂ L₂ x e in (
@@ -46,8 +46,8 @@ both-limits-reckoned J r E₁ L₁ E₂ L₂ x e =
       λ i l. rw (x .dependent-solution, z) (front-at (J .dependent .solutionBounds) (dependentBound (dependentOf J)) 0 (J .dependent .n) i l (omega (arith, g .few, g .solution-long))),
     )
 
-pub both-inverse-limits-reckoned : paper.BothInverseLimitsReckoned
-both-inverse-limits-reckoned J r E₁ L₁ E₂ L₂ x e =
+pub both-inverse-limits-computed : paper.BothInverseLimitsComputed
+both-inverse-limits-computed J r E₁ L₁ E₂ L₂ x e =
     let z = none J r E₁ L₁ E₂ L₂ x e in (
       λ i j li lj. rw (x .main-inverse, z) (inverse-at (J .main) (main-fit J r E₁ L₁ E₂ L₂ x e) i j li lj),
       λ i j li lj. rw (x .dependent-inverse, z) (inverse-at (J .dependent) (dependent-fit J r E₁ L₁ E₂ L₂ x e) i j li lj),

@@ -20,7 +20,7 @@ use Rattle.dependent_spec.specs.Order.{netsCode}
 use Rattle.dependent_spec.specs.Together.{CheckedTogether}
 use Rattle.dependent_spec.specs.declared.CheckedNets.{CheckedNets}
 use Rattle.accepted_limits.specs.TwoNets.{GoodNets}
-use Rattle.loader_runs.specs.Holds.{ReckoningSays}
+use Rattle.loader_runs.specs.Holds.{ComputedSays}
 use Rattle.loader_runs.specs.Lines.{linesOf}
 use Rattle.loader_runs.specs.Run.{forms}
 use Rattle.file_shape.specs.Shape.{Shaped}
@@ -54,7 +54,7 @@ FactorLeast =
 -- ---- Whole files
 -- a file of 01's shape is accepted or refused with 5, 6 or 7, and with nothing else: never "missing" or "not ended" for a complete file
 abbrev pub ShapedAnswers : Type 0
-ShapedAnswers = (file old new : List ℕ) (r : FileAnswer) → AnsweredAs file old new r → Shaped file → (w : List ℕ) × (ReckoningSays w × (r .reply ≡ replyOf w))
+ShapedAnswers = (file old new : List ℕ) (r : FileAnswer) → AnsweredAs file old new r → Shaped file → (w : List ℕ) × (ComputedSays w × (r .reply ≡ replyOf w))
 
 -- "the rest in any order": complete files with the same forms, in whatever order, have the same listing
 abbrev pub AnyOrderSame : Type 0

@@ -57,8 +57,8 @@ RefusedLineLeaves =
     (r .loader ≡ d) × (l′ ≡ l)
 
 -- ---- Demand 2: "Each limit is the whole number that Schröder's theorem, in the reckoning of document 01, fixes for that place"
-abbrev pub LimitsReckoned : Type 0
-LimitsReckoned =
+abbrev pub LimitsComputed : Type 0
+LimitsComputed =
     (P : Problem) (E : ℕ → ℕ) (L : ℕ → ℕ → ℕ) → Accepted P E L →
     ((i : ℕ) → i < P .n → E i ≡ bound P i) × ((i j : ℕ) → i < P .n → j < P .n → L i j ≡ inverseBound P i j)
 

@@ -39,14 +39,14 @@ DependentSlackIs =
     dependentSlack (dependentOf J) k ≡ sumℕ n₁ (λ (j : ℕ). natAbs (at (J .coupling) (k * n₁ + j)) * bound (mainProblem J) j) + S P * P .d k
 
 -- what is written where both are accepted: the limits of Papers 1 to 5 with that residual and slack (demand 2)
-abbrev pub BothLimitsReckoned : Type 0
-BothLimitsReckoned =
+abbrev pub BothLimitsComputed : Type 0
+BothLimitsComputed =
     (J : Nets) (r : CheckedNets) (E₁ L₁ E₂ L₂ : List ℕ) → CheckedTogether J r E₁ L₁ E₂ L₂ → netsCode r ≡ [] →
     ((i : ℕ) → i < J .main .n → getD E₁ i 0 ≡ bound (mainProblem J) i)
     × ((i : ℕ) → i < J .dependent .n → getD E₂ i 0 ≡ boundWith (dependentProblem J) (dependentResidual (dependentOf J)) (dependentSlack (dependentOf J)) i)
 
-abbrev pub BothInverseLimitsReckoned : Type 0
-BothInverseLimitsReckoned =
+abbrev pub BothInverseLimitsComputed : Type 0
+BothInverseLimitsComputed =
     (J : Nets) (r : CheckedNets) (E₁ L₁ E₂ L₂ : List ℕ) → CheckedTogether J r E₁ L₁ E₂ L₂ → netsCode r ≡ [] →
     ((i j : ℕ) → i < J .main .n → j < J .main .n → getD L₁ (i * J .main .n + j) 0 ≡ inverseBound (mainProblem J) i j)
     × ((i j : ℕ) → i < J .dependent .n → j < J .dependent .n → getD L₂ (i * J .dependent .n + j) 0 ≡ inverseBound (dependentProblem J) i j)

@@ -5,7 +5,7 @@ use Rattle.check_spec.specs.Input.{Input, input, short, sizesInRange, inRanges}
 use Rattle.check_spec.proofs.Contract.{checked-short, checked-range}
 use Rattle.check_spec.proofs.Fit.{Fit, fit-of}
 use Rattle.check_spec.proofs.Lengths.{long-of}
-use Rattle.check_lists.proofs.Handed.{Handed, workable, reckoned-checked}
+use Rattle.check_lists.proofs.Handed.{Handed, workable, computed-checked}
 use borrow.Author.Needs.{needs}
 use Rattle.check_lists.proofs.check.Statement.{statement}
 use Rattle.check_lists.proofs.check.Tie as tie
@@ -96,8 +96,8 @@ allowed-of-requires c κs = fit (c .before .before .before .before .before) .few
 allowed-of-requires-2 : tie.Need-allowed-of-requires-2
 allowed-of-requires-2 c κs = fit (at-right (c .before .before) .before .before .before) .few
 
-reckon-requires : tie.Need-reckon-requires
-reckon-requires c κs =
+compute-bounds-requires : tie.Need-compute-bounds-requires
+compute-bounds-requires c κs =
     let z = ready (c .before .before) in
     let t = admitted z in workable (I (start t)) (long (t .before .before .before .before)) (within t) (handed z)
 
@@ -111,7 +111,7 @@ returns-2 : tie.Need-returns-2
 returns-2 c =
     let r = c .before .before .before .before in
     let z = ready (r .before .before .before) in
-    let t = admitted z in reckoned-checked (I (start t)) (long (t .before .before .before .before)) (within t) (handed z) (r .reckon .ensures)
+    let t = admitted z in computed-checked (I (start t)) (long (t .before .before .before .before)) (within t) (handed z) (r .compute-bounds .ensures)
 
 returns-3 : tie.Need-returns-3
 returns-3 c =
@@ -137,7 +137,7 @@ check-spec =
     scaled-right-requires
     allowed-of-requires
     allowed-of-requires-2
-    reckon-requires
+    compute-bounds-requires
     same-length
     same-length-2
     returns-2

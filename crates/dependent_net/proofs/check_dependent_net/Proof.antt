@@ -16,7 +16,7 @@ use Rattle.dependent_spec.specs.Nets.{DependentNet, dependentBy}
 use Rattle.dependent_spec.specs.Order.{dependentShort}
 use Rattle.dependent_spec.specs.Stated.{UsableDependent}
 use Rattle.dependent_spec.proofs.Statements.{own-fit}
-use Rattle.dependent_net.proofs.Handed.{HandedDependent, coupling-list, scaled-list, own-slacks, workable, reckoned-dependent}
+use Rattle.dependent_net.proofs.Handed.{HandedDependent, coupling-list, scaled-list, own-slacks, workable, computed-dependent}
 use Rattle.dependent_net.proofs.Refused.{dependent-short, dependent-range}
 use borrow.Author.Needs.{needs}
 use Rattle.dependent_net.proofs.check_dependent_net.Statement.{statement}
@@ -182,8 +182,8 @@ allowed-of-requires c κs = fit (at-base (c .before .before) .before .before) .f
 allowed-of-requires-2 : tie.Need-allowed-of-requires-2
 allowed-of-requires-2 c κs = fit (at-base (at-sums (c .before .before)) .before .before) .few
 
-reckon-requires : tie.Need-reckon-requires
-reckon-requires c κs =
+compute-bounds-requires : tie.Need-compute-bounds-requires
+compute-bounds-requires c κs =
     let z = ready (c .before .before) in
     let t = place z in
     let s = start6 t in workable (s .args .marks) (s .args .main-scale) (s .args .main-guess .now) (s .args .main-limits) (s .args .coupling .now) (I s) (s .pre .0) (s .pre .1) (usable t) (handed z)
@@ -200,7 +200,7 @@ returns-3 c =
     let z = ready (r .before .before .before) in
     let t = place z in
     let s = start6 t in
-    reckoned-dependent (s .args .marks) (s .args .main-scale) (s .args .main-guess .now) (s .args .main-limits) (s .args .coupling .now) (I s) (s .pre .0) (s .pre .1) (usable t) (handed z) (r .reckon .ensures)
+    computed-dependent (s .args .marks) (s .args .main-scale) (s .args .main-guess .now) (s .args .main-limits) (s .args .coupling .now) (I s) (s .pre .0) (s .pre .1) (usable t) (handed z) (r .compute-bounds .ensures)
 
 returns-4 : tie.Need-returns-4
 returns-4 c =
@@ -242,7 +242,7 @@ check-dependent-net-spec =
     row-sums-of-requires
     allowed-of-requires
     allowed-of-requires-2
-    reckon-requires
+    compute-bounds-requires
     same-length
     same-length-2
     returns-3

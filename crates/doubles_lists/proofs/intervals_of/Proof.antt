@@ -6,7 +6,7 @@ use Rattle.rules.specs.declared.Kind.the-variants as kind
 use Rattle.rules.proofs.Ranges.{both, not-both, not-first}
 use Rattle.doubles_lists.specs.Lists.{exchangeSizes}
 use Rattle.doubles_lists.specs.Outward.{Outgoing, outgoing, shortOutgoing, outgoingInRanges}
-use Rattle.doubles_lists.proofs.Outward.{ReadyOutward, ready, reckonable, out-short, out-range, out-all}
+use Rattle.doubles_lists.proofs.Outward.{ReadyOutward, ready, small-intervals, out-short, out-range, out-all}
 use borrow.Author.Needs.{needs}
 use Rattle.doubles_lists.proofs.intervals_of.Statement.{statement}
 use Rattle.doubles_lists.proofs.intervals_of.Tie as tie
@@ -63,7 +63,7 @@ write-intervals-requires : tie.Need-write-intervals-requires
 write-intervals-requires c κs =
     let t = c .before .before in
     let h = here (t .before .before .before .before) in
-    ((h .guess, (h .bounds, (h .low, h .high))), reckonable (I (at3 (t .before .before))) (within t))
+    ((h .guess, (h .bounds, (h .low, h .high))), small-intervals (I (at3 (t .before .before))) (within t))
 
 same-length : tie.Need-same-length
 same-length c = search needs

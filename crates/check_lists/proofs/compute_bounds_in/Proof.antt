@@ -13,8 +13,8 @@ use Rattle.check_lists.proofs.Outcome.{WorkedOut, refused, positive-her
 use Rattle.check_lists.proofs.Rows.{inverse-rows, workColumn, margins-are, columns-are}
 use Rattle.check_lists.proofs.Mirror.{mirrored-product}
 use borrow.Author.Needs.{needs}
-use Rattle.check_lists.proofs.reckon_in.Statement.{statement}
-use Rattle.check_lists.proofs.reckon_in.Tie as tie
+use Rattle.check_lists.proofs.compute_bounds_in.Statement.{statement}
+use Rattle.check_lists.proofs.compute_bounds_in.Tie as tie
 
 -- stages on the way: the start, after the residuals of the inverse, the margins, the first row that fails, the judgement, the caps, the limits of the solution and their store
 abbrev at-start : tie.After-slice-known5 → tie.Start
@@ -232,8 +232,8 @@ returns-2 c =
     let s = stored (at-limits z) in
     accepted-here (W (start j)) (start j .pre .1) (worked j) (told .enum-told .given .1) (s .before .before .column-bounds .ensures) (s .store .ensures) (returned c .before .store-columns .ensures)
 
-pub reckon-in-spec : {M : Type 1} → statement M
-reckon-in-spec =
+pub compute-bounds-in-spec : {M : Type 1} → statement M
+compute-bounds-in-spec =
     tie.close
     (tie.spec
     raise-rows-requires
