@@ -1,6 +1,6 @@
 -- Sizes of the reckoning's numbers, all within an i64.
 --   power-magnitude, unit-same, unit-other, unit-magnitude, scaled-magnitude — of 2^t, of the numbers of T·I and of S·b
---   raisable — a matrix list, as `raise_rows` and `raise_columns` ask for it
+--   raisable — a matrix list, as `bias_rows` and `bias_columns` ask for it
 --   Ranged P, defect-most — n at most 32, t at most 20, A and G at most 2^20 in size: then |D_mj| ≤ 2^45 + 2^20
 --   ranged-of, defect-magnitude — of lists in these ranges;  residual-exchanged — a residual of the inverse is a number of D with the two matrices exchanged
 --   residual-magnitude — its size
@@ -22,7 +22,7 @@ use Rattle.linear.specs.Matrix.{identity, apply, product}
 use Rattle.linear.specs.Reach.{ColumnList, MatrixList}
 use Rattle.linear.proofs.Product.{identity-same, identity-other}
 use Rattle.linear.proofs.Places.{place, square}
-use Rattle.check_biased_rows.specs.Raised.{raisedBy}
+use Rattle.check_biased_rows.specs.Biased.{bias}
 use Rattle.enclosure.specs.Problem.{Problem, problemOf}
 use Rattle.enclosure.specs.Reckoning.{defect, residual}
 use Rattle.check_arrays.specs.Parts.{columnResidual, aboveAllowed}
@@ -50,8 +50,8 @@ unit-other x i j e = rw (identity-other i j e) (ap pos (omega arith))
 pub scaled-magnitude : (s : ℕ) (b : ℤ) → s ≤ 20 → natAbs b ≤ 2 ^ 30 → natAbs (pos (2 ^ s) *ℤ b) ≤ 2 ^ 50
 scaled-magnitude s b h k = rw (abs-* (pos (2 ^ s)) b) (le-trans (mul-le-mul (power-magnitude s h) k) (lit≤ tt))
 
--- a matrix list, as `raise_rows` and `raise_columns` ask for it
-pub raisable : {xs : List ℤ} {n : ℕ} → MatrixList xs n → ColumnList xs (n * n) raisedBy
+-- a matrix list, as `bias_rows` and `bias_columns` ask for it
+pub raisable : {xs : List ℤ} {n : ℕ} → MatrixList xs n → ColumnList xs (n * n) bias
 raisable q = record { long = q .long; within = record { magnitudes = λ k l. le-trans (q .within .magnitudes k l) (lit≤ tt) } }
 
 -- the numbers of D, for a problem in 01's ranges

@@ -10,7 +10,7 @@ use lib.IntN.{ℤ, pos, natAbs, _-ℤ_}
 use lib.Signed.{ltZ}
 use Rattle.linear.specs.Matrix.{apply}
 use Rattle.linear.specs.Slice.{at, vectorOf, matrixOf}
-use Rattle.check_biased_rows.specs.Raised.{loweredRows}
+use Rattle.check_biased_rows.specs.Biased.{unbiasedRows}
 use Rattle.enclosure.specs.Problem.{Problem, T, columnOf, problemOf}
 use Rattle.enclosure.specs.Reckoning.{load, residual}
 
@@ -23,7 +23,7 @@ rowsPart n t matrix rows = record {
   b = λ (i : ℕ). pos 0;
   d = λ (i : ℕ). 0;
   X = λ (i : ℕ). pos 0;
-  G = loweredRows rows n;
+  G = unbiasedRows rows n;
   w = λ (i : ℕ). 0;
 }
 

@@ -3,8 +3,8 @@
 use mathlib.Core.List.{List}
 use Prim.Native.Nat.{ℕ, _≤_, _<_, _^_}
 use lib.IntN.{natAbs}
-use Rattle.check_biased_rows.specs.Raised.{RaisedRows, loweredRows}
+use Rattle.check_biased_rows.specs.Biased.{BiasedRows, unbiasedRows}
 
 pub record InverseRows (xs : List ℕ) (n : ℕ) : Type 0 where
-  pub rows : RaisedRows xs n
-  pub magnitudes : (i k : ℕ) → i < n → k < n → natAbs (loweredRows xs n i k) ≤ 2 ^ 20
+  pub rows : BiasedRows xs n
+  pub magnitudes : (i k : ℕ) → i < n → k < n → natAbs (unbiasedRows xs n i k) ≤ 2 ^ 20

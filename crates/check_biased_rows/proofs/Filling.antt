@@ -14,12 +14,12 @@ use lib.Seq.{getD-set-same, getD-set-other}
 use Rattle.integer.specs.Finite.{sumℕ}
 use Rattle.integer.proofs.Sum.{sumℕ-none, sumℕ-next, sumℕ-ext, sumℕ≤}
 use Rattle.linear.proofs.Places.{square}
-use Rattle.check_biased_rows.specs.Raised.{lowered, Small, RowOf, RowsOf, Kept}
+use Rattle.check_biased_rows.specs.Biased.{unbiased, Small, RowOf, RowsOf, Kept}
 
 pub record RowPart (before out : List ℕ) (p k : ℕ) (f : ℕ → ℤ) (sum : ℕ) : Type 0 where
   pub kept : Kept before out p
   pub small : Small out p k
-  pub each : (j : ℕ) → j < k → lowered (getD out (p + j) 0) ≡ f j
+  pub each : (j : ℕ) → j < k → unbiased (getD out (p + j) 0) ≡ f j
   pub total : sum ≡ sumℕ k (λ (j : ℕ). getD out (p + j) 0)
 
 pub part-none : (out : List ℕ) (p : ℕ) (f : ℕ → ℤ) → RowPart out out p 0 f 0
@@ -51,15 +51,15 @@ module _ {before out : List ℕ} {p k sum : ℕ} {f : ℕ → ℤ} (h : RowPart 
     here : getD (set out (p + k) x) (p + k) 0 ≡ x
     here = getD-set-same out (p + k) x 0 inside
 
-  more : (x : ℕ) → lowered x ≡ f k → x ≤ 2 ^ 26 → RowPart before (set out (p + k) x) p (k + 1) f (sum + x)
+  more : (x : ℕ) → unbiased x ≡ f k → x ≤ 2 ^ 26 → RowPart before (set out (p + k) x) p (k + 1) f (sum + x)
   more x e s = record {
     kept = kept-more x;
     small = record { each = below-more (λ j. getD (set out (p + k) x) (p + j) 0 ≤ 2 ^ 26) k (λ j l. rw (same x (p + j) (omega arith)) (h .small .each j l)) (rw (here x) s) };
-    each = below-more (λ j. lowered (getD (set out (p + k) x) (p + j) 0) ≡ f j) k (λ j l. rw (same x (p + j) (omega arith)) (h .each j l)) (rw (here x) e);
+    each = below-more (λ j. unbiased (getD (set out (p + k) x) (p + j) 0) ≡ f j) k (λ j l. rw (same x (p + j) (omega arith)) (h .each j l)) (rw (here x) e);
     total = sym (sumℕ-next k _ ∙ rw (sum-same x, here x, h .total));
   }
 
-  pub part-more : {to : ℕ} → to ≡ p + k → (x : ℕ) → lowered x ≡ f k → x ≤ 2 ^ 26 → RowPart before (set out to x) p (k + 1) f (sum + x)
+  pub part-more : {to : ℕ} → to ≡ p + k → (x : ℕ) → unbiased x ≡ f k → x ≤ 2 ^ 26 → RowPart before (set out to x) p (k + 1) f (sum + x)
   part-more e x = rw e (more x)
 
   end : RowOf (set out (p + k) sum) p k f × Kept before (set out (p + k) sum) p

@@ -1,3 +1,3 @@
-pub mod Lowering
+pub mod Unbiasing
 pub mod Filling
 pub mod Standing

@@ -1,2 +1,2 @@
-pub mod Raised
+pub mod Biased
 pub mod Place

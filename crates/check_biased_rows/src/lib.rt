@@ -8,13 +8,13 @@ ghost use Rattle.integer.specs.Finite.{sumℕ};
 ghost use Rattle.linear.specs.Slice.{at};
 ghost use Rattle.linear.specs.Place.{Carried};
 ghost use Rattle.linear.specs.Reach.{Reach, ColumnList};
-ghost use Rattle.check_biased_rows.specs.Raised.{raisedBy, lowered, Small, RaisedRow, rowDot, RowOf, RowsOf, Kept};
+ghost use Rattle.check_biased_rows.specs.Biased.{bias, unbiased, Small, BiasedRow, rowDot, RowOf, RowsOf, Kept};
 ghost use Rattle.check_biased_rows.specs.Place.{RowsOfMatrix, ColumnsOfMatrix};
 
 // What is added to a number to raise it, 2^25, and its square.
-pub const RAISED_BY: u64 = 33554432;
+pub const BIAS: u64 = 33554432;
 
-const RAISED_BY_SQUARED: u64 = 1125899906842624;
+const BIAS_SQUARED: u64 = 1125899906842624;
 
 // The lowest 32 bits.
 const LOW: u64 = 0xffffffff;
@@ -22,27 +22,23 @@ const LOW: u64 = 0xffffffff;
 // How long a list for 32 raised rows of 32 numbers is.
 pub const ROWS_LENGTH: usize = 1056;
 
-fn raise(x: i64) -> u64
-    requires { ⌜ natAbs x ≤ raisedBy ⌝ }
-    ensures { λ r. ⌜ (lowered r ≡ x) × (r ≤ 2 * raisedBy) ⌝ }
+fn biased_of(x: i64) -> u64
+    requires { ⌜ natAbs x ≤ bias ⌝ }
+    ensures { λ r. ⌜ (unbiased r ≡ x) × (r ≤ 2 * bias) ⌝ }
 {
-    (x + RAISED_BY as i64) as u64
+    (x + BIAS as i64) as u64
 }
 
 // The size of the number that x stands for.
-pub fn lowered_magnitude(x: u64) -> u64
-    ensures { λ r. ⌜ r ≡ natAbs (lowered x) ⌝ }
+pub fn unbiased_magnitude(x: u64) -> u64
+    ensures { λ r. ⌜ r ≡ natAbs (unbiased x) ⌝ }
 {
-    if x < RAISED_BY {
-        RAISED_BY - x
-    } else {
-        x - RAISED_BY
-    }
+    if x < BIAS { BIAS - x } else { x - BIAS }
 }
 
 // sum + a * b, for numbers of 32 bits.
 pub fn add_low(sum: u64, a: u64, b: u64) -> u64
-    requires { ⌜ (sum ≤ 2 ^ 62) × ((a ≤ 2 * raisedBy) × (b ≤ 2 * raisedBy)) ⌝ }
+    requires { ⌜ (sum ≤ 2 ^ 62) × ((a ≤ 2 * bias) × (b ≤ 2 * bias)) ⌝ }
     ensures { λ r. ⌜ r ≡ sum + a * b ⌝ }
 {
     sum + (a & LOW) * (b & LOW)
@@ -61,7 +57,7 @@ fn add_term(
 ) -> u64
     requires { ⌜ Carried p 1 k «at_a» × Carried q 1 k «at_b» ⌝ }
     requires { ⌜ (p + k < length (now a)) × (q + k < length (now b)) ⌝ }
-    requires { ⌜ (sum ≤ 2 ^ 62) × ((getD (now a) (p + k) 0 ≤ 2 * raisedBy) × (getD (now b) (q + k) 0 ≤ 2 * raisedBy)) ⌝ }
+    requires { ⌜ (sum ≤ 2 ^ 62) × ((getD (now a) (p + k) 0 ≤ 2 * bias) × (getD (now b) (q + k) 0 ≤ 2 * bias)) ⌝ }
     ensures { λ r. ⌜ r ≡ sum + getD (now (a .entry)) (p + k) 0 * getD (now (b .entry)) (q + k) 0 ⌝ }
 {
     add_low(sum, a[at_a], b[at_b])
@@ -95,27 +91,27 @@ fn less(up: u64, down: u64) -> i64
 pub fn row_dot(a: &[u64], i: usize, p: usize, b: &[u64], j: usize, q: usize, n: usize) -> i64
     requires { ⌜ n ≤ 32 ⌝ }
     requires { ⌜ Carried 0 (n + 1) i p × Carried 0 (n + 1) j q ⌝ }
-    requires { ⌜ RaisedRow (now a) (i * (n + 1)) n × RaisedRow (now b) (j * (n + 1)) n ⌝ }
+    requires { ⌜ BiasedRow (now a) (i * (n + 1)) n × BiasedRow (now b) (j * (n + 1)) n ⌝ }
     ensures { λ r. ⌜ r ≡ rowDot (now (a .entry)) (i * (n + 1)) (now (b .entry)) (j * (n + 1)) n ⌝ }
 {
-    let up = low_dot(a, p, b, q, n) + n as u64 * RAISED_BY_SQUARED;
-    let down = RAISED_BY * (a[p + n] + b[q + n]);
+    let up = low_dot(a, p, b, q, n) + n as u64 * BIAS_SQUARED;
+    let down = BIAS * (a[p + n] + b[q + n]);
     less(up, down)
 }
 
 // Number k of a list from a start on, some places apart, raised, by way of the place that was carried to it.
-fn raise_at(xs: &[i64], start: usize, stride: usize, from: usize, k: usize) -> u64
+fn bias_at(xs: &[i64], start: usize, stride: usize, from: usize, k: usize) -> u64
     requires { ⌜ Carried start stride k from ⌝ }
-    requires { ⌜ (start + k * stride < length (now xs)) × (natAbs (at (now xs) (start + k * stride)) ≤ raisedBy) ⌝ }
-    ensures { λ r. ⌜ (lowered r ≡ at (now (xs .entry)) (start + k * stride)) × (r ≤ 2 * raisedBy) ⌝ }
+    requires { ⌜ (start + k * stride < length (now xs)) × (natAbs (at (now xs) (start + k * stride)) ≤ bias) ⌝ }
+    ensures { λ r. ⌜ (unbiased r ≡ at (now (xs .entry)) (start + k * stride)) × (r ≤ 2 * bias) ⌝ }
 {
-    raise(xs[from])
+    biased_of(xs[from])
 }
 
 // Raises n numbers of a list, some places apart, and puts their sum after them.
-pub fn raise_row(out: &mut [u64], place: usize, xs: &[i64], start: usize, stride: usize, n: usize)
+pub fn bias_row(out: &mut [u64], place: usize, xs: &[i64], start: usize, stride: usize, n: usize)
     requires { ⌜ (n ≤ 32) × ((start + n * stride < 2 ^ 60) × (place + n < length (now out))) ⌝ }
-    requires { ⌜ Reach (now xs) start stride n raisedBy ⌝ }
+    requires { ⌜ Reach (now xs) start stride n bias ⌝ }
     ensures { λ _. ⌜ RowOf (now (out .exit)) place n (λ (k : ℕ). at (now (xs .entry)) (start + k * stride))
         × Kept (now (out .entry)) (now (out .exit)) place ⌝ }
 {
@@ -123,7 +119,7 @@ pub fn raise_row(out: &mut [u64], place: usize, xs: &[i64], start: usize, stride
     let mut from = start;
     let mut to = place;
     for k in 0..n {
-        let x = raise_at(xs, start, stride, from, k);
+        let x = bias_at(xs, start, stride, from, k);
         out[to] = x;
         sum += x;
         from += stride;
@@ -133,34 +129,34 @@ pub fn raise_row(out: &mut [u64], place: usize, xs: &[i64], start: usize, stride
 }
 
 // Raises n rows of n numbers one after another, each a step after the one before.
-fn raise_all(out: &mut [u64], xs: &[i64], step: usize, stride: usize, n: usize)
+fn bias_all(out: &mut [u64], xs: &[i64], step: usize, stride: usize, n: usize)
     requires { ⌜ (n ≤ 32) × ((step ≤ 32) × ((stride ≤ 32) × (n * (n + 1) ≤ length (now out)))) ⌝ }
-    requires { ⌜ ((i : ℕ) → i < n → Reach (now xs) (i * step) stride n raisedBy) ⌝ }
+    requires { ⌜ ((i : ℕ) → i < n → Reach (now xs) (i * step) stride n bias) ⌝ }
     ensures { λ _. ⌜ RowsOf (now (out .exit)) n n (λ (i k : ℕ). at (now (xs .entry)) (i * step + k * stride)) ⌝ }
 {
     let mut place = 0;
     let mut start = 0;
     for i in 0..n {
-        raise_row(out, place, xs, start, stride, n);
+        bias_row(out, place, xs, start, stride, n);
         place += n + 1;
         start += step;
     }
 }
 
 // Raises the rows of a matrix: row i starts at i·n and has stride 1.
-pub fn raise_rows(out: &mut [u64], xs: &[i64], n: usize)
+pub fn bias_rows(out: &mut [u64], xs: &[i64], n: usize)
     requires { ⌜ (n ≤ 32) × (n * (n + 1) ≤ length (now out)) ⌝ }
-    requires { ⌜ ColumnList (now xs) (n * n) raisedBy ⌝ }
+    requires { ⌜ ColumnList (now xs) (n * n) bias ⌝ }
     ensures { λ _. ⌜ RowsOfMatrix (now (out .exit)) n (now (xs .entry)) ⌝ }
 {
-    raise_all(out, xs, n, 1, n);
+    bias_all(out, xs, n, 1, n);
 }
 
 // Raises the columns of a matrix: column j starts at j and has stride n.
-pub fn raise_columns(out: &mut [u64], xs: &[i64], n: usize)
+pub fn bias_columns(out: &mut [u64], xs: &[i64], n: usize)
     requires { ⌜ (n ≤ 32) × (n * (n + 1) ≤ length (now out)) ⌝ }
-    requires { ⌜ ColumnList (now xs) (n * n) raisedBy ⌝ }
+    requires { ⌜ ColumnList (now xs) (n * n) bias ⌝ }
     ensures { λ _. ⌜ ColumnsOfMatrix (now (out .exit)) n (now (xs .entry)) ⌝ }
 {
-    raise_all(out, xs, 1, n, n);
+    bias_all(out, xs, 1, n, n);
 }

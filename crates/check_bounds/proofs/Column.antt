@@ -21,8 +21,8 @@ use Rattle.linear.specs.Written.{written}
 use Rattle.linear.proofs.Places.{place, list-reach}
 use Rattle.linear.proofs.Slack.{joint}
 use Rattle.linear.proofs.Written.{written-ext}
-use Rattle.check_biased_rows.specs.Raised.{raisedBy, lowered, RaisedRow, RaisedRows, loweredRows, rowDot, RowOf}
-use Rattle.check_biased_rows.proofs.Lowering.{lowered-magnitude, row-dot-magnitude, row-dot-shows, rows-themselves}
+use Rattle.check_biased_rows.specs.Biased.{bias, unbiased, BiasedRow, BiasedRows, unbiasedRows, rowDot, RowOf}
+use Rattle.check_biased_rows.proofs.Unbiasing.{unbiased-magnitude, row-dot-magnitude, row-dot-shows, rows-themselves}
 use Rattle.enclosure.specs.Reckoning.{allowedResidual, magnitudesWith, boundFrom}
 use Rattle.enclosure.proofs.Bounds.{bound-ext}
 use Rattle.check_arrays.specs.Arrays.{Begins, columnsWritten}
@@ -31,8 +31,8 @@ use Rattle.check_arrays.proofs.Filled.{begins-as, columns-next}
 use Rattle.check_ratios.specs.Ratio.{Bounded}
 use Rattle.check_bounds.specs.Limits.{inversePart, Near}
 
-module _ (n : ℕ) {rows residuals : List ℕ} {place : ℕ} {r : Vec} (h : RaisedRows rows n) (s : RowOf residuals place n r) where
-  pub image-is : (m : ℕ) → m < n → natAbs (rowDot rows (m * (n + 1)) residuals place n) ≡ natAbs (apply n (loweredRows rows n) r m)
+module _ (n : ℕ) {rows residuals : List ℕ} {place : ℕ} {r : Vec} (h : BiasedRows rows n) (s : RowOf residuals place n r) where
+  pub image-is : (m : ℕ) → m < n → natAbs (rowDot rows (m * (n + 1)) residuals place n) ≡ natAbs (apply n (unbiasedRows rows n) r m)
   unfolding apply
   image-is m l = ap natAbs (row-dot-shows n (rows-themselves h .each m l) s)
 
@@ -44,10 +44,10 @@ module _ (n : ℕ) {rows residuals : List ℕ} {place : ℕ} {r : Vec} (h : Rais
       Begins 0 magnitudes n (magnitudesWith (inversePart n rows) r (λ (k : ℕ). 0))
   unfolding magnitudesWith
   plain-magnitudes b =
-      begins-as 0 _ _ (λ m l. omega (arith, image-is m l, sumℕ-* n 0 (λ (j : ℕ). natAbs (loweredRows rows n m j)))) b
+      begins-as 0 _ _ (λ m l. omega (arith, image-is m l, sumℕ-* n 0 (λ (j : ℕ). natAbs (unbiasedRows rows n m j)))) b
 
   pub slack-magnitudes : {magnitudes out : List ℕ} (σ : ℕ → ℕ) → Begins 0 magnitudes n (λ (m : ℕ). natAbs (rowDot rows (m * (n + 1)) residuals place n)) →
-      Begins 0 out n (λ (m : ℕ). getD magnitudes m 0 + sumℕ n (λ (j : ℕ). natAbs (loweredRows rows n m j) * σ j)) → Begins 0 out n (magnitudesWith (inversePart n rows) r σ)
+      Begins 0 out n (λ (m : ℕ). getD magnitudes m 0 + sumℕ n (λ (j : ℕ). natAbs (unbiasedRows rows n m j) * σ j)) → Begins 0 out n (magnitudesWith (inversePart n rows) r σ)
   unfolding magnitudesWith
   slack-magnitudes σ a b = begins-as 0 _ _ (λ m l. rw (a .each m l, image-is m l)) b
 
@@ -56,13 +56,13 @@ pub magnitudes-small : {n : ℕ} {rows : List ℕ} {r : Vec} {σ : ℕ → ℕ} 
 unfolding magnitudesWith
 magnitudes-small {n} {rows} {r} {σ} few h near b = record {
   most = λ m l. rw (b .each m l)
-      (omega (arith, joint n (2 ^ 20) (2 ^ 25) (loweredRows rows n) r σ m (λ j lj. h .magnitudes m j l lj) (near .each), mul-le-mul-right (2 ^ 45) few));
+      (omega (arith, joint n (2 ^ 20) (2 ^ 25) (unbiasedRows rows n) r σ m (λ j lj. h .magnitudes m j l lj) (near .each), mul-le-mul-right (2 ^ 45) few));
 }
 
 pub slack-near : {n : ℕ} {r : Vec} {σ : ℕ → ℕ} → Near r σ n → (k : ℕ) → k < n → σ k ≤ allowedResidual
 slack-near near k l = omega (arith, near .each k l)
 
-pub near-reach : {n : ℕ} {residuals : List ℤ} {σ : ℕ → ℕ} → Near (at residuals) σ n → n ≤ length residuals → Reach residuals 0 1 n raisedBy
+pub near-reach : {n : ℕ} {residuals : List ℤ} {σ : ℕ → ℕ} → Near (at residuals) σ n → n ≤ length residuals → Reach residuals 0 1 n bias
 near-reach near long =
     list-reach (record { long = long; within = record { magnitudes = λ k l. omega (arith, near .each k l) } })
 
@@ -70,9 +70,9 @@ pub columns-near : {n : ℕ} {residuals : List ℤ} (j : ℕ) → j < n → Colu
     Near (λ (k : ℕ). at residuals (j * n + k)) (λ (k : ℕ). 0) n
 columns-near j l h = record { each = λ k lk. omega (arith, h .within .magnitudes _ (place l lk)) }
 
-pub slack-sum : {rows : List ℕ} (slacks : List ℕ) {row n : ℕ} (j : ℕ) → j ≤ n → RaisedRow rows row n → ((k : ℕ) → k < n → getD slacks k 0 ≤ allowedResidual) →
-    sumℕ j (λ (k : ℕ). natAbs (lowered (getD rows (row + k) 0)) * getD slacks k 0) ≤ j * 2 ^ 50
-slack-sum slacks j l h s = sumℕ≤ j (2 ^ 50) _ (λ k m. mul-le-mul (lowered-magnitude _ (h .small .each k (omega arith))) (s k (omega arith)))
+pub slack-sum : {rows : List ℕ} (slacks : List ℕ) {row n : ℕ} (j : ℕ) → j ≤ n → BiasedRow rows row n → ((k : ℕ) → k < n → getD slacks k 0 ≤ allowedResidual) →
+    sumℕ j (λ (k : ℕ). natAbs (unbiased (getD rows (row + k) 0)) * getD slacks k 0) ≤ j * 2 ^ 50
+slack-sum slacks j l h s = sumℕ≤ j (2 ^ 50) _ (λ k m. mul-le-mul (unbiased-magnitude _ (h .small .each k (omega arith))) (s k (omega arith)))
 
 -- where no row has a slack there is none
 pub no-slack-sum : (n : ℕ) (a σ : ℕ → ℕ) → sumℕ n σ ≡ 0 → sumℕ n (λ (j : ℕ). a j * σ j) ≡ 0

@@ -9,7 +9,7 @@ use lib.IntN.{ℤ, natAbs}
 use lib.ListN.{getD}
 use Rattle.linear.specs.Matrix.{Vec}
 use Rattle.linear.specs.Slice.{at}
-use Rattle.check_biased_rows.specs.Raised.{rowDot}
+use Rattle.check_biased_rows.specs.Biased.{rowDot}
 use Rattle.enclosure.specs.Problem.{Problem}
 use Rattle.enclosure.specs.Reckoning.{allowedResidual, magnitudesWith, boundFrom}
 use Rattle.check_arrays.specs.Parts.{rowsPart}

@@ -9,16 +9,16 @@ ghost use Rattle.linear.specs.Slice.{at};
 ghost use Rattle.linear.specs.Place.{Carried};
 ghost use Rattle.linear.specs.Reach.{ColumnList};
 ghost use Rattle.linear.specs.Written.{written};
-ghost use Rattle.check_biased_rows.specs.Raised.{raisedBy, lowered, RaisedRow, RaisedRows, loweredRows};
+ghost use Rattle.check_biased_rows.specs.Biased.{bias, unbiased, BiasedRow, BiasedRows, unbiasedRows};
 ghost use Rattle.enclosure.specs.Reckoning.{allowedResidual};
 ghost use Rattle.check_arrays.specs.Arrays.{Begins};
 ghost use Rattle.check_arrays.specs.Rows.{InverseRows};
 ghost use Rattle.check_ratios.specs.Ratio.{Positive, Caps};
 ghost use Rattle.check_bounds.specs.Limits.{columnMagnitude, Near, limitsOf};
 use check_biased_rows::add_low;
-use check_biased_rows::lowered_magnitude;
-use check_biased_rows::raise_row;
+use check_biased_rows::bias_row;
 use check_biased_rows::row_dot;
+use check_biased_rows::unbiased_magnitude;
 use check_ratios::bounds_of;
 use check_ratios::sum_of;
 use integer::magnitude;
@@ -26,7 +26,7 @@ use integer::magnitude;
 // The sizes of p = G·r, from the raised rows of G and the raised row that stands for r.
 fn magnitudes_of(rows: &[u64], residuals: &[u64], n: usize) -> [u64; 32]
     requires { ⌜ n ≤ 32 ⌝ }
-    requires { ⌜ RaisedRows (now rows) n × RaisedRow (now residuals) (0 * (n + 1)) n ⌝ }
+    requires { ⌜ BiasedRows (now rows) n × BiasedRow (now residuals) (0 * (n + 1)) n ⌝ }
     ensures { λ r. ⌜ Begins 0 r n (λ (m : ℕ). columnMagnitude (now (rows .entry)) (now (residuals .entry)) n m 0) ⌝ }
 {
     let mut out = [0u64; 32];
@@ -41,20 +41,20 @@ fn magnitudes_of(rows: &[u64], residuals: &[u64], n: usize) -> [u64; 32]
 // Term j of a slack: sum + |x|·slack, where x is number j of a raised row, by way of the place that was carried to it.
 fn add_slack(sum: u64, rows: &[u64], row: usize, place: usize, slack: u64, j: usize) -> u64
     requires { ⌜ Carried row 1 j place ⌝ }
-    requires { ⌜ (row + j < length (now rows)) × (getD (now rows) (row + j) 0 ≤ 2 * raisedBy) ⌝ }
+    requires { ⌜ (row + j < length (now rows)) × (getD (now rows) (row + j) 0 ≤ 2 * bias) ⌝ }
     requires { ⌜ (sum ≤ 2 ^ 62) × (slack ≤ allowedResidual) ⌝ }
-    ensures { λ r. ⌜ r ≡ sum + natAbs (lowered (getD (now (rows .entry)) (row + j) 0)) * slack ⌝ }
+    ensures { λ r. ⌜ r ≡ sum + natAbs (unbiased (getD (now (rows .entry)) (row + j) 0)) * slack ⌝ }
 {
-    add_low(sum, lowered_magnitude(rows[place]), slack)
+    add_low(sum, unbiased_magnitude(rows[place]), slack)
 }
 
 // The sum over j of |G_mj|·σ_j, for the raised row m of G that starts at place row.
 fn slack_of(rows: &[u64], m: usize, row: usize, slacks: &[u64; 32], n: usize) -> u64
     requires { ⌜ n ≤ 32 ⌝ }
     requires { ⌜ Carried 0 (n + 1) m row ⌝ }
-    requires { ⌜ RaisedRow (now rows) (m * (n + 1)) n ⌝ }
+    requires { ⌜ BiasedRow (now rows) (m * (n + 1)) n ⌝ }
     requires { ⌜ ((k : ℕ) → k < n → getD (now slacks) k 0 ≤ allowedResidual) ⌝ }
-    ensures { λ r. ⌜ r ≡ sumℕ n (λ (j : ℕ). natAbs (loweredRows (now (rows .entry)) n m j) * getD (now (slacks .entry)) j 0) ⌝ }
+    ensures { λ r. ⌜ r ≡ sumℕ n (λ (j : ℕ). natAbs (unbiasedRows (now (rows .entry)) n m j) * getD (now (slacks .entry)) j 0) ⌝ }
 {
     let mut sum: u64 = 0;
     let mut place = row;
@@ -68,11 +68,11 @@ fn slack_of(rows: &[u64], m: usize, row: usize, slacks: &[u64; 32], n: usize) ->
 // Sizes, each with its slack; where no row has one, n·n products are saved.
 fn add_slacks(magnitudes: [u64; 32], rows: &[u64], slacks: &[u64; 32], n: usize) -> [u64; 32]
     requires { ⌜ n ≤ 32 ⌝ }
-    requires { ⌜ RaisedRows (now rows) n ⌝ }
+    requires { ⌜ BiasedRows (now rows) n ⌝ }
     requires { ⌜ ((k : ℕ) → k < n → getD (now slacks) k 0 ≤ allowedResidual) ⌝ }
     requires { ⌜ ((m : ℕ) → m < n → getD magnitudes m 0 ≤ 2 ^ 55) ⌝ }
     ensures { λ r. ⌜ Begins 0 r n (λ (m : ℕ). getD magnitudes m 0
-        + sumℕ n (λ (j : ℕ). natAbs (loweredRows (now (rows .entry)) n m j) * getD (now (slacks .entry)) j 0)) ⌝ }
+        + sumℕ n (λ (j : ℕ). natAbs (unbiasedRows (now (rows .entry)) n m j) * getD (now (slacks .entry)) j 0)) ⌝ }
 {
     if sum_of(slacks, n) == 0 {
         return magnitudes;
@@ -106,9 +106,9 @@ pub fn column_bounds(
         (limitsOf n (now (rows .entry)) (at (now (residuals .entry))) (λ (k : ℕ). getD (now (slacks .entry)) k 0) (now (margins .entry))
         (now (weights .entry))) ⌝ }
 {
-    let mut raised = [0u64; 33];
-    raise_row(&mut raised, 0, residuals, 0, 1, n);
-    let magnitudes = add_slacks(magnitudes_of(rows, &raised, n), rows, slacks, n);
+    let mut biased = [0u64; 33];
+    bias_row(&mut biased, 0, residuals, 0, 1, n);
+    let magnitudes = add_slacks(magnitudes_of(rows, &biased, n), rows, slacks, n);
     bounds_of(&magnitudes, margins, caps, weights, n)
 }
 

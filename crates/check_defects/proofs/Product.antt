@@ -12,7 +12,7 @@ use Rattle.linear.specs.Slice.{at, matrixOf}
 use Rattle.linear.specs.Place.{placeOf}
 use Rattle.linear.proofs.Carried.{row-place, column-place, carried}
 use Rattle.linear.proofs.Product.{identity-turned}
-use Rattle.check_biased_rows.specs.Raised.{loweredRows}
+use Rattle.check_biased_rows.specs.Biased.{unbiasedRows}
 use Rattle.check_biased_rows.specs.Place.{RowsOfMatrix, ColumnsOfMatrix}
 use Rattle.enclosure.specs.Problem.{columnOf, problemOf}
 use Rattle.enclosure.specs.Reckoning.{defect, residual}
@@ -24,7 +24,7 @@ module _ (n t : ℕ) (matrix : List ℤ) where
   unfolding residual apply
   rows-residual rows j m =
       ap (λ (z : ℤ). pos (2 ^ t) *ℤ identity m j -ℤ z)
-      (sum-ext n _ _ (λ k l. ap (λ (p : ℕ). at matrix p *ℤ loweredRows rows n k j) (row-place n m (carried (m * n) 1 k))))
+      (sum-ext n _ _ (λ k l. ap (λ (p : ℕ). at matrix p *ℤ unbiasedRows rows n k j) (row-place n m (carried (m * n) 1 k))))
 
   pub residual-of-rows : {rows : List ℕ} {inverse : List ℤ} → RowsOfMatrix rows n inverse →
       (j k : ℕ) → j < n → k < n → residual (columnOf (rowsPart n t matrix rows) j) k ≡ columnResidual n t matrix inverse j k

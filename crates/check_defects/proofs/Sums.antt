@@ -1,6 +1,6 @@
 -- The sums over all rows.
 --   no-sums, sums-none, sums-more, sums-end — at none, with one row more and at the end, for loops
---   ups-small, downs-small, sums-room, total-small, raised-small — the sums, the sum of the factors and 2^25 times it stay small
+--   ups-small, downs-small, sums-room, total-small, biased-small — the sums, the sum of the factors and 2^25 times it stay small
 --   sums-less — the two sums, put right, are the sum of the multiples of what the raised numbers stand for
 use mathlib.Core.List.{List}
 use mathlib.Core.Path.{_≡_, sym, ap, subst, _∙_}
@@ -13,8 +13,8 @@ use Rattle.integer.specs.Finite.{sum, sumℕ}
 use Rattle.integer.proofs.Difference.{is, zz}
 use Rattle.integer.proofs.Absolute.{abs-*}
 use Rattle.integer.proofs.Sum.{sumℕ-none, sumℕ-next, sumℕ≤, abs-sum≤}
-use Rattle.check_biased_rows.specs.Raised.{raisedBy, lowered, loweredRows}
-use Rattle.check_biased_rows.specs.Place.{raisedPlace}
+use Rattle.check_biased_rows.specs.Biased.{bias, unbiased, unbiasedRows}
+use Rattle.check_biased_rows.specs.Place.{biasedPlace}
 use Rattle.check_arrays.specs.Arrays.{Begins}
 use Rattle.check_defects.proofs.Halves.{signs, up-magnitude, down-magnitude}
 use Rattle.check_defects.specs.Sums.{up, down, SmallSums, Added, SumsOf}
@@ -65,20 +65,20 @@ module _ (n : ℕ) (xs : ℕ → ℤ) (rows : ℕ → ℕ → ℕ) where
 pub total-small : {k : ℕ} (xs : ℕ → ℤ) → k ≤ 32 → ((i : ℕ) → i < k → natAbs (xs i) ≤ 2 ^ 20) → natAbs (sum k xs) ≤ 2 ^ 25
 total-small {k} xs few small = omega (arith, abs-sum≤ k (2 ^ 20) xs small, mul-le-mul-right (2 ^ 20) few)
 
-pub raised-small : {n : ℕ} (xs : ℕ → ℤ) → n ≤ 32 → ((i : ℕ) → i < n → natAbs (xs i) ≤ 2 ^ 20) → natAbs (pos raisedBy *ℤ sum n xs) ≤ 2 ^ 50
-raised-small {n} xs few small = rw (abs-* (pos raisedBy) (sum n xs)) (mul-le-mul (le-refl raisedBy) (total-small xs few small))
+pub biased-small : {n : ℕ} (xs : ℕ → ℤ) → n ≤ 32 → ((i : ℕ) → i < n → natAbs (xs i) ≤ 2 ^ 20) → natAbs (pos bias *ℤ sum n xs) ≤ 2 ^ 50
+biased-small {n} xs few small = rw (abs-* (pos bias) (sum n xs)) (mul-le-mul (le-refl bias) (total-small xs few small))
 
 -- ---- what the sums stand for
 one-term-more : (c u d g a b : ℕ) (s : ℤ) →
     pos a -ℤ pos b -ℤ pos c *ℤ s +ℤ (pos u -ℤ pos d) *ℤ (pos g -ℤ pos c) ≡ pos (a + u * g) -ℤ pos (b + d * g) -ℤ pos c *ℤ (s +ℤ (pos u -ℤ pos d))
 one-term-more c u d g a b s = rw (is s) (simp zz (omega arith))
 
-sums-lowered : (c : ℕ) (xs : ℕ → ℤ) (g : ℕ → ℕ) (n : ℕ) →
+sums-unbiased : (c : ℕ) (xs : ℕ → ℤ) (g : ℕ → ℕ) (n : ℕ) →
     sum n (λ (k : ℕ). xs k *ℤ (pos (g k) -ℤ pos c)) ≡ pos (sumℕ n (λ (k : ℕ). up (xs k) * g k)) -ℤ pos (sumℕ n (λ (k : ℕ). down (xs k) * g k)) -ℤ pos c *ℤ sum n xs
 unfolding sum sumℕ
-sums-lowered c xs g zero = simp zz (omega arith)
-sums-lowered c xs g (suc n) =
-    rw (sums-lowered c xs g n)
+sums-unbiased c xs g zero = simp zz (omega arith)
+sums-unbiased c xs g (suc n) =
+    rw (sums-unbiased c xs g n)
     (ap (λ (z : ℤ). pos (sumℕ n (λ (k : ℕ). up (xs k) * g k)) -ℤ pos (sumℕ n (λ (k : ℕ). down (xs k) * g k)) -ℤ pos c *ℤ sum n xs +ℤ z *ℤ (pos (g n) -ℤ pos c)) (signs (xs n))
     ∙ one-term-more c (up (xs n)) (down (xs n)) (g n) _ _ (sum n xs)
     ∙ ap (λ (z : ℤ). pos (sumℕ n (λ (k : ℕ). up (xs k) * g k) + up (xs n) * g n) -ℤ pos (sumℕ n (λ (k : ℕ). down (xs k) * g k) + down (xs n) * g n) -ℤ pos c *ℤ (sum n xs +ℤ z)) (sym (signs (xs n))))
@@ -86,9 +86,9 @@ sums-lowered c xs g (suc n) =
 put-right : (u v : ℤ) (a b : ℕ) → u +ℤ (v +ℤ pos b -ℤ pos a) ≡ u -ℤ (pos a -ℤ pos b -ℤ v)
 put-right u v a b = rw (is u, is v) (simp zz (omega arith))
 
-pub sums-less : {sums : List ℕ} (rows : List ℕ) (n : ℕ) (xs : ℕ → ℤ) (u : ℤ) → SumsOf sums n n xs (λ (k j : ℕ). getD rows (raisedPlace n k j) 0) → (j : ℕ) → j < n →
-    u +ℤ (pos raisedBy *ℤ sum n xs +ℤ pos (getD sums (32 + j) 0) -ℤ pos (getD sums j 0)) ≡ u -ℤ sum n (λ (k : ℕ). xs k *ℤ loweredRows rows n k j)
-unfolding lowered
+pub sums-less : {sums : List ℕ} (rows : List ℕ) (n : ℕ) (xs : ℕ → ℤ) (u : ℤ) → SumsOf sums n n xs (λ (k j : ℕ). getD rows (biasedPlace n k j) 0) → (j : ℕ) → j < n →
+    u +ℤ (pos bias *ℤ sum n xs +ℤ pos (getD sums (32 + j) 0) -ℤ pos (getD sums j 0)) ≡ u -ℤ sum n (λ (k : ℕ). xs k *ℤ unbiasedRows rows n k j)
+unfolding unbiased
 sums-less {sums} rows n xs u h j l =
-    rw (h .ups j l, h .downs j l, sums-lowered raisedBy xs (λ (k : ℕ). getD rows (raisedPlace n k j) 0) n)
-    (put-right u (pos raisedBy *ℤ sum n xs) _ _)
+    rw (h .ups j l, h .downs j l, sums-unbiased bias xs (λ (k : ℕ). getD rows (biasedPlace n k j) 0) n)
+    (put-right u (pos bias *ℤ sum n xs) _ _)

@@ -9,10 +9,10 @@ use lib.IntN.{ℤ, pos, _-ℤ_, _*ℤ_}
 use Rattle.integer.specs.Finite.{sum}
 use Rattle.linear.specs.Matrix.{identity}
 use Rattle.linear.specs.Slice.{at}
-use Rattle.check_biased_rows.specs.Raised.{loweredRows}
+use Rattle.check_biased_rows.specs.Biased.{unbiasedRows}
 
 abbrev pub combination : List ℤ → ℕ → ℕ → List ℕ → ℕ → ℕ → ℤ
-combination xs start stride rows n j = sum n (λ (k : ℕ). at xs (start + k * stride) *ℤ loweredRows rows n k j)
+combination xs start stride rows n j = sum n (λ (k : ℕ). at xs (start + k * stride) *ℤ unbiasedRows rows n k j)
 
 abbrev pub numberLess : ℕ → List ℤ → ℕ → ℕ → List ℕ → ℕ → ℕ → ℕ → ℤ
 numberLess t xs start stride rows n m j = pos (2 ^ t) *ℤ identity m j -ℤ combination xs start stride rows n j

@@ -11,8 +11,8 @@ ghost use Rattle.linear.specs.Slice.{at};
 ghost use Rattle.linear.specs.Place.{Carried};
 ghost use Rattle.linear.specs.Reach.{Reach, MatrixList};
 ghost use Rattle.linear.specs.Written.{written};
-ghost use Rattle.check_biased_rows.specs.Raised.{raisedBy, RaisedRow, RaisedRows};
-ghost use Rattle.check_biased_rows.specs.Place.{raisedPlace};
+ghost use Rattle.check_biased_rows.specs.Biased.{bias, BiasedRow, BiasedRows};
+ghost use Rattle.check_biased_rows.specs.Place.{biasedPlace};
 ghost use Rattle.enclosure.specs.Problem.{columnOf, problemOf};
 ghost use Rattle.enclosure.specs.Reckoning.{defect, residual};
 ghost use Rattle.check_arrays.specs.Arrays.{Begins};
@@ -20,16 +20,16 @@ ghost use Rattle.check_arrays.specs.Parts.{rowsPart};
 ghost use Rattle.check_defects.specs.Sums.{halfOf, SmallSums, Added, SumsOf};
 ghost use Rattle.check_defects.specs.Difference.{numberLess, difference};
 use check_arrays::unit_at;
-use check_biased_rows::RAISED_BY;
+use check_biased_rows::BIAS;
 use check_biased_rows::ROWS_LENGTH;
 use check_biased_rows::add_low;
-use check_biased_rows::raise_columns;
+use check_biased_rows::bias_columns;
 use integer::magnitude;
 
 // Term j of a multiple of a raised row: sum + size·x, where x is number j of the row that starts at place row, by way of the place that was carried to it.
 fn add_scaled(sum: u64, magnitude: u64, rows: &[u64], row: usize, place: usize, j: usize) -> u64
     requires { ⌜ Carried row 1 j place ⌝ }
-    requires { ⌜ (row + j < length (now rows)) × (getD (now rows) (row + j) 0 ≤ 2 * raisedBy) ⌝ }
+    requires { ⌜ (row + j < length (now rows)) × (getD (now rows) (row + j) 0 ≤ 2 * bias) ⌝ }
     requires { ⌜ (sum ≤ 2 ^ 62) × (magnitude ≤ 2 ^ 20) ⌝ }
     ensures { λ r. ⌜ r ≡ sum + magnitude * getD (now (rows .entry)) (row + j) 0 ⌝ }
 {
@@ -39,7 +39,7 @@ fn add_scaled(sum: u64, magnitude: u64, rows: &[u64], row: usize, place: usize, 
 // Adds size times a raised row, from place row on, to the half of the sums that begins at this place.
 fn add_row(sums: &mut [u64; 64], half: usize, magnitude: u64, rows: &[u64], row: usize, n: usize)
     requires { ⌜ (half + n ≤ 64) × (magnitude ≤ 2 ^ 20) ⌝ }
-    requires { ⌜ RaisedRow (now rows) row n ⌝ }
+    requires { ⌜ BiasedRow (now rows) row n ⌝ }
     requires { ⌜ SmallSums (now sums) half n ⌝ }
     ensures { λ _. ⌜ now (sums .exit) ≡ written (now (sums .entry)) half 1
         (λ (j : ℕ). getD (now (sums .entry)) (half + j) 0 + magnitude * getD (now (rows .entry)) (row + j) 0) n ⌝ }
@@ -64,10 +64,10 @@ fn half_of(x: i64) -> usize
 fn add_multiple(sums: &mut [u64; 64], x: i64, rows: &[u64], k: usize, row: usize, n: usize)
     requires { ⌜ (n ≤ 32) × (natAbs x ≤ 2 ^ 20) ⌝ }
     requires { ⌜ Carried 0 (n + 1) k row ⌝ }
-    requires { ⌜ RaisedRow (now rows) (k * (n + 1)) n ⌝ }
+    requires { ⌜ BiasedRow (now rows) (k * (n + 1)) n ⌝ }
     requires { ⌜ (length (now sums) ≡ 64) × (SmallSums (now sums) 0 n × SmallSums (now sums) 32 n) ⌝ }
     ensures { λ _. ⌜ Added (now (sums .entry)) (now (sums .exit)) n x
-        (λ (j : ℕ). getD (now (rows .entry)) (raisedPlace n k j) 0) ⌝ }
+        (λ (j : ℕ). getD (now (rows .entry)) (biasedPlace n k j) 0) ⌝ }
 {
     if x != 0 {
         add_row(sums, half_of(x), magnitude(x), rows, row, n);
@@ -94,11 +94,11 @@ fn add_rows(
 ) -> i64
     requires { ⌜ (n ≤ 32) × (start + n * stride < 2 ^ 60) ⌝ }
     requires { ⌜ Reach (now xs) start stride n (2 ^ 20) ⌝ }
-    requires { ⌜ RaisedRows (now rows) n ⌝ }
+    requires { ⌜ BiasedRows (now rows) n ⌝ }
     requires { ⌜ (length (now sums) ≡ 64) × Begins 0 (now sums) 64 (λ (j : ℕ). 0) ⌝ }
     ensures { λ r. ⌜ (r ≡ sum n (λ (k : ℕ). at (now (xs .entry)) (start + k * stride)))
         × SumsOf (now (sums .exit)) n n (λ (k : ℕ). at (now (xs .entry)) (start + k * stride))
-        (λ (k j : ℕ). getD (now (rows .entry)) (raisedPlace n k j) 0) ⌝ }
+        (λ (k j : ℕ). getD (now (rows .entry)) (biasedPlace n k j) 0) ⌝ }
 {
     let mut total: i64 = 0;
     let mut from = start;
@@ -114,12 +114,12 @@ fn add_rows(
 }
 
 // Number m, j of T·I less a number of the product, from the two sums that stand for it and from what all raised numbers have too much of.
-fn number_less(t: u32, m: usize, j: usize, raised: i64, up: u64, down: u64) -> i64
-    requires { ⌜ (t ≤ 20) × (natAbs raised ≤ 2 ^ 50) ⌝ }
+fn number_less(t: u32, m: usize, j: usize, biased: i64, up: u64, down: u64) -> i64
+    requires { ⌜ (t ≤ 20) × (natAbs biased ≤ 2 ^ 50) ⌝ }
     requires { ⌜ (up ≤ 2 ^ 51) × (down ≤ 2 ^ 51) ⌝ }
-    ensures { λ r. ⌜ r ≡ pos (2 ^ t) *ℤ identity m j +ℤ (raised +ℤ pos down -ℤ pos up) ⌝ }
+    ensures { λ r. ⌜ r ≡ pos (2 ^ t) *ℤ identity m j +ℤ (biased +ℤ pos down -ℤ pos up) ⌝ }
 {
-    unit_at(t, m, j) + (raised + down as i64 - up as i64)
+    unit_at(t, m, j) + (biased + down as i64 - up as i64)
 }
 
 // Number m of every column of the differences, from the numbers of the list from place start on.
@@ -135,15 +135,15 @@ fn store_row(
 )
     requires { ⌜ (t ≤ 20) × ((n ≤ 32) × ((m < n) × ((start + n * stride < 2 ^ 60) × (n * n ≤ length (now out))))) ⌝ }
     requires { ⌜ Reach (now xs) start stride n (2 ^ 20) ⌝ }
-    requires { ⌜ RaisedRows (now rows) n ⌝ }
+    requires { ⌜ BiasedRows (now rows) n ⌝ }
     ensures { λ _. ⌜ now (out .exit) ≡ written (now (out .entry)) m n
         (λ (j : ℕ). numberLess t (now (xs .entry)) start stride (now (rows .entry)) n m j) n ⌝ }
 {
     let mut sums = [0u64; 64];
-    let raised = RAISED_BY as i64 * add_rows(&mut sums, xs, start, stride, rows, n);
+    let biased = BIAS as i64 * add_rows(&mut sums, xs, start, stride, rows, n);
     let mut place = m;
     for j in 0..n {
-        out[place] = number_less(t, m, j, raised, sums[j], sums[32 + j]);
+        out[place] = number_less(t, m, j, biased, sums[j], sums[32 + j]);
         place += n;
     }
 }
@@ -160,7 +160,7 @@ fn differences_of(
 )
     requires { ⌜ (t ≤ 20) × ((n ≤ 32) × ((step ≤ 32) × ((stride ≤ 32) × (n * n ≤ length (now out))))) ⌝ }
     requires { ⌜ ((m : ℕ) → m < n → Reach (now xs) (m * step) stride n (2 ^ 20)) ⌝ }
-    requires { ⌜ RaisedRows (now rows) n ⌝ }
+    requires { ⌜ BiasedRows (now rows) n ⌝ }
     ensures { λ _. ⌜ Begins (pos 0) (now (out .exit)) (n * n)
         (λ (i : ℕ). difference n t (now (xs .entry)) step stride (now (rows .entry)) (i / n) (i % n)) ⌝ }
 {
@@ -175,7 +175,7 @@ fn differences_of(
 pub fn inverse_residuals_of(out: &mut [i64], t: u32, matrix: &[i64], rows: &[u64], n: usize)
     requires { ⌜ (t ≤ 20) × ((n ≤ 32) × (n * n ≤ length (now out))) ⌝ }
     requires { ⌜ MatrixList (now matrix) n ⌝ }
-    requires { ⌜ RaisedRows (now rows) n ⌝ }
+    requires { ⌜ BiasedRows (now rows) n ⌝ }
     ensures { λ _. ⌜ Begins (pos 0) (now (out .exit)) (n * n)
         (λ (i : ℕ). residual (columnOf (rowsPart n t (now (matrix .entry)) (now (rows .entry))) (i / n)) (i % n)) ⌝ }
 {
@@ -191,7 +191,7 @@ pub fn defects_of(t: u32, matrix: &[i64], inverse: &[i64], n: usize) -> [i64; 10
         (λ (i : ℕ). defect (problemOf n 0 t (now (matrix .entry)) [] [] [] (now (inverse .entry)) []) (i / n) (i % n)) ⌝ }
 {
     let mut columns = [0u64; ROWS_LENGTH];
-    raise_columns(&mut columns, inverse, n);
+    bias_columns(&mut columns, inverse, n);
     let mut out = [0i64; 1024];
     differences_of(&mut out, t, matrix, 1, n, &columns, n);
     out

@@ -15,7 +15,7 @@ use Rattle.linear.specs.Place.{Carried}
 use Rattle.linear.specs.Written.{written}
 use Rattle.linear.proofs.Carried.{column-place}
 use Rattle.linear.proofs.Written.{written-at, written-else}
-use Rattle.check_biased_rows.specs.Raised.{RaisedRows}
+use Rattle.check_biased_rows.specs.Biased.{BiasedRows}
 use Rattle.check_biased_rows.specs.Place.{RowsOfMatrix}
 use Rattle.check_biased_rows.proofs.Standing.{rows-stand}
 use Rattle.check_bounds.specs.Limits.{columnMagnitude}
@@ -53,8 +53,8 @@ module _ {list : List ℕ} {n : ℕ} {rows residuals : List ℕ} where
       Mirrored rows residuals n → getD list across 0 ≡ columnMagnitude rows residuals n m j
   known-across {k} {m} {j} l h lj c e s = rw (column-place c) (e .each m j l lj ∙ s .each j m lj (omega arith))
 
-pub mirrored-magnitudes : {n : ℕ} {rows raised : List ℕ} {residuals : List ℤ} → RaisedRows rows n → RowsOfMatrix raised n residuals →
-    MirroredProduct rows residuals n → Mirrored rows raised n
+pub mirrored-magnitudes : {n : ℕ} {rows biased : List ℕ} {residuals : List ℤ} → BiasedRows rows n → RowsOfMatrix biased n residuals →
+    MirroredProduct rows residuals n → Mirrored rows biased n
 mirrored-magnitudes {n} h r s = record {
   each = λ m j lm lj. image-is n h (rows-stand r .each j lj) m lm ∙ ap natAbs (s .each m j lm lj) ∙ sym (image-is n h (rows-stand r .each m lm) j lj);
 }

@@ -9,7 +9,7 @@ use lib.IntN.{ℤ}
 use lib.ListN.{getD}
 use Rattle.linear.specs.Matrix.{apply}
 use Rattle.linear.specs.Slice.{at}
-use Rattle.check_biased_rows.specs.Raised.{loweredRows}
+use Rattle.check_biased_rows.specs.Biased.{unbiasedRows}
 use Rattle.check_bounds.specs.Limits.{columnMagnitude}
 
 pub record KnownColumns (list : List ℕ) (n k : ℕ) (rows residuals : List ℕ) : Type 0 where
@@ -20,4 +20,4 @@ pub record Mirrored (rows residuals : List ℕ) (n : ℕ) : Type 0 where
 
 pub record MirroredProduct (rows : List ℕ) (residuals : List ℤ) (n : ℕ) : Type 0 where
   pub each : (m j : ℕ) → m < n → j < n →
-      apply n (loweredRows rows n) (λ (k : ℕ). at residuals (j * n + k)) m ≡ apply n (loweredRows rows n) (λ (k : ℕ). at residuals (m * n + k)) j
+      apply n (unbiasedRows rows n) (λ (k : ℕ). at residuals (j * n + k)) m ≡ apply n (unbiasedRows rows n) (λ (k : ℕ). at residuals (m * n + k)) j

@@ -7,14 +7,14 @@ ghost use Rattle.linear.specs.Slice.{at};
 ghost use Rattle.linear.specs.Place.{Carried};
 ghost use Rattle.linear.specs.Reach.{ColumnList};
 ghost use Rattle.linear.specs.Written.{written};
-ghost use Rattle.check_biased_rows.specs.Raised.{RaisedRow, RaisedRows};
+ghost use Rattle.check_biased_rows.specs.Biased.{BiasedRow, BiasedRows};
 ghost use Rattle.enclosure.specs.Reckoning.{allowedResidual};
 ghost use Rattle.check_arrays.specs.Arrays.{Begins, columnsWritten};
 ghost use Rattle.check_arrays.specs.Rows.{InverseRows};
 ghost use Rattle.check_ratios.specs.Ratio.{Positive, Caps};
 ghost use Rattle.check_bounds.specs.Limits.{columnMagnitude, limitsOf};
 ghost use Rattle.check_inverse_bounds.specs.Mirrored.{KnownColumns, Mirrored, MirroredProduct};
-use check_biased_rows::raise_rows;
+use check_biased_rows::bias_rows;
 use check_biased_rows::row_dot;
 use check_bounds::store;
 use check_ratios::bounds_of;
@@ -35,7 +35,7 @@ fn magnitude_at(
 ) -> u64
     requires { ⌜ (n ≤ 32) × ((m < n) × ((j < n) × ((known ≤ j) × (n * n ≤ length (now list))))) ⌝ }
     requires { ⌜ Carried j n m across × (Carried 0 (n + 1) m row × Carried 0 (n + 1) j place) ⌝ }
-    requires { ⌜ RaisedRows (now rows) n × RaisedRow (now residuals) (j * (n + 1)) n ⌝ }
+    requires { ⌜ BiasedRows (now rows) n × BiasedRow (now residuals) (j * (n + 1)) n ⌝ }
     requires { ⌜ KnownColumns (now list) n known (now rows) (now residuals) ⌝ }
     requires { ⌜ (m < known → Mirrored (now rows) (now residuals) n) ⌝ }
     ensures { λ r. ⌜ r ≡ columnMagnitude (now (rows .entry)) (now (residuals .entry)) n m j ⌝ }
@@ -59,7 +59,7 @@ fn column_magnitudes(
 ) -> [u64; 32]
     requires { ⌜ (n ≤ 32) × ((j < n) × ((known ≤ j) × (n * n ≤ length (now list)))) ⌝ }
     requires { ⌜ Carried 0 (n + 1) j place × Carried 0 n j start ⌝ }
-    requires { ⌜ RaisedRows (now rows) n × RaisedRow (now residuals) (j * (n + 1)) n ⌝ }
+    requires { ⌜ BiasedRows (now rows) n × BiasedRow (now residuals) (j * (n + 1)) n ⌝ }
     requires { ⌜ KnownColumns (now list) n known (now rows) (now residuals) ⌝ }
     requires { ⌜ (0 < known → Mirrored (now rows) (now residuals) n) ⌝ }
     ensures { λ r. ⌜ Begins 0 r n (λ (m : ℕ). columnMagnitude (now (rows .entry)) (now (residuals .entry)) n m j)
@@ -86,7 +86,7 @@ pub fn store_columns(
     dst: &mut [u64],
     rows: &[u64],
     residuals: &[i64],
-    raised: &mut [u64],
+    biased: &mut [u64],
     list: &mut [u64],
     mirrored: bool,
     margins: &[u64; 32],
@@ -94,7 +94,7 @@ pub fn store_columns(
     weights: &[i64],
     n: usize,
 )
-    requires { ⌜ (0 < n) × ((n ≤ 32) × ((n * n ≤ length (now dst)) × ((n * (n + 1) ≤ length (now raised)) × (n * n ≤ length (now list))))) ⌝ }
+    requires { ⌜ (0 < n) × ((n ≤ 32) × ((n * n ≤ length (now dst)) × ((n * (n + 1) ≤ length (now biased)) × (n * n ≤ length (now list))))) ⌝ }
     requires { ⌜ InverseRows (now rows) n ⌝ }
     requires { ⌜ ColumnList (now residuals) (n * n) allowedResidual ⌝ }
     requires { ⌜ (mirrored ≡ true → MirroredProduct (now rows) (now residuals) n) ⌝ }
@@ -105,12 +105,12 @@ pub fn store_columns(
         (λ (i j : ℕ). limitsOf n (now (rows .entry)) (λ (k : ℕ). at (now (residuals .entry)) (j * n + k)) (λ (k : ℕ). 0)
         (now (margins .entry)) (now (weights .entry)) i) n ⌝ }
 {
-    raise_rows(raised, residuals, n);
+    bias_rows(biased, residuals, n);
     let mut place = 0;
     let mut start = 0;
     for j in 0..n {
         let known = if mirrored { j } else { 0 };
-        let magnitudes = column_magnitudes(list, known, rows, raised, j, place, start, n);
+        let magnitudes = column_magnitudes(list, known, rows, biased, j, place, start, n);
         let column = bounds_of(&magnitudes, margins, caps, weights, n);
         store(dst, j, n, column, n);
         place += n + 1;

@@ -8,7 +8,7 @@ use Rattle.integer.proofs.Sum.{sum-ext}
 use Rattle.linear.specs.Matrix.{apply, product, identity}
 use Rattle.linear.specs.Slice.{at, matrixOf}
 use Rattle.linear.proofs.Places.{place, place-column, place-row}
-use Rattle.check_biased_rows.specs.Raised.{loweredRows}
+use Rattle.check_biased_rows.specs.Biased.{unbiasedRows}
 use Rattle.check_biased_rows.specs.Place.{RowsOfMatrix}
 use Rattle.enclosure.specs.Reckoning.{residual}
 use Rattle.check_arrays.specs.Arrays.{Begins}
@@ -19,15 +19,15 @@ use Rattle.check_inverse_bounds.specs.Mirrored.{MirroredProduct}
 use Rattle.check_lists.specs.Work.{Work}
 use Rattle.check_lists.proofs.Rows.{workColumn}
 
-module _ (W : Work) {rows : List ℕ} {columns : List ℤ} (raised : RowsOfMatrix rows (W .n) (W .inverse)) (h : Begins (pos 0) columns (W .n * W .n) (workColumn W)) where
+module _ (W : Work) {rows : List ℕ} {columns : List ℤ} (biased : RowsOfMatrix rows (W .n) (W .inverse)) (h : Begins (pos 0) columns (W .n * W .n) (workColumn W)) where
   residual-product : (m j : ℕ) → m < W .n → j < W .n →
-      apply (W .n) (loweredRows rows (W .n)) (λ (k : ℕ). at columns (j * W .n + k)) m
+      apply (W .n) (unbiasedRows rows (W .n)) (λ (k : ℕ). at columns (j * W .n + k)) m
       ≡ apply (W .n) (matrixOf (W .inverse) (W .n)) (λ (k : ℕ). pos (2 ^ W .t) *ℤ identity k j -ℤ product (W .n) (matrixOf (W .matrix) (W .n)) (matrixOf (W .inverse) (W .n)) k j) m
   unfolding apply product residual
   residual-product m j lm lj =
       sum-ext (W .n) _ _
       (λ k lk.
-      ap₂ (λ (x y : ℤ). x *ℤ y) (raised .stands m k lm lk)
+      ap₂ (λ (x y : ℤ). x *ℤ y) (biased .stands m k lm lk)
       (h .each (j * W .n + k) (place lj lk) ∙ ap₂ (columnResidual (W .n) (W .t) (W .matrix) (W .inverse)) (place-column j k (W .n) lk) (place-row j k (W .n) lk)))
 
   pub mirrored-product : Symmetric (W .matrix) (W .n) → Symmetric (W .inverse) (W .n) → MirroredProduct rows columns (W .n)

@@ -43,7 +43,7 @@ weighed x (suc w) c h = omega arith
 
 -- the arrays of the reckoning, the first refused row of each, and what is judged of them
 pub record WorkedOut (W : Work) (rows margins : List ℕ) (residuals columns : List ℤ) (r : Outcome) : Type 0 where
-  pub raised : RowsOfMatrix rows (W .n) (W .inverse)
+  pub biased : RowsOfMatrix rows (W .n) (W .inverse)
   pub hm : Begins 0 margins (W .n) (cutMargin (workProblem W))
   pub hr : Begins (pos 0) residuals (W .n) (workResidual W)
   pub hc : Begins (pos 0) columns (W .n * W .n) (workColumn W)
@@ -96,11 +96,11 @@ module _ (W : Work) (ready : Workable W) {rows margins : List ℕ} {residuals co
           says = s;
           solution-bounds = eE
               ∙ written-ext (W .solutionBounds) 0 1 (λ (x : ℕ). getD column x 0) (boundWith (workProblem W) (workResidual W) (workSlack W)) (W .n)
-              (λ x l. h .each x l ∙ solution-limit W (a .raised) margins (a .hm) positive-here residuals (a .hr) x)
+              (λ x l. h .each x l ∙ solution-limit W (a .biased) margins (a .hm) positive-here residuals (a .hr) x)
               ∙ sym (accepted-new _ _ (sym s));
           inverse-bounds = eL
               ∙ written-columns (W .n) (λ (b c : ℕ). limitsOf (W .n) rows (λ (x : ℕ). at columns (c * W .n + x)) (λ (x : ℕ). 0) margins (W .weights) b)
               (inverseBound (workProblem W)) (W .inverseBounds) (ready .some) (omega (arith, square (ready .few), ready .inverse-long))
-              (inverse-limit W (a .raised) margins (a .hm) positive-here columns (a .hc))
+              (inverse-limit W (a .biased) margins (a .hm) positive-here columns (a .hc))
               ∙ sym (accepted-new _ _ (sym s));
         }

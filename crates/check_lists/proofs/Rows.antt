@@ -12,7 +12,7 @@ use Rattle.linear.specs.Slice.{matrixOf}
 use Rattle.linear.specs.Reach.{MatrixList}
 use Rattle.linear.proofs.Places.{place}
 use Rattle.linear.proofs.Slack.{slack-ext}
-use Rattle.check_biased_rows.specs.Raised.{loweredRows}
+use Rattle.check_biased_rows.specs.Biased.{unbiasedRows}
 use Rattle.check_biased_rows.specs.Place.{RowsOfMatrix}
 use Rattle.enclosure.specs.Problem.{columnOf, problemOf}
 use Rattle.enclosure.specs.Reckoning.{defect, load, residual, magnitudesWith}
@@ -26,7 +26,7 @@ use Rattle.check_bounds.specs.Limits.{inversePart}
 use Rattle.check_lists.specs.Work.{Work, workProblem}
 
 module _ (n : ℕ) (inverse : List ℤ) {rows : List ℕ} (h : RowsOfMatrix rows n inverse) where
-  stands-for : (i k : ℕ) → i < n → k < n → loweredRows rows n i k ≡ matrixOf inverse n i k
+  stands-for : (i k : ℕ) → i < n → k < n → unbiasedRows rows n i k ≡ matrixOf inverse n i k
   stands-for = h .stands
 
   pub inverse-rows : MatrixList inverse n → InverseRows rows n
@@ -54,4 +54,4 @@ module _ (W : Work) {rows : List ℕ} (h : RowsOfMatrix rows (W .n) (W .inverse)
   pub magnitudes-are : (r r′ : Vec) (σ σ′ : ℕ → ℕ) (m : ℕ) → m < W .n → ((k : ℕ) → k < W .n → r k ≡ r′ k) → ((k : ℕ) → k < W .n → σ k ≡ σ′ k) →
       magnitudesWith (inversePart (W .n) rows) r σ m ≡ magnitudesWith (workProblem W) r′ σ′ m
   unfolding magnitudesWith
-  magnitudes-are r r′ σ σ′ m l e f = slack-ext (W .n) (loweredRows rows (W .n)) (matrixOf (W .inverse) (W .n)) r r′ σ σ′ m (λ j lj. stands-for (W .n) (W .inverse) h m j l lj) e f
+  magnitudes-are r r′ σ σ′ m l e f = slack-ext (W .n) (unbiasedRows rows (W .n)) (matrixOf (W .inverse) (W .n)) r r′ σ σ′ m (λ j lj. stands-for (W .n) (W .inverse) h m j l lj) e f

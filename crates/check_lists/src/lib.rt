@@ -7,7 +7,7 @@ ghost use Rattle.check_lists.specs.Work.{work, Workable, ComputedAs};
 use check_allowances::allowed_of;
 use check_allowances::row_sums_of;
 use check_allowances::slacks_of;
-use check_biased_rows::raise_rows;
+use check_biased_rows::bias_rows;
 use check_bounds::column_bounds;
 use check_bounds::store;
 use check_defects::inverse_residuals_of;
@@ -32,7 +32,7 @@ use rules::Refusal;
 fn compute_bounds_in(
     rows: &mut [u64],
     columns: &mut [i64],
-    raised: &mut [u64],
+    biased: &mut [u64],
     magnitudes: &mut [u64],
     n: usize,
     t: u32,
@@ -47,14 +47,14 @@ fn compute_bounds_in(
     solution_bounds: &mut [u64],
     inverse_bounds: &mut [u64],
 ) -> Outcome
-    requires { ⌜ (n * (n + 1) ≤ length (now rows)) × ((n * n ≤ length (now columns)) × ((n * (n + 1) ≤ length (now raised)) × (n * n ≤ length (now magnitudes)))) ⌝ }
+    requires { ⌜ (n * (n + 1) ≤ length (now rows)) × ((n * n ≤ length (now columns)) × ((n * (n + 1) ≤ length (now biased)) × (n * n ≤ length (now magnitudes)))) ⌝ }
     requires { ⌜ Workable (work n t (now matrix) (now base) (now allowed) (now «allowed_in_columns») (now slacks) (now guess) (now inverse)
         (now weights) (now «solution_bounds») (now «inverse_bounds»)) ⌝ }
     ensures { λ r. ⌜ ComputedAs (work n t (now (matrix .entry)) (now (base .entry)) (now (allowed .entry)) (now («allowed_in_columns» .entry))
         (now (slacks .entry)) (now (guess .entry)) (now (inverse .entry)) (now (weights .entry)) (now («solution_bounds» .entry)) (now («inverse_bounds» .entry)))
         r (now («solution_bounds» .exit)) (now («inverse_bounds» .exit)) ⌝ }
 {
-    raise_rows(rows, inverse, n);
+    bias_rows(rows, inverse, n);
     inverse_residuals_of(columns, t, matrix, rows, n);
     let mirrored = are_symmetric(matrix, inverse, n);
     let margins = margins_of(t, matrix, inverse, columns, mirrored, weights, n);
@@ -73,7 +73,7 @@ fn compute_bounds_in(
                 inverse_bounds,
                 rows,
                 columns,
-                raised,
+                biased,
                 magnitudes,
                 mirrored,
                 &margins,
@@ -110,12 +110,12 @@ pub fn compute_bounds(
     if n <= 8 {
         let mut rows = [0u64; 72];
         let mut columns = [0i64; 64];
-        let mut raised = [0u64; 72];
+        let mut biased = [0u64; 72];
         let mut magnitudes = [0u64; 64];
         return compute_bounds_in(
             &mut rows,
             &mut columns,
-            &mut raised,
+            &mut biased,
             &mut magnitudes,
             n,
             t,
@@ -133,12 +133,12 @@ pub fn compute_bounds(
     }
     let mut rows = [0u64; 1056];
     let mut columns = [0i64; 1024];
-    let mut raised = [0u64; 1056];
+    let mut biased = [0u64; 1056];
     let mut magnitudes = [0u64; 1024];
     compute_bounds_in(
         &mut rows,
         &mut columns,
-        &mut raised,
+        &mut biased,
         &mut magnitudes,
         n,
         t,

@@ -12,7 +12,7 @@ ghost use Rattle.check_arrays.specs.Parts.{columnResidual};
 ghost use Rattle.weights_spec.specs.Sequence.{bits};
 ghost use Rattle.weights_steps.specs.Steps.{Below, storedLoad, storedMargin, shiftedNext};
 use check_biased_rows::ROWS_LENGTH;
-use check_biased_rows::raise_rows;
+use check_biased_rows::bias_rows;
 use check_defects::inverse_residuals_of;
 use check_margins::first_zero;
 use integer::larger;
@@ -26,7 +26,7 @@ pub fn defect_magnitudes(t: u32, matrix: &[i64], inverse: &[i64], n: usize) -> [
     ensures { λ r. ⌜ Begins 0 r (n * n) (λ (i : ℕ). natAbs (columnResidual n t (now (inverse .entry)) (now (matrix .entry)) (i / n) (i % n))) ⌝ }
 {
     let mut rows = [0u64; ROWS_LENGTH];
-    raise_rows(&mut rows, matrix, n);
+    bias_rows(&mut rows, matrix, n);
     let mut columns = [0i64; 1024];
     inverse_residuals_of(&mut columns, t, inverse, &rows, n);
     let mut out = [0u64; 1024];

@@ -3,8 +3,8 @@ use Prim.Native.Nat.{_≤_, _^_}
 use native.Mathlib.Omega.{arith}
 use Rattle.integer.proofs.Machine.{read}
 use Rattle.linear.proofs.Carried.{start-place}
-use Rattle.check_biased_rows.specs.Raised.{RaisedRow}
-use Rattle.check_biased_rows.proofs.Lowering.{row-sum, row-products, row-dot-is}
+use Rattle.check_biased_rows.specs.Biased.{BiasedRow}
+use Rattle.check_biased_rows.proofs.Unbiasing.{row-sum, row-products, row-dot-is}
 use borrow.Author.Needs.{needs}
 use Rattle.check_biased_rows.proofs.row_dot.Statement.{statement}
 use Rattle.check_biased_rows.proofs.row_dot.Tie as tie
@@ -15,10 +15,10 @@ start c = c .before .before .before
 
 -- the rows at the places that were carried to them
 module _ (s : tie.Start) where
-  left : RaisedRow (s .args .a .now) (s .args .p) (s .args .n)
+  left : BiasedRow (s .args .a .now) (s .args .p) (s .args .n)
   left = rw (start-place (s .pre .1 .0 .0)) (s .pre .1 .1 .0)
 
-  right : RaisedRow (s .args .b .now) (s .args .q) (s .args .n)
+  right : BiasedRow (s .args .b .now) (s .args .q) (s .args .n)
   right = rw (start-place (s .pre .1 .0 .1)) (s .pre .1 .1 .1)
 
 products : (c : tie.After-low-dot) → c .low-dot .result ≤ 2 ^ 57

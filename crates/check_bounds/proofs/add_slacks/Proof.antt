@@ -9,7 +9,7 @@ use lib.ListN.{length, length-set, getD}
 use Rattle.integer.specs.Finite.{sumℕ}
 use Rattle.linear.specs.Place.{Carried}
 use Rattle.linear.proofs.Carried.{carried-first, carried-next}
-use Rattle.check_biased_rows.specs.Raised.{loweredRows}
+use Rattle.check_biased_rows.specs.Biased.{unbiasedRows}
 use Rattle.check_biased_rows.proofs.Filling.{rows-room}
 use Rattle.check_arrays.specs.Arrays.{Begins}
 use Rattle.check_arrays.proofs.Filled.{begins-none, begins-more, begins-end}
@@ -20,7 +20,7 @@ use Rattle.check_bounds.proofs.add_slacks.Tie as tie
 
 abbrev Inv-loop : tie.InvT-loop
 Inv-loop rows slacks n magnitudes out₀ row₀ m₀ out row m =
-    (m ≤ n) × (Carried 0 (n + 1) m row × ((length out ≡ 32) × Begins 0 out m (λ (i : ℕ). getD magnitudes i 0 + sumℕ n (λ (j : ℕ). natAbs (loweredRows rows n i j) * getD slacks j 0))))
+    (m ≤ n) × (Carried 0 (n + 1) m row × ((length out ≡ 32) × Begins 0 out m (λ (i : ℕ). getD magnitudes i 0 + sumℕ n (λ (j : ℕ). natAbs (unbiasedRows rows n i j) * getD slacks j 0))))
 
 abbrev μ-loop : tie.MeasureT-loop
 μ-loop rows slacks n magnitudes out₀ row₀ m₀ out row m = n - m
@@ -34,7 +34,7 @@ sum-of-requires c κs = let p = c .before .pre in (p .0, record { most = λ k l.
 returns : tie.Need-returns Inv-loop μ-loop
 returns c =
     let s = c .before .before .before in
-    record { each = λ m l. omega (arith, no-slack-sum (s .args .n) (λ (j : ℕ). natAbs (loweredRows (s .args .rows .now) (s .args .n) m j)) (λ (j : ℕ). getD (s .args .slacks .now) j 0) (sym (c .before .sum-of .ensures) ∙ c .if1 .taken)) }
+    record { each = λ m l. omega (arith, no-slack-sum (s .args .n) (λ (j : ℕ). natAbs (unbiasedRows (s .args .rows .now) (s .args .n) m j)) (λ (j : ℕ). getD (s .args .slacks .now) j 0) (sym (c .before .sum-of .ensures) ∙ c .if1 .taken)) }
 
 loop-holds : tie.Need-loop-holds Inv-loop μ-loop
 loop-holds c = (omega arith, (carried-first _ _, (refl, begins-none _ _ _)))

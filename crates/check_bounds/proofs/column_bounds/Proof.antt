@@ -3,8 +3,8 @@ use Prim.Native.Nat.{ℕ, _+_, _*_}
 use native.Mathlib.Omega.{arith}
 use lib.ListN.{getD, length}
 use Rattle.linear.specs.Slice.{at}
-use Rattle.check_biased_rows.specs.Raised.{RowOf}
-use Rattle.check_biased_rows.proofs.Lowering.{row-as}
+use Rattle.check_biased_rows.specs.Biased.{RowOf}
+use Rattle.check_biased_rows.proofs.Unbiasing.{row-as}
 use Rattle.enclosure.specs.Reckoning.{magnitudesWith}
 use Rattle.check_arrays.specs.Arrays.{Begins}
 use Rattle.check_bounds.specs.Limits.{inversePart}
@@ -14,19 +14,19 @@ use Rattle.check_bounds.proofs.column_bounds.Statement.{statement}
 use Rattle.check_bounds.proofs.column_bounds.Tie as tie
 
 -- the start, from the raised residuals
-abbrev begun : tie.After-raise-row → tie.Start
+abbrev begun : tie.After-bias-row → tie.Start
 begun r = r .before .before .before .before
 
-long : (c : tie.After-raise-row-arg) → length (c .before .before .before .args .residuals .now) ≡ 32
+long : (c : tie.After-bias-row-arg) → length (c .before .before .before .args .residuals .now) ≡ 32
 long c = search needs
 
 abbrev start : tie.After-magnitudes-of → tie.Start
 start c = begun (c .before .before .before)
 
-row-is : (c : tie.After-magnitudes-of) → RowOf (c .before .before .before .raise-row .last .0) (0 * (start c .args .n + 1)) (start c .args .n) (at (start c .args .residuals .now))
+row-is : (c : tie.After-magnitudes-of) → RowOf (c .before .before .before .bias-row .last .0) (0 * (start c .args .n + 1)) (start c .args .n) (at (start c .args .residuals .now))
 row-is c =
     let first : 0 * (start c .args .n + 1) ≡ 0 = omega arith in
-    rw first (row-as _ (λ k l. let e : 0 + k * 1 ≡ k = omega arith in rw e) (c .before .before .before .raise-row .ensures .0))
+    rw first (row-as _ (λ k l. let e : 0 + k * 1 ≡ k = omega arith in rw e) (c .before .before .before .bias-row .ensures .0))
 
 magnitudes-are : (c : tie.After-add-slacks) →
     Begins 0 (c .add-slacks .result) (start (c .before) .args .n) (magnitudesWith (inversePart (start (c .before) .args .n) (start (c .before) .args .rows .now)) (at (start (c .before) .args .residuals .now)) (λ (k : ℕ). getD (start (c .before) .args .slacks .now) k 0))
@@ -34,11 +34,11 @@ magnitudes-are c =
     let z = c .before in
     slack-magnitudes (start z .args .n) (start z .pre .1 .0 .rows) (row-is z) (λ (k : ℕ). getD (start z .args .slacks .now) k 0) (z .magnitudes-of .ensures) (c .add-slacks .ensures)
 
-slice-aggregate-raise-row : tie.Need-slice-aggregate-raise-row
-slice-aggregate-raise-row c = search needs
+slice-aggregate-bias-row : tie.Need-slice-aggregate-bias-row
+slice-aggregate-bias-row c = search needs
 
-raise-row-requires : tie.Need-raise-row-requires
-raise-row-requires c κs =
+bias-row-requires : tie.Need-bias-row-requires
+bias-row-requires c κs =
     let s = c .before .before .before in
     ((s .pre .0 .1, (omega (arith, s .pre .0 .1), omega (arith, s .pre .0 .1))), near-reach (s .pre .1 .1 .0) (omega (arith, s .pre .0 .1, long c)))
 
@@ -49,7 +49,7 @@ magnitudes-of-requires : tie.Need-magnitudes-of-requires
 magnitudes-of-requires c κs =
     let r = c .before .before in
     let s = begun r in
-    let first : 0 * (s .args .n + 1) ≡ 0 = omega arith in (s .pre .0 .1, (s .pre .1 .0 .rows, rw first (r .raise-row .ensures .0 .row)))
+    let first : 0 * (s .args .n + 1) ≡ 0 = omega arith in (s .pre .0 .1, (s .pre .1 .0 .rows, rw first (r .bias-row .ensures .0 .row)))
 
 add-slacks-requires : tie.Need-add-slacks-requires
 add-slacks-requires c κs =
@@ -69,8 +69,8 @@ pub column-bounds-spec : {M : Type 1} → statement M
 column-bounds-spec =
     tie.close
     (tie.spec
-    slice-aggregate-raise-row
-    raise-row-requires
+    slice-aggregate-bias-row
+    bias-row-requires
     slice-aggregate-magnitudes-of
     magnitudes-of-requires
     add-slacks-requires

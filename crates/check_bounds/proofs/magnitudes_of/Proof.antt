@@ -6,7 +6,7 @@ use Rattle.integer.proofs.Machine.{read}
 use Rattle.linear.specs.Place.{Carried}
 use Rattle.linear.proofs.Carried.{carried-first, carried-next}
 use Rattle.check_biased_rows.proofs.Filling.{rows-room}
-use Rattle.check_biased_rows.proofs.Lowering.{row-dot-magnitude}
+use Rattle.check_biased_rows.proofs.Unbiasing.{row-dot-magnitude}
 use Rattle.check_arrays.specs.Arrays.{Begins}
 use Rattle.check_arrays.proofs.Filled.{begins-none, begins-more, begins-end}
 use Rattle.check_bounds.specs.Limits.{columnMagnitude}

@@ -7,7 +7,7 @@ use Rattle.integer.specs.Finite.{sumℕ}
 use Rattle.integer.proofs.Sum.{sumℕ-none, sumℕ-next, sumℕ-end}
 use Rattle.linear.specs.Place.{Carried}
 use Rattle.linear.proofs.Carried.{start-place, carried-first, carried-next}
-use Rattle.check_biased_rows.specs.Raised.{RaisedRow, loweredRows}
+use Rattle.check_biased_rows.specs.Biased.{BiasedRow, unbiasedRows}
 use Rattle.check_bounds.proofs.Column.{slack-sum}
 use borrow.Author.Needs.{needs}
 use Rattle.check_bounds.proofs.slack_of.Statement.{statement}
@@ -15,13 +15,13 @@ use Rattle.check_bounds.proofs.slack_of.Tie as tie
 
 abbrev Inv-loop : tie.InvT-loop
 Inv-loop rows m row slacks n sum₀ place₀ j₀ sum place j =
-    (j ≤ n) × (Carried row 1 j place × (sum ≡ sumℕ j (λ (k : ℕ). natAbs (loweredRows rows n m k) * getD slacks k 0)))
+    (j ≤ n) × (Carried row 1 j place × (sum ≡ sumℕ j (λ (k : ℕ). natAbs (unbiasedRows rows n m k) * getD slacks k 0)))
 
 abbrev μ-loop : tie.MeasureT-loop
 μ-loop rows m row slacks n sum₀ place₀ j₀ sum place j = n - j
 
 -- the row, at the place that was carried to it
-row-here : (s : tie.Start Inv-loop μ-loop) → RaisedRow (s .args .rows .now) (s .args .row) (s .args .n)
+row-here : (s : tie.Start Inv-loop μ-loop) → BiasedRow (s .args .rows .now) (s .args .row) (s .args .n)
 row-here s = rw (start-place (s .pre .1 .0)) (s .pre .1 .1 .0)
 
 loop-holds : tie.Need-loop-holds Inv-loop μ-loop

@@ -14,7 +14,7 @@ use Rattle.integer.proofs.Sum.{sum-none, sum-next, sum-end}
 use Rattle.linear.specs.Slice.{at}
 use Rattle.linear.specs.Place.{Carried}
 use Rattle.linear.proofs.Carried.{carried-first, carried-next}
-use Rattle.check_biased_rows.specs.Place.{raisedPlace}
+use Rattle.check_biased_rows.specs.Place.{biasedPlace}
 use Rattle.check_biased_rows.proofs.Filling.{rows-room}
 use Rattle.check_defects.specs.Sums.{SumsOf}
 use Rattle.check_defects.proofs.Halves.{read-at}
@@ -26,7 +26,7 @@ use Rattle.check_defects.proofs.add_rows.Tie as tie
 abbrev Inv-loop : tie.InvT-loop
 Inv-loop sums₀ xs start stride rows n total₀ from₀ row₀ k₀ sums total from row k =
     (k ≤ n) × ((Carried start stride k from × Carried 0 (n + 1) k row)
-    × ((toZ w64 total ≡ sum k (λ (i : ℕ). at xs (start + i * stride))) × ((length sums ≡ 64) × SumsOf sums n k (λ (i : ℕ). at xs (start + i * stride)) (λ (i j : ℕ). getD rows (raisedPlace n i j) 0))))
+    × ((toZ w64 total ≡ sum k (λ (i : ℕ). at xs (start + i * stride))) × ((length sums ≡ 64) × SumsOf sums n k (λ (i : ℕ). at xs (start + i * stride)) (λ (i j : ℕ). getD rows (biasedPlace n i j) 0))))
 
 abbrev μ-loop : tie.MeasureT-loop
 μ-loop sums₀ xs start stride rows n total₀ from₀ row₀ k₀ sums total from row k = n - k

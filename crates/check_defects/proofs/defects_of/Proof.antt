@@ -13,11 +13,11 @@ use borrow.Author.Needs.{needs}
 use Rattle.check_defects.proofs.defects_of.Statement.{statement}
 use Rattle.check_defects.proofs.defects_of.Tie as tie
 
-slice-aggregate-raise-columns : tie.Need-slice-aggregate-raise-columns
-slice-aggregate-raise-columns c = search needs
+slice-aggregate-bias-columns : tie.Need-slice-aggregate-bias-columns
+slice-aggregate-bias-columns c = search needs
 
-raise-columns-requires : tie.Need-raise-columns-requires
-raise-columns-requires c κs = let p = c .before .pre in ((p .0 .1, rows-fit (p .0 .1)), raisable (search needs))
+bias-columns-requires : tie.Need-bias-columns-requires
+bias-columns-requires c κs = let p = c .before .pre in ((p .0 .1, rows-fit (p .0 .1)), raisable (search needs))
 
 slice-aggregate-differences-of : tie.Need-slice-aggregate-differences-of
 slice-aggregate-differences-of c = search needs
@@ -29,7 +29,7 @@ differences-of-requires : tie.Need-differences-of-requires
 differences-of-requires c κs =
     let p = c .before .before .before .before .before .pre in (
       (omega arith, (p .0 .1, (lit≤ tt, (p .0 .1, square (p .0 .1))))),
-      (λ m l. let e : m * 1 ≡ m = omega arith in rw e (column-reach (square-list (search needs)) m l), c .before .before .before .raise-columns .ensures .rows),
+      (λ m l. let e : m * 1 ≡ m = omega arith in rw e (column-reach (square-list (search needs)) m l), c .before .before .before .bias-columns .ensures .rows),
     )
 
 returns : tie.Need-returns
@@ -37,15 +37,15 @@ returns c =
     let r = c .before .before .before .before .before in
     let s = r .before .before in
     begins-as (pos 0) _ _
-    (λ i l. let k = in-square (s .args .n) i l in columns-defect (s .args .n) (s .args .t) (s .args .matrix .now) (r .raise-columns .ensures) (i / s .args .n) (i % s .args .n) (k .0) (k .1))
+    (λ i l. let k = in-square (s .args .n) i l in columns-defect (s .args .n) (s .args .t) (s .args .matrix .now) (r .bias-columns .ensures) (i / s .args .n) (i % s .args .n) (k .0) (k .1))
     (c .before .differences-of .ensures)
 
 pub defects-of-spec : {M : Type 1} → statement M
 defects-of-spec =
     tie.close
     (tie.spec
-    slice-aggregate-raise-columns
-    raise-columns-requires
+    slice-aggregate-bias-columns
+    bias-columns-requires
     slice-aggregate-differences-of
     slice-aggregate-differences-of-2
     differences-of-requires

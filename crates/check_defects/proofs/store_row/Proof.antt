@@ -15,20 +15,20 @@ use Rattle.linear.specs.Written.{written}
 use Rattle.linear.proofs.Carried.{carried-first, carried-next}
 use Rattle.linear.proofs.Places.{place, square}
 use Rattle.linear.proofs.Written.{written-none, written-more, written-end, written-length}
-use Rattle.check_biased_rows.specs.Raised.{raisedBy}
-use Rattle.check_biased_rows.specs.Place.{raisedPlace}
+use Rattle.check_biased_rows.specs.Biased.{bias}
+use Rattle.check_biased_rows.specs.Place.{biasedPlace}
 use Rattle.check_defects.specs.Difference.{numberLess}
-use Rattle.check_defects.proofs.Sums.{no-sums, ups-small, downs-small, raised-small, sums-less}
+use Rattle.check_defects.proofs.Sums.{no-sums, ups-small, downs-small, biased-small, sums-less}
 use borrow.Author.Needs.{needs}
 use Rattle.check_defects.proofs.store_row.Statement.{statement}
 use Rattle.check_defects.proofs.store_row.Tie as tie
 
 abbrev Inv-loop : tie.InvT-loop
-Inv-loop out₀ t m xs start stride rows n sums raised place₀ j₀ out place j =
+Inv-loop out₀ t m xs start stride rows n sums biased place₀ j₀ out place j =
     (j ≤ n) × (Carried m n j place × (out ≡ written out₀ m n (λ (i : ℕ). numberLess t xs start stride rows n m i) j))
 
 abbrev μ-loop : tie.MeasureT-loop
-μ-loop out₀ t m xs start stride rows n sums raised place₀ j₀ out place j = n - j
+μ-loop out₀ t m xs start stride rows n sums biased place₀ j₀ out place j = n - j
 
 abbrev X : tie.Start Inv-loop μ-loop → ℕ → ℤ
 X s i = at (s .args .xs .now) (s .args .start + i * s .args .stride)
@@ -38,19 +38,19 @@ module _ (c : tie.After-add-rows Inv-loop μ-loop) where
   abbrev start : tie.Start Inv-loop μ-loop
   start = c .before .before .before
 
-  raised-most : natAbs (pos raisedBy *ℤ sum (start .args .n) (X start)) ≤ 2 ^ 50
-  raised-most = raised-small (X start) (start .pre .0 .1 .0) (start .pre .1 .0 .magnitudes)
+  biased-most : natAbs (pos bias *ℤ sum (start .args .n) (X start)) ≤ 2 ^ 50
+  biased-most = biased-small (X start) (start .pre .0 .1 .0) (start .pre .1 .0 .magnitudes)
 
-  raised-fits : SFits w64 (pos raisedBy *ℤ sum (start .args .n) (X start))
-  raised-fits = small (pos raisedBy *ℤ sum (start .args .n) (X start)) (omega (arith, raised-most))
+  biased-fits : SFits w64 (pos bias *ℤ sum (start .args .n) (X start))
+  biased-fits = small (pos bias *ℤ sum (start .args .n) (X start)) (omega (arith, biased-most))
 
   total-is : toZ w64 (ofZ w64 (c .add-rows .result)) ≡ sum (start .args .n) (X start)
   total-is = read (c .add-rows .result) (c .add-rows .ok) ∙ c .add-rows .ensures .0
 
-  raised-is : toZ w64 (ofZ w64 (pos raisedBy *ℤ toZ w64 (ofZ w64 (c .add-rows .result)))) ≡ pos raisedBy *ℤ sum (start .args .n) (X start)
-  raised-is = rw total-is (toZ-ofZ w64 _ raised-fits)
+  biased-is : toZ w64 (ofZ w64 (pos bias *ℤ toZ w64 (ofZ w64 (c .add-rows .result)))) ≡ pos bias *ℤ sum (start .args .n) (X start)
+  biased-is = rw total-is (toZ-ofZ w64 _ biased-fits)
 
-  low : (i j : ℕ) → i < start .args .n → j < start .args .n → getD (start .args .rows .now) (raisedPlace (start .args .n) i j) 0 ≤ 2 ^ 26
+  low : (i j : ℕ) → i < start .args .n → j < start .args .n → getD (start .args .rows .now) (biasedPlace (start .args .n) i j) 0 ≤ 2 ^ 26
   low i j li lj = start .pre .1 .1 .each i li .small .each j lj
 
 -- the place in the list
@@ -61,15 +61,15 @@ in-list t =
       omega (arith, t .before .loop .inv .1 .0 .is, place (t .loop-test .taken) (s .pre .0 .1 .1 .0), square (s .pre .0 .1 .0), s .pre .0 .1 .0),
     )
 
-cast-raised : tie.Need-cast-raised Inv-loop μ-loop
-cast-raised c = search needs
+cast-biased : tie.Need-cast-biased Inv-loop μ-loop
+cast-biased c = search needs
 
 add-rows-requires : tie.Need-add-rows-requires Inv-loop μ-loop
 add-rows-requires c κs =
     let s = c .before .before in ((s .pre .0 .1 .0, s .pre .0 .1 .1 .1 .0), (s .pre .1 .0, (s .pre .1 .1, (refl, no-sums))))
 
-mul-raised : tie.Need-mul-raised Inv-loop μ-loop
-mul-raised c = rw (total-is c) (raised-fits c)
+mul-biased : tie.Need-mul-biased Inv-loop μ-loop
+mul-biased c = rw (total-is c) (biased-fits c)
 
 loop-holds : tie.Need-loop-holds Inv-loop μ-loop
 loop-holds c = (omega arith, (carried-first _ _, sym (written-none _ _ _ _)))
@@ -95,7 +95,7 @@ number-less-requires c κs =
     let s = start a in
     let few = s .pre .0 .1 .0 in
     let h = a .add-rows .ensures .1 in (
-      (s .pre .0 .0, rw (raised-is a) (raised-most a)),
+      (s .pre .0 .0, rw (biased-is a) (biased-most a)),
       (
         ups-small _ _ _ few (s .pre .1 .0 .magnitudes) (low a) h _ (omega arith),
         downs-small _ _ _ few (s .pre .1 .0 .magnitudes) (low a) h _ (omega arith),
@@ -129,7 +129,7 @@ loop-again c =
       (
         carried-next (l .inv .1 .0),
         written-more _ _ _ _ (l .j) (l .inv .1 .1) (l .inv .1 .0 .is)
-            (read _ (c .number-less .ok) ∙ (rw (raised-is a) at (c .number-less .ensures)) ∙ sums-less (s .args .rows .now) (s .args .n) (X s) (pos (2 ^ s .args .t) *ℤ identity (s .args .m) (l .j)) (a .add-rows .ensures .1) (l .j) (c .before .loop-test .taken)),
+            (read _ (c .number-less .ok) ∙ (rw (biased-is a) at (c .number-less .ensures)) ∙ sums-less (s .args .rows .now) (s .args .n) (X s) (pos (2 ^ s .args .t) *ℤ identity (s .args .m) (l .j)) (a .add-rows .ensures .1) (l .j) (c .before .loop-test .taken)),
       ),
     )
 
@@ -145,9 +145,9 @@ store-row-spec =
     (tie.spec
     Inv-loop
     μ-loop
-    cast-raised
+    cast-biased
     add-rows-requires
-    mul-raised
+    mul-biased
     loop-holds
     mul-number-less
     array-read-number-less

@@ -10,7 +10,7 @@ use Rattle.linear.specs.Place.{Carried}
 use Rattle.linear.proofs.Carried.{carried-first, carried-next}
 use Rattle.linear.proofs.Places.{place}
 use Rattle.linear.proofs.Written.{written-length}
-use Rattle.check_biased_rows.specs.Raised.{RowOf}
+use Rattle.check_biased_rows.specs.Biased.{RowOf}
 use Rattle.check_biased_rows.proofs.Filling.{rows-room}
 use Rattle.check_biased_rows.proofs.Standing.{rows-stand}
 use Rattle.enclosure.specs.Reckoning.{magnitudesWith}
@@ -27,32 +27,32 @@ use Rattle.check_inverse_bounds.proofs.store_columns.Statement.{stateme
 use Rattle.check_inverse_bounds.proofs.store_columns.Tie as tie
 
 abbrev Inv-loop : tie.InvT-loop
-Inv-loop dst₀ rows residuals raised list₀ mirrored margins caps weights n place₀ start₀ j₀ dst list place start j =
-    (j ≤ n) × ((Carried 0 (n + 1) j place × Carried 0 n j start) × (((length list ≡ length list₀) × KnownColumns list n j rows raised) × (dst ≡ columnsWritten dst₀ n (λ (i k : ℕ). limitsOf n rows (λ (a : ℕ). at residuals (k * n + a)) (λ (a : ℕ). 0) margins weights i) j)))
+Inv-loop dst₀ rows residuals biased list₀ mirrored margins caps weights n place₀ start₀ j₀ dst list place start j =
+    (j ≤ n) × ((Carried 0 (n + 1) j place × Carried 0 n j start) × (((length list ≡ length list₀) × KnownColumns list n j rows biased) × (dst ≡ columnsWritten dst₀ n (λ (i k : ℕ). limitsOf n rows (λ (a : ℕ). at residuals (k * n + a)) (λ (a : ℕ). 0) margins weights i) j)))
 
 abbrev μ-loop : tie.MeasureT-loop
-μ-loop dst₀ rows residuals raised list₀ mirrored margins caps weights n place₀ start₀ j₀ dst list place start j = n - j
+μ-loop dst₀ rows residuals biased list₀ mirrored margins caps weights n place₀ start₀ j₀ dst list place start j = n - j
 
 -- stages on the way: the start, after the raised residuals, and after the sizes of the column
-abbrev begun : tie.After-raise-rows-arg Inv-loop μ-loop → tie.Start Inv-loop μ-loop
+abbrev begun : tie.After-bias-rows-arg Inv-loop μ-loop → tie.Start Inv-loop μ-loop
 begun c = c .before .before .before .before .before
 
-abbrev raised : tie.In-loop Inv-loop μ-loop → tie.After-raise-rows Inv-loop μ-loop
-raised t = t .before .before .before .before
+abbrev biased : tie.In-loop Inv-loop μ-loop → tie.After-bias-rows Inv-loop μ-loop
+biased t = t .before .before .before .before
 
 abbrev at-magnitudes : tie.After-store-arg Inv-loop μ-loop → tie.After-column-magnitudes Inv-loop μ-loop
 at-magnitudes c = c .before .before .before .before .before
 
 abbrev start : tie.In-loop Inv-loop μ-loop → tie.Start Inv-loop μ-loop
-start t = begun (raised t .before)
+start t = begun (biased t .before)
 
 abbrev F : tie.Start Inv-loop μ-loop → ℕ → ℕ → ℕ
 F s i k = limitsOf (s .args .n) (s .args .rows .now) (λ (a : ℕ). at (s .args .residuals .now) (k * s .args .n + a)) (λ (a : ℕ). 0) (s .args .margins .now) (s .args .weights .now) i
 
 -- the raised residuals of the column
 row-is : (t : tie.In-loop Inv-loop μ-loop) →
-    RowOf (raised t .raise-rows .last .0) (t .before .loop .j * (start t .args .n + 1)) (start t .args .n) (λ (k : ℕ). at (start t .args .residuals .now) (t .before .loop .j * start t .args .n + k))
-row-is t = rows-stand (raised t .raise-rows .ensures) .each (t .before .loop .j) (t .loop-test .taken)
+    RowOf (biased t .bias-rows .last .0) (t .before .loop .j * (start t .args .n + 1)) (start t .args .n) (λ (k : ℕ). at (start t .args .residuals .now) (t .before .loop .j * start t .args .n + k))
+row-is t = rows-stand (biased t .bias-rows .ensures) .each (t .before .loop .j) (t .loop-test .taken)
 
 -- what the sizes hold
 abbrev turn : tie.After-column-magnitudes Inv-loop μ-loop → tie.In-loop Inv-loop μ-loop
@@ -67,7 +67,7 @@ magnitudes-here c =
 -- the list, with this column's sizes
 list-next : (c : tie.After-column-magnitudes Inv-loop μ-loop) →
     (length (c .column-magnitudes .last .0) ≡ length (start (turn c) .args .list .now))
-    × KnownColumns (c .column-magnitudes .last .0) (start (turn c) .args .n) (turn c .before .loop .j + 1) (start (turn c) .args .rows .now) (raised (turn c) .raise-rows .last .0)
+    × KnownColumns (c .column-magnitudes .last .0) (start (turn c) .args .n) (turn c .before .loop .j + 1) (start (turn c) .args .rows .now) (biased (turn c) .bias-rows .last .0)
 list-next c =
     let t = turn c in
     let i = t .before .loop .inv .1 .1 .0 in (
@@ -75,8 +75,8 @@ list-next c =
       known-more (t .before .loop .j) (omega (arith, i .0, mul-le-mul-right (start t .args .n) (t .loop-test .taken), start t .pre .0 .1 .1 .1 .1)) (i .1) (c .column-magnitudes .ensures .1),
     )
 
-raise-rows-requires : tie.Need-raise-rows-requires Inv-loop μ-loop
-raise-rows-requires c κs =
+bias-rows-requires : tie.Need-bias-rows-requires Inv-loop μ-loop
+bias-rows-requires c κs =
     let p = begun c .pre in
     ((p .0 .1 .0, p .0 .1 .1 .1 .0), p .1 .1 .0)
 
@@ -98,7 +98,7 @@ column-magnitudes-requires c κs =
     let p = start t .pre in
     let k = known-is c in (
       (p .0 .1 .0, (t .loop-test .taken, (k .0, omega (arith, i .1 .1 .0 .0, p .0 .1 .1 .1 .1)))),
-      (i .1 .0, ((p .1 .0 .rows, row-is t .row), (known-fewer (k .0) (i .1 .1 .0 .1), λ h. mirrored-magnitudes (p .1 .0 .rows) (raised t .raise-rows .ensures) (p .1 .1 .1 .0 (k .1 h))))),
+      (i .1 .0, ((p .1 .0 .rows, row-is t .row), (known-fewer (k .0) (i .1 .1 .0 .1), λ h. mirrored-magnitudes (p .1 .0 .rows) (biased t .bias-rows .ensures) (p .1 .1 .1 .0 (k .1 h))))),
     )
 
 bounds-of-requires : tie.Need-bounds-of-requires Inv-loop μ-loop
@@ -174,7 +174,7 @@ store-columns-spec =
     (tie.spec
     Inv-loop
     μ-loop
-    raise-rows-requires
+    bias-rows-requires
     loop-holds
     column-magnitudes-requires
     bounds-of-requires

@@ -53,31 +53,31 @@ W s =
     work (a .n) (a .t) (a .matrix .now) (a .base .now) (a .allowed .now) (a .allowed-in-columns .now) (a .slacks .now) (a .guess .now) (a .inverse .now) (a .weights .now) (a .solution-bounds .now) (a .inverse-bounds .now)
 
 -- the raised rows, and the residuals of the inverse
-abbrev begun : tie.After-raise-rows → tie.Start
+abbrev begun : tie.After-bias-rows → tie.Start
 begun c = at-start (c .before .before)
 
-rows-are : (c : tie.After-raise-rows) → InverseRows (c .raise-rows .last .0) (begun c .args .n)
-rows-are c = let s = begun c in inverse-rows (s .args .n) (s .args .inverse .now) (c .raise-rows .ensures) (s .pre .1 .inverse)
+rows-are : (c : tie.After-bias-rows) → InverseRows (c .bias-rows .last .0) (begun c .args .n)
+rows-are c = let s = begun c in inverse-rows (s .args .n) (s .args .inverse .now) (c .bias-rows .ensures) (s .pre .1 .inverse)
 
-abbrev raised-before : tie.After-inverse-residuals-of → tie.After-raise-rows
-raised-before c = c .before .before .before .before .before
+abbrev biased-before : tie.After-inverse-residuals-of → tie.After-bias-rows
+biased-before c = c .before .before .before .before .before
 
 residuals-are : (c : tie.After-inverse-residuals-of) →
-    Begins (pos 0) (c .inverse-residuals-of .last .0) (begun (raised-before c) .args .n * begun (raised-before c) .args .n) (workColumn (W (begun (raised-before c))))
-residuals-are c = columns-are (W (begun (raised-before c))) (raised-before c .raise-rows .ensures) (c .inverse-residuals-of .ensures)
+    Begins (pos 0) (c .inverse-residuals-of .last .0) (begun (biased-before c) .args .n * begun (biased-before c) .args .n) (workColumn (W (begun (biased-before c))))
+residuals-are c = columns-are (W (begun (biased-before c))) (biased-before c .bias-rows .ensures) (c .inverse-residuals-of .ensures)
 
 -- the lengths of the lists
 wide : (c : tie.After-residuals-of) → length (c .residuals-of .result) ≡ 32
 wide c = search needs
 
-same-rows : (c : tie.After-raise-rows) → length (c .raise-rows .last .0) ≡ length (begun c .args .rows .now)
+same-rows : (c : tie.After-bias-rows) → length (c .bias-rows .last .0) ≡ length (begun c .args .rows .now)
 same-rows c = search needs
 
-same-columns : (c : tie.After-inverse-residuals-of) → length (c .inverse-residuals-of .last .0) ≡ length (begun (raised-before c) .args .columns .now)
+same-columns : (c : tie.After-inverse-residuals-of) → length (c .inverse-residuals-of .last .0) ≡ length (begun (biased-before c) .args .columns .now)
 same-columns c = search needs
 
-long-columns : (c : tie.After-inverse-residuals-of) → begun (raised-before c) .args .n * begun (raised-before c) .args .n ≤ length (c .inverse-residuals-of .last .0)
-long-columns c = omega (arith, same-columns c, begun (raised-before c) .pre .0 .1 .0)
+long-columns : (c : tie.After-inverse-residuals-of) → begun (biased-before c) .args .n * begun (biased-before c) .args .n ≤ length (c .inverse-residuals-of .last .0)
+long-columns c = omega (arith, same-columns c, begun (biased-before c) .pre .0 .1 .0)
 
 -- places on the way to the judgement
 abbrev with-margins : tie.After-judge → tie.After-margins-of
@@ -89,16 +89,16 @@ looked j = with-margins j .before .before
 abbrev known : tie.After-judge → tie.After-inverse-residuals-of
 known j = looked j .before .before
 
-abbrev raised : tie.After-judge → tie.After-raise-rows
-raised j = raised-before (known j)
+abbrev biased : tie.After-judge → tie.After-bias-rows
+biased j = biased-before (known j)
 
 abbrev start : tie.After-judge → tie.Start
-start j = begun (raised j)
+start j = begun (biased j)
 
 abbrev worked : (j : tie.After-judge) →
-    WorkedOut (W (start j)) (raised j .raise-rows .last .0) (with-margins j .margins-of .result) (at-zero (j .before) .before .before .residuals-of .result) (known j .inverse-residuals-of .last .0) (j .judge .result)
+    WorkedOut (W (start j)) (biased j .bias-rows .last .0) (with-margins j .margins-of .result) (at-zero (j .before) .before .before .residuals-of .result) (known j .inverse-residuals-of .last .0) (j .judge .result)
 worked j = record {
-  raised = raised j .raise-rows .ensures;
+  biased = biased j .bias-rows .ensures;
   hm = margins-are (W (start j)) (with-margins j .margins-of .ensures);
   hr = at-zero (j .before) .before .before .residuals-of .ensures;
   hc = residuals-are (known j);
@@ -111,44 +111,44 @@ worked j = record {
   er = j .judge .ensures;
 }
 
-raise-rows-requires : tie.Need-raise-rows-requires
-raise-rows-requires c κs = let p = at-start (c .before) .pre in ((p .1 .few, p .0 .0), raisable (p .1 .inverse))
+bias-rows-requires : tie.Need-bias-rows-requires
+bias-rows-requires c κs = let p = at-start (c .before) .pre in ((p .1 .few, p .0 .0), raisable (p .1 .inverse))
 
 inverse-residuals-of-requires : tie.Need-inverse-residuals-of-requires
 inverse-residuals-of-requires c κs =
     let r = c .before .before .before .before in
-    let p = begun r .pre in ((p .1 .inverse-scale, (p .1 .few, p .0 .1 .0)), (p .1 .matrix, r .raise-rows .ensures .rows))
+    let p = begun r .pre in ((p .1 .inverse-scale, (p .1 .few, p .0 .1 .0)), (p .1 .matrix, r .bias-rows .ensures .rows))
 
 are-symmetric-requires : tie.Need-are-symmetric-requires
-are-symmetric-requires c κs = let p = begun (raised-before (c .before)) .pre in (p .1 .few, (p .1 .matrix .long, p .1 .inverse .long))
+are-symmetric-requires c κs = let p = begun (biased-before (c .before)) .pre in (p .1 .few, (p .1 .matrix .long, p .1 .inverse .long))
 
 margins-of-requires : tie.Need-margins-of-requires
 margins-of-requires c κs =
     let k = c .before .before .before in
-    let p = begun (raised-before k) .pre .1 in
+    let p = begun (biased-before k) .pre .1 in
     ((p .inverse-scale, (p .few, long-columns k)), (search (p .matrix, p .inverse), (search (p .matrix, p .inverse), (residuals-are k, (c .before .are-symmetric .ensures, p .weights)))))
 
 residuals-of-requires : tie.Need-residuals-of-requires
-residuals-of-requires c κs = let p = begun (raised-before (at-columns c)) .pre .1 in (p .few, (p .base, (p .matrix, p .guess)))
+residuals-of-requires c κs = let p = begun (biased-before (at-columns c)) .pre .1 in (p .few, (p .base, (p .matrix, p .guess)))
 
 first-zero-requires : tie.Need-first-zero-requires
-first-zero-requires c κs = begun (raised-before (at-columns (c .before .before))) .pre .1 .few
+first-zero-requires c κs = begun (biased-before (at-columns (c .before .before))) .pre .1 .few
 
 slice-aggregate-first-above : tie.Need-slice-aggregate-first-above
 slice-aggregate-first-above c = search needs
 
 first-above-requires : tie.Need-first-above-requires
 first-above-requires c κs =
-    let p = begun (raised-before (at-columns (at-margins (c .before)))) .pre .1 in
+    let p = begun (biased-before (at-columns (at-margins (c .before)))) .pre .1 in
     ((p .few, (omega (arith, p .few, wide (c .before .before .before)), lit≤ tt)), p .allowed)
 
 first-above-in-columns-requires : tie.Need-first-above-in-columns-requires
 first-above-in-columns-requires c κs =
     let k = at-columns (at-margins (c .before .before .before)) in
-    let p = begun (raised-before k) .pre .1 in ((p .few, long-columns k), p .in-columns)
+    let p = begun (biased-before k) .pre .1 in ((p .few, long-columns k), p .in-columns)
 
 judge-requires : tie.Need-judge-requires
-judge-requires c κs = let p = begun (raised-before (at-columns (at-margins (at-zero c)))) .pre .1 in (p .some, p .few)
+judge-requires c κs = let p = begun (biased-before (at-columns (at-margins (at-zero c)))) .pre .1 in (p .some, p .few)
 
 enum-known-outcome : tie.Need-enum-known-outcome
 enum-known-outcome c = search needs
@@ -169,7 +169,7 @@ column-bounds-requires c κs =
     let s = start j in
     let p = s .pre .1 in
     let e = at-caps c .before .before .enum-told .given .1 in
-    ((p .some, p .few), (rows-are (raised j), (near-here (W s) p (worked j) e, (positive-here (W s) p (worked j) e, (p .weights, at-caps c .caps-of .ensures)))))
+    ((p .some, p .few), (rows-are (biased j), (near-here (W s) p (worked j) e, (positive-here (W s) p (worked j) e, (p .weights, at-caps c .caps-of .ensures)))))
 
 store-requires : tie.Need-store-requires
 store-requires c κs =
@@ -184,11 +184,11 @@ store-columns-requires c κs =
     let e = at-caps (solved c) .before .before .enum-told .given .1 in (
       (p .some, (p .few, (omega (arith, square (p .few), p .inverse-long), s .pre .0 .1 .1))),
       (
-        rows-are (raised j),
+        rows-are (biased j),
         (
           columns-here (W s) p (worked j) e (long-columns (known j)),
           (
-            (λ y. let both = looked j .are-symmetric .ensures y in mirrored-product (W s) (raised j .raise-rows .ensures) (residuals-are (known j)) (both .0) (both .1)),
+            (λ y. let both = looked j .are-symmetric .ensures y in mirrored-product (W s) (biased j .bias-rows .ensures) (residuals-are (known j)) (both .0) (both .1)),
             (positive-here (W s) p (worked j) e, (p .weights, at-caps (solved c) .caps-of .ensures)),
           ),
         ),
@@ -196,7 +196,7 @@ store-columns-requires c κs =
     )
 
 same-length : tie.Need-same-length
-same-length c = same-rows (raised (c .before .before .before))
+same-length c = same-rows (biased (c .before .before .before))
 
 same-length-2 : tie.Need-same-length-2
 same-length-2 c = same-columns (known (c .before .before .before))
@@ -207,7 +207,7 @@ returns c =
     refused (W (start j)) (start j .pre .1) (worked j) _ (c .before .outcome .given .1)
 
 same-length-3 : tie.Need-same-length-3
-same-length-3 c = same-rows (raised (judged (at-caps (solved (returned c .before .before)))))
+same-length-3 c = same-rows (biased (judged (at-caps (solved (returned c .before .before)))))
 
 same-length-4 : tie.Need-same-length-4
 same-length-4 c = same-columns (known (judged (at-caps (solved (returned c .before .before)))))
@@ -236,7 +236,7 @@ pub compute-bounds-in-spec : {M : Type 1} → statement M
 compute-bounds-in-spec =
     tie.close
     (tie.spec
-    raise-rows-requires
+    bias-rows-requires
     inverse-residuals-of-requires
     are-symmetric-requires
     margins-of-requires

@@ -23,7 +23,7 @@ abbrev μ-loop : tie.MeasureT-loop
 μ-loop t matrix inverse n columns out₀ i₀ i-end out i = n * n - i
 
 -- the rows that the residuals were reckoned from
-abbrev at-rows : tie.After-inverse-residuals-of Inv-loop μ-loop → tie.After-raise-rows Inv-loop μ-loop
+abbrev at-rows : tie.After-inverse-residuals-of Inv-loop μ-loop → tie.After-bias-rows Inv-loop μ-loop
 at-rows c = c .before .before .before .before
 
 abbrev start : tie.In-loop Inv-loop μ-loop → tie.Start Inv-loop μ-loop
@@ -38,7 +38,7 @@ module _ (c : tie.In-loop Inv-loop μ-loop) where
       let i = c .before .loop .i in
       let l = in-square (a .n) i (c .loop-test .taken) in
       c .before .before .before .inverse-residuals-of .ensures .each i (c .loop-test .taken)
-      ∙ residual-of-rows (a .n) (a .t) (a .inverse .now) (at-rows (c .before .before .before) .raise-rows .ensures) (i / a .n) (i % a .n) (l .0) (l .1)
+      ∙ residual-of-rows (a .n) (a .t) (a .inverse .now) (at-rows (c .before .before .before) .bias-rows .ensures) (i / a .n) (i % a .n) (l .0) (l .1)
 
   residual-here : natAbs (getD (c .before .before .before .inverse-residuals-of .last .0) (c .before .loop .i) (pos 0)) < 2 ^ 63
   residual-here =
@@ -51,11 +51,11 @@ module _ (c : tie.In-loop Inv-loop μ-loop) where
   inside : c .before .loop .i < 1024
   inside = omega (arith, square (start c .pre .0 .1), c .loop-test .taken)
 
-slice-aggregate-raise-rows : tie.Need-slice-aggregate-raise-rows Inv-loop μ-loop
-slice-aggregate-raise-rows c = search needs
+slice-aggregate-bias-rows : tie.Need-slice-aggregate-bias-rows Inv-loop μ-loop
+slice-aggregate-bias-rows c = search needs
 
-raise-rows-requires : tie.Need-raise-rows-requires Inv-loop μ-loop
-raise-rows-requires c κs = let p = c .before .pre in ((p .0 .1, rows-fit (p .0 .1)), raisable (p .1 .0))
+bias-rows-requires : tie.Need-bias-rows-requires Inv-loop μ-loop
+bias-rows-requires c κs = let p = c .before .pre in ((p .0 .1, rows-fit (p .0 .1)), raisable (p .1 .0))
 
 slice-aggregate-inverse-residuals-of : tie.Need-slice-aggregate-inverse-residuals-of Inv-loop μ-loop
 slice-aggregate-inverse-residuals-of c = search needs
@@ -66,7 +66,7 @@ slice-aggregate-inverse-residuals-of-2 c = search needs
 inverse-residuals-of-requires : tie.Need-inverse-residuals-of-requires Inv-loop μ-loop
 inverse-residuals-of-requires c κs =
     let r = c .before .before .before in
-    let p = r .before .before .pre in ((p .0 .0, (p .0 .1, square (p .0 .1))), (p .1 .1, r .raise-rows .ensures .rows))
+    let p = r .before .before .pre in ((p .0 .0, (p .0 .1, square (p .0 .1))), (p .1 .1, r .bias-rows .ensures .rows))
 
 mul-i-end : tie.Need-mul-i-end Inv-loop μ-loop
 mul-i-end c = omega (arith, square (at-rows (c .before) .before .before .pre .0 .1))
@@ -115,8 +115,8 @@ defect-magnitudes-spec =
     (tie.spec
     Inv-loop
     μ-loop
-    slice-aggregate-raise-rows
-    raise-rows-requires
+    slice-aggregate-bias-rows
+    bias-rows-requires
     slice-aggregate-inverse-residuals-of
     slice-aggregate-inverse-residuals-of-2
     inverse-residuals-of-requires

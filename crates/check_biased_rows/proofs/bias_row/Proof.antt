@@ -8,8 +8,8 @@ use Rattle.linear.specs.Place.{Carried}
 use Rattle.linear.proofs.Carried.{unit-place, carried-first, carried-next}
 use Rattle.check_biased_rows.proofs.Filling.{RowPart, part-none, part-more, part-whole, part-end, part-sum}
 use borrow.Author.Needs.{needs}
-use Rattle.check_biased_rows.proofs.raise_row.Statement.{statement}
-use Rattle.check_biased_rows.proofs.raise_row.Tie as tie
+use Rattle.check_biased_rows.proofs.bias_row.Statement.{statement}
+use Rattle.check_biased_rows.proofs.bias_row.Tie as tie
 
 abbrev Inv-loop : tie.InvT-loop
 Inv-loop out₀ place xs start stride n sum₀ from₀ to₀ k₀ out sum from to k =
@@ -24,8 +24,8 @@ length-here c = c .loop .inv .1 .1 .1 .kept .long
 loop-holds : tie.Need-loop-holds Inv-loop μ-loop
 loop-holds c = (omega arith, (carried-first _ _, (carried-first _ _, part-none _ _ _)))
 
-raise-at-requires : tie.Need-raise-at-requires Inv-loop μ-loop
-raise-at-requires c κs =
+bias-at-requires : tie.Need-bias-at-requires Inv-loop μ-loop
+bias-at-requires c κs =
     let l = c .before .loop in
     let s = c .before .before .before in
     (l .inv .1 .0, (s .pre .1 .inside (l .k) (c .loop-test .taken), s .pre .1 .magnitudes (l .k) (c .loop-test .taken)))
@@ -40,7 +40,7 @@ add-sum : tie.Need-add-sum Inv-loop μ-loop
 add-sum c =
     let l = c .before .before .loop in
     let s = c .before .before .before .before in
-    omega (arith, c .raise-at .ensures .1, part-sum (omega (arith, l .inv .0, s .pre .0 .0)) (l .inv .1 .1 .1))
+    omega (arith, c .bias-at .ensures .1, part-sum (omega (arith, l .inv .0, s .pre .0 .0)) (l .inv .1 .1 .1))
 
 add-from : tie.Need-add-from Inv-loop μ-loop
 add-from c =
@@ -65,7 +65,7 @@ loop-again c =
         carried-next (l .inv .1 .0),
         (
           carried-next (l .inv .1 .1 .0),
-          part-more (l .inv .1 .1 .1) (omega (arith, length-here h, c .before .loop-test .taken)) (unit-place (l .inv .1 .1 .0)) (c .raise-at .result) (c .raise-at .ensures .0) (c .raise-at .ensures .1),
+          part-more (l .inv .1 .1 .1) (omega (arith, length-here h, c .before .loop-test .taken)) (unit-place (l .inv .1 .1 .0)) (c .bias-at .result) (c .bias-at .ensures .0) (c .bias-at .ensures .1),
         ),
       ),
     )
@@ -85,14 +85,14 @@ returns c =
     let l = h .loop in
     part-end (part-whole (l .inv .0) (c .loop-test .left) (l .inv .1 .1 .1)) (omega (arith, length-here h, h .before .before .pre .0 .1 .1)) (omega (arith, l .inv .1 .1 .0 .is, l .inv .0, c .loop-test .left))
 
-pub raise-row-spec : {M : Type 1} → statement M
-raise-row-spec =
+pub bias-row-spec : {M : Type 1} → statement M
+bias-row-spec =
     tie.close
     (tie.spec
     Inv-loop
     μ-loop
     loop-holds
-    raise-at-requires
+    bias-at-requires
     mul-out
     slice-write-out
     add-sum

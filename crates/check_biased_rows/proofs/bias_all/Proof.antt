@@ -6,11 +6,11 @@ use lib.ListN.{length}
 use Rattle.linear.specs.Slice.{at}
 use Rattle.linear.specs.Place.{Carried}
 use Rattle.linear.proofs.Carried.{start-place, carried-first, carried-next}
-use Rattle.check_biased_rows.specs.Raised.{RowsOf}
+use Rattle.check_biased_rows.specs.Biased.{RowsOf}
 use Rattle.check_biased_rows.proofs.Filling.{row-below, rows-none, rows-more, rows-end}
 use borrow.Author.Needs.{needs}
-use Rattle.check_biased_rows.proofs.raise_all.Statement.{statement}
-use Rattle.check_biased_rows.proofs.raise_all.Tie as tie
+use Rattle.check_biased_rows.proofs.bias_all.Statement.{statement}
+use Rattle.check_biased_rows.proofs.bias_all.Tie as tie
 
 abbrev Inv-loop : tie.InvT-loop
 Inv-loop out₀ xs step stride n place₀ start₀ i₀ out place start i =
@@ -29,8 +29,8 @@ steps s i l = let few : i ≤ 32 = omega (arith, s .pre .0 .0) in mul-le-mul few
 loop-holds : tie.Need-loop-holds Inv-loop μ-loop
 loop-holds c = (omega arith, (carried-first _ _, (carried-first _ _, (refl, rows-none _ _ _))))
 
-raise-row-requires : tie.Need-raise-row-requires Inv-loop μ-loop
-raise-row-requires c κs =
+bias-row-requires : tie.Need-bias-row-requires Inv-loop μ-loop
+bias-row-requires c κs =
     let l = c .before .before .loop in
     let s = start (c .before) in
     let t = c .before .loop-test .taken in
@@ -71,8 +71,8 @@ loop-again c =
         (
           carried-next (l .inv .1 .1 .0),
           (
-            c .before .before .raise-row .ensures .1 .long ∙ l .inv .1 .1 .1 .0,
-            rows-more (l .inv .1 .1 .1 .1) (rw (start-place (l .inv .1 .0), start-place (l .inv .1 .1 .0)) at (c .before .before .raise-row .ensures)),
+            c .before .before .bias-row .ensures .1 .long ∙ l .inv .1 .1 .1 .0,
+            rows-more (l .inv .1 .1 .1 .1) (rw (start-place (l .inv .1 .0), start-place (l .inv .1 .1 .0)) at (c .before .before .bias-row .ensures)),
           ),
         ),
       ),
@@ -84,14 +84,14 @@ same-length c = search needs
 returns : tie.Need-returns Inv-loop μ-loop
 returns c = rows-end (c .before .loop .inv .0) (c .loop-test .left) (c .before .loop .inv .1 .1 .1 .1)
 
-pub raise-all-spec : {M : Type 1} → statement M
-raise-all-spec =
+pub bias-all-spec : {M : Type 1} → statement M
+bias-all-spec =
     tie.close
     (tie.spec
     Inv-loop
     μ-loop
     loop-holds
-    raise-row-requires
+    bias-row-requires
     add-place
     add-place-2
     add-start
