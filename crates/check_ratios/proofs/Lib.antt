@@ -1,2 +1,2 @@
 pub mod Ratios
-pub mod Flat
+pub mod WithinCaps

@@ -1,7 +1,7 @@
 -- Comparing |p_m| / g_m without products above 2^60: by quotients, then by remainders times the other margin; cited by contracts inside.
 --   ratioOf m p g  — row m with the quotient and the remainder of p by g
---   steeperOf a b  — b where its ratio is larger, else a
---   Flat magnitudes caps n — each of n sizes is at most its cap
+--   largerRatioOf a b  — b where its ratio is larger, else a
+--   WithinCaps magnitudes caps n — each of n sizes is at most its cap
 --   Caps caps margins weights n — weights above 0, and each weight times a row's cap is at most its margin: a size at most its cap has limits of at most 1
 --   SmallTerms, Positive, Bounded — how large the numbers may be for the arithmetic to fit
 use mathlib.Core.Bool.{cond}
@@ -17,8 +17,8 @@ use Rattle.check_ratios.specs.declared.Ratio.{Ratio}
 abbrev pub ratioOf : ℕ → ℕ → ℕ → Ratio
 ratioOf m p g = record { row = m; quotient = p / g; remainder = p % g; margin = g }
 
-unfoldable pub steeperOf : Ratio → Ratio → Ratio
-steeperOf a b =
+unfoldable pub largerRatioOf : Ratio → Ratio → Ratio
+largerRatioOf a b =
     cond (ltb (a .quotient) (b .quotient)) b
     (cond (ltb (b .quotient) (a .quotient)) a (cond (ltb (a .remainder * b .margin) (b .remainder * a .margin)) b a))
 
@@ -36,7 +36,7 @@ pub record Positive (margins : List ℕ) (n : ℕ) : Type 0 where
 pub record Bounded (magnitudes : List ℕ) (n : ℕ) : Type 0 where
   pub most : (m : ℕ) → m < n → getD magnitudes m 0 ≤ largestMagnitude
 
-pub record Flat (magnitudes caps : List ℕ) (n : ℕ) : Type 0 where
+pub record WithinCaps (magnitudes caps : List ℕ) (n : ℕ) : Type 0 where
   pub each : (m : ℕ) → m < n → getD magnitudes m 0 ≤ getD caps m 0
 
 pub record Caps (caps margins : List ℕ) (weights : List ℤ) (n : ℕ) : Type 0 where

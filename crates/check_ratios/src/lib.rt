@@ -6,14 +6,14 @@ ghost use lib.Dec.{ltb};
 ghost use lib.IntN.{natAbs};
 ghost use lib.ListN.{getD};
 ghost use Rattle.integer.specs.Finite.{sumℕ, largest};
-ghost use Rattle.integer.specs.Steepest.{Steepest};
+ghost use Rattle.integer.specs.LargestRatio.{LargestRatio};
 ghost use Rattle.integer.specs.Quotient.{ceilDiv};
 ghost use Rattle.linear.specs.Slice.{at};
 ghost use Rattle.linear.specs.Reach.{ColumnList};
 ghost use Rattle.enclosure.specs.Largest.{largestMagnitude};
 ghost use Rattle.enclosure.specs.Reckoning.{boundFrom};
 ghost use Rattle.check_arrays.specs.Arrays.{Begins};
-ghost use Rattle.check_ratios.specs.Ratio.{ratioOf, steeperOf, SmallTerms, Positive, Bounded, Flat, Caps};
+ghost use Rattle.check_ratios.specs.Ratio.{ratioOf, largerRatioOf, SmallTerms, Positive, Bounded, WithinCaps, Caps};
 use integer::ceil_div;
 use integer::larger;
 use integer::magnitude;
@@ -42,9 +42,9 @@ fn ratio_of(row: usize, p: u64, g: u64) -> Ratio
 }
 
 // The row with the larger ratio; a where they are equal.
-fn steeper(a: Ratio, b: Ratio) -> Ratio
+fn larger_ratio(a: Ratio, b: Ratio) -> Ratio
     requires { ⌜ SmallTerms a × SmallTerms b ⌝ }
-    ensures { λ r. ⌜ r ≡ steeperOf a b ⌝ }
+    ensures { λ r. ⌜ r ≡ largerRatioOf a b ⌝ }
 {
     if a.quotient < b.quotient {
         return b;
@@ -59,20 +59,20 @@ fn steeper(a: Ratio, b: Ratio) -> Ratio
 }
 
 // A row where sizes / margins is largest, found by quotients and remainders.
-fn steepest_by_quotients(magnitudes: &[u64; 32], margins: &[u64; 32], n: usize) -> usize
+fn largest_ratio_by_quotients(magnitudes: &[u64; 32], margins: &[u64; 32], n: usize) -> usize
     requires { ⌜ (0 < n) × (n ≤ 32) ⌝ }
     requires { ⌜ Positive (now margins) n ⌝ }
-    ensures { λ r. ⌜ Steepest n (λ (m : ℕ). getD (now (magnitudes .entry)) m 0) (λ (m : ℕ). getD (now (margins .entry)) m 0) r ⌝ }
+    ensures { λ r. ⌜ LargestRatio n (λ (m : ℕ). getD (now (magnitudes .entry)) m 0) (λ (m : ℕ). getD (now (margins .entry)) m 0) r ⌝ }
 {
     let mut best = ratio_of(0, magnitudes[0], margins[0]);
     for m in 1..n {
-        best = steeper(best, ratio_of(m, magnitudes[m], margins[m]));
+        best = larger_ratio(best, ratio_of(m, magnitudes[m], margins[m]));
     }
     best.row
 }
 
 // Whether p / g is larger than size / margin, by products.
-fn is_steeper(magnitude: u64, margin: u64, p: u64, g: u64) -> bool
+fn is_larger_ratio(magnitude: u64, margin: u64, p: u64, g: u64) -> bool
     requires { ⌜ (magnitude ≤ 2 ^ 33) × (g ≤ 2 ^ 30) ⌝ }
     requires { ⌜ (p ≤ 2 ^ 33) × (margin ≤ 2 ^ 30) ⌝ }
     ensures { λ r. ⌜ r ≡ ltb (magnitude * g) (p * margin) ⌝ }
@@ -81,15 +81,15 @@ fn is_steeper(magnitude: u64, margin: u64, p: u64, g: u64) -> bool
 }
 
 // A row where sizes / margins is largest, found by products, for small sizes.
-fn steepest_by_products(magnitudes: &[u64; 32], margins: &[u64; 32], n: usize) -> usize
+fn largest_ratio_by_products(magnitudes: &[u64; 32], margins: &[u64; 32], n: usize) -> usize
     requires { ⌜ (0 < n) × (n ≤ 32) ⌝ }
     requires { ⌜ ((m : ℕ) → m < n → getD (now magnitudes) m 0 ≤ 2 ^ 33) ⌝ }
     requires { ⌜ Positive (now margins) n ⌝ }
-    ensures { λ r. ⌜ Steepest n (λ (m : ℕ). getD (now (magnitudes .entry)) m 0) (λ (m : ℕ). getD (now (margins .entry)) m 0) r ⌝ }
+    ensures { λ r. ⌜ LargestRatio n (λ (m : ℕ). getD (now (magnitudes .entry)) m 0) (λ (m : ℕ). getD (now (margins .entry)) m 0) r ⌝ }
 {
     let mut k = 0;
     for m in 1..n {
-        if is_steeper(magnitudes[k], margins[k], magnitudes[m], margins[m]) {
+        if is_larger_ratio(magnitudes[k], margins[k], magnitudes[m], margins[m]) {
             k = m;
         }
     }
@@ -110,16 +110,16 @@ pub fn sum_of(xs: &[u64; 32], n: usize) -> u64
 }
 
 // A row where sizes / margins is largest.
-fn steepest_of(magnitudes: &[u64; 32], margins: &[u64; 32], n: usize) -> usize
+fn largest_ratio_of(magnitudes: &[u64; 32], margins: &[u64; 32], n: usize) -> usize
     requires { ⌜ (0 < n) × (n ≤ 32) ⌝ }
     requires { ⌜ Bounded (now magnitudes) n ⌝ }
     requires { ⌜ Positive (now margins) n ⌝ }
-    ensures { λ r. ⌜ Steepest n (λ (m : ℕ). getD (now (magnitudes .entry)) m 0) (λ (m : ℕ). getD (now (margins .entry)) m 0) r ⌝ }
+    ensures { λ r. ⌜ LargestRatio n (λ (m : ℕ). getD (now (magnitudes .entry)) m 0) (λ (m : ℕ). getD (now (margins .entry)) m 0) r ⌝ }
 {
     if sum_of(magnitudes, n) < SMALL_SUM {
-        return steepest_by_products(magnitudes, margins, n);
+        return largest_ratio_by_products(magnitudes, margins, n);
     }
-    steepest_by_quotients(magnitudes, margins, n)
+    largest_ratio_by_quotients(magnitudes, margins, n)
 }
 
 // w·p / g rounded up, for the weight w.
@@ -131,7 +131,7 @@ fn bound_of(w: i64, p: u64, g: u64) -> u64
 }
 
 // The limits of a column by its steepest row.
-fn steep_bounds(magnitudes: &[u64; 32], margins: &[u64; 32], weights: &[i64], n: usize) -> [u64; 32]
+fn ratio_bounds(magnitudes: &[u64; 32], margins: &[u64; 32], weights: &[i64], n: usize) -> [u64; 32]
     requires { ⌜ (0 < n) × (n ≤ 32) ⌝ }
     requires { ⌜ Bounded (now magnitudes) n ⌝ }
     requires { ⌜ Positive (now margins) n ⌝ }
@@ -139,7 +139,7 @@ fn steep_bounds(magnitudes: &[u64; 32], margins: &[u64; 32], weights: &[i64], n:
     ensures { λ r. ⌜ Begins 0 r n (boundFrom n (λ (m : ℕ). getD (now (magnitudes .entry)) m 0) (λ (m : ℕ). getD (now (margins .entry)) m 0)
         (λ (i : ℕ). natAbs (at (now (weights .entry)) i))) ⌝ }
 {
-    let k = steepest_of(magnitudes, margins, n);
+    let k = largest_ratio_of(magnitudes, margins, n);
     let p = magnitudes[k];
     let g = margins[k];
     let mut out = [0u64; 32];
@@ -150,17 +150,17 @@ fn steep_bounds(magnitudes: &[u64; 32], margins: &[u64; 32], weights: &[i64], n:
 }
 
 // Whether every size is at most its cap.
-fn is_flat(magnitudes: &[u64; 32], caps: &[u64; 32], n: usize) -> bool
+fn is_within_caps(magnitudes: &[u64; 32], caps: &[u64; 32], n: usize) -> bool
     requires { ⌜ n ≤ 32 ⌝ }
-    ensures { λ r. ⌜ (r ≡ true → Flat (now (magnitudes .entry)) (now (caps .entry)) n) ⌝ }
+    ensures { λ r. ⌜ (r ≡ true → WithinCaps (now (magnitudes .entry)) (now (caps .entry)) n) ⌝ }
 {
-    let mut flat = true;
+    let mut within_caps = true;
     for m in 0..n {
         if caps[m] < magnitudes[m] {
-            flat = false;
+            within_caps = false;
         }
     }
-    flat
+    within_caps
 }
 
 // The limits of a column. Where every size is at most its cap they are all 1, or all 0 where every size is 0: nothing is divided.
@@ -179,13 +179,13 @@ pub fn bounds_of(
     ensures { λ r. ⌜ Begins 0 r n (boundFrom n (λ (m : ℕ). getD (now (magnitudes .entry)) m 0) (λ (m : ℕ). getD (now (margins .entry)) m 0)
         (λ (i : ℕ). natAbs (at (now (weights .entry)) i))) ⌝ }
 {
-    if is_flat(magnitudes, caps, n) {
+    if is_within_caps(magnitudes, caps, n) {
         if sum_of(magnitudes, n) == 0 {
             return [0u64; 32];
         }
         return [1u64; 32];
     }
-    steep_bounds(magnitudes, margins, weights, n)
+    ratio_bounds(magnitudes, margins, weights, n)
 }
 
 // The largest weight.

@@ -6,10 +6,10 @@ use mathlib.Core.Path.{_≡_}
 use Prim.Native.Nat.{ℕ, _*_, _≤_, _<_}
 use native.Mathlib.Omega.{arith}
 use native.Mathlib.Nat.{le-trans, le-antisymm, mul-le-mul-right}
-use Rattle.integer.specs.Steepest.{Steepest}
+use Rattle.integer.specs.LargestRatio.{LargestRatio}
 use Rattle.integer.specs.Quotient.{ceilDiv}
 use Rattle.integer.proofs.Rounding.{ceil-covers, ceil-least}
-use Rattle.integer.proofs.Steepest.{carry}
+use Rattle.integer.proofs.LargestRatio.{carry}
 use Rattle.integer.proofs.Search.{largest-at, largest-≤, largest-ext}
 use Rattle.enclosure.specs.Reckoning.{boundFrom}
 
@@ -23,7 +23,7 @@ module _ (n : ℕ) (magnitudes margins w : ℕ → ℕ) (i : ℕ) where
   bound-covers m l h =
       le-trans (ceil-covers (w i * magnitudes m) (margins m) h) (mul-le-mul-right (margins m) (largest-at n _ m l))
 
-pub bound-at : (n : ℕ) (magnitudes margins w : ℕ → ℕ) (i k : ℕ) → ((m : ℕ) → m < n → 0 < margins m) → Steepest n magnitudes margins k →
+pub bound-at : (n : ℕ) (magnitudes margins w : ℕ → ℕ) (i k : ℕ) → ((m : ℕ) → m < n → 0 < margins m) → LargestRatio n magnitudes margins k →
     boundFrom n magnitudes margins w i ≡ ceilDiv (w i * magnitudes k) (margins k)
 unfolding boundFrom
 bound-at n magnitudes margins w i k h s =

@@ -1,7 +1,7 @@
 -- Source document 002, Theorem 1, with a tolerance: the limits come from one vector v that meets condition (2.9) for every right side within the tolerances.
 --   start-next   — u_0 − u_1 is G·(S·β − ρ·(A·X)) in steps of 1/(ρ·S·T), up to its sign
 --   next-near    — so it is at most |p_i| with its slack, in steps of 1/(S·T)
---   steepest     — there is a row where |p_k| with its slack over g_k is largest
+--   largest_ratio_row     — there is a row where |p_k| with its slack over g_k is largest
 --   condition    — v_i = w_i·sizes_k / (g_k·S) meets (2.9) for such a row k
 --   bound-is-v   — limit i is S·v_i rounded up
 --   v-before     — where there is no tolerance, as in 002, v_i is w_i·|p_k| / (g_k·S)
@@ -14,7 +14,7 @@ use Rattle.integer.specs.Finite.{sumℕ}
 use Rattle.integer.specs.Quotient.{ceilDiv}
 use Rattle.integer.proofs.Absolute.{abs-*, abs-neg}
 use Rattle.integer.proofs.Ring.{ring, ring₀, moves, by-zero, *-+}
-use Rattle.integer.proofs.Steepest.{steepest-of}
+use Rattle.integer.proofs.LargestRatio.{largest-ratio-of}
 use Rattle.integer.proofs.Sum.{sumℕ-ext, sumℕ-*}
 use Rattle.linear.specs.Matrix.{Vec, apply}
 use Rattle.linear.proofs.Product.{apply-vectors}
@@ -22,7 +22,7 @@ use Rattle.enclosure.specs.Problem.{Problem, S, T}
 use Rattle.enclosure.specs.Reckoning.{defect, load, margin, residual, slack, magnitudesWith, magnitudes, boundWith, bound}
 use Rattle.enclosure.specs.Demand.{RightSide, NoTolerance}
 use Rattle.enclosure.specs.Sound.{Margins}
-use Rattle.enclosure.specs.Schroeder.{image, u0, u1, v, Condition29, Steep}
+use Rattle.enclosure.specs.Schroeder.{image, u0, u1, v, Condition29, LargestRatioRow}
 use Rattle.enclosure.proofs.Before.{magnitudes-before}
 use Rattle.enclosure.proofs.Bounds.{bound-at}
 use Rattle.enclosure.proofs.Enclosure.{apply-defect, image-near, abs-split}
@@ -71,10 +71,10 @@ met-row : (g u ρ L z t w y h : ℕ) → u ≤ ρ * y → y * g ≤ z * h → h 
 met-row g u ρ L z t w y h a b e = omega (arith, mul-le-mul-left g a, mul-le-mul-left ρ b, ap (λ (x : ℕ). ρ * (z * x)) e)
 
 module _ (P : Problem) (hm : Margins P) where
-  pub steepest : 0 < P .n → (k : ℕ) × Steep P k
-  steepest = steepest-of (magnitudes P) (λ (m : ℕ). natAbs (margin P m)) (P .n) (λ m l. margin-above P m (hm m l))
+  pub largest-ratio-row : 0 < P .n → (k : ℕ) × LargestRatioRow P k
+  largest-ratio-row = largest-ratio-of (magnitudes P) (λ (m : ℕ). natAbs (margin P m)) (P .n) (λ m l. margin-above P m (hm m l))
 
-  pub condition : (k : ℕ) → Steep P k → Condition29 P k
+  pub condition : (k : ℕ) → LargestRatioRow P k → Condition29 P k
   condition k x = record {
     holds = λ β ρ y i l.
         let f : ℕ → ℕ = λ j. natAbs (defect P i j) * P .w j in
@@ -84,7 +84,7 @@ module _ (P : Problem) (hm : Margins P) where
         (next-near P β ρ y i l) (x .most i l) (unfold load in margin-sum P i (hm i l)));
   }
 
-  pub bound-is-v : (k : ℕ) → Steep P k → (i : ℕ) → bound P i ≡ ceilDiv (v P k i) (natAbs (margin P k))
+  pub bound-is-v : (k : ℕ) → LargestRatioRow P k → (i : ℕ) → bound P i ≡ ceilDiv (v P k i) (natAbs (margin P k))
   unfolding bound boundWith magnitudes
   bound-is-v k x i = bound-at (P .n) (magnitudes P) (λ (m : ℕ). natAbs (margin P m)) (P .w) i k (λ m l. margin-above P m (hm m l)) x
 

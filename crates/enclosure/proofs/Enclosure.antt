@@ -9,9 +9,9 @@ use native.Mathlib.Omega.{arith}
 use native.Mathlib.Nat.{mul-le-mul-left, mul-le-mul-right, le-of-mul-le-mul-right}
 use lib.IntN.{ℤ, pos, natAbs, _+ℤ_, _-ℤ_, _*ℤ_, -ℤ-+ℤ-cancel}
 use Rattle.integer.specs.Finite.{sumℕ}
-use Rattle.integer.specs.Steepest.{Steepest}
+use Rattle.integer.specs.LargestRatio.{LargestRatio}
 use Rattle.integer.proofs.Absolute.{abs-+, abs-*}
-use Rattle.integer.proofs.Steepest.{steepest-of}
+use Rattle.integer.proofs.LargestRatio.{largest-ratio-of}
 use Rattle.integer.proofs.Sum.{sumℕ-mono, sumℕ-*}
 use Rattle.linear.specs.Matrix.{Vec, apply, product, identity}
 use Rattle.linear.proofs.Product.{apply-less, apply-identity, apply-product, apply-sub, apply-scale, abs-apply}
@@ -75,7 +75,7 @@ module _ (P : Problem) (q : ℕ) (e r : Vec) (σ : ℕ → ℕ)
 
   module _ (hw : (i : ℕ) → i < P .n → 1 ≤ P .w i) (hm : Margins P) where
     -- where |e_m| / w_m is largest: |e_m|·g_m ≤ q·P_m·w_m
-    at-peak : (m : ℕ) → Steepest (P .n) (λ (j : ℕ). natAbs (e j)) (P .w) m →
+    at-peak : (m : ℕ) → LargestRatio (P .n) (λ (j : ℕ). natAbs (e j)) (P .w) m →
         natAbs (e m) * natAbs (margin P m) ≤ q * magnitudesWith P r σ m * P .w m
     unfolding load
     at-peak m peak =
@@ -89,6 +89,6 @@ module _ (P : Problem) (q : ℕ) (e r : Vec) (σ : ℕ → ℕ)
     pub enclosed : (E : ℕ → ℕ) → ((i m : ℕ) → i < P .n → m < P .n → P .w i * magnitudesWith P r σ m ≤ E i * natAbs (margin P m)) →
         (i : ℕ) → i < P .n → natAbs (e i) ≤ q * E i
     enclosed E hE i h =
-        let (m, peak) = steepest-of (λ (j : ℕ). natAbs (e j)) (P .w) (P .n) hw (omega arith) in
+        let (m, peak) = largest-ratio-of (λ (j : ℕ). natAbs (e j)) (P .w) (P .n) hw (omega arith) in
         end-arith (natAbs (e i)) (natAbs (e m)) (natAbs (margin P m)) (P .w i) (P .w m) q (magnitudesWith P r σ m) (E i)
         (peak .most i h) (at-peak m peak) (hE i m h (peak .below)) (hw m (peak .below)) (margin-above P m (hm m (peak .below)))

@@ -79,7 +79,7 @@ fn spreads_of(t: u32, weights: &[i64], margins: &[u64; 32], n: usize) -> [u64; 3
 }
 
 // Whether p / g is larger than spread / margin, by products.
-fn is_steeper(spread: u64, margin: u64, p: u64, g: u64) -> bool
+fn is_larger_ratio(spread: u64, margin: u64, p: u64, g: u64) -> bool
     requires { ⌜ (spread ≤ 2 ^ 31) × (g ≤ 2 ^ 31) ⌝ }
     requires { ⌜ (p ≤ 2 ^ 31) × (margin ≤ 2 ^ 31) ⌝ }
     ensures { λ r. ⌜ r ≡ ltb (spread * g) (p * margin) ⌝ }
@@ -96,7 +96,7 @@ fn peak_of(spreads: &[u64; 32], margins: &[u64; 32], n: usize) -> usize
 {
     let mut k = 0;
     for m in 1..n {
-        if is_steeper(spreads[k], margins[k], spreads[m], margins[m]) {
+        if is_larger_ratio(spreads[k], margins[k], spreads[m], margins[m]) {
             k = m;
         }
     }

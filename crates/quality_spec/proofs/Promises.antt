@@ -31,7 +31,7 @@ use Rattle.quality_spec.specs.Peak.{peakRow, numerator, denominator}
 use Rattle.quality_spec.specs.Inquiry.{Inquiry, inquiry, inquiryProblem, inquiryShort, inquiryInRanges}
 use Rattle.quality_spec.specs.Answer.{qualityAnswer}
 use Rattle.quality_spec.specs.Stated.{UsableInquiry, QualityStated, is-8, is-3, is-5, is-0}
-use Rattle.quality_spec.proofs.Peak.{steepest-row}
+use Rattle.quality_spec.proofs.Peak.{largest-ratio-row}
 use Rattle.quality_spec.proofs.Contract.{fit-inquiry, answer-short, answer-range, answer-low, answer-given}
 
 -- ---- what was said tells which case it was
@@ -84,7 +84,7 @@ module _ (Q : Inquiry) where
       let h = given-margins z in
       let f = fit-inquiry Q (u .long) (u .inside) in
       let k : ℕ = peakRow P in
-      let l = steepest-row P (f .some) h .below in
+      let l = largest-ratio-row P (f .some) h .below in
       let full : 2 ^ Q .t * natAbs (at (Q .weights) k) ≤ 2 ^ 20 * 1024 =
       mul-le-mul (pow-le-pow-right {n = 2} (omega arith) {i = Q .t} {j = 20} (f .scale)) (f .weights .within .magnitudes k l) in
       (omega (arith, full, margin-sum P k (h k l), margin-above P k (h k l)), omega (arith, full, margin-sum P k (h k l)))

@@ -22,7 +22,7 @@ use Rattle.quality_spec.specs.Answer.{qualityCode, numeratorOf, denomina
 use Rattle.quality_spec.specs.Stated.{AgreeingInquiries}
 use Rattle.quality_spec.proofs.Contract.{fit-inquiry}
 use Rattle.quality_spec.proofs.Promises.{given-usable, given-margins}
-use Rattle.quality_spec.proofs.Peak.{peak-ext, steepest-row}
+use Rattle.quality_spec.proofs.Peak.{peak-ext, largest-ratio-row}
 
 accepted-alike : (w : List ℕ) (x y : ℕ) → (w ≡ [] → x ≡ y) → ifAccepted w x 0 ≡ ifAccepted w y 0
 accepted-alike [] x y h = h refl
@@ -76,7 +76,7 @@ module _ (Q : Inquiry) (matrix inverse weights : List ℤ) (long : inquiryShort 
     answer-here = rw (long, long′, ranges-here, low-here)
 
     row-below : qualityAnswer Q ≡ [] → peakRow (inquiryProblem Q) < Q .n
-    row-below z = let u = given-usable Q z in steepest-row (inquiryProblem Q) (fit-inquiry Q (u .long) (u .inside) .some) (given-margins Q z) .below
+    row-below z = let u = given-usable Q z in largest-ratio-row (inquiryProblem Q) (fit-inquiry Q (u .long) (u .inside) .some) (given-margins Q z) .below
 
     numerator-here : numeratorAfter Q ≡ numeratorAfter R
     unfolding numeratorAfter

@@ -1,4 +1,4 @@
-use Rattle.check_ratios.proofs.Flat.{cap-under}
+use Rattle.check_ratios.proofs.WithinCaps.{cap-under}
 use Rattle.check_arrays.proofs.Filled.{begins-none, begins-more, begins-end}
 use Rattle.check_arrays.specs.Arrays.{Begins}
 use Rattle.linear.specs.Slice.{at}

@@ -7,15 +7,15 @@ use native.Mathlib.Omega.{arith}
 use borrow.Author.Count.{below-more}
 use lib.ListN.{getD}
 use borrow.Author.Needs.{needs}
-use Rattle.check_ratios.proofs.is_flat.Statement.{statement}
-use Rattle.check_ratios.proofs.is_flat.Tie as tie
+use Rattle.check_ratios.proofs.is_within_caps.Statement.{statement}
+use Rattle.check_ratios.proofs.is_within_caps.Tie as tie
 
 abbrev Inv-loop : tie.InvT-loop
-Inv-loop magnitudes caps n flat₀ m₀ flat m =
-    (m ≤ n) × (flat ≡ true → (k : ℕ) → k < m → getD magnitudes k 0 ≤ getD caps k 0)
+Inv-loop magnitudes caps n within-caps₀ m₀ within-caps m =
+    (m ≤ n) × (within-caps ≡ true → (k : ℕ) → k < m → getD magnitudes k 0 ≤ getD caps k 0)
 
 abbrev μ-loop : tie.MeasureT-loop
-μ-loop magnitudes caps n flat₀ m₀ flat m = n - m
+μ-loop magnitudes caps n within-caps₀ m₀ within-caps m = n - m
 
 loop-holds : tie.Need-loop-holds Inv-loop μ-loop
 loop-holds c = (omega arith, λ e k l. absurd (omega arith))
@@ -50,8 +50,8 @@ loop-again c =
 returns : tie.Need-returns Inv-loop μ-loop
 returns c = λ e. record { each = λ m l. c .before .loop .inv .1 e m (omega (arith, c .loop-test .left, l)) }
 
-pub is-flat-spec : {M : Type 1} → statement M
-is-flat-spec =
+pub is-within-caps-spec : {M : Type 1} → statement M
+is-within-caps-spec =
     tie.close
     (tie.spec
     Inv-loop

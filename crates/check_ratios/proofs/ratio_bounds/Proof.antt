@@ -10,8 +10,8 @@ use Rattle.enclosure.proofs.Bounds.{bound-at}
 use Rattle.check_arrays.specs.Arrays.{Begins}
 use Rattle.check_arrays.proofs.Filled.{begins-none, begins-more, begins-end, begins-as}
 use borrow.Author.Needs.{needs}
-use Rattle.check_ratios.proofs.steep_bounds.Statement.{statement}
-use Rattle.check_ratios.proofs.steep_bounds.Tie as tie
+use Rattle.check_ratios.proofs.ratio_bounds.Statement.{statement}
+use Rattle.check_ratios.proofs.ratio_bounds.Tie as tie
 
 abbrev Inv-loop : tie.InvT-loop
 Inv-loop magnitudes margins weights n k p g out₀ i₀ out i =
@@ -21,23 +21,23 @@ abbrev μ-loop : tie.MeasureT-loop
 μ-loop magnitudes margins weights n k p g out₀ i₀ out i = n - i
 
 -- after the search of the steepest row
-abbrev at-steepest : tie.In-loop Inv-loop μ-loop → tie.After-steepest-of Inv-loop μ-loop
-at-steepest t = t .before .before .before .before
+abbrev at-largest-ratio : tie.In-loop Inv-loop μ-loop → tie.After-largest-ratio-of Inv-loop μ-loop
+at-largest-ratio t = t .before .before .before .before
 
-steepest-of-requires : tie.Need-steepest-of-requires Inv-loop μ-loop
-steepest-of-requires c κs = search needs
+largest-ratio-of-requires : tie.Need-largest-ratio-of-requires Inv-loop μ-loop
+largest-ratio-of-requires c κs = search needs
 
 mul-p : tie.Need-mul-p Inv-loop μ-loop
-mul-p c = omega (arith, c .steepest-of .ensures .below)
+mul-p c = omega (arith, c .largest-ratio-of .ensures .below)
 
 element-copy-out-p : tie.Need-element-copy-out-p Inv-loop μ-loop
-element-copy-out-p c = omega (arith, c .steepest-of .ensures .below)
+element-copy-out-p c = omega (arith, c .largest-ratio-of .ensures .below)
 
 mul-g : tie.Need-mul-g Inv-loop μ-loop
-mul-g c = omega (arith, c .before .steepest-of .ensures .below)
+mul-g c = omega (arith, c .before .largest-ratio-of .ensures .below)
 
 element-copy-out-g : tie.Need-element-copy-out-g Inv-loop μ-loop
-element-copy-out-g c = omega (arith, c .before .steepest-of .ensures .below)
+element-copy-out-g c = omega (arith, c .before .largest-ratio-of .ensures .below)
 
 loop-holds : tie.Need-loop-holds Inv-loop μ-loop
 loop-holds c = (omega arith, (refl, begins-none _ _ _))
@@ -50,8 +50,8 @@ shared-slice-copy-out-bound-of c = omega arith
 
 bound-of-requires : tie.Need-bound-of-requires Inv-loop μ-loop
 bound-of-requires c κs =
-    let s = at-steepest (c .before) .before in
-    let k = at-steepest (c .before) .steepest-of .ensures .below in
+    let s = at-largest-ratio (c .before) .before in
+    let k = at-largest-ratio (c .before) .largest-ratio-of .ensures .below in
     rw (read _ (c .bound-of-arg .given))
     (s .pre .1 .1 .1 .within .magnitudes _ (c .before .loop-test .taken), (s .pre .1 .0 .most _ k, (s .pre .1 .1 .0 .above _ k, s .pre .1 .1 .0 .most _ k)))
 
@@ -75,17 +75,17 @@ loop-again c =
 returns : tie.Need-returns Inv-loop μ-loop
 returns c =
     let s = c .before .before .before .before .before in
-    let k = c .before .before .before .before .steepest-of .ensures in
+    let k = c .before .before .before .before .largest-ratio-of .ensures in
     begins-as 0 _ _ (λ i l. sym (bound-at _ _ _ (λ (j : ℕ). natAbs (at (s .args .weights .now) j)) i _ (s .pre .1 .1 .0 .above) k))
     (begins-end 0 (c .before .loop .inv .0) (c .loop-test .left) (c .before .loop .inv .1 .1))
 
-pub steep-bounds-spec : {M : Type 1} → statement M
-steep-bounds-spec =
+pub ratio-bounds-spec : {M : Type 1} → statement M
+ratio-bounds-spec =
     tie.close
     (tie.spec
     Inv-loop
     μ-loop
-    steepest-of-requires
+    largest-ratio-of-requires
     mul-p
     element-copy-out-p
     mul-g

@@ -1,6 +1,6 @@
 -- Columns whose limits are 0 or 1, and sizes that are small.
 --   cap-under  — a margin divided by the largest weight, as a cap
---   flat-none, flat-some — where all sizes are 0 each limit is 0; where they are at most their caps and not all 0 each is 1
+--   within-caps-none, within-caps-some — where all sizes are 0 each limit is 0; where they are at most their caps and not all 0 each is 1
 --   small-each — sizes whose sum is at most a number are each at most that
 use mathlib.Core.Path.{_≡_, refl, _∙_}
 use mathlib.Core.List.{List}
@@ -16,7 +16,7 @@ use Rattle.linear.specs.Slice.{at}
 use Rattle.enclosure.specs.Reckoning.{boundFrom}
 use Rattle.enclosure.proofs.Bounds.{bound-least, bound-covers}
 use Rattle.check_arrays.specs.Arrays.{Begins}
-use Rattle.check_ratios.specs.Ratio.{Positive, Flat, Caps}
+use Rattle.check_ratios.specs.Ratio.{Positive, WithinCaps, Caps}
 
 pub cap-under : (n : ℕ) (w : ℕ → ℕ) (i g c : ℕ) → i < n → c ≡ g / largest n w → w i * c ≤ g
 cap-under n w i g c l e =
@@ -32,18 +32,18 @@ module _ (n : ℕ) (magnitudes margins : List ℕ) (weights : List ℤ) (positiv
   abbrev limit : ℕ → ℕ
   limit = boundFrom n (λ (m : ℕ). getD magnitudes m 0) (λ (m : ℕ). getD margins m 0) (λ (i : ℕ). natAbs (at weights i))
 
-  pub flat-none : n ≤ 32 → sumℕ n (λ (m : ℕ). getD magnitudes m 0) ≡ 0 → Begins 0 (replicate 32 0) n limit
-  flat-none few e = record {
+  pub within-caps-none : n ≤ 32 → sumℕ n (λ (m : ℕ). getD magnitudes m 0) ≡ 0 → Begins 0 (replicate 32 0) n limit
+  within-caps-none few e = record {
     each = λ i l. getD-replicate 32 i 0 0 (omega arith) ∙ le-antisymm (omega arith)
         (bound-least n magnitude (λ (m : ℕ). getD margins m 0) (λ (i : ℕ). natAbs (at weights i)) i 0 (positive .above)
         (λ m lm. let z : magnitude m ≡ 0 = omega (arith, e, sumℕ-at n magnitude m lm) in rw z (omega arith)));
   }
 
-  module _ {caps : List ℕ} (k : Caps caps margins weights n) (flat : Flat magnitudes caps n) where
+  module _ {caps : List ℕ} (k : Caps caps margins weights n) (within-caps : WithinCaps magnitudes caps n) where
     most : (i : ℕ) → i < n → limit i ≤ 1
     most i l =
         bound-least n magnitude (λ (m : ℕ). getD margins m 0) (λ (i : ℕ). natAbs (at weights i)) i 1 (positive .above)
-        (λ m lm. omega (arith, mul-le-mul-left (natAbs (at weights i)) (flat .each m lm), k .under i m l lm))
+        (λ m lm. omega (arith, mul-le-mul-left (natAbs (at weights i)) (within-caps .each m lm), k .under i m l lm))
 
     -- a size is 0 where a limit is
     none : (i m : ℕ) → i < n → m < n → limit i ≡ 0 → magnitude m ≡ 0
@@ -56,5 +56,5 @@ module _ (n : ℕ) (magnitudes margins : List ℕ) (weights : List ℤ) (positiv
     one i l some zero e = absurd (some (sumℕ-ext n magnitude (λ (m : ℕ). 0) (λ m lm. none i m l lm e) ∙ sumℕ-zero n))
     one i l some (suc x) e = omega (arith, most i l)
 
-    pub flat-some : n ≤ 32 → (sumℕ n (λ (m : ℕ). getD magnitudes m 0) ≡ 0 → ⊥) → Begins 0 (replicate 32 1) n limit
-    flat-some few some = record { each = λ i l. getD-replicate 32 i 1 0 (omega arith) ∙ one i l some (limit i) refl }
+    pub within-caps-some : n ≤ 32 → (sumℕ n (λ (m : ℕ). getD magnitudes m 0) ≡ 0 → ⊥) → Begins 0 (replicate 32 1) n limit
+    within-caps-some few some = record { each = λ i l. getD-replicate 32 i 1 0 (omega arith) ∙ one i l some (limit i) refl }

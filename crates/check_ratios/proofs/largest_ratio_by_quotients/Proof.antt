@@ -3,8 +3,8 @@ use native.Mathlib.Omega.{arith}
 use lib.ListN.{getD}
 use Rattle.check_ratios.proofs.Ratios.{Best, best-first, best-next, best-end, narrow}
 use borrow.Author.Needs.{needs}
-use Rattle.check_ratios.proofs.steepest_by_quotients.Statement.{statement}
-use Rattle.check_ratios.proofs.steepest_by_quotients.Tie as tie
+use Rattle.check_ratios.proofs.largest_ratio_by_quotients.Statement.{statement}
+use Rattle.check_ratios.proofs.largest_ratio_by_quotients.Tie as tie
 
 abbrev Inv-loop : tie.InvT-loop
 Inv-loop magnitudes margins n best₀ m₀ best m =
@@ -44,12 +44,12 @@ element-copy-out-ratio-of-4 c = search needs
 ratio-of-requires-2 : tie.Need-ratio-of-requires-2 Inv-loop μ-loop
 ratio-of-requires-2 c κs = start (c .before .before) .pre .1 .above _ (c .before .before .loop-test .taken)
 
-steeper-requires : tie.Need-steeper-requires Inv-loop μ-loop
-steeper-requires c κs =
+larger-ratio-requires : tie.Need-larger-ratio-requires Inv-loop μ-loop
+larger-ratio-requires c κs =
     let s = start (c .before .before .before) in
     let b = c .before .before .before .before .loop .inv .1 .1 in
     let t = c .before .before .before .loop-test .taken in
-    let l : b .at < s .args .n = omega (arith, b .steepest .below) in (
+    let l : b .at < s .args .n = omega (arith, b .largest-ratio-row .below) in (
       narrow _ _ _ (b .is) (s .pre .1 .above (b .at) l) (s .pre .1 .most (b .at) l),
       narrow _ _ _ (c .ratio-of2 .ensures) (s .pre .1 .above _ t) (s .pre .1 .most _ t),
     )
@@ -64,13 +64,13 @@ loop-again : tie.Need-loop-again Inv-loop μ-loop
 loop-again c =
     let s = start (c .before .before .before .before) in
     let l = c .before .before .before .before .before .loop in
-    (omega arith, (omega arith, best-next _ _ (l .m) (λ k h. s .pre .1 .above k (omega arith)) (l .inv .1 .1) (c .before .ratio-of2 .ensures) (c .steeper .ensures)))
+    (omega arith, (omega arith, best-next _ _ (l .m) (λ k h. s .pre .1 .above k (omega arith)) (l .inv .1 .1) (c .before .ratio-of2 .ensures) (c .larger-ratio .ensures)))
 
 returns : tie.Need-returns Inv-loop μ-loop
 returns c = best-end _ _ _ (c .before .loop .inv .1 .0) (c .loop-test .left) (c .before .loop .inv .1 .1)
 
-pub steepest-by-quotients-spec : {M : Type 1} → statement M
-steepest-by-quotients-spec =
+pub largest-ratio-by-quotients-spec : {M : Type 1} → statement M
+largest-ratio-by-quotients-spec =
     tie.close
     (tie.spec
     Inv-loop
@@ -84,7 +84,7 @@ steepest-by-quotients-spec =
     mul-ratio-of-2
     element-copy-out-ratio-of-4
     ratio-of-requires-2
-    steeper-requires
+    larger-ratio-requires
     add-m
     loop-less
     loop-again
