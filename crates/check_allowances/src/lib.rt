@@ -7,7 +7,7 @@ ghost use lib.ListN.{length, getD};
 ghost use Rattle.linear.specs.Slice.{at};
 ghost use Rattle.linear.specs.Place.{Carried};
 ghost use Rattle.linear.specs.Reach.{MatrixList, ColumnList};
-ghost use Rattle.check_arrays.specs.Arrays.{Begins};
+ghost use Rattle.check_arrays.specs.Arrays.{PrefixIs};
 ghost use Rattle.check_allowances.specs.Sum.{rowSumOf};
 ghost use Rattle.check_allowances.specs.Allowed.{slackAt, allowedBeside};
 use integer::magnitude;
@@ -43,7 +43,7 @@ fn row_sum(matrix: &[i64], k: usize, row: usize, n: usize) -> u64
 pub fn row_sums_of(matrix: &[i64], n: usize) -> [u64; 32]
     requires { ⌜ n ≤ 32 ⌝ }
     requires { ⌜ MatrixList (now matrix) n ⌝ }
-    ensures { λ r. ⌜ Begins 0 r n (rowSumOf n (now (matrix .entry))) ⌝ }
+    ensures { λ r. ⌜ PrefixIs 0 r n (rowSumOf n (now (matrix .entry))) ⌝ }
 {
     let mut out = [0u64; 32];
     let mut row = 0;
@@ -69,7 +69,7 @@ fn slack_at(s: u32, d: i64) -> u64
 pub fn slacks_of(s: u32, tolerance: &[i64], n: usize) -> [u64; 32]
     requires { ⌜ (s ≤ 20) × (n ≤ 32) ⌝ }
     requires { ⌜ ColumnList (now tolerance) n (2 ^ 20) ⌝ }
-    ensures { λ r. ⌜ Begins 0 r n (λ (k : ℕ). slackAt s (at (now (tolerance .entry)) k)) ⌝ }
+    ensures { λ r. ⌜ PrefixIs 0 r n (λ (k : ℕ). slackAt s (at (now (tolerance .entry)) k)) ⌝ }
 {
     let mut out = [0u64; 32];
     for k in 0..n {
@@ -98,7 +98,7 @@ fn allowed_at(slack: u64, sum: u64) -> i64
 // How large each residual may be, row by row.
 pub fn allowed_of(slacks: &[u64; 32], sums: &[u64; 32], n: usize) -> [i64; 32]
     requires { ⌜ n ≤ 32 ⌝ }
-    ensures { λ r. ⌜ Begins (pos 0) r n (λ (k : ℕ). allowedBeside (getD (now (slacks .entry)) k 0) (getD (now (sums .entry)) k 0)) ⌝ }
+    ensures { λ r. ⌜ PrefixIs (pos 0) r n (λ (k : ℕ). allowedBeside (getD (now (slacks .entry)) k 0) (getD (now (sums .entry)) k 0)) ⌝ }
 {
     let mut out = [0i64; 32];
     for k in 0..n {

@@ -18,7 +18,7 @@ use Rattle.linear.specs.Written.{written}
 use Rattle.linear.proofs.Carried.{column-place, carried}
 use Rattle.linear.proofs.Places.{place, place-row}
 use Rattle.linear.proofs.Written.{written-at, written-else}
-use Rattle.check_arrays.specs.Arrays.{Begins, firstFrom, columnsWritten}
+use Rattle.check_arrays.specs.Arrays.{PrefixIs, firstFrom, columnsWritten}
 use Rattle.check_arrays.proofs.Filled.{columns-length}
 
 -- ---- the columns of a matrix, written row after row
@@ -56,7 +56,7 @@ in-square zero i l = absurd (omega arith)
 in-square (suc n) i l = (div-lt-iff-lt-mul {k = suc n} (omega arith) .1 l, mod-lt i (omega arith))
 
 module _ {A : Type 0} (d : A) (xs : List A) (n : ℕ) (f : ℕ → ℕ → A) where
-  pub columns-whole : n * n ≤ length xs → Begins d (columnsWritten xs n f n) (n * n) (λ (i : ℕ). f (i / n) (i % n))
+  pub columns-whole : n * n ≤ length xs → PrefixIs d (columnsWritten xs n f n) (n * n) (λ (i : ℕ). f (i / n) (i % n))
   columns-whole h = record {
     each = λ i l.
         ap (λ (k : ℕ). getD (columnsWritten xs n f n) k d) (sym (div-add-mod' i n))

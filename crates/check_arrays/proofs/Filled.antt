@@ -1,5 +1,5 @@
 -- Laws of what arrays hold, and of columns written into them.
---   begins-none, begins-more, begins-end — at none, one element more, and at the end, for loops;  begins-as — of equal functions
+--   prefix-none, prefix-more, prefix-end — at none, one element more, and at the end, for loops;  prefix-as — of equal functions
 --   columns-none, columns-next, columns-end, columns-length — at none, one column more, at the end, and the length, for loops
 use mathlib.Core.Path.{_≡_, refl, ap, _∙_, subst}
 use mathlib.Core.List.{List}
@@ -12,22 +12,22 @@ use lib.Seq.{getD-set-same, getD-set-other}
 use borrow.Author.Count.{below-more}
 use Rattle.linear.specs.Written.{written}
 use Rattle.linear.proofs.Written.{written-length}
-use Rattle.check_arrays.specs.Arrays.{Begins, columnsWritten}
+use Rattle.check_arrays.specs.Arrays.{PrefixIs, columnsWritten}
 
 module _ {A : Type 0} (d : A) where
-  pub begins-none : (xs : List A) (f : ℕ → A) → Begins d xs 0 f
-  begins-none xs f = record { each = λ i l. absurd (omega arith) }
+  pub prefix-none : (xs : List A) (f : ℕ → A) → PrefixIs d xs 0 f
+  prefix-none xs f = record { each = λ i l. absurd (omega arith) }
 
-  pub begins-more : (xs : List A) (n : ℕ) (f : ℕ → A) (v : A) → Begins d xs n f → n < length xs → v ≡ f n → Begins d (set xs n v) (n + 1) f
-  begins-more xs n f v h l e = record {
+  pub prefix-more : (xs : List A) (n : ℕ) (f : ℕ → A) (v : A) → PrefixIs d xs n f → n < length xs → v ≡ f n → PrefixIs d (set xs n v) (n + 1) f
+  prefix-more xs n f v h l e = record {
     each = below-more (λ i. getD (set xs n v) i d ≡ f i) n (λ k p. getD-set-other xs n k v d (omega arith) ∙ h .each k p) (getD-set-same xs n v d l ∙ e);
   }
 
-  pub begins-end : {xs : List A} {i n : ℕ} {f : ℕ → A} → i ≤ n → n ≤ i → Begins d xs i f → Begins d xs n f
-  begins-end {xs} {i} {n} {f} p q h = subst (λ (k : ℕ). Begins d xs k f) (le-antisymm p q) h
+  pub prefix-end : {xs : List A} {i n : ℕ} {f : ℕ → A} → i ≤ n → n ≤ i → PrefixIs d xs i f → PrefixIs d xs n f
+  prefix-end {xs} {i} {n} {f} p q h = subst (λ (k : ℕ). PrefixIs d xs k f) (le-antisymm p q) h
 
-  pub begins-as : {xs : List A} {n : ℕ} (f g : ℕ → A) → ((i : ℕ) → i < n → f i ≡ g i) → Begins d xs n f → Begins d xs n g
-  begins-as f g e h = record { each = λ i l. h .each i l ∙ e i l }
+  pub prefix-as : {xs : List A} {n : ℕ} (f g : ℕ → A) → ((i : ℕ) → i < n → f i ≡ g i) → PrefixIs d xs n f → PrefixIs d xs n g
+  prefix-as f g e h = record { each = λ i l. h .each i l ∙ e i l }
 
 module _ {A : Type 0} (xs : List A) (n : ℕ) (f : ℕ → ℕ → A) where
   pub columns-none : columnsWritten xs n f 0 ≡ xs

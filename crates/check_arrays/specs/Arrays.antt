@@ -1,5 +1,5 @@
 -- What arrays and slices hold, and a search part by part; cited by contracts inside.
---   Begins d xs n f — xs begins with f 0, .., f (n − 1); d is what is read past the end
+--   PrefixIs d xs n f — xs begins with f 0, .., f (n − 1); d is what is read past the end
 --   firstFrom — the first place, from the first below start and the first of those from start on
 --   columnsWritten xs n f k — xs with the columns f · 0, .., f · (k − 1) of an n-by-n matrix, row after row
 use mathlib.Core.Bool.{cond}
@@ -10,7 +10,7 @@ use lib.Dec.{ltb}
 use lib.ListN.{getD}
 use Rattle.linear.specs.Written.{written}
 
-pub record Begins {A : Type 0} (d : A) (xs : List A) (n : ℕ) (f : ℕ → A) : Type 0 where
+pub record PrefixIs {A : Type 0} (d : A) (xs : List A) (n : ℕ) (f : ℕ → A) : Type 0 where
   pub each : (i : ℕ) → i < n → getD xs i d ≡ f i
 
 abbrev pub firstFrom : ℕ → ℕ → ℕ → ℕ

@@ -25,9 +25,9 @@ use Rattle.check_biased_rows.specs.Biased.{bias, unbiased, BiasedRow, BiasedRow
 use Rattle.check_biased_rows.proofs.Unbiasing.{unbiased-magnitude, row-dot-magnitude, row-dot-shows, rows-themselves}
 use Rattle.enclosure.specs.Reckoning.{allowedResidual, magnitudesWith, boundFrom}
 use Rattle.enclosure.proofs.Bounds.{bound-ext}
-use Rattle.check_arrays.specs.Arrays.{Begins, columnsWritten}
+use Rattle.check_arrays.specs.Arrays.{PrefixIs, columnsWritten}
 use Rattle.check_arrays.specs.Rows.{InverseRows}
-use Rattle.check_arrays.proofs.Filled.{begins-as, columns-next}
+use Rattle.check_arrays.proofs.Filled.{prefix-as, columns-next}
 use Rattle.check_ratios.specs.Ratio.{Bounded}
 use Rattle.check_bounds.specs.Limits.{inversePart, Near}
 
@@ -36,23 +36,23 @@ module _ (n : ℕ) {rows residuals : List ℕ} {place : ℕ} {r : Vec} (h : Bias
   unfolding apply
   image-is m l = ap natAbs (row-dot-shows n (rows-themselves h .each m l) s)
 
-  pub image-magnitude : {magnitudes : List ℕ} → n ≤ 32 → Begins 0 magnitudes n (λ (m : ℕ). natAbs (rowDot rows (m * (n + 1)) residuals place n)) →
+  pub image-magnitude : {magnitudes : List ℕ} → n ≤ 32 → PrefixIs 0 magnitudes n (λ (m : ℕ). natAbs (rowDot rows (m * (n + 1)) residuals place n)) →
       (m : ℕ) → m < n → getD magnitudes m 0 ≤ 2 ^ 55
   image-magnitude few b m l = rw (b .each m l) (row-dot-magnitude few (h .each m l .small) (s .row .small))
 
-  pub plain-magnitudes : {magnitudes : List ℕ} → Begins 0 magnitudes n (λ (m : ℕ). natAbs (rowDot rows (m * (n + 1)) residuals place n)) →
-      Begins 0 magnitudes n (magnitudesWith (inversePart n rows) r (λ (k : ℕ). 0))
+  pub plain-magnitudes : {magnitudes : List ℕ} → PrefixIs 0 magnitudes n (λ (m : ℕ). natAbs (rowDot rows (m * (n + 1)) residuals place n)) →
+      PrefixIs 0 magnitudes n (magnitudesWith (inversePart n rows) r (λ (k : ℕ). 0))
   unfolding magnitudesWith
   plain-magnitudes b =
-      begins-as 0 _ _ (λ m l. omega (arith, image-is m l, sumℕ-* n 0 (λ (j : ℕ). natAbs (unbiasedRows rows n m j)))) b
+      prefix-as 0 _ _ (λ m l. omega (arith, image-is m l, sumℕ-* n 0 (λ (j : ℕ). natAbs (unbiasedRows rows n m j)))) b
 
-  pub slack-magnitudes : {magnitudes out : List ℕ} (σ : ℕ → ℕ) → Begins 0 magnitudes n (λ (m : ℕ). natAbs (rowDot rows (m * (n + 1)) residuals place n)) →
-      Begins 0 out n (λ (m : ℕ). getD magnitudes m 0 + sumℕ n (λ (j : ℕ). natAbs (unbiasedRows rows n m j) * σ j)) → Begins 0 out n (magnitudesWith (inversePart n rows) r σ)
+  pub slack-magnitudes : {magnitudes out : List ℕ} (σ : ℕ → ℕ) → PrefixIs 0 magnitudes n (λ (m : ℕ). natAbs (rowDot rows (m * (n + 1)) residuals place n)) →
+      PrefixIs 0 out n (λ (m : ℕ). getD magnitudes m 0 + sumℕ n (λ (j : ℕ). natAbs (unbiasedRows rows n m j) * σ j)) → PrefixIs 0 out n (magnitudesWith (inversePart n rows) r σ)
   unfolding magnitudesWith
-  slack-magnitudes σ a b = begins-as 0 _ _ (λ m l. rw (a .each m l, image-is m l)) b
+  slack-magnitudes σ a b = prefix-as 0 _ _ (λ m l. rw (a .each m l, image-is m l)) b
 
 pub magnitudes-small : {n : ℕ} {rows : List ℕ} {r : Vec} {σ : ℕ → ℕ} {out : List ℕ} → n ≤ 32 → InverseRows rows n → Near r σ n →
-    Begins 0 out n (magnitudesWith (inversePart n rows) r σ) → Bounded out n
+    PrefixIs 0 out n (magnitudesWith (inversePart n rows) r σ) → Bounded out n
 unfolding magnitudesWith
 magnitudes-small {n} {rows} {r} {σ} few h near b = record {
   most = λ m l. rw (b .each m l)
@@ -79,13 +79,13 @@ pub no-slack-sum : (n : ℕ) (a σ : ℕ → ℕ) → sumℕ n σ ≡ 0 → sum�
 no-slack-sum n a σ e = sumℕ-ext n (λ (j : ℕ). a j * σ j) (λ (j : ℕ). 0) (λ j l. let z : σ j ≡ 0 = omega (arith, e, sumℕ-at n σ j l) in rw z (omega arith)) ∙ sumℕ-zero n
 
 -- limits from an array of sizes are those of the sizes that it begins with
-pub bounds-of-magnitudes : (n : ℕ) (magnitudes : List ℕ) (f margins w : ℕ → ℕ) {out : List ℕ} → Begins 0 magnitudes n f →
-    Begins 0 out n (boundFrom n (λ (m : ℕ). getD magnitudes m 0) margins w) → Begins 0 out n (boundFrom n f margins w)
+pub bounds-of-magnitudes : (n : ℕ) (magnitudes : List ℕ) (f margins w : ℕ → ℕ) {out : List ℕ} → PrefixIs 0 magnitudes n f →
+    PrefixIs 0 out n (boundFrom n (λ (m : ℕ). getD magnitudes m 0) margins w) → PrefixIs 0 out n (boundFrom n f margins w)
 bounds-of-magnitudes n magnitudes f margins w h k =
-    begins-as 0 _ _ (λ i l. bound-ext n (λ (m : ℕ). getD magnitudes m 0) margins f margins w i (h .each) (λ m lm. refl)) k
+    prefix-as 0 _ _ (λ i l. bound-ext n (λ (m : ℕ). getD magnitudes m 0) margins f margins w i (h .each) (λ m lm. refl)) k
 
 -- one column more
 pub column-more : (xs : List ℕ) (n : ℕ) (f : ℕ → ℕ → ℕ) (j : ℕ) {now after column : List ℕ} → now ≡ columnsWritten xs n f j →
-    Begins 0 column n (λ (i : ℕ). f i j) → after ≡ written now j n (λ (i : ℕ). getD column i 0) n → after ≡ columnsWritten xs n f (j + 1)
+    PrefixIs 0 column n (λ (i : ℕ). f i j) → after ≡ written now j n (λ (i : ℕ). getD column i 0) n → after ≡ columnsWritten xs n f (j + 1)
 column-more xs n f j {now} {after} {column} e h a =
     a ∙ written-ext now j n (λ (i : ℕ). getD column i 0) (λ (i : ℕ). f i j) n (h .each) ∙ rw e (sym (columns-next xs n f j))

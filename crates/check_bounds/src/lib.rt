@@ -11,7 +11,7 @@ ghost use Rattle.linear.specs.Reach.{ColumnList};
 ghost use Rattle.linear.specs.Written.{written};
 ghost use Rattle.check_biased_rows.specs.Biased.{bias, unbiased, BiasedRow, BiasedRows, unbiasedRows};
 ghost use Rattle.enclosure.specs.Reckoning.{allowedResidual};
-ghost use Rattle.check_arrays.specs.Arrays.{Begins};
+ghost use Rattle.check_arrays.specs.Arrays.{PrefixIs};
 ghost use Rattle.check_arrays.specs.Rows.{InverseRows};
 ghost use Rattle.check_ratios.specs.Ratio.{Positive, Caps};
 ghost use Rattle.check_bounds.specs.Limits.{columnMagnitude, Near, limitsOf};
@@ -27,7 +27,7 @@ use integer::magnitude;
 fn magnitudes_of(rows: &[u64], residuals: &[u64], n: usize) -> [u64; 32]
     requires { ⌜ n ≤ 32 ⌝ }
     requires { ⌜ BiasedRows (now rows) n × BiasedRow (now residuals) (0 * (n + 1)) n ⌝ }
-    ensures { λ r. ⌜ Begins 0 r n (λ (m : ℕ). columnMagnitude (now (rows .entry)) (now (residuals .entry)) n m 0) ⌝ }
+    ensures { λ r. ⌜ PrefixIs 0 r n (λ (m : ℕ). columnMagnitude (now (rows .entry)) (now (residuals .entry)) n m 0) ⌝ }
 {
     let mut out = [0u64; 32];
     let mut row = 0;
@@ -71,7 +71,7 @@ fn add_slacks(magnitudes: [u64; 32], rows: &[u64], slacks: &[u64; 32], n: usize)
     requires { ⌜ BiasedRows (now rows) n ⌝ }
     requires { ⌜ ((k : ℕ) → k < n → getD (now slacks) k 0 ≤ allowedResidual) ⌝ }
     requires { ⌜ ((m : ℕ) → m < n → getD magnitudes m 0 ≤ 2 ^ 55) ⌝ }
-    ensures { λ r. ⌜ Begins 0 r n (λ (m : ℕ). getD magnitudes m 0
+    ensures { λ r. ⌜ PrefixIs 0 r n (λ (m : ℕ). getD magnitudes m 0
         + sumℕ n (λ (j : ℕ). natAbs (unbiasedRows (now (rows .entry)) n m j) * getD (now (slacks .entry)) j 0)) ⌝ }
 {
     if sum_of(slacks, n) == 0 {
@@ -102,7 +102,7 @@ pub fn column_bounds(
     requires { ⌜ Positive (now margins) n ⌝ }
     requires { ⌜ ColumnList (now weights) n 1024 ⌝ }
     requires { ⌜ Caps (now caps) (now margins) (now weights) n ⌝ }
-    ensures { λ r. ⌜ Begins 0 r n
+    ensures { λ r. ⌜ PrefixIs 0 r n
         (limitsOf n (now (rows .entry)) (at (now (residuals .entry))) (λ (k : ℕ). getD (now (slacks .entry)) k 0) (now (margins .entry))
         (now (weights .entry))) ⌝ }
 {

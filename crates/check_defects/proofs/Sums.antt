@@ -15,16 +15,16 @@ use Rattle.integer.proofs.Absolute.{abs-*}
 use Rattle.integer.proofs.Sum.{sumℕ-none, sumℕ-next, sumℕ≤, abs-sum≤}
 use Rattle.check_biased_rows.specs.Biased.{bias, unbiased, unbiasedRows}
 use Rattle.check_biased_rows.specs.Place.{biasedPlace}
-use Rattle.check_arrays.specs.Arrays.{Begins}
+use Rattle.check_arrays.specs.Arrays.{PrefixIs}
 use Rattle.check_defects.proofs.Halves.{signs, up-magnitude, down-magnitude}
 use Rattle.check_defects.specs.Sums.{up, down, SmallSums, Added, SumsOf}
 
 -- ---- row after row
-pub no-sums : Begins {A = ℕ} 0 (replicate 64 0) 64 (λ (j : ℕ). 0)
+pub no-sums : PrefixIs {A = ℕ} 0 (replicate 64 0) 64 (λ (j : ℕ). 0)
 no-sums = record { each = λ j l. getD-replicate 64 j 0 0 l }
 
 module _ (n : ℕ) (xs : ℕ → ℤ) (rows : ℕ → ℕ → ℕ) where
-  pub sums-none : {sums : List ℕ} → n ≤ 32 → Begins 0 sums 64 (λ (j : ℕ). 0) → SumsOf sums n 0 xs rows
+  pub sums-none : {sums : List ℕ} → n ≤ 32 → PrefixIs 0 sums 64 (λ (j : ℕ). 0) → SumsOf sums n 0 xs rows
   sums-none few h = record {
     ups = λ j l. h .each j (omega arith) ∙ sym (sumℕ-none _);
     downs = λ j l. h .each (32 + j) (omega arith) ∙ sym (sumℕ-none _);

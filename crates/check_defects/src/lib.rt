@@ -15,7 +15,7 @@ ghost use Rattle.check_biased_rows.specs.Biased.{bias, BiasedRow, BiasedRows};
 ghost use Rattle.check_biased_rows.specs.Place.{biasedPlace};
 ghost use Rattle.enclosure.specs.Problem.{columnOf, problemOf};
 ghost use Rattle.enclosure.specs.Reckoning.{defect, residual};
-ghost use Rattle.check_arrays.specs.Arrays.{Begins};
+ghost use Rattle.check_arrays.specs.Arrays.{PrefixIs};
 ghost use Rattle.check_arrays.specs.Parts.{rowsPart};
 ghost use Rattle.check_defects.specs.Sums.{halfOf, SmallSums, Added, SumsOf};
 ghost use Rattle.check_defects.specs.Difference.{numberLess, difference};
@@ -95,7 +95,7 @@ fn add_rows(
     requires { ⌜ (n ≤ 32) × (start + n * stride < 2 ^ 60) ⌝ }
     requires { ⌜ Reach (now xs) start stride n (2 ^ 20) ⌝ }
     requires { ⌜ BiasedRows (now rows) n ⌝ }
-    requires { ⌜ (length (now sums) ≡ 64) × Begins 0 (now sums) 64 (λ (j : ℕ). 0) ⌝ }
+    requires { ⌜ (length (now sums) ≡ 64) × PrefixIs 0 (now sums) 64 (λ (j : ℕ). 0) ⌝ }
     ensures { λ r. ⌜ (r ≡ sum n (λ (k : ℕ). at (now (xs .entry)) (start + k * stride)))
         × SumsOf (now (sums .exit)) n n (λ (k : ℕ). at (now (xs .entry)) (start + k * stride))
         (λ (k j : ℕ). getD (now (rows .entry)) (biasedPlace n k j) 0) ⌝ }
@@ -161,7 +161,7 @@ fn differences_of(
     requires { ⌜ (t ≤ 20) × ((n ≤ 32) × ((step ≤ 32) × ((stride ≤ 32) × (n * n ≤ length (now out))))) ⌝ }
     requires { ⌜ ((m : ℕ) → m < n → Reach (now xs) (m * step) stride n (2 ^ 20)) ⌝ }
     requires { ⌜ BiasedRows (now rows) n ⌝ }
-    ensures { λ _. ⌜ Begins (pos 0) (now (out .exit)) (n * n)
+    ensures { λ _. ⌜ PrefixIs (pos 0) (now (out .exit)) (n * n)
         (λ (i : ℕ). difference n t (now (xs .entry)) step stride (now (rows .entry)) (i / n) (i % n)) ⌝ }
 {
     let mut start = 0;
@@ -176,7 +176,7 @@ pub fn inverse_residuals_of(out: &mut [i64], t: u32, matrix: &[i64], rows: &[u64
     requires { ⌜ (t ≤ 20) × ((n ≤ 32) × (n * n ≤ length (now out))) ⌝ }
     requires { ⌜ MatrixList (now matrix) n ⌝ }
     requires { ⌜ BiasedRows (now rows) n ⌝ }
-    ensures { λ _. ⌜ Begins (pos 0) (now (out .exit)) (n * n)
+    ensures { λ _. ⌜ PrefixIs (pos 0) (now (out .exit)) (n * n)
         (λ (i : ℕ). residual (columnOf (rowsPart n t (now (matrix .entry)) (now (rows .entry))) (i / n)) (i % n)) ⌝ }
 {
     differences_of(out, t, matrix, n, 1, rows, n);
@@ -187,7 +187,7 @@ pub fn defects_of(t: u32, matrix: &[i64], inverse: &[i64], n: usize) -> [i64; 10
     requires { ⌜ (t ≤ 20) × (n ≤ 32) ⌝ }
     requires { ⌜ MatrixList (now matrix) n ⌝ }
     requires { ⌜ MatrixList (now inverse) n ⌝ }
-    ensures { λ r. ⌜ Begins (pos 0) r (n * n)
+    ensures { λ r. ⌜ PrefixIs (pos 0) r (n * n)
         (λ (i : ℕ). defect (problemOf n 0 t (now (matrix .entry)) [] [] [] (now (inverse .entry)) []) (i / n) (i % n)) ⌝ }
 {
     let mut columns = [0u64; ROWS_LENGTH];

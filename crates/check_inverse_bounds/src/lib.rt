@@ -9,7 +9,7 @@ ghost use Rattle.linear.specs.Reach.{ColumnList};
 ghost use Rattle.linear.specs.Written.{written};
 ghost use Rattle.check_biased_rows.specs.Biased.{BiasedRow, BiasedRows};
 ghost use Rattle.enclosure.specs.Reckoning.{allowedResidual};
-ghost use Rattle.check_arrays.specs.Arrays.{Begins, columnsWritten};
+ghost use Rattle.check_arrays.specs.Arrays.{PrefixIs, columnsWritten};
 ghost use Rattle.check_arrays.specs.Rows.{InverseRows};
 ghost use Rattle.check_ratios.specs.Ratio.{Positive, Caps};
 ghost use Rattle.check_bounds.specs.Limits.{columnMagnitude, limitsOf};
@@ -62,7 +62,7 @@ fn column_magnitudes(
     requires { ⌜ BiasedRows (now rows) n × BiasedRow (now residuals) (j * (n + 1)) n ⌝ }
     requires { ⌜ KnownColumns (now list) n known (now rows) (now residuals) ⌝ }
     requires { ⌜ (0 < known → Mirrored (now rows) (now residuals) n) ⌝ }
-    ensures { λ r. ⌜ Begins 0 r n (λ (m : ℕ). columnMagnitude (now (rows .entry)) (now (residuals .entry)) n m j)
+    ensures { λ r. ⌜ PrefixIs 0 r n (λ (m : ℕ). columnMagnitude (now (rows .entry)) (now (residuals .entry)) n m j)
         × (now (list .exit) ≡ written (now (list .entry)) (j * n) 1 (λ (m : ℕ). columnMagnitude (now (rows .entry)) (now (residuals .entry)) n m j) n) ⌝ }
 {
     let mut out = [0u64; 32];

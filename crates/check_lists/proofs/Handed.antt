@@ -21,7 +21,7 @@ use Rattle.rules.proofs.Ranges.{neither-left}
 use Rattle.rules.specs.declared.Outcome.{Outcome}
 use Rattle.enclosure.specs.Reckoning.{margin, load, defect, residual, slack, allowedResidual, rowSum, exceeds, magnitudesWith, boundWith, bound}
 use Rattle.enclosure.proofs.Bounds.{bound-ext}
-use Rattle.check_arrays.specs.Arrays.{Begins}
+use Rattle.check_arrays.specs.Arrays.{PrefixIs}
 use Rattle.check_arrays.specs.Parts.{aboveAllowed}
 use Rattle.check_arrays.proofs.Magnitudes.{scaled-magnitude}
 use Rattle.check_allowances.specs.Sum.{rowSumOf}
@@ -40,13 +40,13 @@ workOf I base allowed allowedInColumns slacks =
 
 pub record Handed (I : Input) (b a c : List ℤ) (σ w : List ℕ) : Type 0 where
   pub base-long : length b ≡ 32
-  pub base : Begins (pos 0) b (I .n) (λ (k : ℕ). pos (2 ^ I .s) *ℤ at (I .right) k)
+  pub base : PrefixIs (pos 0) b (I .n) (λ (k : ℕ). pos (2 ^ I .s) *ℤ at (I .right) k)
   pub allowed-long : length a ≡ 32
-  pub allowed : Begins (pos 0) a (I .n) (λ (k : ℕ). allowedBeside (getD σ k 0) (getD w k 0))
+  pub allowed : PrefixIs (pos 0) a (I .n) (λ (k : ℕ). allowedBeside (getD σ k 0) (getD w k 0))
   pub in-columns-long : length c ≡ 32
-  pub in-columns : Begins (pos 0) c (I .n) (λ (k : ℕ). allowedBeside (getD (replicate 32 0) k 0) (getD w k 0))
-  pub sums : Begins 0 w (I .n) (rowSumOf (I .n) (I .matrix))
-  pub slacks : Begins 0 σ (I .n) (λ (k : ℕ). slackAt (I .s) (at (I .tolerance) k))
+  pub in-columns : PrefixIs (pos 0) c (I .n) (λ (k : ℕ). allowedBeside (getD (replicate 32 0) k 0) (getD w k 0))
+  pub sums : PrefixIs 0 w (I .n) (rowSumOf (I .n) (I .matrix))
+  pub slacks : PrefixIs 0 σ (I .n) (λ (k : ℕ). slackAt (I .s) (at (I .tolerance) k))
 
 module _ (I : Input) {base allowed columns : List ℤ} {slacks sums : List ℕ} (e : short I ≡ false) (f : inRanges I ≡ true) (h : Handed I base allowed columns slacks sums) where
   abbrev W : Work

@@ -13,7 +13,7 @@ use Rattle.enclosure.specs.Problem.{T, columnOf}
 use Rattle.enclosure.specs.Reckoning.{defect, load, margin, residual, slack, magnitudesWith, boundWith, bound, inverseBound}
 use Rattle.enclosure.proofs.Bounds.{bound-ext}
 use Rattle.enclosure.proofs.Margin.{margin-cut}
-use Rattle.check_arrays.specs.Arrays.{Begins}
+use Rattle.check_arrays.specs.Arrays.{PrefixIs}
 use Rattle.check_arrays.specs.Parts.{cutMargin}
 use Rattle.check_bounds.specs.Limits.{inversePart, limitsOf}
 use Rattle.check_ratios.specs.Ratio.{Positive}
@@ -21,14 +21,14 @@ use Rattle.check_lists.specs.Work.{Work, workProblem, workResidual, work
 use Rattle.check_lists.proofs.Rows.{workColumn, magnitudes-are}
 
 module _ (W : Work) {rows : List ℕ} (biased : RowsOfMatrix rows (W .n) (W .inverse)) (margins : List ℕ)
-    (hm : Begins 0 margins (W .n) (cutMargin (workProblem W))) (pm : Positive margins (W .n)) where
+    (hm : PrefixIs 0 margins (W .n) (cutMargin (workProblem W))) (pm : Positive margins (W .n)) where
   -- a margin that is above 0 is the signed margin's size
   margin-here : (m : ℕ) → m < W .n → getD margins m 0 ≡ natAbs (margin (workProblem W) m)
   margin-here m l =
       let e : getD margins m 0 ≡ T (workProblem W) * workProblem W .w m - load (workProblem W) m = hm .each m l in
       e ∙ sym (margin-cut (workProblem W) m (omega (arith, pm .above m l)))
 
-  pub solution-limit : (residuals : List ℤ) → Begins (pos 0) residuals (W .n) (workResidual W) → (i : ℕ) →
+  pub solution-limit : (residuals : List ℤ) → PrefixIs (pos 0) residuals (W .n) (workResidual W) → (i : ℕ) →
       limitsOf (W .n) rows (at residuals) (workSlack W) margins (W .weights) i ≡ boundWith (workProblem W) (workResidual W) (workSlack W) i
   unfolding boundWith
   solution-limit residuals h i =
@@ -36,7 +36,7 @@ module _ (W : Work) {rows : List ℕ} (biased : RowsOfMatrix rows (W .n) (W .inv
       (λ (m : ℕ). natAbs (margin (workProblem W) m)) (λ (k : ℕ). natAbs (at (W .weights) k)) i
       (λ m l. magnitudes-are W biased (at residuals) (workResidual W) (workSlack W) (workSlack W) m l (h .each) (λ k lk. refl)) margin-here
 
-  pub inverse-limit : (columns : List ℤ) → Begins (pos 0) columns (W .n * W .n) (workColumn W) →
+  pub inverse-limit : (columns : List ℤ) → PrefixIs (pos 0) columns (W .n * W .n) (workColumn W) →
       (i j : ℕ) → i < W .n → j < W .n →
       limitsOf (W .n) rows (λ (k : ℕ). at columns (j * W .n + k)) (λ (k : ℕ). 0) margins (W .weights) i ≡ inverseBound (workProblem W) i j
   unfolding bound boundWith magnitudesWith margin load defect

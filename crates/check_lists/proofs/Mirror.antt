@@ -11,7 +11,7 @@ use Rattle.linear.proofs.Places.{place, place-column, place-row}
 use Rattle.check_biased_rows.specs.Biased.{unbiasedRows}
 use Rattle.check_biased_rows.specs.Place.{RowsOfMatrix}
 use Rattle.enclosure.specs.Reckoning.{residual}
-use Rattle.check_arrays.specs.Arrays.{Begins}
+use Rattle.check_arrays.specs.Arrays.{PrefixIs}
 use Rattle.check_arrays.specs.Parts.{columnResidual}
 use Rattle.check_symmetry.specs.Symmetric.{Symmetric}
 use Rattle.check_symmetry.proofs.Mirror.{matrix-mirror, residual-mirror}
@@ -19,7 +19,7 @@ use Rattle.check_inverse_bounds.specs.Mirrored.{MirroredProduct}
 use Rattle.check_lists.specs.Work.{Work}
 use Rattle.check_lists.proofs.Rows.{workColumn}
 
-module _ (W : Work) {rows : List ℕ} {columns : List ℤ} (biased : RowsOfMatrix rows (W .n) (W .inverse)) (h : Begins (pos 0) columns (W .n * W .n) (workColumn W)) where
+module _ (W : Work) {rows : List ℕ} {columns : List ℤ} (biased : RowsOfMatrix rows (W .n) (W .inverse)) (h : PrefixIs (pos 0) columns (W .n * W .n) (workColumn W)) where
   residual-product : (m j : ℕ) → m < W .n → j < W .n →
       apply (W .n) (unbiasedRows rows (W .n)) (λ (k : ℕ). at columns (j * W .n + k)) m
       ≡ apply (W .n) (matrixOf (W .inverse) (W .n)) (λ (k : ℕ). pos (2 ^ W .t) *ℤ identity k j -ℤ product (W .n) (matrixOf (W .matrix) (W .n)) (matrixOf (W .inverse) (W .n)) k j) m

@@ -24,7 +24,7 @@ use Rattle.rules.specs.declared.Outcome.the-variants.{Accepted, Refused}
 use Rattle.rules.specs.declared.Refusal.{Refusal}
 use Rattle.rules.proofs.Verdicts.{accepted-new, accepted-old}
 use Rattle.enclosure.specs.Reckoning.{allowedResidual, boundWith, inverseBound}
-use Rattle.check_arrays.specs.Arrays.{Begins, columnsWritten}
+use Rattle.check_arrays.specs.Arrays.{PrefixIs, columnsWritten}
 use Rattle.check_arrays.specs.Parts.{cutMargin, aboveAllowed}
 use Rattle.check_bounds.specs.Limits.{Near, limitsOf}
 use Rattle.check_ratios.specs.Ratio.{Positive}
@@ -44,9 +44,9 @@ weighed x (suc w) c h = omega arith
 -- the arrays of the reckoning, the first refused row of each, and what is judged of them
 pub record WorkedOut (W : Work) (rows margins : List ℕ) (residuals columns : List ℤ) (r : Outcome) : Type 0 where
   pub biased : RowsOfMatrix rows (W .n) (W .inverse)
-  pub hm : Begins 0 margins (W .n) (cutMargin (workProblem W))
-  pub hr : Begins (pos 0) residuals (W .n) (workResidual W)
-  pub hc : Begins (pos 0) columns (W .n * W .n) (workColumn W)
+  pub hm : PrefixIs 0 margins (W .n) (cutMargin (workProblem W))
+  pub hr : PrefixIs (pos 0) residuals (W .n) (workResidual W)
+  pub hc : PrefixIs (pos 0) columns (W .n * W .n) (workColumn W)
   pub m : ℕ
   pub k : ℕ
   pub i : ℕ
@@ -86,7 +86,7 @@ module _ (W : Work) (ready : Workable W) {rows margins : List ℕ} {residuals co
     pub columns-here : W .n * W .n ≤ length columns → ColumnList columns (W .n * W .n) allowedResidual
     columns-here long = near-columns W ready columns (a .hc) long (omega (arith, none .column, a .ei))
 
-    pub accepted-here : {column E L : List ℕ} → Begins 0 column (W .n) (limitsOf (W .n) rows (at residuals) (workSlack W) margins (W .weights)) →
+    pub accepted-here : {column E L : List ℕ} → PrefixIs 0 column (W .n) (limitsOf (W .n) rows (at residuals) (workSlack W) margins (W .weights)) →
         E ≡ written (W .solutionBounds) 0 1 (λ (x : ℕ). getD column x 0) (W .n) →
         L ≡ columnsWritten (W .inverseBounds) (W .n) (λ (b c : ℕ). limitsOf (W .n) rows (λ (x : ℕ). at columns (c * W .n + x)) (λ (x : ℕ). 0) margins (W .weights) b) (W .n) →
         ComputedAs W Accepted E L

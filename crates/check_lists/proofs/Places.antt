@@ -20,7 +20,7 @@ use Rattle.enclosure.specs.Problem.{T, columnOf}
 use Rattle.enclosure.specs.Reckoning.{load, marginFails, residual, allowedResidual, rowSum, exceeds}
 use Rattle.enclosure.proofs.Before.{no-slack}
 use Rattle.enclosure.proofs.Margin.{cut-test, margin-test}
-use Rattle.check_arrays.specs.Arrays.{Begins}
+use Rattle.check_arrays.specs.Arrays.{PrefixIs}
 use Rattle.check_arrays.specs.Parts.{cutMargin, aboveAllowed}
 use Rattle.check_arrays.proofs.Magnitudes.{power-magnitude}
 use Rattle.check_allowances.proofs.Allowed.{allowed-test}
@@ -32,7 +32,7 @@ use Rattle.check_lists.proofs.Rows.{workColumn}
 
 module _ (W : Work) (ready : Workable W) where
   -- ---- margins
-  module _ (margins : List ℕ) (h : Begins 0 margins (W .n) (cutMargin (workProblem W))) where
+  module _ (margins : List ℕ) (h : PrefixIs 0 margins (W .n) (cutMargin (workProblem W))) where
     pub first-margin : first (W .n) (λ (m : ℕ). eqb (getD margins m 0) 0) ≡ firstMargin (workProblem W)
     first-margin =
         first-ext (W .n) (λ (m : ℕ). eqb (getD margins m 0) 0) (marginFails (workProblem W))
@@ -50,7 +50,7 @@ module _ (W : Work) (ready : Workable W) where
         above (suc x) e = omega arith
 
   -- ---- residuals of the guess
-  module _ (residuals : List ℤ) (h : Begins (pos 0) residuals (W .n) (workResidual W)) where
+  module _ (residuals : List ℤ) (h : PrefixIs (pos 0) residuals (W .n) (workResidual W)) where
     abbrev refused : ℕ → Bool
     refused i = aboveAllowed (at (W .allowed) i) (at residuals (0 + i))
 
@@ -66,7 +66,7 @@ module _ (W : Work) (ready : Workable W) where
     }
 
   -- ---- residuals of the columns
-  module _ (columns : List ℤ) (h : Begins (pos 0) columns (W .n * W .n) (workColumn W)) where
+  module _ (columns : List ℤ) (h : PrefixIs (pos 0) columns (W .n * W .n) (workColumn W)) where
     abbrev column-refused : ℕ → Bool
     column-refused i = aboveAllowed (at (W .allowedInColumns) (i % W .n)) (at columns i)
 

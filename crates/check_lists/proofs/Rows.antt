@@ -16,11 +16,11 @@ use Rattle.check_biased_rows.specs.Biased.{unbiasedRows}
 use Rattle.check_biased_rows.specs.Place.{RowsOfMatrix}
 use Rattle.enclosure.specs.Problem.{columnOf, problemOf}
 use Rattle.enclosure.specs.Reckoning.{defect, load, residual, magnitudesWith}
-use Rattle.check_arrays.specs.Arrays.{Begins}
+use Rattle.check_arrays.specs.Arrays.{PrefixIs}
 use Rattle.check_arrays.specs.Parts.{rowsPart, columnResidual, cutMargin}
 use Rattle.check_arrays.specs.Rows.{InverseRows}
 use Rattle.check_arrays.proofs.Columns.{in-square}
-use Rattle.check_arrays.proofs.Filled.{begins-as}
+use Rattle.check_arrays.proofs.Filled.{prefix-as}
 use Rattle.check_defects.proofs.Product.{residual-of-rows}
 use Rattle.check_bounds.specs.Limits.{inversePart}
 use Rattle.check_lists.specs.Work.{Work, workProblem}
@@ -38,17 +38,17 @@ module _ (n : ℕ) (inverse : List ℤ) {rows : List ℕ} (h : RowsOfMatrix rows
 abbrev pub workColumn : Work → Vec
 workColumn W i = columnResidual (W .n) (W .t) (W .matrix) (W .inverse) (i / W .n) (i % W .n)
 
-pub margins-are : (W : Work) {margins : List ℕ} → Begins 0 margins (W .n) (cutMargin (problemOf (W .n) 0 (W .t) (W .matrix) [] [] [] (W .inverse) (W .weights))) →
-    Begins 0 margins (W .n) (cutMargin (workProblem W))
+pub margins-are : (W : Work) {margins : List ℕ} → PrefixIs 0 margins (W .n) (cutMargin (problemOf (W .n) 0 (W .t) (W .matrix) [] [] [] (W .inverse) (W .weights))) →
+    PrefixIs 0 margins (W .n) (cutMargin (workProblem W))
 unfolding load defect
 margins-are W h = h
 
 module _ (W : Work) {rows : List ℕ} (h : RowsOfMatrix rows (W .n) (W .inverse)) where
   pub columns-are : {columns : List ℤ} →
-      Begins (pos 0) columns (W .n * W .n) (λ (i : ℕ). residual (columnOf (rowsPart (W .n) (W .t) (W .matrix) rows) (i / W .n)) (i % W .n)) →
-      Begins (pos 0) columns (W .n * W .n) (workColumn W)
+      PrefixIs (pos 0) columns (W .n * W .n) (λ (i : ℕ). residual (columnOf (rowsPart (W .n) (W .t) (W .matrix) rows) (i / W .n)) (i % W .n)) →
+      PrefixIs (pos 0) columns (W .n * W .n) (workColumn W)
   columns-are =
-      begins-as (pos 0) (λ (i : ℕ). residual (columnOf (rowsPart (W .n) (W .t) (W .matrix) rows) (i / W .n)) (i % W .n)) (workColumn W)
+      prefix-as (pos 0) (λ (i : ℕ). residual (columnOf (rowsPart (W .n) (W .t) (W .matrix) rows) (i / W .n)) (i % W .n)) (workColumn W)
       (λ i l. residual-of-rows (W .n) (W .t) (W .matrix) h (i / W .n) (i % W .n) (in-square (W .n) i l .0) (in-square (W .n) i l .1))
 
   pub magnitudes-are : (r r′ : Vec) (σ σ′ : ℕ → ℕ) (m : ℕ) → m < W .n → ((k : ℕ) → k < W .n → r k ≡ r′ k) → ((k : ℕ) → k < W .n → σ k ≡ σ′ k) →

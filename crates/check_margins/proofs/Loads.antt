@@ -18,17 +18,17 @@ use Rattle.linear.specs.Reach.{ColumnList, MatrixList}
 use Rattle.linear.proofs.Places.{place, place-column, place-row}
 use Rattle.enclosure.specs.Problem.{problemOf}
 use Rattle.enclosure.specs.Reckoning.{defect, load, residual}
-use Rattle.check_arrays.specs.Arrays.{Begins}
+use Rattle.check_arrays.specs.Arrays.{PrefixIs}
 use Rattle.check_arrays.specs.Parts.{columnResidual, cutMargin}
 use Rattle.check_arrays.proofs.Columns.{in-square}
-use Rattle.check_arrays.proofs.Filled.{begins-as}
+use Rattle.check_arrays.proofs.Filled.{prefix-as}
 use Rattle.check_arrays.proofs.Magnitudes.{defect-magnitude}
 use Rattle.check_symmetry.specs.Symmetric.{Symmetric}
 use Rattle.check_symmetry.proofs.Mirror.{matrix-mirror, difference-mirror}
 use Rattle.check_margins.specs.Load.{loadFrom}
 
 abbrev pub DefectList : List ℤ → ℕ → ℕ → List ℤ → List ℤ → Type 0
-DefectList defects n t matrix inverse = Begins (pos 0) defects (n * n) (λ (i : ℕ). defect (problemOf n 0 t matrix [] [] [] inverse []) (i / n) (i % n))
+DefectList defects n t matrix inverse = PrefixIs (pos 0) defects (n * n) (λ (i : ℕ). defect (problemOf n 0 t matrix [] [] [] inverse []) (i / n) (i % n))
 
 module _ (n t : ℕ) (matrix inverse : List ℤ) where
   residual-defect : Symmetric matrix n → Symmetric inverse n → (j k : ℕ) → j < n → k < n →
@@ -37,9 +37,9 @@ module _ (n t : ℕ) (matrix inverse : List ℤ) where
   residual-defect a g j k lj lk = difference-mirror (matrix-mirror a) (matrix-mirror g) (pos (2 ^ t)) k j lk lj
 
   pub residuals-mirrored : {columns : List ℤ} → Symmetric matrix n → Symmetric inverse n →
-      Begins (pos 0) columns (n * n) (λ (i : ℕ). columnResidual n t matrix inverse (i / n) (i % n)) → DefectList columns n t matrix inverse
+      PrefixIs (pos 0) columns (n * n) (λ (i : ℕ). columnResidual n t matrix inverse (i / n) (i % n)) → DefectList columns n t matrix inverse
   residuals-mirrored a g h =
-      begins-as (pos 0) (λ (i : ℕ). columnResidual n t matrix inverse (i / n) (i % n)) (λ (i : ℕ). defect (problemOf n 0 t matrix [] [] [] inverse []) (i / n) (i % n))
+      prefix-as (pos 0) (λ (i : ℕ). columnResidual n t matrix inverse (i / n) (i % n)) (λ (i : ℕ). defect (problemOf n 0 t matrix [] [] [] inverse []) (i / n) (i % n))
       (λ i l. residual-defect a g (i / n) (i % n) (in-square n i l .0) (in-square n i l .1)) h
 
   pub defects-within : {defects : List ℤ} → t ≤ 20 → n ≤ 32 → MatrixList matrix n → MatrixList inverse n → n * n ≤ length defects →
@@ -54,10 +54,10 @@ module _ (n t : ℕ) (matrix inverse : List ℤ) where
   defect-at h m j lm lj = h .each (m * n + j) (place lm lj) ∙ ap₂ (defect (problemOf n 0 t matrix [] [] [] inverse [])) (place-column m j n lj) (place-row m j n lj)
 
   pub defect-margins : {defects : List ℤ} {out : List ℕ} (weights : List ℤ) → DefectList defects n t matrix inverse →
-      Begins 0 out n (λ (m : ℕ). 2 ^ t * natAbs (at weights m) - loadFrom n defects weights m) → Begins 0 out n (cutMargin (problemOf n 0 t matrix [] [] [] inverse weights))
+      PrefixIs 0 out n (λ (m : ℕ). 2 ^ t * natAbs (at weights m) - loadFrom n defects weights m) → PrefixIs 0 out n (cutMargin (problemOf n 0 t matrix [] [] [] inverse weights))
   unfolding load defect
   defect-margins {defects} weights h =
-      begins-as 0 (λ (m : ℕ). 2 ^ t * natAbs (at weights m) - loadFrom n defects weights m) (cutMargin (problemOf n 0 t matrix [] [] [] inverse weights))
+      prefix-as 0 (λ (m : ℕ). 2 ^ t * natAbs (at weights m) - loadFrom n defects weights m) (cutMargin (problemOf n 0 t matrix [] [] [] inverse weights))
       (λ m lm. ap (λ (x : ℕ). 2 ^ t * natAbs (at weights m) - x) (sumℕ-ext n _ _ (λ j lj. ap (λ (z : ℤ). natAbs z * natAbs (at weights j)) (defect-at h m j lm lj))))
 
 -- ---- sizes of the terms

@@ -10,7 +10,7 @@ ghost use Rattle.integer.specs.Finite.{first};
 ghost use Rattle.linear.specs.Slice.{at};
 ghost use Rattle.linear.specs.Place.{Carried};
 ghost use Rattle.linear.specs.Reach.{ColumnList, MatrixList};
-ghost use Rattle.check_arrays.specs.Arrays.{Begins};
+ghost use Rattle.check_arrays.specs.Arrays.{PrefixIs};
 ghost use Rattle.enclosure.specs.Problem.{problemOf};
 ghost use Rattle.check_arrays.specs.Parts.{columnResidual, cutMargin};
 ghost use Rattle.check_symmetry.specs.Symmetric.{Symmetric};
@@ -71,7 +71,7 @@ fn margins_from(t: u32, defects: &[i64], weights: &[i64], n: usize) -> [u64; 32]
     requires { ⌜ (t ≤ 20) × (n ≤ 32) ⌝ }
     requires { ⌜ ColumnList (now defects) (n * n) (2 ^ 46) ⌝ }
     requires { ⌜ ColumnList (now weights) n 1024 ⌝ }
-    ensures { λ r. ⌜ Begins 0 r n
+    ensures { λ r. ⌜ PrefixIs 0 r n
         (λ (m : ℕ). 2 ^ t * natAbs (at (now (weights .entry)) m) - loadFrom n (now (defects .entry)) (now (weights .entry)) m) ⌝ }
 {
     let mut out = [0u64; 32];
@@ -96,10 +96,10 @@ pub fn margins_of(
     requires { ⌜ (t ≤ 20) × ((n ≤ 32) × (n * n ≤ length (now columns))) ⌝ }
     requires { ⌜ MatrixList (now matrix) n ⌝ }
     requires { ⌜ MatrixList (now inverse) n ⌝ }
-    requires { ⌜ Begins (pos 0) (now columns) (n * n) (λ (i : ℕ). columnResidual n t (now matrix) (now inverse) (i / n) (i % n)) ⌝ }
+    requires { ⌜ PrefixIs (pos 0) (now columns) (n * n) (λ (i : ℕ). columnResidual n t (now matrix) (now inverse) (i / n) (i % n)) ⌝ }
     requires { ⌜ (mirrored ≡ true → Symmetric (now matrix) n × Symmetric (now inverse) n) ⌝ }
     requires { ⌜ ColumnList (now weights) n 1024 ⌝ }
-    ensures { λ r. ⌜ Begins 0 r n
+    ensures { λ r. ⌜ PrefixIs 0 r n
         (cutMargin (problemOf n 0 t (now (matrix .entry)) [] [] [] (now (inverse .entry)) (now (weights .entry)))) ⌝ }
 {
     if mirrored {

@@ -15,7 +15,7 @@ use Rattle.integer.proofs.Sum.{sumℕ-ext, sumℕ-zero, sumℕ-at}
 use Rattle.linear.specs.Slice.{at}
 use Rattle.enclosure.specs.Reckoning.{boundFrom}
 use Rattle.enclosure.proofs.Bounds.{bound-least, bound-covers}
-use Rattle.check_arrays.specs.Arrays.{Begins}
+use Rattle.check_arrays.specs.Arrays.{PrefixIs}
 use Rattle.check_ratios.specs.Ratio.{Positive, WithinCaps, Caps}
 
 pub cap-under : (n : ℕ) (w : ℕ → ℕ) (i g c : ℕ) → i < n → c ≡ g / largest n w → w i * c ≤ g
@@ -32,7 +32,7 @@ module _ (n : ℕ) (magnitudes margins : List ℕ) (weights : List ℤ) (positiv
   abbrev limit : ℕ → ℕ
   limit = boundFrom n (λ (m : ℕ). getD magnitudes m 0) (λ (m : ℕ). getD margins m 0) (λ (i : ℕ). natAbs (at weights i))
 
-  pub within-caps-none : n ≤ 32 → sumℕ n (λ (m : ℕ). getD magnitudes m 0) ≡ 0 → Begins 0 (replicate 32 0) n limit
+  pub within-caps-none : n ≤ 32 → sumℕ n (λ (m : ℕ). getD magnitudes m 0) ≡ 0 → PrefixIs 0 (replicate 32 0) n limit
   within-caps-none few e = record {
     each = λ i l. getD-replicate 32 i 0 0 (omega arith) ∙ le-antisymm (omega arith)
         (bound-least n magnitude (λ (m : ℕ). getD margins m 0) (λ (i : ℕ). natAbs (at weights i)) i 0 (positive .above)
@@ -56,5 +56,5 @@ module _ (n : ℕ) (magnitudes margins : List ℕ) (weights : List ℤ) (positiv
     one i l some zero e = absurd (some (sumℕ-ext n magnitude (λ (m : ℕ). 0) (λ m lm. none i m l lm e) ∙ sumℕ-zero n))
     one i l some (suc x) e = omega (arith, most i l)
 
-    pub within-caps-some : n ≤ 32 → (sumℕ n (λ (m : ℕ). getD magnitudes m 0) ≡ 0 → ⊥) → Begins 0 (replicate 32 1) n limit
+    pub within-caps-some : n ≤ 32 → (sumℕ n (λ (m : ℕ). getD magnitudes m 0) ≡ 0 → ⊥) → PrefixIs 0 (replicate 32 1) n limit
     within-caps-some few some = record { each = λ i l. getD-replicate 32 i 1 0 (omega arith) ∙ one i l some (limit i) refl }

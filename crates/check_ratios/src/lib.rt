@@ -12,7 +12,7 @@ ghost use Rattle.linear.specs.Slice.{at};
 ghost use Rattle.linear.specs.Reach.{ColumnList};
 ghost use Rattle.enclosure.specs.Largest.{largestMagnitude};
 ghost use Rattle.enclosure.specs.Reckoning.{boundFrom};
-ghost use Rattle.check_arrays.specs.Arrays.{Begins};
+ghost use Rattle.check_arrays.specs.Arrays.{PrefixIs};
 ghost use Rattle.check_ratios.specs.Ratio.{ratioOf, largerRatioOf, SmallTerms, Positive, Bounded, WithinCaps, Caps};
 use integer::ceil_div;
 use integer::larger;
@@ -136,7 +136,7 @@ fn ratio_bounds(magnitudes: &[u64; 32], margins: &[u64; 32], weights: &[i64], n:
     requires { ⌜ Bounded (now magnitudes) n ⌝ }
     requires { ⌜ Positive (now margins) n ⌝ }
     requires { ⌜ ColumnList (now weights) n 1024 ⌝ }
-    ensures { λ r. ⌜ Begins 0 r n (boundFrom n (λ (m : ℕ). getD (now (magnitudes .entry)) m 0) (λ (m : ℕ). getD (now (margins .entry)) m 0)
+    ensures { λ r. ⌜ PrefixIs 0 r n (boundFrom n (λ (m : ℕ). getD (now (magnitudes .entry)) m 0) (λ (m : ℕ). getD (now (margins .entry)) m 0)
         (λ (i : ℕ). natAbs (at (now (weights .entry)) i))) ⌝ }
 {
     let k = largest_ratio_of(magnitudes, margins, n);
@@ -176,7 +176,7 @@ pub fn bounds_of(
     requires { ⌜ Positive (now margins) n ⌝ }
     requires { ⌜ ColumnList (now weights) n 1024 ⌝ }
     requires { ⌜ Caps (now caps) (now margins) (now weights) n ⌝ }
-    ensures { λ r. ⌜ Begins 0 r n (boundFrom n (λ (m : ℕ). getD (now (magnitudes .entry)) m 0) (λ (m : ℕ). getD (now (margins .entry)) m 0)
+    ensures { λ r. ⌜ PrefixIs 0 r n (boundFrom n (λ (m : ℕ). getD (now (magnitudes .entry)) m 0) (λ (m : ℕ). getD (now (margins .entry)) m 0)
         (λ (i : ℕ). natAbs (at (now (weights .entry)) i))) ⌝ }
 {
     if is_within_caps(magnitudes, caps, n) {

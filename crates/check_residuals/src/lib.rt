@@ -9,7 +9,7 @@ ghost use Rattle.linear.specs.Slice.{at, vectorOf, matrixOf};
 ghost use Rattle.linear.specs.Place.{Carried};
 ghost use Rattle.linear.specs.Reach.{ColumnList, MatrixList};
 ghost use Rattle.enclosure.specs.Reckoning.{allowedResidual};
-ghost use Rattle.check_arrays.specs.Arrays.{Begins, firstFrom};
+ghost use Rattle.check_arrays.specs.Arrays.{PrefixIs, firstFrom};
 ghost use Rattle.check_arrays.specs.Parts.{residualFrom, aboveAllowed};
 use integer::power;
 use linear::dot;
@@ -26,7 +26,7 @@ fn scaled(s: u32, b: i64) -> i64
 pub fn scaled_right(s: u32, right: &[i64], n: usize) -> [i64; 32]
     requires { ⌜ (s ≤ 20) × (n ≤ 32) ⌝ }
     requires { ⌜ ColumnList (now right) n (2 ^ 30) ⌝ }
-    ensures { λ r. ⌜ Begins (pos 0) r n (λ (k : ℕ). pos (2 ^ s) *ℤ at (now (right .entry)) k) ⌝ }
+    ensures { λ r. ⌜ PrefixIs (pos 0) r n (λ (k : ℕ). pos (2 ^ s) *ℤ at (now (right .entry)) k) ⌝ }
 {
     let mut out = [0i64; 32];
     for k in 0..n {
@@ -52,7 +52,7 @@ pub fn residuals_of(base: &[i64; 32], matrix: &[i64], guess: &[i64], n: usize) -
     requires { ⌜ ColumnList (now base) n (2 ^ 62) ⌝ }
     requires { ⌜ MatrixList (now matrix) n ⌝ }
     requires { ⌜ ColumnList (now guess) n (2 ^ 36) ⌝ }
-    ensures { λ r. ⌜ Begins (pos 0) r n (residualFrom n (now (base .entry)) (now (matrix .entry)) (now (guess .entry))) ⌝ }
+    ensures { λ r. ⌜ PrefixIs (pos 0) r n (residualFrom n (now (base .entry)) (now (matrix .entry)) (now (guess .entry))) ⌝ }
 {
     let mut out = [0i64; 32];
     let mut row = 0;

@@ -9,7 +9,7 @@ ghost use Rattle.linear.specs.Slice.{at, vectorOf, matrixOf};
 ghost use Rattle.linear.specs.Place.{Carried};
 ghost use Rattle.linear.specs.Reach.{ColumnList, Reach};
 ghost use Rattle.linear.specs.Written.{written};
-ghost use Rattle.check_arrays.specs.Arrays.{Begins};
+ghost use Rattle.check_arrays.specs.Arrays.{PrefixIs};
 ghost use Rattle.dependent_coupling.specs.Carried.{baseFrom, limitCap, cappedSum};
 use integer::magnitude;
 use linear::dot;
@@ -40,7 +40,7 @@ pub fn base_of(
     requires { ⌜ ColumnList base n (2 ^ 50) ⌝ }
     requires { ⌜ ColumnList (now coupling) (n * marks) (2 ^ 20) ⌝ }
     requires { ⌜ ColumnList (now guess) marks (2 ^ 36) ⌝ }
-    ensures { λ r. ⌜ Begins (pos 0) r n (baseFrom marks base (now (coupling .entry)) (now (guess .entry))) ⌝ }
+    ensures { λ r. ⌜ PrefixIs (pos 0) r n (baseFrom marks base (now (coupling .entry)) (now (guess .entry))) ⌝ }
 {
     let mut out = [0i64; 32];
     let mut row = 0;
@@ -95,7 +95,7 @@ pub fn slacks_with(
     requires { ⌜ (marks ≤ 32) × (n ≤ 32) ⌝ }
     requires { ⌜ ((k : ℕ) → k < n → getD slacks k 0 ≤ 2 ^ 40) ⌝ }
     requires { ⌜ ColumnList (now coupling) (n * marks) (2 ^ 20) ⌝ }
-    ensures { λ r. ⌜ Begins 0 r n (λ (k : ℕ). cappedSum marks (now (coupling .entry)) limits k + getD slacks k 0) ⌝ }
+    ensures { λ r. ⌜ PrefixIs 0 r n (λ (k : ℕ). cappedSum marks (now (coupling .entry)) limits k + getD slacks k 0) ⌝ }
 {
     let mut out = [0u64; 32];
     let mut row = 0;

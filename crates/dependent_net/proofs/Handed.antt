@@ -28,7 +28,7 @@ use Rattle.rules.proofs.AllInRange.{all-at}
 use Rattle.rules.proofs.Ranges.{both-right, matrix-range, neither-left}
 use Rattle.enclosure.specs.Reckoning.{margin, load, defect, residual, slack, allowedResidual, rowSum, exceeds, magnitudesWith, boundWith, bound}
 use Rattle.enclosure.proofs.Bounds.{bound-ext}
-use Rattle.check_arrays.specs.Arrays.{Begins}
+use Rattle.check_arrays.specs.Arrays.{PrefixIs}
 use Rattle.check_arrays.specs.Parts.{aboveAllowed}
 use Rattle.check_arrays.proofs.Magnitudes.{scaled-magnitude}
 use Rattle.check_allowances.specs.Sum.{rowSumOf}
@@ -60,16 +60,16 @@ absorbed c z y = go (ltb c z) refl (ltb c (z + y)) refl
 -- the arrays: S·b2, the base, S·d2, the slacks, what is allowed, the sums along the rows, what is allowed in the columns
 pub record HandedDependent (marks : ℕ) (guess : List ℤ) (limits : List ℕ) (coupling : List ℤ) (I : Input) (p b : List ℤ) (τ σ : List ℕ) (a : List ℤ) (w : List ℕ) (c : List ℤ) : Type 0 where
   pub scaled-long : length p ≡ 32
-  pub scaled : Begins (pos 0) p (I .n) (λ (k : ℕ). pos (2 ^ I .s) *ℤ at (I .right) k)
+  pub scaled : PrefixIs (pos 0) p (I .n) (λ (k : ℕ). pos (2 ^ I .s) *ℤ at (I .right) k)
   pub base-long : length b ≡ 32
-  pub base : Begins (pos 0) b (I .n) (baseFrom marks p coupling guess)
-  pub own : Begins 0 τ (I .n) (λ (k : ℕ). slackAt (I .s) (at (I .tolerance) k))
-  pub slacks : Begins 0 σ (I .n) (λ (k : ℕ). cappedSum marks coupling limits k + getD τ k 0)
+  pub base : PrefixIs (pos 0) b (I .n) (baseFrom marks p coupling guess)
+  pub own : PrefixIs 0 τ (I .n) (λ (k : ℕ). slackAt (I .s) (at (I .tolerance) k))
+  pub slacks : PrefixIs 0 σ (I .n) (λ (k : ℕ). cappedSum marks coupling limits k + getD τ k 0)
   pub allowed-long : length a ≡ 32
-  pub allowed : Begins (pos 0) a (I .n) (λ (k : ℕ). allowedBeside (getD σ k 0) (getD (replicate 32 allowedResidual) k 0))
-  pub sums : Begins 0 w (I .n) (rowSumOf (I .n) (I .matrix))
+  pub allowed : PrefixIs (pos 0) a (I .n) (λ (k : ℕ). allowedBeside (getD σ k 0) (getD (replicate 32 allowedResidual) k 0))
+  pub sums : PrefixIs 0 w (I .n) (rowSumOf (I .n) (I .matrix))
   pub in-columns-long : length c ≡ 32
-  pub in-columns : Begins (pos 0) c (I .n) (λ (k : ℕ). allowedBeside (getD (replicate 32 0) k 0) (getD w k 0))
+  pub in-columns : PrefixIs (pos 0) c (I .n) (λ (k : ℕ). allowedBeside (getD (replicate 32 0) k 0) (getD w k 0))
 
 -- C, as far as it is used
 pub coupling-list : (marks : ℕ) (coupling : List ℤ) (n : ℕ) → n ≤ 32 → marks ≤ 32 → 1024 ≤ length coupling → allInRange kind.Matrix (n * marks) (at coupling) ≡ true →
@@ -80,13 +80,13 @@ coupling-list marks coupling n few m long e = record {
 }
 
 -- S·b2 and S·d2
-pub scaled-list : (I : Input) → Fit I → {p : List ℤ} → length p ≡ 32 → Begins (pos 0) p (I .n) (λ (k : ℕ). pos (2 ^ I .s) *ℤ at (I .right) k) → ColumnList p (I .n) (2 ^ 50)
+pub scaled-list : (I : Input) → Fit I → {p : List ℤ} → length p ≡ 32 → PrefixIs (pos 0) p (I .n) (λ (k : ℕ). pos (2 ^ I .s) *ℤ at (I .right) k) → ColumnList p (I .n) (2 ^ 50)
 scaled-list I fit {p} long h = record {
   long = omega (arith, fit .few);
   within = record { magnitudes = λ k l. rw (h .each k l) (scaled-magnitude (I .s) (at (I .right) k) (fit .solution-scale) (fit .right .within .magnitudes k l)) };
 }
 
-pub own-slacks : (I : Input) → Fit I → {τ : List ℕ} → Begins 0 τ (I .n) (λ (k : ℕ). slackAt (I .s) (at (I .tolerance) k)) → (k : ℕ) → k < I .n → getD τ k 0 ≤ 2 ^ 40
+pub own-slacks : (I : Input) → Fit I → {τ : List ℕ} → PrefixIs 0 τ (I .n) (λ (k : ℕ). slackAt (I .s) (at (I .tolerance) k)) → (k : ℕ) → k < I .n → getD τ k 0 ≤ 2 ^ 40
 own-slacks I fit {τ} h k l = rw (h .each k l) (slack-magnitude (I .s) (at (I .tolerance) k) (fit .solution-scale) (fit .tolerance .within .magnitudes k l))
 
 module _ (marks s₁ : ℕ) (guess : List ℤ) (limits : List ℕ) (coupling : List ℤ) (I : Input) where

@@ -9,7 +9,7 @@ ghost use lib.ListN.{getD};
 ghost use Rattle.linear.specs.Slice.{at};
 ghost use Rattle.linear.specs.Reach.{ColumnList, MatrixList};
 ghost use Rattle.enclosure.specs.Problem.{problemOf};
-ghost use Rattle.check_arrays.specs.Arrays.{Begins};
+ghost use Rattle.check_arrays.specs.Arrays.{PrefixIs};
 ghost use Rattle.check_arrays.specs.Parts.{cutMargin};
 ghost use Rattle.quality_spec.specs.Peak.{peak};
 ghost use Rattle.quality_spec.specs.Inquiry.{inquiry, inquiryShort, inquiryInRanges};
@@ -32,7 +32,7 @@ mod ranges;
 fn weights_of(weights: &[i64], n: usize) -> [u64; 32]
     requires { ⌜ n ≤ 32 ⌝ }
     requires { ⌜ ColumnList (now weights) n 1024 ⌝ }
-    ensures { λ r. ⌜ Begins 0 r n (λ (m : ℕ). natAbs (at (now (weights .entry)) m)) ⌝ }
+    ensures { λ r. ⌜ PrefixIs 0 r n (λ (m : ℕ). natAbs (at (now (weights .entry)) m)) ⌝ }
 {
     let mut out = [0u64; 32];
     for m in 0..n {
@@ -47,7 +47,7 @@ fn margins_for(t: u32, matrix: &[i64], inverse: &[i64], weights: &[i64], n: usiz
     requires { ⌜ MatrixList (now matrix) n ⌝ }
     requires { ⌜ MatrixList (now inverse) n ⌝ }
     requires { ⌜ ColumnList (now weights) n 1024 ⌝ }
-    ensures { λ r. ⌜ Begins 0 r n
+    ensures { λ r. ⌜ PrefixIs 0 r n
         (cutMargin (problemOf n 0 t (now (matrix .entry)) [] [] [] (now (inverse .entry)) (now (weights .entry)))) ⌝ }
 {
     let magnitudes = defect_magnitudes(t, matrix, inverse, n);
@@ -69,7 +69,7 @@ fn spreads_of(t: u32, weights: &[i64], margins: &[u64; 32], n: usize) -> [u64; 3
     requires { ⌜ (t ≤ 20) × (n ≤ 32) ⌝ }
     requires { ⌜ ColumnList (now weights) n 1024 ⌝ }
     requires { ⌜ ((m : ℕ) → m < n → getD (now margins) m 0 ≤ 2 ^ t * natAbs (at (now weights) m)) ⌝ }
-    ensures { λ r. ⌜ Begins 0 r n (λ (m : ℕ). 2 * (2 ^ t * natAbs (at (now (weights .entry)) m)) - getD (now (margins .entry)) m 0) ⌝ }
+    ensures { λ r. ⌜ PrefixIs 0 r n (λ (m : ℕ). 2 * (2 ^ t * natAbs (at (now (weights .entry)) m)) - getD (now (margins .entry)) m 0) ⌝ }
 {
     let mut out = [0u64; 32];
     for m in 0..n {

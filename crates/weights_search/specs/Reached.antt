@@ -3,10 +3,10 @@
 use mathlib.Core.Path.{_≡_}
 use Prim.Native.Nat.{ℕ}
 use Rattle.enclosure.specs.Problem.{Problem}
-use Rattle.check_arrays.specs.Arrays.{Begins}
+use Rattle.check_arrays.specs.Arrays.{PrefixIs}
 use Rattle.weights_spec.specs.Sequence.{tried, firstGood}
 use Rattle.weights_search.specs.declared.Last.{Last}
 
 pub record SearchedTo (P : Problem) (a : ℕ) (r : Last) : Type 0 where
   pub place : r .passed ≡ firstGood P a
-  pub list : Begins 0 (r .weights) (P .n) (tried P (r .passed))
+  pub list : PrefixIs 0 (r .weights) (P .n) (tried P (r .passed))

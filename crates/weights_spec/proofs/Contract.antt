@@ -22,7 +22,7 @@ use Rattle.rules.specs.declared.Kind.the-variants as kind
 use Rattle.rules.specs.declared.Refusal.the-variants.{TooShort, OutOfRange}
 use Rattle.rules.proofs.Ranges.{both-left, both-right, neither-left, neither-right, size-range, inverse-scale-range, allowance-range, matrix-range, inverse-range}
 use Rattle.rules.proofs.Verdicts.{accepted-new, accepted-old, nothing-is-not}
-use Rattle.check_arrays.specs.Arrays.{Begins}
+use Rattle.check_arrays.specs.Arrays.{PrefixIs}
 use Rattle.check_spec.proofs.Fit.{squared}
 use Rattle.weights_spec.specs.declared.Found.{Found}
 use Rattle.weights_spec.specs.declared.Found.the-variants.{Tried, Refused, NoneGood}
@@ -126,7 +126,7 @@ module _ (Q : Request) where
           inside = λ z. listed-inside (Q .n) (Q .t) (Q .matrix) (Q .inverse) (Q .weights) (passed Q) long;
         }
 
-    pub found-list : {list : List ℕ} {weights : List ℤ} → p < Q .allowance → Begins 0 list (Q .n) (tried (searchProblem Q) p) →
+    pub found-list : {list : List ℕ} {weights : List ℤ} → p < Q .allowance → PrefixIs 0 list (Q .n) (tried (searchProblem Q) p) →
         weights ≡ written (Q .weights) 0 1 (λ (i : ℕ). pos (getD list i 0)) (Q .n) → FoundAs Q (Tried (p + 1)) weights
     found-list {list} {weights} l b w =
         let same : weights ≡ written (Q .weights) 0 1 (λ (i : ℕ). pos (tried (searchProblem Q) (passed Q) i)) (Q .n) =

@@ -7,7 +7,7 @@ ghost use lib.ListN.{getD};
 ghost use Rattle.integer.specs.Finite.{first, largest};
 ghost use Rattle.linear.specs.Place.{Carried};
 ghost use Rattle.linear.specs.Reach.{MatrixList};
-ghost use Rattle.check_arrays.specs.Arrays.{Begins};
+ghost use Rattle.check_arrays.specs.Arrays.{PrefixIs};
 ghost use Rattle.check_arrays.specs.Parts.{columnResidual};
 ghost use Rattle.weights_spec.specs.Sequence.{bits};
 ghost use Rattle.weights_steps.specs.Steps.{Below, storedLoad, storedMargin, shiftedNext};
@@ -23,7 +23,7 @@ use integer::power;
 pub fn defect_magnitudes(t: u32, matrix: &[i64], inverse: &[i64], n: usize) -> [u64; 1024]
     requires { ⌜ (t ≤ 20) × (n ≤ 32) ⌝ }
     requires { ⌜ MatrixList (now matrix) n × MatrixList (now inverse) n ⌝ }
-    ensures { λ r. ⌜ Begins 0 r (n * n) (λ (i : ℕ). natAbs (columnResidual n t (now (inverse .entry)) (now (matrix .entry)) (i / n) (i % n))) ⌝ }
+    ensures { λ r. ⌜ PrefixIs 0 r (n * n) (λ (i : ℕ). natAbs (columnResidual n t (now (inverse .entry)) (now (matrix .entry)) (i / n) (i % n))) ⌝ }
 {
     let mut rows = [0u64; ROWS_LENGTH];
     bias_rows(&mut rows, matrix, n);
@@ -81,7 +81,7 @@ fn load_of(magnitudes: &[u64; 1024], weights: &[u64; 32], n: usize, m: usize) ->
 pub fn loads_of(magnitudes: &[u64; 1024], weights: &[u64; 32], n: usize) -> [u64; 32]
     requires { ⌜ n ≤ 32 ⌝ }
     requires { ⌜ Below (now magnitudes) (n * n) (2 ^ 46) × Below (now weights) n 1024 ⌝ }
-    ensures { λ r. ⌜ Begins 0 r n (storedLoad n (now (magnitudes .entry)) (now (weights .entry))) ⌝ }
+    ensures { λ r. ⌜ PrefixIs 0 r n (storedLoad n (now (magnitudes .entry)) (now (weights .entry))) ⌝ }
 {
     let mut out = [0u64; 32];
     for m in 0..n {
@@ -103,7 +103,7 @@ fn cut(t: u32, w: u64, load: u64) -> u64
 pub fn margins_from(t: u32, loads: &[u64; 32], weights: &[u64; 32], n: usize) -> [u64; 32]
     requires { ⌜ (t ≤ 20) × (n ≤ 32) ⌝ }
     requires { ⌜ Below (now weights) n 1024 ⌝ }
-    ensures { λ r. ⌜ Begins 0 r n (storedMargin t (now (loads .entry)) (now (weights .entry))) ⌝ }
+    ensures { λ r. ⌜ PrefixIs 0 r n (storedMargin t (now (loads .entry)) (now (weights .entry))) ⌝ }
 {
     let mut out = [0u64; 32];
     for m in 0..n {
@@ -148,7 +148,7 @@ fn bits_of(u: u64) -> u32
 // The list after one with these sums: each shifted right by one count of bits for all rows, plus 1.
 pub fn next_weights(loads: &[u64; 32], n: usize) -> [u64; 32]
     requires { ⌜ n ≤ 32 ⌝ }
-    ensures { λ r. ⌜ Begins 0 r n (shiftedNext n (now (loads .entry))) ⌝ }
+    ensures { λ r. ⌜ PrefixIs 0 r n (shiftedNext n (now (loads .entry))) ⌝ }
 {
     let count = bits_of(largest_of(loads, n));
     let mut out = [0u64; 32];

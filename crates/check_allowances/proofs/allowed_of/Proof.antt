@@ -4,21 +4,21 @@ use native.Mathlib.Omega.{arith}
 use lib.IntN.{pos}
 use lib.ListN.{getD, length, length-set}
 use Rattle.integer.proofs.Machine.{read}
-use Rattle.check_arrays.specs.Arrays.{Begins}
-use Rattle.check_arrays.proofs.Filled.{begins-none, begins-more, begins-end}
+use Rattle.check_arrays.specs.Arrays.{PrefixIs}
+use Rattle.check_arrays.proofs.Filled.{prefix-none, prefix-more, prefix-end}
 use Rattle.check_allowances.specs.Allowed.{allowedBeside}
 use borrow.Author.Needs.{needs}
 use Rattle.check_allowances.proofs.allowed_of.Statement.{statement}
 use Rattle.check_allowances.proofs.allowed_of.Tie as tie
 
 abbrev Inv-loop : tie.InvT-loop
-Inv-loop slacks sums n out₀ k₀ out k = (k ≤ n) × ((length out ≡ 32) × Begins (pos 0) out k (λ (i : ℕ). allowedBeside (getD slacks i 0) (getD sums i 0)))
+Inv-loop slacks sums n out₀ k₀ out k = (k ≤ n) × ((length out ≡ 32) × PrefixIs (pos 0) out k (λ (i : ℕ). allowedBeside (getD slacks i 0) (getD sums i 0)))
 
 abbrev μ-loop : tie.MeasureT-loop
 μ-loop slacks sums n out₀ k₀ out k = n - k
 
 loop-holds : tie.Need-loop-holds Inv-loop μ-loop
-loop-holds c = (omega arith, (refl, begins-none _ _ _))
+loop-holds c = (omega arith, (refl, prefix-none _ _ _))
 
 mul-allowed-at : tie.Need-mul-allowed-at Inv-loop μ-loop
 mul-allowed-at c = search needs
@@ -50,10 +50,10 @@ loop-less c = search needs
 loop-again : tie.Need-loop-again Inv-loop μ-loop
 loop-again c =
     let l = c .before .before .before .before .loop in
-    (omega arith, (simp length-set (l .inv .1 .0), begins-more _ _ _ _ _ (l .inv .1 .1) (omega arith) (read _ (c .allowed-at .ok) ∙ c .allowed-at .ensures)))
+    (omega arith, (simp length-set (l .inv .1 .0), prefix-more _ _ _ _ _ (l .inv .1 .1) (omega arith) (read _ (c .allowed-at .ok) ∙ c .allowed-at .ensures)))
 
 returns : tie.Need-returns Inv-loop μ-loop
-returns c = begins-end _ (c .before .loop .inv .0) (c .loop-test .left) (c .before .loop .inv .1 .1)
+returns c = prefix-end _ (c .before .loop .inv .0) (c .loop-test .left) (c .before .loop .inv .1 .1)
 
 pub allowed-of-spec : {M : Type 1} → statement M
 allowed-of-spec =

@@ -4,8 +4,8 @@ use native.Mathlib.Omega.{arith}
 use lib.ListN.{length, length-set}
 use Rattle.linear.specs.Place.{Carried}
 use Rattle.linear.proofs.Carried.{carried-first, carried-next}
-use Rattle.check_arrays.specs.Arrays.{Begins}
-use Rattle.check_arrays.proofs.Filled.{begins-none, begins-more, begins-end}
+use Rattle.check_arrays.specs.Arrays.{PrefixIs}
+use Rattle.check_arrays.proofs.Filled.{prefix-none, prefix-more, prefix-end}
 use Rattle.linear.proofs.Places.{row-ends}
 use Rattle.check_allowances.specs.Sum.{rowSumOf}
 use borrow.Author.Needs.{needs}
@@ -13,13 +13,13 @@ use Rattle.check_allowances.proofs.row_sums_of.Statement.{statement}
 use Rattle.check_allowances.proofs.row_sums_of.Tie as tie
 
 abbrev Inv-loop : tie.InvT-loop
-Inv-loop matrix n out₀ row₀ k₀ out row k = (k ≤ n) × (Carried 0 n k row × ((length out ≡ 32) × Begins 0 out k (rowSumOf n matrix)))
+Inv-loop matrix n out₀ row₀ k₀ out row k = (k ≤ n) × (Carried 0 n k row × ((length out ≡ 32) × PrefixIs 0 out k (rowSumOf n matrix)))
 
 abbrev μ-loop : tie.MeasureT-loop
 μ-loop matrix n out₀ row₀ k₀ out row k = n - k
 
 loop-holds : tie.Need-loop-holds Inv-loop μ-loop
-loop-holds c = (omega arith, (carried-first _ _, (refl, begins-none _ _ _)))
+loop-holds c = (omega arith, (carried-first _ _, (refl, prefix-none _ _ _)))
 
 row-sum-requires : tie.Need-row-sum-requires Inv-loop μ-loop
 row-sum-requires c κs =
@@ -44,10 +44,10 @@ loop-less c = search needs
 loop-again : tie.Need-loop-again Inv-loop μ-loop
 loop-again c =
     let l = c .before .before .loop in
-    (omega arith, (carried-next (l .inv .1 .0), (simp length-set (l .inv .1 .1 .0), begins-more _ _ _ _ _ (l .inv .1 .1 .1) (omega arith) (c .row-sum .ensures))))
+    (omega arith, (carried-next (l .inv .1 .0), (simp length-set (l .inv .1 .1 .0), prefix-more _ _ _ _ _ (l .inv .1 .1 .1) (omega arith) (c .row-sum .ensures))))
 
 returns : tie.Need-returns Inv-loop μ-loop
-returns c = begins-end _ (c .before .loop .inv .0) (c .loop-test .left) (c .before .loop .inv .1 .1 .1)
+returns c = prefix-end _ (c .before .loop .inv .0) (c .loop-test .left) (c .before .loop .inv .1 .1 .1)
 
 pub row-sums-of-spec : {M : Type 1} → statement M
 row-sums-of-spec =

@@ -11,8 +11,8 @@ use Rattle.linear.specs.Place.{Carried}
 use Rattle.linear.proofs.Carried.{carried-first, carried-next}
 use Rattle.check_biased_rows.specs.Biased.{unbiasedRows}
 use Rattle.check_biased_rows.proofs.Filling.{rows-room}
-use Rattle.check_arrays.specs.Arrays.{Begins}
-use Rattle.check_arrays.proofs.Filled.{begins-none, begins-more, begins-end}
+use Rattle.check_arrays.specs.Arrays.{PrefixIs}
+use Rattle.check_arrays.proofs.Filled.{prefix-none, prefix-more, prefix-end}
 use Rattle.check_bounds.proofs.Column.{slack-sum, no-slack-sum}
 use borrow.Author.Needs.{needs}
 use Rattle.check_bounds.proofs.add_slacks.Statement.{statement}
@@ -20,7 +20,7 @@ use Rattle.check_bounds.proofs.add_slacks.Tie as tie
 
 abbrev Inv-loop : tie.InvT-loop
 Inv-loop rows slacks n magnitudes out₀ row₀ m₀ out row m =
-    (m ≤ n) × (Carried 0 (n + 1) m row × ((length out ≡ 32) × Begins 0 out m (λ (i : ℕ). getD magnitudes i 0 + sumℕ n (λ (j : ℕ). natAbs (unbiasedRows rows n i j) * getD slacks j 0))))
+    (m ≤ n) × (Carried 0 (n + 1) m row × ((length out ≡ 32) × PrefixIs 0 out m (λ (i : ℕ). getD magnitudes i 0 + sumℕ n (λ (j : ℕ). natAbs (unbiasedRows rows n i j) * getD slacks j 0))))
 
 abbrev μ-loop : tie.MeasureT-loop
 μ-loop rows slacks n magnitudes out₀ row₀ m₀ out row m = n - m
@@ -37,7 +37,7 @@ returns c =
     record { each = λ m l. omega (arith, no-slack-sum (s .args .n) (λ (j : ℕ). natAbs (unbiasedRows (s .args .rows .now) (s .args .n) m j)) (λ (j : ℕ). getD (s .args .slacks .now) j 0) (sym (c .before .sum-of .ensures) ∙ c .if1 .taken)) }
 
 loop-holds : tie.Need-loop-holds Inv-loop μ-loop
-loop-holds c = (omega arith, (carried-first _ _, (refl, begins-none _ _ _)))
+loop-holds c = (omega arith, (carried-first _ _, (refl, prefix-none _ _ _)))
 
 mul-out : tie.Need-mul-out Inv-loop μ-loop
 mul-out c = search needs
@@ -89,13 +89,13 @@ loop-again c =
         carried-next (l .inv .1 .0),
         (
           simp length-set (l .inv .1 .1 .0),
-          begins-more _ _ _ _ _ (l .inv .1 .1 .1) (omega arith) (ap (λ (x : ℕ). getD (start t .args .t1) (l .m) 0 + x) (c .slack-of .ensures)),
+          prefix-more _ _ _ _ _ (l .inv .1 .1 .1) (omega arith) (ap (λ (x : ℕ). getD (start t .args .t1) (l .m) 0 + x) (c .slack-of .ensures)),
         ),
       ),
     )
 
 returns-2 : tie.Need-returns-2 Inv-loop μ-loop
-returns-2 c = begins-end 0 (c .before .loop .inv .0) (c .loop-test .left) (c .before .loop .inv .1 .1 .1)
+returns-2 c = prefix-end 0 (c .before .loop .inv .0) (c .loop-test .left) (c .before .loop .inv .1 .1 .1)
 
 pub add-slacks-spec : {M : Type 1} → statement M
 add-slacks-spec =

@@ -6,7 +6,7 @@ use Rattle.linear.specs.Slice.{at}
 use Rattle.check_biased_rows.specs.Biased.{RowOf}
 use Rattle.check_biased_rows.proofs.Unbiasing.{row-as}
 use Rattle.enclosure.specs.Reckoning.{magnitudesWith}
-use Rattle.check_arrays.specs.Arrays.{Begins}
+use Rattle.check_arrays.specs.Arrays.{PrefixIs}
 use Rattle.check_bounds.specs.Limits.{inversePart}
 use Rattle.check_bounds.proofs.Column.{image-magnitude, slack-magnitudes, magnitudes-small, slack-near, near-reach, bounds-of-magnitudes}
 use borrow.Author.Needs.{needs}
@@ -29,7 +29,7 @@ row-is c =
     rw first (row-as _ (λ k l. let e : 0 + k * 1 ≡ k = omega arith in rw e) (c .before .before .before .bias-row .ensures .0))
 
 magnitudes-are : (c : tie.After-add-slacks) →
-    Begins 0 (c .add-slacks .result) (start (c .before) .args .n) (magnitudesWith (inversePart (start (c .before) .args .n) (start (c .before) .args .rows .now)) (at (start (c .before) .args .residuals .now)) (λ (k : ℕ). getD (start (c .before) .args .slacks .now) k 0))
+    PrefixIs 0 (c .add-slacks .result) (start (c .before) .args .n) (magnitudesWith (inversePart (start (c .before) .args .n) (start (c .before) .args .rows .now)) (at (start (c .before) .args .residuals .now)) (λ (k : ℕ). getD (start (c .before) .args .slacks .now) k 0))
 magnitudes-are c =
     let z = c .before in
     slack-magnitudes (start z .args .n) (start z .pre .1 .0 .rows) (row-is z) (λ (k : ℕ). getD (start z .args .slacks .now) k 0) (z .magnitudes-of .ensures) (c .add-slacks .ensures)

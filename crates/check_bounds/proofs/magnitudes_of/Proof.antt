@@ -7,8 +7,8 @@ use Rattle.linear.specs.Place.{Carried}
 use Rattle.linear.proofs.Carried.{carried-first, carried-next}
 use Rattle.check_biased_rows.proofs.Filling.{rows-room}
 use Rattle.check_biased_rows.proofs.Unbiasing.{row-dot-magnitude}
-use Rattle.check_arrays.specs.Arrays.{Begins}
-use Rattle.check_arrays.proofs.Filled.{begins-none, begins-more, begins-end}
+use Rattle.check_arrays.specs.Arrays.{PrefixIs}
+use Rattle.check_arrays.proofs.Filled.{prefix-none, prefix-more, prefix-end}
 use Rattle.check_bounds.specs.Limits.{columnMagnitude}
 use borrow.Author.Needs.{needs}
 use Rattle.check_bounds.proofs.magnitudes_of.Statement.{statement}
@@ -16,7 +16,7 @@ use Rattle.check_bounds.proofs.magnitudes_of.Tie as tie
 
 abbrev Inv-loop : tie.InvT-loop
 Inv-loop rows residuals n out₀ row₀ m₀ out row m =
-    (m ≤ n) × (Carried 0 (n + 1) m row × ((length out ≡ 32) × Begins 0 out m (λ (i : ℕ). columnMagnitude rows residuals n i 0)))
+    (m ≤ n) × (Carried 0 (n + 1) m row × ((length out ≡ 32) × PrefixIs 0 out m (λ (i : ℕ). columnMagnitude rows residuals n i 0)))
 
 abbrev μ-loop : tie.MeasureT-loop
 μ-loop rows residuals n out₀ row₀ m₀ out row m = n - m
@@ -26,7 +26,7 @@ abbrev start : tie.In-loop Inv-loop μ-loop → tie.Start Inv-loop μ-loop
 start t = t .before .before .before .before
 
 loop-holds : tie.Need-loop-holds Inv-loop μ-loop
-loop-holds c = (omega arith, (carried-first _ _, (refl, begins-none _ _ _)))
+loop-holds c = (omega arith, (carried-first _ _, (refl, prefix-none _ _ _)))
 
 row-dot-requires : tie.Need-row-dot-requires Inv-loop μ-loop
 row-dot-requires c κs =
@@ -67,13 +67,13 @@ loop-again c =
         carried-next (l .inv .1 .0),
         (
           simp length-set (l .inv .1 .1 .0),
-          begins-more _ _ _ _ _ (l .inv .1 .1 .1) (omega arith) (rw (read _ (c .before .row-dot .ok), c .before .row-dot .ensures) at (c .magnitude .ensures)),
+          prefix-more _ _ _ _ _ (l .inv .1 .1 .1) (omega arith) (rw (read _ (c .before .row-dot .ok), c .before .row-dot .ensures) at (c .magnitude .ensures)),
         ),
       ),
     )
 
 returns : tie.Need-returns Inv-loop μ-loop
-returns c = begins-end 0 (c .before .loop .inv .0) (c .loop-test .left) (c .before .loop .inv .1 .1 .1)
+returns c = prefix-end 0 (c .before .loop .inv .0) (c .loop-test .left) (c .before .loop .inv .1 .1 .1)
 
 pub magnitudes-of-spec : {M : Type 1} → statement M
 magnitudes-of-spec =

@@ -5,7 +5,7 @@ use lib.Dec.{lit≤}
 use lib.IntN.{pos}
 use Rattle.linear.proofs.Places.{column-reach, square, square-list}
 use Rattle.check_arrays.proofs.Columns.{in-square}
-use Rattle.check_arrays.proofs.Filled.{begins-as}
+use Rattle.check_arrays.proofs.Filled.{prefix-as}
 use Rattle.check_arrays.proofs.Magnitudes.{raisable}
 use Rattle.check_biased_rows.proofs.Filling.{rows-fit}
 use Rattle.check_defects.proofs.Product.{columns-defect}
@@ -36,7 +36,7 @@ returns : tie.Need-returns
 returns c =
     let r = c .before .before .before .before .before in
     let s = r .before .before in
-    begins-as (pos 0) _ _
+    prefix-as (pos 0) _ _
     (λ i l. let k = in-square (s .args .n) i l in columns-defect (s .args .n) (s .args .t) (s .args .matrix .now) (r .bias-columns .ensures) (i / s .args .n) (i % s .args .n) (k .0) (k .1))
     (c .before .differences-of .ensures)
 

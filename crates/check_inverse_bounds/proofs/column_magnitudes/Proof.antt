@@ -8,8 +8,8 @@ use Rattle.linear.proofs.Carried.{carried-first, carried-next, start-place}
 use Rattle.linear.proofs.Places.{place, square}
 use Rattle.linear.proofs.Written.{written-none, written-more, written-end, written-length}
 use Rattle.check_biased_rows.proofs.Filling.{rows-room}
-use Rattle.check_arrays.specs.Arrays.{Begins}
-use Rattle.check_arrays.proofs.Filled.{begins-none, begins-more, begins-end}
+use Rattle.check_arrays.specs.Arrays.{PrefixIs}
+use Rattle.check_arrays.proofs.Filled.{prefix-none, prefix-more, prefix-end}
 use Rattle.check_bounds.specs.Limits.{columnMagnitude}
 use Rattle.check_inverse_bounds.proofs.Mirrored.{known-kept}
 use borrow.Author.Needs.{needs}
@@ -19,7 +19,7 @@ use Rattle.check_inverse_bounds.proofs.column_magnitudes.Tie as tie
 abbrev Inv-loop : tie.InvT-loop
 Inv-loop list₀ known rows residuals j place start n out₀ across₀ along₀ row₀ m₀ list out across along row m =
     (m ≤ n) × ((Carried j n m across × (Carried start 1 m along × Carried 0 (n + 1) m row)) × ((length out ≡ 32)
-    × (Begins 0 out m (λ (i : ℕ). columnMagnitude rows residuals n i j) × (list ≡ written list₀ (j * n) 1 (λ (i : ℕ). columnMagnitude rows residuals n i j) m))))
+    × (PrefixIs 0 out m (λ (i : ℕ). columnMagnitude rows residuals n i j) × (list ≡ written list₀ (j * n) 1 (λ (i : ℕ). columnMagnitude rows residuals n i j) m))))
 
 abbrev μ-loop : tie.MeasureT-loop
 μ-loop list₀ known rows residuals j place start n out₀ across₀ along₀ row₀ m₀ list out across along row m = n - m
@@ -46,7 +46,7 @@ module _ (t : tie.In-loop Inv-loop μ-loop) where
 
 loop-holds : tie.Need-loop-holds Inv-loop μ-loop
 loop-holds c =
-    (omega arith, ((carried-first _ _, (carried-first _ _, carried-first _ _)), (refl, (begins-none _ _ _, sym (written-none _ _ _ _)))))
+    (omega arith, ((carried-first _ _, (carried-first _ _, carried-first _ _)), (refl, (prefix-none _ _ _, sym (written-none _ _ _ _)))))
 
 magnitude-at-requires : tie.Need-magnitude-at-requires Inv-loop μ-loop
 magnitude-at-requires c κs =
@@ -106,7 +106,7 @@ loop-again c =
         (
           simp length-set (i .1 .1 .0),
           (
-            begins-more _ _ _ _ _ (i .1 .1 .1 .0) (omega arith) (c .magnitude-at .ensures),
+            prefix-more _ _ _ _ _ (i .1 .1 .1 .0) (omega arith) (c .magnitude-at .ensures),
             written-more _ _ _ _ (turn c .before .loop .m) (i .1 .1 .1 .1) (along-is (turn c)) (c .magnitude-at .ensures),
           ),
         ),
@@ -119,7 +119,7 @@ same-length c = ap length (c .before .loop .inv .1 .1 .1 .1) ∙ written-length 
 returns : tie.Need-returns Inv-loop μ-loop
 returns c =
     let i = c .before .loop .inv in
-    (begins-end 0 (i .0) (c .loop-test .left) (i .1 .1 .1 .0), i .1 .1 .1 .1 ∙ written-end _ _ _ _ (i .0) (c .loop-test .left))
+    (prefix-end 0 (i .0) (c .loop-test .left) (i .1 .1 .1 .0), i .1 .1 .1 .1 ∙ written-end _ _ _ _ (i .0) (c .loop-test .left))
 
 pub column-magnitudes-spec : {M : Type 1} → statement M
 column-magnitudes-spec =

@@ -14,7 +14,7 @@ use Rattle.check_biased_rows.specs.Biased.{RowOf}
 use Rattle.check_biased_rows.proofs.Filling.{rows-room}
 use Rattle.check_biased_rows.proofs.Standing.{rows-stand}
 use Rattle.enclosure.specs.Reckoning.{magnitudesWith}
-use Rattle.check_arrays.specs.Arrays.{Begins, columnsWritten}
+use Rattle.check_arrays.specs.Arrays.{PrefixIs, columnsWritten}
 use Rattle.check_arrays.proofs.Filled.{columns-none, columns-end, columns-length}
 use Rattle.linear.proofs.Places.{row-ends}
 use Rattle.check_arrays.proofs.Magnitudes.{column-ends}
@@ -59,7 +59,7 @@ abbrev turn : tie.After-column-magnitudes Inv-loop μ-loop → tie.In-loop Inv-l
 turn c = c .before .before .before .before
 
 magnitudes-here : (c : tie.After-column-magnitudes Inv-loop μ-loop) →
-    Begins 0 (c .column-magnitudes .result) (start (turn c) .args .n) (magnitudesWith (inversePart (start (turn c) .args .n) (start (turn c) .args .rows .now)) (λ (k : ℕ). at (start (turn c) .args .residuals .now) (turn c .before .loop .j * start (turn c) .args .n + k)) (λ (k : ℕ). 0))
+    PrefixIs 0 (c .column-magnitudes .result) (start (turn c) .args .n) (magnitudesWith (inversePart (start (turn c) .args .n) (start (turn c) .args .rows .now)) (λ (k : ℕ). at (start (turn c) .args .residuals .now) (turn c .before .loop .j * start (turn c) .args .n + k)) (λ (k : ℕ). 0))
 magnitudes-here c =
     let t = turn c in
     plain-magnitudes (start t .args .n) (start t .pre .1 .0 .rows) (row-is t) (c .column-magnitudes .ensures .0)

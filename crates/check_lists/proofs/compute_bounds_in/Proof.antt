@@ -5,7 +5,7 @@ use lib.Dec.{lit≤}
 use lib.IntN.{pos}
 use lib.ListN.{length}
 use Rattle.linear.proofs.Places.{square}
-use Rattle.check_arrays.specs.Arrays.{Begins}
+use Rattle.check_arrays.specs.Arrays.{PrefixIs}
 use Rattle.check_arrays.specs.Rows.{InverseRows}
 use Rattle.check_arrays.proofs.Magnitudes.{raisable}
 use Rattle.check_lists.specs.Work.{Work, work}
@@ -63,7 +63,7 @@ abbrev biased-before : tie.After-inverse-residuals-of → tie.After-bias-rows
 biased-before c = c .before .before .before .before .before
 
 residuals-are : (c : tie.After-inverse-residuals-of) →
-    Begins (pos 0) (c .inverse-residuals-of .last .0) (begun (biased-before c) .args .n * begun (biased-before c) .args .n) (workColumn (W (begun (biased-before c))))
+    PrefixIs (pos 0) (c .inverse-residuals-of .last .0) (begun (biased-before c) .args .n * begun (biased-before c) .args .n) (workColumn (W (begun (biased-before c))))
 residuals-are c = columns-are (W (begun (biased-before c))) (biased-before c .bias-rows .ensures) (c .inverse-residuals-of .ensures)
 
 -- the lengths of the lists

@@ -6,8 +6,8 @@ use lib.ListN.{length, length-set}
 use Rattle.linear.specs.Slice.{at}
 use Rattle.linear.specs.Place.{Carried}
 use Rattle.linear.proofs.Carried.{carried-first, carried-next}
-use Rattle.check_arrays.specs.Arrays.{Begins}
-use Rattle.check_arrays.proofs.Filled.{begins-none, begins-more, begins-end}
+use Rattle.check_arrays.specs.Arrays.{PrefixIs}
+use Rattle.check_arrays.proofs.Filled.{prefix-none, prefix-more, prefix-end}
 use Rattle.linear.proofs.Places.{row-ends}
 use Rattle.check_margins.specs.Load.{loadFrom}
 use borrow.Author.Needs.{needs}
@@ -16,13 +16,13 @@ use Rattle.check_margins.proofs.margins_from.Tie as tie
 
 abbrev Inv-loop : tie.InvT-loop
 Inv-loop t defects weights n out₀ row₀ m₀ out row m =
-    (m ≤ n) × (Carried 0 n m row × ((length out ≡ 32) × Begins 0 out m (λ (k : ℕ). 2 ^ t * natAbs (at weights k) - loadFrom n defects weights k)))
+    (m ≤ n) × (Carried 0 n m row × ((length out ≡ 32) × PrefixIs 0 out m (λ (k : ℕ). 2 ^ t * natAbs (at weights k) - loadFrom n defects weights k)))
 
 abbrev μ-loop : tie.MeasureT-loop
 μ-loop t defects weights n out₀ row₀ m₀ out row m = n - m
 
 loop-holds : tie.Need-loop-holds Inv-loop μ-loop
-loop-holds c = (omega arith, (carried-first _ _, (refl, begins-none _ _ _)))
+loop-holds c = (omega arith, (carried-first _ _, (refl, prefix-none _ _ _)))
 
 margin-of-requires : tie.Need-margin-of-requires Inv-loop μ-loop
 margin-of-requires c κs =
@@ -51,12 +51,12 @@ loop-again c =
       omega arith,
       (
         carried-next (l .inv .1 .0),
-        (simp length-set (l .inv .1 .1 .0), begins-more _ _ _ _ _ (l .inv .1 .1 .1) (omega arith) (c .margin-of .ensures)),
+        (simp length-set (l .inv .1 .1 .0), prefix-more _ _ _ _ _ (l .inv .1 .1 .1) (omega arith) (c .margin-of .ensures)),
       ),
     )
 
 returns : tie.Need-returns Inv-loop μ-loop
-returns c = begins-end _ (c .before .loop .inv .0) (c .loop-test .left) (c .before .loop .inv .1 .1 .1)
+returns c = prefix-end _ (c .before .loop .inv .0) (c .loop-test .left) (c .before .loop .inv .1 .1 .1)
 
 pub margins-from-spec : {M : Type 1} → statement M
 margins-from-spec =

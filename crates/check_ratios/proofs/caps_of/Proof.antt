@@ -1,6 +1,6 @@
 use Rattle.check_ratios.proofs.WithinCaps.{cap-under}
-use Rattle.check_arrays.proofs.Filled.{begins-none, begins-more, begins-end}
-use Rattle.check_arrays.specs.Arrays.{Begins}
+use Rattle.check_arrays.proofs.Filled.{prefix-none, prefix-more, prefix-end}
+use Rattle.check_arrays.specs.Arrays.{PrefixIs}
 use Rattle.linear.specs.Slice.{at}
 use Rattle.integer.proofs.Search.{largest-at}
 use Rattle.integer.specs.Finite.{largest}
@@ -15,7 +15,7 @@ use Rattle.check_ratios.proofs.caps_of.Tie as tie
 
 abbrev Inv-loop : tie.InvT-loop
 Inv-loop margins weights n most out₀ m₀ out m =
-    (m ≤ n) × ((length out ≡ 32) × Begins 0 out m (λ (k : ℕ). getD margins k 0 / largest n (λ (i : ℕ). natAbs (at weights i))))
+    (m ≤ n) × ((length out ≡ 32) × PrefixIs 0 out m (λ (k : ℕ). getD margins k 0 / largest n (λ (i : ℕ). natAbs (at weights i))))
 
 abbrev μ-loop : tie.MeasureT-loop
 μ-loop margins weights n most out₀ m₀ out m = n - m
@@ -24,7 +24,7 @@ largest-weight-requires : tie.Need-largest-weight-requires Inv-loop μ-loop
 largest-weight-requires c κs = search needs
 
 loop-holds : tie.Need-loop-holds Inv-loop μ-loop
-loop-holds c = (omega arith, (refl, begins-none _ _ _))
+loop-holds c = (omega arith, (refl, prefix-none _ _ _))
 
 mul-out : tie.Need-mul-out Inv-loop μ-loop
 mul-out c = search needs
@@ -52,14 +52,14 @@ loop-less c = search needs
 loop-again : tie.Need-loop-again Inv-loop μ-loop
 loop-again c =
     let l = c .before .before .loop in
-    (omega arith, (simp length-set (l .inv .1 .0), begins-more _ _ _ _ _ (l .inv .1 .1) (omega arith) (rw (c .before .before .before .largest-weight .ensures))))
+    (omega arith, (simp length-set (l .inv .1 .0), prefix-more _ _ _ _ _ (l .inv .1 .1) (omega arith) (rw (c .before .before .before .largest-weight .ensures))))
 
 returns : tie.Need-returns Inv-loop μ-loop
 returns c =
     let s = c .before .before .before in
     record {
       some = s .pre .1 .1;
-      under = λ i m li lm. cap-under (s .args .n) _ i _ _ li (begins-end 0 (c .before .loop .inv .0) (c .loop-test .left) (c .before .loop .inv .1 .1) .each m lm);
+      under = λ i m li lm. cap-under (s .args .n) _ i _ _ li (prefix-end 0 (c .before .loop .inv .0) (c .loop-test .left) (c .before .loop .inv .1 .1) .each m lm);
     }
 
 pub caps-of-spec : {M : Type 1} → statement M

@@ -7,15 +7,15 @@ use Rattle.integer.specs.Quotient.{ceilDiv}
 use Rattle.integer.proofs.Machine.{read}
 use Rattle.linear.specs.Slice.{at}
 use Rattle.enclosure.proofs.Bounds.{bound-at}
-use Rattle.check_arrays.specs.Arrays.{Begins}
-use Rattle.check_arrays.proofs.Filled.{begins-none, begins-more, begins-end, begins-as}
+use Rattle.check_arrays.specs.Arrays.{PrefixIs}
+use Rattle.check_arrays.proofs.Filled.{prefix-none, prefix-more, prefix-end, prefix-as}
 use borrow.Author.Needs.{needs}
 use Rattle.check_ratios.proofs.ratio_bounds.Statement.{statement}
 use Rattle.check_ratios.proofs.ratio_bounds.Tie as tie
 
 abbrev Inv-loop : tie.InvT-loop
 Inv-loop magnitudes margins weights n k p g out₀ i₀ out i =
-    (i ≤ n) × ((length out ≡ 32) × Begins 0 out i (λ (j : ℕ). ceilDiv (natAbs (at weights j) * p) g))
+    (i ≤ n) × ((length out ≡ 32) × PrefixIs 0 out i (λ (j : ℕ). ceilDiv (natAbs (at weights j) * p) g))
 
 abbrev μ-loop : tie.MeasureT-loop
 μ-loop magnitudes margins weights n k p g out₀ i₀ out i = n - i
@@ -40,7 +40,7 @@ element-copy-out-g : tie.Need-element-copy-out-g Inv-loop μ-loop
 element-copy-out-g c = omega (arith, c .before .largest-ratio-of .ensures .below)
 
 loop-holds : tie.Need-loop-holds Inv-loop μ-loop
-loop-holds c = (omega arith, (refl, begins-none _ _ _))
+loop-holds c = (omega arith, (refl, prefix-none _ _ _))
 
 mul-bound-of : tie.Need-mul-bound-of Inv-loop μ-loop
 mul-bound-of c = omega arith
@@ -70,14 +70,14 @@ loop-less c = search needs
 loop-again : tie.Need-loop-again Inv-loop μ-loop
 loop-again c =
     let l = c .before .before .before .loop in
-    (omega arith, (simp length-set (l .inv .1 .0), begins-more _ _ _ _ _ (l .inv .1 .1) (omega arith) (rw (read _ (c .before .bound-of-arg .given)) at (c .bound-of .ensures))))
+    (omega arith, (simp length-set (l .inv .1 .0), prefix-more _ _ _ _ _ (l .inv .1 .1) (omega arith) (rw (read _ (c .before .bound-of-arg .given)) at (c .bound-of .ensures))))
 
 returns : tie.Need-returns Inv-loop μ-loop
 returns c =
     let s = c .before .before .before .before .before in
     let k = c .before .before .before .before .largest-ratio-of .ensures in
-    begins-as 0 _ _ (λ i l. sym (bound-at _ _ _ (λ (j : ℕ). natAbs (at (s .args .weights .now) j)) i _ (s .pre .1 .1 .0 .above) k))
-    (begins-end 0 (c .before .loop .inv .0) (c .loop-test .left) (c .before .loop .inv .1 .1))
+    prefix-as 0 _ _ (λ i l. sym (bound-at _ _ _ (λ (j : ℕ). natAbs (at (s .args .weights .now) j)) i _ (s .pre .1 .1 .0 .above) k))
+    (prefix-end 0 (c .before .loop .inv .0) (c .loop-test .left) (c .before .loop .inv .1 .1))
 
 pub ratio-bounds-spec : {M : Type 1} → statement M
 ratio-bounds-spec =

@@ -6,9 +6,9 @@ use lib.ListN.{length, length-set}
 use Rattle.integer.proofs.Machine.{read}
 use Rattle.linear.specs.Place.{Carried}
 use Rattle.linear.proofs.Carried.{carried-first, carried-next}
-use Rattle.check_arrays.specs.Arrays.{Begins}
+use Rattle.check_arrays.specs.Arrays.{PrefixIs}
 use Rattle.check_arrays.specs.Parts.{residualFrom}
-use Rattle.check_arrays.proofs.Filled.{begins-none, begins-more, begins-end}
+use Rattle.check_arrays.proofs.Filled.{prefix-none, prefix-more, prefix-end}
 use Rattle.linear.proofs.Places.{row-ends}
 use borrow.Author.Needs.{needs}
 use Rattle.check_residuals.proofs.residuals_of.Statement.{statement}
@@ -16,13 +16,13 @@ use Rattle.check_residuals.proofs.residuals_of.Tie as tie
 
 abbrev Inv-loop : tie.InvT-loop
 Inv-loop base matrix guess n out₀ row₀ k₀ out row k =
-    (k ≤ n) × (Carried 0 n k row × ((length out ≡ 32) × Begins (pos 0) out k (residualFrom n base matrix guess)))
+    (k ≤ n) × (Carried 0 n k row × ((length out ≡ 32) × PrefixIs (pos 0) out k (residualFrom n base matrix guess)))
 
 abbrev μ-loop : tie.MeasureT-loop
 μ-loop base matrix guess n out₀ row₀ k₀ out row k = n - k
 
 loop-holds : tie.Need-loop-holds Inv-loop μ-loop
-loop-holds c = (omega arith, (carried-first _ _, (refl, begins-none _ _ _)))
+loop-holds c = (omega arith, (carried-first _ _, (refl, prefix-none _ _ _)))
 
 mul-difference : tie.Need-mul-difference Inv-loop μ-loop
 mul-difference c = search needs
@@ -62,14 +62,14 @@ loop-again c =
         carried-next (l .inv .1 .0),
         (
           simp length-set (l .inv .1 .1 .0),
-          begins-more _ _ _ _ _ (l .inv .1 .1 .1) (omega arith)
+          prefix-more _ _ _ _ _ (l .inv .1 .1 .1) (omega arith)
               (read _ (c .difference .ok) ∙ (rw (read _ (c .before .difference-arg .given)) at (c .difference .ensures))),
         ),
       ),
     )
 
 returns : tie.Need-returns Inv-loop μ-loop
-returns c = begins-end _ (c .before .loop .inv .0) (c .loop-test .left) (c .before .loop .inv .1 .1 .1)
+returns c = prefix-end _ (c .before .loop .inv .0) (c .loop-test .left) (c .before .loop .inv .1 .1 .1)
 
 pub residuals-of-spec : {M : Type 1} → statement M
 residuals-of-spec =

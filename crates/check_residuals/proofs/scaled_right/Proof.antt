@@ -5,20 +5,20 @@ use lib.IntN.{pos, _*ℤ_}
 use lib.ListN.{length, length-set}
 use Rattle.integer.proofs.Machine.{read}
 use Rattle.linear.specs.Slice.{at}
-use Rattle.check_arrays.specs.Arrays.{Begins}
-use Rattle.check_arrays.proofs.Filled.{begins-none, begins-more, begins-end}
+use Rattle.check_arrays.specs.Arrays.{PrefixIs}
+use Rattle.check_arrays.proofs.Filled.{prefix-none, prefix-more, prefix-end}
 use borrow.Author.Needs.{needs}
 use Rattle.check_residuals.proofs.scaled_right.Statement.{statement}
 use Rattle.check_residuals.proofs.scaled_right.Tie as tie
 
 abbrev Inv-loop : tie.InvT-loop
-Inv-loop s right n out₀ k₀ out k = (k ≤ n) × ((length out ≡ 32) × Begins (pos 0) out k (λ (i : ℕ). pos (2 ^ s) *ℤ at right i))
+Inv-loop s right n out₀ k₀ out k = (k ≤ n) × ((length out ≡ 32) × PrefixIs (pos 0) out k (λ (i : ℕ). pos (2 ^ s) *ℤ at right i))
 
 abbrev μ-loop : tie.MeasureT-loop
 μ-loop s right n out₀ k₀ out k = n - k
 
 loop-holds : tie.Need-loop-holds Inv-loop μ-loop
-loop-holds c = (omega arith, (refl, begins-none _ _ _))
+loop-holds c = (omega arith, (refl, prefix-none _ _ _))
 
 mul-scaled : tie.Need-mul-scaled Inv-loop μ-loop
 mul-scaled c = search needs
@@ -46,10 +46,10 @@ loop-less c = search needs
 loop-again : tie.Need-loop-again Inv-loop μ-loop
 loop-again c =
     let l = c .before .before .before .loop in
-    (omega arith, (simp length-set (l .inv .1 .0), begins-more _ _ _ _ _ (l .inv .1 .1) (omega arith) (read _ (c .scaled .ok) ∙ (rw (read _ (c .before .scaled-arg .given)) at (c .scaled .ensures)))))
+    (omega arith, (simp length-set (l .inv .1 .0), prefix-more _ _ _ _ _ (l .inv .1 .1) (omega arith) (read _ (c .scaled .ok) ∙ (rw (read _ (c .before .scaled-arg .given)) at (c .scaled .ensures)))))
 
 returns : tie.Need-returns Inv-loop μ-loop
-returns c = begins-end _ (c .before .loop .inv .0) (c .loop-test .left) (c .before .loop .inv .1 .1)
+returns c = prefix-end _ (c .before .loop .inv .0) (c .loop-test .left) (c .before .loop .inv .1 .1)
 
 pub scaled-right-spec : {M : Type 1} → statement M
 scaled-right-spec =

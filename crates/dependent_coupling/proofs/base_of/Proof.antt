@@ -6,8 +6,8 @@ use lib.ListN.{length, length-set}
 use Rattle.integer.proofs.Machine.{read}
 use Rattle.linear.specs.Place.{Carried}
 use Rattle.linear.proofs.Carried.{carried-first, carried-next}
-use Rattle.check_arrays.specs.Arrays.{Begins}
-use Rattle.check_arrays.proofs.Filled.{begins-none, begins-more, begins-end}
+use Rattle.check_arrays.specs.Arrays.{PrefixIs}
+use Rattle.check_arrays.proofs.Filled.{prefix-none, prefix-more, prefix-end}
 use Rattle.dependent_coupling.specs.Carried.{baseFrom}
 use Rattle.linear.proofs.Places.{row-reach}
 use Rattle.dependent_coupling.proofs.Rows.{row-past}
@@ -17,13 +17,13 @@ use Rattle.dependent_coupling.proofs.base_of.Tie as tie
 
 abbrev Inv-loop : tie.InvT-loop
 Inv-loop coupling guess marks n base out₀ row₀ k₀ out row k =
-    (k ≤ n) × (Carried 0 marks k row × ((length out ≡ 32) × Begins (pos 0) out k (baseFrom marks base coupling guess)))
+    (k ≤ n) × (Carried 0 marks k row × ((length out ≡ 32) × PrefixIs (pos 0) out k (baseFrom marks base coupling guess)))
 
 abbrev μ-loop : tie.MeasureT-loop
 μ-loop coupling guess marks n base out₀ row₀ k₀ out row k = n - k
 
 loop-holds : tie.Need-loop-holds Inv-loop μ-loop
-loop-holds c = (omega arith, (carried-first _ _, (refl, begins-none _ _ _)))
+loop-holds c = (omega arith, (carried-first _ _, (refl, prefix-none _ _ _)))
 
 mul-base-at : tie.Need-mul-base-at Inv-loop μ-loop
 mul-base-at c = search needs
@@ -66,14 +66,14 @@ loop-again c =
         carried-next (l .inv .1 .0),
         (
           simp length-set (l .inv .1 .1 .0),
-          begins-more _ _ _ _ _ (l .inv .1 .1 .1) (omega arith)
+          prefix-more _ _ _ _ _ (l .inv .1 .1 .1) (omega arith)
               (read _ (c .base-at .ok) ∙ (rw (read _ (c .before .base-at-arg .given)) at (c .base-at .ensures))),
         ),
       ),
     )
 
 returns : tie.Need-returns Inv-loop μ-loop
-returns c = begins-end _ (c .before .loop .inv .0) (c .loop-test .left) (c .before .loop .inv .1 .1 .1)
+returns c = prefix-end _ (c .before .loop .inv .0) (c .loop-test .left) (c .before .loop .inv .1 .1 .1)
 
 pub base-of-spec : {M : Type 1} → statement M
 base-of-spec =

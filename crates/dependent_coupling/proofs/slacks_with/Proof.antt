@@ -4,8 +4,8 @@ use native.Mathlib.Omega.{arith}
 use lib.ListN.{getD, length, length-set}
 use Rattle.linear.specs.Place.{Carried}
 use Rattle.linear.proofs.Carried.{carried-first, carried-next}
-use Rattle.check_arrays.specs.Arrays.{Begins}
-use Rattle.check_arrays.proofs.Filled.{begins-none, begins-more, begins-end}
+use Rattle.check_arrays.specs.Arrays.{PrefixIs}
+use Rattle.check_arrays.proofs.Filled.{prefix-none, prefix-more, prefix-end}
 use Rattle.dependent_coupling.specs.Carried.{cappedSum}
 use Rattle.linear.proofs.Places.{row-reach}
 use Rattle.dependent_coupling.proofs.Rows.{row-past, carried-magnitude}
@@ -15,13 +15,13 @@ use Rattle.dependent_coupling.proofs.slacks_with.Tie as tie
 
 abbrev Inv-loop : tie.InvT-loop
 Inv-loop coupling marks n slacks limits out₀ row₀ k₀ out row k =
-    (k ≤ n) × (Carried 0 marks k row × ((length out ≡ 32) × Begins 0 out k (λ (i : ℕ). cappedSum marks coupling limits i + getD slacks i 0)))
+    (k ≤ n) × (Carried 0 marks k row × ((length out ≡ 32) × PrefixIs 0 out k (λ (i : ℕ). cappedSum marks coupling limits i + getD slacks i 0)))
 
 abbrev μ-loop : tie.MeasureT-loop
 μ-loop coupling marks n slacks limits out₀ row₀ k₀ out row k = n - k
 
 loop-holds : tie.Need-loop-holds Inv-loop μ-loop
-loop-holds c = (omega arith, (carried-first _ _, (refl, begins-none _ _ _)))
+loop-holds c = (omega arith, (carried-first _ _, (refl, prefix-none _ _ _)))
 
 carried-at-requires : tie.Need-carried-at-requires Inv-loop μ-loop
 carried-at-requires c κs =
@@ -71,13 +71,13 @@ loop-again c =
         carried-next (l .inv .1 .0),
         (
           simp length-set (l .inv .1 .1 .0),
-          begins-more _ _ _ _ _ (l .inv .1 .1 .1) (omega arith) (rw (c .carried-at .ensures)),
+          prefix-more _ _ _ _ _ (l .inv .1 .1 .1) (omega arith) (rw (c .carried-at .ensures)),
         ),
       ),
     )
 
 returns : tie.Need-returns Inv-loop μ-loop
-returns c = begins-end _ (c .before .loop .inv .0) (c .loop-test .left) (c .before .loop .inv .1 .1 .1)
+returns c = prefix-end _ (c .before .loop .inv .0) (c .loop-test .left) (c .before .loop .inv .1 .1 .1)
 
 pub slacks-with-spec : {M : Type 1} → statement M
 slacks-with-spec =

@@ -5,7 +5,7 @@ use lib.IntN.{natAbs}
 use Rattle.linear.specs.Slice.{at}
 use Rattle.enclosure.specs.Problem.{problemOf}
 use Rattle.check_arrays.specs.Parts.{cutMargin}
-use Rattle.check_arrays.proofs.Filled.{begins-as}
+use Rattle.check_arrays.proofs.Filled.{prefix-as}
 use Rattle.weights_steps.specs.Steps.{Below, storedMargin}
 use Rattle.weights_steps.proofs.Stored.{magnitudes-at, magnitudes-below, load-is}
 use borrow.Author.Needs.{needs}
@@ -48,7 +48,7 @@ returns c =
     let p = d .before .pre in
     let a = d .before .args in
     let P = problemOf (a .n) 0 (a .t) (a .matrix .now) [] [] [] (a .inverse .now) [] in
-    begins-as 0 (storedMargin (a .t) (l .loads-of .result) (w .weights-of .result)) (cutMargin (problemOf (a .n) 0 (a .t) (a .matrix .now) [] [] [] (a .inverse .now) (a .weights .now)))
+    prefix-as 0 (storedMargin (a .t) (l .loads-of .result) (w .weights-of .result)) (cutMargin (problemOf (a .n) 0 (a .t) (a .matrix .now) [] [] [] (a .inverse .now) (a .weights .now)))
     (λ m lm. ap₂ (λ (x y : ℕ). 2 ^ a .t * x - y) (w .weights-of .ensures .each m lm)
     (l .loads-of .ensures .each m lm
     ∙ load-is P (λ (k : ℕ). natAbs (at (a .weights .now) k)) (w .weights-of .ensures) (d .defect-magnitudes .result)

@@ -11,8 +11,8 @@ use Rattle.integer.specs.Finite.{first}
 use Rattle.integer.proofs.Search.{first-is, first-never}
 use Rattle.enclosure.specs.Problem.{Problem, problemOf}
 use Rattle.enclosure.specs.Reckoning.{defect}
-use Rattle.check_arrays.specs.Arrays.{Begins}
-use Rattle.check_arrays.proofs.Filled.{begins-as}
+use Rattle.check_arrays.specs.Arrays.{PrefixIs}
+use Rattle.check_arrays.proofs.Filled.{prefix-as}
 use Rattle.weights_spec.specs.Sequence.{loads, tried, good}
 use Rattle.weights_spec.proofs.Lists.{tried-next}
 use Rattle.weights_steps.specs.Steps.{Below, storedMargin}
@@ -24,7 +24,7 @@ use Rattle.weights_search.proofs.search.Tie as tie
 abbrev Inv-loop : tie.InvT-loop
 Inv-loop t matrix inverse n allowance magnitudes weights₀ passed₀ weights passed =
     (passed ≤ allowance)
-    × (Begins 0 weights n (tried (problemOf n 0 t matrix [] [] [] inverse []) passed)
+    × (PrefixIs 0 weights n (tried (problemOf n 0 t matrix [] [] [] inverse []) passed)
     × ((k : ℕ) → k < passed → good (problemOf n 0 t matrix [] [] [] inverse []) (tried (problemOf n 0 t matrix [] [] [] inverse []) k) ≡ false))
 
 abbrev μ-loop : tie.MeasureT-loop
@@ -55,8 +55,8 @@ module _ (c : tie.After-loads-of Inv-loop μ-loop) where
   abbrev list : ℕ → ℕ
   list = tried (P (start c)) (turn c .before .loop .passed)
 
-  sums : Begins 0 (c .loads-of .result) (start c .args .n) (loads (P (start c)) list)
-  sums = begins-as 0 _ (loads (P (start c)) list) (load-is (P (start c)) list (turn c .before .loop .inv .1 .0) (sized (turn c) .defect-magnitudes .result) (magnitudes-here (sized (turn c)))) (c .loads-of .ensures)
+  sums : PrefixIs 0 (c .loads-of .result) (start c .args .n) (loads (P (start c)) list)
+  sums = prefix-as 0 _ (loads (P (start c)) list) (load-is (P (start c)) list (turn c .before .loop .inv .1 .0) (sized (turn c) .defect-magnitudes .result) (magnitudes-here (sized (turn c)))) (c .loads-of .ensures)
 
   test-is : leb (start c .args .n) (first (start c .args .n) (λ (m : ℕ). eqb (storedMargin (start c .args .t) (c .loads-of .result) (turn c .before .loop .weights) m) 0)) ≡ good (P (start c)) list
   test-is = good-is (P (start c)) list (turn c .before .loop .inv .1 .0) sums
@@ -112,7 +112,7 @@ loop-again c =
     let l = turn a .before .loop in (
       omega arith,
       (
-        begins-as 0 _ (tried (P (start a)) (l .passed + 1)) (λ i li. next-is (P (start a)) (list a) (l .inv .1 .0) (sums a) i li ∙ sym (tried-next (P (start a)) (l .passed) i)) (c .next-weights .ensures),
+        prefix-as 0 _ (tried (P (start a)) (l .passed + 1)) (λ i li. next-is (P (start a)) (list a) (l .inv .1 .0) (sums a) i li ∙ sym (tried-next (P (start a)) (l .passed) i)) (c .next-weights .ensures),
         below-more (λ (k : ℕ). good (P (start a)) (tried (P (start a)) k) ≡ false) (l .passed) (l .inv .1 .1) (told (e .before) false (e .if1 .left)),
       ),
     )

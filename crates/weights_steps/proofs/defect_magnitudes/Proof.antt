@@ -6,10 +6,10 @@ use lib.ListN.{length, length-set, getD}
 use Rattle.integer.proofs.Machine.{read}
 use Rattle.linear.proofs.Places.{square}
 use Rattle.check_biased_rows.proofs.Filling.{rows-fit}
-use Rattle.check_arrays.specs.Arrays.{Begins}
+use Rattle.check_arrays.specs.Arrays.{PrefixIs}
 use Rattle.check_arrays.specs.Parts.{columnResidual}
 use Rattle.check_arrays.proofs.Columns.{in-square}
-use Rattle.check_arrays.proofs.Filled.{begins-none, begins-more, begins-end}
+use Rattle.check_arrays.proofs.Filled.{prefix-none, prefix-more, prefix-end}
 use Rattle.check_arrays.proofs.Magnitudes.{raisable, residual-magnitude}
 use Rattle.check_defects.proofs.Product.{residual-of-rows}
 use borrow.Author.Needs.{needs}
@@ -17,7 +17,7 @@ use Rattle.weights_steps.proofs.defect_magnitudes.Statement.{statement}
 use Rattle.weights_steps.proofs.defect_magnitudes.Tie as tie
 
 abbrev Inv-loop : tie.InvT-loop
-Inv-loop t matrix inverse n columns out₀ i₀ i-end out i = (i ≤ n * n) × ((length out ≡ 1024) × Begins 0 out i (λ (k : ℕ). natAbs (columnResidual n t inverse matrix (k / n) (k % n))))
+Inv-loop t matrix inverse n columns out₀ i₀ i-end out i = (i ≤ n * n) × ((length out ≡ 1024) × PrefixIs 0 out i (λ (k : ℕ). natAbs (columnResidual n t inverse matrix (k / n) (k % n))))
 
 abbrev μ-loop : tie.MeasureT-loop
 μ-loop t matrix inverse n columns out₀ i₀ i-end out i = n * n - i
@@ -72,7 +72,7 @@ mul-i-end : tie.Need-mul-i-end Inv-loop μ-loop
 mul-i-end c = omega (arith, square (at-rows (c .before) .before .before .pre .0 .1))
 
 loop-holds : tie.Need-loop-holds Inv-loop μ-loop
-loop-holds c = (omega arith, (refl, begins-none _ _ _))
+loop-holds c = (omega arith, (refl, prefix-none _ _ _))
 
 mul-magnitude : tie.Need-mul-magnitude Inv-loop μ-loop
 mul-magnitude c = omega (arith, inside c)
@@ -102,12 +102,12 @@ loop-again c =
       omega arith,
       (
         simp length-set (l .inv .1 .0),
-        begins-more _ _ _ _ _ (l .inv .1 .1) (omega (arith, inside t)) (rw (read _ (c .before .magnitude-arg .given), residual-is t) at (c .magnitude .ensures)),
+        prefix-more _ _ _ _ _ (l .inv .1 .1) (omega (arith, inside t)) (rw (read _ (c .before .magnitude-arg .given), residual-is t) at (c .magnitude .ensures)),
       ),
     )
 
 returns : tie.Need-returns Inv-loop μ-loop
-returns c = begins-end _ (c .before .loop .inv .0) (c .loop-test .left) (c .before .loop .inv .1 .1)
+returns c = prefix-end _ (c .before .loop .inv .0) (c .loop-test .left) (c .before .loop .inv .1 .1)
 
 pub defect-magnitudes-spec : {M : Type 1} → statement M
 defect-magnitudes-spec =

@@ -2,15 +2,15 @@ use mathlib.Core.Path.{_≡_, refl}
 use Prim.Native.Nat.{_≤_, _-_}
 use native.Mathlib.Omega.{arith}
 use lib.ListN.{length, length-set}
-use Rattle.check_arrays.specs.Arrays.{Begins}
-use Rattle.check_arrays.proofs.Filled.{begins-none, begins-more, begins-end}
+use Rattle.check_arrays.specs.Arrays.{PrefixIs}
+use Rattle.check_arrays.proofs.Filled.{prefix-none, prefix-more, prefix-end}
 use Rattle.weights_steps.specs.Steps.{storedMargin}
 use borrow.Author.Needs.{needs}
 use Rattle.weights_steps.proofs.margins_from.Statement.{statement}
 use Rattle.weights_steps.proofs.margins_from.Tie as tie
 
 abbrev Inv-loop : tie.InvT-loop
-Inv-loop t loads weights n out₀ m₀ out m = (m ≤ n) × ((length out ≡ 32) × Begins 0 out m (storedMargin t loads weights))
+Inv-loop t loads weights n out₀ m₀ out m = (m ≤ n) × ((length out ≡ 32) × PrefixIs 0 out m (storedMargin t loads weights))
 
 abbrev μ-loop : tie.MeasureT-loop
 μ-loop t loads weights n out₀ m₀ out m = n - m
@@ -20,7 +20,7 @@ abbrev start : tie.In-loop Inv-loop μ-loop → tie.Start Inv-loop μ-loop
 start c = c .before .before
 
 loop-holds : tie.Need-loop-holds Inv-loop μ-loop
-loop-holds c = (omega arith, (refl, begins-none _ _ _))
+loop-holds c = (omega arith, (refl, prefix-none _ _ _))
 
 mul-cut : tie.Need-mul-cut Inv-loop μ-loop
 mul-cut c = search needs
@@ -50,10 +50,10 @@ loop-less : tie.Need-loop-less Inv-loop μ-loop
 loop-less c = search needs
 
 loop-again : tie.Need-loop-again Inv-loop μ-loop
-loop-again c = let l = c .before .before .before .before .loop in (omega arith, (simp length-set (l .inv .1 .0), begins-more _ _ _ _ _ (l .inv .1 .1) (omega arith) (c .cut .ensures)))
+loop-again c = let l = c .before .before .before .before .loop in (omega arith, (simp length-set (l .inv .1 .0), prefix-more _ _ _ _ _ (l .inv .1 .1) (omega arith) (c .cut .ensures)))
 
 returns : tie.Need-returns Inv-loop μ-loop
-returns c = begins-end _ (c .before .loop .inv .0) (c .loop-test .left) (c .before .loop .inv .1 .1)
+returns c = prefix-end _ (c .before .loop .inv .0) (c .loop-test .left) (c .before .loop .inv .1 .1)
 
 pub margins-from-spec : {M : Type 1} → statement M
 margins-from-spec =

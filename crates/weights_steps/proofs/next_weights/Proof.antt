@@ -4,8 +4,8 @@ use native.Mathlib.Omega.{arith}
 use lib.ListN.{length, length-set, getD}
 use Rattle.integer.specs.Finite.{largest}
 use Rattle.integer.proofs.Search.{largest-at}
-use Rattle.check_arrays.specs.Arrays.{Begins}
-use Rattle.check_arrays.proofs.Filled.{begins-none, begins-more, begins-end}
+use Rattle.check_arrays.specs.Arrays.{PrefixIs}
+use Rattle.check_arrays.proofs.Filled.{prefix-none, prefix-more, prefix-end}
 use Rattle.weights_spec.specs.Sequence.{bits}
 use Rattle.weights_spec.proofs.Bits.{bits-fit, bits-most}
 use Rattle.weights_spec.proofs.Lists.{shifted-small}
@@ -15,7 +15,7 @@ use Rattle.weights_steps.proofs.next_weights.Statement.{statement}
 use Rattle.weights_steps.proofs.next_weights.Tie as tie
 
 abbrev Inv-loop : tie.InvT-loop
-Inv-loop loads n count out₀ i₀ out i = (i ≤ n) × ((length out ≡ 32) × Begins 0 out i (shiftedNext n loads))
+Inv-loop loads n count out₀ i₀ out i = (i ≤ n) × ((length out ≡ 32) × PrefixIs 0 out i (shiftedNext n loads))
 
 abbrev μ-loop : tie.MeasureT-loop
 μ-loop loads n count out₀ i₀ out i = n - i
@@ -40,7 +40,7 @@ bits-of-requires : tie.Need-bits-of-requires Inv-loop μ-loop
 bits-of-requires c κs = search needs
 
 loop-holds : tie.Need-loop-holds Inv-loop μ-loop
-loop-holds c = (omega arith, (refl, begins-none _ _ _))
+loop-holds c = (omega arith, (refl, prefix-none _ _ _))
 
 mul-out : tie.Need-mul-out Inv-loop μ-loop
 mul-out c = search needs
@@ -76,12 +76,12 @@ loop-again c =
       omega arith,
       (
         simp length-set (l .inv .1 .0),
-        begins-more _ _ _ _ _ (l .inv .1 .1) (omega arith) (ap (λ (x : ℕ). getD (b .before .before .args .loads .now) (l .i) 0 / 2 ^ x + 1) (count-is b)),
+        prefix-more _ _ _ _ _ (l .inv .1 .1) (omega arith) (ap (λ (x : ℕ). getD (b .before .before .args .loads .now) (l .i) 0 / 2 ^ x + 1) (count-is b)),
       ),
     )
 
 returns : tie.Need-returns Inv-loop μ-loop
-returns c = begins-end _ (c .before .loop .inv .0) (c .loop-test .left) (c .before .loop .inv .1 .1)
+returns c = prefix-end _ (c .before .loop .inv .0) (c .loop-test .left) (c .before .loop .inv .1 .1)
 
 pub next-weights-spec : {M : Type 1} → statement M
 next-weights-spec =
