@@ -1,1 +1,1 @@
-pub mod Mirrored
+pub mod SymmetricRows

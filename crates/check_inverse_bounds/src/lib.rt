@@ -13,7 +13,7 @@ ghost use Rattle.check_arrays.specs.Arrays.{PrefixIs, columnsWritten};
 ghost use Rattle.check_arrays.specs.Rows.{InverseRows};
 ghost use Rattle.check_ratios.specs.Ratio.{Positive, Caps};
 ghost use Rattle.check_bounds.specs.Limits.{columnMagnitude, limitsOf};
-ghost use Rattle.check_inverse_bounds.specs.Mirrored.{KnownColumns, Mirrored, MirroredProduct};
+ghost use Rattle.check_inverse_bounds.specs.SymmetricRows.{KnownColumns, SymmetricRows, SymmetricProduct};
 use check_biased_rows::bias_rows;
 use check_biased_rows::row_dot;
 use check_bounds::store;
@@ -37,7 +37,7 @@ fn magnitude_at(
     requires { ⌜ Carried j n m across × (Carried 0 (n + 1) m row × Carried 0 (n + 1) j place) ⌝ }
     requires { ⌜ BiasedRows (now rows) n × BiasedRow (now residuals) (j * (n + 1)) n ⌝ }
     requires { ⌜ KnownColumns (now list) n known (now rows) (now residuals) ⌝ }
-    requires { ⌜ (m < known → Mirrored (now rows) (now residuals) n) ⌝ }
+    requires { ⌜ (m < known → SymmetricRows (now rows) (now residuals) n) ⌝ }
     ensures { λ r. ⌜ r ≡ columnMagnitude (now (rows .entry)) (now (residuals .entry)) n m j ⌝ }
 {
     if m < known {
@@ -61,7 +61,7 @@ fn column_magnitudes(
     requires { ⌜ Carried 0 (n + 1) j place × Carried 0 n j start ⌝ }
     requires { ⌜ BiasedRows (now rows) n × BiasedRow (now residuals) (j * (n + 1)) n ⌝ }
     requires { ⌜ KnownColumns (now list) n known (now rows) (now residuals) ⌝ }
-    requires { ⌜ (0 < known → Mirrored (now rows) (now residuals) n) ⌝ }
+    requires { ⌜ (0 < known → SymmetricRows (now rows) (now residuals) n) ⌝ }
     ensures { λ r. ⌜ PrefixIs 0 r n (λ (m : ℕ). columnMagnitude (now (rows .entry)) (now (residuals .entry)) n m j)
         × (now (list .exit) ≡ written (now (list .entry)) (j * n) 1 (λ (m : ℕ). columnMagnitude (now (rows .entry)) (now (residuals .entry)) n m j) n) ⌝ }
 {
@@ -88,7 +88,7 @@ pub fn store_columns(
     residuals: &[i64],
     biased: &mut [u64],
     list: &mut [u64],
-    mirrored: bool,
+    symmetric_rows: bool,
     margins: &[u64; 32],
     caps: &[u64; 32],
     weights: &[i64],
@@ -97,7 +97,7 @@ pub fn store_columns(
     requires { ⌜ (0 < n) × ((n ≤ 32) × ((n * n ≤ length (now dst)) × ((n * (n + 1) ≤ length (now biased)) × (n * n ≤ length (now list))))) ⌝ }
     requires { ⌜ InverseRows (now rows) n ⌝ }
     requires { ⌜ ColumnList (now residuals) (n * n) allowedResidual ⌝ }
-    requires { ⌜ (mirrored ≡ true → MirroredProduct (now rows) (now residuals) n) ⌝ }
+    requires { ⌜ (symmetric_rows ≡ true → SymmetricProduct (now rows) (now residuals) n) ⌝ }
     requires { ⌜ Positive (now margins) n ⌝ }
     requires { ⌜ ColumnList (now weights) n 1024 ⌝ }
     requires { ⌜ Caps (now caps) (now margins) (now weights) n ⌝ }
@@ -109,7 +109,7 @@ pub fn store_columns(
     let mut place = 0;
     let mut start = 0;
     for j in 0..n {
-        let known = if mirrored { j } else { 0 };
+        let known = if symmetric_rows { j } else { 0 };
         let magnitudes = column_magnitudes(list, known, rows, biased, j, place, start, n);
         let column = bounds_of(&magnitudes, margins, caps, weights, n);
         store(dst, j, n, column, n);

@@ -1,6 +1,6 @@
 pub mod Written
 pub mod Rows
-pub mod Mirror
+pub mod SymmetricMatrix
 pub mod Places
 pub mod Limits
 pub mod Outcome

@@ -1,6 +1,6 @@
 -- D in a list, row after row, and what comes of it.
 --   residual-defect — where A and G are symmetric, the residual of row k of the inverse's column j is D_jk
---   DefectList — the list begins with D;  residuals-mirrored — so do the residuals, where A and G are symmetric
+--   DefectList — the list begins with D;  residuals-symmetric — so do the residuals, where A and G are symmetric
 --   defects-within — its numbers are at most 2^46 in size, as `margins_from` asks;  defect-margins — the margins from it are those of the problem
 --   term-magnitude, load-magnitude — a term of a load, and the load of fewer terms than n, are small
 use mathlib.Core.Path.{_≡_, ap, ap₂, _∙_}
@@ -24,7 +24,7 @@ use Rattle.check_arrays.proofs.Columns.{in-square}
 use Rattle.check_arrays.proofs.Filled.{prefix-as}
 use Rattle.check_arrays.proofs.Magnitudes.{defect-magnitude}
 use Rattle.check_symmetry.specs.Symmetric.{Symmetric}
-use Rattle.check_symmetry.proofs.Mirror.{matrix-mirror, difference-mirror}
+use Rattle.check_symmetry.proofs.SymmetricMatrix.{matrix-symmetric, difference-symmetric}
 use Rattle.check_margins.specs.Load.{loadFrom}
 
 abbrev pub DefectList : List ℤ → ℕ → ℕ → List ℤ → List ℤ → Type 0
@@ -34,11 +34,11 @@ module _ (n t : ℕ) (matrix inverse : List ℤ) where
   residual-defect : Symmetric matrix n → Symmetric inverse n → (j k : ℕ) → j < n → k < n →
       columnResidual n t matrix inverse j k ≡ defect (problemOf n 0 t matrix [] [] [] inverse []) j k
   unfolding residual defect product
-  residual-defect a g j k lj lk = difference-mirror (matrix-mirror a) (matrix-mirror g) (pos (2 ^ t)) k j lk lj
+  residual-defect a g j k lj lk = difference-symmetric (matrix-symmetric a) (matrix-symmetric g) (pos (2 ^ t)) k j lk lj
 
-  pub residuals-mirrored : {columns : List ℤ} → Symmetric matrix n → Symmetric inverse n →
+  pub residuals-symmetric : {columns : List ℤ} → Symmetric matrix n → Symmetric inverse n →
       PrefixIs (pos 0) columns (n * n) (λ (i : ℕ). columnResidual n t matrix inverse (i / n) (i % n)) → DefectList columns n t matrix inverse
-  residuals-mirrored a g h =
+  residuals-symmetric a g h =
       prefix-as (pos 0) (λ (i : ℕ). columnResidual n t matrix inverse (i / n) (i % n)) (λ (i : ℕ). defect (problemOf n 0 t matrix [] [] [] inverse []) (i / n) (i % n))
       (λ i l. residual-defect a g (i / n) (i % n) (in-square n i l .0) (in-square n i l .1)) h
 

@@ -1,7 +1,7 @@
 -- Laws of the search for a place where a matrix is not symmetric.
 --   row-in, column-in — the places of a row before its diagonal, and of the column above it, are in the matrix
 --   row-more — one more number of the row is that of the column
---   rows-mirrored — what holds of the numbers before the diagonal of every row makes the matrix symmetric
+--   rows-symmetric — what holds of the numbers before the diagonal of every row makes the matrix symmetric
 use mathlib.Core.Path.{_≡_, refl, sym, ap, _∙_}
 use mathlib.Core.List.{List}
 use Prim.Native.Nat.{ℕ, _+_, _*_, _<_, _^_}
@@ -30,8 +30,8 @@ row-more xs i n j {along} {down} h ea ed fa fd e =
     below-more (λ k. at xs (i * n + k) ≡ at xs (k * n + i)) j h
     (ap (at xs) (sym ea) ∙ sym (read (at xs along) fa) ∙ ap (toZ w64) e ∙ read (at xs down) fd ∙ ap (at xs) ed)
 
-pub rows-mirrored : (xs : List ℤ) (n : ℕ) → ((i : ℕ) → i < n → (j : ℕ) → j < i → at xs (i * n + j) ≡ at xs (j * n + i)) → Symmetric xs n
-rows-mirrored xs n h = record { each = λ i j li lj. go i j li lj (decLt i j) (decLt j i) }
+pub rows-symmetric : (xs : List ℤ) (n : ℕ) → ((i : ℕ) → i < n → (j : ℕ) → j < i → at xs (i * n + j) ≡ at xs (j * n + i)) → Symmetric xs n
+rows-symmetric xs n h = record { each = λ i j li lj. go i j li lj (decLt i j) (decLt j i) }
   where
     go : (i j : ℕ) → i < n → j < n → Dec (i < j) → Dec (j < i) → at xs (i * n + j) ≡ at xs (j * n + i)
     go i j li lj (yes p) q = sym (h j lj i p)

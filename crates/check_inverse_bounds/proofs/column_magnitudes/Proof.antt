@@ -11,7 +11,7 @@ use Rattle.check_biased_rows.proofs.Filling.{rows-room}
 use Rattle.check_arrays.specs.Arrays.{PrefixIs}
 use Rattle.check_arrays.proofs.Filled.{prefix-none, prefix-more, prefix-end}
 use Rattle.check_bounds.specs.Limits.{columnMagnitude}
-use Rattle.check_inverse_bounds.proofs.Mirrored.{known-kept}
+use Rattle.check_inverse_bounds.proofs.SymmetricRows.{known-kept}
 use borrow.Author.Needs.{needs}
 use Rattle.check_inverse_bounds.proofs.column_magnitudes.Statement.{statement}
 use Rattle.check_inverse_bounds.proofs.column_magnitudes.Tie as tie

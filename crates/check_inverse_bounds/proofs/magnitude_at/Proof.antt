@@ -3,7 +3,7 @@ use native.Mathlib.Omega.{arith}
 use Rattle.integer.proofs.Machine.{read}
 use Rattle.linear.proofs.Places.{place, square}
 use Rattle.check_biased_rows.proofs.Unbiasing.{row-dot-magnitude}
-use Rattle.check_inverse_bounds.proofs.Mirrored.{known-across}
+use Rattle.check_inverse_bounds.proofs.SymmetricRows.{known-across}
 use Rattle.check_inverse_bounds.proofs.magnitude_at.Statement.{statement}
 use Rattle.check_inverse_bounds.proofs.magnitude_at.Tie as tie
 

@@ -19,19 +19,19 @@ use Rattle.check_arrays.proofs.Filled.{columns-none, columns-end, columns-lengt
 use Rattle.linear.proofs.Places.{row-ends}
 use Rattle.check_arrays.proofs.Magnitudes.{column-ends}
 use Rattle.check_bounds.specs.Limits.{inversePart, limitsOf}
-use Rattle.check_inverse_bounds.specs.Mirrored.{KnownColumns}
-use Rattle.check_inverse_bounds.proofs.Mirrored.{known-none, known-fewer, known-more, mirrored-magnitudes}
+use Rattle.check_inverse_bounds.specs.SymmetricRows.{KnownColumns}
+use Rattle.check_inverse_bounds.proofs.SymmetricRows.{known-none, known-fewer, known-more, symmetric-magnitudes}
 use Rattle.check_bounds.proofs.Column.{plain-magnitudes, magnitudes-small, columns-near, bounds-of-magnitudes, column-more}
 use borrow.Author.Needs.{needs}
 use Rattle.check_inverse_bounds.proofs.store_columns.Statement.{statement}
 use Rattle.check_inverse_bounds.proofs.store_columns.Tie as tie
 
 abbrev Inv-loop : tie.InvT-loop
-Inv-loop dst₀ rows residuals biased list₀ mirrored margins caps weights n place₀ start₀ j₀ dst list place start j =
+Inv-loop dst₀ rows residuals biased list₀ symmetric-rows margins caps weights n place₀ start₀ j₀ dst list place start j =
     (j ≤ n) × ((Carried 0 (n + 1) j place × Carried 0 n j start) × (((length list ≡ length list₀) × KnownColumns list n j rows biased) × (dst ≡ columnsWritten dst₀ n (λ (i k : ℕ). limitsOf n rows (λ (a : ℕ). at residuals (k * n + a)) (λ (a : ℕ). 0) margins weights i) j)))
 
 abbrev μ-loop : tie.MeasureT-loop
-μ-loop dst₀ rows residuals biased list₀ mirrored margins caps weights n place₀ start₀ j₀ dst list place start j = n - j
+μ-loop dst₀ rows residuals biased list₀ symmetric-rows margins caps weights n place₀ start₀ j₀ dst list place start j = n - j
 
 -- stages on the way: the start, after the raised residuals, and after the sizes of the column
 abbrev begun : tie.After-bias-rows-arg Inv-loop μ-loop → tie.Start Inv-loop μ-loop
@@ -87,7 +87,7 @@ loop-holds c = (omega arith, ((carried-first _ _, carried-first _ _), ((refl, kn
 known-is : (c : tie.After-column-magnitudes-arg2 Inv-loop μ-loop) →
     let k = c .before .before in
     (k .if1 .known ≤ k .before .before .loop .j)
-    × (0 < k .if1 .known → start (k .before) .args .mirrored ≡ true)
+    × (0 < k .if1 .known → start (k .before) .args .symmetric-rows ≡ true)
 known-is c =
     ⊎-elim (λ w. (omega (arith, w .1), λ h. w .0 .taken)) (λ w. (omega (arith, w .1), λ h. absurd (omega (arith, w .1, h)))) (c .before .before .if1 .came)
 
@@ -98,7 +98,7 @@ column-magnitudes-requires c κs =
     let p = start t .pre in
     let k = known-is c in (
       (p .0 .1 .0, (t .loop-test .taken, (k .0, omega (arith, i .1 .1 .0 .0, p .0 .1 .1 .1 .1)))),
-      (i .1 .0, ((p .1 .0 .rows, row-is t .row), (known-fewer (k .0) (i .1 .1 .0 .1), λ h. mirrored-magnitudes (p .1 .0 .rows) (biased t .bias-rows .ensures) (p .1 .1 .1 .0 (k .1 h))))),
+      (i .1 .0, ((p .1 .0 .rows, row-is t .row), (known-fewer (k .0) (i .1 .1 .0 .1), λ h. symmetric-magnitudes (p .1 .0 .rows) (biased t .bias-rows .ensures) (p .1 .1 .1 .0 (k .1 h))))),
     )
 
 bounds-of-requires : tie.Need-bounds-of-requires Inv-loop μ-loop

@@ -11,7 +11,7 @@ use Rattle.check_arrays.proofs.Magnitudes.{raisable}
 use Rattle.check_lists.specs.Work.{Work, work}
 use Rattle.check_lists.proofs.Outcome.{WorkedOut, refused, positive-here, weighed-here, near-here, columns-here, accepted-here}
 use Rattle.check_lists.proofs.Rows.{inverse-rows, workColumn, margins-are, columns-are}
-use Rattle.check_lists.proofs.Mirror.{mirrored-product}
+use Rattle.check_lists.proofs.SymmetricMatrix.{symmetric-product}
 use borrow.Author.Needs.{needs}
 use Rattle.check_lists.proofs.compute_bounds_in.Statement.{statement}
 use Rattle.check_lists.proofs.compute_bounds_in.Tie as tie
@@ -188,7 +188,7 @@ store-columns-requires c κs =
         (
           columns-here (W s) p (worked j) e (long-columns (known j)),
           (
-            (λ y. let both = looked j .are-symmetric .ensures y in mirrored-product (W s) (biased j .bias-rows .ensures) (residuals-are (known j)) (both .0) (both .1)),
+            (λ y. let both = looked j .are-symmetric .ensures y in symmetric-product (W s) (biased j .bias-rows .ensures) (residuals-are (known j)) (both .0) (both .1)),
             (positive-here (W s) p (worked j) e, (p .weights, at-caps (solved c) .caps-of .ensures)),
           ),
         ),

@@ -2,17 +2,17 @@ use mathlib.Core.Path.{_≡_}
 use native.Mathlib.Omega.{arith}
 use lib.ListN.{length}
 use Rattle.linear.proofs.Places.{square}
-use Rattle.check_margins.proofs.Loads.{DefectList, residuals-mirrored, defects-within, defect-margins}
+use Rattle.check_margins.proofs.Loads.{DefectList, residuals-symmetric, defects-within, defect-margins}
 use borrow.Author.Needs.{needs}
 use Rattle.check_margins.proofs.margins_of.Statement.{statement}
 use Rattle.check_margins.proofs.margins_of.Tie as tie
 
 -- where A and G are symmetric, the residuals of the inverse are D
-mirrored-are : (c : tie.Then1) → DefectList (c .before .args .columns .now) (c .before .args .n) (c .before .args .t) (c .before .args .matrix .now) (c .before .args .inverse .now)
-mirrored-are c =
+symmetric-are : (c : tie.Then1) → DefectList (c .before .args .columns .now) (c .before .args .n) (c .before .args .t) (c .before .args .matrix .now) (c .before .args .inverse .now)
+symmetric-are c =
     let s = c .before in
     let both = s .pre .1 .1 .1 .1 .0 (c .if1 .taken) in
-    residuals-mirrored (s .args .n) (s .args .t) (s .args .matrix .now) (s .args .inverse .now) (both .0) (both .1) (s .pre .1 .1 .1 .0)
+    residuals-symmetric (s .args .n) (s .args .t) (s .args .matrix .now) (s .args .inverse .now) (both .0) (both .1) (s .pre .1 .1 .1 .0)
 
 -- the length of the array of D
 long : (d : tie.After-defects-of) → length (d .defects-of .result) ≡ 1024
@@ -24,7 +24,7 @@ margins-from-requires c κs =
     let p = s .pre in (
       (p .0 .0, p .0 .1 .0),
       (
-        defects-within (s .args .n) (s .args .t) (s .args .matrix .now) (s .args .inverse .now) (p .0 .0) (p .0 .1 .0) (p .1 .0) (p .1 .1 .0) (p .0 .1 .1) (mirrored-are c),
+        defects-within (s .args .n) (s .args .t) (s .args .matrix .now) (s .args .inverse .now) (p .0 .0) (p .0 .1 .0) (p .1 .0) (p .1 .1 .0) (p .0 .1 .1) (symmetric-are c),
         p .1 .1 .1 .1 .1,
       ),
     )
@@ -32,7 +32,7 @@ margins-from-requires c κs =
 returns : tie.Need-returns
 returns c =
     let s = c .before .before in
-    defect-margins (s .args .n) (s .args .t) (s .args .matrix .now) (s .args .inverse .now) (s .args .weights .now) (mirrored-are (c .before)) (c .margins-from .ensures)
+    defect-margins (s .args .n) (s .args .t) (s .args .matrix .now) (s .args .inverse .now) (s .args .weights .now) (symmetric-are (c .before)) (c .margins-from .ensures)
 
 defects-of-requires : tie.Need-defects-of-requires
 defects-of-requires c κs = search needs

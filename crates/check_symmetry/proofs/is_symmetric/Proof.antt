@@ -7,7 +7,7 @@ use Rattle.linear.specs.Slice.{at}
 use Rattle.linear.specs.Place.{Carried}
 use Rattle.linear.proofs.Carried.{carried-first, carried-next}
 use Rattle.linear.proofs.Places.{square}
-use Rattle.check_symmetry.proofs.Rows.{rows-mirrored}
+use Rattle.check_symmetry.proofs.Rows.{rows-symmetric}
 use borrow.Author.Count.{below-more}
 use borrow.Author.Tests.{not-false}
 use borrow.Author.Needs.{needs}
@@ -55,7 +55,7 @@ loop-again c =
     )
 
 returns-2 : tie.Need-returns-2 Inv-loop μ-loop
-returns-2 c = λ e. rows-mirrored _ _ (λ i l. c .before .loop .inv .1 .1 i (omega (arith, c .loop-test .left)))
+returns-2 c = λ e. rows-symmetric _ _ (λ i l. c .before .loop .inv .1 .1 i (omega (arith, c .loop-test .left)))
 
 pub is-symmetric-spec : {M : Type 1} → statement M
 is-symmetric-spec =

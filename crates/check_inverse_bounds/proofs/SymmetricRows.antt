@@ -2,7 +2,7 @@
 --   known-none, known-fewer — the list begins with the sizes of no column, and of fewer than it does
 --   known-kept, known-more — it keeps them while column j is written after them, and then has that column too
 --   known-across — where p is symmetric, number j of column m is that of p_m of column j
---   mirrored-magnitudes — symmetric for the residuals themselves, then for the raised rows that stand for them
+--   symmetric-magnitudes — symmetric for the residuals themselves, then for the raised rows that stand for them
 use mathlib.Core.Path.{_≡_, sym, ap, _∙_}
 use mathlib.Core.List.{List}
 use Prim.Native.Nat.{ℕ, _+_, _*_, _≤_, _<_}
@@ -19,7 +19,7 @@ use Rattle.check_biased_rows.specs.Biased.{BiasedRows}
 use Rattle.check_biased_rows.specs.Place.{RowsOfMatrix}
 use Rattle.check_biased_rows.proofs.Standing.{rows-stand}
 use Rattle.check_bounds.specs.Limits.{columnMagnitude}
-use Rattle.check_inverse_bounds.specs.Mirrored.{KnownColumns, Mirrored, MirroredProduct}
+use Rattle.check_inverse_bounds.specs.SymmetricRows.{KnownColumns, SymmetricRows, SymmetricProduct}
 use Rattle.check_bounds.proofs.Column.{image-is}
 
 module _ {list : List ℕ} {n : ℕ} {rows residuals : List ℕ} where
@@ -50,11 +50,11 @@ module _ {list : List ℕ} {n : ℕ} {rows residuals : List ℕ} where
       all = below-more (λ i. (m : ℕ) → m < n → getD after (i * n + m) 0 ≡ columnMagnitude rows residuals n m i) j (λ i l m. known-kept f n (omega arith) e s .each i m l) new
 
   pub known-across : {k m j across : ℕ} → m < k → k ≤ j → j < n → Carried j n m across → KnownColumns list n k rows residuals →
-      Mirrored rows residuals n → getD list across 0 ≡ columnMagnitude rows residuals n m j
+      SymmetricRows rows residuals n → getD list across 0 ≡ columnMagnitude rows residuals n m j
   known-across {k} {m} {j} l h lj c e s = rw (column-place c) (e .each m j l lj ∙ s .each j m lj (omega arith))
 
-pub mirrored-magnitudes : {n : ℕ} {rows biased : List ℕ} {residuals : List ℤ} → BiasedRows rows n → RowsOfMatrix biased n residuals →
-    MirroredProduct rows residuals n → Mirrored rows biased n
-mirrored-magnitudes {n} h r s = record {
+pub symmetric-magnitudes : {n : ℕ} {rows biased : List ℕ} {residuals : List ℤ} → BiasedRows rows n → RowsOfMatrix biased n residuals →
+    SymmetricProduct rows residuals n → SymmetricRows rows biased n
+symmetric-magnitudes {n} h r s = record {
   each = λ m j lm lj. image-is n h (rows-stand r .each j lj) m lm ∙ ap natAbs (s .each m j lm lj) ∙ sym (image-is n h (rows-stand r .each m lm) j lj);
 }

@@ -1,5 +1,5 @@
 -- Where A and G are symmetric, so is G·(T·I − A·G), from the raised rows of G and the residuals of the inverse.
---   residual-product — p_m of column j, from what the rows and the list stand for;  mirrored-product — it is p_j of column m
+--   residual-product — p_m of column j, from what the rows and the list stand for;  symmetric-product — it is p_j of column m
 use mathlib.Core.Path.{_≡_, sym, ap₂, _∙_}
 use mathlib.Core.List.{List}
 use Prim.Native.Nat.{ℕ, _+_, _*_, _<_, _^_}
@@ -14,8 +14,8 @@ use Rattle.enclosure.specs.Reckoning.{residual}
 use Rattle.check_arrays.specs.Arrays.{PrefixIs}
 use Rattle.check_arrays.specs.Parts.{columnResidual}
 use Rattle.check_symmetry.specs.Symmetric.{Symmetric}
-use Rattle.check_symmetry.proofs.Mirror.{matrix-mirror, residual-mirror}
-use Rattle.check_inverse_bounds.specs.Mirrored.{MirroredProduct}
+use Rattle.check_symmetry.proofs.SymmetricMatrix.{matrix-symmetric, residual-symmetric}
+use Rattle.check_inverse_bounds.specs.SymmetricRows.{SymmetricProduct}
 use Rattle.check_lists.specs.Work.{Work}
 use Rattle.check_lists.proofs.Rows.{workColumn}
 
@@ -30,10 +30,10 @@ module _ (W : Work) {rows : List ℕ} {columns : List ℤ} (biased : RowsOfMatri
       ap₂ (λ (x y : ℤ). x *ℤ y) (biased .stands m k lm lk)
       (h .each (j * W .n + k) (place lj lk) ∙ ap₂ (columnResidual (W .n) (W .t) (W .matrix) (W .inverse)) (place-column j k (W .n) lk) (place-row j k (W .n) lk)))
 
-  pub mirrored-product : Symmetric (W .matrix) (W .n) → Symmetric (W .inverse) (W .n) → MirroredProduct rows columns (W .n)
-  mirrored-product a g = record {
+  pub symmetric-product : Symmetric (W .matrix) (W .n) → Symmetric (W .inverse) (W .n) → SymmetricProduct rows columns (W .n)
+  symmetric-product a g = record {
     each = λ m j lm lj.
         residual-product m j lm lj
-        ∙ residual-mirror (matrix-mirror a) (matrix-mirror g) (pos (2 ^ W .t)) m j lm lj
+        ∙ residual-symmetric (matrix-symmetric a) (matrix-symmetric g) (pos (2 ^ W .t)) m j lm lj
         ∙ sym (residual-product j m lj lm);
   }
