@@ -1,5 +1,5 @@
 -- The statements on files are not empty: the table of specs/Cases, computed line by line, and 01's whole file.
---   FileRowsSaid, file-rows-code, stated-rows, rows-stated — what is said of each file of the table, and that it has its stated case;  whole-stated — 01's whole file is accepted
+--   FileRowsCode, file-rows-code, stated-rows, rows-stated — what is said of each file of the table, and that it has its stated case;  whole-stated — 01's whole file is accepted
 use mathlib.Core.Path.{_≡_, refl, ap}
 use mathlib.Core.List.{List, [], _∷_}
 use lib.ListN.{take}
@@ -28,15 +28,15 @@ use Rattle.file_stated.specs.Cases.{FileRow, fileRows, FileRowsStated}
 use Rattle.file_stated.specs.Stated.{FileStated}
 use Rattle.file_stated.proofs.Stated.{file-exactly}
 
-abbrev FileRowsSaid : List FileRow → Type 0
-FileRowsSaid [] = Unit
-FileRowsSaid (c ∷ cs) = (answerOf (c .file) ≡ c .says) × FileRowsSaid cs
+abbrev FileRowsCode : List FileRow → Type 0
+FileRowsCode [] = Unit
+FileRowsCode (c ∷ cs) = (answerOf (c .file) ≡ c .says) × FileRowsCode cs
 
-file-rows-code : FileRowsSaid fileRows
+file-rows-code : FileRowsCode fileRows
 unfolding answerOf readFrom lineAnswer loaderAfter listsAfter zeros linesOf forms reading starts wordAt orWord firstOf headAt othersAt runAt magnitudeAt numberAt missing misplaced filled withPlace lacking allInside sum sumℕ first inRange rangeOf ranges valueFrom sizeFrom scalesFrom margin load defect product apply identity residual rowSum exceeds
 file-rows-code = (refl, (refl, (refl, (refl, (refl, (refl, (refl, tt)))))))
 
-stated-rows : (cs : List FileRow) → FileRowsSaid cs → FileRowsStated cs
+stated-rows : (cs : List FileRow) → FileRowsCode cs → FileRowsStated cs
 stated-rows [] h = tt
 stated-rows (c ∷ cs) h = (file-exactly (c .file) (c .says) .0 (h .0), stated-rows cs (h .1))
 
