@@ -22,8 +22,8 @@ use Rattle.listing_refusal.specs.Reply.{replyOf}
 use Rattle.listing_refusal.specs.Answered.{Answered}
 
 -- the numbers of its line
-abbrev printedOf : ℕ → Refusal → List ℕ
-printedOf line r = printed line (numberOf r ∷ valuesOf r)
+abbrev printedRefusal : ℕ → Refusal → List ℕ
+printedRefusal line r = printed line (numberOf r ∷ valuesOf r)
 
 module _ (line k : ℕ) where
   pub reply-first : (vs : List ℕ) {n c a b : ℕ} → n ≡ k → c ≡ length (shown 0 vs) → a ≡ getD (shown line vs) 0 0 → b ≡ getD vs 1 0 →
@@ -31,7 +31,7 @@ module _ (line k : ℕ) where
   reply-first [] en ec ea eb = rw (en, ec, ea, eb)
   reply-first (v ∷ vs) en ec ea eb = rw (en, ec, ea, eb)
 
-few-numbers : (line : ℕ) (r : Refusal) → replyOf (printedOf line r) .count ≤ 2
+few-numbers : (line : ℕ) (r : Refusal) → replyOf (printedRefusal line r) .count ≤ 2
 few-numbers line TooLong = omega arith
 few-numbers line NoForm = omega arith
 few-numbers line OutOfRange = omega arith
@@ -46,13 +46,13 @@ few-numbers line (Missing count) = omega arith
 few-numbers line AfterEnd = omega arith
 few-numbers line NotEnded = omega arith
 
-pub few-shown : (line : ℕ) (r : Refusal) {a : Reply} → a ≡ replyOf (printedOf line r) → a .count ≤ 2
+pub few-shown : (line : ℕ) (r : Refusal) {a : Reply} → a ≡ replyOf (printedRefusal line r) → a .count ≤ 2
 few-shown line r e = rw e (few-numbers line r)
 
 abbrev writtenReply : Reply → List ℕ
 writtenReply r = listLine (bytes "(refused ") (r .number) (r .count) (λ (j : ℕ). getD (r .first ∷ r .second ∷ []) (0 + j) 0)
 
-refused-line : (line : ℕ) (r : Refusal) → writtenReply (replyOf (printedOf line r)) ≡ refusedOf (printedOf line r)
+refused-line : (line : ℕ) (r : Refusal) → writtenReply (replyOf (printedRefusal line r)) ≡ refusedOf (printedRefusal line r)
 unfolding each
 refused-line line TooLong = refl
 refused-line line NoForm = refl
@@ -68,8 +68,8 @@ refused-line line (Missing count) = refl
 refused-line line AfterEnd = refl
 refused-line line NotEnded = refl
 
-pub answered : (line : ℕ) (r : Refusal) {a : Reply} {o p : List ℕ} {end : ℕ} → a ≡ replyOf (printedOf line r) → Wrote 707 o 0 (writtenReply a) p end →
-    Answered (printedOf line r) (refusedOf (printedOf line r)) o p (record { reply = a; length = end })
+pub answered : (line : ℕ) (r : Refusal) {a : Reply} {o p : List ℕ} {end : ℕ} → a ≡ replyOf (printedRefusal line r) → Wrote 707 o 0 (writtenReply a) p end →
+    Answered (printedRefusal line r) (refusedOf (printedRefusal line r)) o p (record { reply = a; length = end })
 answered line r e x = record { reply = e; wrote = wider 32768 (omega arith) (called (refused-line line r) (rw e at x)) }
 
 pub same-answer : {m n t u o p : List ℕ} {a : FileAnswer} → m ≡ n → t ≡ u → Answered m t o p a → Answered n u o p a
