@@ -51,18 +51,18 @@ use Rattle.build_gathering.proofs.Progress as P
 use Rattle.build_gathering.proofs.Progress.Laws as P′
 use Rattle.build_gathering.proofs.Whole.{gatheredOf, whole}
 use Rattle.build_gathering.proofs.open as open-fn
-use Rattle.build_gathering.proofs.open.Symbol.{name as #gathering·open}
+use Rattle.build_gathering.proofs.open.Symbol.{name as #build-gathering·open}
 use Rattle.build_equations.specs.declared.Layout.{Layout}
 use Rattle.build_equations.proofs.Layout as L
 use Rattle.build_equations.proofs.Layout.Laws as L′
 use Rattle.build.specs.BuiltAs.{shortFor}
 use Rattle.build.proofs.Contract.{built}
 use Rattle.build.proofs.gather as all-fn
-use Rattle.build.proofs.gather.Symbol.{name as #builder·gather}
+use Rattle.build.proofs.gather.Symbol.{name as #build·gather}
 use Rattle.reply.specs.Builds.{FinishedStatus}
 use Rattle.reply.proofs.Builds.{built-line}
 use Rattle.reply.proofs.builds.finish_status as fin-fn
-use Rattle.reply.proofs.builds.finish_status.Symbol.{name as #build-reply·finish-status}
+use Rattle.reply.proofs.builds.finish_status.Symbol.{name as #reply·builds·finish-status}
 use Rattle.calls_spec.specs.Build.{BuildLineExported}
 use Rattle.kodarfi.proofs.BuildParts.{R, sl, laid, word, lines, list, again, lend}
 
@@ -81,12 +81,12 @@ line-ref = tyRef (named 3) mut (tyInt w64)
 abbrev following-line : Body
 following-line =
     seq (assign (place 9 []) (rvOpd (copy (place 2 (field 1 ∷ [])))))
-    (seq (call #gathering·open (copy (place 1 []) ∷ copy (place 9 []) ∷ []) (place 7 []))
-    (seq (call #builder·gather (copy (place 2 []) ∷ copy (place 7 []) ∷ []) (place 8 []))
+    (seq (call #build-gathering·open (copy (place 1 []) ∷ copy (place 9 []) ∷ []) (place 7 []))
+    (seq (call #build·gather (copy (place 2 []) ∷ copy (place 7 []) ∷ []) (place 8 []))
     (lend 3 10
     (lend 4 12
     (seq (assign (place 14 []) (addrOf (place 5 (deref (tyInt w64) ∷ []))))
-    (seq (call #build-reply·finish-status (copy (place 8 []) ∷ copy (place 6 []) ∷ copy (place 11 []) ∷ copy (place 13 []) ∷ copy (place 14 []) ∷ []) (place 0 [])) return))))))
+    (seq (call #reply·builds·finish-status (copy (place 8 []) ∷ copy (place 6 []) ∷ copy (place 11 []) ∷ copy (place 13 []) ∷ copy (place 14 []) ∷ []) (place 0 [])) return))))))
 
 module _ {M : Type 1} (𝓤 : URA M) (H : Heap 𝓤) (A : Atoms 𝓤) (mem : Memory → SProp 𝓤) (run : Routine → Fun 𝓤) where
   abbrev pub Open : Contract 𝓤
@@ -174,7 +174,7 @@ module _ {M : Type 1} (𝓤 : URA M) (H : Heap 𝓤) (A : Atoms 𝓤) (W : Given
   typed-far : (s : Progress) (v : Val) → Is P.the-row s (v ∷ []) → Holds (hasTy P′.mir v) × WT v
   typed-far s v g = LL.lawful P.the-type P′.the-laws 𝓤 H A W .typed s _ g .0
 
-  module _ (C : Calls 𝓤 H) (Λ : Loops 𝓤 H) (fm : FmC 𝓤 H (W .laws) C) (known-open : Triple 𝓤 (C #gathering·open) (Open 𝓤 H A mem run)) (known-all : Triple 𝓤 (C #builder·gather) (All 𝓤 H A mem run)) (known-fin : Triple 𝓤 (C #build-reply·finish-status) (Fin 𝓤 H A mem run))
+  module _ (C : Calls 𝓤 H) (Λ : Loops 𝓤 H) (fm : FmC 𝓤 H (W .laws) C) (known-open : Triple 𝓤 (C #build-gathering·open) (Open 𝓤 H A mem run)) (known-all : Triple 𝓤 (C #build·gather) (All 𝓤 H A mem run)) (known-fin : Triple 𝓤 (C #reply·builds·finish-status) (Fin 𝓤 H A mem run))
       (rx : Room R (length (x .now))) (rm : Room i64 (length (m .now))) (rr : Room i64 (length (r .now))) (Post : Val → SProp 𝓤) (exits : Exits Post) (l₀ l₁ l₂ l₃ l₄ l₅ l₆ l₇ l₈ l₉ l₁₀ l₁₁ l₁₂ l₁₃ l₁₄ : ℕ) where
     abbrev pub En : Env 𝓤 H
     En = (word, l₀) ∷ (word, l₁) ∷ (lines, l₂) ∷ (list 1, l₃) ∷ (list 2, l₄) ∷ (line-ref, l₅) ∷ (L′.mir, l₆) ∷ (P′.mir, l₇) ∷ (S′.mir, l₈) ∷ (long-word, l₉) ∷ (again, l₁₀) ∷ (sliceTy again, l₁₁) ∷ (again, l₁₂) ∷ (sliceTy again, l₁₃) ∷ (again, l₁₄) ∷ []

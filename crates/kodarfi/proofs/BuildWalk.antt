@@ -46,7 +46,7 @@ use Rattle.build_equations.proofs.Layout as L
 use Rattle.build_equations.proofs.Layout.Laws as L′
 use Rattle.build.specs.BuiltAs.{BuiltAs}
 use Rattle.build.proofs.build as build-fn
-use Rattle.build.proofs.build.Symbol.{name as #builder·build}
+use Rattle.build.proofs.build.Symbol.{name as #build·build}
 use Rattle.calls_spec.specs.Build.{BuildExported}
 use Rattle.reply.proofs.built_number as number-fn
 use Rattle.reply.proofs.built_number.Symbol.{name as #reply·built-number}
@@ -57,7 +57,7 @@ abbrev following : Body
 following =
     lend 3 7
     (lend 4 9
-    (seq (call #builder·build (copy (place 1 []) ∷ copy (place 2 []) ∷ copy (place 6 []) ∷ copy (place 8 []) ∷ copy (place 10 []) ∷ []) (place 5 []))
+    (seq (call #build·build (copy (place 1 []) ∷ copy (place 2 []) ∷ copy (place 6 []) ∷ copy (place 8 []) ∷ copy (place 10 []) ∷ []) (place 5 []))
     (seq (call #reply·built-number (copy (place 5 []) ∷ []) (place 0 [])) return)))
 
 module _ {M : Type 1} (𝓤 : URA M) (H : Heap 𝓤) (A : Atoms 𝓤) (mem : Memory → SProp 𝓤) (run : Routine → Fun 𝓤) where
@@ -110,7 +110,7 @@ module _ {M : Type 1} (𝓤 : URA M) (H : Heap 𝓤) (A : Atoms 𝓤) (W : Given
   code-number : (b : Built) (z : ℕ) → ent 𝓤 (ensured 𝓤 H A number-fn.ended (number-fn.clauses 𝓤 H A mem run) tt (b, tt) tt z) (fact 𝓤 (z ≡ getD (buildCode b) 0 0))
   code-number b z = exE 𝓤 _ (λ ws. snd∗ 𝓤 (sem 𝓤 H A (lasts number-fn.ended tt (b, tt) ws)) (fact 𝓤 (z ≡ getD (buildCode b) 0 0)))
 
-  module _ (C : Calls 𝓤 H) (Λ : Loops 𝓤 H) (fm : FmC 𝓤 H (W .laws) C) (known-build : Triple 𝓤 (C #builder·build) (Build 𝓤 H A mem run)) (known-number : Triple 𝓤 (C #reply·built-number) (Number 𝓤 H A mem run))
+  module _ (C : Calls 𝓤 H) (Λ : Loops 𝓤 H) (fm : FmC 𝓤 H (W .laws) C) (known-build : Triple 𝓤 (C #build·build) (Build 𝓤 H A mem run)) (known-number : Triple 𝓤 (C #reply·built-number) (Number 𝓤 H A mem run))
       (rm : Room i64 (length (m .now))) (rr : Room i64 (length (r .now))) (Post : Val → SProp 𝓤) (exits : Exits Post) (l₀ l₁ l₂ l₃ l₄ l₅ l₆ l₇ l₈ l₉ l₁₀ : ℕ) where
     abbrev pub En : Env 𝓤 H
     En = (word, l₀) ∷ (word, l₁) ∷ (lines, l₂) ∷ (list 1, l₃) ∷ (list 2, l₄) ∷ (B′.mir, l₅) ∷ (L′.mir, l₆) ∷ (again, l₇) ∷ (sliceTy again, l₈) ∷ (again, l₉) ∷ (sliceTy again, l₁₀) ∷ []

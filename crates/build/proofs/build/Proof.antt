@@ -53,19 +53,19 @@ use Rattle.build_gathering.proofs.Gathered as S
 use Rattle.build_gathering.proofs.Progress as P
 use Rattle.build_gathering.proofs.open as open-fn
 use Rattle.build_gathering.proofs.open.Symbol as open-def
-use Rattle.build_gathering.proofs.open.Symbol.{name as #gathering·open}
+use Rattle.build_gathering.proofs.open.Symbol.{name as #build-gathering·open}
 use Rattle.build_gathering.proofs.open.Met as open-thm
 use Rattle.build.proofs.finish as fin
 use Rattle.build.proofs.finish.Symbol as fin-def
-use Rattle.build.proofs.finish.Symbol.{name as #built·finish}
+use Rattle.build.proofs.finish.Symbol.{name as #build·finish}
 use Rattle.build.proofs.finish.Met as fin-thm
 use Rattle.build.specs.Finished.{Finished}
 use Rattle.build.proofs.Contract.{built}
 use Rattle.build.proofs.gather as all
 use Rattle.build.proofs.gather.Symbol as all-def
-use Rattle.build.proofs.gather.Symbol.{name as #builder·gather}
+use Rattle.build.proofs.gather.Symbol.{name as #build·gather}
 use Rattle.build.proofs.gather.Met as all-thm
-use Rattle.build.proofs.build.Key.{name as #builder·build}
+use Rattle.build.proofs.build.Key.{name as #build·build}
 use Rattle.build.proofs.build as self
 use Rattle.build.proofs.build.Statement as stated
 use Rattle.build.proofs.build.Code as code
@@ -88,7 +88,7 @@ module _ {M : Type 1} (𝓤 : URA M) (H : Heap 𝓤) (A : Atoms 𝓤) (W : Given
   abbrev Post : Val → SProp 𝓤
   Post = post-of 𝓤 H A W mem run κ κ′ κ″ q q′ q″ n x lay m r nf lf
 
-  module _ (C : Calls 𝓤 H) (Λ : Loops 𝓤 H) (fm : FmC 𝓤 H (W .laws) C) (known-open : Triple 𝓤 (C #gathering·open) (Open 𝓤 H A mem run)) (known-all : Triple 𝓤 (C #builder·gather) (All 𝓤 H A mem run)) (known-fin : Triple 𝓤 (C #built·finish) (Fin 𝓤 H A mem run)) where
+  module _ (C : Calls 𝓤 H) (Λ : Loops 𝓤 H) (fm : FmC 𝓤 H (W .laws) C) (known-open : Triple 𝓤 (C #build-gathering·open) (Open 𝓤 H A mem run)) (known-all : Triple 𝓤 (C #build·gather) (All 𝓤 H A mem run)) (known-fin : Triple 𝓤 (C #build·finish) (Fin 𝓤 H A mem run)) where
     walk : Room R k → Room i64 (length (m .now)) → Room i64 (length (r .now))
         → ent 𝓤 (onEntry 𝓤 H A self.signature (κ, (κ′, (κ″, tt))) (q, (q′, (q″, tt))) a vals) (WpFn 𝓤 H C Λ code.function (vint w32 n ∷ sl x ∷ laid lay ∷ sl m ∷ sl r ∷ []) Post)
     walk rx rm rr =
@@ -140,7 +140,7 @@ module _ {M : Type 1} (𝓤 : URA M) (H : Heap 𝓤) (A : Atoms 𝓤) (W : Given
         by ! (exits 𝓤 H A W mem run κ κ′ κ″ q q′ q″ n x lay m r nf lf b w (zs .1 .1 .0) (zs .1 .1 .1 .0) (built n (x .now) lay (m .now) (r .now) (subst (λ (z : Gathered). Finished z lay (m .now) (r .now) b (zs .1 .1 .0) (zs .1 .1 .1 .0)) (is-whole 𝓤 H A W mem run κ κ′ κ″ q q′ q″ n x lay m r nf lf s g p e) d)) lm lr)))))))))))))))))))))))))))))
 
 module _ {M : Type 1} (𝓤 : URA M) (H : Heap 𝓤) (A : Atoms 𝓤) (W : Given 𝓤 H A) (mem : Memory → SProp 𝓤) (run : Routine → Fun 𝓤) where
-  build-walks : (C : Calls 𝓤 H) (Λ : Loops 𝓤 H) → FmC 𝓤 H (W .laws) C → Triple 𝓤 (C #gathering·open) (Open 𝓤 H A mem run) → Triple 𝓤 (C #builder·gather) (All 𝓤 H A mem run) → Triple 𝓤 (C #built·finish) (Fin 𝓤 H A mem run)
+  build-walks : (C : Calls 𝓤 H) (Λ : Loops 𝓤 H) → FmC 𝓤 H (W .laws) C → Triple 𝓤 (C #build-gathering·open) (Open 𝓤 H A mem run) → Triple 𝓤 (C #build·gather) (All 𝓤 H A mem run) → Triple 𝓤 (C #build·finish) (Fin 𝓤 H A mem run)
       → Walks 𝓤 H A self.ended stayed (WpFn 𝓤 H C Λ code.function) (self.clauses 𝓤 H A mem run)
   build-walks C Λ fm known-open known-all known-fin = walked 𝓤 H A self.ended stayed (self.clauses 𝓤 H A mem run) (WpFn 𝓤 H C Λ code.function)
       (λ κs. (uint-vals w32, (slice-vals, (EL.vals L.the-type L′.the-laws, (slice-vals, (slice-vals, tt)))))) (λ κs. (uint-tells w32, (shr-slice-tells (named 0) (κs .0) R, (EL.tells L.the-type L′.the-laws, (mut-slice-tells (named 1) (κs .1 .0) i64, (mut-slice-tells (named 2) (κs .1 .1 .0) i64, tt))))))
@@ -148,7 +148,7 @@ module _ {M : Type 1} (𝓤 : URA M) (H : Heap 𝓤) (A : Atoms 𝓤) (W : Given
       (walk 𝓤 H A W mem run (κs .0) (κs .1 .0) (κs .1 .1 .0) (qs .0) (qs .1 .0) (qs .1 .1 .0) (a .0) (a .1 .0) (a .1 .1 .0) (a .1 .1 .1 .0) (a .1 .1 .1 .1 .0) (are .0 .1) (are .1 .1 .0) C Λ fm known-open known-all known-fin (are .1 .0 .0 .1) (are .1 .1 .1 .0 .0 .1) (are .1 .1 .1 .1 .0 .0 .1)))
 
 build-meets : {M : Type 1} (𝓤 : URA M) (H : Heap 𝓤) (A : Atoms 𝓤) → Given 𝓤 H A → (mem : Memory → SProp 𝓤) (run : Routine → Fun 𝓤) (𝓣 : Tables 𝓤 H)
-    → Triple 𝓤 (𝓣 .C #gathering·open) (Open 𝓤 H A mem run) → Triple 𝓤 (𝓣 .C #builder·gather) (All 𝓤 H A mem run) → Triple 𝓤 (𝓣 .C #built·finish) (Fin 𝓤 H A mem run)
+    → Triple 𝓤 (𝓣 .C #build-gathering·open) (Open 𝓤 H A mem run) → Triple 𝓤 (𝓣 .C #build·gather) (All 𝓤 H A mem run) → Triple 𝓤 (𝓣 .C #build·finish) (Fin 𝓤 H A mem run)
     → Meets 𝓤 H A self.signature (WpFn 𝓤 H (𝓣 .C) (𝓣 .Λ) code.function) (self.spec 𝓤 H A mem run)
 build-meets 𝓤 H A W mem run 𝓣 known-open known-all known-fin =
     walk-meets 𝓤 H A self.ended stayed W (goes-none 𝓤 H A W 3 (λ _. u32) yes (λ κs x f. refl), (goes-none-slice 𝓤 H A W 3 (0 ∷ []) tt (plain (λ _. R)) yes, (goes-none 𝓤 H A W 3 (λ _. L.the-row) yes (λ κs x f. refl), (goes-gave-slice 𝓤 H A W 3 1 tt (plain (λ _. i64)), (goes-gave-slice 𝓤 H A W 3 2 tt (plain (λ _. i64)), tt))))) (self.clauses 𝓤 H A mem run)
@@ -158,8 +158,8 @@ pub build-spec : {M : Type 1} → stated.statement M
 unfolding code.routine tablesOf
 build-spec 𝓤 H 𝓜 𝓖 𝓡 =
     entered 𝓤 H (tripleOf 𝓤 H (𝓖 .A) self.signature (self.spec 𝓤 H (𝓖 .A) (𝓜 .mem) (𝓡 .run)))
-    (tables 𝓤 H 𝓜 𝓡 code.env .C) (tables 𝓤 H 𝓜 𝓡 code.env .Λ) #builder·build code.function (code.unfolded 𝓤 H 𝓜 𝓡)
+    (tables 𝓤 H 𝓜 𝓡 code.env .C) (tables 𝓤 H 𝓜 𝓡 code.env .Λ) #build·build code.function (code.unfolded 𝓤 H 𝓜 𝓡)
     (build-meets 𝓤 H (𝓖 .A) (givenOf 𝓤 H 𝓜 𝓖) (𝓜 .mem) (𝓡 .run) (tablesOf 𝓤 H 𝓜 (tables 𝓤 H 𝓜 𝓡 code.env))
-    (cited 𝓤 H (Open 𝓤 H (𝓖 .A) (𝓜 .mem) (𝓡 .run)) 𝓜 𝓡 code.env #gathering·open open-def.routine code.calls-gathering·open (open-thm.met 𝓤 H 𝓜 𝓖 𝓡))
-    (cited 𝓤 H (All 𝓤 H (𝓖 .A) (𝓜 .mem) (𝓡 .run)) 𝓜 𝓡 code.env #builder·gather all-def.routine code.calls-builder·gather (all-thm.met 𝓤 H 𝓜 𝓖 𝓡))
-    (cited 𝓤 H (Fin 𝓤 H (𝓖 .A) (𝓜 .mem) (𝓡 .run)) 𝓜 𝓡 code.env #built·finish fin-def.routine code.calls-built·finish (fin-thm.met 𝓤 H 𝓜 𝓖 𝓡)))
+    (cited 𝓤 H (Open 𝓤 H (𝓖 .A) (𝓜 .mem) (𝓡 .run)) 𝓜 𝓡 code.env #build-gathering·open open-def.routine code.calls-build-gathering·open (open-thm.met 𝓤 H 𝓜 𝓖 𝓡))
+    (cited 𝓤 H (All 𝓤 H (𝓖 .A) (𝓜 .mem) (𝓡 .run)) 𝓜 𝓡 code.env #build·gather all-def.routine code.calls-build·gather (all-thm.met 𝓤 H 𝓜 𝓖 𝓡))
+    (cited 𝓤 H (Fin 𝓤 H (𝓖 .A) (𝓜 .mem) (𝓡 .run)) 𝓜 𝓡 code.env #build·finish fin-def.routine code.calls-build·finish (fin-thm.met 𝓤 H 𝓜 𝓖 𝓡)))

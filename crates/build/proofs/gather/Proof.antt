@@ -48,20 +48,20 @@ use Rattle.build_gathering.specs.Gathered.{noLines, few}
 use Rattle.build_gathering.proofs.Progress as P
 use Rattle.build_gathering.proofs.Progress.Laws as P′
 use Rattle.build_gathering.proofs.add_observation.Symbol as one-def
-use Rattle.build_gathering.proofs.add_observation.Symbol.{name as #gathering·add-observation}
+use Rattle.build_gathering.proofs.add_observation.Symbol.{name as #build-gathering·add-observation}
 use Rattle.build_gathering.proofs.add_observation.Met as one-thm
 use Rattle.build_gathering.proofs.no_lines as none
 use Rattle.build_gathering.proofs.no_lines.Symbol as none-def
-use Rattle.build_gathering.proofs.no_lines.Symbol.{name as #gathering·no-lines}
+use Rattle.build_gathering.proofs.no_lines.Symbol.{name as #build-gathering·no-lines}
 use Rattle.build_gathering.proofs.no_lines.Met as none-thm
 use Rattle.build_gathering.proofs.as_gathered.Symbol as all-def
-use Rattle.build_gathering.proofs.as_gathered.Symbol.{name as #gathering·as-gathered}
+use Rattle.build_gathering.proofs.as_gathered.Symbol.{name as #build-gathering·as-gathered}
 use Rattle.build_gathering.proofs.as_gathered.Met as all-thm
 use Rattle.build_gathering.proofs.few_of as fews
 use Rattle.build_gathering.proofs.few_of.Symbol as fews-def
-use Rattle.build_gathering.proofs.few_of.Symbol.{name as #gathering·few-of}
+use Rattle.build_gathering.proofs.few_of.Symbol.{name as #build-gathering·few-of}
 use Rattle.build_gathering.proofs.few_of.Met as fews-thm
-use Rattle.build.proofs.gather.Key.{name as #builder·gather}
+use Rattle.build.proofs.gather.Key.{name as #build·gather}
 use Rattle.build.proofs.gather as self
 use Rattle.build.proofs.gather.Statement as stated
 use Rattle.build.proofs.gather.Code as code
@@ -85,7 +85,7 @@ module _ {M : Type 1} (𝓤 : URA M) (H : Heap 𝓤) (A : Atoms 𝓤) (W : Given
   abbrev Post : Val → SProp 𝓤
   Post = post-of 𝓤 H A W mem run κ q b o γ ys start
 
-  walk : (𝓣 : Tables 𝓤 H) → FmC 𝓤 H (W .laws) (𝓣 .C) → Triple 𝓤 (𝓣 .C #gathering·add-observation) (One 𝓤 H A mem run) → Triple 𝓤 (𝓣 .C #gathering·few-of) (Fews 𝓤 H A mem run) → Triple 𝓤 (𝓣 .C #gathering·no-lines) (None 𝓤 H A mem run) → Triple 𝓤 (𝓣 .C #gathering·as-gathered) (All 𝓤 H A mem run) → Room R n → Is P.the-row start (far start ∷ [])
+  walk : (𝓣 : Tables 𝓤 H) → FmC 𝓤 H (W .laws) (𝓣 .C) → Triple 𝓤 (𝓣 .C #build-gathering·add-observation) (One 𝓤 H A mem run) → Triple 𝓤 (𝓣 .C #build-gathering·few-of) (Fews 𝓤 H A mem run) → Triple 𝓤 (𝓣 .C #build-gathering·no-lines) (None 𝓤 H A mem run) → Triple 𝓤 (𝓣 .C #build-gathering·as-gathered) (All 𝓤 H A mem run) → Room R n → Is P.the-row start (far start ∷ [])
       → ent 𝓤 (onEntry 𝓤 H A self.signature (κ, tt) (q, tt) x at) (WpFn 𝓤 H (𝓣 .C) (𝓣 .Λ) code.function (sliceVal (b, o) n ∷ far start ∷ []) Post)
   walk 𝓣 fm known known-few known-none known-all gn g₀ =
       qed W ((‵ (flft κ q) ⊛ ‵ ftrue) ∷ ‵ (owns (ShrSlice (named 0) κ R ∷ P.the-row ∷ []) x at) ∷ []) ∵ enter ! (𝓣 .C) (𝓣 .Λ) code.function (sliceVal (b, o) n ∷ far start ∷ []) _ $
@@ -124,22 +124,22 @@ module _ {M : Type 1} (𝓤 : URA M) (H : Heap 𝓤) (A : Atoms 𝓤) (W : Given
       none-is z v d is = subst (λ (y : List ℕ). Is AR y (array-val y ∷ [])) d (subst (Is AR z) (status-array z (v ∷ []) is) is)
 
 module _ {M : Type 1} (𝓤 : URA M) (H : Heap 𝓤) (A : Atoms 𝓤) (W : Given 𝓤 H A) (mem : Memory → SProp 𝓤) (run : Routine → Fun 𝓤) where
-  gather-walks : (𝓣 : Tables 𝓤 H) → Triple 𝓤 (𝓣 .C #gathering·add-observation) (One 𝓤 H A mem run) → Triple 𝓤 (𝓣 .C #gathering·few-of) (Fews 𝓤 H A mem run) → Triple 𝓤 (𝓣 .C #gathering·no-lines) (None 𝓤 H A mem run) → Triple 𝓤 (𝓣 .C #gathering·as-gathered) (All 𝓤 H A mem run) → Walks 𝓤 H A self.ended stayed (WpFn 𝓤 H (𝓣 .C) (𝓣 .Λ) code.function) (self.clauses 𝓤 H A mem run)
+  gather-walks : (𝓣 : Tables 𝓤 H) → Triple 𝓤 (𝓣 .C #build-gathering·add-observation) (One 𝓤 H A mem run) → Triple 𝓤 (𝓣 .C #build-gathering·few-of) (Fews 𝓤 H A mem run) → Triple 𝓤 (𝓣 .C #build-gathering·no-lines) (None 𝓤 H A mem run) → Triple 𝓤 (𝓣 .C #build-gathering·as-gathered) (All 𝓤 H A mem run) → Walks 𝓤 H A self.ended stayed (WpFn 𝓤 H (𝓣 .C) (𝓣 .Λ) code.function) (self.clauses 𝓤 H A mem run)
   gather-walks 𝓣 known known-few known-none known-all = walked 𝓤 H A self.ended stayed (self.clauses 𝓤 H A mem run) (WpFn 𝓤 H (𝓣 .C) (𝓣 .Λ) code.function) (λ κs. (slice-vals, (LL.vals P.the-type P′.the-laws, tt))) (λ κs. (shr-slice-tells (named 0) (κs .0) R, (LL.tells P.the-type P′.the-laws, tt)))
       (λ κs qs bounds a g are. via 𝓤 _ (fst∗ 𝓤 _ (emp 𝓤))
       (walk 𝓤 H A W mem run (κs .0) (qs .0) (a .0 .ptr .0) (a .0 .ptr .1) (a .0 .name) (a .0 .now) (a .1 .0) 𝓣 (fmOf 𝓤 H (W .laws) 𝓣) known known-few known-none known-all (are .0 .0 .1) (are .1 .0)))
 
 gather-meets : {M : Type 1} (𝓤 : URA M) (H : Heap 𝓤) (A : Atoms 𝓤) (W : Given 𝓤 H A) (mem : Memory → SProp 𝓤) (run : Routine → Fun 𝓤) (𝓣 : Tables 𝓤 H)
-    → Triple 𝓤 (𝓣 .C #gathering·add-observation) (One 𝓤 H A mem run) → Triple 𝓤 (𝓣 .C #gathering·few-of) (Fews 𝓤 H A mem run) → Triple 𝓤 (𝓣 .C #gathering·no-lines) (None 𝓤 H A mem run) → Triple 𝓤 (𝓣 .C #gathering·as-gathered) (All 𝓤 H A mem run) → Meets 𝓤 H A self.signature (WpFn 𝓤 H (𝓣 .C) (𝓣 .Λ) code.function) (self.spec 𝓤 H A mem run)
+    → Triple 𝓤 (𝓣 .C #build-gathering·add-observation) (One 𝓤 H A mem run) → Triple 𝓤 (𝓣 .C #build-gathering·few-of) (Fews 𝓤 H A mem run) → Triple 𝓤 (𝓣 .C #build-gathering·no-lines) (None 𝓤 H A mem run) → Triple 𝓤 (𝓣 .C #build-gathering·as-gathered) (All 𝓤 H A mem run) → Meets 𝓤 H A self.signature (WpFn 𝓤 H (𝓣 .C) (𝓣 .Λ) code.function) (self.spec 𝓤 H A mem run)
 gather-meets 𝓤 H A W mem run 𝓣 known known-few known-none known-all = walk-meets 𝓤 H A self.ended stayed W (goes-none-slice 𝓤 H A W 1 (0 ∷ []) tt (plain (λ _. R)) yes, (goes-none 𝓤 H A W 1 (λ _. P.the-row) yes (λ κs x f. refl), tt)) (self.clauses 𝓤 H A mem run) (WpFn 𝓤 H (𝓣 .C) (𝓣 .Λ) code.function) (WpFn-mono 𝓤 H (W .laws) 𝓣 code.function) (gather-walks 𝓤 H A W mem run 𝓣 known known-few known-none known-all)
 
 pub gather-spec : {M : Type 1} → stated.statement M
 unfolding code.routine tablesOf
 gather-spec 𝓤 H 𝓜 𝓖 𝓡 =
     entered 𝓤 H (tripleOf 𝓤 H (𝓖 .A) self.signature (self.spec 𝓤 H (𝓖 .A) (𝓜 .mem) (𝓡 .run)))
-    (tables 𝓤 H 𝓜 𝓡 code.env .C) (tables 𝓤 H 𝓜 𝓡 code.env .Λ) #builder·gather code.function (code.unfolded 𝓤 H 𝓜 𝓡)
+    (tables 𝓤 H 𝓜 𝓡 code.env .C) (tables 𝓤 H 𝓜 𝓡 code.env .Λ) #build·gather code.function (code.unfolded 𝓤 H 𝓜 𝓡)
     (gather-meets 𝓤 H (𝓖 .A) (givenOf 𝓤 H 𝓜 𝓖) (𝓜 .mem) (𝓡 .run) (tablesOf 𝓤 H 𝓜 (tables 𝓤 H 𝓜 𝓡 code.env))
-    (cited 𝓤 H (One 𝓤 H (𝓖 .A) (𝓜 .mem) (𝓡 .run)) 𝓜 𝓡 code.env #gathering·add-observation one-def.routine code.calls-gathering·add-observation (one-thm.met 𝓤 H 𝓜 𝓖 𝓡))
-    (cited 𝓤 H (Fews 𝓤 H (𝓖 .A) (𝓜 .mem) (𝓡 .run)) 𝓜 𝓡 code.env #gathering·few-of fews-def.routine code.calls-gathering·few-of (fews-thm.met 𝓤 H 𝓜 𝓖 𝓡))
-    (cited 𝓤 H (None 𝓤 H (𝓖 .A) (𝓜 .mem) (𝓡 .run)) 𝓜 𝓡 code.env #gathering·no-lines none-def.routine code.calls-gathering·no-lines (none-thm.met 𝓤 H 𝓜 𝓖 𝓡))
-    (cited 𝓤 H (All 𝓤 H (𝓖 .A) (𝓜 .mem) (𝓡 .run)) 𝓜 𝓡 code.env #gathering·as-gathered all-def.routine code.calls-gathering·as-gathered (all-thm.met 𝓤 H 𝓜 𝓖 𝓡)))
+    (cited 𝓤 H (One 𝓤 H (𝓖 .A) (𝓜 .mem) (𝓡 .run)) 𝓜 𝓡 code.env #build-gathering·add-observation one-def.routine code.calls-build-gathering·add-observation (one-thm.met 𝓤 H 𝓜 𝓖 𝓡))
+    (cited 𝓤 H (Fews 𝓤 H (𝓖 .A) (𝓜 .mem) (𝓡 .run)) 𝓜 𝓡 code.env #build-gathering·few-of fews-def.routine code.calls-build-gathering·few-of (fews-thm.met 𝓤 H 𝓜 𝓖 𝓡))
+    (cited 𝓤 H (None 𝓤 H (𝓖 .A) (𝓜 .mem) (𝓡 .run)) 𝓜 𝓡 code.env #build-gathering·no-lines none-def.routine code.calls-build-gathering·no-lines (none-thm.met 𝓤 H 𝓜 𝓖 𝓡))
+    (cited 𝓤 H (All 𝓤 H (𝓖 .A) (𝓜 .mem) (𝓡 .run)) 𝓜 𝓡 code.env #build-gathering·as-gathered all-def.routine code.calls-build-gathering·as-gathered (all-thm.met 𝓤 H 𝓜 𝓖 𝓡)))

@@ -56,9 +56,9 @@ use Rattle.build_gathering.proofs.Progress as P
 use Rattle.build_gathering.proofs.Progress.Laws as P′
 use Rattle.build_gathering.proofs.Whole.{gathered-none, gathered-next, gathered-end, few-below}
 use Rattle.build_gathering.proofs.add_observation as one
-use Rattle.build_gathering.proofs.add_observation.Symbol.{name as #gathering·add-observation}
+use Rattle.build_gathering.proofs.add_observation.Symbol.{name as #build-gathering·add-observation}
 use Rattle.build_gathering.proofs.as_gathered as all
-use Rattle.build_gathering.proofs.as_gathered.Symbol.{name as #gathering·as-gathered}
+use Rattle.build_gathering.proofs.as_gathered.Symbol.{name as #build-gathering·as-gathered}
 use Rattle.build.proofs.gather as self
 use Rattle.build.proofs.gather.Code.Mir as pieces
 use Rattle.build.proofs.gather.Proof.Lending.{AR, arr, the-one, array-val, typed-array, made, stored, back}
@@ -106,7 +106,7 @@ module _ {M : Type 1} (𝓤 : URA M) (H : Heap 𝓤) (A : Atoms 𝓤) (W : Given
   Nearer-wf : WellFounded Nearer
   Nearer-wf = InvImage·wf (λ (i : Upto). end - i .0) (Nat·lt-wfRel .wf)
 
-  module _ (𝓣 : Tables 𝓤 H) (fm : FmC 𝓤 H (W .laws) (𝓣 .C)) (known : Triple 𝓤 (𝓣 .C #gathering·add-observation) (One 𝓤 H A mem run)) (known-all : Triple 𝓤 (𝓣 .C #gathering·as-gathered) (All 𝓤 H A mem run))
+  module _ (𝓣 : Tables 𝓤 H) (fm : FmC 𝓤 H (W .laws) (𝓣 .C)) (known : Triple 𝓤 (𝓣 .C #build-gathering·add-observation) (One 𝓤 H A mem run)) (known-all : Triple 𝓤 (𝓣 .C #build-gathering·as-gathered) (All 𝓤 H A mem run))
       (gn : Room R n) (g₀ : Is P.the-row start (far start ∷ [])) (l₀ l₁ l₂ l₃ l₄ l₅ l₆ l₇ l₈ l₉ l₁₀ l₁₁ l₁₂ l₁₃ : ℕ) where
     abbrev C : Calls 𝓤 H
     C = 𝓣 .C

@@ -24,4 +24,4 @@ head-spec 𝓤 H 𝓜 𝓖 𝓡 =
     let 𝓣 = tables 𝓤 H 𝓜 𝓡 code.env in
     entered 𝓤 H (tripleOf 𝓤 H (𝓖 .A) self.signature (self.spec 𝓤 H (𝓖 .A) (𝓜 .mem) (𝓡 .run))) (𝓣 .C) (𝓣 .Λ) #head code.function (code.unfolded 𝓤 H 𝓜 𝓡)
     (reads R.the-row 𝓤 H (𝓖 .A) (core.clauses 𝓤 H (𝓖 .A) (𝓜 .mem) (𝓡 .run)) (self.clauses 𝓤 H (𝓖 .A) (𝓜 .mem) (𝓡 .run)) (λ κs a. tt) headAt (λ z. (refl, λ r e. refl)) (λ y. (refl, λ r e. refl))
-    headData W (𝓣 .C) (𝓣 .Λ) (fmOf 𝓤 H (W .laws) (tablesOf 𝓤 H 𝓜 𝓣)) #head-at (cited 𝓤 H _ 𝓜 𝓡 code.env #head-at core-def.routine code.calls-form·head-at (met.met 𝓤 H 𝓜 𝓖 𝓡)))
+    headData W (𝓣 .C) (𝓣 .Λ) (fmOf 𝓤 H (W .laws) (tablesOf 𝓤 H 𝓜 𝓣)) #head-at (cited 𝓤 H _ 𝓜 𝓡 code.env #head-at core-def.routine code.calls-line-form·head-at (met.met 𝓤 H 𝓜 𝓖 𝓡)))

@@ -29,4 +29,4 @@ number-spec 𝓤 H 𝓜 𝓖 𝓡 =
     let f : List ℕ → ℕ → Number = λ s at. cappedNumber (numberAt s at) in
     entered 𝓤 H (tripleOf 𝓤 H (𝓖 .A) self.signature (self.spec 𝓤 H (𝓖 .A) (𝓜 .mem) (𝓡 .run))) (𝓣 .C) (𝓣 .Λ) #number code.function (code.unfolded 𝓤 H 𝓜 𝓡)
     (reads R.the-row 𝓤 H (𝓖 .A) (core.clauses 𝓤 H (𝓖 .A) (𝓜 .mem) (𝓡 .run)) (self.clauses 𝓤 H (𝓖 .A) (𝓜 .mem) (𝓡 .run)) (λ κs a. tt) f (λ z. (refl, λ r e. refl)) (λ y. (refl, λ r e. refl))
-    numberData W (𝓣 .C) (𝓣 .Λ) (fmOf 𝓤 H (W .laws) (tablesOf 𝓤 H 𝓜 𝓣)) #number-at (cited 𝓤 H _ 𝓜 𝓡 code.env #number-at core-def.routine code.calls-numeral·number-at (met.met 𝓤 H 𝓜 𝓖 𝓡)))
+    numberData W (𝓣 .C) (𝓣 .Λ) (fmOf 𝓤 H (W .laws) (tablesOf 𝓤 H 𝓜 𝓣)) #number-at (cited 𝓤 H _ 𝓜 𝓡 code.env #number-at core-def.routine code.calls-line-numeral·number-at (met.met 𝓤 H 𝓜 𝓖 𝓡)))
