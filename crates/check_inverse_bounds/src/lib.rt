@@ -88,7 +88,7 @@ pub fn store_columns(
     residuals: &[i64],
     biased: &mut [u64],
     list: &mut [u64],
-    symmetric_rows: bool,
+    symmetric: bool,
     margins: &[u64; 32],
     caps: &[u64; 32],
     weights: &[i64],
@@ -97,7 +97,7 @@ pub fn store_columns(
     requires { ⌜ (0 < n) × ((n ≤ 32) × ((n * n ≤ length (now dst)) × ((n * (n + 1) ≤ length (now biased)) × (n * n ≤ length (now list))))) ⌝ }
     requires { ⌜ InverseRows (now rows) n ⌝ }
     requires { ⌜ ColumnList (now residuals) (n * n) allowedResidual ⌝ }
-    requires { ⌜ (symmetric_rows ≡ true → SymmetricProduct (now rows) (now residuals) n) ⌝ }
+    requires { ⌜ (symmetric ≡ true → SymmetricProduct (now rows) (now residuals) n) ⌝ }
     requires { ⌜ Positive (now margins) n ⌝ }
     requires { ⌜ ColumnList (now weights) n 1024 ⌝ }
     requires { ⌜ Caps (now caps) (now margins) (now weights) n ⌝ }
@@ -109,7 +109,7 @@ pub fn store_columns(
     let mut place = 0;
     let mut start = 0;
     for j in 0..n {
-        let known = if symmetric_rows { j } else { 0 };
+        let known = if symmetric { j } else { 0 };
         let magnitudes = column_magnitudes(list, known, rows, biased, j, place, start, n);
         let column = bounds_of(&magnitudes, margins, caps, weights, n);
         store(dst, j, n, column, n);

@@ -56,8 +56,8 @@ fn compute_bounds_in(
 {
     bias_rows(rows, inverse, n);
     inverse_residuals_of(columns, t, matrix, rows, n);
-    let symmetric_rows = are_symmetric(matrix, inverse, n);
-    let margins = margins_of(t, matrix, inverse, columns, symmetric_rows, weights, n);
+    let symmetric = are_symmetric(matrix, inverse, n);
+    let margins = margins_of(t, matrix, inverse, columns, symmetric, weights, n);
     let residuals = residuals_of(base, matrix, guess, n);
     let m = first_zero(&margins, n);
     let k = first_above(&residuals, 0, allowed, n);
@@ -75,7 +75,7 @@ fn compute_bounds_in(
                 columns,
                 biased,
                 magnitudes,
-                symmetric_rows,
+                symmetric,
                 &margins,
                 &caps,
                 weights,

@@ -89,7 +89,7 @@ pub fn margins_of(
     matrix: &[i64],
     inverse: &[i64],
     columns: &[i64],
-    symmetric_rows: bool,
+    symmetric: bool,
     weights: &[i64],
     n: usize,
 ) -> [u64; 32]
@@ -97,12 +97,12 @@ pub fn margins_of(
     requires { ⌜ MatrixList (now matrix) n ⌝ }
     requires { ⌜ MatrixList (now inverse) n ⌝ }
     requires { ⌜ PrefixIs (pos 0) (now columns) (n * n) (λ (i : ℕ). columnResidual n t (now matrix) (now inverse) (i / n) (i % n)) ⌝ }
-    requires { ⌜ (symmetric_rows ≡ true → Symmetric (now matrix) n × Symmetric (now inverse) n) ⌝ }
+    requires { ⌜ (symmetric ≡ true → Symmetric (now matrix) n × Symmetric (now inverse) n) ⌝ }
     requires { ⌜ ColumnList (now weights) n 1024 ⌝ }
     ensures { λ r. ⌜ PrefixIs 0 r n
         (cutMargin (problemOf n 0 t (now (matrix .entry)) [] [] [] (now (inverse .entry)) (now (weights .entry)))) ⌝ }
 {
-    if symmetric_rows {
+    if symmetric {
         return margins_from(t, columns, weights, n);
     }
     margins_from(t, &defects_of(t, matrix, inverse, n), weights, n)

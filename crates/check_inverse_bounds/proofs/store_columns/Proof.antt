@@ -27,11 +27,11 @@ use Rattle.check_inverse_bounds.proofs.store_columns.Statement.{stateme
 use Rattle.check_inverse_bounds.proofs.store_columns.Tie as tie
 
 abbrev Inv-loop : tie.InvT-loop
-Inv-loop dst₀ rows residuals biased list₀ symmetric-rows margins caps weights n place₀ start₀ j₀ dst list place start j =
+Inv-loop dst₀ rows residuals biased list₀ symmetric margins caps weights n place₀ start₀ j₀ dst list place start j =
     (j ≤ n) × ((Carried 0 (n + 1) j place × Carried 0 n j start) × (((length list ≡ length list₀) × KnownColumns list n j rows biased) × (dst ≡ columnsWritten dst₀ n (λ (i k : ℕ). limitsOf n rows (λ (a : ℕ). at residuals (k * n + a)) (λ (a : ℕ). 0) margins weights i) j)))
 
 abbrev μ-loop : tie.MeasureT-loop
-μ-loop dst₀ rows residuals biased list₀ symmetric-rows margins caps weights n place₀ start₀ j₀ dst list place start j = n - j
+μ-loop dst₀ rows residuals biased list₀ symmetric margins caps weights n place₀ start₀ j₀ dst list place start j = n - j
 
 -- stages on the way: the start, after the raised residuals, and after the sizes of the column
 abbrev begun : tie.After-bias-rows-arg Inv-loop μ-loop → tie.Start Inv-loop μ-loop
@@ -87,7 +87,7 @@ loop-holds c = (omega arith, ((carried-first _ _, carried-first _ _), ((refl, kn
 known-is : (c : tie.After-column-magnitudes-arg2 Inv-loop μ-loop) →
     let k = c .before .before in
     (k .if1 .known ≤ k .before .before .loop .j)
-    × (0 < k .if1 .known → start (k .before) .args .symmetric-rows ≡ true)
+    × (0 < k .if1 .known → start (k .before) .args .symmetric ≡ true)
 known-is c =
     ⊎-elim (λ w. (omega (arith, w .1), λ h. w .0 .taken)) (λ w. (omega (arith, w .1), λ h. absurd (omega (arith, w .1, h)))) (c .before .before .if1 .came)
 
