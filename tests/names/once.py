@@ -10,6 +10,14 @@ DECLARED = re.compile(
 OTHERS = {"mod", "use", "module"}
 SHAPES = re.compile(r".*-(?:none|next|end)")
 KIT = {"std", "io", "libc", "os", "bytes"}
+# What the kit wants beside them: the crate of a type that a value has in one of its fields.
+FIELDS = {
+    "file": {"loader_progress"},
+    "file_check": {"loader"},
+    "convert_writer": {"loader_progress", "loader"},
+    "converter": {"loader"},
+    "samples": {"loader_progress"},
+}
 
 
 def declared(text):
@@ -44,12 +52,12 @@ def named_crates(folder):
 
 
 def dependencies(root):
-    """A crate lists the crates that its own files name, and no other; the kit's own may stand beside them."""
+    """A crate lists the crates that its own files name, what the kit wants beside them, and no other; the kit's own may stand there too."""
     path = root / "crates.txt"
     lines = [line.split(":") for line in path.read_text().split("\n") if re.match(r"[a-z0-9_]+:", line)] if path.is_file() else []
     crates = {name for name, _ in lines}
     for name, listed in lines:
-        named = set(named_crates(root / "crates" / name)) & crates - {name}
+        named = (set(named_crates(root / "crates" / name)) | FIELDS.get(name, set())) & crates - {name}
         for other in sorted(named ^ (set(listed.split()) - KIT)):
             yield f"crates.txt: {name} {'names' if other in named else 'does not name'} {other}"
 

@@ -60,7 +60,7 @@ use Rattle.build.proofs.Contract.{built}
 use Rattle.build.proofs.gather as all-fn
 use Rattle.build.proofs.gather.Symbol.{name as #build·gather}
 use Rattle.reply.specs.Builds.{FinishedStatus}
-use Rattle.reply.proofs.Builds.{built-line}
+use Rattle.reply.proofs.Line.{built-line}
 use Rattle.reply.proofs.builds.finish_status as fin-fn
 use Rattle.reply.proofs.builds.finish_status.Symbol.{name as #reply·builds·finish-status}
 use Rattle.calls_spec.specs.Build.{BuildLineExported}

@@ -1,2 +1,2 @@
 pub mod ReplyIs
-pub mod Builds
+pub mod Line

@@ -1,4 +1,4 @@
-use Rattle.reply.proofs.Builds.{line-status}
+use Rattle.reply.proofs.Line.{line-status}
 use borrow.Author.Needs.{needs}
 use Rattle.reply.proofs.builds.finish_status.Statement.{statement}
 use Rattle.reply.proofs.builds.finish_status.Tie as tie

@@ -2,8 +2,8 @@ use lib.Seq.{length-take-le}
 use native.Mathlib.Omega.{arith}
 use mathlib.Core.Path.{sym}
 use borrow.Author.Needs.{needs}
-use Rattle.samples.proofs.build.built_of.Statement.{statement}
-use Rattle.samples.proofs.build.built_of.Tie as tie
+use Rattle.samples.proofs.building.built_of.Statement.{statement}
+use Rattle.samples.proofs.building.built_of.Tie as tie
 
 marked-matrix-requires : tie.Need-marked-matrix-requires
 marked-matrix-requires c κs = search needs

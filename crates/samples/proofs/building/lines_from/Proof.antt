@@ -2,8 +2,8 @@ use mathlib.Core.Logic.{⊎-elim}
 use Prim.Native.Nat.{_≤_, _-_}
 use native.Mathlib.Omega.{arith}
 use borrow.Author.Needs.{needs}
-use Rattle.samples.proofs.build.lines_from.Statement.{statement}
-use Rattle.samples.proofs.build.lines_from.Tie as tie
+use Rattle.samples.proofs.building.lines_from.Statement.{statement}
+use Rattle.samples.proofs.building.lines_from.Tie as tie
 
 abbrev Inv-loop : tie.InvT-loop
 Inv-loop text start lines₀ count₀ at₀ i₀ lines count at i = (count ≤ i) × (i ≤ 320)
