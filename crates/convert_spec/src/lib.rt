@@ -1,4 +1,4 @@
-// What a converter answers (document 02, Paper 14). Its code stands in the crates conversion and converter.
+// What a converter answers (document 02, Paper 14). Its code stands in the crates convert_writer and converter.
 use rules::Refusal;
 
 pub enum Converted {

@@ -1,4 +1,4 @@
-// What the check of two nets, the second dependent on the first, answers (document 02, Paper 8). Its code stands in the crates couplings, attached_check, held_check
+// What the check of two nets, the second dependent on the first, answers (document 02, Paper 8). Its code stands in the crates dependent_coupling, dependent_net, check_held
 // and dependent_check.
 use rules::Refusal;
 

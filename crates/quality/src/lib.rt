@@ -21,8 +21,8 @@ use quality_spec::Quality;
 use ranges::are_lists_in_range;
 use ranges::are_sizes_in_range;
 use rules::Refusal;
-use weights_spec::is_short;
 use weights_steps::defect_magnitudes;
+use weights_steps::is_short;
 use weights_steps::loads_of;
 use weights_steps::margins_from;
 

@@ -16,9 +16,9 @@ use ranges::are_lists_in_range;
 use ranges::are_sizes_in_range;
 use rules::Refusal;
 use weights_spec::Found;
-use weights_spec::is_short;
 use weights_steps::defect_magnitudes;
 use weights_steps::is_good;
+use weights_steps::is_short;
 use weights_steps::loads_of;
 use weights_steps::next_weights;
 

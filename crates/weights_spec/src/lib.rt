@@ -1,8 +1,4 @@
-// What a search for weights answers (document 02, Paper 7), and 8. The code of the search stands in the crates weight_steps and weight_search.
-ghost use mathlib.Core.Path.{_≡_};
-ghost use Rattle.weights_spec.specs.Request.{anySearchShort};
-use rules::COLUMN_LENGTH;
-use rules::MATRIX_LENGTH;
+// What a search for weights answers (document 02, Paper 7). Its code stands in the crates weights_steps and weights_search.
 use rules::Refusal;
 
 pub enum Found {
@@ -12,11 +8,4 @@ pub enum Found {
     Refused(Refusal),
     // 18: none of the allowed lists is good
     NoneGood,
-}
-
-// 8: whether a matrix list, an inverse or a weight list of these lengths is too short.
-pub fn is_short(a: usize, g: usize, w: usize) -> bool
-    ensures { λ r. ⌜ r ≡ anySearchShort a g w ⌝ }
-{
-    (a < MATRIX_LENGTH) | ((g < MATRIX_LENGTH) | (w < COLUMN_LENGTH))
 }

@@ -1,4 +1,4 @@
-// One step of the sequence of document 02, Paper 7: the sums |D|·w of a list, whether it is good, and the list after it.
+// One step of the sequence of document 02, Paper 7: the sums |D|·w of a list, whether it is good, and the list after it; and 8 of a search.
 ghost use mathlib.Core.Path.{_≡_};
 ghost use Prim.Native.Nat.{ℕ, _*_, _-_, _/_, _%_, _≤_, _<_, _+_, _^_};
 ghost use lib.Dec.{leb, eqb};
@@ -9,6 +9,7 @@ ghost use Rattle.linear.specs.Place.{Carried};
 ghost use Rattle.linear.specs.Reach.{MatrixList};
 ghost use Rattle.check_arrays.specs.Arrays.{PrefixIs};
 ghost use Rattle.check_arrays.specs.Parts.{columnResidual};
+ghost use Rattle.weights_spec.specs.Request.{anySearchShort};
 ghost use Rattle.weights_spec.specs.Sequence.{bits};
 ghost use Rattle.weights_steps.specs.Steps.{Below, storedLoad, storedMargin, shiftedNext};
 use check_biased_rows::ROWS_LENGTH;
@@ -18,6 +19,15 @@ use check_margins::first_zero;
 use integer::larger;
 use integer::magnitude;
 use integer::power;
+use rules::COLUMN_LENGTH;
+use rules::MATRIX_LENGTH;
+
+// 8: whether a matrix list, an inverse or a weight list of these lengths is too short.
+pub fn is_short(a: usize, g: usize, w: usize) -> bool
+    ensures { λ r. ⌜ r ≡ anySearchShort a g w ⌝ }
+{
+    (a < MATRIX_LENGTH) | ((g < MATRIX_LENGTH) | (w < COLUMN_LENGTH))
+}
 
 // |D|, column after column: T·I − G·A is what the residuals of an inverse are with the two matrices exchanged.
 pub fn defect_magnitudes(t: u32, matrix: &[i64], inverse: &[i64], n: usize) -> [u64; 1024]
