@@ -14,7 +14,7 @@ from typing import NamedTuple
 
 from common.mutated import ROOT, close, main
 
-CRATES = ["integer", "linear", "rules", "raised_rows", "reckoning", "symmetry", "differences", "margins", "residuals", "row_sums", "slacks", "ratios", "bounds", "inverse_bounds", "checker", "couplings", "weight_steps", "lower_half", "observation", "gathering", "equations"]
+CRATES = ["integer", "linear", "rules", "check_biased_rows", "check_arrays", "check_symmetry", "check_defects", "check_margins", "check_residuals", "check_allowances", "check_ratios", "check_bounds", "check_inverse_bounds", "check_lists", "dependent_coupling", "weights_steps", "half_fill", "build_lines", "build_gathering", "build_equations"]
 
 TOKEN = re.compile(r"[A-Za-z_]\w*|\d\w*|::|=>|->|\.\.=|\.\.|<<=?|[-+*/%&|^]=|[-+*/%&|^<>=!]=?|[()\[\]{};:,.@#'\"«»]")
 OPEN, CLOSE = "([{", ")]}"
@@ -222,7 +222,7 @@ def sources(crates=CRATES):
 def not_read():
     """The crates with code that a crate with sums can call and that are not read. The checker has no sum of its own."""
     lines = [line.split(":") for line in (ROOT / "crates.txt").read_text().splitlines() if ":" in line]
-    beneath = {used for name, deps in lines if name in CRATES and name != "checker" for used in deps.split() if used not in CRATES}
+    beneath = {used for name, deps in lines if name in CRATES and name != "check_lists" for used in deps.split() if used not in CRATES}
     return sorted(name for name in beneath if any(any(functions(code(text))) for text in sources([name]).values()))
 
 

@@ -183,7 +183,7 @@ def intervals(guess: Sequence[int], bounds: Sequence[int], s: int) -> List[Tuple
 
 
 def check_dependent(main: Proposal, dependent: Proposal, coupling: Rows) -> Tuple[Limits, Limits]:
-    """The limits of two nets, the second hung from the first (kodarfi_check_dependent): the dependent net has the equations A2 * u2 = b2 - C * u1 over the
+    """The limits of two nets, the second dependent on the first (kodarfi_check_dependent): the dependent net has the equations A2 * u2 = b2 - C * u1 over the
     main net's heights u1. `coupling` is C, a row for each of its marks with a number for each of the main net's.
 
     Refused as in check, with refused.net 1 or 2; 3 of the dependent net where C has a number outside its range or the two have not the same s."""

@@ -1,4 +1,4 @@
-"""What must hold of an accepted net and one hung from it, whatever the oracle says (02, Paper 8): "every exact solution of the two nets together
+"""What must hold of an accepted net and one dependent on it, whatever the oracle says (02, Paper 8): "every exact solution of the two nets together
 lies within both lists of limits, tolerances included". The joint systems are solved exactly, for right sides within the tolerances. Both inverses lie within
 theirs."""
 
@@ -46,7 +46,7 @@ def faults(rng, pair, bounds):
     if inverse_of(pair.main.matrix) is None or inverse_of(pair.dependent.matrix) is None:
         yield "accepted, though a matrix has no inverse"
         return
-    for name, net, limits in (("main", pair.main, bounds.main), ("hung", pair.dependent, bounds.dependent)):
+    for name, net, limits in (("main", pair.main, bounds.main), ("dependent", pair.dependent, bounds.dependent)):
         if not inverse_within(net, *inverse_of(net.matrix), limits.inverse):
             yield f"the exact inverse of the {name} net lies outside its limits"
     for right1, right2 in right_sides(rng, pair):
@@ -56,4 +56,4 @@ def faults(rng, pair, bounds):
         if not solution_within(pair.main, q, N1, bounds.main.solution):
             yield "an exact height of the main net lies outside its limit"
         if not solution_within(pair.dependent, q, N2, bounds.dependent.solution):
-            yield "an exact height of the hung net lies outside its limit"
+            yield "an exact height of the dependent net lies outside its limit"

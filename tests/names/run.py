@@ -1,4 +1,4 @@
-"""Each name that a document or a head comment cites exists.
+"""Each name that a document or a head comment cites exists, and what the crates define has one name.
 
   python3 tests/names/run.py               the last line is 'N passed, M failed'
   python3 tests/names/run.py --self-test   made-up documents, right and then wrong in each way of self_test.py
@@ -19,6 +19,8 @@ prover's logs. What counts as a citation:
    document is above 200 characters.
 5. A word in backquotes that has the form of a definition or a theorem, lower-case words with hyphens between them or letters with a capital inside: it
    stands in some source of the repository outside the documents, and in crates outside comments.
+6. Of the crates themselves (once.py): no two files of specs/ and proofs/ define one name at top level, but for the shapes X-none, X-next and X-end; crates.txt
+   lists for each crate the crates that its own files name, and no other; and no line of a proof has six `.before` or more.
 
 Words for anything (CRATE, FILE, NAME, PREFIX), stars and what is made by a run (target/) are no citations."""
 
@@ -28,6 +30,7 @@ from pathlib import Path
 
 sys.path.insert(0, str(Path(__file__).resolve().parent.parent))
 
+import once
 from common.mutated import ROOT, close, main
 
 FOLDERS = "crates|docs|tests|examples|include|scripts|python|bench|programs|\\.ci"
@@ -113,6 +116,7 @@ class Repository:
             checks = (self.paths_in(text, own), self.items_in(text), self.names_in(text, own), self.statements_in(text), self.words_in(text))
             yield from (f"{where}: {fault}" for check in checks for fault in check if fault)
         yield from self.promises()
+        yield from once.faults(self.root)
 
     def judged(self, good, fault):
         self.passed += bool(good)

@@ -24,7 +24,8 @@ FILES = {
     "        0\n    }\n}\n\npub fn add_all(n: u64) -> u64\n{\n    called(n)\n}\n",
     "crates/promises/specs/Sums.antt": "-- Sums.\nabbrev pub SumIsSum : Type 0\nSumIsSum = ⊥\n",
     "crates/promises/specs/False.antt": "-- For `SumIsSum` of Sums.\n",
-    "crates/promises/proofs/Sums.antt": "-- Theorems of specs/Sums.\npub sum-is-sum : statement.SumIsSum\nsum-is-sum = 0\n",
+    "crates.txt": "sums:\npromises: sums\n",
+    "crates/promises/proofs/Sums.antt": "-- Theorems of specs/Sums.\npub sum-is-sum : statement.SumIsSum\nsum-is-sum = 0\n\nuse Rattle.sums.specs.Sum.{sumOf}\n",
 }
 
 # name: file, what stands there, what stands there then, what must be told
@@ -52,6 +53,10 @@ WRONG = {
     "a statement of another file": ("crates/promises/specs/False.antt", "SumIsSum", "SumIsLess", "promises/specs/Sums.antt states no SumIsLess"),
     "a statement without a row": ("docs/PROMISES.md", "`Sums.SumIsSum`", "", "it has no Sums.SumIsSum"),
     "a statement without a theorem": ("crates/promises/proofs/Sums.antt", "statement.SumIsSum", "statement.SumIs", "has no theorem of SumIsSum"),
+    "two laws of one name": ("crates/sums/proofs/Sum.antt", "pub never-far-away : ℕ", "pub sumOf : ℕ\nsumOf = 0\npub never-far-away : ℕ", "sumOf is defined in"),
+    "a crate that is named and not listed": ("crates.txt", "promises: sums", "promises:", "promises names sums"),
+    "a crate that is listed and not named": ("crates.txt", "sums:\n", "sums: promises\n", "sums does not name promises"),
+    "a long way back": ("crates/sums/proofs/Sum.antt", "sum-zero = 0", "sum-zero = c" + " .before" * 6, "6 steps back"),
     "a long line": ("docs/PROMISES.md", "a sum", "a sum " * 40, "the line has"),
 }
 

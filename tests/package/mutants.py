@@ -1,6 +1,6 @@
 """Named mutants of the package: a file, a text in it, another text, and the test that must detect it."""
 
-from package import beside, commands, hanging, pictures, region, shape, sheets
+from package import beside, commands, dependent_nets, pictures, region, shape, sheets
 
 MUTANTS = {
     "a call without its last list": ("library.py", '"kodarfi_quality": [_U32, _U32, *_SIGNED * 3,', '"kodarfi_quality": [_U32, _U32, *_SIGNED * 2,', shape.types_are_the_headers),
@@ -96,20 +96,20 @@ MUTANTS = {
     "no library is a traceback": ("__main__.py", "except (Failure, LibraryMissing) as error:", "except Failure as error:", commands.missing_library_is_2),
     "another solver": ("propose.py", "FINEST_S, FINEST_T = 10, 20", "FINEST_S, FINEST_T = 9, 20", commands.field_lines_to_listing),
     "fractions are cut off": ("nets.py", "listed = [index(number) for number in numbers]", "listed = [int(number) for number in numbers]", beside.other_counts_are_errors),
-    "C with the other sign": ("field.py", "rows[own - 1][mark - 1] -= line.weight", "rows[own - 1][mark - 1] += line.weight", hanging.listings_of_two_nets),
-    "C at one end of a line alone": ("field.py", "((line.to, joined[0]), (line.start, joined[1]))", "((line.to, joined[0]),)", hanging.listings_of_two_nets),
-    "C of lines that came twice": ("field.py", "in {line.key: (line, joined) for line, joined in zip(book.lines, book.joined)}.values():", "in zip(book.lines, book.joined):", hanging.listings_of_two_nets),
-    "a suburb without the main net's limits": ("propose.py", "slack = [S * d + sum(abs(c) * E for c, E in zip(row, limits.solution))", "slack = [S * d + sum(0 * E for c, E in zip(row, limits.solution))", hanging.proposals_of_suburbs_are_good),
-    "a suburb at height 0": ("propose.py", "base = [S * b - sum(c * X for c, X in zip(row, main.guess))", "base = [S * b - sum(0 * X for c, X in zip(row, main.guess))", hanging.proposals_of_suburbs_are_good),
-    "a suburb checked by itself": ("commands.py", "calls.check_dependent(main, proposal, coupling)))", "(limits, calls.check(proposal))))", hanging.limits_hold_of_joint_solutions),
-    "limits of the main net for both": ("commands.py", "(main, proposal), calls.check_dependent", "(main, main), calls.check_dependent", hanging.listings_of_two_nets),
-    "keys are compared when main marks are 0": ("field.py", "        if marks != joined:\n", "        if False:\n", hanging.suburbs_are_judged_by_their_lines),
-    "any mark of the main net": ("field.py", "not 1 <= mark <= main_marks for mark in joined", "not 0 <= mark <= 32 for mark in joined", hanging.suburbs_are_judged_by_their_lines),
-    "main:7 without a main net": ("field.py", "if has_main and at in (1, 2) else None", "if at in (1, 2) else None", hanging.what_is_wrong_with_two_nets_is_told),
-    "a key of the main net": ("field.py", "has_main and at in (1, 2)", "has_main", hanging.what_is_wrong_with_two_nets_is_told),
-    "the wrong file is named": ("commands.py", "    except TextError as error:\n        error.file = 1\n        raise\n    except Refused", "    except Refused", hanging.what_is_wrong_with_two_nets_is_told),
-    "an entry of another steps": ("forms.py", "entries = [entry(X, E, proposal.s)", "entries = [entry(X, E, proposal.s and proposal.s - 1)", hanging.listings_of_two_nets),
-    "steps as fine as ever": ("propose.py", "fits = _finest(finest_s, max", "fits = _finest(FINEST_S, max", hanging.coarse_steps_leave_room),
+    "C with the other sign": ("field.py", "rows[own - 1][mark - 1] -= line.weight", "rows[own - 1][mark - 1] += line.weight", dependent_nets.listings_of_two_nets),
+    "C at one end of a line alone": ("field.py", "((line.to, joined[0]), (line.start, joined[1]))", "((line.to, joined[0]),)", dependent_nets.listings_of_two_nets),
+    "C of lines that came twice": ("field.py", "in {line.key: (line, joined) for line, joined in zip(book.lines, book.joined)}.values():", "in zip(book.lines, book.joined):", dependent_nets.listings_of_two_nets),
+    "a suburb without the main net's limits": ("propose.py", "slack = [S * d + sum(abs(c) * E for c, E in zip(row, limits.solution))", "slack = [S * d + sum(0 * E for c, E in zip(row, limits.solution))", dependent_nets.proposals_of_suburbs_are_good),
+    "a suburb at height 0": ("propose.py", "base = [S * b - sum(c * X for c, X in zip(row, main.guess))", "base = [S * b - sum(0 * X for c, X in zip(row, main.guess))", dependent_nets.proposals_of_suburbs_are_good),
+    "a suburb checked by itself": ("commands.py", "calls.check_dependent(main, proposal, coupling)))", "(limits, calls.check(proposal))))", dependent_nets.limits_hold_of_joint_solutions),
+    "limits of the main net for both": ("commands.py", "(main, proposal), calls.check_dependent", "(main, main), calls.check_dependent", dependent_nets.listings_of_two_nets),
+    "keys are compared when main marks are 0": ("field.py", "        if marks != joined:\n", "        if False:\n", dependent_nets.suburbs_are_judged_by_their_lines),
+    "any mark of the main net": ("field.py", "not 1 <= mark <= main_marks for mark in joined", "not 0 <= mark <= 32 for mark in joined", dependent_nets.suburbs_are_judged_by_their_lines),
+    "main:7 without a main net": ("field.py", "if has_main and at in (1, 2) else None", "if at in (1, 2) else None", dependent_nets.what_is_wrong_with_two_nets_is_told),
+    "a key of the main net": ("field.py", "has_main and at in (1, 2)", "has_main", dependent_nets.what_is_wrong_with_two_nets_is_told),
+    "the wrong file is named": ("commands.py", "    except TextError as error:\n        error.file = 1\n        raise\n    except Refused", "    except Refused", dependent_nets.what_is_wrong_with_two_nets_is_told),
+    "an entry of another steps": ("forms.py", "entries = [entry(X, E, proposal.s)", "entries = [entry(X, E, proposal.s and proposal.s - 1)", dependent_nets.listings_of_two_nets),
+    "steps as fine as ever": ("propose.py", "fits = _finest(finest_s, max", "fits = _finest(FINEST_S, max", dependent_nets.coarse_steps_leave_room),
     "limits of a tenth less": ("forms.py", "entries = [entry(X, E, proposal.s)", "entries = [entry(X, E * 9 // 10, proposal.s)", region.region_lies_within_its_limits),
     "other words than the page's": ("field.py", "the main net has the marks main:1 to main:", "the main net has marks up to main:", region.page_prints_what_it_says),
     "a page with other heights": ("propose.py", "return [X + round(", "return [X + 2 * 2**9 + round(", region.page_says_what_is_so),
@@ -143,5 +143,5 @@ MUTANTS = {
     "HTML for any command": ("__main__.py", 'elif word == "--html" and word in command.files:', 'elif word == "--html":', sheets.pages_as_filters),
     "steps of any scale": ("__main__.py", '(name == "scale" and int(word) > high)', "False", sheets.pages_as_filters),
     "lines through marks": ("layout.py", "found = _off_the_lines(found, pairs)", "found = list(found)", pictures.nothing_lies_over_another),
-    "C with weights of 1": ("field.py", "rows[own - 1][mark - 1] -= line.weight", "rows[own - 1][mark - 1] -= 1", hanging.true_heights_lie_within_the_limits),
+    "C with weights of 1": ("field.py", "rows[own - 1][mark - 1] -= line.weight", "rows[own - 1][mark - 1] -= 1", dependent_nets.true_heights_lie_within_the_limits),
 }

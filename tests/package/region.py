@@ -8,7 +8,7 @@ from functools import lru_cache
 from pathlib import Path
 
 from package.commands import ROOT, acted, inverse_of, open_folder, product
-from package.hanging import limits_of
+from package.dependent_nets import limits_of
 
 REGION = ROOT / "examples" / "region"
 PAGE = ROOT / "docs" / "LARGE-NETS.md"

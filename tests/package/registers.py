@@ -10,7 +10,7 @@ from calls.listing.oracle import Program
 from common.checks import entries_in
 
 from package.commands import WHOLE, problems
-from package.hanging import limits_of
+from package.dependent_nets import limits_of
 from package.kept import called, changed, faults, filled, folder, net, part, rows
 from package.loaded import ROOT
 

@@ -12,11 +12,11 @@ sys.dont_write_bytecode = True
 sys.path.insert(0, str(Path(__file__).resolve().parent.parent))
 
 from common.mutated import main, open_folder, report, results
-from package import beside, commands, hanging, pages, pictures, region, register_mutants, registers, shape, sheets, writers
+from package import beside, commands, dependent_nets, pages, pictures, region, register_mutants, registers, shape, sheets, writers
 from package.loaded import SHARED, SOURCES, Package, copied
 from package.mutants import MUTANTS
 
-TESTS = (*shape.TESTS, *beside.TESTS, *commands.TESTS, *hanging.TESTS, *region.TESTS, *sheets.TESTS, *pictures.TESTS, *registers.TESTS, *writers.TESTS, *pages.TESTS)
+TESTS = (*shape.TESTS, *beside.TESTS, *commands.TESTS, *dependent_nets.TESTS, *region.TESTS, *sheets.TESTS, *pictures.TESTS, *registers.TESTS, *writers.TESTS, *pages.TESTS)
 
 
 def run():

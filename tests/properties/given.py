@@ -7,7 +7,7 @@ from typing import Any, Callable, List, NamedTuple, Tuple
 import kodarfi
 from kodarfi import Limits, Refused
 from kodarfi.forms import proposal_text
-from nets import Case, hung
+from nets import Case, dependent_net
 
 SENTENCES: List[Callable] = []
 
@@ -83,8 +83,8 @@ class Given:
 
     @cached_property
     def dependent(self) -> Any:
-        """A net that hangs from this one, its coupling and its exact inverse; for every other case."""
-        return hung(self.case, self.case.chance("dependent")) if self.case.index % 2 == 0 else None
+        """A net that depends on this one, its coupling and its exact inverse; for every other case."""
+        return dependent_net(self.case, self.case.chance("dependent")) if self.case.index % 2 == 0 else None
 
     @cached_property
     def lines(self) -> List[bytes]:

@@ -4,7 +4,7 @@
   Case             its field lines, its proposal, its exact inverse, and chances for whoever changes it
   equations        document 02, Paper 3: what field lines build
   changed          a proposal with other numbers
-  hung             a net that hangs from a main net, and its coupling"""
+  dependent_net    a net that depends on a main net, and its coupling"""
 
 from random import Random
 from typing import Any, List, NamedTuple, Optional
@@ -159,8 +159,8 @@ def spoiled(rng, proposal):
     return changed(proposal, **{name: put(old, i, put(old[i], j, number) if name in ("matrix", "inverse") else number)})
 
 
-def hung(case: Case, rng):
-    """A net that hangs from a case's, at the same s, and its coupling: most with a guess that is near its exact heights."""
+def dependent_net(case: Case, rng):
+    """A net that depends on a case's, at the same s, and its coupling: most with a guess that is near its exact heights."""
     main = case.proposal
     n = rng.randint(1, 4)
     lines = field_lines(rng, n)

@@ -1,4 +1,4 @@
-"""Sentences of two nets, the second hung from the first, and of two proposals for the same net: document 02, Papers 8 and 13."""
+"""Sentences of two nets, the second dependent on the first, and of two proposals for the same net: document 02, Papers 8 and 13."""
 
 from common.exact import product
 from exact import corners, is_within

@@ -22,7 +22,7 @@ sys.path.insert(1, str(HERE.parent))
 from common.mutated import ROOT, close, main
 from sources import Fault, Sources
 
-BASE = ("checker", "entry", "line", "listing", "loader")
+BASE = ("check_lists", "entry", "line", "listing", "loader")
 CASES = re.compile(r"(Cases|Before|Tightened|Example)\d*")
 STANDARD = (
     "Bool true false not _&&_ _||_ ℕ zero suc _+_ _-_ _*_ _/_ _%_ _^_ _<_ _≤_ max min ℤ _+ℤ_ _-ℤ_ _*ℤ_ _<ℤ_ _≤ℤ_ "

@@ -8,12 +8,12 @@ use Prim.Native.Nat.{ℕ}
 use lib.ListN.{take}
 use Rattle.linear.specs.Matrix.{Vec, Mat}
 use Rattle.enclosure.specs.Reckoning.{bound, inverseBound}
-use Rattle.checked.proofs.Contract.{said-sound}
-use Rattle.form.specs.Form.{bytes}
-use Rattle.line_runs.specs.Lines.{linesOf}
-use Rattle.line_runs.specs.Read.{readingOf}
-use Rattle.line_runs.specs.Run.{forms}
-use Rattle.refusal.specs.declared.FileAnswer.{FileAnswer}
+use Rattle.check_spec.proofs.Contract.{code-sound}
+use Rattle.line_form.specs.Form.{bytes}
+use Rattle.loader_runs.specs.Lines.{linesOf}
+use Rattle.loader_runs.specs.Read.{readingOf}
+use Rattle.loader_runs.specs.Run.{forms}
+use Rattle.listing_refusal.specs.declared.FileAnswer.{FileAnswer}
 use Rattle.file_check.proofs.Forms.{some, heavy}
 use Rattle.listing.specs.Listing.{problemIn, answerOf, ListedAs, AnsweredAs}
 use Rattle.listing.specs.Complete.{Complete}
@@ -21,7 +21,7 @@ use Rattle.listing.proofs.Demand.{accepted-parts, exact-accepted}
 use Rattle.listing.proofs.Entire.{from, inside}
 use Rattle.listing.proofs.Meaning.{answered-none, listed-none}
 use Rattle.good_limits.specs.Good.{FineRounded, OneStep, Good}
-use Rattle.good_limits.proofs.Good.{good}
+use Rattle.good_limits.proofs.Good.{limits-good}
 
 module _ (file : List ℕ) where
   pub file-good : answerOf file ≡ [] → Good (problemIn file) (bound (problemIn file)) (inverseBound (problemIn file))
@@ -31,7 +31,7 @@ module _ (file : List ℕ) where
       let u = readingOf file .state in
       let f = from file (c .lines) (c .end) in
       let r = inside file (c .lines) (c .end) in
-      good (problemIn file) (some u (forms (linesOf file)) f r) (heavy u (forms (linesOf file)) f r) (said-sound (problemIn file) (a .quiet) .margins)
+      limits-good (problemIn file) (some u (forms (linesOf file)) f r) (heavy u (forms (linesOf file)) f r) (code-sound (problemIn file) (a .quiet) .margins)
 
   pub file-one-step : Complete file → (N : Vec) (q : ℕ) (H : Mat) (q′ : ℕ) → FineRounded (problemIn file) N q H q′ →
       (answerOf file ≡ []) × OneStep (problemIn file .n) (bound (problemIn file)) (inverseBound (problemIn file))

@@ -6,9 +6,9 @@ use mathlib.Core.List.{[], _∷_}
 use lib.IntN.{pos, negsuc}
 use lib.ListN.{replicate}
 use Rattle.enclosure.specs.Example.{padded}
-use Rattle.checked.specs.Input.{input}
-use Rattle.dependent.specs.Example.{oneMark}
-use Rattle.dependent.specs.Nets.{Nets, nets}
+use Rattle.check_spec.specs.Input.{input}
+use Rattle.dependent_spec.specs.Example.{oneMark}
+use Rattle.dependent_spec.specs.Nets.{Nets, nets}
 
 abbrev pub fork : Nets
 fork =

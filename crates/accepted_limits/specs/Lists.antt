@@ -4,7 +4,7 @@
 use mathlib.Core.List.{List}
 use Prim.Native.Nat.{ℕ, _+_, _*_}
 use lib.ListN.{getD}
-use Rattle.checked.specs.Input.{Input, problem}
+use Rattle.check_spec.specs.Input.{Input, problem}
 use Rattle.good_limits.specs.Good.{OneStep, Good}
 
 abbrev pub GoodLists : Input → List ℕ → List ℕ → Type 0

@@ -1,6 +1,6 @@
 -- Laws of the tests for loops.
 --   same-none, same-next, same-end — equal numbers, at none, one more, at the end;  last-decides — of four tests, where three hold
---   wide-none, wide-next, wide-end — a limit above 2^36, likewise;  all-narrow, fitting — where none is
+--   wide-none, wide-next, wide-end — a limit above 2^36, likewise;  all-narrow, fitting-of — where none is
 use mathlib.Core.Path.{_≡_, refl, ap, _∙_}
 use mathlib.Core.Bool.{Bool, true, false, _&&_, _||_}
 use mathlib.Core.List.{List}
@@ -14,7 +14,7 @@ use Rattle.integer.proofs.Search.{largest-none, largest-next, largest-end, larg
 use Rattle.linear.specs.Reach.{ColumnList}
 use Rattle.integer.specs.Same.{sameNumber}
 use Rattle.rules.proofs.Every.{every-none, every-next, every-end}
-use Rattle.common.specs.Proposals.{allSame, mostSteps}
+use Rattle.common_spec.specs.Proposals.{allSame, mostSteps}
 use Rattle.common_ends.specs.Met.{limitAt, wideLimits, Fitting}
 
 module _ (f g : ℕ → ℤ) where
@@ -54,5 +54,5 @@ module _ (f : ℕ → ℕ) where
   all-narrow : (n : ℕ) → ltb mostSteps (largest n f) ≡ false → (i : ℕ) → i < n → f i ≤ mostSteps
   all-narrow n e i l = omega (arith, largest-at n f i l, ltb-false mostSteps (largest n f) e)
 
-pub fitting : (n k : ℕ) (X : List ℤ) (E : List ℕ) → k ≤ 20 → ColumnList X n (2 ^ 36) → wideLimits n E ≡ false → Fitting n k X E
-fitting n k X E h x e = record { scale = h; guess = x; narrow = all-narrow (limitAt E) n e }
+pub fitting-of : (n k : ℕ) (X : List ℤ) (E : List ℕ) → k ≤ 20 → ColumnList X n (2 ^ 36) → wideLimits n E ≡ false → Fitting n k X E
+fitting-of n k X E h x e = record { scale = h; guess = x; narrow = all-narrow (limitAt E) n e }

@@ -15,10 +15,10 @@ use Rattle.integer.specs.Finite.{largest}
 use Rattle.linear.specs.Reach.{ColumnList}
 use Rattle.linear.specs.Slice.{at}
 use Rattle.linear.specs.Written.{written}
-use Rattle.common.specs.declared.Common.{Common}
-use Rattle.common.specs.declared.Common.the-variants.{Found, TooWide}
-use Rattle.common.specs.Ends.{maxℤ, minℤ}
-use Rattle.common.specs.Proposals.{mostSteps}
+use Rattle.common_spec.specs.declared.Common.{Common}
+use Rattle.common_spec.specs.declared.Common.the-variants.{Found, TooWide}
+use Rattle.common_spec.specs.Ends.{maxℤ, minℤ}
+use Rattle.common_spec.specs.Proposals.{mostSteps}
 
 abbrev pub limitAt : List ℕ → ℕ → ℕ
 limitAt E i = getD E i 0

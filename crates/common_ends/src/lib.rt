@@ -8,10 +8,10 @@ ghost use Rattle.linear.specs.Reach.{ColumnList};
 ghost use Rattle.linear.specs.Slice.{at};
 ghost use Rattle.integer.specs.Same.{sameNumber};
 ghost use Rattle.linear.specs.Written.{written};
-ghost use Rattle.common.specs.Ends.{maxℤ, minℤ};
-ghost use Rattle.common.specs.Proposals.{proposal, allSame, sameEquations, mostSteps};
+ghost use Rattle.common_spec.specs.Ends.{maxℤ, minℤ};
+ghost use Rattle.common_spec.specs.Proposals.{proposal, allSame, sameEquations, mostSteps};
 ghost use Rattle.common_ends.specs.Met.{wideLimits, lowsOf, highsOf, Fitting, Met};
-use common::Common;
+use common_spec::Common;
 use integer::power;
 
 // 2^36: a solution limit above it is 21.

@@ -1,6 +1,6 @@
 -- From two checks and what is made of their limits to the contract.
 --   short-low, short-high, long-both — 8, by the lengths of the interval lists
---   said-refused, said-accepted — what a check by value says, by its outcome
+--   code-refused, code-accepted — what a check by value says, by its outcome
 --   limit-is — its limits are those of the reckoning
 --   equations-ready, meeting-ready — what the comparison and the ends ask
 --   common-met — the contract, where both are accepted and of the same equations
@@ -16,26 +16,26 @@ use Rattle.integer.specs.Finite.{largest}
 use Rattle.integer.proofs.Search.{largest-ext}
 use Rattle.linear.specs.Reach.{ColumnList}
 use Rattle.linear.proofs.Written.{written-ext}
-use Rattle.rules.specs.Refusal.{said}
+use Rattle.rules.specs.Refusal.{code}
 use Rattle.rules.specs.declared.Outcome.the-variants.{Accepted, Refused}
 use Rattle.rules.specs.declared.Refusal.{Refusal}
 use Rattle.rules.proofs.Ranges.{neither}
 use Rattle.enclosure.specs.Reckoning.{bound}
-use Rattle.checked.specs.Input.{Input, problem}
-use Rattle.checked.specs.Order.{answer}
-use Rattle.checked.proofs.Fit.{Fit}
-use Rattle.checked.proofs.Lengths.{Long, long-of}
-use Rattle.checked.proofs.Statements.{accepted-usable}
-use Rattle.checked.proofs.Written.{solution-written, accepted-fit, solution-at}
-use Rattle.common.specs.declared.Common.{Common}
-use Rattle.common.specs.Answer.{CommonAs}
-use Rattle.common.specs.Ends.{finer, lowEnd, highEnd}
-use Rattle.common.specs.Proposals.{Proposals, shortIntervals, sameEquations, mostSteps, tooWide}
-use Rattle.common.proofs.Contract.{long-low, long-high, common-wide, common-found}
-use Rattle.common.proofs.Equations.{same-of}
+use Rattle.check_spec.specs.Input.{Input, problem}
+use Rattle.check_spec.specs.Order.{answer}
+use Rattle.check_spec.proofs.Fit.{Fit}
+use Rattle.check_spec.proofs.Lengths.{Long, long-of}
+use Rattle.check_spec.proofs.Statements.{accepted-usable}
+use Rattle.check_spec.proofs.Written.{solution-written, accepted-fit, solution-at}
+use Rattle.common_spec.specs.declared.Common.{Common}
+use Rattle.common_spec.specs.Answer.{CommonAs}
+use Rattle.common_spec.specs.Ends.{finer, lowEnd, highEnd}
+use Rattle.common_spec.specs.Proposals.{Proposals, shortIntervals, sameEquations, mostSteps, tooWide}
+use Rattle.common_spec.proofs.Contract.{long-low, long-high, common-wide, common-found}
+use Rattle.common_spec.proofs.Equations.{same-of}
 use Rattle.common_ends.specs.Met.{limitAt, wideLimits, lowsOf, highsOf, Met, too-wide, narrow}
-use Rattle.held_check.specs.Held.{HeldAs}
-use Rattle.held_check.specs.declared.Held.{Held}
+use Rattle.check_held.specs.Held.{HeldAs}
+use Rattle.check_held.specs.declared.Held.{Held}
 
 module _ (Q : Proposals) where
   pub short-low : length (Q .low) < 32 → shortIntervals Q ≡ true
@@ -48,11 +48,11 @@ module _ (Q : Proposals) where
   long-both l h = neither (le-ltb (length (Q .low)) 32 l) (le-ltb (length (Q .high)) 32 h)
 
 module _ (I : Input) (c : Held) (x : HeldAs I c) where
-  pub said-refused : (r : Refusal) → c .outcome ≡ Refused r → said (Refused r) ≡ answer I
-  said-refused r e = ap said (sym e) ∙ x .says
+  pub code-refused : (r : Refusal) → c .outcome ≡ Refused r → code (Refused r) ≡ answer I
+  code-refused r e = ap code (sym e) ∙ x .says
 
-  pub said-accepted : c .outcome ≡ Accepted → answer I ≡ []
-  said-accepted e = sym (x .says) ∙ ap said e
+  pub code-accepted : c .outcome ≡ Accepted → answer I ≡ []
+  code-accepted e = sym (x .says) ∙ ap code e
 
 module _ (I : Input) (a : answer I ≡ []) where
   pub fit : Fit I

@@ -1,10 +1,10 @@
 // Two proposals for the same equations: each height's common interval (document 02, Paper 13).
-ghost use Rattle.common.specs.Answer.{CommonAs};
-ghost use Rattle.common.specs.Proposals.{proposal, proposals};
-use common::Common;
+ghost use Rattle.common_spec.specs.Answer.{CommonAs};
+ghost use Rattle.common_spec.specs.Proposals.{proposal, proposals};
+use check_held::check_held;
 use common_ends::are_equations_same;
 use common_ends::meet;
-use held_check::check_held;
+use common_spec::Common;
 use rules::COLUMN_LENGTH;
 use rules::Outcome;
 
@@ -54,8 +54,8 @@ pub fn common_interval(
         inverse1,
         weights1,
     );
-    let said1 = first.outcome;
-    match said1 {
+    let code1 = first.outcome;
+    match code1 {
         Outcome::Refused(refusal) => Common::First(refusal),
         Outcome::Accepted => {
             let second = check_held(
@@ -69,8 +69,8 @@ pub fn common_interval(
                 inverse2,
                 weights2,
             );
-            let said2 = second.outcome;
-            match said2 {
+            let code2 = second.outcome;
+            match code2 {
                 Outcome::Refused(refusal) => Common::Second(refusal),
                 Outcome::Accepted => {
                     let size = n1 as usize;

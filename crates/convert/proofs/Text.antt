@@ -10,31 +10,31 @@ use lib.Seq.{take-at}
 use Rattle.rules.specs.Refusal.{numberOf, valuesOf}
 use Rattle.rules.specs.declared.Refusal.{Refusal}
 use Rattle.rules.proofs.Verdicts.{accepted-new}
-use Rattle.form.specs.Form.{bytes}
-use Rattle.listing_lines.specs.Line.{each, listLine}
-use Rattle.text.specs.Wrote.{Wrote}
-use Rattle.text.proofs.Wrote.{wider}
-use Rattle.refusal.specs.Refused.{printed, refusedOf}
-use Rattle.refusal.specs.Answered.{Answered}
-use Rattle.refusal.specs.declared.FileAnswer.{FileAnswer}
+use Rattle.line_form.specs.Form.{bytes}
+use Rattle.listing_text.specs.Line.{each, listLine}
+use Rattle.listing_text.specs.Wrote.{Wrote}
+use Rattle.listing_text.proofs.Wrote.{wider}
+use Rattle.listing_refusal.specs.Refused.{printed, refusedOf}
+use Rattle.listing_refusal.specs.Answered.{Answered}
+use Rattle.listing_refusal.specs.declared.FileAnswer.{FileAnswer}
 use Rattle.file_check.specs.Judged.{lineOr}
-use Rattle.old_edition.specs.declared.Conversion.{Conversion}
-use Rattle.old_edition.specs.declared.Converted.the-variants.{Length, Refused, NotConvertible}
-use Rattle.old_edition.specs.Converted.{saidConverted, lengthOf, convertAnswer, convertedText, ConvertedAt}
-use Rattle.old_edition.specs.File.{newFile}
-use Rattle.old_edition.proofs.Text.{text-is}
+use Rattle.convert_spec.specs.declared.Conversion.{Conversion}
+use Rattle.convert_spec.specs.declared.Converted.the-variants.{Length, Refused, NotConvertible}
+use Rattle.convert_spec.specs.Converted.{convertCode, lengthOf, convertAnswer, convertedText, ConvertedAt}
+use Rattle.convert_spec.specs.File.{newFile}
+use Rattle.convert_spec.proofs.Text.{text-is}
 use Rattle.converter.proofs.Handed.{taken-text}
 
 abbrev pub Shown : List ℕ → ℕ → List ℕ → Type 0
 Shown file end p = (end ≡ length (convertedText file)) × (take end p ≡ convertedText file)
 
 module _ (file : List ℕ) {o p : List ℕ} {r : Conversion} (x : ConvertedAt file o p r) (room : length o ≡ 32768) where
-  said-is : convertAnswer file 32768 ≡ saidConverted (r .answer)
-  said-is = ap (convertAnswer file) (sym room) ∙ sym (x .answer .says)
+  code-is : convertAnswer file 32768 ≡ convertCode (r .answer)
+  code-is = ap (convertAnswer file) (sym room) ∙ sym (x .answer .says)
 
   -- the text where something is said
-  refused-text : (k : ℕ) (vs : List ℕ) → saidConverted (r .answer) ≡ k ∷ vs → refusedOf (printed (r .line) (k ∷ vs)) ≡ convertedText file
-  refused-text k vs e = sym (text-is file (k ∷ vs) (said-is ∙ e) ∙ ap (λ (l : ℕ). lineOr (printed l (k ∷ vs)) (newFile file)) (sym (x .line)) ∙ line-first (r .line) vs)
+  refused-text : (k : ℕ) (vs : List ℕ) → convertCode (r .answer) ≡ k ∷ vs → refusedOf (printed (r .line) (k ∷ vs)) ≡ convertedText file
+  refused-text k vs e = sym (text-is file (k ∷ vs) (code-is ∙ e) ∙ ap (λ (l : ℕ). lineOr (printed l (k ∷ vs)) (newFile file)) (sym (x .line)) ∙ line-first (r .line) vs)
     where
       line-first : (l : ℕ) (vs : List ℕ) → lineOr (printed l (k ∷ vs)) (newFile file) ≡ refusedOf (printed l (k ∷ vs))
       line-first l [] = refl
@@ -42,7 +42,7 @@ module _ (file : List ℕ) {o p : List ℕ} {r : Conversion} (x : ConvertedAt fi
 
   pub shown-file : {k : ℕ} → r .answer ≡ Length k → Shown file k p
   shown-file {k} e =
-      let a : convertAnswer file 32768 ≡ [] = said-is ∙ ap saidConverted e in
+      let a : convertAnswer file 32768 ≡ [] = code-is ∙ ap convertCode e in
       let b : convertAnswer file (length o) ≡ [] = ap (convertAnswer file) room ∙ a in
       let n : k ≡ length (newFile file) = ap lengthOf (sym e) ∙ x .answer .size ∙ accepted-new _ _ b in
       let q : p ≡ newFile file ++ drop (length (newFile file)) o = x .answer .bytes ∙ accepted-new _ _ b in
@@ -55,11 +55,11 @@ module _ (file : List ℕ) {o p : List ℕ} {r : Conversion} (x : ConvertedAt fi
 
     pub shown-refusal : {f : Refusal} {q : List ℕ} {a : FileAnswer} → r .answer ≡ Refused f
         → Answered (printed (r .line) (numberOf f ∷ valuesOf f)) (refusedOf (printed (r .line) (numberOf f ∷ valuesOf f))) p q a → Shown file (a .length) q
-    shown-refusal {f} e w = written-shown (w .wrote) (refused-text (numberOf f) (valuesOf f) (ap saidConverted e))
+    shown-refusal {f} e w = written-shown (w .wrote) (refused-text (numberOf f) (valuesOf f) (ap convertCode e))
 
     one-shown : (l : ℕ) → listLine (bytes "(refused ") 22 1 (λ (j : ℕ). getD (l ∷ []) (0 + j) 0) ≡ refusedOf (printed l (22 ∷ []))
     unfolding each
     one-shown l = refl
 
     pub shown-unfit : {q : List ℕ} {end : ℕ} → r .answer ≡ NotConvertible → Wrote 707 p 0 (listLine (bytes "(refused ") 22 1 (λ (j : ℕ). getD (r .line ∷ []) (0 + j) 0)) q end → Shown file end q
-    shown-unfit e w = written-shown (wider 32768 (omega arith) w) (one-shown (r .line) ∙ refused-text 22 [] (ap saidConverted e))
+    shown-unfit e w = written-shown (wider 32768 (omega arith) w) (one-shown (r .line) ∙ refused-text 22 [] (ap convertCode e))

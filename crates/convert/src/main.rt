@@ -2,16 +2,16 @@
 ghost use Prim.Native.Nat.{_≤_};
 ghost use mathlib.Core.Path.{_≡_};
 ghost use lib.ListN.{length, take};
-ghost use Rattle.old_edition.specs.Converted.{convertedText};
+ghost use Rattle.convert_spec.specs.Converted.{convertedText};
+use convert_spec::Converted;
 use converter::convert_file;
 use libc::STDERR_FILENO;
 use libc::STDOUT_FILENO;
-use listing_lines::put_list;
-use old_edition::Converted;
-use refusal::put_refusal;
-use standard_input::Input;
-use standard_input::fill;
-use standard_input::skip_rest;
+use listing_refusal::put_refusal;
+use listing_text::put_list;
+use program_input::Input;
+use program_input::fill;
+use program_input::skip_rest;
 
 fn report(text: &[u8]) {
     io::write_all(STDERR_FILENO, text);
@@ -35,8 +35,8 @@ fn put_text(file: &[u8], out: &mut [u8; 32768]) -> usize
     match answer {
         Converted::Length(length) => length,
         Converted::Refused(refusal) => {
-            let told = put_refusal(out, refusal, conversion.line);
-            told.length
+            let status = put_refusal(out, refusal, conversion.line);
+            status.length
         }
         Converted::NotConvertible => {
             let shown = [conversion.line];

@@ -13,14 +13,14 @@ use lib.ListN.{length, take, drop}
 use lib.Seq.{sets-eq, take-at}
 use Rattle.rules.specs.declared.Refusal.the-variants.{NotEnded}
 use Rattle.rules.proofs.Ranges.{neither-right}
-use Rattle.given_forms.specs.Progress.{ended}
-use Rattle.text.specs.Wrote.{Wrote}
+use Rattle.loader_progress.specs.Progress.{ended}
+use Rattle.listing_text.specs.Wrote.{Wrote}
 use Rattle.file.specs.declared.Collected.{Collected}
-use Rattle.old_edition.specs.declared.Converted.{Converted}
-use Rattle.old_edition.specs.declared.Converted.the-variants.{Length, Refused, NotConvertible}
-use Rattle.old_edition.specs.Converted.{someTolerance, Delivered}
-use Rattle.old_edition.specs.File.{oldFile}
-use Rattle.conversion.specs.Written.{heldBy}
+use Rattle.convert_spec.specs.declared.Converted.{Converted}
+use Rattle.convert_spec.specs.declared.Converted.the-variants.{Length, Refused, NotConvertible}
+use Rattle.convert_spec.specs.Converted.{someTolerance, Delivered}
+use Rattle.convert_spec.specs.File.{oldFile}
+use Rattle.convert_writer.specs.Written.{heldBy}
 use Rattle.converter.specs.Held.{unfit, heldAnswer}
 
 -- what was written from the start on, and the rest as before

@@ -8,13 +8,13 @@ use mathlib.Core.Path.{_≡_}
 use Prim.Native.Nat.{ℕ}
 use lib.Dec.{ltb}
 use lib.ListN.{length}
-use Rattle.given_forms.specs.Progress.{ended}
-use Rattle.line_runs.specs.Holds.{InRange}
+use Rattle.loader_progress.specs.Progress.{ended}
+use Rattle.loader_runs.specs.Holds.{InRange}
 use Rattle.file.specs.declared.Collected.{Collected}
 use Rattle.file.specs.Read.{stateOf}
-use Rattle.old_edition.specs.Converted.{someTolerance}
-use Rattle.old_edition.specs.File.{oldFile}
-use Rattle.conversion.specs.Written.{heldBy}
+use Rattle.convert_spec.specs.Converted.{someTolerance}
+use Rattle.convert_spec.specs.File.{oldFile}
+use Rattle.convert_writer.specs.Written.{heldBy}
 
 abbrev pub InRangeAtEnd : Collected → Type 0
 InRangeAtEnd c = ended (c .loader .stage) ≡ true → InRange (stateOf c)

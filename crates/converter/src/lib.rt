@@ -1,18 +1,18 @@
 // The converter: a file as one that offices on the old edition can read (document 02, Paper 14).
 ghost use lib.ListN.{length};
-ghost use Rattle.old_edition.specs.Converted.{Delivered, ConvertedAs, ConvertedAt};
-ghost use Rattle.old_edition.specs.File.{oldFile};
-ghost use Rattle.conversion.specs.Written.{heldBy};
+ghost use Rattle.convert_spec.specs.Converted.{Delivered, ConvertedAs, ConvertedAt};
+ghost use Rattle.convert_spec.specs.File.{oldFile};
+ghost use Rattle.convert_writer.specs.Written.{heldBy};
 ghost use Rattle.converter.specs.Held.{InRangeAtEnd, unfit, heldAnswer};
-use conversion::has_tolerance;
-use conversion::put_file;
+use convert_spec::Conversion;
+use convert_spec::Converted;
+use convert_writer::has_tolerance;
+use convert_writer::put_file;
 use file::Collected;
 use file::read_file;
-use old_edition::Conversion;
-use old_edition::Converted;
+use listing_text::put_bytes;
 use rules::Outcome;
 use rules::Refusal;
-use text::put_bytes;
 
 // The text at the start of the buffer, or 22 where there is a tolerance or the buffer is shorter than the text.
 fn hand_over(out: &mut [u8], text: &[u8], tolerance: bool) -> Converted

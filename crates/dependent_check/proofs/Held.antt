@@ -14,7 +14,7 @@ use Rattle.linear.specs.Slice.{vectorOf}
 use Rattle.linear.specs.Written.{written}
 use Rattle.linear.proofs.Written.{written-length, written-ext}
 use Rattle.rules.specs.Range.{shortMatrix, shortColumn}
-use Rattle.rules.specs.Refusal.{said}
+use Rattle.rules.specs.Refusal.{code}
 use Rattle.rules.specs.declared.Outcome.{Outcome}
 use Rattle.rules.specs.declared.Outcome.the-variants as outcome
 use Rattle.rules.specs.declared.Refusal.{Refusal}
@@ -22,19 +22,19 @@ use Rattle.rules.specs.declared.Refusal.the-variants.{TooShort}
 use Rattle.rules.proofs.Ranges.{or-right}
 use Rattle.rules.proofs.Verdicts.{accepted-new, accepted-old}
 use Rattle.enclosure.specs.Reckoning.{bound, inverseBound}
-use Rattle.checked.specs.Checked.{Checked}
-use Rattle.checked.specs.Input.{Input, problem, short}
-use Rattle.checked.specs.Order.{answer}
-use Rattle.checked.proofs.Contract.{answer-short}
-use Rattle.checked.proofs.Fit.{Fit}
-use Rattle.checked.proofs.Written.{solution-written, inverse-written, accepted-fit, inverse-place, checked-fit, checked-solution}
-use Rattle.dependent.specs.declared.CheckedNets.the-variants.{Accepted, Main, Dependent}
-use Rattle.dependent.specs.Nets.{Nets, attachedBy, attached}
-use Rattle.dependent.specs.Order.{dependentAnswer}
-use Rattle.dependent.specs.Attached.{AttachedAs}
-use Rattle.dependent.specs.Together.{CheckedTogether}
-use Rattle.dependent.proofs.Contract.{together-main, together-dependent, together-accepted, lent, lent-answer}
-use Rattle.dependent.proofs.Limits.{attached-same}
+use Rattle.check_spec.specs.Checked.{Checked}
+use Rattle.check_spec.specs.Input.{Input, problem, short}
+use Rattle.check_spec.specs.Order.{answer}
+use Rattle.check_spec.proofs.Contract.{answer-short}
+use Rattle.check_spec.proofs.Fit.{Fit}
+use Rattle.check_spec.proofs.Written.{solution-written, inverse-written, accepted-fit, inverse-place, checked-fit, checked-solution}
+use Rattle.dependent_spec.specs.declared.CheckedNets.the-variants.{Accepted, Main, Dependent}
+use Rattle.dependent_spec.specs.Nets.{Nets, dependentBy, dependentOf}
+use Rattle.dependent_spec.specs.Order.{dependentAnswer}
+use Rattle.dependent_spec.specs.Checked.{DependentAs}
+use Rattle.dependent_spec.specs.Together.{CheckedTogether}
+use Rattle.dependent_spec.proofs.Contract.{together-main, together-dependent, together-accepted, lent, lent-answer}
+use Rattle.dependent_spec.proofs.Limits.{dependent-same}
 
 -- 8 by one of the two limit lists, which come last
 by-limits : (I : Input) → shortColumn (length (I .solutionBounds)) || shortMatrix (length (I .inverseBounds)) ≡ true → short I ≡ true
@@ -62,19 +62,19 @@ module _ (J : Nets) where
   own = lent (J .main) (replicate 32 0) (replicate 1024 0)
 
   module _ (h : 32 ≤ length (J .main .solutionBounds)) (g : 1024 ≤ length (J .main .inverseBounds)) {r : Outcome} {E L : List ℕ} (x : Checked own r E L) where
-    said-main : said r ≡ answer (J .main)
-    said-main = x .says ∙ lent-answer (J .main) (replicate 32 0) (replicate 1024 0) h g (lit≤ tt) (lit≤ tt)
+    code-main : code r ≡ answer (J .main)
+    code-main = x .says ∙ lent-answer (J .main) (replicate 32 0) (replicate 1024 0) h g (lit≤ tt) (lit≤ tt)
 
     pub main-refused : (y : Refusal) → r ≡ outcome.Refused y →
         CheckedTogether J (Main y) (J .main .solutionBounds) (J .main .inverseBounds) (J .dependent .solutionBounds) (J .dependent .inverseBounds)
-    main-refused y e = together-main J y (ap said (sym e) ∙ said-main)
+    main-refused y e = together-main J y (ap code (sym e) ∙ code-main)
 
     module _ (e : r ≡ outcome.Accepted) where
       main-accepted : answer (J .main) ≡ []
-      main-accepted = sym said-main ∙ ap said e
+      main-accepted = sym code-main ∙ ap code e
 
       own-accepted : answer own ≡ []
-      own-accepted = sym (x .says) ∙ ap said e
+      own-accepted = sym (x .says) ∙ ap code e
 
       fit : Fit (J .main)
       fit = accepted-fit (J .main) main-accepted
@@ -94,27 +94,27 @@ module _ (J : Nets) where
           ∙ written-length (replicate 1024 0) 0 1 (λ (k : ℕ). inverseBound (problem (J .main)) (k / J .main .n) (k % J .main .n)) (J .main .n * J .main .n)
 
       limit-is : (i : ℕ) → i < J .main .n → getD E i 0 ≡ bound (problem (J .main)) i
-      limit-is i l = checked-solution own r E L x (ap said e) i l
+      limit-is i l = checked-solution own r E L x (ap code e) i l
 
       inverse-is : (k : ℕ) → k < J .main .n * J .main .n → getD L k 0 ≡ inverseBound (problem (J .main)) (k / J .main .n) (k % J .main .n)
       inverse-is k l =
           rw (x .inverse-bounds ∙ inverse-written own own-accepted)
-          (inverse-place own (checked-fit own r E L x (ap said e)) k l)
+          (inverse-place own (checked-fit own r E L x (ap code e)) k l)
 
       module _ {q : Outcome} {K M : List ℕ}
-          (y : AttachedAs (attachedBy (J .main .n) (J .main .s) (vectorOf (J .main .guess)) (λ (j : ℕ). getD E j 0) (J .coupling) (J .dependent)) q K M) where
-        z : AttachedAs (attached J) q K M
-        z = attached-same (J .main .n) (J .main .s) (vectorOf (J .main .guess)) (λ (j : ℕ). getD E j 0) (bound (problem (J .main))) (J .coupling) (J .dependent) limit-is y
+          (y : DependentAs (dependentBy (J .main .n) (J .main .s) (vectorOf (J .main .guess)) (λ (j : ℕ). getD E j 0) (J .coupling) (J .dependent)) q K M) where
+        z : DependentAs (dependentOf J) q K M
+        z = dependent-same (J .main .n) (J .main .s) (vectorOf (J .main .guess)) (λ (j : ℕ). getD E j 0) (bound (problem (J .main))) (J .coupling) (J .dependent) limit-is y
 
         pub dependent-refused : (w : Refusal) → q ≡ outcome.Refused w → CheckedTogether J (Dependent w) (J .main .solutionBounds) (J .main .inverseBounds) K M
         dependent-refused w f =
-            let s : said (outcome.Refused w) ≡ dependentAnswer (attached J) = ap said (sym f) ∙ z .says in
+            let s : code (outcome.Refused w) ≡ dependentAnswer (dependentOf J) = ap code (sym f) ∙ z .says in
             rw (z .solution-bounds ∙ accepted-old _ _ (sym s), z .inverse-bounds ∙ accepted-old _ _ (sym s)) (together-dependent J w main-accepted s)
 
         pub both-accepted : q ≡ outcome.Accepted → {A B : List ℕ} → A ≡ written (J .main .solutionBounds) 0 1 (λ (i : ℕ). getD E i 0) (J .main .n) →
             B ≡ written (J .main .inverseBounds) 0 1 (λ (i : ℕ). getD L i 0) (J .main .n * J .main .n) → CheckedTogether J Accepted A B K M
         both-accepted f {A} {B} a b =
-            let s : dependentAnswer (attached J) ≡ [] = sym (z .says) ∙ ap said f in
+            let s : dependentAnswer (dependentOf J) ≡ [] = sym (z .says) ∙ ap code f in
             together-accepted J main-accepted s
             (a ∙ written-ext (J .main .solutionBounds) 0 1 (λ (i : ℕ). getD E i 0) (bound (problem (J .main))) (J .main .n) limit-is)
             (b ∙ written-ext (J .main .inverseBounds) 0 1 (λ (i : ℕ). getD L i 0) (λ (k : ℕ). inverseBound (problem (J .main)) (k / J .main .n) (k % J .main .n)) (J .main .n * J .main .n) inverse-is)

@@ -1,11 +1,11 @@
-// The check of two nets, the second hung from the first (document 02, Paper 8).
-ghost use Rattle.checked.specs.Input.{input};
-ghost use Rattle.dependent.specs.Nets.{nets};
-ghost use Rattle.dependent.specs.Together.{CheckedTogether};
-use attached_check::check_attached;
-use couplings::copy_limits;
-use dependent::CheckedNets;
-use held_check::check_held;
+// The check of two nets, the second dependent on the first (document 02, Paper 8).
+ghost use Rattle.check_spec.specs.Input.{input};
+ghost use Rattle.dependent_spec.specs.Nets.{nets};
+ghost use Rattle.dependent_spec.specs.Together.{CheckedTogether};
+use check_held::check_held;
+use dependent_coupling::copy_limits;
+use dependent_net::check_dependent_net;
+use dependent_spec::CheckedNets;
 use rules::COLUMN_LENGTH;
 use rules::MATRIX_LENGTH;
 use rules::Outcome;
@@ -69,7 +69,7 @@ pub fn check_dependent(
         Outcome::Accepted => {
             let marks = n1 as usize;
             let limits = held.solution;
-            let own = check_attached(
+            let own = check_dependent_net(
                 marks,
                 s1,
                 guess1,

@@ -12,7 +12,7 @@ use Rattle.integer.proofs.Sum.{sum-ext, sumℕ-ext}
 use Rattle.linear.specs.Matrix.{Vec, Mat, column, apply, product, identity}
 use Rattle.linear.proofs.Slack.{slack-ext}
 use Rattle.enclosure.specs.Problem.{Problem}
-use Rattle.enclosure.specs.Reckoning.{defect, load, margin, residual, slack, allowedResidual, rowSum, exceedsWith, exceedsRow, exceeds, sizesWith, boundFrom, boundWith, bound}
+use Rattle.enclosure.specs.Reckoning.{defect, load, margin, residual, slack, allowedResidual, rowSum, exceedsWith, exceedsRow, exceeds, magnitudesWith, boundFrom, boundWith, bound}
 
 apply-same : (n : ℕ) (A B : Mat) (u v : Vec) (k : ℕ) → ((j : ℕ) → j < n → A k j ≡ B k j) → ((j : ℕ) → j < n → u j ≡ v j) → apply n A u k ≡ apply n B v k
 unfolding apply
@@ -68,13 +68,13 @@ module _ (P Q : Problem) (a : Agreeing P Q) where
   unfolding exceeds
   exceeds-same k l = ap₂ (λ (x y : Bool). x || y) (with-slack-same k l) (exceeds-row-same k l)
 
-  sizes-same : (m : ℕ) → m < P .n → sizesWith P (residual P) (slack P) m ≡ sizesWith R (residual R) (slack R) m
-  unfolding sizesWith
-  sizes-same m l = slack-ext (P .n) (P .G) (Q .G) (residual P) (residual R) (slack P) (slack R) m (λ k lk. a .inverse m k l lk) residual-same slack-same
+  magnitudes-same : (m : ℕ) → m < P .n → magnitudesWith P (residual P) (slack P) m ≡ magnitudesWith R (residual R) (slack R) m
+  unfolding magnitudesWith
+  magnitudes-same m l = slack-ext (P .n) (P .G) (Q .G) (residual P) (residual R) (slack P) (slack R) m (λ k lk. a .inverse m k l lk) residual-same slack-same
 
   pub bound-same : (i : ℕ) → i < P .n → bound P i ≡ bound R i
   unfolding bound boundWith boundFrom
   bound-same i l =
-      largest-ext (P .n) (λ (m : ℕ). ceilDiv (P .w i * sizesWith P (residual P) (slack P) m) (natAbs (margin P m)))
-      (λ (m : ℕ). ceilDiv (Q .w i * sizesWith R (residual R) (slack R) m) (natAbs (margin R m)))
-      (λ m lm. rw (a .weights i l, sizes-same m lm, margin-same m lm))
+      largest-ext (P .n) (λ (m : ℕ). ceilDiv (P .w i * magnitudesWith P (residual P) (slack P) m) (natAbs (margin P m)))
+      (λ (m : ℕ). ceilDiv (Q .w i * magnitudesWith R (residual R) (slack R) m) (natAbs (margin R m)))
+      (λ m lm. rw (a .weights i l, magnitudes-same m lm, margin-same m lm))

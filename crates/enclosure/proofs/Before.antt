@@ -1,7 +1,7 @@
 -- Where all tolerances are 0, the definitions with slack are document 01's (specs/Before), but for Paper 9's test; those of the inverse's columns always are.
 --   exceeds-05 — whatever passes both tests of Paper 9 passes the one before;  sound-05 — whatever is sound was
 --   no-slack — no tolerance is no slack
---   exceeds-before, column-exceeds-before, sizes-before, bound-before, inverse-bound-before — the same numbers
+--   exceeds-before, column-exceeds-before, magnitudes-before, bound-before, inverse-bound-before — the same numbers
 --   sound-before, before-sound — the same problems are sound
 use mathlib.Core.Path.{_≡_, refl, sym, ap, _∙_}
 use mathlib.Core.Bool.{false}
@@ -13,7 +13,7 @@ use Rattle.integer.specs.Finite.{sumℕ}
 use Rattle.integer.proofs.Sum.{sumℕ-*, sumℕ-ext}
 use Rattle.rules.proofs.Ranges.{neither-left}
 use Rattle.enclosure.specs.Problem.{Problem, columnOf}
-use Rattle.enclosure.specs.Reckoning.{margin, residual, slack, allowedResidual, exceedsRow, exceeds, sizesWith, sizes, boundWith, bound, inverseBound}
+use Rattle.enclosure.specs.Reckoning.{margin, residual, slack, allowedResidual, exceedsRow, exceeds, magnitudesWith, magnitudes, boundWith, bound, inverseBound}
 use Rattle.enclosure.specs.Demand.{NoTolerance}
 use Rattle.enclosure.specs.Sound.{Sound}
 use Rattle.enclosure.specs.Schroeder.{image}
@@ -45,9 +45,9 @@ exceeds-before P k e =
 pub column-exceeds-before : (P : Problem) (j k : ℕ) → exceeds05 (columnOf P j) k ≡ exceeds01 (residual (columnOf P j) k)
 column-exceeds-before P j k = exceeds-before (columnOf P j) k (column-exact P j k)
 
-pub sizes-before : (P : Problem) → NoTolerance P → (m : ℕ) → sizes P m ≡ sizes01 P m
-unfolding sizes sizesWith image
-sizes-before P h m =
+pub magnitudes-before : (P : Problem) → NoTolerance P → (m : ℕ) → magnitudes P m ≡ sizes01 P m
+unfolding magnitudes magnitudesWith image
+magnitudes-before P h m =
     omega (arith, none, sumℕ-* (P .n) 0 (λ (j : ℕ). natAbs (P .G m j)))
   where
     none : sumℕ (P .n) (λ (j : ℕ). natAbs (P .G m j) * slack P j) ≡ sumℕ (P .n) (λ (j : ℕ). natAbs (P .G m j) * 0)
@@ -56,8 +56,8 @@ sizes-before P h m =
 pub bound-before : (P : Problem) → NoTolerance P → (i : ℕ) → bound P i ≡ bound01 P i
 unfolding bound boundWith
 bound-before P h i =
-    bound-ext (P .n) (sizesWith P (residual P) (slack P)) (λ (m : ℕ). natAbs (margin P m)) (sizes01 P) (λ (m : ℕ). natAbs (margin P m)) (P .w) i
-    (λ m l. unfold sizes in sizes-before P h m) (λ m l. refl)
+    bound-ext (P .n) (magnitudesWith P (residual P) (slack P)) (λ (m : ℕ). natAbs (margin P m)) (sizes01 P) (λ (m : ℕ). natAbs (margin P m)) (P .w) i
+    (λ m l. unfold magnitudes in magnitudes-before P h m) (λ m l. refl)
 
 pub inverse-bound-before : (P : Problem) (i j : ℕ) → inverseBound P i j ≡ inverseBound01 P i j
 inverse-bound-before P i j = bound-before (columnOf P j) (λ k l. column-exact P j k) i

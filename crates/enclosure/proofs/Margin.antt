@@ -20,11 +20,11 @@ not-above : (k : ℕ) → leZ (negℤ (pos k)) (pos 0) ≡ true
 not-above zero = refl
 not-above (suc k) = refl
 
-less : (a b : ℕ) → a ≤ b → pos a -ℤ pos b ≡ negℤ (pos (b - a))
-less a b h = simp zz (omega arith)
+difference-less : (a b : ℕ) → a ≤ b → pos a -ℤ pos b ≡ negℤ (pos (b - a))
+difference-less a b h = simp zz (omega arith)
 
-more : (a b : ℕ) → b ≤ a → pos a -ℤ pos b ≡ pos (a - b)
-more a b h = simp zz (omega arith)
+difference-more : (a b : ℕ) → b ≤ a → pos a -ℤ pos b ≡ pos (a - b)
+difference-more a b h = simp zz (omega arith)
 
 pub cut-test : (a b : ℕ) → eqb (a - b) 0 ≡ leb a b
 cut-test a b = go (leb a b) refl
@@ -37,8 +37,8 @@ difference-test : (a b : ℕ) → leZ (pos a -ℤ pos b) (pos 0) ≡ leb a b
 difference-test a b = go (leb a b) refl
   where
     go : (t : Bool) → leb a b ≡ t → leZ (pos a -ℤ pos b) (pos 0) ≡ t
-    go true e = rw (less a b (leb-true a b e)) (not-above (b - a))
-    go false e = let l : b < a = leb-false a b e in rw (more a b (omega arith)) (lt-leb (a - b) 0 (omega arith))
+    go true e = rw (difference-less a b (leb-true a b e)) (not-above (b - a))
+    go false e = let l : b < a = leb-false a b e in rw (difference-more a b (omega arith)) (lt-leb (a - b) 0 (omega arith))
 
 module _ (P : Problem) (m : ℕ) where
   pub margin-test : marginFails P m ≡ leb (T P * P .w m) (load P m)

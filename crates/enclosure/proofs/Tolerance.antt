@@ -1,7 +1,7 @@
 -- Laws of tolerances (02, Paper 5).
 --   column-exact — a column of the inverse has none
 --   tolerated — β/ρ within d of b, and A·N / q equal to it: then A·N is within q·d of q·b
---   shifted   — A·(S·N − q·X) less q times the residual S·b − A·X is S times A·N − q·b
+--   residual-shifted — A·(S·N − q·X) less q times the residual S·b − A·X is S times A·N − q·b
 use mathlib.Core.Path.{_≡_, refl, ap, _∙_}
 use Prim.Native.Nat.{ℕ, _*_, _≤_}
 use native.Mathlib.Omega.{arith}
@@ -30,8 +30,8 @@ tolerated ρ q d an b β o e h =
         right : (r q b β : ℤ) → q *ℤ β -ℤ r *ℤ (q *ℤ b) ≡ q *ℤ (β -ℤ r *ℤ b)
         right r q b β = simp ring
 
-pub shifted : (s q an ax b : ℤ) → s *ℤ an -ℤ q *ℤ ax -ℤ q *ℤ (s *ℤ b -ℤ ax) ≡ s *ℤ (an -ℤ q *ℤ b)
-shifted s q an ax b = ap (λ (z : ℤ). s *ℤ an -ℤ q *ℤ ax -ℤ z) (apart s q ax b) ∙ (cancel (s *ℤ an) (q *ℤ ax) (s *ℤ (q *ℤ b)) ∙ joined s q an b)
+pub residual-shifted : (s q an ax b : ℤ) → s *ℤ an -ℤ q *ℤ ax -ℤ q *ℤ (s *ℤ b -ℤ ax) ≡ s *ℤ (an -ℤ q *ℤ b)
+residual-shifted s q an ax b = ap (λ (z : ℤ). s *ℤ an -ℤ q *ℤ ax -ℤ z) (apart s q ax b) ∙ (cancel (s *ℤ an) (q *ℤ ax) (s *ℤ (q *ℤ b)) ∙ joined s q an b)
   where
     apart : (s q ax b : ℤ) → q *ℤ (s *ℤ b -ℤ ax) ≡ s *ℤ (q *ℤ b) -ℤ q *ℤ ax
     apart s q ax b = simp ring

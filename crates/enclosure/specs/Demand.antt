@@ -8,7 +8,7 @@
 --   InLimits P E N q    — every N_i / q lies within its limit of the guess;  InEntryLimits P E N q — and within its entry limit of the entry
 --   Encloses P E L      — the first half, for the limits E of the heights and L of the inverse, with what 02's Papers 2, 5 and 12 add
 --   NoTolerance P       — all d are 0
---   sumOfSizes P        — the sum of |A_ij| over all i and j
+--   sumOfMagnitudes P   — the sum of |A_ij| over all i and j
 --   RoundedExact P N q H q′ — the second half's hypotheses: no tolerance (02, Paper 5: "The second half of demand 3 now presumes that all d are 0"), exact N
 --     and two-sided H, guess and inverse rounded to nearest steps, weights 1, that sum below 2T
 use mathlib.Core.Path.{_≡_}
@@ -59,8 +59,8 @@ pub record Encloses (P : Problem) (E : ℕ → ℕ) (L : ℕ → ℕ → ℕ) : 
 abbrev pub NoTolerance : Problem → Type 0
 NoTolerance P = (i : ℕ) → i < P .n → P .d i ≡ 0
 
-unfoldable pub sumOfSizes : Problem → ℕ
-sumOfSizes P = sumℕ (P .n) (rowSum P)
+unfoldable pub sumOfMagnitudes : Problem → ℕ
+sumOfMagnitudes P = sumℕ (P .n) (rowSum P)
 
 pub record RoundedExact (P : Problem) (N : Vec) (q : ℕ) (H : Mat) (q′ : ℕ) : Type 0 where
   pub exact-right : NoTolerance P
@@ -69,4 +69,4 @@ pub record RoundedExact (P : Problem) (N : Vec) (q : ℕ) (H : Mat) (q′ : ℕ)
   pub near-solution : (i : ℕ) → i < P .n → 2 * natAbs (pos (S P) *ℤ N i -ℤ pos q *ℤ P .X i) ≤ q
   pub near-inverse : (i j : ℕ) → i < P .n → j < P .n → 2 * natAbs (pos (T P) *ℤ H i j -ℤ pos q′ *ℤ P .G i j) ≤ q′
   pub weights : (i : ℕ) → i < P .n → P .w i ≡ 1
-  pub small : sumOfSizes P < 2 * T P
+  pub small : sumOfMagnitudes P < 2 * T P

@@ -1,10 +1,10 @@
 -- How large the numbers of an accepted check are at most; cited by contracts inside.
---   largestSize  — 2^50, of |p_m| with its slack
+--   largestMagnitude — 2^50, of |p_m| with its slack
 --   largestBound — 2^60, of a limit
 use Prim.Native.Nat.{ℕ, _^_}
 
-abbrev pub largestSize : ℕ
-largestSize = 2 ^ 50
+abbrev pub largestMagnitude : ℕ
+largestMagnitude = 2 ^ 50
 
 abbrev pub largestBound : ℕ
 largestBound = 2 ^ 60

@@ -10,15 +10,15 @@
 --   allowedResidual — 2^25 = 33,554,432
 --   exceedsWith r σ k — the size of the residual of row k, and its slack, are above 2^25 together (02, Paper 5: "6 is now given where size of residual plus
 --     slack is above 2^25")
---   sizesWith P r σ m — what w_i is multiplied by in the limits (02, Paper 5: "|p_m| becomes |p_m| plus the sum over j of |G_mj|·S·d_j"), for p = G·r
---   boundFrom n sizes margins w i — the largest over all rows m of w_i·sizes_m / margins_m, each rounded up to a whole number
+--   magnitudesWith P r σ m — what w_i is multiplied by in the limits (02, Paper 5: "|p_m| becomes |p_m| plus the sum over j of |G_mj|·S·d_j"), for p = G·r
+--   boundFrom n magnitudes margins w i — the largest over all rows m of w_i·sizes_m / margins_m, each rounded up to a whole number
 --   boundWith P r σ i — limit i; the size of a margin is the margin, since every margin is above 0 wherever a limit is written
 -- and of the problem's own:
 --   rowSum P k — the sum of |A_kj| along row k
 --   exceedsRow P k — the residual of row k, without slack, is above that sum in size (02, Paper 9: "the residual of row m, without slack, may be at most the
 --     sum of |a| along that row, for the guess and for inverse columns")
 --   exceeds P k — the residual of row k fails one of the two tests (6, and 7 for a column of the inverse; Paper 9: "The 2^25 test with slack also stays")
---   sizes P m, bound P i — the limit in solution steps
+--   magnitudes P m, bound P i — the limit in solution steps
 --   inverseBound P i j — the limit of row i, column j of the inverse, in inverse steps
 use mathlib.Core.Bool.{Bool, _||_}
 use Prim.Native.Nat.{ℕ, _+_, _*_, _^_}
@@ -55,14 +55,14 @@ allowedResidual = 2 ^ 25
 abbrev pub exceedsWith : Vec → (ℕ → ℕ) → ℕ → Bool
 exceedsWith r σ k = ltb allowedResidual (natAbs (r k) + σ k)
 
-unfoldable pub sizesWith : Problem → Vec → (ℕ → ℕ) → ℕ → ℕ
-sizesWith P r σ m = natAbs (apply (P .n) (P .G) r m) + sumℕ (P .n) (λ (j : ℕ). natAbs (P .G m j) * σ j)
+unfoldable pub magnitudesWith : Problem → Vec → (ℕ → ℕ) → ℕ → ℕ
+magnitudesWith P r σ m = natAbs (apply (P .n) (P .G) r m) + sumℕ (P .n) (λ (j : ℕ). natAbs (P .G m j) * σ j)
 
 unfoldable pub boundFrom : ℕ → (ℕ → ℕ) → (ℕ → ℕ) → (ℕ → ℕ) → ℕ → ℕ
-boundFrom n sizes margins w i = largest n (λ (m : ℕ). ceilDiv (w i * sizes m) (margins m))
+boundFrom n magnitudes margins w i = largest n (λ (m : ℕ). ceilDiv (w i * magnitudes m) (margins m))
 
 unfoldable pub boundWith : Problem → Vec → (ℕ → ℕ) → ℕ → ℕ
-boundWith P r σ = boundFrom (P .n) (sizesWith P r σ) (λ (m : ℕ). natAbs (margin P m)) (P .w)
+boundWith P r σ = boundFrom (P .n) (magnitudesWith P r σ) (λ (m : ℕ). natAbs (margin P m)) (P .w)
 
 -- ---- the problem's own
 unfoldable pub rowSum : Problem → ℕ → ℕ
@@ -74,8 +74,8 @@ exceedsRow P k = ltb (rowSum P k) (natAbs (residual P k))
 unfoldable pub exceeds : Problem → ℕ → Bool
 exceeds P k = exceedsWith (residual P) (slack P) k || exceedsRow P k
 
-unfoldable pub sizes : Problem → ℕ → ℕ
-sizes P = sizesWith P (residual P) (slack P)
+unfoldable pub magnitudes : Problem → ℕ → ℕ
+magnitudes P = magnitudesWith P (residual P) (slack P)
 
 unfoldable pub bound : Problem → ℕ → ℕ
 bound P = boundWith P (residual P) (slack P)

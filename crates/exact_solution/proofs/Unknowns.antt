@@ -2,7 +2,7 @@
 --   skip, unskip — the places without place p, and back
 --   sum-skip     — a sum is one of its terms and the sum over the other places
 --   Kernel       — a vector whose first m numbers are not all 0, with B·v = 0 in the first n rows
---   unknowns     — there is one where m is n + 1
+--   more-unknowns — there is one where m is n + 1
 use mathlib.Core.Path.{_≡_, refl, sym, ap, _∙_}
 use mathlib.Core.Bool.{Bool, true, false, cond}
 use Prim.Native.Nat.{ℕ, zero, suc, _-_, _≤_, _<_}
@@ -150,9 +150,9 @@ module _ (n p : ℕ) (B : Mat) (inside : p < suc (suc n)) (some : 0 < natAbs (B 
 is-zero : (z : ℤ) → ltb 0 (natAbs z) ≡ false → z ≡ pos 0
 is-zero z e = abs-zero z (ltb-false 0 (natAbs z) e)
 
-pub unknowns : (n : ℕ) (B : Mat) → Kernel n (suc n) B
-unknowns zero B = record { v = λ j. pos 1; at = 0; below = omega arith; some = omega arith; zero = λ k l. absurd (omega arith) }
-unknowns (suc n) B = go (searched (suc (suc n)) (λ (j : ℕ). ltb 0 (natAbs (B n j)))) (unknowns n B) (λ p. unknowns n (reduced n p B))
+pub more-unknowns : (n : ℕ) (B : Mat) → Kernel n (suc n) B
+more-unknowns zero B = record { v = λ j. pos 1; at = 0; below = omega arith; some = omega arith; zero = λ k l. absurd (omega arith) }
+more-unknowns (suc n) B = go (searched (suc (suc n)) (λ (j : ℕ). ltb 0 (natAbs (B n j)))) (more-unknowns n B) (λ p. more-unknowns n (reduced n p B))
   where
     go : Searched (suc (suc n)) (λ (j : ℕ). ltb 0 (natAbs (B n j))) → Kernel n (suc n) B → ((p : ℕ) → Kernel n (suc n) (reduced n p B)) → Kernel (suc n) (suc (suc n)) B
     go (nowhere e h) K L = without n B (λ j l. is-zero (B n j) (h j l)) K

@@ -1,5 +1,5 @@
 -- Laws of blocks of bytes without a line feed.
---   none-yet, one-more — no byte, and a further one that is no line feed
+--   no-bytes, one-byte-more — no byte, and a further one that is no line feed
 use mathlib.Core.Path.{_≡_, refl}
 use mathlib.Core.Bool.{Bool, true, false, _||_, true≢false}
 use mathlib.Core.List.{List}
@@ -8,19 +8,19 @@ use native.Mathlib.Omega.{arith}
 use borrow.Author.Tests.{eqb-false}
 use lib.Dec.{eqb}
 use lib.ListN.{length, getD, drop}
-use Rattle.line_runs.specs.Length.{lineLength}
-use Rattle.line_runs.proofs.Lines.{length-byte}
-use Rattle.file.specs.Feeds.{Within}
+use Rattle.loader_runs.specs.Length.{lineLength}
+use Rattle.loader_runs.proofs.Lines.{length-byte}
+use Rattle.file.specs.Feeds.{FeedWithin}
 
-pub none-yet : (s : List ℕ) (at : ℕ) (b : Bool) → Within s at 0 b
-none-yet s at b e =
+pub no-bytes : (s : List ℕ) (at : ℕ) (b : Bool) → FeedWithin s at 0 b
+no-bytes s at b e =
     let z : at + 0 ≡ at = omega arith in
     rw z
 
-pub one-more : (s : List ℕ) (at j : ℕ) (b : Bool) → at + j < length s → Within s at j b → Within s at (j + 1) (b || eqb (getD s (at + j) 0) 10)
-one-more s at j b inside w = go b (eqb (getD s (at + j) 0) 10) refl w
+pub one-byte-more : (s : List ℕ) (at j : ℕ) (b : Bool) → at + j < length s → FeedWithin s at j b → FeedWithin s at (j + 1) (b || eqb (getD s (at + j) 0) 10)
+one-byte-more s at j b inside w = go b (eqb (getD s (at + j) 0) 10) refl w
   where
-    go : (b t : Bool) → eqb (getD s (at + j) 0) 10 ≡ t → Within s at j b → Within s at (j + 1) (b || t)
+    go : (b t : Bool) → eqb (getD s (at + j) 0) 10 ≡ t → FeedWithin s at j b → FeedWithin s at (j + 1) (b || t)
     go true t p w e = absurd (true≢false e)
     go false true p w e = absurd (true≢false e)
     go false false p w e =

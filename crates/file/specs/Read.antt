@@ -3,16 +3,16 @@
 use mathlib.Core.List.{List}
 use mathlib.Core.Path.{_≡_}
 use Prim.Native.Nat.{ℕ}
-use Rattle.rules.specs.Refusal.{said}
-use Rattle.lent_lists.specs.Lists.{lists}
-use Rattle.line_runs.specs.Run.{State}
-use Rattle.line_runs.specs.Read.{readingOf}
+use Rattle.rules.specs.Refusal.{code}
+use Rattle.loader_lists.specs.Lists.{lists}
+use Rattle.loader_runs.specs.Run.{State}
+use Rattle.loader_runs.specs.Read.{readingOf}
 use Rattle.file.specs.declared.Collected.{Collected}
 
 abbrev pub stateOf : Collected → State
 stateOf r = record { loader = r .loader; lists = lists (r .matrix) (r .right) (r .tolerance) (r .guess) (r .inverse) (r .weights) }
 
 pub record ReadAs (file : List ℕ) (r : Collected) : Type 0 where
-  pub says : said (r .outcome) ≡ readingOf file .said
+  pub says : code (r .outcome) ≡ readingOf file .code
   pub line : r .line ≡ readingOf file .line
   pub state : stateOf r ≡ readingOf file .state

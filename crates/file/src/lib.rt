@@ -2,16 +2,16 @@
 ghost use mathlib.Core.Path.{_≡_};
 ghost use Prim.Native.Nat.{_+_, _≤_};
 ghost use lib.ListN.{length, drop};
-ghost use Rattle.line_runs.specs.Length.{lineLength};
+ghost use Rattle.loader_runs.specs.Length.{lineLength};
 ghost use Rattle.file.specs.Read.{ReadAs};
-ghost use Rattle.file.specs.Feeds.{Within};
+ghost use Rattle.file.specs.Feeds.{FeedWithin};
 use loader::Loader;
 use rules::Outcome;
 
 // Whether one of 16 bytes is a line feed: all are compared, so that they can be compared at once.
 fn has_feed(file: &[u8], at: usize) -> bool
     requires { ⌜ at + 16 ≤ length (now file) ⌝ }
-    ensures { λ r. ⌜ Within (now (file .entry)) at 16 r ⌝ }
+    ensures { λ r. ⌜ FeedWithin (now (file .entry)) at 16 r ⌝ }
 {
     let mut found = false;
     for j in 0..16 {

@@ -7,12 +7,12 @@ use lib.IntN.{ℤ}
 use Rattle.enclosure.specs.Problem.{Problem}
 use Rattle.enclosure.specs.Reckoning.{bound, inverseBound}
 use Rattle.enclosure.proofs.Agreement.{Agreeing, over, bound-same}
-use Rattle.numeral.specs.Decimal.{decimal}
-use Rattle.listing_lines.specs.Line.{gap, numbers, lineOpening, lineClosing}
-use Rattle.listing_lines.proofs.Each.{each-ext}
-use Rattle.report.specs.Report.{solutionLine, entryLine, inverseLine, reportOf}
-use Rattle.form.specs.Form.{bytes}
-use Rattle.checked.proofs.Agreement.{inverse-same}
+use Rattle.line_numeral.specs.Decimal.{decimal}
+use Rattle.listing_text.specs.Line.{gap, numbers, lineOpening, lineClosing}
+use Rattle.listing_text.proofs.Each.{each-ext}
+use Rattle.listing_report.specs.Report.{solutionLine, entryLine, inverseLine, reportOf}
+use Rattle.line_form.specs.Form.{bytes}
+use Rattle.check_spec.proofs.Agreement.{inverse-same}
 use Rattle.file_check.specs.Judged.{reportedOf}
 
 -- ---- a report has only the first n numbers

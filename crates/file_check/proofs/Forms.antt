@@ -16,21 +16,21 @@ use Rattle.rules.proofs.Ranges.{size-range, inverse-scale-range, weight-range}
 use Rattle.linear.specs.Slice.{at}
 use Rattle.enclosure.specs.Problem.{Problem}
 use Rattle.enclosure.proofs.Agreement.{Agreeing}
-use Rattle.checked.specs.Input.{problem, short}
-use Rattle.checked.specs.Order.{answer, checkedOf}
-use Rattle.checked.proofs.Contract.{answer-ready}
-use Rattle.form.specs.Form.{Form}
-use Rattle.lent_lists.specs.Slot.{Slot, Matrix, Right, Tolerance, Guess, Inverse, Weight, width}
-use Rattle.lent_lists.specs.ListOf.{listOf}
-use Rattle.line_runs.specs.Run.{State}
-use Rattle.line_runs.specs.Given.{valueFrom}
-use Rattle.line_runs.specs.Holds.{InRange}
-use Rattle.line_runs.proofs.Check.{inside}
-use Rattle.line_runs.proofs.End.{FromForms}
+use Rattle.check_spec.specs.Input.{problem, short}
+use Rattle.check_spec.specs.Order.{answer, checkedOf}
+use Rattle.check_spec.proofs.Contract.{answer-ready}
+use Rattle.line_form.specs.Form.{Form}
+use Rattle.loader_lists.specs.Slot.{Slot, Matrix, Right, Tolerance, Guess, Inverse, Weight, width}
+use Rattle.loader_lists.specs.ListOf.{listOf}
+use Rattle.loader_runs.specs.Run.{State}
+use Rattle.loader_runs.specs.Given.{valueFrom}
+use Rattle.loader_runs.specs.Holds.{InRange}
+use Rattle.loader_runs.proofs.Check.{inside}
+use Rattle.loader_runs.proofs.End.{FromForms}
 use Rattle.file_check.specs.Problem.{problemFrom}
 use Rattle.file_check.specs.Judged.{reportedOf}
 use Rattle.file_check.specs.Shown.{inputAt}
-use Rattle.checked.proofs.Agreement.{checked-same}
+use Rattle.check_spec.proofs.Agreement.{checked-same}
 use Rattle.file_check.proofs.Agreed.{reported-same}
 
 module _ (u : State) (fs : List Form) (from : FromForms fs u) where

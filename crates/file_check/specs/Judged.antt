@@ -6,8 +6,8 @@ use Prim.Native.Nat.{ℕ}
 use Rattle.rules.specs.Order.{ifAccepted}
 use Rattle.enclosure.specs.Problem.{Problem}
 use Rattle.enclosure.specs.Reckoning.{bound, inverseBound}
-use Rattle.report.specs.Report.{reportOf}
-use Rattle.refusal.specs.Refused.{refusedOf}
+use Rattle.listing_report.specs.Report.{reportOf}
+use Rattle.listing_refusal.specs.Refused.{refusedOf}
 
 abbrev pub reportedOf : Problem → List ℕ
 reportedOf P = reportOf (P .n) (P .s) (P .X) (bound P) (inverseBound P)

@@ -4,9 +4,9 @@ use mathlib.Core.List.{List}
 use Prim.Native.Nat.{ℕ, suc}
 use lib.IntN.{natAbs}
 use Rattle.enclosure.specs.Problem.{Problem}
-use Rattle.form.specs.Form.{Form}
-use Rattle.lent_lists.specs.Slot.{Matrix, Right, Tolerance, Guess, Inverse, Weight}
-use Rattle.line_runs.specs.Given.{valueFrom, sizeFrom, scalesFrom}
+use Rattle.line_form.specs.Form.{Form}
+use Rattle.loader_lists.specs.Slot.{Matrix, Right, Tolerance, Guess, Inverse, Weight}
+use Rattle.loader_runs.specs.Given.{valueFrom, sizeFrom, scalesFrom}
 
 abbrev pub problemFrom : List Form → Problem
 problemFrom fs = record {

@@ -1,16 +1,16 @@
 -- What a check through a loader gives, as lines; cited by the contract inside. It is what a file's listing shows, once its lines are all accepted.
 --   inputAt u   — what a loader and its lists hand to a check, with limit lists of zeros
 --   CheckedAs u — the contract of the check: what it says, and its limits
---   saidOf u    — what the check says, in the numbers of the refusal's line, which has no line of the file to name
+--   codeOf u    — what the check says, in the numbers of the refusal's line, which has no line of the file to name
 --   shownOf u   — that line, or the report
 use mathlib.Core.List.{List}
 use Prim.Native.Nat.{ℕ}
 use lib.ListN.{replicate}
-use Rattle.checked.specs.Input.{Input, problem}
+use Rattle.check_spec.specs.Input.{Input, problem}
 use Rattle.loader_order.specs.Through.{answerThrough, CheckedThrough}
-use Rattle.line_runs.specs.Run.{State}
-use Rattle.line_runs.specs.Holds.{inputOf}
-use Rattle.refusal.specs.Refused.{printed}
+use Rattle.loader_runs.specs.Run.{State}
+use Rattle.loader_runs.specs.Holds.{inputOf}
+use Rattle.listing_refusal.specs.Refused.{printed}
 use Rattle.file_check.specs.declared.CheckedFile.{CheckedFile}
 use Rattle.file_check.specs.Judged.{reportedOf, lineOr}
 
@@ -20,8 +20,8 @@ inputAt u = inputOf u (replicate 32 0) (replicate 1024 0)
 abbrev pub CheckedAs : State → CheckedFile → Type 0
 CheckedAs u r = CheckedThrough (u .loader .stage) (inputAt u) (r .outcome) (r .solution) (r .inverse)
 
-abbrev pub saidOf : State → List ℕ
-saidOf u = printed 0 (answerThrough (u .loader .stage) (inputAt u))
+abbrev pub codeOf : State → List ℕ
+codeOf u = printed 0 (answerThrough (u .loader .stage) (inputAt u))
 
 abbrev pub shownOf : State → List ℕ
-shownOf u = lineOr (saidOf u) (reportedOf (problem (inputAt u)))
+shownOf u = lineOr (codeOf u) (reportedOf (problem (inputAt u)))

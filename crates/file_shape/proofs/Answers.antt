@@ -13,11 +13,11 @@ use lib.ListN.{take}
 use Rattle.linear.specs.Matrix.{Vec, Mat}
 use Rattle.enclosure.specs.Demand.{RoundedExact}
 use Rattle.enclosure.specs.Problem.{Problem}
-use Rattle.checked.specs.Order.{firstMargin, firstResidual, firstInversePlace, checkedOf}
-use Rattle.form.specs.Form.{Form, bytes}
-use Rattle.line_runs.specs.Holds.{ReckoningSays, accepted, margin, residual, inverseResidual}
-use Rattle.line_runs.proofs.Check.{reckons}
-use Rattle.refusal.specs.Refused.{printed}
+use Rattle.check_spec.specs.Order.{firstMargin, firstResidual, firstInversePlace, checkedOf}
+use Rattle.line_form.specs.Form.{Form, bytes}
+use Rattle.loader_runs.specs.Holds.{ComputedSays, accepted, margin, residual, inverseResidual}
+use Rattle.loader_runs.proofs.Check.{computes}
+use Rattle.listing_refusal.specs.Refused.{printed}
 use Rattle.file_check.specs.Judged.{reportedOf, lineOr}
 use Rattle.file_check.specs.Problem.{problemFrom}
 use Rattle.listing.specs.Cases.{wholeFile, unweightedFile}
@@ -30,19 +30,19 @@ use Rattle.file_shape.specs.Shape.{Shape, Spells, Shaped}
 use Rattle.file_shape.proofs.Complete.{shape-complete, shape-forms, complete-shape}
 
 -- ---- the check's own refusals, in the numbers of the refusal's line
-printed-says : {w : List ℕ} → ReckoningSays w → ReckoningSays (printed 0 w)
+printed-says : {w : List ℕ} → ComputedSays w → ComputedSays (printed 0 w)
 printed-says accepted = accepted
 printed-says (margin row) = margin row
 printed-says (residual row) = residual row
 printed-says (inverseResidual column row) = inverseResidual column row
 
-not-missing : {l : List ℕ} → ReckoningSays l → (count : ℕ) → l ≡ 13 ∷ count ∷ [] → ⊥
+not-missing : {l : List ℕ} → ComputedSays l → (count : ℕ) → l ≡ 13 ∷ count ∷ [] → ⊥
 not-missing accepted c e = let z : _≡_ {A = ℕ} 0 1 = cc in omega arith
 not-missing (margin row) c e = let z : _≡_ {A = ℕ} 5 13 = cc in omega arith
 not-missing (residual row) c e = let z : _≡_ {A = ℕ} 6 13 = cc in omega arith
 not-missing (inverseResidual column row) c e = let z : _≡_ {A = ℕ} 7 13 = cc in omega arith
 
-not-open : {l : List ℕ} → ReckoningSays l → l ≡ 15 ∷ 0 ∷ [] → ⊥
+not-open : {l : List ℕ} → ComputedSays l → l ≡ 15 ∷ 0 ∷ [] → ⊥
 not-open accepted e = let z : _≡_ {A = ℕ} 0 1 = cc in omega arith
 not-open (margin row) e = let z : _≡_ {A = ℕ} 5 15 = cc in omega arith
 not-open (residual row) e = let z : _≡_ {A = ℕ} 6 15 = cc in omega arith
@@ -59,10 +59,10 @@ module _ {n s t : ℕ} {fs : List Form} (h : Shape n s t fs) {file : List ℕ} (
   pub shape-listing : listingOf file ≡ lineOr (printed 0 (checkedOf (problemFrom fs))) (reportedOf (problemFrom fs))
   shape-listing = listing-from file shape-answer ∙ ap (λ (P : Problem). lineOr (printed 0 (checkedOf (problemFrom fs))) (reportedOf P)) shape-problem
 
-  pub shape-says : ReckoningSays (answerOf file)
+  pub shape-says : ComputedSays (answerOf file)
   shape-says =
       let P = problemFrom fs in
-      subst (λ (l : List ℕ). ReckoningSays l) (sym shape-answer) (printed-says (reckons (P .n) (firstMargin P) (firstResidual P) (firstInversePlace P)))
+      subst (λ (l : List ℕ). ComputedSays l) (sym shape-answer) (printed-says (computes (P .n) (firstMargin P) (firstResidual P) (firstInversePlace P)))
 
   pub never-missing : (count : ℕ) → answerOf file ≡ 13 ∷ count ∷ [] → ⊥
   never-missing = not-missing shape-says

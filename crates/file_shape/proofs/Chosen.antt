@@ -2,7 +2,7 @@
 --   left — a form that is left out is a weight
 --   chosen-among, among-chosen, chosen-both — the members of the forms that stay, and forms one after another
 --   count-fewer, count-same — they are at most as many of each kind and number, and as many of each kind but the weights
---   other, fewer-times, chosen-shape — so they have the shape;  chosen-complete — and their text is complete
+--   not-weight, fewer-times, chosen-shape — so they have the shape;  chosen-complete — and their text is complete
 use mathlib.Core.Path.{_≡_, refl, ap, _∙_}
 use mathlib.Core.Bool.{Bool, true, false, cond}
 use mathlib.Core.List.{List, [], _∷_, _++_}
@@ -11,12 +11,12 @@ use native.Mathlib.Omega.{arith}
 use lib.IntN.{ℤ, pos}
 use Rattle.integer.specs.Among.{Among, here, there}
 use Rattle.integer.proofs.Search.{clash}
-use Rattle.form.specs.Form.{Form, problem, scale, row, right, rightWithin, guess, inverse, weight, end}
-use Rattle.form_values.specs.Item.{itemOf, partIndex}
-use Rattle.form_values.specs.declared.Part.{Part}
-use Rattle.form_values.specs.declared.Part.the-variants.{Row, Right, Guess, Inverse, Weight}
-use Rattle.line_runs.specs.Given.{isOf}
-use Rattle.spelled_lines.specs.Ones.{textOf}
+use Rattle.line_form.specs.Form.{Form, problem, scale, row, right, rightWithin, guess, inverse, weight, end}
+use Rattle.loader_values.specs.Item.{itemOf, partIndex}
+use Rattle.loader_values.specs.declared.Part.{Part}
+use Rattle.loader_values.specs.declared.Part.the-variants.{Row, Right, Guess, Inverse, Weight}
+use Rattle.loader_runs.specs.Given.{isOf}
+use Rattle.loader_spelled.specs.Ones.{textOf}
 use Rattle.listing.specs.Complete.{Complete}
 use Rattle.file_shape.specs.Chosen.{stays, chosen}
 use Rattle.file_shape.specs.Shape.{howMany, Times, Shape}
@@ -88,14 +88,14 @@ module _ (keep : ℤ → Bool) where
       go false e h = rw (left f e p k o) (omega arith)
 
 -- ---- the shape
-other : (p : Part) → (partIndex p ≡ 4 → ⊥) → p ≡ Weight → ⊥
-other p o e = o (ap partIndex e)
+not-weight : (p : Part) → (partIndex p ≡ 4 → ⊥) → p ≡ Weight → ⊥
+not-weight p o e = o (ap partIndex e)
 
 fewer-times : (p : Part) {c d : ℕ} → ((p ≡ Weight → ⊥) → d ≡ c) → d ≤ c → Times p c → Times p d
-fewer-times Row same less h = same (other Row (λ e. omega (arith, e))) ∙ h
-fewer-times Right same less h = same (other Right (λ e. omega (arith, e))) ∙ h
-fewer-times Guess same less h = same (other Guess (λ e. omega (arith, e))) ∙ h
-fewer-times Inverse same less h = same (other Inverse (λ e. omega (arith, e))) ∙ h
+fewer-times Row same less h = same (not-weight Row (λ e. omega (arith, e))) ∙ h
+fewer-times Right same less h = same (not-weight Right (λ e. omega (arith, e))) ∙ h
+fewer-times Guess same less h = same (not-weight Guess (λ e. omega (arith, e))) ∙ h
+fewer-times Inverse same less h = same (not-weight Inverse (λ e. omega (arith, e))) ∙ h
 fewer-times Weight same less h = omega (arith, h)
 
 module _ {n s t : ℕ} {fs : List Form} (h : Shape n s t fs) where

@@ -11,24 +11,24 @@ use mathlib.Core.List.{List, [], _∷_, _++_}
 use mathlib.Core.Logic.{_↔_}
 use Prim.Native.Nat.{ℕ}
 use lib.IntN.{pos}
-use Rattle.form.specs.Form.{Form, problem, scale, end}
-use Rattle.form.specs.Spelling.{spell}
-use Rattle.given_forms.specs.Progress.{ended}
-use Rattle.line_runs.specs.Lines.{linesOf}
-use Rattle.line_runs.specs.Read.{zeros}
-use Rattle.line_runs.specs.Run.{State, fromNew, forms}
-use Rattle.line_runs.proofs.Passing.{spelled, forms-spelled}
-use Rattle.spelled_lines.specs.Ones.{textOf}
-use Rattle.spelled_lines.proofs.Runs.{read-run}
+use Rattle.line_form.specs.Form.{Form, problem, scale, end}
+use Rattle.line_form.specs.Spelling.{spell}
+use Rattle.loader_progress.specs.Progress.{ended}
+use Rattle.loader_runs.specs.Lines.{linesOf}
+use Rattle.loader_runs.specs.Read.{zeros}
+use Rattle.loader_runs.specs.Run.{State, fromNew, forms}
+use Rattle.loader_runs.proofs.Passing.{spelled, forms-spelled}
+use Rattle.loader_spelled.specs.Ones.{textOf}
+use Rattle.loader_spelled.proofs.Runs.{read-run}
 use Rattle.listing.specs.Complete.{Complete}
 use Rattle.listing.proofs.Entire.{zeros-long, accepts, ended-run}
 use Rattle.file_shape.specs.Shape.{Shape, Spells, fed, unfed, Shaped}
 use Rattle.file_shape.proofs.Loader.{shape-ends, ends-shape}
 use Rattle.file_shape.proofs.Lines.{text-last, spells-lines, lines-spell}
-use Rattle.file_shape.proofs.Takes.{Ends}
+use Rattle.file_shape.proofs.Takes.{AcceptsToEnd}
 
 -- every line is accepted, and the last is an end
-ends-complete : (file : List ℕ) → Ends (fromNew zeros) (linesOf file) → Complete file
+ends-complete : (file : List ℕ) → AcceptsToEnd (fromNew zeros) (linesOf file) → Complete file
 ends-complete file h =
     let r = read-run 0 (fromNew zeros) (linesOf file) (h .0) in
     record { lines = r .0; end = subst (λ (u : State). ended (u .loader .stage) ≡ true) (sym (r .1)) (h .1) }
@@ -46,7 +46,7 @@ module _ {n s t : ℕ} {fs : List Form} (h : Shape n s t fs) where
     shape-forms = ap forms shape-lines ∙ forms-spelled fs
 
     pub shape-complete : Complete file
-    shape-complete = ends-complete file (subst (λ (ls : List (List ℕ)). Ends (fromNew zeros) ls) (sym shape-lines) (shape-ends zeros zeros-long h))
+    shape-complete = ends-complete file (subst (λ (ls : List (List ℕ)). AcceptsToEnd (fromNew zeros) ls) (sym shape-lines) (shape-ends zeros zeros-long h))
 
   pub text-complete : Complete (textOf fs)
   text-complete = shape-complete (fed refl)

@@ -7,13 +7,13 @@ use mathlib.Core.Bool.{false}
 use mathlib.Core.List.{List}
 use mathlib.Core.Logic.{_↔_}
 use Prim.Native.Nat.{ℕ}
-use Rattle.form.specs.Form.{Form}
-use Rattle.lent_lists.specs.Lists.{Lists, shortLists}
-use Rattle.line_runs.specs.Run.{fromNew}
-use Rattle.line_runs.proofs.Passing.{spelled}
+use Rattle.line_form.specs.Form.{Form}
+use Rattle.loader_lists.specs.Lists.{Lists, shortLists}
+use Rattle.loader_runs.specs.Run.{fromNew}
+use Rattle.loader_runs.proofs.Passing.{spelled}
 use Rattle.file_shape.specs.Shape.{Shape}
 use Rattle.file_shape.proofs.Forms.{shape-takes, takes-shape}
-use Rattle.file_shape.proofs.Takes.{Ends, takes-ends, ends-takes}
+use Rattle.file_shape.proofs.Takes.{AcceptsToEnd, takes-ends, ends-takes}
 
 pub record ShapedLines (lines : List (List ℕ)) : Type 0 where
   pub n : ℕ
@@ -23,14 +23,14 @@ pub record ShapedLines (lines : List (List ℕ)) : Type 0 where
   pub shape : Shape n s t forms
   pub lines-are : lines ≡ spelled forms
 
-pub shape-ends : (l : Lists) → shortLists l ≡ false → {n s t : ℕ} {fs : List Form} → Shape n s t fs → Ends (fromNew l) (spelled fs)
+pub shape-ends : (l : Lists) → shortLists l ≡ false → {n s t : ℕ} {fs : List Form} → Shape n s t fs → AcceptsToEnd (fromNew l) (spelled fs)
 shape-ends l long {fs} h = takes-ends (fromNew l) fs long (shape-takes h)
 
-pub ends-shape : (l : Lists) (lines : List (List ℕ)) → Ends (fromNew l) lines → ShapedLines lines
+pub ends-shape : (l : Lists) (lines : List (List ℕ)) → AcceptsToEnd (fromNew l) lines → ShapedLines lines
 ends-shape l lines h =
     let r = ends-takes (fromNew l) lines h in
     let x = takes-shape (r .forms) (r .takes) in
     record { n = x .n; s = x .s; t = x .t; forms = r .forms; shape = x .shape; lines-are = r .lines-are }
 
-pub loader-exactly : (l : Lists) → shortLists l ≡ false → (lines : List (List ℕ)) → Ends (fromNew l) lines ↔ ShapedLines lines
-loader-exactly l long lines = (ends-shape l lines, λ x. subst (λ (ls : List (List ℕ)). Ends (fromNew l) ls) (sym (x .lines-are)) (shape-ends l long (x .shape)))
+pub loader-exactly : (l : Lists) → shortLists l ≡ false → (lines : List (List ℕ)) → AcceptsToEnd (fromNew l) lines ↔ ShapedLines lines
+loader-exactly l long lines = (ends-shape l lines, λ x. subst (λ (ls : List (List ℕ)). AcceptsToEnd (fromNew l) ls) (sym (x .lines-are)) (shape-ends l long (x .shape)))

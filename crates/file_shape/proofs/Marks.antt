@@ -17,18 +17,18 @@ use lib.IntN.{ℤ, natAbs}
 use lib.ListN.{length}
 use Rattle.integer.proofs.Search.{clash}
 use Rattle.rules.proofs.Ranges.{both-left, both-right, both}
-use Rattle.form.specs.Form.{Form}
-use Rattle.form_values.specs.Item.{itemOf, partIndex}
-use Rattle.form_values.specs.declared.Item.{Item}
-use Rattle.form_values.specs.declared.Item.the-variants.{Of}
-use Rattle.form_values.specs.declared.Part.{Part}
-use Rattle.form_values.specs.declared.Part.the-variants.{Row, Right, Guess, Inverse, Weight}
-use Rattle.form_values.proofs.Capped.{part-same}
-use Rattle.bit_set.specs.Places.{lacking}
-use Rattle.bit_set.proofs.Places.{lacking-none, none-lacking}
-use Rattle.given_forms.specs.Progress.{setOf, given, marked, missing}
-use Rattle.line_runs.specs.Given.{isOf}
-use Rattle.line_runs.proofs.Marks.{given-own, given-else}
+use Rattle.line_form.specs.Form.{Form}
+use Rattle.loader_values.specs.Item.{itemOf, partIndex}
+use Rattle.loader_values.specs.declared.Item.{Item}
+use Rattle.loader_values.specs.declared.Item.the-variants.{Of}
+use Rattle.loader_values.specs.declared.Part.{Part}
+use Rattle.loader_values.specs.declared.Part.the-variants.{Row, Right, Guess, Inverse, Weight}
+use Rattle.loader_values.proofs.Capped.{part-same}
+use Rattle.loader_bit_set.specs.Places.{lacking}
+use Rattle.loader_bit_set.proofs.Places.{lacking-none, none-lacking}
+use Rattle.loader_progress.specs.Progress.{setOf, given, marked, missing}
+use Rattle.loader_runs.specs.Given.{isOf}
+use Rattle.loader_runs.proofs.Marks.{given-own, given-else}
 use Rattle.file_shape.specs.Shape.{howMany, Times}
 
 abbrev pub mark : List ℕ → Part → ℕ → ℕ

@@ -18,19 +18,19 @@ use Rattle.integer.specs.Among.{Among, here, there}
 use Rattle.integer.proofs.Search.{clash}
 use Rattle.rules.specs.Range.{inRange}
 use Rattle.rules.specs.declared.Kind.the-variants as kind
-use Rattle.form.specs.Form.{Form, end}
-use Rattle.form_values.specs.Item.{itemOf}
-use Rattle.form_values.specs.declared.Item.{Item}
-use Rattle.form_values.specs.declared.Item.the-variants.{Of, End}
-use Rattle.form_values.specs.declared.Part.{Part}
-use Rattle.form_values.proofs.Between.{between}
-use Rattle.given_forms.specs.Progress.{given, missing, scaled, ended}
-use Rattle.given_forms.proofs.Progress.{placed-of}
-use Rattle.loader_order.proofs.Said.{Passed}
+use Rattle.line_form.specs.Form.{Form, end}
+use Rattle.loader_values.specs.Item.{itemOf}
+use Rattle.loader_values.specs.declared.Item.{Item}
+use Rattle.loader_values.specs.declared.Item.the-variants.{Of, End}
+use Rattle.loader_values.specs.declared.Part.{Part}
+use Rattle.loader_values.proofs.Between.{from-to}
+use Rattle.loader_progress.specs.Progress.{given, missing, scaled, ended}
+use Rattle.loader_progress.proofs.Progress.{placed-of}
+use Rattle.loader_order.proofs.CodeLaws.{Passed}
 use Rattle.loader.specs.declared.Loader.{Loader}
 use Rattle.loader.specs.Taken.{after}
 use Rattle.loader.proofs.Exact.{formCase}
-use Rattle.spelled_lines.proofs.Forms.{passed-part, passed-end}
+use Rattle.loader_spelled.proofs.Forms.{passed-part, passed-end}
 use Rattle.listing.proofs.WithOnes.{not-in-none}
 use Rattle.file_shape.specs.Shape.{Fits, howMany, Times}
 use Rattle.file_shape.proofs.Fits.{fits-part, Next, a-part, the-end, next-form}
@@ -77,7 +77,7 @@ middle-taken n d h (f ∷ fs) fit o =
     let r = fits-part n f (fit f here) in
     let p = r .part in
     let i = r .number in
-    let b = between 1 n i (r .place) in
+    let b = from-to 1 n i (r .place) in
     let new = unmarked h f fs p i (r .item) (b .from) (b .to) o in (
       h .going,
       (
@@ -110,7 +110,7 @@ taken-middle n d h (f ∷ fs) t =
     go : Next d f → ((p : Part) (i : ℤ) → itemOf f ≡ Of p i → Middle n (after d (Of p i)) fs) → Middle n d (f ∷ fs)
     go (a-part p i e fits) rest =
         let m = rest p i e in
-        let b = between 1 (d .n) i (placed-of (d .stage) (d .n) (Of p i) (rw e at (t .1 .0 .misplaced))) in
+        let b = from-to 1 (d .n) i (placed-of (d .stage) (d .n) (Of p i) (rw e at (t .1 .0 .misplaced))) in
         record {
           others = f ∷ m .others;
           last = ap (λ (gs : List Form). f ∷ gs) (m .last);

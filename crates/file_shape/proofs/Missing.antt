@@ -11,31 +11,31 @@ use native.Mathlib.Omega.{arith}
 use lib.Dec.{eqb}
 use Rattle.integer.specs.Finite.{sumℕ}
 use Rattle.integer.proofs.Sum.{sumℕ-ext}
-use Rattle.form.specs.Form.{Form}
-use Rattle.form_values.specs.Item.{itemOf}
-use Rattle.form_values.specs.declared.Item.{Item}
-use Rattle.form_values.specs.declared.Item.the-variants.{Problem, Scale, Of, End}
-use Rattle.form_values.specs.declared.Part.{Part}
-use Rattle.form_values.specs.declared.Part.the-variants.{Row, Right, Guess, Inverse}
-use Rattle.form_values.proofs.Between.{between}
-use Rattle.bit_set.specs.Places.{hasPlace, lacking}
-use Rattle.lent_lists.specs.Lists.{Lists}
-use Rattle.given_forms.specs.Progress.{setOf, given, missing, misplaced, repeated}
-use Rattle.given_forms.proofs.Progress.{placed-of}
+use Rattle.line_form.specs.Form.{Form}
+use Rattle.loader_values.specs.Item.{itemOf}
+use Rattle.loader_values.specs.declared.Item.{Item}
+use Rattle.loader_values.specs.declared.Item.the-variants.{Problem, Scale, Of, End}
+use Rattle.loader_values.specs.declared.Part.{Part}
+use Rattle.loader_values.specs.declared.Part.the-variants.{Row, Right, Guess, Inverse}
+use Rattle.loader_values.proofs.Between.{from-to}
+use Rattle.loader_bit_set.specs.Places.{hasPlace, lacking}
+use Rattle.loader_lists.specs.Lists.{Lists}
+use Rattle.loader_progress.specs.Progress.{setOf, given, missing, misplaced, repeated}
+use Rattle.loader_progress.proofs.Progress.{placed-of}
 use Rattle.loader.specs.declared.Loader.{Loader}
 use Rattle.loader.specs.Taken.{fresh, after}
 use Rattle.loader.proofs.Accepted.{accepted-form}
-use Rattle.line_runs.specs.Given.{isOf}
-use Rattle.line_runs.specs.Run.{State, fromNew, step, forms}
-use Rattle.line_runs.specs.Accepts.{run, Accepts}
-use Rattle.line_runs.proofs.Runs.{forms-next}
-use Rattle.line_runs.proofs.Sound.{Sound, fresh-sound, fresh-empty, line-sound}
+use Rattle.loader_runs.specs.Given.{isOf}
+use Rattle.loader_runs.specs.Run.{State, fromNew, step, forms}
+use Rattle.loader_runs.specs.Accepts.{run, Accepts}
+use Rattle.loader_runs.proofs.Runs.{forms-next}
+use Rattle.loader_runs.proofs.Sound.{SoundLoader, fresh-sound, fresh-empty, line-sound}
 use Rattle.file_shape.specs.Given.{missingOf}
 use Rattle.file_shape.specs.Shape.{howMany}
 use Rattle.file_shape.proofs.Marks.{mark, mark-one, count-none, count-next, moved}
 
 -- ---- one form
-module _ (d : Loader) (s : Sound d) (f : Form) (fs : List Form) (p : Part) (k : ℕ) (from : 1 ≤ k) where
+module _ (d : Loader) (s : SoundLoader d) (f : Form) (fs : List Form) (p : Part) (k : ℕ) (from : 1 ≤ k) where
   other-marks : {x : Item} → itemOf f ≡ x → isOf p k x ≡ false → after d x .sets ≡ d .sets → mark (after d x .sets) p k + howMany p k fs ≡ mark (d .sets) p k + howMany p k (f ∷ fs)
   other-marks {x} e o q =
       let c : _≡_ {A = ℕ} (cond (isOf p k x) 1 0) 0 = rw o in
@@ -46,11 +46,11 @@ module _ (d : Loader) (s : Sound d) (f : Form) (fs : List Form) (p : Part) (k : 
   form-marks (Problem n) e m r = other-marks e refl refl
   form-marks (Scale u v) e m r = other-marks e refl refl
   form-marks (Of q i) e m r =
-      sym (moved (d .sets) (s .five) q i (between 1 (d .n) i (placed-of (d .stage) (d .n) (Of q i) m) .from) r f fs e p k from)
+      sym (moved (d .sets) (s .five) q i (from-to 1 (d .n) i (placed-of (d .stage) (d .n) (Of q i) m) .from) r f fs e p k from)
   form-marks End e m r = other-marks e refl refl
 
 -- ---- lines, one after another
-marks-run : (u : State) → Sound (u .loader) → (lines : List (List ℕ)) → Accepts u lines → (p : Part) (k : ℕ) → 1 ≤ k →
+marks-run : (u : State) → SoundLoader (u .loader) → (lines : List (List ℕ)) → Accepts u lines → (p : Part) (k : ℕ) → 1 ≤ k →
     mark (run u lines .loader .sets) p k ≡ mark (u .loader .sets) p k + howMany p k (forms lines)
 unfolding run
 marks-run u s [] a p k from = unfold forms in omega (arith, count-none p k)

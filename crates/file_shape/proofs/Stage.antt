@@ -10,19 +10,19 @@ use borrow.Author.Tests.{not-false}
 use lib.IntN.{ℤ}
 use Rattle.integer.specs.Among.{Among, here, there}
 use Rattle.integer.proofs.Search.{clash}
-use Rattle.form.specs.Form.{Form, problem, scale, row, right, rightWithin, guess, inverse, weight, end}
-use Rattle.form_values.specs.Item.{itemOf}
-use Rattle.lent_lists.specs.Lists.{Lists}
-use Rattle.given_forms.specs.Progress.{sized, scaled, ended, early}
-use Rattle.given_forms.specs.declared.Stage.{Stage}
-use Rattle.given_forms.proofs.Progress.{late}
+use Rattle.line_form.specs.Form.{Form, problem, scale, row, right, rightWithin, guess, inverse, weight, end}
+use Rattle.loader_values.specs.Item.{itemOf}
+use Rattle.loader_lists.specs.Lists.{Lists}
+use Rattle.loader_progress.specs.Progress.{sized, scaled, ended, early}
+use Rattle.loader_progress.specs.declared.Stage.{Stage}
+use Rattle.loader_progress.proofs.Progress.{late}
 use Rattle.loader.specs.declared.Loader.{Loader}
 use Rattle.loader.specs.Taken.{after}
 use Rattle.loader.proofs.Accepted.{accepted-form}
-use Rattle.line_runs.specs.Run.{State, fromNew, step, forms}
-use Rattle.line_runs.specs.Accepts.{run, Accepts}
-use Rattle.line_runs.proofs.Runs.{collected, forms-next}
-use Rattle.line_runs.proofs.Sound.{fresh-sound}
+use Rattle.loader_runs.specs.Run.{State, fromNew, step, forms}
+use Rattle.loader_runs.specs.Accepts.{run, Accepts}
+use Rattle.loader_runs.proofs.Runs.{collected, forms-next}
+use Rattle.loader_runs.proofs.Sound.{fresh-sound}
 use Rattle.file_shape.specs.Given.{GivenBy}
 use Rattle.file_shape.proofs.Missing.{given-new, missing-new}
 

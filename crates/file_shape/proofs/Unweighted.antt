@@ -8,7 +8,7 @@ use Prim.Native.Nat.{ℕ}
 use lib.IntN.{ℤ}
 use Rattle.integer.specs.Among.{Among}
 use Rattle.integer.proofs.Search.{clash}
-use Rattle.form.specs.Form.{Form, problem, scale, row, right, rightWithin, guess, inverse, weight, end}
+use Rattle.line_form.specs.Form.{Form, problem, scale, row, right, rightWithin, guess, inverse, weight, end}
 use Rattle.listing.specs.Listing.{listingOf}
 use Rattle.listing.specs.LeftOut.{OnlyOnes}
 use Rattle.listing.proofs.LeftOut.{without-weights}
@@ -18,19 +18,19 @@ use Rattle.file_shape.proofs.Chosen.{chosen-among, among-chosen, chosen
 use Rattle.file_shape.proofs.Complete.{shape-complete, shape-forms}
 use Rattle.file_shape.proofs.Middle.{among-cases}
 
-abbrev none : ℤ → Bool
-none i = false
+abbrev keepNone : ℤ → Bool
+keepNone i = false
 
 none-left : (fs : List Form) (i w : ℤ) → Among (weight i w) (unweighted fs) → ⊥
 unfolding chosen
-none-left (f ∷ fs) i w a = go (stays none f) refl a (none-left fs i w)
+none-left (f ∷ fs) i w a = go (stays keepNone f) refl a (none-left fs i w)
   where
-    go : (b : Bool) → stays none f ≡ b → Among (weight i w) (cond b (f ∷ unweighted fs) (unweighted fs)) → (Among (weight i w) (unweighted fs) → ⊥) → ⊥
+    go : (b : Bool) → stays keepNone f ≡ b → Among (weight i w) (cond b (f ∷ unweighted fs) (unweighted fs)) → (Among (weight i w) (unweighted fs) → ⊥) → ⊥
     go true e b rest =
-        among-cases (λ (g : Form). g ≡ weight i w → ⊥) b (λ q. clash (stays none f) e (ap (stays none) q)) (λ g c q. rest (subst (λ (h : Form). Among h (unweighted fs)) q c)) refl
+        among-cases (λ (g : Form). g ≡ weight i w → ⊥) b (λ q. clash (stays keepNone f) e (ap (stays keepNone) q)) (λ g c q. rest (subst (λ (h : Form). Among h (unweighted fs)) q c)) refl
     go false e b rest = rest b
 
-other-stays : (f : Form) → ((i w : ℤ) → f ≡ weight i w → ⊥) → stays none f ≡ true
+other-stays : (f : Form) → ((i w : ℤ) → f ≡ weight i w → ⊥) → stays keepNone f ≡ true
 other-stays (problem n) o = refl
 other-stays (scale s t) o = refl
 other-stays (row i a zs) o = refl
@@ -44,13 +44,13 @@ other-stays end o = refl
 module _ {n s t : ℕ} {fs : List Form} (h : Shape n s t fs) (ones : OnlyOnes fs) {file file′ : List ℕ} (x : Spells fs file) (x′ : Spells (unweighted fs) file′) where
   pub unweighted-listing : listingOf file′ ≡ listingOf file
   unweighted-listing =
-      let k = chosen-shape h none in
+      let k = chosen-shape h keepNone in
       let a = shape-forms h x in
       let b = shape-forms k x′ in
       without-weights file′ file (shape-complete k x′) (shape-complete h x)
       (λ f o. (
-        λ m. subst (λ (gs : List Form). Among f gs) (sym a) (chosen-among none fs (subst (λ (gs : List Form). Among f gs) b m)),
-        λ m. subst (λ (gs : List Form). Among f gs) (sym b) (among-chosen none fs (other-stays f o) (subst (λ (gs : List Form). Among f gs) a m)),
+        λ m. subst (λ (gs : List Form). Among f gs) (sym a) (chosen-among keepNone fs (subst (λ (gs : List Form). Among f gs) b m)),
+        λ m. subst (λ (gs : List Form). Among f gs) (sym b) (among-chosen keepNone fs (other-stays f o) (subst (λ (gs : List Form). Among f gs) a m)),
       ))
       (λ i w m. none-left fs i w (subst (λ (gs : List Form). Among (weight i w) gs) b m))
       (λ i w m. ones i w (subst (λ (gs : List Form). Among (weight i w) gs) a m))

@@ -4,7 +4,7 @@
 use mathlib.Core.Bool.{Bool, true, false, cond}
 use mathlib.Core.List.{List, [], _∷_}
 use lib.IntN.{ℤ}
-use Rattle.form.specs.Form.{Form, problem, scale, row, right, rightWithin, guess, inverse, weight, end}
+use Rattle.line_form.specs.Form.{Form, problem, scale, row, right, rightWithin, guess, inverse, weight, end}
 
 abbrev pub stays : (ℤ → Bool) → Form → Bool
 stays keep (problem n) = true

@@ -11,14 +11,14 @@ use lib.Dec.{eqb}
 use lib.IntN.{ℤ}
 use Rattle.integer.specs.Among.{Among}
 use Rattle.integer.specs.Finite.{sumℕ}
-use Rattle.form.specs.Form.{Form, problem, scale, end}
-use Rattle.form_values.specs.declared.Part.{Part}
-use Rattle.given_forms.specs.Progress.{given, counted, totalOver, missing, sized, scaled, ended}
+use Rattle.line_form.specs.Form.{Form, problem, scale, end}
+use Rattle.loader_values.specs.declared.Part.{Part}
+use Rattle.loader_progress.specs.Progress.{given, countedParts, totalOver, missing, sized, scaled, ended}
 use Rattle.loader.specs.declared.Loader.{Loader}
 use Rattle.file_shape.specs.Shape.{howMany}
 
 abbrev pub missingOf : ℕ → List Form → ℕ
-missingOf n fs = totalOver counted (λ (p : Part). sumℕ n (λ (i : ℕ). cond (eqb (howMany p (suc i) fs) 0) 1 0))
+missingOf n fs = totalOver countedParts (λ (p : Part). sumℕ n (λ (i : ℕ). cond (eqb (howMany p (suc i) fs) 0) 1 0))
 
 pub record GivenBy (d : Loader) (fs : List Form) : Type 0 where
   pub problem-given : (sized (d .stage) ≡ true) ↔ ((n : ℤ) × Among (problem n) fs)

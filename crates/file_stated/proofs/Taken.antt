@@ -2,7 +2,7 @@
 --   form-step — an accepted line is the spelling of a form, and leaves what that form leaves;  spelled-step — so it is of the spelling of a form
 --   made-run  — the loader after a run of lines was made by `new` and `take`, where that before was
 --   Runs, runs-next, taken-runs, runs-taken — lines are taken, and leave a state, exactly where every line is accepted and the run leaves it
---   Split, split — a file's lines are all accepted, or one of them is the first that is refused
+--   AllOrFirst, all-or-first — a file's lines are all accepted, or one of them is the first that is refused
 --   read-past — what is read after lines that are accepted
 use mathlib.Core.Path.{_≡_, refl, sym, ap, subst, _∙_}
 use mathlib.Core.List.{List, [], _∷_, _++_}
@@ -10,18 +10,18 @@ use mathlib.Core.Option.{some}
 use Prim.Native.Nat.{ℕ, _+_}
 use native.Mathlib.Omega.{arith}
 use lib.ListN.{length}
-use Rattle.form.specs.Form.{Form}
-use Rattle.form.specs.Spelling.{spell}
-use Rattle.form.specs.Reading.{reading}
-use Rattle.form.proofs.Spelling.{read-spelled, spelled-read}
+use Rattle.line_form.specs.Form.{Form}
+use Rattle.line_form.specs.Spelling.{spell}
+use Rattle.line_form.specs.Reading.{reading}
+use Rattle.line_form.proofs.Spelling.{read-spelled, spelled-read}
 use Rattle.loader.specs.Answer.{lineAnswer}
 use Rattle.loader.proofs.Accepted.{accepted-form}
-use Rattle.line_runs.specs.Read.{readFrom}
-use Rattle.line_runs.specs.Run.{State, step}
-use Rattle.line_runs.specs.Accepts.{run, Accepts, Made, taken}
-use Rattle.line_runs.proofs.Read.{read-accepted}
-use Rattle.line_stated.specs.Stated.{LineStated}
-use Rattle.line_stated.proofs.Stated.{made-exactly}
+use Rattle.loader_runs.specs.Read.{readFrom}
+use Rattle.loader_runs.specs.Run.{State, step}
+use Rattle.loader_runs.specs.Accepts.{run, Accepts, Made, taken}
+use Rattle.loader_runs.proofs.Read.{read-accepted}
+use Rattle.loader_stated.specs.Stated.{LineStated}
+use Rattle.loader_stated.proofs.Stated.{made-exactly}
 use Rattle.file_stated.specs.Stated.{afterForm, TakenLines, none, next}
 
 -- ---- a line
@@ -68,21 +68,21 @@ runs-taken u (line ∷ lines) m a =
     (next (x .0) lines (subst (λ (b : List ℕ). LineStated (u .loader) (u .lists) b []) (x .1 .0) s) (subst (λ (v : State). TakenLines v lines (run (step u line) lines)) (x .1 .1) t))
 
 -- ---- the first that is refused
-pub data Split (u : State) (lines : List (List ℕ)) : Type 0 where
-  all : Accepts u lines → Split u lines
+pub data AllOrFirst (u : State) (lines : List (List ℕ)) : Type 0 where
+  all : Accepts u lines → AllOrFirst u lines
   refused : (first : List (List ℕ)) (line : List ℕ) (rest : List (List ℕ)) (k : ℕ) (vs : List ℕ) → lines ≡ first ++ (line ∷ rest) → Accepts u first →
-      lineAnswer (run u first .loader) (run u first .lists) line ≡ k ∷ vs → Split u lines
+      lineAnswer (run u first .loader) (run u first .lists) line ≡ k ∷ vs → AllOrFirst u lines
 
-pub split : (u : State) (lines : List (List ℕ)) → Split u lines
+pub all-or-first : (u : State) (lines : List (List ℕ)) → AllOrFirst u lines
 unfolding run
-split u [] = all tt
-split u (line ∷ lines) = go (lineAnswer (u .loader) (u .lists) line) refl (split (step u line) lines)
+all-or-first u [] = all tt
+all-or-first u (line ∷ lines) = go (lineAnswer (u .loader) (u .lists) line) refl (all-or-first (step u line) lines)
   where
-    later : lineAnswer (u .loader) (u .lists) line ≡ [] → Split (step u line) lines → Split u (line ∷ lines)
+    later : lineAnswer (u .loader) (u .lists) line ≡ [] → AllOrFirst (step u line) lines → AllOrFirst u (line ∷ lines)
     later e (all a) = all (e, a)
     later e (refused first l rest k vs p a q) = refused (line ∷ first) l rest k vs (ap (λ (ls : List (List ℕ)). line ∷ ls) p) (e, a) q
 
-    go : (w : List ℕ) → lineAnswer (u .loader) (u .lists) line ≡ w → Split (step u line) lines → Split u (line ∷ lines)
+    go : (w : List ℕ) → lineAnswer (u .loader) (u .lists) line ≡ w → AllOrFirst (step u line) lines → AllOrFirst u (line ∷ lines)
     go [] e h = later e h
     go (k ∷ vs) e h = refused [] line lines k vs refl tt e
 

@@ -1,10 +1,10 @@
 -- Files and what is said of them, in the numbers of the refusal's line.
 --   FileRow    — a file, and what is said of it
 --   fileRows   — such files: a refused line, forms missing at an end, no end, a margin of 0 or less
---   RowsStated — what is said of each has its stated case
+--   FileRowsStated — what is said of each has its stated case
 use mathlib.Core.List.{List, [], _∷_}
 use Prim.Native.Nat.{ℕ}
-use Rattle.form.specs.Form.{bytes}
+use Rattle.line_form.specs.Form.{bytes}
 use Rattle.file_stated.specs.Stated.{FileStated}
 
 pub record FileRow : Type 0 where
@@ -25,6 +25,6 @@ fileRows =
     ∷ record { file = bytes "(problem 1)\n(scale 0 4)\n(row 1 (4))\n(right 1 0)\n(guess 1 0)\n(inverse 1 (0))\n(end)\n"; says = 5 ∷ 1 ∷ [] }
     ∷ []
 
-abbrev pub RowsStated : List FileRow → Type 0
-RowsStated [] = Unit
-RowsStated (c ∷ cs) = FileStated (c .file) (c .says) × RowsStated cs
+abbrev pub FileRowsStated : List FileRow → Type 0
+FileRowsStated [] = Unit
+FileRowsStated (c ∷ cs) = FileStated (c .file) (c .says) × FileRowsStated cs

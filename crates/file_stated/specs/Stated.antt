@@ -2,23 +2,23 @@
 -- refused, 15, and the check's. Nothing here reads a line: that it is one of the eight forms is told by its spelling.
 --   afterForm u f   — the loader and the lists u after the form f
 --   TakenLines u lines v — at u the lines are accepted, one after another, and leave v: each is the spelling of a form
---   FileStated file w — the case that is stated for w;  `Stated` is that of a check on lists (checked/specs/Stated), `inputAt` what a loader and its lists hand to it
+--   FileStated file w — the case that is stated for w;  `Stated` is that of a check on lists (check_spec/specs/Stated), `inputAt` what a loader and its lists hand to it
 use mathlib.Core.Bool.{true, false}
 use mathlib.Core.List.{List, [], _∷_, _++_}
 use mathlib.Core.Path.{_≡_}
 use Prim.Native.Nat.{ℕ, _+_}
 use lib.ListN.{length}
-use Rattle.checked.specs.Stated.{Stated}
-use Rattle.form.specs.Form.{Form}
-use Rattle.form.specs.Spelling.{spell}
-use Rattle.form_values.specs.Item.{itemOf}
-use Rattle.given_forms.specs.Progress.{ended}
+use Rattle.check_spec.specs.Stated.{Stated}
+use Rattle.line_form.specs.Form.{Form}
+use Rattle.line_form.specs.Spelling.{spell}
+use Rattle.loader_values.specs.Item.{itemOf}
+use Rattle.loader_progress.specs.Progress.{ended}
 use Rattle.loader.specs.Taken.{after, listsWith}
-use Rattle.line_runs.specs.Lines.{linesOf}
-use Rattle.line_runs.specs.Read.{zeros}
-use Rattle.line_runs.specs.Run.{State, fromNew}
-use Rattle.line_stated.specs.Stated.{LineStated}
-use Rattle.refusal.specs.Refused.{printed}
+use Rattle.loader_runs.specs.Lines.{linesOf}
+use Rattle.loader_runs.specs.Read.{zeros}
+use Rattle.loader_runs.specs.Run.{State, fromNew}
+use Rattle.loader_stated.specs.Stated.{LineStated}
+use Rattle.listing_refusal.specs.Refused.{printed}
 use Rattle.file_check.specs.Shown.{inputAt}
 
 abbrev pub afterForm : State → Form → State

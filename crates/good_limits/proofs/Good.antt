@@ -1,7 +1,7 @@
 -- The limits of the reckoning are good, wherever every margin is above 0, every weight is at least 1 and there is a row (specs/Good).
 --   own-factor — the proposal's own factor
 --   good-for   — the limits of one problem
---   good       — both lists of limits;  good-as — limits that agree on the first n places are good alike
+--   limits-good — both lists of limits;  good-as — limits that agree on the first n places are good alike
 --   zero-all   — where one limit is 0, all are;  far-inverse — the row of each column, of an exact inverse
 use mathlib.Core.Path.{_≡_, refl, sym, _∙_}
 use Prim.Native.Nat.{ℕ, _+_, _*_, _≤_, _<_}
@@ -42,8 +42,8 @@ good-for P some hw hm =
       exact-zero = λ g i l. exact-zero P hm (g .no-tolerance) (g .solves) i;
     }
 
-pub good : (P : Problem) → 0 < P .n → ((i : ℕ) → i < P .n → 1 ≤ P .w i) → Margins P → Good P (bound P) (inverseBound P)
-good P some hw hm =
+pub limits-good : (P : Problem) → 0 < P .n → ((i : ℕ) → i < P .n → 1 ≤ P .w i) → Margins P → Good P (bound P) (inverseBound P)
+limits-good P some hw hm =
     let (a, (c, f)) = own-factor P some hm in
     record {
       a = a;

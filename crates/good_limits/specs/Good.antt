@@ -18,7 +18,7 @@ use lib.IntN.{natAbs, _-ℤ_}
 use Rattle.linear.specs.Matrix.{Vec, Mat}
 use Rattle.enclosure.specs.Problem.{Problem, S, T, columnOf}
 use Rattle.enclosure.specs.Reckoning.{load, margin}
-use Rattle.enclosure.specs.Demand.{RightSide, ExactSolution, ExactSolutionOf, NoTolerance, RoundedExact, sumOfSizes}
+use Rattle.enclosure.specs.Demand.{RightSide, ExactSolution, ExactSolutionOf, NoTolerance, RoundedExact, sumOfMagnitudes}
 use Rattle.enclosure.specs.Quality.{Factor, NeverFar}
 
 pub record OwnFactor (P : Problem) (a c : ℕ) : Type 0 where
@@ -49,7 +49,7 @@ pub record GoodFor (P : Problem) (E : ℕ → ℕ) : Type 0 where
 
 pub record FineRounded (P : Problem) (N : Vec) (q : ℕ) (H : Mat) (q′ : ℕ) : Type 0 where
   pub rounded : RoundedExact P N q H q′
-  pub fine : 3 * sumOfSizes P ≤ 2 * T P
+  pub fine : 3 * sumOfMagnitudes P ≤ 2 * T P
 
 pub record OneStep (n : ℕ) (E : ℕ → ℕ) (L : ℕ → ℕ → ℕ) : Type 0 where
   pub solution : (i : ℕ) → i < n → E i ≤ 1

@@ -34,36 +34,36 @@ covers s q e N x v₀ o h =
 
 -- ---- the farthest of them
 -- e or −e, whichever takes a number farther from 0
-outward : ℤ → ℕ → ℤ
-outward (pos a) e = pos e
-outward (negsuc a) e = negℤ (pos e)
+movedOutward : ℤ → ℕ → ℤ
+movedOutward (pos a) e = pos e
+movedOutward (negsuc a) e = negℤ (pos e)
 
-outward-size : (z : ℤ) (e : ℕ) → natAbs (outward z e) ≡ e
-unfolding outward
-outward-size (pos a) e = refl
-outward-size (negsuc a) e = abs-neg (pos e)
+outward-magnitude : (z : ℤ) (e : ℕ) → natAbs (movedOutward z e) ≡ e
+unfolding movedOutward
+outward-magnitude (pos a) e = refl
+outward-magnitude (negsuc a) e = abs-neg (pos e)
 
-outward-far : (z : ℤ) (e : ℕ) → natAbs (z +ℤ outward z e) ≡ e + natAbs z
-unfolding outward
+outward-far : (z : ℤ) (e : ℕ) → natAbs (z +ℤ movedOutward z e) ≡ e + natAbs z
+unfolding movedOutward
 outward-far (pos a) e = omega arith
 outward-far (negsuc a) e = simp zz (omega arith)
 
 pub farthest : ℕ → ℕ → ℤ → ℤ → ℤ
-farthest s e x v₀ = x +ℤ outward (x -ℤ pos s *ℤ v₀) e
+farthest s e x v₀ = x +ℤ movedOutward (x -ℤ pos s *ℤ v₀) e
 
 pub farthest-within : (s e : ℕ) (x v₀ : ℤ) → natAbs (pos s *ℤ farthest s e x v₀ -ℤ pos s *ℤ x) ≤ s * e
 unfolding farthest
 farthest-within s e x v₀ =
-    let y : ℤ = outward (x -ℤ pos s *ℤ v₀) e in
-    let size : natAbs (pos s *ℤ y) ≡ s * natAbs y = abs-* (pos s) y in
-    rw (moved (pos s) x y, size, outward-size (x -ℤ pos s *ℤ v₀) e) (omega arith)
+    let y : ℤ = movedOutward (x -ℤ pos s *ℤ v₀) e in
+    let magnitude : natAbs (pos s *ℤ y) ≡ s * natAbs y = abs-* (pos s) y in
+    rw (moved (pos s) x y, magnitude, outward-magnitude (x -ℤ pos s *ℤ v₀) e) (omega arith)
   where
     moved : (s x y : ℤ) → s *ℤ (x +ℤ y) -ℤ s *ℤ x ≡ s *ℤ y
     moved s x y = rw (is s, is x, is y) (simp zz (omega arith))
 
 farthest-distance : (s e : ℕ) (x v₀ : ℤ) → natAbs (farthest s e x v₀ -ℤ pos s *ℤ v₀) ≡ e + natAbs (x -ℤ pos s *ℤ v₀)
 unfolding farthest
-farthest-distance s e x v₀ = ap natAbs (aside x (outward (x -ℤ pos s *ℤ v₀) e) (pos s *ℤ v₀)) ∙ outward-far (x -ℤ pos s *ℤ v₀) e
+farthest-distance s e x v₀ = ap natAbs (aside x (movedOutward (x -ℤ pos s *ℤ v₀) e) (pos s *ℤ v₀)) ∙ outward-far (x -ℤ pos s *ℤ v₀) e
   where
     aside : (x y u : ℤ) → x +ℤ y -ℤ u ≡ x -ℤ u +ℤ y
     aside x y u = rw (is x, is y, is u) (simp zz (omega arith))

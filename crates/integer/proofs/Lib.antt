@@ -3,7 +3,7 @@ pub mod Absolute
 pub mod Ring
 pub mod Sum
 pub mod Search
-pub mod Steepest
+pub mod LargestRatio
 pub mod Machine
 pub mod Rounding
 pub mod Covering

@@ -2,7 +2,7 @@
 --   ceil-covers, ceil-least — ceilDiv a b is the least E with a ≤ E · b
 --   ceil-sum   — ceilDiv of a sum, from the quotient and the remainder of one part;  ceil-sum-fits — it fits, though the sum may not
 --   round-near — roundDiv x d is within half of x / d;  round-half — at a half it lies farther from 0
---   round-size — d · roundDiv x d is at most half of d above x in size
+--   round-magnitude — d · roundDiv x d is at most half of d above x in size
 --   quot-neg, abs-quot — the machine's quotient toward zero, of a negative number and in size
 --   round-down, round-up — that quotient of 2x − d, and of 2x + d, by 2d is roundDiv x d, by the sign of x
 use mathlib.Core.Path.{_≡_, refl, sym, ap, _∙_, subst}
@@ -57,14 +57,14 @@ unfolding roundDiv
 round-up (pos n) d e = refl
 round-up (negsuc n) d e = absurd (subst T e tt)
 
-pub round-size : (x : ℤ) (d : ℕ) → 2 * (d * natAbs (roundDiv x d)) ≤ 2 * natAbs x + d
+pub round-magnitude : (x : ℤ) (d : ℕ) → 2 * (d * natAbs (roundDiv x d)) ≤ 2 * natAbs x + d
 unfolding roundDiv
-round-size (pos a) d = omega (arith, div-mul-le-self (2 * a + d) (2 * d))
-round-size (negsuc a) d = rw (abs-neg (pos ((2 * suc a + d) / (2 * d)))) (omega (arith, div-mul-le-self (2 * suc a + d) (2 * d)))
+round-magnitude (pos a) d = omega (arith, div-mul-le-self (2 * a + d) (2 * d))
+round-magnitude (negsuc a) d = rw (abs-neg (pos ((2 * suc a + d) / (2 * d)))) (omega (arith, div-mul-le-self (2 * suc a + d) (2 * d)))
 
 -- half a divisor at most, on either side, and at a half above
-near : (a d : ℕ) → 0 < d → ((2 * (a - d * ((2 * a + d) / (2 * d))) < d) × (2 * (d * ((2 * a + d) / (2 * d)) - a) ≤ d))
-near a d h =
+near-half : (a d : ℕ) → 0 < d → ((2 * (a - d * ((2 * a + d) / (2 * d))) < d) × (2 * (d * ((2 * a + d) / (2 * d)) - a) ≤ d))
+near-half a d h =
     let q : ℕ = (2 * a + d) / (2 * d) in
     let e : q * (2 * d) + (2 * a + d) % (2 * d) ≡ 2 * a + d = div-add-mod' (2 * a + d) (2 * d) in
     let l : (2 * a + d) % (2 * d) < 2 * d = mod-lt (2 * a + d) (omega arith) in
@@ -76,13 +76,13 @@ apart-neg a b = simp zz (omega arith)
 
 pub round-near : (x : ℤ) (d : ℕ) → 0 < d → 2 * natAbs (x -ℤ pos d *ℤ roundDiv x d) ≤ d
 unfolding roundDiv
-round-near (pos a) d h = rw (abs-difference a (d * ((2 * a + d) / (2 * d)))) (omega (arith, near a d h))
+round-near (pos a) d h = rw (abs-difference a (d * ((2 * a + d) / (2 * d)))) (omega (arith, near-half a d h))
 round-near (negsuc a) d h =
-    rw (*-neg (pos d) (pos ((2 * suc a + d) / (2 * d))), apart-neg (suc a) (d * ((2 * suc a + d) / (2 * d)))) (omega (arith, near (suc a) d h))
+    rw (*-neg (pos d) (pos ((2 * suc a + d) / (2 * d))), apart-neg (suc a) (d * ((2 * suc a + d) / (2 * d)))) (omega (arith, near-half (suc a) d h))
 
 pub round-half : (x : ℤ) (d : ℕ) → 0 < d → 2 * natAbs (x -ℤ pos d *ℤ roundDiv x d) ≡ d → natAbs x < d * natAbs (roundDiv x d)
 unfolding roundDiv
-round-half (pos a) d h e = omega (arith, near a d h, abs-difference a (d * ((2 * a + d) / (2 * d))))
+round-half (pos a) d h e = omega (arith, near-half a d h, abs-difference a (d * ((2 * a + d) / (2 * d))))
 round-half (negsuc a) d h e =
     rw (abs-neg (pos ((2 * suc a + d) / (2 * d))))
-    (omega (arith, near (suc a) d h, apart-neg (suc a) (d * ((2 * suc a + d) / (2 * d))), rw (*-neg (pos d) (pos ((2 * suc a + d) / (2 * d)))) at e))
+    (omega (arith, near-half (suc a) d h, apart-neg (suc a) (d * ((2 * suc a + d) / (2 * d))), rw (*-neg (pos d) (pos ((2 * suc a + d) / (2 * d)))) at e))

@@ -1,5 +1,5 @@
 pub mod Finite
 pub mod Quotient
-pub mod Steepest
+pub mod LargestRatio
 pub mod Same
 pub mod Among

@@ -1,10 +1,10 @@
 -- The walk of the exported builder that gives the refused line, for both layouts: the code of `kodarfi_build_line` and of `kodarfi_build_half_line` differs in the
 -- first statement alone, which makes the layout; `rest` is the walk of what follows it. `open` makes what is gathered before any line, `gather` adds the lines of
--- the slice, and `finish_told` says what is said, writes the two lists, and writes the line. The slice's lists and the line are handed on to it.
---   Open, All, Fin — the contracts of `open`, `gather` and `finish_told`;  to-open, to-all, to-fin — what they are passed;  asked-.., said-.. — what they ask and say
+-- the slice, and `finish_status` says what is said, writes the two lists, and writes the line. The slice's lists and the line are handed on to it.
+--   Open, All, Fin — the contracts of `open`, `gather` and `finish_status`;  to-open, to-all, to-fin — what they are passed;  asked-.., said-.. — what they ask and say
 --   is-whole, is-sound — what was gathered is that of the whole list, and is sound;  lined — so what was said in the end is the exported contract
 --   passed, vals — what the exported call has, and its machine values;  Exits — what is asked of its end
---   following — the code after the first statement;  At — what is had after the first statement;  rest — the walk from there
+--   following-line — the code after the first statement;  At — what is had after the first statement;  rest — the walk from there
 use mathlib.Core.Path.{_≡_, refl, sym, ap, subst, _∙_}
 use Prim.Native.Nat.{ℕ, _<_, _^_}
 use mathlib.Core.List.{List, [], _∷_}
@@ -41,29 +41,29 @@ use denote.Triple.Statement.{Contract, Triple}
 use denote.Triple.Call.{calls-at}
 use denote.Triple.Clauses.{ensured, lasts}
 use denote.Triple.Walked.{says}
-use Rattle.observation.specs.declared.Observation.{Observation}
-use Rattle.gathering.specs.declared.Gathered.{Gathered}
-use Rattle.gathering.specs.declared.Progress.{Progress}
-use Rattle.gathering.specs.Gathered.{together, gathered, few, opening, noLines, ReadyWhenDone}
-use Rattle.gathering.proofs.Gathered as S
-use Rattle.gathering.proofs.Gathered.Laws as S′
-use Rattle.gathering.proofs.Progress as P
-use Rattle.gathering.proofs.Progress.Laws as P′
-use Rattle.gathering.proofs.Whole.{gatheredOf, whole}
-use Rattle.gathering.proofs.open as open-fn
-use Rattle.gathering.proofs.open.Symbol.{name as #gathering·open}
-use Rattle.equations.specs.declared.Layout.{Layout}
-use Rattle.equations.proofs.Layout as L
-use Rattle.equations.proofs.Layout.Laws as L′
-use Rattle.built.specs.BuiltAs.{shortFor}
-use Rattle.built.proofs.Contract.{built}
-use Rattle.builder.proofs.gather as all-fn
-use Rattle.builder.proofs.gather.Symbol.{name as #builder·gather}
-use Rattle.build_reply.specs.Told.{FinishedTold}
-use Rattle.build_reply.proofs.Line.{built-line}
-use Rattle.build_reply.proofs.finish_told as fin-fn
-use Rattle.build_reply.proofs.finish_told.Symbol.{name as #build-reply·finish-told}
-use Rattle.calls.specs.Build.{BuildLineExported}
+use Rattle.build_lines.specs.declared.Observation.{Observation}
+use Rattle.build_gathering.specs.declared.Gathered.{Gathered}
+use Rattle.build_gathering.specs.declared.Progress.{Progress}
+use Rattle.build_gathering.specs.Gathered.{together, gathered, few, openingProgress, noLines, ReadyWhenDone}
+use Rattle.build_gathering.proofs.Gathered as S
+use Rattle.build_gathering.proofs.Gathered.Laws as S′
+use Rattle.build_gathering.proofs.Progress as P
+use Rattle.build_gathering.proofs.Progress.Laws as P′
+use Rattle.build_gathering.proofs.Whole.{gatheredOf, whole}
+use Rattle.build_gathering.proofs.open as open-fn
+use Rattle.build_gathering.proofs.open.Symbol.{name as #build-gathering·open}
+use Rattle.build_equations.specs.declared.Layout.{Layout}
+use Rattle.build_equations.proofs.Layout as L
+use Rattle.build_equations.proofs.Layout.Laws as L′
+use Rattle.build.specs.BuiltAs.{shortFor}
+use Rattle.build.proofs.Contract.{built}
+use Rattle.build.proofs.gather as all-fn
+use Rattle.build.proofs.gather.Symbol.{name as #build·gather}
+use Rattle.reply.specs.Builds.{FinishedStatus}
+use Rattle.reply.proofs.Line.{built-line}
+use Rattle.reply.proofs.builds.finish_status as fin-fn
+use Rattle.reply.proofs.builds.finish_status.Symbol.{name as #reply·builds·finish-status}
+use Rattle.calls_spec.specs.Build.{BuildLineExported}
 use Rattle.kodarfi.proofs.BuildParts.{R, sl, laid, word, lines, list, again, lend}
 
 -- the machine value of a reference to a number
@@ -71,22 +71,22 @@ abbrev pub pt : RefT ℕ → Val
 pt y = vptr (y .ptr .0) (y .ptr .1)
 
 -- the machine types of the locals
-abbrev long : Ty
-long = tyInt w64
+abbrev long-word : Ty
+long-word = tyInt w64
 
 abbrev line-ref : Ty
 line-ref = tyRef (named 3) mut (tyInt w64)
 
 -- the code after the first statement
-abbrev following : Body
-following =
+abbrev following-line : Body
+following-line =
     seq (assign (place 9 []) (rvOpd (copy (place 2 (field 1 ∷ [])))))
-    (seq (call #gathering·open (copy (place 1 []) ∷ copy (place 9 []) ∷ []) (place 7 []))
-    (seq (call #builder·gather (copy (place 2 []) ∷ copy (place 7 []) ∷ []) (place 8 []))
+    (seq (call #build-gathering·open (copy (place 1 []) ∷ copy (place 9 []) ∷ []) (place 7 []))
+    (seq (call #build·gather (copy (place 2 []) ∷ copy (place 7 []) ∷ []) (place 8 []))
     (lend 3 10
     (lend 4 12
     (seq (assign (place 14 []) (addrOf (place 5 (deref (tyInt w64) ∷ []))))
-    (seq (call #build-reply·finish-told (copy (place 8 []) ∷ copy (place 6 []) ∷ copy (place 11 []) ∷ copy (place 13 []) ∷ copy (place 14 []) ∷ []) (place 0 [])) return))))))
+    (seq (call #reply·builds·finish-status (copy (place 8 []) ∷ copy (place 6 []) ∷ copy (place 11 []) ∷ copy (place 13 []) ∷ copy (place 14 []) ∷ []) (place 0 [])) return))))))
 
 module _ {M : Type 1} (𝓤 : URA M) (H : Heap 𝓤) (A : Atoms 𝓤) (mem : Memory → SProp 𝓤) (run : Routine → Fun 𝓤) where
   abbrev pub Open : Contract 𝓤
@@ -98,7 +98,7 @@ module _ {M : Type 1} (𝓤 : URA M) (H : Heap 𝓤) (A : Atoms 𝓤) (mem : Mem
   abbrev pub Fin : Contract 𝓤
   Fin = tripleOf 𝓤 H A fin-fn.signature (fin-fn.spec 𝓤 H A mem run)
 
-lined : (n : ℕ) (ls : List Observation) (lay : Layout) (a b : List ℤ) {z : ℕ} {a′ b′ : List ℤ} {line : ℕ} → FinishedTold (gatheredOf n ls) lay a b z a′ b′ line → BuildLineExported n ls lay a b z a′ b′ line
+lined : (n : ℕ) (ls : List Observation) (lay : Layout) (a b : List ℤ) {z : ℕ} {a′ b′ : List ℤ} {line : ℕ} → FinishedStatus (gatheredOf n ls) lay a b z a′ b′ line → BuildLineExported n ls lay a b z a′ b′ line
 lined n ls lay a b d = record {
   exported = record { answer = d .answer; built = built n ls lay a b (d .finished); number-is = d .number-is };
   line-is = d .line-is ∙ built-line n ls (shortFor lay a b);
@@ -136,8 +136,8 @@ module _ {M : Type 1} (𝓤 : URA M) (H : Heap 𝓤) (A : Atoms 𝓤) (W : Given
   asked-open : ent 𝓤 (onEntry 𝓤 H A open-fn.signature tt tt (n, (k, tt)) (vint w32 n ∷ [], (vint w64 k ∷ [], tt))) (Open 𝓤 H A mem run .pre to-open)
   asked-open = qed W (‵ ftrue ∷ ‵ (owns (u32 ∷ usize ∷ []) (n, (k, tt)) (vint w32 n ∷ [], (vint w64 k ∷ [], tt))) ∷ []) ∵ join ! $ frame ! $ done !
 
-  said-open : (s : Progress) → ent 𝓤 (ensured 𝓤 H A open-fn.ended (open-fn.clauses 𝓤 H A mem run) tt (n, (k, tt)) tt s) (fact 𝓤 (s ≡ opening n k))
-  said-open s = exE 𝓤 _ (λ ws. snd∗ 𝓤 (sem 𝓤 H A (lasts open-fn.ended tt (n, (k, tt)) ws)) (fact 𝓤 (s ≡ opening n k)))
+  code-open : (s : Progress) → ent 𝓤 (ensured 𝓤 H A open-fn.ended (open-fn.clauses 𝓤 H A mem run) tt (n, (k, tt)) tt s) (fact 𝓤 (s ≡ openingProgress n k))
+  code-open s = exE 𝓤 _ (λ ws. snd∗ 𝓤 (sem 𝓤 H A (lasts open-fn.ended tt (n, (k, tt)) ws)) (fact 𝓤 (s ≡ openingProgress n k)))
 
   abbrev to-all : Progress → Val → All 𝓤 H A mem run .Ghost
   to-all s v = (((κ, tt), (q, tt), tt, (x, (s, tt)), (sl x ∷ [], (v ∷ [], tt))), tt)
@@ -145,11 +145,11 @@ module _ {M : Type 1} (𝓤 : URA M) (H : Heap 𝓤) (A : Atoms 𝓤) (W : Given
   asked-all : (s : Progress) (v : Val) → ent 𝓤 (onEntry 𝓤 H A all-fn.signature (κ, tt) (q, tt) (x, (s, tt)) (sl x ∷ [], (v ∷ [], tt))) (All 𝓤 H A mem run .pre (to-all s v))
   asked-all s v = qed W ((‵ (flft κ q) ⊛ ‵ ftrue) ∷ ‵ (owns (ShrSlice (named 0) κ R ∷ P.the-row ∷ []) (x, (s, tt)) (sl x ∷ [], (v ∷ [], tt))) ∷ []) ∵ join ! $ frame ! $ done !
 
-  said-all : (s : Progress) (g : Gathered) → ent 𝓤 (ensured 𝓤 H A all-fn.ended (all-fn.clauses 𝓤 H A mem run) (κ, tt) (x, (s, tt)) tt g) (fact 𝓤 (g ≡ gathered (together s noLines) (x .now) (few k)))
-  said-all s g = exE 𝓤 _ (λ ws. snd∗ 𝓤 (sem 𝓤 H A (lasts all-fn.ended (κ, tt) (x, (s, tt)) ws)) (fact 𝓤 (g ≡ gathered (together s noLines) (x .now) (few k))))
+  code-all : (s : Progress) (g : Gathered) → ent 𝓤 (ensured 𝓤 H A all-fn.ended (all-fn.clauses 𝓤 H A mem run) (κ, tt) (x, (s, tt)) tt g) (fact 𝓤 (g ≡ gathered (together s noLines) (x .now) (few k)))
+  code-all s g = exE 𝓤 _ (λ ws. snd∗ 𝓤 (sem 𝓤 H A (lasts all-fn.ended (κ, tt) (x, (s, tt)) ws)) (fact 𝓤 (g ≡ gathered (together s noLines) (x .now) (few k))))
 
   -- what was gathered
-  is-whole : (s : Progress) (g : Gathered) → s ≡ opening n k → g ≡ gathered (together s noLines) (x .now) (few k) → g ≡ gatheredOf n (x .now)
+  is-whole : (s : Progress) (g : Gathered) → s ≡ openingProgress n k → g ≡ gathered (together s noLines) (x .now) (few k) → g ≡ gatheredOf n (x .now)
   is-whole s g p e = e ∙ ap (λ (z : Progress). gathered (together z noLines) (x .now) (few k)) p
 
   is-sound : (g : Gathered) → g ≡ gatheredOf n (x .now) → ReadyWhenDone g
@@ -174,20 +174,20 @@ module _ {M : Type 1} (𝓤 : URA M) (H : Heap 𝓤) (A : Atoms 𝓤) (W : Given
   typed-far : (s : Progress) (v : Val) → Is P.the-row s (v ∷ []) → Holds (hasTy P′.mir v) × WT v
   typed-far s v g = LL.lawful P.the-type P′.the-laws 𝓤 H A W .typed s _ g .0
 
-  module _ (C : Calls 𝓤 H) (Λ : Loops 𝓤 H) (fm : FmC 𝓤 H (W .laws) C) (known-open : Triple 𝓤 (C #gathering·open) (Open 𝓤 H A mem run)) (known-all : Triple 𝓤 (C #builder·gather) (All 𝓤 H A mem run)) (known-fin : Triple 𝓤 (C #build-reply·finish-told) (Fin 𝓤 H A mem run))
+  module _ (C : Calls 𝓤 H) (Λ : Loops 𝓤 H) (fm : FmC 𝓤 H (W .laws) C) (known-open : Triple 𝓤 (C #build-gathering·open) (Open 𝓤 H A mem run)) (known-all : Triple 𝓤 (C #build·gather) (All 𝓤 H A mem run)) (known-fin : Triple 𝓤 (C #reply·builds·finish-status) (Fin 𝓤 H A mem run))
       (rx : Room R (length (x .now))) (rm : Room i64 (length (m .now))) (rr : Room i64 (length (r .now))) (Post : Val → SProp 𝓤) (exits : Exits Post) (l₀ l₁ l₂ l₃ l₄ l₅ l₆ l₇ l₈ l₉ l₁₀ l₁₁ l₁₂ l₁₃ l₁₄ : ℕ) where
     abbrev pub En : Env 𝓤 H
-    En = (word, l₀) ∷ (word, l₁) ∷ (lines, l₂) ∷ (list 1, l₃) ∷ (list 2, l₄) ∷ (line-ref, l₅) ∷ (L′.mir, l₆) ∷ (P′.mir, l₇) ∷ (S′.mir, l₈) ∷ (long, l₉) ∷ (again, l₁₀) ∷ (sliceTy again, l₁₁) ∷ (again, l₁₂) ∷ (sliceTy again, l₁₃) ∷ (again, l₁₄) ∷ []
+    En = (word, l₀) ∷ (word, l₁) ∷ (lines, l₂) ∷ (list 1, l₃) ∷ (list 2, l₄) ∷ (line-ref, l₅) ∷ (L′.mir, l₆) ∷ (P′.mir, l₇) ∷ (S′.mir, l₈) ∷ (long-word, l₉) ∷ (again, l₁₀) ∷ (sliceTy again, l₁₁) ∷ (again, l₁₂) ∷ (sliceTy again, l₁₃) ∷ (again, l₁₄) ∷ []
 
     abbrev pub At : List (Item 𝓤)
     At = ‵ (froom again l₁₄ 0) ∷ ‵ (fdies again l₁₄) ∷ ‵ (froom (sliceTy again) l₁₃ 0) ∷ ‵ (fdies (sliceTy again) l₁₃) ∷ ‵ (froom again l₁₂ 0) ∷ ‵ (fdies again l₁₂) ∷ ‵ (froom (sliceTy again) l₁₁ 0) ∷ ‵ (fdies (sliceTy again) l₁₁) ∷ ‵ (froom again l₁₀ 0) ∷ ‵ (fdies again l₁₀)
-        ∷ ‵ (froom long l₉ 0) ∷ ‵ (fdies long l₉) ∷ ‵ (froom S′.mir l₈ 0) ∷ ‵ (fdies S′.mir l₈) ∷ ‵ (froom P′.mir l₇ 0) ∷ ‵ (fdies P′.mir l₇) ∷ ‵ (fat fullShare L′.mir l₆ 0 (laid lay)) ∷ ‵ (fdies L′.mir l₆)
+        ∷ ‵ (froom long-word l₉ 0) ∷ ‵ (fdies long-word l₉) ∷ ‵ (froom S′.mir l₈ 0) ∷ ‵ (fdies S′.mir l₈) ∷ ‵ (froom P′.mir l₇ 0) ∷ ‵ (fdies P′.mir l₇) ∷ ‵ (fat fullShare L′.mir l₆ 0 (laid lay)) ∷ ‵ (fdies L′.mir l₆)
         ∷ ‵ (fat fullShare line-ref l₅ 0 (pt y)) ∷ ‵ (fdies line-ref l₅) ∷ ‵ (fat fullShare (list 2) l₄ 0 (sl r)) ∷ ‵ (fdies (list 2) l₄) ∷ ‵ (fat fullShare (list 1) l₃ 0 (sl m)) ∷ ‵ (fdies (list 1) l₃)
         ∷ ‵ (fat fullShare lines l₂ 0 (sl x)) ∷ ‵ (fdies lines l₂) ∷ ‵ (fat fullShare word l₁ 0 (vint w32 n)) ∷ ‵ (fdies word l₁) ∷ ‵ (froom word l₀ 0) ∷ ‵ (fdies word l₀)
         ∷ (‵ (flft κ q) ⊛ ‵ (flft κ′ q′) ⊛ ‵ (flft κ″ q″) ⊛ ‵ (flft κ‴ q‴) ⊛ ‵ ftrue)
         ∷ ‵ (owns (u32 ∷ ShrSlice (named 0) κ R ∷ MutSlice (named 1) κ′ i64 ∷ MutSlice (named 2) κ″ i64 ∷ MutRef (named 3) κ‴ u64 ∷ []) passed vals) ∷ []
 
-    pub rest : Sq W At (runs C Λ En following (atRet En Post))
+    pub rest : Sq W At (runs C Λ En following-line (atRet En Post))
     rest =
         -- [_14; …; _0; …; the tokens; what is owned]
         assigns ! (of-opd ! (load ! (from ! (fld ! refl (stop !))) (look-in ! 24 (sub ! 1 refl (whole-part !))))) (from ! (stop !)) (init ! 10 refl (tt, record { fits = rx .0 })) $
@@ -195,7 +195,7 @@ module _ {M : Type 1} (𝓤 : URA M) (H : Heap 𝓤) (A : Atoms 𝓤) (W : Given
         use2 W (raw (Open 𝓤 H A mem run .pre to-open)) asked-open $
         calls-at ! fm (Open 𝓤 H A mem run) known-open to-open (and-then ! (load ! (from ! (stop !)) (look ! 27 refl)) (and-then ! (load ! (from ! (stop !)) (look ! 11 refl)) (no-more !))) (λ v.
         use1 W (later (some (λ (s : Progress). (‵ ftrue ⊛ ‵ (P.the-row .own s (v ∷ []))) ⊛ raw (ensured 𝓤 H A open-fn.ended (open-fn.clauses 𝓤 H A mem run) tt (n, (k, tt)) tt s)))) (id⊢ 𝓤 _) $ await ! tt $ pick ! (λ s.
-        split ! $ move ! (1 ∷ []) $ use1 W (raw (fact 𝓤 (s ≡ opening n k))) (said-open s) $ heard ! (s ≡ opening n k) (λ p. split ! $ move ! (1 ∷ []) $
+        split ! $ move ! (1 ∷ []) $ use1 W (raw (fact 𝓤 (s ≡ openingProgress n k))) (code-open s) $ heard ! (s ≡ openingProgress n k) (λ p. split ! $ move ! (1 ∷ []) $
         peeks ! P.the-row (Is P.the-row) (shows 𝓤 H A P.the-row) s (v ∷ []) (λ is₀. land ! (from ! (stop !)) (init ! 16 refl (typed-far s v is₀)) $ move ! (1 ∷ []) $ drop ! $
         -- [what was opened; _14; …; the tokens; what is owned]
         move ! (32 ∷ []) $ fsplit ! $ drop ! $ fsplit ! $ move ! (1 ∷ []) $ fsplit ! $ move ! (1 ∷ []) $ fsplit ! $ move ! (1 ∷ []) $ fsplit ! $ move ! (1 ∷ []) $ drop ! $
@@ -207,7 +207,7 @@ module _ {M : Type 1} (𝓤 : URA M) (H : Heap 𝓤) (A : Atoms 𝓤) (W : Given
         use2 W (raw (All 𝓤 H A mem run .pre (to-all s v))) (asked-all s v) $
         calls-at ! fm (All 𝓤 H A mem run) known-all (to-all s v) (and-then ! (load ! (from ! (stop !)) (look ! 30 refl)) (and-then ! (load ! (from ! (stop !)) (look ! 20 refl)) (no-more !))) (λ u.
         use1 W (later (some (λ (g : Gathered). ((‵ (flft κ q) ⊛ ‵ ftrue) ⊛ ‵ (S.the-row .own g (u ∷ []))) ⊛ raw (ensured 𝓤 H A all-fn.ended (all-fn.clauses 𝓤 H A mem run) (κ, tt) (x, (s, tt)) tt g)))) (id⊢ 𝓤 _) $ await ! tt $ pick ! (λ g.
-        split ! $ move ! (1 ∷ []) $ use1 W (raw (fact 𝓤 (g ≡ gathered (together s noLines) (x .now) (few k)))) (said-all s g) $ heard ! (g ≡ gathered (together s noLines) (x .now) (few k)) (λ e. split ! $ move ! (1 ∷ []) $
+        split ! $ move ! (1 ∷ []) $ use1 W (raw (fact 𝓤 (g ≡ gathered (together s noLines) (x .now) (few k)))) (code-all s g) $ heard ! (g ≡ gathered (together s noLines) (x .now) (few k)) (λ e. split ! $ move ! (1 ∷ []) $
         peeks ! S.the-row (Is S.the-row) (shows 𝓤 H A S.the-row) g (u ∷ []) (λ is. land ! (from ! (stop !)) (init ! 19 refl (typed g u is)) $
         -- [what was gathered; the token; the others; lines; line; right; matrix; _14; …]
         assigns ! (addr ! (from ! (fld ! refl (hop ! (look-in ! 29 (sub ! 0 refl (whole-part !))) (stop !))))) (from ! (stop !)) (init ! 15 refl (tt, tt)) $
@@ -218,12 +218,12 @@ module _ {M : Type 1} (𝓤 : URA M) (H : Heap 𝓤) (A : Atoms 𝓤) (W : Given
         nothing ! $ move ! (5 ∷ 0 ∷ []) $ fjoin ! $ move ! (5 ∷ 0 ∷ []) $ fjoin ! $ move ! (5 ∷ 0 ∷ []) $ fjoin ! $
         owned ! L.the-row (Is L.the-row) (EL.makes L.the-type L′.the-plain 𝓤 H A) lay _ lf $ fjoin ! $ move ! (1 ∷ 0 ∷ []) $ fjoin ! $ move ! (2 ∷ 0 ∷ []) $
         use2 W (raw (Fin 𝓤 H A mem run .pre (to-fin g u))) (asked-fin g u (is-sound g (is-whole s g p e))) $
-        -- [what finish_told asks; the token; lines; _14; …]
+        -- [what finish_status asks; the token; lines; _14; …]
         calls-at ! fm (Fin 𝓤 H A mem run) known-fin (to-fin g u)
         (and-then ! (load ! (from ! (stop !)) (look ! 15 refl)) (and-then ! (load ! (from ! (stop !)) (look ! 19 refl)) (and-then ! (load ! (from ! (stop !)) (look ! 9 refl)) (and-then ! (load ! (from ! (stop !)) (look ! 5 refl)) (and-then ! (load ! (from ! (stop !)) (look ! 3 refl)) (no-more !)))))) (λ v′.
         use1 W (later (some (λ (z : ℕ). (Others ⊛ ‵ (u32 .own z (v′ ∷ []))) ⊛ raw (ensured 𝓤 H A fin-fn.ended (fin-fn.clauses 𝓤 H A mem run) (κ′, (κ″, (κ‴, tt))) (f-args g) tt z)))) (id⊢ 𝓤 _) $ await ! tt $ pick ! (λ z.
-        split ! $ move ! (1 ∷ []) $ use1 W (some (λ (zs : Unit {0} × (Unit {0} × (List ℤ × (List ℤ × (ℕ × Unit {0}))))). ‵ (lasts fin-fn.ended (κ′, (κ″, (κ‴, tt))) (f-args g) zs) ⊛ raw (fact 𝓤 (FinishedTold g lay (m .now) (r .now) z (zs .1 .1 .0) (zs .1 .1 .1 .0) (zs .1 .1 .1 .1 .0))))) (id⊢ 𝓤 _) $ pick ! (λ zs.
-        split ! $ move ! (1 ∷ []) $ heard ! (FinishedTold g lay (m .now) (r .now) z (zs .1 .1 .0) (zs .1 .1 .1 .0) (zs .1 .1 .1 .1 .0)) (λ d.
+        split ! $ move ! (1 ∷ []) $ use1 W (some (λ (zs : Unit {0} × (Unit {0} × (List ℤ × (List ℤ × (ℕ × Unit {0}))))). ‵ (lasts fin-fn.ended (κ′, (κ″, (κ‴, tt))) (f-args g) zs) ⊛ raw (fact 𝓤 (FinishedStatus g lay (m .now) (r .now) z (zs .1 .1 .0) (zs .1 .1 .1 .0) (zs .1 .1 .1 .1 .0))))) (id⊢ 𝓤 _) $ pick ! (λ zs.
+        split ! $ move ! (1 ∷ []) $ heard ! (FinishedStatus g lay (m .now) (r .now) z (zs .1 .1 .0) (zs .1 .1 .1 .0) (zs .1 .1 .1 .1 .0)) (λ d.
         fsplit ! $ drop ! $ fsplit ! $ drop ! $ fsplit ! $ fsplit ! $ move ! (1 ∷ []) $ feqL ! (λ lm. move ! (1 ∷ []) $ fsplit ! $ fsplit ! $ move ! (1 ∷ []) $ feqL ! (λ lr.
         move ! (1 ∷ []) $ fsplit ! $ move ! (1 ∷ []) $ drop ! $
         -- [last line; last right; last matrix; the others and the number; the token; lines; _14; …]
@@ -232,4 +232,4 @@ module _ {M : Type 1} (𝓤 : URA M) (H : Heap 𝓤) (A : Atoms 𝓤) (W : Given
         returns ! (look ! 35 refl) $ forget ! 7 refl $ forget ! 9 refl $ forget ! 11 refl $ forget ! 13 refl $ forget ! 15 refl $ forget ! 17 refl $ forget ! 19 refl $ forget ! 21 refl $ forget ! 23 refl $ forget ! 25 refl $ forget ! 27 refl $ forget ! 29 refl $ forget ! 31 refl $ forget ! 33 refl $ forget ! 35 refl $
         move ! (35 ∷ 36 ∷ []) $ free1 ! $ move ! (33 ∷ 34 ∷ []) $ free1 ! $ move ! (31 ∷ 32 ∷ []) $ free1 ! $ move ! (29 ∷ 30 ∷ []) $ free1 ! $ move ! (27 ∷ 28 ∷ []) $ free1 ! $ move ! (25 ∷ 26 ∷ []) $ free1 ! $ move ! (23 ∷ 24 ∷ []) $ free1 ! $ move ! (21 ∷ 22 ∷ []) $ free1 ! $
         move ! (19 ∷ 20 ∷ []) $ free1 ! $ move ! (17 ∷ 18 ∷ []) $ free1 ! $ move ! (15 ∷ 16 ∷ []) $ free1 ! $ move ! (13 ∷ 14 ∷ []) $ free1 ! $ move ! (11 ∷ 12 ∷ []) $ free1 ! $ move ! (9 ∷ 10 ∷ []) $ free1 ! $ move ! (7 ∷ 8 ∷ []) $ free1 ! $ free0 ! $
-        by ! (exits z v′ (zs .1 .1 .0) (zs .1 .1 .1 .0) (zs .1 .1 .1 .1 .0) (lined n (x .now) lay (m .now) (r .now) (subst (λ (h : Gathered). FinishedTold h lay (m .now) (r .now) z (zs .1 .1 .0) (zs .1 .1 .1 .0) (zs .1 .1 .1 .1 .0)) (is-whole s g p e) d)) lm lr))))))))))))))))
+        by ! (exits z v′ (zs .1 .1 .0) (zs .1 .1 .1 .0) (zs .1 .1 .1 .1 .0) (lined n (x .now) lay (m .now) (r .now) (subst (λ (h : Gathered). FinishedStatus h lay (m .now) (r .now) z (zs .1 .1 .0) (zs .1 .1 .1 .0) (zs .1 .1 .1 .1 .0)) (is-whole s g p e) d)) lm lr))))))))))))))))

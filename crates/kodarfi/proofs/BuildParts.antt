@@ -11,10 +11,10 @@ use denote.Memory.{pointee}
 use denote.Ref.{RefT}
 use denote.Slice.{sliceVal, sliceTy}
 use denote.Enum.Laws as EL
-use Rattle.observation.proofs.Observation as T
-use Rattle.equations.specs.declared.Layout.{Layout}
-use Rattle.equations.proofs.Layout as L
-use Rattle.equations.proofs.Layout.Laws as L′
+use Rattle.build_lines.proofs.Observation as T
+use Rattle.build_equations.specs.declared.Layout.{Layout}
+use Rattle.build_equations.proofs.Layout as L
+use Rattle.build_equations.proofs.Layout.Laws as L′
 
 abbrev pub R : RattleType
 R = T.the-row

@@ -36,18 +36,18 @@ use denote.Triple.Spec.{tripleOf}
 use denote.Triple.Statement.{Contract, Triple}
 use denote.Triple.Call.{calls-at}
 use denote.Triple.Clauses.{ensured, lasts}
-use Rattle.observation.specs.declared.Built.{Built}
-use Rattle.observation.specs.declared.Observation.{Observation}
-use Rattle.observation.specs.Order.{saidBuilt}
-use Rattle.observation.proofs.Built as B
-use Rattle.observation.proofs.Built.Laws as B′
-use Rattle.equations.specs.declared.Layout.{Layout}
-use Rattle.equations.proofs.Layout as L
-use Rattle.equations.proofs.Layout.Laws as L′
-use Rattle.built.specs.BuiltAs.{BuiltAs}
-use Rattle.builder.proofs.build as build-fn
-use Rattle.builder.proofs.build.Symbol.{name as #builder·build}
-use Rattle.calls.specs.Build.{BuildExported}
+use Rattle.build_lines.specs.declared.Built.{Built}
+use Rattle.build_lines.specs.declared.Observation.{Observation}
+use Rattle.build_lines.specs.Order.{buildCode}
+use Rattle.build_lines.proofs.Built as B
+use Rattle.build_lines.proofs.Built.Laws as B′
+use Rattle.build_equations.specs.declared.Layout.{Layout}
+use Rattle.build_equations.proofs.Layout as L
+use Rattle.build_equations.proofs.Layout.Laws as L′
+use Rattle.build.specs.BuiltAs.{BuiltAs}
+use Rattle.build.proofs.build as build-fn
+use Rattle.build.proofs.build.Symbol.{name as #build·build}
+use Rattle.calls_spec.specs.Build.{BuildExported}
 use Rattle.reply.proofs.built_number as number-fn
 use Rattle.reply.proofs.built_number.Symbol.{name as #reply·built-number}
 use Rattle.kodarfi.proofs.BuildParts.{R, sl, laid, word, lines, list, again, lend}
@@ -57,7 +57,7 @@ abbrev following : Body
 following =
     lend 3 7
     (lend 4 9
-    (seq (call #builder·build (copy (place 1 []) ∷ copy (place 2 []) ∷ copy (place 6 []) ∷ copy (place 8 []) ∷ copy (place 10 []) ∷ []) (place 5 []))
+    (seq (call #build·build (copy (place 1 []) ∷ copy (place 2 []) ∷ copy (place 6 []) ∷ copy (place 8 []) ∷ copy (place 10 []) ∷ []) (place 5 []))
     (seq (call #reply·built-number (copy (place 5 []) ∷ []) (place 0 [])) return)))
 
 module _ {M : Type 1} (𝓤 : URA M) (H : Heap 𝓤) (A : Atoms 𝓤) (mem : Memory → SProp 𝓤) (run : Routine → Fun 𝓤) where
@@ -107,10 +107,10 @@ module _ {M : Type 1} (𝓤 : URA M) (H : Heap 𝓤) (A : Atoms 𝓤) (W : Given
   asked-number : (b : Built) (w : Val) → ent 𝓤 (onEntry 𝓤 H A number-fn.signature tt tt (b, tt) (w ∷ [], tt)) (Number 𝓤 H A mem run .pre (to-number b w))
   asked-number b w = qed W (‵ ftrue ∷ ‵ (owns (B.the-row ∷ []) (b, tt) (w ∷ [], tt)) ∷ []) ∵ join ! $ frame ! $ done !
 
-  said-number : (b : Built) (z : ℕ) → ent 𝓤 (ensured 𝓤 H A number-fn.ended (number-fn.clauses 𝓤 H A mem run) tt (b, tt) tt z) (fact 𝓤 (z ≡ getD (saidBuilt b) 0 0))
-  said-number b z = exE 𝓤 _ (λ ws. snd∗ 𝓤 (sem 𝓤 H A (lasts number-fn.ended tt (b, tt) ws)) (fact 𝓤 (z ≡ getD (saidBuilt b) 0 0)))
+  code-number : (b : Built) (z : ℕ) → ent 𝓤 (ensured 𝓤 H A number-fn.ended (number-fn.clauses 𝓤 H A mem run) tt (b, tt) tt z) (fact 𝓤 (z ≡ getD (buildCode b) 0 0))
+  code-number b z = exE 𝓤 _ (λ ws. snd∗ 𝓤 (sem 𝓤 H A (lasts number-fn.ended tt (b, tt) ws)) (fact 𝓤 (z ≡ getD (buildCode b) 0 0)))
 
-  module _ (C : Calls 𝓤 H) (Λ : Loops 𝓤 H) (fm : FmC 𝓤 H (W .laws) C) (known-build : Triple 𝓤 (C #builder·build) (Build 𝓤 H A mem run)) (known-number : Triple 𝓤 (C #reply·built-number) (Number 𝓤 H A mem run))
+  module _ (C : Calls 𝓤 H) (Λ : Loops 𝓤 H) (fm : FmC 𝓤 H (W .laws) C) (known-build : Triple 𝓤 (C #build·build) (Build 𝓤 H A mem run)) (known-number : Triple 𝓤 (C #reply·built-number) (Number 𝓤 H A mem run))
       (rm : Room i64 (length (m .now))) (rr : Room i64 (length (r .now))) (Post : Val → SProp 𝓤) (exits : Exits Post) (l₀ l₁ l₂ l₃ l₄ l₅ l₆ l₇ l₈ l₉ l₁₀ : ℕ) where
     abbrev pub En : Env 𝓤 H
     En = (word, l₀) ∷ (word, l₁) ∷ (lines, l₂) ∷ (list 1, l₃) ∷ (list 2, l₄) ∷ (B′.mir, l₅) ∷ (L′.mir, l₆) ∷ (again, l₇) ∷ (sliceTy again, l₈) ∷ (again, l₉) ∷ (sliceTy again, l₁₀) ∷ []
@@ -152,7 +152,7 @@ module _ {M : Type 1} (𝓤 : URA M) (H : Heap 𝓤) (A : Atoms 𝓤) (W : Given
         -- [what built_number asks; the tokens; last right; last matrix; lines; _10; …]
         calls-at ! fm (Number 𝓤 H A mem run) known-number (to-number b w) (and-then ! (load ! (from ! (stop !)) (look ! 15 refl)) (no-more !)) (λ v.
         use1 W (later (some (λ (z : ℕ). (‵ ftrue ⊛ ‵ (u32 .own z (v ∷ []))) ⊛ raw (ensured 𝓤 H A number-fn.ended (number-fn.clauses 𝓤 H A mem run) tt (b, tt) tt z)))) (id⊢ 𝓤 _) $ await ! tt $ pick ! (λ z.
-        split ! $ move ! (1 ∷ []) $ use1 W (raw (fact 𝓤 (z ≡ getD (saidBuilt b) 0 0))) (said-number b z) $ heard ! (z ≡ getD (saidBuilt b) 0 0) (λ e. split ! $ move ! (1 ∷ []) $
+        split ! $ move ! (1 ∷ []) $ use1 W (raw (fact 𝓤 (z ≡ getD (buildCode b) 0 0))) (code-number b z) $ heard ! (z ≡ getD (buildCode b) 0 0) (λ e. split ! $ move ! (1 ∷ []) $
         peeks ! u32 (Is u32) (shows 𝓤 H A u32) z (v ∷ []) (λ is′. land ! (from ! (stop !)) (init ! 26 refl (uint-lawful 𝓤 H A W w32 .typed z _ is′ .0)) $ move ! (1 ∷ []) $ drop ! $
         -- [the number; the tokens; last right; last matrix; lines; _10; …]
         returns ! (look ! 25 refl) $ forget ! 5 refl $ forget ! 7 refl $ forget ! 9 refl $ forget ! 11 refl $ forget ! 13 refl $ forget ! 15 refl $ forget ! 17 refl $ forget ! 19 refl $ forget ! 21 refl $ forget ! 23 refl $ forget ! 25 refl $

@@ -1,17 +1,17 @@
 // The calls on a matrix by its lower half (document 02, Paper 10).
-ghost use Rattle.checked.specs.Input.{input};
-ghost use Rattle.equations.specs.declared.Layout.the-variants.{Lower};
-ghost use Rattle.calls.specs.Build.{BuildExported};
-ghost use Rattle.calls.specs.Half.{HalfExported};
-use builder::build;
-use equations::Layout;
-use half::check_half;
-use observation::Observation;
+ghost use Rattle.check_spec.specs.Input.{input};
+ghost use Rattle.build_equations.specs.declared.Layout.the-variants.{Lower};
+ghost use Rattle.calls_spec.specs.Build.{BuildExported};
+ghost use Rattle.calls_spec.specs.Half.{HalfExported};
+use build::build;
+use build_equations::Layout;
+use build_lines::Observation;
+use half_check::check_half;
 use reply::built_number;
 use reply::outcome_reply;
-use reply::tell;
+use reply::write_reply;
 
-// The check of a matrix by its lower half: `half::check_half`.
+// The check of a matrix by its lower half: `half_check::check_half`.
 #[no_mangle]
 pub extern "C" fn kodarfi_check_half(
     n: u32,
@@ -45,10 +45,10 @@ pub extern "C" fn kodarfi_check_half(
         solution_bounds,
         inverse_bounds,
     );
-    tell(outcome_reply(outcome), places)
+    write_reply(outcome_reply(outcome), places)
 }
 
-// Equations from the field lines: `builder::build`, the matrix by its lower half.
+// Equations from the field lines: `build::build`, the matrix by its lower half.
 #[no_mangle]
 pub extern "C" fn kodarfi_build_half(
     n: u32,

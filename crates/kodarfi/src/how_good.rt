@@ -1,11 +1,11 @@
 // The factor of a proposal's limits.
-ghost use Rattle.limit_factor.specs.Inquiry.{inquiry};
-ghost use Rattle.calls.specs.Quality.{QualityExported};
+ghost use Rattle.quality_spec.specs.Inquiry.{inquiry};
+ghost use Rattle.calls_spec.specs.Quality.{QualityExported};
 use quality::quality;
-use quality_reply::denominator_or;
-use quality_reply::numerator_or;
-use quality_reply::quality_reply;
-use reply::tell;
+use reply::factors::denominator_or;
+use reply::factors::numerator_or;
+use reply::factors::quality_reply;
+use reply::write_reply;
 
 // How far the limits of a proposal can lie above true errors: `quality::quality`.
 #[no_mangle]
@@ -24,5 +24,5 @@ pub extern "C" fn kodarfi_quality(
     let found = quality(n, t, matrix, inverse, weights);
     *numerator = numerator_or(found, *numerator);
     *denominator = denominator_or(found, *denominator);
-    tell(quality_reply(found), places)
+    write_reply(quality_reply(found), places)
 }

@@ -1,25 +1,25 @@
 // The functions that other languages link: total, over numbers and slices, with document 01's number as their result (include/kodarfi.h).
-ghost use Rattle.checked.specs.Input.{input};
-ghost use Rattle.weight_sequence.specs.Request.{request};
-ghost use Rattle.equations.specs.declared.Layout.the-variants.{Square};
-ghost use Rattle.calls.specs.Exported.{CheckExported, ListingExported, EntryExported};
-ghost use Rattle.calls.specs.Weights.{SearchExported};
-ghost use Rattle.calls.specs.Build.{BuildExported};
-use builder::build;
-use checker::check;
+ghost use Rattle.check_spec.specs.Input.{input};
+ghost use Rattle.weights_spec.specs.Request.{request};
+ghost use Rattle.build_equations.specs.declared.Layout.the-variants.{Square};
+ghost use Rattle.calls_spec.specs.Exported.{CheckExported, ListingExported, EntryExported};
+ghost use Rattle.calls_spec.specs.Weights.{SearchExported};
+ghost use Rattle.calls_spec.specs.Build.{BuildExported};
+use build::build;
+use build_equations::Layout;
+use build_lines::Observation;
+use check_lists::check;
 use entry::Registered;
 use entry::register_entry;
-use equations::Layout;
 use listing::answer_file;
-use observation::Observation;
-use refusal::no_refusal;
-use refusal::reply_of;
+use listing_refusal::no_refusal;
+use listing_refusal::reply_of;
 use reply::built_number;
 use reply::outcome_reply;
-use reply::tell;
-use weight_reply::found_reply;
-use weight_reply::tried_or;
-use weight_search::find_weights;
+use reply::searches::found_reply;
+use reply::searches::tried_or;
+use reply::write_reply;
+use weights_search::find_weights;
 
 mod half_matrix;
 mod how_good;
@@ -30,7 +30,7 @@ mod two_proposals;
 mod which_line;
 mod with_doubles;
 
-// The check on lists: `checker::check`.
+// The check on lists: `check_lists::check`.
 #[no_mangle]
 pub extern "C" fn kodarfi_check(
     n: u32,
@@ -64,7 +64,7 @@ pub extern "C" fn kodarfi_check(
         solution_bounds,
         inverse_bounds,
     );
-    tell(outcome_reply(outcome), places)
+    write_reply(outcome_reply(outcome), places)
 }
 
 // The listing of a file, and what is said in it: `listing::answer_file`.
@@ -79,7 +79,7 @@ pub extern "C" fn kodarfi_listing(
 {
     let answer = answer_file(file, listing);
     *written = answer.length;
-    tell(answer.reply, places)
+    write_reply(answer.reply, places)
 }
 
 // The register entry of a guess and its limit: `entry::register_entry`.
@@ -100,13 +100,13 @@ pub extern "C" fn kodarfi_entry(
         Registered::Entry(v, e) => {
             *value = v;
             *value_bound = e;
-            tell(no_refusal(), places)
+            write_reply(no_refusal(), places)
         }
-        Registered::Refused(refusal) => tell(reply_of(refusal, 0), places),
+        Registered::Refused(refusal) => write_reply(reply_of(refusal, 0), places),
     }
 }
 
-// Weights found by the program: `weight_search::find_weights`.
+// Weights found by the program: `weights_search::find_weights`.
 #[no_mangle]
 pub extern "C" fn kodarfi_find_weights(
     n: u32,
@@ -122,10 +122,10 @@ pub extern "C" fn kodarfi_find_weights(
 {
     let found = find_weights(n, t, matrix, inverse, allowance, weights);
     *tried = tried_or(found, *tried);
-    tell(found_reply(found), places)
+    write_reply(found_reply(found), places)
 }
 
-// Equations from the field lines: `builder::build`, the matrix square.
+// Equations from the field lines: `build::build`, the matrix square.
 #[no_mangle]
 pub extern "C" fn kodarfi_build(
     n: u32,

@@ -1,20 +1,20 @@
 // The loader (01: desk), for callers that hand over a file's lines one at a time. Its state stands in nine numbers that the caller lends.
 ghost use mathlib.Core.Path.{_≡_};
-ghost use Rattle.checked.specs.Input.{input};
-ghost use Rattle.lent_lists.specs.Lists.{lists};
+ghost use Rattle.check_spec.specs.Input.{input};
+ghost use Rattle.loader_lists.specs.Lists.{lists};
 ghost use Rattle.loader.specs.Taken.{fresh};
-ghost use Rattle.loader.specs.Numbers.{numbersOf, loaderOf};
-ghost use Rattle.calls.specs.Loader.{LoaderTakeExported, LoaderCheckExported};
+ghost use Rattle.loader.specs.Numbers.{loaderNumbers, loaderOf};
+ghost use Rattle.calls_spec.specs.Loader.{LoaderTakeExported, LoaderCheckExported};
 use loader_numbers::check;
 use loader_numbers::renew;
 use loader_numbers::take;
 use reply::outcome_reply;
-use reply::tell;
+use reply::write_reply;
 
 // A loader that was given nothing: `loader_numbers::renew`.
 #[no_mangle]
 pub extern "C" fn kodarfi_loader_new(loader: &mut [u32; 9])
-    ensures { λ _. ⌜ now (loader .exit) ≡ numbersOf fresh ⌝ }
+    ensures { λ _. ⌜ now (loader .exit) ≡ loaderNumbers fresh ⌝ }
 {
     renew(loader);
 }
@@ -47,7 +47,7 @@ pub extern "C" fn kodarfi_loader_take(
         inverse,
         weights,
     );
-    tell(outcome_reply(outcome), places)
+    write_reply(outcome_reply(outcome), places)
 }
 
 // The check of what was collected: `loader_numbers::check`.
@@ -81,5 +81,5 @@ pub extern "C" fn kodarfi_loader_check(
         solution_bounds,
         inverse_bounds,
     );
-    tell(outcome_reply(outcome), places)
+    write_reply(outcome_reply(outcome), places)
 }

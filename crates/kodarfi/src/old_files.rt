@@ -1,10 +1,10 @@
 // Files for offices on the old edition (document 02, Paper 14).
-ghost use Rattle.calls.specs.Conversion.{ConvertExported, ConvertLineExported};
-use conversion_reply::converted_reply;
-use conversion_reply::length_or;
+ghost use Rattle.calls_spec.specs.Conversion.{ConvertExported, ConvertLineExported};
 use converter::convert;
 use converter::convert_file;
-use reply::tell;
+use reply::conversions::converted_reply;
+use reply::conversions::length_or;
+use reply::write_reply;
 
 // A file as one of the old edition: `converter::convert`.
 #[no_mangle]
@@ -18,7 +18,7 @@ pub extern "C" fn kodarfi_convert(
 {
     let converted = convert(file, out);
     *written = length_or(converted, *written);
-    tell(converted_reply(converted), places)
+    write_reply(converted_reply(converted), places)
 }
 
 // The same, and the number of the line where one is refused: `converter::convert_file`.
@@ -36,5 +36,5 @@ pub extern "C" fn kodarfi_convert_line(
     let answer = conversion.answer;
     *line = conversion.line;
     *written = length_or(answer, *written);
-    tell(converted_reply(answer), places)
+    write_reply(converted_reply(answer), places)
 }

@@ -1,11 +1,11 @@
-// The check of two nets, the second hung from the first (document 02, Paper 8).
-ghost use Rattle.checked.specs.Input.{input};
-ghost use Rattle.dependent.specs.Nets.{nets};
-ghost use Rattle.calls.specs.TwoNets.{DependentExported};
+// The check of two nets, the second dependent on the first (document 02, Paper 8).
+ghost use Rattle.check_spec.specs.Input.{input};
+ghost use Rattle.dependent_spec.specs.Nets.{nets};
+ghost use Rattle.calls_spec.specs.TwoNets.{DependentExported};
 use dependent_check::check_dependent;
-use nets_reply::net_of;
-use nets_reply::nets_reply;
-use reply::tell;
+use reply::nets::net_of;
+use reply::nets::nets_reply;
+use reply::write_reply;
 
 // `dependent_check::check_dependent`; `*net` is the net that a refusal is of, and 0 where nothing is refused.
 #[no_mangle]
@@ -71,5 +71,5 @@ pub extern "C" fn kodarfi_check_dependent(
         inverse_bounds2,
     );
     *net = net_of(checked);
-    tell(nets_reply(checked), places)
+    write_reply(nets_reply(checked), places)
 }

@@ -1,10 +1,10 @@
 // Two proposals for the same equations (document 02, Paper 13), for other languages.
-ghost use Rattle.common.specs.Proposals.{proposal, proposals};
-ghost use Rattle.calls.specs.TwoProposals.{CommonExported};
+ghost use Rattle.common_spec.specs.Proposals.{proposal, proposals};
+ghost use Rattle.calls_spec.specs.TwoProposals.{CommonExported};
 use common_interval::common_interval;
-use common_reply::common_reply;
-use common_reply::proposal_of;
-use reply::tell;
+use reply::proposals::common_reply;
+use reply::proposals::proposal_of;
+use reply::write_reply;
 
 // The common intervals of two proposals: `common_interval::common_interval`.
 #[no_mangle]
@@ -60,5 +60,5 @@ pub extern "C" fn kodarfi_common(
         high,
     );
     *of_proposal = proposal_of(common);
-    tell(common_reply(common), places)
+    write_reply(common_reply(common), places)
 }

@@ -1,11 +1,11 @@
-// Equations from the field lines, for callers that ask which line is refused: as `builder::build`, and the number of that line.
-ghost use Rattle.equations.specs.declared.Layout.the-variants.{Square, Lower};
-ghost use Rattle.calls.specs.Build.{BuildLineExported};
-use build_reply::finish_told;
-use builder::gather;
-use equations::Layout;
-use gathering::open;
-use observation::Observation;
+// Equations from the field lines, for callers that ask which line is refused: as `build::build`, and the number of that line.
+ghost use Rattle.build_equations.specs.declared.Layout.the-variants.{Square, Lower};
+ghost use Rattle.calls_spec.specs.Build.{BuildLineExported};
+use build::gather;
+use build_equations::Layout;
+use build_gathering::open;
+use build_lines::Observation;
+use reply::builds::finish_status;
 
 // The matrix square.
 #[no_mangle]
@@ -21,7 +21,7 @@ pub extern "C" fn kodarfi_build_line(
     let layout = Layout::Square;
     let start = open(n, observations.len());
     let g = gather(observations, start);
-    finish_told(g, layout, matrix, right, line)
+    finish_status(g, layout, matrix, right, line)
 }
 
 // The matrix by its lower half.
@@ -38,5 +38,5 @@ pub extern "C" fn kodarfi_build_half_line(
     let layout = Layout::Lower;
     let start = open(n, observations.len());
     let g = gather(observations, start);
-    finish_told(g, layout, half, right, line)
+    finish_status(g, layout, half, right, line)
 }

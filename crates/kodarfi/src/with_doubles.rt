@@ -1,14 +1,14 @@
 // Doubles in, doubles out (document 02, Paper 11).
-ghost use Rattle.exchange.specs.Inward.{incoming};
-ghost use Rattle.exchange.specs.Outward.{outgoing};
-ghost use Rattle.calls.specs.Doubles.{GuessesExported, IntervalsExported};
-use exchange::guesses_of;
-use exchange::intervals_of;
-use exchange_reply::guessed_reply;
+ghost use Rattle.doubles_lists.specs.Inward.{incoming};
+ghost use Rattle.doubles_lists.specs.Outward.{outgoing};
+ghost use Rattle.calls_spec.specs.Doubles.{GuessesExported, IntervalsExported};
+use doubles_lists::guesses_of;
+use doubles_lists::intervals_of;
+use reply::guesses::guessed_reply;
 use reply::outcome_reply;
-use reply::tell;
+use reply::write_reply;
 
-// Doubles in: `exchange::guesses_of`.
+// Doubles in: `doubles_lists::guesses_of`.
 #[no_mangle]
 pub extern "C" fn kodarfi_guesses(
     n: u32,
@@ -20,10 +20,10 @@ pub extern "C" fn kodarfi_guesses(
     ensures { λ r. ⌜ GuessesExported (incoming n s (now (values .entry)) (now (guess .entry))) r (now (places .exit)) (now (guess .exit)) ⌝ }
 {
     let guessed = guesses_of(n, s, values, guess);
-    tell(guessed_reply(guessed), places)
+    write_reply(guessed_reply(guessed), places)
 }
 
-// Doubles out: `exchange::intervals_of`.
+// Doubles out: `doubles_lists::intervals_of`.
 #[no_mangle]
 pub extern "C" fn kodarfi_intervals(
     n: u32,
@@ -37,5 +37,5 @@ pub extern "C" fn kodarfi_intervals(
     ensures { λ r. ⌜ IntervalsExported (outgoing n s (now (guess .entry)) (now (bounds .entry)) (now (low .entry)) (now (high .entry))) r (now (places .exit)) (now (low .exit)) (now (high .exit)) ⌝ }
 {
     let outcome = intervals_of(n, s, guess, bounds, low, high);
-    tell(outcome_reply(outcome), places)
+    write_reply(outcome_reply(outcome), places)
 }

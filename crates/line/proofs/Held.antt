@@ -1,5 +1,5 @@
 -- What a line reader owns: what its slice owns, and that its place fits into 64 bits.
---   first κ    — the one lifetime of a signature, as a declared type takes it
+--   firstLifetime κ — the one lifetime of a signature, as a declared type takes it
 --   Bytes κ    — the type of a slice of bytes; Reader κ — of a line reader
 --   reader s n — the reader of the slice s at the place n
 --   reader-of  — what it owns, from what the slice owns; slice-of — and back
@@ -29,14 +29,14 @@ use Rattle.line.proofs.reader.LineReader as T
 use Rattle.line.proofs.reader.LineReader.Laws as T′
 use Rattle.line.proofs.Walks.{beside}
 
-abbrev pub first : Lft → NamedLft
-first κ = record { mir = named 0; lft = κ }
+abbrev pub firstLifetime : Lft → NamedLft
+firstLifetime κ = record { mir = named 0; lft = κ }
 
 abbrev pub Bytes : Lft → RattleType
 Bytes κ = ShrSlice (named 0) κ u8
 
 abbrev pub Reader : Lft → RattleType
-Reader κ = T.the-row (first κ)
+Reader κ = T.the-row (firstLifetime κ)
 
 abbrev pub reader : RefT (List ℕ) → ℕ → LineReader
 reader s n = record { line = s; at = n }
@@ -52,12 +52,12 @@ module _ {M : Type 1} (𝓤 : URA M) (H : Heap 𝓤) (A : Atoms 𝓤) (W : Given
   reader-of s n fits =
       via 𝓤 (sep 𝓤 (Slice s) (sep 𝓤 (Place n) (emp 𝓤)))
       (beside 𝓤 (Slice s) (via 𝓤 (Place n) (uint-makes 𝓤 H A W w64 n (vint w64 n ∷ []) (refl, fits)) (beside 𝓤 (Place n) (id⊢ 𝓤 (emp 𝓤)))))
-      (own-shut 𝓤 H A W (T.the-type (first κ)) (T′.the-laws (first κ)) (s, (n, tt)))
+      (own-shut 𝓤 H A W (T.the-type (firstLifetime κ)) (T′.the-laws (firstLifetime κ)) (s, (n, tt)))
 
   pub slice-of : (d : LineReader) → ent 𝓤 (sem 𝓤 H A (Reader κ .own d (T′.lowered d ∷ []))) (Slice (d .line))
   slice-of d =
-      let N : Declared = T.the-type (first κ) in
-      let L : LL.Laws N = T′.the-laws (first κ) in
+      let N : Declared = T.the-type (firstLifetime κ) in
+      let L : LL.Laws N = T′.the-laws (firstLifetime κ) in
       let v : Values (N .parts) = (d .line, (d .at, tt)) in
       let Fields : SProp 𝓤 = sem 𝓤 H A (all-own (N .parts) L v) in
       via 𝓤 (guard 𝓤 (T′.lowered d ∷ [] ≡ vstruct (spelled (N .parts) L v) ∷ []) Fields) (own-open 𝓤 H A W N L v (T′.lowered d))

@@ -30,8 +30,8 @@ use denote.Triple.Statement.{Contract, Triple}
 use Rattle.line.specs.declared.reader.LineReader.{LineReader}
 use Rattle.line.proofs.reader.LineReader as T
 use Rattle.line.proofs.reader.LineReader.Laws as T′
-use Rattle.line.proofs.Data.{Data, Fits, typed, owned, place}
-use Rattle.line.proofs.Held.{first, Reader, slice-of}
+use Rattle.line.proofs.Data.{Data, Fits, typed, owned, placeData}
+use Rattle.line.proofs.Held.{firstLifetime, Reader, slice-of}
 use Rattle.line.proofs.Steps.{var, part, kept, gone}
 use Rattle.line.proofs.Walks.{Plainly, first-own, replies, asks, leaves, begins}
 
@@ -89,9 +89,9 @@ module _ (R : RattleType) where
         abbrev found : R .Denot
         found = f (now (d .line)) (d .at)
 
-        walk : Fits (T′.lowers (first κ)) d → ent 𝓤 Entry (WpFn 𝓤 H C Λ code (T′.lowered d ∷ []) (Reading .post y))
+        walk : Fits (T′.lowers (firstLifetime κ)) d → ent 𝓤 Entry (WpFn 𝓤 H C Λ code (T′.lowered d ∷ []) (Reading .post y))
         walk i =
-            let wt = LL.lawful (T.the-type (first κ)) (T′.the-laws (first κ)) 𝓤 H A W .typed d (T′.lowered d ∷ []) i .0 in
+            let wt = LL.lawful (T.the-type (firstLifetime κ)) (T′.the-laws (firstLifetime κ)) 𝓤 H A W .typed d (T′.lowered d ∷ []) i .0 in
             qed W (raw Entry ∷ []) ∵ use1 W (raw (sep 𝓤 Alive Own)) (monoR 𝓤 Alive (first-own 𝓤 H A (Reader κ) [] (d, tt) (T′.lowered d ∷ [], tt))) $ enter ! C Λ code (T′.lowered d ∷ []) _ $
             alloc1 ! (λ l₀. alloc1 ! (λ l₁. alloc1 ! (λ l₂. alloc1 ! (λ l₃. alloc0 ! $ params1 ! $ pass1 ! (init ! 4 refl wt) $ pass0 ! $ move ! (8 ∷ []) $
             -- [the token and what the reader owns; room for _3; …; room for _2; …; _1; …; room for _0; …]
@@ -99,10 +99,10 @@ module _ (R : RattleType) where
             assigns ! (of-opd ! (part ! 5 1 refl refl refl)) (from ! (stop !)) (init ! 1 refl (tt, wt .1 .1 .0)) $
             asks ! fm (D .lowers .lowered) (λ r. (r ≡ found) × Fits (D .lowers) r) _
             (replies 𝓤 H A core c z W (λ r. r ≡ found) (said z) Own (D .lowers) (C k) (fm k) known
-            (LL.copy (T.the-type (first κ)) (T′.the-copy (first κ)) 𝓤 H A W .twice d (T′.lowered d ∷ [])) (slice-of 𝓤 H A W κ d, (owned place 𝓤 H A W Own (d .at) (refl, wt .1 .1 .0 .fits), tt)))
+            (LL.copy (T.the-type (firstLifetime κ)) (T′.the-copy (firstLifetime κ)) 𝓤 H A W .twice d (T′.lowered d ∷ [])) (slice-of 𝓤 H A W κ d, (owned placeData 𝓤 H A W Own (d .at) (refl, wt .1 .1 .0 .fits), tt)))
             (and-then ! (var ! 3 refl) (and-then ! (var ! 1 refl) (no-more !))) (λ r (e, j). kept ! 7 refl (typed D 𝓤 H A W r j) $
             returns ! (look ! 7 refl) $ move ! (7 ∷ 8 ∷ 5 ∷ 6 ∷ 3 ∷ 4 ∷ 1 ∷ 2 ∷ []) $ gone ! $ gone ! $ gone ! $ gone ! $ free0 ! $
             by ! (leaves 𝓤 H A reading c′ y W (λ r. r ≡ found) (said′ y) Own (tt, tt) (tt, tt) (tt, tt) r (D .lowers .lowered r) e (owned D 𝓤 H A W Own r j)))))))
 
       pub reads : Triple 𝓤 (WpFn 𝓤 H C Λ code) Reading
-      reads = begins 𝓤 H A reading c′ (WpFn 𝓤 H C Λ code) (λ κs. ((λ d. T′.lowered d ∷ []), tt)) (λ κs. (T′.lowers (first (κs .0)) .val-is, tt)) (λ κs qs b a g are. walk (κs .0) (qs .0) (a .0) g (are .0))
+      reads = begins 𝓤 H A reading c′ (WpFn 𝓤 H C Λ code) (λ κs. ((λ d. T′.lowered d ∷ []), tt)) (λ κs. (T′.lowers (firstLifetime (κs .0)) .val-is, tt)) (λ κs qs b a g are. walk (κs .0) (qs .0) (a .0) g (are .0))

@@ -1,7 +1,7 @@
 // A line of the file: one of the forms, spelled exactly, or 01's refusal 1 or 2.
 ghost use mathlib.Core.Path.{_≡_};
-ghost use Rattle.form.specs.Form.{bytes};
-ghost use Rattle.form.specs.Reading.{wordAt, reading};
+ghost use Rattle.line_form.specs.Form.{bytes};
+ghost use Rattle.line_form.specs.Reading.{wordAt, reading};
 ghost use Rattle.line_parts.specs.Line.{ofReading, lineOf};
 use line_parts::Line;
 use line_parts::decide;
@@ -16,14 +16,14 @@ mod reader;
 fn after_space(line: &[u8], at: usize) -> usize
     ensures { λ r. ⌜ r ≡ wordAt (now (line .entry)) at (bytes " ") ⌝ }
 {
-    form::word_at(line, at, b" ")
+    line_form::word_at(line, at, b" ")
 }
 
 // The place after a single space and a list's opening bracket.
 fn after_bracket(line: &[u8], at: usize) -> usize
     ensures { λ r. ⌜ r ≡ wordAt (now (line .entry)) at (bytes " (") ⌝ }
 {
-    form::word_at(line, at, b" (")
+    line_form::word_at(line, at, b" (")
 }
 
 // What a line is by its reading: its form, the numbers capped, where it is the spelling of one; else 2. Every part is read, whatever

@@ -1,18 +1,18 @@
 // A line reader: a line's slice and a place in it (01: "read from left to right, one byte after another"). Each reading hands the slice and the place
 // to a function on slices, takes any place, and answers with the place after what it read, past the end of the line where nothing of the kind stands there.
 ghost use mathlib.Core.Path.{_≡_};
-ghost use Rattle.numeral.specs.Numeral.{numberAt};
-ghost use Rattle.numeral.specs.Capped.{cappedNumber};
-ghost use Rattle.form.specs.Form.{bytes};
-ghost use Rattle.form.specs.ListAt.{listedAt};
-ghost use Rattle.form.specs.Reading.{wordAt, headAt};
+ghost use Rattle.line_numeral.specs.Numeral.{numberAt};
+ghost use Rattle.line_numeral.specs.Capped.{cappedNumber};
+ghost use Rattle.line_form.specs.Form.{bytes};
+ghost use Rattle.line_form.specs.ListAt.{listedAt};
+ghost use Rattle.line_form.specs.Reading.{wordAt, headAt};
 ghost use Rattle.line_parts.specs.Parts.{kindOf};
-use form::Head;
-use form::Listed;
-use form::Word;
+use line_form::Head;
+use line_form::Listed;
+use line_form::Word;
+use line_numeral::Number;
 use line_parts::close_at;
 use line_parts::list_at;
-use numeral::Number;
 
 pub struct LineReader<'a> {
     pub line: &'a [u8],
@@ -41,13 +41,13 @@ impl<'a> LineReader<'a> {
     pub fn head(self) -> Head
         ensures { λ r. ⌜ r ≡ headAt (now (self .entry .line)) (self .entry .at) ⌝ }
     {
-        form::head_at(self.line, self.at)
+        line_form::head_at(self.line, self.at)
     }
 
     pub fn number(self) -> Number
         ensures { λ r. ⌜ r ≡ cappedNumber (numberAt (now (self .entry .line)) (self .entry .at)) ⌝ }
     {
-        numeral::number_at(self.line, self.at)
+        line_numeral::number_at(self.line, self.at)
     }
 
     // A list in a form of this word.

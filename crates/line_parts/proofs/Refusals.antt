@@ -1,9 +1,9 @@
 -- When a line is refused, in 01's words; "it is the spelling of f" is s ≡ spell f.
 --   short, long — what a line of at most 320 bytes is, and a longer one
---   said-1 — 1 is said exactly where the line is above 320 bytes
---   said-2 — 2 is said exactly where it is not, and is the spelling of no form
---   said-2-empty, said-2-byte — so 2 is said of an empty line, and of one with a byte other than 32 to 126 in it, as a line feed
---   said-2-right — and of a right side with a list of other than two numbers (02, Paper 5), whatever their count
+--   code-1 — 1 is said exactly where the line is above 320 bytes
+--   code-2 — 2 is said exactly where it is not, and is the spelling of no form
+--   code-2-empty, code-2-byte — so 2 is said of an empty line, and of one with a byte other than 32 to 126 in it, as a line feed
+--   code-2-right — and of a right side with a list of other than two numbers (02, Paper 5), whatever their count
 --   read-as — a line of at most 320 bytes that is the spelling of f is read as f
 --   spell-one — a line is the spelling of one form only;  two-spellings — so (right i b) and (right i (b 0)) are spelled differently
 use mathlib.Core.Path.{_≡_, refl, sym, ap, _∙_, subst}
@@ -17,16 +17,16 @@ use borrow.Author.Tests.{ltb-true, ltb-false, lt-ltb, le-ltb, eq-eqb}
 use lib.Dec.{T, ltb, eqb}
 use lib.IntN.{ℤ, pos}
 use lib.ListN.{length, getD}
-use Rattle.numeral.specs.Decimal.{numeral}
+use Rattle.line_numeral.specs.Decimal.{numeral}
 use Rattle.rules.specs.declared.Refusal.the-variants.{TooLong}
 use Rattle.line_parts.specs.declared.Line.{Line}
-use Rattle.form.specs.Form.{bytes, Form, right, rightWithin}
-use Rattle.form.specs.Spelling.{numerals, spell}
-use Rattle.form.specs.Reading.{reading}
-use Rattle.line_parts.specs.Line.{lineOf, ofReading, refused, saidOfLine}
-use Rattle.form.proofs.Printable.{spell-some, spell-printable}
-use Rattle.form.proofs.Rights.{right-unread}
-use Rattle.form.proofs.Spelling.{spelled-read, read-spelled}
+use Rattle.line_form.specs.Form.{bytes, Form, right, rightWithin}
+use Rattle.line_form.specs.Spelling.{numerals, spell}
+use Rattle.line_form.specs.Reading.{reading}
+use Rattle.line_parts.specs.Line.{lineOf, ofReading, refused, lineCode}
+use Rattle.line_form.proofs.Printable.{spell-some, spell-printable}
+use Rattle.line_form.proofs.Rights.{right-unread}
+use Rattle.line_form.proofs.Spelling.{spelled-read, read-spelled}
 
 pub spell-one : (f g : Form) → spell f ≡ spell g → f ≡ g
 spell-one f g e =
@@ -71,34 +71,34 @@ module _ (s : List ℕ) where
       go (some x) e = g x e
 
   abbrev answered : List ℕ
-  answered = saidOfLine (lineOf s .answer)
+  answered = lineCode (lineOf s .answer)
 
-  said-long : 320 < length s → answered ≡ 1 ∷ []
-  said-long h = ap (λ (r : Line). saidOfLine (r .answer)) (long h)
+  code-long : 320 < length s → answered ≡ 1 ∷ []
+  code-long h = ap (λ (r : Line). lineCode (r .answer)) (long h)
 
-  said-none : length s ≤ 320 → reading s ≡ none → answered ≡ 2 ∷ []
-  said-none h e = ap (λ (r : Line). saidOfLine (r .answer)) (short h ∙ ap ofReading e)
+  code-none : length s ≤ 320 → reading s ≡ none → answered ≡ 2 ∷ []
+  code-none h e = ap (λ (r : Line). lineCode (r .answer)) (short h ∙ ap ofReading e)
 
-  said-form : (f : Form) → length s ≤ 320 → reading s ≡ some f → answered ≡ []
-  said-form f h e = ap (λ (r : Line). saidOfLine (r .answer)) (short h ∙ ap ofReading e)
+  code-form : (f : Form) → length s ≤ 320 → reading s ≡ some f → answered ≡ []
+  code-form f h e = ap (λ (r : Line). lineCode (r .answer)) (short h ∙ ap ofReading e)
 
-  pub said-1 : (saidOfLine (lineOf s .answer) ≡ 1 ∷ []) ↔ (320 < length s)
-  said-1 = (
-    (λ e. by-length (λ h. h) (λ h. by-reading (λ n. absurd (differ (sym (said-none h n) ∙ e) tt)) (λ f r. absurd (differ (sym (said-form f h r) ∙ e) tt)))),
-    said-long,
+  pub code-1 : (lineCode (lineOf s .answer) ≡ 1 ∷ []) ↔ (320 < length s)
+  code-1 = (
+    (λ e. by-length (λ h. h) (λ h. by-reading (λ n. absurd (differ (sym (code-none h n) ∙ e) tt)) (λ f r. absurd (differ (sym (code-form f h r) ∙ e) tt)))),
+    code-long,
   )
 
-  pub said-2 : (saidOfLine (lineOf s .answer) ≡ 2 ∷ []) ↔ ((length s ≤ 320) × ((f : Form) → s ≡ spell f → ⊥))
-  said-2 = (
-    (λ e. by-length (λ h. absurd (differ (sym (said-long h) ∙ e) tt)) (λ h. (h, λ f p. differ (sym (said-form f h (ap reading p ∙ read-spelled f)) ∙ e) tt))),
-    λ (h, n). by-reading (λ e. said-none h e) (λ f e. absurd (n f (spelled-read s f e))),
+  pub code-2 : (lineCode (lineOf s .answer) ≡ 2 ∷ []) ↔ ((length s ≤ 320) × ((f : Form) → s ≡ spell f → ⊥))
+  code-2 = (
+    (λ e. by-length (λ h. absurd (differ (sym (code-long h) ∙ e) tt)) (λ h. (h, λ f p. differ (sym (code-form f h (ap reading p ∙ read-spelled f)) ∙ e) tt))),
+    λ (h, n). by-reading (λ e. code-none h e) (λ f e. absurd (n f (spelled-read s f e))),
   )
 
-  pub said-2-right : (i a : ℤ) (zs : List ℤ) → s ≡ bytes "(right " ++ numeral i ++ bytes " (" ++ numerals a zs ++ bytes "))" → (length zs ≡ 1 → ⊥) → length s ≤ 320 → saidOfLine (lineOf s .answer) ≡ 2 ∷ []
-  said-2-right i a zs e other h = said-none h (right-unread s i a zs e other)
+  pub code-2-right : (i a : ℤ) (zs : List ℤ) → s ≡ bytes "(right " ++ numeral i ++ bytes " (" ++ numerals a zs ++ bytes "))" → (length zs ≡ 1 → ⊥) → length s ≤ 320 → lineCode (lineOf s .answer) ≡ 2 ∷ []
+  code-2-right i a zs e other h = code-none h (right-unread s i a zs e other)
 
-  pub said-2-byte : (k : ℕ) → length s ≤ 320 → k < length s → ((32 ≤ getD s k 0) × (getD s k 0 ≤ 126) → ⊥) → saidOfLine (lineOf s .answer) ≡ 2 ∷ []
-  said-2-byte k h l other = said-2 .1 (h, λ f e. other (rw (sym e) at (spell-printable f k (rw e at l))))
+  pub code-2-byte : (k : ℕ) → length s ≤ 320 → k < length s → ((32 ≤ getD s k 0) × (getD s k 0 ≤ 126) → ⊥) → lineCode (lineOf s .answer) ≡ 2 ∷ []
+  code-2-byte k h l other = code-2 .1 (h, λ f e. other (rw (sym e) at (spell-printable f k (rw e at l))))
 
-pub said-2-empty : saidOfLine (lineOf [] .answer) ≡ 2 ∷ []
-said-2-empty = said-2 [] .1 (omega arith, λ f e. let n : 0 ≡ length (spell f) = ap length e in omega (arith, spell-some f))
+pub code-2-empty : lineCode (lineOf [] .answer) ≡ 2 ∷ []
+code-2-empty = code-2 [] .1 (omega arith, λ f e. let n : 0 ≡ length (spell f) = ap length e in omega (arith, spell-some f))

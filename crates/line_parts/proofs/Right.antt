@@ -6,8 +6,8 @@ use Prim.Native.Nat.{ℕ}
 use borrow.Author.Tests.{eq-eqb, ne-eqb}
 use lib.IntN.{ℤ, pos}
 use lib.ListN.{getD}
-use Rattle.form.specs.declared.Numbers.{Numbers}
-use Rattle.form.specs.Reading.{rightLast}
+use Rattle.line_form.specs.declared.Numbers.{Numbers}
+use Rattle.line_form.specs.Reading.{rightLast}
 use Rattle.line_parts.specs.declared.CappedForm.the-variants.{Right}
 use Rattle.line_parts.specs.Parts.{cappedRight}
 

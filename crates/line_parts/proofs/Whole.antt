@@ -11,23 +11,23 @@ use borrow.Author.Tests.{eq-eqb, ne-eqb}
 use lib.Dec.{eqb}
 use lib.IntN.{ℤ}
 use lib.ListN.{length}
-use Rattle.numeral.specs.Numeral.{numberAt, cap}
-use Rattle.numeral.specs.Capped.{cappedNumber}
-use Rattle.numeral.specs.declared.Number.{Number}
+use Rattle.line_numeral.specs.Numeral.{numberAt, cap}
+use Rattle.line_numeral.specs.Capped.{cappedNumber}
+use Rattle.line_numeral.specs.declared.Number.{Number}
 use Rattle.rules.specs.declared.Kind.{Kind}
 use Rattle.rules.specs.declared.Refusal.the-variants.{NoForm}
 use Rattle.line_parts.specs.declared.Answer.the-variants as answer
 use Rattle.line_parts.specs.declared.CappedForm.{CappedForm}
-use Rattle.form.specs.declared.Head.{Head}
+use Rattle.line_form.specs.declared.Head.{Head}
 use Rattle.line_parts.specs.declared.Line.{Line}
-use Rattle.form.specs.declared.Listed.{Listed}
-use Rattle.form.specs.declared.Numbers.{Numbers}
-use Rattle.form.specs.declared.Word.{Word}
-use Rattle.form.specs.declared.Word.the-variants.{Problem, Scale, Row, Right, Guess, Inverse, Weight, End}
-use Rattle.form.specs.Form.{Form, bytes}
-use Rattle.form.specs.Reading.{wordAt, headAt, endOf, formOf, formAt, reading}
-use Rattle.form.specs.List.{firstValues, numbersOf}
-use Rattle.form.specs.ListAt.{listedAt}
+use Rattle.line_form.specs.declared.Listed.{Listed}
+use Rattle.line_form.specs.declared.Numbers.{Numbers}
+use Rattle.line_form.specs.declared.Word.{Word}
+use Rattle.line_form.specs.declared.Word.the-variants.{Problem, Scale, Row, Right, Guess, Inverse, Weight, End}
+use Rattle.line_form.specs.Form.{Form, bytes}
+use Rattle.line_form.specs.Reading.{wordAt, headAt, endOf, formOf, formAt, reading}
+use Rattle.line_form.specs.List.{firstValues, numbersOf}
+use Rattle.line_form.specs.ListAt.{listedAt}
 use Rattle.line_parts.specs.Line.{cappedForm, numbersIn, refused, ofReading}
 use Rattle.line_parts.specs.Parts.{kindOf, lastIn, cappedRight, cappedOf, besideOf, decided}
 

@@ -3,7 +3,7 @@
 --   numbersIn f  — the numbers of its list, beside it
 --   refused r    — the line that is refused with r;  ofReading o — what a line is by its reading: 2 where it is no form
 --   lineOf s     — what the line s is: 1 above 320 bytes, else by its reading
---   saidOfLine a — 01's number for an answer; nothing where it is a form
+--   lineCode a — 01's number for an answer; nothing where it is a form
 use mathlib.Core.Bool.{cond}
 use mathlib.Core.List.{List, [], _∷_}
 use mathlib.Core.Option.{Option, none, some}
@@ -11,8 +11,8 @@ use Prim.Native.Nat.{ℕ}
 use lib.Dec.{ltb}
 use lib.IntN.{pos}
 use lib.ListN.{length}
-use Rattle.numeral.specs.Numeral.{cap}
-use Rattle.rules.specs.Refusal.{said}
+use Rattle.line_numeral.specs.Numeral.{cap}
+use Rattle.rules.specs.Refusal.{code}
 use Rattle.rules.specs.declared.Kind.the-variants as kind
 use Rattle.rules.specs.declared.Outcome.the-variants.{Refused}
 use Rattle.rules.specs.declared.Refusal.{Refusal}
@@ -22,10 +22,10 @@ use Rattle.line_parts.specs.declared.Answer.the-variants as answer
 use Rattle.line_parts.specs.declared.CappedForm.{CappedForm}
 use Rattle.line_parts.specs.declared.CappedForm.the-variants.{Problem, Scale, Row, Right, Guess, Inverse, Weight, End}
 use Rattle.line_parts.specs.declared.Line.{Line}
-use Rattle.form.specs.declared.Numbers.{Numbers}
-use Rattle.form.specs.Form.{Form, problem, scale, row, right, rightWithin, guess, inverse, weight, end}
-use Rattle.form.specs.Reading.{reading}
-use Rattle.form.specs.List.{noNumbers, numbersOf}
+use Rattle.line_form.specs.declared.Numbers.{Numbers}
+use Rattle.line_form.specs.Form.{Form, problem, scale, row, right, rightWithin, guess, inverse, weight, end}
+use Rattle.line_form.specs.Reading.{reading}
+use Rattle.line_form.specs.List.{noNumbers, numbersOf}
 
 abbrev pub cappedForm : Form → CappedForm
 cappedForm (problem n) = Problem (cap n)
@@ -59,6 +59,6 @@ ofReading (some f) = record { answer = answer.Form (cappedForm f); numbers = num
 unfoldable pub lineOf : List ℕ → Line
 lineOf s = cond (ltb 320 (length s)) (refused TooLong) (ofReading (reading s))
 
-abbrev pub saidOfLine : Answer → List ℕ
-saidOfLine (answer.Form f) = []
-saidOfLine (answer.Refused r) = said (Refused r)
+abbrev pub lineCode : Answer → List ℕ
+lineCode (answer.Form f) = []
+lineCode (answer.Refused r) = code (Refused r)

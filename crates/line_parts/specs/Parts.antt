@@ -12,8 +12,8 @@ use Prim.Native.Nat.{ℕ}
 use lib.Dec.{eqb}
 use lib.IntN.{ℤ, pos}
 use lib.ListN.{length, getD}
-use Rattle.numeral.specs.Numeral.{lost}
-use Rattle.numeral.specs.declared.Number.{Number}
+use Rattle.line_numeral.specs.Numeral.{lost}
+use Rattle.line_numeral.specs.declared.Number.{Number}
 use Rattle.rules.specs.declared.Kind.{Kind}
 use Rattle.rules.specs.declared.Kind.the-variants as kind
 use Rattle.rules.specs.declared.Refusal.the-variants.{NoForm}
@@ -21,14 +21,14 @@ use Rattle.line_parts.specs.declared.Answer.the-variants as answer
 use Rattle.line_parts.specs.declared.CappedForm.{CappedForm}
 use Rattle.line_parts.specs.declared.CappedForm.the-variants as capped
 use Rattle.line_parts.specs.declared.Line.{Line}
-use Rattle.form.specs.declared.Head.{Head}
-use Rattle.form.specs.declared.Listed.{Listed}
-use Rattle.form.specs.declared.Numbers.{Numbers}
-use Rattle.form.specs.declared.Word.{Word}
-use Rattle.form.specs.declared.Word.the-variants.{Problem, Scale, Row, Right, Guess, Inverse, Weight, End}
-use Rattle.form.specs.Form.{bytes}
-use Rattle.form.specs.List.{noNumbers}
-use Rattle.form.specs.Reading.{wordAt, rightLast, lastOf}
+use Rattle.line_form.specs.declared.Head.{Head}
+use Rattle.line_form.specs.declared.Listed.{Listed}
+use Rattle.line_form.specs.declared.Numbers.{Numbers}
+use Rattle.line_form.specs.declared.Word.{Word}
+use Rattle.line_form.specs.declared.Word.the-variants.{Problem, Scale, Row, Right, Guess, Inverse, Weight, End}
+use Rattle.line_form.specs.Form.{bytes}
+use Rattle.line_form.specs.List.{noNumbers}
+use Rattle.line_form.specs.Reading.{wordAt, rightLast, lastOf}
 use Rattle.line_parts.specs.Line.{refused}
 
 abbrev pub kindOf : Word → Kind

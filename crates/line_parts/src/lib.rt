@@ -1,15 +1,15 @@
 // What a line is, from its parts: one of the forms, its numbers capped, or 01's refusal 1 or 2.
 ghost use mathlib.Core.Path.{_≡_};
-ghost use Rattle.form.specs.Form.{bytes};
-ghost use Rattle.form.specs.ListAt.{listedAt};
-ghost use Rattle.form.specs.Reading.{wordAt, rightLast, lastOf};
+ghost use Rattle.line_form.specs.Form.{bytes};
+ghost use Rattle.line_form.specs.ListAt.{listedAt};
+ghost use Rattle.line_form.specs.Reading.{wordAt, rightLast, lastOf};
 ghost use Rattle.line_parts.specs.Line.{refused};
 ghost use Rattle.line_parts.specs.Parts.{kindOf, lastIn, cappedRight, cappedOf, besideOf, decided};
-use form::Head;
-use form::Listed;
-use form::Numbers;
-use form::Word;
-use numeral::Number;
+use line_form::Head;
+use line_form::Listed;
+use line_form::Numbers;
+use line_form::Word;
+use line_numeral::Number;
 use rules::Kind;
 use rules::Refusal;
 
@@ -26,7 +26,7 @@ pub enum CappedForm {
     End,
 }
 
-// The form, or 1 or 2 (01's numbers by `saidOfLine` of specs/Line.antt).
+// The form, or 1 or 2 (01's numbers by `lineCode` of specs/Line.antt).
 pub enum Answer {
     Form(CappedForm),
     Refused(Refusal),
@@ -58,14 +58,14 @@ pub fn kind_of(word: Word) -> Kind
 pub fn list_at(line: &[u8], at: usize, word: Word) -> Listed
     ensures { λ r. ⌜ r ≡ listedAt (kindOf word) (now (line .entry)) at ⌝ }
 {
-    form::list_at(line, at, kind_of(word))
+    line_form::list_at(line, at, kind_of(word))
 }
 
 // The place after a closing bracket.
 pub fn close_at(line: &[u8], at: usize) -> usize
     ensures { λ r. ⌜ r ≡ wordAt (now (line .entry)) at (bytes ")") ⌝ }
 {
-    form::word_at(line, at, b")")
+    line_form::word_at(line, at, b")")
 }
 
 // The place of the last bracket of a right form, by the count of the numbers in the list that stands there: after the second number, after a list of two
@@ -141,14 +141,14 @@ fn numbers_of(word: Word, list: Numbers) -> Numbers
     ensures { λ r. ⌜ r ≡ besideOf word list ⌝ }
 {
     match word {
-        Word::Problem => form::no_numbers(),
-        Word::Scale => form::no_numbers(),
+        Word::Problem => line_form::no_numbers(),
+        Word::Scale => line_form::no_numbers(),
         Word::Row => list,
-        Word::Right => form::no_numbers(),
-        Word::Guess => form::no_numbers(),
+        Word::Right => line_form::no_numbers(),
+        Word::Guess => line_form::no_numbers(),
         Word::Inverse => list,
-        Word::Weight => form::no_numbers(),
-        Word::End => form::no_numbers(),
+        Word::Weight => line_form::no_numbers(),
+        Word::End => line_form::no_numbers(),
     }
 }
 
@@ -157,7 +157,7 @@ pub fn refuse(refusal: Refusal) -> Line
 {
     Line {
         answer: Answer::Refused(refusal),
-        numbers: form::no_numbers(),
+        numbers: line_form::no_numbers(),
     }
 }
 

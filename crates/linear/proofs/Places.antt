@@ -4,7 +4,7 @@
 --   place-column, place-row — column after column: place j·n + k stands for column j and row k
 --   row-reach, column-reach, list-reach — a row and a column of a list of numbers row after row, and a list of n numbers, as `dot` asks for them;  square-list — a matrix list as such a list
 --   dot-row       — row k of A times a list is (A·v) k
---   dot-term, dot-fits, dot-size — a term is at most 2 ^ 56 in size, a partial sum with its next term fits an i64, the size of a whole sum
+--   dot-term, dot-fits, dot-magnitude — a term is at most 2 ^ 56 in size, a partial sum with its next term fits an i64, the size of a whole sum
 use mathlib.Core.Path.{_≡_, _∙_}
 use mathlib.Core.List.{List}
 use Prim.Native.Nat.{ℕ, _+_, _*_, _/_, _%_, _<_, _≤_, _^_}
@@ -44,13 +44,13 @@ place-row j k n l = mul-add-mod-self-right j n k ∙ mod-eq-of-lt l
 pub row-reach : {xs : List ℤ} {m n b : ℕ} → ColumnList xs (m * n) b → (i : ℕ) → i < m → Reach xs (i * n) 1 n b
 row-reach {xs} {m} {n} q i l = record {
   inside = λ j h. let p : i * n + j < m * n = place l h in omega (arith, q .long);
-  size = λ j h. rw (row-place n i (carried (i * n) 1 j)) (q .within .size (placeOf n i j) (place l h));
+  magnitudes = λ j h. rw (row-place n i (carried (i * n) 1 j)) (q .within .magnitudes (placeOf n i j) (place l h));
 }
 
 pub column-reach : {xs : List ℤ} {n b : ℕ} → ColumnList xs (n * n) b → (j : ℕ) → j < n → Reach xs j n n b
 column-reach {xs} {n} q j l = record {
   inside = λ i h. let p : i * n + j < n * n = place h l in omega (arith, q .long);
-  size = λ i h. rw (column-place (carried j n i)) (q .within .size (placeOf n i j) (place h l));
+  magnitudes = λ i h. rw (column-place (carried j n i)) (q .within .magnitudes (placeOf n i j) (place h l));
 }
 
 pub square-list : {xs : List ℤ} {n : ℕ} → MatrixList xs n → ColumnList xs (n * n) (2 ^ 20)
@@ -59,7 +59,7 @@ square-list q = record { long = q .long; within = q .within }
 pub list-reach : {xs : List ℤ} {n b : ℕ} → ColumnList xs n b → Reach xs 0 1 n b
 list-reach q = record {
   inside = λ j h. omega (arith, q .long);
-  size = λ j h. let e : 0 + j * 1 ≡ j = omega arith in rw e (q .within .size j h);
+  magnitudes = λ j h. let e : 0 + j * 1 ≡ j = omega arith in rw e (q .within .magnitudes j h);
 }
 
 -- ---- the dot products of the reckoning
@@ -73,18 +73,18 @@ module _ (n : ℕ) where
 -- ---- sizes
 module _ (a : List ℤ) (p s : ℕ) (x : List ℤ) (q u n : ℕ) (ha : Reach a p s n (2 ^ 20)) (hx : Reach x q u n (2 ^ 36)) where
   dot-term : (j : ℕ) → j < n → natAbs (at a (p + j * s) *ℤ at x (q + j * u)) ≤ 2 ^ 56
-  dot-term j l = rw (abs-* (at a (p + j * s)) (at x (q + j * u))) (mul-le-mul (ha .size j l) (hx .size j l))
+  dot-term j l = rw (abs-* (at a (p + j * s)) (at x (q + j * u))) (mul-le-mul (ha .magnitudes j l) (hx .magnitudes j l))
 
   pub dot-fits : (j : ℕ) → n ≤ 32 → j < n → natAbs (dotOf a p s x q u j) + natAbs (at a (p + j * s)) * natAbs (at x (q + j * u)) < 2 ^ 63
   dot-fits j few l =
       omega (
         arith,
         abs-sum≤ j (2 ^ 56) (λ (k : ℕ). at a (p + k * s) *ℤ at x (q + k * u)) (λ k m. dot-term k (omega arith)),
-        mul-le-mul (ha .size j l) (hx .size j l),
+        mul-le-mul (ha .magnitudes j l) (hx .magnitudes j l),
       )
 
 -- the size of a dot product whose numbers have smaller bounds
-pub dot-size : (a : List ℤ) (p s : ℕ) (x : List ℤ) (q u n A X : ℕ) → Reach a p s n A → Reach x q u n X → natAbs (dotOf a p s x q u n) ≤ n * (A * X)
-dot-size a p s x q u n A X ha hx =
+pub dot-magnitude : (a : List ℤ) (p s : ℕ) (x : List ℤ) (q u n A X : ℕ) → Reach a p s n A → Reach x q u n X → natAbs (dotOf a p s x q u n) ≤ n * (A * X)
+dot-magnitude a p s x q u n A X ha hx =
     abs-sum≤ n (A * X) (λ (j : ℕ). at a (p + j * s) *ℤ at x (q + j * u))
-    (λ j l. rw (abs-* (at a (p + j * s)) (at x (q + j * u))) (mul-le-mul (ha .size j l) (hx .size j l)))
+    (λ j l. rw (abs-* (at a (p + j * s)) (at x (q + j * u))) (mul-le-mul (ha .magnitudes j l) (hx .magnitudes j l)))

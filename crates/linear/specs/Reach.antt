@@ -15,10 +15,10 @@ dotOf a p s x q u n = sum n (λ (j : ℕ). at a (p + j * s) *ℤ at x (q + j * u
 
 pub record Reach (xs : List ℤ) (p s n b : ℕ) : Type 0 where
   pub inside : (j : ℕ) → j < n → p + j * s < length xs
-  pub size : (j : ℕ) → j < n → natAbs (at xs (p + j * s)) ≤ b
+  pub magnitudes : (j : ℕ) → j < n → natAbs (at xs (p + j * s)) ≤ b
 
 pub record Within (xs : List ℤ) (n b : ℕ) : Type 0 where
-  pub size : (k : ℕ) → k < n → natAbs (at xs k) ≤ b
+  pub magnitudes : (k : ℕ) → k < n → natAbs (at xs k) ≤ b
 
 pub record ColumnList (xs : List ℤ) (n b : ℕ) : Type 0 where
   pub long : n ≤ length xs

@@ -10,32 +10,32 @@ use lib.Dec.{ltb}
 use lib.ListN.{getD}
 use Rattle.rules.specs.Order.{verdict, ifAccepted, orElse}
 use Rattle.enclosure.specs.Problem.{Problem}
-use Rattle.checked.specs.Order.{firstMargin, firstResidual, firstInversePlace, reckoned, checkedOf}
-use Rattle.lent_lists.specs.Lists.{shortLists}
+use Rattle.check_spec.specs.Order.{firstMargin, firstResidual, firstInversePlace, computed, checkedOf}
+use Rattle.loader_lists.specs.Lists.{shortLists}
 use Rattle.loader_order.specs.Order.{LineCase, lineOrder}
 use Rattle.loader.specs.Answer.{caseOf, lineAnswer}
-use Rattle.line_runs.specs.Run.{State, fromNew, step}
-use Rattle.line_runs.proofs.Passing.{step-long}
-use Rattle.given_forms.specs.Progress.{ended}
-use Rattle.refusal.specs.Refused.{printed}
-use Rattle.line_runs.specs.Lines.{linesOf}
-use Rattle.line_runs.specs.Read.{Reading, readFrom, zeros, readingOf}
+use Rattle.loader_runs.specs.Run.{State, fromNew, step}
+use Rattle.loader_runs.proofs.Passing.{step-long}
+use Rattle.loader_progress.specs.Progress.{ended}
+use Rattle.listing_refusal.specs.Refused.{printed}
+use Rattle.loader_runs.specs.Lines.{linesOf}
+use Rattle.loader_runs.specs.Read.{Reading, readFrom, zeros, readingOf}
 use Rattle.listing.specs.Answers.{Alone, too-long, no-form, out-of-range, wrong-count, too-early, repeated, after-end, Answers, of-line, margin, residual, inverse-residual, missing, not-ended}
 use Rattle.listing.specs.Answers as answers
 use Rattle.listing.specs.Listing.{problemIn, answerOf}
 use Rattle.listing.proofs.Entire.{zeros-long}
 
 -- ---- a line
-data LineSaid : List ℕ → Type 0 where
-  quiet : LineSaid []
-  alone : {k : ℕ} → Alone k → LineSaid (k ∷ [])
-  lacking : (count : ℕ) → LineSaid (13 ∷ count ∷ [])
+data LineCode : List ℕ → Type 0 where
+  quiet : LineCode []
+  alone : {k : ℕ} → Alone k → LineCode (k ∷ [])
+  lacking : (count : ℕ) → LineCode (13 ∷ count ∷ [])
 
-line-said : (c : LineCase) → c .short ≡ false → LineSaid (verdict (lineOrder c))
-line-said c h = rw h (go (c .ended) (c .long) (c .unspelled) (c .early) (c .misplaced) (c .repeated) (c .outside) (c .miscounted) (c .incomplete))
+line-code : (c : LineCase) → c .short ≡ false → LineCode (verdict (lineOrder c))
+line-code c h = rw h (go (c .ended) (c .long) (c .unspelled) (c .early) (c .misplaced) (c .repeated) (c .outside) (c .miscounted) (c .incomplete))
   where
     go : (b14 b1 b2 b11 b3 b12 b3′ b4 b13 : Bool) →
-        LineSaid (cond b14 (14 ∷ []) (cond b1 (1 ∷ []) (cond b2 (2 ∷ []) (cond b11 (11 ∷ []) (cond b3 (3 ∷ []) (cond b12 (12 ∷ []) (cond b3′ (3 ∷ []) (cond b4 (4 ∷ []) (cond b13 (13 ∷ c .missing ∷ []) [])))))))))
+        LineCode (cond b14 (14 ∷ []) (cond b1 (1 ∷ []) (cond b2 (2 ∷ []) (cond b11 (11 ∷ []) (cond b3 (3 ∷ []) (cond b12 (12 ∷ []) (cond b3′ (3 ∷ []) (cond b4 (4 ∷ []) (cond b13 (13 ∷ c .missing ∷ []) [])))))))))
     go true b1 b2 b11 b3 b12 b3′ b4 b13 = alone after-end
     go false true b2 b11 b3 b12 b3′ b4 b13 = alone too-long
     go false false true b11 b3 b12 b3′ b4 b13 = alone no-form
@@ -49,9 +49,9 @@ line-said c h = rw h (go (c .ended) (c .long) (c .unspelled) (c .early) (c .misp
 
 -- ---- the lines, one after another
 abbrev printedOf : Reading → List ℕ
-printedOf R = printed (R .line) (R .said)
+printedOf R = printed (R .line) (R .code)
 
-first-answers : {l : List ℕ} (k : ℕ) (u : State) (rest : Reading) → LineSaid l → (l ≡ [] → Answers (printedOf rest)) → Answers (printedOf (ifAccepted l rest (record { said = l; line = k + 1; state = u })))
+first-answers : {l : List ℕ} (k : ℕ) (u : State) (rest : Reading) → LineCode l → (l ≡ [] → Answers (printedOf rest)) → Answers (printedOf (ifAccepted l rest (record { code = l; line = k + 1; state = u })))
 first-answers k u rest quiet h = h refl
 first-answers k u rest (alone a) h = of-line a (k + 1) (omega arith)
 first-answers k u rest (lacking count) h = missing count
@@ -60,12 +60,12 @@ lines-answer : (k : ℕ) (u : State) (lines : List (List ℕ)) → shortLists (u
 unfolding readFrom lineAnswer
 lines-answer k u [] h = answers.accepted
 lines-answer k u (line ∷ lines) h =
-    first-answers {l = lineAnswer (u .loader) (u .lists) line} k u (readFrom (k + 1) (step u line) lines) (line-said (caseOf (u .loader) (u .lists) line) h)
+    first-answers {l = lineAnswer (u .loader) (u .lists) line} k u (readFrom (k + 1) (step u line) lines) (line-code (caseOf (u .loader) (u .lists) line) h)
     (λ e. lines-answer (k + 1) (step u line) lines (step-long u line e h))
 
 -- ---- the check
-reckoned-answers : (n m k i : ℕ) → Answers (printed 0 (verdict (reckoned n m k i)))
-reckoned-answers n m k i = go (ltb m n) (ltb k n) (ltb i (n * n))
+computed-answers : (n m k i : ℕ) → Answers (printed 0 (verdict (computed n m k i)))
+computed-answers n m k i = go (ltb m n) (ltb k n) (ltb i (n * n))
   where
     go : (a b c : Bool) → Answers (printed 0 (cond a (5 ∷ (m + 1) ∷ []) (cond b (6 ∷ (k + 1) ∷ []) (cond c (7 ∷ (i / n + 1) ∷ (i % n + 1) ∷ []) []))))
     go true b c = margin (m + 1) (omega arith)
@@ -74,7 +74,7 @@ reckoned-answers n m k i = go (ltb m n) (ltb k n) (ltb i (n * n))
     go false false false = answers.accepted
 
 checked-answers : (P : Problem) → Answers (printed 0 (checkedOf P))
-checked-answers P = reckoned-answers (P .n) (firstMargin P) (firstResidual P) (firstInversePlace P)
+checked-answers P = computed-answers (P .n) (firstMargin P) (firstResidual P) (firstInversePlace P)
 
 -- ---- the file
 later-answers : (b : Bool) (l : List ℕ) → Answers (printed 0 l) → Answers (printed 0 (cond b l (15 ∷ [])))

@@ -15,13 +15,13 @@ use Rattle.enclosure.specs.Demand.{Encloses, RoundedExact}
 use Rattle.enclosure.specs.Height.{OneHeight}
 use Rattle.enclosure.proofs.Acceptance.{rounded-sound}
 use Rattle.enclosure.proofs.Demands.{encloses, one-height}
-use Rattle.checked.specs.Order.{checkedOf}
-use Rattle.checked.proofs.Contract.{sound-said, said-sound}
-use Rattle.line_runs.specs.Run.{forms}
-use Rattle.given_forms.specs.Progress.{ended}
-use Rattle.refusal.specs.Refused.{printed}
-use Rattle.line_runs.specs.Lines.{linesOf}
-use Rattle.line_runs.specs.Read.{readingOf}
+use Rattle.check_spec.specs.Order.{checkedOf}
+use Rattle.check_spec.proofs.Contract.{sound-code, code-sound}
+use Rattle.loader_runs.specs.Run.{forms}
+use Rattle.loader_progress.specs.Progress.{ended}
+use Rattle.listing_refusal.specs.Refused.{printed}
+use Rattle.loader_runs.specs.Lines.{linesOf}
+use Rattle.loader_runs.specs.Read.{readingOf}
 use Rattle.file_check.specs.Judged.{reportedOf}
 use Rattle.file_check.proofs.Forms.{some, fine, heavy}
 use Rattle.listing.specs.Listing.{problemIn, answerOf, listingOf}
@@ -47,8 +47,8 @@ module _ (file : List ℕ) where
   accepted-parts e =
       let R = readingOf file in
       let later = cond (ended (R .state .loader .stage)) (checkedOf (problemIn file)) (15 ∷ []) in
-      let none = else-none (printed (R .line) (R .said)) (printed 0 later) e in
-      let l = nothing-printed (R .line) (R .said) (none .0) in
+      let none = else-none (printed (R .line) (R .code)) (printed 0 later) e in
+      let l = nothing-printed (R .line) (R .code) (none .0) in
       let c = nothing-open (ended (R .state .loader .stage)) (checkedOf (problemIn file)) (nothing-printed 0 later (none .1)) in
       record { complete = record { lines = l; end = c .0 }; quiet = c .1 }
 
@@ -60,7 +60,7 @@ module _ (file : List ℕ) where
       let a = accepted-parts e in
       let c = a .complete in
       encloses (problemIn file) (heavy (readingOf file .state) (forms (linesOf file)) (from file (c .lines) (c .end)) (inside file (c .lines) (c .end)))
-      (said-sound (problemIn file) (a .quiet) .margins)
+      (code-sound (problemIn file) (a .quiet) .margins)
 
   pub file-height : answerOf file ≡ [] → OneHeight (problemIn file) (bound (problemIn file))
   file-height e = one-height (problemIn file) (bound (problemIn file)) (inverseBound (problemIn file)) (file-encloses e)
@@ -70,5 +70,5 @@ module _ (file : List ℕ) where
       let f = from file (c .lines) (c .end) in
       let r = inside file (c .lines) (c .end) in
       let u = readingOf file .state in
-      let s = sound-said (problemIn file) (some u (forms (linesOf file)) f r) (rounded-sound (problemIn file) N q H q′ (fine u (forms (linesOf file)) f r) x) in
+      let s = sound-code (problemIn file) (some u (forms (linesOf file)) f r) (rounded-sound (problemIn file) N q H q′ (fine u (forms (linesOf file)) f r) x) in
       answer-judged file (c .lines) (c .end) ∙ ap (printed 0) s

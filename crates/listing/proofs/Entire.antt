@@ -11,33 +11,33 @@ use Prim.Native.Nat.{ℕ, _+_, _≤_}
 use native.Mathlib.Omega.{arith}
 use lib.ListN.{length, drop, replicate}
 use lib.Seq.{sets-eq, take-at, drop-at}
-use Rattle.rules.specs.Refusal.{said, numberOf, valuesOf}
+use Rattle.rules.specs.Refusal.{code, numberOf, valuesOf}
 use Rattle.rules.specs.declared.Outcome.the-variants.{Accepted, Refused}
 use Rattle.rules.specs.declared.Refusal.{Refusal}
-use Rattle.checked.specs.Order.{checkedOf}
-use Rattle.checked.specs.Input.{Input, short}
-use Rattle.lent_lists.specs.Lists.{shortLists}
-use Rattle.given_forms.specs.Progress.{ended}
+use Rattle.check_spec.specs.Order.{checkedOf}
+use Rattle.check_spec.specs.Input.{Input, short}
+use Rattle.loader_lists.specs.Lists.{shortLists}
+use Rattle.loader_progress.specs.Progress.{ended}
 use Rattle.loader_order.specs.Through.{answerThrough}
 use Rattle.loader_order.proofs.Through.{answer-ended}
-use Rattle.line_runs.specs.Run.{State, fromNew, forms}
-use Rattle.line_runs.specs.Accepts.{run, Accepts}
-use Rattle.line_runs.specs.Holds.{InRange}
-use Rattle.line_runs.proofs.Check.{run-long, enough}
-use Rattle.line_runs.proofs.End.{FromForms, from-forms, in-range}
-use Rattle.text.specs.Wrote.{Wrote}
-use Rattle.refusal.specs.Refused.{printed, refusedOf}
-use Rattle.refusal.specs.Answered.{Answered}
-use Rattle.refusal.specs.declared.FileAnswer.{FileAnswer}
-use Rattle.refusal.proofs.Refused.{same-answer}
+use Rattle.loader_runs.specs.Run.{State, fromNew, forms}
+use Rattle.loader_runs.specs.Accepts.{run, Accepts}
+use Rattle.loader_runs.specs.Holds.{InRange}
+use Rattle.loader_runs.proofs.Check.{run-long, enough}
+use Rattle.loader_runs.proofs.End.{FromForms, from-forms, in-range}
+use Rattle.listing_text.specs.Wrote.{Wrote}
+use Rattle.listing_refusal.specs.Refused.{printed, refusedOf}
+use Rattle.listing_refusal.specs.Answered.{Answered}
+use Rattle.listing_refusal.specs.declared.FileAnswer.{FileAnswer}
+use Rattle.listing_refusal.proofs.Refused.{same-answer}
 use Rattle.file.specs.declared.Collected.{Collected}
-use Rattle.line_runs.specs.Lines.{linesOf}
-use Rattle.line_runs.specs.Read.{Reading, zeros, readingOf}
+use Rattle.loader_runs.specs.Lines.{linesOf}
+use Rattle.loader_runs.specs.Read.{Reading, zeros, readingOf}
 use Rattle.file.specs.Read.{stateOf, ReadAs}
-use Rattle.line_runs.proofs.Whole.{all-accepted, all-run}
+use Rattle.loader_runs.proofs.Whole.{all-accepted, all-run}
 use Rattle.file_check.specs.Judged.{reportedOf, lineOr}
 use Rattle.listing.specs.Listing.{problemIn, answerOf, listingOf, ListedAs, AnsweredAs}
-use Rattle.file_check.specs.Shown.{inputAt, saidOf, shownOf}
+use Rattle.file_check.specs.Shown.{inputAt, codeOf, shownOf}
 use Rattle.file_check.proofs.Forms.{reported-forms, answer-forms}
 
 pub zeros-long : shortLists zeros ≡ false
@@ -51,7 +51,7 @@ module _ (file : List ℕ) where
   abbrev lines : List (List ℕ)
   lines = linesOf file
 
-  pub answer-refused : {k : ℕ} {vs : List ℕ} → R .said ≡ k ∷ vs → answerOf file ≡ printed (R .line) (k ∷ vs)
+  pub answer-refused : {k : ℕ} {vs : List ℕ} → R .code ≡ k ∷ vs → answerOf file ≡ printed (R .line) (k ∷ vs)
   unfolding answerOf
   answer-refused e = rw e
 
@@ -59,7 +59,7 @@ module _ (file : List ℕ) where
   unfolding listingOf
   listing-from e = rw e
 
-  module _ (quiet : R .said ≡ []) where
+  module _ (quiet : R .code ≡ []) where
     pub answer-open : ended (R .state .loader .stage) ≡ false → answerOf file ≡ printed 0 (15 ∷ [])
     unfolding answerOf
     answer-open e = rw (quiet, e)
@@ -96,15 +96,15 @@ module _ (file : List ℕ) where
         rw state-is
         (enough (run (fromNew zeros) lines) (replicate 32 0) (replicate 1024 0) (run-long (fromNew zeros) lines accepts zeros-long) (omega arith) (omega arith))
 
-    open-said : ended (R .state .loader .stage) ≡ false → answerThrough (R .state .loader .stage) I ≡ 15 ∷ []
+    open-code : ended (R .state .loader .stage) ≡ false → answerThrough (R .state .loader .stage) I ≡ 15 ∷ []
     unfolding answerThrough
-    open-said e = rw (long, e)
+    open-code e = rw (long, e)
 
-    check-said : ended (R .state .loader .stage) ≡ true → answerThrough (R .state .loader .stage) I ≡ checkedOf (problemIn file)
-    check-said e = answer-ended (R .state .loader .stage) I e ∙ answer-forms (R .state) (forms lines) (from e) (inside e) long
+    check-code : ended (R .state .loader .stage) ≡ true → answerThrough (R .state .loader .stage) I ≡ checkedOf (problemIn file)
+    check-code e = answer-ended (R .state .loader .stage) I e ∙ answer-forms (R .state) (forms lines) (from e) (inside e) long
 
     pub record AsChecked : Type 0 where
-      pub answer : answerOf file ≡ saidOf (R .state)
+      pub answer : answerOf file ≡ codeOf (R .state)
       pub listing : listingOf file ≡ shownOf (R .state)
 
     pub as-checked : AsChecked
@@ -112,26 +112,26 @@ module _ (file : List ℕ) where
       where
         go : (b : Bool) → ended (R .state .loader .stage) ≡ b → AsChecked
         go false e = record {
-          answer = rw (open-said e) (answer-open e);
-          listing = rw (open-said e) (listing-from (answer-open e));
+          answer = rw (open-code e) (answer-open e);
+          listing = rw (open-code e) (listing-from (answer-open e));
         }
         go true e = record {
-          answer = rw (check-said e) (answer-judged e);
-          listing = rw (check-said e, reported-forms (R .state) (forms lines) (from e)) (listing-from (answer-judged e));
+          answer = rw (check-code e) (answer-judged e);
+          listing = rw (check-code e, reported-forms (R .state) (forms lines) (from e)) (listing-from (answer-judged e));
         }
 
 module _ (file : List ℕ) {r : Collected} (read : ReadAs file r) where
   pub refusal-answered : {o p : List ℕ} {a : FileAnswer} (x : Refusal) → r .outcome ≡ Refused x →
       Answered (printed (r .line) (numberOf x ∷ valuesOf x)) (refusedOf (printed (r .line) (numberOf x ∷ valuesOf x))) o p a → Answered (answerOf file) (listingOf file) o p a
   refusal-answered x e =
-      let q : answerOf file ≡ printed (r .line) (numberOf x ∷ valuesOf x) = rw (read .line) (answer-refused file (sym (read .says) ∙ ap said e)) in
+      let q : answerOf file ≡ printed (r .line) (numberOf x ∷ valuesOf x) = rw (read .line) (answer-refused file (sym (read .says) ∙ ap code e)) in
       same-answer (sym q) (sym (listing-from file q))
 
-  pub check-answered : {o p : List ℕ} {a : FileAnswer} → r .outcome ≡ Accepted → Answered (saidOf (stateOf r)) (shownOf (stateOf r)) o p a → Answered (answerOf file) (listingOf file) o p a
+  pub check-answered : {o p : List ℕ} {a : FileAnswer} → r .outcome ≡ Accepted → Answered (codeOf (stateOf r)) (shownOf (stateOf r)) o p a → Answered (answerOf file) (listingOf file) o p a
   check-answered {o} {p} {a} e =
-      let quiet = sym (read .says) ∙ ap said e in
+      let quiet = sym (read .says) ∙ ap code e in
       let c = as-checked file quiet in
-      subst (λ (u : State). Answered (saidOf u) (shownOf u) o p a → Answered (answerOf file) (listingOf file) o p a) (sym (read .state)) (same-answer (sym (c .answer)) (sym (c .listing)))
+      subst (λ (u : State). Answered (codeOf u) (shownOf u) o p a → Answered (answerOf file) (listingOf file) o p a) (sym (read .state)) (same-answer (sym (c .answer)) (sym (c .listing)))
 
 -- ---- what was written
 as-listed : (file : List ℕ) {o p : List ℕ} {end : ℕ} → 32768 ≤ length o → Wrote 32768 o 0 (listingOf file) p end → ListedAs file o p end

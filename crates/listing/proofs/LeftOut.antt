@@ -12,17 +12,17 @@ use lib.Dec.{eqb}
 use lib.IntN.{pos, natAbs}
 use Rattle.enclosure.specs.Problem.{Problem}
 use Rattle.enclosure.proofs.Agreement.{Agreeing, over}
-use Rattle.checked.specs.Order.{checkedOf}
-use Rattle.checked.proofs.Agreement.{checked-same}
-use Rattle.form.specs.Form.{Form, problem, scale, row, right, rightWithin, guess, inverse, weight, end}
-use Rattle.lent_lists.specs.Slot.{Slot, Matrix, Right, Tolerance, Guess, Inverse, Weight, width}
-use Rattle.line_runs.specs.Run.{forms}
-use Rattle.line_runs.specs.Lines.{linesOf}
-use Rattle.line_runs.specs.Read.{zeros}
-use Rattle.line_runs.specs.Given.{valueFrom}
+use Rattle.check_spec.specs.Order.{checkedOf}
+use Rattle.check_spec.proofs.Agreement.{checked-same}
+use Rattle.line_form.specs.Form.{Form, problem, scale, row, right, rightWithin, guess, inverse, weight, end}
+use Rattle.loader_lists.specs.Slot.{Slot, Matrix, Right, Tolerance, Guess, Inverse, Weight, width}
+use Rattle.loader_runs.specs.Run.{forms}
+use Rattle.loader_runs.specs.Lines.{linesOf}
+use Rattle.loader_runs.specs.Read.{zeros}
+use Rattle.loader_runs.specs.Given.{valueFrom}
 use Rattle.integer.specs.Among.{here, there}
-use Rattle.line_runs.proofs.AnyOrder.{others-agree}
-use Rattle.refusal.specs.Refused.{printed}
+use Rattle.loader_runs.proofs.AnyOrder.{others-agree}
+use Rattle.listing_refusal.specs.Refused.{printed}
 use Rattle.file_check.specs.Judged.{reportedOf, lineOr}
 use Rattle.file_check.proofs.Agreed.{reported-same}
 use Rattle.listing.specs.Listing.{problemIn, answerOf, listingOf}

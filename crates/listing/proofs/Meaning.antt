@@ -10,10 +10,10 @@ use lib.ListN.{getD, take}
 use Rattle.enclosure.specs.Reckoning.{bound, inverseBound}
 use Rattle.enclosure.specs.Demand.{Encloses}
 use Rattle.enclosure.specs.Height.{OneHeight}
-use Rattle.form.specs.Form.{bytes}
-use Rattle.report.specs.Report.{reportOf}
-use Rattle.refusal.specs.Reply.{replyOf}
-use Rattle.refusal.specs.declared.FileAnswer.{FileAnswer}
+use Rattle.line_form.specs.Form.{bytes}
+use Rattle.listing_report.specs.Report.{reportOf}
+use Rattle.listing_refusal.specs.Reply.{replyOf}
+use Rattle.listing_refusal.specs.declared.FileAnswer.{FileAnswer}
 use Rattle.file_check.specs.Judged.{reportedOf, lineOr}
 use Rattle.listing.specs.Listing.{problemIn, answerOf, listingOf, ListedAs, AnsweredAs}
 use Rattle.listing.proofs.Answers.{answer-zero}

@@ -1,5 +1,5 @@
 -- Cases a to l of document 01 and 02's own, and 01's whole file, follow from the definitions that the contracts cite.
---   cases-hold — one theorem for all rows of the table, computed
+--   listing-cases-hold — one theorem for all rows of the table, computed
 --   problem-is, complete-is, answer-is, listing-is — a file whose lines spell forms that are accepted, an end last, from those forms
 --   whole-file — the listing of 01's whole file is the one that it prints: its lines spell its forms, these are accepted, and the report of their
 --     problem has the listing's bytes, each computed
@@ -16,28 +16,28 @@ use Rattle.rules.proofs.Ranges.{both-left, both-right}
 use Rattle.rules.specs.Range.{ranges, rangeOf, inRange, allInRange}
 use Rattle.entry.specs.Entry.{entryBound}
 use Rattle.enclosure.specs.Problem.{Problem}
-use Rattle.enclosure.specs.Reckoning.{defect, load, margin, residual, rowSum, exceeds, sizesWith, boundFrom, boundWith, bound}
-use Rattle.checked.specs.Checked.{solutionBoundsAfter, inverseBoundsAfter}
-use Rattle.checked.specs.Order as check
-use Rattle.checked.specs.Order.{checkedOf}
-use Rattle.numeral.specs.Decimal.{digits, decimal, numeral}
-use Rattle.form.specs.List.{allInside}
-use Rattle.form.specs.Form.{Form, problem, scale, row, right, rightWithin, guess, inverse, weight, end}
-use Rattle.form.specs.Spelling.{numerals, spell}
-use Rattle.bit_set.specs.Places.{withPlace, lacking}
-use Rattle.given_forms.specs.Progress.{missing, misplaced}
+use Rattle.enclosure.specs.Reckoning.{defect, load, margin, residual, rowSum, exceeds, magnitudesWith, boundFrom, boundWith, bound}
+use Rattle.check_spec.specs.Checked.{solutionBoundsAfter, inverseBoundsAfter}
+use Rattle.check_spec.specs.Order as check
+use Rattle.check_spec.specs.Order.{checkedOf}
+use Rattle.line_numeral.specs.Decimal.{digits, decimal, numeral}
+use Rattle.line_form.specs.List.{allInside}
+use Rattle.line_form.specs.Form.{Form, problem, scale, row, right, rightWithin, guess, inverse, weight, end}
+use Rattle.line_form.specs.Spelling.{numerals, spell}
+use Rattle.loader_bit_set.specs.Places.{withPlace, lacking}
+use Rattle.loader_progress.specs.Progress.{missing, misplaced}
 use Rattle.loader.specs.Taken.{fresh}
-use Rattle.loader.proofs.Exact.{formSaid}
-use Rattle.line_runs.specs.Given.{valueFrom, sizeFrom, scalesFrom}
-use Rattle.line_runs.specs.Run.{fromNew, forms}
-use Rattle.line_runs.proofs.Passing.{spelled, forms-spelled, passes, pass-all}
-use Rattle.listing_lines.specs.Line.{each}
-use Rattle.report.specs.Report.{reportOf}
-use Rattle.refusal.specs.Refused.{printed}
+use Rattle.loader.proofs.Exact.{formCode}
+use Rattle.loader_runs.specs.Given.{valueFrom, sizeFrom, scalesFrom}
+use Rattle.loader_runs.specs.Run.{fromNew, forms}
+use Rattle.loader_runs.proofs.Passing.{spelled, forms-spelled, passes, pass-all}
+use Rattle.listing_text.specs.Line.{each}
+use Rattle.listing_report.specs.Report.{reportOf}
+use Rattle.listing_refusal.specs.Refused.{printed}
 use Rattle.file_check.specs.Judged.{reportedOf}
 use Rattle.file_check.specs.Problem.{problemFrom}
-use Rattle.line_runs.specs.Lines.{linesOf}
-use Rattle.line_runs.specs.Read.{zeros}
+use Rattle.loader_runs.specs.Lines.{linesOf}
+use Rattle.loader_runs.specs.Read.{zeros}
 use Rattle.integer.specs.Among.{here, there}
 use Rattle.linear.specs.Written.{written}
 use Rattle.listing.specs.Cases.{table, tableHolds, wholeFile, unweightedFile, wholeListing}
@@ -47,9 +47,9 @@ use Rattle.listing.specs.LeftOut.{NoWeights}
 use Rattle.listing.proofs.Entire.{zeros-long, listing-from, answer-judged}
 use Rattle.listing.proofs.WithOnes.{not-in-none}
 
-pub cases-hold : tableHolds table ≡ true
-unfolding check.answer solutionBoundsAfter inverseBoundsAfter written bound boundWith boundFrom sizesWith exceeds rowSum residual margin load defect product apply identity sum sumℕ largest first ceilDiv roundDiv entryBound allInRange inRange rangeOf ranges every
-cases-hold = refl
+pub listing-cases-hold : tableHolds table ≡ true
+unfolding check.answer solutionBoundsAfter inverseBoundsAfter written bound boundWith boundFrom magnitudesWith exceeds rowSum residual margin load defect product apply identity sum sumℕ largest first ceilDiv roundDiv entryBound allInRange inRange rangeOf ranges every
+listing-cases-hold = refl
 
 -- a file whose lines spell forms that are accepted, an end last
 module _ (file : List ℕ) (fs : List Form) (lines : linesOf file ≡ spelled fs) (passed : passes fresh fs ≡ true) where
@@ -91,7 +91,7 @@ unfolding linesOf spell numerals numeral decimal digits
 whole-spelled = refl
 
 pub whole-passes : passes fresh wholeForms ≡ true
-unfolding passes formSaid spell numerals numeral decimal digits missing misplaced withPlace lacking allInside sumℕ inRange rangeOf ranges
+unfolding passes formCode spell numerals numeral decimal digits missing misplaced withPlace lacking allInside sumℕ inRange rangeOf ranges
 whole-passes = refl
 
 pub whole-checked : checkedOf (problemFrom wholeForms) ≡ []
@@ -99,7 +99,7 @@ unfolding valueFrom sizeFrom scalesFrom exceeds rowSum residual margin load defe
 whole-checked = refl
 
 whole-reported : reportedOf (problemFrom wholeForms) ≡ wholeListing
-unfolding valueFrom sizeFrom scalesFrom digits decimal numeral each reportOf bound boundWith boundFrom sizesWith residual margin load defect product apply identity sum sumℕ largest ceilDiv roundDiv entryBound
+unfolding valueFrom sizeFrom scalesFrom digits decimal numeral each reportOf bound boundWith boundFrom magnitudesWith residual margin load defect product apply identity sum sumℕ largest ceilDiv roundDiv entryBound
 whole-reported = refl
 
 pub whole-file : listingOf wholeFile ≡ wholeListing
@@ -126,7 +126,7 @@ unfolding linesOf spell numerals numeral decimal digits
 unweighted-spelled = refl
 
 unweighted-passes : passes fresh unweightedForms ≡ true
-unfolding passes formSaid spell numerals numeral decimal digits missing misplaced withPlace lacking allInside sumℕ inRange rangeOf ranges
+unfolding passes formCode spell numerals numeral decimal digits missing misplaced withPlace lacking allInside sumℕ inRange rangeOf ranges
 unweighted-passes = refl
 
 unweighted-checked : checkedOf (problemFrom unweightedForms) ≡ []
@@ -134,7 +134,7 @@ unfolding valueFrom sizeFrom scalesFrom exceeds rowSum residual margin load defe
 unweighted-checked = refl
 
 unweighted-reported : reportedOf (problemFrom unweightedForms) ≡ wholeListing
-unfolding valueFrom sizeFrom scalesFrom digits decimal numeral each reportOf bound boundWith boundFrom sizesWith residual margin load defect product apply identity sum sumℕ largest ceilDiv roundDiv entryBound
+unfolding valueFrom sizeFrom scalesFrom digits decimal numeral each reportOf bound boundWith boundFrom magnitudesWith residual margin load defect product apply identity sum sumℕ largest ceilDiv roundDiv entryBound
 unweighted-reported = refl
 
 pub unweighted-complete : Complete unweightedFile

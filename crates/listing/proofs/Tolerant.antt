@@ -17,21 +17,21 @@ use Rattle.entry.specs.Entry.{entryBound}
 use Rattle.enclosure.specs.Demand.{RightSide, ExactSolutionOf}
 use Rattle.enclosure.specs.Example.{farRight, farHeight}
 use Rattle.enclosure.specs.Problem.{Problem, S}
-use Rattle.enclosure.specs.Reckoning.{defect, load, margin, residual, rowSum, exceeds, sizesWith, boundFrom, boundWith, bound}
-use Rattle.checked.specs.Order.{checkedOf}
-use Rattle.numeral.specs.Decimal.{digits, decimal, numeral}
-use Rattle.form.specs.List.{allInside}
-use Rattle.form.specs.Form.{Form, problem, scale, row, rightWithin, guess, inverse, end}
-use Rattle.form.specs.Spelling.{numerals, spell}
-use Rattle.bit_set.specs.Places.{withPlace, lacking}
-use Rattle.given_forms.specs.Progress.{missing, misplaced}
+use Rattle.enclosure.specs.Reckoning.{defect, load, margin, residual, rowSum, exceeds, magnitudesWith, boundFrom, boundWith, bound}
+use Rattle.check_spec.specs.Order.{checkedOf}
+use Rattle.line_numeral.specs.Decimal.{digits, decimal, numeral}
+use Rattle.line_form.specs.List.{allInside}
+use Rattle.line_form.specs.Form.{Form, problem, scale, row, rightWithin, guess, inverse, end}
+use Rattle.line_form.specs.Spelling.{numerals, spell}
+use Rattle.loader_bit_set.specs.Places.{withPlace, lacking}
+use Rattle.loader_progress.specs.Progress.{missing, misplaced}
 use Rattle.loader.specs.Taken.{fresh}
-use Rattle.loader.proofs.Exact.{formSaid}
-use Rattle.line_runs.specs.Given.{valueFrom, sizeFrom, scalesFrom}
-use Rattle.line_runs.specs.Lines.{linesOf}
-use Rattle.line_runs.proofs.Passing.{spelled, passes}
-use Rattle.listing_lines.specs.Line.{each}
-use Rattle.report.specs.Report.{reportOf}
+use Rattle.loader.proofs.Exact.{formCode}
+use Rattle.loader_runs.specs.Given.{valueFrom, sizeFrom, scalesFrom}
+use Rattle.loader_runs.specs.Lines.{linesOf}
+use Rattle.loader_runs.proofs.Passing.{spelled, passes}
+use Rattle.listing_text.specs.Line.{each}
+use Rattle.listing_report.specs.Report.{reportOf}
 use Rattle.file_check.specs.Judged.{reportedOf}
 use Rattle.file_check.specs.Problem.{problemFrom}
 use Rattle.listing.specs.Cases.{tolerantFile, tolerantListing}
@@ -54,7 +54,7 @@ unfolding linesOf spell numerals numeral decimal digits
 tolerant-spelled = refl
 
 tolerant-passes : passes fresh tolerantForms ≡ true
-unfolding passes formSaid spell numerals numeral decimal digits missing misplaced withPlace lacking allInside sumℕ inRange rangeOf ranges
+unfolding passes formCode spell numerals numeral decimal digits missing misplaced withPlace lacking allInside sumℕ inRange rangeOf ranges
 tolerant-passes = refl
 
 tolerant-checked : checkedOf (problemFrom tolerantForms) ≡ []
@@ -62,7 +62,7 @@ unfolding valueFrom sizeFrom scalesFrom exceeds rowSum residual margin load defe
 tolerant-checked = refl
 
 tolerant-reported : reportedOf (problemFrom tolerantForms) ≡ tolerantListing
-unfolding valueFrom sizeFrom scalesFrom digits decimal numeral each reportOf bound boundWith boundFrom sizesWith residual margin load defect product apply identity sum sumℕ largest ceilDiv roundDiv entryBound
+unfolding valueFrom sizeFrom scalesFrom digits decimal numeral each reportOf bound boundWith boundFrom magnitudesWith residual margin load defect product apply identity sum sumℕ largest ceilDiv roundDiv entryBound
 tolerant-reported = refl
 
 pub tolerant-accepted : answerOf tolerantFile ≡ []
@@ -84,5 +84,5 @@ unfolding valueFrom sizeFrom apply sum
 tolerant-exact = of-file (λ P. ExactSolutionOf P farRight 3 farHeight 1) (record { positive = lit≤ tt; solves = only _ refl })
 
 pub tolerant-reached : let P = problemIn tolerantFile in natAbs (pos (S P) *ℤ farHeight 0 -ℤ pos 1 *ℤ P .X 0) ≡ 1 * bound P 0
-unfolding valueFrom sizeFrom scalesFrom bound boundWith boundFrom sizesWith residual margin load defect product apply identity sum sumℕ largest ceilDiv
+unfolding valueFrom sizeFrom scalesFrom bound boundWith boundFrom magnitudesWith residual margin load defect product apply identity sum sumℕ largest ceilDiv
 tolerant-reached = of-file (λ P. natAbs (pos (S P) *ℤ farHeight 0 -ℤ pos 1 *ℤ P .X 0) ≡ 1 * bound P 0) refl

@@ -10,19 +10,19 @@ use Prim.Native.Nat.{ℕ, zero, suc}
 use native.Mathlib.Omega.{arith}
 use lib.IntN.{ℤ, pos}
 use Rattle.integer.proofs.Search.{clash}
-use Rattle.form.specs.Form.{Form, weight}
-use Rattle.form.specs.Reading.{reading}
-use Rattle.given_forms.specs.Progress.{ended}
-use Rattle.line_runs.specs.Lines.{linesOf}
-use Rattle.line_runs.specs.Run.{State, fromNew, forms, withForm}
-use Rattle.line_runs.specs.Accepts.{run, Accepts}
-use Rattle.line_runs.specs.Read.{readFrom, zeros}
+use Rattle.line_form.specs.Form.{Form, weight}
+use Rattle.line_form.specs.Reading.{reading}
+use Rattle.loader_progress.specs.Progress.{ended}
+use Rattle.loader_runs.specs.Lines.{linesOf}
+use Rattle.loader_runs.specs.Run.{State, fromNew, forms, withForm}
+use Rattle.loader_runs.specs.Accepts.{run, Accepts}
+use Rattle.loader_runs.specs.Read.{readFrom, zeros}
 use Rattle.integer.specs.Among.{Among, here, there}
-use Rattle.line_runs.proofs.Passing.{spelled, forms-spelled}
-use Rattle.spelled_lines.specs.Ones.{onesFrom, textOf}
-use Rattle.spelled_lines.proofs.Text.{Split, lines-whole, lines-text, last-line}
-use Rattle.spelled_lines.proofs.Runs.{read-run}
-use Rattle.spelled_lines.proofs.Ones.{with-ones}
+use Rattle.loader_runs.proofs.Passing.{spelled, forms-spelled}
+use Rattle.loader_spelled.specs.Ones.{onesFrom, textOf}
+use Rattle.loader_spelled.proofs.Text.{LastLine, lines-whole, lines-text, last-line}
+use Rattle.loader_spelled.proofs.Runs.{read-run}
+use Rattle.loader_spelled.proofs.Ones.{with-ones}
 use Rattle.listing.specs.Listing.{problemIn, listingOf}
 use Rattle.listing.specs.Complete.{Complete}
 use Rattle.listing.specs.LeftOut.{OnlyOnes, NoWeights, SameOthers}
@@ -67,13 +67,13 @@ a-one i (suc c) here = (suc i, refl)
 a-one i (suc c) (there m) = a-one (suc i) c m
 
 -- ---- the file
-pub split-of : (file : List ℕ) → Complete file → Split file
+pub split-of : (file : List ℕ) → Complete file → LastLine file
 unfolding linesOf readFrom
 split-of [] c = clash false (c .end) refl
 split-of (b ∷ s) c = last-line b s
 
 module _ (file : List ℕ) (c : Complete file) (without : NoWeights (forms (linesOf file))) where
-  abbrev parts : Split file
+  abbrev parts : LastLine file
   parts = split-of file c
 
   abbrev front : List (List ℕ)

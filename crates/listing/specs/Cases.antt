@@ -10,12 +10,12 @@ use Prim.Native.Nat.{ℕ}
 use lib.Dec.{eqb}
 use lib.IntN.{ℤ, pos, negsuc}
 use Rattle.integer.specs.Same.{sameNumber}
-use Rattle.checked.specs.Cases as check
-use Rattle.form.specs.Form.{bytes}
+use Rattle.check_spec.specs.Cases as check
+use Rattle.line_form.specs.Form.{bytes}
 use Rattle.entry.specs.Entry.{entryValue, entryBound}
 
 pub data TableRow : Type 0 where
-  checked : check.Row → TableRow
+  checked : check.CaseRow → TableRow
   entry : (x : ℤ) (s : ℕ) (v : ℤ) → TableRow
   limited : (x : ℤ) (s e : ℕ) (v : ℤ) (limit : ℕ) → TableRow
 
@@ -33,7 +33,7 @@ abbrev pub paper-2 : TableRow
 paper-2 = limited (pos 24) 4 10 (pos 2) 2
 
 abbrev pub table : List TableRow
-table = map (λ (r : check.Row). checked r) check.rows ++ (l ∷ paper-2 ∷ [])
+table = map (λ (r : check.CaseRow). checked r) check.rows ++ (l ∷ paper-2 ∷ [])
 
 abbrev pub tableHolds : List TableRow → Bool
 tableHolds [] = true

@@ -4,9 +4,9 @@ use mathlib.Core.Bool.{true}
 use mathlib.Core.List.{List, []}
 use mathlib.Core.Path.{_≡_}
 use Prim.Native.Nat.{ℕ}
-use Rattle.given_forms.specs.Progress.{ended}
-use Rattle.line_runs.specs.Read.{readingOf}
+use Rattle.loader_progress.specs.Progress.{ended}
+use Rattle.loader_runs.specs.Read.{readingOf}
 
 pub record Complete (file : List ℕ) : Type 0 where
-  pub lines : readingOf file .said ≡ []
+  pub lines : readingOf file .code ≡ []
   pub end : ended (readingOf file .state .loader .stage) ≡ true

@@ -8,9 +8,9 @@ use mathlib.Core.Logic.{_↔_}
 use mathlib.Core.Path.{_≡_}
 use Prim.Native.Nat.{ℕ, _≤_, _<_}
 use lib.IntN.{ℤ, pos}
-use Rattle.form.specs.Form.{Form, weight}
-use Rattle.lent_lists.specs.Slot.{Slot, Weight, width}
-use Rattle.line_runs.specs.Given.{sizeFrom, scalesFrom, valueFrom}
+use Rattle.line_form.specs.Form.{Form, weight}
+use Rattle.loader_lists.specs.Slot.{Slot, Weight, width}
+use Rattle.loader_runs.specs.Given.{sizeFrom, scalesFrom, valueFrom}
 use Rattle.integer.specs.Among.{Among}
 
 pub record EqualNumbers (fs gs : List Form) : Type 0 where

@@ -11,16 +11,16 @@ use mathlib.Core.Path.{_≡_}
 use Prim.Native.Nat.{ℕ, _≤_}
 use lib.ListN.{length, take, drop}
 use Rattle.enclosure.specs.Problem.{Problem}
-use Rattle.checked.specs.Order.{checkedOf}
+use Rattle.check_spec.specs.Order.{checkedOf}
 use Rattle.rules.specs.Order.{orElse}
-use Rattle.given_forms.specs.Progress.{ended}
-use Rattle.line_runs.specs.Run.{forms}
-use Rattle.refusal.specs.Refused.{printed}
-use Rattle.refusal.specs.Reply.{replyOf}
-use Rattle.refusal.specs.declared.FileAnswer.{FileAnswer}
+use Rattle.loader_progress.specs.Progress.{ended}
+use Rattle.loader_runs.specs.Run.{forms}
+use Rattle.listing_refusal.specs.Refused.{printed}
+use Rattle.listing_refusal.specs.Reply.{replyOf}
+use Rattle.listing_refusal.specs.declared.FileAnswer.{FileAnswer}
 use Rattle.file_check.specs.Judged.{reportedOf, lineOr}
-use Rattle.line_runs.specs.Lines.{linesOf}
-use Rattle.line_runs.specs.Read.{readingOf}
+use Rattle.loader_runs.specs.Lines.{linesOf}
+use Rattle.loader_runs.specs.Read.{readingOf}
 use Rattle.file_check.specs.Problem.{problemFrom}
 
 abbrev pub problemIn : List ℕ → Problem
@@ -29,7 +29,7 @@ problemIn file = problemFrom (forms (linesOf file))
 unfoldable pub answerOf : List ℕ → List ℕ
 answerOf file =
     let r = readingOf file in
-    orElse (printed (r .line) (r .said)) (printed 0 (cond (ended (r .state .loader .stage)) (checkedOf (problemIn file)) (15 ∷ [])))
+    orElse (printed (r .line) (r .code)) (printed 0 (cond (ended (r .state .loader .stage)) (checkedOf (problemIn file)) (15 ∷ [])))
 
 unfoldable pub listingOf : List ℕ → List ℕ
 listingOf file = lineOr (answerOf file) (reportedOf (problemIn file))

@@ -3,8 +3,8 @@ ghost use lib.ListN.{length};
 ghost use Rattle.listing.specs.Listing.{ListedAs, AnsweredAs};
 use file::read_file;
 use file_check::put_checked;
-use refusal::FileAnswer;
-use refusal::put_refusal;
+use listing_refusal::FileAnswer;
+use listing_refusal::put_refusal;
 use rules::Outcome;
 
 // The listing of a file, from the start of the buffer on, and what is said in it.

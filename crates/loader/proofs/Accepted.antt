@@ -6,18 +6,18 @@ use mathlib.Core.List.{List, []}
 use mathlib.Core.Option.{Option, none, some}
 use Prim.Native.Nat.{ℕ}
 use lib.Dec.{T}
-use Rattle.form.specs.Form.{Form}
-use Rattle.form.specs.Reading.{reading}
-use Rattle.form_values.specs.Item.{itemOf}
-use Rattle.lent_lists.specs.Lists.{Lists, shortLists}
-use Rattle.given_forms.specs.Progress.{ended}
+use Rattle.line_form.specs.Form.{Form}
+use Rattle.line_form.specs.Reading.{reading}
+use Rattle.loader_values.specs.Item.{itemOf}
+use Rattle.loader_lists.specs.Lists.{Lists, shortLists}
+use Rattle.loader_progress.specs.Progress.{ended}
 use Rattle.loader.specs.declared.Loader.{Loader}
 use Rattle.loader.specs.Answer.{caseOf, lineAnswer, ofForm}
 use Rattle.loader.specs.Taken.{after, listsWith, loaderAfter, listsAfter}
-use Rattle.loader_order.proofs.Said.{Passed, passed}
-use Rattle.loader.proofs.Exact.{formCase, formSaid, answer-form}
+use Rattle.loader_order.proofs.CodeLaws.{Passed, passed}
+use Rattle.loader.proofs.Exact.{formCase, formCode, answer-form}
 
-pub record Accepted (d : Loader) (l : Lists) (line : List ℕ) (f : Form) : Type 0 where
+pub record AcceptedLine (d : Loader) (l : Lists) (line : List ℕ) (f : Form) : Type 0 where
   pub reads : reading line ≡ some f
   pub long : shortLists l ≡ false
   pub going : ended (d .stage) ≡ false
@@ -25,14 +25,14 @@ pub record Accepted (d : Loader) (l : Lists) (line : List ℕ) (f : Form) : Type
   pub loader : loaderAfter d l line ≡ after d (itemOf f)
   pub lists : listsAfter d l line ≡ listsWith d f l
 
-pub accepted-form : (d : Loader) (l : Lists) (line : List ℕ) → lineAnswer d l line ≡ [] → (f : Form) × Accepted d l line f
-unfolding lineAnswer loaderAfter listsAfter formSaid
+pub accepted-form : (d : Loader) (l : Lists) (line : List ℕ) → lineAnswer d l line ≡ [] → (f : Form) × AcceptedLine d l line f
+unfolding lineAnswer loaderAfter listsAfter formCode
 accepted-form d l line e = go (reading line) refl (h .unspelled)
   where
     h : Passed (caseOf d l line)
     h = passed (caseOf d l line) e
 
-    go : (o : Option Form) → reading line ≡ o → ofForm o true (λ (f : Form). false) ≡ false → (f : Form) × Accepted d l line f
+    go : (o : Option Form) → reading line ≡ o → ofForm o true (λ (f : Form). false) ≡ false → (f : Form) × AcceptedLine d l line f
     go none r u = absurd (subst T u tt)
     go (some f) r u = (
       f,

@@ -8,10 +8,10 @@ use Prim.Native.Nat.{ℕ, _≤_}
 use borrow.Author.Tests.{le-ltb}
 use lib.IntN.{ℤ, pos}
 use lib.ListN.{length}
-use Rattle.form.specs.Form.{right, rightWithin}
-use Rattle.form.specs.Reading.{reading}
-use Rattle.form_values.proofs.Capped.{within-alone}
-use Rattle.lent_lists.specs.Lists.{Lists}
+use Rattle.line_form.specs.Form.{right, rightWithin}
+use Rattle.line_form.specs.Reading.{reading}
+use Rattle.loader_values.proofs.Capped.{within-alone}
+use Rattle.loader_lists.specs.Lists.{Lists}
 use Rattle.loader.specs.declared.Loader.{Loader}
 use Rattle.loader.specs.Answer.{lineAnswer}
 use Rattle.loader.specs.Taken.{loaderAfter, listsAfter}

@@ -11,14 +11,14 @@ use native.Mathlib.Decide.{decLt}
 use native.Mathlib.Omega.{arith}
 use borrow.Author.Tests.{lt-ltb, le-ltb}
 use lib.Dec.{ltb}
-use Rattle.form.specs.Form.{Form, problem, scale, row, right, rightWithin, guess, inverse, weight, end}
-use Rattle.form.specs.Reading.{reading}
-use Rattle.bit_set.specs.Places.{lacking}
-use Rattle.form_values.specs.Item.{itemOf}
-use Rattle.form_values.specs.declared.Part.the-variants.{Weight}
-use Rattle.lent_lists.specs.Lists.{Lists}
-use Rattle.given_forms.specs.Progress.{setOf, missing, incomplete}
-use Rattle.given_forms.specs.Before.{missing01, incomplete01}
+use Rattle.line_form.specs.Form.{Form, problem, scale, row, right, rightWithin, guess, inverse, weight, end}
+use Rattle.line_form.specs.Reading.{reading}
+use Rattle.loader_bit_set.specs.Places.{lacking}
+use Rattle.loader_values.specs.Item.{itemOf}
+use Rattle.loader_values.specs.declared.Part.the-variants.{Weight}
+use Rattle.loader_lists.specs.Lists.{Lists}
+use Rattle.loader_progress.specs.Progress.{setOf, missing, incomplete}
+use Rattle.loader_progress.specs.Before.{missing01, incomplete01}
 use Rattle.loader_order.specs.Order.{LineCase}
 use Rattle.loader.specs.declared.Loader.{Loader}
 use Rattle.loader.specs.Answer.{ofForm, caseOf, lineAnswer}
@@ -32,8 +32,8 @@ missing01-is n z = omega arith
 alone : {n : ℕ} → (n ≡ 13 → ⊥) → (k : ℕ) → n ∷ [] ≡ 13 ∷ k ∷ [] → ⊥
 alone {n} f k e = let z : n ≡ 13 = cc in f z
 
-nothing : (k : ℕ) → [] ≡ 13 ∷ k ∷ [] → ⊥
-nothing k e = let z : _≡_ {A = ℕ} 0 1 = cc in omega arith
+empty-not-13 : (k : ℕ) → [] ≡ 13 ∷ k ∷ [] → ⊥
+empty-not-13 k e = let z : _≡_ {A = ℕ} 0 1 = cc in omega arith
 
 module _ (d : Loader) where
   abbrev m : ℕ
@@ -51,22 +51,22 @@ module _ (d : Loader) where
       go : Dec (0 < m) → Dec (0 < leftOut d) → Recounted d (cond (ltb 0 (m + leftOut d)) (13 ∷ (m + leftOut d) ∷ []) []) (now (ltb 0 m))
       go (yes a) b = rw (lt-ltb 0 m a, lt-ltb 0 (m + leftOut d) (omega arith)) (fewer a)
       go (no a) (yes b) = rw (le-ltb 0 m (omega arith), lt-ltb 0 (m + leftOut d) (omega arith)) (only-weights (omega arith) b)
-      go (no a) (no b) = rw (le-ltb 0 m (omega arith), le-ltb 0 (m + leftOut d) (omega arith)) (not-13 [] nothing)
+      go (no a) (no b) = rw (le-ltb 0 m (omega arith), le-ltb 0 (m + leftOut d) (omega arith)) (not-13 [] empty-not-13)
 
   of-form : (f : Form) → Recounted d (then (incomplete01 (d .n) (d .sets) (itemOf f))) (now (incomplete (d .n) (d .sets) (itemOf f)))
-  of-form (problem n) = not-13 [] nothing
-  of-form (scale s t) = not-13 [] nothing
-  of-form (row i a others) = not-13 [] nothing
-  of-form (right i b) = not-13 [] nothing
-  of-form (rightWithin i b e) = not-13 [] nothing
-  of-form (guess i x) = not-13 [] nothing
-  of-form (inverse i g others) = not-13 [] nothing
-  of-form (weight i w) = not-13 [] nothing
+  of-form (problem n) = not-13 [] empty-not-13
+  of-form (scale s t) = not-13 [] empty-not-13
+  of-form (row i a others) = not-13 [] empty-not-13
+  of-form (right i b) = not-13 [] empty-not-13
+  of-form (rightWithin i b e) = not-13 [] empty-not-13
+  of-form (guess i x) = not-13 [] empty-not-13
+  of-form (inverse i g others) = not-13 [] empty-not-13
+  of-form (weight i w) = not-13 [] empty-not-13
   of-form end = at-end
 
   of-reading : (o : Option Form)
       → Recounted d (then (ofForm o false (λ (f : Form). incomplete01 (d .n) (d .sets) (itemOf f)))) (now (ofForm o false (λ (f : Form). incomplete (d .n) (d .sets) (itemOf f))))
-  of-reading none = not-13 [] nothing
+  of-reading none = not-13 [] empty-not-13
   of-reading (some f) = of-form f
 
   -- the tests before 13

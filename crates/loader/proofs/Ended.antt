@@ -8,16 +8,16 @@ use Prim.Native.Nat.{ℕ, _-_, _≤_}
 use native.Mathlib.Omega.{arith}
 use lib.IntN.{pos}
 use lib.ListN.{length, getD}
-use Rattle.form.specs.Form.{end}
-use Rattle.form.specs.Reading.{reading}
-use Rattle.form_values.specs.declared.Item.the-variants.{End}
-use Rattle.form_values.specs.declared.Part.the-variants.{Weight}
-use Rattle.lent_lists.specs.Lists.{Lists}
-use Rattle.lent_lists.proofs.Lists.{long}
-use Rattle.lent_list.proofs.Filled.{length-filled, filled-given, filled-one, filled-past}
-use Rattle.given_forms.specs.Progress.{setOf, given}
-use Rattle.given_forms.proofs.Progress.{end-size}
-use Rattle.loader_order.proofs.Said.{Passed, passed}
+use Rattle.line_form.specs.Form.{end}
+use Rattle.line_form.specs.Reading.{reading}
+use Rattle.loader_values.specs.declared.Item.the-variants.{End}
+use Rattle.loader_values.specs.declared.Part.the-variants.{Weight}
+use Rattle.loader_lists.specs.Lists.{Lists}
+use Rattle.loader_lists.proofs.Lists.{long-lent}
+use Rattle.loader_lists.proofs.Filled.{length-filled, filled-given, filled-one, filled-past}
+use Rattle.loader_progress.specs.Progress.{setOf, given}
+use Rattle.loader_progress.proofs.Progress.{end-size}
+use Rattle.loader_order.proofs.CodeLaws.{Passed, passed}
 use Rattle.loader.specs.declared.Loader.{Loader}
 use Rattle.loader.specs.Answer.{caseOf, lineAnswer}
 use Rattle.loader.specs.Taken.{listsWith, listsAfter}
@@ -55,7 +55,7 @@ module _ (d : Loader) (l : Lists) (line : List ℕ) (e : lineAnswer d l line ≡
   here = passed (caseOf d l line) e
 
   few : d .n ≤ length (l .weights)
-  few = omega (arith, end-size (d .stage) (d .n) {x = End} refl (rw r at (here .early)) (rw r at (here .misplaced)) .1, long l (here .short) .weights)
+  few = omega (arith, end-size (d .stage) (d .n) {x = End} refl (rw r at (here .early)) (rw r at (here .misplaced)) .1, long-lent l (here .short) .weights)
 
   after-end : listsAfter d l line ≡ listsWith d end l
   unfolding listsAfter

@@ -1,7 +1,7 @@
 -- What is said of a line, of the form it is, and of that form as the code has it.
---   formCase, formSaid — the cases of a form that is read at a loader that has not ended, and what is said
+--   formCase, formCode — the cases of a form that is read at a loader that has not ended, and what is said
 --   answer-form  — what is said of a line that is a form is what is said of the form
---   said-capped  — and of its capped form
+--   code-capped  — and of its capped form
 --   exact-loader, exact-lists — where nothing is said, both leave the same;  exact-room — and there is room for the form
 use mathlib.Core.Path.{_≡_, refl, ap}
 use mathlib.Core.Bool.{Bool, true, false}
@@ -13,33 +13,33 @@ use lib.Dec.{ltb}
 use lib.IntN.{ℤ}
 use lib.ListN.{length}
 use Rattle.rules.specs.Order.{verdict}
-use Rattle.numeral.specs.Numeral.{cap, capAt}
-use Rattle.numeral.proofs.Cap.{cap-small}
-use Rattle.form.specs.Form.{Form, problem, scale, row, right, rightWithin, guess, inverse, weight, end}
-use Rattle.form.specs.Reading.{reading}
+use Rattle.line_numeral.specs.Numeral.{cap, capAt}
+use Rattle.line_numeral.proofs.Cap.{cap-small}
+use Rattle.line_form.specs.Form.{Form, problem, scale, row, right, rightWithin, guess, inverse, weight, end}
+use Rattle.line_form.specs.Reading.{reading}
 use Rattle.line_parts.specs.Line.{cappedForm, numbersIn}
-use Rattle.form_values.specs.Item.{itemOf, placed, outside, miscounted}
-use Rattle.form_values.specs.Capped.{itemIn, valuesIn}
-use Rattle.form_values.specs.declared.Item.the-variants.{Of}
-use Rattle.form_values.specs.declared.Part.{Part}
-use Rattle.form_values.specs.declared.Part.the-variants.{Row, Right, Guess, Inverse, Weight}
-use Rattle.form_values.proofs.Capped.{placed-capped, outside-capped, miscounted-capped, item-exact}
-use Rattle.form_values.proofs.Between.{between}
-use Rattle.lent_lists.specs.Lists.{Lists, shortLists}
-use Rattle.lent_lists.specs.Pasted.{Rooms, pastedAll}
-use Rattle.lent_lists.specs.Put.{closed}
-use Rattle.lent_list.specs.Pasted.{Narrow}
-use Rattle.lent_lists.proofs.Lists.{rooms}
-use Rattle.lent_lists.proofs.Exact.{all-exact}
+use Rattle.loader_values.specs.Item.{itemOf, placed, outside, miscounted}
+use Rattle.loader_values.specs.Capped.{itemIn, valuesIn}
+use Rattle.loader_values.specs.declared.Item.the-variants.{Of}
+use Rattle.loader_values.specs.declared.Part.{Part}
+use Rattle.loader_values.specs.declared.Part.the-variants.{Row, Right, Guess, Inverse, Weight}
+use Rattle.loader_values.proofs.Capped.{placed-capped, outside-capped, miscounted-capped, item-exact}
+use Rattle.loader_values.proofs.Between.{from-to}
+use Rattle.loader_lists.specs.Lists.{Lists, shortLists}
+use Rattle.loader_lists.specs.Pasted.{Rooms, pastedAll}
+use Rattle.loader_lists.specs.Put.{closed}
+use Rattle.loader_lists.specs.Span.{Narrow}
+use Rattle.loader_lists.proofs.Lists.{rooms}
+use Rattle.loader_lists.proofs.Exact.{all-exact}
 use Rattle.loader_order.specs.Order.{LineCase, lineOrder}
-use Rattle.loader_order.proofs.Said.{Passed, passed}
+use Rattle.loader_order.proofs.CodeLaws.{Passed, passed}
 use Rattle.loader.specs.declared.Loader.{Loader}
-use Rattle.given_forms.specs.declared.Stage.{Stage}
-use Rattle.given_forms.specs.Progress.{setOf, ended, early, misplaced, repeated, incomplete, missing}
+use Rattle.loader_progress.specs.declared.Stage.{Stage}
+use Rattle.loader_progress.specs.Progress.{setOf, ended, early, misplaced, repeated, incomplete, missing}
 use Rattle.loader.specs.Answer.{lineAnswer}
 use Rattle.loader.specs.Taken.{after, listsWith}
-use Rattle.loader.specs.Decided.{saidIn}
-use Rattle.given_forms.proofs.Progress.{placed-of}
+use Rattle.loader.specs.Decided.{codeIn}
+use Rattle.loader_progress.proofs.Progress.{placed-of}
 use Rattle.loader.proofs.Form.{narrow-by}
 
 abbrev pub formCase : Loader → Form → LineCase
@@ -57,12 +57,12 @@ formCase d f = record {
   missing = missing (d .n) (d .sets);
 }
 
-unfoldable pub formSaid : Loader → Form → List ℕ
-formSaid d f = verdict (lineOrder (formCase d f))
+unfoldable pub formCode : Loader → Form → List ℕ
+formCode d f = verdict (lineOrder (formCase d f))
 
 pub answer-form : (d : Loader) (l : Lists) (line : List ℕ) (f : Form) → shortLists l ≡ false → ended (d .stage) ≡ false → ltb 320 (length line) ≡ false → reading line ≡ some f
-    → lineAnswer d l line ≡ formSaid d f
-unfolding lineAnswer formSaid
+    → lineAnswer d l line ≡ formCode d f
+unfolding lineAnswer formCode
 answer-form d l line f a b c e = rw (a, b, c, e)
 
 -- ---- the tests of the capped form
@@ -94,7 +94,7 @@ module _ (d : Loader) (f : Form) (small : d .n < capAt) where
   misplaced-capped = rw (placed-capped (d .n) f small)
 
   repeated-by : (p : Part) (i : ℤ) → placed (d .n) (Of p i) ≡ true → repeated (d .stage) (d .sets) (Of p (cap i)) ≡ repeated (d .stage) (d .sets) (Of p i)
-  repeated-by p i h = ap (λ (k : ℤ). repeated (d .stage) (d .sets) (Of p k)) (cap-small i (omega (arith, between 1 (d .n) i h .to)))
+  repeated-by p i h = ap (λ (k : ℤ). repeated (d .stage) (d .sets) (Of p k)) (cap-small i (omega (arith, from-to 1 (d .n) i h .to)))
 
   repeated-capped : (g : Form) → placed (d .n) (itemOf g) ≡ true → repeated (d .stage) (d .sets) (itemIn (cappedForm g)) ≡ repeated (d .stage) (d .sets) (itemOf g)
   repeated-capped (problem n) h = refl
@@ -108,19 +108,19 @@ module _ (d : Loader) (f : Form) (small : d .n < capAt) where
   repeated-capped end h = refl
 
   -- the test of the place comes before that of repetition
-  pub said-capped : saidIn d (cappedForm f) (numbersIn f .count) (numbersIn f .inside) ≡ formSaid d f
-  unfolding saidIn formSaid
-  said-capped = go (misplaced (d .stage) (d .n) (itemOf f)) refl
+  pub code-capped : codeIn d (cappedForm f) (numbersIn f .count) (numbersIn f .inside) ≡ formCode d f
+  unfolding codeIn formCode
+  code-capped = go (misplaced (d .stage) (d .n) (itemOf f)) refl
     where
-      go : (b : Bool) → misplaced (d .stage) (d .n) (itemOf f) ≡ b → saidIn d (cappedForm f) (numbersIn f .count) (numbersIn f .inside) ≡ formSaid d f
+      go : (b : Bool) → misplaced (d .stage) (d .n) (itemOf f) ≡ b → codeIn d (cappedForm f) (numbersIn f .count) (numbersIn f .inside) ≡ formCode d f
       go true e = rw (early-capped (d .stage) f, misplaced-capped, outside-capped f, miscounted-capped (d .n) f, incomplete-capped (d .n) (d .sets) f, e)
       go false e =
           rw (early-capped (d .stage) f, misplaced-capped, outside-capped f, miscounted-capped (d .n) f, incomplete-capped (d .n) (d .sets) f, repeated-capped f (placed-of (d .stage) (d .n) (itemOf f) e))
 
 -- ---- what an accepted form leaves
-module _ (d : Loader) (f : Form) (small : d .n < capAt) (none : formSaid d f ≡ []) where
+module _ (d : Loader) (f : Form) (small : d .n < capAt) (none : formCode d f ≡ []) where
   holds : Passed (formCase d f)
-  unfolding formSaid
+  unfolding formCode
   holds = passed (formCase d f) none
 
   exact : itemIn (cappedForm f) ≡ itemOf f

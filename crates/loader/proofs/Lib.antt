@@ -3,7 +3,7 @@ pub mod Advance
 pub mod Form
 pub mod Exact
 pub mod Line
-pub mod Said
+pub mod CodeLaws
 pub mod Accepted
 pub mod Alike
 pub mod Count

@@ -14,27 +14,27 @@ use lib.ListN.{length, replicate}
 use Rattle.rules.specs.Refusal.{numberOf, valuesOf}
 use Rattle.rules.specs.declared.Refusal.{Refusal}
 use Rattle.rules.specs.declared.Refusal.the-variants.{TooShort, AfterEnd, TooLong, NoForm}
-use Rattle.numeral.specs.Numeral.{capAt}
-use Rattle.form.specs.Form.{Form}
-use Rattle.form.specs.Reading.{reading}
+use Rattle.line_numeral.specs.Numeral.{capAt}
+use Rattle.line_form.specs.Form.{Form}
+use Rattle.line_form.specs.Reading.{reading}
 use Rattle.line_parts.specs.Line.{cappedForm, numbersIn, lineOf, ofReading, refused}
 use Rattle.line_parts.specs.declared.Answer.the-variants as answer
 use Rattle.line_parts.specs.declared.CappedForm.{CappedForm}
 use Rattle.line_parts.specs.declared.Line.{Line}
-use Rattle.form.specs.declared.Numbers.{Numbers}
-use Rattle.form_values.specs.Capped.{itemIn}
-use Rattle.form_values.specs.declared.Part.the-variants.{Weight}
-use Rattle.lent_lists.specs.Lists.{Lists, shortLists}
-use Rattle.lent_lists.specs.Pasted.{pastedAll}
-use Rattle.lent_lists.specs.Put.{closed}
-use Rattle.lent_lists.proofs.Lists.{nothing-pasted}
-use Rattle.given_forms.specs.Progress.{setOf, ended}
+use Rattle.line_form.specs.declared.Numbers.{Numbers}
+use Rattle.loader_values.specs.Capped.{itemIn}
+use Rattle.loader_values.specs.declared.Part.the-variants.{Weight}
+use Rattle.loader_lists.specs.Lists.{Lists, shortLists}
+use Rattle.loader_lists.specs.Pasted.{pastedAll}
+use Rattle.loader_lists.specs.Put.{closed}
+use Rattle.loader_lists.proofs.Lists.{nothing-pasted}
+use Rattle.loader_progress.specs.Progress.{setOf, ended}
 use Rattle.loader.specs.declared.Decided.{Decided}
 use Rattle.loader.specs.declared.Loader.{Loader}
 use Rattle.loader.specs.Answer.{lineAnswer}
 use Rattle.loader.specs.Taken.{loaderAfter, listsAfter, TakenAs}
-use Rattle.loader.specs.Decided.{saidIn, nothing, refusedBy, DecidedIn, DecidedFor}
-use Rattle.loader.proofs.Exact.{formSaid, answer-form, said-capped, exact-loader, exact-room, exact-lists}
+use Rattle.loader.specs.Decided.{codeIn, nothing, refusedBy, DecidedIn, DecidedFor}
+use Rattle.loader.proofs.Exact.{formCode, answer-form, code-capped, exact-loader, exact-room, exact-lists}
 
 module _ (d : Loader) (l : Lists) (line : List ℕ) where
   pub taken-so : (r : Decided) {z : ℕ} {l′ : Lists} → DecidedFor d l line r → z ≡ setOf (d .sets) Weight → l′ ≡ closed (d .n) z (r .item) (pastedAll (d .n) (r .item) (r .values) l) → TakenAs d line l (r .taken) l′
@@ -76,16 +76,16 @@ module _ (d : Loader) (l : Lists) (line : List ℕ) where
 
       -- a form: what is said of it, capped, is what is said of the line
       module _ {t : Decided} (f : Form) (n : d .n < capAt) (c : ltb 320 (length line) ≡ false) (e : reading line ≡ some f) (h : DecidedIn d (cappedForm f) (numbersIn f) t) where
-        whole : formSaid d f ≡ lineAnswer d l line
+        whole : formCode d f ≡ lineAnswer d l line
         whole = sym (answer-form d l line f a b c e)
 
-        so : saidIn d (cappedForm f) (numbersIn f .count) (numbersIn f .inside) ≡ formSaid d f
-        so = said-capped d f n
+        so : codeIn d (cappedForm f) (numbersIn f .count) (numbersIn f .inside) ≡ formCode d f
+        so = code-capped d f n
 
-        by-said : (w : List ℕ) → formSaid d f ≡ w → DecidedFor d l line t
+        by-code : (w : List ℕ) → formCode d f ≡ w → DecidedFor d l line t
         unfolding loaderAfter listsAfter
-        by-said [] s =
-            let z : saidIn d (cappedForm f) (numbersIn f .count) (numbersIn f .inside) ≡ [] = so ∙ s in
+        by-code [] s =
+            let z : codeIn d (cappedForm f) (numbersIn f .count) (numbersIn f .inside) ≡ [] = so ∙ s in
             let y : lineAnswer d l line ≡ [] = sym whole ∙ s in
             let x : t .item ≡ itemIn (cappedForm f) = rw z at (h .item) in
             record {
@@ -94,8 +94,8 @@ module _ (d : Loader) (l : Lists) (line : List ℕ) where
               room = rw x (exact-room d f n s l a);
               lists = rw (y, e, x, h .values) (exact-lists d f n s l a);
             }
-        by-said (k ∷ ks) s =
-            let z : saidIn d (cappedForm f) (numbersIn f .count) (numbersIn f .inside) ≡ k ∷ ks = so ∙ s in
+        by-code (k ∷ ks) s =
+            let z : codeIn d (cappedForm f) (numbersIn f .count) (numbersIn f .inside) ≡ k ∷ ks = so ∙ s in
             let y : lineAnswer d l line ≡ k ∷ ks = sym whole ∙ s in
             let x : t .item ≡ nothing = rw z at (h .item) in
             record {
@@ -111,7 +111,7 @@ module _ (d : Loader) (l : Lists) (line : List ℕ) where
       by-reading false c none e h k n g = let x : _≡_ {A = ℕ} 0 1 = cc in absurd (omega arith)
       by-reading {m} {z} {t} false c (some f) e h k n g =
           let x : cappedForm f ≡ m = cc in
-          by-said f n c e (rw (x, k) g) (formSaid d f) refl
+          by-code f n c e (rw (x, k) g) (formCode d f) refl
 
       pub decided-form : {r : Line} {m : CappedForm} {t : Decided} → d .n < capAt → r ≡ lineOf line → r .answer ≡ answer.Form m → DecidedIn d m (r .numbers) t → DecidedFor d l line t
       unfolding lineOf

@@ -9,12 +9,12 @@ use Prim.Native.Nat.{ℕ, suc, _+_}
 use native.Mathlib.Omega.{arith}
 use lib.ListN.{length, getD, drop, replicate, drop-of-length-le}
 use lib.Seq.{drop-cons}
-use Rattle.given_forms.specs.declared.Stage.{Stage}
-use Rattle.given_forms.specs.declared.Stage.the-variants.{Start, Sized, Scaled, Ended}
-use Rattle.given_forms.specs.StageNumber.{stageNumber, stageOf}
+use Rattle.loader_progress.specs.declared.Stage.{Stage}
+use Rattle.loader_progress.specs.declared.Stage.the-variants.{Start, Sized, Scaled, Ended}
+use Rattle.loader_progress.specs.StageNumber.{stageNumber, stageOf}
 use Rattle.loader.specs.declared.Loader.{Loader}
 use Rattle.loader.specs.Taken.{fresh}
-use Rattle.loader.specs.Numbers.{loaderOf, numbersOf}
+use Rattle.loader.specs.Numbers.{loaderOf, loaderNumbers}
 
 pub five-from : (k : ℕ) (w : List ℕ) → length w ≡ k + 5
     → drop k w ≡ getD w k 0 ∷ getD w (suc k) 0 ∷ getD w (suc (suc k)) 0 ∷ getD w (suc (suc (suc k))) 0 ∷ getD w (suc (suc (suc (suc k)))) 0 ∷ []
@@ -37,19 +37,19 @@ stage-read Scaled = refl
 stage-read Ended = refl
 
 -- a loader with another stage
-abbrev at : Loader → Stage → Loader
-at d s = record { n = d .n; s = d .s; t = d .t; stage = s; sets = d .sets }
+abbrev atStage : Loader → Stage → Loader
+atStage d s = record { n = d .n; s = d .s; t = d .t; stage = s; sets = d .sets }
 
-pub read-written : (d : Loader) → loaderOf (numbersOf d) ≡ d
-read-written d = ap (at d) (stage-read (d .stage))
+pub read-written : (d : Loader) → loaderOf (loaderNumbers d) ≡ d
+read-written d = ap (atStage d) (stage-read (d .stage))
 
 -- the numbers of a loader, each set by itself
 pub written-so : (d : Loader) {k : ℕ} → length (d .sets) ≡ 5 → k ≡ stageNumber (d .stage)
-    → k ∷ d .n ∷ d .s ∷ d .t ∷ getD (d .sets) 0 0 ∷ getD (d .sets) 1 0 ∷ getD (d .sets) 2 0 ∷ getD (d .sets) 3 0 ∷ getD (d .sets) 4 0 ∷ [] ≡ numbersOf d
+    → k ∷ d .n ∷ d .s ∷ d .t ∷ getD (d .sets) 0 0 ∷ getD (d .sets) 1 0 ∷ getD (d .sets) 2 0 ∷ getD (d .sets) 3 0 ∷ getD (d .sets) 4 0 ∷ [] ≡ loaderNumbers d
 written-so d h e =
     let f = five-from 0 (d .sets) h in
     ap (λ (k : ℕ). k ∷ d .n ∷ d .s ∷ d .t ∷ getD (d .sets) 0 0 ∷ getD (d .sets) 1 0 ∷ getD (d .sets) 2 0 ∷ getD (d .sets) 3 0 ∷ getD (d .sets) 4 0 ∷ []) e
     ∙ ap (λ (z : List ℕ). stageNumber (d .stage) ∷ d .n ∷ d .s ∷ d .t ∷ z) (sym f)
 
-pub new-numbers : numbersOf fresh ≡ replicate 9 0
+pub new-numbers : loaderNumbers fresh ≡ replicate 9 0
 new-numbers = refl

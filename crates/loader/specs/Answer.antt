@@ -9,11 +9,11 @@ use Prim.Native.Nat.{ℕ}
 use lib.Dec.{ltb}
 use lib.ListN.{length}
 use Rattle.rules.specs.Order.{verdict}
-use Rattle.form.specs.Form.{Form}
-use Rattle.form.specs.Reading.{reading}
-use Rattle.form_values.specs.Item.{itemOf, outside, miscounted}
-use Rattle.lent_lists.specs.Lists.{Lists, shortLists}
-use Rattle.given_forms.specs.Progress.{missing, ended, early, misplaced, repeated, incomplete}
+use Rattle.line_form.specs.Form.{Form}
+use Rattle.line_form.specs.Reading.{reading}
+use Rattle.loader_values.specs.Item.{itemOf, outside, miscounted}
+use Rattle.loader_lists.specs.Lists.{Lists, shortLists}
+use Rattle.loader_progress.specs.Progress.{missing, ended, early, misplaced, repeated, incomplete}
 use Rattle.loader_order.specs.Order.{LineCase, lineOrder}
 use Rattle.loader.specs.declared.Loader.{Loader}
 

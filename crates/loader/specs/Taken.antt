@@ -11,17 +11,17 @@ use Prim.Native.Nat.{ℕ}
 use lib.IntN.{natAbs}
 use lib.ListN.{replicate}
 use Rattle.rules.specs.Order.{ifAccepted}
-use Rattle.rules.specs.Refusal.{said}
-use Rattle.form.specs.Form.{Form}
-use Rattle.form.specs.Reading.{reading}
-use Rattle.form_values.specs.Item.{itemOf}
-use Rattle.form_values.specs.declared.Item.{Item}
-use Rattle.form_values.specs.declared.Item.the-variants.{Problem, Scale, Of, End}
-use Rattle.form_values.specs.declared.Part.the-variants.{Weight}
-use Rattle.lent_lists.specs.Lists.{Lists}
-use Rattle.lent_lists.specs.Put.{putAll, closed}
-use Rattle.given_forms.specs.Progress.{setOf, marked}
-use Rattle.given_forms.specs.declared.Stage.the-variants.{Start, Sized, Scaled, Ended}
+use Rattle.rules.specs.Refusal.{code}
+use Rattle.line_form.specs.Form.{Form}
+use Rattle.line_form.specs.Reading.{reading}
+use Rattle.loader_values.specs.Item.{itemOf}
+use Rattle.loader_values.specs.declared.Item.{Item}
+use Rattle.loader_values.specs.declared.Item.the-variants.{Problem, Scale, Of, End}
+use Rattle.loader_values.specs.declared.Part.the-variants.{Weight}
+use Rattle.loader_lists.specs.Lists.{Lists}
+use Rattle.loader_lists.specs.Put.{putAll, closed}
+use Rattle.loader_progress.specs.Progress.{setOf, marked}
+use Rattle.loader_progress.specs.declared.Stage.the-variants.{Start, Sized, Scaled, Ended}
 use Rattle.loader.specs.declared.Loader.{Loader}
 use Rattle.loader.specs.declared.Taken.{Taken}
 use Rattle.loader.specs.Answer.{lineAnswer, ofForm}
@@ -45,6 +45,6 @@ unfoldable pub listsAfter : Loader → Lists → List ℕ → Lists
 listsAfter d l line = ifAccepted (lineAnswer d l line) (ofForm (reading line) l (λ (f : Form). listsWith d f l)) l
 
 pub record TakenAs (d : Loader) (line : List ℕ) (l : Lists) (r : Taken) (l′ : Lists) : Type 0 where
-  pub says : said (r .outcome) ≡ lineAnswer d l line
+  pub says : code (r .outcome) ≡ lineAnswer d l line
   pub loader : r .loader ≡ loaderAfter d l line
   pub lists : l′ ≡ listsAfter d l line

@@ -2,20 +2,20 @@
 ghost use mathlib.Core.Path.{_≡_};
 ghost use mathlib.Core.Bool.{true, cond};
 ghost use mathlib.Core.List.{[], _∷_};
-ghost use Rattle.rules.specs.Refusal.{said};
-ghost use Rattle.checked.specs.Input.{input};
-ghost use Rattle.lent_lists.specs.Lists.{lists};
-ghost use Rattle.given_forms.specs.Progress.{ended};
+ghost use Rattle.rules.specs.Refusal.{code};
+ghost use Rattle.check_spec.specs.Input.{input};
+ghost use Rattle.loader_lists.specs.Lists.{lists};
+ghost use Rattle.loader_progress.specs.Progress.{ended};
 ghost use Rattle.loader_order.specs.Through.{CheckedThrough};
 ghost use Rattle.loader.specs.Taken.{fresh, after, TakenAs};
-ghost use Rattle.loader.specs.Numbers.{numbersOf, loaderOf};
-ghost use Rattle.loader.specs.Decided.{saidIn, fits, refusedBy, DecidedIn, DecidedAs};
-use form::Numbers;
-use form_values::Item;
-use form_values::Part;
-use given_forms::Stage;
+ghost use Rattle.loader.specs.Numbers.{loaderNumbers, loaderOf};
+ghost use Rattle.loader.specs.Decided.{codeIn, fits, refusedBy, DecidedIn, DecidedAs};
+use line_form::Numbers;
 use line_parts::Answer;
 use line_parts::CappedForm;
+use loader_progress::Stage;
+use loader_values::Item;
+use loader_values::Part;
 use rules::Outcome;
 use rules::Refusal;
 
@@ -58,12 +58,12 @@ impl Loader {
 
     // The loader in nine numbers, for callers that cannot hold the struct.
     pub fn numbers(self) -> [u32; 9]
-        ensures { λ r. ⌜ r ≡ numbersOf self ⌝ }
+        ensures { λ r. ⌜ r ≡ loaderNumbers self ⌝ }
     {
         let stage = self.stage;
         let sets = self.sets;
         [
-            given_forms::stage_number(stage),
+            loader_progress::stage_number(stage),
             self.n,
             self.s,
             self.t,
@@ -84,7 +84,7 @@ impl Loader {
             n: numbers[1],
             s: numbers[2],
             t: numbers[3],
-            stage: given_forms::stage_of(numbers[0]),
+            stage: loader_progress::stage_of(numbers[0]),
             sets: sets,
         }
     }
@@ -115,33 +115,33 @@ impl Loader {
         ensures { λ r. ⌜ r ≡ ended (self .stage) ⌝ }
     {
         let stage = self.stage;
-        given_forms::is_ended(stage)
+        loader_progress::is_ended(stage)
     }
 
     // What is said of a form: 11, 3 for i, 12, 3 for values, 4 and 13, in this order.
     fn judge_form(self, form: CappedForm, count: usize, inside: bool) -> Outcome
-        ensures { λ r. ⌜ said r ≡ saidIn self form count inside ⌝ }
+        ensures { λ r. ⌜ code r ≡ codeIn self form count inside ⌝ }
     {
         let n = self.n;
         let stage = self.stage;
         let sets = self.sets;
-        let item = form_values::item_of(form);
-        if given_forms::is_early(stage, item) {
+        let item = loader_values::item_of(form);
+        if loader_progress::is_early(stage, item) {
             return Outcome::Refused(Refusal::TooEarly);
         }
-        if given_forms::is_misplaced(stage, n, item) {
+        if loader_progress::is_misplaced(stage, n, item) {
             return Outcome::Refused(Refusal::OutOfRange);
         }
-        if given_forms::is_repeated(stage, sets, item) {
+        if loader_progress::is_repeated(stage, sets, item) {
             return Outcome::Refused(Refusal::Repeated);
         }
-        if form_values::is_outside(form, inside) {
+        if loader_values::is_outside(form, inside) {
             return Outcome::Refused(Refusal::OutOfRange);
         }
-        if form_values::is_miscounted(form, count, n as usize) {
+        if loader_values::is_miscounted(form, count, n as usize) {
             return Outcome::Refused(Refusal::WrongCount);
         }
-        given_forms::judge_end(stage, n, sets, item)
+        loader_progress::judge_end(stage, n, sets, item)
     }
 
     // The loader after an accepted form.
@@ -153,7 +153,7 @@ impl Loader {
         let stage = self.stage;
         match item {
             Item::Problem(n) => Loader {
-                n: form_values::natural(n),
+                n: loader_values::natural(n),
                 s: self.s,
                 t: self.t,
                 stage: Stage::Sized,
@@ -161,8 +161,8 @@ impl Loader {
             },
             Item::Scale(s, t) => Loader {
                 n: self.n,
-                s: form_values::natural(s),
-                t: form_values::natural(t),
+                s: loader_values::natural(s),
+                t: loader_values::natural(t),
                 stage: Stage::Scaled,
                 sets: sets,
             },
@@ -171,7 +171,7 @@ impl Loader {
                 s: self.s,
                 t: self.t,
                 stage: stage,
-                sets: given_forms::with(sets, part, form_values::place_of(i)),
+                sets: loader_progress::with(sets, part, loader_values::place_of(i)),
             },
             Item::End => Loader {
                 n: self.n,
@@ -204,8 +204,8 @@ impl Loader {
         let count = numbers.count;
         let inside = numbers.inside;
         let listed = numbers.values;
-        let item = form_values::item_of(form);
-        let values = form_values::values_of(form, listed);
+        let item = loader_values::item_of(form);
+        let values = loader_values::values_of(form, listed);
         let outcome = self.judge_form(form, count, inside);
         match outcome {
             Outcome::Refused(refusal) => Decided {
@@ -235,7 +235,7 @@ impl Loader {
             return self.refused(Refusal::TooShort);
         }
         let stage = self.stage;
-        if given_forms::is_ended(stage) {
+        if loader_progress::is_ended(stage) {
             return self.refused(Refusal::AfterEnd);
         }
         let read = line::read_line(line);
@@ -269,7 +269,7 @@ impl Loader {
             (now (weights .exit)))
             ⌝ }
     {
-        let short = lent_lists::is_short(
+        let short = loader_lists::is_short(
             matrix.len(),
             right.len(),
             tolerance.len(),
@@ -282,8 +282,8 @@ impl Loader {
         let values = decided.values;
         let n = self.n as usize;
         let sets = self.sets;
-        let given = given_forms::set_of(sets, Part::Weight);
-        lent_lists::write_all(
+        let given = loader_progress::set_of(sets, Part::Weight);
+        loader_lists::write_all(
             item,
             values,
             given,
@@ -316,7 +316,7 @@ impl Loader {
             (now (inverse .entry)) (now (weights .entry)) (now («solution_bounds» .entry)) (now («inverse_bounds» .entry)))
             r (now («solution_bounds» .exit)) (now («inverse_bounds» .exit)) ⌝ }
     {
-        let short = admission::is_short(
+        let short = check_ranges::is_short(
             matrix.len(),
             right.len(),
             tolerance.len(),
@@ -327,8 +327,8 @@ impl Loader {
             inverse_bounds.len(),
         );
         let stage = self.stage;
-        if given_forms::is_ended(stage) {
-            return checker::check(
+        if loader_progress::is_ended(stage) {
+            return check_lists::check(
                 self.n,
                 self.s,
                 self.t,
@@ -348,7 +348,7 @@ impl Loader {
 
 // What is said of a check before an accepted end; short tells whether a lent list is too short.
 fn not_ended(short: bool) -> Outcome
-    ensures { λ r. ⌜ said r ≡ cond short (8 ∷ []) (15 ∷ []) ⌝ }
+    ensures { λ r. ⌜ code r ≡ cond short (8 ∷ []) (15 ∷ []) ⌝ }
 {
     if short {
         return Outcome::Refused(Refusal::TooShort);

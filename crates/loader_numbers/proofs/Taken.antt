@@ -5,17 +5,17 @@
 use mathlib.Core.Path.{_≡_, refl, sym, ap, subst, _∙_}
 use mathlib.Core.List.{List, [], _∷_}
 use Prim.Native.Nat.{ℕ}
-use Rattle.rules.specs.Refusal.{said, numberOf, valuesOf}
+use Rattle.rules.specs.Refusal.{code, numberOf, valuesOf}
 use Rattle.rules.specs.declared.Outcome.{Outcome}
 use Rattle.rules.specs.declared.Outcome.the-variants.{Accepted, Refused}
 use Rattle.rules.specs.declared.Refusal.{Refusal}
 use Rattle.rules.proofs.Verdicts.{accepted-new, accepted-old}
-use Rattle.lent_lists.specs.Lists.{Lists}
+use Rattle.loader_lists.specs.Lists.{Lists}
 use Rattle.loader.specs.declared.Loader.{Loader}
 use Rattle.loader.specs.declared.Taken.{Taken}
 use Rattle.loader.specs.Answer.{lineAnswer}
 use Rattle.loader.specs.Taken.{loaderAfter, listsAfter, TakenAs}
-use Rattle.loader.specs.Numbers.{loaderOf, numbersOf}
+use Rattle.loader.specs.Numbers.{loaderOf, loaderNumbers}
 use Rattle.loader_numbers.specs.Taken.{numbersAfter, LoaderTaken}
 use Rattle.loader.proofs.Numbers.{read-written}
 
@@ -23,16 +23,16 @@ module _ (w : List ℕ) {line : List ℕ} {l l′ : Lists} {d : Loader} {t : Tak
   own : TakenAs (loaderOf w) line l t l′
   own = subst (λ (d : Loader). TakenAs d line l t l′) e x
 
-  pub taken-accepted : {w′ : List ℕ} → t .outcome ≡ Accepted → w′ ≡ numbersOf (t .loader) → LoaderTaken w line l Accepted w′ l′
+  pub taken-accepted : {w′ : List ℕ} → t .outcome ≡ Accepted → w′ ≡ loaderNumbers (t .loader) → LoaderTaken w line l Accepted w′ l′
   unfolding numbersAfter
   taken-accepted o n =
-      let a : lineAnswer (loaderOf w) l line ≡ [] = sym (own .says) ∙ ap said o in
-      record { says = sym a; numbers = n ∙ ap numbersOf (own .loader) ∙ sym (accepted-new _ _ a); lists = own .lists }
+      let a : lineAnswer (loaderOf w) l line ≡ [] = sym (own .says) ∙ ap code o in
+      record { says = sym a; numbers = n ∙ ap loaderNumbers (own .loader) ∙ sym (accepted-new _ _ a); lists = own .lists }
 
   pub taken-refused : {f : Refusal} → t .outcome ≡ Refused f → LoaderTaken w line l (Refused f) w l′
   unfolding numbersAfter
   taken-refused {f} o =
-      let a : lineAnswer (loaderOf w) l line ≡ numberOf f ∷ valuesOf f = sym (own .says) ∙ ap said o in
+      let a : lineAnswer (loaderOf w) l line ≡ numberOf f ∷ valuesOf f = sym (own .says) ∙ ap code o in
       record { says = sym a; numbers = sym (accepted-old _ _ a); lists = own .lists }
 
 module _ (w : List ℕ) (l : Lists) (line : List ℕ) where

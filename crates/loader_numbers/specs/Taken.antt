@@ -6,17 +6,17 @@ use mathlib.Core.List.{List}
 use mathlib.Core.Path.{_≡_}
 use Prim.Native.Nat.{ℕ}
 use Rattle.rules.specs.Order.{ifAccepted}
-use Rattle.rules.specs.Refusal.{said}
+use Rattle.rules.specs.Refusal.{code}
 use Rattle.rules.specs.declared.Outcome.{Outcome}
-use Rattle.lent_lists.specs.Lists.{Lists}
+use Rattle.loader_lists.specs.Lists.{Lists}
 use Rattle.loader.specs.Answer.{lineAnswer}
 use Rattle.loader.specs.Taken.{loaderAfter, listsAfter}
-use Rattle.loader.specs.Numbers.{loaderOf, numbersOf}
+use Rattle.loader.specs.Numbers.{loaderOf, loaderNumbers}
 
 unfoldable pub numbersAfter : List ℕ → Lists → List ℕ → List ℕ
-numbersAfter w l line = ifAccepted (lineAnswer (loaderOf w) l line) (numbersOf (loaderAfter (loaderOf w) l line)) w
+numbersAfter w l line = ifAccepted (lineAnswer (loaderOf w) l line) (loaderNumbers (loaderAfter (loaderOf w) l line)) w
 
 pub record LoaderTaken (w line : List ℕ) (l : Lists) (r : Outcome) (w′ : List ℕ) (l′ : Lists) : Type 0 where
-  pub says : said r ≡ lineAnswer (loaderOf w) l line
+  pub says : code r ≡ lineAnswer (loaderOf w) l line
   pub numbers : w′ ≡ numbersAfter w l line
   pub lists : l′ ≡ listsAfter (loaderOf w) l line

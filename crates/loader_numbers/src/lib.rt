@@ -1,17 +1,17 @@
 // A loader in nine numbers that a caller lends (01: desk), for callers that cannot hold the struct.
 ghost use mathlib.Core.Path.{_≡_};
-ghost use Rattle.checked.specs.Input.{input};
-ghost use Rattle.lent_lists.specs.Lists.{lists};
+ghost use Rattle.check_spec.specs.Input.{input};
+ghost use Rattle.loader_lists.specs.Lists.{lists};
 ghost use Rattle.loader_order.specs.Through.{CheckedThrough};
 ghost use Rattle.loader.specs.Taken.{fresh};
-ghost use Rattle.loader.specs.Numbers.{loaderOf, numbersOf};
+ghost use Rattle.loader.specs.Numbers.{loaderOf, loaderNumbers};
 ghost use Rattle.loader_numbers.specs.Taken.{LoaderTaken};
 use loader::Loader;
 use rules::Outcome;
 
 // A loader that was given nothing.
 pub fn renew(loader: &mut [u32; 9])
-    ensures { λ _. ⌜ now (loader .exit) ≡ numbersOf fresh ⌝ }
+    ensures { λ _. ⌜ now (loader .exit) ≡ loaderNumbers fresh ⌝ }
 {
     *loader = Loader::new().numbers();
 }

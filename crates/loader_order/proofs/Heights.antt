@@ -4,14 +4,14 @@ use mathlib.Core.List.{List, []}
 use mathlib.Core.Path.{_≡_}
 use Prim.Native.Nat.{ℕ, _+_, _*_}
 use lib.ListN.{getD}
-use Rattle.rules.specs.Refusal.{said}
+use Rattle.rules.specs.Refusal.{code}
 use Rattle.rules.specs.declared.Outcome.{Outcome}
 use Rattle.enclosure.specs.Height.{OneHeight}
 use Rattle.enclosure.proofs.Demands.{one-height}
-use Rattle.checked.specs.Input.{Input, problem}
-use Rattle.given_forms.specs.declared.Stage.{Stage}
+use Rattle.check_spec.specs.Input.{Input, problem}
+use Rattle.loader_progress.specs.declared.Stage.{Stage}
 use Rattle.loader_order.specs.Through.{CheckedThrough}
 
-pub through-height : (s : Stage) (I : Input) (r : Outcome) (E L : List ℕ) → CheckedThrough s I r E L → said r ≡ [] →
+pub through-height : (s : Stage) (I : Input) (r : Outcome) (E L : List ℕ) → CheckedThrough s I r E L → code r ≡ [] →
     OneHeight (problem I) (λ (i : ℕ). getD E i 0)
 through-height s I r E L x e = one-height (problem I) (λ i. getD E i 0) (λ i j. getD L (i * I .n + j) 0) (x .encloses e)

@@ -1,3 +1,3 @@
-pub mod Said
+pub mod CodeLaws
 pub mod Through
 pub mod Heights

@@ -8,22 +8,22 @@ use mathlib.Core.Path.{_≡_}
 use Prim.Native.Nat.{ℕ, _+_, _*_}
 use lib.ListN.{getD}
 use Rattle.rules.specs.Order.{Test, number, verdict}
-use Rattle.rules.specs.Refusal.{said}
+use Rattle.rules.specs.Refusal.{code}
 use Rattle.rules.specs.declared.Outcome.{Outcome}
 use Rattle.linear.specs.Matrix.{Vec, Mat}
 use Rattle.enclosure.specs.Demand.{Encloses, RoundedExact}
-use Rattle.checked.specs.Input.{Input, problem, short, inRanges}
-use Rattle.checked.specs.Order.{reckonedOf}
-use Rattle.checked.specs.Checked.{solutionAfter, inverseAfter}
-use Rattle.given_forms.specs.Progress.{ended}
-use Rattle.given_forms.specs.declared.Stage.{Stage}
+use Rattle.check_spec.specs.Input.{Input, problem, short, inRanges}
+use Rattle.check_spec.specs.Order.{computedOf}
+use Rattle.check_spec.specs.Checked.{solutionAfter, inverseAfter}
+use Rattle.loader_progress.specs.Progress.{ended}
+use Rattle.loader_progress.specs.declared.Stage.{Stage}
 
 abbrev pub orderThrough : Stage → Input → List Test
 orderThrough s I =
     number 8 (short I)
     ∷ number 15 (not (ended s))
     ∷ number 3 (not (inRanges I))
-    ∷ reckonedOf (problem I)
+    ∷ computedOf (problem I)
 
 unfoldable pub answerThrough : Stage → Input → List ℕ
 answerThrough s I = verdict (orderThrough s I)
@@ -35,8 +35,8 @@ unfoldable pub inverseBoundsThrough : Stage → Input → List ℕ
 inverseBoundsThrough s I = inverseAfter (answerThrough s I) I
 
 pub record CheckedThrough (s : Stage) (I : Input) (r : Outcome) (E L : List ℕ) : Type 0 where
-  pub says : said r ≡ answerThrough s I
+  pub says : code r ≡ answerThrough s I
   pub solution-bounds : E ≡ solutionBoundsThrough s I
   pub inverse-bounds : L ≡ inverseBoundsThrough s I
-  pub encloses : said r ≡ [] → Encloses (problem I) (λ (i : ℕ). getD E i 0) (λ (i j : ℕ). getD L (i * I .n + j) 0)
-  pub accepts : (N : Vec) (q : ℕ) (H : Mat) (q′ : ℕ) → short I ≡ false → ended s ≡ true → inRanges I ≡ true → RoundedExact (problem I) N q H q′ → said r ≡ []
+  pub encloses : code r ≡ [] → Encloses (problem I) (λ (i : ℕ). getD E i 0) (λ (i j : ℕ). getD L (i * I .n + j) 0)
+  pub accepts : (N : Vec) (q : ℕ) (H : Mat) (q′ : ℕ) → short I ≡ false → ended s ≡ true → inRanges I ≡ true → RoundedExact (problem I) N q H q′ → code r ≡ []

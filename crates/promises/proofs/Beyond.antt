@@ -1,6 +1,6 @@
 -- The theorems for specs/Beyond, a theorem for each statement.
 use mathlib.Core.Path.{sym, _∙_}
-use Rattle.limit_factor.proofs.Limits.{factor-far-at-b}
+use Rattle.quality_spec.proofs.Limits.{factor-far-at-b}
 use Rattle.accepted_limits.proofs.File.{answered-good, listed-good}
 use Rattle.accepted_limits.proofs.Lists.{checked-good, through-good, half-good}
 use Rattle.accepted_limits.proofs.TwoNets.{together-good}

@@ -2,7 +2,7 @@
 --   Case b A B — A where b holds, else B
 --   LargeInverse I j k — the case of 7, with column j and row k
 --   CaseOf I k a b — the case of the refusal k of a check, with the numbers a and b that it gives;  stated-case — what is stated has it
---   case-of, said-as — what is said has its case, and what is stated is said
+--   case-of, code-as — what is said has its case, and what is stated is said
 --   back     — a place counted from 1, counted from 0
 --   never-15 — a check on lists never says 15
 use mathlib.Core.Bool.{Bool, true, false}
@@ -12,14 +12,14 @@ use Prim.Native.Nat.{ℕ, _+_, _-_, _<_}
 use native.Mathlib.Omega.{arith}
 use lib.Dec.{eqb}
 use lib.ListN.{getD}
-use Rattle.rules.specs.Refusal.{said}
+use Rattle.rules.specs.Refusal.{code}
 use Rattle.rules.specs.declared.Outcome.{Outcome}
 use Rattle.enclosure.specs.Sound.{Margins, Residuals}
 use Rattle.enclosure.specs.Problem.{columnOf}
 use Rattle.enclosure.specs.Reckoning.{marginFails, exceeds}
-use Rattle.checked.specs.Checked.{Checked}
-use Rattle.checked.specs.Input.{Input, problem, short, inRanges}
-use Rattle.checked.specs.Stated.{Usable, Stated, too-short, out-of-range, margin-low, residual-large, inverse-large, accepted}
+use Rattle.check_spec.specs.Checked.{Checked}
+use Rattle.check_spec.specs.Input.{Input, problem, short, inRanges}
+use Rattle.check_spec.specs.Stated.{Usable, Stated, too-short, out-of-range, margin-low, residual-large, inverse-large, accepted}
 use Rattle.promises.specs.Ways.{Lowest}
 use Rattle.promises.proofs.Demands.{check-refuses-as-stated}
 
@@ -52,11 +52,11 @@ stated-case I (inverse-large j k u g r lj lk p q h) = rw (back j, back k) (u, (g
 stated-case I (accepted u x) = tt
 
 module _ (I : Input) (r : Outcome) (E L : List ℕ) (x : Checked I r E L) where
-  pub case-of : {w : List ℕ} → said r ≡ w → CaseOf I (getD w 0 0) (getD w 1 0) (getD w 2 0)
+  pub case-of : {w : List ℕ} → code r ≡ w → CaseOf I (getD w 0 0) (getD w 1 0) (getD w 2 0)
   case-of {w} e = stated-case I (check-refuses-as-stated I r E L x w .0 e)
 
-  pub said-as : {w : List ℕ} → Stated I w → said r ≡ w
-  said-as {w} y = check-refuses-as-stated I r E L x w .1 y
+  pub code-as : {w : List ℕ} → Stated I w → code r ≡ w
+  code-as {w} y = check-refuses-as-stated I r E L x w .1 y
 
 pub never-15 : {I : Input} {w : List ℕ} → Stated I w → w ≡ 15 ∷ [] → ⊥
 never-15 (too-short p) e = let z : _≡_ {A = ℕ} 8 15 = cc in omega (arith, z)

@@ -6,28 +6,28 @@ use Prim.Native.Nat.{ℕ, zero, suc, _<_}
 use native.Mathlib.Omega.{arith}
 use lib.IntN.{ℤ}
 use lib.ListN.{take}
-use Rattle.checked.specs.Checked.{solutionBoundsAfter, inverseBoundsAfter}
-use Rattle.checked.specs.Input.{Input, short}
-use Rattle.checked.specs.Stated.{Stated}
-use Rattle.checked.proofs.Statements.{stated, said-of}
-use Rattle.checked.proofs.Written.{checked-solution, checked-inverse}
-use Rattle.given_forms.specs.Progress.{ended}
-use Rattle.given_forms.specs.declared.Stage.{Stage}
+use Rattle.check_spec.specs.Checked.{solutionBoundsAfter, inverseBoundsAfter}
+use Rattle.check_spec.specs.Input.{Input, short}
+use Rattle.check_spec.specs.Stated.{Stated}
+use Rattle.check_spec.proofs.Statements.{stated, code-of}
+use Rattle.check_spec.proofs.Written.{checked-solution, checked-inverse}
+use Rattle.loader_progress.specs.Progress.{ended}
+use Rattle.loader_progress.specs.declared.Stage.{Stage}
 use Rattle.loader_order.specs.Through.{answerThrough, solutionBoundsThrough, inverseBoundsThrough}
 use Rattle.loader_order.proofs.Through.{answer-ended, through-lists, check-8, check-15}
 use Rattle.loader.specs.Taken.{loaderAfter, listsAfter}
-use Rattle.half.specs.Checked.{filledInput}
-use Rattle.half.proofs.Promises.{half-stated}
-use Rattle.line_stated.proofs.Stated.{line-exactly, made-exactly}
-use Rattle.line_stated.proofs.Taken.{taken-other}
+use Rattle.half_check.specs.Checked.{filledInput}
+use Rattle.half_check.proofs.Promises.{half-stated}
+use Rattle.loader_stated.proofs.Stated.{line-exactly, made-exactly}
+use Rattle.loader_stated.proofs.Taken.{taken-other}
 use Rattle.file_stated.proofs.Stated.{file-exactly, answered-stated, listed-stated}
 use Rattle.enclosure.specs.Reckoning.{bound, inverseBound}
-use Rattle.form.specs.Form.{bytes}
-use Rattle.report.specs.Report.{reportOf}
-use Rattle.report.proofs.OneToOne.{SameShown, report-one}
-use Rattle.line_runs.specs.Lines.{linesOf}
-use Rattle.line_runs.specs.Read.{readingOf}
-use Rattle.line_runs.specs.Run.{forms}
+use Rattle.line_form.specs.Form.{bytes}
+use Rattle.listing_report.specs.Report.{reportOf}
+use Rattle.listing_report.proofs.OneToOne.{SameShown, report-one}
+use Rattle.loader_runs.specs.Lines.{linesOf}
+use Rattle.loader_runs.specs.Read.{readingOf}
+use Rattle.loader_runs.specs.Run.{forms}
 use Rattle.file_check.proofs.Forms.{some}
 use Rattle.listing.specs.Listing.{problemIn, answerOf}
 use Rattle.listing.proofs.Entire.{from, inside}
@@ -57,16 +57,16 @@ refused-line-leaves d line l r l′ x h =
     (x .loader ∙ refused-old _ _ _ a, x .lists ∙ refused-old _ _ _ a)
 
 -- ---- Demand 2
-pub limits-reckoned : demand.LimitsReckoned
-limits-reckoned P E L (on-lists I r E′ L′ x e) = (checked-solution I r E′ L′ x e, checked-inverse I r E′ L′ x e)
-limits-reckoned P E L (through-loader s I r E′ L′ x e) =
+pub limits-computed : demand.LimitsComputed
+limits-computed P E L (on-lists I r E′ L′ x e) = (checked-solution I r E′ L′ x e, checked-inverse I r E′ L′ x e)
+limits-computed P E L (through-loader s I r E′ L′ x e) =
     let y = through-lists s I x e in
     (checked-solution I r E′ L′ y e, checked-inverse I r E′ L′ y e)
-limits-reckoned P E L (by-half H r E′ L′ x e) =
+limits-computed P E L (by-half H r E′ L′ x e) =
     let y = half-lists H r E′ L′ x e in
     (checked-solution (filledInput H) r E′ L′ y e, checked-inverse (filledInput H) r E′ L′ y e)
-limits-reckoned P E L (of-file file old new r x z) = (λ i l. refl, λ i j li lj. refl)
-limits-reckoned P E L (of-listing file old new count x b) = (λ i l. refl, λ i j li lj. refl)
+limits-computed P E L (of-file file old new r x z) = (λ i l. refl, λ i j li lj. refl)
+limits-computed P E L (of-listing file old new count x b) = (λ i l. refl, λ i j li lj. refl)
 
 pub file-shows-limits : demand.FileShowsLimits
 file-shows-limits file old new r x z = x .listed .bytes ∙ file-reported file (answered-none x z)
@@ -75,8 +75,8 @@ pub listing-shows-limits : demand.ListingShowsLimits
 listing-shows-limits file old new count x b = x .bytes ∙ file-reported file (listed-none x b)
 
 -- an accepted file has a row
-some-row : (file : List ℕ) → answerOf file ≡ [] → 0 < problemIn file .n
-some-row file e =
+file-has-row : (file : List ℕ) → answerOf file ≡ [] → 0 < problemIn file .n
+file-has-row file e =
     let c = accepted-parts file e .complete in
     some (readingOf file .state) (forms (linesOf file)) (from file (c .lines) (c .end)) (inside file (c .lines) (c .end))
 
@@ -91,11 +91,11 @@ equal-listings-equal-limits file old new file′ old′ new′ count count′ x 
     let P′ = problemIn file′ in
     let b′ : take 8 (take count′ new′) ≡ bytes "(bounds " = subst (λ (l : List ℕ). take 8 l ≡ bytes "(bounds ") e b in
     let same = sym (listing-shows-limits file old new count x b) ∙ e ∙ listing-shows-limits file′ old′ new′ count′ y b′ in
-    let r = rows-one (P .n) (P .s) (P′ .n) (P′ .s) (P .X) (P′ .X) (bound P) (bound P′) (inverseBound P) (inverseBound P′) (some-row file (listed-none x b)) (some-row file′ (listed-none y b′)) same in
+    let r = rows-one (P .n) (P .s) (P′ .n) (P′ .s) (P .X) (P′ .X) (bound P) (bound P′) (inverseBound P) (inverseBound P′) (file-has-row file (listed-none x b)) (file-has-row file′ (listed-none y b′)) same in
     (r .size, λ i l. (r .guess i l, r .solution i l), r .inverse)
 
 pub check-refuses-as-stated : demand.CheckRefusesAsStated
-check-refuses-as-stated I r E L x w = (λ e. subst (Stated I) (sym (x .says) ∙ e) (stated I), λ y. x .says ∙ said-of I y)
+check-refuses-as-stated I r E L x w = (λ e. subst (Stated I) (sym (x .says) ∙ e) (stated I), λ y. x .says ∙ code-of I y)
 
 module _ (s : Stage) (I : Input) where
   through-stated : StatedThrough s I (answerThrough s I)
@@ -106,13 +106,13 @@ module _ (s : Stage) (I : Input) where
       go false p false q = subst (StatedThrough s I) (sym (check-15 s I .1 ((p, tt), rw q))) (not-ended p q)
       go false p true q = as-on-lists _ q (subst (Stated I) (sym (answer-ended s I q)) (stated I))
 
-  through-said : (w : List ℕ) → StatedThrough s I w → answerThrough s I ≡ w
-  through-said w (too-short p) = check-8 s I .1 (tt, p)
-  through-said w (not-ended p q) = check-15 s I .1 ((p, tt), rw q)
-  through-said w (as-on-lists v q y) = answer-ended s I q ∙ said-of I y
+  through-code : (w : List ℕ) → StatedThrough s I w → answerThrough s I ≡ w
+  through-code w (too-short p) = check-8 s I .1 (tt, p)
+  through-code w (not-ended p q) = check-15 s I .1 ((p, tt), rw q)
+  through-code w (as-on-lists v q y) = answer-ended s I q ∙ code-of I y
 
 pub through-refuses-as-stated : demand.ThroughRefusesAsStated
-through-refuses-as-stated s I r E L x w = (λ e. subst (StatedThrough s I) (sym (x .says) ∙ e) (through-stated s I), λ y. x .says ∙ through-said s I w y)
+through-refuses-as-stated s I r E L x w = (λ e. subst (StatedThrough s I) (sym (x .says) ∙ e) (through-stated s I), λ y. x .says ∙ through-code s I w y)
 
 pub half-refuses-as-stated : demand.HalfRefusesAsStated
 half-refuses-as-stated H r E L x w = half-stated H r E L x

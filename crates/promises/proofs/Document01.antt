@@ -17,21 +17,21 @@ use Rattle.entry.specs.declared.Registered.{Registered}
 use Rattle.entry.specs.declared.Registered.the-variants.{Entry, Refused}
 use Rattle.entry.proofs.Limit.{entry-near}
 use Rattle.enclosure.specs.Problem.{Problem, S, columnOf}
-use Rattle.enclosure.specs.Reckoning.{defect, load, margin, residual, rowSum, exceeds, exceedsWith, exceedsRow, slack, bound, boundWith, boundFrom, sizesWith, inverseBound}
+use Rattle.enclosure.specs.Reckoning.{defect, load, margin, residual, rowSum, exceeds, exceedsWith, exceedsRow, slack, bound, boundWith, boundFrom, magnitudesWith, inverseBound}
 use Rattle.enclosure.proofs.Instance.{file-worked}
-use Rattle.checked.specs.Checked.{solutionBoundsAfter, inverseBoundsAfter}
-use Rattle.checked.specs.Input.{Input, problem, short}
-use Rattle.checked.specs.Order.{answer}
-use Rattle.checked.specs.Stated.{too-short, out-of-range, margin-low, residual-large, inverse-large}
-use Rattle.checked.proofs.Agreed.{same-answer, same-solution, same-inverse}
-use Rattle.checked.proofs.Lengths.{long-of}
-use Rattle.checked.proofs.Written.{past-kept}
-use Rattle.given_forms.specs.Progress.{ended}
+use Rattle.check_spec.specs.Checked.{solutionBoundsAfter, inverseBoundsAfter}
+use Rattle.check_spec.specs.Input.{Input, problem, short}
+use Rattle.check_spec.specs.Order.{answer}
+use Rattle.check_spec.specs.Stated.{too-short, out-of-range, margin-low, residual-large, inverse-large}
+use Rattle.check_spec.proofs.Agreed.{same-answer, same-solution, same-inverse}
+use Rattle.check_spec.proofs.Lengths.{long-of}
+use Rattle.check_spec.proofs.Written.{past-kept}
+use Rattle.loader_progress.specs.Progress.{ended}
 use Rattle.file_shape.proofs.Complete.{exactly}
-use Rattle.line_runs.specs.Lines.{before, linesOf}
-use Rattle.form.proofs.Printable.{spell-printable}
+use Rattle.loader_runs.specs.Lines.{before, linesOf}
+use Rattle.line_form.proofs.Printable.{spell-printable}
 use Rattle.file_stated.proofs.Stated.{file-exactly}
-use Rattle.spelled_lines.proofs.Text.{lines-feed}
+use Rattle.loader_spelled.proofs.Text.{lines-feed}
 use Rattle.listing.specs.Listing.{answerOf, listingOf}
 use Rattle.listing.proofs.Answers.{file-answers}
 use Rattle.listing.proofs.Table as table
@@ -40,8 +40,8 @@ use Rattle.promises.specs.Document01 as document
 use Rattle.promises.specs.Ways.{StatedThrough, not-ended, as-on-lists}
 use Rattle.promises.specs.Ways as ways
 use Rattle.promises.proofs.Ways.{accepted-sound}
-use Rattle.promises.proofs.Cases01.{LargeInverse, back, case-of, said-as, never-15}
-use Rattle.promises.proofs.Demands.{limits-reckoned, through-refuses-as-stated}
+use Rattle.promises.proofs.Cases01.{LargeInverse, back, case-of, code-as, never-15}
+use Rattle.promises.proofs.Demands.{limits-computed, through-refuses-as-stated}
 
 -- ---- The system and its steps
 pub sizes-ranged : document.SizesRanged
@@ -115,13 +115,13 @@ unfolding residual rowSum apply
 residuals-small P E L a k l = within P k (accepted-sound P E L a .residuals k l)
 
 pub limit-is-largest : document.LimitIsLargest
-unfolding bound boundWith boundFrom sizesWith apply
-limit-is-largest P E L a i l = limits-reckoned P E L a .0 i l
+unfolding bound boundWith boundFrom magnitudesWith apply
+limit-is-largest P E L a i l = limits-computed P E L a .0 i l
 
 pub inverse-limit-is : document.InverseLimitIs
 inverse-limit-is P E L a i j li lj k lk =
     let h = within (columnOf P j) k (accepted-sound P E L a .columns j lj k lk) .0 in
-    (limits-reckoned P E L a .1 i j li lj, (refl, (refl, (refl, omega (arith, h)))))
+    (limits-computed P E L a .1 i j li lj, (refl, (refl, (refl, omega (arith, h)))))
 
 abbrev value-of : Registered → ℤ → ℤ
 value-of (Entry v b) z = v
@@ -166,21 +166,21 @@ whole-files-shaped = exactly
 
 -- ---- Refused for what was handed in
 pub short-list-is-8 : document.ShortListIs8
-short-list-is-8 I r E L x = (case-of I r E L x, λ p. said-as I r E L x (too-short p))
+short-list-is-8 I r E L x = (case-of I r E L x, λ p. code-as I r E L x (too-short p))
 
 pub out-of-range-is-3 : document.OutOfRangeIs3
-out-of-range-is-3 I r E L x = (case-of I r E L x, λ p. said-as I r E L x (out-of-range (p .0) (p .1)))
+out-of-range-is-3 I r E L x = (case-of I r E L x, λ p. code-as I r E L x (out-of-range (p .0) (p .1)))
 
 pub low-margin-is-5 : document.LowMarginIs5
 low-margin-is-5 I r E L x m = (
   λ e. let c = case-of I r E L x e in (c .0, rw (← back m) (c .1)),
-  λ c. said-as I r E L x (margin-low m (c .0) (c .1 .below) (c .1 .here) (c .1 .before)),
+  λ c. code-as I r E L x (margin-low m (c .0) (c .1 .below) (c .1 .here) (c .1 .before)),
 )
 
 pub large-residual-is-6 : document.LargeResidualIs6
 large-residual-is-6 I r E L x k = (
   λ e. let c = case-of I r E L x e in (c .0, (c .1 .0, rw (← back k) (c .1 .1))),
-  λ c. said-as I r E L x (residual-large k (c .0) (c .1 .0) (c .1 .1 .below) (c .1 .1 .here) (c .1 .1 .before)),
+  λ c. code-as I r E L x (residual-large k (c .0) (c .1 .0) (c .1 .1 .below) (c .1 .1 .here) (c .1 .1 .before)),
 )
 
 pub large-inverse-is-7 : document.LargeInverseIs7
@@ -188,7 +188,7 @@ large-inverse-is-7 I r E L x j k = (
   λ e. let c : LargeInverse I (j + 1 - 1) (k + 1 - 1) = case-of I r E L x e in subst (λ (a : ℕ). LargeInverse I a k) (back j) (subst (λ (b : ℕ). LargeInverse I (j + 1 - 1) b) (back k) c),
   λ c.
       let low = c .1 .1 .1 .1 .1 in
-      said-as I r E L x (inverse-large j k (c .0) (c .1 .0) (c .1 .1 .0) (c .1 .1 .1 .0) (low .below) (low .here) (c .1 .1 .1 .1 .0) (low .before)),
+      code-as I r E L x (inverse-large j k (c .0) (c .1 .0) (c .1 .1 .0) (c .1 .1 .1 .0) (low .below) (low .here) (c .1 .1 .1 .1 .0) (low .before)),
 )
 
 -- ---- Refused for how far the desk has come
@@ -218,4 +218,4 @@ whole-file-worked = file-worked
 
 -- ---- Marked for proof
 pub cases-hold : document.CasesHold
-cases-hold = table.cases-hold
+cases-hold = table.listing-cases-hold

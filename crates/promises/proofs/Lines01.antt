@@ -1,5 +1,5 @@
 -- The theorems for specs/Lines01, a theorem for each statement.
---   CaseOf d l line k — the case of the refusal k of a line, or of acceptance (0);  stated-case — what is stated has it
+--   LineCaseOf d l line k — the case of the refusal k of a line, or of acceptance (0);  stated-case — what is stated has it
 use mathlib.Core.Bool.{true, false}
 use mathlib.Core.List.{List, [], _∷_}
 use mathlib.Core.Logic.{_⊎_, inl, inr}
@@ -11,39 +11,39 @@ use borrow.Author.Tests.{ltb-true, lt-ltb}
 use lib.Dec.{eqb}
 use lib.ListN.{getD, length}
 use Rattle.integer.proofs.Search.{clash}
-use Rattle.form.specs.Form.{Form, problem, scale, row, right, rightWithin, guess, inverse, weight, end}
-use Rattle.form.specs.Spelling.{spell}
-use Rattle.form.proofs.Printable.{spell-some, spell-no-feed}
-use Rattle.form.proofs.Spelling.{spelled-read}
-use Rattle.form_values.specs.Item.{itemOf, placed, outside, miscounted}
-use Rattle.form_values.specs.declared.Part.{Part}
-use Rattle.form_values.specs.declared.Part.the-variants.{Row, Right, Guess, Inverse}
-use Rattle.bit_set.specs.Places.{lacking}
-use Rattle.bit_set.proofs.Places.{lacking-≤}
-use Rattle.lent_lists.specs.Lists.{Lists, shortLists}
-use Rattle.given_forms.specs.Progress.{missing, setOf, ended, early, repeated, incomplete}
-use Rattle.loader_order.proofs.Said.{count-13}
-use Rattle.rules.specs.Refusal.{said}
+use Rattle.line_form.specs.Form.{Form, problem, scale, row, right, rightWithin, guess, inverse, weight, end}
+use Rattle.line_form.specs.Spelling.{spell}
+use Rattle.line_form.proofs.Printable.{spell-some, spell-no-feed}
+use Rattle.line_form.proofs.Spelling.{spelled-read}
+use Rattle.loader_values.specs.Item.{itemOf, placed, outside, miscounted}
+use Rattle.loader_values.specs.declared.Part.{Part}
+use Rattle.loader_values.specs.declared.Part.the-variants.{Row, Right, Guess, Inverse}
+use Rattle.loader_bit_set.specs.Places.{lacking}
+use Rattle.loader_bit_set.proofs.Places.{lacking-≤}
+use Rattle.loader_lists.specs.Lists.{Lists, shortLists}
+use Rattle.loader_progress.specs.Progress.{missing, setOf, ended, early, repeated, incomplete}
+use Rattle.loader_order.proofs.CodeLaws.{count-13}
+use Rattle.rules.specs.Refusal.{code}
 use Rattle.loader.specs.Answer.{caseOf, lineAnswer}
 use Rattle.loader.specs.Taken.{TakenAs}
 use Rattle.loader.specs.declared.Loader.{Loader}
 use Rattle.loader.specs.declared.Taken.{Taken}
 use Rattle.loader.proofs.Accepted.{accepted-form}
 use Rattle.loader.specs.Taken.{fresh}
-use Rattle.line_runs.specs.Run.{State, forms}
-use Rattle.line_runs.specs.Accepts.{Made}
+use Rattle.loader_runs.specs.Run.{State, forms}
+use Rattle.loader_runs.specs.Accepts.{Made}
 use Rattle.file_shape.specs.Given.{GivenBy}
 use Rattle.file_shape.proofs.Stage.{given-by}
-use Rattle.line_stated.specs.Stated as stated
-use Rattle.line_stated.specs.Stated.{Formed, Unrepeated, LineStated}
+use Rattle.loader_stated.specs.Stated as stated
+use Rattle.loader_stated.specs.Stated.{Formed, Unrepeated, LineStated}
 use Rattle.promises.specs.Lines01.{InTime, notGiven}
 use Rattle.promises.specs.Lines01 as line
 use Rattle.promises.proofs.Cases01.{Case}
 use Rattle.promises.proofs.Demands.{line-refuses-as-stated}
 use Rattle.promises.proofs.Places.{took, own-places, other-places-kept, taken-run}
 
-abbrev CaseOf : Loader → Lists → List ℕ → ℕ → Type 0
-CaseOf d l line k =
+abbrev LineCaseOf : Loader → Lists → List ℕ → ℕ → Type 0
+LineCaseOf d l line k =
     Case (eqb k 8) (shortLists l ≡ true)
     (Case (eqb k 14) ((shortLists l ≡ false) × (ended (d .stage) ≡ true))
     (Case (eqb k 1) ((shortLists l ≡ false) × ((ended (d .stage) ≡ false) × (320 < length line)))
@@ -55,7 +55,7 @@ CaseOf d l line k =
     Unit)))))))
 
 module _ (d : Loader) (l : Lists) (line : List ℕ) where
-  stated-case : {w : List ℕ} → LineStated d l line w → CaseOf d l line (getD w 0 0)
+  stated-case : {w : List ℕ} → LineStated d l line w → LineCaseOf d l line (getD w 0 0)
   stated-case (stated.too-short a) = a
   stated-case (stated.after-end a b) = (a, b)
   stated-case (stated.too-long a b c) = (a, (b, c))
@@ -69,17 +69,17 @@ module _ (d : Loader) (l : Lists) (line : List ℕ) where
   stated-case (stated.accepted f u o m i) = tt
 
 module _ (d : Loader) (line : List ℕ) (l : Lists) (r : Taken) (l′ : Lists) (x : TakenAs d line l r l′) (m : Made d) where
-  case-of : {w : List ℕ} → said (r .outcome) ≡ w → CaseOf d l line (getD w 0 0)
+  case-of : {w : List ℕ} → code (r .outcome) ≡ w → LineCaseOf d l line (getD w 0 0)
   case-of {w} e = stated-case d l line (line-refuses-as-stated d line l r l′ x m w .0 e)
 
-  said-as : {w : List ℕ} → LineStated d l line w → said (r .outcome) ≡ w
-  said-as {w} y = line-refuses-as-stated d line l r l′ x m w .1 y
+  code-as : {w : List ℕ} → LineStated d l line w → code (r .outcome) ≡ w
+  code-as {w} y = line-refuses-as-stated d line l r l′ x m w .1 y
 
 pub long-line-is-1 : line.LongLineIs1
-long-line-is-1 d line l r l′ x m = (case-of d line l r l′ x m, λ c. said-as d line l r l′ x m (stated.too-long (c .0) (c .1 .0) (c .1 .1)))
+long-line-is-1 d line l r l′ x m = (case-of d line l r l′ x m, λ c. code-as d line l r l′ x m (stated.too-long (c .0) (c .1 .0) (c .1 .1)))
 
 pub no-form-is-2 : line.NoFormIs2
-no-form-is-2 d line l r l′ x m = (case-of d line l r l′ x m, λ c. said-as d line l r l′ x m (stated.no-form (c .0) (c .1 .0) (c .1 .1 .0) (c .1 .1 .1)))
+no-form-is-2 d line l r l′ x m = (case-of d line l r l′ x m, λ c. code-as d line l r l′ x m (stated.no-form (c .0) (c .1 .0) (c .1 .1 .0) (c .1 .1 .1)))
 
 pub no-form-is-empty : line.NoFormIsEmpty
 no-form-is-empty f e = let h = spell-some f in omega (arith, h, ap (λ (s : List ℕ). length s) e)
@@ -88,25 +88,25 @@ pub no-form-has-feed : line.NoFormHasFeed
 no-form-has-feed = spell-no-feed
 
 pub outside-is-3 : line.OutsideIs3
-outside-is-3 d line l r l′ x m = (case-of d line l r l′ x m, λ c. said-as d line l r l′ x m (go (c .0) (c .1)))
+outside-is-3 d line l r l′ x m = (case-of d line l r l′ x m, λ c. code-as d line l r l′ x m (go (c .0) (c .1)))
   where
     go : (f : Form) → (InTime d l line f × (placed (d .n) (itemOf f) ≡ false)) ⊎ (Unrepeated d l line f × (outside f ≡ true)) → LineStated d l line (3 ∷ [])
     go f (inl h) = stated.i-outside f (h .0 .formed) (h .0 .timely) (h .1)
     go f (inr h) = stated.value-outside f (h .0) (h .1)
 
 pub wrong-count-is-4 : line.WrongCountIs4
-wrong-count-is-4 d line l r l′ x m = (case-of d line l r l′ x m, λ c. said-as d line l r l′ x m (stated.wrong-count (c .0) (c .1 .0) (c .1 .1 .0) (c .1 .1 .1)))
+wrong-count-is-4 d line l r l′ x m = (case-of d line l r l′ x m, λ c. code-as d line l r l′ x m (stated.wrong-count (c .0) (c .1 .0) (c .1 .1 .0) (c .1 .1 .1)))
 
 pub short-line-is-8 : line.ShortLineIs8
-short-line-is-8 d line l r l′ x m = (case-of d line l r l′ x m, λ c. said-as d line l r l′ x m (stated.too-short c))
+short-line-is-8 d line l r l′ x m = (case-of d line l r l′ x m, λ c. code-as d line l r l′ x m (stated.too-short c))
 
 pub early-is-11 : line.EarlyIs11
-early-is-11 d line l r l′ x m = (case-of d line l r l′ x m, λ c. said-as d line l r l′ x m (stated.too-early (c .0) (c .1 .0) (c .1 .1)))
+early-is-11 d line l r l′ x m = (case-of d line l r l′ x m, λ c. code-as d line l r l′ x m (stated.too-early (c .0) (c .1 .0) (c .1 .1)))
 
 pub repeated-is-12 : line.RepeatedIs12
 repeated-is-12 d line l r l′ x m = (
   case-of d line l r l′ x m,
-  λ c. said-as d line l r l′ x m (stated.again (c .0) (c .1 .0 .formed) (c .1 .0 .timely) (c .1 .1 .0) (c .1 .1 .1)),
+  λ c. code-as d line l r l′ x m (stated.again (c .0) (c .1 .0 .formed) (c .1 .0 .timely) (c .1 .1 .0) (c .1 .1 .1)),
 )
 
 pub missing-is-13 : line.MissingIs13
@@ -149,12 +149,12 @@ pub outstanding-is-13 : line.OutstandingIs13
 outstanding-is-13 d line l r l′ x m k = (
   λ e. outstanding d l line k (line-refuses-as-stated d line l r l′ x m (13 ∷ k ∷ []) .0 e) refl,
   λ c.
-      said-as d line l r l′ x m (stated.forms-missing end (c .0) refl refl (lt-ltb 0 (missing (d .n) (d .sets)) (c .1)))
+      code-as d line l r l′ x m (stated.forms-missing end (c .0) refl refl (lt-ltb 0 (missing (d .n) (d .sets)) (c .1)))
       ∙ ap (λ (j : ℕ). 13 ∷ j ∷ []) (sym (c .2)),
 )
 
 pub after-end-is-14 : line.AfterEndIs14
-after-end-is-14 d line l r l′ x m = (case-of d line l r l′ x m, λ c. said-as d line l r l′ x m (stated.after-end (c .0) (c .1)))
+after-end-is-14 d line l r l′ x m = (case-of d line l r l′ x m, λ c. code-as d line l r l′ x m (stated.after-end (c .0) (c .1)))
 
 pub line-ordered : line.LineOrdered
 line-ordered c = refl

@@ -2,11 +2,11 @@
 use mathlib.Core.Path.{_≡_, refl, sym, subst, _∙_}
 use Prim.Native.Nat.{suc, _-_}
 use native.Mathlib.Omega.{arith}
-use Rattle.form.specs.Form.{end}
-use Rattle.form.specs.Spelling.{spell}
-use Rattle.form.proofs.Spelling.{read-spelled}
-use Rattle.lent_lists.specs.Lists.{Lists}
-use Rattle.lent_lists.proofs.Lists.{lists-≡}
+use Rattle.line_form.specs.Form.{end}
+use Rattle.line_form.specs.Spelling.{spell}
+use Rattle.line_form.proofs.Spelling.{read-spelled}
+use Rattle.loader_lists.specs.Lists.{Lists}
+use Rattle.loader_lists.proofs.Lists.{lists-≡}
 use Rattle.loader.proofs.Ended.{EndFills, end-fills}
 use Rattle.listing.proofs.LeftOut.{without-weights}
 use Rattle.promises.specs.Paper01 as paper

@@ -1,12 +1,12 @@
 -- The theorems for specs/Paper03, a theorem for each statement.
 use mathlib.Core.Path.{refl, sym, subst, _∙_}
 use Rattle.rules.specs.Range.{inRange, rangeOf, ranges}
-use Rattle.observation.specs.Distinct.{weightAt, gain}
-use Rattle.observation.specs.Stated.{BuildStated}
-use Rattle.observation.proofs.Statements.{stated, said-of}
-use Rattle.built.specs.BuiltAs.{shortFor}
-use Rattle.built.proofs.Held.{held, right-held, repeated-built}
-use Rattle.built.proofs.Diagonal.{diagonal-held}
+use Rattle.build_lines.specs.Distinct.{weightAt, gain}
+use Rattle.build_lines.specs.Stated.{BuildStated}
+use Rattle.build_lines.proofs.Statements.{stated, code-of}
+use Rattle.build.specs.BuiltAs.{shortFor}
+use Rattle.build.proofs.Held.{held, right-held, repeated-built}
+use Rattle.build.proofs.Diagonal.{diagonal-held}
 use Rattle.promises.specs.Paper03 as paper
 use Rattle.promises.specs.Ways.{Refused}
 use Rattle.promises.proofs.Ways.{refused-old}
@@ -32,7 +32,7 @@ repeat-changes-nothing n l xs ys layout a b r s a′ b′ a″ b″ x e i few y 
 pub build-refuses-as-stated : paper.BuildRefusesAsStated
 build-refuses-as-stated n ls layout a b r a′ b′ x w =
     let short = shortFor layout a b in
-    (λ e. subst (BuildStated n ls short) (sym (x .says) ∙ e) (stated n ls short), λ y. x .says ∙ said-of n ls short y)
+    (λ e. subst (BuildStated n ls short) (sym (x .says) ∙ e) (stated n ls short), λ y. x .says ∙ code-of n ls short y)
 
 pub refused-build-leaves : paper.RefusedBuildLeaves
 refused-build-leaves n ls layout a b r a′ b′ x h =

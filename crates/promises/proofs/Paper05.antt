@@ -8,9 +8,9 @@ use native.Mathlib.Omega.{arith}
 use borrow.Author.Tests.{ltb-true, lt-ltb}
 use lib.Dec.{ltb}
 use Rattle.rules.specs.Range.{inRange, rangeOf, ranges}
-use Rattle.form.specs.Spelling.{spell}
-use Rattle.form.proofs.Rights.{right-unread}
-use Rattle.form.proofs.Spelling.{read-spelled}
+use Rattle.line_form.specs.Spelling.{spell}
+use Rattle.line_form.proofs.Rights.{right-unread}
+use Rattle.line_form.proofs.Spelling.{read-spelled}
 use Rattle.enclosure.specs.Reckoning.{rowSum, exceeds}
 use Rattle.promises.specs.Paper05 as paper
 use Rattle.promises.proofs.Demands.{accepted-encloses}
@@ -28,8 +28,8 @@ other-right-is-no-form i a others h f e =
     let z : _≡_ {A = ℕ} 0 1 = cc in
     omega (arith, z)
 
-either : (a b c d : ℕ) → ltb a b || ltb c d ≡ true → (a < b) ⊎ (c < d)
-either a b c d e = go (ltb a b) refl
+either-below : (a b c d : ℕ) → ltb a b || ltb c d ≡ true → (a < b) ⊎ (c < d)
+either-below a b c d e = go (ltb a b) refl
   where
     go : (t : Bool) → ltb a b ≡ t → (a < b) ⊎ (c < d)
     go true p = inl (ltb-true a b p)
@@ -45,7 +45,7 @@ one-of a b c d (inr p) = go (ltb a b)
 
 pub residual-with-slack : paper.ResidualWithSlack
 unfolding exceeds rowSum
-residual-with-slack P k = (either _ _ _ _, one-of _ _ _ _)
+residual-with-slack P k = (either-below _ _ _ _, one-of _ _ _ _)
 
 pub columns-without-slack : paper.ColumnsWithoutSlack
 columns-without-slack P j k = omega arith

@@ -1,8 +1,8 @@
 -- The theorems for specs/Paper06, a theorem for each statement.
 use mathlib.Core.Path.{sym, ap, _∙_}
-use Rattle.form.proofs.Spelling.{spelled-read, read-spelled}
-use Rattle.form.specs.Reading.{reading}
-use Rattle.line_runs.proofs.Changed.{made-changes, becomes-12}
+use Rattle.line_form.proofs.Spelling.{spelled-read, read-spelled}
+use Rattle.line_form.specs.Reading.{reading}
+use Rattle.loader_runs.proofs.Changed.{made-changes, becomes-12}
 use Rattle.promises.specs.Paper06 as paper
 
 pub answers-changed : paper.AnswersChanged

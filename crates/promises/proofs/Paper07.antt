@@ -6,15 +6,15 @@ use Rattle.integer.specs.Finite.{largest}
 use Rattle.linear.proofs.Written.{front-at}
 use Rattle.rules.specs.Range.{inRange, rangeOf, ranges}
 use Rattle.enclosure.specs.Reckoning.{defect, load}
-use Rattle.weight_sequence.specs.Promised.{SearchStated}
-use Rattle.weight_sequence.specs.Request.{searchProblem}
-use Rattle.weight_sequence.specs.Search.{passed, weightsAfter}
-use Rattle.weight_sequence.specs.Sequence.{loads, shift, tried}
-use Rattle.weight_sequence.proofs.Bits.{bits-fit, bits-fewest}
-use Rattle.weight_sequence.proofs.Contract.{fit-of}
-use Rattle.weight_sequence.proofs.First.{good-margins, margins-good}
-use Rattle.weight_sequence.proofs.Lists.{tried-first, tried-next}
-use Rattle.weight_sequence.proofs.Promises.{search-stated, said-search, found-usable, count-first, none-exactly, larger-allowance}
+use Rattle.weights_spec.specs.Promised.{SearchStated}
+use Rattle.weights_spec.specs.Request.{searchProblem}
+use Rattle.weights_spec.specs.Search.{passed, weightsAfter}
+use Rattle.weights_spec.specs.Sequence.{loads, shift, tried}
+use Rattle.weights_spec.proofs.Bits.{bits-fit, bits-fewest}
+use Rattle.weights_spec.proofs.Contract.{fit-request}
+use Rattle.weights_spec.proofs.First.{good-margins, margins-good}
+use Rattle.weights_spec.proofs.Lists.{tried-first, tried-next}
+use Rattle.weights_spec.proofs.Promises.{search-stated, code-search, found-usable, count-first, none-exactly, larger-allowance}
 use Rattle.promises.specs.Paper07 as paper
 use Rattle.promises.specs.Ways.{Refused}
 use Rattle.promises.proofs.Ways.{refused-old}
@@ -41,7 +41,7 @@ reports-place Q r weights x e =
     let z = sym (x .says) ∙ e in
     let u = found-usable Q z in (
       count-first Q r weights x e,
-      λ i l. rw (x .weights-are, z) (front-at (Q .weights) (λ (i : ℕ). pos (tried (searchProblem Q) (passed Q) i)) (pos 0) (Q .n) i l (fit-of Q (u .long) (u .inside) .long)),
+      λ i l. rw (x .weights-are, z) (front-at (Q .weights) (λ (i : ℕ). pos (tried (searchProblem Q) (passed Q) i)) (pos 0) (Q .n) i l (fit-request Q (u .long) (u .inside) .long)),
     )
 
 pub returns-margins : paper.ReturnsMargins
@@ -51,7 +51,7 @@ pub larger-allowance-same : paper.LargerAllowance
 larger-allowance-same = larger-allowance
 
 pub search-refuses-as-stated : paper.SearchRefusesAsStated
-search-refuses-as-stated Q r weights x w = (λ e. subst (SearchStated Q) (sym (x .says) ∙ e) (search-stated Q), λ y. x .says ∙ said-search Q y)
+search-refuses-as-stated Q r weights x w = (λ e. subst (SearchStated Q) (sym (x .says) ∙ e) (search-stated Q), λ y. x .says ∙ code-search Q y)
 
 pub none-good-is-18 : paper.NoneGoodIs18
 none-good-is-18 Q r weights x = none-exactly Q r weights x

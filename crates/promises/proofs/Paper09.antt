@@ -3,9 +3,9 @@ use borrow.Author.Tests.{ltb-false}
 use Rattle.enclosure.specs.Problem.{columnOf}
 use Rattle.enclosure.specs.Reckoning.{rowSum}
 use Rattle.enclosure.proofs.Tighter.{near-meets, near-column-meets}
-use Rattle.checked.proofs.Answers01.{cases-01, cases-05}
-use Rattle.checked.proofs.Table.{cases-hold}
-use Rattle.checked.proofs.Tightened.{still-true}
+use Rattle.check_spec.proofs.Answers01.{cases-01, cases-05}
+use Rattle.check_spec.proofs.Table.{check-cases-hold}
+use Rattle.check_spec.proofs.Tightened.{still-true}
 use Rattle.promises.specs.Paper09 as paper
 use Rattle.promises.proofs.Ways.{accepted-sound}
 use Rattle.promises.proofs.Document01.{within}
@@ -23,7 +23,7 @@ unfolding rowSum
 near-column-meets-sum P H q x j lj h k l = ltb-false _ _ (near-column-meets P H q x j lj h k l)
 
 pub cases-become : paper.CasesBecome
-cases-become = (cases-hold, cases-01, cases-05)
+cases-become = (check-cases-hold, cases-01, cases-05)
 
 pub old-limits-true : paper.OldLimitsTrue
 old-limits-true = still-true

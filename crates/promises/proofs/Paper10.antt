@@ -4,10 +4,10 @@ use Prim.Native.Nat.{_+_, _-_, _*_, _/_, _<_}
 use native.Mathlib.Omega.{arith}
 use borrow.Author.Tests.{lt-ltb, le-ltb}
 use Rattle.linear.specs.Slice.{at}
-use Rattle.lower_half.specs.Half.{halfPlace}
-use Rattle.lower_half.proofs.Filling.{filled-at}
-use Rattle.lower_half.proofs.Places.{place-swap, place-from-one}
-use Rattle.built.proofs.Halves.{half-is-square, same-refusals}
+use Rattle.half_fill.specs.Half.{halfPlace}
+use Rattle.half_fill.proofs.Filling.{filled-at}
+use Rattle.half_fill.proofs.Places.{place-swap, place-from-one}
+use Rattle.build.proofs.Halves.{half-is-square, same-refusals}
 use Rattle.promises.specs.Paper10 as paper
 
 pub filled-out-is : paper.FilledOutIs

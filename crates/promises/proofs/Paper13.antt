@@ -2,12 +2,12 @@
 use mathlib.Core.Path.{sym, subst, _∙_}
 use lib.IntN.{pos}
 use Rattle.linear.proofs.Written.{front-at}
-use Rattle.common.specs.Answer.{lowAfter, highAfter}
-use Rattle.common.specs.Ends.{lowEnd, highEnd}
-use Rattle.common.specs.Stated.{CommonStated}
-use Rattle.common.proofs.Contract.{long-low, long-high}
-use Rattle.common.proofs.Exchanged.{own-ends}
-use Rattle.common.proofs.Statements.{stated, said-of, found-case}
+use Rattle.common_spec.specs.Answer.{lowAfter, highAfter}
+use Rattle.common_spec.specs.Ends.{lowEnd, highEnd}
+use Rattle.common_spec.specs.Stated.{CommonStated}
+use Rattle.common_spec.proofs.Contract.{long-low, long-high}
+use Rattle.common_spec.proofs.Exchanged.{own-ends}
+use Rattle.common_spec.proofs.Statements.{stated, code-of, found-case}
 use Rattle.promises.specs.Paper13 as paper
 use Rattle.promises.specs.Ways.{Refused}
 use Rattle.promises.proofs.Ways.{refused-old}
@@ -28,7 +28,7 @@ pub common-ordered : paper.CommonOrdered
 common-ordered Q r low high x e = x .contains e .ordered
 
 pub common-refuses-as-stated : paper.CommonRefusesAsStated
-common-refuses-as-stated Q r low high x w = (λ e. subst (CommonStated Q) (sym (x .says) ∙ e) (stated Q), λ y. x .says ∙ said-of Q y)
+common-refuses-as-stated Q r low high x w = (λ e. subst (CommonStated Q) (sym (x .says) ∙ e) (stated Q), λ y. x .says ∙ code-of Q y)
 
 pub refused-common-leaves : paper.RefusedCommonLeaves
 unfolding lowAfter highAfter

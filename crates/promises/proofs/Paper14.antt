@@ -1,10 +1,10 @@
 -- The theorems for specs/Paper14, a theorem for each statement.
 use mathlib.Core.Path.{refl, sym, subst, _∙_}
 use lib.ListN.{length}
-use Rattle.old_edition.specs.File.{oldForms}
-use Rattle.old_edition.specs.Stated.{ConvertStated}
-use Rattle.old_edition.proofs.Promises.{old-desk, equal-checks, same-again, again, alike}
-use Rattle.old_edition.proofs.Stated.{convert-stated, stated-said}
+use Rattle.convert_spec.specs.File.{oldForms}
+use Rattle.convert_spec.specs.Stated.{ConvertStated}
+use Rattle.convert_spec.proofs.Promises.{old-desk, equal-checks, same-again, again, alike}
+use Rattle.convert_spec.proofs.Stated.{convert-stated, stated-code}
 use Rattle.promises.specs.Paper14 as paper
 use Rattle.promises.specs.Ways.{Refused}
 use Rattle.promises.proofs.Ways.{refused-old}
@@ -34,7 +34,7 @@ equal-numbers-equal-bytes file other old new old′ new′ r r′ x e c z same f
 
 pub convert-refuses-as-stated : paper.ConvertRefusesAsStated
 convert-refuses-as-stated file old new r x w =
-    (λ e. subst (ConvertStated file (length old)) (sym (x .says) ∙ e) (convert-stated file (length old)), λ y. x .says ∙ stated-said file (length old) y)
+    (λ e. subst (ConvertStated file (length old)) (sym (x .says) ∙ e) (convert-stated file (length old)), λ y. x .says ∙ stated-code file (length old) y)
 
 pub refused-conversion-leaves : paper.RefusedConversionLeaves
 refused-conversion-leaves file old new r x h =

@@ -16,48 +16,48 @@ use lib.Dec.{eqb}
 use lib.IntN.{ℤ, pos, natAbs}
 use lib.ListN.{getD, length}
 use lib.Seq.{sets}
-use Rattle.rules.specs.Refusal.{said}
-use Rattle.form.specs.Form.{Form}
-use Rattle.form.specs.Spelling.{spell}
-use Rattle.form.proofs.Spelling.{read-spelled}
-use Rattle.form_values.specs.Item.{itemOf, partIndex}
-use Rattle.form_values.specs.declared.Item.{Item}
-use Rattle.form_values.specs.declared.Item.the-variants.{Problem, Scale, Of, End}
-use Rattle.form_values.specs.declared.Part.{Part}
-use Rattle.form_values.specs.declared.Part.the-variants as part
-use Rattle.form_values.proofs.Capped.{part-same}
-use Rattle.lent_list.specs.Filled.{filled}
-use Rattle.lent_list.proofs.Filled.{filled-given, filled-past}
-use Rattle.lent_lists.specs.Lists.{Lists}
-use Rattle.lent_lists.specs.ListOf.{listOf}
-use Rattle.lent_lists.specs.Put.{put}
-use Rattle.lent_lists.specs.Slot.{Slot, Matrix, Right, Tolerance, Guess, Inverse, Weight, partOf, width, valuesFor}
-use Rattle.given_forms.specs.Progress.{given, setOf}
+use Rattle.rules.specs.Refusal.{code}
+use Rattle.line_form.specs.Form.{Form}
+use Rattle.line_form.specs.Spelling.{spell}
+use Rattle.line_form.proofs.Spelling.{read-spelled}
+use Rattle.loader_values.specs.Item.{itemOf, partIndex}
+use Rattle.loader_values.specs.declared.Item.{Item}
+use Rattle.loader_values.specs.declared.Item.the-variants.{Problem, Scale, Of, End}
+use Rattle.loader_values.specs.declared.Part.{Part}
+use Rattle.loader_values.specs.declared.Part.the-variants as part
+use Rattle.loader_values.proofs.Capped.{part-same}
+use Rattle.loader_lists.specs.Filled.{filled}
+use Rattle.loader_lists.proofs.Filled.{filled-given, filled-past}
+use Rattle.loader_lists.specs.Lists.{Lists}
+use Rattle.loader_lists.specs.ListOf.{listOf}
+use Rattle.loader_lists.specs.Put.{put}
+use Rattle.loader_lists.specs.Slot.{Slot, Matrix, Right, Tolerance, Guess, Inverse, Weight, partOf, width, valuesFor}
+use Rattle.loader_progress.specs.Progress.{given, setOf}
 use Rattle.loader.specs.Answer.{lineAnswer}
 use Rattle.loader.specs.Taken.{TakenAs, after, listsWith}
 use Rattle.loader.specs.declared.Loader.{Loader}
 use Rattle.loader.specs.declared.Taken.{Taken}
-use Rattle.loader.proofs.Accepted.{Accepted, accepted-form}
-use Rattle.line_runs.specs.Holds.{HoldsItem, HoldsPart}
-use Rattle.line_runs.specs.Run.{State, step}
-use Rattle.line_runs.specs.Accepts.{run, Accepts, Made}
-use Rattle.line_runs.proofs.Cells.{sets-before, sets-after}
-use Rattle.line_runs.proofs.Collected as collected
-use Rattle.line_runs.proofs.Sound.{made-sound}
-use Rattle.line_runs.proofs.View.{View, a-problem, a-scale, a-part, an-end, view}
+use Rattle.loader.proofs.Accepted.{AcceptedLine, accepted-form}
+use Rattle.loader_runs.specs.Holds.{HoldsItem, HoldsPart}
+use Rattle.loader_runs.specs.Run.{State, step}
+use Rattle.loader_runs.specs.Accepts.{run, Accepts, Made}
+use Rattle.loader_runs.proofs.Cells.{sets-before, sets-after}
+use Rattle.loader_runs.proofs.Collected as collected
+use Rattle.loader_runs.proofs.Sound.{made-sound}
+use Rattle.loader_runs.proofs.View.{View, a-problem, a-scale, a-part, an-end, view}
 use Rattle.promises.specs.Lines01.{Own, of-form, of-end, TakenAll, none, next}
 
 -- ---- an accepted line is its form
 pub record Took (d : Loader) (f : Form) (l l′ : Lists) : Type 0 where
-  pub accepted : Accepted d l (spell f) f
+  pub accepted : AcceptedLine d l (spell f) f
   pub lists : l′ ≡ listsWith d f l
 
-pub took : (d : Loader) (f : Form) (l : Lists) (r : Taken) (l′ : Lists) → TakenAs d (spell f) l r l′ → said (r .outcome) ≡ [] → Took d f l l′
+pub took : (d : Loader) (f : Form) (l : Lists) (r : Taken) (l′ : Lists) → TakenAs d (spell f) l r l′ → code (r .outcome) ≡ [] → Took d f l l′
 took d f l r l′ x e =
     let a = accepted-form d l (spell f) (sym (x .says) ∙ e) in
     let read : some (a .0) ≡ some f = sym (a .1 .reads) ∙ read-spelled f in
     let same : a .0 ≡ f = cc in
-    let b : Accepted d l (spell f) f = subst (λ (g : Form). Accepted d l (spell f) g) same (a .1) in
+    let b : AcceptedLine d l (spell f) f = subst (λ (g : Form). AcceptedLine d l (spell f) g) same (a .1) in
     record { accepted = b; lists = x .lists ∙ b .lists }
 
 -- ---- the lists after a form
@@ -110,10 +110,10 @@ pub own-places : (d : Loader) (f : Form) (l l′ : Lists) → Took d f l l′ �
     getD (listOf s l′) ((natAbs i - 1) * width s (d .n) + j) (pos 0) ≡ getD (valuesFor s f) j (pos 0)
 own-places d f l l′ t m s i e j h =
     let u : State = record { loader = d; lists = l } in
-    let same : collected.next u f .loader .n ≡ d .n = ap (λ (x : Item). after d x .n) e in
+    let same : collected.nextState u f .loader .n ≡ d .n = ap (λ (x : Item). after d x .n) e in
     let own = collected.holds-own u (made-sound m) f (t .accepted .fine) (t .accepted .long) in
-    let part : HoldsPart (partOf s) i (λ (k : Slot). valuesFor k f) (collected.next u f) =
-    subst (λ (x : Item). HoldsItem x (λ (k : Slot). valuesFor k f) (collected.next u f)) e own in
+    let part : HoldsPart (partOf s) i (λ (k : Slot). valuesFor k f) (collected.nextState u f) =
+    subst (λ (x : Item). HoldsItem x (λ (k : Slot). valuesFor k f) (collected.nextState u f)) e own in
     ap (λ (k : Lists). getD (listOf s k) ((natAbs i - 1) * width s (d .n) + j) (pos 0)) (t .lists) ∙ (rw same at (part .cells s refl j (rw same h)))
 
 -- ---- all other places

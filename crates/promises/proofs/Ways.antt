@@ -8,17 +8,17 @@ use mathlib.Core.Path.{_≡_, refl, sym, _∙_}
 use Prim.Native.Nat.{ℕ}
 use lib.ListN.{length}
 use Rattle.rules.specs.Order.{ifAccepted}
-use Rattle.rules.specs.Refusal.{said}
+use Rattle.rules.specs.Refusal.{code}
 use Rattle.rules.specs.declared.Outcome.{Outcome}
 use Rattle.rules.proofs.Verdicts.{nothing-is-not}
 use Rattle.enclosure.specs.Sound.{Sound}
 use Rattle.enclosure.specs.Problem.{Problem}
-use Rattle.checked.specs.Input.{Input, problem}
-use Rattle.checked.specs.Checked.{Checked}
-use Rattle.checked.proofs.Contract.{answer-ready, said-sound}
-use Rattle.checked.proofs.Statements.{accepted-usable}
-use Rattle.lower_half.specs.Half.{shortHalf}
-use Rattle.half.specs.Checked.{filledInput, CheckedHalf}
+use Rattle.check_spec.specs.Input.{Input, problem}
+use Rattle.check_spec.specs.Checked.{Checked}
+use Rattle.check_spec.proofs.Contract.{answer-ready, code-sound}
+use Rattle.check_spec.proofs.Statements.{accepted-usable}
+use Rattle.half_fill.specs.Half.{shortHalf}
+use Rattle.half_check.specs.Checked.{filledInput, CheckedHalf}
 use Rattle.loader_order.proofs.Through.{through-lists}
 use Rattle.listing.proofs.Demand.{accepted-parts}
 use Rattle.listing.proofs.Meaning.{answered-none, listed-none}
@@ -28,10 +28,10 @@ pub refused-old : {A : Type 0} (w : List ℕ) (new old : A) → Refused w → if
 refused-old [] new old h = absurd (h refl)
 refused-old (k ∷ ks) new old h = refl
 
-sound : (I : Input) (r : Outcome) (E L : List ℕ) → Checked I r E L → said r ≡ [] → Sound (problem I)
-sound I r E L x e = let u = accepted-usable I (sym (x .says) ∙ e) in said-sound (problem I) (sym (answer-ready I (u .long) (u .inside)) ∙ sym (x .says) ∙ e)
+sound : (I : Input) (r : Outcome) (E L : List ℕ) → Checked I r E L → code r ≡ [] → Sound (problem I)
+sound I r E L x e = let u = accepted-usable I (sym (x .says) ∙ e) in code-sound (problem I) (sym (answer-ready I (u .long) (u .inside)) ∙ sym (x .says) ∙ e)
 
-pub half-lists : (H : Input) (r : Outcome) (E L : List ℕ) → CheckedHalf H r E L → said r ≡ [] → Checked (filledInput H) r E L
+pub half-lists : (H : Input) (r : Outcome) (E L : List ℕ) → CheckedHalf H r E L → code r ≡ [] → Checked (filledInput H) r E L
 half-lists H r E L x e = go (shortHalf (length (H .matrix))) refl
   where
     go : (b : Bool) → shortHalf (length (H .matrix)) ≡ b → Checked (filledInput H) r E L
@@ -42,5 +42,5 @@ pub accepted-sound : (P : Problem) (E : ℕ → ℕ) (L : ℕ → ℕ → ℕ) �
 accepted-sound P E L (on-lists I r E′ L′ x e) = sound I r E′ L′ x e
 accepted-sound P E L (through-loader s I r E′ L′ x e) = sound I r E′ L′ (through-lists s I x e) e
 accepted-sound P E L (by-half H r E′ L′ x e) = sound (filledInput H) r E′ L′ (half-lists H r E′ L′ x e) e
-accepted-sound P E L (of-file file old new r x z) = said-sound P (accepted-parts file (answered-none x z) .quiet)
-accepted-sound P E L (of-listing file old new count x b) = said-sound P (accepted-parts file (listed-none x b) .quiet)
+accepted-sound P E L (of-file file old new r x z) = code-sound P (accepted-parts file (answered-none x z) .quiet)
+accepted-sound P E L (of-listing file old new count x b) = code-sound P (accepted-parts file (listed-none x b) .quiet)

@@ -7,25 +7,25 @@ use lib.IntN.{ℤ}
 use lib.ListN.{take}
 use Rattle.integer.specs.Among.{Among}
 use Rattle.linear.specs.Matrix.{Vec}
-use Rattle.form.specs.Form.{Form}
+use Rattle.line_form.specs.Form.{Form}
 use Rattle.enclosure.specs.Demand.{NoTolerance, ExactSolution}
 use Rattle.enclosure.specs.Problem.{Problem, problemOf}
 use Rattle.enclosure.specs.Quality.{Factor, NeverFar}
 use Rattle.good_limits.specs.Good.{Good}
-use Rattle.limit_factor.specs.Answer.{saidQuality, numeratorOf, denominatorOf, QualityAs}
-use Rattle.limit_factor.specs.Inquiry.{Inquiry}
-use Rattle.limit_factor.specs.declared.Quality.{Quality}
-use Rattle.dependent.specs.Nets.{Nets}
-use Rattle.dependent.specs.Order.{saidNets}
-use Rattle.dependent.specs.Together.{CheckedTogether}
-use Rattle.dependent.specs.declared.CheckedNets.{CheckedNets}
+use Rattle.quality_spec.specs.Answer.{qualityCode, numeratorOf, denominatorOf, QualityAs}
+use Rattle.quality_spec.specs.Inquiry.{Inquiry}
+use Rattle.quality_spec.specs.declared.Quality.{Quality}
+use Rattle.dependent_spec.specs.Nets.{Nets}
+use Rattle.dependent_spec.specs.Order.{netsCode}
+use Rattle.dependent_spec.specs.Together.{CheckedTogether}
+use Rattle.dependent_spec.specs.declared.CheckedNets.{CheckedNets}
 use Rattle.accepted_limits.specs.TwoNets.{GoodNets}
-use Rattle.line_runs.specs.Holds.{ReckoningSays}
-use Rattle.line_runs.specs.Lines.{linesOf}
-use Rattle.line_runs.specs.Run.{forms}
+use Rattle.loader_runs.specs.Holds.{ComputedSays}
+use Rattle.loader_runs.specs.Lines.{linesOf}
+use Rattle.loader_runs.specs.Run.{forms}
 use Rattle.file_shape.specs.Shape.{Shaped}
-use Rattle.refusal.specs.Reply.{replyOf}
-use Rattle.refusal.specs.declared.FileAnswer.{FileAnswer}
+use Rattle.listing_refusal.specs.Reply.{replyOf}
+use Rattle.listing_refusal.specs.declared.FileAnswer.{FileAnswer}
 use Rattle.listing.specs.Listing.{ListedAs, AnsweredAs}
 use Rattle.listing.specs.Complete.{Complete}
 use Rattle.promises.specs.Ways.{Accepted}
@@ -37,24 +37,24 @@ abbrev pub AcceptedGood : Type 0
 AcceptedGood = (P : Problem) (E : ℕ → ℕ) (L : ℕ → ℕ → ℕ) → Accepted P E L → Good P E L
 
 abbrev pub BothAcceptedGood : Type 0
-BothAcceptedGood = (J : Nets) (r : CheckedNets) (E₁ L₁ E₂ L₂ : List ℕ) → CheckedTogether J r E₁ L₁ E₂ L₂ → saidNets r ≡ [] → GoodNets J E₁ L₁ E₂ L₂
+BothAcceptedGood = (J : Nets) (r : CheckedNets) (E₁ L₁ E₂ L₂ : List ℕ) → CheckedTogether J r E₁ L₁ E₂ L₂ → netsCode r ≡ [] → GoodNets J E₁ L₁ E₂ L₂
 
 -- the call for the factor: with numerator over denominator no limit of an accepted check of these numbers is far above a true error of b, and no smaller factor is one
 abbrev pub FactorServes : Type 0
 FactorServes =
-    (Q : Inquiry) (r : Quality) → QualityAs Q r → saidQuality r ≡ [] → (s : ℕ) (right tolerance guess : List ℤ) →
+    (Q : Inquiry) (r : Quality) → QualityAs Q r → qualityCode r ≡ [] → (s : ℕ) (right tolerance guess : List ℤ) →
     let P = problemOf (Q .n) s (Q .t) (Q .matrix) right tolerance guess (Q .inverse) (Q .weights) in
     (E : ℕ → ℕ) (L : ℕ → ℕ → ℕ) → Accepted P E L → NoTolerance P → (N : Vec) (q : ℕ) → ExactSolution P N q → NeverFar P (numeratorOf r) (denominatorOf r) E N q
 
 abbrev pub FactorLeast : Type 0
 FactorLeast =
-    (Q : Inquiry) (r : Quality) → QualityAs Q r → saidQuality r ≡ [] → (s : ℕ) (right tolerance guess : List ℤ) (a c : ℕ) →
+    (Q : Inquiry) (r : Quality) → QualityAs Q r → qualityCode r ≡ [] → (s : ℕ) (right tolerance guess : List ℤ) (a c : ℕ) →
     Factor (problemOf (Q .n) s (Q .t) (Q .matrix) right tolerance guess (Q .inverse) (Q .weights)) a c → numeratorOf r * c ≤ a * denominatorOf r
 
 -- ---- Whole files
 -- a file of 01's shape is accepted or refused with 5, 6 or 7, and with nothing else: never "missing" or "not ended" for a complete file
 abbrev pub ShapedAnswers : Type 0
-ShapedAnswers = (file old new : List ℕ) (r : FileAnswer) → AnsweredAs file old new r → Shaped file → (w : List ℕ) × (ReckoningSays w × (r .reply ≡ replyOf w))
+ShapedAnswers = (file old new : List ℕ) (r : FileAnswer) → AnsweredAs file old new r → Shaped file → (w : List ℕ) × (ComputedSays w × (r .reply ≡ replyOf w))
 
 -- "the rest in any order": complete files with the same forms, in whatever order, have the same listing
 abbrev pub AnyOrderSame : Type 0

@@ -8,30 +8,31 @@ use lib.IntN.{pos}
 use lib.ListN.{take}
 use Rattle.linear.specs.Matrix.{Vec, Mat}
 use Rattle.rules.specs.Range.{inRange}
-use Rattle.rules.specs.Refusal.{said}
+use Rattle.rules.specs.Refusal.{code}
 use Rattle.rules.specs.declared.Kind.the-variants.{Size}
 use Rattle.rules.specs.declared.Outcome.{Outcome}
 use Rattle.enclosure.specs.Problem.{Problem}
 use Rattle.enclosure.specs.Reckoning.{bound, inverseBound}
 use Rattle.enclosure.specs.Demand.{Encloses, RoundedExact}
-use Rattle.checked.specs.Input.{Input, problem, short, inRanges}
-use Rattle.checked.specs.Checked.{Checked}
-use Rattle.checked.specs.Stated.{Stated}
-use Rattle.half.specs.Checked.{CheckedHalf}
-use Rattle.half.specs.Stated.{HalfStated}
-use Rattle.given_forms.specs.Progress.{ended, sized}
-use Rattle.given_forms.specs.declared.Stage.{Stage}
+use Rattle.check_spec.specs.Input.{Input, problem, short, inRanges}
+use Rattle.check_spec.specs.Checked.{Checked}
+use Rattle.check_spec.specs.Stated.{Stated}
+use Rattle.half_check.specs.Checked.{CheckedHalf}
+use Rattle.half_check.specs.Stated.{HalfStated}
+use Rattle.loader_progress.specs.Progress.{ended, sized}
+use Rattle.loader_progress.specs.declared.Stage.{Stage}
 use Rattle.loader_order.specs.Through.{CheckedThrough}
-use Rattle.lent_lists.specs.Lists.{Lists}
+use Rattle.loader_lists.specs.Lists.{Lists}
 use Rattle.loader.specs.Taken.{TakenAs}
 use Rattle.loader.specs.declared.Loader.{Loader}
 use Rattle.loader.specs.declared.Taken.{Taken}
-use Rattle.line_runs.specs.Accepts.{Made}
-use Rattle.line_stated.specs.Stated.{OwnSize, LineStated, OtherStated}
-use Rattle.form.specs.Form.{bytes}
-use Rattle.report.specs.Report.{reportOf}
-use Rattle.refusal.specs.Reply.{replyOf}
-use Rattle.refusal.specs.declared.FileAnswer.{FileAnswer}
+use Rattle.loader_runs.specs.Accepts.{Made}
+use Rattle.loader_runs.specs.OwnSize.{OwnSize}
+use Rattle.loader_stated.specs.Stated.{LineStated, OtherStated}
+use Rattle.line_form.specs.Form.{bytes}
+use Rattle.listing_report.specs.Report.{reportOf}
+use Rattle.listing_refusal.specs.Reply.{replyOf}
+use Rattle.listing_refusal.specs.declared.FileAnswer.{FileAnswer}
 use Rattle.file_check.specs.Judged.{reportedOf, lineOr}
 use Rattle.file_stated.specs.Stated.{FileStated}
 use Rattle.listing.specs.Listing.{problemIn, ListedAs, AnsweredAs}
@@ -43,21 +44,21 @@ use Rattle.promises.specs.Ways.{Refused, Accepted, StatedThrough}
 -- "no refused call changes a bound, a list or the desk" (the desk is handed to a check by value, so that it cannot change it)
 abbrev pub RefusedCheckLeaves : Type 0
 RefusedCheckLeaves =
-    (I : Input) (r : Outcome) (E L : List ℕ) → Checked I r E L → Refused (said r) → (E ≡ I .solutionBounds) × (L ≡ I .inverseBounds)
+    (I : Input) (r : Outcome) (E L : List ℕ) → Checked I r E L → Refused (code r) → (E ≡ I .solutionBounds) × (L ≡ I .inverseBounds)
 
 abbrev pub RefusedThroughLeaves : Type 0
 RefusedThroughLeaves =
-    (s : Stage) (I : Input) (r : Outcome) (E L : List ℕ) → CheckedThrough s I r E L → Refused (said r) →
+    (s : Stage) (I : Input) (r : Outcome) (E L : List ℕ) → CheckedThrough s I r E L → Refused (code r) →
     (E ≡ I .solutionBounds) × (L ≡ I .inverseBounds)
 
 abbrev pub RefusedLineLeaves : Type 0
 RefusedLineLeaves =
-    (d : Loader) (line : List ℕ) (l : Lists) (r : Taken) (l′ : Lists) → TakenAs d line l r l′ → Refused (said (r .outcome)) →
+    (d : Loader) (line : List ℕ) (l : Lists) (r : Taken) (l′ : Lists) → TakenAs d line l r l′ → Refused (code (r .outcome)) →
     (r .loader ≡ d) × (l′ ≡ l)
 
 -- ---- Demand 2: "Each limit is the whole number that Schröder's theorem, in the reckoning of document 01, fixes for that place"
-abbrev pub LimitsReckoned : Type 0
-LimitsReckoned =
+abbrev pub LimitsComputed : Type 0
+LimitsComputed =
     (P : Problem) (E : ℕ → ℕ) (L : ℕ → ℕ → ℕ) → Accepted P E L →
     ((i : ℕ) → i < P .n → E i ≡ bound P i) × ((i j : ℕ) → i < P .n → j < P .n → L i j ≡ inverseBound P i j)
 
@@ -81,26 +82,26 @@ EqualListingsEqualLimits =
 
 -- "and each refusal comes in its stated case and in no other": on lists, through a loader, by half the matrix
 abbrev pub CheckRefusesAsStated : Type 0
-CheckRefusesAsStated = (I : Input) (r : Outcome) (E L : List ℕ) → Checked I r E L → (w : List ℕ) → (said r ≡ w) ↔ Stated I w
+CheckRefusesAsStated = (I : Input) (r : Outcome) (E L : List ℕ) → Checked I r E L → (w : List ℕ) → (code r ≡ w) ↔ Stated I w
 
 abbrev pub ThroughRefusesAsStated : Type 0
 ThroughRefusesAsStated =
-    (s : Stage) (I : Input) (r : Outcome) (E L : List ℕ) → CheckedThrough s I r E L → (w : List ℕ) → (said r ≡ w) ↔ StatedThrough s I w
+    (s : Stage) (I : Input) (r : Outcome) (E L : List ℕ) → CheckedThrough s I r E L → (w : List ℕ) → (code r ≡ w) ↔ StatedThrough s I w
 
 abbrev pub HalfRefusesAsStated : Type 0
-HalfRefusesAsStated = (H : Input) (r : Outcome) (E L : List ℕ) → CheckedHalf H r E L → (w : List ℕ) → (said r ≡ w) ↔ HalfStated H w
+HalfRefusesAsStated = (H : Input) (r : Outcome) (E L : List ℕ) → CheckedHalf H r E L → (w : List ℕ) → (code r ≡ w) ↔ HalfStated H w
 
 -- of a line, at every loader that `new` and `take` make, and at any other, made up by a caller
 abbrev pub LineRefusesAsStated : Type 0
 LineRefusesAsStated =
     (d : Loader) (line : List ℕ) (l : Lists) (r : Taken) (l′ : Lists) → TakenAs d line l r l′ → Made d →
-    (w : List ℕ) → (said (r .outcome) ≡ w) ↔ LineStated d l line w
+    (w : List ℕ) → (code (r .outcome) ≡ w) ↔ LineStated d l line w
 
 abbrev pub OtherLineRefusesAsStated : Type 0
 OtherLineRefusesAsStated =
     (d : Loader) (line : List ℕ) (l : Lists) (r : Taken) (l′ : Lists) → TakenAs d line l r l′ →
-    (OwnSize d → (w : List ℕ) → (said (r .outcome) ≡ w) ↔ LineStated d l line w)
-    × (sized (d .stage) ≡ true → inRange Size (pos (d .n)) ≡ false → (w : List ℕ) → (said (r .outcome) ≡ w) ↔ OtherStated d l line w)
+    (OwnSize d → (w : List ℕ) → (code (r .outcome) ≡ w) ↔ LineStated d l line w)
+    × (sized (d .stage) ≡ true → inRange Size (pos (d .n)) ≡ false → (w : List ℕ) → (code (r .outcome) ≡ w) ↔ OtherStated d l line w)
 
 -- of a file, in numbers and as the bytes of its listing
 abbrev pub FileRefusesAsStated : Type 0
@@ -121,12 +122,12 @@ AcceptedEncloses = (P : Problem) (E : ℕ → ℕ) (L : ℕ → ℕ → ℕ) →
 abbrev pub CheckAccepts : Type 0
 CheckAccepts =
     (I : Input) (r : Outcome) (E L : List ℕ) → Checked I r E L → short I ≡ false → inRanges I ≡ true →
-    (N : Vec) (q : ℕ) (H : Mat) (q′ : ℕ) → RoundedExact (problem I) N q H q′ → said r ≡ []
+    (N : Vec) (q : ℕ) (H : Mat) (q′ : ℕ) → RoundedExact (problem I) N q H q′ → code r ≡ []
 
 abbrev pub ThroughAccepts : Type 0
 ThroughAccepts =
     (s : Stage) (I : Input) (r : Outcome) (E L : List ℕ) → CheckedThrough s I r E L → short I ≡ false → ended s ≡ true → inRanges I ≡ true →
-    (N : Vec) (q : ℕ) (H : Mat) (q′ : ℕ) → RoundedExact (problem I) N q H q′ → said r ≡ []
+    (N : Vec) (q : ℕ) (H : Mat) (q′ : ℕ) → RoundedExact (problem I) N q H q′ → code r ≡ []
 
 abbrev pub FileAccepts : Type 0
 FileAccepts =

@@ -13,31 +13,31 @@ use Prim.Native.Nat.{ℕ, suc, _+_, _-_, _*_, _≤_, _<_}
 use lib.IntN.{ℤ, pos, natAbs}
 use lib.ListN.{getD, length}
 use Rattle.integer.specs.Finite.{sumℕ}
-use Rattle.rules.specs.Refusal.{said}
-use Rattle.form.specs.Form.{Form, end}
-use Rattle.form.specs.Spelling.{spell}
-use Rattle.form_values.specs.Item.{itemOf, placed, outside, miscounted}
-use Rattle.form_values.specs.declared.Item.the-variants.{Of, End}
-use Rattle.form_values.specs.declared.Part.{Part}
-use Rattle.form_values.specs.declared.Part.the-variants as part
-use Rattle.form_values.specs.declared.Part.the-variants.{Row, Right, Guess, Inverse}
-use Rattle.lent_lists.specs.Lists.{Lists, shortLists}
-use Rattle.lent_lists.specs.ListOf.{listOf}
-use Rattle.lent_lists.specs.Slot.{Slot, Weight, partOf, width, valuesFor}
-use Rattle.given_forms.specs.Progress.{missing, ended, early, repeated, given}
+use Rattle.rules.specs.Refusal.{code}
+use Rattle.line_form.specs.Form.{Form, end}
+use Rattle.line_form.specs.Spelling.{spell}
+use Rattle.loader_values.specs.Item.{itemOf, placed, outside, miscounted}
+use Rattle.loader_values.specs.declared.Item.the-variants.{Of, End}
+use Rattle.loader_values.specs.declared.Part.{Part}
+use Rattle.loader_values.specs.declared.Part.the-variants as part
+use Rattle.loader_values.specs.declared.Part.the-variants.{Row, Right, Guess, Inverse}
+use Rattle.loader_lists.specs.Lists.{Lists, shortLists}
+use Rattle.loader_lists.specs.ListOf.{listOf}
+use Rattle.loader_lists.specs.Slot.{Slot, Weight, partOf, width, valuesFor}
+use Rattle.loader_progress.specs.Progress.{missing, ended, early, repeated, given}
 use Rattle.loader_order.specs.Order.{LineCase, lineOrder}
 use Rattle.loader.specs.Taken.{TakenAs, fresh, after, listsWith}
 use Rattle.loader.specs.declared.Loader.{Loader}
 use Rattle.loader.specs.declared.Taken.{Taken}
-use Rattle.line_runs.specs.Run.{forms}
-use Rattle.line_runs.specs.Accepts.{Made}
+use Rattle.loader_runs.specs.Run.{forms}
+use Rattle.loader_runs.specs.Accepts.{Made}
 use Rattle.file_shape.specs.Given.{GivenBy}
-use Rattle.line_stated.specs.Stated.{Formed, Unrepeated}
-use Rattle.promises.specs.Ways.{numbersOf}
+use Rattle.loader_stated.specs.Stated.{Formed, Unrepeated}
+use Rattle.promises.specs.Ways.{testNumbers}
 
 abbrev pub RefusedExactly : List ℕ → (Loader → Lists → List ℕ → Type 0) → Type 0
 RefusedExactly w holds =
-    (d : Loader) (line : List ℕ) (l : Lists) (r : Taken) (l′ : Lists) → TakenAs d line l r l′ → Made d → (said (r .outcome) ≡ w) ↔ holds d l line
+    (d : Loader) (line : List ℕ) (l : Lists) (r : Taken) (l′ : Lists) → TakenAs d line l r l′ → Made d → (code (r .outcome) ≡ w) ↔ holds d l line
 
 pub record InTime (d : Loader) (l : Lists) (line : List ℕ) (f : Form) : Type 0 where
   pub formed : Formed d l line f
@@ -53,7 +53,7 @@ pub data Own (d : Loader) (f : Form) (s : Slot) (k : ℕ) : Type 0 where
 pub data TakenAll : Loader → Lists → List (List ℕ) → Loader → Lists → Type 0 where
   none : {d : Loader} {l : Lists} → TakenAll d l [] d l
   next : {d : Loader} {l : Lists} {line : List ℕ} {r : Taken} {l₁ : Lists} {lines : List (List ℕ)} {d′ : Loader} {l′ : Lists} →
-      TakenAs d line l r l₁ → said (r .outcome) ≡ [] → TakenAll (r .loader) l₁ lines d′ l′ → TakenAll d l (line ∷ lines) d′ l′
+      TakenAs d line l r l₁ → code (r .outcome) ≡ [] → TakenAll (r .loader) l₁ lines d′ l′ → TakenAll d l (line ∷ lines) d′ l′
 
 -- ---- Refused for what was handed in
 -- "1. A line above 320 bytes, its line feed not counted"
@@ -104,14 +104,14 @@ RepeatedIs12 =
 -- "13. End with forms outstanding; gives the count of forms still missing out of 5n"; 02, Paper 1: "The count of forms still missing is now out of 4n"
 abbrev pub MissingIs13 : Type 0
 MissingIs13 =
-    (d : Loader) (line : List ℕ) (l : Lists) (r : Taken) (l′ : Lists) → TakenAs d line l r l′ → (k : ℕ) → said (r .outcome) ≡ 13 ∷ k ∷ [] →
+    (d : Loader) (line : List ℕ) (l : Lists) (r : Taken) (l′ : Lists) → TakenAs d line l r l′ → (k : ℕ) → code (r .outcome) ≡ 13 ∷ k ∷ [] →
     let c = notGiven (d .n) (d .sets) in (k ≡ c Row + (c Right + (c Guess + c Inverse))) × (k ≤ 4 * d .n)
 
 -- and when it comes: an end, neither too early nor a second time, with forms outstanding
 abbrev pub OutstandingIs13 : Type 0
 OutstandingIs13 =
     (d : Loader) (line : List ℕ) (l : Lists) (r : Taken) (l′ : Lists) → TakenAs d line l r l′ → Made d → (k : ℕ) →
-    (said (r .outcome) ≡ 13 ∷ k ∷ []) ↔ (Unrepeated d l line end × (0 < missing (d .n) (d .sets)) × (k ≡ missing (d .n) (d .sets)))
+    (code (r .outcome) ≡ 13 ∷ k ∷ []) ↔ (Unrepeated d l line end × (0 < missing (d .n) (d .sets)) × (k ≡ missing (d .n) (d .sets)))
 
 -- "14. Any line after an accepted end"
 abbrev pub AfterEndIs14 : Type 0
@@ -119,24 +119,24 @@ AfterEndIs14 = RefusedExactly (14 ∷ []) (λ (d : Loader) (l : Lists) (line : L
 
 -- "Order for a line: 8, 14, 1, 2, 11, 3, 4, 12, 13"; 02, Paper 6: "8, 14, 1, 2, 11, 3 for i, 12, 3 for values, 4, 13"
 abbrev pub LineOrdered : Type 0
-LineOrdered = (c : LineCase) → numbersOf (lineOrder c) ≡ 8 ∷ 14 ∷ 1 ∷ 2 ∷ 11 ∷ 3 ∷ 12 ∷ 3 ∷ 4 ∷ 13 ∷ []
+LineOrdered = (c : LineCase) → testNumbers (lineOrder c) ≡ 8 ∷ 14 ∷ 1 ∷ 2 ∷ 11 ∷ 3 ∷ 12 ∷ 3 ∷ 4 ∷ 13 ∷ []
 
 -- "An accepted line puts n, or s and t, into the desk, or its form's other numbers at their own places in the lent lists" (`after`, `listsWith`)
 abbrev pub AcceptedLinePuts : Type 0
 AcceptedLinePuts =
-    (d : Loader) (line : List ℕ) (l : Lists) (r : Taken) (l′ : Lists) → TakenAs d line l r l′ → said (r .outcome) ≡ [] →
+    (d : Loader) (line : List ℕ) (l : Lists) (r : Taken) (l′ : Lists) → TakenAs d line l r l′ → code (r .outcome) ≡ [] →
     (f : Form) × ((line ≡ spell f) × ((r .loader ≡ after d (itemOf f)) × (l′ ≡ listsWith d f l)))
 
 -- its own numbers at their own places: number j of the form for i at (i − 1)·width + j (`width` is n for a row, else 1)
 abbrev pub AcceptedLineOwnPlaces : Type 0
 AcceptedLineOwnPlaces =
-    (d : Loader) (f : Form) (l : Lists) (r : Taken) (l′ : Lists) → TakenAs d (spell f) l r l′ → Made d → said (r .outcome) ≡ [] → (s : Slot) (i : ℤ) → itemOf f ≡ Of (partOf s) i →
+    (d : Loader) (f : Form) (l : Lists) (r : Taken) (l′ : Lists) → TakenAs d (spell f) l r l′ → Made d → code (r .outcome) ≡ [] → (s : Slot) (i : ℤ) → itemOf f ≡ Of (partOf s) i →
     (j : ℕ) → j < width s (d .n) → getD (listOf s l′) ((natAbs i - 1) * width s (d .n) + j) (pos 0) ≡ getD (valuesFor s f) j (pos 0)
 
 -- "and changes no other number in those lists"
 abbrev pub AcceptedLineChangesNoOther : Type 0
 AcceptedLineChangesNoOther =
-    (d : Loader) (f : Form) (l : Lists) (r : Taken) (l′ : Lists) → TakenAs d (spell f) l r l′ → said (r .outcome) ≡ [] → (s : Slot) (k : ℕ) → (Own d f s k → ⊥) →
+    (d : Loader) (f : Form) (l : Lists) (r : Taken) (l′ : Lists) → TakenAs d (spell f) l r l′ → code (r .outcome) ≡ [] → (s : Slot) (k : ℕ) → (Own d f s k → ⊥) →
     getD (listOf s l′) k (pos 0) ≡ getD (listOf s l) k (pos 0)
 
 -- what the desk holds as given are the forms of the lines that it took, on which 12 and the count of 13 rest (`GivenBy`)

@@ -6,17 +6,17 @@ use mathlib.Core.Path.{_≡_}
 use Prim.Native.Nat.{ℕ, suc, _≤_, _<_}
 use lib.IntN.{pos}
 use lib.ListN.{getD, take}
-use Rattle.rules.specs.Refusal.{said}
-use Rattle.form.specs.Form.{end}
-use Rattle.form.specs.Spelling.{spell}
-use Rattle.form_values.specs.declared.Part.the-variants.{Weight}
-use Rattle.lent_lists.specs.Lists.{Lists, lists}
-use Rattle.given_forms.specs.Progress.{given}
+use Rattle.rules.specs.Refusal.{code}
+use Rattle.line_form.specs.Form.{end}
+use Rattle.line_form.specs.Spelling.{spell}
+use Rattle.loader_values.specs.declared.Part.the-variants.{Weight}
+use Rattle.loader_lists.specs.Lists.{Lists, lists}
+use Rattle.loader_progress.specs.Progress.{given}
 use Rattle.loader.specs.Taken.{TakenAs}
 use Rattle.loader.specs.declared.Loader.{Loader}
 use Rattle.loader.specs.declared.Taken.{Taken}
-use Rattle.line_runs.specs.Lines.{linesOf}
-use Rattle.line_runs.specs.Run.{forms}
+use Rattle.loader_runs.specs.Lines.{linesOf}
+use Rattle.loader_runs.specs.Run.{forms}
 use Rattle.listing.specs.LeftOut.{OnlyOnes, NoWeights, SameOthers}
 use Rattle.listing.specs.Listing.{ListedAs}
 use Rattle.listing.specs.Complete.{Complete}
@@ -24,7 +24,7 @@ use Rattle.listing.specs.Complete.{Complete}
 -- "A weight not given stands for 1, and an accepted end writes 1 into every such place of the lent list": the others stay, and so do the other lists
 abbrev pub EndWritesOnes : Type 0
 EndWritesOnes =
-    (d : Loader) (l : Lists) (r : Taken) (l′ : Lists) → TakenAs d (spell end) l r l′ → said (r .outcome) ≡ [] → (i : ℕ) →
+    (d : Loader) (l : Lists) (r : Taken) (l′ : Lists) → TakenAs d (spell end) l r l′ → code (r .outcome) ≡ [] → (i : ℕ) →
     (i < d .n → given (d .sets) Weight (suc i) ≡ false → getD (l′ .weights) i (pos 0) ≡ pos 1)
     × ((given (d .sets) Weight (suc i) ≡ true → getD (l′ .weights) i (pos 0) ≡ getD (l .weights) i (pos 0))
     × ((d .n ≤ i → getD (l′ .weights) i (pos 0) ≡ getD (l .weights) i (pos 0))

@@ -7,7 +7,7 @@ use Prim.Native.Nat.{ℕ, _*_}
 use Rattle.linear.specs.Place.{Carried, placeOf}
 
 -- "At each term it is shown to be the place that row and column give": what every term of a sum asks of its place (`Carried`), along row i and down column j. The
--- loops that sum (`dot` of the crate linear, and those of raised_rows, differences, residuals, margins and bounds) carry such places
+-- loops that sum (`dot` of the crate linear, and those of check_biased_rows, check_defects, check_residuals, check_margins and check_bounds) carry such places
 abbrev pub CarriedIsPlace : Type 0
 CarriedIsPlace =
     (n i j k place : ℕ) →

@@ -9,13 +9,13 @@ use lib.ListN.{length}
 use Rattle.integer.specs.Finite.{sumℕ}
 use Rattle.linear.specs.Matrix.{Vec}
 use Rattle.rules.specs.declared.Kind.the-variants as kind
-use Rattle.numeral.specs.Decimal.{numeral}
-use Rattle.form.specs.Form.{Form, right, rightWithin, bytes}
-use Rattle.form.specs.Spelling.{spell, numerals}
+use Rattle.line_numeral.specs.Decimal.{numeral}
+use Rattle.line_form.specs.Form.{Form, right, rightWithin, bytes}
+use Rattle.line_form.specs.Spelling.{spell, numerals}
 use Rattle.enclosure.specs.Demand.{RightSide, ExactSolutionOf, InLimits}
 use Rattle.enclosure.specs.Problem.{Problem, S, columnOf}
 use Rattle.enclosure.specs.Reckoning.{residual, exceeds}
-use Rattle.lent_lists.specs.Lists.{Lists}
+use Rattle.loader_lists.specs.Lists.{Lists}
 use Rattle.loader.specs.Taken.{listsWith}
 use Rattle.loader.specs.declared.Loader.{Loader}
 use Rattle.promises.specs.Ways.{RangeIs, Accepted}
@@ -33,7 +33,7 @@ abbrev pub OtherRightIsNoForm : Type 0
 OtherRightIsNoForm =
     (i a : ℤ) (others : List ℤ) → (length others ≡ 1 → ⊥) → (f : Form) → bytes "(right " ++ numeral i ++ bytes " (" ++ numerals a others ++ bytes "))" ≡ spell f → ⊥
 
--- "The residual of row m now comes with a slack S·d_m, and everything built on it carries both" (`exceeds`, `sizesWith` and `boundWith` take both); "(6 is now given where size of residual plus slack is above 2^25.)" The other test is Paper 9's
+-- "The residual of row m now comes with a slack S·d_m, and everything built on it carries both" (`exceeds`, `magnitudesWith` and `boundWith` take both); "(6 is now given where size of residual plus slack is above 2^25.)" The other test is Paper 9's
 abbrev pub ResidualWithSlack : Type 0
 ResidualWithSlack =
     (P : Problem) (k : ℕ) →

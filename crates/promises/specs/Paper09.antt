@@ -12,10 +12,10 @@ use Rattle.linear.specs.Matrix.{Vec, Mat}
 use Rattle.enclosure.specs.Demand.{ExactSolution, ExactInverse, Encloses}
 use Rattle.enclosure.specs.Problem.{Problem, S, T, columnOf}
 use Rattle.enclosure.specs.Reckoning.{residual}
-use Rattle.checked.specs.Before.{answer05, solutionAfter05, inverseAfter05}
-use Rattle.checked.specs.Cases.{allRowsHold, rows}
-use Rattle.checked.specs.Cases01.{rows01, allHold01, allHold05}
-use Rattle.checked.specs.Input.{Input, problem}
+use Rattle.check_spec.specs.Before.{answer05, solutionAfter05, inverseAfter05}
+use Rattle.check_spec.specs.Cases.{allRowsHold, rows}
+use Rattle.check_spec.specs.Cases01.{rows01, allHold01, allHold05}
+use Rattle.check_spec.specs.Input.{Input, problem}
 use Rattle.promises.specs.Ways.{Accepted}
 
 -- "the residual of row m, without slack, may be at most the sum of |a| along that row, for the guess and for inverse columns" (of the guess: `ResidualsSmall`)
@@ -45,5 +45,5 @@ abbrev pub OldLimitsTrue : Type 0
 OldLimitsTrue =
     (I : Input) → answer05 I ≡ [] → Encloses (problem I) (λ (i : ℕ). getD (solutionAfter05 I) i 0) (λ (i j : ℕ). getD (inverseAfter05 I) (i * I .n + j) 0)
 
--- "The heights of a hung net keep Paper 8's test only; its inverse columns take the new condition": `StatedDependent` of dependent/specs/Stated, whose 6 asks
+-- "The heights of a hung net keep Paper 8's test only; its inverse columns take the new condition": `StatedDependent` of dependent_spec/specs/Stated, whose 6 asks
 -- `dependentExceeds` and whose 7 asks `exceeds` (`TogetherRefusesAsStated` of Paper08)

@@ -7,17 +7,17 @@ use Prim.Native.Nat.{ℕ, _+_, _-_, _*_, _/_, _≤_, _<_}
 use lib.IntN.{ℤ}
 use lib.ListN.{length}
 use Rattle.linear.specs.Slice.{at}
-use Rattle.rules.specs.Refusal.{said}
+use Rattle.rules.specs.Refusal.{code}
 use Rattle.rules.specs.declared.Outcome.{Outcome}
-use Rattle.checked.specs.Checked.{Checked}
-use Rattle.checked.specs.Input.{Input}
-use Rattle.lower_half.specs.Half.{filledOut}
-use Rattle.half.specs.Checked.{filledInput, CheckedHalf}
-use Rattle.observation.specs.Order.{saidBuilt}
-use Rattle.observation.specs.declared.Built.{Built}
-use Rattle.observation.specs.declared.Observation.{Observation}
-use Rattle.equations.specs.declared.Layout.the-variants.{Square, Lower}
-use Rattle.built.specs.BuiltAs.{shortFor, BuiltAs}
+use Rattle.check_spec.specs.Checked.{Checked}
+use Rattle.check_spec.specs.Input.{Input}
+use Rattle.half_fill.specs.Half.{filledOut}
+use Rattle.half_check.specs.Checked.{filledInput, CheckedHalf}
+use Rattle.build_lines.specs.Order.{buildCode}
+use Rattle.build_lines.specs.declared.Built.{Built}
+use Rattle.build_lines.specs.declared.Observation.{Observation}
+use Rattle.build_equations.specs.declared.Layout.the-variants.{Square, Lower}
+use Rattle.build.specs.BuiltAs.{shortFor, BuiltAs}
 
 -- "A second entry takes A as rows of 1, 2, .. n numbers, row i and column j (j up to i) at place i(i − 1)/2 + j from 1, in a list of at least 528
 -- (`ShortHalfIs8`)": so the filled-out matrix, on both sides
@@ -34,11 +34,11 @@ HalfIsSquare = (H : Input) (r : Outcome) (E L : List ℕ) → CheckedHalf H r E 
 -- "(8 for a list under 528.)"
 abbrev pub ShortHalfIs8 : Type 0
 ShortHalfIs8 =
-    (H : Input) (r : Outcome) (E L : List ℕ) → CheckedHalf H r E L → length (H .matrix) < 528 → (said r ≡ 8 ∷ []) × (E ≡ H .solutionBounds) × (L ≡ H .inverseBounds)
+    (H : Input) (r : Outcome) (E L : List ℕ) → CheckedHalf H r E L → length (H .matrix) < 528 → (code r ≡ 8 ∷ []) × (E ≡ H .solutionBounds) × (L ≡ H .inverseBounds)
 
 -- "The builder of Paper 3 gains the same form"
 abbrev pub HalfBuilt : Type 0
 HalfBuilt =
     (n : ℕ) (ls : List Observation) (h b a c : List ℤ) (r s : Built) (h′ b′ a′ c′ : List ℤ) → BuiltAs n ls Lower h b r h′ b′ → BuiltAs n ls Square a c s a′ c′ →
     shortFor Lower h b ≡ false → shortFor Square a c ≡ false →
-    (saidBuilt r ≡ saidBuilt s) × (saidBuilt r ≡ [] → ((k : ℕ) → k < n * n → at (filledOut n h′) k ≡ at a′ k) × ((i : ℕ) → i < n → at b′ i ≡ at c′ i))
+    (buildCode r ≡ buildCode s) × (buildCode r ≡ [] → ((k : ℕ) → k < n * n → at (filledOut n h′) k ≡ at a′ k) × ((i : ℕ) → i < n → at b′ i ≡ at c′ i))

@@ -1,6 +1,6 @@
--- Words that many statements share. `said r` is nothing where a call accepts, else 01's number of the refusal and the places or the count that it gives.
+-- Words that many statements share. `code r` is nothing where a call accepts, else 01's number of the refusal and the places or the count that it gives.
 --   RangeIs k a b — a number of the kind k is in its range exactly where it is from a to b
---   numbersOf ts — the numbers of tests, in their order
+--   testNumbers ts — the numbers of tests, in their order
 --   Lowest n fails m — of the rows below n, m is the lowest that fails
 --   Refused w    — something is said
 --   Accepted P E L — the problem P was accepted with the limits E of the heights and L of the inverse: by a check on lists or through a loader, whose limits
@@ -16,27 +16,27 @@ use lib.ListN.{getD, take}
 use lib.Signed.{leZ}
 use Rattle.rules.specs.Order.{Test}
 use Rattle.rules.specs.Range.{inRange}
-use Rattle.rules.specs.Refusal.{said}
+use Rattle.rules.specs.Refusal.{code}
 use Rattle.rules.specs.declared.Kind.{Kind}
 use Rattle.rules.specs.declared.Outcome.{Outcome}
 use Rattle.enclosure.specs.Problem.{Problem}
 use Rattle.enclosure.specs.Reckoning.{bound, inverseBound}
-use Rattle.checked.specs.Input.{Input, problem, short}
-use Rattle.checked.specs.Checked.{Checked}
-use Rattle.checked.specs.Stated.{Stated}
-use Rattle.half.specs.Checked.{filledInput, CheckedHalf}
-use Rattle.given_forms.specs.Progress.{ended}
-use Rattle.given_forms.specs.declared.Stage.{Stage}
+use Rattle.check_spec.specs.Input.{Input, problem, short}
+use Rattle.check_spec.specs.Checked.{Checked}
+use Rattle.check_spec.specs.Stated.{Stated}
+use Rattle.half_check.specs.Checked.{filledInput, CheckedHalf}
+use Rattle.loader_progress.specs.Progress.{ended}
+use Rattle.loader_progress.specs.declared.Stage.{Stage}
 use Rattle.loader_order.specs.Through.{CheckedThrough}
-use Rattle.form.specs.Form.{bytes}
-use Rattle.refusal.specs.declared.FileAnswer.{FileAnswer}
+use Rattle.line_form.specs.Form.{bytes}
+use Rattle.listing_refusal.specs.declared.FileAnswer.{FileAnswer}
 use Rattle.listing.specs.Listing.{problemIn, ListedAs, AnsweredAs}
 
 abbrev pub RangeIs : Kind → ℤ → ℤ → Type 0
 RangeIs k a b = (z : ℤ) → inRange k z ≡ leZ a z && leZ z b
 
-abbrev pub numbersOf : List Test → List ℕ
-numbersOf ts = map (λ (t : Test). getD (t .says) 0 0) ts
+abbrev pub testNumbers : List Test → List ℕ
+testNumbers ts = map (λ (t : Test). getD (t .says) 0 0) ts
 
 pub record Lowest (n : ℕ) (fails : ℕ → Bool) (m : ℕ) : Type 0 where
   pub below : m < n
@@ -47,11 +47,11 @@ abbrev pub Refused : List ℕ → Type 0
 Refused w = w ≡ [] → ⊥
 
 pub data Accepted : Problem → (ℕ → ℕ) → (ℕ → ℕ → ℕ) → Type 0 where
-  on-lists : (I : Input) (r : Outcome) (E L : List ℕ) → Checked I r E L → said r ≡ [] →
+  on-lists : (I : Input) (r : Outcome) (E L : List ℕ) → Checked I r E L → code r ≡ [] →
       Accepted (problem I) (λ (i : ℕ). getD E i 0) (λ (i j : ℕ). getD L (i * I .n + j) 0)
-  through-loader : (s : Stage) (I : Input) (r : Outcome) (E L : List ℕ) → CheckedThrough s I r E L → said r ≡ [] →
+  through-loader : (s : Stage) (I : Input) (r : Outcome) (E L : List ℕ) → CheckedThrough s I r E L → code r ≡ [] →
       Accepted (problem I) (λ (i : ℕ). getD E i 0) (λ (i j : ℕ). getD L (i * I .n + j) 0)
-  by-half : (H : Input) (r : Outcome) (E L : List ℕ) → CheckedHalf H r E L → said r ≡ [] →
+  by-half : (H : Input) (r : Outcome) (E L : List ℕ) → CheckedHalf H r E L → code r ≡ [] →
       Accepted (problem (filledInput H)) (λ (i : ℕ). getD E i 0) (λ (i j : ℕ). getD L (i * H .n + j) 0)
   of-file : (file old new : List ℕ) (r : FileAnswer) → AnsweredAs file old new r → r .reply .number ≡ 0 →
       Accepted (problemIn file) (bound (problemIn file)) (inverseBound (problemIn file))

@@ -18,19 +18,19 @@ use Rattle.enclosure.specs.Sound.{Margins}
 use Rattle.enclosure.specs.Problem.{Problem, T}
 use Rattle.enclosure.specs.Reckoning.{load, margin, marginFails}
 use Rattle.enclosure.proofs.Margin.{cut-test, margin-test, margin-sum, margin-above, margin-cut}
-use Rattle.reckoning.specs.Arrays.{Begins}
-use Rattle.reckoning.specs.Parts.{cutMargin}
-use Rattle.reckoning.proofs.Sizes.{power-size}
-use Rattle.checked.specs.Order.{firstMargin}
-use Rattle.limit_factor.specs.Peak.{spread, peak, peakRow}
-use Rattle.limit_factor.specs.Inquiry.{Inquiry, inquiryProblem}
-use Rattle.limit_factor.proofs.Contract.{FitInquiry}
-use Rattle.limit_factor.proofs.Peak.{peak-ext}
+use Rattle.check_arrays.specs.Arrays.{PrefixIs}
+use Rattle.check_arrays.specs.Parts.{cutMargin}
+use Rattle.check_arrays.proofs.Magnitudes.{power-magnitude}
+use Rattle.check_spec.specs.Order.{firstMargin}
+use Rattle.quality_spec.specs.Peak.{spread, peak, peakRow}
+use Rattle.quality_spec.specs.Inquiry.{Inquiry, inquiryProblem}
+use Rattle.quality_spec.proofs.Contract.{FitInquiry}
+use Rattle.quality_spec.proofs.Peak.{peak-ext}
 
 pub full-small : (Q : Inquiry) → FitInquiry Q → (m : ℕ) → m < Q .n → 2 ^ Q .t * natAbs (at (Q .weights) m) ≤ 2 ^ 20 * 1024
-full-small Q f m l = mul-le-mul (power-size (Q .t) (f .scale)) (f .weights .within .size m l)
+full-small Q f m l = mul-le-mul (power-magnitude (Q .t) (f .scale)) (f .weights .within .magnitudes m l)
 
-module _ (Q : Inquiry) {margins : List ℕ} (hm : Begins 0 margins (Q .n) (cutMargin (inquiryProblem Q))) where
+module _ (Q : Inquiry) {margins : List ℕ} (hm : PrefixIs 0 margins (Q .n) (cutMargin (inquiryProblem Q))) where
   abbrev P : Problem
   P = inquiryProblem Q
 
@@ -50,7 +50,7 @@ module _ (Q : Inquiry) {margins : List ℕ} (hm : Begins 0 margins (Q .n) (cutMa
     pub above : (m : ℕ) → m < Q .n → 0 < getD margins m 0
     above m l = omega (arith, margin-is m l, margin-above P m (h m l))
 
-    module _ {spreads : List ℕ} (hs : Begins 0 spreads (Q .n) (λ (m : ℕ). 2 * (2 ^ Q .t * natAbs (at (Q .weights) m)) - getD margins m 0)) where
+    module _ {spreads : List ℕ} (hs : PrefixIs 0 spreads (Q .n) (λ (m : ℕ). 2 * (2 ^ Q .t * natAbs (at (Q .weights) m)) - getD margins m 0)) where
       pub spread-is : (m : ℕ) → m < Q .n → getD spreads m 0 ≡ spread P m
       spread-is m l = omega (arith, hs .each m l, margin-is m l, margin-sum P m (h m l))
 

@@ -9,22 +9,22 @@ ghost use lib.ListN.{getD};
 ghost use Rattle.linear.specs.Slice.{at};
 ghost use Rattle.linear.specs.Reach.{ColumnList, MatrixList};
 ghost use Rattle.enclosure.specs.Problem.{problemOf};
-ghost use Rattle.reckoning.specs.Arrays.{Begins};
-ghost use Rattle.reckoning.specs.Parts.{cutMargin};
-ghost use Rattle.limit_factor.specs.Peak.{peak};
-ghost use Rattle.limit_factor.specs.Inquiry.{inquiry, inquiryShort, inquiryInRanges};
-ghost use Rattle.limit_factor.specs.Answer.{QualityAs};
+ghost use Rattle.check_arrays.specs.Arrays.{PrefixIs};
+ghost use Rattle.check_arrays.specs.Parts.{cutMargin};
+ghost use Rattle.quality_spec.specs.Peak.{peak};
+ghost use Rattle.quality_spec.specs.Inquiry.{inquiry, inquiryShort, inquiryInRanges};
+ghost use Rattle.quality_spec.specs.Answer.{QualityAs};
+use check_margins::first_zero;
 use integer::magnitude;
 use integer::power;
-use limit_factor::Quality;
-use margins::first_zero;
+use quality_spec::Quality;
 use ranges::are_lists_in_range;
 use ranges::are_sizes_in_range;
 use rules::Refusal;
-use weight_sequence::is_short;
-use weight_steps::defect_sizes;
-use weight_steps::loads_of;
-use weight_steps::margins_from;
+use weights_steps::defect_magnitudes;
+use weights_steps::is_short;
+use weights_steps::loads_of;
+use weights_steps::margins_from;
 
 mod ranges;
 
@@ -32,7 +32,7 @@ mod ranges;
 fn weights_of(weights: &[i64], n: usize) -> [u64; 32]
     requires { ⌜ n ≤ 32 ⌝ }
     requires { ⌜ ColumnList (now weights) n 1024 ⌝ }
-    ensures { λ r. ⌜ Begins 0 r n (λ (m : ℕ). natAbs (at (now (weights .entry)) m)) ⌝ }
+    ensures { λ r. ⌜ PrefixIs 0 r n (λ (m : ℕ). natAbs (at (now (weights .entry)) m)) ⌝ }
 {
     let mut out = [0u64; 32];
     for m in 0..n {
@@ -47,12 +47,12 @@ fn margins_for(t: u32, matrix: &[i64], inverse: &[i64], weights: &[i64], n: usiz
     requires { ⌜ MatrixList (now matrix) n ⌝ }
     requires { ⌜ MatrixList (now inverse) n ⌝ }
     requires { ⌜ ColumnList (now weights) n 1024 ⌝ }
-    ensures { λ r. ⌜ Begins 0 r n
+    ensures { λ r. ⌜ PrefixIs 0 r n
         (cutMargin (problemOf n 0 t (now (matrix .entry)) [] [] [] (now (inverse .entry)) (now (weights .entry)))) ⌝ }
 {
-    let sizes = defect_sizes(t, matrix, inverse, n);
+    let magnitudes = defect_magnitudes(t, matrix, inverse, n);
     let list = weights_of(weights, n);
-    let loads = loads_of(&sizes, &list, n);
+    let loads = loads_of(&magnitudes, &list, n);
     margins_from(t, &loads, &list, n)
 }
 
@@ -69,7 +69,7 @@ fn spreads_of(t: u32, weights: &[i64], margins: &[u64; 32], n: usize) -> [u64; 3
     requires { ⌜ (t ≤ 20) × (n ≤ 32) ⌝ }
     requires { ⌜ ColumnList (now weights) n 1024 ⌝ }
     requires { ⌜ ((m : ℕ) → m < n → getD (now margins) m 0 ≤ 2 ^ t * natAbs (at (now weights) m)) ⌝ }
-    ensures { λ r. ⌜ Begins 0 r n (λ (m : ℕ). 2 * (2 ^ t * natAbs (at (now (weights .entry)) m)) - getD (now (margins .entry)) m 0) ⌝ }
+    ensures { λ r. ⌜ PrefixIs 0 r n (λ (m : ℕ). 2 * (2 ^ t * natAbs (at (now (weights .entry)) m)) - getD (now (margins .entry)) m 0) ⌝ }
 {
     let mut out = [0u64; 32];
     for m in 0..n {
@@ -79,7 +79,7 @@ fn spreads_of(t: u32, weights: &[i64], margins: &[u64; 32], n: usize) -> [u64; 3
 }
 
 // Whether p / g is larger than spread / margin, by products.
-fn is_steeper(spread: u64, margin: u64, p: u64, g: u64) -> bool
+fn is_larger_ratio(spread: u64, margin: u64, p: u64, g: u64) -> bool
     requires { ⌜ (spread ≤ 2 ^ 31) × (g ≤ 2 ^ 31) ⌝ }
     requires { ⌜ (p ≤ 2 ^ 31) × (margin ≤ 2 ^ 31) ⌝ }
     ensures { λ r. ⌜ r ≡ ltb (spread * g) (p * margin) ⌝ }
@@ -96,7 +96,7 @@ fn peak_of(spreads: &[u64; 32], margins: &[u64; 32], n: usize) -> usize
 {
     let mut k = 0;
     for m in 1..n {
-        if is_steeper(spreads[k], margins[k], spreads[m], margins[m]) {
+        if is_larger_ratio(spreads[k], margins[k], spreads[m], margins[m]) {
             k = m;
         }
     }

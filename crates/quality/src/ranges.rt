@@ -2,7 +2,7 @@
 ghost use mathlib.Core.Path.{_≡_};
 ghost use Prim.Native.Nat.{_≤_};
 ghost use lib.ListN.{length};
-ghost use Rattle.limit_factor.specs.Inquiry.{inquirySizes, inquiryLists};
+ghost use Rattle.quality_spec.specs.Inquiry.{inquirySizes, inquiryLists};
 use rules::Kind;
 use rules::all_in_range;
 use rules::is_natural_in_range;

@@ -4,9 +4,9 @@ ghost use mathlib.Core.Path.{_≡_};
 ghost use Rattle.listing.specs.Listing.{listingOf};
 use libc::STDERR_FILENO;
 use libc::STDOUT_FILENO;
-use standard_input::Input;
-use standard_input::fill;
-use standard_input::skip_rest;
+use program_input::Input;
+use program_input::fill;
+use program_input::skip_rest;
 
 fn report(text: &[u8]) {
     io::write_all(STDERR_FILENO, text);

@@ -2,20 +2,28 @@
 ghost use mathlib.Core.Path.{_≡_};
 ghost use mathlib.Core.List.{[], _∷_};
 ghost use lib.ListN.{getD};
-ghost use Rattle.rules.specs.Refusal.{said, numberOf};
-ghost use Rattle.refusal.specs.Refused.{printed};
-ghost use Rattle.refusal.specs.Reply.{replyOf};
-ghost use Rattle.observation.specs.Order.{saidBuilt};
-use observation::Built;
-use refusal::Reply;
-use refusal::no_refusal;
-use refusal::reply_of;
+ghost use Rattle.rules.specs.Refusal.{code, numberOf};
+ghost use Rattle.listing_refusal.specs.Refused.{printed};
+ghost use Rattle.listing_refusal.specs.Reply.{replyOf};
+ghost use Rattle.build_lines.specs.Order.{buildCode};
+use build_lines::Built;
+use listing_refusal::Reply;
+use listing_refusal::no_refusal;
+use listing_refusal::reply_of;
 use rules::Outcome;
 use rules::Refusal;
 
+pub mod builds;
+pub mod conversions;
+pub mod factors;
+pub mod guesses;
+pub mod nets;
+pub mod proposals;
+pub mod searches;
+
 // What an outcome says; a refusal that gives its number alone leaves both places 0.
 pub fn outcome_reply(outcome: Outcome) -> Reply
-    ensures { λ r. ⌜ r ≡ replyOf (printed 0 (said outcome)) ⌝ }
+    ensures { λ r. ⌜ r ≡ replyOf (printed 0 (code outcome)) ⌝ }
 {
     match outcome {
         Outcome::Accepted => no_refusal(),
@@ -24,7 +32,7 @@ pub fn outcome_reply(outcome: Outcome) -> Reply
 }
 
 // Writes the two places of a reply; gives its number.
-pub fn tell(reply: Reply, places: &mut [u64; 2]) -> u32
+pub fn write_reply(reply: Reply, places: &mut [u64; 2]) -> u32
     ensures { λ r. ⌜ (r ≡ reply .number) × (now (places .exit) ≡ reply .first ∷ reply .second ∷ []) ⌝ }
 {
     *places = [reply.first, reply.second];
@@ -35,13 +43,13 @@ pub fn tell(reply: Reply, places: &mut [u64; 2]) -> u32
 fn refused_number(refusal: Refusal) -> u32
     ensures { λ r. ⌜ r ≡ numberOf refusal ⌝ }
 {
-    let told = reply_of(refusal, 0);
-    told.number
+    let status = reply_of(refusal, 0);
+    status.number
 }
 
 // The number of what is said of field lines, 0 where the equations are built.
 pub fn built_number(built: Built) -> u32
-    ensures { λ r. ⌜ r ≡ getD (saidBuilt built) 0 0 ⌝ }
+    ensures { λ r. ⌜ r ≡ getD (buildCode built) 0 0 ⌝ }
 {
     match built {
         Built::Done => 0,

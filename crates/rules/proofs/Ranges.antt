@@ -1,5 +1,5 @@
 -- What the ranges say of a number.
---   range-size — a number in range is at most `sizeOf k` in size
+--   range-magnitude — a number in range is at most `magnitudeOf k` in size
 --   range-natural — where the lowest value is a natural number, a number in range is one, and at least that;  range-kept — so its size is in range
 --   size-range, solution-scale-range, .., weight-range, allowance-range, in-allowance-range, line-weight-range, difference-range — what the range of each kind is
 --   in-size-range, in-matrix-range, in-right-range — the converse: a number of that size is in range;  zero-tolerance, one-weight — so are these two
@@ -60,19 +60,19 @@ and-true false e = refl
 
 -- ---- sizes
 -- the largest size that a number of the kind has
-abbrev pub sizeOf : Kind → ℕ
-sizeOf k = max (natAbs (rangeOf k .lowest)) (natAbs (rangeOf k .highest))
+abbrev pub magnitudeOf : Kind → ℕ
+magnitudeOf k = max (natAbs (rangeOf k .lowest)) (natAbs (rangeOf k .highest))
 
-between : (a b z : ℤ) → leZ a z ≡ true → leZ z b ≡ true → natAbs z ≤ max (natAbs a) (natAbs b)
-between a (pos b) (pos z) p q = omega (arith, leb-true z b q)
-between a (negsuc b) (pos z) p q = absurd (subst T (sym q) tt)
-between (pos a) b (negsuc z) p q = absurd (subst T (sym p) tt)
-between (negsuc a) b (negsuc z) p q = omega (arith, leb-true z a p)
+magnitude-between : (a b z : ℤ) → leZ a z ≡ true → leZ z b ≡ true → natAbs z ≤ max (natAbs a) (natAbs b)
+magnitude-between a (pos b) (pos z) p q = omega (arith, leb-true z b q)
+magnitude-between a (negsuc b) (pos z) p q = absurd (subst T (sym q) tt)
+magnitude-between (pos a) b (negsuc z) p q = absurd (subst T (sym p) tt)
+magnitude-between (negsuc a) b (negsuc z) p q = omega (arith, leb-true z a p)
 
-pub range-size : (k : Kind) (z : ℤ) → inRange k z ≡ true → natAbs z ≤ sizeOf k
+pub range-magnitude : (k : Kind) (z : ℤ) → inRange k z ≡ true → natAbs z ≤ magnitudeOf k
 unfolding inRange
-range-size k z e =
-    between (rangeOf k .lowest) (rangeOf k .highest) z
+range-magnitude k z e =
+    magnitude-between (rangeOf k .lowest) (rangeOf k .highest) z
     (both-left (leZ (rangeOf k .lowest) z) (leZ z (rangeOf k .highest)) e)
     (both-right (leZ (rangeOf k .lowest) z) (leZ z (rangeOf k .highest)) e)
 
@@ -92,15 +92,15 @@ unfolding inRange
 range-test k z e = rw e
 
 -- a number of at most that size is in a range that is alike on both sides
-sized : (b : ℕ) (z : ℤ) → natAbs z ≤ suc b → leZ (negsuc b) z && leZ z (pos (suc b)) ≡ true
-sized b (pos z) h = le-leb z (suc b) h
-sized b (negsuc z) h = both (le-leb z b (omega arith)) refl
+magnitude-in-range : (b : ℕ) (z : ℤ) → natAbs z ≤ suc b → leZ (negsuc b) z && leZ z (pos (suc b)) ≡ true
+magnitude-in-range b (pos z) h = le-leb z (suc b) h
+magnitude-in-range b (negsuc z) h = both (le-leb z b (omega arith)) refl
 
 -- ---- the sizes of documents 01 and 02
 module _ (n : ℕ) where
   pub size-range : inRange Size (pos n) ≡ true → (0 < n) × (n ≤ 32)
   unfolding rangeOf ranges
-  size-range e = (range-natural Size 1 (pos n) refl e .1, range-size Size (pos n) e)
+  size-range e = (range-natural Size 1 (pos n) refl e .1, range-magnitude Size (pos n) e)
 
   pub in-size-range : 0 < n → n ≤ 32 → inRange Size (pos n) ≡ true
   unfolding inRange rangeOf ranges
@@ -108,15 +108,15 @@ module _ (n : ℕ) where
 
   pub solution-scale-range : inRange SolutionScale (pos n) ≡ true → n ≤ 20
   unfolding rangeOf ranges
-  solution-scale-range e = range-size SolutionScale (pos n) e
+  solution-scale-range e = range-magnitude SolutionScale (pos n) e
 
   pub inverse-scale-range : inRange InverseScale (pos n) ≡ true → n ≤ 20
   unfolding rangeOf ranges
-  inverse-scale-range e = range-size InverseScale (pos n) e
+  inverse-scale-range e = range-magnitude InverseScale (pos n) e
 
   pub allowance-range : inRange Allowance (pos n) ≡ true → (1 ≤ n) × (n ≤ 64)
   unfolding rangeOf ranges
-  allowance-range e = (range-natural Allowance 1 (pos n) refl e .1, range-size Allowance (pos n) e)
+  allowance-range e = (range-natural Allowance 1 (pos n) refl e .1, range-magnitude Allowance (pos n) e)
 
   pub in-allowance-range : 1 ≤ n → n ≤ 64 → inRange Allowance (pos n) ≡ true
   unfolding inRange rangeOf ranges
@@ -124,7 +124,7 @@ module _ (n : ℕ) where
 
   pub line-weight-range : inRange LineWeight (pos n) ≡ true → (1 ≤ n) × (n ≤ 64)
   unfolding rangeOf ranges
-  line-weight-range e = (range-natural LineWeight 1 (pos n) refl e .1, range-size LineWeight (pos n) e)
+  line-weight-range e = (range-natural LineWeight 1 (pos n) refl e .1, range-magnitude LineWeight (pos n) e)
 
 pub zero-tolerance : inRange Tolerance (pos 0) ≡ true
 unfolding inRange rangeOf ranges
@@ -137,36 +137,36 @@ one-weight = refl
 module _ (z : ℤ) where
   pub matrix-range : inRange Matrix z ≡ true → natAbs z ≤ 2 ^ 20
   unfolding rangeOf ranges
-  matrix-range e = range-size Matrix z e
+  matrix-range e = range-magnitude Matrix z e
 
   pub right-range : inRange Right z ≡ true → natAbs z ≤ 2 ^ 30
   unfolding rangeOf ranges
-  right-range e = range-size Right z e
+  right-range e = range-magnitude Right z e
 
   pub tolerance-range : inRange Tolerance z ≡ true → (z ≡ pos (natAbs z)) × (natAbs z ≤ 2 ^ 20)
   unfolding rangeOf ranges
-  tolerance-range e = (range-natural Tolerance 0 z refl e .0, range-size Tolerance z e)
+  tolerance-range e = (range-natural Tolerance 0 z refl e .0, range-magnitude Tolerance z e)
 
   pub guess-range : inRange Guess z ≡ true → natAbs z ≤ 2 ^ 36
   unfolding rangeOf ranges
-  guess-range e = range-size Guess z e
+  guess-range e = range-magnitude Guess z e
 
   pub inverse-range : inRange Inverse z ≡ true → natAbs z ≤ 2 ^ 20
   unfolding rangeOf ranges
-  inverse-range e = range-size Inverse z e
+  inverse-range e = range-magnitude Inverse z e
 
   pub weight-range : inRange Weight z ≡ true → (1 ≤ natAbs z) × (natAbs z ≤ 1024)
   unfolding rangeOf ranges
-  weight-range e = (range-natural Weight 1 z refl e .1, range-size Weight z e)
+  weight-range e = (range-natural Weight 1 z refl e .1, range-magnitude Weight z e)
 
   pub difference-range : inRange Difference z ≡ true → natAbs z ≤ 2 ^ 16
   unfolding rangeOf ranges
-  difference-range e = range-size Difference z e
+  difference-range e = range-magnitude Difference z e
 
   pub in-matrix-range : natAbs z ≤ 2 ^ 20 → inRange Matrix z ≡ true
   unfolding inRange rangeOf ranges
-  in-matrix-range h = sized 1048575 z h
+  in-matrix-range h = magnitude-in-range 1048575 z h
 
   pub in-right-range : natAbs z ≤ 2 ^ 30 → inRange Right z ≡ true
   unfolding inRange rangeOf ranges
-  in-right-range h = sized 1073741823 z h
+  in-right-range h = magnitude-in-range 1073741823 z h

@@ -1,5 +1,5 @@
 -- The rule over the whole table of ranges, computed once.
---   Good r     — lowest ≤ highest, and both are at most 2 ^ 36 in size
+--   GoodRange r — lowest ≤ highest, and both are at most 2 ^ 36 in size
 --   range-good — the range of every kind is
 use mathlib.Core.Path.{_≡_, refl}
 use mathlib.Core.Bool.{Bool, true, _&&_}
@@ -17,21 +17,21 @@ use Rattle.rules.specs.declared.Range.{Range}
 use Rattle.rules.specs.Range.{ranges, indexOf, rangeOf, fromTo}
 use Rattle.rules.proofs.Ranges.{both-left, both-right}
 
-good : Range → Bool
-good r = leZ (r .lowest) (r .highest) && (leb (natAbs (r .lowest)) (2 ^ 36) && leb (natAbs (r .highest)) (2 ^ 36))
+goodRange : Range → Bool
+goodRange r = leZ (r .lowest) (r .highest) && (leb (natAbs (r .lowest)) (2 ^ 36) && leb (natAbs (r .highest)) (2 ^ 36))
 
 all-good : List Range → Bool
 all-good [] = true
-all-good (r ∷ rs) = good r && all-good rs
+all-good (r ∷ rs) = goodRange r && all-good rs
 
-good-at : (rs : List Range) → all-good rs ≡ true → (i : ℕ) (d : Range) → i < length rs → good (getD rs i d) ≡ true
+good-at : (rs : List Range) → all-good rs ≡ true → (i : ℕ) (d : Range) → i < length rs → goodRange (getD rs i d) ≡ true
 unfolding all-good
 good-at [] e i d l = absurd (omega arith)
-good-at (r ∷ rs) e zero d l = both-left (good r) (all-good rs) e
-good-at (r ∷ rs) e (suc i) d l = good-at rs (both-right (good r) (all-good rs) e) i d (omega arith)
+good-at (r ∷ rs) e zero d l = both-left (goodRange r) (all-good rs) e
+good-at (r ∷ rs) e (suc i) d l = good-at rs (both-right (goodRange r) (all-good rs) e) i d (omega arith)
 
 table-good : all-good ranges ≡ true
-unfolding all-good good ranges
+unfolding all-good goodRange ranges
 table-good = refl
 
 index-below : (k : Kind) → indexOf k < 14
@@ -50,19 +50,19 @@ index-below Mark = omega arith
 index-below Difference = omega arith
 index-below LineWeight = omega arith
 
-pub record Good (r : Range) : Type 0 where
+pub record GoodRange (r : Range) : Type 0 where
   pub ordered : leZ (r .lowest) (r .highest) ≡ true
-  pub low-size : natAbs (r .lowest) ≤ 2 ^ 36
-  pub high-size : natAbs (r .highest) ≤ 2 ^ 36
+  pub low-magnitude : natAbs (r .lowest) ≤ 2 ^ 36
+  pub high-magnitude : natAbs (r .highest) ≤ 2 ^ 36
 
-goodness : (r : Range) → good r ≡ true → Good r
-unfolding good
+goodness : (r : Range) → goodRange r ≡ true → GoodRange r
+unfolding goodRange
 goodness r e = record {
   ordered = both-left (leZ (r .lowest) (r .highest)) _ e;
-  low-size = leb-true _ _ (both-left (leb (natAbs (r .lowest)) (2 ^ 36)) _ (both-right (leZ (r .lowest) (r .highest)) _ e));
-  high-size = leb-true _ _ (both-right (leb (natAbs (r .lowest)) (2 ^ 36)) _ (both-right (leZ (r .lowest) (r .highest)) _ e));
+  low-magnitude = leb-true _ _ (both-left (leb (natAbs (r .lowest)) (2 ^ 36)) _ (both-right (leZ (r .lowest) (r .highest)) _ e));
+  high-magnitude = leb-true _ _ (both-right (leb (natAbs (r .lowest)) (2 ^ 36)) _ (both-right (leZ (r .lowest) (r .highest)) _ e));
 }
 
-pub range-good : (k : Kind) → Good (rangeOf k)
+pub range-good : (k : Kind) → GoodRange (rangeOf k)
 unfolding rangeOf
 range-good k = goodness _ (good-at ranges table-good (indexOf k) (fromTo (pos 0) (pos 0)) (unfold ranges in index-below k))

@@ -7,10 +7,10 @@ use Prim.Native.Nat.{ℕ}
 use native.Mathlib.Omega.{arith}
 use Rattle.rules.specs.Order.{ifAccepted, orElse}
 
-pub accepted-new : {A : Type 0} {said : List ℕ} (new old : A) → said ≡ [] → ifAccepted said new old ≡ new
+pub accepted-new : {A : Type 0} {code : List ℕ} (new old : A) → code ≡ [] → ifAccepted code new old ≡ new
 accepted-new new old e = rw e
 
-pub accepted-old : {A : Type 0} {said : List ℕ} {k : ℕ} {ks : List ℕ} (new old : A) → said ≡ k ∷ ks → ifAccepted said new old ≡ old
+pub accepted-old : {A : Type 0} {code : List ℕ} {k : ℕ} {ks : List ℕ} (new old : A) → code ≡ k ∷ ks → ifAccepted code new old ≡ old
 accepted-old new old e = rw e
 
 pub nothing-is-not : {k : ℕ} {ks : List ℕ} → k ∷ ks ≡ [] → ⊥

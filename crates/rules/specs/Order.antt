@@ -3,9 +3,9 @@
 --   number k b — a refusal that gives its number alone
 --   verdict — what the first test that holds says; nothing where none holds
 --   ifAccepted — the new where nothing is said, the old where a refusal is
---   orElse said rest — what is said, or the rest where that is nothing
+--   orElse code rest — what is said, or the rest where that is nothing
 -- Of two, nets or proposals, a refusal says which one it is of: 1 or 2, or 0 where it is of neither, stands before its number.
---   isSaid l    — something is said
+--   isCode l    — something is said
 --   ofOne i l   — the test of the one with the number i, of which l is said;  ofNeither k b — that of a refusal k that is of neither
 --   whichOf l   — of which one the refusal is; 0 where it is of neither, and where nothing is said
 --   refusalOf l — its number and values; none where nothing is said
@@ -29,14 +29,14 @@ ifAccepted [] new old = new
 ifAccepted (k ∷ ks) new old = old
 
 abbrev pub orElse : List ℕ → List ℕ → List ℕ
-orElse said rest = ifAccepted said rest said
+orElse code rest = ifAccepted code rest code
 
-abbrev pub isSaid : List ℕ → Bool
-isSaid [] = false
-isSaid (k ∷ l) = true
+abbrev pub isCode : List ℕ → Bool
+isCode [] = false
+isCode (k ∷ l) = true
 
 abbrev pub ofOne : ℕ → List ℕ → Test
-ofOne i l = record { says = i ∷ l; holds = isSaid l }
+ofOne i l = record { says = i ∷ l; holds = isCode l }
 
 abbrev pub ofNeither : ℕ → Bool → Test
 ofNeither k b = record { says = 0 ∷ k ∷ []; holds = b }

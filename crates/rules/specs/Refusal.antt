@@ -1,7 +1,7 @@
 -- Document 01's number for each refusal, with the places or the count that it names; rows and columns are counted from 1.
 --   numberOf r — the number of the refusal r
 --   valuesOf r — the places or the count that it gives: a row for 5 and 6, column and row for 7, the count of missing forms for 13
---   said o     — what an outcome says: nothing where it is accepted, else the number and then the values
+--   code o     — what an outcome says: nothing where it is accepted, else the number and then the values
 use mathlib.Core.List.{List, [], _∷_}
 use Prim.Native.Nat.{ℕ}
 use Rattle.rules.specs.declared.Outcome.{Outcome}
@@ -39,6 +39,6 @@ valuesOf (Missing count) = count ∷ []
 valuesOf AfterEnd = []
 valuesOf NotEnded = []
 
-abbrev pub said : Outcome → List ℕ
-said Accepted = []
-said (Refused r) = numberOf r ∷ valuesOf r
+abbrev pub code : Outcome → List ℕ
+code Accepted = []
+code (Refused r) = numberOf r ∷ valuesOf r

@@ -168,7 +168,7 @@ pub fn checked_on_lists(held: Held, n: u32, s: u32, t: u32) -> Checked {
     let weights = held.weights;
     let mut solution_bounds = unwritten();
     let mut inverse_bounds = unwritten_matrix();
-    let outcome = checker::check(
+    let outcome = check_lists::check(
         n,
         s,
         t,

@@ -1,11 +1,11 @@
 // A build of lines that stand in an array of the program's own. The function lends a part of that array as a slice of structs, and is proved by a walk of its code by hand.
 ghost use Prim.Native.Nat.{_≤_};
 ghost use lib.ListN.{take};
-ghost use Rattle.built.specs.BuiltAs.{BuiltAs};
-use builder::build;
-use equations::Layout;
-use observation::Built;
-use observation::Observation;
+ghost use Rattle.build.specs.BuiltAs.{BuiltAs};
+use build::build;
+use build_equations::Layout;
+use build_lines::Built;
+use build_lines::Observation;
 
 // The equations of the first lines of an array, the matrix in its layout.
 pub fn build_first(

@@ -13,7 +13,7 @@
 // Any other entry is a line for the loader. A script that fills the buffer may have been cut, so it is not run at all.
 ghost use mathlib.Core.Path.{_≡_};
 ghost use lib.ListN.{length};
-use build::print_build;
+use building::print_build;
 use held::Held;
 use held::fresh;
 use held::taken;
@@ -25,7 +25,7 @@ use read::print_line;
 use read::print_listing;
 use show::print_of;
 
-mod build;
+mod building;
 mod held;
 mod lent;
 mod print;

@@ -28,7 +28,7 @@ fn print_outcome(outcome: Outcome) {
 
 // 01's number, and the places or the count that it gives: each is 1 or more.
 pub fn print_refusal(refusal: Refusal) {
-    let reply = refusal::reply_of(refusal, 0);
+    let reply = listing_refusal::reply_of(refusal, 0);
     print_number(reply.number as u64);
     print_given(reply.first);
     print_given(reply.second);
@@ -48,10 +48,10 @@ pub fn print_signed(x: i64) {
     } else {
         print_text(b" ");
     }
-    print_number(size_of(x));
+    print_number(magnitude_of(x));
 }
 
-pub fn size_of(x: i64) -> u64 {
+pub fn magnitude_of(x: i64) -> u64 {
     if x < -9223372036854775807 {
         return 9223372036854775808;
     }

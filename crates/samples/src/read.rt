@@ -4,7 +4,7 @@ use crate::print::print_number;
 use crate::print::print_refusal;
 use crate::print::print_signed;
 use crate::print::print_text;
-use form::Numbers;
+use line_form::Numbers;
 use line_parts::Answer;
 use line_parts::CappedForm;
 

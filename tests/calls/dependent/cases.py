@@ -1,4 +1,4 @@
-"""Calls of the check of a net and one hung from it (02, Paper 8): pairs of every family, as they are and damaged: either net's lists and numbers, C, unequal
+"""Calls of the check of a net and one dependent on it (02, Paper 8): pairs of every family, as they are and damaged: either net's lists and numbers, C, unequal
 s.
 
 Each is written as, for each net, a count k, n s t, the eight lengths that the call is told, and the lists as calls/check writes them; then how many numbers
@@ -144,7 +144,7 @@ def range_coverage(call, answer):
 
 
 def reckoned(call, main):
-    """E1, C as rows, and residuals, slacks and row sums of the hung net."""
+    """E1, C as rows, and residuals, slacks and row sums of the dependent net."""
     nets = call.nets()
     rows = DependentCheck().rows(nets)
     reckoning = DependentCheck().reckoning(rows, nets.main.guess[: nets.main.n], main.solution)
@@ -153,7 +153,7 @@ def reckoned(call, main):
 
 
 def reckoned_coverage(call, answer, main):
-    """What a call meets whose hung net is reckoned."""
+    """What a call meets whose dependent net is reckoned."""
     number = answer.refusal.number if isinstance(answer, NetRefusal) else 0
     E1, rows, residuals, slacks, sums = reckoned(call, main)
     sizes = [abs(r) + slack for r, slack in zip(residuals, slacks)]
@@ -199,7 +199,7 @@ def coverage(sent, answer):
 
 
 def differs_alone(call, answer):
-    """Whether a hung net whose C is all zeros, and whose guess is within the sums along its rows, is answered otherwise than by itself."""
+    """Whether a dependent net whose C is all zeros, and whose guess is within the sums along its rows, is answered otherwise than by itself."""
     if any(call.coupling[: call.main.n * call.dependent.n]) or answer in (NetRefusal(2, Refusal(3)), NetRefusal(2, Refusal(8))):
         return False
     main = main_answer(call, answer)

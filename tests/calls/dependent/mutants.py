@@ -1,4 +1,4 @@
-"""Mutants of the check of a net and one hung from it, by name. Each breaks one rule of 02's Paper 8 or 9."""
+"""Mutants of the check of a net and one dependent on it, by name. Each breaks one rule of 02's Paper 8 or 9."""
 
 from functools import partial
 
@@ -14,7 +14,7 @@ whole = partial(mutant, DependentCheck)
 
 
 def dependent(**parts):
-    """A check whose reckoning of the hung net has these parts."""
+    """A check whose reckoning of the dependent net has these parts."""
     return whole(reckoning=type("Mutant", (DependentReckoning,), parts))
 
 
@@ -46,7 +46,7 @@ def answered(rule):
 
 
 def refused_as(rule):
-    """A check that changes a refusal of the hung net by rule(net, refusal)."""
+    """A check that changes a refusal of the dependent net by rule(net, refusal)."""
     return answered(lambda nets, lengths, right: rule(*right) if isinstance(right, NetRefusal) else right)
 
 
@@ -66,7 +66,7 @@ def lists_first(nets, lengths, right):
 
 
 def ranges_first(nets, lengths, right):
-    """The hung net's 8 and 3 before the main net's 5, 6 and 7."""
+    """The dependent net's 8 and 3 before the main net's 5, 6 and 7."""
     if right.__class__ is NetRefusal and right.net == MAIN and right.refusal.number in (5, 6, 7):
         if DependentCheck().is_short(lengths):
             return NetRefusal(DEPENDENT, Refusal(8))
@@ -76,7 +76,7 @@ def ranges_first(nets, lengths, right):
 
 
 def alone(nets, lengths, right):
-    """The hung net as a net by itself where C is all zeros, Paper 9's row sums included."""
+    """The dependent net as a net by itself where C is all zeros, Paper 9's row sums included."""
     if any(any(row) for row in DependentCheck().rows(nets)) if right.__class__ is PairBounds else True:
         return right
     net = check(nets.dependent, lengths.dependent)
@@ -137,8 +137,8 @@ MUTANTS = {
     "6 without slack": dependent(is_small=lambda self, residual, slack: abs(residual) <= CAP),
     "6 at 2^25": dependent(is_small=lambda self, residual, slack: abs(residual) + slack < CAP),
     "limits without the slack": dependent(carried=lambda self, system, slacks: [0] * system.n),
-    "6 before 5 in the hung net": dependent(ORDER=(6, 5, 7)),
-    "the hung net alone where C is 0": answered(alone),
+    "6 before 5 in the dependent net": dependent(ORDER=(6, 5, 7)),
+    "the dependent net alone where C is 0": answered(alone),
     "refusals of net 2 as of net 1": refused_as(lambda net, refusal: NetRefusal(MAIN, refusal)),
     "refusals of net 1 as of net 2": refused_as(lambda net, refusal: NetRefusal(DEPENDENT, refusal)),
     "6 of net 2 without its row": refused_as(lambda net, refusal: NetRefusal(net, Refusal(6) if net == DEPENDENT and refusal.number == 6 else refusal)),

@@ -1,4 +1,4 @@
-"""Nets hung from others by chance (02, Paper 8): suburbs of a main net, any two systems, and pairs whose slacks, limits or residuals are at the ends."""
+"""Nets dependent on others, by chance (02, Paper 8): suburbs of a main net, any two systems, and pairs whose slacks, limits or residuals are at the ends."""
 
 from operator import mul
 from typing import NamedTuple
@@ -15,7 +15,7 @@ RESIDUAL = 2**25
 
 
 class Pair(NamedTuple):
-    """A main net, a net hung from it, and C as rows."""
+    """A main net, a net dependent on it, and C as rows."""
 
     main: Net
     dependent: Net
@@ -35,7 +35,7 @@ def joint_solution(main, matrix, coupling, right):
     return q1 * q2, product(H2, [q1 * b - cn for b, cn in zip(right, product(coupling, N1))])
 
 
-def hung(rng, main, matrix, coupling):
+def dependent_net(rng, main, matrix, coupling):
     """A dependent net with these numbers, with its proposal rounded to nearest steps or within one; None where it leaves its ranges."""
     exact, S = inverse_of(matrix), 2**main.s
     if exact is None or inverse_of(main.matrix) is None:
@@ -61,19 +61,19 @@ def suburb(rng, main, n):
         mark, other, weight = rng.randrange(n), rng.randrange(main.n), rng.randint(1, 8)
         matrix[mark][mark] += weight
         coupling[mark][other] -= weight
-    return hung(rng, main, frozen(matrix), coupling)
+    return dependent_net(rng, main, frozen(matrix), coupling)
 
 
 def any_coupling(rng, main, n):
     """Any matrix and any C, full or thin."""
     largest, filled = 2 ** rng.choice((0, 2, 6, rng.randint(0, 20))), rng.choice((1.0, 0.3, 1 / main.n))
     coupling = [[rng.randint(-largest, largest) if rng.random() < filled else 0 for _ in range(main.n)] for _ in range(n)]
-    return hung(rng, main, usual.general_matrix(rng, n), coupling)
+    return dependent_net(rng, main, usual.general_matrix(rng, n), coupling)
 
 
 def apart(rng, main, n):
     """C is all zeros."""
-    return hung(rng, main, usual.levelling_matrix(rng, n, 64), [[0] * main.n for _ in range(n)])
+    return dependent_net(rng, main, usual.levelling_matrix(rng, n, 64), [[0] * main.n for _ in range(n)])
 
 
 WAYS = (suburb, suburb, suburb, any_coupling, any_coupling, apart)
@@ -105,7 +105,7 @@ def slack_of(pair, E1):
 
 
 def tolerated(rng, n1, n2):
-    """Tolerances of the hung net: small, or as large as there is room, or one more in a row."""
+    """Tolerances of the dependent net: small, or as large as there is room, or one more in a row."""
     pair = usual_pair(rng, n1, n2)
     bounds = bounds_of(pair.main)
     if bounds is None:
@@ -120,7 +120,7 @@ def tolerated(rng, n1, n2):
 
 
 def shaken(rng, n1, n2):
-    """A poor guess of the hung net, which Paper 9 does not refuse, or a poor column of its inverse, which it does."""
+    """A poor guess of the dependent net, which Paper 9 does not refuse, or a poor column of its inverse, which it does."""
     pair = usual_pair(rng, n1, n2)
     net = pair.dependent
     if rng.randrange(3):
@@ -140,7 +140,7 @@ def wide_main(rng, n):
 
 
 def one_by_one(rng, main, coupling, residual=lambda rng: 0):
-    """A hung net whose matrix is 1 on its diagonal, in whole steps, with these rows of C and these residuals."""
+    """A dependent net whose matrix is 1 on its diagonal, in whole steps, with these rows of C and these residuals."""
     n, S, t = len(coupling), 2**main.s, rng.randint(0, 20)
     unit = [[int(i == j) for j in range(n)] for i in range(n)]
     right = [rng.randint(-9, 9) for _ in range(n)]
@@ -205,7 +205,7 @@ def several_main(rng, n1, n2):
 
 
 def several(rng, n1, n2):
-    """Failing margins, residuals and columns in the hung net, and a column at the sums along its rows; C is 0 in all but a row."""
+    """Failing margins, residuals and columns in the dependent net, and a column at the sums along its rows; C is 0 in all but a row."""
 
     def attempt():
         net = ends.several(rng, n2) if rng.randrange(3) else rows.near_column_sums(rng, n2)

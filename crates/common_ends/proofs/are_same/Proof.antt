@@ -2,7 +2,7 @@ use mathlib.Core.Path.{_≡_, sym, _∙_}
 use Prim.Native.Nat.{_≤_, _-_}
 use Rattle.integer.proofs.Machine.{read}
 use Rattle.linear.specs.Slice.{at}
-use Rattle.common.specs.Proposals.{allSame}
+use Rattle.common_spec.specs.Proposals.{allSame}
 use Rattle.common_ends.proofs.Loops.{same-none, same-next, same-end}
 use borrow.Author.Needs.{needs}
 use Rattle.common_ends.proofs.are_same.Statement.{statement}

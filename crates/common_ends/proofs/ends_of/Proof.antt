@@ -6,8 +6,8 @@ use mir.Val.{SFits}
 use mir.ValLaws.{toZ-ofZ, toZ-pos}
 use Rattle.integer.proofs.Absolute.{abs-+, abs-sub}
 use Rattle.integer.proofs.Machine.{small}
-use Rattle.reckoning.proofs.Sizes.{power-size}
-use Rattle.common.proofs.Sizes.{stepped-size}
+use Rattle.check_arrays.proofs.Magnitudes.{power-magnitude}
+use Rattle.common_spec.proofs.Magnitudes.{stepped-magnitude}
 use borrow.Author.Needs.{needs}
 use Rattle.common_ends.proofs.ends_of.Statement.{statement}
 use Rattle.common_ends.proofs.ends_of.Tie as tie
@@ -17,7 +17,7 @@ module _ (c : tie.After-power) where
   s = c .before
 
   small-factor : c .power .result < 2 ^ 63
-  small-factor = omega (arith, c .power .ensures, power-size _ (s .pre .0))
+  small-factor = omega (arith, c .power .ensures, power-magnitude _ (s .pre .0))
 
   small-half : s .args .e < 2 ^ 63
   small-half = omega (arith, s .pre .1 .1)
@@ -30,11 +30,11 @@ module _ (c : tie.After-power) where
 
   low-end : SFits w64 (pos (2 ^ s .args .k) *ℤ (s .args .x -ℤ pos (s .args .e)))
   low-end =
-      small _ (omega (arith, stepped-size (s .args .k) (s .args .x -ℤ pos (s .args .e)) (s .pre .0) (omega (arith, abs-sub (s .args .x) (pos (s .args .e)), s .pre .1))))
+      small _ (omega (arith, stepped-magnitude (s .args .k) (s .args .x -ℤ pos (s .args .e)) (s .pre .0) (omega (arith, abs-sub (s .args .x) (pos (s .args .e)), s .pre .1))))
 
   high-end : SFits w64 (pos (2 ^ s .args .k) *ℤ (s .args .x +ℤ pos (s .args .e)))
   high-end =
-      small _ (omega (arith, stepped-size (s .args .k) (s .args .x +ℤ pos (s .args .e)) (s .pre .0) (omega (arith, abs-+ (s .args .x) (pos (s .args .e)), s .pre .1))))
+      small _ (omega (arith, stepped-magnitude (s .args .k) (s .args .x +ℤ pos (s .args .e)) (s .pre .0) (omega (arith, abs-+ (s .args .x) (pos (s .args .e)), s .pre .1))))
 
 power-requires : tie.Need-power-requires
 power-requires c κs = search needs

@@ -1,7 +1,7 @@
 use mathlib.Core.Path.{sym, _∙_}
 use native.Mathlib.Omega.{arith}
 use Rattle.common_ends.specs.Met.{too-wide, narrow}
-use Rattle.common_ends.proofs.Loops.{fitting}
+use Rattle.common_ends.proofs.Loops.{fitting-of}
 use borrow.Author.Needs.{needs}
 use Rattle.common_ends.proofs.meet.Statement.{statement}
 use Rattle.common_ends.proofs.meet.Tie as tie
@@ -38,8 +38,8 @@ write-ends-requires c κs =
     let p = s .pre in (
       p .0,
       (
-        fitting _ _ _ _ (omega (arith, f .finer .ensures, p .1 .0)) (p .1 .1 .0) (sym (e1 .before .is-wide .ensures) ∙ e1 .if1 .left),
-        fitting _ _ _ _ (omega (arith, f .finer .ensures, p .1 .0)) (p .1 .1 .1) (sym (e2 .before .is-wide2 .ensures) ∙ e2 .if2 .left),
+        fitting-of _ _ _ _ (omega (arith, f .finer .ensures, p .1 .0)) (p .1 .1 .0) (sym (e1 .before .is-wide .ensures) ∙ e1 .if1 .left),
+        fitting-of _ _ _ _ (omega (arith, f .finer .ensures, p .1 .0)) (p .1 .1 .1) (sym (e2 .before .is-wide2 .ensures) ∙ e2 .if2 .left),
       ),
     )
 

@@ -8,7 +8,7 @@ use mir.ValLaws.{toZ-ofZ}
 use Rattle.linear.specs.Written.{written}
 use Rattle.integer.proofs.Machine.{read}
 use Rattle.linear.proofs.Written.{written-none, written-more, written-end, written-length}
-use Rattle.common.specs.Ends.{maxℤ, minℤ}
+use Rattle.common_spec.specs.Ends.{maxℤ, minℤ}
 use Prim.Native.Nat.{ℕ, _≤_, _-_}
 use mathlib.Core.Path.{_≡_}
 use Rattle.common_ends.specs.Met.{lowsOf, highsOf}
@@ -74,7 +74,7 @@ ends-of-requires : tie.Need-ends-of-requires Inv-loop μ-loop
 ends-of-requires c κs =
     let f = c .before .before .before .pre .1 .0 in
     let l = c .before .loop-test .taken in
-    (f .scale, (rw (read _ (c .ends-of-arg .given)) (f .guess .within .size _ l), f .narrow _ l))
+    (f .scale, (rw (read _ (c .ends-of-arg .given)) (f .guess .within .magnitudes _ l), f .narrow _ l))
 
 mul-ends-of-3 : tie.Need-mul-ends-of-3 Inv-loop μ-loop
 mul-ends-of-3 c = search needs
@@ -92,7 +92,7 @@ ends-of-requires-2 : tie.Need-ends-of-requires-2 Inv-loop μ-loop
 ends-of-requires-2 c κs =
     let f = c .before .before .before .before .before .pre .1 .1 in
     let l = c .before .before .before .loop-test .taken in
-    (f .scale, (rw (read _ (c .ends-of-arg2 .given)) (f .guess .within .size _ l), f .narrow _ l))
+    (f .scale, (rw (read _ (c .ends-of-arg2 .given)) (f .guess .within .magnitudes _ l), f .narrow _ l))
 
 common-of-requires : tie.Need-common-of-requires Inv-loop μ-loop
 common-of-requires c κs = search needs

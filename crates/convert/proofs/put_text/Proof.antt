@@ -43,9 +43,9 @@ returns-2 c =
 
 returns-3 : tie.Need-returns-3
 returns-3 c =
-    let told = c .before .before .before .before in
-    let r = told .before .before in
-    shown-unfit (start r .args .file .now) (r .convert-file .ensures) (search needs) (search needs) (told .enum-told .given .1) (c .put-list .ensures)
+    let status = c .before .before .before .before in
+    let r = status .before .before in
+    shown-unfit (start r .args .file .now) (r .convert-file .ensures) (search needs) (search needs) (status .enum-told .given .1) (c .put-list .ensures)
 
 pub put-text-spec : {M : Type 1} → statement M
 put-text-spec =

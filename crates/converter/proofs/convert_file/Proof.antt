@@ -21,9 +21,9 @@ enum-told c = search needs
 
 deliver-requires : tie.Need-deliver-requires
 deliver-requires c κs =
-    let told = c .before in
-    let r = at-read told in
-    ready (start r .args .file .now) (r .read-file .ensures) (told .enum-told .given .1)
+    let status = c .before in
+    let r = at-read status in
+    ready (start r .args .file .now) (r .read-file .ensures) (status .enum-told .given .1)
 
 returns : tie.Need-returns
 returns c =
@@ -35,9 +35,9 @@ same-length c = search needs
 
 returns-2 : tie.Need-returns-2
 returns-2 c =
-    let told = c .before .before .before .before in
-    let r = at-read told in
-    file-delivered (start r .args .file .now) (r .read-file .ensures) (told .enum-told .given .1) (c .before .before .deliver .ensures)
+    let status = c .before .before .before .before in
+    let r = at-read status in
+    file-delivered (start r .args .file .now) (r .read-file .ensures) (status .enum-told .given .1) (c .before .before .deliver .ensures)
 
 pub convert-file-spec : {M : Type 1} → statement M
 convert-file-spec =

@@ -1,8 +1,8 @@
 use mathlib.Core.Path.{sym}
 use native.Mathlib.Omega.{arith}
 use Rattle.linear.proofs.Places.{square}
-use Rattle.checked.specs.Input.{input}
-use Rattle.dependent.specs.Nets.{Nets, nets}
+use Rattle.check_spec.specs.Input.{input}
+use Rattle.dependent_spec.specs.Nets.{Nets, nets}
 use Rattle.dependent_check.proofs.Held.{short-solution, short-inverse, main-refused, marks-few, guess-known, limits-long, inverse-long, dependent-refused, both-accepted}
 use borrow.Author.Needs.{needs}
 use Rattle.dependent_check.proofs.check_dependent.Statement.{statement}
@@ -12,14 +12,14 @@ use Rattle.dependent_check.proofs.check_dependent.Tie as tie
 abbrev begun : tie.After-slice-known4 → tie.Start
 begun c = c .before .before .before .before
 
-abbrev told : tie.After-check-attached → tie.After-enum-told
-told a = a .before .before .before .before
+abbrev status : tie.After-check-dependent-net → tie.After-enum-told
+status a = a .before .before .before .before
 
-abbrev returned : tie.After-slice-known6 → tie.After-check-attached
+abbrev returned : tie.After-slice-known6 → tie.After-check-dependent-net
 returned c = c .before .before .before .before
 
-abbrev own-told : tie.After-limits2 → tie.After-enum-told2
-own-told l = l .before .before .before
+abbrev own-status : tie.After-limits2 → tie.After-enum-told2
+own-status l = l .before .before .before
 
 abbrev copied : tie.After-inverse-limits2 → tie.After-copy-limits
 copied c = c .before .before .before .before
@@ -36,11 +36,11 @@ J s =
 abbrev start : tie.After-check-held → tie.Start
 start h = begun (h .before .before .before)
 
-abbrev held : tie.After-check-attached → tie.After-check-held
-held a = told a .before .before
+abbrev held : tie.After-check-dependent-net → tie.After-check-held
+held a = status a .before .before
 
-abbrev attached : tie.After-limits2 → tie.After-check-attached
-attached l = returned (own-told l .before .before)
+abbrev after-dependent : tie.After-limits2 → tie.After-check-dependent-net
+after-dependent l = returned (own-status l .before .before)
 
 returns : tie.Need-returns
 returns c = short-solution (J (begun (c .before))) (c .if1 .taken)
@@ -57,8 +57,8 @@ enum-known-main c = search needs
 enum-told : tie.Need-enum-told
 enum-told c = search needs
 
-check-attached-requires : tie.Need-check-attached-requires
-check-attached-requires c κs =
+check-dependent-net-requires : tie.Need-check-dependent-net-requires
+check-dependent-net-requires c κs =
     let h = c .before .before .before .before .before in
     let e = c .before .before .before .enum-told .given .1 in
     let l = h .before .before .if1 .left in
@@ -72,34 +72,34 @@ enum-told-2 c = search needs
 
 slice-aggregate-copy-limits : tie.Need-slice-aggregate-copy-limits
 slice-aggregate-copy-limits c =
-    let a = attached c in
-    let h = held a in sym (limits-long (J (start h)) (h .before .before .if1 .left) (h .before .if2 .left) (h .check-held .ensures) (told a .enum-told .given .1))
+    let a = after-dependent c in
+    let h = held a in sym (limits-long (J (start h)) (h .before .before .if1 .left) (h .before .if2 .left) (h .check-held .ensures) (status a .enum-told .given .1))
 
 copy-limits-requires : tie.Need-copy-limits-requires
 copy-limits-requires c κs =
-    let a = attached c in
+    let a = after-dependent c in
     let h = held a in
-    let e = told a .enum-told .given .1 in
+    let e = status a .enum-told .given .1 in
     let few = marks-few (J (start h)) (h .before .before .if1 .left) (h .before .if2 .left) (h .check-held .ensures) e in
     let long = limits-long (J (start h)) (h .before .before .if1 .left) (h .before .if2 .left) (h .check-held .ensures) e in
     (omega (arith, few, long), omega (arith, few, h .before .before .if1 .left))
 
 slice-aggregate-copy-limits-2 : tie.Need-slice-aggregate-copy-limits-2
 slice-aggregate-copy-limits-2 c =
-    let a = attached (copied c .before) in
-    let h = held a in sym (inverse-long (J (start h)) (h .before .before .if1 .left) (h .before .if2 .left) (h .check-held .ensures) (told a .enum-told .given .1))
+    let a = after-dependent (copied c .before) in
+    let h = held a in sym (inverse-long (J (start h)) (h .before .before .if1 .left) (h .before .if2 .left) (h .check-held .ensures) (status a .enum-told .given .1))
 
 mul-copy-limits : tie.Need-mul-copy-limits
 mul-copy-limits c =
-    let a = attached (copied c .before) in
+    let a = after-dependent (copied c .before) in
     let h = held a in
-    let few = marks-few (J (start h)) (h .before .before .if1 .left) (h .before .if2 .left) (h .check-held .ensures) (told a .enum-told .given .1) in omega (arith, square few)
+    let few = marks-few (J (start h)) (h .before .before .if1 .left) (h .before .if2 .left) (h .check-held .ensures) (status a .enum-told .given .1) in omega (arith, square few)
 
 copy-limits-requires-2 : tie.Need-copy-limits-requires-2
 copy-limits-requires-2 c κs =
-    let a = attached (copied c .before) in
+    let a = after-dependent (copied c .before) in
     let h = held a in
-    let e = told a .enum-told .given .1 in
+    let e = status a .enum-told .given .1 in
     let few = marks-few (J (start h)) (h .before .before .if1 .left) (h .before .if2 .left) (h .check-held .ensures) e in
     let long = inverse-long (J (start h)) (h .before .before .if1 .left) (h .before .if2 .left) (h .check-held .ensures) e in
     (omega (arith, square few, long), omega (arith, square few, h .before .if2 .left))
@@ -119,7 +119,7 @@ returns-4 : tie.Need-returns-4
 returns-4 c =
     let a = returned (c .before .before .before) in
     let h = held a in
-    dependent-refused (J (start h)) (h .before .before .if1 .left) (h .before .if2 .left) (h .check-held .ensures) (told a .enum-told .given .1) (a .check-attached .ensures) _ (c .before .own .given .1)
+    dependent-refused (J (start h)) (h .before .before .if1 .left) (h .before .if2 .left) (h .check-held .ensures) (status a .enum-told .given .1) (a .check-dependent-net .ensures) _ (c .before .own .given .1)
 
 same-length-3 : tie.Need-same-length-3
 same-length-3 c = search needs
@@ -136,9 +136,9 @@ same-length-6 c = search needs
 returns-5 : tie.Need-returns-5
 returns-5 c =
     let i = copied (c .before .before .before) in
-    let a = attached (i .before) in
+    let a = after-dependent (i .before) in
     let h = held a in
-    both-accepted (J (start h)) (h .before .before .if1 .left) (h .before .if2 .left) (h .check-held .ensures) (told a .enum-told .given .1) (a .check-attached .ensures) (own-told (i .before) .enum-told2 .given .1)
+    both-accepted (J (start h)) (h .before .before .if1 .left) (h .before .if2 .left) (h .check-held .ensures) (status a .enum-told .given .1) (a .check-dependent-net .ensures) (own-status (i .before) .enum-told2 .given .1)
     (i .copy-limits .ensures) (c .before .before .copy-limits2 .ensures)
 
 pub check-dependent-spec : {M : Type 1} → statement M
@@ -150,7 +150,7 @@ check-dependent-spec =
     check-held-requires
     enum-known-main
     enum-told
-    check-attached-requires
+    check-dependent-net-requires
     enum-known-own
     enum-told-2
     slice-aggregate-copy-limits

@@ -7,7 +7,7 @@ use mir.Syntax.{w64}
 use mir.Val.{toZ, ofZ}
 use Rattle.integer.specs.Quotient.{roundDiv}
 use Rattle.integer.proofs.Machine.{read}
-use Rattle.integer.proofs.Rounding.{round-near, round-size}
+use Rattle.integer.proofs.Rounding.{round-near, round-magnitude}
 use Rattle.entry.specs.Entry.{entryBound}
 use borrow.Author.Needs.{needs}
 use Rattle.entry.proofs.entry_bound.Statement.{statement}
@@ -33,7 +33,7 @@ distance-requires : tie.Need-distance-requires
 distance-requires c κs =
     let s = c .before .before in
     rw (guess-is s, value-is c, c .before .power .ensures)
-    (omega (arith, small s), omega (arith, small s, s .pre .0, round-size (s .args .x) (2 ^ s .args .s)))
+    (omega (arith, small s), omega (arith, small s, s .pre .0, round-magnitude (s .args .x) (2 ^ s .args .s)))
 
 ceil-sum-requires : tie.Need-ceil-sum-requires
 ceil-sum-requires c κs =

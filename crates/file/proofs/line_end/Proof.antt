@@ -2,8 +2,8 @@ use mathlib.Core.Path.{_≡_}
 use Prim.Native.Nat.{_+_, _-_, _≤_}
 use native.Mathlib.Omega.{arith}
 use lib.ListN.{length, drop}
-use Rattle.line_runs.specs.Length.{lineLength}
-use Rattle.line_runs.proofs.Lines.{length-feed, length-byte, length-end}
+use Rattle.loader_runs.specs.Length.{lineLength}
+use Rattle.loader_runs.proofs.Lines.{length-feed, length-byte, length-end}
 use borrow.Author.Needs.{needs}
 use Rattle.file.proofs.line_end.Statement.{statement}
 use Rattle.file.proofs.line_end.Tie as tie

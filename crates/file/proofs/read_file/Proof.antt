@@ -1,9 +1,9 @@
 use mathlib.Core.Path.{_≡_, refl, _∙_}
 use Prim.Native.Nat.{_-_}
 use lib.ListN.{length}
-use Rattle.lent_lists.specs.Lists.{lists}
-use Rattle.line_runs.specs.Read.{zeros}
-use Rattle.file.proofs.Turns.{Reached, at-start, at-end, read-on, read-refusal}
+use Rattle.loader_lists.specs.Lists.{lists}
+use Rattle.loader_runs.specs.Read.{zeros}
+use Rattle.file.proofs.Turns.{ReadUpTo, at-start, at-end, read-on, read-refusal}
 use borrow.Author.Needs.{needs}
 use Rattle.file.proofs.read_file.Statement.{statement}
 use Rattle.file.proofs.read_file.Tie as tie
@@ -11,7 +11,7 @@ use Rattle.file.proofs.read_file.Tie as tie
 abbrev Inv-loop : tie.InvT-loop
 Inv-loop file matrix₀ right₀ tolerance₀ guess₀ inverse₀ weights₀ loader₀ line₀ at₀ matrix right tolerance guess inverse weights loader line at =
     (length matrix ≡ 1024) × (length right ≡ 32) × (length tolerance ≡ 32) × (length guess ≡ 32) × (length inverse ≡ 1024) × (length weights ≡ 32)
-    × Reached file line at loader (lists matrix right tolerance guess inverse weights)
+    × ReadUpTo file line at loader (lists matrix right tolerance guess inverse weights)
 
 abbrev μ-loop : tie.MeasureT-loop
 μ-loop file matrix₀ right₀ tolerance₀ guess₀ inverse₀ weights₀ loader₀ line₀ at₀ matrix right tolerance guess inverse weights loader line at = length file - at

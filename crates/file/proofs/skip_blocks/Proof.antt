@@ -2,7 +2,7 @@ use mathlib.Core.Path.{_≡_, _∙_}
 use Prim.Native.Nat.{_+_, _-_, _≤_}
 use native.Mathlib.Omega.{arith}
 use lib.ListN.{length, drop}
-use Rattle.line_runs.specs.Length.{lineLength}
+use Rattle.loader_runs.specs.Length.{lineLength}
 use borrow.Author.Needs.{needs}
 use Rattle.file.proofs.skip_blocks.Statement.{statement}
 use Rattle.file.proofs.skip_blocks.Tie as tie

@@ -12,14 +12,14 @@ use Rattle.integer.proofs.distance.Statement.{statement}
 use Rattle.integer.proofs.distance.Tie as tie
 
 module _ (c : tie.Start) where
-  size : natAbs (pos (c .args .d) *ℤ c .args .v) ≡ c .args .d * natAbs (c .args .v)
-  size = abs-* (pos (c .args .d)) (c .args .v)
+  product-magnitude : natAbs (pos (c .args .d) *ℤ c .args .v) ≡ c .args .d * natAbs (c .args .v)
+  product-magnitude = abs-* (pos (c .args .d)) (c .args .v)
 
   product : SFits w64 (pos (c .args .d) *ℤ c .args .v)
-  product = small (pos (c .args .d) *ℤ c .args .v) (omega (arith, size))
+  product = small (pos (c .args .d) *ℤ c .args .v) (omega (arith, product-magnitude))
 
   rest : SFits w64 (c .args .x -ℤ pos (c .args .d) *ℤ c .args .v)
-  rest = small (c .args .x -ℤ pos (c .args .d) *ℤ c .args .v) (omega (arith, size, abs-sub (c .args .x) (pos (c .args .d) *ℤ c .args .v)))
+  rest = small (c .args .x -ℤ pos (c .args .d) *ℤ c .args .v) (omega (arith, product-magnitude, abs-sub (c .args .x) (pos (c .args .d) *ℤ c .args .v)))
 
 cast-magnitude : tie.Need-cast-magnitude
 cast-magnitude c = search needs
@@ -33,7 +33,7 @@ sub-magnitude c = simp (toZ-ofZ w64, toZ-pos w64, c .pre .0, c .fits .v, c .fits
 magnitude-requires : tie.Need-magnitude-requires
 magnitude-requires c κs =
     simp (toZ-ofZ w64, toZ-pos w64, c .pre .0, c .fits .v, c .fits .x, product c, rest c)
-    (omega (arith, size c, abs-sub (c .args .x) (pos (c .args .d) *ℤ c .args .v)))
+    (omega (arith, product-magnitude c, abs-sub (c .args .x) (pos (c .args .d) *ℤ c .args .v)))
 
 returns : tie.Need-returns
 returns c =

@@ -16,20 +16,20 @@ below c = below-zero (c .before .args .x) (simp (toZ-ofZ w64, c .before .fits .x
 above : (c : tie.Else1) → c .before .args .x ≡ pos (natAbs (c .before .args .x))
 above c = not-below-zero (c .before .args .x) (simp (toZ-ofZ w64, c .before .fits .x) at (c .if1 .left))
 
-size : (c : tie.Start) → SFits w64 (pos (natAbs (c .args .x)))
-size c = record { sfits = c .pre }
+magnitude-fits : (c : tie.Start) → SFits w64 (pos (natAbs (c .args .x)))
+magnitude-fits c = record { sfits = c .pre }
 
 sub-result : tie.Need-sub-result
-sub-result c = simp (toZ-ofZ w64, c .before .fits .x, below c) (size (c .before))
+sub-result c = simp (toZ-ofZ w64, c .before .fits .x, below c) (magnitude-fits (c .before))
 
 cast-result : tie.Need-cast-result
-cast-result c = simp (toZ-ofZ w64, c .before .fits .x, below c, size (c .before)) (tt, omega arith)
+cast-result c = simp (toZ-ofZ w64, c .before .fits .x, below c, magnitude-fits (c .before)) (tt, omega arith)
 
 cast-result-2 : tie.Need-cast-result-2
 cast-result-2 c = simp (toZ-ofZ w64, c .before .fits .x) (rw (above c) (tt, omega arith))
 
 returns : tie.Need-returns
-returns c = simp (toZ-ofZ w64, c .before .fits .x, below c, size (c .before))
+returns c = simp (toZ-ofZ w64, c .before .fits .x, below c, magnitude-fits (c .before))
 
 returns-2 : tie.Need-returns-2
 returns-2 c = search needs

@@ -35,13 +35,13 @@ use denote.Triple.Table.{entered, cited}
 use denote.Triple.Walked.{says, Stays, stay-none, stay-none-slice, gave-slice, walkOf, ends-at, goes-none, goes-none-slice, goes-gave-slice, Walks, walked, walk-meets}
 use denote.Exit.{yes}
 use denote.Signature.{plain}
-use Rattle.observation.specs.declared.Observation.{Observation}
-use Rattle.equations.specs.declared.Layout.the-variants.{Square}
-use Rattle.equations.proofs.Layout as L
-use Rattle.equations.proofs.Layout.Laws as L′
-use Rattle.builder.proofs.build.Symbol as build-def
-use Rattle.builder.proofs.build.Symbol.{name as #builder·build}
-use Rattle.builder.proofs.build.Met as build-thm
+use Rattle.build_lines.specs.declared.Observation.{Observation}
+use Rattle.build_equations.specs.declared.Layout.the-variants.{Square}
+use Rattle.build_equations.proofs.Layout as L
+use Rattle.build_equations.proofs.Layout.Laws as L′
+use Rattle.build.proofs.build.Symbol as build-def
+use Rattle.build.proofs.build.Symbol.{name as #build·build}
+use Rattle.build.proofs.build.Met as build-thm
 use Rattle.reply.proofs.built_number.Symbol as number-def
 use Rattle.reply.proofs.built_number.Symbol.{name as #reply·built-number}
 use Rattle.reply.proofs.built_number.Met as number-thm
@@ -78,7 +78,7 @@ module _ {M : Type 1} (𝓤 : URA M) (H : Heap 𝓤) (A : Atoms 𝓤) (W : Given
       nothing ! $ move ! (2 ∷ 0 ∷ []) $ fjoin ! $ move ! (2 ∷ 0 ∷ []) $ fjoin ! $ move ! (2 ∷ 0 ∷ []) $ fjoin ! $
       owned ! u32 (Is u32) (uint-makes 𝓤 H A W w32) n _ (refl, nf) $ fjoin ! $ done !
 
-  module _ (C : Calls 𝓤 H) (Λ : Loops 𝓤 H) (fm : FmC 𝓤 H (W .laws) C) (known-build : Triple 𝓤 (C #builder·build) (Build 𝓤 H A mem run)) (known-number : Triple 𝓤 (C #reply·built-number) (Number 𝓤 H A mem run)) where
+  module _ (C : Calls 𝓤 H) (Λ : Loops 𝓤 H) (fm : FmC 𝓤 H (W .laws) C) (known-build : Triple 𝓤 (C #build·build) (Build 𝓤 H A mem run)) (known-number : Triple 𝓤 (C #reply·built-number) (Number 𝓤 H A mem run)) where
     walk : Room R (length (x .now)) → Room i64 (length (m .now)) → Room i64 (length (r .now))
         → ent 𝓤 (onEntry 𝓤 H A self.signature (κ, (κ′, (κ″, tt))) (q, (q′, (q″, tt))) a vals) (WpFn 𝓤 H C Λ code.function (vint w32 n ∷ sl x ∷ sl m ∷ sl r ∷ []) Post)
     walk rx rm rr =
@@ -92,7 +92,7 @@ module _ {M : Type 1} (𝓤 : URA M) (H : Heap 𝓤) (A : Atoms 𝓤) (W : Given
         rest 𝓤 H A W mem run κ κ′ κ″ q q′ q″ n x Square m r nf laid-is C Λ fm known-build known-number rm rr Post exits l₀ l₁ l₂ l₃ l₄ l₅ l₆ l₇ l₈ l₉ l₁₀)))))))))))
 
 module _ {M : Type 1} (𝓤 : URA M) (H : Heap 𝓤) (A : Atoms 𝓤) (W : Given 𝓤 H A) (mem : Memory → SProp 𝓤) (run : Routine → Fun 𝓤) where
-  walks : (C : Calls 𝓤 H) (Λ : Loops 𝓤 H) → FmC 𝓤 H (W .laws) C → Triple 𝓤 (C #builder·build) (Build 𝓤 H A mem run) → Triple 𝓤 (C #reply·built-number) (Number 𝓤 H A mem run)
+  walks : (C : Calls 𝓤 H) (Λ : Loops 𝓤 H) → FmC 𝓤 H (W .laws) C → Triple 𝓤 (C #build·build) (Build 𝓤 H A mem run) → Triple 𝓤 (C #reply·built-number) (Number 𝓤 H A mem run)
       → Walks 𝓤 H A self.ended stayed (WpFn 𝓤 H C Λ code.function) (self.clauses 𝓤 H A mem run)
   walks C Λ fm known-build known-number = walked 𝓤 H A self.ended stayed (self.clauses 𝓤 H A mem run) (WpFn 𝓤 H C Λ code.function)
       (λ κs. (uint-vals w32, (slice-vals, (slice-vals, (slice-vals, tt))))) (λ κs. (uint-tells w32, (shr-slice-tells (named 0) (κs .0) R, (mut-slice-tells (named 1) (κs .1 .0) i64, (mut-slice-tells (named 2) (κs .1 .1 .0) i64, tt)))))
@@ -100,7 +100,7 @@ module _ {M : Type 1} (𝓤 : URA M) (H : Heap 𝓤) (A : Atoms 𝓤) (W : Given
       (walk 𝓤 H A W mem run (κs .0) (κs .1 .0) (κs .1 .1 .0) (qs .0) (qs .1 .0) (qs .1 .1 .0) (a .0) (a .1 .0) (a .1 .1 .0) (a .1 .1 .1 .0) (are .0 .1) C Λ fm known-build known-number (are .1 .0 .0 .1) (are .1 .1 .0 .0 .1) (are .1 .1 .1 .0 .0 .1)))
 
 meets : {M : Type 1} (𝓤 : URA M) (H : Heap 𝓤) (A : Atoms 𝓤) → Given 𝓤 H A → (mem : Memory → SProp 𝓤) (run : Routine → Fun 𝓤) (𝓣 : Tables 𝓤 H)
-    → Triple 𝓤 (𝓣 .C #builder·build) (Build 𝓤 H A mem run) → Triple 𝓤 (𝓣 .C #reply·built-number) (Number 𝓤 H A mem run)
+    → Triple 𝓤 (𝓣 .C #build·build) (Build 𝓤 H A mem run) → Triple 𝓤 (𝓣 .C #reply·built-number) (Number 𝓤 H A mem run)
     → Meets 𝓤 H A self.signature (WpFn 𝓤 H (𝓣 .C) (𝓣 .Λ) code.function) (self.spec 𝓤 H A mem run)
 meets 𝓤 H A W mem run 𝓣 known-build known-number =
     walk-meets 𝓤 H A self.ended stayed W (goes-none 𝓤 H A W 3 (λ _. u32) yes (λ κs x f. refl), (goes-none-slice 𝓤 H A W 3 (0 ∷ []) tt (plain (λ _. R)) yes, (goes-gave-slice 𝓤 H A W 3 1 tt (plain (λ _. i64)), (goes-gave-slice 𝓤 H A W 3 2 tt (plain (λ _. i64)), tt)))) (self.clauses 𝓤 H A mem run)
@@ -112,5 +112,5 @@ kodarfi-build-spec 𝓤 H 𝓜 𝓖 𝓡 =
     entered 𝓤 H (tripleOf 𝓤 H (𝓖 .A) self.signature (self.spec 𝓤 H (𝓖 .A) (𝓜 .mem) (𝓡 .run)))
     (tables 𝓤 H 𝓜 𝓡 code.env .C) (tables 𝓤 H 𝓜 𝓡 code.env .Λ) #self code.function (code.unfolded 𝓤 H 𝓜 𝓡)
     (meets 𝓤 H (𝓖 .A) (givenOf 𝓤 H 𝓜 𝓖) (𝓜 .mem) (𝓡 .run) (tablesOf 𝓤 H 𝓜 (tables 𝓤 H 𝓜 𝓡 code.env))
-    (cited 𝓤 H (Build 𝓤 H (𝓖 .A) (𝓜 .mem) (𝓡 .run)) 𝓜 𝓡 code.env #builder·build build-def.routine code.calls-builder·build (build-thm.met 𝓤 H 𝓜 𝓖 𝓡))
+    (cited 𝓤 H (Build 𝓤 H (𝓖 .A) (𝓜 .mem) (𝓡 .run)) 𝓜 𝓡 code.env #build·build build-def.routine code.calls-build·build (build-thm.met 𝓤 H 𝓜 𝓖 𝓡))
     (cited 𝓤 H (Number 𝓤 H (𝓖 .A) (𝓜 .mem) (𝓡 .run)) 𝓜 𝓡 code.env #reply·built-number number-def.routine code.calls-reply·built-number (number-thm.met 𝓤 H 𝓜 𝓖 𝓡)))

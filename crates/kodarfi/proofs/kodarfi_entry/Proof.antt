@@ -1,7 +1,7 @@
 use mathlib.Core.List.{[], _∷_}
 use Rattle.integer.proofs.Machine.{read}
 use Rattle.rules.specs.Refusal.{numberOf, valuesOf}
-use Rattle.reply.proofs.Told.{told, told-alone}
+use Rattle.reply.proofs.ReplyIs.{status, status-alone}
 use Rattle.kodarfi.proofs.Entry.{entry-exported, refusal-exported}
 use borrow.Author.Needs.{needs}
 use Rattle.kodarfi.proofs.kodarfi_entry.Statement.{statement}
@@ -16,8 +16,8 @@ enum-known-registered c = search needs
 no-refusal-requires : tie.Need-no-refusal-requires
 no-refusal-requires c κs = search needs
 
-tell-requires : tie.Need-tell-requires
-tell-requires c κs = search needs
+write-reply-requires : tie.Need-write-reply-requires
+write-reply-requires c κs = search needs
 
 enum-known-registered-2 : tie.Need-enum-known-registered-2
 enum-known-registered-2 c = search needs
@@ -25,8 +25,8 @@ enum-known-registered-2 c = search needs
 reply-of-requires : tie.Need-reply-of-requires
 reply-of-requires c κs = search needs
 
-tell-requires-2 : tie.Need-tell-requires-2
-tell-requires-2 c κs = search needs
+write-reply-requires-2 : tie.Need-write-reply-requires-2
+write-reply-requires-2 c κs = search needs
 
 returns : tie.Need-returns
 returns c =
@@ -35,7 +35,7 @@ returns c =
     let s = k .before .before .before in
     let g = rw (read (s .args .guess) (s .fits .guess .sfits)) at (k .before .before .register-entry .ensures) in
     entry-exported g (s .args .value .now) (s .args .value-bound .now) (k .registered .given .1) (read _ (m .before .known-told .given .0 .1))
-    (told [] (c .tell .ensures) (m .no-refusal .ensures))
+    (status [] (c .write-reply .ensures) (m .no-refusal .ensures))
 
 returns-2 : tie.Need-returns-2
 returns-2 c =
@@ -44,7 +44,7 @@ returns-2 c =
     let s = k .before .before .before in
     let g = rw (read (s .args .guess) (s .fits .guess .sfits)) at (k .before .before .register-entry .ensures) in
     let f = k .registered2 .given .0 .0 in
-    refusal-exported g (s .args .value .now) (s .args .value-bound .now) (k .registered2 .given .1) (told-alone (numberOf f ∷ valuesOf f) (c .tell2 .ensures) (m .reply-of .ensures))
+    refusal-exported g (s .args .value .now) (s .args .value-bound .now) (k .registered2 .given .1) (status-alone (numberOf f ∷ valuesOf f) (c .write-reply2 .ensures) (m .reply-of .ensures))
 
 pub kodarfi-entry-spec : {M : Type 1} → statement M
 kodarfi-entry-spec =
@@ -53,9 +53,9 @@ kodarfi-entry-spec =
     register-entry-requires
     enum-known-registered
     no-refusal-requires
-    tell-requires
+    write-reply-requires
     enum-known-registered-2
     reply-of-requires
-    tell-requires-2
+    write-reply-requires-2
     returns
     returns-2)

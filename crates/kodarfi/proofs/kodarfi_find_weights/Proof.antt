@@ -1,5 +1,5 @@
-use Rattle.weight_sequence.specs.Search.{saidFound}
-use Rattle.reply.proofs.Told.{told-alone}
+use Rattle.weights_spec.specs.Search.{searchCode}
+use Rattle.reply.proofs.ReplyIs.{status-alone}
 use borrow.Author.Needs.{needs}
 use Rattle.kodarfi.proofs.kodarfi_find_weights.Statement.{statement}
 use Rattle.kodarfi.proofs.kodarfi_find_weights.Tie as tie
@@ -13,8 +13,8 @@ tried-or-requires c κs = search needs
 found-reply-requires : tie.Need-found-reply-requires
 found-reply-requires c κs = search needs
 
-tell-requires : tie.Need-tell-requires
-tell-requires c κs = search needs
+write-reply-requires : tie.Need-write-reply-requires
+write-reply-requires c κs = search needs
 
 same-length : tie.Need-same-length
 same-length c = search needs
@@ -27,7 +27,7 @@ returns c =
     record {
       answer = k .find-weights .result;
       found = k .find-weights .ensures;
-      told = told-alone (saidFound (k .find-weights .result)) (c .tell .ensures) (r .found-reply .ensures);
+      status = status-alone (searchCode (k .find-weights .result)) (c .write-reply .ensures) (r .found-reply .ensures);
       tried-is = o .tried-or .ensures;
     }
 
@@ -38,6 +38,6 @@ kodarfi-find-weights-spec =
     find-weights-requires
     tried-or-requires
     found-reply-requires
-    tell-requires
+    write-reply-requires
     same-length
     returns)

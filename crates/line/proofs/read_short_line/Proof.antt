@@ -27,14 +27,14 @@ use denote.Triple.Entry.{alive, onEntry}
 use denote.Triple.Spec.{tripleOf}
 use denote.Triple.Statement.{Contract}
 use denote.Triple.Table.{entered, cited}
-use Rattle.numeral.specs.declared.Number.{Number}
-use Rattle.numeral.proofs.Number as N
-use Rattle.numeral.proofs.Number.Laws as Number′
-use Rattle.form.specs.declared.Head.{Head}
-use Rattle.form.proofs.Head as H
-use Rattle.form.proofs.Head.Laws as Head′
-use Rattle.form.proofs.Word.Laws as Word′
-use Rattle.form.specs.Reading.{reading}
+use Rattle.line_numeral.specs.declared.Number.{Number}
+use Rattle.line_numeral.proofs.Number as N
+use Rattle.line_numeral.proofs.Number.Laws as Number′
+use Rattle.line_form.specs.declared.Head.{Head}
+use Rattle.line_form.proofs.Head as H
+use Rattle.line_form.proofs.Head.Laws as Head′
+use Rattle.line_form.proofs.Word.Laws as Word′
+use Rattle.line_form.specs.Reading.{reading}
 use Rattle.line_parts.specs.Line.{ofReading}
 use Rattle.line_parts.proofs.Line.Laws as Line′
 use Rattle.line.proofs.reader.LineReader.Laws as T′
@@ -63,7 +63,7 @@ use Rattle.line.proofs.read_short_line as self
 use Rattle.line.proofs.read_short_line.Statement as stated
 use Rattle.line.proofs.read_short_line.Code as code
 use Rattle.line.proofs.read_short_line.Proof.Callees.{Callees as Known, Answers, Had, calls}
-use Rattle.line.proofs.Data.{Fits, fits, typed, owned, head, number, listed, line}
+use Rattle.line.proofs.Data.{Fits, fits, typed, owned, headData, numberData, listedData, lineData}
 use Rattle.line.proofs.Held.{Bytes, reader}
 use Rattle.line.proofs.Steps.{var, part, copied, kept, over, gone}
 use Rattle.line.proofs.Walks.{first-own, asks, leaves, begins}
@@ -104,31 +104,31 @@ module _ {M : Type 1} (𝓤 : URA M) (H : Heap 𝓤) (A : Atoms 𝓤) (mem : Mem
         asks ! fm _ _ _ (told .new) (and-then ! (var ! 29 refl) (no-more !)) (λ _ _. kept ! 27 refl (at 0 (lit< tt)) $
         -- the head
         copied ! 27 13 refl refl (at 0 (lit< tt)) $
-        asks ! fm _ _ _ (told .head 0 (lit< tt)) (and-then ! (var ! 13 refl) (no-more !)) (λ h (eh, ih). kept ! 25 refl (typed head 𝓤 H A W h ih) $
+        asks ! fm _ _ _ (told .head 0 (lit< tt)) (and-then ! (var ! 13 refl) (no-more !)) (λ h (eh, ih). kept ! 25 refl (typed headData 𝓤 H A W h ih) $
         -- the first number
         copied ! 27 9 refl refl (at 0 (lit< tt)) $
         asks ! fm _ _ _ (told .moved 0 (lit< tt) (h .next) (head-next h ih)) (and-then ! (var ! 9 refl) (and-then ! (part ! 25 1 refl refl refl) (no-more !))) (λ _ _. kept ! 11 refl (at (h .next) (head-next h ih)) $
-        asks ! fm _ _ _ (told .number (h .next) (head-next h ih)) (and-then ! (var ! 11 refl) (no-more !)) (λ i (ei, ii). kept ! 23 refl (typed number 𝓤 H A W i ii) $
+        asks ! fm _ _ _ (told .number (h .next) (head-next h ih)) (and-then ! (var ! 11 refl) (no-more !)) (λ i (ei, ii). kept ! 23 refl (typed numberData 𝓤 H A W i ii) $
         -- a second number, after a space
         copied ! 27 7 refl refl (at 0 (lit< tt)) $
         asks ! fm _ _ _ (told .space (i .next) (number-next i ii)) (and-then ! (var ! 29 refl) (and-then ! (part ! 23 1 refl refl refl) (no-more !))) (λ p (ep, ip). kept ! 5 refl (tt, record { fits = ip .1 }) $
         asks ! fm _ _ _ (told .moved 0 (lit< tt) p (ip .1)) (and-then ! (var ! 7 refl) (and-then ! (var ! 5 refl) (no-more !))) (λ _ _. over ! 11 refl (at p (ip .1)) $
-        asks ! fm _ _ _ (told .number p (ip .1)) (and-then ! (var ! 11 refl) (no-more !)) (λ v (ev, iv). kept ! 21 refl (typed number 𝓤 H A W v iv) $
+        asks ! fm _ _ _ (told .number p (ip .1)) (and-then ! (var ! 11 refl) (no-more !)) (λ v (ev, iv). kept ! 21 refl (typed numberData 𝓤 H A W v iv) $
         -- a list, after a space and a bracket
         copied ! 27 3 refl refl (at 0 (lit< tt)) $
         asks ! fm _ _ _ (told .bracket (i .next) (number-next i ii)) (and-then ! (var ! 29 refl) (and-then ! (part ! 23 1 refl refl refl) (no-more !))) (λ b (eb, ib). over ! 5 refl (tt, record { fits = ib .1 }) $
         asks ! fm _ _ _ (told .moved 0 (lit< tt) b (ib .1)) (and-then ! (var ! 3 refl) (and-then ! (var ! 5 refl) (no-more !))) (λ _ _. over ! 11 refl (at b (ib .1)) $
-        asks ! fm _ _ _ (told .list b (ib .1) (h .word) (head-word h ih)) (and-then ! (var ! 11 refl) (and-then ! (part ! 25 0 refl refl refl) (no-more !))) (λ l (el, il). kept ! 19 refl (typed listed 𝓤 H A W l il) $
+        asks ! fm _ _ _ (told .list b (ib .1) (h .word) (head-word h ih)) (and-then ! (var ! 11 refl) (and-then ! (part ! 25 0 refl refl refl) (no-more !))) (λ l (el, il). kept ! 19 refl (typed listedData 𝓤 H A W l il) $
         -- the last bracket
         asks ! fm _ _ _ (told .last h ih i ii v iv l il) (and-then ! (var ! 29 refl) (and-then ! (var ! 25 refl) (and-then ! (var ! 23 refl) (and-then ! (var ! 21 refl) (and-then ! (var ! 19 refl) (no-more !)))))) (λ m (em, im). kept ! 17 refl (tt, record { fits = im .1 }) $
         copied ! 27 1 refl refl (at 0 (lit< tt)) $
         asks ! fm _ _ _ (told .moved 0 (lit< tt) m (im .1)) (and-then ! (var ! 1 refl) (and-then ! (var ! 17 refl) (no-more !))) (λ _ _. over ! 11 refl (at m (im .1)) $
         asks ! fm _ _ _ (told .close m (im .1)) (and-then ! (var ! 11 refl) (no-more !)) (λ e (ee, ie). kept ! 15 refl (tt, record { fits = ie .1 }) $
-        asks ! fm _ _ _ (told .decide h ih i ii v iv l il e (ie .1)) (and-then ! (var ! 29 refl) (and-then ! (var ! 25 refl) (and-then ! (var ! 23 refl) (and-then ! (var ! 21 refl) (and-then ! (var ! 19 refl) (and-then ! (var ! 15 refl) (no-more !))))))) (λ r (er, ir). kept ! 31 refl (typed line 𝓤 H A W r ir) $
+        asks ! fm _ _ _ (told .decide h ih i ii v iv l il e (ie .1)) (and-then ! (var ! 29 refl) (and-then ! (var ! 25 refl) (and-then ! (var ! 23 refl) (and-then ! (var ! 21 refl) (and-then ! (var ! 19 refl) (and-then ! (var ! 15 refl) (no-more !))))))) (λ r (er, ir). kept ! 31 refl (typed lineData 𝓤 H A W r ir) $
         returns ! (look ! 31 refl) $ move ! (31 ∷ 32 ∷ 29 ∷ 30 ∷ 27 ∷ 28 ∷ 25 ∷ 26 ∷ 23 ∷ 24 ∷ 21 ∷ 22 ∷ 19 ∷ 20 ∷ 17 ∷ 18 ∷ 15 ∷ 16 ∷ 13 ∷ 14 ∷ 11 ∷ 12 ∷ 9 ∷ 10 ∷ 7 ∷ 8 ∷ 5 ∷ 6 ∷ 3 ∷ 4 ∷ 1 ∷ 2 ∷ []) $
         gone ! $ gone ! $ gone ! $ gone ! $ gone ! $ gone ! $ gone ! $ gone ! $ gone ! $ gone ! $ gone ! $ gone ! $ gone ! $ gone ! $ gone ! $ gone ! $ free0 ! $
         by ! (leaves 𝓤 H A self.ended (self.clauses 𝓤 H A mem run) y W (λ x. x ≡ ofReading (reading (now s))) (refl, λ x z. refl) Own (tt, tt) (tt, tt) (tt, tt) r (Line′.lowered r)
-        (er ∙ line-read (now s) eh ei ep ev eb el em ee) (owned line 𝓤 H A W Own r ir))))))))))))))))))))))))))))))))
+        (er ∙ line-read (now s) eh ei ep ev eb el em ee) (owned lineData 𝓤 H A W Own r ir))))))))))))))))))))))))))))))))
 
 pub read-short-line-spec : {M : Type 1} → stated.statement M
 unfolding code.routine tablesOf

@@ -1,5 +1,5 @@
 use Rattle.loader_numbers.proofs.Taken.{taken-accepted, taken-refused}
-use Rattle.lent_lists.specs.Lists.{Lists, lists}
+use Rattle.loader_lists.specs.Lists.{Lists, lists}
 use borrow.Author.Needs.{needs}
 use Rattle.loader_numbers.proofs.take.Statement.{statement}
 use Rattle.loader_numbers.proofs.take.Tie as tie

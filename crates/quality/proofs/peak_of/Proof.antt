@@ -4,7 +4,7 @@ use Prim.Native.Nat.{ℕ, _≤_, _<_, _-_}
 use native.Mathlib.Omega.{arith}
 use borrow.Author.Tests.{ltb-true, ltb-false}
 use lib.ListN.{getD}
-use Rattle.limit_factor.proofs.Peak.{Leading, leading-one, leading-stays, leading-moves, leading-end, peak-is}
+use Rattle.quality_spec.proofs.Peak.{Leading, leading-one, leading-stays, leading-moves, leading-end, peak-is}
 use borrow.Author.Needs.{needs}
 use Rattle.quality.proofs.peak_of.Statement.{statement}
 use Rattle.quality.proofs.peak_of.Tie as tie
@@ -17,43 +17,43 @@ abbrev μ-loop : tie.MeasureT-loop
 μ-loop spreads margins n k₀ m₀ k m = n - m
 
 -- the turn that two rows are compared in
-abbrev turn : tie.After-is-steeper Inv-loop μ-loop → tie.In-loop Inv-loop μ-loop
+abbrev turn : tie.After-is-larger-ratio Inv-loop μ-loop → tie.In-loop Inv-loop μ-loop
 turn c = c .before .before .before .before .before
 
 loop-holds : tie.Need-loop-holds Inv-loop μ-loop
 loop-holds c = (omega arith, (omega arith, leading-one 1 _ _))
 
-mul-is-steeper : tie.Need-mul-is-steeper Inv-loop μ-loop
-mul-is-steeper c = omega (arith, c .before .loop .inv .1 .1 .steepest .below)
+mul-is-larger-ratio : tie.Need-mul-is-larger-ratio Inv-loop μ-loop
+mul-is-larger-ratio c = omega (arith, c .before .loop .inv .1 .1 .largest-ratio-row .below)
 
-element-copy-out-is-steeper : tie.Need-element-copy-out-is-steeper Inv-loop μ-loop
-element-copy-out-is-steeper c = omega (arith, c .before .loop .inv .1 .1 .steepest .below)
+element-copy-out-is-larger-ratio : tie.Need-element-copy-out-is-larger-ratio Inv-loop μ-loop
+element-copy-out-is-larger-ratio c = omega (arith, c .before .loop .inv .1 .1 .largest-ratio-row .below)
 
-mul-is-steeper-2 : tie.Need-mul-is-steeper-2 Inv-loop μ-loop
-mul-is-steeper-2 c = omega (arith, c .before .before .loop .inv .1 .1 .steepest .below)
+mul-is-larger-ratio-2 : tie.Need-mul-is-larger-ratio-2 Inv-loop μ-loop
+mul-is-larger-ratio-2 c = omega (arith, c .before .before .loop .inv .1 .1 .largest-ratio-row .below)
 
-element-copy-out-is-steeper-2 : tie.Need-element-copy-out-is-steeper-2 Inv-loop μ-loop
-element-copy-out-is-steeper-2 c = omega (arith, c .before .before .loop .inv .1 .1 .steepest .below)
+element-copy-out-is-larger-ratio-2 : tie.Need-element-copy-out-is-larger-ratio-2 Inv-loop μ-loop
+element-copy-out-is-larger-ratio-2 c = omega (arith, c .before .before .loop .inv .1 .1 .largest-ratio-row .below)
 
-mul-is-steeper-3 : tie.Need-mul-is-steeper-3 Inv-loop μ-loop
-mul-is-steeper-3 c = search needs
+mul-is-larger-ratio-3 : tie.Need-mul-is-larger-ratio-3 Inv-loop μ-loop
+mul-is-larger-ratio-3 c = search needs
 
-element-copy-out-is-steeper-3 : tie.Need-element-copy-out-is-steeper-3 Inv-loop μ-loop
-element-copy-out-is-steeper-3 c = search needs
+element-copy-out-is-larger-ratio-3 : tie.Need-element-copy-out-is-larger-ratio-3 Inv-loop μ-loop
+element-copy-out-is-larger-ratio-3 c = search needs
 
-mul-is-steeper-4 : tie.Need-mul-is-steeper-4 Inv-loop μ-loop
-mul-is-steeper-4 c = search needs
+mul-is-larger-ratio-4 : tie.Need-mul-is-larger-ratio-4 Inv-loop μ-loop
+mul-is-larger-ratio-4 c = search needs
 
-element-copy-out-is-steeper-4 : tie.Need-element-copy-out-is-steeper-4 Inv-loop μ-loop
-element-copy-out-is-steeper-4 c = search needs
+element-copy-out-is-larger-ratio-4 : tie.Need-element-copy-out-is-larger-ratio-4 Inv-loop μ-loop
+element-copy-out-is-larger-ratio-4 c = search needs
 
-is-steeper-requires : tie.Need-is-steeper-requires Inv-loop μ-loop
-is-steeper-requires c κs =
+is-larger-ratio-requires : tie.Need-is-larger-ratio-requires Inv-loop μ-loop
+is-larger-ratio-requires c κs =
     let here = c .before .before .before .before in
     let s = here .before .before in
     let l = here .before .loop in
     let t = here .loop-test .taken in
-    let b : l .k < s .args .n = omega (arith, l .inv .1 .1 .steepest .below) in
+    let b : l .k < s .args .n = omega (arith, l .inv .1 .1 .largest-ratio-row .below) in
     ((s .pre .1 .0 _ b, s .pre .1 .1 _ t .1), (s .pre .1 .0 _ t, s .pre .1 .1 _ b .1))
 
 add-m : tie.Need-add-m Inv-loop μ-loop
@@ -69,7 +69,7 @@ loop-again c =
     let l = here .before .loop in
     let i = l .inv .1 .1 in
     let t = here .loop-test .taken in
-    let e = c .before .is-steeper .ensures in (
+    let e = c .before .is-larger-ratio .ensures in (
       omega arith,
       (
         omega arith,
@@ -83,7 +83,7 @@ loop-again c =
 returns : tie.Need-returns Inv-loop μ-loop
 returns c =
     let i = leading-end _ _ _ (c .before .loop .inv .1 .0) (c .loop-test .left) (c .before .loop .inv .1 .1) in
-    (i .steepest .below, sym (peak-is _ _ _ _ i))
+    (i .largest-ratio-row .below, sym (peak-is _ _ _ _ i))
 
 pub peak-of-spec : {M : Type 1} → statement M
 peak-of-spec =
@@ -92,15 +92,15 @@ peak-of-spec =
     Inv-loop
     μ-loop
     loop-holds
-    mul-is-steeper
-    element-copy-out-is-steeper
-    mul-is-steeper-2
-    element-copy-out-is-steeper-2
-    mul-is-steeper-3
-    element-copy-out-is-steeper-3
-    mul-is-steeper-4
-    element-copy-out-is-steeper-4
-    is-steeper-requires
+    mul-is-larger-ratio
+    element-copy-out-is-larger-ratio
+    mul-is-larger-ratio-2
+    element-copy-out-is-larger-ratio-2
+    mul-is-larger-ratio-3
+    element-copy-out-is-larger-ratio-3
+    mul-is-larger-ratio-4
+    element-copy-out-is-larger-ratio-4
+    is-larger-ratio-requires
     add-m
     loop-less
     loop-again

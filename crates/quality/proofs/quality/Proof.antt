@@ -1,8 +1,8 @@
 use mathlib.Core.Path.{_≡_, sym, _∙_}
 use mathlib.Core.Bool.{true, false}
 use Rattle.rules.proofs.Ranges.{both, both-left, not-both, not-first, size-range}
-use Rattle.limit_factor.specs.Inquiry.{Inquiry, inquiry, inquiryShort, inquiryInRanges, inquirySizes}
-use Rattle.limit_factor.proofs.Contract.{long-of, quality-short, quality-range}
+use Rattle.quality_spec.specs.Inquiry.{Inquiry, inquiry, inquiryShort, inquiryInRanges, inquirySizes}
+use Rattle.quality_spec.proofs.Contract.{long-inquiry, quality-short, quality-range}
 use borrow.Author.Needs.{needs}
 use Rattle.quality.proofs.quality.Statement.{statement}
 use Rattle.quality.proofs.quality.Tie as tie
@@ -38,7 +38,7 @@ are-sizes-in-range-requires c κs = search needs
 
 are-lists-in-range-requires : tie.Need-are-lists-in-range-requires
 are-lists-in-range-requires c κs =
-    let l = long-of (Q (start c)) (long (at-long c)) in
+    let l = long-inquiry (Q (start c)) (long (at-long c)) in
     (size-range _ (both-left _ _ (sizes c)) .1, (l .matrix, (l .inverse, l .weights)))
 
 rate-requires : tie.Need-rate-requires

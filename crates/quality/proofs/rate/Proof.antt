@@ -5,9 +5,9 @@ use lib.IntN.{natAbs}
 use Rattle.integer.proofs.Search.{first-past}
 use Rattle.enclosure.specs.Sound.{Margins}
 use Rattle.enclosure.specs.Reckoning.{margin, marginFails}
-use Rattle.limit_factor.specs.Peak.{spread}
-use Rattle.limit_factor.specs.Inquiry.{Inquiry, inquiry, inquiryProblem}
-use Rattle.limit_factor.proofs.Contract.{FitInquiry, fit-of, quality-low, quality-given}
+use Rattle.quality_spec.specs.Peak.{spread}
+use Rattle.quality_spec.specs.Inquiry.{Inquiry, inquiry, inquiryProblem}
+use Rattle.quality_spec.proofs.Contract.{FitInquiry, fit-inquiry, quality-low, quality-given}
 use Rattle.quality.proofs.Rows.{full-small, low-is, under, margin-is, above, spread-is, row-is}
 use Rattle.quality.proofs.rate.Statement.{statement}
 use Rattle.quality.proofs.rate.Tie as tie
@@ -23,7 +23,7 @@ abbrev Q : tie.Start → Inquiry
 Q s = let a = s .args in inquiry (a .n) (a .t) (a .matrix .now) (a .inverse .now) (a .weights .now)
 
 fit : (s : tie.Start) → FitInquiry (Q s)
-fit s = fit-of (Q s) (s .pre .0) (s .pre .1)
+fit s = fit-inquiry (Q s) (s .pre .0) (s .pre .1)
 
 -- where no margin is 0
 none-low : (c : tie.Else1) → Margins (inquiryProblem (Q (c .before .before .before .before)))

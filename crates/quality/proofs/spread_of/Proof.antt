@@ -4,7 +4,7 @@ use native.Mathlib.Omega.{arith}
 use native.Mathlib.Nat.{mul-le-mul}
 use lib.IntN.{natAbs}
 use Rattle.integer.proofs.Machine.{read}
-use Rattle.reckoning.proofs.Sizes.{power-size}
+use Rattle.check_arrays.proofs.Magnitudes.{power-magnitude}
 use borrow.Author.Needs.{needs}
 use Rattle.quality.proofs.spread_of.Statement.{statement}
 use Rattle.quality.proofs.spread_of.Tie as tie
@@ -17,7 +17,7 @@ module _ (c : tie.After-magnitude) where
   full-is = rw (c .before .power .ensures, weight-is)
 
   full-small : 2 ^ c .before .before .args .t * natAbs (c .before .before .args .w) ≤ 2 ^ 20 * 1024
-  full-small = mul-le-mul (power-size _ (c .before .before .pre .0)) (c .before .before .pre .1 .0)
+  full-small = mul-le-mul (power-magnitude _ (c .before .before .pre .0)) (c .before .before .pre .1 .0)
 
 power-requires : tie.Need-power-requires
 power-requires c κs = search needs

@@ -5,21 +5,21 @@ use lib.IntN.{natAbs}
 use lib.ListN.{getD, length, length-set}
 use Rattle.integer.proofs.Machine.{read}
 use Rattle.linear.specs.Slice.{at}
-use Rattle.reckoning.specs.Arrays.{Begins}
-use Rattle.reckoning.proofs.Filled.{begins-none, begins-more, begins-end}
+use Rattle.check_arrays.specs.Arrays.{PrefixIs}
+use Rattle.check_arrays.proofs.Filled.{prefix-none, prefix-more, prefix-end}
 use borrow.Author.Needs.{needs}
 use Rattle.quality.proofs.spreads_of.Statement.{statement}
 use Rattle.quality.proofs.spreads_of.Tie as tie
 
 abbrev Inv-loop : tie.InvT-loop
 Inv-loop t weights margins n out₀ m₀ out m =
-    (m ≤ n) × ((length out ≡ 32) × Begins 0 out m (λ (k : ℕ). 2 * (2 ^ t * natAbs (at weights k)) - getD margins k 0))
+    (m ≤ n) × ((length out ≡ 32) × PrefixIs 0 out m (λ (k : ℕ). 2 * (2 ^ t * natAbs (at weights k)) - getD margins k 0))
 
 abbrev μ-loop : tie.MeasureT-loop
 μ-loop t weights margins n out₀ m₀ out m = n - m
 
 loop-holds : tie.Need-loop-holds Inv-loop μ-loop
-loop-holds c = (omega arith, (refl, begins-none _ _ _))
+loop-holds c = (omega arith, (refl, prefix-none _ _ _))
 
 mul-spread-of : tie.Need-mul-spread-of Inv-loop μ-loop
 mul-spread-of c = search needs
@@ -38,7 +38,7 @@ spread-of-requires c κs =
     let i = c .before .before in
     let s = i .before .before in
     let l = i .loop-test .taken in
-    rw (read _ (c .before .spread-of-arg .given)) (s .pre .0 .0, (s .pre .1 .0 .within .size _ l, s .pre .1 .1 _ l))
+    rw (read _ (c .before .spread-of-arg .given)) (s .pre .0 .0, (s .pre .1 .0 .within .magnitudes _ l, s .pre .1 .1 _ l))
 
 mul-out : tie.Need-mul-out Inv-loop μ-loop
 mul-out c = search needs
@@ -58,12 +58,12 @@ loop-again c =
       omega arith,
       (
         simp length-set (l .inv .1 .0),
-        begins-more _ _ _ _ _ (l .inv .1 .1) (omega arith) (rw (read _ (c .before .before .spread-of-arg .given)) at (c .spread-of .ensures)),
+        prefix-more _ _ _ _ _ (l .inv .1 .1) (omega arith) (rw (read _ (c .before .before .spread-of-arg .given)) at (c .spread-of .ensures)),
       ),
     )
 
 returns : tie.Need-returns Inv-loop μ-loop
-returns c = begins-end _ (c .before .loop .inv .0) (c .loop-test .left) (c .before .loop .inv .1 .1)
+returns c = prefix-end _ (c .before .loop .inv .0) (c .loop-test .left) (c .before .loop .inv .1 .1)
 
 pub spreads-of-spec : {M : Type 1} → statement M
 spreads-of-spec =

@@ -1,8 +1,8 @@
 use mathlib.Core.Path.{sym, ap, _∙_}
-use Rattle.rules.specs.Refusal.{said}
+use Rattle.rules.specs.Refusal.{code}
 use Rattle.rules.specs.declared.Outcome.{Outcome}
-use Rattle.refusal.specs.Refused.{printed}
-use Rattle.refusal.specs.Reply.{replyOf}
+use Rattle.listing_refusal.specs.Refused.{printed}
+use Rattle.listing_refusal.specs.Reply.{replyOf}
 use borrow.Author.Needs.{needs}
 use Rattle.reply.proofs.outcome_reply.Statement.{statement}
 use Rattle.reply.proofs.outcome_reply.Tie as tie
@@ -23,7 +23,7 @@ returns : tie.Need-returns
 returns c = search needs
 
 returns-2 : tie.Need-returns-2
-returns-2 c = c .reply-of .ensures ∙ ap (λ (o : Outcome). replyOf (printed 0 (said o))) (sym (c .before .before .outcome .given .1))
+returns-2 c = c .reply-of .ensures ∙ ap (λ (o : Outcome). replyOf (printed 0 (code o))) (sym (c .before .before .outcome .given .1))
 
 pub outcome-reply-spec : {M : Type 1} → statement M
 outcome-reply-spec =

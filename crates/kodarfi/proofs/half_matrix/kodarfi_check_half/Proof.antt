@@ -1,5 +1,5 @@
-use Rattle.rules.specs.Refusal.{said}
-use Rattle.reply.proofs.Told.{told-alone}
+use Rattle.rules.specs.Refusal.{code}
+use Rattle.reply.proofs.ReplyIs.{status-alone}
 use borrow.Author.Needs.{needs}
 use Rattle.kodarfi.proofs.half_matrix.kodarfi_check_half.Statement.{statement}
 use Rattle.kodarfi.proofs.half_matrix.kodarfi_check_half.Tie as tie
@@ -10,8 +10,8 @@ check-half-requires c κs = search needs
 outcome-reply-requires : tie.Need-outcome-reply-requires
 outcome-reply-requires c κs = search needs
 
-tell-requires : tie.Need-tell-requires
-tell-requires c κs = search needs
+write-reply-requires : tie.Need-write-reply-requires
+write-reply-requires c κs = search needs
 
 same-length : tie.Need-same-length
 same-length c = search needs
@@ -23,7 +23,7 @@ returns : tie.Need-returns
 returns c =
     let r = c .before .before in
     let k = r .before .before .before .before .before in
-    record { outcome = k .check-half .result; checked = k .check-half .ensures; told = told-alone (said (k .check-half .result)) (c .tell .ensures) (r .outcome-reply .ensures) }
+    record { outcome = k .check-half .result; checked = k .check-half .ensures; status = status-alone (code (k .check-half .result)) (c .write-reply .ensures) (r .outcome-reply .ensures) }
 
 pub kodarfi-check-half-spec : {M : Type 1} → statement M
 kodarfi-check-half-spec =
@@ -31,7 +31,7 @@ kodarfi-check-half-spec =
     (tie.spec
     check-half-requires
     outcome-reply-requires
-    tell-requires
+    write-reply-requires
     same-length
     same-length-2
     returns)

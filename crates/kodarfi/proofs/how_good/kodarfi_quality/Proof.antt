@@ -1,5 +1,5 @@
-use Rattle.limit_factor.specs.Answer.{saidQuality}
-use Rattle.reply.proofs.Told.{told-alone}
+use Rattle.quality_spec.specs.Answer.{qualityCode}
+use Rattle.reply.proofs.ReplyIs.{status-alone}
 use borrow.Author.Needs.{needs}
 use Rattle.kodarfi.proofs.how_good.kodarfi_quality.Statement.{statement}
 use Rattle.kodarfi.proofs.how_good.kodarfi_quality.Tie as tie
@@ -16,8 +16,8 @@ denominator-or-requires c κs = search needs
 quality-reply-requires : tie.Need-quality-reply-requires
 quality-reply-requires c κs = search needs
 
-tell-requires : tie.Need-tell-requires
-tell-requires c κs = search needs
+write-reply-requires : tie.Need-write-reply-requires
+write-reply-requires c κs = search needs
 
 returns : tie.Need-returns
 returns c =
@@ -28,7 +28,7 @@ returns c =
     record {
       answer = k .quality .result;
       holds = k .quality .ensures;
-      told = told-alone (saidQuality (k .quality .result)) (c .tell .ensures) (r .quality-reply .ensures);
+      status = status-alone (qualityCode (k .quality .result)) (c .write-reply .ensures) (r .quality-reply .ensures);
       numerator-is = o .numerator-or .ensures;
       denominator-is = d .denominator-or .ensures;
     }
@@ -41,5 +41,5 @@ kodarfi-quality-spec =
     numerator-or-requires
     denominator-or-requires
     quality-reply-requires
-    tell-requires
+    write-reply-requires
     returns)

@@ -1,5 +1,5 @@
-use Rattle.rules.specs.Refusal.{said}
-use Rattle.reply.proofs.Told.{told-alone}
+use Rattle.rules.specs.Refusal.{code}
+use Rattle.reply.proofs.ReplyIs.{status-alone}
 use borrow.Author.Needs.{needs}
 use Rattle.kodarfi.proofs.line_by_line.kodarfi_loader_check.Statement.{statement}
 use Rattle.kodarfi.proofs.line_by_line.kodarfi_loader_check.Tie as tie
@@ -10,8 +10,8 @@ check-requires c κs = search needs
 outcome-reply-requires : tie.Need-outcome-reply-requires
 outcome-reply-requires c κs = search needs
 
-tell-requires : tie.Need-tell-requires
-tell-requires c κs = search needs
+write-reply-requires : tie.Need-write-reply-requires
+write-reply-requires c κs = search needs
 
 same-length : tie.Need-same-length
 same-length c = search needs
@@ -23,7 +23,7 @@ returns : tie.Need-returns
 returns c =
     let r = c .before .before in
     let k = r .before .before .before .before .before in
-    record { outcome = k .check .result; checked = k .check .ensures; told = told-alone (said (k .check .result)) (c .tell .ensures) (r .outcome-reply .ensures) }
+    record { outcome = k .check .result; checked = k .check .ensures; status = status-alone (code (k .check .result)) (c .write-reply .ensures) (r .outcome-reply .ensures) }
 
 pub kodarfi-loader-check-spec : {M : Type 1} → statement M
 kodarfi-loader-check-spec =
@@ -31,7 +31,7 @@ kodarfi-loader-check-spec =
     (tie.spec
     check-requires
     outcome-reply-requires
-    tell-requires
+    write-reply-requires
     same-length
     same-length-2
     returns)

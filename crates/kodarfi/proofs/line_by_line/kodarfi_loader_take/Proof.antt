@@ -1,5 +1,5 @@
-use Rattle.rules.specs.Refusal.{said}
-use Rattle.reply.proofs.Told.{told-alone}
+use Rattle.rules.specs.Refusal.{code}
+use Rattle.reply.proofs.ReplyIs.{status-alone}
 use borrow.Author.Needs.{needs}
 use Rattle.kodarfi.proofs.line_by_line.kodarfi_loader_take.Statement.{statement}
 use Rattle.kodarfi.proofs.line_by_line.kodarfi_loader_take.Tie as tie
@@ -17,8 +17,8 @@ take-requires c κs = search needs
 outcome-reply-requires : tie.Need-outcome-reply-requires
 outcome-reply-requires c κs = search needs
 
-tell-requires : tie.Need-tell-requires
-tell-requires c κs = search needs
+write-reply-requires : tie.Need-write-reply-requires
+write-reply-requires c κs = search needs
 
 same-length : tie.Need-same-length
 same-length c = search needs
@@ -42,7 +42,7 @@ returns : tie.Need-returns
 returns c =
     let r = c .before .before in
     let k = at-take r in
-    record { outcome = k .take .result; taken = k .take .ensures; told = told-alone (said (k .take .result)) (c .tell .ensures) (r .outcome-reply .ensures) }
+    record { outcome = k .take .result; taken = k .take .ensures; status = status-alone (code (k .take .result)) (c .write-reply .ensures) (r .outcome-reply .ensures) }
 
 pub kodarfi-loader-take-spec : {M : Type 1} → statement M
 kodarfi-loader-take-spec =
@@ -50,7 +50,7 @@ kodarfi-loader-take-spec =
     (tie.spec
     take-requires
     outcome-reply-requires
-    tell-requires
+    write-reply-requires
     same-length
     same-length-2
     same-length-3

@@ -1,5 +1,5 @@
-use Rattle.old_edition.specs.Converted.{saidConverted}
-use Rattle.reply.proofs.Told.{told-alone}
+use Rattle.convert_spec.specs.Converted.{convertCode}
+use Rattle.reply.proofs.ReplyIs.{status-alone}
 use borrow.Author.Needs.{needs}
 use Rattle.kodarfi.proofs.old_files.kodarfi_convert.Statement.{statement}
 use Rattle.kodarfi.proofs.old_files.kodarfi_convert.Tie as tie
@@ -13,8 +13,8 @@ length-or-requires c κs = search needs
 converted-reply-requires : tie.Need-converted-reply-requires
 converted-reply-requires c κs = search needs
 
-tell-requires : tie.Need-tell-requires
-tell-requires c κs = search needs
+write-reply-requires : tie.Need-write-reply-requires
+write-reply-requires c κs = search needs
 
 same-length : tie.Need-same-length
 same-length c = search needs
@@ -27,7 +27,7 @@ returns c =
     record {
       answer = k .convert .result;
       converted = k .convert .ensures;
-      told = told-alone (saidConverted (k .convert .result)) (c .tell .ensures) (r .converted-reply .ensures);
+      status = status-alone (convertCode (k .convert .result)) (c .write-reply .ensures) (r .converted-reply .ensures);
       written-is = o .length-or .ensures;
     }
 
@@ -38,6 +38,6 @@ kodarfi-convert-spec =
     convert-requires
     length-or-requires
     converted-reply-requires
-    tell-requires
+    write-reply-requires
     same-length
     returns)

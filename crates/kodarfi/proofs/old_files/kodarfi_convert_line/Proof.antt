@@ -1,5 +1,5 @@
-use Rattle.old_edition.specs.Converted.{saidConverted}
-use Rattle.reply.proofs.Told.{told-alone}
+use Rattle.convert_spec.specs.Converted.{convertCode}
+use Rattle.reply.proofs.ReplyIs.{status-alone}
 use borrow.Author.Needs.{needs}
 use Rattle.kodarfi.proofs.old_files.kodarfi_convert_line.Statement.{statement}
 use Rattle.kodarfi.proofs.old_files.kodarfi_convert_line.Tie as tie
@@ -13,8 +13,8 @@ length-or-requires c κs = search needs
 converted-reply-requires : tie.Need-converted-reply-requires
 converted-reply-requires c κs = search needs
 
-tell-requires : tie.Need-tell-requires
-tell-requires c κs = search needs
+write-reply-requires : tie.Need-write-reply-requires
+write-reply-requires c κs = search needs
 
 same-length : tie.Need-same-length
 same-length c = search needs
@@ -28,7 +28,7 @@ returns c =
       exported = record {
         answer = k .convert-file .result .answer;
         converted = k .convert-file .ensures .answer;
-        told = told-alone (saidConverted (k .convert-file .result .answer)) (c .tell .ensures) (r .converted-reply .ensures);
+        status = status-alone (convertCode (k .convert-file .result .answer)) (c .write-reply .ensures) (r .converted-reply .ensures);
         written-is = o .length-or .ensures;
       };
       line-is = k .convert-file .ensures .line;
@@ -41,6 +41,6 @@ kodarfi-convert-line-spec =
     convert-file-requires
     length-or-requires
     converted-reply-requires
-    tell-requires
+    write-reply-requires
     same-length
     returns)

@@ -1,6 +1,6 @@
 use Rattle.rules.specs.Order.{refusalOf}
-use Rattle.dependent.specs.Order.{saidNets}
-use Rattle.reply.proofs.Told.{told-alone}
+use Rattle.dependent_spec.specs.Order.{netsCode}
+use Rattle.reply.proofs.ReplyIs.{status-alone}
 use borrow.Author.Needs.{needs}
 use Rattle.kodarfi.proofs.two_nets.kodarfi_check_dependent.Statement.{statement}
 use Rattle.kodarfi.proofs.two_nets.kodarfi_check_dependent.Tie as tie
@@ -14,8 +14,8 @@ net-of-requires c κs = search needs
 nets-reply-requires : tie.Need-nets-reply-requires
 nets-reply-requires c κs = search needs
 
-tell-requires : tie.Need-tell-requires
-tell-requires c κs = search needs
+write-reply-requires : tie.Need-write-reply-requires
+write-reply-requires c κs = search needs
 
 same-length : tie.Need-same-length
 same-length c = search needs
@@ -39,7 +39,7 @@ returns c =
       answer = k .check-dependent .result;
       checked = k .check-dependent .ensures;
       net-is = o .net-of .ensures;
-      told = told-alone (refusalOf (saidNets (k .check-dependent .result))) (c .tell .ensures) (r .nets-reply .ensures);
+      status = status-alone (refusalOf (netsCode (k .check-dependent .result))) (c .write-reply .ensures) (r .nets-reply .ensures);
     }
 
 pub kodarfi-check-dependent-spec : {M : Type 1} → statement M
@@ -49,7 +49,7 @@ kodarfi-check-dependent-spec =
     check-dependent-requires
     net-of-requires
     nets-reply-requires
-    tell-requires
+    write-reply-requires
     same-length
     same-length-2
     same-length-3

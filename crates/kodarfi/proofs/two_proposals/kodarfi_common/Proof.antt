@@ -1,6 +1,6 @@
 use Rattle.rules.specs.Order.{refusalOf}
-use Rattle.common.specs.Answer.{saidCommon}
-use Rattle.reply.proofs.Told.{told-alone}
+use Rattle.common_spec.specs.Answer.{commonCode}
+use Rattle.reply.proofs.ReplyIs.{status-alone}
 use borrow.Author.Needs.{needs}
 use Rattle.kodarfi.proofs.two_proposals.kodarfi_common.Statement.{statement}
 use Rattle.kodarfi.proofs.two_proposals.kodarfi_common.Tie as tie
@@ -14,8 +14,8 @@ proposal-of-requires c κs = search needs
 common-reply-requires : tie.Need-common-reply-requires
 common-reply-requires c κs = search needs
 
-tell-requires : tie.Need-tell-requires
-tell-requires c κs = search needs
+write-reply-requires : tie.Need-write-reply-requires
+write-reply-requires c κs = search needs
 
 same-length : tie.Need-same-length
 same-length c = search needs
@@ -31,7 +31,7 @@ returns c =
     record {
       answer = k .common-interval .result;
       found = k .common-interval .ensures;
-      told = told-alone (refusalOf (saidCommon (k .common-interval .result))) (c .tell .ensures) (r .common-reply .ensures);
+      status = status-alone (refusalOf (commonCode (k .common-interval .result))) (c .write-reply .ensures) (r .common-reply .ensures);
       proposal-is = o .proposal-of .ensures;
     }
 
@@ -42,7 +42,7 @@ kodarfi-common-spec =
     common-interval-requires
     proposal-of-requires
     common-reply-requires
-    tell-requires
+    write-reply-requires
     same-length
     same-length-2
     returns)

@@ -1,5 +1,5 @@
-use Rattle.exchange.specs.Inward.{saidGuessed}
-use Rattle.reply.proofs.Told.{told-alone}
+use Rattle.doubles_lists.specs.Inward.{guessesCode}
+use Rattle.reply.proofs.ReplyIs.{status-alone}
 use borrow.Author.Needs.{needs}
 use Rattle.kodarfi.proofs.with_doubles.kodarfi_guesses.Statement.{statement}
 use Rattle.kodarfi.proofs.with_doubles.kodarfi_guesses.Tie as tie
@@ -10,8 +10,8 @@ guesses-of-requires c κs = search needs
 guessed-reply-requires : tie.Need-guessed-reply-requires
 guessed-reply-requires c κs = search needs
 
-tell-requires : tie.Need-tell-requires
-tell-requires c κs = search needs
+write-reply-requires : tie.Need-write-reply-requires
+write-reply-requires c κs = search needs
 
 same-length : tie.Need-same-length
 same-length c = search needs
@@ -23,8 +23,8 @@ returns c =
     record {
       answer = k .guesses-of .result;
       guessed = k .guesses-of .ensures;
-      told = told-alone (saidGuessed (k .guesses-of .result)) (c .tell .ensures) (r .guessed-reply .ensures);
+      status = status-alone (guessesCode (k .guesses-of .result)) (c .write-reply .ensures) (r .guessed-reply .ensures);
     }
 
 pub kodarfi-guesses-spec : {M : Type 1} → statement M
-kodarfi-guesses-spec = tie.close (tie.spec guesses-of-requires guessed-reply-requires tell-requires same-length returns)
+kodarfi-guesses-spec = tie.close (tie.spec guesses-of-requires guessed-reply-requires write-reply-requires same-length returns)

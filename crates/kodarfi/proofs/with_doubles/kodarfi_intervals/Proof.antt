@@ -1,5 +1,5 @@
-use Rattle.rules.specs.Refusal.{said}
-use Rattle.reply.proofs.Told.{told-alone}
+use Rattle.rules.specs.Refusal.{code}
+use Rattle.reply.proofs.ReplyIs.{status-alone}
 use borrow.Author.Needs.{needs}
 use Rattle.kodarfi.proofs.with_doubles.kodarfi_intervals.Statement.{statement}
 use Rattle.kodarfi.proofs.with_doubles.kodarfi_intervals.Tie as tie
@@ -10,8 +10,8 @@ intervals-of-requires c κs = search needs
 outcome-reply-requires : tie.Need-outcome-reply-requires
 outcome-reply-requires c κs = search needs
 
-tell-requires : tie.Need-tell-requires
-tell-requires c κs = search needs
+write-reply-requires : tie.Need-write-reply-requires
+write-reply-requires c κs = search needs
 
 same-length : tie.Need-same-length
 same-length c = search needs
@@ -26,7 +26,7 @@ returns c =
     record {
       outcome = k .intervals-of .result;
       ends = k .intervals-of .ensures;
-      told = told-alone (said (k .intervals-of .result)) (c .tell .ensures) (r .outcome-reply .ensures);
+      status = status-alone (code (k .intervals-of .result)) (c .write-reply .ensures) (r .outcome-reply .ensures);
     }
 
 pub kodarfi-intervals-spec : {M : Type 1} → statement M
@@ -35,7 +35,7 @@ kodarfi-intervals-spec =
     (tie.spec
     intervals-of-requires
     outcome-reply-requires
-    tell-requires
+    write-reply-requires
     same-length
     same-length-2
     returns)

@@ -26,19 +26,19 @@ use denote.Slice.{sliceVal, slice-vals, shr-slice-copy}
 use denote.Triple.Entry.{alive}
 use denote.Triple.Spec.{tripleOf}
 use denote.Triple.Statement.{Triple}
-use Rattle.numeral.specs.Numeral.{numberAt}
-use Rattle.numeral.specs.Capped.{cappedNumber}
-use Rattle.numeral.specs.declared.Number.{Number}
-use Rattle.numeral.proofs.Number.Laws as Number′
-use Rattle.form.specs.Form.{bytes}
-use Rattle.form.specs.ListAt.{listedAt}
-use Rattle.form.specs.Reading.{wordAt, headAt}
-use Rattle.form.specs.declared.Head.{Head}
-use Rattle.form.specs.declared.Listed.{Listed}
-use Rattle.form.specs.declared.Word.{Word}
-use Rattle.form.proofs.Head.Laws as Head′
-use Rattle.form.proofs.Listed.Laws as Listed′
-use Rattle.form.proofs.Word.Laws as Word′
+use Rattle.line_numeral.specs.Numeral.{numberAt}
+use Rattle.line_numeral.specs.Capped.{cappedNumber}
+use Rattle.line_numeral.specs.declared.Number.{Number}
+use Rattle.line_numeral.proofs.Number.Laws as Number′
+use Rattle.line_form.specs.Form.{bytes}
+use Rattle.line_form.specs.ListAt.{listedAt}
+use Rattle.line_form.specs.Reading.{wordAt, headAt}
+use Rattle.line_form.specs.declared.Head.{Head}
+use Rattle.line_form.specs.declared.Listed.{Listed}
+use Rattle.line_form.specs.declared.Word.{Word}
+use Rattle.line_form.proofs.Head.Laws as Head′
+use Rattle.line_form.proofs.Listed.Laws as Listed′
+use Rattle.line_form.proofs.Word.Laws as Word′
 use Rattle.line_parts.specs.Parts.{kindOf, lastIn, decided}
 use Rattle.line.specs.declared.reader.LineReader.{LineReader}
 use Rattle.line_parts.proofs.Line.Laws as Line′
@@ -63,8 +63,8 @@ use Rattle.line_parts.proofs.last_at as last
 use Rattle.line_parts.proofs.last_at.Symbol.{name as #last}
 use Rattle.line_parts.proofs.decide as decide
 use Rattle.line_parts.proofs.decide.Symbol.{name as #decide}
-use Rattle.line.proofs.Data.{Fits, is-low, owned, place, word, head, number, listed}
-use Rattle.line.proofs.Held.{first, Bytes, Reader, reader, reader-of}
+use Rattle.line.proofs.Data.{Fits, is-low, owned, placeData, wordData, headData, numberData, listedData}
+use Rattle.line.proofs.Held.{firstLifetime, Bytes, Reader, reader, reader-of}
 use Rattle.line.proofs.Walks.{Told, answers, replies}
 
 module _ {M : Type 1} (𝓤 : URA M) (H : Heap 𝓤) (A : Atoms 𝓤) (mem : Memory → SProp 𝓤) (run : Routine → Fun 𝓤) where
@@ -109,12 +109,12 @@ module _ {M : Type 1} (𝓤 : URA M) (H : Heap 𝓤) (A : Atoms 𝓤) (mem : Mem
       pub head : (n : ℕ) → n < 2 ^ 64 → ent 𝓤 Had (C #head (rd n ∷ []) (Told 𝓤 H A Had (Is-some Head′.lowers (λ h. h ≡ headAt (now s) n))))
       pub number : (n : ℕ) → n < 2 ^ 64 → ent 𝓤 Had (C #number (rd n ∷ []) (Told 𝓤 H A Had (Is-some Number′.lowers (λ i. i ≡ cappedNumber (numberAt (now s) n)))))
       pub list : (n : ℕ) → n < 2 ^ 64 → (w : Word) → Fits Word′.lowers w → ent 𝓤 Had (C #list (rd n ∷ Word′.lowered w ∷ []) (Told 𝓤 H A Had (Is-some Listed′.lowers (λ l. l ≡ listedAt (kindOf w) (now s) n))))
-      pub close : (n : ℕ) → n < 2 ^ 64 → ent 𝓤 Had (C #close (rd n ∷ []) (Told 𝓤 H A Had (Is-some (place .lowers) (λ m. m ≡ wordAt (now s) n (bytes ")")))))
-      pub space : (n : ℕ) → n < 2 ^ 64 → ent 𝓤 Had (C #space (sl ∷ vint w64 n ∷ []) (Told 𝓤 H A Had (Is-some (place .lowers) (λ m. m ≡ wordAt (now s) n (bytes " ")))))
-      pub bracket : (n : ℕ) → n < 2 ^ 64 → ent 𝓤 Had (C #bracket (sl ∷ vint w64 n ∷ []) (Told 𝓤 H A Had (Is-some (place .lowers) (λ m. m ≡ wordAt (now s) n (bytes " (")))))
+      pub close : (n : ℕ) → n < 2 ^ 64 → ent 𝓤 Had (C #close (rd n ∷ []) (Told 𝓤 H A Had (Is-some (placeData .lowers) (λ m. m ≡ wordAt (now s) n (bytes ")")))))
+      pub space : (n : ℕ) → n < 2 ^ 64 → ent 𝓤 Had (C #space (sl ∷ vint w64 n ∷ []) (Told 𝓤 H A Had (Is-some (placeData .lowers) (λ m. m ≡ wordAt (now s) n (bytes " ")))))
+      pub bracket : (n : ℕ) → n < 2 ^ 64 → ent 𝓤 Had (C #bracket (sl ∷ vint w64 n ∷ []) (Told 𝓤 H A Had (Is-some (placeData .lowers) (λ m. m ≡ wordAt (now s) n (bytes " (")))))
       pub last : (h : Head) → Fits Head′.lowers h → (i : Number) → Fits Number′.lowers i → (v : Number) → Fits Number′.lowers v → (l : Listed) → Fits Listed′.lowers l
           → ent 𝓤 Had (C #last (sl ∷ Head′.lowered h ∷ Number′.lowered i ∷ Number′.lowered v ∷ Listed′.lowered l ∷ [])
-          (Told 𝓤 H A Had (Is-some (place .lowers) (λ m. m ≡ lastIn (now s) h i v l))))
+          (Told 𝓤 H A Had (Is-some (placeData .lowers) (λ m. m ≡ lastIn (now s) h i v l))))
       pub decide : (h : Head) → Fits Head′.lowers h → (i : Number) → Fits Number′.lowers i → (v : Number) → Fits Number′.lowers v → (l : Listed) → Fits Listed′.lowers l → (e : ℕ) → e < 2 ^ 64
           → ent 𝓤 Had (C #decide (sl ∷ Head′.lowered h ∷ Number′.lowered i ∷ Number′.lowered v ∷ Listed′.lowered l ∷ vint w64 e ∷ [])
           (Told 𝓤 H A Had (Is-some Line′.lowers (λ r. r ≡ decided (now s) h i v l e))))
@@ -124,13 +124,13 @@ module _ {M : Type 1} (𝓤 : URA M) (H : Heap 𝓤) (A : Atoms 𝓤) (mem : Mem
       twice = shr-slice-copy 𝓤 H A W (named 0) κ u8 .twice s (slice-vals s)
 
       made : (m : ℕ) (r : LineReader) (u : Val) → Is (Reader κ) r (u ∷ []) → (r .line ≡ s) × (r .at ≡ m) → At m u
-      made m r u i (e, e′) = (tt, is-low (T′.lowers (first κ)) r u i ∙ (λ k. rd-at (e k) (e′ k)), tt)
+      made m r u i (e, e′) = (tt, is-low (T′.lowers (firstLifetime κ)) r u i ∙ (λ k. rd-at (e k) (e′ k)), tt)
         where
           rd-at : RefT (List ℕ) → ℕ → Val
           rd-at t n = T′.lowered (reader t n)
 
       of-place : (n : ℕ) → n < 2 ^ 64 → ent 𝓤 Own (sem 𝓤 H A (usize .own n (vint w64 n ∷ [])))
-      of-place n n< = owned place 𝓤 H A W Own n (refl, n<)
+      of-place n n< = owned placeData 𝓤 H A W Own n (refl, n<)
 
       of-reader : (n : ℕ) → n < 2 ^ 64 → ent 𝓤 Own (sem 𝓤 H A (Reader κ .own (reader s n) (rd n ∷ [])))
       of-reader n n< = reader-of 𝓤 H A W κ s n n<
@@ -146,17 +146,17 @@ module _ {M : Type 1} (𝓤 : URA M) (H : Heap 𝓤) (A : Atoms 𝓤) (mem : Mem
         number = λ n n<. replies 𝓤 H A number-of.ended (number-of.clauses 𝓤 H A mem run) (((κ, tt), (q, tt), tt, (reader s n, tt), (rd n ∷ [], tt)), tt) W _ (refl, λ r e. refl) Own Number′.lowers (C #number) (fm #number) (known .number) twice
             (of-reader n n<, tt);
         list = λ n n< w i. replies 𝓤 H A list-of.ended (list-of.clauses 𝓤 H A mem run) (((κ, tt), (q, tt), tt, (reader s n, (w, tt)), (rd n ∷ [], (Word′.lowered w ∷ [], tt))), tt) W _ (refl, λ r e. refl) Own Listed′.lowers (C #list) (fm #list) (known .list) twice
-            (of-reader n n<, (owned word 𝓤 H A W Own w i, tt));
-        close = λ n n<. replies 𝓤 H A close-of.ended (close-of.clauses 𝓤 H A mem run) (((κ, tt), (q, tt), tt, (reader s n, tt), (rd n ∷ [], tt)), tt) W _ (refl, λ r e. refl) Own (place .lowers) (C #close) (fm #close) (known .close) twice
+            (of-reader n n<, (owned wordData 𝓤 H A W Own w i, tt));
+        close = λ n n<. replies 𝓤 H A close-of.ended (close-of.clauses 𝓤 H A mem run) (((κ, tt), (q, tt), tt, (reader s n, tt), (rd n ∷ [], tt)), tt) W _ (refl, λ r e. refl) Own (placeData .lowers) (C #close) (fm #close) (known .close) twice
             (of-reader n n<, tt);
-        space = λ n n<. replies 𝓤 H A space.ended (space.clauses 𝓤 H A mem run) (((κ, tt), (q, tt), tt, (s, (n, tt)), (sl ∷ [], (vint w64 n ∷ [], tt))), tt) W _ (refl, λ r e. refl) Own (place .lowers) (C #space) (fm #space) (known .space) twice
+        space = λ n n<. replies 𝓤 H A space.ended (space.clauses 𝓤 H A mem run) (((κ, tt), (q, tt), tt, (s, (n, tt)), (sl ∷ [], (vint w64 n ∷ [], tt))), tt) W _ (refl, λ r e. refl) Own (placeData .lowers) (C #space) (fm #space) (known .space) twice
             (id⊢ 𝓤 Own, (of-place n n<, tt));
-        bracket = λ n n<. replies 𝓤 H A bracket.ended (bracket.clauses 𝓤 H A mem run) (((κ, tt), (q, tt), tt, (s, (n, tt)), (sl ∷ [], (vint w64 n ∷ [], tt))), tt) W _ (refl, λ r e. refl) Own (place .lowers) (C #bracket) (fm #bracket) (known .bracket) twice
+        bracket = λ n n<. replies 𝓤 H A bracket.ended (bracket.clauses 𝓤 H A mem run) (((κ, tt), (q, tt), tt, (s, (n, tt)), (sl ∷ [], (vint w64 n ∷ [], tt))), tt) W _ (refl, λ r e. refl) Own (placeData .lowers) (C #bracket) (fm #bracket) (known .bracket) twice
             (id⊢ 𝓤 Own, (of-place n n<, tt));
         last = λ h is-h i is-i v is-v l is-l. replies 𝓤 H A last.ended (last.clauses 𝓤 H A mem run)
-            (((κ, tt), (q, tt), tt, (s, (h, (i, (v, (l, tt))))), (sl ∷ [], (Head′.lowered h ∷ [], (Number′.lowered i ∷ [], (Number′.lowered v ∷ [], (Listed′.lowered l ∷ [], tt)))))), tt) W _ (refl, λ r e. refl) Own (place .lowers) (C #last) (fm #last) (known .last) twice
-            (id⊢ 𝓤 Own, (owned head 𝓤 H A W Own h is-h, (owned number 𝓤 H A W Own i is-i, (owned number 𝓤 H A W Own v is-v, (owned listed 𝓤 H A W Own l is-l, tt)))));
+            (((κ, tt), (q, tt), tt, (s, (h, (i, (v, (l, tt))))), (sl ∷ [], (Head′.lowered h ∷ [], (Number′.lowered i ∷ [], (Number′.lowered v ∷ [], (Listed′.lowered l ∷ [], tt)))))), tt) W _ (refl, λ r e. refl) Own (placeData .lowers) (C #last) (fm #last) (known .last) twice
+            (id⊢ 𝓤 Own, (owned headData 𝓤 H A W Own h is-h, (owned numberData 𝓤 H A W Own i is-i, (owned numberData 𝓤 H A W Own v is-v, (owned listedData 𝓤 H A W Own l is-l, tt)))));
         decide = λ h is-h i is-i v is-v l is-l e e<. replies 𝓤 H A decide.ended (decide.clauses 𝓤 H A mem run)
             (((κ, tt), (q, tt), tt, (s, (h, (i, (v, (l, (e, tt)))))), (sl ∷ [], (Head′.lowered h ∷ [], (Number′.lowered i ∷ [], (Number′.lowered v ∷ [], (Listed′.lowered l ∷ [], (vint w64 e ∷ [], tt))))))), tt) W _ (refl, λ r z. refl) Own Line′.lowers (C #decide) (fm #decide) (known .decide) twice
-            (id⊢ 𝓤 Own, (owned head 𝓤 H A W Own h is-h, (owned number 𝓤 H A W Own i is-i, (owned number 𝓤 H A W Own v is-v, (owned listed 𝓤 H A W Own l is-l, (of-place e e<, tt))))));
+            (id⊢ 𝓤 Own, (owned headData 𝓤 H A W Own h is-h, (owned numberData 𝓤 H A W Own i is-i, (owned numberData 𝓤 H A W Own v is-v, (owned listedData 𝓤 H A W Own l is-l, (of-place e e<, tt))))));
       }

@@ -1,5 +1,5 @@
 use mathlib.Core.Path.{sym, _∙_}
-use Rattle.checked.specs.Input.{Input, input}
+use Rattle.check_spec.specs.Input.{Input, input}
 use Rattle.loader_order.proofs.Through.{through-ended, through-open}
 use borrow.Author.Needs.{needs}
 use Rattle.loader.proofs.Loader.check.Statement.{statement}

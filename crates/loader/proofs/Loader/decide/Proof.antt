@@ -1,7 +1,7 @@
 use mathlib.Core.Path.{sym, _∙_}
 use Prim.Native.Nat.{_<_}
 use native.Mathlib.Omega.{arith}
-use Rattle.numeral.specs.Numeral.{capAt}
+use Rattle.line_numeral.specs.Numeral.{capAt}
 use Rattle.loader.proofs.Line.{decided-short, decided-ended, decided-unread, decided-form}
 use borrow.Author.Needs.{needs}
 use Rattle.loader.proofs.Loader.decide.Statement.{statement}

@@ -1,8 +1,8 @@
 use mathlib.Core.Path.{_≡_, sym, _∙_}
 use mathlib.Core.Bool.{false}
-use Rattle.form_values.specs.Capped.{outsideIn}
-use Rattle.given_forms.specs.Progress.{early, misplaced, repeated}
-use Rattle.given_forms.proofs.Progress.{placed-32}
+use Rattle.loader_values.specs.Capped.{outsideIn}
+use Rattle.loader_progress.specs.Progress.{early, misplaced, repeated}
+use Rattle.loader_progress.proofs.Progress.{placed-32}
 use Rattle.loader.proofs.Judge.{says-11, says-3-place, says-12, says-3-values, says-4, says-rest}
 use borrow.Author.Needs.{needs}
 use Rattle.loader.proofs.Loader.judge_form.Statement.{statement}

@@ -1,5 +1,5 @@
 use mathlib.Core.Path.{sym}
-use Rattle.lent_lists.specs.Lists.{Lists, lists}
+use Rattle.loader_lists.specs.Lists.{Lists, lists}
 use Rattle.loader.specs.Decided.{DecidedFor}
 use Rattle.loader.proofs.Line.{taken-so}
 use borrow.Author.Needs.{needs}

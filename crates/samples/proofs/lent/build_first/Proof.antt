@@ -44,20 +44,20 @@ use denote.Triple.Table.{entered, cited}
 use denote.Triple.Walked.{goes-none, goes-gave-slice, Walks, walked, walk-meets}
 use denote.Exit.{yes}
 use denote.Signature.{plain}
-use Rattle.observation.specs.declared.Built.{Built}
-use Rattle.observation.specs.declared.Observation.{Observation}
-use Rattle.observation.proofs.Built as B
-use Rattle.observation.proofs.Built.Laws as B′
-use Rattle.observation.proofs.Observation as T
-use Rattle.observation.proofs.Observation.Laws as T′
-use Rattle.equations.specs.declared.Layout.{Layout}
-use Rattle.equations.proofs.Layout as L
-use Rattle.equations.proofs.Layout.Laws as L′
-use Rattle.built.specs.BuiltAs.{BuiltAs}
-use Rattle.builder.proofs.build as build-fn
-use Rattle.builder.proofs.build.Symbol as build-def
-use Rattle.builder.proofs.build.Symbol.{name as #builder·build}
-use Rattle.builder.proofs.build.Met as build-thm
+use Rattle.build_lines.specs.declared.Built.{Built}
+use Rattle.build_lines.specs.declared.Observation.{Observation}
+use Rattle.build_lines.proofs.Built as B
+use Rattle.build_lines.proofs.Built.Laws as B′
+use Rattle.build_lines.proofs.Observation as T
+use Rattle.build_lines.proofs.Observation.Laws as T′
+use Rattle.build_equations.specs.declared.Layout.{Layout}
+use Rattle.build_equations.proofs.Layout as L
+use Rattle.build_equations.proofs.Layout.Laws as L′
+use Rattle.build.specs.BuiltAs.{BuiltAs}
+use Rattle.build.proofs.build as build-fn
+use Rattle.build.proofs.build.Symbol as build-def
+use Rattle.build.proofs.build.Symbol.{name as #build·build}
+use Rattle.build.proofs.build.Met as build-thm
 use Rattle.samples.proofs.lent.build_first.Key.{name as #build-first}
 use Rattle.samples.proofs.lent.build_first as self
 use Rattle.samples.proofs.lent.build_first.Statement as stated
@@ -85,7 +85,7 @@ module _ {M : Type 1} (𝓤 : URA M) (H : Heap 𝓤) (A : Atoms 𝓤) (W : Given
   all : length ls ≡ 320
   all = is .1 .0 .1
 
-  module _ (C : Calls 𝓤 H) (Λ : Loops 𝓤 H) (fm : FmC 𝓤 H (W .laws) C) (known-build : Triple 𝓤 (C #builder·build) (Build 𝓤 H A mem run)) where
+  module _ (C : Calls 𝓤 H) (Λ : Loops 𝓤 H) (fm : FmC 𝓤 H (W .laws) C) (known-build : Triple 𝓤 (C #build·build) (Build 𝓤 H A mem run)) where
     walk : Room i64 (length (m .now)) → Room i64 (length (r .now))
         → ent 𝓤 (sep 𝓤 (onEntry 𝓤 H A self.signature (κ′, (κ″, tt)) (q′, (q″, tt)) a vals) (fact 𝓤 (k ≤ 320))) (WpFn 𝓤 H C Λ code.function (vint w32 n ∷ array-val ls ∷ vint w64 k ∷ laid lay ∷ sl m ∷ sl r ∷ []) Post)
     walk rm rr =
@@ -130,14 +130,14 @@ module _ {M : Type 1} (𝓤 : URA M) (H : Heap 𝓤) (A : Atoms 𝓤) (W : Given
         move ! (1 ∷ []) $ by ! (exits 𝓤 H A W mem run κ′ κ″ q′ q″ n ls k lay m r nf kf is lf b w (zs .1 .1 .1 .0) (zs .1 .1 .1 .1 .0) d lm lr))))))))))))))))))))))))))
 
 module _ {M : Type 1} (𝓤 : URA M) (H : Heap 𝓤) (A : Atoms 𝓤) (W : Given 𝓤 H A) (mem : Memory → SProp 𝓤) (run : Routine → Fun 𝓤) where
-  build-first-walks : (C : Calls 𝓤 H) (Λ : Loops 𝓤 H) → FmC 𝓤 H (W .laws) C → Triple 𝓤 (C #builder·build) (Build 𝓤 H A mem run) → Walks 𝓤 H A self.ended stayed (WpFn 𝓤 H C Λ code.function) (self.clauses 𝓤 H A mem run)
+  build-first-walks : (C : Calls 𝓤 H) (Λ : Loops 𝓤 H) → FmC 𝓤 H (W .laws) C → Triple 𝓤 (C #build·build) (Build 𝓤 H A mem run) → Walks 𝓤 H A self.ended stayed (WpFn 𝓤 H C Λ code.function) (self.clauses 𝓤 H A mem run)
   build-first-walks C Λ fm known-build = walked 𝓤 H A self.ended stayed (self.clauses 𝓤 H A mem run) (WpFn 𝓤 H C Λ code.function)
       (λ κs. (uint-vals w32, (array-vals line-vals, (uint-vals w64, (EL.vals L.the-type L′.the-laws, (slice-vals, (slice-vals, tt))))))) (λ κs. (uint-tells w32, (array-tells R line-vals (LL.tells T.the-type T′.the-laws) 320, (uint-tells w64, (EL.tells L.the-type L′.the-laws, (mut-slice-tells (named 0) (κs .0) i64, (mut-slice-tells (named 1) (κs .1 .0) i64, tt)))))))
       (λ κs qs bounds a g are.
       walk 𝓤 H A W mem run (κs .0) (κs .1 .0) (qs .0) (qs .1 .0) (a .0) (a .1 .0) (a .1 .1 .0) (a .1 .1 .1 .0) (a .1 .1 .1 .1 .0) (a .1 .1 .1 .1 .1 .0) (are .0 .1) (are .1 .1 .0 .1) (are .1 .0) (are .1 .1 .1 .0) C Λ fm known-build (are .1 .1 .1 .1 .0 .0 .1) (are .1 .1 .1 .1 .1 .0 .0 .1))
 
 build-first-meets : {M : Type 1} (𝓤 : URA M) (H : Heap 𝓤) (A : Atoms 𝓤) → Given 𝓤 H A → (mem : Memory → SProp 𝓤) (run : Routine → Fun 𝓤) (𝓣 : Tables 𝓤 H)
-    → Triple 𝓤 (𝓣 .C #builder·build) (Build 𝓤 H A mem run) → Meets 𝓤 H A self.signature (WpFn 𝓤 H (𝓣 .C) (𝓣 .Λ) code.function) (self.spec 𝓤 H A mem run)
+    → Triple 𝓤 (𝓣 .C #build·build) (Build 𝓤 H A mem run) → Meets 𝓤 H A self.signature (WpFn 𝓤 H (𝓣 .C) (𝓣 .Λ) code.function) (self.spec 𝓤 H A mem run)
 build-first-meets 𝓤 H A W mem run 𝓣 known-build =
     walk-meets 𝓤 H A self.ended stayed W (goes-none 𝓤 H A W 2 (λ _. u32) yes (λ κs x f. refl), (goes-none 𝓤 H A W 2 (λ _. Array R 320) yes (λ κs x f. refl), (goes-none 𝓤 H A W 2 (λ _. usize) yes (λ κs x f. refl), (goes-none 𝓤 H A W 2 (λ _. L.the-row) yes (λ κs x f. refl), (goes-gave-slice 𝓤 H A W 2 0 tt (plain (λ _. i64)), (goes-gave-slice 𝓤 H A W 2 1 tt (plain (λ _. i64)), tt)))))) (self.clauses 𝓤 H A mem run)
     (WpFn 𝓤 H (𝓣 .C) (𝓣 .Λ) code.function) (WpFn-mono 𝓤 H (W .laws) 𝓣 code.function) (build-first-walks 𝓤 H A W mem run (𝓣 .C) (𝓣 .Λ) (fmOf 𝓤 H (W .laws) 𝓣) known-build)
@@ -148,4 +148,4 @@ build-first-spec 𝓤 H 𝓜 𝓖 𝓡 =
     entered 𝓤 H (tripleOf 𝓤 H (𝓖 .A) self.signature (self.spec 𝓤 H (𝓖 .A) (𝓜 .mem) (𝓡 .run)))
     (tables 𝓤 H 𝓜 𝓡 code.env .C) (tables 𝓤 H 𝓜 𝓡 code.env .Λ) #build-first code.function (code.unfolded 𝓤 H 𝓜 𝓡)
     (build-first-meets 𝓤 H (𝓖 .A) (givenOf 𝓤 H 𝓜 𝓖) (𝓜 .mem) (𝓡 .run) (tablesOf 𝓤 H 𝓜 (tables 𝓤 H 𝓜 𝓡 code.env))
-    (cited 𝓤 H (Build 𝓤 H (𝓖 .A) (𝓜 .mem) (𝓡 .run)) 𝓜 𝓡 code.env #builder·build build-def.routine code.calls-builder·build (build-thm.met 𝓤 H 𝓜 𝓖 𝓡)))
+    (cited 𝓤 H (Build 𝓤 H (𝓖 .A) (𝓜 .mem) (𝓡 .run)) 𝓜 𝓡 code.env #build·build build-def.routine code.calls-build·build (build-thm.met 𝓤 H 𝓜 𝓖 𝓡)))

@@ -22,12 +22,12 @@ use denote.Triple.Entry.{Vals, alive, onEntry}
 use denote.Triple.Spec.{tripleOf}
 use denote.Triple.Statement.{Contract, Triple}
 use denote.Triple.Table.{entered, cited}
-use Rattle.form.specs.ListAt.{listedAt}
-use Rattle.form.specs.declared.Listed.{Listed}
-use Rattle.form.specs.declared.Word.{Word}
-use Rattle.form.proofs.Word as W′
-use Rattle.form.proofs.Word.Laws as Word′
-use Rattle.form.proofs.Listed.Laws as Listed′
+use Rattle.line_form.specs.ListAt.{listedAt}
+use Rattle.line_form.specs.declared.Listed.{Listed}
+use Rattle.line_form.specs.declared.Word.{Word}
+use Rattle.line_form.proofs.Word as W′
+use Rattle.line_form.proofs.Word.Laws as Word′
+use Rattle.line_form.proofs.Listed.Laws as Listed′
 use Rattle.line.specs.declared.reader.LineReader.{LineReader}
 use Rattle.line_parts.specs.Parts.{kindOf}
 use Rattle.line.proofs.reader.LineReader as T
@@ -40,8 +40,8 @@ use Rattle.line.proofs.reader.LineReader.list.Key.{name as #list}
 use Rattle.line.proofs.reader.LineReader.list as self
 use Rattle.line.proofs.reader.LineReader.list.Statement as stated
 use Rattle.line.proofs.reader.LineReader.list.Code as code
-use Rattle.line.proofs.Data.{Fits, typed, owned, place, word, listed}
-use Rattle.line.proofs.Held.{first, Reader, slice-of}
+use Rattle.line.proofs.Data.{Fits, typed, owned, placeData, wordData, listedData}
+use Rattle.line.proofs.Held.{firstLifetime, Reader, slice-of}
 use Rattle.line.proofs.Steps.{var, part, kept, gone}
 use Rattle.line.proofs.Walks.{first-own, replies, asks, leaves, begins}
 
@@ -74,20 +74,20 @@ module _ {M : Type 1} (𝓤 : URA M) (H : Heap 𝓤) (A : Atoms 𝓤) (mem : Mem
     abbrev found : Listed
     found = listedAt (kindOf w) (now (d .line)) (d .at)
 
-    walk : Fits (T′.lowers (first κ)) d → Fits Word′.lowers w → ent 𝓤 Entry (WpFn 𝓤 H C Λ code.function (T′.lowered d ∷ Word′.lowered w ∷ []) (Reading .post y))
+    walk : Fits (T′.lowers (firstLifetime κ)) d → Fits Word′.lowers w → ent 𝓤 Entry (WpFn 𝓤 H C Λ code.function (T′.lowered d ∷ Word′.lowered w ∷ []) (Reading .post y))
     walk i j =
-        let wt = LL.lawful (T.the-type (first κ)) (T′.the-laws (first κ)) 𝓤 H A W .typed d (T′.lowered d ∷ []) i .0 in
+        let wt = LL.lawful (T.the-type (firstLifetime κ)) (T′.the-laws (firstLifetime κ)) 𝓤 H A W .typed d (T′.lowered d ∷ []) i .0 in
         qed W (raw Entry ∷ []) ∵ use1 W (raw (sep 𝓤 Alive Own)) (monoR 𝓤 Alive (first-own 𝓤 H A (Reader κ) (W′.the-row ∷ []) (d, (w, tt)) vss)) $ enter ! C Λ code.function (T′.lowered d ∷ Word′.lowered w ∷ []) _ $
-        alloc1 ! (λ l₀. alloc1 ! (λ l₁. alloc1 ! (λ l₂. alloc1 ! (λ l₃. alloc1 ! (λ l₄. alloc0 ! $ params1 ! $ pass1 ! (init ! 6 refl wt) $ pass1 ! (init ! 4 refl (typed word 𝓤 H A W w j)) $ pass0 ! $ move ! (10 ∷ []) $
+        alloc1 ! (λ l₀. alloc1 ! (λ l₁. alloc1 ! (λ l₂. alloc1 ! (λ l₃. alloc1 ! (λ l₄. alloc0 ! $ params1 ! $ pass1 ! (init ! 6 refl wt) $ pass1 ! (init ! 4 refl (typed wordData 𝓤 H A W w j)) $ pass0 ! $ move ! (10 ∷ []) $
         -- [the token and what the reader owns; room for _4; …; room for _3; …; _2; …; _1; …; room for _0; …]
         assigns ! (of-opd ! (part ! 7 0 refl refl refl)) (from ! (stop !)) (init ! 3 refl (tt, wt .1 .0)) $
         assigns ! (of-opd ! (part ! 7 1 refl refl refl)) (from ! (stop !)) (init ! 1 refl (tt, wt .1 .1 .0)) $
         asks ! fm Listed′.lowered (λ r. (r ≡ found) × Fits Listed′.lowers r) _
         (replies 𝓤 H A core.ended (core.clauses 𝓤 H A mem run) z W (λ r. r ≡ found) (refl, λ r e. refl) Own Listed′.lowers (C #list-at) (fm #list-at) known
-        (LL.copy (T.the-type (first κ)) (T′.the-copy (first κ)) 𝓤 H A W .twice d (T′.lowered d ∷ [])) (slice-of 𝓤 H A W κ d, (owned place 𝓤 H A W Own (d .at) (refl, wt .1 .1 .0 .fits), (owned word 𝓤 H A W Own w j, tt))))
-        (and-then ! (var ! 3 refl) (and-then ! (var ! 1 refl) (and-then ! (var ! 5 refl) (no-more !)))) (λ r (e, l). kept ! 9 refl (typed listed 𝓤 H A W r l) $
+        (LL.copy (T.the-type (firstLifetime κ)) (T′.the-copy (firstLifetime κ)) 𝓤 H A W .twice d (T′.lowered d ∷ [])) (slice-of 𝓤 H A W κ d, (owned placeData 𝓤 H A W Own (d .at) (refl, wt .1 .1 .0 .fits), (owned wordData 𝓤 H A W Own w j, tt))))
+        (and-then ! (var ! 3 refl) (and-then ! (var ! 1 refl) (and-then ! (var ! 5 refl) (no-more !)))) (λ r (e, l). kept ! 9 refl (typed listedData 𝓤 H A W r l) $
         returns ! (look ! 9 refl) $ move ! (9 ∷ 10 ∷ 7 ∷ 8 ∷ 5 ∷ 6 ∷ 3 ∷ 4 ∷ 1 ∷ 2 ∷ []) $ gone ! $ gone ! $ gone ! $ gone ! $ gone ! $ free0 ! $
-        by ! (leaves 𝓤 H A self.ended (self.clauses 𝓤 H A mem run) y W (λ r. r ≡ found) (refl, λ r e. refl) Own (tt, (tt, tt)) (tt, (tt, tt)) (tt, (tt, tt)) r (Listed′.lowered r) e (owned listed 𝓤 H A W Own r l))))))))
+        by ! (leaves 𝓤 H A self.ended (self.clauses 𝓤 H A mem run) y W (λ r. r ≡ found) (refl, λ r e. refl) Own (tt, (tt, tt)) (tt, (tt, tt)) (tt, (tt, tt)) r (Listed′.lowered r) e (owned listedData 𝓤 H A W Own r l))))))))
 
 pub list-spec : {M : Type 1} → stated.statement M
 unfolding code.routine tablesOf
@@ -96,6 +96,6 @@ list-spec 𝓤 H 𝓜 𝓖 𝓡 =
     let 𝓣 = tables 𝓤 H 𝓜 𝓡 code.env in
     entered 𝓤 H (Reading 𝓤 H (𝓖 .A) (𝓜 .mem) (𝓡 .run)) (𝓣 .C) (𝓣 .Λ) #list code.function (code.unfolded 𝓤 H 𝓜 𝓡)
     (begins 𝓤 H (𝓖 .A) self.ended (self.clauses 𝓤 H (𝓖 .A) (𝓜 .mem) (𝓡 .run)) (WpFn 𝓤 H (𝓣 .C) (𝓣 .Λ) code.function)
-    (λ κs. ((λ d. T′.lowered d ∷ []), ((λ w. Word′.lowered w ∷ []), tt))) (λ κs. (T′.lowers (first (κs .0)) .val-is, (Word′.lowers .val-is, tt)))
+    (λ κs. ((λ d. T′.lowered d ∷ []), ((λ w. Word′.lowered w ∷ []), tt))) (λ κs. (T′.lowers (firstLifetime (κs .0)) .val-is, (Word′.lowers .val-is, tt)))
     (λ κs qs b a g are. walk 𝓤 H (𝓖 .A) (𝓜 .mem) (𝓡 .run) W (𝓣 .C) (𝓣 .Λ) (fmOf 𝓤 H (W .laws) (tablesOf 𝓤 H 𝓜 𝓣))
     (cited 𝓤 H (Core 𝓤 H (𝓖 .A) (𝓜 .mem) (𝓡 .run)) 𝓜 𝓡 code.env #list-at core-def.routine code.calls-line-parts·list-at (core-met.met 𝓤 H 𝓜 𝓖 𝓡)) (κs .0) (qs .0) (a .0) (a .1 .0) (are .0) (are .1 .0)))

@@ -33,7 +33,7 @@ use Rattle.line.proofs.reader.LineReader.moved.Key.{name as #moved}
 use Rattle.line.proofs.reader.LineReader.moved as moved
 use Rattle.line.proofs.reader.LineReader.moved.Statement as stated
 use Rattle.line.proofs.reader.LineReader.moved.Code as code
-use Rattle.line.proofs.Held.{first, Bytes, Reader, reader, reader-of, slice-of}
+use Rattle.line.proofs.Held.{firstLifetime, Bytes, Reader, reader, reader-of, slice-of}
 use Rattle.line.proofs.Steps.{var, part, gone}
 use Rattle.line.proofs.Walks.{first-own, leaves, begins}
 
@@ -61,7 +61,7 @@ module _ {M : Type 1} (𝓤 : URA M) (H : Heap 𝓤) (A : Atoms 𝓤) (mem : Mem
 
     walk : Is (Reader κ) d (T′.lowered d ∷ []) → n < 2 ^ 64 → ent 𝓤 Entry (WpFn 𝓤 H C Λ code.function (T′.lowered d ∷ vint w64 n ∷ []) (Moved .post y))
     walk is fits =
-        let typed = LL.lawful (T.the-type (first κ)) (T′.the-laws (first κ)) 𝓤 H A W .typed d (T′.lowered d ∷ []) is .0 in
+        let typed = LL.lawful (T.the-type (firstLifetime κ)) (T′.the-laws (firstLifetime κ)) 𝓤 H A W .typed d (T′.lowered d ∷ []) is .0 in
         qed W (raw Entry ∷ []) ∵ enter ! C Λ code.function (T′.lowered d ∷ vint w64 n ∷ []) _ $
         alloc1 ! (λ l₀. alloc1 ! (λ l₁. alloc1 ! (λ l₂. alloc1 ! (λ l₃. alloc0 ! $ params1 ! $ pass1 ! (init ! 4 refl typed) $ pass1 ! (init ! 2 refl (tt, record { fits = fits })) $ pass0 ! $
         -- [room for _3; …; _2; …; _1; …; room for _0; …; what is had at entry]
@@ -75,5 +75,5 @@ moved-spec 𝓤 H 𝓜 𝓖 𝓡 =
     let 𝓣 = tables 𝓤 H 𝓜 𝓡 code.env in
     entered 𝓤 H (Moved 𝓤 H (𝓖 .A) (𝓜 .mem) (𝓡 .run)) (𝓣 .C) (𝓣 .Λ) #moved code.function (code.unfolded 𝓤 H 𝓜 𝓡)
     (begins 𝓤 H (𝓖 .A) moved.ended (moved.clauses 𝓤 H (𝓖 .A) (𝓜 .mem) (𝓡 .run)) (WpFn 𝓤 H (𝓣 .C) (𝓣 .Λ) code.function)
-    (λ κs. ((λ d. T′.lowered d ∷ []), (uint-vals w64, tt))) (λ κs. (T′.lowers (first (κs .0)) .val-is, (uint-tells w64, tt)))
+    (λ κs. ((λ d. T′.lowered d ∷ []), (uint-vals w64, tt))) (λ κs. (T′.lowers (firstLifetime (κs .0)) .val-is, (uint-tells w64, tt)))
     (λ κs qs b a g are. walk 𝓤 H (𝓖 .A) (𝓜 .mem) (𝓡 .run) (givenOf 𝓤 H 𝓜 𝓖) (𝓣 .C) (𝓣 .Λ) (κs .0) (qs .0) (a .0) (a .1 .0) (are .0) (are .1 .0 .1)))

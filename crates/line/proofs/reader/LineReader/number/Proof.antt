@@ -1,4 +1,4 @@
--- `LineReader::number`: `numeral::number_at` on its slice and place.
+-- `LineReader::number`: `line_numeral::number_at` on its slice and place.
 use mathlib.Core.Path.{refl}
 use mathlib.Core.List.{List}
 use Prim.Native.Nat.{ℕ}
@@ -6,19 +6,19 @@ use contract.Running.{givenOf, tables, tablesOf}
 use sound.WpLaws.{fmOf}
 use denote.Triple.Spec.{tripleOf}
 use denote.Triple.Table.{entered, cited}
-use Rattle.numeral.specs.Numeral.{numberAt}
-use Rattle.numeral.specs.Capped.{cappedNumber}
-use Rattle.numeral.specs.declared.Number.{Number}
-use Rattle.numeral.proofs.Number as R
-use Rattle.numeral.proofs.number_at as core
-use Rattle.numeral.proofs.number_at.Symbol as core-def
-use Rattle.numeral.proofs.number_at.Symbol.{name as #number-at}
-use Rattle.numeral.proofs.number_at.Met as met
+use Rattle.line_numeral.specs.Numeral.{numberAt}
+use Rattle.line_numeral.specs.Capped.{cappedNumber}
+use Rattle.line_numeral.specs.declared.Number.{Number}
+use Rattle.line_numeral.proofs.Number as R
+use Rattle.line_numeral.proofs.number_at as core
+use Rattle.line_numeral.proofs.number_at.Symbol as core-def
+use Rattle.line_numeral.proofs.number_at.Symbol.{name as #number-at}
+use Rattle.line_numeral.proofs.number_at.Met as met
 use Rattle.line.proofs.reader.LineReader.number.Key.{name as #number}
 use Rattle.line.proofs.reader.LineReader.number as self
 use Rattle.line.proofs.reader.LineReader.number.Statement.{statement}
 use Rattle.line.proofs.reader.LineReader.number.Code as code
-use Rattle.line.proofs.Data.{number}
+use Rattle.line.proofs.Data.{numberData}
 use Rattle.line.proofs.Thin.{reads}
 
 pub number-spec : {M : Type 1} → statement M
@@ -29,4 +29,4 @@ number-spec 𝓤 H 𝓜 𝓖 𝓡 =
     let f : List ℕ → ℕ → Number = λ s at. cappedNumber (numberAt s at) in
     entered 𝓤 H (tripleOf 𝓤 H (𝓖 .A) self.signature (self.spec 𝓤 H (𝓖 .A) (𝓜 .mem) (𝓡 .run))) (𝓣 .C) (𝓣 .Λ) #number code.function (code.unfolded 𝓤 H 𝓜 𝓡)
     (reads R.the-row 𝓤 H (𝓖 .A) (core.clauses 𝓤 H (𝓖 .A) (𝓜 .mem) (𝓡 .run)) (self.clauses 𝓤 H (𝓖 .A) (𝓜 .mem) (𝓡 .run)) (λ κs a. tt) f (λ z. (refl, λ r e. refl)) (λ y. (refl, λ r e. refl))
-    number W (𝓣 .C) (𝓣 .Λ) (fmOf 𝓤 H (W .laws) (tablesOf 𝓤 H 𝓜 𝓣)) #number-at (cited 𝓤 H _ 𝓜 𝓡 code.env #number-at core-def.routine code.calls-numeral·number-at (met.met 𝓤 H 𝓜 𝓖 𝓡)))
+    numberData W (𝓣 .C) (𝓣 .Λ) (fmOf 𝓤 H (W .laws) (tablesOf 𝓤 H 𝓜 𝓣)) #number-at (cited 𝓤 H _ 𝓜 𝓡 code.env #number-at core-def.routine code.calls-line-numeral·number-at (met.met 𝓤 H 𝓜 𝓖 𝓡)))

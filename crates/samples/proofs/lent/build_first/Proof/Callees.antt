@@ -38,16 +38,16 @@ use denote.Triple.Walked.{says, Stays, stay-none, gave-slice, walkOf, ends-at}
 use denote.Exit.{yes}
 use denote.Signature.{plain}
 use borrow.Table.Copies.{Halved}
-use Rattle.observation.specs.declared.Built.{Built}
-use Rattle.observation.specs.declared.Observation.{Observation}
-use Rattle.observation.proofs.Built as B
-use Rattle.observation.proofs.Observation as T
-use Rattle.observation.proofs.Observation.Laws as T′
-use Rattle.equations.specs.declared.Layout.{Layout}
-use Rattle.equations.proofs.Layout as L
-use Rattle.equations.proofs.Layout.Laws as L′
-use Rattle.built.specs.BuiltAs.{BuiltAs}
-use Rattle.builder.proofs.build as build-fn
+use Rattle.build_lines.specs.declared.Built.{Built}
+use Rattle.build_lines.specs.declared.Observation.{Observation}
+use Rattle.build_lines.proofs.Built as B
+use Rattle.build_lines.proofs.Observation as T
+use Rattle.build_lines.proofs.Observation.Laws as T′
+use Rattle.build_equations.specs.declared.Layout.{Layout}
+use Rattle.build_equations.proofs.Layout as L
+use Rattle.build_equations.proofs.Layout.Laws as L′
+use Rattle.build.specs.BuiltAs.{BuiltAs}
+use Rattle.build.proofs.build as build-fn
 use Rattle.samples.proofs.lent.build_first as self
 use Rattle.samples.proofs.lent.build_first.Proof.Lending.{R, whole, first-of}
 

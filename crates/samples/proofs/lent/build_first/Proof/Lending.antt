@@ -27,8 +27,8 @@ use denote.Slice.{ShrSlice, sliceVal}
 use borrow.Table.Owned as O
 use borrow.Table.Copies.{Halved}
 use borrow.Rule.Slice.Prefix.{shs-prefix-same}
-use Rattle.observation.specs.declared.Observation.{Observation}
-use Rattle.observation.proofs.Observation as T
+use Rattle.build_lines.specs.declared.Observation.{Observation}
+use Rattle.build_lines.proofs.Observation as T
 
 abbrev pub R : RattleType
 R = T.the-row

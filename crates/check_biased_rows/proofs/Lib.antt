@@ -1,0 +1,3 @@
+pub mod Unbiasing
+pub mod Filling
+pub mod Standing

@@ -1,0 +1,2 @@
+pub mod Biased
+pub mod Place

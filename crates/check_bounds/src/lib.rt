@@ -1,0 +1,126 @@
+// The limits of a column from the raised rows of the inverse, and the writer of a column (01: "The limits of one column are worked out
+// whole before any of them is written").
+ghost use mathlib.Core.Path.{_≡_};
+ghost use Prim.Native.Nat.{ℕ, _+_, _*_, _≤_, _<_, _^_};
+ghost use lib.IntN.{natAbs};
+ghost use lib.ListN.{getD, length};
+ghost use Rattle.integer.specs.Finite.{sumℕ};
+ghost use Rattle.linear.specs.Slice.{at};
+ghost use Rattle.linear.specs.Place.{Carried};
+ghost use Rattle.linear.specs.Reach.{ColumnList};
+ghost use Rattle.linear.specs.Written.{written};
+ghost use Rattle.check_biased_rows.specs.Biased.{bias, unbiased, BiasedRow, BiasedRows, unbiasedRows};
+ghost use Rattle.enclosure.specs.Reckoning.{allowedResidual};
+ghost use Rattle.check_arrays.specs.Arrays.{PrefixIs};
+ghost use Rattle.check_arrays.specs.Rows.{InverseRows};
+ghost use Rattle.check_ratios.specs.Ratio.{Positive, Caps};
+ghost use Rattle.check_bounds.specs.Limits.{columnMagnitude, Near, limitsOf};
+use check_biased_rows::add_low;
+use check_biased_rows::bias_row;
+use check_biased_rows::row_dot;
+use check_biased_rows::unbiased_magnitude;
+use check_ratios::bounds_of;
+use check_ratios::sum_of;
+use integer::magnitude;
+
+// The sizes of p = G·r, from the raised rows of G and the raised row that stands for r.
+fn magnitudes_of(rows: &[u64], residuals: &[u64], n: usize) -> [u64; 32]
+    requires { ⌜ n ≤ 32 ⌝ }
+    requires { ⌜ BiasedRows (now rows) n × BiasedRow (now residuals) (0 * (n + 1)) n ⌝ }
+    ensures { λ r. ⌜ PrefixIs 0 r n (λ (m : ℕ). columnMagnitude (now (rows .entry)) (now (residuals .entry)) n m 0) ⌝ }
+{
+    let mut out = [0u64; 32];
+    let mut row = 0;
+    for m in 0..n {
+        out[m] = magnitude(row_dot(rows, m, row, residuals, 0, 0, n));
+        row += n + 1;
+    }
+    out
+}
+
+// Term j of a slack: sum + |x|·slack, where x is number j of a raised row, by way of the place that was carried to it.
+fn add_slack(sum: u64, rows: &[u64], row: usize, place: usize, slack: u64, j: usize) -> u64
+    requires { ⌜ Carried row 1 j place ⌝ }
+    requires { ⌜ (row + j < length (now rows)) × (getD (now rows) (row + j) 0 ≤ 2 * bias) ⌝ }
+    requires { ⌜ (sum ≤ 2 ^ 62) × (slack ≤ allowedResidual) ⌝ }
+    ensures { λ r. ⌜ r ≡ sum + natAbs (unbiased (getD (now (rows .entry)) (row + j) 0)) * slack ⌝ }
+{
+    add_low(sum, unbiased_magnitude(rows[place]), slack)
+}
+
+// The sum over j of |G_mj|·σ_j, for the raised row m of G that starts at place row.
+fn slack_of(rows: &[u64], m: usize, row: usize, slacks: &[u64; 32], n: usize) -> u64
+    requires { ⌜ n ≤ 32 ⌝ }
+    requires { ⌜ Carried 0 (n + 1) m row ⌝ }
+    requires { ⌜ BiasedRow (now rows) (m * (n + 1)) n ⌝ }
+    requires { ⌜ ((k : ℕ) → k < n → getD (now slacks) k 0 ≤ allowedResidual) ⌝ }
+    ensures { λ r. ⌜ r ≡ sumℕ n (λ (j : ℕ). natAbs (unbiasedRows (now (rows .entry)) n m j) * getD (now (slacks .entry)) j 0) ⌝ }
+{
+    let mut sum: u64 = 0;
+    let mut place = row;
+    for j in 0..n {
+        sum = add_slack(sum, rows, row, place, slacks[j], j);
+        place += 1;
+    }
+    sum
+}
+
+// Sizes, each with its slack; where no row has one, n·n products are saved.
+fn add_slacks(magnitudes: [u64; 32], rows: &[u64], slacks: &[u64; 32], n: usize) -> [u64; 32]
+    requires { ⌜ n ≤ 32 ⌝ }
+    requires { ⌜ BiasedRows (now rows) n ⌝ }
+    requires { ⌜ ((k : ℕ) → k < n → getD (now slacks) k 0 ≤ allowedResidual) ⌝ }
+    requires { ⌜ ((m : ℕ) → m < n → getD magnitudes m 0 ≤ 2 ^ 55) ⌝ }
+    ensures { λ r. ⌜ PrefixIs 0 r n (λ (m : ℕ). getD magnitudes m 0
+        + sumℕ n (λ (j : ℕ). natAbs (unbiasedRows (now (rows .entry)) n m j) * getD (now (slacks .entry)) j 0)) ⌝ }
+{
+    if sum_of(slacks, n) == 0 {
+        return magnitudes;
+    }
+    let mut out = [0u64; 32];
+    let mut row = 0;
+    for m in 0..n {
+        out[m] = magnitudes[m] + slack_of(rows, m, row, slacks, n);
+        row += n + 1;
+    }
+    out
+}
+
+// The limits of the column with these residuals and slacks, from the raised rows of G.
+pub fn column_bounds(
+    rows: &[u64],
+    residuals: &[i64; 32],
+    slacks: &[u64; 32],
+    margins: &[u64; 32],
+    caps: &[u64; 32],
+    weights: &[i64],
+    n: usize,
+) -> [u64; 32]
+    requires { ⌜ (0 < n) × (n ≤ 32) ⌝ }
+    requires { ⌜ InverseRows (now rows) n ⌝ }
+    requires { ⌜ Near (at (now residuals)) (λ (k : ℕ). getD (now slacks) k 0) n ⌝ }
+    requires { ⌜ Positive (now margins) n ⌝ }
+    requires { ⌜ ColumnList (now weights) n 1024 ⌝ }
+    requires { ⌜ Caps (now caps) (now margins) (now weights) n ⌝ }
+    ensures { λ r. ⌜ PrefixIs 0 r n
+        (limitsOf n (now (rows .entry)) (at (now (residuals .entry))) (λ (k : ℕ). getD (now (slacks .entry)) k 0) (now (margins .entry))
+        (now (weights .entry))) ⌝ }
+{
+    let mut biased = [0u64; 33];
+    bias_row(&mut biased, 0, residuals, 0, 1, n);
+    let magnitudes = add_slacks(magnitudes_of(rows, &biased, n), rows, slacks, n);
+    bounds_of(&magnitudes, margins, caps, weights, n)
+}
+
+// Writes n limits from a place on, some places apart.
+pub fn store(dst: &mut [u64], start: usize, stride: usize, column: [u64; 32], n: usize)
+    requires { ⌜ (n ≤ 32) × (start + n * stride < 2 ^ 60) ⌝ }
+    requires { ⌜ ((k : ℕ) → k < n → start + k * stride < length (now dst)) ⌝ }
+    ensures { λ _. ⌜ now (dst .exit) ≡ written (now (dst .entry)) start stride (λ (i : ℕ). getD column i 0) n ⌝ }
+{
+    let mut place = start;
+    for i in 0..n {
+        dst[place] = column[i];
+        place += stride;
+    }
+}

@@ -1,0 +1,94 @@
+-- The sums over all rows.
+--   no-sums, sums-none, sums-more, sums-end — at none, with one row more and at the end, for loops
+--   ups-small, downs-small, sums-room, total-small, biased-small — the sums, the sum of the factors and 2^25 times it stay small
+--   sums-less — the two sums, put right, are the sum of the multiples of what the raised numbers stand for
+use mathlib.Core.List.{List}
+use mathlib.Core.Path.{_≡_, sym, ap, subst, _∙_}
+use Prim.Native.Nat.{ℕ, zero, suc, _+_, _*_, _≤_, _<_, _^_}
+use native.Mathlib.Omega.{arith}
+use native.Mathlib.Nat.{le-refl, mul-le-mul, mul-le-mul-right, le-trans, le-antisymm}
+use lib.IntN.{ℤ, pos, natAbs, _+ℤ_, _-ℤ_, _*ℤ_}
+use lib.ListN.{getD, replicate, getD-replicate}
+use Rattle.integer.specs.Finite.{sum, sumℕ}
+use Rattle.integer.proofs.Difference.{is, zz}
+use Rattle.integer.proofs.Absolute.{abs-*}
+use Rattle.integer.proofs.Sum.{sumℕ-none, sumℕ-next, sumℕ≤, abs-sum≤}
+use Rattle.check_biased_rows.specs.Biased.{bias, unbiased, unbiasedRows}
+use Rattle.check_biased_rows.specs.Place.{biasedPlace}
+use Rattle.check_arrays.specs.Arrays.{PrefixIs}
+use Rattle.check_defects.proofs.Halves.{signs, up-magnitude, down-magnitude}
+use Rattle.check_defects.specs.Sums.{up, down, SmallSums, Added, SumsOf}
+
+-- ---- row after row
+pub no-sums : PrefixIs {A = ℕ} 0 (replicate 64 0) 64 (λ (j : ℕ). 0)
+no-sums = record { each = λ j l. getD-replicate 64 j 0 0 l }
+
+module _ (n : ℕ) (xs : ℕ → ℤ) (rows : ℕ → ℕ → ℕ) where
+  pub sums-none : {sums : List ℕ} → n ≤ 32 → PrefixIs 0 sums 64 (λ (j : ℕ). 0) → SumsOf sums n 0 xs rows
+  sums-none few h = record {
+    ups = λ j l. h .each j (omega arith) ∙ sym (sumℕ-none _);
+    downs = λ j l. h .each (32 + j) (omega arith) ∙ sym (sumℕ-none _);
+  }
+
+  pub sums-more : {sums after : List ℕ} {x : ℤ} {row : ℕ → ℕ} (k : ℕ) → SumsOf sums n k xs rows → x ≡ xs k → ((j : ℕ) → row j ≡ rows k j) →
+      Added sums after n x row → SumsOf after n (k + 1) xs rows
+  sums-more k h e r a = record {
+    ups = λ j l. a .ups j l ∙ rw (h .ups j l, e, r j) (sym (sumℕ-next k _));
+    downs = λ j l. a .downs j l ∙ rw (h .downs j l, e, r j) (sym (sumℕ-next k _));
+  }
+
+  pub sums-end : {sums : List ℕ} {k m : ℕ} → k ≤ m → m ≤ k → SumsOf sums n k xs rows → SumsOf sums n m xs rows
+  sums-end {sums} a b h = subst (λ (k : ℕ). SumsOf sums n k xs rows) (le-antisymm a b) h
+
+  module _ {sums : List ℕ} {k : ℕ} (few : k ≤ 32) (small : (i : ℕ) → i < k → natAbs (xs i) ≤ 2 ^ 20) (low : (i j : ℕ) → i < k → j < n → rows i j ≤ 2 ^ 26) (h : SumsOf sums n k xs rows) where
+    pub ups-small : (j : ℕ) → j < n → getD sums j 0 ≤ 2 ^ 51
+    ups-small j l =
+        rw (h .ups j l)
+        (omega (
+          arith,
+          sumℕ≤ k (2 ^ 46) (λ (i : ℕ). up (xs i) * rows i j) (λ i li. mul-le-mul (le-trans (up-magnitude (xs i)) (small i li)) (low i j li l)),
+          mul-le-mul-right (2 ^ 46) few,
+        ))
+
+    pub downs-small : (j : ℕ) → j < n → getD sums (32 + j) 0 ≤ 2 ^ 51
+    downs-small j l =
+        rw (h .downs j l)
+        (omega (
+          arith,
+          sumℕ≤ k (2 ^ 46) (λ (i : ℕ). down (xs i) * rows i j) (λ i li. mul-le-mul (le-trans (down-magnitude (xs i)) (small i li)) (low i j li l)),
+          mul-le-mul-right (2 ^ 46) few,
+        ))
+
+    pub sums-room : SmallSums sums 0 n × SmallSums sums 32 n
+    sums-room = (record { each = λ j l. let e : 0 + j ≡ j = omega arith in rw e (omega (arith, ups-small j l)) }, record { each = λ j l. omega (arith, downs-small j l) })
+
+pub total-small : {k : ℕ} (xs : ℕ → ℤ) → k ≤ 32 → ((i : ℕ) → i < k → natAbs (xs i) ≤ 2 ^ 20) → natAbs (sum k xs) ≤ 2 ^ 25
+total-small {k} xs few small = omega (arith, abs-sum≤ k (2 ^ 20) xs small, mul-le-mul-right (2 ^ 20) few)
+
+pub biased-small : {n : ℕ} (xs : ℕ → ℤ) → n ≤ 32 → ((i : ℕ) → i < n → natAbs (xs i) ≤ 2 ^ 20) → natAbs (pos bias *ℤ sum n xs) ≤ 2 ^ 50
+biased-small {n} xs few small = rw (abs-* (pos bias) (sum n xs)) (mul-le-mul (le-refl bias) (total-small xs few small))
+
+-- ---- what the sums stand for
+one-term-more : (c u d g a b : ℕ) (s : ℤ) →
+    pos a -ℤ pos b -ℤ pos c *ℤ s +ℤ (pos u -ℤ pos d) *ℤ (pos g -ℤ pos c) ≡ pos (a + u * g) -ℤ pos (b + d * g) -ℤ pos c *ℤ (s +ℤ (pos u -ℤ pos d))
+one-term-more c u d g a b s = rw (is s) (simp zz (omega arith))
+
+sums-unbiased : (c : ℕ) (xs : ℕ → ℤ) (g : ℕ → ℕ) (n : ℕ) →
+    sum n (λ (k : ℕ). xs k *ℤ (pos (g k) -ℤ pos c)) ≡ pos (sumℕ n (λ (k : ℕ). up (xs k) * g k)) -ℤ pos (sumℕ n (λ (k : ℕ). down (xs k) * g k)) -ℤ pos c *ℤ sum n xs
+unfolding sum sumℕ
+sums-unbiased c xs g zero = simp zz (omega arith)
+sums-unbiased c xs g (suc n) =
+    rw (sums-unbiased c xs g n)
+    (ap (λ (z : ℤ). pos (sumℕ n (λ (k : ℕ). up (xs k) * g k)) -ℤ pos (sumℕ n (λ (k : ℕ). down (xs k) * g k)) -ℤ pos c *ℤ sum n xs +ℤ z *ℤ (pos (g n) -ℤ pos c)) (signs (xs n))
+    ∙ one-term-more c (up (xs n)) (down (xs n)) (g n) _ _ (sum n xs)
+    ∙ ap (λ (z : ℤ). pos (sumℕ n (λ (k : ℕ). up (xs k) * g k) + up (xs n) * g n) -ℤ pos (sumℕ n (λ (k : ℕ). down (xs k) * g k) + down (xs n) * g n) -ℤ pos c *ℤ (sum n xs +ℤ z)) (sym (signs (xs n))))
+
+put-right : (u v : ℤ) (a b : ℕ) → u +ℤ (v +ℤ pos b -ℤ pos a) ≡ u -ℤ (pos a -ℤ pos b -ℤ v)
+put-right u v a b = rw (is u, is v) (simp zz (omega arith))
+
+pub sums-less : {sums : List ℕ} (rows : List ℕ) (n : ℕ) (xs : ℕ → ℤ) (u : ℤ) → SumsOf sums n n xs (λ (k j : ℕ). getD rows (biasedPlace n k j) 0) → (j : ℕ) → j < n →
+    u +ℤ (pos bias *ℤ sum n xs +ℤ pos (getD sums (32 + j) 0) -ℤ pos (getD sums j 0)) ≡ u -ℤ sum n (λ (k : ℕ). xs k *ℤ unbiasedRows rows n k j)
+unfolding unbiased
+sums-less {sums} rows n xs u h j l =
+    rw (h .ups j l, h .downs j l, sums-unbiased bias xs (λ (k : ℕ). getD rows (biasedPlace n k j) 0) n)
+    (put-right u (pos bias *ℤ sum n xs) _ _)

@@ -1,9 +1,0 @@
-pub mod Order
-pub mod Equations
-pub mod Contains
-pub mod Contract
-pub mod Statements
-pub mod Exchanged
-pub mod Unread
-pub mod Sizes
-pub mod Cases

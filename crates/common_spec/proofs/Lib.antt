@@ -1,0 +1,9 @@
+pub mod Order
+pub mod Equations
+pub mod Contains
+pub mod Contract
+pub mod Statements
+pub mod Exchanged
+pub mod Unread
+pub mod Magnitudes
+pub mod Cases

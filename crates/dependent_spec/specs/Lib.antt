@@ -1,0 +1,11 @@
+pub mod Nets
+pub mod Reckoning
+pub mod Order
+pub mod Joint
+pub mod Together
+pub mod Agree
+pub mod Checked
+pub mod Stated
+pub mod Uncoupled
+pub mod Example
+pub mod Cases

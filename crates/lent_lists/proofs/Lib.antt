@@ -1,3 +1,0 @@
-pub mod Slot
-pub mod Lists
-pub mod Exact

@@ -1,5 +1,0 @@
-pub mod Slot
-pub mod Lists
-pub mod ListOf
-pub mod Put
-pub mod Pasted

@@ -1,4 +1,0 @@
-pub mod Said
-pub mod Stated
-pub mod Taken
-pub mod Cases

@@ -1,0 +1,13 @@
+-- Bytes written into a buffer from a place on.
+--   Wrote most old at text new end — `listing_text`, of at most `most` bytes, was stored from the place `at` on in `old`, which left `new`: every other byte is as
+--     before, and `end` is the place after it
+use mathlib.Core.List.{List}
+use mathlib.Core.Path.{_≡_}
+use Prim.Native.Nat.{ℕ, _+_, _≤_}
+use lib.ListN.{length}
+use lib.Seq.{sets}
+
+pub record Wrote (most : ℕ) (old : List ℕ) (at : ℕ) (text new : List ℕ) (end : ℕ) : Type 0 where
+  pub place : end ≡ at + length text
+  pub stored : new ≡ sets old at text
+  pub few : end ≤ at + most

@@ -1,0 +1,5 @@
+pub mod Filled
+pub mod Put
+pub mod Slot
+pub mod Lists
+pub mod Exact

@@ -1,0 +1,7 @@
+pub mod Filled
+pub mod Span
+pub mod Slot
+pub mod Lists
+pub mod ListOf
+pub mod Put
+pub mod Pasted

@@ -1,0 +1,11 @@
+pub mod Lines
+pub mod Length
+pub mod Run
+pub mod Accepts
+pub mod Given
+pub mod Read
+pub mod Holds
+pub mod OwnSize
+pub mod Before
+pub mod Acceptable
+pub mod Respelled

@@ -1,0 +1,4 @@
+pub mod CodeLaws
+pub mod Stated
+pub mod Taken
+pub mod Cases

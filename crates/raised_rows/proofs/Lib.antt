@@ -1,3 +1,0 @@
-pub mod Lowering
-pub mod Filling
-pub mod Standing

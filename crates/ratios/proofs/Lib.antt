@@ -1,2 +1,0 @@
-pub mod Ratios
-pub mod Flat

@@ -1,0 +1,10 @@
+pub mod Cases
+pub mod Bits
+pub mod Lists
+pub mod Magnitudes
+pub mod First
+pub mod Listed
+pub mod Contract
+pub mod Promises
+pub mod Unread
+pub mod Checks
