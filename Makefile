@@ -1,4 +1,4 @@
-# What README tells, by name. `make` and `make lib` need the kit (`rt`); `make install` takes what is built, and builds only what is missing.
+# What docs/API.md describes, by name. `make` and `make lib` need the kit (`rt`); `make install` takes what is built, and builds only what is missing.
 #   make            the programs, target/bin/register, convert and batch
 #   make lib        the library, target/staticlib/libkodarfi.a, and target/lib/libkodarfi.so, the shared one
 #   make check      the gate

@@ -1,4 +1,4 @@
-"""The library in each language: the compile lines of README's section "Linking" are run as they stand there, each program lists files, and those with a
+"""The library in each language: the compile lines of docs/API.md, section "Linking", are run as they stand there, each program lists files, and those with a
 loader take lines as they are typed.
 
   python3 tests/languages.py   after `rt staticlib kodarfi`; the last line is 'N passed, M failed'"""
@@ -55,7 +55,7 @@ MUTANTS = {
 
 def compile_lines():
     """The indented lines of the section, after the sentence that says of them that they are run."""
-    section = (ROOT / "README.md").read_text().split("\n## Linking\n")[1].split("\n## ")[0].split("The gate runs these lines as they stand")[1]
+    section = (ROOT / "docs" / "API.md").read_text().split("\n## Linking\n")[1].split("\n## ")[0].split("The gate runs these lines as they stand")[1]
     return [line.strip() for line in section.split("\n") if line.startswith("    ")]
 
 

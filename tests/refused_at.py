@@ -7,7 +7,7 @@ from typing import NamedTuple
 REFUSED = re.compile(r"^(?P<file>\S+?\.antt):\d+:\d+: error: `(?P<fact>[^`]+)`: (?P<text>.*)$")
 UNPROVED = re.compile(r"^note: (?P<file>\S+?\.rt):(?P<line>\d+):\d+: (?P<text>it is not proved .*)\(`(?P<fact>[^`]+)`\)$")
 
-# Said where the code has another shape than its proof: nothing is shown by such an edit.
+# The log has this where the code has another shape than its proof: such an edit shows nothing.
 NO_NEED = "has no `Need-"
 
 # What a function returns, what a loop keeps, the contract of a function: by the names that the prover gives them.
@@ -51,7 +51,7 @@ def facts(folder, log):
 
 
 def refused_at(folder, log):
-    """The last column of docs/EDITS.md for the edit that was tried in `folder`; None where the log names no fact, or the proof no longer fits the code."""
+    """What an edit's second line says (edits.py) of the run in `folder`; None where the log names no fact, or the proof no longer fits the code."""
     own = [fact for fact in facts(folder, log) if not fact.follows]
     if not own or NO_NEED in log:
         return None
@@ -59,7 +59,7 @@ def refused_at(folder, log):
     promised = next((fact for fact in own if not fact.is_side_condition), None)
     if promised is None:
         return f"only at `{first.file}`, {first.name}"
-    told = f"`{promised.file}`, {promised.name}"
+    at = f"`{promised.file}`, {promised.name}"
     if promised is first:
-        return told
-    return f"{told}; first at {first.name}" if promised.file == first.file else f"{told}; first at `{first.file}`, {first.name}"
+        return at
+    return f"{at}; first at {first.name}" if promised.file == first.file else f"{at}; first at `{first.file}`, {first.name}"

@@ -1,4 +1,4 @@
-"""What is said in words: --explain, and the documents beside the table of refusals and --help."""
+"""What is said in words: --explain, and the documents beside the table of refusals, --help and 01's whole file."""
 
 import re
 
@@ -202,9 +202,12 @@ def help_text(sandbox):
     return sandbox.run("--help")[1].decode()
 
 
-def readme_has_the_help(box):
-    indented = "".join(f"    {line}".rstrip() + "\n" for line in help_text(box).rstrip("\n").split("\n"))
-    return len(indented) > 500 and indented in (box.root / "README.md").read_text()
+def readme_has_a_file_and_its_listing(box):
+    """README's first block has 01's whole file on the left and its listing on the right, each with its meaning after two spaces or more."""
+    block = (box.root / "README.md").read_text().split("\n```\n")[1].split("\n")
+    half = block[0].find("(bounds ")
+    columns = ["".join(line[at:end].split("  ")[0] + "\n" for line in block if line[at:end]) for at, end in ((0, half), (half, None))]
+    return half > 0 and columns == [(box.root / WHOLE).read_text(), box.run(WHOLE)[1].decode()]
 
 
 def manual_has_the_help(box):

@@ -82,7 +82,7 @@ def batch_needs_no_checkout(box):
         return False
     shutil.rmtree(box.root)
     nets = box.folder / "nets"
-    shutil.copytree(box.prefix / "share/doc/kodarfi/examples/town", nets, ignore=shutil.ignore_patterns("field.txt", "listing.txt"))
+    shutil.copytree(box.prefix / "share/doc/kodarfi/examples/town", nets, ignore=shutil.ignore_patterns("field.txt", "listing.txt", "names.txt"))
     shutil.copy(box.prefix / "share/doc/kodarfi/examples/refused/4-short-row.txt", nets)
     status, out, _ = box.installed("batch", nets, box.folder / "listings")
     return status == 1 and out.endswith("1 accepted, 1 refused, 0 failed\n") and (box.folder / "listings" / "4-short-row.txt").read_text() == "(refused 4 (3))\n"

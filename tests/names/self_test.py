@@ -11,7 +11,6 @@ FILES = {
     "README.md": "# Made up\n\n`sums::add_all` adds, as `sumOf` of `sums/specs/Sum.antt` says (`sum-zero` in `sums/proofs/Sum.antt`); `Adder::put` puts.\n"
     "`python3 tests/adds.py --all` tries it, and docs/PROMISES.md has `never-far-away`. In target/bin/none and `CRATE/must-fail/NAME.edit` nothing is cited.\n",
     "docs/PROMISES.md": "| Sentence | Statement |\n|---|---|\n| a sum | `Sums.SumIsSum` |\n",
-    "docs/EDITS.md": "`no-such-law` of `sums/specs/None.antt` is the prover's to tell.\n",
     "docs/landings/first.md": "`sums/specs/Gone.antt` was there, with `old-law`.\n",
     "include/made.h": "/* `sums::add_all`, by crates/sums/src/lib.rt */\nint made(void);\n",
     "tests/README.md": "`adds.py` tries sums.\n",

@@ -376,12 +376,13 @@ def missing_library_is_2(package):
 
 
 def field_lines_to_listing(package):
-    """README's third command, as it stands there but for the library, which is made: the listing is the one beside the field lines, and no limit is wrong."""
-    line = next(line for line in (ROOT / "README.md").read_text().split("\n") if line.startswith("    ") and "kodarfi propose" in line)
-    line = line.strip().split("   ")[0]
+    """README's lines from field lines to the listing, as they stand there but for the library, which is made: the listing is the one beside the field lines, and
+    no limit is wrong."""
+    readme = (ROOT / "README.md").read_text()
+    first, line = re.search(r"(?m)^    (make lib && .*)\n    (.*kodarfi propose.*)$", readme).groups()
     made = package.shell("python3 -m kodarfi build examples/town/field.txt | python3 -m kodarfi propose")
-    told = line.startswith("make lib && export PYTHONPATH=python && ") and made == (0, (TOWN / "net.txt").read_bytes(), b"")
-    piped = package.shell(line.replace("make lib && export PYTHONPATH=python && ", ""), KODARFI_AS_BUILT="silent")
+    told = first == "make lib && export PYTHONPATH=python" and made == (0, (TOWN / "net.txt").read_bytes(), b"")
+    piped = package.shell(line, KODARFI_AS_BUILT="silent")
     listing = (TOWN / "listing.txt").read_bytes()
     return told and piped == (0, listing, b"") and faults(net_from(Program().load(made[1])), listing) == []
 

@@ -11,6 +11,7 @@ from package.loaded import ROOT
 from package.region import commands_in
 
 OFFICE = ROOT / "examples" / "office"
+TOWN = ROOT / "examples" / "town"
 
 
 def full_lines(text):
@@ -40,4 +41,10 @@ def offices_page_prints_what_it_says(package):
     return prints_what_it_says(package, "OFFICE.md") == 18 and (ROOT / "docs" / "office.svg").read_bytes() == picture
 
 
-TESTS = (clerks_page_prints_what_it_says, offices_page_prints_what_it_says)
+def towns_picture_is_the_one_that_is_drawn(package):
+    """docs/town.svg."""
+    picture = acted(package, "draw", (TOWN / "net.txt").read_bytes(), (TOWN / "names.txt").read_bytes())
+    return (ROOT / "docs" / "town.svg").read_bytes() == picture
+
+
+TESTS = (clerks_page_prints_what_it_says, offices_page_prints_what_it_says, towns_picture_is_the_one_that_is_drawn)

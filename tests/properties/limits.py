@@ -37,8 +37,8 @@ def is_rounded(given):
 
 @sentence()
 def rounded_exact_proposal_is_accepted(given):
-    """01: "Rounded to nearest steps"; README: "A rounded exact proposal with a two-sided inverse, all tolerances 0, weights 1 and Σ|A_ij| < 2T is always
-    accepted", and with "3·Σ|A_ij| ≤ 2T gets limits of 0 or 1"."""
+    """01: "Rounded to nearest steps": such a proposal, with all tolerances 0, weights 1 and Σ|A_ij| < 2T, is accepted, and with 3·Σ|A_ij| ≤ 2T its limits are
+    0 or 1 (docs/FORMAT.md)."""
     twice, sizes = 2 ** (given.proposal.t + 1), sum(abs(a) for row in given.proposal.net.matrix for a in row)
     if given.exact is None or sizes >= twice or not is_rounded(given):
         return None

@@ -1,13 +1,13 @@
 """The reading list: what must be read to believe what is promised, worked out from the `use` lines of the sources.
 
   python3 tests/reading/run.py --write       writes docs/READING.md
-  python3 tests/reading/run.py --check       docs/READING.md is what --write would write; the last line is 'N passed, M failed'
+  python3 tests/reading/run.py --check       docs/READING.md is what --write would write, and README quotes a contract as it stands; the last line is 'N passed, M failed'
   python3 tests/reading/run.py --why FILE    why tier 1 has a file of the list: for each public call the imports that lead there, the fewest
   python3 tests/reading/run.py --self-test   the list of made-up sources, right and then changed in each way of self_test.py
 
 Tier 1 is what the `ensures` of the public calls cite, with all that it imports from specs/ and the structs and enums that it takes from src/. The public
-calls are those of README's table "Public calls" and all that crates/kodarfi exports. Those of document 01 come first: the calls of the crates BASE, and the
-calls for C that README's table "Linking" puts above them. Tier 2 are the statements, crates/promises/specs, and what else they import. Tier 3 is what
+calls are those of the table "Public calls" of docs/API.md and all that crates/kodarfi exports. Those of document 01 come first: the calls of the crates BASE,
+and the calls for C that stand in their rows. Tier 2 are the statements, crates/promises/specs, and what else they import. Tier 3 is what
 stands in a file whose name is one of CASES, with nothing, a number or a paper's number behind it, and is cited by no public contract: tables of cases and
 comparisons with earlier rules. Every name of the library that these files import has a meaning in words.tsv or is one of STANDARD."""
 
@@ -30,10 +30,14 @@ STANDARD = (
 ).split()
 INTRODUCTION = """# What to read to believe it
 
-Made by `python3 tests/reading/run.py --write` from the `use` lines of the sources, and held to them by the gate. Files are named from `crates/`; each comes
-after what it imports. Beside document 01 and the papers of 02: tier 1 is what the contracts of the public calls cite, tier 2 the statements, sentence by
-sentence, with the words that only they need, tier 3 tables of cases and comparisons with earlier rules. Nothing else of `specs/` is needed to know what is
-promised; it serves contracts inside the chain. Proofs need not be read.
+For readers of proofs. `python3 tests/reading/run.py --write` makes this page from the `use` lines of the sources, and the gate compares it with them.
+Files are named from `crates/`; each comes after what it imports. Read document 01 and the papers of 02 beside it.
+
+- Tier 1 is what the contracts of the public calls cite.
+- Tier 2 are the statements, sentence by sentence, with the words that only they need.
+- Tier 3 are tables of cases, and comparisons with earlier rules.
+
+Nothing else of `specs/` is needed to know what is promised: it serves contracts inside the chain. Proofs need not be read.
 """
 
 
@@ -48,7 +52,7 @@ class Reading:
         self.meanings = dict(line.split("\t") for line in words.splitlines())
         calls = self.sources.public_calls()
         if not calls:
-            raise Fault("README.md names no public call, and kodarfi exports none")
+            raise Fault("docs/API.md names no public call, and kodarfi exports none")
         self.contracts = [(name, *self.sources.contract(name, crate, function)) for name, crate, function in calls]
         papers = [name for name, crate, _ in calls if (self.sources.beneath(name) if crate == "kodarfi" else crate) not in BASE]
         self.base = self.cited(lambda name: name not in papers)
@@ -104,7 +108,7 @@ class Reading:
         for name, ensures, _ in self.contracts:
             parts.append(f"`{name}`\n")
             parts += ["    " + textwrap.fill(clause, 150, break_long_words=False, break_on_hyphens=False, subsequent_indent=" " * 8) for clause in ensures] + [""]
-        return "\n".join(parts) + self.glossary(every)
+        return "\n".join(parts) + "\n" + self.glossary(every)
 
     def glossary(self, every):
         used = self.sources.words(every)
@@ -116,16 +120,18 @@ class Reading:
                 raise Fault(f"{name} of words.tsv is imported by no file of the list")
         rows = [f"| `{name}` | {self.meanings[name]} |" for name in sorted(self.meanings, key=str.lower)]
         standard = " ".join(f"`{name.replace('_', '')}`" for name in STANDARD if name in used)
-        return "\n".join(["## The library's words", "", f"Standard, as their signs say: {standard}.", SIGNS, "", "| Word | Meaning |", "|---|---|", *rows, ""])
+        standard = textwrap.fill(f"Standard, as their signs say: {standard}.", 150, break_long_words=False, break_on_hyphens=False)
+        return "\n".join(["## The library's words", "", standard, SIGNS, "", "| Word | Meaning |", "|---|---|", *rows, ""])
 
 
 def check(reading, path):
-    """One line for each line that is missing or too many, and the sum."""
+    """One line for each line that is missing or too many, one for each wrong quote in README, and the sum."""
     made, there = reading.page().split("\n"), path.read_text().split("\n") if path.is_file() else []
     faults = [f"lacks: {line}" for line in made if line not in there] + [f"should not have: {line}" for line in there if line not in made]
     if made != there and not faults:
         faults = ["has its lines in another order, or not as often"]
-    return close(max(len(made), len(faults)), (f"docs/{path.name} {fault}" for fault in faults))
+    faults = [f"docs/{path.name} {fault}" for fault in faults] + reading.sources.misquoted()
+    return close(max(len(made) + 1, len(faults)), faults)
 
 
 def run(arguments):

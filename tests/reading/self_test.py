@@ -9,9 +9,9 @@ from run import Reading, check
 from sources import Fault
 
 FILES = {
-    "README.md": "# Made up\n\n## Public calls\n\n| Call | Guaranteed |\n|---|---|\n| `entry::enter(x) -> Kind` | what it enters |\n"
-    "| `half::fill(x) -> usize` | a half |\n\n"
-    "## Linking\n\n| Call | The call beneath |\n|---|---|\n| `kodarfi_enter` | `entry::enter` |\n| `kodarfi_fill` | `half::fill` |\n\n## Map\n",
+    "README.md": "# Made up\n\n```\n(a file)\n```\n\n```\npub sizeOf : ℤ\n    → ℕ\n```\n",
+    "docs/API.md": "# Made up\n\n## Public calls\n\n| In Rattle | In C | Gives |\n|---|---|---|\n| `entry::enter(x) -> Kind` | `kodarfi_enter` | what it enters |\n"
+    "| `half::fill(x) -> usize` | `kodarfi_fill`; with a line: `kodarfi_line` | a half |\n| `entry::look(x) -> Kind` | | what is there |\n\n## Linking\n",
     "crates/entry/specs/Size.antt": "-- Sizes of numbers. Any number.\nuse Prim.Native.Nat.{ℕ}\nuse lib.IntN.{ℤ, natAbs}\n\nabbrev pub sizeOf : ℤ → ℕ\n"
     "sizeOf z = natAbs z\n",
     "crates/entry/specs/Entered.antt": "-- What is entered.\nuse Prim.Native.Nat.{ℕ}\nuse Rattle.entry.specs.Size.{sizeOf}\n"
@@ -19,7 +19,8 @@ FILES = {
     "crates/entry/specs/Inner.antt": "-- Nothing that a contract cites.\nuse Prim.Native.Nat.{ℕ, _+_}\n",
     "crates/entry/src/lib.rt": "// Entries.\nghost use Rattle.entry.specs.Entered.{EnteredAs};\nghost use Rattle.entry.specs.Inner.{inner};\n\n"
     "// Of two kinds.\npub enum Kind {\n    One,\n    Two,\n}\n\n"
-    "pub fn enter(x: i64) -> Kind\n    ensures { λ r. ⌜ EnteredAs x r ⌝ }\n{\n    Kind::One\n}\n",
+    "pub fn enter(x: i64) -> Kind\n    ensures { λ r. ⌜ EnteredAs x r ⌝ }\n{\n    Kind::One\n}\n\n"
+    "pub fn look(x: i64) -> Kind\n    ensures { λ r. ⌜ EnteredAs x r ⌝ }\n{\n    Kind::Two\n}\n",
     "crates/half/specs/Filled.antt": "-- What is filled.\nuse Rattle.entry.specs.Size.{sizeOf}\nuse lib.ListN.{getD}\n",
     "crates/half/src/lib.rt": "ghost use Rattle.half.specs.Filled.{FilledAs};\n\npub fn fill(x: i64) -> usize\n    ensures { λ r. ⌜ FilledAs x r ⌝ }\n{\n"
     "    0\n}\n",
@@ -44,10 +45,17 @@ WRONG = {
     "a contract that cites another file": ("crates/entry/src/lib.rt", "⌜ EnteredAs x r ⌝", "⌜ EnteredAs (inner x) r ⌝", "Inner.antt"),
     "another contract": ("crates/half/src/lib.rt", "⌜ FilledAs x r ⌝", "⌜ FilledAs r x ⌝", "FilledAs r x"),
     "a case more in an enum": ("crates/entry/src/lib.rt", "    Two,\n", "    Two,\n    Three,\n", "`Kind` | 6"),
-    "a call that is exported and in no table": ("README.md", "| `kodarfi_fill` | `half::fill` |\n", "", "has no row for kodarfi_fill"),
-    "a call in the table that is not there": ("README.md", "`half::fill(x)", "`half::filled(x)", "no public function filled"),
+    "a call that is exported and in no table": ("docs/API.md", "`kodarfi_fill`;", "", "has no row for kodarfi_fill"),
+    "a call in the table that is not there": ("docs/API.md", "`half::fill(x)", "`half::filled(x)", "no public function filled"),
+    "no table": ("docs/API.md", "## Public calls", "## Calls", "no one section 'Public calls'"),
+    "another quote in README": ("README.md", "pub sizeOf : ℤ", "pub sizeOf : ℕ", "no file of specs/ has: pub sizeOf"),
+    "no quote in README": ("README.md", "pub sizeOf", "sizeOf", "quotes no contract"),
     "a call without a contract": ("crates/half/src/lib.rt", "    ensures { λ r. ⌜ FilledAs x r ⌝ }\n", "", "has no ensures"),
-    "a call less in the table": ("README.md", "| `half::fill(x) -> usize` | a half |\n", "", "should not have: `half::fill`"),
+    "a call less in the table": ("docs/API.md", "`half::fill(x) -> usize`", "`half::filled`", "should not have: `half::fill`"),
+    "a call for C by another call": (
+        "docs/API.md", "`kodarfi_fill`; with a line: `kodarfi_line` | a half |\n| `entry::look(x) -> Kind` | |",
+        "| a half |\n| `entry::look(x) -> Kind` | `kodarfi_fill` |", "Tier 1: the contracts of document 01 | 4",
+    ),
     "a file that is not there": ("crates/half/specs/Stated.antt", "specs.Filled", "specs.Field", "half/specs/Field.antt is imported and is not there"),
     "a struct that is not there": ("crates/entry/specs/Entered.antt", "declared.Kind", "declared.Sort", "declares no Sort"),
     "a word without a meaning": (
@@ -98,7 +106,7 @@ def self_test():
         ]
         if tiers != expected:
             faults.append(f"the tiers of the made-up sources are {tiers}")
-        if right.why("entry/specs/Size.antt")[1:3] != ["half::fill: half/specs/Filled.antt > entry/specs/Size.antt",
+        if right.why("entry/specs/Size.antt")[1::2] != ["half::fill: half/specs/Filled.antt > entry/specs/Size.antt",
                                                        "kodarfi_enter: entry/specs/Entered.antt > entry/specs/Size.antt"] or right.why("entry/specs/Inner.antt"):
             faults.append(f"why Size is read: {right.why('entry/specs/Size.antt')}")
         page = right.page()

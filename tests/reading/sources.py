@@ -23,7 +23,7 @@ class Sources:
     def __init__(self, root):
         self.root = Path(root)
         self.crates = self.root / "crates"
-        self.readme = (self.root / "README.md").read_text()
+        self.calls = (self.root / "docs" / "API.md").read_text()
 
     def unit_of(self, module):
         """The unit that a module is part of; None for a module of the library."""
@@ -100,16 +100,24 @@ class Sources:
                         found.setdefault(name, unit)
         return found
 
-    def section(self, title):
-        parts = self.readme.split(f"\n## {title}\n")
+    def misquoted(self):
+        """What is wrong with README's quotes: the blocks that begin with `pub` stand in files of specs/, but for their line breaks, and there is one."""
+        quotes = re.findall(r"(?ms)^```\n(pub .*?)^```$", (self.root / "README.md").read_text())
+        specs = [" ".join(path.read_text().split()) for path in sorted(self.crates.glob("*/specs/*.antt"))]
+        wrong = [quote.split("\n")[0] for quote in quotes if not any(" ".join(quote.split()) in text for text in specs)]
+        return [f"README.md quotes what no file of specs/ has: {line}" for line in wrong] or ([] if quotes else ["README.md quotes no contract"])
+
+    def rows(self):
+        """The rows of docs/API.md's table of public calls: the calls in Rattle, and those for C, both as they stand there."""
+        parts = self.calls.split("\n## Public calls\n")
         if len(parts) != 2:
-            raise Fault(f"README.md has no one section '{title}'")
-        return parts[1].split("\n## ")[0]
+            raise Fault("docs/API.md has no one section 'Public calls'")
+        return re.findall(r"(?m)^\| (`\w+::[^|]*) \| ([^|]*?) ?\|", parts[1].split("\n## ")[0])
 
     def public_calls(self):
-        """(name, crate, function) of each call: those of README's table, and those for C, which are all that kodarfi exports."""
+        """(name, crate, function) of each call: those of the table, and those for C, which are all that kodarfi exports."""
         calls = []
-        for row in re.findall(r"(?m)^\| (`\w+::[^|]*) \|", self.section("Public calls")):
+        for row, _ in self.rows():
             for path in re.findall(r"`((?:\w+::)+\w+)\(", row):
                 calls.append((path, path.split("::")[0].lower(), path.split("::")[-1]))
         for path in sorted((self.crates / "kodarfi" / "src").glob("*.rt")):
@@ -117,12 +125,11 @@ class Sources:
         return calls
 
     def beneath(self, name):
-        """The crate that a call for C goes down to, by README's table; '' where the row names none."""
-        for names, below in re.findall(r"(?m)^\| (`kodarfi_[^|]*) \| ([^|]*) \|", self.section("Linking")):
+        """The crate that a call for C goes down to: that of the call in Rattle in its row of the table."""
+        for row, names in self.rows():
             if f"`{name}`" in names:
-                crate = re.search(r"`(\w+)::", below)
-                return crate.group(1).lower() if crate else ""
-        raise Fault(f"README.md's section 'Linking' has no row for {name}")
+                return re.match(r"`(\w+)::", row).group(1).lower()
+        raise Fault(f"docs/API.md's table of public calls has no row for {name}")
 
     def contract(self, name, crate, function):
         """The ensures of a call, and the units that they cite."""
@@ -136,4 +143,4 @@ class Sources:
                 told = set(re.findall(r"[^\s().,;«»⌜⌝]+", " ".join(ensures)))
                 cited = [self.unit_of(module) for module, names, _ in uses(text) if told & set(names)]
                 return ensures, [unit for unit in cited if unit]
-        raise Fault(f"crates/{crate}/src has no public function {function}, which README names")
+        raise Fault(f"crates/{crate}/src has no public function {function}, which docs/API.md names")

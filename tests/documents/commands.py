@@ -1,0 +1,136 @@
+"""The commands that pages show: run in a folder of their own, or left to the part of the gate that runs them, or not run, each for a stated reason."""
+
+import os
+import re
+import shutil
+import subprocess
+import tempfile
+from pathlib import Path
+
+# what is not run, and why
+NOT_RUN = (
+    (r"(?:bash )?\.ci/run|make check|rt ci", "the gate itself"),
+    (r"rt \w+", "it proves, for seconds to many minutes; `rt ci` does the same in the gate"),
+    (r"bench/run", "it measures for many minutes"),
+    (r"\./batch .*--sshlogin", "it needs other machines"),
+    (r"pip install", "it needs a network"),
+    (r"git ", "it is about a clone, and changes it"),
+)
+# what another part of the gate runs: the command, its pages, the test, and what must stand in that test; PAGE is the page's file name, WORD the command's file
+ELSEWHERE = (
+    (r".*", r"docs/(?:CLERK|OFFICE)\.md", "tests/package/pages.py", '"PAGE"'),
+    (r".*", r"docs/LARGE-NETS\.md", "tests/package/region.py", '"PAGE"'),
+    (r"(?:cc|c\+\+|rustc) ", r".*", "tests/languages.py", "PAGE"),
+    (r"make(?: lib| install\b.*| uninstall\b.*)?$", r".*", "tests/install/cases.py", "box.make("),
+    (r"python3 (?P<word>tests/\S+)", r".*", "tests/registry", "WORD"),
+    (r"tests/run(?! --list)", r".*", ".ci/run", "tests/parts.sh"),
+    (r"(?:tests/link/run)", r".*", "tests/registry", "tests/link/run"),
+)
+# what stands for any file of a kind, with an example of it
+FOR_ANY = (
+    ("FILE NAMES", "target/named.txt examples/office/names.txt"),
+    ("MAIN FIELD", "target/main.txt examples/region/east.txt"),
+    ("REGISTER FILE", "target/documents.db examples/whole-file.txt"),
+    ("A B", "examples/whole-file.txt examples/whole-file.txt"),
+    ("FILE", "examples/whole-file.txt"),
+    ("FIELD", "examples/town/field.txt"),
+    ("REGISTER", "target/documents.db"),
+)
+# the examples that are made before a command that names them
+MADE = {
+    "target/named.txt": "python3 -m kodarfi build examples/office/field.csv | python3 -m kodarfi propose > target/named.txt",
+    "target/main.txt": "python3 -m kodarfi build examples/region/main.txt | python3 -m kodarfi propose > target/main.txt",
+    "./batch": "me=batch here=$PWD; . scripts/command_line.sh; link_batch target/bin/batch",
+}
+ANYTHING = re.compile(r"(?<![\w/.$-])[A-Z][A-Z]*(?![\w/.=-])")
+
+
+def filled(command):
+    """A command with examples for the words that stand for any file; options in square brackets are left out."""
+    plain = re.sub(r"[\[\]]", "", re.sub(r"\[-[^\]]*\] *", "", command))
+    for words, examples in FOR_ANY:
+        plain = re.sub(rf"(?<![\w/.-]){words}(?![\w/.=-])", examples, plain)
+    return plain
+
+
+def elsewhere(root, of_page, text_of_command):
+    """Which test runs a command, and whether that is still to be seen there: (test, seen); None where none does."""
+    for command, page, test, text in ELSEWHERE:
+        match = re.match(command, text_of_command)
+        if match and re.fullmatch(page, of_page):
+            needed = text.replace("PAGE", Path(of_page).name).replace("WORD", match.groupdict().get("word") or "")
+            path = root / test
+            return test, path.is_file() and needed in path.read_text(encoding="utf-8")
+    return None
+
+
+def not_run(text_of_command):
+    """Why a command is not run; None where it is."""
+    return next((why for command, why in NOT_RUN if re.match(rf"(?:\w+=\S* )*(?:{command})", text_of_command)), None)
+
+
+class Folder:
+    """A folder in which commands run: it has all that the repository has, and a target of its own with what is built."""
+
+    def __init__(self, root):
+        self.held = tempfile.TemporaryDirectory()
+        self.path = Path(self.held.name)
+        for path in root.iterdir():
+            if path.is_file():
+                shutil.copy2(path, self.path)  # a script finds its folder through links
+            elif path.name not in ("target", ".git"):
+                (self.path / path.name).symlink_to(path)
+        for path in [*root.glob("target/bin/*"), *root.glob("target/lib/*"), *root.glob("target/staticlib/*")]:
+            place = self.path / path.relative_to(root)
+            place.parent.mkdir(parents=True, exist_ok=True)
+            place.symlink_to(path)
+        (self.path / "target" / "tools").mkdir(parents=True)
+        (self.path / "target" / "tools" / "rt").write_text("#!/bin/sh\necho 'nothing is proved for a page' >&2\nexit 2\n")
+        (self.path / "target" / "tools" / "rt").chmod(0o755)
+        (self.path / "nets").mkdir()
+        for path in root.glob("examples/*.txt"):
+            (self.path / "nets" / path.name).write_bytes(path.read_bytes())
+
+    def __enter__(self):
+        return self
+
+    def __exit__(self, *_):
+        self.held.cleanup()
+
+    def run(self, command):
+        """The status of a command, and what it prints."""
+        # nothing is built for a page: the programs are taken as they are, and rt is a stand-in that refuses
+        environment = os.environ | {"PYTHONPATH": "python", "KODARFI_AS_BUILT": "silent", "LC_ALL": "C.UTF-8"}
+        environment["PATH"] = f"{self.path}/target/tools:{environment['PATH']}"
+        settings = {"cwd": self.path, "env": environment, "stdin": subprocess.DEVNULL, "stdout": subprocess.PIPE, "stderr": subprocess.STDOUT, "text": True}
+        done = subprocess.run(["bash", "-o", "pipefail", "-c", command], timeout=60, **settings)
+        return done.returncode, done.stdout
+
+
+def full_lines(text):
+    return [line.rstrip() for line in text.split("\n") if line.strip()]
+
+
+def fault_of(root, folder, shown):
+    """What is wrong with a command that a page shows; None where nothing is."""
+    kept = []
+    for part in shown.text.split(" && "):
+        told = elsewhere(root, shown.page, part)
+        if told and not told[1]:
+            return f"{told[0]} no longer names what runs '{part}'"
+        kept += [] if told or not_run(part) else [part]
+    command = filled(" && ".join(kept))
+    if not kept:
+        return None
+    unknown = ANYTHING.search(re.sub(r"'[^']*'|\"[^\"]*\"", "", command))
+    if unknown:
+        return f"'{shown.text}': there is no example for {unknown[0]}"
+    for name, made in MADE.items():
+        if name in command and not (folder.path / name.replace("./", "target/bin/")).exists():
+            folder.run(made)
+    status, printed = folder.run(command)
+    if status != (1 if "examples/refused/" in command else 0):
+        return f"'{command}' has status {status}: {printed.strip()[:200]}"
+    if shown.printed is not None and full_lines("\n".join(shown.printed)) not in ([], full_lines(printed)):
+        return f"'{command}' prints something else: {printed.strip()[:200]}"
+    return None

@@ -1,0 +1,99 @@
+"""Made-up documents, right and then wrong: each fault must be detected, and nothing else."""
+
+import contextlib
+import io
+import tempfile
+from pathlib import Path
+
+from run import check
+
+LONG = "word " * 41
+FILES = {
+    "README.md": "# Made up\n\nSee [a day](docs/DAY.md#a-day-of-work), [the way](#made-up), `docs/OFFICE.md` and `docs/GLOSSARY.md`.\n"
+    "`./register --explain FILE` explains, `--brief` is short.\n\n"
+    "    ./register examples/whole-file.txt     the listing\n    ./register FILE\n    bash .ci/run     the gate\n\n"
+    "`tests/adds.py` has 3 lines, and adds at `tests/adds.py:2`. `made.txt` is an example. The net is hung.\nCONTRIBUTING.md is next.\n",
+    "CONTRIBUTING.md": "# To contribute\n\n`sums/specs/Sum.antt` has `sumOf`.\n\n```\npython3 tests/adds.py --all\n```\n\n| a table |\n|---|\n| " + LONG + " |\n",
+    "docs/DAY.md": "# Office\n\n## A day of `work`\n\n    $ ./register examples/made.txt\n    listing of made.txt\n\n    $ ./register examples/refused/2-none.txt\n    listing of 2-none.txt\n\n"
+    "A desk takes it, and two hung nets.\n",
+    "docs/GLOSSARY.md": '# Glossary\n\n| Term | Meaning |\n|---|---|\n| "desk" | what takes lines |\n| "hung net" | a net below another |\n',
+    "docs/landings/first.md": "See `gone.txt` and [nothing](none.md). " + LONG + "\n",
+    "tests/README.md": "    tests/run\n\n`adds.py` adds.\n",
+    "tests/registry": "adds | proofs | python3 | - | python3 tests/adds.py | adds\n",
+    "tests/adds.py": "def adds():\n    return '--all'\n# end\n",
+    "tests/run": "#!/bin/sh\n",
+    ".ci/run": "#!/bin/sh\n. tests/parts.sh\n",
+    "docs/OFFICE.md": "# Office\n\n    $ ./register none\n    what another test runs\n",
+    "tests/package/pages.py": 'PAGES = ("OFFICE.md",)\n',
+    "register": '#!/bin/sh\n# --explain --brief\n[ "$1" != --explain ] || shift\n[ -f "$1" ] || exit 2\necho "listing of $(basename "$1")"\ncase $1 in *refused*) exit 1 ;; esac\n',
+    "examples/whole-file.txt": "(end)\n",
+    "examples/made.txt": "(end)\n",
+    "examples/refused/2-none.txt": "x\n",
+    "crates/sums/specs/Sum.antt": "-- Sums.\nabbrev pub sumOf : ℕ → ℕ\nsumOf n = n\n",
+    "crates.txt": "sums:\n",
+}
+
+# name: file, what stands there, what stands there then, what must be detected
+WRONG = {
+    "a link to no file": ("README.md", "docs/DAY.md#", "docs/DAYS.md#", "there is no docs/DAYS.md#a-day-of-work to link to"),
+    "a link to no heading": ("README.md", "#a-day-of-work", "#a-day", "has no heading #a-day"),
+    "a link to no heading of its own": ("README.md", "(#made-up)", "(#made)", "README.md has no heading #made"),
+    "a link out of the repository": ("README.md", "(#made-up)", "(https://example.org)", "there is no https://example.org to link to"),
+    "a heading that is renamed": ("docs/DAY.md", "## A day", "## The day", "has no heading #a-day-of-work"),
+    "a page that no page names": ("README.md", "`docs/GLOSSARY.md`", "nothing", "docs/GLOSSARY.md: no way leads to it"),
+    "a page that is not there": ("README.md", "CONTRIBUTING.md is", "CONTRIBUTE.md is", "there is no CONTRIBUTE.md"),
+    "a file that is not there": ("README.md", "`made.txt`", "`make.txt`", "there is no make.txt"),
+    "a script that is not there": ("README.md", "`made.txt`", "`./registers`", "there is no ./registers"),
+    "a definition that is not there": ("CONTRIBUTING.md", "`sumOf`", "`sumUp`", "no source has sumUp"),
+    "a path that is not there": ("CONTRIBUTING.md", "sums/specs/Sum.antt", "sums/specs/Sums.antt", "there is no sums/specs/Sums.antt"),
+    "a line past the end": ("README.md", "adds.py:2", "adds.py:4", "tests/adds.py has [3] lines, and not 4"),
+    "another number of lines": ("README.md", "has 3 lines", "has 4 lines", "tests/adds.py has [3] lines, and not 4"),
+    "an option that the command has not": ("README.md", "--explain FILE", "--explains FILE", "there is no option --explains"),
+    "an option that nothing has": ("README.md", "`--brief`", "`--briefly`", "there is no option --briefly"),
+    "an option of another command": ("CONTRIBUTING.md", "adds.py --all", "adds.py --brief", "there is no option --brief"),
+    "a command that fails": ("README.md", "examples/whole-file.txt  ", "examples/whole.txt  ", "has status 2"),
+    "a command that is refused": ("README.md", "    ./register FILE", "    ./register --explain examples/refused/../none", "has status 2"),
+    "a file that is no longer refused": ("register", "*refused*", "*none-at-all*", "2-none.txt' has status 0"),
+    "a word without an example": ("README.md", "    ./register FILE", "    ./register WHAT", "there is no example for WHAT"),
+    "something else that is printed": ("docs/DAY.md", "    listing of made.txt", "    listing of file.txt", "prints something else"),
+    "a test that runs it no more": ("tests/registry", "python3 tests/adds.py", "python3 tests/other.py", "tests/registry no longer names what runs 'python3 tests/adds.py"),
+    "a page that is run no more": ("tests/package/pages.py", '"OFFICE.md"', '"CLERK.md"', "tests/package/pages.py no longer names what runs './register none'"),
+    "a gate without the tests": (".ci/run", "tests/parts.sh", "tests/others.sh", ".ci/run no longer names what runs 'tests/run'"),
+    "a long line": ("docs/DAY.md", "A desk", LONG + "a desk", "the line has"),
+    "a line too long for the first page": ("README.md", "CONTRIBUTING.md is next", "CONTRIBUTING.md is next " + LONG[:60], "the line has"),
+    "a first page too long": ("README.md", "# Made up\n", "# Made up\n" + "\n" * 140, "151 lines, and at most 150"),
+    "a term that no page uses": ("docs/DAY.md", "hung nets", "other nets", "no other page uses 'hung net'"),
+    "no glossary": ("docs/GLOSSARY.md", None, None, "there is no docs/GLOSSARY.md"),
+}
+def reported(folder, change=None):
+    for name, text in FILES.items():
+        path = folder / name
+        path.parent.mkdir(parents=True, exist_ok=True)
+        if change and change[0] == name and change[1] is None:
+            path.unlink(missing_ok=True)
+            continue
+        path.write_text(text.replace(change[1], change[2], 1) if change and change[0] == name else text)
+        path.chmod(0o755)
+    said = io.StringIO()
+    with contextlib.redirect_stdout(said):
+        check(folder)
+    return said.getvalue()
+
+
+def self_test():
+    faults = []
+    with tempfile.TemporaryDirectory() as name:
+        said = reported(Path(name))
+        if not said.endswith(" passed, 0 failed\n"):
+            faults.append(f"the right documents are refused: {said}")
+        for title, change in WRONG.items():
+            said = reported(Path(name), change)
+            if (change[1] or "") not in FILES[change[0]] or change[3] not in said or said.count("FAILED") > 3:
+                faults.append(f"{title}: {said}")
+    with tempfile.TemporaryDirectory() as name, contextlib.redirect_stdout(io.StringIO()):
+        if check(Path(name)) == 0:
+            faults.append("no documents at all are taken")
+    for fault in faults:
+        print("FAILED", fault)
+    print(f"{len(WRONG) + 2 - len(faults)} passed, {len(faults)} failed")
+    return int(bool(faults))
