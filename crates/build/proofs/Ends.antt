@@ -1,18 +1,17 @@
 -- Laws of the ends of `finish`.
---   finish-short, finish-done, finish-refused — 8, the equations written, what was said of the lines
+--   finish-done, finish-refused — the equations written, and what was said before
 --   matrix-room, long-right — lists that are not too short have room for the equations
 use mathlib.Core.Path.{_≡_, refl, sym, ap}
-use mathlib.Core.Bool.{Bool, true, false}
+use mathlib.Core.Bool.{false}
 use mathlib.Core.List.{List, _∷_}
 use Prim.Native.Nat.{ℕ, _≤_}
 use borrow.Author.Tests.{ltb-false}
 use lib.IntN.{ℤ}
 use lib.ListN.{length}
 use Rattle.rules.specs.Range.{shortColumn}
-use Rattle.rules.specs.declared.Refusal.the-variants.{TooShort}
 use Rattle.rules.proofs.Ranges.{neither-left, neither-right}
 use Rattle.half_fill.proofs.Places.{count-few}
-use Rattle.build_lines.specs.declared.Built.the-variants.{Done, Refused}
+use Rattle.build_lines.specs.declared.Built.the-variants.{Done}
 use Rattle.build_gathering.specs.declared.Gathered.{Gathered}
 use Rattle.build_lines.specs.Order.{buildCode}
 use Rattle.build_equations.specs.declared.Layout.{Layout}
@@ -36,12 +35,9 @@ room-as Lower n k few e = omega (arith, lower-start n n, count-few few, ltb-fals
 pub matrix-room : (layout : Layout) (n : ℕ) (a b : List ℤ) → n ≤ 32 → shortFor layout a b ≡ false → sumℕ n (widthOf layout n) ≤ length a
 matrix-room layout n a b few e = room-as layout n (length a) few (neither-left (shortAs layout (length a)) (shortColumn (length b)) e)
 
-module _ (g : Gathered) (layout : Layout) (a b : List ℤ) {s : Bool} (t : s ≡ shortFor layout a b) where
-  pub finish-short : s ≡ true → Finished g layout a b (Refused TooShort) a b
-  finish-short e = record { says = rw (← t, e); matrix = refl; right = refl }
+module _ (g : Gathered) (layout : Layout) (a b : List ℤ) where
+  pub finish-done : g .progress .status ≡ Done → {a′ b′ : List ℤ} → a′ ≡ matrixWritten layout (g .progress .n) (keptMatrix g) a → b′ ≡ rightWritten (g .progress .n) (keptRight g) b → Finished g layout a b Done a′ b′
+  finish-done d p q = record { says = sym (ap buildCode d); matrix = p; right = q }
 
-  pub finish-done : s ≡ false → g .progress .status ≡ Done → {a′ b′ : List ℤ} → a′ ≡ matrixWritten layout (g .progress .n) (keptMatrix g) a → b′ ≡ rightWritten (g .progress .n) (keptRight g) b → Finished g layout a b Done a′ b′
-  finish-done e d p q = record { says = rw (← t, e) (sym (ap buildCode d)); matrix = p; right = q }
-
-  pub finish-refused : {k : ℕ} {ks : List ℕ} → s ≡ false → buildCode (g .progress .status) ≡ k ∷ ks → Finished g layout a b (g .progress .status) a b
-  finish-refused e d = record { says = rw (← t, e); matrix = rw d; right = rw d }
+  pub finish-refused : {k : ℕ} {ks : List ℕ} → buildCode (g .progress .status) ≡ k ∷ ks → Finished g layout a b (g .progress .status) a b
+  finish-refused d = record { says = refl; matrix = rw d; right = rw d }

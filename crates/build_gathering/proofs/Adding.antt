@@ -1,7 +1,7 @@
 -- Laws of the adder: what is left at each of its ends.
 --   taken-outside, taken-same, taken-clash, taken-again, taken-new — 3, 16, 17, a line met before, a line with a new key
 --   added-done, added-refused — where nothing is said yet, and where something is
---   opened-as — what is said before any line
+--   opened-short, opened-as — what is said before any line: where a lent list is too short, and else
 use mathlib.Core.Path.{_≡_, ap, _∙_}
 use mathlib.Core.Bool.{Bool, true, false, cond, _&&_}
 use Prim.Native.Nat.{ℕ, _+_, _<_, _≤_, min}
@@ -11,7 +11,7 @@ use lib.IntN.{pos}
 use Rattle.integer.specs.Finite.{first}
 use Rattle.rules.specs.Range.{inRange}
 use Rattle.rules.specs.declared.Kind.the-variants as kind
-use Rattle.rules.specs.declared.Refusal.the-variants.{OutOfRange}
+use Rattle.rules.specs.declared.Refusal.the-variants.{OutOfRange, TooShort}
 use Rattle.build_lines.specs.declared.Built.{Built}
 use Rattle.build_lines.specs.declared.Built.the-variants.{Done, Refused, SameMark, OtherContents}
 use Rattle.build_gathering.specs.declared.Gathered.{Gathered}
@@ -49,6 +49,10 @@ pub added-refused : (g : Gathered) (l : Observation) → isRefused (g .progress 
 unfolding added
 added-refused g l d = rw d
 
-pub opened-as : (n k : ℕ) {b : Bool} {t : Built} → b ≡ inRange kind.Size (pos n) → cond (b && leb k 256) Done (Refused OutOfRange) ≡ t → t ≡ openedAs n k
+pub opened-short : (n k : ℕ) {short : Bool} → short ≡ true → Refused TooShort ≡ openedAs n k short
 unfolding openedAs
-opened-as n k e d = rw (← e, d)
+opened-short n k s = rw s
+
+pub opened-as : (n k : ℕ) {short b : Bool} {t : Built} → short ≡ false → b ≡ inRange kind.Size (pos n) → cond (b && leb k 256) Done (Refused OutOfRange) ≡ t → t ≡ openedAs n k short
+unfolding openedAs
+opened-as n k s e d = rw (s, ← e, d)

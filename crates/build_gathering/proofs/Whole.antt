@@ -1,33 +1,37 @@
 -- What is gathered of a whole list, from `opened`, over the lines that are looked at.
---   gatheredOf n ls — the lines ls gathered;  Whole, whole — what is said, and where nothing is, that the kept lines are sound and their sums those of the distinct lines
+--   gatheredOf n ls short — the lines ls gathered, short being whether a lent list is too short;  Whole, whole — what is said, and of which line; where nothing is, that
+--   no list is too short, the kept lines are sound, and their sums are those of the distinct lines
 --   gathered-none, gathered-next, gathered-end, few-below — for the loop over the lines
 use mathlib.Core.Path.{_≡_, refl, sym, ap, subst, _∙_}
-use mathlib.Core.Bool.{Bool, true, false, cond, _&&_}
+use mathlib.Core.Bool.{Bool, true, false, not, cond, _&&_}
 use mathlib.Core.List.{List, [], _∷_}
 use Prim.Native.Nat.{ℕ, zero, suc, _+_, _≤_, _<_}
 use native.Mathlib.Nat.{le-antisymm}
 use native.Mathlib.Numerals.{add-one}
 use native.Mathlib.Omega.{arith}
-use borrow.Author.Tests.{leb-true, le-leb}
-use lib.Dec.{leb}
+use borrow.Author.Tests.{leb-true, leb-false, le-leb, lt-ltb, le-ltb}
+use lib.Dec.{leb, ltb}
 use lib.IntN.{ℤ, pos, _+ℤ_, +ℤ-idl}
 use lib.ListN.{length, getD, length-replicate}
+use Rattle.integer.specs.Finite.{sum}
 use Rattle.integer.proofs.Sum.{sum-none}
-use Rattle.rules.specs.Order.{ifAccepted, orElse}
+use Rattle.rules.specs.Order.{verdict, ifAccepted, orElse}
 use Rattle.rules.specs.Range.{inRange}
 use Rattle.rules.specs.declared.Kind.the-variants as kind
-use Rattle.rules.specs.declared.Refusal.the-variants.{OutOfRange}
-use Rattle.rules.proofs.Ranges.{both-left, both-right, size-range}
+use Rattle.rules.specs.declared.Refusal.the-variants.{OutOfRange, TooShort}
+use Rattle.rules.proofs.Ranges.{size-range}
 use Rattle.rules.proofs.Verdicts.{nothing-is-not}
+use Rattle.build_lines.specs.declared.Built.{Built}
 use Rattle.build_lines.specs.declared.Built.the-variants.{Done, Refused}
 use Rattle.build_gathering.specs.declared.Gathered.{Gathered}
 use Rattle.build_lines.specs.declared.Observation.{Observation}
 use Rattle.build_lines.specs.Line.{noObservation}
-use Rattle.build_lines.specs.Order.{buildCode, observationsSay}
-use Rattle.build_lines.specs.Refused.{refusedFrom}
+use Rattle.build_lines.specs.Order.{buildCode, observationsSay, openOrder, buildAnswer}
+use Rattle.build_lines.specs.Refused.{refusedFrom, buildLine}
 use Rattle.build_lines.specs.Distinct.{distinct, total}
-use Rattle.build_gathering.specs.Gathered.{counted, taken, added, lineNumberOf, gathered, few, openedAs, openingProgress, noLines, opened, keptAt, keptSum, Proper, ReadyWhenDone}
-use Rattle.build_lines.specs.Stated.{Passes}
+use Rattle.build_gathering.specs.Gathered.{counted, isRefused, taken, added, lineNumberOf, gathered, few, openedAs, openingProgress, noLines, opened, keptAt, keptSum, Proper, ReadyWhenDone}
+use Rattle.build_lines.specs.Stated.{Passes, Admitted}
+use Rattle.build_lines.proofs.Lines.{usable}
 use Rattle.build_lines.proofs.Marks.{inside-line}
 use Rattle.build_lines.proofs.Members.{nobody}
 use Rattle.build_gathering.proofs.Follows.{Follows}
@@ -39,21 +43,13 @@ unfolding gathered added
 still-at g ls zero e = refl
 still-at g ls (suc k) e = ap (λ (z : Gathered). added z (getD ls k noObservation)) (still-at g ls k e) ∙ old (g .progress .status) (taken (counted g) (getD ls k noObservation)) g e
 
-few-all : (k : ℕ) → k ≤ 256 → few k ≡ k
+few-all : (k : ℕ) → k ≤ 256 → few Done k ≡ k
 unfolding few
 few-all k h = rw (le-leb k 256 h)
 
-none-counted : (n k : ℕ) → k ≤ 256 → opened n k .progress .count + k ≤ 256
+begun : (n k : ℕ) (short : Bool) → opened n k short .progress .status ≡ Done → Follows n [] (opened n k short)
 unfolding openingProgress noLines
-none-counted n k h = omega arith
-
-none-looked : (n k : ℕ) → k ≤ 256 → opened n k .progress .lines + k ≤ 256
-unfolding openingProgress noLines
-none-looked n k h = omega arith
-
-begun : (n k : ℕ) → opened n k .progress .status ≡ Done → Follows n [] (opened n k)
-unfolding openingProgress noLines
-begun n k d = record {
+begun n k short d = record {
   size = refl;
   done = d;
   long = length-replicate {A = ℕ} 1280 0;
@@ -70,46 +66,93 @@ properOf n l few good =
     let i = inside-line n l (good .inside) in
     record { start = omega (arith, i .start, few); end = omega (arith, i .end, few); apart = good .apart; weight = i .weight; difference = i .difference }
 
-module _ (n : ℕ) (ls : List Observation) where
+-- ---- before any line: 8 first, then 3 for n, then 3 for a list above 256
+few-or-many : (s z m l : Bool) → not m ≡ l → buildCode (cond s (Refused TooShort) (cond (z && m) Done (Refused OutOfRange))) ≡ cond s (8 ∷ []) (cond (not z) (3 ∷ []) (cond l (3 ∷ []) []))
+few-or-many true z m l e = refl
+few-or-many false false m l e = refl
+few-or-many false true true l e = rw (sym e)
+few-or-many false true false l e = rw (sym e)
+
+module _ (n k : ℕ) (short : Bool) where
+  many : not (leb k 256) ≡ ltb 256 k
+  many = go (leb k 256) refl
+    where
+      go : (b : Bool) → leb k 256 ≡ b → not b ≡ ltb 256 k
+      go true e = sym (le-ltb 256 k (leb-true k 256 e))
+      go false e = sym (lt-ltb 256 k (leb-false k 256 e))
+
+  opening-says : buildCode (opened n k short .progress .status) ≡ verdict (openOrder n k short)
+  unfolding openingProgress openedAs
+  opening-says = few-or-many short (inRange kind.Size (pos n)) (leb k 256) (ltb 256 k) many
+
+  opening-done : Admitted n k short → opened n k short .progress .status ≡ Done
+  unfolding openingProgress openedAs
+  opening-done u = rw (u .long, u .size, le-leb k 256 (u .few))
+
+  opening-size : opened n k short .progress .n ≡ n
+  unfolding openingProgress
+  opening-size = refl
+
+  none-counted : opened n k short .progress .count ≡ 0
+  unfolding openingProgress
+  none-counted = refl
+
+  none-looked : opened n k short .progress .lines ≡ 0
+  unfolding openingProgress
+  none-looked = refl
+
+  none-refused : lineNumberOf (opened n k short) ≡ 0
+  none-refused = ap (cond (isRefused (opened n k short .progress .status)) (opened n k short .progress .lines)) (sym none-looked) ∙ either-way (isRefused (opened n k short .progress .status)) ∙ none-looked
+    where
+      either-way : {j : ℕ} (b : Bool) → cond b j j ≡ j
+      either-way true = refl
+      either-way false = refl
+
+module _ (n : ℕ) (ls : List Observation) (short : Bool) where
+  abbrev start : Gathered
+  start = opened n (length ls) short
+
   abbrev pub gatheredOf : Gathered
-  gatheredOf = gathered (opened n (length ls)) ls (few (length ls))
+  gatheredOf = gathered start ls (few (start .progress .status) (length ls))
 
   pub record Whole : Type 0 where
-    pub says : buildCode (gatheredOf .progress .status) ≡ orElse (cond (inRange kind.Size (pos n) && leb (length ls) 256) [] (3 ∷ [])) (observationsSay n [] ls)
-    pub line : lineNumberOf gatheredOf ≡ ifAccepted (cond (inRange kind.Size (pos n) && leb (length ls) 256) [] (3 ∷ [])) (refusedFrom n 0 [] ls) 0
+    pub says : buildCode (gatheredOf .progress .status) ≡ buildAnswer n ls short
+    pub line : lineNumberOf gatheredOf ≡ buildLine n ls short
     pub size : gatheredOf .progress .n ≡ n
+    pub long : gatheredOf .progress .status ≡ Done → short ≡ false
     pub sound : ReadyWhenDone gatheredOf
     pub sums : buildCode (gatheredOf .progress .status) ≡ [] → (f : Observation → ℤ) → keptSum f gatheredOf ≡ total f (distinct ls)
 
   pub whole : Whole
-  whole = go (inRange kind.Size (pos n) && leb (length ls) 256) refl
+  whole = go (verdict (openOrder n (length ls) short)) refl
     where
-      refusal : (c : Bool) → inRange kind.Size (pos n) && leb (length ls) 256 ≡ c → opened n (length ls) .progress .status ≡ cond c Done (Refused OutOfRange)
-      refusal c e = unfold openingProgress openedAs in rw e
-
-      go : (c : Bool) → inRange kind.Size (pos n) && leb (length ls) 256 ≡ c → Whole
-      go false e =
-          let t = refusal false e in
-          let r : gatheredOf ≡ opened n (length ls) = still-at (opened n (length ls)) ls (few (length ls)) (ap buildCode t) in
-          let s : buildCode (gatheredOf .progress .status) ≡ 3 ∷ [] = ap (λ (z : Gathered). buildCode (z .progress .status)) r ∙ ap buildCode t in
+      go : (t : List ℕ) → verdict (openOrder n (length ls) short) ≡ t → Whole
+      go (k ∷ ks) e =
+          let t : buildCode (start .progress .status) ≡ k ∷ ks = opening-says n (length ls) short ∙ e in
+          let r : gatheredOf ≡ start = still-at start ls (few (start .progress .status) (length ls)) t in
+          let s : buildCode (gatheredOf .progress .status) ≡ k ∷ ks = ap (λ (z : Gathered). buildCode (z .progress .status)) r ∙ t in
           record {
-            says = s ∙ sym (rw e);
-            line = ap lineNumberOf r ∙ (unfold openingProgress openedAs in rw e);
-            size = ap (λ (z : Gathered). z .progress .n) r ∙ (unfold openingProgress in refl);
+            says = s ∙ (unfold buildAnswer in ap (λ (w : List ℕ). orElse w (observationsSay n [] ls)) (sym e));
+            line = ap lineNumberOf r ∙ none-refused n (length ls) short ∙ (unfold buildLine in ap (λ (w : List ℕ). ifAccepted w (refusedFrom n 0 [] ls) 0) (sym e));
+            size = ap (λ (z : Gathered). z .progress .n) r ∙ opening-size n (length ls) short;
+            long = λ d. absurd (nothing-is-not (sym s ∙ ap buildCode d));
             sound = record { ready = λ d. absurd (nothing-is-not (sym s ∙ ap buildCode d)) };
             sums = λ d. absurd (nothing-is-not (sym s ∙ d));
           }
-      go true e =
-          let t = refusal true e in
-          let k = leb-true (length ls) 256 (both-right (inRange kind.Size (pos n)) (leb (length ls) 256) e) in
-          let z = size-range n (both-left (inRange kind.Size (pos n)) (leb (length ls) 256) e) in
-          let r : gatheredOf ≡ folded (opened n (length ls)) ls = ap (gathered (opened n (length ls)) ls) (few-all (length ls) k) ∙ gathered-folded (opened n (length ls)) ls in
-          let o = gathers n [] ls (opened n (length ls)) (begun n (length ls) t) (none-counted n (length ls) k) (none-looked n (length ls) k) in
-          let w : GatheringAs n [] ls (opened n (length ls)) gatheredOf = subst (GatheringAs n [] ls (opened n (length ls))) (sym r) o in
+      go [] e =
+          let u = usable n (length ls) short e in
+          let t = opening-done n (length ls) short u in
+          let z = size-range n (u .size) in
+          let c = none-counted n (length ls) short in
+          let k = none-looked n (length ls) short in
+          let r : gatheredOf ≡ folded start ls = ap (λ (b : Built). gathered start ls (few b (length ls))) t ∙ ap (gathered start ls) (few-all (length ls) (u .few)) ∙ gathered-folded start ls in
+          let o = gathers n [] ls start (begun n (length ls) short t) (omega (arith, c, u .few)) (omega (arith, k, u .few)) in
+          let w : GatheringAs n [] ls start gatheredOf = subst (GatheringAs n [] ls start) (sym r) o in
           record {
-            says = w .says ∙ sym (rw e);
-            line = w .line ∙ ap (λ (j : ℕ). refusedFrom n j [] ls) none-before ∙ sym (rw e);
+            says = w .says ∙ (unfold buildAnswer in ap (λ (v : List ℕ). orElse v (observationsSay n [] ls)) (sym e));
+            line = w .line ∙ ap (λ (j : ℕ). refusedFrom n j [] ls) k ∙ (unfold buildLine in ap (λ (v : List ℕ). ifAccepted v (refusedFrom n 0 [] ls) 0) (sym e));
             size = w .size;
+            long = λ d. u .long;
             sound = record {
               ready = λ d.
                   let q = ap buildCode d in
@@ -119,14 +162,11 @@ module _ (n : ℕ) (ls : List Observation) where
                     lines = record { few = w .few q; proper = λ p b. properOf n (keptAt gatheredOf p) (z .1) (w .good q p b) };
                   };
             };
-            sums = λ d f. w .sums d f ∙ ap (λ (x : ℤ). x +ℤ total f (distinct ls)) (none f) ∙ +ℤ-idl (total f (distinct ls));
+            sums = λ d f. w .sums d f ∙ ap (λ (x : ℤ). x +ℤ total f (distinct ls)) (none f c) ∙ +ℤ-idl (total f (distinct ls));
           }
         where
-          none-before : opened n (length ls) .progress .lines ≡ 0
-          none-before = unfold openingProgress in refl
-
-          none : (f : Observation → ℤ) → keptSum f (opened n (length ls)) ≡ pos 0
-          none f = unfold openingProgress in sum-none (λ (p : ℕ). f (keptAt (opened n (length ls)) p))
+          none : (f : Observation → ℤ) → start .progress .count ≡ 0 → keptSum f start ≡ pos 0
+          none f c = ap (λ (j : ℕ). sum j (λ (p : ℕ). f (keptAt start p))) c ∙ sum-none (λ (p : ℕ). f (keptAt start p))
 
 -- ---- for the loop over the lines
 module _ (g : Gathered) (ls : List Observation) where
@@ -141,10 +181,11 @@ module _ (g : Gathered) (ls : List Observation) where
   pub gathered-end : {i n : ℕ} → i ≤ n → n ≤ i → gathered g ls i ≡ gathered g ls n
   gathered-end p q = ap (gathered g ls) (le-antisymm p q)
 
-pub few-below : (n : ℕ) {i : ℕ} → i < few n → i < n
+pub few-below : (t : Built) (n : ℕ) {i : ℕ} → i < few t n → i < n
 unfolding few
-few-below n h = go (leb n 256) h
+few-below t n h = go (isRefused t) (leb n 256) h
   where
-    go : {i : ℕ} (b : Bool) → i < cond b n 0 → i < n
-    go true h = h
-    go false h = absurd (omega arith)
+    go : {i : ℕ} (r b : Bool) → i < cond r 0 (cond b n 0) → i < n
+    go true b h = absurd (omega arith)
+    go false true h = h
+    go false false h = absurd (omega arith)

@@ -7,7 +7,8 @@
 --   saying p t, refusedAs g t — p and g with t said;  kept g l — g with the line l kept
 --   isRefused t — something is said;  whenDone t new old — new where nothing is said, else old
 --   taken g l, added g l — a line more, where nothing is said yet, and whatever was said
---   gathered g ls k — g with the first k lines of ls added;  few k — how many of k lines are looked at;  openedAs, openingProgress, opened n k, noLines — what is said before any line, how far they are taken, what is gathered, and what is kept
+--   gathered g ls k — g with the first k lines of ls added;  few t k — how many of k lines are looked at, where t is said before any
+--   openedAs, openingProgress, opened n k short, noLines — what is said before any line, short being whether a lent list is too short; how far they are taken, what is gathered, and what is kept
 --   keptAt g p  — the kept line p;  keptSum f g — the sum of f over the kept lines
 --   Proper l    — the numbers of l are small enough for the sums, and its marks are two;  ProperLines seen c — the first c lines that are kept are proper
 --   Ready g     — n and the count are in their ranges, and the kept lines are proper;  ReadyWhenDone g — so where nothing is said
@@ -21,7 +22,7 @@ use lib.ListN.{getD, set, replicate}
 use Rattle.integer.specs.Finite.{sum, first}
 use Rattle.rules.specs.Range.{inRange}
 use Rattle.rules.specs.declared.Kind.the-variants as kind
-use Rattle.rules.specs.declared.Refusal.the-variants.{OutOfRange}
+use Rattle.rules.specs.declared.Refusal.the-variants.{OutOfRange, TooShort}
 use Rattle.build_lines.specs.declared.Built.{Built}
 use Rattle.build_lines.specs.declared.Built.the-variants.{Done, Refused, SameMark, OtherContents}
 use Rattle.build_gathering.specs.declared.Gathered.{Gathered}
@@ -99,20 +100,20 @@ unfoldable pub gathered : Gathered → List Observation → ℕ → Gathered
 gathered g ls zero = g
 gathered g ls (suc k) = added (gathered g ls k) (getD ls k noObservation)
 
-unfoldable pub few : ℕ → ℕ
-few k = cond (leb k 256) k 0
+unfoldable pub few : Built → ℕ → ℕ
+few t k = cond (isRefused t) 0 (cond (leb k 256) k 0)
 
-unfoldable pub openedAs : ℕ → ℕ → Built
-openedAs n k = cond (inRange kind.Size (pos n) && leb k 256) Done (Refused OutOfRange)
+unfoldable pub openedAs : ℕ → ℕ → Bool → Built
+openedAs n k short = cond short (Refused TooShort) (cond (inRange kind.Size (pos n) && leb k 256) Done (Refused OutOfRange))
 
-unfoldable pub openingProgress : ℕ → ℕ → Progress
-openingProgress n k = record { n = n; count = 0; lines = 0; status = openedAs n k }
+unfoldable pub openingProgress : ℕ → ℕ → Bool → Progress
+openingProgress n k short = record { n = n; count = 0; lines = 0; status = openedAs n k short }
 
 unfoldable pub noLines : List ℕ
 noLines = replicate 1280 0
 
-abbrev pub opened : ℕ → ℕ → Gathered
-opened n k = together (openingProgress n k) noLines
+abbrev pub opened : ℕ → ℕ → Bool → Gathered
+opened n k short = together (openingProgress n k short) noLines
 
 abbrev pub keptAt : Gathered → ℕ → Observation
 keptAt g p = lineAt (g .seen) p

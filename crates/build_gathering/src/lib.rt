@@ -150,17 +150,24 @@ pub fn add_observation(mut g: Progress, seen: &mut [u32; 1280], l: Observation) 
     g
 }
 
-// How many of so many lines are looked at: none of a list above 256.
-pub fn few_of(lines: usize) -> usize
-    ensures { λ r. ⌜ r ≡ few lines ⌝ }
+// How many of so many lines are looked at: none where something is said before any line, and none of a list above 256.
+pub fn few_of(start: Progress, lines: usize) -> usize
+    ensures { λ r. ⌜ r ≡ few (start .status) lines ⌝ }
 {
+    let status = start.status;
+    if is_refused(status) {
+        return 0;
+    }
     if lines <= 256 { lines } else { 0 }
 }
 
-// What is said before any line: 3 for n, and for a list above 256.
-fn opened_as(n: u32, lines: usize) -> Built
-    ensures { λ r. ⌜ r ≡ openedAs n lines ⌝ }
+// What is said before any line: 8 where a lent list is too short, then 3 for n, and for a list above 256.
+fn opened_as(n: u32, lines: usize, short: bool) -> Built
+    ensures { λ r. ⌜ r ≡ openedAs n lines short ⌝ }
 {
+    if short {
+        return Built::Refused(Refusal::TooShort);
+    }
     if is_natural_in_range(Kind::Size, n) & (lines <= 256) {
         return Built::Done;
     }
@@ -168,10 +175,10 @@ fn opened_as(n: u32, lines: usize) -> Built
 }
 
 // Before any line.
-pub fn open(n: u32, lines: usize) -> Progress
-    ensures { λ r. ⌜ r ≡ openingProgress n lines ⌝ }
+pub fn open(n: u32, lines: usize, short: bool) -> Progress
+    ensures { λ r. ⌜ r ≡ openingProgress n lines short ⌝ }
 {
-    let status = opened_as(n, lines);
+    let status = opened_as(n, lines, short);
     Progress {
         n,
         count: 0,

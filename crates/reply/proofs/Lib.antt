@@ -1,2 +1,1 @@
 pub mod ReplyIs
-pub mod Line

@@ -1,20 +1,10 @@
-use Rattle.build.proofs.Ends.{finish-short, finish-done, finish-refused, long-right, matrix-room}
+use Rattle.build.proofs.Ends.{finish-done, finish-refused, long-right, matrix-room}
 use Rattle.build_lines.specs.Order.{buildCode}
 use native.Mathlib.Omega.{arith}
-use mathlib.Core.Path.{sym, ap, _∙_}
+use mathlib.Core.Path.{ap}
 use borrow.Author.Needs.{needs}
 use Rattle.build.proofs.finish.Statement.{statement}
 use Rattle.build.proofs.finish.Tie as tie
-
--- the start, from the test of the lengths
-abbrev start : tie.Else1 → tie.Start
-start c = c .before .before
-
-is-short-requires : tie.Need-is-short-requires
-is-short-requires c κs = search needs
-
-returns : tie.Need-returns
-returns c = let s = c .before .before in finish-short (s .args .g) (s .args .layout) (s .args .matrix .now) (s .args .right .now) (c .before .is-short .ensures) (c .if1 .taken)
 
 enum-told : tie.Need-enum-told
 enum-told c = search needs
@@ -22,10 +12,10 @@ enum-told c = search needs
 write-equations-requires : tie.Need-write-equations-requires
 write-equations-requires c κs =
     let status = c .before .before in
-    let long = status .before .before .before in
-    let s = start long in
-    let r = s .pre .ready (status .enum-told .given .1) in
-    let l = sym (long .before .is-short .ensures) ∙ long .if1 .left in
+    let s = status .before .before .before in
+    let d = status .enum-told .given .1 in
+    let r = s .pre .lines .ready d in
+    let l = s .pre .long d in
     (r, (matrix-room (s .args .layout) (s .args .g .progress .n) (s .args .matrix .now) (s .args .right .now) (r .size) l, omega (arith, r .size, long-right (s .args .layout) (s .args .matrix .now) (s .args .right .now) l)))
 
 enum-told-2 : tie.Need-enum-told-2
@@ -43,38 +33,32 @@ same-length c = search needs
 same-length-2 : tie.Need-same-length-2
 same-length-2 c = search needs
 
+returns : tie.Need-returns
+returns c =
+    let d = c .before .before .before .before .before in
+    let s = d .before .before .before in
+    let e = c .before .before .write-equations .ensures in
+    finish-done (s .args .g) (s .args .layout) (s .args .matrix .now) (s .args .right .now) (d .enum-told .given .1) (e .0) (e .1)
+
 returns-2 : tie.Need-returns-2
 returns-2 c =
-    let d = c .before .before .before .before .before in
-    let long = d .before .before .before in
-    let s = start long in
-    let e = c .before .before .write-equations .ensures in
-    finish-done (s .args .g) (s .args .layout) (s .args .matrix .now) (s .args .right .now) (long .before .is-short .ensures) (long .if1 .left) (d .enum-told .given .1) (e .0) (e .1)
+    let s = c .before .before .before in
+    finish-refused (s .args .g) (s .args .layout) (s .args .matrix .now) (s .args .right .now) (ap buildCode (c .enum-told2 .given .1))
 
 returns-3 : tie.Need-returns-3
 returns-3 c =
-    let long = c .before .before .before in
-    let s = start long in
-    finish-refused (s .args .g) (s .args .layout) (s .args .matrix .now) (s .args .right .now) (long .before .is-short .ensures) (long .if1 .left) (ap buildCode (c .enum-told2 .given .1))
+    let s = c .before .before .before in
+    finish-refused (s .args .g) (s .args .layout) (s .args .matrix .now) (s .args .right .now) (ap buildCode (c .enum-told3 .given .1))
 
 returns-4 : tie.Need-returns-4
 returns-4 c =
-    let long = c .before .before .before in
-    let s = start long in
-    finish-refused (s .args .g) (s .args .layout) (s .args .matrix .now) (s .args .right .now) (long .before .is-short .ensures) (long .if1 .left) (ap buildCode (c .enum-told3 .given .1))
-
-returns-5 : tie.Need-returns-5
-returns-5 c =
-    let long = c .before .before .before in
-    let s = start long in
-    finish-refused (s .args .g) (s .args .layout) (s .args .matrix .now) (s .args .right .now) (long .before .is-short .ensures) (long .if1 .left) (ap buildCode (c .enum-told4 .given .1))
+    let s = c .before .before .before in
+    finish-refused (s .args .g) (s .args .layout) (s .args .matrix .now) (s .args .right .now) (ap buildCode (c .enum-told4 .given .1))
 
 pub finish-spec : {M : Type 1} → statement M
 finish-spec =
     tie.close
     (tie.spec
-    is-short-requires
-    returns
     enum-told
     write-equations-requires
     enum-told-2
@@ -82,7 +66,7 @@ finish-spec =
     enum-told-4
     same-length
     same-length-2
+    returns
     returns-2
     returns-3
-    returns-4
-    returns-5)
+    returns-4)

@@ -80,7 +80,7 @@ module _ {M : Type 1} (𝓤 : URA M) (H : Heap 𝓤) (A : Atoms 𝓤) (W : Given
   at = vals-of 𝓤 H A W mem run κ q b o γ ys start
 
   abbrev end : ℕ
-  end = few n
+  end = few (start .status) n
 
   abbrev Post : Val → SProp 𝓤
   Post = post-of 𝓤 H A W mem run κ q b o γ ys start
@@ -104,11 +104,11 @@ module _ {M : Type 1} (𝓤 : URA M) (H : Heap 𝓤) (A : Atoms 𝓤) (W : Given
       assigns ! (of-opd ! (load ! (from ! (stop !)) (look ! 12 refl))) (from ! (stop !)) (init ! 18 refl (typed-array 𝓤 H A W noLines _ (none-is z v d isz))) $
       assigns ! (of-opd ! (load ! (from ! (fld ! refl (stop !))) (look-in ! 24 (sub ! 1 refl (whole !))))) (from ! (stop !)) (init ! 10 refl (tt, record { fits = gn .0 })) $
       -- how many lines are looked at
-      nothing ! $ owned ! usize (Is usize) (uint-makes 𝓤 H A W w64) n _ (refl, gn .0) $ fjoin ! $ nothing ! $
-      use2 W (raw (Fews 𝓤 H A mem run .pre (to-few 𝓤 H A mem run n))) (asked-few 𝓤 H A W mem run n) $
-      calls-at ! fm (Fews 𝓤 H A mem run) known-few (to-few 𝓤 H A mem run n) (and-then ! (load ! (from ! (stop !)) (look ! 11 refl)) (no-more !)) (λ u.
-      use1 W (later (some (λ (r : ℕ). (‵ ftrue ⊛ ‵ (usize .own r (u ∷ []))) ⊛ raw (ensured 𝓤 H A fews.ended (fews.clauses 𝓤 H A mem run) tt (n, tt) tt r)))) (id⊢ 𝓤 _) $ await ! tt $ pick ! (λ r.
-      split ! $ move ! (1 ∷ []) $ use1 W (raw (fact 𝓤 (r ≡ end))) (code-few 𝓤 H A W mem run n r) $ heard ! (r ≡ end) (λ e. split ! $ move ! (1 ∷ []) $
+      nothing ! $ owned ! usize (Is usize) (uint-makes 𝓤 H A W w64) n _ (refl, gn .0) $ fjoin ! $ owned ! P.the-row (Is P.the-row) (LL.makes P.the-type P′.the-plain 𝓤 H A) start _ g₀ $ fjoin ! $ nothing ! $
+      use2 W (raw (Fews 𝓤 H A mem run .pre (to-few 𝓤 H A mem run start n))) (asked-few 𝓤 H A W mem run start n) $
+      calls-at ! fm (Fews 𝓤 H A mem run) known-few (to-few 𝓤 H A mem run start n) (and-then ! (load ! (from ! (stop !)) (look ! 23 refl)) (and-then ! (load ! (from ! (stop !)) (look ! 11 refl)) (no-more !))) (λ u.
+      use1 W (later (some (λ (r : ℕ). (‵ ftrue ⊛ ‵ (usize .own r (u ∷ []))) ⊛ raw (ensured 𝓤 H A fews.ended (fews.clauses 𝓤 H A mem run) tt (start, (n, tt)) tt r)))) (id⊢ 𝓤 _) $ await ! tt $ pick ! (λ r.
+      split ! $ move ! (1 ∷ []) $ use1 W (raw (fact 𝓤 (r ≡ end))) (code-few 𝓤 H A W mem run start n r) $ heard ! (r ≡ end) (λ e. split ! $ move ! (1 ∷ []) $
       peeks ! usize (Is usize) (shows 𝓤 H A usize) r (u ∷ []) (λ is. land ! (from ! (stop !)) (init ! 18 refl (typed-word 𝓤 H A W mem run r u is)) $
       rewrite ! 18 (λ (us : List Val). ‵ (fat fullShare word l₅ 0 (the-one us))) (uint-tells w64 r (u ∷ []) is) refl $
       rewrite ! 18 (λ (z : ℕ). ‵ (fat fullShare word l₅ 0 (vint w64 z))) e refl $ drop ! $ drop ! $

@@ -2,7 +2,7 @@
 --   Open, All, Fin — the contracts of `open`, `gather` and `finish`;  to-open, to-all, to-fin — what they are passed;  asked-.., said-.. — what they ask and say
 --   is-whole, is-sound — what was gathered is that of the whole list, and is sound
 --   exits — the end of the walk
-use mathlib.Core.Path.{_≡_, refl, sym, ap, subst, _∙_}
+use mathlib.Core.Path.{_≡_, refl, ap, _∙_}
 use Prim.Native.Nat.{ℕ, _<_, _^_}
 use mathlib.Core.List.{List, [], _∷_}
 use lib.Dec.{T as Holds}
@@ -39,7 +39,7 @@ use Rattle.build_lines.specs.declared.Built.{Built}
 use Rattle.build_gathering.specs.declared.Gathered.{Gathered}
 use Rattle.build_gathering.specs.declared.Progress.{Progress}
 use Rattle.build_lines.specs.declared.Observation.{Observation}
-use Rattle.build_gathering.specs.Gathered.{together, gathered, few, openingProgress, noLines, ReadyWhenDone}
+use Rattle.build_gathering.specs.Gathered.{together, gathered, few, openingProgress, noLines}
 use Rattle.build_lines.proofs.Built as B
 use Rattle.build_equations.specs.declared.Layout.{Layout}
 use Rattle.build_equations.proofs.Layout as L
@@ -49,10 +49,11 @@ use Rattle.build_gathering.proofs.Gathered.Laws as S′
 use Rattle.build_gathering.proofs.Progress as P
 use Rattle.build_gathering.proofs.Progress.Laws as P′
 use Rattle.build_lines.proofs.Observation as T
-use Rattle.build_gathering.proofs.Whole.{gatheredOf, whole}
-use Rattle.build_gathering.proofs.open as open-fn
+use Rattle.build.proofs.begin as begin-fn
 use Rattle.build.proofs.finish as fin
-use Rattle.build.specs.BuiltAs.{BuiltAs}
+use Rattle.build.specs.BuiltAs.{shortFor, BuiltAs}
+use Rattle.build.specs.Finished.{ReadyFor}
+use Rattle.build.proofs.Contract.{gatheredFor}
 use Rattle.build.proofs.gather as all
 use Rattle.build.proofs.build as self
 
@@ -70,8 +71,8 @@ abbrev pub sl : {A : Type 0} → RefT (List A) → Val
 sl x = sliceVal (x .ptr) (length (x .now))
 
 module _ {M : Type 1} (𝓤 : URA M) (H : Heap 𝓤) (A : Atoms 𝓤) (mem : Memory → SProp 𝓤) (run : Routine → Fun 𝓤) where
-  abbrev pub Open : Contract 𝓤
-  Open = tripleOf 𝓤 H A open-fn.signature (open-fn.spec 𝓤 H A mem run)
+  abbrev pub Begin : Contract 𝓤
+  Begin = tripleOf 𝓤 H A begin-fn.signature (begin-fn.spec 𝓤 H A mem run)
 
   abbrev pub All : Contract 𝓤
   All = tripleOf 𝓤 H A all.signature (all.spec 𝓤 H A mem run)
@@ -97,14 +98,24 @@ module _ {M : Type 1} (𝓤 : URA M) (H : Heap 𝓤) (A : Atoms 𝓤) (W : Given
   Lines = ShrSlice (named 0) κ R .own x (sl x ∷ [])
 
   -- what the callees are passed
-  abbrev pub to-open : Open 𝓤 H A mem run .Ghost
-  to-open = ((tt, tt, tt, (n, (k, tt)), (vint w32 n ∷ [], (vint w64 k ∷ [], tt))), tt)
+  abbrev pub b-args : ℕ × (ℕ × (Layout × (ℕ × (ℕ × Unit {0}))))
+  b-args = (n, (k, (lay, (length (m .now), (length (r .now), tt)))))
 
-  pub asked-open : ent 𝓤 (onEntry 𝓤 H A open-fn.signature tt tt (n, (k, tt)) (vint w32 n ∷ [], (vint w64 k ∷ [], tt))) (Open 𝓤 H A mem run .pre to-open)
-  asked-open = qed W (‵ ftrue ∷ ‵ (owns (u32 ∷ usize ∷ []) (n, (k, tt)) (vint w32 n ∷ [], (vint w64 k ∷ [], tt))) ∷ []) ∵ join ! $ frame ! $ done !
+  abbrev pub b-vals : List Val × (List Val × (List Val × (List Val × (List Val × Unit {0}))))
+  b-vals = (vint w32 n ∷ [], (vint w64 k ∷ [], (laid lay ∷ [], (vint w64 (length (m .now)) ∷ [], (vint w64 (length (r .now)) ∷ [], tt)))))
 
-  pub code-open : (s : Progress) → ent 𝓤 (ensured 𝓤 H A open-fn.ended (open-fn.clauses 𝓤 H A mem run) tt (n, (k, tt)) tt s) (fact 𝓤 (s ≡ openingProgress n k))
-  code-open s = exE 𝓤 _ (λ ws. snd∗ 𝓤 (sem 𝓤 H A (lasts open-fn.ended tt (n, (k, tt)) ws)) (fact 𝓤 (s ≡ openingProgress n k)))
+  abbrev pub to-begin : Begin 𝓤 H A mem run .Ghost
+  to-begin = ((tt, tt, tt, b-args, b-vals), tt)
+
+  pub asked-begin : ent 𝓤 (onEntry 𝓤 H A begin-fn.signature tt tt b-args b-vals) (Begin 𝓤 H A mem run .pre to-begin)
+  asked-begin = qed W (‵ ftrue ∷ ‵ (owns (u32 ∷ usize ∷ L.the-row ∷ usize ∷ usize ∷ []) b-args b-vals) ∷ []) ∵ join ! $ frame ! $ done !
+
+  -- what is said before any line
+  abbrev pub opening : Progress
+  opening = openingProgress n k (shortFor lay (m .now) (r .now))
+
+  pub code-begin : (s : Progress) → ent 𝓤 (ensured 𝓤 H A begin-fn.ended (begin-fn.clauses 𝓤 H A mem run) tt b-args tt s) (fact 𝓤 (s ≡ opening))
+  code-begin s = exE 𝓤 _ (λ ws. snd∗ 𝓤 (sem 𝓤 H A (lasts begin-fn.ended tt b-args ws)) (fact 𝓤 (s ≡ opening)))
 
   abbrev pub to-all : Progress → Val → All 𝓤 H A mem run .Ghost
   to-all s v = (((κ, tt), (q, tt), tt, (x, (s, tt)), (sl x ∷ [], (v ∷ [], tt))), tt)
@@ -112,20 +123,17 @@ module _ {M : Type 1} (𝓤 : URA M) (H : Heap 𝓤) (A : Atoms 𝓤) (W : Given
   pub asked-all : (s : Progress) (v : Val) → ent 𝓤 (onEntry 𝓤 H A all.signature (κ, tt) (q, tt) (x, (s, tt)) (sl x ∷ [], (v ∷ [], tt))) (All 𝓤 H A mem run .pre (to-all s v))
   asked-all s v = qed W ((‵ (flft κ q) ⊛ ‵ ftrue) ∷ ‵ (owns (ShrSlice (named 0) κ R ∷ P.the-row ∷ []) (x, (s, tt)) (sl x ∷ [], (v ∷ [], tt))) ∷ []) ∵ join ! $ frame ! $ done !
 
-  pub code-all : (s : Progress) (g : Gathered) → ent 𝓤 (ensured 𝓤 H A all.ended (all.clauses 𝓤 H A mem run) (κ, tt) (x, (s, tt)) tt g) (fact 𝓤 (g ≡ gathered (together s noLines) (x .now) (few k)))
-  code-all s g = exE 𝓤 _ (λ ws. snd∗ 𝓤 (sem 𝓤 H A (lasts all.ended (κ, tt) (x, (s, tt)) ws)) (fact 𝓤 (g ≡ gathered (together s noLines) (x .now) (few k))))
+  pub code-all : (s : Progress) (g : Gathered) → ent 𝓤 (ensured 𝓤 H A all.ended (all.clauses 𝓤 H A mem run) (κ, tt) (x, (s, tt)) tt g) (fact 𝓤 (g ≡ gathered (together s noLines) (x .now) (few (s .status) k)))
+  code-all s g = exE 𝓤 _ (λ ws. snd∗ 𝓤 (sem 𝓤 H A (lasts all.ended (κ, tt) (x, (s, tt)) ws)) (fact 𝓤 (g ≡ gathered (together s noLines) (x .now) (few (s .status) k))))
 
   -- what was gathered
-  pub is-whole : (s : Progress) (g : Gathered) → s ≡ openingProgress n k → g ≡ gathered (together s noLines) (x .now) (few k) → g ≡ gatheredOf n (x .now)
-  is-whole s g p e = e ∙ ap (λ (z : Progress). gathered (together z noLines) (x .now) (few k)) p
-
-  pub is-sound : (g : Gathered) → g ≡ gatheredOf n (x .now) → ReadyWhenDone g
-  is-sound g e = subst ReadyWhenDone (sym e) (whole n (x .now) .sound)
+  pub is-whole : (s : Progress) (g : Gathered) → s ≡ opening → g ≡ gathered (together s noLines) (x .now) (few (s .status) k) → g ≡ gatheredFor n (x .now) lay (m .now) (r .now)
+  is-whole s g p e = e ∙ ap (λ (z : Progress). gathered (together z noLines) (x .now) (few (z .status) k)) p
 
   abbrev pub to-fin : Gathered → Val → Fin 𝓤 H A mem run .Ghost
   to-fin g u = (((κ′, (κ″, tt)), (q′, (q″, tt)), tt, (g, (lay, (m, (r, tt)))), (u ∷ [], (laid lay ∷ [], (sl m ∷ [], (sl r ∷ [], tt))))), tt)
 
-  pub asked-fin : (g : Gathered) (u : Val) → ReadyWhenDone g → ent 𝓤 (onEntry 𝓤 H A fin.signature (κ′, (κ″, tt)) (q′, (q″, tt)) (g, (lay, (m, (r, tt)))) (u ∷ [], (laid lay ∷ [], (sl m ∷ [], (sl r ∷ [], tt))))) (Fin 𝓤 H A mem run .pre (to-fin g u))
+  pub asked-fin : (g : Gathered) (u : Val) → ReadyFor g lay (m .now) (r .now) → ent 𝓤 (onEntry 𝓤 H A fin.signature (κ′, (κ″, tt)) (q′, (q″, tt)) (g, (lay, (m, (r, tt)))) (u ∷ [], (laid lay ∷ [], (sl m ∷ [], (sl r ∷ [], tt))))) (Fin 𝓤 H A mem run .pre (to-fin g u))
   asked-fin g u sound =
       qed W ((‵ (flft κ′ q′) ⊛ ‵ (flft κ″ q″) ⊛ ‵ ftrue) ∷ ‵ (owns (S.the-row ∷ L.the-row ∷ MutSlice (named 0) κ′ i64 ∷ MutSlice (named 1) κ″ i64 ∷ []) (g, (lay, (m, (r, tt)))) (u ∷ [], (laid lay ∷ [], (sl m ∷ [], (sl r ∷ [], tt))))) ∷ []) ∵ says ! sound $ frame ! $ done !
 

@@ -98,8 +98,8 @@ module _ {M : Type 1} (𝓤 : URA M) (H : Heap 𝓤) (A : Atoms 𝓤) (mem : Mem
   abbrev pub to : Lft → ℕ → GName → Progress → List ℕ → Observation → One .Ghost
   to κ l γ p xs y = (((κ, tt), (fullShare, tt), tt, (p, (ref l γ xs, (y, tt))), (far p ∷ [], (vptr l 0 ∷ [], (lined y ∷ [], tt)))), tt)
 
-  abbrev pub to-few : ℕ → Fews .Ghost
-  to-few k = ((tt, tt, tt, (k, tt), (vint w64 k ∷ [], tt)), tt)
+  abbrev pub to-few : Progress → ℕ → Fews .Ghost
+  to-few p k = ((tt, tt, tt, (p, (k, tt)), (far p ∷ [], (vint w64 k ∷ [], tt))), tt)
 
   abbrev pub to-none : None .Ghost
   to-none = ((tt, tt, tt, tt, tt), tt)
@@ -122,11 +122,11 @@ module _ {M : Type 1} (𝓤 : URA M) (H : Heap 𝓤) (A : Atoms 𝓤) (W : Given
   asked κ l γ p xs y =
       qed W ((‵ (flft κ fullShare) ⊛ ‵ ftrue) ∷ ‵ (owns (P.the-row ∷ MutRef (named 0) κ AR ∷ R ∷ []) (p, (ref l γ xs, (y, tt))) (far p ∷ [], (vptr l 0 ∷ [], (lined y ∷ [], tt)))) ∷ []) ∵ join ! $ frame ! $ done !
 
-  pub asked-few : (n : ℕ) → ent 𝓤 (onEntry 𝓤 H A fews.signature tt tt (n, tt) (vint w64 n ∷ [], tt)) (Fews 𝓤 H A mem run .pre (to-few 𝓤 H A mem run n))
-  asked-few n = qed W (‵ ftrue ∷ ‵ (owns (usize ∷ []) (n, tt) (vint w64 n ∷ [], tt)) ∷ []) ∵ join ! $ frame ! $ done !
+  pub asked-few : (p : Progress) (n : ℕ) → ent 𝓤 (onEntry 𝓤 H A fews.signature tt tt (p, (n, tt)) (far p ∷ [], (vint w64 n ∷ [], tt))) (Fews 𝓤 H A mem run .pre (to-few 𝓤 H A mem run p n))
+  asked-few p n = qed W (‵ ftrue ∷ ‵ (owns (P.the-row ∷ usize ∷ []) (p, (n, tt)) (far p ∷ [], (vint w64 n ∷ [], tt))) ∷ []) ∵ join ! $ frame ! $ done !
 
-  pub code-few : (n r : ℕ) → ent 𝓤 (ensured 𝓤 H A fews.ended (fews.clauses 𝓤 H A mem run) tt (n, tt) tt r) (fact 𝓤 (r ≡ few n))
-  code-few n r = exE 𝓤 _ (λ ws. snd∗ 𝓤 (sem 𝓤 H A (lasts fews.ended tt (n, tt) ws)) (fact 𝓤 (r ≡ few n)))
+  pub code-few : (p : Progress) (n r : ℕ) → ent 𝓤 (ensured 𝓤 H A fews.ended (fews.clauses 𝓤 H A mem run) tt (p, (n, tt)) tt r) (fact 𝓤 (r ≡ few (p .status) n))
+  code-few p n r = exE 𝓤 _ (λ ws. snd∗ 𝓤 (sem 𝓤 H A (lasts fews.ended tt (p, (n, tt)) ws)) (fact 𝓤 (r ≡ few (p .status) n)))
 
   pub asked-none : ent 𝓤 (onEntry 𝓤 H A none.signature tt tt tt tt) (None 𝓤 H A mem run .pre (to-none 𝓤 H A mem run))
   asked-none = qed W (‵ ftrue ∷ ‵ (owns [] tt tt) ∷ []) ∵ join ! $ frame ! $ done !

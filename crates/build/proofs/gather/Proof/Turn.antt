@@ -69,7 +69,7 @@ module _ {M : Type 1} (𝓤 : URA M) (H : Heap 𝓤) (A : Atoms 𝓤) (W : Given
   n = length ys
 
   abbrev pub end : ℕ
-  end = few n
+  end = few (start .status) n
 
   abbrev pub begun : Gathered
   begun = together start noLines
@@ -174,7 +174,7 @@ module _ {M : Type 1} (𝓤 : URA M) (H : Heap 𝓤) (A : Atoms 𝓤) (W : Given
         lt₀ = ltb-true (t .0) end e₁
 
         lt₁ : t .0 < n
-        lt₁ = few-below n lt₀
+        lt₁ = few-below (start .status) n lt₀
 
         scaled : t .0 * 32 < 2 ^ 64
         scaled = omega (arith, gn .1, lt₁)

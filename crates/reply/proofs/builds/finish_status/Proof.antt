@@ -1,16 +1,9 @@
-use Rattle.reply.proofs.Line.{line-status}
 use borrow.Author.Needs.{needs}
 use Rattle.reply.proofs.builds.finish_status.Statement.{statement}
 use Rattle.reply.proofs.builds.finish_status.Tie as tie
 
-is-short-requires : tie.Need-is-short-requires
-is-short-requires c κs = search needs
-
 line-of-requires : tie.Need-line-of-requires
 line-of-requires c κs = search needs
-
-status-line-requires : tie.Need-status-line-requires
-status-line-requires c κs = search needs
 
 finish-requires : tie.Need-finish-requires
 finish-requires c κs = search needs
@@ -32,16 +25,14 @@ returns c =
       answer = f .finish .result;
       finished = f .finish .ensures;
       number-is = c .built-number .ensures;
-      line-is = line-status (t .status-line .ensures) (t .before .before .is-short .ensures) (t .before .line-of .ensures);
+      line-is = t .line-of .ensures;
     }
 
 pub finish-status-spec : {M : Type 1} → statement M
 finish-status-spec =
     tie.close
     (tie.spec
-    is-short-requires
     line-of-requires
-    status-line-requires
     finish-requires
     built-number-requires
     same-length
