@@ -9,7 +9,7 @@ enum { RAISED = MOST * (MOST + 1) };
 #define RAISED_BY ((int64_t)1 << 25)
 #define SMALL_SUM ((int64_t)1 << 33)
 
-/* n numbers, a stride apart and of at most 2^25 in size, raised above 0, and their sum after them. */
+/* n numbers, a stride apart and of at most 2^25 in absolute value, biased above 0, and their sum after them. */
 static inline void raise_row(size_t n, const int64_t *x, size_t stride, uint64_t *out) {
     uint64_t sum = 0;
     for (size_t k = 0; k < n; k++) sum += out[k] = (uint64_t)(x[k * stride] + RAISED_BY);

@@ -25,8 +25,8 @@
  *   allowance          1 to 64           how many lists of weights may be tried
  *   solution_bounds, inverse_bounds      written, 0 to 2^60: limits of X in solution steps and of G in inverse steps; kodarfi_intervals reads them
  *
- * How to choose s and t. Take the largest t at which every number of the inverse, times 2^t, stays within 2^20 in size: the exact solution and inverse
- * rounded to nearest steps, with weights of 1 and no tolerances, are always accepted where the sizes |A_ij| of the whole matrix add up to less than
+ * How to choose s and t. Take the largest t at which every number of the inverse, times 2^t, stays within 2^20 in absolute value: the exact solution and
+ * inverse rounded to nearest steps, with weights of 1 and no tolerances, are always accepted where the |A_ij| of the whole matrix add up to less than
  * 2 * 2^t, and no limit is above 1 where three times this sum is at most 2 * 2^t. Take the smallest s whose step, 2^-s of a unit, is as fine as the
  * heights are wanted: a guess must stay within 2^36 steps, and a tolerance d takes d * 2^s of the 2^25 that 6 allows. */
 #ifndef KODARFI_H
@@ -53,7 +53,7 @@
 #define KODARFI_LOADER_LENGTH 9
 #define KODARFI_LINE_LENGTH 320
 
-/* The ends of the ranges: the highest number of each kind, and the highest size where numbers may be below 0. */
+/* The ends of the ranges: the highest number of each kind, and the highest absolute value where numbers may be below 0. */
 #define KODARFI_N_MAX 32
 #define KODARFI_SCALE_MAX 20
 #define KODARFI_MATRIX_MAX 1048576
@@ -114,12 +114,12 @@ extern "C" {
  *   8   a list is too short                                 places: 0, 0
  *   3   n, s, t or a number that is used is outside its range       0, 0
  *   5   a margin is 0 or less                                       row, 0
- *   6   a residual of the guess is above its row's sum, or above
- *       2^25 together with its slack, in size                       row, 0
- *   7   a residual of the inverse is above its row's sum in size    column, row
+ *   6   the absolute value of a residual of the guess is above its
+ *       row's sum, or together with its slack above 2^25            row, 0
+ *   7   that of a residual of the inverse is above its row's sum    column, row
  *
- * The row's sum is that of the sizes of the matrix's numbers in that row (document 02, Paper 9). A guess within one step of the exact solution
- * everywhere never has a residual above it, nor has an inverse within one step of the exact one.
+ * The row's sum is that of the absolute values of the matrix's numbers in that row (document 02, Paper 9). A guess within one step of the exact
+ * solution everywhere never has a residual above it, nor has an inverse within one step of the exact one.
  */
 uint32_t kodarfi_check(uint32_t n, uint32_t s, uint32_t t,
                        const int64_t *matrix, size_t matrix_len,
@@ -306,7 +306,7 @@ uint32_t kodarfi_intervals(uint32_t n, uint32_t s,
  *   3   n2, s2, t2, a number that is used of its lists or of C is outside its range, or s2 is not s1                               0, 0
  *   5   a margin of the dependent net is 0 or less                                                                                 row, 0
  *   6   a residual of its guess is above 2^25 together with its slack; the row's sum is not asked of it                            row, 0
- *   7   a residual of its inverse is above its row's sum in size                                                                   column, row
+ *   7   the absolute value of a residual of its inverse is above its row's sum                                                     column, row
  */
 uint32_t kodarfi_check_dependent(uint32_t n1, uint32_t s1, uint32_t t1,
                                  const int64_t *matrix1, size_t matrix1_len,

@@ -57,6 +57,7 @@ MUTANTS = {
     "a line at the end": (SIGN, f"{LINE}file: src/lib.rt\n", f"file: src/lib.rt\n{LINE}"),
     "a line first": (SIGN, f"|other_sign| is kept\n{LINE}", f"{LINE}|other_sign| is kept\n"),
     "a line without a fact": (SIGN, LINE, "refused at:\n"),
+    "a definition that is none": (LOG, FACT, "/specs/Sum.antt:3:1: error: `sumOf`: `y` is not in scope" + "\n%s" % FACT[1:]),
     "another fact": (SIGN, "`returns`", "`returns-2`"),
     "another file": (SIGN, "`total/Proof.antt`", "`other/Proof.antt`"),
     "a side condition left out": (LARGE, "; first at `total/Proof.antt`, `add-result`", ""),

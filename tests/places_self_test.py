@@ -50,14 +50,14 @@ MUTANTS = {
 # The project's own sources: a file, its text and the text with a place multiplied out.
 MUTANTS_HERE = {
     "a term of the guess's residual": ("linear/src/lib.rt", "add_product(sum, a[at_a], x[at_x])", "add_product(sum, a[p + j * s], x[at_x])"),
-    "a term of raised rows": ("check_biased_rows/src/lib.rt", "        at_b += 1;", "        at_b = q + (k + 1) * 1;"),
-    "the start of a raised row": ("check_biased_rows/src/lib.rt", "        place += n + 1;", "        place = (i + 1) * (n + 1);"),
+    "a term of biased rows": ("check_biased_rows/src/lib.rt", "        at_b += 1;", "        at_b = q + (k + 1) * 1;"),
+    "the start of a biased row": ("check_biased_rows/src/lib.rt", "        place += n + 1;", "        place = (i + 1) * (n + 1);"),
     "a row of the defect": ("check_margins/src/lib.rt", "margin_of(t, defects, weights, n, m, row)", "margin_of(t, defects, weights, n, m, m * n)"),
     "a row of the matrix": ("check_defects/src/lib.rt", "store_row(out, t, m, xs, start, stride, rows, n)", "store_row(out, t, m, xs, m * step, stride, rows, n)"),
-    "a raised row of the inverse": ("check_defects/src/lib.rt", "        row += n + 1;", "        row = (k + 1) * (n + 1);"),
+    "a biased row of the inverse": ("check_defects/src/lib.rt", "        row += n + 1;", "        row = (k + 1) * (n + 1);"),
     "a place across the diagonal": ("check_symmetry/src/lib.rt", "        down += n;", "        down = (j + 1) * n + i;"),
     "a row of p": ("check_bounds/src/lib.rt", "out[m] = magnitude(row_dot(rows, m, row, residuals, 0, 0, n))", "out[m] = magnitude(row_dot(rows, m, m * (n + 1), residuals, 0, 0, n))"),
-    "a size across the columns": ("check_inverse_bounds/src/lib.rt", "        across += n;", "        across = (m + 1) * n + j;"),
+    "a magnitude across the columns": ("check_inverse_bounds/src/lib.rt", "        across += n;", "        across = (m + 1) * n + j;"),
     "a term of the search's sums": ("weights_steps/src/lib.rt", "        place += n;", "        place = (j + 1) * n + m;"),
     "a term handed on in the search": ("weights_steps/src/lib.rt", "weigh_at(sum, magnitudes, n, m, place, weights[j], j)", "weigh_at(sum, magnitudes, n, m, j * n + m, weights[j], j)"),
     "a row that is filled out": ("half_fill/src/lib.rt", "        to += n;", "        to = (i + 1) * n;"),

@@ -10,6 +10,9 @@ UNPROVED = re.compile(r"^note: (?P<file>\S+?\.rt):(?P<line>\d+):\d+: (?P<text>it
 # The log has this where the code has another shape than its proof: such an edit shows nothing.
 NO_NEED = "has no `Need-"
 
+# A definition that is refused by itself, for a name or a type, shows nothing either.
+SPECS = "specs/"
+
 # What a function returns, what a loop keeps, the contract of a function: by the names that the prover gives them.
 PROMISED = re.compile(r"(.+-)?(returns|loop-again|loop-holds)(-\d+)?|.+-spec")
 
@@ -44,16 +47,18 @@ def facts(folder, log):
         file = found["file"].split(f"/{folder.parent.name}/{folder.name}/", 1)[-1]
         path, fact = folder / file, found["fact"]
         is_promised = PROMISED.fullmatch(fact) is not None
-        if path.suffix == ".rt":
+        if file.startswith(SPECS):
+            yield Fact(file, f"`{fact}`", "was not admitted" in found["text"], False)
+        elif path.suffix == ".rt":
             yield Fact(file, f"`{fact}` of `{function_at(path, int(found['line']))}`", False, not is_promised)
         else:
             yield Fact(file.removeprefix("proofs/"), f"`{fact}`", "was not admitted" in found["text"], not is_promised and is_owed(path, fact))
 
 
 def refused_at(folder, log):
-    """What an edit's second line says (edits.py) of the run in `folder`; None where the log names no fact, or the proof no longer fits the code."""
+    """What an edit's second line says (edits.py) of the run in `folder`; None where the log names no fact, a definition is none, or the proof no longer fits the code."""
     own = [fact for fact in facts(folder, log) if not fact.follows]
-    if not own or NO_NEED in log:
+    if not own or NO_NEED in log or any(fact.file.startswith(SPECS) for fact in own):
         return None
     first = own[0]
     promised = next((fact for fact in own if not fact.is_side_condition), None)

@@ -155,11 +155,11 @@ static void read_words(char **words, struct options *options, struct folders *fo
         else if (!strcmp(word, "--explain-to")) folders->explained_name = value_of(words, &at, "a folder");
         else if (!strcmp(word, "--summary")) options->summary = value_of(words, &at, "a file");
         else if (!strcmp(word, "--fresh")) options->is_fresh = true;
-        else if (word[0] == '-' && word[1]) fail("there is no option %s (batch --help tells of all)", shown(word));
+        else if (word[0] == '-' && word[1]) fail("there is no option %s (batch --help lists all)", shown(word));
         else if (count < 2) names[count++] = word;
         else count++;
     }
-    if (count != 2) fail("usage: batch [OPTION..] NETS LISTINGS (batch --help tells of all)");
+    if (count != 2) fail("usage: batch [OPTION..] NETS LISTINGS (batch --help lists all)");
     if (options->jobs && (strspn(options->jobs, "0123456789") != strlen(options->jobs) || atoi(options->jobs) < 1 || strlen(options->jobs) > 4)) fail("--jobs wants a number");
     folders->nets_name = names[0];
     folders->listings_name = names[1];

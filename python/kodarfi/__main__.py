@@ -26,13 +26,13 @@ FIELD has a line for each field line, whole numbers with spaces between them: ke
 difference, weight and perhaps a reading limit; or it is CSV whose first line names these
 columns. Equations and files are forms as docs/FORMAT.md has them. common prints
 (common n s) and lines (interval i (low high)) in steps of 2^s to a unit, intervals the same
-with doubles in units, quality (quality p q), the factor p/q; docs/FIELD-LINES.md tells of
+with doubles in units, quality (quality p q), the factor p/q; docs/FIELD-LINES.md explains
 field lines and their tolerances. propose takes the finest solution steps that fit, at most
 2^S to a unit, 2^10 where S is left out.
 
 For dependent, MAIN is the main net's file, and FIELD has the dependent net's lines, where
 main:7 is mark 7 of the main net and a number alone a mark of the net itself; docs/LARGE-NETS.md
-tells more. NAMES has lines of a mark's number and its name, 0 for the fixed mark, and a line
+says more. NAMES has lines of a mark's number and its name, 0 for the fixed mark, and a line
 of the word unit and the unit's name; or it is CSV whose first line is mark,name. Where draw
 meets a row that is refused, it still prints the picture, with a status of 1.
 
@@ -151,7 +151,7 @@ def texts_of(name: str, files: List[str]) -> List[bytes]:
 
 def run(name: str, words: List[str]) -> int:
     if set(words) & {"-h", "--help"} and "--" not in words:
-        put(f"usage: python3 -m kodarfi {name} {COMMANDS[name].files}\n\n{COMMANDS[name].tells}; python3 -m kodarfi --help tells more\n".encode())
+        put(f"usage: python3 -m kodarfi {name} {COMMANDS[name].files}\n\n{COMMANDS[name].tells}; python3 -m kodarfi --help says more\n".encode())
         return 0
     files, given = words_of(name, words)
     names = " and ".join(map(shown, files))

@@ -8,16 +8,17 @@ from .draw import DOT, LARGEST_RING, LEADING, SMALL, TEXT, Drawing, Picture, arr
 from .labels import Box, width_of
 
 MARGIN, NARROWEST, HEAD_TEXT, BESIDE_RING = 16.0, 440.0, 16.0, 2 * LARGEST_RING + 10
+# Each colour comes twice: viewers without custom properties, such as librsvg, take the first.
 STYLE = """
 svg { --paper: #fff; --ink: #1a1a1a; --line: #9aa0a8; --faint: #50555c; --ring: #1f6feb; --red: #c62828; }
 @media (prefers-color-scheme: dark) { svg { --paper: #16181c; --ink: #ececec; --line: #6b7280; --faint: #b8bec8; --ring: #6ea8ff; --red: #ff6b6b; } }
 @media print { svg { --paper: #fff; --ink: #000; --line: #888; --faint: #333; --ring: #1f6feb; --red: #c62828; } }
-text { font: 13px system-ui, "DejaVu Sans", sans-serif; fill: var(--ink); text-anchor: middle; }
-text { paint-order: stroke; stroke: var(--paper); stroke-width: 3px; stroke-linejoin: round; }
-.paper { fill: var(--paper); } .dot { fill: var(--ink); }
-.line { stroke: var(--line); stroke-width: 1.4; } .ring { fill: var(--ring); fill-opacity: 0.13; stroke: var(--ring); stroke-width: 1.2; }
-.weight { font-size: 11px; fill: var(--faint); } .left { text-anchor: start; } .right { text-anchor: end; } .heading { font-size: 16px; font-weight: 600; }
-.refused.line { stroke: var(--red); stroke-width: 2; } .refused.dot, text.refused { fill: var(--red); }
+text { font: 13px system-ui, "DejaVu Sans", sans-serif; fill: #1a1a1a; fill: var(--ink); text-anchor: middle; }
+text { paint-order: stroke; stroke: #fff; stroke: var(--paper); stroke-width: 3px; stroke-linejoin: round; }
+.paper { fill: #fff; fill: var(--paper); } .dot { fill: #1a1a1a; fill: var(--ink); }
+.line { stroke: #9aa0a8; stroke: var(--line); stroke-width: 1.4; } .ring { fill: #1f6feb; fill: var(--ring); fill-opacity: 0.13; stroke: #1f6feb; stroke: var(--ring); stroke-width: 1.2; }
+.weight { font-size: 11px; fill: #50555c; fill: var(--faint); } .left { text-anchor: start; } .right { text-anchor: end; } .heading { font-size: 16px; font-weight: 600; }
+.refused.line { stroke: #c62828; stroke: var(--red); stroke-width: 2; } .refused.dot, text.refused { fill: #c62828; fill: var(--red); }
 """
 
 

@@ -40,16 +40,16 @@ WORDS: Dict[int, Words] = {
     5: Words(
         'a margin of 0 or less; gives the lowest row',
         'a margin above 0 in every row',
-        'first compare rows and right sides with the field, since an equation that is damaged or exchanged looks like this too; where they are right, a better inverse, a larger t with the inverse in its finer steps, or other weights; weights of 1 always do where the inverse is the exact one rounded to nearest steps and the sizes of all numbers of A, summed, are below 2T',
+        'first compare rows and right sides with the field, since an equation that is damaged or exchanged looks like this too; where they are right, a better inverse, a larger t with the inverse in its finer steps, or other weights; weights of 1 always do where the inverse is the exact one rounded to nearest steps and the absolute values of all numbers of A, summed, are below 2T',
     ),
     6: Words(
-        "a residual of the guess larger than the sizes of its row's numbers summed, or larger than 2^25 together with its slack; gives the lowest row",
-        "for every row a residual of at most the sizes of the row's numbers summed, in size, and together with its slack of at most 33,554,432; the slack is 2^s times the tolerance",
+        "a residual of the guess larger than the absolute values of its row's numbers summed, or larger than 2^25 together with its slack; gives the lowest row",
+        "for every row a residual of at most the absolute values of the row's numbers summed, in absolute value, and together with its slack of at most 33,554,432; the slack is 2^s times the tolerance",
         'first compare rows and right sides with the field, since a wrong sign or another damage to an equation looks like this too; where they are right, a better guess: one within a step of the exact solution everywhere is always good enough, so rounding it to steps will do; or a smaller s, with the guess in its coarser steps; where only the slack is too large, smaller tolerances or a smaller s',
     ),
     7: Words(
-        "a residual of the inverse larger than the sizes of its row's numbers summed; gives the lowest column, then its lowest row",
-        "for every column of the inverse residuals of at most the sizes of the row's numbers summed, in size, which is never above 33,554,432",
+        "a residual of the inverse larger than the absolute values of its row's numbers summed; gives the lowest column, then its lowest row",
+        "for every column of the inverse residuals of at most the absolute values of the row's numbers summed, in absolute value, which is never above 33,554,432",
         'first compare rows and right sides with the field, since damage to an equation looks like this too; where they are right, a better inverse: one within a step of the exact one everywhere is always good enough, so rounding it to steps will do; or a smaller t, with the inverse in its coarser steps',
     ),
     8: Words(
@@ -99,7 +99,7 @@ WORDS: Dict[int, Words] = {
     ),
     19: Words(
         'a double that is infinite or no number, or whose guess leaves its range',
-        'finite heights of at most 2^36 solution steps in size',
+        'finite heights of at most 2^36 solution steps in absolute value',
         'look into the solver for what is not finite; where heights are too large, a smaller s',
     ),
     20: Words(

@@ -22,7 +22,8 @@ ELSEWHERE = (
     (r".*", r"docs/LARGE-NETS\.md", "tests/package/region.py", '"PAGE"'),
     (r"(?:cc|c\+\+|rustc) ", r".*", "tests/languages.py", "PAGE"),
     (r"make(?: lib| install\b.*| uninstall\b.*)?$", r".*", "tests/install/cases.py", "box.make("),
-    (r"python3 (?P<word>tests/\S+)", r".*", "tests/registry", "WORD"),
+    (r"python3 (?P<word>(?:tests|docs/pictures)/\S+)", r".*", "tests/registry", "WORD"),
+    (r"python3 (?P<word>docs/\S+)", r".*", "tests/install/cases.py", "WORD"),
     (r"tests/run(?! --list)", r".*", ".ci/run", "tests/parts.sh"),
     (r"(?:tests/link/run)", r".*", "tests/registry", "tests/link/run"),
 )
@@ -53,10 +54,10 @@ def filled(command):
     return plain
 
 
-def elsewhere(root, of_page, text_of_command):
+def elsewhere(root, of_page, command):
     """Which test runs a command, and whether that is still to be seen there: (test, seen); None where none does."""
-    for command, page, test, text in ELSEWHERE:
-        match = re.match(command, text_of_command)
+    for begins, page, test, text in ELSEWHERE:
+        match = re.match(begins, command)
         if match and re.fullmatch(page, of_page):
             needed = text.replace("PAGE", Path(of_page).name).replace("WORD", match.groupdict().get("word") or "")
             path = root / test
@@ -64,22 +65,22 @@ def elsewhere(root, of_page, text_of_command):
     return None
 
 
-def not_run(text_of_command):
+def not_run(command):
     """Why a command is not run; None where it is."""
-    return next((why for command, why in NOT_RUN if re.match(rf"(?:\w+=\S* )*(?:{command})", text_of_command)), None)
+    return next((why for begins, why in NOT_RUN if re.match(rf"(?:\w+=\S* )*(?:{begins})", command)), None)
 
 
 class Folder:
-    """A folder in which commands run: it has all that the repository has, and a target of its own with what is built."""
+    """A folder in which commands run, made for the first of them: a copy of the repository, but for its crates, and a target of its own with what is built."""
 
     def __init__(self, root):
-        self.held = tempfile.TemporaryDirectory()
-        self.path = Path(self.held.name)
-        for path in root.iterdir():
-            if path.is_file():
-                shutil.copy2(path, self.path)  # a script finds its folder through links
-            elif path.name not in ("target", ".git"):
-                (self.path / path.name).symlink_to(path)
+        self.root, self.held = root, tempfile.TemporaryDirectory()
+        self.path = Path(self.held.name) / "clone"
+
+    def make(self):
+        root = self.root
+        shutil.copytree(root, self.path, ignore=lambda folder, names: ["crates", "target", ".git", "__pycache__"] if Path(folder) == root else ["__pycache__"])
+        (self.path / "crates").symlink_to(root / "crates")
         for path in [*root.glob("target/bin/*"), *root.glob("target/lib/*"), *root.glob("target/staticlib/*")]:
             place = self.path / path.relative_to(root)
             place.parent.mkdir(parents=True, exist_ok=True)
@@ -99,6 +100,8 @@ class Folder:
 
     def run(self, command):
         """The status of a command, and what it prints."""
+        if not self.path.exists():
+            self.make()
         # nothing is built for a page: the programs are taken as they are, and rt is a stand-in that refuses
         environment = os.environ | {"PYTHONPATH": "python", "KODARFI_AS_BUILT": "silent", "LC_ALL": "C.UTF-8"}
         environment["PATH"] = f"{self.path}/target/tools:{environment['PATH']}"
@@ -115,10 +118,10 @@ def fault_of(root, folder, shown):
     """What is wrong with a command that a page shows; None where nothing is."""
     kept = []
     for part in shown.text.split(" && "):
-        told = elsewhere(root, shown.page, part)
-        if told and not told[1]:
-            return f"{told[0]} no longer names what runs '{part}'"
-        kept += [] if told or not_run(part) else [part]
+        other = elsewhere(root, shown.page, part)
+        if other and not other[1]:
+            return f"{other[0]} no longer names what runs '{part}'"
+        kept += [] if other or not_run(part) else [part]
     command = filled(" && ".join(kept))
     if not kept:
         return None
@@ -126,7 +129,7 @@ def fault_of(root, folder, shown):
     if unknown:
         return f"'{shown.text}': there is no example for {unknown[0]}"
     for name, made in MADE.items():
-        if name in command and not (folder.path / name.replace("./", "target/bin/")).exists():
+        if f"{name} " in f"{command} " and not (folder.path / name.replace("./", "target/bin/")).exists():
             folder.run(made)
     status, printed = folder.run(command)
     if status != (1 if "examples/refused/" in command else 0):

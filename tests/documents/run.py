@@ -10,13 +10,15 @@ Read are README.md, CONTRIBUTING.md, docs/*.md, tests/README.md and bench/README
 3. A file that is named exists: in backquotes by its ending, a page (X.md) anywhere. tests/names reads paths, definitions and items of the other pages; those of
    CONTRIBUTING.md and bench/README.md are read here by the same rules. `./X` in backquotes is a script of the repository.
 4. `FILE:N` in backquotes is a line of that file; where a page says of a file that it has N lines, it has.
-5. An option in backquotes or in a block is one of the command that it follows, or of some script where it stands alone.
+5. An option in backquotes or in a block is one of the command that it follows, or of some script where it stands alone. What follows `rt` is a command of the
+   kit, what follows `make` a target of Makefile, what follows `tests/run` a part of the registry.
 6. A command in a block of indented or fenced lines runs, and prints what stands below it where it follows '$ '. Its status is 0, or 1 where it names a file of
    examples/refused. Words for any file have an example. commands.py lists what is not run, and what another part of the gate runs.
 7. No line is above 200 characters, but in tables and in what a command prints ('$ '). README.md has at most 150 lines of at most 120 characters, CONTRIBUTING.md
    at most 200 lines.
 8. Every term of docs/GLOSSARY.md is used in another page."""
 
+import importlib.util
 import re
 import subprocess
 import sys
@@ -24,21 +26,19 @@ from functools import cached_property
 from pathlib import Path
 
 HERE = Path(__file__).resolve().parent
+NAMES = HERE.parent / "names"
 sys.path[:0] = [str(HERE.parent), str(HERE)]
-
-import importlib.util
+sys.path.append(str(NAMES))  # after this folder: both have a run.py and a self_test.py
 
 from commands import Folder, fault_of
 from common.mutated import ROOT, close, main
 from pages import Page
 
-sys.path.insert(1, str(HERE.parent / "names"))
-_spec = importlib.util.spec_from_file_location("names_run", HERE.parent / "names" / "run.py")
-names = importlib.util.module_from_spec(_spec)
-_spec.loader.exec_module(names)
+spec = importlib.util.spec_from_file_location("names_run", NAMES / "run.py")
+names = importlib.util.module_from_spec(spec)
+spec.loader.exec_module(names)
 
 READ = r"README\.md|CONTRIBUTING\.md|docs/[^/]+\.md|tests/README\.md|bench/README\.md"
-SHORT = r"README\.md|CONTRIBUTING\.md|docs/[^/]+\.md"
 LENGTHS = {"README.md": (150, 120), "CONTRIBUTING.md": (200, 200)}
 FILE = re.compile(r"[\w./-]+\.(?:md|svg|txt|csv|h|c|cpp|rs|1|sh|toml)")
 PAGE = re.compile(r"(?<![\w/.-])[A-Z][A-Z-]*\.md\b")
@@ -78,7 +78,7 @@ class Documents:
 
     def faults(self):
         for page in self.pages.values():
-            for check in (self.links, self.files, self.counts, self.options, self.lengths):
+            for check in (self.links, self.files, self.counts, self.options, self.words, self.lengths):
                 yield from (f"{page.name}{fault}" for fault in check(page) if fault)
         yield from (fault for check in (self.reached, self.names, self.commands, self.glossary) for fault in check() if fault)
 
@@ -122,11 +122,15 @@ class Documents:
         return self.cited.paths[name].read_text(errors="replace") if self.cited.paths[name].is_file() else ""
 
     @cached_property
-    def kit(self):
+    def kit_help(self):
         try:
-            return set(OPTION.findall(subprocess.run(["rt", "help"], capture_output=True, text=True, timeout=60).stdout))
+            return subprocess.run(["rt", "help"], capture_output=True, text=True, timeout=60).stdout
         except OSError:
-            return set()
+            return ""
+
+    @property
+    def kit(self):
+        return set(OPTION.findall(self.kit_help))
 
     def known(self, command):
         """The options of a command; None where they are not the repository's to know."""
@@ -148,9 +152,21 @@ class Documents:
                 for option in dict.fromkeys(OPTION.findall(command)) if known is not None else ():
                     yield self.judged(option in known, f":{number}: there is no option {option} ({command.strip()[:60]})")
 
+    def words(self, page):
+        """The word after rt, make or tests/run."""
+        knows = {"rt": (r"(?m)^  rt {}\b", self.kit_help), "make": (r"(?m)^{}:|\.PHONY:.* {}\b", self.file("Makefile")), "tests/run": (r"(?m)^{} \| ", self.file("tests/registry"))}
+        for number, text in [*page.spans(), *page.numbered("block")]:
+            for command in re.split(r"\||&&", re.split(r"(?<=\S) {3,}", text)[0].removeprefix("$ ")):
+                tool, *after = re.sub(r"^ *(?:\w+=\S* )*", "", command).split() or [""]
+                after = after if tool == "tests/run" else after[:1]
+                for word in [word for word in after if re.fullmatch(r"[a-z][a-z-]*", word)] if tool in knows else ():
+                    form, known = knows[tool]
+                    yield self.judged(re.search(form.replace("{}", re.escape(word)), known), f":{number}: {tool} knows no {word}")
+
+    def file(self, name):
+        return self.text(name) if name in self.cited.paths else ""
+
     def lengths(self, page):
-        if not re.fullmatch(SHORT, page.name):
-            return
         most, longest = LENGTHS.get(page.name, (None, 200))
         if most:
             yield self.judged(len(page.lines) <= most, f": {len(page.lines)} lines, and at most {most}")

@@ -12,13 +12,15 @@ FILES = {
     "README.md": "# Made up\n\nSee [a day](docs/DAY.md#a-day-of-work), [the way](#made-up), `docs/OFFICE.md` and `docs/GLOSSARY.md`.\n"
     "`./register --explain FILE` explains, `--brief` is short.\n\n"
     "    ./register examples/whole-file.txt     the listing\n    ./register FILE\n    bash .ci/run     the gate\n\n"
-    "`tests/adds.py` has 3 lines, and adds at `tests/adds.py:2`. `made.txt` is an example. The net is hung.\nCONTRIBUTING.md is next.\n",
+    "`tests/adds.py` has 3 lines, and adds at `tests/adds.py:2`. `made.txt` is an example. The net is hung.\nCONTRIBUTING.md is next, and `tests/README.md`.\n",
     "CONTRIBUTING.md": "# To contribute\n\n`sums/specs/Sum.antt` has `sumOf`.\n\n```\npython3 tests/adds.py --all\n```\n\n| a table |\n|---|\n| " + LONG + " |\n",
     "docs/DAY.md": "# Office\n\n## A day of `work`\n\n    $ ./register examples/made.txt\n    listing of made.txt\n\n    $ ./register examples/refused/2-none.txt\n    listing of 2-none.txt\n\n"
     "A desk takes it, and two hung nets.\n",
     "docs/GLOSSARY.md": '# Glossary\n\n| Term | Meaning |\n|---|---|\n| "desk" | what takes lines |\n| "hung net" | a net below another |\n',
     "docs/landings/first.md": "See `gone.txt` and [nothing](none.md). " + LONG + "\n",
-    "tests/README.md": "    tests/run\n\n`adds.py` adds.\n",
+    "tests/README.md": "    tests/run\n    tests/run adds\n    make lib\n\n`adds.py` adds.\n",
+    "Makefile": "lib:\n",
+    "tests/install/cases.py": "box.make()\n",
     "tests/registry": "adds | proofs | python3 | - | python3 tests/adds.py | adds\n",
     "tests/adds.py": "def adds():\n    return '--all'\n# end\n",
     "tests/run": "#!/bin/sh\n",
@@ -51,6 +53,8 @@ WRONG = {
     "an option that the command has not": ("README.md", "--explain FILE", "--explains FILE", "there is no option --explains"),
     "an option that nothing has": ("README.md", "`--brief`", "`--briefly`", "there is no option --briefly"),
     "an option of another command": ("CONTRIBUTING.md", "adds.py --all", "adds.py --brief", "there is no option --brief"),
+    "a part that the registry has not": ("tests/README.md", "tests/run adds", "tests/run added", "tests/run knows no added"),
+    "a target that Makefile has not": ("tests/README.md", "make lib", "make library", "make knows no library"),
     "a command that fails": ("README.md", "examples/whole-file.txt  ", "examples/whole.txt  ", "has status 2"),
     "a command that is refused": ("README.md", "    ./register FILE", "    ./register --explain examples/refused/../none", "has status 2"),
     "a file that is no longer refused": ("register", "*refused*", "*none-at-all*", "2-none.txt' has status 0"),
@@ -60,7 +64,7 @@ WRONG = {
     "a page that is run no more": ("tests/package/pages.py", '"OFFICE.md"', '"CLERK.md"', "tests/package/pages.py no longer names what runs './register none'"),
     "a gate without the tests": (".ci/run", "tests/parts.sh", "tests/others.sh", ".ci/run no longer names what runs 'tests/run'"),
     "a long line": ("docs/DAY.md", "A desk", LONG + "a desk", "the line has"),
-    "a line too long for the first page": ("README.md", "CONTRIBUTING.md is next", "CONTRIBUTING.md is next " + LONG[:60], "the line has"),
+    "a line too long for the first page": ("README.md", "CONTRIBUTING.md is next", "CONTRIBUTING.md is next " + LONG[:110], "the line has"),
     "a first page too long": ("README.md", "# Made up\n", "# Made up\n" + "\n" * 140, "151 lines, and at most 150"),
     "a term that no page uses": ("docs/DAY.md", "hung nets", "other nets", "no other page uses 'hung net'"),
     "no glossary": ("docs/GLOSSARY.md", None, None, "there is no docs/GLOSSARY.md"),
@@ -88,7 +92,7 @@ def self_test():
             faults.append(f"the right documents are refused: {said}")
         for title, change in WRONG.items():
             said = reported(Path(name), change)
-            if (change[1] or "") not in FILES[change[0]] or change[3] not in said or said.count("FAILED") > 3:
+            if (change[1] or "") not in FILES[change[0]] or change[3] not in said or said.count("FAILED") > 2:
                 faults.append(f"{title}: {said}")
     with tempfile.TemporaryDirectory() as name, contextlib.redirect_stdout(io.StringIO()):
         if check(Path(name)) == 0:

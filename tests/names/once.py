@@ -30,7 +30,7 @@ def declared(text):
 
 
 def equal_names(root):
-    """Names that several files of laws define. Folders of proofs/ hold what the kit names; X-none, X-next and X-end are laws of X."""
+    """Names that several files of laws define. Folders of proofs/, one for a function, are left out: the kit names most that is there. X-none, X-next and X-end are laws of X."""
     places = defaultdict(dict)
     for path in sorted((root / "crates").glob("*/*/*.antt")):
         if path.parent.name in ("specs", "proofs") and path.name != "Lib.antt":
@@ -63,11 +63,11 @@ def dependencies(root):
 
 
 def long_ways(root):
-    """Six steps back or more in one line: the stage has a name at the head of its file."""
+    """Six steps back or more, one after the other or in one line: the stage has a name at the head of its file."""
     for path in sorted((root / "crates").rglob("*.antt")):
-        for number, line in enumerate(path.read_text().split("\n"), 1):
-            if line.count(".before") > 5:
-                yield f"{path.relative_to(root).as_posix()}:{number}: {line.count('.before')} steps back in one line"
+        text = path.read_text()
+        for found in re.finditer(r"(?:\.before\b[^\n.]*){6,}|(?:\.before\s*){6,}", text):
+            yield f"{path.relative_to(root).as_posix()}:{text.count(chr(10), 0, found.start()) + 1}: {found.group().count('.before')} steps back"
 
 
 def faults(root):

@@ -115,7 +115,7 @@ fn row_of(seen: &[u32; 1280], count: usize, k: u32) -> Row
     row
 }
 
-// Writes the sums at marks 1, 2, .. width from a place on.
+// Writes the sums at marks 1, 2, .. width from an index on.
 fn store_row(sums: [i64; 33], width: usize, dst: &mut [i64], start: usize)
     requires { ⌜ (width ≤ 32) × (start + width ≤ length (now dst)) ⌝ }
     ensures { λ _. ⌜ now (dst .exit) ≡ written (now (dst .entry)) start 1 (λ (j : ℕ). at sums (j + 1)) width ⌝ }

@@ -1,5 +1,5 @@
 -- What one line adds to the whole diagonal.
---   InsideLine, inside-line — the marks of a line whose numbers are in range are 0 to n, its weight is at most 64, its difference at most 2 ^ 16 in size
+--   InsideLine, inside-line — the marks of a line whose numbers are in range are 0 to n, its weight is at most 64, its difference at most 2 ^ 16 in absolute value
 --   pick      — of the numbers v 1, .., v n only v m is left by the test for m, where v 0 is 0
 --   line-diagonal — a line is twice on the diagonal, the fixed mark counted in
 use mathlib.Core.Path.{_≡_, refl, sym, ap, subst, _∙_}

@@ -1,8 +1,8 @@
 -- Theorems (a), (c), (d) and (e) on the equations of a list that builds.
 --   diagonal  — (a) the diagonal summed, plus the weights of the distinct lines at the fixed mark, is twice the weight of all distinct lines
 --   symmetric — (c) A_ij = A_ji
---   weight-at-magnitude, gain-magnitude — the sizes of what one line adds
---   matrix-magnitude, right-magnitude — (d) A is at most 2 ^ 14 in size, b at most 2 ^ 30
+--   weight-at-magnitude, gain-magnitude — the magnitudes of what one line adds
+--   matrix-magnitude, right-magnitude — (d) A is at most 2 ^ 14 in absolute value, b at most 2 ^ 30
 --   matrix-in-range, right-in-range — so both are in the ranges of a check
 --   heights-solve — (e) heights that fit every line solve the equations: A·h = q·b
 use mathlib.Core.Path.{_≡_, refl, sym, ap, _∙_}
@@ -61,7 +61,7 @@ module _ (n : ℕ) (ls : List Observation) (fit : Buildable n ls) where
       (λ l k. line-row n l q h (i + 1) (good l k) (omega arith) (f .fixed) (f .fits l (distinct-among [] ls l k)))
       ∙ total-* (pos q) (gain (i + 1)) ds
 
--- ---- sizes
+-- ---- magnitudes
 when-magnitude : (b : Bool) (z : ℤ) → natAbs (when b z) ≤ natAbs z
 when-magnitude true z = omega arith
 when-magnitude false z = omega arith

@@ -16,7 +16,7 @@ pub struct Observation {
     pub weight: u32,
 }
 
-// What is said of a list of field lines.
+// The answer to a list of field lines.
 pub enum Built {
     // the equations are built
     Done,

@@ -1,6 +1,6 @@
 -- Laws of what is allowed of a residual.
 --   slack-magnitude — S·d is at most 2^40
---   allowed-magnitude — what is allowed is at most 2^25 in size
+--   allowed-magnitude — what is allowed is at most 2^25 in absolute value
 --   allowed-test  — a residual z is above what is allowed exactly where |z| + σ is above 2^25, or |z| above the sum along its row: |z| + σ is not formed
 use mathlib.Core.Path.{_≡_, refl, sym, ap, _∙_}
 use mathlib.Core.Bool.{Bool, true, false, _||_, cond}

@@ -1,7 +1,7 @@
 -- What is allowed of a residual; cited by contracts inside.
 --   slackAt s d — the slack S·d of a row with the tolerance d
 --   allowedBeside σ sum — how large a residual may be, with the slack σ, in a row whose sum of |a| is `sum`: 2^25 less σ, and at most that sum; or −1, of which
---     no size is allowed, where σ is above 2^25
+--     no magnitude is allowed, where σ is above 2^25
 use mathlib.Core.Bool.{cond}
 use Prim.Native.Nat.{ℕ, _*_, _-_, _^_, min}
 use lib.Dec.{ltb}

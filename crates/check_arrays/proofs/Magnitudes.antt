@@ -1,9 +1,9 @@
 -- Sizes of the reckoning's numbers, all within an i64.
 --   power-magnitude, unit-same, unit-other, unit-magnitude, scaled-magnitude — of 2^t, of the numbers of T·I and of S·b
 --   raisable — a matrix list, as `bias_rows` and `bias_columns` ask for it
---   Ranged P, defect-most — n at most 32, t at most 20, A and G at most 2^20 in size: then |D_mj| ≤ 2^45 + 2^20
+--   Ranged P, defect-most — n at most 32, t at most 20, A and G at most 2^20 in absolute value: then |D_mj| ≤ 2^45 + 2^20
 --   ranged-of, defect-magnitude — of lists in these ranges;  residual-exchanged — a residual of the inverse is a number of D with the two matrices exchanged
---   residual-magnitude — its size
+--   residual-magnitude — its magnitude
 --   column-ends — places of columns;  above-below, above-above — the code's test of a residual
 use mathlib.Core.Path.{_≡_, refl, sym, ap, subst}
 use mathlib.Core.Bool.{Bool, true, false, cond}

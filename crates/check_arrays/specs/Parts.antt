@@ -1,8 +1,8 @@
 -- The parts of a problem that a step of the reckoning works on, and what it makes of them; cited by contracts inside.
---   rowsPart      — the problem whose inverse stands in raised rows, as far as its residuals and p need it; b, d, X and w are left out
+--   rowsPart      — the problem whose inverse stands in biased rows, as far as its residuals and p need it; b, d, X and w are left out
 --   cutMargin     — the margin in ℕ: 0 where it is 0 or less
 --   residualFrom  — a base less A·X;  columnResidual — the residual of row k of the inverse's column j
---   aboveAllowed a z — the size of the residual z is above a; of any size where a is below 0
+--   aboveAllowed a z — the magnitude of the residual z is above a; of any residual where a is below 0
 use mathlib.Core.Bool.{Bool}
 use mathlib.Core.List.{List, []}
 use Prim.Native.Nat.{ℕ, _*_, _-_}

@@ -1,5 +1,5 @@
--- The reckoning on raised rows; cited by contracts inside.
---   InverseRows xs n — n raised rows that stand for numbers of at most 2^20 in size, as those of the inverse do
+-- The reckoning on biased rows; cited by contracts inside.
+--   InverseRows xs n — n biased rows that stand for numbers of at most 2^20 in absolute value, as those of the inverse do
 use mathlib.Core.List.{List}
 use Prim.Native.Nat.{ℕ, _≤_, _<_, _^_}
 use lib.IntN.{natAbs}

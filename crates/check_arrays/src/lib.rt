@@ -1,4 +1,4 @@
-// What margins, residuals and limits share: definitions on slices and raised rows with their laws, and a number of 2^t·I.
+// What margins, residuals and limits share: definitions on slices and biased rows with their laws, and a number of 2^t·I.
 ghost use mathlib.Core.Path.{_≡_};
 ghost use Prim.Native.Nat.{_≤_, _^_};
 ghost use lib.IntN.{pos, _*ℤ_};

@@ -1,5 +1,5 @@
--- Which place of a matrix each place of raised rows stands for.
---   rows-of-matrix — raised row by row from i·n on with stride 1;  columns-of-matrix — column by column, from j on with stride n
+-- Which place of a matrix each place of biased rows stands for.
+--   rows-of-matrix — biased row by row from i·n on with stride 1;  columns-of-matrix — column by column, from j on with stride n
 --   rows-stand — as rows that stand for the numbers of the matrix
 use mathlib.Core.Path.{_≡_, ap, _∙_}
 use mathlib.Core.List.{List}

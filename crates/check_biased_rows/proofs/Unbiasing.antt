@@ -1,10 +1,10 @@
 -- Raised numbers and the numbers they stand for.
 --   biased-is, biased-small, unbiased-biased — x + 2^25 is a natural number, at most 2^26, and stands for x
---   unbiased-below, unbiased-above, unbiased-magnitude — the size of the number that x stands for: 2^25 − x or x − 2^25, at most 2^25
+--   unbiased-below, unbiased-above, unbiased-magnitude — the magnitude of the number that x stands for: 2^25 − x or x − 2^25, at most 2^25
 --   row-sum, row-products — a row's sum is at most 2^31, the sum of the products of two rows at most 2^57
---   row-dot-magnitude, row-dot-shows — the size of a sum of products, and what it is of rows that stand for f and g;  rows-biased — these are raised rows;  row-as — of equal functions
---   rows-themselves — raised rows stand for the matrix that they are lowered to
---   dot-unbiased, row-dot-is — a sum of products of raised numbers, put right, is that of the numbers that they stand for
+--   row-dot-magnitude, row-dot-shows — the magnitude of a sum of products, and what it is of rows that stand for f and g;  rows-biased — these are biased rows;  row-as — of equal functions
+--   rows-themselves — biased rows stand for the matrix that they are unbiased to
+--   dot-unbiased, row-dot-is — a sum of products of biased numbers, put right, is that of the numbers that they stand for
 use mathlib.Core.List.{List}
 use mathlib.Core.Path.{_≡_, refl, sym, ap, _∙_}
 use Prim.Native.Nat.{ℕ, zero, suc, _+_, _*_, _-_, _≤_, _<_, _^_}

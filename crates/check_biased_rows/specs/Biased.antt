@@ -1,4 +1,4 @@
--- Numbers raised above 0, in rows; for the reckoning's own use, no word of 01.
+-- Numbers biased above 0, in rows; for the reckoning's own use, no word of 01.
 --   bias      — 2^25, what is added to a number to raise it
 --   unbiased x     — the number that x stands for, x − 2^25
 --   Small xs p n  — n numbers from place p on, each at most 2^26

@@ -1,6 +1,6 @@
--- Which place of a matrix each place of its raised rows stands for (02, Paper 4).
---   biasedPlace n i k — the place of number k of raised row i: i·(n + 1) + k, since each row has its sum after it
---   RowsOfMatrix xs n ys — the raised rows xs stand for the rows of the matrix ys: place biasedPlace n i k for place placeOf n i k
+-- Which place of a matrix each place of its biased rows stands for (02, Paper 4).
+--   biasedPlace n i k — the place of number k of biased row i: i·(n + 1) + k, since each row has its sum after it
+--   RowsOfMatrix xs n ys — the biased rows xs stand for the rows of the matrix ys: place biasedPlace n i k for place placeOf n i k
 --   ColumnsOfMatrix xs n ys — they stand for its columns: place biasedPlace n j k for place placeOf n k j
 use mathlib.Core.Path.{_≡_}
 use mathlib.Core.List.{List}

@@ -1,5 +1,5 @@
-// Sums of products by way of numbers raised above 0. x86-64 multiplies two pairs of unsigned 32-bit numbers at once, and signed 64-bit
-// numbers one pair at a time: so a matrix is raised row after row, and a sum of products is put right by the sums of its two rows.
+// Sums of products by way of numbers biased above 0. x86-64 multiplies two pairs of unsigned 32-bit numbers at once, and signed 64-bit
+// numbers one pair at a time: so a matrix is biased row after row, and a sum of products is put right by the sums of its two rows.
 ghost use mathlib.Core.Path.{_≡_};
 ghost use Prim.Native.Nat.{ℕ, _+_, _*_, _<_, _≤_, _^_};
 ghost use lib.IntN.{pos, natAbs, _-ℤ_};
@@ -19,7 +19,7 @@ const BIAS_SQUARED: u64 = 1125899906842624;
 // The lowest 32 bits.
 const LOW: u64 = 0xffffffff;
 
-// How long a list for 32 raised rows of 32 numbers is.
+// How long a list for 32 biased rows of 32 numbers is.
 pub const ROWS_LENGTH: usize = 1056;
 
 fn biased_of(x: i64) -> u64
@@ -29,7 +29,7 @@ fn biased_of(x: i64) -> u64
     (x + BIAS as i64) as u64
 }
 
-// The size of the number that x stands for.
+// The absolute value of the number that x stands for.
 pub fn unbiased_magnitude(x: u64) -> u64
     ensures { λ r. ⌜ r ≡ natAbs (unbiased x) ⌝ }
 {
@@ -87,7 +87,7 @@ fn less(up: u64, down: u64) -> i64
     up as i64 - down as i64
 }
 
-// The sum of the products of the numbers that raised row i of a, from place p on, and raised row j of b, from place q on, stand for.
+// The sum of the products of the numbers that biased row i of a, from place p on, and biased row j of b, from place q on, stand for.
 pub fn row_dot(a: &[u64], i: usize, p: usize, b: &[u64], j: usize, q: usize, n: usize) -> i64
     requires { ⌜ n ≤ 32 ⌝ }
     requires { ⌜ Carried 0 (n + 1) i p × Carried 0 (n + 1) j q ⌝ }
@@ -99,7 +99,7 @@ pub fn row_dot(a: &[u64], i: usize, p: usize, b: &[u64], j: usize, q: usize, n: 
     less(up, down)
 }
 
-// Number k of a list from a start on, some places apart, raised, by way of the place that was carried to it.
+// Number k of a list from a start on, some places apart, biased, by way of the place that was carried to it.
 fn bias_at(xs: &[i64], start: usize, stride: usize, from: usize, k: usize) -> u64
     requires { ⌜ Carried start stride k from ⌝ }
     requires { ⌜ (start + k * stride < length (now xs)) × (natAbs (at (now xs) (start + k * stride)) ≤ bias) ⌝ }

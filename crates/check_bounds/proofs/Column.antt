@@ -1,10 +1,10 @@
 -- The limits of a column.
---   image-is     — the code's sizes are those of G·r;  image-magnitude — they are at most 2^55 whatever is raised
---   plain-magnitudes, slack-magnitudes — the code's sizes are the definition's, without slack and with it
+--   image-is     — the code's magnitudes are those of G·r;  image-magnitude — they are at most 2^55 whatever is biased
+--   plain-magnitudes, slack-magnitudes — the code's magnitudes are the definition's, without slack and with it
 --   magnitudes-small — they are at most 2^50
 --   slack-near, near-reach, columns-near — slacks and residuals that are near are small; residuals of columns are near
 --   slack-sum — a sum of slacks is at most 2^50 a term;  no-slack-sum — where no row has one it is 0
---   bounds-of-magnitudes, column-more — limits from an array of sizes, and one column more of the loop over all
+--   bounds-of-magnitudes, column-more — limits from an array of magnitudes, and one column more of the loop over all
 use mathlib.Core.Path.{_≡_, refl, sym, ap, _∙_}
 use mathlib.Core.List.{List}
 use Prim.Native.Nat.{ℕ, _+_, _*_, _≤_, _<_, _^_}
@@ -78,7 +78,7 @@ slack-sum slacks j l h s = sumℕ≤ j (2 ^ 50) _ (λ k m. mul-le-mul (unbiased-
 pub no-slack-sum : (n : ℕ) (a σ : ℕ → ℕ) → sumℕ n σ ≡ 0 → sumℕ n (λ (j : ℕ). a j * σ j) ≡ 0
 no-slack-sum n a σ e = sumℕ-ext n (λ (j : ℕ). a j * σ j) (λ (j : ℕ). 0) (λ j l. let z : σ j ≡ 0 = omega (arith, e, sumℕ-at n σ j l) in rw z (omega arith)) ∙ sumℕ-zero n
 
--- limits from an array of sizes are those of the sizes that it begins with
+-- limits from an array of magnitudes are those of the magnitudes that it begins with
 pub bounds-of-magnitudes : (n : ℕ) (magnitudes : List ℕ) (f margins w : ℕ → ℕ) {out : List ℕ} → PrefixIs 0 magnitudes n f →
     PrefixIs 0 out n (boundFrom n (λ (m : ℕ). getD magnitudes m 0) margins w) → PrefixIs 0 out n (boundFrom n f margins w)
 bounds-of-magnitudes n magnitudes f margins w h k =

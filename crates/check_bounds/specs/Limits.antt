@@ -1,7 +1,7 @@
--- The limits of a column from the raised rows of the inverse; cited by contracts inside.
---   columnMagnitude rows residuals n m j — the size of p_m of column j, from the raised rows of G and the raised residuals, column after column
---   inversePart n rows — the problem whose inverse stands in raised rows, as far as p needs it
---   Near r σ n   — the size of each residual with its slack is at most 2^25
+-- The limits of a column from the biased rows of the inverse; cited by contracts inside.
+--   columnMagnitude rows residuals n m j — the magnitude of p_m of column j, from the biased rows of G and the biased residuals, column after column
+--   inversePart n rows — the problem whose inverse stands in biased rows, as far as p needs it
+--   Near r σ n   — the magnitude of each residual with its slack is at most 2^25
 --   limitsOf n rows r σ margins weights i — limit i from the residual r and the slack σ, with margins and weights in lists
 use mathlib.Core.List.{List, []}
 use Prim.Native.Nat.{ℕ, _+_, _*_, _≤_, _<_}

@@ -1,4 +1,4 @@
-// The limits of a column from the raised rows of the inverse, and the writer of a column (01: "The limits of one column are worked out
+// The limits of a column from the biased rows of the inverse, and the writer of a column (01: "The limits of one column are worked out
 // whole before any of them is written").
 ghost use mathlib.Core.Path.{_≡_};
 ghost use Prim.Native.Nat.{ℕ, _+_, _*_, _≤_, _<_, _^_};
@@ -23,7 +23,7 @@ use check_ratios::bounds_of;
 use check_ratios::sum_of;
 use integer::magnitude;
 
-// The sizes of p = G·r, from the raised rows of G and the raised row that stands for r.
+// The absolute values of p = G·r, from the biased rows of G and the biased row that stands for r.
 fn magnitudes_of(rows: &[u64], residuals: &[u64], n: usize) -> [u64; 32]
     requires { ⌜ n ≤ 32 ⌝ }
     requires { ⌜ BiasedRows (now rows) n × BiasedRow (now residuals) (0 * (n + 1)) n ⌝ }
@@ -38,7 +38,7 @@ fn magnitudes_of(rows: &[u64], residuals: &[u64], n: usize) -> [u64; 32]
     out
 }
 
-// Term j of a slack: sum + |x|·slack, where x is number j of a raised row, by way of the place that was carried to it.
+// Term j of a slack: sum + |x|·slack, where x is number j of a biased row, by way of the place that was carried to it.
 fn add_slack(sum: u64, rows: &[u64], row: usize, place: usize, slack: u64, j: usize) -> u64
     requires { ⌜ Carried row 1 j place ⌝ }
     requires { ⌜ (row + j < length (now rows)) × (getD (now rows) (row + j) 0 ≤ 2 * bias) ⌝ }
@@ -48,7 +48,7 @@ fn add_slack(sum: u64, rows: &[u64], row: usize, place: usize, slack: u64, j: us
     add_low(sum, unbiased_magnitude(rows[place]), slack)
 }
 
-// The sum over j of |G_mj|·σ_j, for the raised row m of G that starts at place row.
+// The sum over j of |G_mj|·σ_j, for the biased row m of G that starts at index row.
 fn slack_of(rows: &[u64], m: usize, row: usize, slacks: &[u64; 32], n: usize) -> u64
     requires { ⌜ n ≤ 32 ⌝ }
     requires { ⌜ Carried 0 (n + 1) m row ⌝ }
@@ -86,7 +86,7 @@ fn add_slacks(magnitudes: [u64; 32], rows: &[u64], slacks: &[u64; 32], n: usize)
     out
 }
 
-// The limits of the column with these residuals and slacks, from the raised rows of G.
+// The limits of the column with these residuals and slacks, from the biased rows of G.
 pub fn column_bounds(
     rows: &[u64],
     residuals: &[i64; 32],
@@ -112,7 +112,7 @@ pub fn column_bounds(
     bounds_of(&magnitudes, margins, caps, weights, n)
 }
 
-// Writes n limits from a place on, some places apart.
+// Writes n limits from an index on, a stride apart.
 pub fn store(dst: &mut [u64], start: usize, stride: usize, column: [u64; 32], n: usize)
     requires { ⌜ (n ≤ 32) × (start + n * stride < 2 ^ 60) ⌝ }
     requires { ⌜ ((k : ℕ) → k < n → start + k * stride < length (now dst)) ⌝ }

@@ -1,5 +1,5 @@
 -- The two parts of a number, and one row more in the sums that it belongs to.
---   signs — a number is its part of 0 or more less its part below 0;  up-magnitude, down-magnitude — these are at most its size
+--   signs — a number is its part of 0 or more less its part below 0;  up-magnitude, down-magnitude — these are at most its magnitude
 --   half-below, half-above — the code's test of the sign;  half-ends, half-room — the sums that a number belongs to end within the 64 and have room
 --   read-at — a small number of a list is read as it stands
 --   added-none, added-row — nothing for 0, and a row of multiples written into those sums;  written-ahead — what stands at the place that comes next

@@ -1,6 +1,6 @@
 -- Numbers of 2^t·I less a product are those that the definitions name.
---   rows-residual — rows of A and raised rows of G: a residual of the inverse;  residual-of-rows — of rows that stand for a list, that of the list
---   columns-defect — columns of A and raised columns of G: a number of D
+--   rows-residual — rows of A and biased rows of G: a residual of the inverse;  residual-of-rows — of rows that stand for a list, that of the list
+--   columns-defect — columns of A and biased columns of G: a number of D
 use mathlib.Core.Path.{_≡_, ap, ap₂, _∙_}
 use mathlib.Core.List.{List, []}
 use Prim.Native.Nat.{ℕ, _*_, _<_, _^_}

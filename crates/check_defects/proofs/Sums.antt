@@ -1,7 +1,7 @@
 -- The sums over all rows.
 --   no-sums, sums-none, sums-more, sums-end — at none, with one row more and at the end, for loops
 --   ups-small, downs-small, sums-room, total-small, biased-small — the sums, the sum of the factors and 2^25 times it stay small
---   sums-less — the two sums, put right, are the sum of the multiples of what the raised numbers stand for
+--   sums-less — the two sums, put right, are the sum of the multiples of what the biased numbers stand for
 use mathlib.Core.List.{List}
 use mathlib.Core.Path.{_≡_, sym, ap, subst, _∙_}
 use Prim.Native.Nat.{ℕ, zero, suc, _+_, _*_, _≤_, _<_, _^_}

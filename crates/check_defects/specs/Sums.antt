@@ -1,6 +1,6 @@
--- Sums of multiples of raised rows; cited by contracts inside. A factor has two natural numbers, of which one is 0, so the sums stay natural numbers:
+-- Sums of multiples of biased rows; cited by contracts inside. A factor has two natural numbers, of which one is 0, so the sums stay natural numbers:
 -- those of factors of 0 or more stand from place 0 on, those of factors below 0 from place 32 on.
---   up x, down x — the size of x where x is 0 or more, and where it is below 0; 0 else
+--   up x, down x — the magnitude of x where x is 0 or more, and where it is below 0; 0 else
 --   halfOf x     — the place from which on the sums that x belongs to stand
 --   SmallSums sums p n — the n sums from place p on are at most 2^62
 --   Added before after n x row — x times each of the first n numbers of a row was added to its sum

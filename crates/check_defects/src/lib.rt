@@ -1,4 +1,4 @@
-// T·I less a product of two matrices, of which the first has few numbers other than 0 in a levelling net: each of these takes a multiple of a whole raised
+// T·I less a product of two matrices, of which the first has few numbers other than 0 in a levelling net: each of these takes a multiple of a whole biased
 // row of the second, and a 0 takes nothing.
 ghost use mathlib.Core.Path.{_≡_};
 ghost use Prim.Native.Nat.{ℕ, _+_, _*_, _/_, _%_, _≤_, _<_, _^_};
@@ -26,7 +26,7 @@ use check_biased_rows::add_low;
 use check_biased_rows::bias_columns;
 use integer::magnitude;
 
-// Term j of a multiple of a raised row: sum + size·x, where x is number j of the row that starts at place row, by way of the place that was carried to it.
+// Term j of a multiple of a biased row: sum + magnitude·x, where x is number j of the row that starts at place row, by way of the place that was carried to it.
 fn add_scaled(sum: u64, magnitude: u64, rows: &[u64], row: usize, place: usize, j: usize) -> u64
     requires { ⌜ Carried row 1 j place ⌝ }
     requires { ⌜ (row + j < length (now rows)) × (getD (now rows) (row + j) 0 ≤ 2 * bias) ⌝ }
@@ -36,7 +36,7 @@ fn add_scaled(sum: u64, magnitude: u64, rows: &[u64], row: usize, place: usize, 
     add_low(sum, magnitude, rows[place])
 }
 
-// Adds size times a raised row, from place row on, to the half of the sums that begins at this place.
+// Adds magnitude times a biased row, from place row on, to the half of the sums that begins at this place.
 fn add_row(sums: &mut [u64; 64], half: usize, magnitude: u64, rows: &[u64], row: usize, n: usize)
     requires { ⌜ (half + n ≤ 64) × (magnitude ≤ 2 ^ 20) ⌝ }
     requires { ⌜ BiasedRow (now rows) row n ⌝ }
@@ -60,7 +60,7 @@ fn half_of(x: i64) -> usize
     if x < 0 { 32 } else { 0 }
 }
 
-// Adds x times the raised row k, which starts at place row, to the sums that x belongs to.
+// Adds x times the biased row k, which starts at place row, to the sums that x belongs to.
 fn add_multiple(sums: &mut [u64; 64], x: i64, rows: &[u64], k: usize, row: usize, n: usize)
     requires { ⌜ (n ≤ 32) × (natAbs x ≤ 2 ^ 20) ⌝ }
     requires { ⌜ Carried 0 (n + 1) k row ⌝ }
@@ -113,7 +113,7 @@ fn add_rows(
     total
 }
 
-// Number m, j of T·I less a number of the product, from the two sums that stand for it and from what all raised numbers have too much of.
+// Number m, j of T·I less a number of the product, from the two sums that stand for it and from what all biased numbers have too much of.
 fn number_less(t: u32, m: usize, j: usize, biased: i64, up: u64, down: u64) -> i64
     requires { ⌜ (t ≤ 20) × (natAbs biased ≤ 2 ^ 50) ⌝ }
     requires { ⌜ (up ≤ 2 ^ 51) × (down ≤ 2 ^ 51) ⌝ }
@@ -171,7 +171,7 @@ fn differences_of(
     }
 }
 
-// Puts the residuals T·I − A·G of the inverse in a list, column after column, from the raised rows of G.
+// Puts the residuals T·I − A·G of the inverse in a list, column after column, from the biased rows of G.
 pub fn inverse_residuals_of(out: &mut [i64], t: u32, matrix: &[i64], rows: &[u64], n: usize)
     requires { ⌜ (t ≤ 20) × ((n ≤ 32) × (n * n ≤ length (now out))) ⌝ }
     requires { ⌜ MatrixList (now matrix) n ⌝ }

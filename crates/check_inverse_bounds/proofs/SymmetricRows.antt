@@ -1,8 +1,8 @@
 -- Sizes of p for all columns: what the list of them holds, and that half of them will do where p is symmetric.
---   known-none, known-fewer — the list begins with the sizes of no column, and of fewer than it does
+--   known-none, known-fewer — the list begins with the magnitudes of no column, and of fewer than it does
 --   known-kept, known-more — it keeps them while column j is written after them, and then has that column too
 --   known-across — where p is symmetric, number j of column m is that of p_m of column j
---   symmetric-magnitudes — symmetric for the residuals themselves, then for the raised rows that stand for them
+--   symmetric-magnitudes — symmetric for the residuals themselves, then for the biased rows that stand for them
 use mathlib.Core.Path.{_≡_, sym, ap, _∙_}
 use mathlib.Core.List.{List}
 use Prim.Native.Nat.{ℕ, _+_, _*_, _≤_, _<_}

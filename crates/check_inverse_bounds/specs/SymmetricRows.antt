@@ -1,7 +1,7 @@
 -- Sizes of p = G·r for all columns of the inverse, and when half of them will do; cited by contracts inside.
---   KnownColumns list n k rows residuals — the list begins with the sizes of the first k columns, n of each
---   SymmetricRows rows residuals n — the size of p_m of column j is that of p_j of column m
---   SymmetricProduct rows residuals n — p_m of column j is p_j of column m, for residuals that are not raised
+--   KnownColumns list n k rows residuals — the list begins with the magnitudes of the first k columns, n of each
+--   SymmetricRows rows residuals n — the magnitude of p_m of column j is that of p_j of column m
+--   SymmetricProduct rows residuals n — p_m of column j is p_j of column m, for residuals that are not biased
 use mathlib.Core.Path.{_≡_}
 use mathlib.Core.List.{List}
 use Prim.Native.Nat.{ℕ, _+_, _*_, _<_}

@@ -20,7 +20,7 @@ use check_bounds::store;
 use check_ratios::bounds_of;
 use integer::magnitude;
 
-// The size of p_m of column j: where column m is one of the first `known`, read there as that of p_j of column m, else worked out.
+// The absolute value of p_m of column j: where column m is one of the first `known`, read there as that of p_j of column m, else worked out.
 fn magnitude_at(
     list: &[u64],
     across: usize,
@@ -46,7 +46,7 @@ fn magnitude_at(
     magnitude(row_dot(rows, m, row, residuals, j, place, n))
 }
 
-// The sizes of p = G·r for column j, of which the first `known` are read across the columns before it; they are put in the list after these.
+// The absolute values of p = G·r for column j, of which the first `known` are read across the columns before it; they are put in the list after these.
 fn column_magnitudes(
     list: &mut [u64],
     known: usize,
@@ -80,8 +80,8 @@ fn column_magnitudes(
     out
 }
 
-// Writes the limits of all columns of the inverse, row after row, from their residuals, column after column, and the raised rows of G.
-// Where p of the columns is symmetric, half of it is worked out. The raised residuals and the sizes of p are put in two lists for that.
+// Writes the limits of all columns of the inverse, row after row, from their residuals, column after column, and the biased rows of G.
+// Where p of the columns is symmetric, half of it is worked out. The biased residuals and the absolute values of p are put in two lists for that.
 pub fn store_columns(
     dst: &mut [u64],
     rows: &[u64],

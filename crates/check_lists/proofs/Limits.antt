@@ -22,7 +22,7 @@ use Rattle.check_lists.proofs.Rows.{workColumn, magnitudes-are}
 
 module _ (W : Work) {rows : List ℕ} (biased : RowsOfMatrix rows (W .n) (W .inverse)) (margins : List ℕ)
     (hm : PrefixIs 0 margins (W .n) (cutMargin (workProblem W))) (pm : Positive margins (W .n)) where
-  -- a margin that is above 0 is the signed margin's size
+  -- a margin that is above 0 is the signed margin's magnitude
   margin-here : (m : ℕ) → m < W .n → getD margins m 0 ≡ natAbs (margin (workProblem W) m)
   margin-here m l =
       let e : getD margins m 0 ≡ T (workProblem W) * workProblem W .w m - load (workProblem W) m = hm .each m l in

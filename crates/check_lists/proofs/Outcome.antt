@@ -1,7 +1,7 @@
 -- What the reckoning says and leaves, from what the arrays hold and what is judged of them.
 --   WorkedOut — what the arrays hold
 --   refused  — a refusal leaves both limit lists
---   positive-here, weighed-here, near-here, columns-here — where it is accepted: margins and weights above 0, residuals at most 2^25 in size
+--   positive-here, weighed-here, near-here, columns-here — where it is accepted: margins and weights above 0, residuals at most 2^25 in absolute value
 --   accepted-here — and the limits that are written are the reckoning's
 use mathlib.Core.Path.{_≡_, sym, ap, _∙_}
 use mathlib.Core.List.{List, []}

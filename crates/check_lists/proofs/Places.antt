@@ -1,6 +1,6 @@
 -- The first rows that are refused, from what the arrays hold, and what holds where none is.
 --   first-margin, first-residual, first-column — the code's searches are the definition's
---   positive, near, near-columns — where none is found: every margin is above 0, every residual with its slack at most 2^25 in size, and every residual of a column
+--   positive, near, near-columns — where none is found: every margin is above 0, every residual with its slack at most 2^25 in absolute value, and every residual of a column
 use mathlib.Core.Path.{_≡_, refl, sym, ap, _∙_}
 use mathlib.Core.Bool.{Bool, false, _||_}
 use mathlib.Core.List.{List}

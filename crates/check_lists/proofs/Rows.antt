@@ -1,8 +1,8 @@
--- The raised rows of the inverse stand for it.
+-- The biased rows of the inverse stand for it.
 --   inverse-rows — they are what the reckoning asks
 --   margins-are  — margins of a problem without a guess are the problem's
 --   workColumn W — the residuals of the inverse, column after column;  columns-are — those from the rows are these
---   magnitudes-are — sizes from the rows, of residuals and slacks that agree on the first n, are the problem's
+--   magnitudes-are — magnitudes from the rows, of residuals and slacks that agree on the first n, are the problem's
 use mathlib.Core.Path.{_≡_}
 use mathlib.Core.List.{List, []}
 use Prim.Native.Nat.{ℕ, _+_, _*_, _/_, _%_, _<_}

@@ -28,7 +28,7 @@ use rules::Outcome;
 use rules::Refusal;
 
 // The reckoning of what passes 8 and 3, from a base of the residuals, what is allowed of them and of the inverse's columns, and their slacks: all refusals are
-// decided before the first limit is written. Four lists to work in are lent: the raised rows of the inverse, its residuals, these raised, and the sizes of p.
+// decided before the first limit is written. Four lists to work in are lent: the biased rows of the inverse, its residuals, these biased, and the absolute values of p.
 fn compute_bounds_in(
     rows: &mut [u64],
     columns: &mut [i64],

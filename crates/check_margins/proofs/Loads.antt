@@ -1,7 +1,7 @@
 -- D in a list, row after row, and what comes of it.
 --   residual-defect — where A and G are symmetric, the residual of row k of the inverse's column j is D_jk
 --   DefectList — the list begins with D;  residuals-symmetric — so do the residuals, where A and G are symmetric
---   defects-within — its numbers are at most 2^46 in size, as `margins_from` asks;  defect-margins — the margins from it are those of the problem
+--   defects-within — its numbers are at most 2^46 in absolute value, as `margins_from` asks;  defect-margins — the margins from it are those of the problem
 --   term-magnitude, load-magnitude — a term of a load, and the load of fewer terms than n, are small
 use mathlib.Core.Path.{_≡_, ap, ap₂, _∙_}
 use mathlib.Core.List.{List, []}
@@ -60,7 +60,7 @@ module _ (n t : ℕ) (matrix inverse : List ℤ) where
       prefix-as 0 (λ (m : ℕ). 2 ^ t * natAbs (at weights m) - loadFrom n defects weights m) (cutMargin (problemOf n 0 t matrix [] [] [] inverse weights))
       (λ m lm. ap (λ (x : ℕ). 2 ^ t * natAbs (at weights m) - x) (sumℕ-ext n _ _ (λ j lj. ap (λ (z : ℤ). natAbs z * natAbs (at weights j)) (defect-at h m j lm lj))))
 
--- ---- sizes of the terms
+-- ---- magnitudes of the terms
 module _ {defects weights : List ℤ} {n m : ℕ} (d : ColumnList defects (n * n) (2 ^ 46)) (w : ColumnList weights n 1024) (lm : m < n) where
   term-magnitude : (j : ℕ) → j < n → natAbs (at defects (m * n + j)) * natAbs (at weights j) ≤ 2 ^ 56
   term-magnitude j l = mul-le-mul (d .within .magnitudes (m * n + j) (place lm l)) (w .within .magnitudes j l)

@@ -1,4 +1,4 @@
--- The row where sizes / margins is largest, found by comparing quotients and then remainders, or by products.
+-- The row where magnitudes / margins is largest, found by comparing quotients and then remainders, or by products.
 --   product-moves, product-stays, largest-ratio-end — a search by products: with one row more, and at the end
 --   Best, best-first, best-next, best-end — the loop's invariant: at the first row, with one row more, and at the end
 use mathlib.Core.Path.{_≡_, refl, sym, ap, _∙_, subst}

@@ -1,7 +1,7 @@
--- Columns whose limits are 0 or 1, and sizes that are small.
+-- Columns whose limits are 0 or 1, and magnitudes that are small.
 --   cap-under  — a margin divided by the largest weight, as a cap
---   within-caps-none, within-caps-some — where all sizes are 0 each limit is 0; where they are at most their caps and not all 0 each is 1
---   small-each — sizes whose sum is at most a number are each at most that
+--   within-caps-none, within-caps-some — where all magnitudes are 0 each limit is 0; where they are at most their caps and not all 0 each is 1
+--   small-each — magnitudes whose sum is at most a number are each at most that
 use mathlib.Core.Path.{_≡_, refl, _∙_}
 use mathlib.Core.List.{List}
 use Prim.Native.Nat.{ℕ, zero, suc, _*_, _/_, _≤_, _<_}
@@ -45,7 +45,7 @@ module _ (n : ℕ) (magnitudes margins : List ℕ) (weights : List ℤ) (positiv
         bound-least n magnitude (λ (m : ℕ). getD margins m 0) (λ (i : ℕ). natAbs (at weights i)) i 1 (positive .above)
         (λ m lm. omega (arith, mul-le-mul-left (natAbs (at weights i)) (within-caps .each m lm), k .under i m l lm))
 
-    -- a size is 0 where a limit is
+    -- a magnitude is 0 where a limit is
     none : (i m : ℕ) → i < n → m < n → limit i ≡ 0 → magnitude m ≡ 0
     none i m l lm e =
         let c : natAbs (at weights i) * magnitude m ≤ 0 * getD margins m 0 =

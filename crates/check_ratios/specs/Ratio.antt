@@ -1,8 +1,8 @@
 -- Comparing |p_m| / g_m without products above 2^60: by quotients, then by remainders times the other margin; cited by contracts inside.
 --   ratioOf m p g  — row m with the quotient and the remainder of p by g
 --   largerRatioOf a b  — b where its ratio is larger, else a
---   WithinCaps magnitudes caps n — each of n sizes is at most its cap
---   Caps caps margins weights n — weights above 0, and each weight times a row's cap is at most its margin: a size at most its cap has limits of at most 1
+--   WithinCaps magnitudes caps n — each of n magnitudes is at most its cap
+--   Caps caps margins weights n — weights above 0, and each weight times a row's cap is at most its margin: a magnitude at most its cap has limits of at most 1
 --   SmallTerms, Positive, Bounded — how large the numbers may be for the arithmetic to fit
 use mathlib.Core.Bool.{cond}
 use mathlib.Core.List.{List}
@@ -32,7 +32,7 @@ pub record Positive (margins : List ℕ) (n : ℕ) : Type 0 where
   pub above : (m : ℕ) → m < n → 0 < getD margins m 0
   pub most : (m : ℕ) → m < n → getD margins m 0 ≤ 2 ^ 30
 
--- n sizes of at most 2^50
+-- n magnitudes of at most 2^50
 pub record Bounded (magnitudes : List ℕ) (n : ℕ) : Type 0 where
   pub most : (m : ℕ) → m < n → getD magnitudes m 0 ≤ largestMagnitude
 

@@ -1,4 +1,4 @@
-// The limits of a column from its sizes, the margins and the weights: each is that of the row where size / margin is largest.
+// The limits of a column from the absolute values of its p, the margins and the weights: each is that of the row where |p| / margin is largest.
 ghost use mathlib.Core.Path.{_≡_};
 ghost use mathlib.Core.Bool.{true};
 ghost use Prim.Native.Nat.{ℕ, _*_, _≤_, _<_, _^_};
@@ -58,7 +58,7 @@ fn larger_ratio(a: Ratio, b: Ratio) -> Ratio
     a
 }
 
-// A row where sizes / margins is largest, found by quotients and remainders.
+// A row where magnitudes / margins is largest, found by quotients and remainders.
 fn largest_ratio_by_quotients(magnitudes: &[u64; 32], margins: &[u64; 32], n: usize) -> usize
     requires { ⌜ (0 < n) × (n ≤ 32) ⌝ }
     requires { ⌜ Positive (now margins) n ⌝ }
@@ -71,7 +71,7 @@ fn largest_ratio_by_quotients(magnitudes: &[u64; 32], margins: &[u64; 32], n: us
     best.row
 }
 
-// Whether p / g is larger than size / margin, by products.
+// Whether p / g is larger than magnitude / margin, by products.
 fn is_larger_ratio(magnitude: u64, margin: u64, p: u64, g: u64) -> bool
     requires { ⌜ (magnitude ≤ 2 ^ 33) × (g ≤ 2 ^ 30) ⌝ }
     requires { ⌜ (p ≤ 2 ^ 33) × (margin ≤ 2 ^ 30) ⌝ }
@@ -80,7 +80,7 @@ fn is_larger_ratio(magnitude: u64, margin: u64, p: u64, g: u64) -> bool
     magnitude * g < p * margin
 }
 
-// A row where sizes / margins is largest, found by products, for small sizes.
+// A row where magnitudes / margins is largest, found by products, for small magnitudes.
 fn largest_ratio_by_products(magnitudes: &[u64; 32], margins: &[u64; 32], n: usize) -> usize
     requires { ⌜ (0 < n) × (n ≤ 32) ⌝ }
     requires { ⌜ ((m : ℕ) → m < n → getD (now magnitudes) m 0 ≤ 2 ^ 33) ⌝ }
@@ -109,7 +109,7 @@ pub fn sum_of(xs: &[u64; 32], n: usize) -> u64
     sum
 }
 
-// A row where sizes / margins is largest.
+// A row where magnitudes / margins is largest.
 fn largest_ratio_of(magnitudes: &[u64; 32], margins: &[u64; 32], n: usize) -> usize
     requires { ⌜ (0 < n) × (n ≤ 32) ⌝ }
     requires { ⌜ Bounded (now magnitudes) n ⌝ }
@@ -149,7 +149,7 @@ fn ratio_bounds(magnitudes: &[u64; 32], margins: &[u64; 32], weights: &[i64], n:
     out
 }
 
-// Whether every size is at most its cap.
+// Whether every magnitude is at most its cap.
 fn is_within_caps(magnitudes: &[u64; 32], caps: &[u64; 32], n: usize) -> bool
     requires { ⌜ n ≤ 32 ⌝ }
     ensures { λ r. ⌜ (r ≡ true → WithinCaps (now (magnitudes .entry)) (now (caps .entry)) n) ⌝ }
@@ -163,7 +163,7 @@ fn is_within_caps(magnitudes: &[u64; 32], caps: &[u64; 32], n: usize) -> bool
     within_caps
 }
 
-// The limits of a column. Where every size is at most its cap they are all 1, or all 0 where every size is 0: nothing is divided.
+// The limits of a column. Where every magnitude is at most its cap they are all 1, or all 0 where every magnitude is 0: nothing is divided.
 pub fn bounds_of(
     magnitudes: &[u64; 32],
     margins: &[u64; 32],

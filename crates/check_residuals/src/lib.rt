@@ -35,7 +35,7 @@ pub fn scaled_right(s: u32, right: &[i64], n: usize) -> [i64; 32]
     out
 }
 
-// base less row k of a, which starts at place p, times x.
+// base less row k of a, which starts at index p, times x.
 fn difference(base: i64, a: &[i64], k: usize, p: usize, x: &[i64], n: usize) -> i64
     requires { ⌜ (n ≤ 32) × ((k < n) × (natAbs base ≤ 2 ^ 62)) ⌝ }
     requires { ⌜ Carried 0 n k p ⌝ }
@@ -63,7 +63,7 @@ pub fn residuals_of(base: &[i64; 32], matrix: &[i64], guess: &[i64], n: usize) -
     out
 }
 
-// Whether a residual is above what is allowed, in size; compared on both sides, so that no residual is too large for it.
+// Whether a residual is above what is allowed, in absolute value; compared on both sides, so that no residual is too large for it.
 fn is_above(allowed: i64, z: i64) -> bool
     requires { ⌜ natAbs allowed ≤ allowedResidual ⌝ }
     ensures { λ r. ⌜ r ≡ aboveAllowed allowed z ⌝ }
@@ -74,7 +74,7 @@ fn is_above(allowed: i64, z: i64) -> bool
     allowed < z
 }
 
-// The first of n residuals from a place on that is above what its row allows; n where there is none.
+// The first of n residuals from an index on that is above what its row allows; n where there is none.
 pub fn first_above(residuals: &[i64], start: usize, allowed: &[i64; 32], n: usize) -> usize
     requires { ⌜ (n ≤ 32) × ((start + n ≤ length (now residuals)) × (start ≤ 1024)) ⌝ }
     requires { ⌜ ColumnList (now allowed) n allowedResidual ⌝ }

@@ -5,7 +5,7 @@
 -- The check as document 01 has it, without tolerances and without slack. proofs/Before says that Paper 5's is the same where all tolerances are 0 and their
 -- list is long enough.
 --   short01, inRanges01 — 8 and 3 of five lists of numbers
---   firstResidual01, firstInversePlace01 — the lowest row, the lowest column and its lowest row, of a residual above 2^25 in size
+--   firstResidual01, firstInversePlace01 — the lowest row, the lowest column and its lowest row, of a residual above 2^25 in absolute value
 --   computedOf01 P, checkedOf01 P, answer01 I — the tests, and what is said
 --   written01 n f l — l with f 0, .., f (n − 1) at its first n places, the rest as before;  solutionAfter01 I, inverseAfter01 I — the two limit lists after a check
 --   Unmoved I — what Paper 5 says of an input and the two lists afterwards are 01's

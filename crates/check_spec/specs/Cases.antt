@@ -152,7 +152,7 @@ toleranceRows =
     ∷ tolerant (negsuc 0) 0 (3 ∷ []) []
     ∷ summed (pos 524288) [] (solution 1 64 ∷ [])
     ∷ summed (pos 524289) (6 ∷ 1 ∷ []) []
-    -- sizes 4 + 4·16 + 1·32 and 1 + 1·16 + 6·32 over margins 14 and 13
+    -- magnitudes 4 + 4·16 + 1·32 and 1 + 1·16 + 6·32 over margins 14 and 13
     ∷ fileWith (pos 1 ∷ pos 2 ∷ []) (pos 23) (pos 13) (pos 1) (pos 1) [] (solution 1 17 ∷ solution 2 17 ∷ inverse 1 1 1 ∷ inverse 2 1 1 ∷ [])
     ∷ []
 

@@ -24,7 +24,7 @@ pub data Stated (I : Input) : List ℕ → Type 0 where
   -- 5: a margin of 0 or less; the lowest such row
   margin-low : (m : ℕ) → Usable I → m < I .n → marginFails (problem I) m ≡ true →
       ((k : ℕ) → k < m → marginFails (problem I) k ≡ false) → Stated I (5 ∷ (m + 1) ∷ [])
-  -- 6: a residual of the guess above 2^25 in size, its slack added, or above the sum of |a| along its row, without slack; the lowest row
+  -- 6: a residual of the guess above 2^25 in absolute value, its slack added, or above the sum of |a| along its row, without slack; the lowest row
   residual-large : (k : ℕ) → Usable I → Margins (problem I) → k < I .n → exceeds (problem I) k ≡ true →
       ((i : ℕ) → i < k → exceeds (problem I) i ≡ false) → Stated I (6 ∷ (k + 1) ∷ [])
   -- 7: the same for the inverse; the lowest column, then its lowest row

@@ -7,7 +7,7 @@ ghost use Rattle.linear.specs.Slice.{at};
 ghost use Rattle.linear.specs.Place.{Carried};
 ghost use Rattle.check_symmetry.specs.Symmetric.{Symmetric};
 
-// Whether the numbers of row i before its diagonal, from place start on, are those of column i above it.
+// Whether the numbers of row i before its diagonal, from index start on, are those of column i above it.
 fn is_row_symmetric(xs: &[i64], i: usize, start: usize, n: usize) -> bool
     requires { ⌜ (n ≤ 32) × ((i < n) × (n * n ≤ length (now xs))) ⌝ }
     requires { ⌜ Carried 0 n i start ⌝ }

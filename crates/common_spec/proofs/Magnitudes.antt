@@ -1,4 +1,4 @@
--- Every end of a common interval is at most 2^57 in size: after 21, X ± E is at most 2^37, and a step is cut into at most 2^20.
+-- Every end of a common interval is at most 2^57 in absolute value: after 21, X ± E is at most 2^37, and a step is cut into at most 2^20.
 --   stepped-magnitude — one end;  end-magnitude — those of the common interval
 use mathlib.Core.Path.{_≡_}
 use mathlib.Core.List.{[]}

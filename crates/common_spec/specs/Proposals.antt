@@ -6,7 +6,7 @@
 --   allSame n f g — f 0, .., f (n − 1) are g 0, .., g (n − 1)
 --   sameEquations I J — n, the matrix, the right sides and the tolerances are the same, of the lists only what is used; s, t, guess, inverse and weights may
 --     differ
---   mostSteps — 2^36, the largest size of a guess
+--   mostSteps — 2^36, the largest magnitude of a guess
 --   tooWide I — a solution limit of I is above 2^36, in its own steps
 use mathlib.Core.Bool.{Bool, _&&_, _||_}
 use mathlib.Core.List.{List}

@@ -1,4 +1,4 @@
--- What an office on the old edition finds with a new file: "An office that reckons by 01's rules finds the same limits" (docs/FORMAT.md).
+-- What an office on the old edition finds with a new file: "An office that works by 01's rules .. finds the same limits" (docs/FORMAT.md).
 --   held-numbers, held-tolerances — the numbers that a state hands to a check are those of its forms
 --   numbers-through — equal numbers, by way of a third problem
 --   same-limits — 01's own check of what the desk of 01 holds after the new file

@@ -41,7 +41,7 @@ use Rattle.convert_spec.proofs.Size.{most, part-most}
 use Rattle.convert_writer.specs.Written.{heldBy, formLine, valueText, rowText, mostFor, SmallFrom, FirstSmall}
 use Rattle.convert_writer.proofs.Each.{value-line, row-line}
 
--- a number of this size is read back as itself
+-- a number of this magnitude is read back as itself
 pub small-read : (z : ℤ) → natAbs z < 2 ^ 63 → toZ w64 (ofZ w64 z) ≡ z
 small-read z h = read z (small z h .sfits)
 

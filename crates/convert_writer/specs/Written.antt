@@ -6,7 +6,7 @@
 --   valueText word i z — (word i z);  rowText word i n f — (word i (f 0 .. f (n − 1))); the word comes with its bracket and the space after it
 --   mostFor p   — the most bytes that a line of the part p has, its line feed among them
 --   lineRoom    — the room that the writer of a line asks for: it counts 20 bytes for every number
---   SmallFrom values start n — the n numbers from the place start on are smaller in size than 2^63;  FirstSmall values n — the first n are
+--   SmallFrom values start n — the n numbers from the place start on are smaller in absolute value than 2^63;  FirstSmall values n — the first n are
 use mathlib.Core.List.{List, [], _∷_, _++_}
 use Prim.Native.Nat.{ℕ, _+_, _<_, _^_}
 use lib.IntN.{ℤ, natAbs}

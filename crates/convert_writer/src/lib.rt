@@ -1,4 +1,4 @@
-// The new file of a converter, written into a buffer line by line. Each function gives the place after what it wrote.
+// The new file of a converter, written into a buffer line by line. Each function gives the index after what it wrote.
 ghost use mathlib.Core.Path.{_≡_};
 ghost use mathlib.Core.List.{_++_};
 ghost use Prim.Native.Nat.{ℕ, _+_, _*_, _≤_, _<_, _^_};
@@ -35,7 +35,7 @@ fn put_value(out: &mut [u8], at: usize, word: &[u8], i: u64, z: i64) -> usize
     put_bytes(out, d, b")\n")
 }
 
-// The number at place j of a row, and the space before it.
+// The number at index j of a row, and the space before it.
 fn put_next(out: &mut [u8], at: usize, j: usize, z: i64) -> usize
     requires { ⌜ (natAbs z < 2 ^ 63) × (at + 21 ≤ length (now out)) ⌝ }
     ensures { λ r. ⌜ Wrote 21 (now (out .entry)) at (gap j ++ numeral z) (now (out .exit)) r ⌝ }
@@ -44,7 +44,7 @@ fn put_next(out: &mut [u8], at: usize, j: usize, z: i64) -> usize
     put_integer(out, a, z)
 }
 
-// The n numbers from a place of a list on, single spaces between them.
+// The n numbers from an index of a list on, single spaces between them.
 fn put_integers(out: &mut [u8], at: usize, values: &[i64; 1024], start: usize, n: usize) -> usize
     requires { ⌜ (n ≤ 32) × ((start + n ≤ 1024) × (at + n * 21 ≤ length (now out))) ⌝ }
     requires { ⌜ SmallFrom (now values) start n ⌝ }

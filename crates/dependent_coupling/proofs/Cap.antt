@@ -1,5 +1,5 @@
 -- A slack with each limit capped just above what is allowed does as well as the exact one.
---   capped-test  — with a residual's size z and a rest y of the slack, both are above c alike
+--   capped-test  — with a residual's magnitude z and a rest y of the slack, both are above c alike
 --   capped-equal — where they are not, the two sums are equal;  capped-where — the same by the test of the exact slack
 use mathlib.Core.Path.{_≡_, refl, sym, ap, _∙_}
 use mathlib.Core.Bool.{Bool, true, false}

@@ -17,7 +17,7 @@ use linear::dot;
 // For how much a limit counts at most in a slack: one more than a residual and its slack may be together.
 const LIMIT_CAP: u64 = 33554433;
 
-// base less row k of C, which starts at place row, times the main net's guess.
+// base less row k of C, which starts at index row, times the main net's guess.
 fn base_at(base: i64, coupling: &[i64], k: usize, row: usize, guess: &[i64], marks: usize) -> i64
     requires { ⌜ (marks ≤ 32) × ((k < 32) × (natAbs base ≤ 2 ^ 50)) ⌝ }
     requires { ⌜ Carried 0 marks k row ⌝ }
@@ -68,7 +68,7 @@ fn add_carried(sum: u64, coupling: &[i64], row: usize, place: usize, limit: u64,
     sum + magnitude(coupling[place]) * capped(limit)
 }
 
-// The sum of |C_kj|·E_j along row k, which starts at place row.
+// The sum of |C_kj|·E_j along row k, which starts at index row.
 fn carried_at(coupling: &[i64], k: usize, row: usize, limits: &[u64; 32], marks: usize) -> u64
     requires { ⌜ (marks ≤ 32) × (k < 32) ⌝ }
     requires { ⌜ Carried 0 marks k row ⌝ }

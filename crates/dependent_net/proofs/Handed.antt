@@ -1,6 +1,6 @@
 -- A dependent net that passes 8 and 3, as work for the reckoning: its base is S·b2 − C·X1, its slacks are |C|·E1, each limit capped, and S·d2, and what is
 -- allowed is 2^25 less the slack; in the columns it is the sum along the row.
---   coupling-list, scaled-list, own-slacks — sizes of C, S·b2 and S·d2
+--   coupling-list, scaled-list, own-slacks — magnitudes of C, S·b2 and S·d2
 --   HandedDependent — what the arrays hold;  workable — the reckoning may start on it
 --   computed-dependent — what the reckoning makes of it is the contract of the check
 use mathlib.Core.Path.{_≡_, refl, sym, ap, ap₂, _∙_}
@@ -47,7 +47,7 @@ use Rattle.dependent_coupling.specs.Carried.{baseFrom, cappedSum}
 use Rattle.dependent_coupling.proofs.Cap.{capped-test, capped-where}
 use Rattle.dependent_coupling.proofs.Rows.{base-magnitude}
 
--- a size above what is allowed is so with its slack
+-- a magnitude above what is allowed is so with its slack
 absorbed : (c z y : ℕ) → ltb c (z + y) || ltb c z ≡ ltb c (z + y)
 absorbed c z y = go (ltb c z) refl (ltb c (z + y)) refl
   where

@@ -1,4 +1,4 @@
--- Two calls of the check of two nets that agree on the places used (specs/Agree) reckon alike.
+-- Two calls of the check of two nets that agree on the places used (specs/Agree) compute alike.
 --   K′, K′-is — one of them, by the n, s and t of the other: it is itself
 --   residual-alike, slack-alike, exceeds-alike, tests-alike, bound-alike — the dependent net's residual and slack, 6, what the reckoning says of it, its limits
 --   joint-alike — what is said of both nets

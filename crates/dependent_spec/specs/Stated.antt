@@ -30,7 +30,7 @@ pub data StatedDependent (D : DependentNet) : List ℕ → Type 0 where
   -- 5: a margin of 0 or less; the lowest such row
   margin-low : (m : ℕ) → UsableDependent D → m < D .own .n → marginFails (ownProblem D) m ≡ true →
       ((k : ℕ) → k < m → marginFails (ownProblem D) k ≡ false) → StatedDependent D (5 ∷ (m + 1) ∷ [])
-  -- 6: a residual above 2^25 in size, its slack added; the lowest row
+  -- 6: a residual above 2^25 in absolute value, its slack added; the lowest row
   residual-large : (k : ℕ) → UsableDependent D → Margins (ownProblem D) → k < D .own .n → dependentExceeds D k ≡ true →
       ((i : ℕ) → i < k → dependentExceeds D i ≡ false) → StatedDependent D (6 ∷ (k + 1) ∷ [])
   -- 7: as in a check on lists; the lowest column, then its lowest row

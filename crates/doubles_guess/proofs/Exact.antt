@@ -2,7 +2,7 @@
 --   value-whole, value-finite — what is ±n units in value is ±n whole, and finite
 --   Some, some   — every finite double is ±q · 2^k units, for a q of at most 53 digits
 --   whole-exact  — a finite double is exactly `whole` units: nothing is rounded away
---   same-value   — two doubles with one sign and one size are one
+--   same-value   — two doubles with one sign and one magnitude are one
 --   minus-zero   — minus zero is 0 units
 use mathlib.Core.Path.{_≡_, refl, sym, ap, _∙_, subst}
 use mathlib.Core.Bool.{Bool, true, false, cond}
@@ -63,7 +63,7 @@ whole-exact x d =
     let f : natAbs (whole x) ≡ n = ap natAbs e ∙ abs-signed (w .0) n in
     (w .0, subst (λ (a : ℕ). HasValue x (w .0) a (2 ^ 1074)) (sym f) (w .4), e ∙ ap (signedBy (w .0)) (sym f))
 
--- ---- a double's bits are its sign and its size
+-- ---- a double's bits are its sign and its magnitude
 abbrev bitsOf : Bool → ℕ → ℕ
 bitsOf s n = cond s (top binary64) 0 + (size n - 53) * hid binary64 + n / 2 ^ (size n - 53)
 

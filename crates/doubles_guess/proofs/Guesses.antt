@@ -1,7 +1,7 @@
 -- The contract of `guess_of`, from what `decode` and `nearest` say.
 --   none-outside — a double that is not finite gives no guess
---   magnitude-small — a size that is found is at most 2^36
---   none-large, given — no guess where the size is not found, else the size with its sign
+--   magnitude-small — a magnitude that is found is at most 2^36
+--   none-large, given — no guess where the magnitude is not found, else the magnitude with its sign
 use mathlib.Core.Path.{_≡_, sym, ap, _∙_, subst}
 use mathlib.Core.Bool.{Bool, true, false, _&&_}
 use Prim.Native.Nat.{ℕ, _≤_, _^_}

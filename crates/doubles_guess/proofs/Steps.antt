@@ -1,6 +1,6 @@
 -- A double's exact value in steps.
 --   magnitude-down — q · 2^k units in steps, by a shift;  magnitude-none, magnitude-far — where nothing is left of it, and where it is above 2^36
---   guess-signed — the guess that ±q · 2^k units give is that size with its sign;  guess-in — and its range is that of the size
+--   guess-signed — the guess that ±q · 2^k units give is that magnitude with its sign;  guess-in — and its range is that of the magnitude
 --   guess-nearest — 2·|S·x − X| ≤ 1, exactly, and at a half X lies farther from zero
 --   guess-whole  — a whole number of steps gives just that number;  guess-zero, guess-tiny — either zero gives 0, and so does every subnormal
 use mathlib.Core.Path.{_≡_, refl, sym, ap, _∙_, subst}
@@ -25,7 +25,7 @@ use Rattle.doubles_guess.specs.Units.{signedBy, whole}
 use Rattle.doubles_guess.specs.Guess.{guessFor, magnitudeFor, Nearest}
 use Rattle.doubles_guess.proofs.Exact.{value-whole}
 
--- ---- sizes
+-- ---- magnitudes
 halve : (q P : ℕ) → (2 * q + P * 2) * (P * 2) ≡ (q + P) * (2 * (P * 2))
 halve q P = omega arith
 
@@ -139,7 +139,7 @@ module _ (s : ℕ) (x : Float) where
   pub guess-zero : whole x ≡ pos 0 → guessFor s x ≡ pos 0
   guess-zero e = guess-whole (pos 0) (rw e (zero-* (pos (2 ^ s)) ∙ sym (*-zero (pos (2 ^ 1074)))))
 
-  -- with at most 2^20 steps to one, whatever is below 2^-1022 in size gives 0
+  -- with at most 2^20 steps to one, whatever is below 2^-1022 in absolute value gives 0
   pub guess-tiny : natAbs (whole x) < 2 ^ 52 → s ≤ 20 → guessFor s x ≡ pos 0
   unfolding guessFor
   guess-tiny h few =

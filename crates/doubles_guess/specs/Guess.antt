@@ -3,7 +3,7 @@
 --   hasGuess s x — x is finite, and that number is in the range of a guess; 19 where it is not so
 --   Nearest s x X — X is that number: |S·x − X| is at most a half, and at a half X lies farther from zero, in units of 2 ^ -1074
 --   GuessFoundAs s x r — the contract of `guess_of`
---   magnitudeFor q k s, MagnitudeFoundAs — the size of q · 2^k units in steps, and whether it is at most 2^36; cited by `nearest` alone
+--   magnitudeFor q k s, MagnitudeFoundAs — the magnitude of q · 2^k units in steps, and whether it is at most 2^36; cited by `nearest` alone
 use mathlib.Core.Bool.{Bool, true, _&&_}
 use mathlib.Core.Path.{_≡_}
 use Prim.Native.Nat.{ℕ, _+_, _*_, _/_, _^_, _≤_, _<_}

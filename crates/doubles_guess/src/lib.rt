@@ -53,7 +53,7 @@ pub fn decode(x: f64) -> DoubleParts
     }
 }
 
-// A size in steps; found is false where it is above 2^36.
+// An absolute value in steps; found is false where it is above 2^36.
 pub struct FoundMagnitude {
     pub found: bool,
     pub steps: u64,
@@ -67,7 +67,7 @@ fn half_up(h: u64) -> u64
     (h + 1) / 2
 }
 
-// The size of digits · 2^shift units in steps, 2^s to one: the nearest whole number, halves up.
+// The absolute value of digits · 2^shift units in steps, 2^s to one: the nearest whole number, halves up.
 fn nearest(digits: u64, shift: u64, s: u64) -> FoundMagnitude
     requires { ⌜ Normal digits shift × (s ≤ 20) ⌝ }
     ensures { λ r. ⌜ MagnitudeFoundAs digits shift s r ⌝ }

@@ -1,5 +1,5 @@
 -- The doubles on either side of z units: `below z` and `above z` are what LowEnd and HighEnd say.
---   endRoom     — sizes for which no end is an infinity; the units of every height in range are far below it
+--   endRoom     — magnitudes for which no end is an infinity; the units of every height in range are far below it
 --   low-end, high-end — LowEnd (below z) z and HighEnd (above z) z, over all finite doubles, signed
 --   nothing-below, nothing-above — no double lies strictly between an end and the number it stands for
 use mathlib.Core.Path.{_≡_, refl, sym, ap, _∙_}

@@ -1,6 +1,6 @@
 -- Doubles by sign, digits and shift (the kit's `units`).
 --   units-double, units-value — units negative q k is a finite double, ±q · 2^k units in value
---   units-is, units-same — a double of that value is it, and equal sizes give one double;  fine-magnitude — a size that is no infinity
+--   units-is, units-same — a double of that value is it, and equal magnitudes give one double;  fine-magnitude — a magnitude that is no infinity
 --   from-pattern — the double of a pattern whose fields are sign, shift and digits
 use mathlib.Core.Path.{_≡_, subst}
 use mathlib.Core.Bool.{Bool, true, false, cond}

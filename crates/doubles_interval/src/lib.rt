@@ -85,7 +85,7 @@ fn plus_zero() -> f64
     f64::from_bits(0)
 }
 
-// ±a steps, up in size or down.
+// ±a steps, rounded up or down in absolute value.
 fn rounded(negative: bool, up: bool, a: u64, s: u32) -> f64
     requires { ⌜ (0 < a) × (s ≤ 20) ⌝ }
     ensures { λ r. ⌜ r ≡ cond up (away negative (a * 2 ^ (1074 - s))) (toward negative (a * 2 ^ (1074 - s))) ⌝ }
@@ -97,7 +97,7 @@ fn rounded(negative: bool, up: bool, a: u64, s: u32) -> f64
     }
 }
 
-// The largest double not above z steps: a negative number goes up in size. A zero is plus zero.
+// The largest double not above z steps: a negative number grows in absolute value. A zero is plus zero.
 fn low_end(z: i64, s: u32) -> f64
     requires { ⌜ (natAbs z < 2 ^ 63) × (s ≤ 20) ⌝ }
     ensures { λ r. ⌜ r ≡ below (unitsOf s z) ⌝ }
@@ -110,7 +110,7 @@ fn low_end(z: i64, s: u32) -> f64
     rounded(negative, negative, a, s)
 }
 
-// The smallest double not below z steps: a negative number goes down in size. A zero is plus zero.
+// The smallest double not below z steps: a negative number shrinks in absolute value. A zero is plus zero.
 fn high_end(z: i64, s: u32) -> f64
     requires { ⌜ (natAbs z < 2 ^ 63) × (s ≤ 20) ⌝ }
     ensures { λ r. ⌜ r ≡ above (unitsOf s z) ⌝ }

@@ -1,5 +1,5 @@
 -- Doubles out: the contract of `intervals_of`, case by case, and that each refusal is said exactly where its case holds.
---   ReadyOutward, ready, small_intervals — input that passes 8 and 3 can be read, written and reckoned with
+--   ReadyOutward, ready, small-intervals — input that passes 8 and 3 can be read, written and computed with
 --   out-short, out-range, out-all — the contract where 8, 3 and nothing is said
 --   code-8, code-3, code-nothing  — 8, 3 and nothing are said exactly where 02 says so
 --   low-after, high-after, ends-else — the lists after the call: their first n places where nothing is said, and every other place as before

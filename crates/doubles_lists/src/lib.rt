@@ -21,7 +21,7 @@ use rules::Refusal;
 use rules::all_in_range;
 use rules::is_natural_in_range;
 
-// What is said of doubles that are to become guesses.
+// The answer to doubles that are to become guesses.
 pub enum Guessed {
     Accepted,
     Refused(Refusal),

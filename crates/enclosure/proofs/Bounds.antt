@@ -1,7 +1,7 @@
 -- Laws of the limits of a column.
 --   bound-least, bound-covers — the limit is the least whole number that covers every row: w_i·sizes_m ≤ limit_i·margins_m
---   bound-at     — it is the rounded-up quotient of a row where sizes / margins is largest
---   bound-ext    — sizes and margins that agree on the first n rows give the same limits
+--   bound-at     — it is the rounded-up quotient of a row where magnitudes / margins is largest
+--   bound-ext    — magnitudes and margins that agree on the first n rows give the same limits
 use mathlib.Core.Path.{_≡_}
 use Prim.Native.Nat.{ℕ, _*_, _≤_, _<_}
 use native.Mathlib.Omega.{arith}

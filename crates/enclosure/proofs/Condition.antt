@@ -1,7 +1,7 @@
 -- Source document 002, Theorem 1, with a tolerance: the limits come from one vector v that meets condition (2.9) for every right side within the tolerances.
 --   start-next   — u_0 − u_1 is G·(S·β − ρ·(A·X)) in steps of 1/(ρ·S·T), up to its sign
 --   next-near    — so it is at most |p_i| with its slack, in steps of 1/(S·T)
---   largest_ratio_row     — there is a row where |p_k| with its slack over g_k is largest
+--   largest-ratio-row     — there is a row where |p_k| with its slack over g_k is largest
 --   condition    — v_i = w_i·sizes_k / (g_k·S) meets (2.9) for such a row k
 --   bound-is-v   — limit i is S·v_i rounded up
 --   v-before     — where there is no tolerance, as in 002, v_i is w_i·|p_k| / (g_k·S)

@@ -1,8 +1,8 @@
 -- The margin in ℕ: g_m = T·w_m − load where it is above 0.
 --   cut-test     — a difference in ℕ is 0 exactly where nothing is left
 --   margin-test  — it is 0 or less exactly where T·w_m ≤ load
---   margin-sum   — where it is above 0, g_m + load = T·w_m;  margin-above — and its size is above 0
---   margin-cut   — its size is then ℕ's difference
+--   margin-sum   — where it is above 0, g_m + load = T·w_m;  margin-above — and its magnitude is above 0
+--   margin-cut   — its magnitude is then ℕ's difference
 use mathlib.Core.Path.{_≡_, refl, sym, _∙_}
 use mathlib.Core.Bool.{Bool, true, false}
 use Prim.Native.Nat.{ℕ, zero, suc, _+_, _*_, _-_, _≤_, _<_}

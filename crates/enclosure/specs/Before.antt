@@ -1,12 +1,12 @@
 -- The residual tests before 02's Paper 9, and before Paper 5. proofs/Tighter says what Paper 9 leaves as it was, and proofs/Before that the definitions with
 -- slack, but for Paper 9's test, are equal to 01's where all tolerances are 0.
---   exceeds05 P k    — the size of the residual of row k, and its slack, are above 2^25 together: the test of Paper 5 alone
+--   exceeds05 P k    — the magnitude of the residual of row k, and its slack, are above 2^25 together: the test of Paper 5 alone
 --   Sound05 P        — every margin is above 0, no residual of the guess or of a column of the inverse fails that test
 -- The definitions without slack, in document 01's own text:
---   exceeds01 z      — the residual z is above 2^25 in size
+--   exceeds01 z      — the residual z is above 2^25 in absolute value
 --   sizes01 P m      — |p_m|
 --   bound01 P i      — limit i: the largest over all rows m of w_i·|p_m| / g_m, each rounded up;  inverseBound01 P i j — of the inverse
---   Sound01 P        — every margin is above 0, no residual of the guess or of a column of the inverse above 2^25 in size
+--   Sound01 P        — every margin is above 0, no residual of the guess or of a column of the inverse above 2^25 in absolute value
 use mathlib.Core.Bool.{Bool, false}
 use mathlib.Core.Path.{_≡_}
 use Prim.Native.Nat.{ℕ, _<_, _^_}

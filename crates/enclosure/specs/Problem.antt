@@ -41,7 +41,7 @@ columnOf P j = record {
   w = P .w;
 }
 
--- a tolerance and a weight in their ranges are natural numbers, so their sizes are they themselves
+-- a tolerance and a weight in their ranges are natural numbers, so their magnitudes are they themselves
 abbrev pub problemOf : ℕ → ℕ → ℕ → List ℤ → List ℤ → List ℤ → List ℤ → List ℤ → List ℤ → Problem
 problemOf n s t matrix right tolerance guess inverse weights = record {
   n = n;

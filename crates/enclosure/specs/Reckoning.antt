@@ -4,18 +4,18 @@
 --   margin P m  — g_m = T·w_m − load, a whole number with its sign
 --   marginFails P m — that margin is 0 or less (refusal 5)
 --   residual P  — r = S·b − A·X;  residual (columnOf P j) is that of the inverse's column j
---   slack P     — what may be missing in the size of a residual, row by row (02, Paper 5: "The residual of row m now comes with a slack S·d_m"); of a column
+--   slack P     — what may be missing in the magnitude of a residual, row by row (02, Paper 5: "The residual of row m now comes with a slack S·d_m"); of a column
 --     of the inverse it is 0
 -- What comes after the residual, for any residual r and any slack σ:
 --   allowedResidual — 2^25 = 33,554,432
---   exceedsWith r σ k — the size of the residual of row k, and its slack, are above 2^25 together (02, Paper 5: "6 is now given where size of residual plus
+--   exceedsWith r σ k — the magnitude of the residual of row k, and its slack, are above 2^25 together (02, Paper 5: "6 is now given where size of residual plus
 --     slack is above 2^25")
 --   magnitudesWith P r σ m — what w_i is multiplied by in the limits (02, Paper 5: "|p_m| becomes |p_m| plus the sum over j of |G_mj|·S·d_j"), for p = G·r
 --   boundFrom n magnitudes margins w i — the largest over all rows m of w_i·sizes_m / margins_m, each rounded up to a whole number
---   boundWith P r σ i — limit i; the size of a margin is the margin, since every margin is above 0 wherever a limit is written
+--   boundWith P r σ i — limit i; the magnitude of a margin is the margin, since every margin is above 0 wherever a limit is written
 -- and of the problem's own:
 --   rowSum P k — the sum of |A_kj| along row k
---   exceedsRow P k — the residual of row k, without slack, is above that sum in size (02, Paper 9: "the residual of row m, without slack, may be at most the
+--   exceedsRow P k — the residual of row k, without slack, is above that sum in absolute value (02, Paper 9: "the residual of row m, without slack, may be at most the
 --     sum of |a| along that row, for the guess and for inverse columns")
 --   exceeds P k — the residual of row k fails one of the two tests (6, and 7 for a column of the inverse; Paper 9: "The 2^25 test with slack also stays")
 --   magnitudes P m, bound P i — the limit in solution steps

@@ -1,5 +1,5 @@
 -- What a check asks of a problem whose numbers are in range.
---   Margins P, Residuals P — every margin is above 0; no residual of the guess is above 2^25 in size, its slack added, or above the sum along its row
+--   Margins P, Residuals P — every margin is above 0; no residual of the guess is above 2^25 in absolute value, its slack added, or above the sum along its row
 --   Sound P                — both, and the same of every column of the inverse
 use mathlib.Core.Path.{_≡_}
 use mathlib.Core.Bool.{false}

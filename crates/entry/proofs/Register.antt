@@ -1,5 +1,5 @@
 -- Laws of the register entry.
---   entry-fits — numbers in range are small enough to reckon with
+--   entry-fits — numbers in range are small enough to compute with
 --   registered, not-registered — the contract, where the numbers are in range and where one is not
 use mathlib.Core.Path.{_≡_, ap₂}
 use mathlib.Core.Bool.{true, false}

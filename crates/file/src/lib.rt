@@ -20,7 +20,7 @@ fn has_feed(file: &[u8], at: usize) -> bool
     found
 }
 
-// The place from which on the first line feed is near, or the end of the file: before it, 16 bytes at a time, there is none.
+// The index from which on the first line feed is near, or the end of the file: before it, 16 bytes at a time, there is none.
 fn skip_blocks(file: &[u8], at: usize) -> usize
     requires { ⌜ at ≤ length (now file) ⌝ }
     ensures { λ r. ⌜ (r + lineLength (drop r (now (file .entry))) ≡ at + lineLength (drop at (now (file .entry)))) × (r ≤ length (now (file .entry))) ⌝ }
@@ -35,7 +35,7 @@ fn skip_blocks(file: &[u8], at: usize) -> usize
     i
 }
 
-// The place of the first line feed from a place on, or the end of the file.
+// The index of the first line feed from an index on, or the end of the file.
 fn line_end(file: &[u8], at: usize) -> usize
     requires { ⌜ at ≤ length (now file) ⌝ }
     ensures { λ r. ⌜ (r ≡ at + lineLength (drop at (now (file .entry)))) × (r ≤ length (now (file .entry))) ⌝ }

@@ -14,7 +14,7 @@ pub record FileRow : Type 0 where
 abbrev pub fileRows : List FileRow
 fileRows =
     record { file = bytes "(problem 1)\n(scale 4 4)\n(right 1 0)\n(right 1 0)\n"; says = 12 ∷ 4 ∷ [] }
-    -- two lines that are refused, and the first is told
+    -- two lines that are refused, and the first is reported
     ∷ record { file = bytes "(problem 1)\n(row 1 (4))\n(end\n"; says = 11 ∷ 2 ∷ [] }
     ∷ record { file = bytes "(problem 2)\n(scale 4 4)\n(row 1 (4 -1))\n(end)"; says = 13 ∷ 7 ∷ [] }
     ∷ record { file = []; says = 15 ∷ 0 ∷ [] }

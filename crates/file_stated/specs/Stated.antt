@@ -1,5 +1,5 @@
 -- What is said of a file, each refusal written out, in the numbers of the refusal's line (01: "It stops at its first refusal"): that of the first line that is
--- refused, 15, and the check's. Nothing here reads a line: that it is one of the eight forms is told by its spelling.
+-- refused, 15, and the check's. Nothing here reads a line: that it is one of the eight forms is known by its spelling.
 --   afterForm u f   — the loader and the lists u after the form f
 --   TakenLines u lines v — at u the lines are accepted, one after another, and leave v: each is the spelling of a form
 --   FileStated file w — the case that is stated for w;  `Stated` is that of a check on lists (check_spec/specs/Stated), `inputAt` what a loader and its lists hand to it

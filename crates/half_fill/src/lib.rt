@@ -11,7 +11,7 @@ use rules::is_natural_in_range;
 // 02, Paper 10: "8 for a list under 528".
 pub const HALF_LENGTH: usize = 528;
 
-// The place in the half of row i and column j + 1, from that of row i and column j: the next one left of the diagonal, one row further down from it on.
+// The index in the half of row i and column j + 1, from that of row i and column j: the next one left of the diagonal, one row further down from it on.
 fn next_place(place: usize, i: usize, j: usize) -> usize
     requires { ⌜ (i < 32) × ((j < 32) × (place ≡ halfPlace i j)) ⌝ }
     ensures { λ r. ⌜ r ≡ halfPlace i (j + 1) ⌝ }
@@ -22,7 +22,7 @@ fn next_place(place: usize, i: usize, j: usize) -> usize
     place + (j + 1)
 }
 
-// Writes row i from place `to` on; its first number is at place `from` of the half.
+// Writes row i from index `to` on; its first number is at index `from` of the half.
 fn fill_row(out: &mut [i64; 1024], to: usize, half: &[i64], from: usize, i: usize, n: usize)
     requires { ⌜ (n ≤ 32) × ((i < n) × (528 ≤ length (now half))) ⌝ }
     requires { ⌜ (to ≡ i * n) × (from ≡ lowerPlace i 0) ⌝ }

@@ -1,8 +1,8 @@
 -- Laws of the absolute value, natAbs : ℤ → ℕ. Every order of this project is stated through it, in ℕ.
---   abs-+, abs-sub, abs-*, abs-neg — of a sum, a difference (at most the sum of the sizes), a product, a negation
---   abs-zero — only 0 has size 0;  free — r·z = 0 with r ≥ 1 gives z = 0
+--   abs-+, abs-sub, abs-*, abs-neg — of a sum, a difference (at most the sum of the magnitudes), a product, a negation
+--   abs-zero — only 0 has magnitude 0;  free — r·z = 0 with r ≥ 1 gives z = 0
 --   abs-difference — |a − b| as a sum of differences in ℕ
---   below-zero, not-below-zero — a number below 0 is minus its size, any other is its size
+--   below-zero, not-below-zero — a number below 0 is minus its magnitude, any other is its magnitude
 use mathlib.Core.Path.{_≡_, refl, ap, subst}
 use mathlib.Core.Bool.{true, false}
 use Prim.Native.Nat.{ℕ, zero, suc, _+_, _*_, _-_, _≤_}

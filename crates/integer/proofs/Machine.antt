@@ -1,5 +1,5 @@
 -- Laws of machine integers: which numbers fit an i64, and that a value read back from its bits is the value.
---   small — a number below 2 ^ 63 in size fits
+--   small — a number below 2 ^ 63 in absolute value fits
 --   read  — what the machine reads back of a parameter, an element (`.given`) or a call's result (`.ok`) is the number itself
 use mathlib.Core.Path.{_≡_}
 use Prim.Native.Nat.{_<_, _^_}

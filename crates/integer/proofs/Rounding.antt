@@ -2,8 +2,8 @@
 --   ceil-covers, ceil-least — ceilDiv a b is the least E with a ≤ E · b
 --   ceil-sum   — ceilDiv of a sum, from the quotient and the remainder of one part;  ceil-sum-fits — it fits, though the sum may not
 --   round-near — roundDiv x d is within half of x / d;  round-half — at a half it lies farther from 0
---   round-magnitude — d · roundDiv x d is at most half of d above x in size
---   quot-neg, abs-quot — the machine's quotient toward zero, of a negative number and in size
+--   round-magnitude — d · roundDiv x d is at most half of d above x in absolute value
+--   quot-neg, abs-quot — the machine's quotient toward zero, of a negative number and in absolute value
 --   round-down, round-up — that quotient of 2x − d, and of 2x + d, by 2d is roundDiv x d, by the sign of x
 use mathlib.Core.Path.{_≡_, refl, sym, ap, _∙_, subst}
 use mathlib.Core.Bool.{true, false}

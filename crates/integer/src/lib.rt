@@ -81,7 +81,7 @@ pub fn round_scaled(x: i64, s: u32) -> i64
     round_div(x, power(s))
 }
 
-// One step of a search for the first place: found, the first below n; here, whether n is one.
+// One step of a search for the first index: found, the first below n; here, whether n is one.
 pub fn first_or(found: usize, n: usize, here: bool) -> usize
     requires { ⌜ n < 2 ^ 63 ⌝ }
     ensures { λ r. ⌜ r ≡ firstOr found n here ⌝ }

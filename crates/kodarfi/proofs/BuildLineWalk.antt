@@ -1,7 +1,7 @@
 -- The walk of the exported builder that gives the refused line, for both layouts: the code of `kodarfi_build_line` and of `kodarfi_build_half_line` differs in the
 -- first statement alone, which makes the layout; `rest` is the walk of what follows it. `begin` says what is said before any line, 8 first, `gather` adds the lines of
 -- the slice, and `finish_status` says what is said, writes the two lists, and writes the line. The slice's lists and the line are handed on to it.
---   Begin, All, Fin — the contracts of `begin`, `gather` and `finish_status`;  to-begin, to-all, to-fin — what they are passed;  asked-.., said-.. — what they ask and say
+--   Begin, All, Fin — the contracts of `begin`, `gather` and `finish_status`;  to-begin, to-all, to-fin — what they are passed;  asked-.., code-.. — what they ask and say
 --   is-whole — what was gathered is that of the whole list;  lined — so what was said in the end is the exported contract
 --   passed, vals — what the exported call has, and its machine values;  Exits — what is asked of its end
 --   following-line — the code after the first statement;  At — what is had after the first statement;  rest — the walk from there

@@ -1,6 +1,6 @@
 -- The walk of the exported builder, for both layouts: the code of `kodarfi_build` and of `kodarfi_build_half` differs in the first statement alone, which makes the
 -- layout; `rest` is the walk of what follows it. `build` is handed the lists on, and `built_number` gives the number of what it says.
---   Build, Number — the contracts of `build` and `built_number`;  to-build, to-number — what they are passed;  asked-.., said-.. — what they ask and say
+--   Build, Number — the contracts of `build` and `built_number`;  to-build, to-number — what they are passed;  asked-.., code-.. — what they ask and say
 --   passed, vals — what the exported call has, and its machine values;  Exits — what is asked of its end
 --   following — the code after the first statement;  At — what is had after the first statement;  rest — the walk from there
 use mathlib.Core.Path.{_≡_, refl}

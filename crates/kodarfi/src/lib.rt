@@ -67,7 +67,7 @@ pub extern "C" fn kodarfi_check(
     write_reply(outcome_reply(outcome), places)
 }
 
-// The listing of a file, and what is said in it: `listing::answer_file`.
+// The listing of a file, and its answer in numbers: `listing::answer_file`.
 #[no_mangle]
 pub extern "C" fn kodarfi_listing(
     file: &[u8],

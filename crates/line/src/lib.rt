@@ -12,14 +12,14 @@ use rules::Refusal;
 
 mod reader;
 
-// The place after a single space.
+// The index after a single space.
 fn after_space(line: &[u8], at: usize) -> usize
     ensures { λ r. ⌜ r ≡ wordAt (now (line .entry)) at (bytes " ") ⌝ }
 {
     line_form::word_at(line, at, b" ")
 }
 
-// The place after a single space and a list's opening bracket.
+// The index after a single space and a list's opening bracket.
 fn after_bracket(line: &[u8], at: usize) -> usize
     ensures { λ r. ⌜ r ≡ wordAt (now (line .entry)) at (bytes " (") ⌝ }
 {

@@ -1,5 +1,5 @@
-// A line reader: a line's slice and a place in it (01: "read from left to right, one byte after another"). Each reading hands the slice and the place
-// to a function on slices, takes any place, and answers with the place after what it read, past the end of the line where nothing of the kind stands there.
+// A line reader: a line's slice and an index in it (01: "read from left to right, one byte after another"). Each reading hands the slice and the index
+// to a function on slices, takes any index, and answers with the index after what it read, past the end of the line where nothing of the kind stands there.
 ghost use mathlib.Core.Path.{_≡_};
 ghost use Rattle.line_numeral.specs.Numeral.{numberAt};
 ghost use Rattle.line_numeral.specs.Capped.{cappedNumber};
@@ -27,7 +27,7 @@ impl<'a> LineReader<'a> {
         LineReader { line, at: 0 }
     }
 
-    // At another place of the same line.
+    // At another index of the same line.
     pub fn moved(self, at: usize) -> LineReader<'a>
         ensures { λ r. ⌜ (r .line ≡ self .entry .line) × (r .at ≡ at) ⌝ }
     {

@@ -1,4 +1,4 @@
-// The parts of a line at a place: a form's opening word, bytes, and a list of numbers. Each gives the place after it, past the end of
+// The parts of a line at an index: a form's opening word, bytes, and a list of numbers. Each gives the index after it, past the end of
 // the line where it does not stand there.
 ghost use mathlib.Core.Path.{_≡_};
 ghost use Prim.Native.Nat.{_-_};
@@ -20,7 +20,7 @@ pub enum Word {
     End,
 }
 
-// A form's word, and the place after its opening.
+// A form's word, and the index after its opening.
 pub struct Head {
     pub word: Word,
     pub next: usize,
@@ -33,20 +33,20 @@ pub struct Numbers {
     pub values: [i64; 32],
 }
 
-// The numbers of a list, and the place after the last.
+// The numbers of a list, and the index after the last.
 pub struct Listed {
     pub numbers: Numbers,
     pub next: usize,
 }
 
-// How many bytes there are from a place on.
+// How many bytes there are from an index on.
 fn left_from(n: usize, at: usize) -> usize
     ensures { λ r. ⌜ r ≡ n - at ⌝ }
 {
     if at < n { n - at } else { 0 }
 }
 
-// Whether the bytes from a place on start with a word.
+// Whether the bytes from an index on start with a word.
 fn has_word(s: &[u8], at: usize, word: &[u8]) -> bool
     ensures { λ r. ⌜ r ≡ starts (now (word .entry)) (drop at (now (s .entry))) ⌝ }
 {
@@ -64,7 +64,7 @@ fn has_word(s: &[u8], at: usize, word: &[u8]) -> bool
     true
 }
 
-// The place after a word; past the end of the line where the word does not stand there.
+// The index after a word; past the end of the line where the word does not stand there.
 pub fn word_at(s: &[u8], at: usize, word: &[u8]) -> usize
     ensures { λ r. ⌜ r ≡ wordAt (now (s .entry)) at (now (word .entry)) ⌝ }
 {
@@ -89,7 +89,7 @@ fn or_word(s: &[u8], at: usize, head: Head, word: Word, opening: &[u8]) -> Head
     }
 }
 
-// The word whose opening stands at a place.
+// The word whose opening stands at an index.
 pub fn head_at(s: &[u8], at: usize) -> Head
     ensures { λ r. ⌜ r ≡ headAt (now (s .entry)) at ⌝ }
 {
@@ -118,7 +118,7 @@ pub fn no_numbers() -> Numbers
     }
 }
 
-// Stores v at the place n, where there is such a place.
+// Stores v at the index n, where there is such an index.
 fn put(values: &mut [i64], n: usize, v: i64)
     ensures { λ _. ⌜ now (values .exit) ≡ set (now (values .entry)) n v ⌝ }
 {
@@ -127,7 +127,7 @@ fn put(values: &mut [i64], n: usize, v: i64)
     }
 }
 
-// The numbers from a place on, single spaces between them, and the place after the last. Past the 32nd they are only counted and tested.
+// The numbers from an index on, single spaces between them, and the index after the last. Past the 32nd they are only counted and tested.
 pub fn list_at(s: &[u8], at: usize, kind: Kind) -> Listed
     ensures { λ r. ⌜ r ≡ listedAt kind (now (s .entry)) at ⌝ }
 {

@@ -1,7 +1,7 @@
 -- The cap of numbers at ±2^40 does not show: capped and exact are in and out of every range alike.
---   cap-between — between two numbers below 2^40 in size
+--   cap-between — between two numbers below 2^40 in absolute value
 --   cap-range   — of every kind, by the one rule over the table of ranges
---   cap-small, cap-in — a number that is at most 2^40 in size, or in a range, is not capped
+--   cap-small, cap-in — a number that is at most 2^40 in absolute value, or in a range, is not capped
 use mathlib.Core.Path.{_≡_, refl, ap, _∙_}
 use mathlib.Core.Bool.{Bool, true, false, _&&_}
 use Prim.Native.Nat.{ℕ, suc, _-_, _≤_, _<_, min}

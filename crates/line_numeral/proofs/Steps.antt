@@ -1,6 +1,6 @@
 -- Laws of the exact reading, at one byte and at the end, in the form in which the code meets them.
 --   run-digit, run-stop, run-end — a run of digits, its value capped on the way, at a digit, at another byte and at the line's end
---   magnitude-zero, magnitude-other, magnitude-run — a size, by the byte at its place
+--   magnitude-zero, magnitude-other, magnitude-run — a magnitude, by the byte at its place
 --   number-minus, number-plain      — a number, by the byte at its place
 use mathlib.Core.Path.{_≡_, refl, _∙_}
 use mathlib.Core.Bool.{Bool, true, false, cond}
@@ -76,7 +76,7 @@ pub digit-inside : {b d : ℕ} → d ≡ digitOf b → d < 10 → 0 < b
 digit-inside {b = zero} {d} e h = absurd (omega arith)
 digit-inside {b = suc b} {d} e h = omega arith
 
--- ---- a size and a number, by the byte at their place
+-- ---- a magnitude and a number, by the byte at their place
 module _ (s : List ℕ) (i : ℕ) {b : ℕ} (byte : b ≡ getD s i 0) where
   pub magnitude-zero : b ≡ 48 → record { value = 0; next = i + 1 } ≡ cappedMagnitude (magnitudeAt s i)
   unfolding magnitudeAt

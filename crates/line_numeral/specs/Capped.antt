@@ -1,4 +1,4 @@
--- What the code reads: a size or a number, its value capped.
+-- What the code reads: a magnitude or a number, its value capped.
 --   cappedMagnitude, cappedNumber — what is read, its value capped
 use Rattle.line_numeral.specs.declared.Number.{Number}
 use Rattle.line_numeral.specs.declared.Magnitude.{Magnitude}

@@ -5,10 +5,10 @@
 --   lost s        — the place that is given where a reading fails
 --   runAt v i l   — the digits at the head of l, which starts at the place i, after digits of value v
 --   magnitudeAt s at — 0, or digits without a leading 0
---   positiveOf, negativeOf — the number of a size, and its negative; −0 is none
+--   positiveOf, negativeOf — the number of a magnitude, and its negative; −0 is none
 --   numberAt s at — a number
 --   capAt         — the cap, 2^40; no range of 01 reaches so far (law `cap-range`)
---   capMagnitude, cap z — a size, and a number, or ±2^40 where it is larger in size: the one place where numbers are capped
+--   capMagnitude, cap z — a magnitude, and a number, or ±2^40 where it is larger in absolute value: the one place where numbers are capped
 use mathlib.Core.Bool.{cond}
 use mathlib.Core.List.{List, [], _∷_}
 use Prim.Native.Nat.{ℕ, suc, _+_, _-_, _*_, _^_, min}

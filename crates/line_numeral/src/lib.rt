@@ -8,19 +8,19 @@ ghost use Rattle.line_numeral.specs.Capped.{cappedMagnitude, cappedNumbe
 
 const CAP: u64 = 1099511627776;
 
-// The size of a number, and the place after it.
+// The absolute value of a number, and the index after it.
 struct Magnitude {
     value: u64,
     next: usize,
 }
 
-// A number, and the place after it.
+// A number, and the index after it.
 pub struct Number {
     pub value: i64,
     pub next: usize,
 }
 
-// The byte at a place. Past the end of the line it is NUL, which stands in no form.
+// The byte at an index. Past the end of the line it is NUL, which stands in no form.
 pub fn byte_at(s: &[u8], at: usize) -> u8
     ensures { λ r. ⌜ r ≡ getD (now (s .entry)) at 0 ⌝ }
 {
@@ -42,7 +42,7 @@ fn cap_magnitude(v: u64) -> u64
     if v < CAP { v } else { CAP }
 }
 
-// All digits from a place on.
+// All digits from an index on.
 fn run_at(s: &[u8], at: usize) -> Magnitude
     requires { ⌜ at ≤ length (now s) ⌝ }
     ensures { λ r. ⌜ r ≡ cappedMagnitude (runAt 0 at (drop at (now (s .entry)))) ⌝ }
@@ -104,7 +104,7 @@ fn positive(z: Magnitude) -> Number
     }
 }
 
-// A minus before a size: −0 is no number.
+// A minus before an absolute value: −0 is no number.
 fn negative(z: Magnitude, lost: usize) -> Number
     requires { ⌜ z .value ≤ capAt ⌝ }
     ensures { λ r. ⌜ r ≡ negativeOf lost z ⌝ }
@@ -121,7 +121,7 @@ fn negative(z: Magnitude, lost: usize) -> Number
     }
 }
 
-// The number at a place, at most 2^40 in size, and the place after it; past the end of the line where no number stands there.
+// The number at an index, at most 2^40 in absolute value, and the index after it; past the end of the line where no number stands there.
 pub fn number_at(s: &[u8], at: usize) -> Number
     ensures { λ r. ⌜ r ≡ cappedNumber (numberAt (now (s .entry)) at) ⌝ }
 {

@@ -13,7 +13,7 @@ use line_numeral::Number;
 use rules::Kind;
 use rules::Refusal;
 
-// A form's numbers, ±2^40 where they are larger in size; i comes first and is kept apart. The numbers of a row stand beside it. The third of a right side is
+// A form's numbers, ±2^40 where they are larger in absolute value; i comes first and is kept apart. The numbers of a row stand beside it. The third of a right side is
 // its tolerance, 0 where it has none.
 pub enum CappedForm {
     Problem(i64),
@@ -54,21 +54,21 @@ pub fn kind_of(word: Word) -> Kind
     }
 }
 
-// The list at a place, in a form of this word.
+// The list at an index, in a form of this word.
 pub fn list_at(line: &[u8], at: usize, word: Word) -> Listed
     ensures { λ r. ⌜ r ≡ listedAt (kindOf word) (now (line .entry)) at ⌝ }
 {
     line_form::list_at(line, at, kind_of(word))
 }
 
-// The place after a closing bracket.
+// The index after a closing bracket.
 pub fn close_at(line: &[u8], at: usize) -> usize
     ensures { λ r. ⌜ r ≡ wordAt (now (line .entry)) at (bytes ")") ⌝ }
 {
     line_form::word_at(line, at, b")")
 }
 
-// The place of the last bracket of a right form, by the count of the numbers in the list that stands there: after the second number, after a list of two
+// The index of the last bracket of a right form, by the count of the numbers in the list that stands there: after the second number, after a list of two
 // numbers, or none.
 fn right_last(count: usize, second: usize, list: usize, other: usize) -> usize
     ensures { λ r. ⌜ r ≡ rightLast count second list other ⌝ }
@@ -82,7 +82,7 @@ fn right_last(count: usize, second: usize, list: usize, other: usize) -> usize
     other
 }
 
-// The place of a form's last bracket, from the places after its opening, its first number, a second number, a list with its bracket, and that of a right form.
+// The index of a form's last bracket, from the indices after its opening, its first number, a second number, a list with its bracket, and that of a right form.
 fn last_of(word: Word, head: usize, first: usize, second: usize, list: usize, right: usize) -> usize
     ensures { λ r. ⌜ r ≡ lastOf word head first second list right ⌝ }
 {
@@ -161,7 +161,7 @@ pub fn refuse(refusal: Refusal) -> Line
     }
 }
 
-// What a line is, from its parts and the place after its last bracket: 2 where it does not end there, else the form of its word.
+// What a line is, from its parts and the index after its last bracket: 2 where it does not end there, else the form of its word.
 pub fn decide(
     line: &[u8],
     head: Head,

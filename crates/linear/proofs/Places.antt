@@ -4,7 +4,7 @@
 --   place-column, place-row — column after column: place j·n + k stands for column j and row k
 --   row-reach, column-reach, list-reach — a row and a column of a list of numbers row after row, and a list of n numbers, as `dot` asks for them;  square-list — a matrix list as such a list
 --   dot-row       — row k of A times a list is (A·v) k
---   dot-term, dot-fits, dot-magnitude — a term is at most 2 ^ 56 in size, a partial sum with its next term fits an i64, the size of a whole sum
+--   dot-term, dot-fits, dot-magnitude — a term is at most 2 ^ 56 in absolute value, a partial sum with its next term fits an i64, the magnitude of a whole sum
 use mathlib.Core.Path.{_≡_, _∙_}
 use mathlib.Core.List.{List}
 use Prim.Native.Nat.{ℕ, _+_, _*_, _/_, _%_, _<_, _≤_, _^_}
@@ -70,7 +70,7 @@ module _ (n : ℕ) where
       sum-ext n (λ (j : ℕ). at a (k * n + j * 1) *ℤ at x (0 + j * 1)) (λ (j : ℕ). at a (k * n + j) *ℤ at x j)
       (λ j l. let f : 0 + j * 1 ≡ j = omega arith in rw (row-place n k (carried (k * n) 1 j), f))
 
--- ---- sizes
+-- ---- magnitudes
 module _ (a : List ℤ) (p s : ℕ) (x : List ℤ) (q u n : ℕ) (ha : Reach a p s n (2 ^ 20)) (hx : Reach x q u n (2 ^ 36)) where
   dot-term : (j : ℕ) → j < n → natAbs (at a (p + j * s) *ℤ at x (q + j * u)) ≤ 2 ^ 56
   dot-term j l = rw (abs-* (at a (p + j * s)) (at x (q + j * u))) (mul-le-mul (ha .magnitudes j l) (hx .magnitudes j l))
@@ -83,7 +83,7 @@ module _ (a : List ℤ) (p s : ℕ) (x : List ℤ) (q u n : ℕ) (ha : Reach a p
         mul-le-mul (ha .magnitudes j l) (hx .magnitudes j l),
       )
 
--- the size of a dot product whose numbers have smaller bounds
+-- the magnitude of a dot product whose numbers have smaller bounds
 pub dot-magnitude : (a : List ℤ) (p s : ℕ) (x : List ℤ) (q u n A X : ℕ) → Reach a p s n A → Reach x q u n X → natAbs (dotOf a p s x q u n) ≤ n * (A * X)
 dot-magnitude a p s x q u n A X ha hx =
     abs-sum≤ n (A * X) (λ (j : ℕ). at a (p + j * s) *ℤ at x (q + j * u))

@@ -1,4 +1,4 @@
--- The size of a product with a slack.
+-- The magnitude of a product with a slack.
 --   slack-ext — only the first n numbers count
 --   joint — |(G·r)_m| + Σ|G_mj|·σ_j is at most n·(g·c) where every |G_mj| ≤ g and every |r_j| + σ_j ≤ c: together, for the two halves apart may be twice that
 use mathlib.Core.Path.{_≡_, ap, ap₂}

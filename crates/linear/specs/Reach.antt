@@ -1,8 +1,8 @@
 -- What a sum over slices asks of them, and the sum; cited by contracts inside.
 --   dotOf a p s x q u n — the sum over j below n of a[p + j·s] · x[q + j·u]
---   Reach xs p s n b — the n numbers from place p on, s places apart, are in the slice and at most b in size
---   Within xs n b    — the first n numbers are at most b in size
---   ColumnList xs n b — n numbers, each at most b in size;  MatrixList xs n — n·n numbers, each at most 2^20 in size
+--   Reach xs p s n b — the n numbers from place p on, s places apart, are in the slice and at most b in absolute value
+--   Within xs n b    — the first n numbers are at most b in absolute value
+--   ColumnList xs n b — n numbers, each at most b in absolute value;  MatrixList xs n — n·n numbers, each at most 2^20 in absolute value
 use mathlib.Core.List.{List}
 use Prim.Native.Nat.{ℕ, _+_, _*_, _<_, _≤_, _^_}
 use lib.IntN.{ℤ, natAbs, _*ℤ_}

@@ -7,7 +7,7 @@ use listing_refusal::FileAnswer;
 use listing_refusal::put_refusal;
 use rules::Outcome;
 
-// The listing of a file, from the start of the buffer on, and what is said in it.
+// The listing of a file, from the start of the buffer on, and its answer in numbers.
 pub fn answer_file(file: &[u8], out: &mut [u8; 32768]) -> FileAnswer
     ensures { λ r. ⌜ AnsweredAs (now (file .entry)) (now (out .entry)) (now (out .exit)) r ⌝ }
 {

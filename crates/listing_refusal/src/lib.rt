@@ -1,4 +1,4 @@
-// What is said of a refused file: in numbers, and as one line written into a buffer.
+// The answer to a refused file: in numbers, and as one line written into a buffer.
 ghost use mathlib.Core.Path.{_≡_};
 ghost use mathlib.Core.List.{[], _∷_};
 ghost use Prim.Native.Nat.{_≤_};
@@ -10,7 +10,7 @@ ghost use Rattle.listing_refusal.specs.Answered.{Answered};
 use listing_text::put_list;
 use rules::Refusal;
 
-// What is said, in numbers: 01's number of a refusal, how many numbers stand in the inner brackets, and these; 0 where there is none.
+// The answer in numbers: 01's number of a refusal, how many numbers stand in the inner brackets, and these; 0 where there is none.
 pub struct Reply {
     pub number: u32,
     pub count: usize,
@@ -18,7 +18,7 @@ pub struct Reply {
     pub second: u64,
 }
 
-// What is said, and the bytes written of it.
+// The answer, and the bytes written of it.
 pub struct FileAnswer {
     pub reply: Reply,
     pub length: usize,

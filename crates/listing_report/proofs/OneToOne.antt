@@ -1,6 +1,6 @@
 -- The bytes of a report determine what it says: n, every guess and every limit.
 --   lineBytes word i a zs — the line (word i (a zs ..)) without its line feed;  line-one — it determines i, a and zs
---   pair-line, list-line — the lines of a report are such lines
+--   pair-line, inverse-line — the lines of a report are such lines
 --   feed-one, each-one — texts with equal bytes have equal lines: of one line and the rest, and of a line for each row and the rest
 --   afterFirst, after-one — the numbers of a list after its first
 --   report-one — reports with equal bytes show the same

@@ -29,7 +29,7 @@ module _ {n s : ℕ} {X : List ℤ} {E L : List ℕ} (ready : Reportable n s X E
       Wrote (mostOf block) o from (blockLine block n s X E L i) p end
   block-line {o} {p} {from} {end} i b e x = rw e x
 
--- ---- sizes
+-- ---- magnitudes
 pub entry-magnitude : (x : ℤ) (s : ℕ) → natAbs x ≤ 2 ^ 36 → s ≤ 20 → natAbs (roundDiv x (2 ^ s)) < 2 ^ 63
 unfolding roundDiv
 entry-magnitude (pos a) s h l =

@@ -1,5 +1,5 @@
 -- What the report's code asks and writes in its steps; cited by the contracts inside.
---   Reportable n s X E L — n and s are in their ranges, the lists long enough, and the guesses at most 2^36 in size
+--   Reportable n s X E L — n and s are in their ranges, the lists long enough, and the guesses at most 2^36 in absolute value
 --   reportIn        — the report of numbers that stand in lists
 --   blockLine       — the line of row i in one of the report's three blocks;  mostOf — how long it is at most
 use mathlib.Core.List.{List}

@@ -8,7 +8,7 @@
 --   decimal-length — a number below 10^(k + 1) has at most k + 1 digits;  decimal-digits, decimal-sized — 20 below 2^64, 19 up to 2^63
 --   small-length, next-length — one digit below 10; one more than n / 10 has, from 10 on
 --   wrote-digit, wrote-digits — that digit was written; and the last one, after those of n / 10
---   minus, wrote-unsigned — the digits of a number's size were written, and a minus before them where it is negative
+--   minus, wrote-unsigned — the digits of a number's magnitude were written, and a minus before them where it is negative
 use mathlib.Core.Path.{_≡_, refl, sym, ap, _∙_, subst}
 use mathlib.Core.List.{List, [], _∷_, _++_}
 use Prim.Native.Nat.{ℕ, zero, suc, _+_, _/_, _%_, _^_, _≤_, _<_}
@@ -113,7 +113,7 @@ unfolding numeral
 wrote-unsigned (pos n) {m} t e h x = wider 20 (omega (arith, decimal-sized n (omega arith))) (rw e at x)
 wrote-unsigned (negsuc n) t e h x = absurd (subst T t tt)
 
--- room for the digits of a size
+-- room for the digits of a magnitude
 pub wrote-room : (z : ℤ) {m : ℕ} → m ≡ natAbs z → natAbs z < 2 ^ 63 → length (decimal m) ≤ 19
 wrote-room z {m} e h = decimal-sized m (omega arith)
 

@@ -1,5 +1,5 @@
 -- Bytes written into a buffer from a place on.
---   Wrote most old at text new end — `listing_text`, of at most `most` bytes, was stored from the place `at` on in `old`, which left `new`: every other byte is as
+--   Wrote most old at text new end — `text`, of at most `most` bytes, was stored from the place `at` on in `old`, which left `new`: every other byte is as
 --     before, and `end` is the place after it
 use mathlib.Core.List.{List}
 use mathlib.Core.Path.{_≡_}

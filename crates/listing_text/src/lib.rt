@@ -1,4 +1,4 @@
-// Bytes, numbers and the lines of a listing put into a buffer at a place. Each function gives the place after what it wrote.
+// Bytes, numbers and the lines of a listing put into a buffer at an index. Each function gives the index after what it wrote.
 ghost use Prim.Native.Nat.{_+_, _≤_, _<_, _^_, ℕ, _*_};
 ghost use lib.IntN.{natAbs};
 ghost use lib.ListN.{length, getD};
@@ -74,7 +74,7 @@ pub fn put_pair(out: &mut [u8], at: usize, word: &[u8], i: u64, z: i64, e: u64) 
     put_bytes(out, d, b"))\n")
 }
 
-// The space before the number at place j of a list, which the first has not.
+// The space before the number at index j of a list, which the first has not.
 pub fn put_gap(out: &mut [u8], at: usize, j: usize) -> usize
     requires { ⌜ at + 1 ≤ length (now out) ⌝ }
     ensures { λ r. ⌜ Wrote 1 (now (out .entry)) at (gap j) (now (out .exit)) r ⌝ }
@@ -85,7 +85,7 @@ pub fn put_gap(out: &mut [u8], at: usize, j: usize) -> usize
     put_bytes(out, at, b" ")
 }
 
-// The number at place j of a list, and the space before it.
+// The number at index j of a list, and the space before it.
 fn put_item(out: &mut [u8], at: usize, j: usize, v: u64) -> usize
     requires { ⌜ at + 21 ≤ length (now out) ⌝ }
     ensures { λ r. ⌜ Wrote 21 (now (out .entry)) at (gap j ++ decimal v) (now (out .exit)) r ⌝ }
@@ -94,7 +94,7 @@ fn put_item(out: &mut [u8], at: usize, j: usize, v: u64) -> usize
     put_natural(out, a, v)
 }
 
-// The n numbers from a place of a list on, single spaces between them.
+// The n numbers from an index of a list on, single spaces between them.
 fn put_numbers(out: &mut [u8], at: usize, values: &[u64], start: usize, n: usize) -> usize
     requires { ⌜ (n ≤ 32) × ((start + n ≤ length (now values)) × (at + n * 21 ≤ length (now out))) ⌝ }
     ensures { λ r. ⌜ Wrote (n * 21) (now (out .entry)) at (numbers n (λ (j : ℕ). getD (now (values .entry)) (start + j) 0)) (now (out .exit)) r ⌝ }

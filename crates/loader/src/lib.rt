@@ -118,7 +118,7 @@ impl Loader {
         loader_progress::is_ended(stage)
     }
 
-    // What is said of a form: 11, 3 for i, 12, 3 for values, 4 and 13, in this order.
+    // The answer to a form: 11, 3 for i, 12, 3 for values, 4 and 13, in this order.
     fn judge_form(self, form: CappedForm, count: usize, inside: bool) -> Outcome
         ensures { λ r. ⌜ code r ≡ codeIn self form count inside ⌝ }
     {
@@ -227,7 +227,7 @@ impl Loader {
         }
     }
 
-    // What is decided of a line; short tells whether a lent list is too short.
+    // What is decided of a line; short: whether a lent list is too short.
     fn decide(self, short: bool, line: &[u8]) -> Decided
         ensures { λ r. ⌜ DecidedAs self short (now (line .entry)) r ⌝ }
     {
@@ -346,7 +346,7 @@ impl Loader {
     }
 }
 
-// What is said of a check before an accepted end; short tells whether a lent list is too short.
+// The answer to a check before an accepted end; short: whether a lent list is too short.
 fn not_ended(short: bool) -> Outcome
     ensures { λ r. ⌜ code r ≡ cond short (8 ∷ []) (15 ∷ []) ⌝ }
 {

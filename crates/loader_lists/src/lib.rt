@@ -19,7 +19,7 @@ pub struct Span {
     count: usize,
 }
 
-// The places of a form in the list of a part, of width numbers a form: (i − 1)·width and those after it, where the form is of that part; else none.
+// The indices of a form in the list of a part, of width numbers a form: (i − 1)·width and those after it, where the form is of that part; else none.
 fn span_of(part: Part, item: Item, width: usize) -> Span
     requires { ⌜ Narrow width item ⌝ }
     ensures { λ r. ⌜ r ≡ spanOf part item width ⌝ }
@@ -41,7 +41,7 @@ fn span_of(part: Part, item: Item, width: usize) -> Span
     }
 }
 
-// Writes the first count of 32 numbers into a list from a place on.
+// Writes the first count of 32 numbers into a list from an index on.
 fn write_values(values: [i64; 32], count: usize, l: &mut [i64], at: usize)
     requires { ⌜ (count ≤ 32) × (at + count ≤ length (now l)) ⌝ }
     ensures { λ _. ⌜ now (l .exit) ≡ paste (now (l .entry)) at values count ⌝ }
@@ -53,7 +53,7 @@ fn write_values(values: [i64; 32], count: usize, l: &mut [i64], at: usize)
     }
 }
 
-// Writes the first numbers of a form at its places in the list of a part.
+// Writes the first numbers of a form at its indices in the list of a part.
 pub fn write_part(part: Part, item: Item, values: [i64; 32], width: usize, l: &mut [i64])
     requires { ⌜ Room width (length (now l)) item ⌝ }
     ensures { λ _. ⌜ now (l .exit) ≡ pastedAt (spanOf part item width) values (now (l .entry)) ⌝ }
@@ -70,7 +70,7 @@ pub fn second_of(values: [i64; 32]) -> [i64; 32]
     [second; 32]
 }
 
-// Writes 1 at the place i of a list, where it is not in the set.
+// Writes 1 at the index i of a list, where it is not in the set.
 fn fill_place(set: u32, i: usize, l: &mut [i64])
     requires { ⌜ (i < 32) × (i < length (now l)) ⌝ }
     ensures { λ _. ⌜ now (l .exit) ≡ filledAt set i (now (l .entry)) ⌝ }
@@ -80,7 +80,7 @@ fn fill_place(set: u32, i: usize, l: &mut [i64])
     }
 }
 
-// Writes 1 at each of the first n places of a list that are not in the set.
+// Writes 1 at each of the first n indices of a list that are not in the set.
 fn fill_places(set: u32, n: usize, l: &mut [i64])
     requires { ⌜ (n ≤ 32) × (n ≤ length (now l)) ⌝ }
     ensures { λ _. ⌜ now (l .exit) ≡ filled n set (now (l .entry)) ⌝ }
@@ -123,9 +123,9 @@ pub fn is_short(
                     | ((inverse < MATRIX_LENGTH) | (weights < COLUMN_LENGTH)))))
 }
 
-// Writes the numbers of an accepted form at their own places: they come first among the values, n of them in a row, else one, and a right side's tolerance is
+// Writes the numbers of an accepted form at their own indices: they come first among the values, n of them in a row, else one, and a right side's tolerance is
 // the second, which goes into a list of its own. An end fills in the
-// weights whose places are not in the set of those given.
+// weights whose indices are not in the set of those given.
 pub fn write_all(
     item: Item,
     values: [i64; 32],

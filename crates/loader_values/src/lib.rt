@@ -65,7 +65,7 @@ pub fn is_placed(item: Item, n: u32) -> bool
     }
 }
 
-// 3: whether a number other than i is outside its range; inside tells it of the numbers of a list.
+// 3: whether a number other than i is outside its range; inside: whether those of a list are in range.
 pub fn is_outside(form: CappedForm, inside: bool) -> bool
     ensures { λ r. ⌜ r ≡ outsideIn form inside ⌝ }
 {

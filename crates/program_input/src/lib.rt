@@ -12,7 +12,7 @@ pub enum Step {
     Failed,
 }
 
-// One read into a buffer from a place on; the bytes before it stay.
+// One read into a buffer from an index on; the bytes before it stay.
 fn read_some(buf: &mut [u8], from: usize) -> Step
     requires { ⌜ from ≤ length (now buf) ⌝ }
     ensures { λ r. ⌜ Inside from (length (now (buf .entry))) r ⌝ }

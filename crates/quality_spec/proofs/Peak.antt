@@ -23,7 +23,7 @@ use Rattle.enclosure.specs.Reckoning.{margin}
 use Rattle.enclosure.specs.Sound.{Margins}
 use Rattle.enclosure.specs.Quality.{Factor}
 use Rattle.enclosure.proofs.Margin.{margin-above}
-use Rattle.quality_spec.specs.Peak.{spread, larger-ratio, noLargerRatio, peak, peakRow, numerator, denominator}
+use Rattle.quality_spec.specs.Peak.{spread, largerRatio, noLargerRatio, peak, peakRow, numerator, denominator}
 
 pub record Leading (n : ℕ) (u v : ℕ → ℕ) (k : ℕ) : Type 0 where
   pub largest-ratio-row : LargestRatio n u v k
@@ -51,14 +51,14 @@ module _ (n : ℕ) (u v : ℕ → ℕ) where
   -- ---- the peak
   none-larger-ratio : (k : ℕ) → LargestRatio n u v k → noLargerRatio n u v k ≡ true
   none-larger-ratio k s =
-      le-leb n (first n (larger-ratio u v k)) (omega (arith, first-never n (larger-ratio u v k) (λ m l. le-ltb (u k * v m) (u m * v k) (s .most m l))))
+      le-leb n (first n (largerRatio u v k)) (omega (arith, first-never n (largerRatio u v k) (λ m l. le-ltb (u k * v m) (u m * v k) (s .most m l))))
 
   some-larger-ratio : (j k : ℕ) → k < n → u j * v k < u k * v j → noLargerRatio n u v j ≡ false
-  some-larger-ratio j k l h = go (searched n (larger-ratio u v j))
+  some-larger-ratio j k l h = go (searched n (largerRatio u v j))
     where
-      go : Searched n (larger-ratio u v j) → noLargerRatio n u v j ≡ false
-      go (found i li e p r) = lt-leb n (first n (larger-ratio u v j)) (omega arith)
-      go (nowhere e r) = clash (larger-ratio u v j k) (lt-ltb (u j * v k) (u k * v j) h) (r k l)
+      go : Searched n (largerRatio u v j) → noLargerRatio n u v j ≡ false
+      go (found i li e p r) = lt-leb n (first n (largerRatio u v j)) (omega arith)
+      go (nowhere e r) = clash (largerRatio u v j k) (lt-ltb (u j * v k) (u k * v j) h) (r k l)
 
   pub peak-is : (k : ℕ) → Leading n u v k → peak n u v ≡ k
   unfolding peak
@@ -74,7 +74,7 @@ module _ (n : ℕ) (u v : ℕ → ℕ) where
       go (found i l e p r) =
           rw e (record {
             below = l;
-            most = λ m lm. ltb-false (u i * v m) (u m * v i) (first-past n (larger-ratio u v i) (leb-true n (first n (larger-ratio u v i)) p) m lm);
+            most = λ m lm. ltb-false (u i * v m) (u m * v i) (first-past n (largerRatio u v i) (leb-true n (first n (largerRatio u v i)) p) m lm);
           })
       go (nowhere e r) = let (k, s) = largest-ratio-of u v n o some in clash (noLargerRatio n u v k) (none-larger-ratio k s) (r k (s .below))
 
@@ -85,7 +85,7 @@ pub peak-ext : (n : ℕ) (u u′ v v′ : ℕ → ℕ) → ((i : ℕ) → i < n 
 unfolding peak
 peak-ext n u u′ v v′ hu hv =
     first-ext n (noLargerRatio n u v) (noLargerRatio n u′ v′)
-    (λ k lk. ap (leb n) (first-ext n (larger-ratio u v k) (larger-ratio u′ v′ k) (λ m lm. rw (hu k lk, hu m lm, hv k lk, hv m lm))))
+    (λ k lk. ap (leb n) (first-ext n (largerRatio u v k) (largerRatio u′ v′ k) (λ m lm. rw (hu k lk, hu m lm, hv k lk, hv m lm))))
 
 -- ---- of a problem
 module _ (P : Problem) (some : 0 < P .n) (hm : Margins P) where

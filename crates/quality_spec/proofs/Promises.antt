@@ -76,7 +76,7 @@ module _ (Q : Inquiry) where
   pub zero-given : getD (qualityAnswer Q) 0 0 ≡ 0 → qualityAnswer Q ≡ []
   zero-given = by-number quality-stated
 
-  -- ---- sizes
+  -- ---- magnitudes
   pub parts-fit : qualityAnswer Q ≡ [] → (numerator (inquiryProblem Q) < 2 ^ 31) × (denominator (inquiryProblem Q) ≤ 2 ^ 30)
   parts-fit z =
       let P = inquiryProblem Q in

@@ -9,7 +9,7 @@ use listing_refusal::Reply;
 use listing_refusal::no_refusal;
 use listing_refusal::reply_of;
 
-// What is said; a refusal that gives its number alone leaves both places 0.
+// The answer; a refusal that gives its number alone leaves both places 0.
 pub fn converted_reply(converted: Converted) -> Reply
     ensures { λ r. ⌜ r ≡ replyOf (printed 0 (convertCode converted)) ⌝ }
 {

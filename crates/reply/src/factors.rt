@@ -9,7 +9,7 @@ use listing_refusal::no_refusal;
 use listing_refusal::reply_of;
 use quality_spec::Quality;
 
-// What is said; 8 and 3 give their number alone, so both places are 0.
+// The answer; 8 and 3 give their number alone, so both places are 0.
 pub fn quality_reply(quality: Quality) -> Reply
     ensures { λ r. ⌜ r ≡ replyOf (printed 0 (qualityCode quality)) ⌝ }
 {

@@ -8,7 +8,7 @@ use listing_refusal::Reply;
 use listing_refusal::no_refusal;
 use listing_refusal::reply_of;
 
-// What is said; a refusal gives its number alone, so both places are 0.
+// The answer; a refusal gives its number alone, so both places are 0.
 pub fn guessed_reply(guessed: Guessed) -> Reply
     ensures { λ r. ⌜ r ≡ replyOf (printed 0 (guessesCode guessed)) ⌝ }
 {

@@ -1,4 +1,4 @@
-// What a call says, as numbers for other languages: 01's number and its two places.
+// What a call answers, in numbers for other languages: 01's number and its two places.
 ghost use mathlib.Core.Path.{_≡_};
 ghost use mathlib.Core.List.{[], _∷_};
 ghost use lib.ListN.{getD};
@@ -21,7 +21,7 @@ pub mod nets;
 pub mod proposals;
 pub mod searches;
 
-// What an outcome says; a refusal that gives its number alone leaves both places 0.
+// The answer of an outcome; a refusal that gives its number alone leaves both places 0.
 pub fn outcome_reply(outcome: Outcome) -> Reply
     ensures { λ r. ⌜ r ≡ replyOf (printed 0 (code outcome)) ⌝ }
 {
@@ -47,7 +47,7 @@ fn refused_number(refusal: Refusal) -> u32
     status.number
 }
 
-// The number of what is said of field lines, 0 where the equations are built.
+// The number of the answer to field lines, 0 where the equations are built.
 pub fn built_number(built: Built) -> u32
     ensures { λ r. ⌜ r ≡ getD (buildCode built) 0 0 ⌝ }
 {

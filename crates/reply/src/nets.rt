@@ -9,7 +9,7 @@ use listing_refusal::Reply;
 use listing_refusal::no_refusal;
 use listing_refusal::reply_of;
 
-// What is said, without the net that it is of.
+// The answer, without the net that it is about.
 pub fn nets_reply(checked: CheckedNets) -> Reply
     ensures { λ r. ⌜ r ≡ replyOf (printed 0 (refusalOf (netsCode checked))) ⌝ }
 {

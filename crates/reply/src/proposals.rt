@@ -23,7 +23,7 @@ fn alone(number: u32) -> Reply
     }
 }
 
-// What is said; a refusal that gives its number alone leaves both places 0.
+// The answer; a refusal that gives its number alone leaves both places 0.
 pub fn common_reply(common: Common) -> Reply
     ensures { λ r. ⌜ r ≡ replyOf (printed 0 (refusalOf (commonCode common))) ⌝ }
 {

@@ -9,7 +9,7 @@ use listing_refusal::no_refusal;
 use listing_refusal::reply_of;
 use weights_spec::Found;
 
-// What is said; a refusal gives its number alone, so both places are 0.
+// The answer; a refusal gives its number alone, so both places are 0.
 pub fn found_reply(found: Found) -> Reply
     ensures { λ r. ⌜ r ≡ replyOf (printed 0 (searchCode found)) ⌝ }
 {

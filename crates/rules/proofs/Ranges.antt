@@ -1,8 +1,8 @@
 -- What the ranges say of a number.
---   range-magnitude — a number in range is at most `magnitudeOf k` in size
---   range-natural — where the lowest value is a natural number, a number in range is one, and at least that;  range-kept — so its size is in range
+--   range-magnitude — a number in range is at most `magnitudeOf k` in absolute value
+--   range-natural — where the lowest value is a natural number, a number in range is one, and at least that;  range-kept — so its magnitude is in range
 --   size-range, solution-scale-range, .., weight-range, allowance-range, in-allowance-range, line-weight-range, difference-range — what the range of each kind is
---   in-size-range, in-matrix-range, in-right-range — the converse: a number of that size is in range;  zero-tolerance, one-weight — so are these two
+--   in-size-range, in-matrix-range, in-right-range — the converse: a number of that magnitude is in range;  zero-tolerance, one-weight — so are these two
 --   both, both-left, both-right, not-both, not-first, neither, neither-left, neither-right, or-left, or-right, and-true — of two tests
 --   range-test — what the code tests is inRange
 use mathlib.Core.Path.{_≡_, refl, sym, subst}
@@ -58,8 +58,8 @@ pub and-true : (a : Bool) {b : Bool} → b ≡ true → a && b ≡ a
 and-true true e = e
 and-true false e = refl
 
--- ---- sizes
--- the largest size that a number of the kind has
+-- ---- magnitudes
+-- the largest magnitude that a number of the kind has
 abbrev pub magnitudeOf : Kind → ℕ
 magnitudeOf k = max (natAbs (rangeOf k .lowest)) (natAbs (rangeOf k .highest))
 
@@ -91,7 +91,7 @@ pub range-test : (k : Kind) (z : ℤ) {r : Range} → r ≡ rangeOf k → leZ (r
 unfolding inRange
 range-test k z e = rw e
 
--- a number of at most that size is in a range that is alike on both sides
+-- a number of at most that magnitude is in a range that is alike on both sides
 magnitude-in-range : (b : ℕ) (z : ℤ) → natAbs z ≤ suc b → leZ (negsuc b) z && leZ z (pos (suc b)) ≡ true
 magnitude-in-range b (pos z) h = le-leb z (suc b) h
 magnitude-in-range b (negsuc z) h = both (le-leb z b (omega arith)) refl

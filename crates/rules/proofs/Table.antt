@@ -1,5 +1,5 @@
 -- The rule over the whole table of ranges, computed once.
---   GoodRange r — lowest ≤ highest, and both are at most 2 ^ 36 in size
+--   GoodRange r — lowest ≤ highest, and both are at most 2 ^ 36 in absolute value
 --   range-good — the range of every kind is
 use mathlib.Core.Path.{_≡_, refl}
 use mathlib.Core.Bool.{Bool, true, _&&_}

@@ -5,7 +5,7 @@
 --   no-code     — where a number is said that no test has, or nothing, no test holds;  silent — and the converse: nothing is said
 --   skip-tests, skipped — tests that do not hold before others are passed over, and tests without the number that is said do not hold
 --   code-exactly  — what starts with a test's number, which no other test has, is said exactly then;  code-around — the same of two tests with one number around another
---   someOf ts     — some test of ts holds;  some-code — one of them is told then
+--   someOf ts     — some test of ts holds;  some-code — one of them is reported then
 --   Moved, moved  — a test moved up over others: the same is said, or no test before holds, it does, and so does one of the others
 use mathlib.Core.Path.{_≡_, refl, sym, ap, subst, _∙_}
 use mathlib.Core.Bool.{Bool, true, false, not, _&&_, _||_, cond}

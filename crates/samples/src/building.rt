@@ -26,7 +26,7 @@ struct Lines {
     count: usize,
 }
 
-// What was said, and both lists afterwards.
+// The answer, and both lists afterwards.
 struct BuiltLists {
     built: Built,
     matrix: [i64; 1024],
@@ -43,12 +43,12 @@ fn no_lines() -> [Observation; 320] {
     }; 320]
 }
 
-// The place after the byte at a place, up to the end.
+// The index after the byte at an index, up to the end.
 fn after(at: usize, length: usize) -> usize {
     if at < length { at + 1 } else { length }
 }
 
-// A number, and the place after the space behind it.
+// A number, and the index after the space behind it.
 fn number_from(text: &[u8], at: usize) -> Number {
     let number = line_numeral::number_at(text, at);
     Number {
@@ -87,7 +87,7 @@ fn line_from(text: &[u8], at: usize) -> Placed {
     }
 }
 
-// The lines from a place on, at most 320.
+// The lines from an index on, at most 320.
 fn lines_from(text: &[u8], start: usize) -> Lines
     ensures { λ r. ⌜ r .count ≤ 320 ⌝ }
 {

@@ -1,5 +1,5 @@
 // Sample lines, files, checks and builds through the proved calls, and a loader, by a script from standard input; what each answers is printed.
-// The script's entries are each followed by a byte of 255. An entry that starts with a byte of 254 is a command, told by the next byte:
+// The script's entries are each followed by a byte of 255. An entry that starts with a byte of 254 is a command, given by the next byte:
 //   t  print the rest of the entry
 //   l  what the rest is as a line
 //   f  the listing of the rest as a file

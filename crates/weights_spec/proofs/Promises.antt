@@ -104,7 +104,7 @@ module _ (Q : Request) (r : Found) (weights : List ℤ) (x : FoundAs Q r weights
     λ h. x .says ∙ answer-none Q (h .0 .long) (h .0 .inside) (first.none-past (searchProblem Q) (Q .allowance) (h .1 .none)),
   )
 
--- ---- sizes
+-- ---- magnitudes
 pub sums-fit : (Q : Request) → UsableRequest Q → (k m : ℕ) → m < Q .n → loads (searchProblem Q) (tried (searchProblem Q) k) m ≤ 2 ^ 60 + 2 ^ 35
 sums-fit Q u =
     let f = fit-request Q (u .long) (u .inside) in

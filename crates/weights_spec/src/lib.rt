@@ -2,7 +2,7 @@
 use rules::Refusal;
 
 pub enum Found {
-    // the place of the first good list, from 1: so many lists were tried
+    // the number of the first good list, from 1: so many lists were tried
     Tried(u32),
     // 8 or 3
     Refused(Refusal),

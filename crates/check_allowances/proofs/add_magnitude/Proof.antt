@@ -9,7 +9,7 @@ use borrow.Author.Needs.{needs}
 use Rattle.check_allowances.proofs.add_magnitude.Statement.{statement}
 use Rattle.check_allowances.proofs.add_magnitude.Tie as tie
 
--- the size of number j, at the place that was carried to it
+-- the magnitude of number j, at the place that was carried to it
 magnitude-is : (c : tie.After-magnitude) →
     let s = c .before .before in
     c .magnitude .result ≡ natAbs (at (s .args .matrix .now) (s .args .row + s .args .j))

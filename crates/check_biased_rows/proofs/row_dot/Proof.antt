@@ -9,7 +9,7 @@ use borrow.Author.Needs.{needs}
 use Rattle.check_biased_rows.proofs.row_dot.Statement.{statement}
 use Rattle.check_biased_rows.proofs.row_dot.Tie as tie
 
--- the start, from the product of the raised numbers
+-- the start, from the product of the biased numbers
 abbrev start : tie.After-low-dot → tie.Start
 start c = c .before .before .before
 

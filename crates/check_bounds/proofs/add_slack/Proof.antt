@@ -10,11 +10,11 @@ use borrow.Author.Needs.{needs}
 use Rattle.check_bounds.proofs.add_slack.Statement.{statement}
 use Rattle.check_bounds.proofs.add_slack.Tie as tie
 
--- the start, from the size of number j
+-- the start, from the magnitude of number j
 abbrev start : tie.After-unbiased-magnitude → tie.Start
 start c = c .before .before .before
 
--- the size of number j, at the place that was carried to it
+-- the magnitude of number j, at the place that was carried to it
 magnitude-is : (c : tie.After-unbiased-magnitude) → c .unbiased-magnitude .result ≡ natAbs (unbiased (getD (start c .args .rows .now) (start c .args .row + start c .args .j) 0))
 magnitude-is c = rw (unit-place (start c .pre .0)) at (c .unbiased-magnitude .ensures)
 

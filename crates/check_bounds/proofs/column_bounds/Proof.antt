@@ -13,7 +13,7 @@ use borrow.Author.Needs.{needs}
 use Rattle.check_bounds.proofs.column_bounds.Statement.{statement}
 use Rattle.check_bounds.proofs.column_bounds.Tie as tie
 
--- the start, from the raised residuals
+-- the start, from the biased residuals
 abbrev begun : tie.After-bias-row → tie.Start
 begun r = r .before .before .before .before
 

@@ -33,7 +33,7 @@ abbrev μ-loop : tie.MeasureT-loop
 abbrev X : tie.Start Inv-loop μ-loop → ℕ → ℤ
 X s i = at (s .args .xs .now) (s .args .start + i * s .args .stride)
 
--- what all raised numbers have too much of
+-- what all biased numbers have too much of
 module _ (c : tie.After-add-rows Inv-loop μ-loop) where
   abbrev start : tie.Start Inv-loop μ-loop
   start = c .before .before .before

@@ -33,7 +33,7 @@ Inv-loop dst₀ rows residuals biased list₀ symmetric margins caps weights n p
 abbrev μ-loop : tie.MeasureT-loop
 μ-loop dst₀ rows residuals biased list₀ symmetric margins caps weights n place₀ start₀ j₀ dst list place start j = n - j
 
--- stages on the way: the start, after the raised residuals, and after the sizes of the column
+-- stages on the way: the start, after the biased residuals, and after the magnitudes of the column
 abbrev begun : tie.After-bias-rows-arg Inv-loop μ-loop → tie.Start Inv-loop μ-loop
 begun c = c .before .before .before .before .before
 
@@ -49,12 +49,12 @@ start t = begun (biased t .before)
 abbrev F : tie.Start Inv-loop μ-loop → ℕ → ℕ → ℕ
 F s i k = limitsOf (s .args .n) (s .args .rows .now) (λ (a : ℕ). at (s .args .residuals .now) (k * s .args .n + a)) (λ (a : ℕ). 0) (s .args .margins .now) (s .args .weights .now) i
 
--- the raised residuals of the column
+-- the biased residuals of the column
 row-is : (t : tie.In-loop Inv-loop μ-loop) →
     RowOf (biased t .bias-rows .last .0) (t .before .loop .j * (start t .args .n + 1)) (start t .args .n) (λ (k : ℕ). at (start t .args .residuals .now) (t .before .loop .j * start t .args .n + k))
 row-is t = rows-stand (biased t .bias-rows .ensures) .each (t .before .loop .j) (t .loop-test .taken)
 
--- what the sizes hold
+-- what the magnitudes hold
 abbrev turn : tie.After-column-magnitudes Inv-loop μ-loop → tie.In-loop Inv-loop μ-loop
 turn c = c .before .before .before .before
 
@@ -64,7 +64,7 @@ magnitudes-here c =
     let t = turn c in
     plain-magnitudes (start t .args .n) (start t .pre .1 .0 .rows) (row-is t) (c .column-magnitudes .ensures .0)
 
--- the list, with this column's sizes
+-- the list, with this column's magnitudes
 list-next : (c : tie.After-column-magnitudes Inv-loop μ-loop) →
     (length (c .column-magnitudes .last .0) ≡ length (start (turn c) .args .list .now))
     × KnownColumns (c .column-magnitudes .last .0) (start (turn c) .args .n) (turn c .before .loop .j + 1) (start (turn c) .args .rows .now) (biased (turn c) .bias-rows .last .0)

@@ -52,7 +52,7 @@ W s =
     let a = s .args in
     work (a .n) (a .t) (a .matrix .now) (a .base .now) (a .allowed .now) (a .allowed-in-columns .now) (a .slacks .now) (a .guess .now) (a .inverse .now) (a .weights .now) (a .solution-bounds .now) (a .inverse-bounds .now)
 
--- the raised rows, and the residuals of the inverse
+-- the biased rows, and the residuals of the inverse
 abbrev begun : tie.After-bias-rows → tie.Start
 begun c = at-start (c .before .before)
 

@@ -11,11 +11,11 @@ use borrow.Author.Needs.{needs}
 use Rattle.dependent_coupling.proofs.add_carried.Statement.{statement}
 use Rattle.dependent_coupling.proofs.add_carried.Tie as tie
 
--- the start, from the size of number j
+-- the start, from the magnitude of number j
 abbrev start : tie.After-magnitude → tie.Start
 start c = c .before .before
 
--- the size of number j, at the place that was carried to it
+-- the magnitude of number j, at the place that was carried to it
 magnitude-is : (c : tie.After-magnitude) →
     c .magnitude .result ≡ natAbs (at (start c .args .coupling .now) (start c .args .row + start c .args .j))
 magnitude-is c = rw (read _ (c .before .magnitude-arg .given), unit-place (start c .pre .0)) at (c .magnitude .ensures)

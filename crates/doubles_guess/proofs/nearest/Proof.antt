@@ -43,7 +43,7 @@ half-up-requires c κs =
     let s = c .before .before in
     lt-of-le-of-lt (div-le-self (s .args .digits) (2 ^ (1073 - (s .args .shift + s .args .s)))) (s .pre .0 .narrow)
 
--- halves counted up, as the size in steps has them
+-- halves counted up, as the magnitude in steps has them
 magnitude-is : (c : tie.After-half-up) → let s = c .before .before .before in magnitudeFor (s .args .digits) (s .args .shift) (s .args .s) ≡ c .half-up .result
 magnitude-is c =
     let s = c .before .before .before in

@@ -7,7 +7,7 @@ use borrow.Author.Needs.{needs}
 use Rattle.listing_text.proofs.put_integer.Statement.{statement}
 use Rattle.listing_text.proofs.put_integer.Tie as tie
 
--- the start, from the size
+-- the start, from the magnitude
 abbrev start : tie.After-magnitude → tie.Start
 start c = c .before .before
 

@@ -30,7 +30,7 @@ Inv-loop t matrix inverse n allowance magnitudes weights₀ passed₀ weights pa
 abbrev μ-loop : tie.MeasureT-loop
 μ-loop t matrix inverse n allowance magnitudes weights₀ passed₀ weights passed = allowance - passed
 
--- stages on the way: after the sizes of the defect, and in the turn
+-- stages on the way: after the magnitudes of the defect, and in the turn
 abbrev sized : tie.In-loop Inv-loop μ-loop → tie.After-defect-magnitudes Inv-loop μ-loop
 sized t = t .before .before
 

@@ -22,7 +22,7 @@ Inv-loop t matrix inverse n columns out₀ i₀ i-end out i = (i ≤ n * n) × (
 abbrev μ-loop : tie.MeasureT-loop
 μ-loop t matrix inverse n columns out₀ i₀ i-end out i = n * n - i
 
--- the rows that the residuals were reckoned from
+-- the rows that the residuals were computed from
 abbrev at-rows : tie.After-inverse-residuals-of Inv-loop μ-loop → tie.After-bias-rows Inv-loop μ-loop
 at-rows c = c .before .before .before .before
 

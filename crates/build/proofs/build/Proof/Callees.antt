@@ -1,6 +1,6 @@
 -- What `build` calls, what it has, and its end.
---   Open, All, Fin — the contracts of `open`, `gather` and `finish`;  to-open, to-all, to-fin — what they are passed;  asked-.., said-.. — what they ask and say
---   is-whole, is-sound — what was gathered is that of the whole list, and is sound
+--   Begin, All, Fin — the contracts of `begin`, `gather` and `finish`;  to-begin, to-all, to-fin — what they are passed;  asked-.., code-.. — what they ask and say
+--   is-whole — what was gathered is that of the whole list
 --   exits — the end of the walk
 use mathlib.Core.Path.{_≡_, refl, ap, _∙_}
 use Prim.Native.Nat.{ℕ, _<_, _^_}

@@ -1,7 +1,7 @@
 -- What `gather` calls, and what it is made of.
 --   far, lined — the machine values of how far the lines are taken and of a line
 --   One, Fews, None, All — the contracts of `add_observation`, `few_of`, `no_lines` and `as_gathered`;  to, to-few, to-none, to-all — what they are passed
---   asked, said-one and the like — what they ask and say
+--   asked, code-few and the like — what they ask and say
 --   typed, typed-far, typed-line, typed-word — the machine values have their types
 use mathlib.Core.Path.{_≡_}
 use Prim.Native.Nat.{ℕ}
