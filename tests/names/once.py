@@ -1,4 +1,4 @@
-"""What the crates say once: names at top level, dependencies, and the way to a fact of a proof."""
+"""What the crates say once: names at top level, definitions and laws by whatever name, dependencies, and the way to a fact of a proof."""
 
 import re
 from collections import defaultdict
@@ -9,6 +9,11 @@ DECLARED = re.compile(
 )
 OTHERS = {"mod", "use", "module"}
 SHAPES = re.compile(r".*-(?:none|next|end)")
+# What a proof says of its own function: the facts and stages of the kit's walk, and its contract.
+OWN = re.compile(r"(?<![\w-])(?:tie|self|stated)\.|(?<![\w-])statement M\b")
+CONSTRUCTORS = {"pos", "negsuc", "suc", "zero", "true", "false", "none", "some", "refl", "here", "there", "next", "tt"}
+# One formula, two ideas: a bias of 2^25 and the largest residual that is allowed; the number of a refusal, and of which of two it is.
+TWO_IDEAS = {("allowedResidual", "bias"), ("head", "whichOf")}
 KIT = {"std", "io", "libc", "os", "bytes"}
 # What the kit wants beside them: the crate of a type that a value has in one of its fields.
 FIELDS = {
@@ -20,25 +25,68 @@ FIELDS = {
 }
 
 
-def declared(text):
-    """The names that a file of laws defines at the beginning of a line."""
-    for line in text.split("\n"):
+def blocks(text):
+    """(name, lines) of each declaration of a file of laws that begins a line, up to the next; without comments."""
+    found = []
+    for line in re.sub(r"--[^\n]*", "", text).split("\n"):
         match = DECLARED.match(line)
         name = match and (match["marked"] or match["name"])
-        if name and name not in OTHERS and not line.startswith("--"):
-            yield name
+        if name and name not in OTHERS:
+            found.append((name, [line]))
+        elif re.match(r"(?:pub )?(?:use|mod|module)\b", line):
+            found.append((None, []))
+        elif found and line.strip():
+            found[-1][1].append(line)
+    return [(name, lines) for name, lines in found if name]
+
+
+def laws(root):
+    """(name, lines, file) of what the files of laws declare at top level. In the folder of a function, whose names are the kit's, what speaks of that function
+    itself does not count. An indented module's own laws do not count either: they have its parameters."""
+    for path in sorted((root / "crates").glob("*/*/**/*.antt")):
+        parts = path.relative_to(root / "crates").parts
+        if parts[1] in ("specs", "proofs") and path.name != "Lib.antt":
+            for name, lines in blocks(path.read_text()):
+                if len(parts) == 3 or not OWN.search("\n".join(lines)):
+                    yield name, lines, "/".join(parts)
 
 
 def equal_names(root):
-    """Names that several files of laws define. Folders of proofs/, one for a function, are left out: the kit names most that is there. X-none, X-next and X-end are laws of X."""
+    """Names that several files of laws define. X-none, X-next and X-end are laws of X."""
     places = defaultdict(dict)
-    for path in sorted((root / "crates").glob("*/*/*.antt")):
-        if path.parent.name in ("specs", "proofs") and path.name != "Lib.antt":
-            for name in declared(path.read_text()):
-                places[name][path.relative_to(root / "crates").as_posix()] = True
+    for name, _, file in laws(root):
+        places[name][file] = True
     for name, files in sorted(places.items()):
         if len(files) > 1 and not SHAPES.fullmatch(name):
             yield f"{name} is defined in {' and in '.join(files)}: one law, or two names"
+
+
+def shape(name, lines):
+    """A definition whole, or what a law states, without its own name, and with its variables numbered as they come."""
+    signature = [lines[0]]
+    for line in lines[1:]:
+        if not line[0].isspace():
+            break
+        signature.append(line)
+    defines = re.match(r"(?:pub )?(?:abbrev|unfoldable|record|data)\b", lines[0]) or not re.search(r"[≡≤<↔⊥]", "".join(signature))
+    text = "\n".join(lines if defines else signature)
+    bound = re.findall(r"[({]\s*([^(){}:=;]+?)\s*:\s", text) + re.findall(r"λ ([^(){}.]+)\.", text)
+    heads = re.findall(rf"(?m)^{re.escape(name)}\s([^=\n]*?)=(?:\s|$)", text)
+    variables = {word for group in bound for word in group.split()} | {word for head in heads for word in re.findall(r"(?<![\w.])[a-z]\w*′*", head)} - CONSTRUCTORS
+    numbers, tokens = {name: "it"}, re.findall(r"[(){}.;,@\"«»]|[^\s(){}.;,@\"«»]+", text)
+    words = [numbers.setdefault(word, len(numbers)) if word in variables else numbers.get(word, word) for word in tokens]
+    return tuple(word for word in words if word not in ("pub", "abbrev", "unfoldable"))
+
+
+def equal_laws(root):
+    """Definitions that are equal, and laws that state the same, up to their own names and those of their variables."""
+    places = defaultdict(list)
+    for name, lines, file in laws(root):
+        places[shape(name, lines)].append((name, file))
+    for found in places.values():
+        names = tuple(sorted({name for name, _ in found}))
+        if len(found) > 1 and names not in TWO_IDEAS:
+            yield f"{' and '.join(f'{name} in {file}' for name, file in found)} are one: one law, one name"
 
 
 def named_crates(folder):
@@ -72,5 +120,6 @@ def long_ways(root):
 
 def faults(root):
     yield from equal_names(root)
+    yield from equal_laws(root)
     yield from dependencies(root)
     yield from long_ways(root)

@@ -18,8 +18,9 @@ of specs/, proofs/ and src/. docs/landings and CHANGELOG.md tell of the past and
    document is above 200 characters.
 5. A word in backquotes that has the form of a definition or a theorem, lower-case words with hyphens between them or letters with a capital inside: it
    stands in some source of the repository outside the documents, and in crates outside comments.
-6. Of the crates themselves (once.py): no two files of specs/ and proofs/ define one name at top level, but for the shapes X-none, X-next and X-end; crates.txt
-   lists for each crate the crates that its own files name, and no other; and no line of a proof has six `.before` or more.
+6. Of the crates themselves (once.py): no two files of specs/ and proofs/ define one name at top level, but for the shapes X-none, X-next and X-end; no two
+   definitions are equal, and no two laws state the same, up to their names and those of their variables. In the folders of functions what speaks of the function
+   itself does not count. crates.txt lists for each crate the crates that its own files name, and no other; and no line of a proof has six `.before` or more.
 
 Words for anything (CRATE, FILE, NAME, PREFIX), stars and what is made by a run (target/) are no citations."""
 

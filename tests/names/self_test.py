@@ -18,9 +18,11 @@ FILES = {
     "crates/sums/specs/Sum.antt": "-- Sums, with their laws in proofs/Sum. `sumOf` is theirs.\n--   sumOf n — the sum\nuse Prim.Native.Nat.{ℕ}\n\n"
     "abbrev pub sumOf : ℕ → ℕ\nsumOf n = n\n-- `neverCited` here is no head comment\n",
     "crates/sums/proofs/Sum.antt": "-- Laws of `sumOf` (specs/Sum), for `sums::add_all`.\nuse Prim.Native.Nat.{ℕ}\n\npub sum-zero : ℕ\nsum-zero = 0\n\n"
-    "pub never-far-away : ℕ\nnever-far-away = 0\n",
+    "pub never-far-away : ℕ\nnever-far-away = 1\n\npub far-law : (a : ℕ) → a ≡ sumOf a\nfar-law a = sum-zero\n",
     "crates/sums/src/lib.rt": "// Adds: `sumOf` of specs/Sum.antt.\npub struct Adder {\n    sum: u64,\n}\n\nimpl Adder {\n    pub fn put(self) -> u64\n    {\n"
     "        0\n    }\n}\n\npub fn add_all(n: u64) -> u64\n{\n    called(n)\n}\n",
+    "crates/sums/proofs/add_all/Proof.antt": "pub helper : ℕ\nhelper = 2\n\nreturns : tie.Need-returns\nreturns c = helper\n",
+    "crates/sums/proofs/add_one/Proof.antt": "returns : tie.Need-returns\nreturns c = helper\n",
     "crates/promises/specs/Sums.antt": "-- Sums.\nabbrev pub SumIsSum : Type 0\nSumIsSum = ⊥\n",
     "crates/promises/specs/False.antt": "-- For `SumIsSum` of Sums.\n",
     "crates.txt": "sums:\npromises: sums\n",
@@ -53,6 +55,10 @@ WRONG = {
     "a statement without a row": ("docs/PROMISES.md", "`Sums.SumIsSum`", "", "it has no Sums.SumIsSum"),
     "a statement without a theorem": ("crates/promises/proofs/Sums.antt", "statement.SumIsSum", "statement.SumIs", "has no theorem of SumIsSum"),
     "two laws of one name": ("crates/sums/proofs/Sum.antt", "pub never-far-away : ℕ", "pub sumOf : ℕ\nsumOf = 0\npub never-far-away : ℕ", "sumOf is defined in"),
+    "two laws of one name, one in a function's folder": ("crates/sums/proofs/add_all/Proof.antt", "helper", "never-far-away", "never-far-away is defined in"),
+    "one definition by two names": ("crates/sums/proofs/Sum.antt", "pub sum-zero :", "abbrev total : ℕ → ℕ\ntotal k = k\n\npub sum-zero :", "total in sums/proofs/Sum.antt and sumOf in"),
+    "one law by two names": ("crates/sums/proofs/Sum.antt", "pub sum-zero :", "same-law : (k : ℕ) → k ≡ sumOf k\nsame-law k = refl\n\npub sum-zero :", "far-law in"),
+    "one definition in a function's folder": ("crates/sums/proofs/add_all/Proof.antt", "helper = 2", "helper = 1", "are one: one law"),
     "a crate that is named and not listed": ("crates.txt", "promises: sums", "promises:", "promises names sums"),
     "a crate that is listed and not named": ("crates.txt", "sums:\n", "sums: promises\n", "sums does not name promises"),
     "a long way back": ("crates/sums/proofs/Sum.antt", "sum-zero = 0", "sum-zero = c" + " .before" * 6, "6 steps back"),

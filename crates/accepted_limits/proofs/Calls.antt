@@ -15,9 +15,8 @@ use Rattle.loader_progress.specs.Progress.{ended}
 use Rattle.loader_progress.specs.declared.Stage.{Stage}
 use Rattle.listing.specs.Listing.{problemIn}
 use Rattle.listing.specs.Complete.{Complete}
-use Rattle.calls_spec.specs.Exported.{CheckExported, ListingExported}
+use Rattle.calls_spec.specs.Exported.{CheckExported, ListingExported, LoaderCheckExported}
 use Rattle.calls_spec.specs.Half.{HalfExported}
-use Rattle.calls_spec.specs.Loader.{LoaderCheckExported}
 use Rattle.calls_spec.proofs.Meaning.{zero-code, zero-answer}
 use Rattle.calls_spec.proofs.Half.{half-zero}
 use Rattle.good_limits.specs.Good.{FineRounded, OneStep, Good}

@@ -9,7 +9,8 @@ use lib.IntN.{ℤ, pos, natAbs, _+ℤ_, _-ℤ_}
 use lib.ListN.{length, getD, set, length-set}
 use lib.Seq.{getD-set-same, getD-set-other}
 use Rattle.integer.proofs.Absolute.{abs-+}
-use Rattle.integer.proofs.Difference.{is, zz, pp, nn, dif-abs}
+use Rattle.integer.specs.SignedParts.{posPart, negPart}
+use Rattle.integer.proofs.Difference.{is, zz, dif-abs}
 use Rattle.build_lines.specs.declared.Observation.{Observation}
 use Rattle.build_gathering.specs.Gathered.{lineAt, withLine}
 
@@ -17,13 +18,13 @@ use Rattle.build_gathering.specs.Gathered.{lineAt, withLine}
 pub lowest-magnitude : (d : ℤ) → natAbs d ≤ 2 ^ 16 → natAbs (d +ℤ pos 65536) ≤ 2 ^ 17
 lowest-magnitude d h = omega (arith, abs-+ d (pos 65536))
 
-natural-difference : (d : ℤ) (k : ℕ) → pp d + 65536 ≡ nn d + k → d +ℤ pos 65536 ≡ pos k
+natural-difference : (d : ℤ) (k : ℕ) → posPart d + 65536 ≡ negPart d + k → d +ℤ pos 65536 ≡ pos k
 natural-difference d k e = rw (is d) (simp zz (omega (arith, e)))
 
 pub lowest-whole : (d : ℤ) → natAbs d ≤ 2 ^ 16 → d +ℤ pos 65536 ≡ pos (natAbs (d +ℤ pos 65536))
 lowest-whole d h =
-    let b : (pp d - nn d) + (nn d - pp d) ≤ 2 ^ 16 = rw (← dif-abs (pp d) (nn d), ← is d) h in
-    let e : d +ℤ pos 65536 ≡ pos (pp d + 65536 - nn d) = natural-difference d (pp d + 65536 - nn d) (omega (arith, b)) in
+    let b : (posPart d - negPart d) + (negPart d - posPart d) ≤ 2 ^ 16 = rw (← dif-abs (posPart d) (negPart d), ← is d) h in
+    let e : d +ℤ pos 65536 ≡ pos (posPart d + 65536 - negPart d) = natural-difference d (posPart d + 65536 - negPart d) (omega (arith, b)) in
     e ∙ ap pos (sym (ap natAbs e))
 
 there-and-back : (d : ℤ) → d +ℤ pos 65536 -ℤ pos 65536 ≡ d

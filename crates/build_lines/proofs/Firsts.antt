@@ -1,14 +1,13 @@
--- The first line that is refused, and the lines before it.
+-- The lines before a line.
 --   onto xs es — the lines es and then xs, the last first;  onto-cases, onto-front — its members;  skip-lines — lines that pass are skipped
---   First, first-line — the first line that is refused;  Other, clash-line — the earlier line that a line with other contents clashes with
+--   Other, clash-line — the earlier line that a line with other contents clashes with
 use mathlib.Core.Path.{_≡_, refl, sym, ap, subst, _∙_}
 use mathlib.Core.Bool.{Bool, true, false, not, _&&_, _||_}
 use mathlib.Core.List.{List, [], _∷_, _++_}
 use Prim.Native.Nat.{ℕ}
 use borrow.Author.Tests.{eqb-true}
 use lib.Dec.{T, eqb}
-use Rattle.rules.specs.Order.{orElse}
-use Rattle.rules.proofs.Verdicts.{nothing-is-not, else-none}
+use Rattle.rules.proofs.Verdicts.{else-none}
 use Rattle.rules.proofs.Ranges.{both-left, both-right}
 use Rattle.build_lines.specs.declared.Observation.{Observation}
 use Rattle.build_lines.specs.Line.{sameContents, clashes}
@@ -17,7 +16,7 @@ use Rattle.integer.specs.Among.{Among, here, there}
 use Rattle.build_lines.proofs.Members.{line-same}
 
 -- ---- the lines before a line
-pub onto : List Observation → List Observation → List Observation
+unfoldable pub onto : List Observation → List Observation → List Observation
 onto [] es = es
 onto (x ∷ xs) es = onto xs (x ∷ es)
 
@@ -44,26 +43,6 @@ pub skip-lines : (n : ℕ) (es xs zs : List Observation) → observationsSay n e
 unfolding observationsSay onto
 skip-lines n es [] zs e = refl
 skip-lines n es (x ∷ xs) zs e = let t = else-none (observationSays n es x) (observationsSay n (x ∷ es) xs) e in rw (t .0) (skip-lines n (x ∷ es) xs zs (t .1))
-
--- ---- the first line that is refused
-pub record First (n : ℕ) (es ls : List Observation) : Type 0 where
-  pub before : List Observation
-  pub line : Observation
-  pub rest : List Observation
-  pub parts : ls ≡ before ++ line ∷ rest
-  pub passed : observationsSay n es before ≡ []
-  pub says : observationSays n (onto before es) line ≡ observationsSay n es ls
-
-pub first-line : (n : ℕ) (es ls : List Observation) {k : ℕ} {ks : List ℕ} → observationsSay n es ls ≡ k ∷ ks → First n es ls
-unfolding observationsSay onto
-first-line n es [] e = absurd (nothing-is-not (sym e))
-first-line n es (l ∷ ls) {k} {ks} e = go (observationSays n es l) refl e (λ q. first-line n (l ∷ es) ls q)
-  where
-    go : (w : List ℕ) → observationSays n es l ≡ w → orElse w (observationsSay n (l ∷ es) ls) ≡ k ∷ ks → (observationsSay n (l ∷ es) ls ≡ k ∷ ks → First n (l ∷ es) ls) → First n es (l ∷ ls)
-    go (j ∷ js) p q ih = record { before = []; line = l; rest = ls; parts = refl; passed = refl; says = p ∙ sym (rw p) }
-    go [] p q ih =
-        let f = ih q in
-        record { before = l ∷ f .before; line = f .line; rest = f .rest; parts = ap (λ (xs : List Observation). l ∷ xs) (f .parts); passed = rw p (f .passed); says = f .says ∙ sym (rw p) }
 
 pub record Other (es : List Observation) (l : Observation) : Type 0 where
   pub line : Observation

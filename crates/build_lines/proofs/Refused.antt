@@ -1,5 +1,4 @@
 -- Which field line is refused, and that none before it is.
---   past before es   — the lines `before` taken after the lines es, the latest first, as the tests of a line look back on them
 --   quiet-next       — a line that passes before others of which nothing is said
 --   Stopped, stopped — where a line is refused, those before it pass, it is refused with what is said of all, and the number is its own, after k others
 --   none-refused     — where nothing is said, the number is 0
@@ -16,10 +15,7 @@ use Rattle.rules.proofs.Verdicts.{nothing-is-not}
 use Rattle.build_lines.specs.declared.Observation.{Observation}
 use Rattle.build_lines.specs.Order.{observationSays, observationsSay, openOrder, buildAnswer}
 use Rattle.build_lines.specs.Refused.{refusedFrom, buildLine}
-
-abbrev pub past : List Observation → List Observation → List Observation
-past [] es = es
-past (l ∷ ls) es = past ls (l ∷ es)
+use Rattle.build_lines.proofs.Firsts.{onto}
 
 pub record Stopped (n k : ℕ) (es ls : List Observation) : Type 0 where
   pub before : List Observation
@@ -28,14 +24,14 @@ pub record Stopped (n k : ℕ) (es ls : List Observation) : Type 0 where
   pub parts : ls ≡ before ++ (line ∷ after)
   pub place : refusedFrom n k es ls ≡ k + suc (length before)
   pub quiet : observationsSay n es before ≡ []
-  pub code : observationSays n (past before es) line ≡ observationsSay n es ls
+  pub code : observationSays n (onto before es) line ≡ observationsSay n es ls
 
 quiet-next : (n : ℕ) (es : List Observation) (l : Observation) (ls : List Observation) → observationSays n es l ≡ [] → observationsSay n (l ∷ es) ls ≡ [] → observationsSay n es (l ∷ ls) ≡ []
 unfolding observationsSay
 quiet-next n es l ls a q = rw a q
 
 pub stopped : (n k : ℕ) (es ls : List Observation) {j : ℕ} {js : List ℕ} → observationsSay n es ls ≡ j ∷ js → Stopped n k es ls
-unfolding observationsSay refusedFrom
+unfolding observationsSay refusedFrom onto
 stopped n k es [] e = absurd (nothing-is-not (sym e))
 stopped n k es (l ∷ ls) {j} {js} e = go (observationSays n es l) refl (stopped n (k + 1) (l ∷ es) ls {j = j} {js = js})
   where
@@ -84,7 +80,7 @@ module _ (n : ℕ) (ls : List Observation) (short : Bool) where
   pub record First : Type 0 where
     pub stop : Stopped n 0 [] ls
     pub line-is : buildLine n ls short ≡ suc (length (stop .before))
-    pub answer : buildAnswer n ls short ≡ observationSays n (past (stop .before) []) (stop .line)
+    pub answer : buildAnswer n ls short ≡ observationSays n (onto (stop .before) []) (stop .line)
 
   pub line-stopped : {j : ℕ} → buildLine n ls short ≡ suc j → First
   unfolding buildAnswer buildLine

@@ -19,7 +19,8 @@ use Rattle.build_lines.specs.Order.{observationSays, observationsSay, bu
 use Rattle.build_lines.specs.Stated.{Buildable, Admitted, BuildStated, too-short, size-outside, too-many, line-outside, same-mark, other-contents, builds}
 use Rattle.build_lines.proofs.Members.{clash-here, nobody}
 use Rattle.build_lines.proofs.Lines.{lines-fit, fit-lines, usable-answer, fits-builds}
-use Rattle.build_lines.proofs.Firsts.{onto, onto-cases, onto-front, skip-lines, First, first-line, clash-line}
+use Rattle.build_lines.proofs.Firsts.{onto, onto-cases, onto-front, skip-lines, clash-line}
+use Rattle.build_lines.proofs.Refused.{Stopped, stopped}
 
 module _ (n : ℕ) (ls : List Observation) (short : Bool) where
   short-code : short ≡ true → buildAnswer n ls short ≡ 8 ∷ []
@@ -35,24 +36,24 @@ module _ (n : ℕ) (ls : List Observation) (short : Bool) where
   many-code p q r = rw (p, q, r)
 
   -- ---- what is said has its stated case
-  at-line : Admitted n (length ls) short → (o s c : Bool) (f : First n [] ls) → outsideRange n (f .line) ≡ o → sameMark (f .line) ≡ s → clashes (onto (f .before) []) (f .line) ≡ c →
+  at-line : Admitted n (length ls) short → (o s c : Bool) (f : Stopped n 0 [] ls) → outsideRange n (f .line) ≡ o → sameMark (f .line) ≡ s → clashes (onto (f .before) []) (f .line) ≡ c →
       {k : ℕ} {ks : List ℕ} → observationsSay n [] ls ≡ k ∷ ks → BuildStated n ls short (observationsSay n [] ls)
-  at-line u true s c f p q r e = subst (BuildStated n ls short) (sym (rw p) ∙ f .says) (line-outside u (f .before) (f .rest) (f .line) (f .parts) (lines-fit n (f .before) (f .passed)) p)
+  at-line u true s c f p q r e = subst (BuildStated n ls short) (sym (rw p) ∙ f .code) (line-outside u (f .before) (f .after) (f .line) (f .parts) (lines-fit n (f .before) (f .quiet)) p)
   at-line u false true c f p q r e =
-      subst (BuildStated n ls short) (sym (rw (p, q)) ∙ f .says) (same-mark u (f .before) (f .rest) (f .line) (f .parts) (lines-fit n (f .before) (f .passed)) p (eqb-true _ _ q))
+      subst (BuildStated n ls short) (sym (rw (p, q)) ∙ f .code) (same-mark u (f .before) (f .after) (f .line) (f .parts) (lines-fit n (f .before) (f .quiet)) p (eqb-true _ _ q))
   at-line u false false true f p q r e =
       let o = clash-line (onto (f .before) []) (f .line) r in
-      subst (BuildStated n ls short) (sym (rw (p, q, r)) ∙ f .says)
-      (other-contents u (f .before) (f .rest) (f .line) (o .line) (f .parts) (lines-fit n (f .before) (f .passed)) (record { inside = p; apart = eqb-false _ _ q })
+      subst (BuildStated n ls short) (sym (rw (p, q, r)) ∙ f .code)
+      (other-contents u (f .before) (f .after) (f .line) (o .line) (f .parts) (lines-fit n (f .before) (f .quiet)) (record { inside = p; apart = eqb-false _ _ q })
       (onto-cases (f .before) [] (o .among) (λ i. i) nobody) (o .key) (o .other))
-  at-line u false false false f p q r e = absurd (nothing-is-not (sym (sym (rw (p, q, r)) ∙ f .says ∙ e)))
+  at-line u false false false f p q r e = absurd (nothing-is-not (sym (sym (rw (p, q, r)) ∙ f .code ∙ e)))
 
   pub stated : BuildStated n ls short (buildAnswer n ls short)
   stated = go short refl (inRange kind.Size (pos n)) refl (ltb 256 (length ls)) refl
     where
       lines : Admitted n (length ls) short → (w : List ℕ) → observationsSay n [] ls ≡ w → BuildStated n ls short (observationsSay n [] ls)
       lines u [] e = subst (BuildStated n ls short) (sym e) (builds u (lines-fit n ls e))
-      lines u (k ∷ ks) e = let f = first-line n [] ls e in at-line u _ _ _ f refl refl refl e
+      lines u (k ∷ ks) e = let f = stopped n 0 [] ls e in at-line u _ _ _ f refl refl refl e
 
       go : (x : Bool) → short ≡ x → (y : Bool) → inRange kind.Size (pos n) ≡ y → (z : Bool) → ltb 256 (length ls) ≡ z → BuildStated n ls short (buildAnswer n ls short)
       go true p y q z r = subst (BuildStated n ls short) (sym (short-code p)) (too-short p)

@@ -12,7 +12,8 @@ use Rattle.rules.proofs.Tests.{without, no-code, silent}
 use Rattle.rules.proofs.Verdicts.{nothing-is-not}
 use Rattle.build_lines.specs.declared.Observation.{Observation}
 use Rattle.build_lines.specs.Order.{observationOrder, observationSays, observationsSay}
-use Rattle.build_lines.proofs.Refused.{past, First, line-silent, line-stopped}
+use Rattle.build_lines.proofs.Firsts.{onto}
+use Rattle.build_lines.proofs.Refused.{First, line-silent, line-stopped}
 use Rattle.build_equations.specs.declared.Layout.{Layout}
 use Rattle.build.specs.BuiltAs.{shortFor}
 use Rattle.calls_spec.specs.Build.{BuildLineExported}
@@ -25,7 +26,7 @@ pub record FirstRefusedLine (n : ℕ) (ls : List Observation) (line number : ℕ
   pub parts : ls ≡ before ++ (own ∷ after)
   pub place : line ≡ suc (length before)
   pub pass : observationsSay n [] before ≡ []
-  pub refused : number ≡ getD (observationSays n (past before []) own) 0 0
+  pub refused : number ≡ getD (observationSays n (onto before []) own) 0 0
 
 -- no line is refused with 8
 line-not-8 : (n : ℕ) (es : List Observation) (l : Observation) → getD (observationSays n es l) 0 0 ≡ 8 → ⊥
@@ -59,4 +60,4 @@ module _ {n : ℕ} {ls : List Observation} {layout : Layout} {a b : List ℤ} {n
     where
       go : (j : ℕ) → line ≡ j → line ≡ 0
       go zero p = p
-      go (suc j) p = let f = build-line-first p in absurd (line-not-8 n (past (f .before) []) (f .own) (sym (f .refused) ∙ e))
+      go (suc j) p = let f = build-line-first p in absurd (line-not-8 n (onto (f .before) []) (f .own) (sym (f .refused) ∙ e))

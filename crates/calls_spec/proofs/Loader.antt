@@ -24,16 +24,13 @@ use Rattle.loader_order.specs.Order.{LineCase, lineOrder}
 use Rattle.loader_order.specs.Through.{answerThrough}
 use Rattle.loader.specs.declared.Loader.{Loader}
 use Rattle.loader.specs.Answer.{caseOf, lineAnswer}
-use Rattle.loader.specs.Taken.{loaderAfter}
-use Rattle.loader.specs.Numbers.{loaderOf}
+use Rattle.loader.specs.Taken.{loaderAfter, loaderOf}
 use Rattle.loader_numbers.proofs.Taken.{numbers-next, numbers-refused, lists-refused}
-use Rattle.loader_runs.specs.Run.{State, step}
+use Rattle.loader_runs.specs.Run.{step}
+use Rattle.loader_runs.proofs.Read.{stateWith}
 use Rattle.reply.specs.ReplyIs.{ReplyIs}
-use Rattle.calls_spec.specs.Loader.{LoaderTakeExported, LoaderCheckExported}
+use Rattle.calls_spec.specs.Exported.{LoaderTakeExported, LoaderCheckExported}
 use Rattle.calls_spec.proofs.Meaning.{zero-code}
-
-abbrev pub stateWith : Loader → Lists → State
-stateWith d l = record { loader = d; lists = l }
 
 -- ---- one line
 head-first : (w : List ℕ) → head w ≡ getD w 0 0

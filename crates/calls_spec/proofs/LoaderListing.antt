@@ -12,25 +12,22 @@ use Rattle.loader_lists.specs.Lists.{Lists, shortLists}
 use Rattle.loader_progress.specs.Progress.{ended}
 use Rattle.loader.specs.declared.Loader.{Loader}
 use Rattle.loader.specs.Answer.{lineAnswer}
-use Rattle.loader.specs.Taken.{fresh, loaderAfter, listsAfter}
-use Rattle.loader.specs.Numbers.{loaderOf, loaderNumbers}
+use Rattle.loader.specs.Taken.{fresh, loaderAfter, listsAfter, loaderOf, loaderNumbers}
 use Rattle.loader_runs.specs.Run.{State, fromNew, step, forms}
 use Rattle.loader_runs.specs.Accepts.{run, Accepts}
 use Rattle.loader_runs.specs.Lines.{linesOf}
 use Rattle.loader_runs.specs.Read.{zeros, readFrom}
 use Rattle.loader_runs.specs.Holds.{inputOf}
 use Rattle.loader_runs.proofs.Passing.{step-long}
-use Rattle.loader_runs.proofs.Read.{read-none, read-accepted}
+use Rattle.loader_runs.proofs.Read.{stateWith, read-none, read-accepted}
 use Rattle.listing_refusal.specs.Refused.{printed}
-use Rattle.file_check.specs.Problem.{problemFrom}
+use Rattle.file_check.specs.Judged.{problemFrom}
 use Rattle.listing.specs.Listing.{answerOf}
 use Rattle.listing.specs.Complete.{Complete}
 use Rattle.listing.proofs.Entire.{zeros-long, answer-judged}
 use Rattle.reply.specs.ReplyIs.{ReplyIs}
-use Rattle.calls_spec.specs.Exported.{ListingExported}
-use Rattle.calls_spec.specs.Loader.{LoaderCheckExported}
+use Rattle.calls_spec.specs.Exported.{ListingExported, LoaderCheckExported}
 use Rattle.calls_spec.specs.Turns.{Turns, keptLines}
-use Rattle.calls_spec.proofs.Loader.{stateWith}
 use Rattle.calls_spec.proofs.LoaderRuns.{turns-kept, turns-check}
 
 module _ (d : Loader) (l m : Lists) (line : List ℕ) (same : shortLists l ≡ shortLists m) where

@@ -15,8 +15,8 @@ use Rattle.loader_progress.specs.declared.Stage.{Stage}
 use Rattle.loader_order.specs.Order.{lineOrder}
 use Rattle.loader_order.specs.Through.{orderThrough, answerThrough}
 use Rattle.loader.specs.Answer.{caseOf, lineAnswer}
-use Rattle.loader.specs.Numbers.{loaderOf}
-use Rattle.calls_spec.specs.Loader.{LoaderTakeExported, LoaderCheckExported}
+use Rattle.loader.specs.Taken.{loaderOf}
+use Rattle.calls_spec.specs.Exported.{LoaderTakeExported, LoaderCheckExported}
 use Rattle.calls_spec.proofs.Loader.{take-status, check-status}
 
 abbrev firsts : List Test → List ℕ

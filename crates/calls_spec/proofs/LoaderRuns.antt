@@ -20,8 +20,7 @@ use Rattle.loader_lists.specs.Lists.{Lists, shortLists}
 use Rattle.loader_progress.specs.Progress.{ended}
 use Rattle.loader_order.specs.Through.{answerThrough}
 use Rattle.loader_order.proofs.Through.{answer-ended}
-use Rattle.loader.specs.Taken.{fresh}
-use Rattle.loader.specs.Numbers.{loaderOf, loaderNumbers}
+use Rattle.loader.specs.Taken.{fresh, loaderOf, loaderNumbers}
 use Rattle.loader_runs.specs.Run.{State, fromNew, forms}
 use Rattle.loader_runs.specs.Accepts.{run, Accepts}
 use Rattle.loader_runs.specs.Holds.{InRange, inputOf}
@@ -30,16 +29,17 @@ use Rattle.loader_runs.specs.Read.{readFrom}
 use Rattle.loader_runs.proofs.Check.{run-long, enough}
 use Rattle.loader_runs.proofs.End.{FromForms, from-forms, in-range}
 use Rattle.loader_runs.proofs.Passing.{forms-spelled, pass-all}
+use Rattle.loader_runs.proofs.Read.{stateWith}
 use Rattle.loader_runs.proofs.Whole.{all-accepted, all-run}
-use Rattle.file_check.specs.Problem.{problemFrom}
+use Rattle.file_check.specs.Judged.{problemFrom}
 use Rattle.file_check.specs.Shown.{inputAt}
 use Rattle.file_check.proofs.Forms.{answer-forms}
 use Rattle.listing.specs.Cases.{wholeFile}
 use Rattle.listing.proofs.Table.{wholeForms, whole-spelled, whole-passes, whole-checked}
 use Rattle.reply.specs.ReplyIs.{ReplyIs}
-use Rattle.calls_spec.specs.Loader.{LoaderTakeExported, LoaderCheckExported}
+use Rattle.calls_spec.specs.Exported.{LoaderTakeExported, LoaderCheckExported}
 use Rattle.calls_spec.specs.Turns.{Turns, keptLines, none, next}
-use Rattle.calls_spec.proofs.Loader.{stateWith, take-zero, take-accepted, take-refused, step-is, check-status}
+use Rattle.calls_spec.proofs.Loader.{take-zero, take-accepted, take-refused, step-is, check-status}
 
 -- ---- line by line
 abbrev pub AllZero : List ℕ → Type 0

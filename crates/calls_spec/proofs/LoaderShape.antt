@@ -16,22 +16,21 @@ use Rattle.check_spec.specs.Order.{checkedOf}
 use Rattle.line_form.specs.Form.{Form}
 use Rattle.loader_lists.specs.Lists.{Lists, shortLists}
 use Rattle.loader_progress.specs.Progress.{ended}
-use Rattle.loader.specs.Taken.{fresh}
-use Rattle.loader.specs.Numbers.{loaderOf, loaderNumbers}
+use Rattle.loader.specs.Taken.{fresh, loaderOf, loaderNumbers}
 use Rattle.loader_runs.specs.Run.{State, fromNew, forms}
 use Rattle.loader_runs.specs.Accepts.{run}
 use Rattle.loader_runs.specs.Holds.{inputOf}
 use Rattle.loader_runs.proofs.Passing.{spelled, forms-spelled}
+use Rattle.loader_runs.proofs.Read.{stateWith}
 use Rattle.listing_refusal.specs.Refused.{printed}
 use Rattle.loader_spelled.specs.Ones.{textOf}
-use Rattle.file_check.specs.Problem.{problemFrom}
+use Rattle.file_check.specs.Judged.{problemFrom}
 use Rattle.file_shape.specs.Shape.{Shape, fed}
 use Rattle.file_shape.proofs.Answers.{shape-answer, shape-accepted}
 use Rattle.file_shape.proofs.Loader.{ShapedLines, shape-ends, ends-shape}
 use Rattle.reply.specs.ReplyIs.{ReplyIs}
-use Rattle.calls_spec.specs.Loader.{LoaderCheckExported}
+use Rattle.calls_spec.specs.Exported.{LoaderCheckExported}
 use Rattle.calls_spec.specs.Turns.{Turns, keptLines}
-use Rattle.calls_spec.proofs.Loader.{stateWith}
 use Rattle.calls_spec.proofs.LoaderRuns.{AllZero, turns-run, turns-zero, turns-kept, zeros-kept, turns-check}
 
 printed-none : (w : List ℕ) → printed 0 w ≡ [] → w ≡ []

@@ -6,7 +6,7 @@ use mathlib.Core.List.{List, []}
 use mathlib.Core.Path.{_≡_, refl, sym, ap, _∙_}
 use Prim.Native.Nat.{ℕ, _+_, _*_}
 use lib.ListN.{getD}
-use Rattle.rules.specs.Order.{whichOf, refusalOf}
+use Rattle.rules.specs.Which.{whichOf, refusalOf}
 use Rattle.rules.specs.declared.Outcome.the-variants as outcome
 use Rattle.rules.proofs.Verdicts.{nothing-is-not}
 use Rattle.dependent_spec.specs.declared.CheckedNets.{CheckedNets}

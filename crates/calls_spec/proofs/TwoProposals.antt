@@ -11,7 +11,7 @@ use native.Mathlib.Omega.{arith}
 use lib.IntN.{ℤ}
 use lib.ListN.{getD}
 use Rattle.linear.specs.Slice.{at}
-use Rattle.rules.specs.Order.{whichOf, refusalOf}
+use Rattle.rules.specs.Which.{whichOf, refusalOf}
 use Rattle.rules.specs.declared.Outcome.the-variants.{Refused}
 use Rattle.rules.proofs.Verdicts.{nothing-is-not}
 use Rattle.check_spec.specs.Order.{answer}

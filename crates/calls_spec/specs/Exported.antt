@@ -5,6 +5,11 @@
 --                     its length as `ListedAs`, the contract of `listing::listing`, has them
 --   EntryExported   — the contract of `kodarfi_entry`: the number of an answer that `RegisteredAs`, the contract of `entry::register_entry`, holds of;
 --                     V and its limit where it is an entry, and both as before where it is refused
+-- What the exported loader says and leaves (01: desk). Its state is nine numbers that the caller lends, any numbers; `loaderOf` is the loader they stand for.
+--   LoaderTakeExported  — the contract of `kodarfi_loader_take`: its result and its places are the number and the values of an outcome that `LoaderTaken`, the
+--                       contract of `loader_numbers::take`, holds of, with the nine numbers and the six lists as there
+--   LoaderCheckExported — the contract of `kodarfi_loader_check`: the number and the values of an outcome that `CheckedThrough`, the contract of `Loader::check`,
+--                       holds of, with the two limit lists as there
 use mathlib.Core.List.{List}
 use mathlib.Core.Path.{_≡_}
 use Prim.Native.Nat.{ℕ}
@@ -20,6 +25,10 @@ use Rattle.entry.specs.Register.{RegisteredAs}
 use Rattle.entry.specs.Register as entry
 use Rattle.entry.specs.declared.Registered.{Registered}
 use Rattle.reply.specs.ReplyIs.{ReplyIs}
+use Rattle.loader_lists.specs.Lists.{Lists}
+use Rattle.loader_progress.specs.declared.Stage.{Stage}
+use Rattle.loader_order.specs.Through.{CheckedThrough}
+use Rattle.loader_numbers.specs.Taken.{LoaderTaken}
 
 pub record CheckExported (I : Input) (number : ℕ) (places E L : List ℕ) : Type 0 where
   pub outcome : Outcome
@@ -36,3 +45,13 @@ pub record EntryExported (x : ℤ) (e s : ℕ) (oldValue : ℤ) (oldBound number
   pub status : ReplyIs (entry.entryCode answer) number places
   pub value-is : value ≡ ifAccepted (entry.entryCode answer) (entryValue s x) oldValue
   pub bound-is : bound ≡ ifAccepted (entry.entryCode answer) (entryBound s x e) oldBound
+
+pub record LoaderTakeExported (w line : List ℕ) (l : Lists) (number : ℕ) (places w′ : List ℕ) (l′ : Lists) : Type 0 where
+  pub outcome : Outcome
+  pub taken : LoaderTaken w line l outcome w′ l′
+  pub status : ReplyIs (code outcome) number places
+
+pub record LoaderCheckExported (stage : Stage) (I : Input) (number : ℕ) (places E L : List ℕ) : Type 0 where
+  pub outcome : Outcome
+  pub checked : CheckedThrough stage I outcome E L
+  pub status : ReplyIs (code outcome) number places

@@ -7,5 +7,4 @@ pub mod TwoNets
 pub mod TwoProposals
 pub mod Conversion
 pub mod Quality
-pub mod Loader
 pub mod Turns

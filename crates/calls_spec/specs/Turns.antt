@@ -7,7 +7,7 @@ use mathlib.Core.List.{List, [], _∷_}
 use Prim.Native.Nat.{ℕ}
 use lib.Dec.{eqb}
 use Rattle.loader_lists.specs.Lists.{Lists}
-use Rattle.calls_spec.specs.Loader.{LoaderTakeExported}
+use Rattle.calls_spec.specs.Exported.{LoaderTakeExported}
 
 pub data Turns : List ℕ → Lists → List (List ℕ) → List ℕ → List ℕ → Lists → Type 0 where
   none : {w : List ℕ} {l : Lists} → Turns w l [] [] w l

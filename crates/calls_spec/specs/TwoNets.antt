@@ -4,7 +4,7 @@
 use mathlib.Core.List.{List}
 use mathlib.Core.Path.{_≡_}
 use Prim.Native.Nat.{ℕ}
-use Rattle.rules.specs.Order.{whichOf, refusalOf}
+use Rattle.rules.specs.Which.{whichOf, refusalOf}
 use Rattle.dependent_spec.specs.declared.CheckedNets.{CheckedNets}
 use Rattle.dependent_spec.specs.Nets.{Nets}
 use Rattle.dependent_spec.specs.Order.{netsCode}

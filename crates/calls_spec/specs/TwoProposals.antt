@@ -6,7 +6,7 @@ use mathlib.Core.List.{List}
 use mathlib.Core.Path.{_≡_}
 use Prim.Native.Nat.{ℕ}
 use lib.IntN.{ℤ}
-use Rattle.rules.specs.Order.{whichOf, refusalOf}
+use Rattle.rules.specs.Which.{whichOf, refusalOf}
 use Rattle.common_spec.specs.declared.Common.{Common}
 use Rattle.common_spec.specs.Answer.{commonCode, CommonAs}
 use Rattle.common_spec.specs.Proposals.{Proposals}

@@ -16,6 +16,7 @@ use lib.Signed.{ltZ}
 use mir.Syntax.{w64}
 use mir.Val.{toZ, ofZ}
 use mir.ValLaws.{toZ-ofZ}
+use Rattle.integer.specs.SignedParts.{posPart, negPart}
 use Rattle.integer.proofs.Difference.{zz}
 use Rattle.integer.proofs.Machine.{small}
 use Rattle.linear.specs.Slice.{at}
@@ -23,21 +24,21 @@ use Rattle.linear.specs.Place.{Carried}
 use Rattle.linear.specs.Written.{written}
 use Rattle.linear.proofs.Carried.{unit-place}
 use Rattle.linear.proofs.Written.{written-at, written-else, written-length, front-at}
-use Rattle.check_defects.specs.Sums.{up, down, halfOf, SmallSums, Added}
+use Rattle.check_defects.specs.Sums.{halfOf, SmallSums, Added}
 
 -- ---- the two parts of a number
-pub signs : (x : ℤ) → x ≡ pos (up x) -ℤ pos (down x)
-unfolding up down
+pub signs : (x : ℤ) → x ≡ pos (posPart x) -ℤ pos (negPart x)
+unfolding posPart negPart
 signs (pos a) = simp zz (omega arith)
 signs (negsuc a) = sym (+ℤ-idl (negsuc a))
 
-pub up-magnitude : (x : ℤ) → up x ≤ natAbs x
-unfolding up
+pub up-magnitude : (x : ℤ) → posPart x ≤ natAbs x
+unfolding posPart
 up-magnitude (pos a) = omega arith
 up-magnitude (negsuc a) = omega arith
 
-pub down-magnitude : (x : ℤ) → down x ≤ natAbs x
-unfolding down
+pub down-magnitude : (x : ℤ) → negPart x ≤ natAbs x
+unfolding negPart
 down-magnitude (pos a) = omega arith
 down-magnitude (negsuc a) = omega arith
 
@@ -67,12 +68,12 @@ read-at xs {k} {p} e h = rw e (toZ-ofZ w64 (at xs p) (small (at xs p) (omega (ar
 
 -- ---- one row more
 pub added-none : (sums : List ℕ) (n : ℕ) (row : ℕ → ℕ) → Added sums sums n (pos 0) row
-unfolding up down
+unfolding posPart negPart
 added-none sums n row = record { long = refl; ups = λ j l. omega arith; downs = λ j l. omega arith }
 
 module _ (sums : List ℕ) (n : ℕ) (few : n ≤ 32) (long : length sums ≡ 64) (row : ℕ → ℕ) where
   pub added-row : (x : ℤ) → Added sums (written sums (halfOf x) 1 (λ (j : ℕ). getD sums (halfOf x + j) 0 + natAbs x * row j) n) n x row
-  unfolding up down halfOf
+  unfolding posPart negPart halfOf
   added-row (pos a) = record {
     long = written-length sums 0 1 _ n;
     ups = λ j l. let e : 0 + j ≡ j = omega arith in front-at sums _ 0 n j l (omega arith) ∙ rw e;

@@ -9,6 +9,7 @@ use native.Mathlib.Omega.{arith}
 use native.Mathlib.Nat.{le-refl, mul-le-mul, mul-le-mul-right, le-trans, le-antisymm}
 use lib.IntN.{ℤ, pos, natAbs, _+ℤ_, _-ℤ_, _*ℤ_}
 use lib.ListN.{getD, replicate, getD-replicate}
+use Rattle.integer.specs.SignedParts.{posPart, negPart}
 use Rattle.integer.specs.Finite.{sum, sumℕ}
 use Rattle.integer.proofs.Difference.{is, zz}
 use Rattle.integer.proofs.Absolute.{abs-*}
@@ -17,7 +18,7 @@ use Rattle.check_biased_rows.specs.Biased.{bias, unbiased, unbiasedRows}
 use Rattle.check_biased_rows.specs.Place.{biasedPlace}
 use Rattle.check_arrays.specs.Arrays.{PrefixIs}
 use Rattle.check_defects.proofs.Halves.{signs, up-magnitude, down-magnitude}
-use Rattle.check_defects.specs.Sums.{up, down, SmallSums, Added, SumsOf}
+use Rattle.check_defects.specs.Sums.{SmallSums, Added, SumsOf}
 
 -- ---- row after row
 pub no-sums : PrefixIs {A = ℕ} 0 (replicate 64 0) 64 (λ (j : ℕ). 0)
@@ -46,7 +47,7 @@ module _ (n : ℕ) (xs : ℕ → ℤ) (rows : ℕ → ℕ → ℕ) where
         rw (h .ups j l)
         (omega (
           arith,
-          sumℕ≤ k (2 ^ 46) (λ (i : ℕ). up (xs i) * rows i j) (λ i li. mul-le-mul (le-trans (up-magnitude (xs i)) (small i li)) (low i j li l)),
+          sumℕ≤ k (2 ^ 46) (λ (i : ℕ). posPart (xs i) * rows i j) (λ i li. mul-le-mul (le-trans (up-magnitude (xs i)) (small i li)) (low i j li l)),
           mul-le-mul-right (2 ^ 46) few,
         ))
 
@@ -55,7 +56,7 @@ module _ (n : ℕ) (xs : ℕ → ℤ) (rows : ℕ → ℕ → ℕ) where
         rw (h .downs j l)
         (omega (
           arith,
-          sumℕ≤ k (2 ^ 46) (λ (i : ℕ). down (xs i) * rows i j) (λ i li. mul-le-mul (le-trans (down-magnitude (xs i)) (small i li)) (low i j li l)),
+          sumℕ≤ k (2 ^ 46) (λ (i : ℕ). negPart (xs i) * rows i j) (λ i li. mul-le-mul (le-trans (down-magnitude (xs i)) (small i li)) (low i j li l)),
           mul-le-mul-right (2 ^ 46) few,
         ))
 
@@ -74,14 +75,14 @@ one-term-more : (c u d g a b : ℕ) (s : ℤ) →
 one-term-more c u d g a b s = rw (is s) (simp zz (omega arith))
 
 sums-unbiased : (c : ℕ) (xs : ℕ → ℤ) (g : ℕ → ℕ) (n : ℕ) →
-    sum n (λ (k : ℕ). xs k *ℤ (pos (g k) -ℤ pos c)) ≡ pos (sumℕ n (λ (k : ℕ). up (xs k) * g k)) -ℤ pos (sumℕ n (λ (k : ℕ). down (xs k) * g k)) -ℤ pos c *ℤ sum n xs
+    sum n (λ (k : ℕ). xs k *ℤ (pos (g k) -ℤ pos c)) ≡ pos (sumℕ n (λ (k : ℕ). posPart (xs k) * g k)) -ℤ pos (sumℕ n (λ (k : ℕ). negPart (xs k) * g k)) -ℤ pos c *ℤ sum n xs
 unfolding sum sumℕ
 sums-unbiased c xs g zero = simp zz (omega arith)
 sums-unbiased c xs g (suc n) =
     rw (sums-unbiased c xs g n)
-    (ap (λ (z : ℤ). pos (sumℕ n (λ (k : ℕ). up (xs k) * g k)) -ℤ pos (sumℕ n (λ (k : ℕ). down (xs k) * g k)) -ℤ pos c *ℤ sum n xs +ℤ z *ℤ (pos (g n) -ℤ pos c)) (signs (xs n))
-    ∙ one-term-more c (up (xs n)) (down (xs n)) (g n) _ _ (sum n xs)
-    ∙ ap (λ (z : ℤ). pos (sumℕ n (λ (k : ℕ). up (xs k) * g k) + up (xs n) * g n) -ℤ pos (sumℕ n (λ (k : ℕ). down (xs k) * g k) + down (xs n) * g n) -ℤ pos c *ℤ (sum n xs +ℤ z)) (sym (signs (xs n))))
+    (ap (λ (z : ℤ). pos (sumℕ n (λ (k : ℕ). posPart (xs k) * g k)) -ℤ pos (sumℕ n (λ (k : ℕ). negPart (xs k) * g k)) -ℤ pos c *ℤ sum n xs +ℤ z *ℤ (pos (g n) -ℤ pos c)) (signs (xs n))
+    ∙ one-term-more c (posPart (xs n)) (negPart (xs n)) (g n) _ _ (sum n xs)
+    ∙ ap (λ (z : ℤ). pos (sumℕ n (λ (k : ℕ). posPart (xs k) * g k) + posPart (xs n) * g n) -ℤ pos (sumℕ n (λ (k : ℕ). negPart (xs k) * g k) + negPart (xs n) * g n) -ℤ pos c *ℤ (sum n xs +ℤ z)) (sym (signs (xs n))))
 
 put-right : (u v : ℤ) (a b : ℕ) → u +ℤ (v +ℤ pos b -ℤ pos a) ≡ u -ℤ (pos a -ℤ pos b -ℤ v)
 put-right u v a b = rw (is u, is v) (simp zz (omega arith))

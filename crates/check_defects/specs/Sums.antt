@@ -1,24 +1,16 @@
--- Sums of multiples of biased rows; cited by contracts inside. A factor has two natural numbers, of which one is 0, so the sums stay natural numbers:
+-- Sums of multiples of biased rows; cited by contracts inside. A factor has two natural numbers (`posPart`, `negPart`), of which one is 0, so the sums stay natural numbers:
 -- those of factors of 0 or more stand from place 0 on, those of factors below 0 from place 32 on.
---   up x, down x — the magnitude of x where x is 0 or more, and where it is below 0; 0 else
 --   halfOf x     — the place from which on the sums that x belongs to stand
 --   SmallSums sums p n — the n sums from place p on are at most 2^62
 --   Added before after n x row — x times each of the first n numbers of a row was added to its sum
 --   SumsOf sums n k xs rows — the sums over the first k factors and rows, for the first n numbers of a row
 use mathlib.Core.Path.{_≡_}
 use mathlib.Core.List.{List}
-use Prim.Native.Nat.{ℕ, suc, _+_, _*_, _≤_, _<_, _^_}
+use Prim.Native.Nat.{ℕ, _+_, _*_, _≤_, _<_, _^_}
 use lib.IntN.{ℤ, pos, negsuc}
 use lib.ListN.{getD, length}
 use Rattle.integer.specs.Finite.{sumℕ}
-
-unfoldable pub up : ℤ → ℕ
-up (pos a) = a
-up (negsuc a) = 0
-
-unfoldable pub down : ℤ → ℕ
-down (pos a) = 0
-down (negsuc a) = suc a
+use Rattle.integer.specs.SignedParts.{posPart, negPart}
 
 unfoldable pub halfOf : ℤ → ℕ
 halfOf (pos a) = 0
@@ -29,9 +21,9 @@ pub record SmallSums (sums : List ℕ) (p n : ℕ) : Type 0 where
 
 pub record Added (before after : List ℕ) (n : ℕ) (x : ℤ) (row : ℕ → ℕ) : Type 0 where
   pub long : length after ≡ length before
-  pub ups : (j : ℕ) → j < n → getD after j 0 ≡ getD before j 0 + up x * row j
-  pub downs : (j : ℕ) → j < n → getD after (32 + j) 0 ≡ getD before (32 + j) 0 + down x * row j
+  pub ups : (j : ℕ) → j < n → getD after j 0 ≡ getD before j 0 + posPart x * row j
+  pub downs : (j : ℕ) → j < n → getD after (32 + j) 0 ≡ getD before (32 + j) 0 + negPart x * row j
 
 pub record SumsOf (sums : List ℕ) (n k : ℕ) (xs : ℕ → ℤ) (rows : ℕ → ℕ → ℕ) : Type 0 where
-  pub ups : (j : ℕ) → j < n → getD sums j 0 ≡ sumℕ k (λ (i : ℕ). up (xs i) * rows i j)
-  pub downs : (j : ℕ) → j < n → getD sums (32 + j) 0 ≡ sumℕ k (λ (i : ℕ). down (xs i) * rows i j)
+  pub ups : (j : ℕ) → j < n → getD sums j 0 ≡ sumℕ k (λ (i : ℕ). posPart (xs i) * rows i j)
+  pub downs : (j : ℕ) → j < n → getD sums (32 + j) 0 ≡ sumℕ k (λ (i : ℕ). negPart (xs i) * rows i j)

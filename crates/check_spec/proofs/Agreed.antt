@@ -24,7 +24,8 @@ use Rattle.check_spec.specs.Order.{checkedOf, answer}
 use Rattle.check_spec.specs.Agree.{Agree}
 use Rattle.check_spec.proofs.Contract.{answer-range, answer-ready}
 use Rattle.check_spec.proofs.Fit.{fit-of}
-use Rattle.check_spec.proofs.Lengths.{Long, long-of}
+use Rattle.check_spec.specs.Stated.{LongEnough}
+use Rattle.check_spec.proofs.Lengths.{long-of}
 use Rattle.check_spec.proofs.Statements.{accepted-usable}
 use Rattle.check_spec.proofs.Written.{solution-written, inverse-written}
 use Rattle.check_spec.proofs.Agreement.{columns-same, checked-same, inverse-same}
@@ -114,7 +115,7 @@ module _ (I J : Input) (a : Agree I J) where
     some : 0 < I .n
     some = fit-of I (a .long) (accepted-usable I e .inside) .some
 
-    long : Long like
+    long : LongEnough like
     long = long-of like (a .long′)
 
     pub same-solution : (i : ℕ) → i < I .n → getD (solutionBoundsAfter I) i 0 ≡ getD (solutionBoundsAfter J) i 0

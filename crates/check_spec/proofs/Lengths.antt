@@ -1,25 +1,15 @@
 -- The lengths of the lists of a check that passes 8.
---   Long, long-of — lists that are not too short are long enough
+--   long-of — lists that are not too short are long enough
 use mathlib.Core.Path.{_≡_}
 use mathlib.Core.Bool.{false}
-use Prim.Native.Nat.{_≤_}
 use borrow.Author.Tests.{ltb-false}
 use lib.ListN.{length}
 use Rattle.rules.specs.Range.{shortMatrix, shortColumn}
 use Rattle.rules.proofs.Ranges.{neither-left, neither-right}
 use Rattle.check_spec.specs.Input.{Input, short}
+use Rattle.check_spec.specs.Stated.{LongEnough}
 
-pub record Long (I : Input) : Type 0 where
-  pub matrix : 1024 ≤ length (I .matrix)
-  pub right : 32 ≤ length (I .right)
-  pub tolerance : 32 ≤ length (I .tolerance)
-  pub guess : 32 ≤ length (I .guess)
-  pub inverse : 1024 ≤ length (I .inverse)
-  pub weights : 32 ≤ length (I .weights)
-  pub solution : 32 ≤ length (I .solutionBounds)
-  pub inverses : 1024 ≤ length (I .inverseBounds)
-
-pub long-of : (I : Input) → short I ≡ false → Long I
+pub long-of : (I : Input) → short I ≡ false → LongEnough I
 long-of I h1 =
     let h2 = neither-right (shortMatrix (length (I .matrix))) _ h1 in
     let h3 = neither-right (shortColumn (length (I .right))) _ h2 in

@@ -1,4 +1,5 @@
 pub mod Input
+pub mod Squares
 pub mod Order
 pub mod Checked
 pub mod Stated

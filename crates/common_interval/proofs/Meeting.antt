@@ -24,7 +24,8 @@ use Rattle.enclosure.specs.Reckoning.{bound}
 use Rattle.check_spec.specs.Input.{Input, problem}
 use Rattle.check_spec.specs.Order.{answer}
 use Rattle.check_spec.proofs.Fit.{Fit}
-use Rattle.check_spec.proofs.Lengths.{Long, long-of}
+use Rattle.check_spec.specs.Stated.{LongEnough}
+use Rattle.check_spec.proofs.Lengths.{long-of}
 use Rattle.check_spec.proofs.Statements.{accepted-usable}
 use Rattle.check_spec.proofs.Written.{solution-written, accepted-fit, solution-at}
 use Rattle.common_spec.specs.declared.Common.{Common}
@@ -58,7 +59,7 @@ module _ (I : Input) (a : answer I ≡ []) where
   pub fit : Fit I
   fit = accepted-fit I a
 
-  pub long : Long I
+  pub long : LongEnough I
   long = long-of I (accepted-usable I a .long)
 
   pub limit-is : (c : Held) → HeldAs I c → (i : ℕ) → i < I .n → limitAt (c .solution) i ≡ bound (problem I) i

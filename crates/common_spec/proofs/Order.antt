@@ -12,7 +12,8 @@ use borrow.Author.Tests.{leb-false}
 use lib.Dec.{T, le→leb}
 use lib.IntN.{ℤ, pos, negsuc, _*ℤ_}
 use lib.Signed.{leZ, _≤ℤ_, ≤ℤ-refl, leZ-yes}
-use Rattle.integer.proofs.Difference.{is, zz, pp, nn}
+use Rattle.integer.specs.SignedParts.{posPart, negPart}
+use Rattle.integer.proofs.Difference.{is, zz}
 use Rattle.integer.proofs.Order.{le-both}
 use Rattle.common_spec.specs.Ends.{maxℤ, minℤ}
 
@@ -20,7 +21,7 @@ pub between : (q : ℕ) (a b z : ℤ) → 1 ≤ q → (pos q *ℤ a) ≤ℤ z �
 between q a b z o h k =
     let x = simp zz at (rw (is a, is z) at h) in
     let y = simp zz at (rw (is b, is z) at k) in
-    let w : q * (pp a + nn b) ≤ q * (pp b + nn a) = omega (arith, x, y) in
+    let w : q * (posPart a + negPart b) ≤ q * (posPart b + negPart a) = omega (arith, x, y) in
     rw (is a, is b) (simp zz (omega (arith, le-of-mul-le-mul-left w o)))
 
 -- ---- the larger and the smaller of two

@@ -13,7 +13,8 @@ use Prim.Native.Nat.{ℕ}
 use lib.IntN.{ℤ}
 use Rattle.linear.specs.Slice.{at}
 use Rattle.linear.specs.Written.{written}
-use Rattle.rules.specs.Order.{Test, verdict, ifAccepted, ofOne, ofNeither}
+use Rattle.rules.specs.Order.{Test, verdict, ifAccepted}
+use Rattle.rules.specs.Which.{ofOne, ofNeither}
 use Rattle.rules.specs.Refusal.{numberOf, valuesOf}
 use Rattle.check_spec.specs.Order.{answer}
 use Rattle.common_spec.specs.declared.Common.{Common}

@@ -18,7 +18,7 @@ use Rattle.loader_values.specs.Item.{itemOf, partIndex}
 use Rattle.loader_values.specs.declared.Item.the-variants as item
 use Rattle.loader_values.specs.declared.Part.{Part}
 use Rattle.loader_values.specs.declared.Part.the-variants.{Row, Right, Guess, Inverse, Weight}
-use Rattle.loader_progress.specs.Before.{missing01}
+use Rattle.loader_progress.specs.Ungiven.{ungiven}
 use Rattle.loader.specs.declared.Loader.{Loader}
 use Rattle.loader.specs.Taken.{fresh, after}
 use Rattle.loader_runs.proofs.Sound.{fresh-empty}
@@ -75,7 +75,7 @@ module _ (P : Problem) (w : NumbersInRange P) where
       let o : PassesOld d end = record {
         now = passed-end d (rw (h .size) (w .size)) (h .ready) (reached-all (size .1) h);
         old = refl;
-        counted = le-ltb 0 (missing01 (d .n) (d .sets)) (omega (arith, reached-old (size .1) h));
+        counted = le-ltb 0 (ungiven (d .n) (d .sets)) (omega (arith, reached-old (size .1) h));
       } in
       (h .going, (o, refl))
 

@@ -33,8 +33,7 @@ use Rattle.loader_runs.specs.Lines.{linesOf}
 use Rattle.loader_runs.specs.Read.{readingOf}
 use Rattle.loader_runs.proofs.End.{FromForms}
 use Rattle.listing_refusal.specs.Refused.{printed}
-use Rattle.file_check.specs.Problem.{problemFrom}
-use Rattle.file_check.specs.Judged.{lineOr}
+use Rattle.file_check.specs.Judged.{problemFrom, lineOr}
 use Rattle.listing.specs.Listing.{problemIn, answerOf, listingOf}
 use Rattle.listing.specs.Complete.{Complete}
 use Rattle.listing.proofs.Entire.{answer-judged, listing-from, from, inside}

@@ -36,7 +36,7 @@ use Rattle.loader_runs.specs.Run.{forms}
 use Rattle.loader_runs.proofs.Passing.{spelled, passes, forms-spelled}
 use Rattle.loader_spelled.specs.Ones.{textOf}
 use Rattle.listing_refusal.specs.Refused.{printed}
-use Rattle.file_check.specs.Problem.{problemFrom}
+use Rattle.file_check.specs.Judged.{problemFrom}
 use Rattle.listing.specs.Cases.{wholeFile, tolerantFile}
 use Rattle.listing.specs.Listing.{problemIn, answerOf}
 use Rattle.listing.specs.Complete.{Complete}

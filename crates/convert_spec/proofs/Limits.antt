@@ -30,7 +30,7 @@ use Rattle.loader_runs.specs.Run.{State, fromNew, forms}
 use Rattle.loader_runs.proofs.Check.{run-long, enough, inside}
 use Rattle.loader_runs.proofs.End.{FromForms}
 use Rattle.loader_runs.proofs.Whole.{all-run}
-use Rattle.file_check.specs.Problem.{problemFrom}
+use Rattle.file_check.specs.Judged.{problemFrom}
 use Rattle.file_check.specs.Shown.{inputAt}
 use Rattle.file_check.proofs.Forms.{wide, narrow}
 use Rattle.listing.specs.Listing.{problemIn}

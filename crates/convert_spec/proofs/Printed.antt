@@ -28,8 +28,7 @@ use Rattle.loader_runs.proofs.Passing.{spelled, passes}
 use Rattle.loader_spelled.specs.Ones.{textOf}
 use Rattle.listing_text.specs.Line.{each}
 use Rattle.listing_refusal.specs.Refused.{printed}
-use Rattle.file_check.specs.Judged.{lineOr}
-use Rattle.file_check.specs.Problem.{problemFrom}
+use Rattle.file_check.specs.Judged.{lineOr, problemFrom}
 use Rattle.listing.specs.Cases.{tolerantFile}
 use Rattle.listing.specs.Listing.{problemIn}
 use Rattle.listing.specs.Complete.{Complete}

@@ -18,7 +18,7 @@ use Rattle.loader_values.specs.declared.Part.{Part}
 use Rattle.loader_values.proofs.Capped.{part-same, part-below}
 use Rattle.loader_bit_set.specs.Places.{lacking}
 use Rattle.loader_bit_set.proofs.Places.{none-lacking}
-use Rattle.loader_progress.specs.Before.{counted01, missing01}
+use Rattle.loader_progress.specs.Ungiven.{parts, ungiven}
 use Rattle.loader_progress.specs.Progress.{setOf, countedParts, totalOver, given, marked, missing, scaled, ended}
 use Rattle.loader.specs.declared.Loader.{Loader}
 use Rattle.loader.specs.Taken.{after}
@@ -83,6 +83,6 @@ module _ {n : ℕ} {d : Loader} (few : n ≤ 32) (h : GivenTo n 165 d) where
   unfolding missing
   reached-all = rw (h .size) (total-none countedParts (λ (q : Part). lacking (setOf (d .sets) q) n) all-there)
 
-  pub reached-old : missing01 (d .n) (d .sets) ≡ 0
-  unfolding missing01
-  reached-old = rw (h .size) (total-none counted01 (λ (q : Part). lacking (setOf (d .sets) q) n) all-there)
+  pub reached-old : ungiven (d .n) (d .sets) ≡ 0
+  unfolding ungiven
+  reached-old = rw (h .size) (total-none parts (λ (q : Part). lacking (setOf (d .sets) q) n) all-there)

@@ -23,7 +23,8 @@ use Rattle.loader_bit_set.proofs.Places.{lacking-none}
 use Rattle.loader_lists.proofs.Filled.{filled-all}
 use Rattle.loader_lists.specs.Lists.{Lists, lists, shortLists}
 use Rattle.loader_lists.specs.Put.{putAll}
-use Rattle.loader_progress.specs.Before.{missing01, incomplete01}
+use Rattle.loader_progress.specs.Before.{incomplete01}
+use Rattle.loader_progress.specs.Ungiven.{ungiven}
 use Rattle.loader_progress.specs.Progress.{setOf, ended}
 use Rattle.loader_order.proofs.CodeLaws.{Passed}
 use Rattle.loader.specs.declared.Loader.{Loader}
@@ -59,9 +60,9 @@ take-now k u (f ∷ fs) long t =
 
 -- ---- the loader of the old edition
 -- where 01's count finds nothing missing every weight was given
-weights-given : (n : ℕ) (z : List ℕ) → ltb 0 (missing01 n z) ≡ false → lacking (setOf z Weight) n ≡ 0
-unfolding missing01
-weights-given n z e = omega (arith, ltb-false 0 (missing01 n z) e)
+weights-given : (n : ℕ) (z : List ℕ) → ltb 0 (ungiven n z) ≡ false → lacking (setOf z Weight) n ≡ 0
+unfolding ungiven
+weights-given n z e = omega (arith, ltb-false 0 (ungiven n z) e)
 
 -- so an end fills in nothing, and no other form does
 none-filled : (d : Loader) (f : Form) → incomplete01 (d .n) (d .sets) (itemOf f) ≡ false → (l : Lists) → listsWith d f l ≡ putAll (d .n) f l

@@ -23,14 +23,14 @@ use Rattle.loader_values.specs.declared.Part.{Part}
 use Rattle.loader_values.proofs.Capped.{part-same}
 use Rattle.loader_lists.specs.Slot.{Slot, Matrix, Right, Tolerance, Guess, Inverse, Weight, partOf, valuesFor}
 use Rattle.loader_progress.specs.Progress.{totalOver}
-use Rattle.loader_runs.specs.Acceptable.{parts}
+use Rattle.loader_progress.specs.Ungiven.{parts}
 use Rattle.loader_runs.specs.Given.{isOf, valueFrom, sizeFrom, scalesFrom}
 use Rattle.loader_runs.specs.Lines.{linesOf}
 use Rattle.loader_runs.specs.Run.{forms}
 use Rattle.loader_runs.proofs.Marks.{hits, once}
 use Rattle.loader_runs.proofs.Passing.{forms-spelled}
 use Rattle.loader_spelled.proofs.Text.{lines-of}
-use Rattle.file_check.specs.Problem.{problemFrom}
+use Rattle.file_check.specs.Judged.{problemFrom}
 use Rattle.listing.specs.Listing.{problemIn}
 use Rattle.convert_spec.specs.File.{formFor, rising, partsThen, oldForms, oldFile}
 use Rattle.convert_spec.specs.Numbers.{SameNumbers}

@@ -4,7 +4,7 @@
 --   unboundedFile — 01's case c as a file, of which a check says 5, row 1: it is converted like any other;  unboundedNew — its new file
 --   unlikeFile   — a file of unlike numbers, n, s and t among them, neither matrix its own transpose, a weight given and one left out;  unlikeNew — its new file
 --   Printed      — a file, and what the program prints of it;  printedCases — such files: the loader's refusals come first, then 15, then 22
---   OldCase      — a file, and the number and count that the desk of 01 says of it;  oldCases — such files
+--   oldCases     — files, each with the number and the count that the desk of 01 says of it
 --   longest      — a problem, its numbers in range, whose file is as long as any
 use mathlib.Core.List.{List, [], _∷_, _++_}
 use Prim.Native.Nat.{ℕ}
@@ -12,7 +12,7 @@ use lib.IntN.{negsuc}
 use lib.ListN.{replicate}
 use Rattle.enclosure.specs.Problem.{Problem}
 use Rattle.line_form.specs.Form.{bytes}
-use Rattle.listing.specs.Cases.{spelledOutFile, tolerantFile}
+use Rattle.listing.specs.Cases.{FileCase, spelledOutFile, tolerantFile}
 
 abbrev pub shuffledFile : List ℕ
 shuffledFile =
@@ -52,11 +52,7 @@ printedCases =
     ∷ record { file = bytes "(problem 1)\n(scale 4 4)\n(right 1 (0 3))\n(right 1 0)\n"; text = bytes "(refused 12 (4))\n" }
     ∷ []
 
-pub record OldCase : Type 0 where
-  pub file : List ℕ
-  pub says : List ℕ
-
-abbrev pub oldCases : List OldCase
+abbrev pub oldCases : List FileCase
 oldCases =
     -- 13: 01 asks for all n weights, and counts them
     record { file = unboundedFile; says = 13 ∷ 1 ∷ [] }

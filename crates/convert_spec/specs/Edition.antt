@@ -19,7 +19,8 @@ use Rattle.line_form.specs.Reading.{reading}
 use Rattle.loader_values.specs.Item.{itemOf, outside, miscounted}
 use Rattle.loader_lists.specs.Lists.{Lists, shortLists}
 use Rattle.loader_lists.specs.Put.{putAll}
-use Rattle.loader_progress.specs.Before.{missing01, incomplete01}
+use Rattle.loader_progress.specs.Before.{incomplete01}
+use Rattle.loader_progress.specs.Ungiven.{ungiven}
 use Rattle.loader_progress.specs.Progress.{ended, early, misplaced, repeated}
 use Rattle.loader_order.specs.Order.{LineCase}
 use Rattle.loader.specs.declared.Loader.{Loader}
@@ -56,7 +57,7 @@ caseOld d l line = record {
   outside = ofForm (readingOld line) false (λ (f : Form). outside f);
   miscounted = ofForm (readingOld line) false (λ (f : Form). miscounted (d .n) f);
   incomplete = ofForm (readingOld line) false (λ (f : Form). incomplete01 (d .n) (d .sets) (itemOf f));
-  missing = missing01 (d .n) (d .sets);
+  missing = ungiven (d .n) (d .sets);
 }
 
 unfoldable pub answerOld : Loader → Lists → List ℕ → List ℕ

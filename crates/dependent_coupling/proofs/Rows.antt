@@ -17,14 +17,15 @@ use Rattle.linear.specs.Reach.{ColumnList, Reach}
 use Rattle.linear.specs.Slice.{at, vectorOf, matrixOf}
 use Rattle.linear.proofs.Carried.{row-place, carried}
 use Rattle.linear.proofs.Places.{list-reach, dot-row, dot-magnitude}
-use Rattle.dependent_coupling.specs.Carried.{baseFrom, limitCap}
+use Rattle.check_arrays.specs.Parts.{residualFrom}
+use Rattle.dependent_coupling.specs.Carried.{limitCap}
 
 pub row-past : {k marks : ℕ} → k < 32 → marks ≤ 32 → k * marks + marks ≤ 1024
 row-past {k} {marks} p q =
     let a : k + 1 ≤ 32 = omega arith in omega (arith, mul-le-mul a q)
 
 pub base-magnitude : (k : ℕ) {marks : ℕ} (base coupling guess : List ℤ) → marks ≤ 32 → natAbs (at base k) ≤ 2 ^ 50 → Reach coupling (k * marks) 1 marks (2 ^ 20) →
-    ColumnList guess marks (2 ^ 36) → natAbs (baseFrom marks base coupling guess k) ≤ 2 ^ 62
+    ColumnList guess marks (2 ^ 36) → natAbs (residualFrom marks base coupling guess k) ≤ 2 ^ 62
 base-magnitude k {marks} base coupling guess few small h g =
     omega (
       arith,

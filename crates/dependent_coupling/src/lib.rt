@@ -10,7 +10,8 @@ ghost use Rattle.linear.specs.Place.{Carried};
 ghost use Rattle.linear.specs.Reach.{ColumnList, Reach};
 ghost use Rattle.linear.specs.Written.{written};
 ghost use Rattle.check_arrays.specs.Arrays.{PrefixIs};
-ghost use Rattle.dependent_coupling.specs.Carried.{baseFrom, limitCap, cappedSum};
+ghost use Rattle.check_arrays.specs.Parts.{residualFrom};
+ghost use Rattle.dependent_coupling.specs.Carried.{limitCap, cappedSum};
 use integer::magnitude;
 use linear::dot;
 
@@ -40,7 +41,7 @@ pub fn base_of(
     requires { ⌜ ColumnList base n (2 ^ 50) ⌝ }
     requires { ⌜ ColumnList (now coupling) (n * marks) (2 ^ 20) ⌝ }
     requires { ⌜ ColumnList (now guess) marks (2 ^ 36) ⌝ }
-    ensures { λ r. ⌜ PrefixIs (pos 0) r n (baseFrom marks base (now (coupling .entry)) (now (guess .entry))) ⌝ }
+    ensures { λ r. ⌜ PrefixIs (pos 0) r n (residualFrom marks base (now (coupling .entry)) (now (guess .entry))) ⌝ }
 {
     let mut out = [0i64; 32];
     let mut row = 0;

@@ -29,7 +29,7 @@ use Rattle.rules.proofs.Ranges.{both-right, matrix-range, neither-left}
 use Rattle.enclosure.specs.Reckoning.{margin, load, defect, residual, slack, allowedResidual, rowSum, exceeds, magnitudesWith, boundWith, bound}
 use Rattle.enclosure.proofs.Bounds.{bound-ext}
 use Rattle.check_arrays.specs.Arrays.{PrefixIs}
-use Rattle.check_arrays.specs.Parts.{aboveAllowed}
+use Rattle.check_arrays.specs.Parts.{residualFrom, aboveAllowed}
 use Rattle.check_arrays.proofs.Magnitudes.{scaled-magnitude}
 use Rattle.check_allowances.specs.Sum.{rowSumOf}
 use Rattle.check_allowances.specs.Allowed.{slackAt, allowedBeside}
@@ -43,7 +43,7 @@ use Rattle.dependent_spec.specs.Order.{dependentComputed, dependentAnswer}
 use Rattle.dependent_spec.specs.Stated.{UsableDependent}
 use Rattle.dependent_spec.specs.Checked.{DependentAs}
 use Rattle.dependent_spec.proofs.Statements.{answer-ready, own-fit, passed-of}
-use Rattle.dependent_coupling.specs.Carried.{baseFrom, cappedSum}
+use Rattle.dependent_coupling.specs.Carried.{cappedSum}
 use Rattle.dependent_coupling.proofs.Cap.{capped-test, capped-where}
 use Rattle.dependent_coupling.proofs.Rows.{base-magnitude}
 
@@ -62,7 +62,7 @@ pub record HandedDependent (marks : ℕ) (guess : List ℤ) (limits : List ℕ) 
   pub scaled-long : length p ≡ 32
   pub scaled : PrefixIs (pos 0) p (I .n) (λ (k : ℕ). pos (2 ^ I .s) *ℤ at (I .right) k)
   pub base-long : length b ≡ 32
-  pub base : PrefixIs (pos 0) b (I .n) (baseFrom marks p coupling guess)
+  pub base : PrefixIs (pos 0) b (I .n) (residualFrom marks p coupling guess)
   pub own : PrefixIs 0 τ (I .n) (λ (k : ℕ). slackAt (I .s) (at (I .tolerance) k))
   pub slacks : PrefixIs 0 σ (I .n) (λ (k : ℕ). cappedSum marks coupling limits k + getD τ k 0)
   pub allowed-long : length a ≡ 32

@@ -8,10 +8,11 @@ use Rattle.rules.specs.declared.Outcome.the-variants as outcome
 use Rattle.doubles_lists.specs.Outward.{Outgoing, lowsAfter, highsAfter, IntervalsOf}
 use Rattle.doubles_lists.proofs.Instance.{outward-accepts, zeroDoubles}
 use Rattle.check_spec.specs.Checked.{solutionAfter, inverseAfter}
+use Rattle.enclosure.specs.Example.{farRight, farHeight}
 use Rattle.dependent_spec.specs.declared.CheckedNets.the-variants.{Accepted}
 use Rattle.dependent_spec.specs.Nets.{dependentOf}
 use Rattle.dependent_spec.specs.Together.{CheckedTogether, dependentSolutionAfter}
-use Rattle.dependent_spec.specs.Example.{coupledNets, farRight₁, farRight₂, farHeight₁, farHeight₂}
+use Rattle.dependent_spec.specs.Example.{coupledNets, farRight₂, farHeight₂}
 use Rattle.dependent_spec.proofs.Contract.{together-accepted}
 use Rattle.dependent_spec.proofs.Instance.{accepted-here, near₁, near₂, jointly-solved}
 use Rattle.dependent_spec.proofs.Largest.{joint-none}
@@ -33,5 +34,5 @@ found₁ = outward-accepts ends₁ (both-taken coupledNets both-checked refl .ma
 found₂ : IntervalsOf ends₂ outcome.Accepted (lowsAfter ends₂) (highsAfter ends₂)
 found₂ = outward-accepts ends₂ (both-taken coupledNets both-checked refl .dependent zeroDoubles zeroDoubles (lit≤ tt) (lit≤ tt))
 
-pub both-between-here : HeightsBetween coupledNets (lowsAfter ends₁) (highsAfter ends₁) (lowsAfter ends₂) (highsAfter ends₂) farHeight₁ farHeight₂ 1
-both-between-here = both-between coupledNets both-checked refl found₁ refl found₂ refl .joint farRight₁ 3 farRight₂ 1 near₁ near₂ farHeight₁ farHeight₂ 1 jointly-solved
+pub both-between-here : HeightsBetween coupledNets (lowsAfter ends₁) (highsAfter ends₁) (lowsAfter ends₂) (highsAfter ends₂) farHeight farHeight₂ 1
+both-between-here = both-between coupledNets both-checked refl found₁ refl found₂ refl .joint farRight 3 farRight₂ 1 near₁ near₂ farHeight farHeight₂ 1 jointly-solved

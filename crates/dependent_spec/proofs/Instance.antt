@@ -21,13 +21,14 @@ use Rattle.enclosure.specs.Reckoning.{defect, load, margin, residual, rowSum, e
 use Rattle.check_spec.specs.Agree.{Agree}
 use Rattle.check_spec.specs.Input.{Input, input}
 use Rattle.check_spec.specs.Order.{answer}
+use Rattle.enclosure.specs.Example.{farRight, farHeight}
 use Rattle.dependent_spec.specs.Nets.{Nets, nets, dependentOf}
 use Rattle.dependent_spec.specs.Reckoning.{dependentResidual, dependentSlack, dependentBound}
 use Rattle.dependent_spec.specs.Order.{dependentAnswer, jointAnswer}
 use Rattle.dependent_spec.specs.Joint.{mainProblem, dependentProblem, JointSolution, EnclosesBoth}
 use Rattle.dependent_spec.specs.Uncoupled.{Uncoupled, MeetsSums}
 use Rattle.dependent_spec.specs.Agree.{AgreeingNets}
-use Rattle.dependent_spec.specs.Example.{oneMark, coupledNets, uncoupledNets, farRight₁, farRight₂, farHeight₁, farHeight₂}
+use Rattle.dependent_spec.specs.Example.{oneMark, coupledNets, uncoupledNets, farRight₂, farHeight₂}
 use Rattle.dependent_spec.proofs.Joint.{encloses-both}
 
 pub accepted-here : jointAnswer coupledNets ≡ []
@@ -38,13 +39,13 @@ pub encloses-here : EnclosesBoth coupledNets (bound (mainProblem coupledNets)) (
 unfolding margin load defect product apply identity sum sumℕ
 encloses-here = encloses-both coupledNets refl (only _ (lit≤ tt)) (only _ (lit≤ tt)) (only _ refl) (only _ refl)
 
-pub near₁ : RightSide (mainProblem coupledNets) farRight₁ 3
+pub near₁ : RightSide (mainProblem coupledNets) farRight 3
 near₁ = record { positive = lit≤ tt; near = only _ (lit≤ tt) }
 
 pub near₂ : RightSide (dependentProblem coupledNets) farRight₂ 1
 near₂ = record { positive = lit≤ tt; near = only _ (lit≤ tt) }
 
-pub jointly-solved : JointSolution coupledNets farRight₁ 3 farRight₂ 1 farHeight₁ farHeight₂ 1
+pub jointly-solved : JointSolution coupledNets farRight 3 farRight₂ 1 farHeight farHeight₂ 1
 unfolding apply sum
 jointly-solved = record { positive = lit≤ tt; main = only _ refl; dependent = only _ refl }
 
@@ -52,7 +53,7 @@ pub limits-here : (bound (mainProblem coupledNets) 0 ≡ 48) × (dependentBound 
 unfolding apply product identity sum sumℕ defect load margin residual magnitudesWith boundFrom boundWith bound largest ceilDiv dependentResidual dependentSlack
 limits-here = (refl, refl)
 
-pub limits-reached : (natAbs (pos (S (mainProblem coupledNets)) *ℤ farHeight₁ 0 -ℤ pos 1 *ℤ mainProblem coupledNets .X 0) ≡ 1 * 48)
+pub limits-reached : (natAbs (pos (S (mainProblem coupledNets)) *ℤ farHeight 0 -ℤ pos 1 *ℤ mainProblem coupledNets .X 0) ≡ 1 * 48)
     × (natAbs (pos (S (dependentProblem coupledNets)) *ℤ farHeight₂ 0 -ℤ pos 1 *ℤ dependentProblem coupledNets .X 0) ≡ 1 * 112)
 limits-reached = (refl, refl)
 

@@ -18,7 +18,8 @@ use Rattle.linear.specs.Matrix.{apply}
 use Rattle.linear.specs.Slice.{at}
 use Rattle.linear.proofs.Places.{place}
 use Rattle.linear.proofs.Slack.{slack-ext}
-use Rattle.rules.specs.Order.{verdict, ofOne}
+use Rattle.rules.specs.Order.{verdict}
+use Rattle.rules.specs.Which.{ofOne}
 use Rattle.rules.specs.declared.Kind.the-variants as kind
 use Rattle.rules.proofs.AllInRange.{all-ext}
 use Rattle.enclosure.specs.Problem.{columnOf, S}

@@ -21,7 +21,8 @@ use Rattle.linear.specs.Matrix.{apply}
 use Rattle.linear.specs.Slice.{at}
 use Rattle.linear.proofs.Slack.{slack-ext}
 use Rattle.linear.proofs.Written.{written-ext}
-use Rattle.rules.specs.Order.{verdict, ofOne}
+use Rattle.rules.specs.Order.{verdict}
+use Rattle.rules.specs.Which.{ofOne}
 use Rattle.rules.specs.Range.{allInRange}
 use Rattle.rules.specs.declared.Kind.the-variants as kind
 use Rattle.rules.proofs.AllInRange.{all-in}

@@ -2,8 +2,8 @@
 --   oneMark d — 1·x = 0 with the tolerance d, both steps 1/16, guess 0, inverse 16/16; as a net by itself its limit is 16·d
 --   coupledBy c — x with the tolerance 3, so with the limit 48, and y with the tolerance 1 and 1·y + c·x = 0, so with the slack |c|·48 + 16
 --   coupledNets, uncoupledNets — these with c = −2 and with c = 0
---   farRight₁, farRight₂, farHeight₁, farHeight₂ — right sides 9/3 and 1/1 and the joint solution 3/1 and 7/1, which lies just 112 = 2·48 + 16 steps from
---     the guess
+--   farRight₂, farHeight₂ — with `farRight` and `farHeight` of enclosure/specs/Example, right sides 9/3 and 1/1 and the joint solution 3/1 and 7/1, which lies
+--     just 112 = 2·48 + 16 steps from the guess
 use mathlib.Core.List.{[], _∷_}
 use lib.IntN.{ℤ, pos, negsuc}
 use lib.ListN.{replicate}
@@ -27,14 +27,8 @@ coupledNets = coupledBy (negsuc 1)
 abbrev pub uncoupledNets : Nets
 uncoupledNets = coupledBy (pos 0)
 
-abbrev pub farRight₁ : Vec
-farRight₁ = vectorOf (pos 9 ∷ [])
-
 abbrev pub farRight₂ : Vec
 farRight₂ = vectorOf (pos 1 ∷ [])
-
-abbrev pub farHeight₁ : Vec
-farHeight₁ = vectorOf (pos 3 ∷ [])
 
 abbrev pub farHeight₂ : Vec
 farHeight₂ = vectorOf (pos 7 ∷ [])

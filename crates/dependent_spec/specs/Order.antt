@@ -14,7 +14,8 @@ use lib.Dec.{eqb}
 use lib.ListN.{length}
 use Rattle.integer.specs.Finite.{first}
 use Rattle.linear.specs.Slice.{at}
-use Rattle.rules.specs.Order.{Test, number, verdict, ofOne}
+use Rattle.rules.specs.Order.{Test, number, verdict}
+use Rattle.rules.specs.Which.{ofOne}
 use Rattle.rules.specs.Range.{allInRange, shortMatrix}
 use Rattle.rules.specs.Refusal.{numberOf, valuesOf}
 use Rattle.rules.specs.declared.Kind.the-variants as kind

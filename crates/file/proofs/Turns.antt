@@ -19,18 +19,14 @@ use Rattle.loader.specs.Taken.{fresh, listsAfter, TakenAs}
 use Rattle.loader_runs.specs.Length.{lineLength}
 use Rattle.loader_runs.specs.Lines.{linesOf}
 use Rattle.loader_runs.specs.Read.{Reading, readFrom, zeros, readingOf}
-use Rattle.loader_runs.specs.Run.{State}
 use Rattle.loader_runs.proofs.Lines.{lines-at, lines-end}
-use Rattle.loader_runs.proofs.Read.{read-none, read-accepted, read-refused}
+use Rattle.loader_runs.proofs.Read.{stateWith, read-none, read-accepted, read-refused}
 use Rattle.file.specs.declared.Collected.{Collected}
 use Rattle.file.specs.Read.{ReadAs}
 
-abbrev pub state : Loader → Lists → State
-state d l = record { loader = d; lists = l }
-
 -- k lines were taken, up to the place at: what is left to read gives what was to be read
 pub record ReadUpTo (file : List ℕ) (k at : ℕ) (d : Loader) (l : Lists) : Type 0 where
-  pub so : readFrom k (state d l) (linesOf (drop at file)) ≡ readingOf file
+  pub so : readFrom k (stateWith d l) (linesOf (drop at file)) ≡ readingOf file
   pub few : k ≤ at
   pub inside : at ≤ length file + 1
 
@@ -42,11 +38,11 @@ abbrev collectedAs : Outcome → ℕ → Loader → Lists → Collected
 collectedAs o k d l =
     record { outcome = o; line = k; loader = d; matrix = l .matrix; right = l .right; tolerance = l .tolerance; guess = l .guess; inverse = l .inverse; weights = l .weights }
 
-read-as : (file : List ℕ) {l : Lists} {k : ℕ} {d : Loader} (o : Outcome) → record { code = code o; line = k; state = state d l } ≡ readingOf file → ReadAs file (collectedAs o k d l)
+read-as : (file : List ℕ) {l : Lists} {k : ℕ} {d : Loader} (o : Outcome) → record { code = code o; line = k; state = stateWith d l } ≡ readingOf file → ReadAs file (collectedAs o k d l)
 read-as file o e = record { says = ap (λ (R : Reading). R .code) e; line = ap (λ (R : Reading). R .line) e; state = ap (λ (R : Reading). R .state) e }
 
 pub at-end : (file : List ℕ) {l : Lists} {k at : ℕ} {d : Loader} → ReadUpTo file k at d l → length file ≤ at → ReadAs file (collectedAs Accepted k d l)
-at-end file {l} {k} {at} {d} h m = read-as file Accepted (sym (read-none k (state d l)) ∙ rw (lines-end file m) at (h .so))
+at-end file {l} {k} {at} {d} h m = read-as file Accepted (sym (read-none k (stateWith d l)) ∙ rw (lines-end file m) at (h .so))
 
 module _ (file : List ℕ) {l l′ : Lists} {k at end : ℕ} {d : Loader} {r : Taken} (h : ReadUpTo file k at d l) (inside : at < length file)
     (place : (end ≡ at + lineLength (drop at file)) × (end ≤ length file)) (taken : TakenAs d (take (end - at) (drop at file)) l r l′) where
@@ -56,14 +52,14 @@ module _ (file : List ℕ) {l l′ : Lists} {k at end : ℕ} {d : Loader} {r : T
   abbrev rest : List (List ℕ)
   rest = linesOf (drop (end + 1) file)
 
-  split : readFrom k (state d l) (line ∷ rest) ≡ readingOf file
+  split : readFrom k (stateWith d l) (line ∷ rest) ≡ readingOf file
   split = rw (lines-at file inside (place .0)) at (h .so)
 
   pub read-on : r .outcome ≡ Accepted → ReadUpTo file (k + 1) (end + 1) (r .loader) l′
   read-on e =
       let s : lineAnswer d l line ≡ [] = sym (taken .says) ∙ ap code e in
       record {
-        so = rw (taken .loader, taken .lists) (sym (read-accepted k (state d l) line rest s) ∙ split);
+        so = rw (taken .loader, taken .lists) (sym (read-accepted k (stateWith d l) line rest s) ∙ split);
         few = omega (arith, h .few, place .0);
         inside = omega (arith, place .1);
       }
@@ -73,4 +69,4 @@ module _ (file : List ℕ) {l l′ : Lists} {k at end : ℕ} {d : Loader} {r : T
   read-refusal x s =
       let a : lineAnswer d l line ≡ numberOf x ∷ valuesOf x = sym (taken .says) ∙ ap code s in
       let same : l′ ≡ l = taken .lists ∙ accepted-old _ _ a in
-      read-as file (Refused x) (rw same (sym (read-refused k (state d l) line rest a) ∙ split))
+      read-as file (Refused x) (rw same (sym (read-refused k (stateWith d l) line rest a) ∙ split))

@@ -27,8 +27,7 @@ use Rattle.loader_runs.specs.Given.{valueFrom}
 use Rattle.loader_runs.specs.Holds.{InRange}
 use Rattle.loader_runs.proofs.Check.{inside}
 use Rattle.loader_runs.proofs.End.{FromForms}
-use Rattle.file_check.specs.Problem.{problemFrom}
-use Rattle.file_check.specs.Judged.{reportedOf}
+use Rattle.file_check.specs.Judged.{problemFrom, reportedOf}
 use Rattle.file_check.specs.Shown.{inputAt}
 use Rattle.check_spec.proofs.Agreement.{checked-same}
 use Rattle.file_check.proofs.Agreed.{reported-same}

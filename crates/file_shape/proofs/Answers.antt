@@ -18,8 +18,7 @@ use Rattle.line_form.specs.Form.{Form, bytes}
 use Rattle.loader_runs.specs.Holds.{ComputedSays, accepted, margin, residual, inverseResidual}
 use Rattle.loader_runs.proofs.Check.{computes}
 use Rattle.listing_refusal.specs.Refused.{printed}
-use Rattle.file_check.specs.Judged.{reportedOf, lineOr}
-use Rattle.file_check.specs.Problem.{problemFrom}
+use Rattle.file_check.specs.Judged.{reportedOf, lineOr, problemFrom}
 use Rattle.listing.specs.Cases.{wholeFile, unweightedFile}
 use Rattle.listing.specs.Listing.{problemIn, answerOf, listingOf}
 use Rattle.listing.proofs.Demand.{accepted-parts, exact-accepted}

@@ -12,7 +12,7 @@ use Rattle.line_form.specs.Form.{bytes}
 use Rattle.line_form.specs.List.{allInside}
 use Rattle.line_form.specs.Reading.{reading, starts, wordAt, orWord, firstOf, headAt, othersAt}
 use Rattle.loader_bit_set.specs.Places.{withPlace, lacking}
-use Rattle.loader_lists.specs.Filled.{filled}
+use Rattle.loader_lists.specs.Put.{filled}
 use Rattle.loader_progress.specs.Progress.{missing, misplaced}
 use Rattle.loader.specs.Answer.{lineAnswer}
 use Rattle.loader.specs.Taken.{loaderAfter, listsAfter}
@@ -20,15 +20,15 @@ use Rattle.loader_runs.specs.Given.{valueFrom, sizeFrom, scalesFrom}
 use Rattle.loader_runs.specs.Lines.{linesOf}
 use Rattle.loader_runs.specs.Read.{readFrom, zeros}
 use Rattle.loader_runs.specs.Run.{forms}
-use Rattle.listing.specs.Cases.{wholeFile}
+use Rattle.listing.specs.Cases.{FileCase, wholeFile}
 use Rattle.listing.specs.Listing.{answerOf, listingOf}
 use Rattle.listing.proofs.Meaning.{begins-bounds}
 use Rattle.listing.proofs.Table.{whole-file}
-use Rattle.file_stated.specs.Cases.{FileRow, fileRows, FileRowsStated}
+use Rattle.file_stated.specs.Cases.{fileRows, FileRowsStated}
 use Rattle.file_stated.specs.Stated.{FileStated}
 use Rattle.file_stated.proofs.Stated.{file-exactly}
 
-abbrev FileRowsCode : List FileRow → Type 0
+abbrev FileRowsCode : List FileCase → Type 0
 FileRowsCode [] = Unit
 FileRowsCode (c ∷ cs) = (answerOf (c .file) ≡ c .says) × FileRowsCode cs
 
@@ -36,7 +36,7 @@ file-rows-code : FileRowsCode fileRows
 unfolding answerOf readFrom lineAnswer loaderAfter listsAfter zeros linesOf forms reading starts wordAt orWord firstOf headAt othersAt runAt magnitudeAt numberAt missing misplaced filled withPlace lacking allInside sum sumℕ first inRange rangeOf ranges valueFrom sizeFrom scalesFrom margin load defect product apply identity residual rowSum exceeds
 file-rows-code = (refl, (refl, (refl, (refl, (refl, (refl, (refl, tt)))))))
 
-stated-rows : (cs : List FileRow) → FileRowsCode cs → FileRowsStated cs
+stated-rows : (cs : List FileCase) → FileRowsCode cs → FileRowsStated cs
 stated-rows [] h = tt
 stated-rows (c ∷ cs) h = (file-exactly (c .file) (c .says) .0 (h .0), stated-rows cs (h .1))
 

@@ -18,11 +18,11 @@ use Rattle.loader.specs.Answer.{lineAnswer}
 use Rattle.loader.proofs.Accepted.{accepted-form}
 use Rattle.loader_runs.specs.Read.{readFrom}
 use Rattle.loader_runs.specs.Run.{State, step}
-use Rattle.loader_runs.specs.Accepts.{run, Accepts, Made, taken}
+use Rattle.loader_runs.specs.Accepts.{afterForm, run, Accepts, Made, taken}
 use Rattle.loader_runs.proofs.Read.{read-accepted}
 use Rattle.loader_stated.specs.Stated.{LineStated}
 use Rattle.loader_stated.proofs.Stated.{made-exactly}
-use Rattle.file_stated.specs.Stated.{afterForm, TakenLines, none, next}
+use Rattle.file_stated.specs.Stated.{TakenLines, none, next}
 
 -- ---- a line
 module _ (u : State) where

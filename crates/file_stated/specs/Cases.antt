@@ -1,17 +1,12 @@
 -- Files and what is said of them, in the numbers of the refusal's line.
---   FileRow    — a file, and what is said of it
---   fileRows   — such files: a refused line, forms missing at an end, no end, a margin of 0 or less
+--   fileRows   — files: a refused line, forms missing at an end, no end, a margin of 0 or less
 --   FileRowsStated — what is said of each has its stated case
 use mathlib.Core.List.{List, [], _∷_}
-use Prim.Native.Nat.{ℕ}
 use Rattle.line_form.specs.Form.{bytes}
+use Rattle.listing.specs.Cases.{FileCase}
 use Rattle.file_stated.specs.Stated.{FileStated}
 
-pub record FileRow : Type 0 where
-  pub file : List ℕ
-  pub says : List ℕ
-
-abbrev pub fileRows : List FileRow
+abbrev pub fileRows : List FileCase
 fileRows =
     record { file = bytes "(problem 1)\n(scale 4 4)\n(right 1 0)\n(right 1 0)\n"; says = 12 ∷ 4 ∷ [] }
     -- two lines that are refused, and the first is reported
@@ -25,6 +20,6 @@ fileRows =
     ∷ record { file = bytes "(problem 1)\n(scale 0 4)\n(row 1 (4))\n(right 1 0)\n(guess 1 0)\n(inverse 1 (0))\n(end)\n"; says = 5 ∷ 1 ∷ [] }
     ∷ []
 
-abbrev pub FileRowsStated : List FileRow → Type 0
+abbrev pub FileRowsStated : List FileCase → Type 0
 FileRowsStated [] = Unit
 FileRowsStated (c ∷ cs) = FileStated (c .file) (c .says) × FileRowsStated cs

@@ -1,6 +1,5 @@
 -- What is said of a file, each refusal written out, in the numbers of the refusal's line (01: "It stops at its first refusal"): that of the first line that is
 -- refused, 15, and the check's. Nothing here reads a line: that it is one of the eight forms is known by its spelling.
---   afterForm u f   — the loader and the lists u after the form f
 --   TakenLines u lines v — at u the lines are accepted, one after another, and leave v: each is the spelling of a form
 --   FileStated file w — the case that is stated for w;  `Stated` is that of a check on lists (check_spec/specs/Stated), `inputAt` what a loader and its lists hand to it
 use mathlib.Core.Bool.{true, false}
@@ -11,18 +10,14 @@ use lib.ListN.{length}
 use Rattle.check_spec.specs.Stated.{Stated}
 use Rattle.line_form.specs.Form.{Form}
 use Rattle.line_form.specs.Spelling.{spell}
-use Rattle.loader_values.specs.Item.{itemOf}
 use Rattle.loader_progress.specs.Progress.{ended}
-use Rattle.loader.specs.Taken.{after, listsWith}
+use Rattle.loader_runs.specs.Accepts.{afterForm}
 use Rattle.loader_runs.specs.Lines.{linesOf}
 use Rattle.loader_runs.specs.Read.{zeros}
 use Rattle.loader_runs.specs.Run.{State, fromNew}
 use Rattle.loader_stated.specs.Stated.{LineStated}
 use Rattle.listing_refusal.specs.Refused.{printed}
 use Rattle.file_check.specs.Shown.{inputAt}
-
-abbrev pub afterForm : State → Form → State
-afterForm u f = record { loader = after (u .loader) (itemOf f); lists = listsWith (u .loader) f (u .lists) }
 
 pub data TakenLines : State → List (List ℕ) → State → Type 0 where
   none : {u : State} → TakenLines u [] u

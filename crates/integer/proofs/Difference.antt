@@ -1,7 +1,6 @@
 -- ℤ as differences of naturals: how an equation or an inequality over ℤ becomes one over ℕ, where `omega` works.
 --   dif a b   — the number a − b; shut, so that a call of it stays a call
---   pp x, nn x — the two parts of x: x = pp x − nn x, one of them 0
---   is        — x ≡ dif (pp x) (nn x)
+--   is        — x ≡ dif (posPart x) (negPart x)
 --   +-left-comm — of three numbers the first two in the other order;  neg-pos — minus a natural number is at most any natural number
 --   zz        — rules for `simp`: sums, products, negation, ≡, ≤ℤ and natAbs of differences
 --   zarith    — rules for `omega`: arith, and hypotheses x ≡ y, x ≤ℤ y over ℤ
@@ -16,17 +15,10 @@ use mathlib.Core.Logic.{_↔_}
 use lib.IntN.{ℤ, pos, negsuc, negℤ, natAbs, _+ℤ_, _*ℤ_, +ℤ-assoc, +ℤ-comm, +ℤ-idl, +ℤ-idr, +ℤ-invr, negℤ-+ℤ, negℤ-negℤ}
 use lib.Signed.{_≤ℤ_, leZ-yes}
 use lib.Dec.{leb→le, le→leb}
+use Rattle.integer.specs.SignedParts.{posPart, negPart}
 
 pub dif : ℕ → ℕ → ℤ
 dif a b = pos a +ℤ negℤ (pos b)
-
-pub pp : ℤ → ℕ
-pp (pos n) = n
-pp (negsuc n) = 0
-
-pub nn : ℤ → ℕ
-nn (pos n) = 0
-nn (negsuc n) = suc n
 
 pub +-left-comm : (a b c : ℤ) → a +ℤ (b +ℤ c) ≡ b +ℤ (a +ℤ c)
 +-left-comm a b c = sym (+ℤ-assoc a b c) ∙ ap (λ (x : ℤ). x +ℤ c) (+ℤ-comm a b) ∙ +ℤ-assoc b a c
@@ -39,8 +31,8 @@ pub zero-dif : (a : ℕ) → dif 0 a ≡ negℤ (pos a)
 unfolding dif
 zero-dif a = +ℤ-idl (negℤ (pos a))
 
-pub is : (x : ℤ) → x ≡ dif (pp x) (nn x)
-unfolding pp nn
+pub is : (x : ℤ) → x ≡ dif (posPart x) (negPart x)
+unfolding posPart negPart
 is (pos n) = sym (dif-zero n)
 is (negsuc n) = sym (zero-dif (suc n))
 
@@ -161,10 +153,10 @@ neg-pos-dif n = sym (zero-dif n)
 pub ruleset zz = (pos-dif, negsuc-dif, neg-pos-dif, dif-+, dif-neg, dif-*, dif-≡, dif-≤, dif-abs)
 
 -- a hypothesis between two numbers, as the parts have it: rules for `omega`
-pub of-≡ : (x y : ℤ) → x ≡ y → pp x + nn y ≡ pp y + nn x
+pub of-≡ : (x y : ℤ) → x ≡ y → posPart x + negPart y ≡ posPart y + negPart x
 of-≡ x y h = simp dif-≡ at (rw (is x, is y) at h)
 
-pub of-≤ : (x y : ℤ) → x ≤ℤ y → pp x + nn y ≤ pp y + nn x
+pub of-≤ : (x y : ℤ) → x ≤ℤ y → posPart x + negPart y ≤ posPart y + negPart x
 of-≤ x y h = simp dif-≤ at (rw (is x, is y) at h)
 
 pub ruleset zarith = (arith, of-≡, of-≤)

@@ -64,16 +64,14 @@ use Rattle.reply.specs.Builds.{FinishedStatus}
 use Rattle.reply.proofs.builds.finish_status as fin-fn
 use Rattle.reply.proofs.builds.finish_status.Symbol.{name as #reply·builds·finish-status}
 use Rattle.calls_spec.specs.Build.{BuildLineExported}
-use Rattle.kodarfi.proofs.BuildParts.{R, sl, laid, word, lines, list, again, lend}
+use Rattle.build.proofs.Machine.{R, sl, laid, long-word, lines}
+use Rattle.kodarfi.proofs.BuildParts.{word, list, again, lend}
 
 -- the machine value of a reference to a number
 abbrev pub pt : RefT ℕ → Val
 pt y = vptr (y .ptr .0) (y .ptr .1)
 
 -- the machine types of the locals
-abbrev long-word : Ty
-long-word = tyInt w64
-
 abbrev line-ref : Ty
 line-ref = tyRef (named 3) mut (tyInt w64)
 

@@ -1,36 +1,26 @@
 -- What the walks of the exported builders share (BuildWalk, BuildLineWalk).
---   R — the lines' type;  sl, laid — the machine values of a slice and of a layout
---   word, lines, list, again — the machine types of locals;  lend — the code that lends a list on
+--   lower-laid, square-laid — what the machine values of the two layouts stand for (`laid`, build/proofs/Machine)
+--   word, list, again — the machine types of locals;  lend — the code that lends a list on
 use Prim.Native.Nat.{ℕ, suc}
-use mathlib.Core.List.{List, [], _∷_}
-use lib.ListN.{length}
-use mir.Syntax.{named, erased, imm, mut, w32, w64, Ty, tyInt, tyRef, Body, seq, assign, place, field, deref, addrOf, aggregate, copy}
-use mir.Val.{Val}
-use denote.RattleType.{RattleType}
-use denote.Memory.{pointee}
-use denote.Ref.{RefT}
-use denote.Slice.{sliceVal, sliceTy}
+use mathlib.Core.List.{[], _∷_}
+use mir.Syntax.{named, erased, mut, w32, w64, Ty, tyInt, tyRef, Body, seq, assign, place, field, deref, addrOf, aggregate, copy}
+use denote.Laws.{Is}
+use denote.Slice.{sliceTy}
 use denote.Enum.Laws as EL
-use Rattle.build_lines.proofs.Observation as T
-use Rattle.build_equations.specs.declared.Layout.{Layout}
+use Rattle.build_equations.specs.declared.Layout.the-variants.{Lower, Square}
 use Rattle.build_equations.proofs.Layout as L
 use Rattle.build_equations.proofs.Layout.Laws as L′
+use Rattle.build.proofs.Machine.{laid}
 
-abbrev pub R : RattleType
-R = T.the-row
+pub lower-laid : Is L.the-row Lower (laid Lower ∷ [])
+lower-laid = EL.owes L.the-type L′.the-laws Lower tt
 
-abbrev pub sl : {A : Type 0} → RefT (List A) → Val
-sl x = sliceVal (x .ptr) (length (x .now))
-
-abbrev pub laid : Layout → Val
-laid l = EL.val L.the-type L′.the-laws l
+pub square-laid : Is L.the-row Square (laid Square ∷ [])
+square-laid = EL.owes L.the-type L′.the-laws Square tt
 
 -- the machine types of the locals
 abbrev pub word : Ty
 word = tyInt w32
-
-abbrev pub lines : Ty
-lines = sliceTy (tyRef (named 0) imm (pointee (T.the-row .written)))
 
 abbrev pub list : ℕ → Ty
 list k = sliceTy (tyRef (named k) mut (tyInt w64))

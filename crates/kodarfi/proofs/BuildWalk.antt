@@ -50,7 +50,8 @@ use Rattle.build.proofs.build.Symbol.{name as #build·build}
 use Rattle.calls_spec.specs.Build.{BuildExported}
 use Rattle.reply.proofs.built_number as number-fn
 use Rattle.reply.proofs.built_number.Symbol.{name as #reply·built-number}
-use Rattle.kodarfi.proofs.BuildParts.{R, sl, laid, word, lines, list, again, lend}
+use Rattle.build.proofs.Machine.{R, sl, laid, lines}
+use Rattle.kodarfi.proofs.BuildParts.{word, list, again, lend}
 
 -- the code after the first statement: both lists are lent on, `build` and `built_number` are called, and the number is returned
 abbrev following : Body

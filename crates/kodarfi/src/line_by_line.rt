@@ -2,9 +2,8 @@
 ghost use mathlib.Core.Path.{_≡_};
 ghost use Rattle.check_spec.specs.Input.{input};
 ghost use Rattle.loader_lists.specs.Lists.{lists};
-ghost use Rattle.loader.specs.Taken.{fresh};
-ghost use Rattle.loader.specs.Numbers.{loaderNumbers, loaderOf};
-ghost use Rattle.calls_spec.specs.Loader.{LoaderTakeExported, LoaderCheckExported};
+ghost use Rattle.loader.specs.Taken.{fresh, loaderNumbers, loaderOf};
+ghost use Rattle.calls_spec.specs.Exported.{LoaderTakeExported, LoaderCheckExported};
 use loader_numbers::check;
 use loader_numbers::renew;
 use loader_numbers::take;

@@ -3,7 +3,7 @@
 --   equal-listing — two complete files whose forms other than weights give equal numbers, every weight given in either being 1: equal answers and listings
 --   equal-numbers — files with the same forms other than weights, in whatever order, give equal numbers;  left-out — so their listings are equal
 --   without-weights — the paper's own sentence
-use mathlib.Core.Path.{_≡_, refl, sym, ap, ap₂, _∙_}
+use mathlib.Core.Path.{_≡_, refl, sym, ap, _∙_}
 use mathlib.Core.Bool.{Bool, true, false, cond}
 use mathlib.Core.List.{List, [], _∷_}
 use Prim.Native.Nat.{ℕ, suc, _<_}
@@ -12,8 +12,6 @@ use lib.Dec.{eqb}
 use lib.IntN.{pos, natAbs}
 use Rattle.enclosure.specs.Problem.{Problem}
 use Rattle.enclosure.proofs.Agreement.{Agreeing, over}
-use Rattle.check_spec.specs.Order.{checkedOf}
-use Rattle.check_spec.proofs.Agreement.{checked-same}
 use Rattle.line_form.specs.Form.{Form, problem, scale, row, right, rightWithin, guess, inverse, weight, end}
 use Rattle.loader_lists.specs.Slot.{Slot, Matrix, Right, Tolerance, Guess, Inverse, Weight, width}
 use Rattle.loader_runs.specs.Run.{forms}
@@ -22,13 +20,11 @@ use Rattle.loader_runs.specs.Read.{zeros}
 use Rattle.loader_runs.specs.Given.{valueFrom}
 use Rattle.integer.specs.Among.{here, there}
 use Rattle.loader_runs.proofs.AnyOrder.{others-agree}
-use Rattle.listing_refusal.specs.Refused.{printed}
-use Rattle.file_check.specs.Judged.{reportedOf, lineOr}
-use Rattle.file_check.proofs.Agreed.{reported-same}
 use Rattle.listing.specs.Listing.{problemIn, answerOf, listingOf}
 use Rattle.listing.specs.Complete.{Complete}
 use Rattle.listing.specs.LeftOut.{EqualNumbers, OnlyOnes, NoWeights, SameOthers}
-use Rattle.listing.proofs.Entire.{answer-judged, accepts, ended-run, run-from}
+use Rattle.listing.proofs.Agreeing.{answers-agree, listings-agree}
+use Rattle.listing.proofs.Entire.{accepts, ended-run, run-from}
 
 -- ---- the weights
 rest : {f : Form} {fs : List Form} → OnlyOnes (f ∷ fs) → OnlyOnes fs
@@ -115,18 +111,11 @@ module _ (file file′ : List ℕ) (c : Complete file) (c′ : Complete file′)
       weights = λ i l. ap natAbs (weights-one fs ones (suc i) ∙ sym (weights-one gs ones′ (suc i)));
     }
 
-    checked-equal : checkedOf P ≡ checkedOf Q
-    checked-equal = checked-same P Q agreeing ∙ ap checkedOf same-is
-
-    reported-equal : reportedOf P ≡ reportedOf Q
-    reported-equal = reported-same P Q agreeing ∙ ap reportedOf same-is
-
     pub equal-answer : answerOf file ≡ answerOf file′
-    equal-answer = answer-judged file (c .lines) (c .end) ∙ ap (printed 0) checked-equal ∙ sym (answer-judged file′ (c′ .lines) (c′ .end))
+    equal-answer = answers-agree file file′ c c′ same-is agreeing
 
     pub equal-listing : listingOf file ≡ listingOf file′
-    unfolding listingOf
-    equal-listing = ap₂ lineOr equal-answer reported-equal
+    equal-listing = listings-agree file file′ c c′ same-is agreeing
 
   -- ---- the same forms other than weights, in whatever order
   pub equal-numbers : SameOthers fs gs → EqualNumbers fs gs

@@ -1,4 +1,5 @@
 pub mod Entire
+pub mod Agreeing
 pub mod FirstBytes
 pub mod Answers
 pub mod Demand

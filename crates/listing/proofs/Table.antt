@@ -34,8 +34,7 @@ use Rattle.loader_runs.proofs.Passing.{spelled, forms-spelled, passes, pass-all
 use Rattle.listing_text.specs.Line.{each}
 use Rattle.listing_report.specs.Report.{reportOf}
 use Rattle.listing_refusal.specs.Refused.{printed}
-use Rattle.file_check.specs.Judged.{reportedOf}
-use Rattle.file_check.specs.Problem.{problemFrom}
+use Rattle.file_check.specs.Judged.{reportedOf, problemFrom}
 use Rattle.loader_runs.specs.Lines.{linesOf}
 use Rattle.loader_runs.specs.Read.{zeros}
 use Rattle.integer.specs.Among.{here, there}

@@ -32,8 +32,7 @@ use Rattle.loader_runs.specs.Lines.{linesOf}
 use Rattle.loader_runs.proofs.Passing.{spelled, passes}
 use Rattle.listing_text.specs.Line.{each}
 use Rattle.listing_report.specs.Report.{reportOf}
-use Rattle.file_check.specs.Judged.{reportedOf}
-use Rattle.file_check.specs.Problem.{problemFrom}
+use Rattle.file_check.specs.Judged.{reportedOf, problemFrom}
 use Rattle.listing.specs.Cases.{tolerantFile, tolerantListing}
 use Rattle.listing.specs.Listing.{problemIn, answerOf, listingOf}
 use Rattle.listing.proofs.Table.{problem-is, answer-is, listing-is}

@@ -1,5 +1,6 @@
 -- Cases a to l of document 01 ("Marked for proof") and the one of 02's Paper 2, one table; and 01's whole file with its listing.
 --   TableRow  — cases a to k are rows of the check on lists; case l is a register entry, and Paper 2's an entry with its limit
+--   FileCase — a file, and what is said of it, in numbers
 --   table — the table;  tableRowHolds — a case is what the definitions of the contracts give
 --   wholeFile, wholeListing — 01, "A whole file";  unweightedFile — that file without its weights (02, Paper 1)
 --   spelledOutFile — the whole file with (right 1 (5 0)) for (right 1 5) (02, Paper 5)
@@ -13,6 +14,10 @@ use Rattle.integer.specs.Same.{sameNumber}
 use Rattle.check_spec.specs.Cases as check
 use Rattle.line_form.specs.Form.{bytes}
 use Rattle.entry.specs.Entry.{entryValue, entryBound}
+
+pub record FileCase : Type 0 where
+  pub file : List ℕ
+  pub says : List ℕ
 
 pub data TableRow : Type 0 where
   checked : check.CaseRow → TableRow

@@ -18,10 +18,9 @@ use Rattle.loader_runs.specs.Run.{forms}
 use Rattle.listing_refusal.specs.Refused.{printed}
 use Rattle.listing_refusal.specs.Reply.{replyOf}
 use Rattle.listing_refusal.specs.declared.FileAnswer.{FileAnswer}
-use Rattle.file_check.specs.Judged.{reportedOf, lineOr}
+use Rattle.file_check.specs.Judged.{reportedOf, lineOr, problemFrom}
 use Rattle.loader_runs.specs.Lines.{linesOf}
 use Rattle.loader_runs.specs.Read.{readingOf}
-use Rattle.file_check.specs.Problem.{problemFrom}
 
 abbrev pub problemIn : List ℕ → Problem
 problemIn file = problemFrom (forms (linesOf file))

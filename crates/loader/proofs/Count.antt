@@ -1,7 +1,6 @@
 -- What Paper 1 of 02 changes in what is said of a line, exactly: 13's count falls by the weights not given, and 13 becomes acceptance where only weights are
 -- missing.
---   missing01-is — 01's count is that of the missing forms and of the weights not given
---   recounted    — so of every line the same is said as with 01's count, but for 13
+--   recounted — of every line the same is said as with 01's count, but for 13
 use mathlib.Core.Path.{_≡_}
 use mathlib.Core.Bool.{Bool, true, false, cond}
 use mathlib.Core.List.{List, [], _∷_}
@@ -13,20 +12,16 @@ use borrow.Author.Tests.{lt-ltb, le-ltb}
 use lib.Dec.{ltb}
 use Rattle.line_form.specs.Form.{Form, problem, scale, row, right, rightWithin, guess, inverse, weight, end}
 use Rattle.line_form.specs.Reading.{reading}
-use Rattle.loader_bit_set.specs.Places.{lacking}
 use Rattle.loader_values.specs.Item.{itemOf}
-use Rattle.loader_values.specs.declared.Part.the-variants.{Weight}
 use Rattle.loader_lists.specs.Lists.{Lists}
-use Rattle.loader_progress.specs.Progress.{setOf, missing, incomplete}
-use Rattle.loader_progress.specs.Before.{missing01, incomplete01}
+use Rattle.loader_progress.specs.Progress.{missing, incomplete}
+use Rattle.loader_progress.specs.Before.{incomplete01}
+use Rattle.loader_progress.specs.Ungiven.{ungiven}
+use Rattle.loader_progress.proofs.Progress.{ungiven-is}
 use Rattle.loader_order.specs.Order.{LineCase}
 use Rattle.loader.specs.declared.Loader.{Loader}
 use Rattle.loader.specs.Answer.{ofForm, caseOf, lineAnswer}
 use Rattle.loader.specs.Before.{lineAnswer01, leftOut, Recounted, not-13, fewer, only-weights}
-
-pub missing01-is : (n : ℕ) (z : List ℕ) → missing01 n z ≡ missing n z + lacking (setOf z Weight) n
-unfolding missing01 missing
-missing01-is n z = omega arith
 
 -- a number alone is not 13 with a count
 alone : {n : ℕ} → (n ≡ 13 → ⊥) → (k : ℕ) → n ∷ [] ≡ 13 ∷ k ∷ [] → ⊥
@@ -43,10 +38,10 @@ module _ (d : Loader) where
   now b = cond b (13 ∷ missing (d .n) (d .sets) ∷ []) []
 
   abbrev then : Bool → List ℕ
-  then b = cond b (13 ∷ missing01 (d .n) (d .sets) ∷ []) []
+  then b = cond b (13 ∷ ungiven (d .n) (d .sets) ∷ []) []
 
-  at-end : Recounted d (then (ltb 0 (missing01 (d .n) (d .sets)))) (now (ltb 0 (missing (d .n) (d .sets))))
-  at-end = rw (missing01-is (d .n) (d .sets)) (go (decLt 0 (missing (d .n) (d .sets))) (decLt 0 (leftOut d)))
+  at-end : Recounted d (then (ltb 0 (ungiven (d .n) (d .sets)))) (now (ltb 0 (missing (d .n) (d .sets))))
+  at-end = rw (ungiven-is (d .n) (d .sets)) (go (decLt 0 (missing (d .n) (d .sets))) (decLt 0 (leftOut d)))
     where
       go : Dec (0 < m) → Dec (0 < leftOut d) → Recounted d (cond (ltb 0 (m + leftOut d)) (13 ∷ (m + leftOut d) ∷ []) []) (now (ltb 0 m))
       go (yes a) b = rw (lt-ltb 0 m a, lt-ltb 0 (m + leftOut d) (omega arith)) (fewer a)

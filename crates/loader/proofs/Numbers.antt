@@ -11,10 +11,9 @@ use lib.ListN.{length, getD, drop, replicate, drop-of-length-le}
 use lib.Seq.{drop-cons}
 use Rattle.loader_progress.specs.declared.Stage.{Stage}
 use Rattle.loader_progress.specs.declared.Stage.the-variants.{Start, Sized, Scaled, Ended}
-use Rattle.loader_progress.specs.StageNumber.{stageNumber, stageOf}
+use Rattle.loader_progress.specs.Progress.{stageNumber, stageOf}
 use Rattle.loader.specs.declared.Loader.{Loader}
-use Rattle.loader.specs.Taken.{fresh}
-use Rattle.loader.specs.Numbers.{loaderOf, loaderNumbers}
+use Rattle.loader.specs.Taken.{fresh, loaderOf, loaderNumbers}
 
 pub five-from : (k : ℕ) (w : List ℕ) → length w ≡ k + 5
     → drop k w ≡ getD w k 0 ∷ getD w (suc k) 0 ∷ getD w (suc (suc k)) 0 ∷ getD w (suc (suc (suc k))) 0 ∷ getD w (suc (suc (suc (suc k)))) 0 ∷ []

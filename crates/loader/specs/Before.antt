@@ -15,7 +15,8 @@ use Rattle.loader_values.specs.Item.{itemOf}
 use Rattle.loader_values.specs.declared.Part.the-variants.{Weight}
 use Rattle.loader_lists.specs.Lists.{Lists}
 use Rattle.loader_progress.specs.Progress.{setOf, missing}
-use Rattle.loader_progress.specs.Before.{missing01, incomplete01}
+use Rattle.loader_progress.specs.Before.{incomplete01}
+use Rattle.loader_progress.specs.Ungiven.{ungiven}
 use Rattle.loader_order.specs.Order.{LineCase, lineOrder}
 use Rattle.loader.specs.declared.Loader.{Loader}
 use Rattle.loader.specs.Answer.{ofForm, caseOf}
@@ -34,7 +35,7 @@ case01 d l line =
       outside = c .outside;
       miscounted = c .miscounted;
       incomplete = ofForm (reading line) false (λ (f : Form). incomplete01 (d .n) (d .sets) (itemOf f));
-      missing = missing01 (d .n) (d .sets);
+      missing = ungiven (d .n) (d .sets);
     }
 
 unfoldable pub lineAnswer01 : Loader → Lists → List ℕ → List ℕ

@@ -2,4 +2,3 @@ pub mod Answer
 pub mod Taken
 pub mod Decided
 pub mod Before
-pub mod Numbers

@@ -5,11 +5,15 @@
 --   after d x    — the loader after a form;  listsWith d f l — the lists after it: its numbers put there, and the weights filled in where it is an end
 --   loaderAfter, listsAfter — what is left of a line, accepted or refused
 --   TakenAs      — the contract of `take`
-use mathlib.Core.List.{List}
+-- A loader in nine numbers: how far it has come, n, s and t, and its five sets of given forms, in the order of rows, right sides, guesses, inverse rows and weights.
+--   loaderNumbers d — the numbers of a loader
+--   loaderOf w  — the loader that numbers stand for: that of `loaderNumbers` where they are those of a loader (proofs/Numbers.antt), and else n, s, t and sets as
+--                 they are there
+use mathlib.Core.List.{List, _∷_}
 use mathlib.Core.Path.{_≡_}
 use Prim.Native.Nat.{ℕ}
 use lib.IntN.{natAbs}
-use lib.ListN.{replicate}
+use lib.ListN.{replicate, getD, drop}
 use Rattle.rules.specs.Order.{ifAccepted}
 use Rattle.rules.specs.Refusal.{code}
 use Rattle.line_form.specs.Form.{Form}
@@ -20,7 +24,7 @@ use Rattle.loader_values.specs.declared.Item.the-variants.{Problem, Scale, Of, 
 use Rattle.loader_values.specs.declared.Part.the-variants.{Weight}
 use Rattle.loader_lists.specs.Lists.{Lists}
 use Rattle.loader_lists.specs.Put.{putAll, closed}
-use Rattle.loader_progress.specs.Progress.{setOf, marked}
+use Rattle.loader_progress.specs.Progress.{setOf, marked, stageNumber, stageOf}
 use Rattle.loader_progress.specs.declared.Stage.the-variants.{Start, Sized, Scaled, Ended}
 use Rattle.loader.specs.declared.Loader.{Loader}
 use Rattle.loader.specs.declared.Taken.{Taken}
@@ -48,3 +52,9 @@ pub record TakenAs (d : Loader) (line : List ℕ) (l : Lists) (r : Taken) (l′ 
   pub says : code (r .outcome) ≡ lineAnswer d l line
   pub loader : r .loader ≡ loaderAfter d l line
   pub lists : l′ ≡ listsAfter d l line
+
+abbrev pub loaderNumbers : Loader → List ℕ
+loaderNumbers d = stageNumber (d .stage) ∷ d .n ∷ d .s ∷ d .t ∷ d .sets
+
+abbrev pub loaderOf : List ℕ → Loader
+loaderOf w = record { n = getD w 1 0; s = getD w 2 0; t = getD w 3 0; stage = stageOf (getD w 0 0); sets = drop 4 w }

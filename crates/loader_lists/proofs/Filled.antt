@@ -16,7 +16,7 @@ use lib.Seq.{getD-set-same, getD-set-other}
 use Rattle.loader_bit_set.specs.Places.{hasPlace}
 use Rattle.loader_values.specs.declared.Item.{Item}
 use Rattle.loader_values.specs.declared.Item.the-variants.{End}
-use Rattle.loader_lists.specs.Filled.{filledAt, filled, closedWeights}
+use Rattle.loader_lists.specs.Put.{filledAt, filled, closedWeights}
 use Rattle.loader_lists.specs.Span.{FillRoom}
 
 module _ (z k : ℕ) (l : List ℤ) where

@@ -1,4 +1,3 @@
-pub mod Filled
 pub mod Span
 pub mod Slot
 pub mod Lists

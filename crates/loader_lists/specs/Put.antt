@@ -3,19 +3,38 @@
 --   putItem s n x vs l — the list l of the slot s after the item x with the values vs; `sets l k vs` is l with vs from the place k on
 --   put s n f l  — that list after the form f, at a loader of size n;  putAll n f l — all lists
 --   closed n z x l — all lists after the item x, where z is the set of the weights that were given: an end fills in the others, and every other list stays as it is
+-- What an accepted end writes (02, Paper 1: "A weight not given stands for 1, and an accepted end writes 1 into every such place of the lent list").
+-- z is the set of the weights that were given, one place for each i from 1 to n: the number i is the place i − 1.
+--   filledAt z k l — the list l with 1 at the place k, where that place is not in the set z
+--   filled n z l   — the same at every place below n
+--   closedWeights n z x l — the weight list l after the item x: an end fills it in, any other item leaves it
 use mathlib.Core.Bool.{cond}
 use mathlib.Core.List.{List}
-use Prim.Native.Nat.{ℕ, _*_, _-_}
+use Prim.Native.Nat.{ℕ, _*_, _-_, zero, suc}
 use lib.Dec.{eqb}
-use lib.IntN.{ℤ, natAbs}
+use lib.IntN.{ℤ, natAbs, pos}
 use lib.Seq.{sets}
+use lib.ListN.{set}
 use Rattle.line_form.specs.Form.{Form}
 use Rattle.loader_values.specs.Item.{itemOf, partIndex}
 use Rattle.loader_values.specs.declared.Item.{Item}
 use Rattle.loader_values.specs.declared.Item.the-variants.{Problem, Scale, Of, End}
-use Rattle.loader_lists.specs.Filled.{closedWeights}
+use Rattle.loader_bit_set.specs.Places.{hasPlace}
 use Rattle.loader_lists.specs.Slot.{Slot, Matrix, Right, Tolerance, Guess, Inverse, Weight, partOf, width, valuesFor}
 use Rattle.loader_lists.specs.Lists.{Lists, lists}
+
+abbrev pub filledAt : ℕ → ℕ → List ℤ → List ℤ
+filledAt z k l = cond (hasPlace z k) l (set l k (pos 1))
+
+unfoldable pub filled : ℕ → ℕ → List ℤ → List ℤ
+filled zero z l = l
+filled (suc k) z l = filledAt z k (filled k z l)
+
+abbrev pub closedWeights : ℕ → ℕ → Item → List ℤ → List ℤ
+closedWeights n z (Problem m) l = l
+closedWeights n z (Scale s t) l = l
+closedWeights n z (Of p i) l = l
+closedWeights n z End l = filled n z l
 
 abbrev pub putItem : Slot → ℕ → Item → List ℤ → List ℤ → List ℤ
 putItem s n (Problem m) vs l = l

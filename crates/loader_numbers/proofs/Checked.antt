@@ -8,7 +8,7 @@ use Rattle.rules.specs.declared.Outcome.{Outcome}
 use Rattle.check_spec.specs.Input.{input}
 use Rattle.loader_order.specs.Through.{CheckedThrough}
 use Rattle.loader.specs.declared.Loader.{Loader}
-use Rattle.loader.specs.Numbers.{loaderOf}
+use Rattle.loader.specs.Taken.{loaderOf}
 
 pub checked-so : (w : List ℕ) {d : Loader} {a b t x g v : List ℤ} {E L : List ℕ} {r : Outcome} {E′ L′ : List ℕ} → d ≡ loaderOf w
     → CheckedThrough (d .stage) (input (d .n) (d .s) (d .t) a b t x g v E L) r E′ L′

@@ -14,8 +14,7 @@ use Rattle.loader_lists.specs.Lists.{Lists}
 use Rattle.loader.specs.declared.Loader.{Loader}
 use Rattle.loader.specs.declared.Taken.{Taken}
 use Rattle.loader.specs.Answer.{lineAnswer}
-use Rattle.loader.specs.Taken.{loaderAfter, listsAfter, TakenAs}
-use Rattle.loader.specs.Numbers.{loaderOf, loaderNumbers}
+use Rattle.loader.specs.Taken.{loaderAfter, listsAfter, TakenAs, loaderOf, loaderNumbers}
 use Rattle.loader_numbers.specs.Taken.{numbersAfter, LoaderTaken}
 use Rattle.loader.proofs.Numbers.{read-written}
 

@@ -10,8 +10,7 @@ use Rattle.rules.specs.Refusal.{code}
 use Rattle.rules.specs.declared.Outcome.{Outcome}
 use Rattle.loader_lists.specs.Lists.{Lists}
 use Rattle.loader.specs.Answer.{lineAnswer}
-use Rattle.loader.specs.Taken.{loaderAfter, listsAfter}
-use Rattle.loader.specs.Numbers.{loaderOf, loaderNumbers}
+use Rattle.loader.specs.Taken.{loaderAfter, listsAfter, loaderOf, loaderNumbers}
 
 unfoldable pub numbersAfter : List ℕ → Lists → List ℕ → List ℕ
 numbersAfter w l line = ifAccepted (lineAnswer (loaderOf w) l line) (loaderNumbers (loaderAfter (loaderOf w) l line)) w

@@ -4,10 +4,11 @@
 --   placed-32 — a form that is neither early nor misplaced has i in 1 to 32
 --   misplaced-by, misplaced-own, misplaced-start — the outcomes of the test of the place
 --   end-size, says-13, says-none — the outcomes of the end
+--   ungiven-is — the forms that were not given are the missing ones and the weights not given
 use mathlib.Core.Path.{_≡_, refl}
 use mathlib.Core.Bool.{Bool, true, false, not, _&&_, cond}
 use mathlib.Core.List.{List, [], _∷_}
-use Prim.Native.Nat.{ℕ, _≤_, _<_}
+use Prim.Native.Nat.{ℕ, _+_, _≤_, _<_}
 use native.Mathlib.Omega.{arith}
 use borrow.Author.Tests.{not-false, leb-true, le-leb, lt-ltb, le-ltb}
 use lib.IntN.{ℤ, pos, negsuc}
@@ -15,12 +16,15 @@ use lib.Signed.{leZ}
 use Rattle.rules.specs.Range.{inRange}
 use Rattle.rules.specs.declared.Kind.the-variants.{Size}
 use Rattle.rules.proofs.Ranges.{both-left, both-right, both, neither-left, neither-right, size-range}
+use Rattle.loader_bit_set.specs.Places.{lacking}
 use Rattle.loader_values.specs.Item.{placed}
 use Rattle.loader_values.specs.declared.Item.{Item}
 use Rattle.loader_values.specs.declared.Item.the-variants.{Problem, Scale, Of, End}
+use Rattle.loader_values.specs.declared.Part.the-variants.{Weight}
 use Rattle.loader_progress.specs.declared.Stage.{Stage}
 use Rattle.loader_progress.specs.declared.Stage.the-variants.{Start, Sized, Scaled, Ended}
-use Rattle.loader_progress.specs.Progress.{sized, scaled, early, misplaced, incomplete, missing}
+use Rattle.loader_progress.specs.Progress.{setOf, sized, scaled, early, misplaced, incomplete, missing}
+use Rattle.loader_progress.specs.Ungiven.{ungiven}
 
 -- ---- the place
 pub scaled-sized : (s : Stage) → scaled s ≡ true → sized s ≡ true
@@ -87,3 +91,7 @@ module _ (n : ℕ) (z : List ℕ) {x : Item} (e : x ≡ End) where
 
   pub says-none : {c : ℕ} → c ≡ missing n z → c ≤ 0 → [] ≡ cond (incomplete n z x) (13 ∷ missing n z ∷ []) []
   says-none {c} m l = rw (e, le-ltb 0 (missing n z) (rw m at l))
+
+pub ungiven-is : (n : ℕ) (z : List ℕ) → ungiven n z ≡ missing n z + lacking (setOf z Weight) n
+unfolding ungiven missing
+ungiven-is n z = omega arith

@@ -1,3 +1,3 @@
 pub mod Progress
+pub mod Ungiven
 pub mod Before
-pub mod StageNumber

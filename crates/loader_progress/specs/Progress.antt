@@ -11,10 +11,13 @@
 --   misplaced s n x — 3 for the place: i is not 1 to n; or n itself is out of range, which it is at no loader made by `new` and `take`
 --   repeated s z x — 12: a form given already: problem, scale, or this part and i
 --   incomplete n z x — 13: end with forms outstanding
-use mathlib.Core.Bool.{Bool, true, false, not, _&&_, _||_}
+-- A stage as a number.
+--   stageNumber s — 0: nothing given, 1: problem, 2: scale, 3: an accepted end
+--   stageOf k     — the stage of a number; one above 3, which is that of no stage, stands for nothing given
+use mathlib.Core.Bool.{Bool, true, false, not, _&&_, _||_, cond}
 use mathlib.Core.List.{List, [], _∷_}
 use Prim.Native.Nat.{ℕ, _+_, _-_}
-use lib.Dec.{ltb}
+use lib.Dec.{ltb, eqb}
 use lib.IntN.{pos, natAbs}
 use lib.ListN.{getD, set}
 use Rattle.rules.specs.Range.{inRange}
@@ -85,3 +88,12 @@ incomplete n z (Problem m) = false
 incomplete n z (Scale u v) = false
 incomplete n z (Of p i) = false
 incomplete n z End = ltb 0 (missing n z)
+
+abbrev pub stageNumber : Stage → ℕ
+stageNumber Start = 0
+stageNumber Sized = 1
+stageNumber Scaled = 2
+stageNumber Ended = 3
+
+abbrev pub stageOf : ℕ → Stage
+stageOf k = cond (eqb k 1) Sized (cond (eqb k 2) Scaled (cond (eqb k 3) Ended Start))

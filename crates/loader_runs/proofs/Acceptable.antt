@@ -24,7 +24,7 @@ use Rattle.loader_bit_set.specs.Places.{lacking}
 use Rattle.loader_progress.specs.Progress.{setOf, given, missing, sized, scaled, ended, misplaced}
 use Rattle.loader_progress.specs.declared.Stage.{Stage}
 use Rattle.loader_progress.specs.declared.Stage.the-variants.{Start, Sized, Scaled, Ended}
-use Rattle.loader_progress.proofs.Progress.{late, placed-of}
+use Rattle.loader_progress.proofs.Progress.{late, placed-of, ungiven-is}
 use Rattle.loader.specs.declared.Loader.{Loader}
 use Rattle.loader.specs.Answer.{lineAnswer}
 use Rattle.loader.specs.Taken.{after, loaderAfter}
@@ -34,7 +34,7 @@ use Rattle.loader.proofs.Accepted.{accepted-form}
 use Rattle.loader_runs.specs.Acceptable.{linesMost, acceptable}
 use Rattle.loader_runs.specs.Run.{State, fromNew, step}
 use Rattle.loader_runs.specs.Accepts.{run, Accepts}
-use Rattle.loader_runs.proofs.Marks.{ungiven-marked, ungiven-most, ungiven-is}
+use Rattle.loader_runs.proofs.Marks.{ungiven-marked, ungiven-most}
 use Rattle.loader_runs.proofs.Sound.{SoundLoader, fresh-sound, form-sound, line-sound}
 
 is-start : (s : Stage) → sized s ≡ false → s ≡ Start

@@ -23,8 +23,7 @@ use Rattle.loader_values.specs.declared.Item.the-variants.{Problem, Scale, Of, 
 use Rattle.loader_values.specs.declared.Part.the-variants as part
 use Rattle.loader_lists.specs.Slot.{Slot, Matrix, Right, Tolerance, Guess, Inverse, Weight, partOf, width, valuesFor}
 use Rattle.loader_lists.specs.Lists.{Lists, shortLists}
-use Rattle.loader_lists.specs.Put.{putItem, put}
-use Rattle.loader_lists.specs.Filled.{closedWeights}
+use Rattle.loader_lists.specs.Put.{putItem, put, closedWeights}
 use Rattle.loader_lists.proofs.Filled.{length-filled}
 use Rattle.loader_lists.proofs.Lists.{LongLists, long-lent}
 use Rattle.loader_progress.specs.Progress.{setOf, ended}

@@ -1,5 +1,4 @@
 -- An accepted form: the state holds what it gives, and what was given before.
---   nextState u g — the state after the form g
 --   holds-own    — a form that is accepted is held;  holds-kept — a form that is held stays so when another is accepted
 use mathlib.Core.Path.{_≡_, refl, sym, ap, subst, _∙_}
 use mathlib.Core.Bool.{true, false, not}
@@ -26,18 +25,16 @@ use Rattle.loader_lists.proofs.Lists.{long-lent}
 use Rattle.loader_values.proofs.Between.{from-to}
 use Rattle.loader_progress.specs.Progress.{setOf, given, sized, scaled, ended}
 use Rattle.loader_progress.proofs.Progress.{scaled-sized, placed-of, size-of, late}
-use Rattle.loader.specs.Taken.{after, listsWith}
+use Rattle.loader.specs.Taken.{after}
 use Rattle.loader_order.proofs.CodeLaws.{Passed}
 use Rattle.loader.proofs.Exact.{formCase}
 use Rattle.loader_runs.specs.Run.{State}
+use Rattle.loader_runs.specs.Accepts.{afterForm}
 use Rattle.loader_runs.specs.Holds.{HoldsForm, HoldsItem, HoldsPart, kindFor}
 use Rattle.loader_runs.proofs.Sound.{SoundLoader}
 use Rattle.loader_runs.proofs.Marks.{given-own, given-else}
 use Rattle.loader_runs.proofs.View.{View, view, a-problem, a-scale, a-part, an-end}
 use Rattle.loader_runs.proofs.Cells.{cell-own, cell-else, cell-end}
-
-abbrev pub nextState : State → Form → State
-nextState u g = record { loader = after (u .loader) (itemOf g); lists = listsWith (u .loader) g (u .lists) }
 
 slot-room : (l : Lists) (n : ℕ) → n ≤ 32 → shortLists l ≡ false → (s : Slot) → 32 * width s n ≤ length (listOf s l)
 slot-room l n h e Matrix = omega (arith, long-lent l e .matrix)
@@ -80,16 +77,16 @@ module _ (u : State) (sound : SoundLoader (u .loader)) (g : Form) (fine : Passed
           inside = inside;
         }
 
-    own-at : {x : Item} → itemOf g ≡ x → HoldsItem x values (by x) → HoldsForm g (nextState u g)
+    own-at : {x : Item} → itemOf g ≡ x → HoldsItem x values (by x) → HoldsForm g (afterForm u g)
     own-at e h = subst (λ (x : Item). HoldsItem x values (by x)) (sym e) h
 
-    own-view : View (u .loader .n) g → HoldsForm g (nextState u g)
+    own-view : View (u .loader .n) g → HoldsForm g (afterForm u g)
     own-view (a-problem m e) = own-at e (record { stage = refl; size = refl })
     own-view (a-scale s t e) = own-at e (record { stage = refl; solution = refl; inverse = refl })
     own-view (a-part q i e count inside) = own-at e (own-part q i e count inside)
     own-view (an-end e) = own-at e refl
 
-    pub holds-own : HoldsForm g (nextState u g)
+    pub holds-own : HoldsForm g (afterForm u g)
     holds-own = own-view (view (u .loader .n) g (fine .outside) (fine .miscounted))
 
   -- ---- a form that was held before
@@ -121,10 +118,10 @@ module _ (u : State) (sound : SoundLoader (u .loader)) (g : Form) (fine : Passed
       }
 
   module _ (going : ended (u .loader .stage) ≡ false) where
-    kept-at : (x : Item) (vs : Slot → List ℤ) {y : Item} → itemOf g ≡ y → HoldsItem x vs (by y) → HoldsItem x vs (nextState u g)
+    kept-at : (x : Item) (vs : Slot → List ℤ) {y : Item} → itemOf g ≡ y → HoldsItem x vs (by y) → HoldsItem x vs (afterForm u g)
     kept-at x vs e h = subst (λ (y : Item). HoldsItem x vs (by y)) (sym e) h
 
-    kept-view : (x : Item) (vs : Slot → List ℤ) → HoldsItem x vs u → View (u .loader .n) g → HoldsItem x vs (nextState u g)
+    kept-view : (x : Item) (vs : Slot → List ℤ) → HoldsItem x vs u → View (u .loader .n) g → HoldsItem x vs (afterForm u g)
     kept-view (Problem n) vs h (a-problem m e) = not-problem e (h .stage)
     kept-view (Problem n) vs h (a-scale s t e) = kept-at (Problem n) vs e (record { stage = refl; size = h .size })
     kept-view (Problem n) vs h (a-part q k e count inside) = kept-at (Problem n) vs e (record { stage = h .stage; size = h .size })
@@ -150,5 +147,5 @@ module _ (u : State) (sound : SoundLoader (u .loader)) (g : Form) (fine : Passed
         })
     kept-view End vs h v = clash (ended (u .loader .stage)) h going
 
-    pub holds-kept : (f : Form) → HoldsForm f u → HoldsForm f (nextState u g)
+    pub holds-kept : (f : Form) → HoldsForm f u → HoldsForm f (afterForm u g)
     holds-kept f h = kept-view (itemOf f) (λ (s : Slot). valuesFor s f) h (view (u .loader .n) g (fine .outside) (fine .miscounted))

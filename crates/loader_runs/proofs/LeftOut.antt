@@ -33,7 +33,7 @@ use Rattle.loader_runs.specs.Holds.{HoldsItem, cell}
 use Rattle.loader_runs.proofs.Sound.{SoundLoader, line-sound}
 use Rattle.loader_runs.proofs.Cells.{cell-problem, cell-scale, cell-else, cell-one}
 use Rattle.loader_runs.proofs.Marks.{given-own}
-use Rattle.loader_runs.proofs.Collected.{nextState}
+use Rattle.loader_runs.specs.Accepts.{afterForm}
 use Rattle.loader_runs.proofs.View.{View, view, a-problem, a-scale, a-part, an-end}
 use Rattle.loader_runs.proofs.Runs.{step-next, is-of, collected}
 
@@ -46,10 +46,10 @@ module _ (u : State) (sound : SoundLoader (u .loader)) {line : List ℕ} {g : Fo
   abbrev by : Item → State
   by y = record { loader = after (u .loader) y; lists = closed (u .loader .n) (setOf (u .loader .sets) part.Weight) y (putAll (u .loader .n) g (u .lists)) }
 
-  by-item : {y : Item} → itemOf g ≡ y → WeightsFilled (by y) → WeightsFilled (nextState u g)
+  by-item : {y : Item} → itemOf g ≡ y → WeightsFilled (by y) → WeightsFilled (afterForm u g)
   by-item e h = subst (λ (y : Item). WeightsFilled (by y)) (sym e) h
 
-  by-view : View (u .loader .n) g → WeightsFilled (nextState u g)
+  by-view : View (u .loader .n) g → WeightsFilled (afterForm u g)
   by-view (a-problem m e) = by-item e (λ q. clash false q refl)
   by-view (a-scale s t e) = by-item e (λ q. clash false q refl)
   by-view (a-part p i e count inside) = by-item e (λ q. clash (ended (u .loader .stage)) q (a .going))
@@ -71,7 +71,7 @@ module _ (u : State) (sound : SoundLoader (u .loader)) {line : List ℕ} {g : Fo
   abbrev Waits : State → Type 0
   Waits v = ended (v .loader .stage) ≡ false → (k : ℕ) → 1 ≤ k → given (v .loader .sets) part.Weight k ≡ false → cell (v .lists) (v .loader .n) Weight k 0 ≡ cell (u .lists) (u .loader .n) Weight k 0
 
-  waits-item : {y : Item} → itemOf g ≡ y → Waits (by u sound a y) → Waits (nextState u g)
+  waits-item : {y : Item} → itemOf g ≡ y → Waits (by u sound a y) → Waits (afterForm u g)
   waits-item e h = subst (λ (y : Item). Waits (by u sound a y)) (sym e) h
 
   own : (p : Part) (i : ℕ) {q : Part} {k : ℕ} → q ≡ p → k ≡ i → given (marked (u .loader .sets) p i) q k ≡ true
@@ -79,7 +79,7 @@ module _ (u : State) (sound : SoundLoader (u .loader)) {line : List ℕ} {g : Fo
       subst (λ (m : ℕ). given (marked (u .loader .sets) p i) q m ≡ true) (sym y)
       (subst (λ (r : Part). given (marked (u .loader .sets) p i) r i ≡ true) (sym x) (given-own (u .loader .sets) (sound .five) p i))
 
-  waits-view : View (u .loader .n) g → Waits (nextState u g)
+  waits-view : View (u .loader .n) g → Waits (afterForm u g)
   waits-view (a-problem m e) = waits-item e (λ q k f h. cell-problem (u .loader .n) g (u .lists) e Weight k 0)
   waits-view (a-scale s t e) = waits-item e (λ q k f h. cell-scale (u .loader .n) g (u .lists) e Weight k 0)
   waits-view (a-part p i e count inside) =

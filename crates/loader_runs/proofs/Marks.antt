@@ -3,7 +3,7 @@
 --   marked-own, marked-other — the sets after a form: its own part's set with its place, the others as before
 --   given-own, given-else — the form was given then, and every other form as before
 --   ungiven-marked — with a form that was not given one form fewer is left to give;  ungiven-most — at most 5n are
---   ungiven-is     — they are the missing forms and the weights not given;  missing-most — at most 4n are missing;  missing-kept — a weight leaves their count
+--   missing-most — at most 4n are missing;  missing-kept — a weight leaves their count
 use mathlib.Core.Path.{_≡_, refl, sym, subst}
 use mathlib.Core.Bool.{Bool, true, false, cond}
 use mathlib.Core.List.{List, [], _∷_}
@@ -22,7 +22,7 @@ use Rattle.loader_values.proofs.Capped.{part-same, part-below}
 use Rattle.loader_bit_set.specs.Places.{withPlace, lacking}
 use Rattle.loader_bit_set.proofs.Places.{has-same, has-other, lacking-with, lacking-≤}
 use Rattle.loader_progress.specs.Progress.{setOf, countedParts, totalOver, given, marked, missing}
-use Rattle.loader_runs.specs.Acceptable.{parts, ungiven}
+use Rattle.loader_progress.specs.Ungiven.{parts, ungiven}
 
 abbrev pub hits : Part → Part → ℕ
 hits p q = cond (eqb (partIndex p) (partIndex q)) 1 0
@@ -85,10 +85,6 @@ ungiven-most n z = totalOver-most parts (λ (q : Part). lacking (setOf z q) n) n
 pub missing-most : (n : ℕ) (z : List ℕ) → missing n z ≤ 4 * n
 unfolding missing
 missing-most n z = totalOver-most countedParts (λ (q : Part). lacking (setOf z q) n) n (λ q. lacking-≤ (setOf z q) n)
-
-pub ungiven-is : (n : ℕ) (z : List ℕ) → ungiven n z ≡ missing n z + lacking (setOf z Weight) n
-unfolding ungiven missing
-ungiven-is n z = omega arith
 
 pub missing-kept : (n : ℕ) (z : List ℕ) → length z ≡ 5 → (i : ℕ) → missing n (marked z Weight i) ≡ missing n z
 unfolding missing

@@ -26,17 +26,17 @@ use Rattle.loader.specs.declared.Loader.{Loader}
 use Rattle.loader.specs.Taken.{after}
 use Rattle.loader.proofs.Accepted.{AcceptedLine, accepted-form}
 use Rattle.loader_runs.specs.Run.{State, step, forms}
-use Rattle.loader_runs.specs.Accepts.{run, Accepts}
+use Rattle.loader_runs.specs.Accepts.{afterForm, run, Accepts}
 use Rattle.loader_lists.specs.Slot.{Slot, partOf, valuesFor}
 use Rattle.loader_runs.specs.Given.{isOf, valueFrom}
 use Rattle.integer.specs.Among.{Among, here, there}
 use Rattle.loader_runs.specs.Holds.{HoldsForm}
 use Rattle.loader_runs.proofs.Sound.{SoundLoader, line-sound}
-use Rattle.loader_runs.proofs.Collected.{nextState, holds-own, holds-kept}
+use Rattle.loader_runs.proofs.Collected.{holds-own, holds-kept}
 use Rattle.loader_runs.proofs.Marks.{given-else}
 
 -- ---- one line
-pub step-next : (u : State) {line : List ℕ} {f : Form} → AcceptedLine (u .loader) (u .lists) line f → step u line ≡ nextState u f
+pub step-next : (u : State) {line : List ℕ} {f : Form} → AcceptedLine (u .loader) (u .lists) line f → step u line ≡ afterForm u f
 step-next u a = λ i. record { loader = a .loader i; lists = a .lists i }
 
 module _ (u : State) (sound : SoundLoader (u .loader)) {line : List ℕ} {g : Form} (a : AcceptedLine (u .loader) (u .lists) line g) where

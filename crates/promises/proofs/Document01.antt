@@ -22,7 +22,7 @@ use Rattle.enclosure.proofs.Instance.{file-worked}
 use Rattle.check_spec.specs.Checked.{solutionBoundsAfter, inverseBoundsAfter}
 use Rattle.check_spec.specs.Input.{Input, problem, short}
 use Rattle.check_spec.specs.Order.{answer}
-use Rattle.check_spec.specs.Stated.{too-short, out-of-range, margin-low, residual-large, inverse-large}
+use Rattle.check_spec.specs.Stated.{LongEnough, too-short, out-of-range, margin-low, residual-large, inverse-large}
 use Rattle.check_spec.proofs.Agreed.{same-answer, same-solution, same-inverse}
 use Rattle.check_spec.proofs.Lengths.{long-of}
 use Rattle.check_spec.proofs.Written.{past-kept}
@@ -35,7 +35,6 @@ use Rattle.loader_spelled.proofs.Text.{lines-feed}
 use Rattle.listing.specs.Listing.{answerOf, listingOf}
 use Rattle.listing.proofs.Answers.{file-answers}
 use Rattle.listing.proofs.Table as table
-use Rattle.promises.specs.Document01.{LongEnough}
 use Rattle.promises.specs.Document01 as document
 use Rattle.promises.specs.Ways.{StatedThrough, not-ended, as-on-lists}
 use Rattle.promises.specs.Ways as ways
@@ -66,19 +65,7 @@ long-enough I h =
     ) refl
 
 pub lengths-asked : document.LengthsAsked
-lengths-asked I = (
-  λ e. let h = long-of I e in record {
-    matrix = h .matrix;
-    right = h .right;
-    tolerance = h .tolerance;
-    guess = h .guess;
-    inverse = h .inverse;
-    weights = h .weights;
-    solution = h .solution;
-    inverses = h .inverses;
-  },
-  long-enough I,
-)
+lengths-asked I = (long-of I, long-enough I)
 
 pub rest-not-read : document.RestNotRead
 rest-not-read I J r r′ E L E′ L′ a x y = (

@@ -26,11 +26,10 @@ use Rattle.loader_values.specs.declared.Item.the-variants.{Problem, Scale, Of, 
 use Rattle.loader_values.specs.declared.Part.{Part}
 use Rattle.loader_values.specs.declared.Part.the-variants as part
 use Rattle.loader_values.proofs.Capped.{part-same}
-use Rattle.loader_lists.specs.Filled.{filled}
+use Rattle.loader_lists.specs.Put.{filled, put}
 use Rattle.loader_lists.proofs.Filled.{filled-given, filled-past}
 use Rattle.loader_lists.specs.Lists.{Lists}
 use Rattle.loader_lists.specs.ListOf.{listOf}
-use Rattle.loader_lists.specs.Put.{put}
 use Rattle.loader_lists.specs.Slot.{Slot, Matrix, Right, Tolerance, Guess, Inverse, Weight, partOf, width, valuesFor}
 use Rattle.loader_progress.specs.Progress.{given, setOf}
 use Rattle.loader.specs.Answer.{lineAnswer}
@@ -40,7 +39,7 @@ use Rattle.loader.specs.declared.Taken.{Taken}
 use Rattle.loader.proofs.Accepted.{AcceptedLine, accepted-form}
 use Rattle.loader_runs.specs.Holds.{HoldsItem, HoldsPart}
 use Rattle.loader_runs.specs.Run.{State, step}
-use Rattle.loader_runs.specs.Accepts.{run, Accepts, Made}
+use Rattle.loader_runs.specs.Accepts.{afterForm, run, Accepts, Made}
 use Rattle.loader_runs.proofs.Cells.{sets-before, sets-after}
 use Rattle.loader_runs.proofs.Collected as collected
 use Rattle.loader_runs.proofs.Sound.{made-sound}
@@ -110,10 +109,10 @@ pub own-places : (d : Loader) (f : Form) (l l′ : Lists) → Took d f l l′ �
     getD (listOf s l′) ((natAbs i - 1) * width s (d .n) + j) (pos 0) ≡ getD (valuesFor s f) j (pos 0)
 own-places d f l l′ t m s i e j h =
     let u : State = record { loader = d; lists = l } in
-    let same : collected.nextState u f .loader .n ≡ d .n = ap (λ (x : Item). after d x .n) e in
+    let same : afterForm u f .loader .n ≡ d .n = ap (λ (x : Item). after d x .n) e in
     let own = collected.holds-own u (made-sound m) f (t .accepted .fine) (t .accepted .long) in
-    let part : HoldsPart (partOf s) i (λ (k : Slot). valuesFor k f) (collected.nextState u f) =
-    subst (λ (x : Item). HoldsItem x (λ (k : Slot). valuesFor k f) (collected.nextState u f)) e own in
+    let part : HoldsPart (partOf s) i (λ (k : Slot). valuesFor k f) (afterForm u f) =
+    subst (λ (x : Item). HoldsItem x (λ (k : Slot). valuesFor k f) (afterForm u f)) e own in
     ap (λ (k : Lists). getD (listOf s k) ((natAbs i - 1) * width s (d .n) + j) (pos 0)) (t .lists) ∙ (rw same at (part .cells s refl j (rw same h)))
 
 -- ---- all other places

@@ -14,16 +14,14 @@ use Rattle.half_check.specs.Stated.{HalfStated}
 use Rattle.loader_lists.specs.Lists.{Lists, shortLists}
 use Rattle.loader_progress.specs.Progress.{ended}
 use Rattle.loader_progress.specs.declared.Stage.{Stage}
-use Rattle.loader.specs.Numbers.{loaderNumbers, loaderOf}
-use Rattle.loader.specs.Taken.{fresh}
+use Rattle.loader.specs.Taken.{loaderNumbers, loaderOf, fresh}
 use Rattle.loader_runs.specs.Holds.{inputOf}
 use Rattle.loader_runs.specs.Lines.{linesOf}
 use Rattle.file_stated.specs.Stated.{FileStated}
 use Rattle.listing.specs.Listing.{problemIn}
 use Rattle.reply.specs.ReplyIs.{ReplyIs}
-use Rattle.calls_spec.specs.Exported.{CheckExported, ListingExported}
+use Rattle.calls_spec.specs.Exported.{CheckExported, ListingExported, LoaderTakeExported, LoaderCheckExported}
 use Rattle.calls_spec.specs.Half.{HalfExported}
-use Rattle.calls_spec.specs.Loader.{LoaderTakeExported, LoaderCheckExported}
 use Rattle.calls_spec.specs.Turns.{Turns, keptLines}
 use Rattle.promises.specs.Ways.{Accepted, StatedThrough}
 

@@ -1,18 +1,19 @@
 -- What is handed to a call for the factor, and whether it can be used.
 --   Inquiry — n, t, the two matrix lists and the weight list;  inquiry — one from its parts
 --   inquiryProblem Q — its problem; no solution scale, right side, tolerance or guess is read
---   anyInquiryShort — a list of one of these lengths is too short;  inquiryShort Q — 8: a lent list is too short
+--   inquiryShort Q — 8: a lent list is too short
 --   inquirySizes, inquiryLists — n and t, and the numbers used of the lists, are in their ranges
 --   inquiryInRanges Q — all of these; 3 where they are not
-use mathlib.Core.Bool.{Bool, _&&_, _||_}
+use mathlib.Core.Bool.{Bool, _&&_}
 use mathlib.Core.List.{List, []}
 use Prim.Native.Nat.{ℕ, _*_}
 use lib.IntN.{ℤ, pos}
 use lib.ListN.{length}
 use Rattle.linear.specs.Slice.{at}
-use Rattle.rules.specs.Range.{inRange, allInRange, shortMatrix, shortColumn}
+use Rattle.rules.specs.Range.{inRange, allInRange}
 use Rattle.rules.specs.declared.Kind.the-variants as kind
 use Rattle.enclosure.specs.Problem.{Problem, problemOf}
+use Rattle.check_spec.specs.Squares.{anySquareShort}
 
 pub record Inquiry : Type 0 where
   pub n : ℕ
@@ -27,11 +28,8 @@ inquiry n t matrix inverse weights = record { n = n; t = t; matrix = matrix; inv
 abbrev pub inquiryProblem : Inquiry → Problem
 inquiryProblem Q = problemOf (Q .n) 0 (Q .t) (Q .matrix) [] [] [] (Q .inverse) (Q .weights)
 
-abbrev pub anyInquiryShort : ℕ → ℕ → ℕ → Bool
-anyInquiryShort a g w = shortMatrix a || (shortMatrix g || shortColumn w)
-
 abbrev pub inquiryShort : Inquiry → Bool
-inquiryShort Q = anyInquiryShort (length (Q .matrix)) (length (Q .inverse)) (length (Q .weights))
+inquiryShort Q = anySquareShort (length (Q .matrix)) (length (Q .inverse)) (length (Q .weights))
 
 abbrev pub inquirySizes : ℕ → ℕ → Bool
 inquirySizes n t = inRange kind.Size (pos n) && inRange kind.InverseScale (pos t)

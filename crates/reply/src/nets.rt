@@ -1,6 +1,6 @@
 // The answer of a check of two nets in numbers, for other languages.
 ghost use mathlib.Core.Path.{_≡_};
-ghost use Rattle.rules.specs.Order.{whichOf, refusalOf};
+ghost use Rattle.rules.specs.Which.{whichOf, refusalOf};
 ghost use Rattle.listing_refusal.specs.Refused.{printed};
 ghost use Rattle.listing_refusal.specs.Reply.{replyOf};
 ghost use Rattle.dependent_spec.specs.Order.{netsCode};

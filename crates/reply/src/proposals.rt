@@ -1,7 +1,7 @@
 // The answer of the call on two proposals in numbers, for other languages.
 ghost use mathlib.Core.Path.{_≡_};
 ghost use mathlib.Core.List.{[], _∷_};
-ghost use Rattle.rules.specs.Order.{whichOf, refusalOf};
+ghost use Rattle.rules.specs.Which.{whichOf, refusalOf};
 ghost use Rattle.listing_refusal.specs.Refused.{printed};
 ghost use Rattle.listing_refusal.specs.Reply.{replyOf};
 ghost use Rattle.common_spec.specs.Answer.{commonCode};

@@ -1,3 +1,4 @@
 pub mod Range
 pub mod Refusal
 pub mod Order
+pub mod Which

@@ -9,7 +9,7 @@ ghost use Rattle.linear.specs.Place.{Carried};
 ghost use Rattle.linear.specs.Reach.{MatrixList};
 ghost use Rattle.check_arrays.specs.Arrays.{PrefixIs};
 ghost use Rattle.check_arrays.specs.Parts.{columnResidual};
-ghost use Rattle.weights_spec.specs.Request.{anySearchShort};
+ghost use Rattle.check_spec.specs.Squares.{anySquareShort};
 ghost use Rattle.weights_spec.specs.Sequence.{bits};
 ghost use Rattle.weights_steps.specs.Steps.{Below, storedLoad, storedMargin, shiftedNext};
 use check_biased_rows::ROWS_LENGTH;
@@ -24,7 +24,7 @@ use rules::MATRIX_LENGTH;
 
 // 8: whether a matrix list, an inverse or a weight list of these lengths is too short.
 pub fn is_short(a: usize, g: usize, w: usize) -> bool
-    ensures { λ r. ⌜ r ≡ anySearchShort a g w ⌝ }
+    ensures { λ r. ⌜ r ≡ anySquareShort a g w ⌝ }
 {
     (a < MATRIX_LENGTH) | ((g < MATRIX_LENGTH) | (w < COLUMN_LENGTH))
 }

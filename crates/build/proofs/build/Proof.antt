@@ -69,7 +69,8 @@ use Rattle.build.proofs.build.Key.{name as #build·build}
 use Rattle.build.proofs.build as self
 use Rattle.build.proofs.build.Statement as stated
 use Rattle.build.proofs.build.Code as code
-use Rattle.build.proofs.build.Proof.Callees.{R, stayed, laid, sl, Begin, All, Fin, a as args-of, vals as vals-of, Post as post-of, b-args, to-begin, asked-begin, opening, code-begin, to-all, asked-all, code-all, is-whole, to-fin, asked-fin, typed, typed-far, exits}
+use Rattle.build.proofs.Machine.{R, sl, laid}
+use Rattle.build.proofs.build.Proof.Callees.{stayed, Begin, All, Fin, a as args-of, vals as vals-of, Post as post-of, b-args, to-begin, asked-begin, opening, code-begin, to-all, asked-all, code-all, is-whole, to-fin, asked-fin, typed, typed-far, exits}
 
 module _ {M : Type 1} (𝓤 : URA M) (H : Heap 𝓤) (A : Atoms 𝓤) (W : Given 𝓤 H A) (mem : Memory → SProp 𝓤) (run : Routine → Fun 𝓤) (κ κ′ κ″ : Lft) (q q′ q″ : Share)
     (n : ℕ) (x : RefT (List Observation)) (lay : Layout) (m r : RefT (List ℤ)) (nf : n < 2 ^ 32) (lf : Is L.the-row lay (laid lay ∷ [])) where

@@ -65,8 +65,9 @@ use Rattle.build.proofs.gather.Key.{name as #build·gather}
 use Rattle.build.proofs.gather as self
 use Rattle.build.proofs.gather.Statement as stated
 use Rattle.build.proofs.gather.Code as code
-use Rattle.build.proofs.gather.Proof.Lending.{AR, arr, the-one, array-val, status-array, typed-array}
-use Rattle.build.proofs.gather.Proof.Callees.{R, word, far, Arg, stayed, One, Fews, None, All, to-few, to-none, typed-far, typed-word, asked-few, code-few, asked-none, code-none}
+use Rattle.build.proofs.Machine.{R, the-one, long-word}
+use Rattle.build.proofs.gather.Proof.Lending.{AR, arr, kept-val, status-array, typed-array}
+use Rattle.build.proofs.gather.Proof.Callees.{far-val, Arg, stayed, One, Fews, None, All, to-few, to-none, typed-far, typed-word, asked-few, code-few, asked-none, code-none}
 use Rattle.build.proofs.gather.Proof.Turn.{x as args-of, at as vals-of, Post as post-of, looped}
 
 module _ {M : Type 1} (𝓤 : URA M) (H : Heap 𝓤) (A : Atoms 𝓤) (W : Given 𝓤 H A) (mem : Memory → SProp 𝓤) (run : Routine → Fun 𝓤) (κ : Lft) (q : Share) (b o : ℕ) (γ : GName) (ys : List Observation) (start : Progress) where
@@ -85,10 +86,10 @@ module _ {M : Type 1} (𝓤 : URA M) (H : Heap 𝓤) (A : Atoms 𝓤) (W : Given
   abbrev Post : Val → SProp 𝓤
   Post = post-of 𝓤 H A W mem run κ q b o γ ys start
 
-  walk : (𝓣 : Tables 𝓤 H) → FmC 𝓤 H (W .laws) (𝓣 .C) → Triple 𝓤 (𝓣 .C #build-gathering·add-observation) (One 𝓤 H A mem run) → Triple 𝓤 (𝓣 .C #build-gathering·few-of) (Fews 𝓤 H A mem run) → Triple 𝓤 (𝓣 .C #build-gathering·no-lines) (None 𝓤 H A mem run) → Triple 𝓤 (𝓣 .C #build-gathering·as-gathered) (All 𝓤 H A mem run) → Room R n → Is P.the-row start (far start ∷ [])
-      → ent 𝓤 (onEntry 𝓤 H A self.signature (κ, tt) (q, tt) x at) (WpFn 𝓤 H (𝓣 .C) (𝓣 .Λ) code.function (sliceVal (b, o) n ∷ far start ∷ []) Post)
+  walk : (𝓣 : Tables 𝓤 H) → FmC 𝓤 H (W .laws) (𝓣 .C) → Triple 𝓤 (𝓣 .C #build-gathering·add-observation) (One 𝓤 H A mem run) → Triple 𝓤 (𝓣 .C #build-gathering·few-of) (Fews 𝓤 H A mem run) → Triple 𝓤 (𝓣 .C #build-gathering·no-lines) (None 𝓤 H A mem run) → Triple 𝓤 (𝓣 .C #build-gathering·as-gathered) (All 𝓤 H A mem run) → Room R n → Is P.the-row start (far-val start ∷ [])
+      → ent 𝓤 (onEntry 𝓤 H A self.signature (κ, tt) (q, tt) x at) (WpFn 𝓤 H (𝓣 .C) (𝓣 .Λ) code.function (sliceVal (b, o) n ∷ far-val start ∷ []) Post)
   walk 𝓣 fm known known-few known-none known-all gn g₀ =
-      qed W ((‵ (flft κ q) ⊛ ‵ ftrue) ∷ ‵ (owns (ShrSlice (named 0) κ R ∷ P.the-row ∷ []) x at) ∷ []) ∵ enter ! (𝓣 .C) (𝓣 .Λ) code.function (sliceVal (b, o) n ∷ far start ∷ []) _ $
+      qed W ((‵ (flft κ q) ⊛ ‵ ftrue) ∷ ‵ (owns (ShrSlice (named 0) κ R ∷ P.the-row ∷ []) x at) ∷ []) ∵ enter ! (𝓣 .C) (𝓣 .Λ) code.function (sliceVal (b, o) n ∷ far-val start ∷ []) _ $
       alloc1 ! (λ l₀. alloc1 ! (λ l₁. alloc1 ! (λ l₂. alloc1 ! (λ l₃. alloc1 ! (λ l₄. alloc1 ! (λ l₅. alloc1 ! (λ l₆. alloc1 ! (λ l₇. alloc1 ! (λ l₈. alloc1 ! (λ l₉. alloc1 ! (λ l₁₀. alloc1 ! (λ l₁₁. alloc1 ! (λ l₁₂. alloc1 ! (λ l₁₃. alloc0 ! $ params1 ! $
       -- [_13; …; _12; …; …; _1; …; _0; …; the token; what is owned]
       pass1 ! (init ! 24 refl (tt, (tt, (record { fits = gn .0 }, tt)))) $ pass1 ! (init ! 22 refl (typed-far 𝓤 H A W mem run start _ g₀)) $ pass0 ! $
@@ -100,7 +101,7 @@ module _ {M : Type 1} (𝓤 : URA M) (H : Heap 𝓤) (A : Atoms 𝓤) (W : Given
       split ! $ move ! (1 ∷ []) $ use1 W (raw (fact 𝓤 (z ≡ noLines))) (code-none 𝓤 H A W mem run z) $ heard ! (z ≡ noLines) (λ d. split ! $ move ! (1 ∷ []) $
       peeks ! AR (Is AR) (shows 𝓤 H A AR) z (v ∷ []) (λ isz. land ! (from ! (stop !)) (init ! 14 refl (typed-array 𝓤 H A W z v isz)) $
       rewrite ! 14 (λ (us : List Val). ‵ (fat fullShare arr l₇ 0 (the-one us))) (status-array z (v ∷ []) isz) refl $
-      rewrite ! 14 (λ (y : List ℕ). ‵ (fat fullShare arr l₇ 0 (array-val y))) d refl $ drop ! $ drop ! $
+      rewrite ! 14 (λ (y : List ℕ). ‵ (fat fullShare arr l₇ 0 (kept-val y))) d refl $ drop ! $ drop ! $
       assigns ! (of-opd ! (load ! (from ! (stop !)) (look ! 12 refl))) (from ! (stop !)) (init ! 18 refl (typed-array 𝓤 H A W noLines _ (none-is z v d isz))) $
       assigns ! (of-opd ! (load ! (from ! (fld ! refl (stop !))) (look-in ! 24 (sub ! 1 refl (whole !))))) (from ! (stop !)) (init ! 10 refl (tt, record { fits = gn .0 })) $
       -- how many lines are looked at
@@ -110,8 +111,8 @@ module _ {M : Type 1} (𝓤 : URA M) (H : Heap 𝓤) (A : Atoms 𝓤) (W : Given
       use1 W (later (some (λ (r : ℕ). (‵ ftrue ⊛ ‵ (usize .own r (u ∷ []))) ⊛ raw (ensured 𝓤 H A fews.ended (fews.clauses 𝓤 H A mem run) tt (start, (n, tt)) tt r)))) (id⊢ 𝓤 _) $ await ! tt $ pick ! (λ r.
       split ! $ move ! (1 ∷ []) $ use1 W (raw (fact 𝓤 (r ≡ end))) (code-few 𝓤 H A W mem run start n r) $ heard ! (r ≡ end) (λ e. split ! $ move ! (1 ∷ []) $
       peeks ! usize (Is usize) (shows 𝓤 H A usize) r (u ∷ []) (λ is. land ! (from ! (stop !)) (init ! 18 refl (typed-word 𝓤 H A W mem run r u is)) $
-      rewrite ! 18 (λ (us : List Val). ‵ (fat fullShare word l₅ 0 (the-one us))) (uint-tells w64 r (u ∷ []) is) refl $
-      rewrite ! 18 (λ (z : ℕ). ‵ (fat fullShare word l₅ 0 (vint w64 z))) e refl $ drop ! $ drop ! $
+      rewrite ! 18 (λ (us : List Val). ‵ (fat fullShare long-word l₅ 0 (the-one us))) (uint-tells w64 r (u ∷ []) is) refl $
+      rewrite ! 18 (λ (z : ℕ). ‵ (fat fullShare long-word l₅ 0 (vint w64 z))) e refl $ drop ! $ drop ! $
       assigns ! (of-opd ! (lit ! tt)) (from ! (stop !)) (init ! 14 refl (tt, record { fits = lit< tt })) $
       -- the slice's borrow is had twice: one goes into the loop, and the other stays in what the slice owns
       move ! (29 ∷ []) $ fsplit ! $ fsplit ! $ move ! (1 ∷ []) $ fsplit ! $ move ! (1 ∷ []) $ shr-bor-dup ! $
@@ -120,8 +121,8 @@ module _ {M : Type 1} (𝓤 : URA M) (H : Heap 𝓤) (A : Atoms 𝓤) (W : Given
       keep ! (0 ∷ 3 ∷ 5 ∷ 6 ∷ 7 ∷ 8 ∷ 9 ∷ 10 ∷ 11 ∷ 12 ∷ 13 ∷ 14 ∷ 15 ∷ 16 ∷ 17 ∷ 18 ∷ 19 ∷ 20 ∷ 21 ∷ 22 ∷ 23 ∷ 24 ∷ 25 ∷ 26 ∷ 27 ∷ 28 ∷ 29 ∷ 30 ∷ 31 ∷ 32 ∷ 2 ∷ []) $
       looped 𝓤 H A W mem run κ q b o γ ys start 𝓣 fm known known-all gn g₀ l₀ l₁ l₂ l₃ l₄ l₅ l₆ l₇ l₈ l₉ l₁₀ l₁₁ l₁₂ l₁₃ (none-is z v d isz)))))))))))))))))))))))
     where
-      none-is : (z : List ℕ) (v : Val) → z ≡ noLines → Is AR z (v ∷ []) → Is AR noLines (array-val noLines ∷ [])
-      none-is z v d is = subst (λ (y : List ℕ). Is AR y (array-val y ∷ [])) d (subst (Is AR z) (status-array z (v ∷ []) is) is)
+      none-is : (z : List ℕ) (v : Val) → z ≡ noLines → Is AR z (v ∷ []) → Is AR noLines (kept-val noLines ∷ [])
+      none-is z v d is = subst (λ (y : List ℕ). Is AR y (kept-val y ∷ [])) d (subst (Is AR z) (status-array z (v ∷ []) is) is)
 
 module _ {M : Type 1} (𝓤 : URA M) (H : Heap 𝓤) (A : Atoms 𝓤) (W : Given 𝓤 H A) (mem : Memory → SProp 𝓤) (run : Routine → Fun 𝓤) where
   gather-walks : (𝓣 : Tables 𝓤 H) → Triple 𝓤 (𝓣 .C #build-gathering·add-observation) (One 𝓤 H A mem run) → Triple 𝓤 (𝓣 .C #build-gathering·few-of) (Fews 𝓤 H A mem run) → Triple 𝓤 (𝓣 .C #build-gathering·no-lines) (None 𝓤 H A mem run) → Triple 𝓤 (𝓣 .C #build-gathering·as-gathered) (All 𝓤 H A mem run) → Walks 𝓤 H A self.ended stayed (WpFn 𝓤 H (𝓣 .C) (𝓣 .Λ) code.function) (self.clauses 𝓤 H A mem run)

@@ -8,7 +8,7 @@ use Rattle.linear.specs.Place.{Carried}
 use Rattle.linear.proofs.Carried.{carried-first, carried-next}
 use Rattle.check_arrays.specs.Arrays.{PrefixIs}
 use Rattle.check_arrays.proofs.Filled.{prefix-none, prefix-more, prefix-end}
-use Rattle.dependent_coupling.specs.Carried.{baseFrom}
+use Rattle.check_arrays.specs.Parts.{residualFrom}
 use Rattle.linear.proofs.Places.{row-reach}
 use Rattle.dependent_coupling.proofs.Rows.{row-past}
 use borrow.Author.Needs.{needs}
@@ -17,7 +17,7 @@ use Rattle.dependent_coupling.proofs.base_of.Tie as tie
 
 abbrev Inv-loop : tie.InvT-loop
 Inv-loop coupling guess marks n base out₀ row₀ k₀ out row k =
-    (k ≤ n) × (Carried 0 marks k row × ((length out ≡ 32) × PrefixIs (pos 0) out k (baseFrom marks base coupling guess)))
+    (k ≤ n) × (Carried 0 marks k row × ((length out ≡ 32) × PrefixIs (pos 0) out k (residualFrom marks base coupling guess)))
 
 abbrev μ-loop : tie.MeasureT-loop
 μ-loop coupling guess marks n base out₀ row₀ k₀ out row k = n - k

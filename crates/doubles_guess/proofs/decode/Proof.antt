@@ -15,15 +15,15 @@ use Rattle.doubles_guess.proofs.decode.Statement.{statement}
 use Rattle.doubles_guess.proofs.decode.Tie as tie
 
 -- what is not finite, and what has a value
-outside : (x : Float) → T (not (finite x)) → Decoded x (record { finite = false; negative = false; digits = 0; shift = 0 })
-outside x h = record {
+decoded-other : (x : Float) → T (not (finite x)) → Decoded x (record { finite = false; negative = false; digits = 0; shift = 0 })
+decoded-other x h = record {
   tells = sym (is-false (finite x) h);
   value = λ e. absurd (subst T (sym e) tt);
   normal = record { narrow = omega arith; low = omega arith; full = λ z. absurd (z refl) };
 }
 
-inside : (x : Float) (s : Bool) (q k : ℕ) → HasValue x s (q * 2 ^ k) (2 ^ 1074) → Normal q k → Decoded x (record { finite = true; negative = s; digits = q; shift = k })
-inside x s q k v n = record {
+decoded-finite : (x : Float) (s : Bool) (q k : ℕ) → HasValue x s (q * 2 ^ k) (2 ^ 1074) → Normal q k → Decoded x (record { finite = true; negative = s; digits = q; shift = k })
+decoded-finite x s q k v n = record {
   tells = sym (is-true (finite x) (value-finite x s (q * 2 ^ k) (2 ^ 1074) v));
   value = λ e. v;
   normal = n;
@@ -46,16 +46,16 @@ module _ (x : Float) (F : T (fits binary64 x)) where
   read = sym (ofBits-is bits) ∙ ofBits-toBits binary64 x F
 
   at-top : field ≡ 2047 → Decoded x (record { finite = false; negative = false; digits = 0; shift = 0 })
-  at-top e = outside x (subst (λ (y : Float). T (not (finite y))) read (field-top sign digits field e))
+  at-top e = decoded-other x (subst (λ (y : Float). T (not (finite y))) read (field-top sign digits field e))
 
   at-zero : field ≡ 0 → Decoded x (record { finite = true; negative = sign; digits = digits; shift = 0 })
   at-zero e =
-      inside x sign digits 0 (subst (λ (y : Float). HasValue y sign (digits * 2 ^ 0) (2 ^ 1074)) read (field-zero sign digits field e))
+      decoded-finite x sign digits 0 (subst (λ (y : Float). HasValue y sign (digits * 2 ^ 0) (2 ^ 1074)) read (field-zero sign digits field e))
       (record { narrow = omega arith; low = omega arith; full = λ z. absurd (z refl) })
 
   at-some : (field ≡ 0 → ⊥) → (field ≡ 2047 → ⊥) → Decoded x (record { finite = true; negative = sign; digits = 2 ^ 52 + digits; shift = field - 1 })
   at-some z n =
-      inside x sign (2 ^ 52 + digits) (field - 1)
+      decoded-finite x sign (2 ^ 52 + digits) (field - 1)
       (subst (λ (y : Float). HasValue y sign ((2 ^ 52 + digits) * 2 ^ (field - 1)) (2 ^ 1074)) read (field-some sign digits field z n))
       (record { narrow = omega arith; low = omega arith; full = λ w. omega arith })
 
@@ -63,7 +63,7 @@ held : (c : tie.Start) → T (fits binary64 (c .args .x))
 held c = subst T (sym (c .good .0 .1)) tt
 
 returns : tie.Need-returns
-returns c = outside (c .before .args .x) (is-nan (c .before .args .x) (c .if1 .taken))
+returns c = decoded-other (c .before .args .x) (is-nan (c .before .args .x) (c .if1 .taken))
 
 float-to-bits-bits : tie.Need-float-to-bits-bits
 float-to-bits-bits c = no-nan (c .before .args .x) (c .if1 .left)

@@ -14,8 +14,8 @@ use Rattle.doubles_guess.proofs.nearest.Tie as tie
 here : (q k s n : ℕ) → magnitudeFor q k s ≡ n → n ≤ 2 ^ 36 → MagnitudeFoundAs q k s (record { found = true; steps = n })
 here q k s n e h = record { found = sym (le-leb (magnitudeFor q k s) (2 ^ 36) (rw e h)); steps = λ w. sym e }
 
-over : (q k s n : ℕ) → magnitudeFor q k s ≡ n → 2 ^ 36 < n → MagnitudeFoundAs q k s (record { found = false; steps = 0 })
-over q k s n e h = record { found = sym (lt-leb (magnitudeFor q k s) (2 ^ 36) (rw e h)); steps = λ w. absurd (subst T (sym w) tt) }
+not-found : (q k s n : ℕ) → magnitudeFor q k s ≡ n → 2 ^ 36 < n → MagnitudeFoundAs q k s (record { found = false; steps = 0 })
+not-found q k s n e h = record { found = sym (lt-leb (magnitudeFor q k s) (2 ^ 36) (rw e h)); steps = λ w. absurd (subst T (sym w) tt) }
 
 add-t : tie.Need-add-t
 add-t c = search needs
@@ -23,7 +23,7 @@ add-t c = search needs
 returns : tie.Need-returns
 returns c =
     let s = c .before in
-    over (s .args .digits) (s .args .shift) (s .args .s) _ refl
+    not-found (s .args .digits) (s .args .shift) (s .args .s) _ refl
     (magnitude-far (s .args .digits) (s .args .shift) (s .args .s) (c .if1 .taken) (s .pre .0 .full (λ (z : s .args .shift ≡ 0). omega arith)))
 
 sub-d : tie.Need-sub-d
@@ -60,7 +60,7 @@ returns-3 c =
 returns-4 : tie.Need-returns-4
 returns-4 c =
     let s = c .before .before .before .before in
-    over (s .args .digits) (s .args .shift) (s .args .s) _ (magnitude-is (c .before)) (omega (arith, c .if3 .left))
+    not-found (s .args .digits) (s .args .shift) (s .args .s) _ (magnitude-is (c .before)) (omega (arith, c .if3 .left))
 
 pub nearest-spec : {M : Type 1} → statement M
 nearest-spec =

@@ -8,8 +8,8 @@ use Rattle.doubles_interval.proofs.Values.{from-pattern}
 use Rattle.doubles_interval.proofs.from_parts.Statement.{statement}
 use Rattle.doubles_interval.proofs.from_parts.Tie as tie
 
-less : (q : ℕ) → q < 2 ^ 53 → q - 2 ^ 52 < 2 ^ 52
-less q h = omega arith
+less-leading : (q : ℕ) → q < 2 ^ 53 → q - 2 ^ 52 < 2 ^ 52
+less-leading q h = omega arith
 
 add-rest : tie.Need-add-rest
 add-rest c = search needs
@@ -32,7 +32,7 @@ module _ (k q : ℕ) (s : Bool) (p : (2 ^ 52 ≤ q) × (q < 2 ^ 53) × (k ≤ 20
   rest = (k + 1) * 2 ^ 52 + (q - 2 ^ 52)
 
   abbrev D : q - 2 ^ 52 < 2 ^ 52
-  D = less q (p .1)
+  D = less-leading q (p .1)
 
   plain : s ≡ false → P.Read rest k q s
   plain e = (P.plain-sign k (q - 2 ^ 52) (p .2) D ∙ sym e, P.plain-field k (q - 2 ^ 52) (p .2) D, P.plain-digits k (q - 2 ^ 52) (p .2) D)

@@ -4,7 +4,7 @@ use native.Mathlib.Nat.{le-antisymm}
 use native.Mathlib.Numerals.{add-one}
 use native.Mathlib.Omega.{arith}
 use lib.ListN.{length}
-use Rattle.loader_lists.specs.Filled.{filled}
+use Rattle.loader_lists.specs.Put.{filled}
 use Rattle.loader_lists.proofs.Filled.{filled-none, filled-next}
 use borrow.Author.Needs.{needs}
 use Rattle.loader_lists.proofs.fill_places.Statement.{statement}

@@ -1,5 +1,5 @@
 use Rattle.loader_lists.proofs.Lists.{lists-≡}
-use Rattle.loader_lists.specs.Filled.{closedWeights}
+use Rattle.loader_lists.specs.Put.{closedWeights}
 use Rattle.loader_lists.specs.Span.{FillRoom, spanOf, pastedAt}
 use Rattle.loader_values.specs.declared.Part.the-variants.{Right}
 use lib.IntN.{ℤ}

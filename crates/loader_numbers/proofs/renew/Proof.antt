@@ -1,5 +1,5 @@
 use mathlib.Core.Path.{ap, _∙_}
-use Rattle.loader.specs.Numbers.{loaderNumbers}
+use Rattle.loader.specs.Taken.{loaderNumbers}
 use borrow.Author.Needs.{needs}
 use Rattle.loader_numbers.proofs.renew.Statement.{statement}
 use Rattle.loader_numbers.proofs.renew.Tie as tie

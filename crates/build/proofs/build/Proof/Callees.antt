@@ -19,12 +19,12 @@ use prog.Wp.{Heap}
 use ghost.Atoms.{Atoms, sem}
 use contract.Monad.{Fun, fact}
 use types.Kit.{Given, ‵, _⊛_, ⋆, _$_, _∵_, !, qed, move, drop, split, join, fjoin, suffices, frame, done}
-use denote.RattleType.{RattleType, owns}
+use denote.RattleType.{owns}
 use denote.Laws.{Is}
 use denote.Plain.{uint-makes}
 use denote.Builtin.{u32, usize, i64}
 use denote.Ref.{RefT}
-use denote.Slice.{sliceVal, ShrSlice, MutSlice, finally}
+use denote.Slice.{ShrSlice, MutSlice, finally}
 use denote.Steps.{owned, nothing}
 use denote.Struct.Laws as LL
 use denote.Enum.Laws as EL
@@ -54,21 +54,12 @@ use Rattle.build.proofs.finish as fin
 use Rattle.build.specs.BuiltAs.{shortFor, BuiltAs}
 use Rattle.build.specs.Finished.{ReadyFor}
 use Rattle.build.proofs.Contract.{gatheredFor}
+use Rattle.build.proofs.Machine.{R, sl, laid}
 use Rattle.build.proofs.gather as all
 use Rattle.build.proofs.build as self
 
-abbrev pub R : RattleType
-R = T.the-row
-
 abbrev pub stayed : Stays (self.ended .signature .params) (self.ended .kept)
 stayed = (stay-none (λ _. u32) yes, (stay-none-slice (0 ∷ []) tt (plain (λ _. R)) yes, (stay-none (λ _. L.the-row) yes, (gave-slice (1 ∷ []) tt (plain (λ _. i64)), (gave-slice (2 ∷ []) tt (plain (λ _. i64)), tt)))))
-
--- the machine value of a layout
-abbrev pub laid : Layout → Val
-laid l = EL.val L.the-type L′.the-laws l
-
-abbrev pub sl : {A : Type 0} → RefT (List A) → Val
-sl x = sliceVal (x .ptr) (length (x .now))
 
 module _ {M : Type 1} (𝓤 : URA M) (H : Heap 𝓤) (A : Atoms 𝓤) (mem : Memory → SProp 𝓤) (run : Routine → Fun 𝓤) where
   abbrev pub Begin : Contract 𝓤

@@ -61,8 +61,9 @@ use Rattle.build_gathering.proofs.as_gathered as all
 use Rattle.build_gathering.proofs.as_gathered.Symbol.{name as #build-gathering·as-gathered}
 use Rattle.build.proofs.gather as self
 use Rattle.build.proofs.gather.Code.Mir as pieces
-use Rattle.build.proofs.gather.Proof.Lending.{AR, arr, the-one, array-val, typed-array, made, stored, back}
-use Rattle.build.proofs.gather.Proof.Callees.{R, word, slice, lent, far, lined, Arg, stayed, ref, One, All, to, to-all, typed, typed-far, typed-line, asked, asked-all, code-all}
+use Rattle.build.proofs.Machine.{R, the-one, long-word, lines}
+use Rattle.build.proofs.gather.Proof.Lending.{AR, arr, kept-val, typed-array, made, stored, back}
+use Rattle.build.proofs.gather.Proof.Callees.{lent-type, far-val, line-val, Arg, stayed, ref, One, All, to, to-all, typed, typed-far, typed-line, asked, asked-all, code-all}
 
 module _ {M : Type 1} (𝓤 : URA M) (H : Heap 𝓤) (A : Atoms 𝓤) (W : Given 𝓤 H A) (mem : Memory → SProp 𝓤) (run : Routine → Fun 𝓤) (κ : Lft) (q : Share) (b o : ℕ) (γ : GName) (ys : List Observation) (start : Progress) where
   abbrev pub n : ℕ
@@ -78,7 +79,7 @@ module _ {M : Type 1} (𝓤 : URA M) (H : Heap 𝓤) (A : Atoms 𝓤) (W : Given
   x = (record { ptr = (b, o); name = γ; now = ys }, (start, tt))
 
   abbrev pub at : Vals self.signature (κ, tt)
-  at = (sliceVal (b, o) n ∷ [], (far start ∷ [], tt))
+  at = (sliceVal (b, o) n ∷ [], (far-val start ∷ [], tt))
 
   abbrev pub Post : Val → SProp 𝓤
   Post = walkOf 𝓤 H A self.ended stayed (self.clauses 𝓤 H A mem run) .post (((κ, tt), (q, tt), tt, x, at), tt)
@@ -89,7 +90,7 @@ module _ {M : Type 1} (𝓤 : URA M) (H : Heap 𝓤) (A : Atoms 𝓤) (W : Given
   abbrev pub Bor : Fml
   Bor = fshr-bor κ (λ s. arr-parts (shares R) n .part s ys b o)
 
-  exits : (s : Gathered) (v : Val) → s ≡ gathered begun ys end → Is P.the-row start (far start ∷ []) → ent 𝓤 (⋆ 𝓤 H A (‵ (flft κ q) ∷ ‵ Own ∷ ‵ (S.the-row .own s (v ∷ [])) ∷ [])) (Post v)
+  exits : (s : Gathered) (v : Val) → s ≡ gathered begun ys end → Is P.the-row start (far-val start ∷ []) → ent 𝓤 (⋆ 𝓤 H A (‵ (flft κ q) ∷ ‵ Own ∷ ‵ (S.the-row .own s (v ∷ [])) ∷ [])) (Post v)
   exits s v e g₀ =
       qed W (‵ (flft κ q) ∷ ‵ Own ∷ ‵ (S.the-row .own s (v ∷ [])) ∷ []) ∵
       suffices ! _ (ends-at 𝓤 H A self.ended stayed (self.clauses 𝓤 H A mem run) W (((κ, tt), (q, tt), tt, x, at), tt) v s (tt, (tt, tt)) (tt, (tt, tt))) $ says ! e $
@@ -98,7 +99,7 @@ module _ {M : Type 1} (𝓤 : URA M) (H : Heap 𝓤) (A : Atoms 𝓤) (W : Given
       frame ! $ frame ! $ done !
 
   abbrev Upto : Type 0
-  Upto = (i : ℕ) × (p : Progress) × (xs : List ℕ) × (i ≤ end) × (together p xs ≡ gathered begun ys i) × Is P.the-row p (far p ∷ []) × Is AR xs (array-val xs ∷ [])
+  Upto = (i : ℕ) × (p : Progress) × (xs : List ℕ) × (i ≤ end) × (together p xs ≡ gathered begun ys i) × Is P.the-row p (far-val p ∷ []) × Is AR xs (kept-val xs ∷ [])
 
   abbrev Nearer : Upto → Upto → Type 0
   Nearer j i = end - j .0 < end - i .0
@@ -107,7 +108,7 @@ module _ {M : Type 1} (𝓤 : URA M) (H : Heap 𝓤) (A : Atoms 𝓤) (W : Given
   Nearer-wf = InvImage·wf (λ (i : Upto). end - i .0) (Nat·lt-wfRel .wf)
 
   module _ (𝓣 : Tables 𝓤 H) (fm : FmC 𝓤 H (W .laws) (𝓣 .C)) (known : Triple 𝓤 (𝓣 .C #build-gathering·add-observation) (One 𝓤 H A mem run)) (known-all : Triple 𝓤 (𝓣 .C #build-gathering·as-gathered) (All 𝓤 H A mem run))
-      (gn : Room R n) (g₀ : Is P.the-row start (far start ∷ [])) (l₀ l₁ l₂ l₃ l₄ l₅ l₆ l₇ l₈ l₉ l₁₀ l₁₁ l₁₂ l₁₃ : ℕ) where
+      (gn : Room R n) (g₀ : Is P.the-row start (far-val start ∷ [])) (l₀ l₁ l₂ l₃ l₄ l₅ l₆ l₇ l₈ l₉ l₁₀ l₁₁ l₁₂ l₁₃ : ℕ) where
     abbrev C : Calls 𝓤 H
     C = 𝓣 .C
 
@@ -115,13 +116,13 @@ module _ {M : Type 1} (𝓤 : URA M) (H : Heap 𝓤) (A : Atoms 𝓤) (W : Given
     Λ = 𝓣 .Λ
 
     abbrev En : Env 𝓤 H
-    En = (S′.mir, l₀) ∷ (slice, l₁) ∷ (P′.mir, l₂) ∷ (P′.mir, l₃) ∷ (arr, l₄) ∷ (word, l₅) ∷ (word, l₆) ∷ (arr, l₇) ∷ (word, l₈) ∷ (tyBool, l₉) ∷ (lent, l₁₀) ∷ (word, l₁₁) ∷ (tyPtr, l₁₂) ∷ (T′.mir, l₁₃) ∷ []
+    En = (S′.mir, l₀) ∷ (lines, l₁) ∷ (P′.mir, l₂) ∷ (P′.mir, l₃) ∷ (arr, l₄) ∷ (long-word, l₅) ∷ (long-word, l₆) ∷ (arr, l₇) ∷ (long-word, l₈) ∷ (tyBool, l₉) ∷ (lent-type, l₁₀) ∷ (long-word, l₁₁) ∷ (tyPtr, l₁₂) ∷ (T′.mir, l₁₃) ∷ []
 
     abbrev At : Upto → List (Item 𝓤)
-    At t = ‵ (flft κ q) ∷ ‵ Bor ∷ ‵ (froom T′.mir l₁₃ 0) ∷ ‵ (fdies T′.mir l₁₃) ∷ ‵ (froom tyPtr l₁₂ 0) ∷ ‵ (fdies tyPtr l₁₂) ∷ ‵ (froom word l₁₁ 0) ∷ ‵ (fdies word l₁₁) ∷ ‵ (froom lent l₁₀ 0) ∷ ‵ (fdies lent l₁₀)
-        ∷ ‵ (froom tyBool l₉ 0) ∷ ‵ (fdies tyBool l₉) ∷ ‵ (fat fullShare word l₈ 0 (vint w64 n)) ∷ ‵ (fdies word l₈) ∷ ‵ (fat fullShare arr l₇ 0 (array-val noLines)) ∷ ‵ (fdies arr l₇)
-        ∷ ‵ (fat fullShare word l₆ 0 (vint w64 (t .0))) ∷ ‵ (fdies word l₆) ∷ ‵ (fat fullShare word l₅ 0 (vint w64 end)) ∷ ‵ (fdies word l₅) ∷ ‵ (fat fullShare arr l₄ 0 (array-val (t .2))) ∷ ‵ (fdies arr l₄)
-        ∷ ‵ (fat fullShare P′.mir l₃ 0 (far (t .1))) ∷ ‵ (fdies P′.mir l₃) ∷ ‵ (fat fullShare P′.mir l₂ 0 (far start)) ∷ ‵ (fdies P′.mir l₂) ∷ ‵ (fat fullShare slice l₁ 0 (sliceVal (b, o) n)) ∷ ‵ (fdies slice l₁)
+    At t = ‵ (flft κ q) ∷ ‵ Bor ∷ ‵ (froom T′.mir l₁₃ 0) ∷ ‵ (fdies T′.mir l₁₃) ∷ ‵ (froom tyPtr l₁₂ 0) ∷ ‵ (fdies tyPtr l₁₂) ∷ ‵ (froom long-word l₁₁ 0) ∷ ‵ (fdies long-word l₁₁) ∷ ‵ (froom lent-type l₁₀ 0) ∷ ‵ (fdies lent-type l₁₀)
+        ∷ ‵ (froom tyBool l₉ 0) ∷ ‵ (fdies tyBool l₉) ∷ ‵ (fat fullShare long-word l₈ 0 (vint w64 n)) ∷ ‵ (fdies long-word l₈) ∷ ‵ (fat fullShare arr l₇ 0 (kept-val noLines)) ∷ ‵ (fdies arr l₇)
+        ∷ ‵ (fat fullShare long-word l₆ 0 (vint w64 (t .0))) ∷ ‵ (fdies long-word l₆) ∷ ‵ (fat fullShare long-word l₅ 0 (vint w64 end)) ∷ ‵ (fdies long-word l₅) ∷ ‵ (fat fullShare arr l₄ 0 (kept-val (t .2))) ∷ ‵ (fdies arr l₄)
+        ∷ ‵ (fat fullShare P′.mir l₃ 0 (far-val (t .1))) ∷ ‵ (fdies P′.mir l₃) ∷ ‵ (fat fullShare P′.mir l₂ 0 (far-val start)) ∷ ‵ (fdies P′.mir l₂) ∷ ‵ (fat fullShare lines l₁ 0 (sliceVal (b, o) n)) ∷ ‵ (fdies lines l₁)
         ∷ ‵ (froom S′.mir l₀ 0) ∷ ‵ (fdies S′.mir l₀) ∷ ‵ Own ∷ []
 
     abbrev Turned : Upto → Out → SProp 𝓤
@@ -141,7 +142,7 @@ module _ {M : Type 1} (𝓤 : URA M) (H : Heap 𝓤) (A : Atoms 𝓤) (W : Given
         looks-slice ! tt R (Is R) (shows 𝓤 H A R) (LL.vals T.the-type T′.the-laws) (LL.tells T.the-type T′.the-laws) ((LL.copy T.the-type T′.the-copy) 𝓤 H A W) ys b o (λ q′.
         elem-out ! R (Is R) (shows 𝓤 H A R) (LL.vals T.the-type T′.the-laws) (LL.tells T.the-type T′.the-laws) q′ ys (t .0) noObservation b o lt₁ (λ g.
         assigns ! (of-opd ! (load ! (from ! (hop ! (look ! 7 refl) (stop !))) (look-raw ! 0 refl))) (from ! (stop !)) (init ! 5 refl (typed-line 𝓤 H A W mem run line g)) $
-        elem-back ! R q′ ys (t .0) noObservation (lined line ∷ []) b o lt₁ $ shuts-slice ! tt R q′ ys b o $
+        elem-back ! R q′ ys (t .0) noObservation (line-val line ∷ []) b o lt₁ $ shuts-slice ! tt R q′ ys b o $
         -- [the token; the borrow; _13; …]: the kept lines are lent for a lifetime that is made here
         move ! (20 ∷ []) $ use1 W (‵ (lying AR .lies (t .2) l₄ 0)) (stored 𝓤 H A W (t .2) l₄ (t .6)) $ lft-new ! tt (λ α. move ! (1 ∷ []) $
         use1 W (later (some (λ (γ₁ : GName). ‵ (MutRef (named 0) (α ∷ []) AR .own (ref l₄ γ₁ (t .2)) (vptr l₄ 0 ∷ [])) ⊛ ‵ (flent (α ∷ []) (Body (lying AR) l₄ 0 γ₁))))) (lends-ref 𝓤 H A W AR (named 0) (α ∷ []) (t .2) l₄ 0) $ await ! tt $ pick ! (λ γ₁. split ! $
@@ -157,7 +158,7 @@ module _ {M : Type 1} (𝓤 : URA M) (H : Heap 𝓤) (A : Atoms 𝓤) (W : Given
         -- [the last of the kept lines; its token and the answer; what is lent; the token; the borrow; _13; …]: the lifetime is ended, and the lines are taken back
         move ! (1 ∷ []) $ split ! $ split ! $ lft-end ! tt $ move ! (0 ∷ 4 ∷ 3 ∷ []) $
         use3 W (later (‵ (lying AR .lies (zs .1 .0) l₄ 0))) (ref-back 𝓤 H A W AR (α ∷ []) γ₁ (zs .1 .0) l₄ 0) $ await ! tt $
-        use1 W (‵ (fat fullShare arr l₄ 0 (array-val (zs .1 .0))) ⊛ raw (fact 𝓤 (Is AR (zs .1 .0) (array-val (zs .1 .0) ∷ [])))) (back 𝓤 H A W (zs .1 .0) l₄) $ split ! $ move ! (1 ∷ []) $ heard ! (Is AR (zs .1 .0) (array-val (zs .1 .0) ∷ [])) (λ isa.
+        use1 W (‵ (fat fullShare arr l₄ 0 (kept-val (zs .1 .0))) ⊛ raw (fact 𝓤 (Is AR (zs .1 .0) (kept-val (zs .1 .0) ∷ [])))) (back 𝓤 H A W (zs .1 .0) l₄) $ split ! $ move ! (1 ∷ []) $ heard ! (Is AR (zs .1 .0) (kept-val (zs .1 .0) ∷ [])) (λ isa.
         -- [the kept lines; true; the answer; the token; the borrow; _13; …]
         move ! (2 ∷ []) $ peeks ! P.the-row (Is P.the-row) (shows 𝓤 H A P.the-row) r (u ∷ []) (λ is.
         land ! (from ! (stop !)) (store ! 24 refl (typed-far 𝓤 H A W mem run r u is)) $
@@ -182,7 +183,7 @@ module _ {M : Type 1} (𝓤 : URA M) (H : Heap 𝓤) (A : Atoms 𝓤) (W : Given
         more : t .0 + 1 < 2 ^ 64
         more = omega (arith, gn .0, lt₁)
 
-        next : (r : Progress) (u : Val) (zs : List ℕ) → together r zs ≡ added (together (t .1) (t .2)) (getD ys (t .0) noObservation) → Is P.the-row r (u ∷ []) → Is AR zs (array-val zs ∷ []) → Upto
+        next : (r : Progress) (u : Val) (zs : List ℕ) → together r zs ≡ added (together (t .1) (t .2)) (getD ys (t .0) noObservation) → Is P.the-row r (u ∷ []) → Is AR zs (kept-val zs ∷ []) → Upto
         next r u zs e is isa = (
           t .0 + 1,
           r,
@@ -212,5 +213,5 @@ module _ {M : Type 1} (𝓤 : URA M) (H : Heap 𝓤) (A : Atoms 𝓤) (W : Given
     turns : (t : Upto) → Sq W (At t) (runs C Λ En pieces.turn-1 (anyQ (Turned t)))
     turns t = turn-at t (ltb (t .0) end) refl
 
-    pub looped : (isn : Is AR noLines (array-val noLines ∷ [])) → Sq W (At (0, start, noLines, zero-le, gathered-none begun ys, g₀, isn)) (runs C Λ En pieces.t-7 (atRet En Post))
+    pub looped : (isn : Is AR noLines (kept-val noLines ∷ [])) → Sq W (At (0, start, noLines, zero-le, gathered-none begun ys, g₀, isn)) (runs C Λ En pieces.t-7 (atRet En Post))
     looped isn = first ! $ blocks ! $ loops ! 𝓣 Nearer Nearer-wf At turns (0, start, noLines, zero-le, gathered-none begun ys, g₀, isn)

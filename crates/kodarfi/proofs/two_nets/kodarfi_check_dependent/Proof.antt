@@ -1,4 +1,4 @@
-use Rattle.rules.specs.Order.{refusalOf}
+use Rattle.rules.specs.Which.{refusalOf}
 use Rattle.dependent_spec.specs.Order.{netsCode}
 use Rattle.reply.proofs.ReplyIs.{status-alone}
 use borrow.Author.Needs.{needs}

@@ -1,4 +1,4 @@
-use Rattle.rules.specs.Order.{refusalOf}
+use Rattle.rules.specs.Which.{refusalOf}
 use Rattle.common_spec.specs.Answer.{commonCode}
 use Rattle.reply.proofs.ReplyIs.{status-alone}
 use borrow.Author.Needs.{needs}

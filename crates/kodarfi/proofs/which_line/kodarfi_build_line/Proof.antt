@@ -48,7 +48,8 @@ use Rattle.build.proofs.gather.Met as all-thm
 use Rattle.reply.proofs.builds.finish_status.Symbol as fin-def
 use Rattle.reply.proofs.builds.finish_status.Symbol.{name as #reply·builds·finish-status}
 use Rattle.reply.proofs.builds.finish_status.Met as fin-thm
-use Rattle.kodarfi.proofs.BuildParts.{R, sl, laid}
+use Rattle.build.proofs.Machine.{R, sl}
+use Rattle.kodarfi.proofs.BuildParts.{square-laid}
 use Rattle.kodarfi.proofs.BuildLineWalk.{pt, Begin, All, Fin, passed as passed-of, vals as vals-of, Exits, Left, rest}
 use Rattle.kodarfi.proofs.which_line.kodarfi_build_line.Key.{name as #self}
 use Rattle.kodarfi.proofs.which_line.kodarfi_build_line as self
@@ -58,23 +59,20 @@ use Rattle.kodarfi.proofs.which_line.kodarfi_build_line.Code as code
 abbrev stayed : Stays (self.ended .signature .params) (self.ended .kept)
 stayed = (stay-none (λ _. u32) yes, (stay-none-slice (0 ∷ []) tt (plain (λ _. R)) yes, (gave-slice (1 ∷ []) tt (plain (λ _. i64)), (gave-slice (2 ∷ []) tt (plain (λ _. i64)), (gave-ref (3 ∷ []) tt (plain (λ _. u64)), tt)))))
 
-laid-is : Is L.the-row Square (laid Square ∷ [])
-laid-is = EL.owes L.the-type L′.the-laws Square tt
-
 module _ {M : Type 1} (𝓤 : URA M) (H : Heap 𝓤) (A : Atoms 𝓤) (W : Given 𝓤 H A) (mem : Memory → SProp 𝓤) (run : Routine → Fun 𝓤) (κ κ′ κ″ κ‴ : Lft) (q q′ q″ q‴ : Share)
     (n : ℕ) (x : RefT (List Observation)) (m r : RefT (List ℤ)) (y : RefT ℕ) (nf : n < 2 ^ 32) where
   abbrev a : ℕ × (RefT (List Observation) × (RefT (List ℤ) × (RefT (List ℤ) × (RefT ℕ × Unit {0}))))
-  a = passed-of 𝓤 H A W mem run κ κ′ κ″ κ‴ q q′ q″ q‴ n x Square m r y nf laid-is
+  a = passed-of 𝓤 H A W mem run κ κ′ κ″ κ‴ q q′ q″ q‴ n x Square m r y nf square-laid
 
   abbrev vals : List Val × (List Val × (List Val × (List Val × (List Val × Unit {0}))))
-  vals = vals-of 𝓤 H A W mem run κ κ′ κ″ κ‴ q q′ q″ q‴ n x Square m r y nf laid-is
+  vals = vals-of 𝓤 H A W mem run κ κ′ κ″ κ‴ q q′ q″ q‴ n x Square m r y nf square-laid
 
   abbrev Post : Val → SProp 𝓤
   Post = walkOf 𝓤 H A self.ended stayed (self.clauses 𝓤 H A mem run) .post (((κ, (κ′, (κ″, (κ‴, tt)))), (q, (q′, (q″, (q‴, tt)))), tt, a, vals), tt)
 
-  exits : Exits 𝓤 H A W mem run κ κ′ κ″ κ‴ q q′ q″ q‴ n x Square m r y nf laid-is Post
+  exits : Exits 𝓤 H A W mem run κ κ′ κ″ κ‴ q q′ q″ q‴ n x Square m r y nf square-laid Post
   exits z v zm zr zl e lm lr =
-      qed W (‵ (u32 .own z (v ∷ [])) ∷ Left 𝓤 H A W mem run κ κ′ κ″ κ‴ q q′ q″ q‴ n x Square m r y nf laid-is zm zr zl) ∵
+      qed W (‵ (u32 .own z (v ∷ [])) ∷ Left 𝓤 H A W mem run κ κ′ κ″ κ‴ q q′ q″ q‴ n x Square m r y nf square-laid zm zr zl) ∵
       suffices ! _ (ends-at 𝓤 H A self.ended stayed (self.clauses 𝓤 H A mem run) W (((κ, (κ′, (κ″, (κ‴, tt)))), (q, (q′, (q″, (q‴, tt)))), tt, a, vals), tt) v z (tt, (tt, (zm, (zr, (zl, tt))))) (tt, (tt, (lm, (lr, (tt, tt)))))) $ says ! e $
       move ! (5 ∷ []) $ split ! $ move ! (1 ∷ []) $ drop ! $ move ! (0 ∷ 2 ∷ []) $ join ! $ frame ! $
       -- [result; last line; last right; last matrix; lines]
@@ -91,8 +89,8 @@ module _ {M : Type 1} (𝓤 : URA M) (H : Heap 𝓤) (A : Atoms 𝓤) (W : Given
         pass1 ! (init ! 30 refl (tt, record { fits = nf })) $ pass1 ! (init ! 28 refl (tt, (tt, (record { fits = rx .0 }, tt)))) $
         pass1 ! (init ! 26 refl (tt, (tt, (record { fits = rm .0 }, tt)))) $ pass1 ! (init ! 24 refl (tt, (tt, (record { fits = rr .0 }, tt)))) $ pass1 ! (init ! 22 refl (tt, tt)) $ pass0 ! $
         -- the layout
-        assigns ! (agg ! (and-then ! (lit ! tt) (no-more !))) (from ! (stop !)) (init ! 20 refl (EL.lawful L.the-type L′.the-laws 𝓤 H A W tt .typed Square _ laid-is .0)) $
-        rest 𝓤 H A W mem run κ κ′ κ″ κ‴ q q′ q″ q‴ n x Square m r y nf laid-is C Λ fm known-begin known-all known-fin rx rm rr Post exits l₀ l₁ l₂ l₃ l₄ l₅ l₆ l₇ l₈ l₉ l₁₀ l₁₁ l₁₂ l₁₃ l₁₄ l₁₅ l₁₆)))))))))))))))))
+        assigns ! (agg ! (and-then ! (lit ! tt) (no-more !))) (from ! (stop !)) (init ! 20 refl (EL.lawful L.the-type L′.the-laws 𝓤 H A W tt .typed Square _ square-laid .0)) $
+        rest 𝓤 H A W mem run κ κ′ κ″ κ‴ q q′ q″ q‴ n x Square m r y nf square-laid C Λ fm known-begin known-all known-fin rx rm rr Post exits l₀ l₁ l₂ l₃ l₄ l₅ l₆ l₇ l₈ l₉ l₁₀ l₁₁ l₁₂ l₁₃ l₁₄ l₁₅ l₁₆)))))))))))))))))
 
 module _ {M : Type 1} (𝓤 : URA M) (H : Heap 𝓤) (A : Atoms 𝓤) (W : Given 𝓤 H A) (mem : Memory → SProp 𝓤) (run : Routine → Fun 𝓤) where
   walks : (C : Calls 𝓤 H) (Λ : Loops 𝓤 H) → FmC 𝓤 H (W .laws) C → Triple 𝓤 (C #build·begin) (Begin 𝓤 H A mem run) → Triple 𝓤 (C #build·gather) (All 𝓤 H A mem run) → Triple 𝓤 (C #reply·builds·finish-status) (Fin 𝓤 H A mem run)

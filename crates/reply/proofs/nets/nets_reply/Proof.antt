@@ -1,5 +1,5 @@
 use mathlib.Core.Path.{sym, ap, _∙_}
-use Rattle.rules.specs.Order.{refusalOf}
+use Rattle.rules.specs.Which.{refusalOf}
 use Rattle.listing_refusal.specs.Refused.{printed}
 use Rattle.listing_refusal.specs.Reply.{replyOf}
 use Rattle.dependent_spec.specs.Order.{netsCode}

@@ -1,5 +1,5 @@
 use mathlib.Core.Path.{_≡_, sym, ap, _∙_}
-use Rattle.rules.specs.Order.{refusalOf}
+use Rattle.rules.specs.Which.{refusalOf}
 use Rattle.listing_refusal.specs.Refused.{printed}
 use Rattle.listing_refusal.specs.Reply.{replyOf}
 use Rattle.common_spec.specs.Answer.{commonCode}
@@ -8,8 +8,8 @@ use borrow.Author.Needs.{needs}
 use Rattle.reply.proofs.proposals.common_reply.Statement.{statement}
 use Rattle.reply.proofs.proposals.common_reply.Tie as tie
 
-status-of : {a b : Common} → a ≡ b → replyOf (printed 0 (refusalOf (commonCode b))) ≡ replyOf (printed 0 (refusalOf (commonCode a)))
-status-of e = ap (λ (f : Common). replyOf (printed 0 (refusalOf (commonCode f)))) (sym e)
+refusal-same : {a b : Common} → a ≡ b → replyOf (printed 0 (refusalOf (commonCode b))) ≡ replyOf (printed 0 (refusalOf (commonCode a)))
+refusal-same e = ap (λ (f : Common). replyOf (printed 0 (refusalOf (commonCode f)))) (sym e)
 
 enum-told : tie.Need-enum-told
 enum-told c = search needs
@@ -51,19 +51,19 @@ returns : tie.Need-returns
 returns c = search needs
 
 returns-2 : tie.Need-returns-2
-returns-2 c = c .reply-of .ensures ∙ status-of (c .before .enum-told2 .given .1)
+returns-2 c = c .reply-of .ensures ∙ refusal-same (c .before .enum-told2 .given .1)
 
 returns-3 : tie.Need-returns-3
-returns-3 c = c .reply-of2 .ensures ∙ status-of (c .before .before .common .given .1)
+returns-3 c = c .reply-of2 .ensures ∙ refusal-same (c .before .before .common .given .1)
 
 returns-4 : tie.Need-returns-4
-returns-4 c = c .reply-of3 .ensures ∙ status-of (c .before .before .common2 .given .1)
+returns-4 c = c .reply-of3 .ensures ∙ refusal-same (c .before .before .common2 .given .1)
 
 returns-5 : tie.Need-returns-5
-returns-5 c = c .alone .ensures ∙ status-of (c .before .enum-told3 .given .1)
+returns-5 c = c .alone .ensures ∙ refusal-same (c .before .enum-told3 .given .1)
 
 returns-6 : tie.Need-returns-6
-returns-6 c = c .alone2 .ensures ∙ status-of (c .before .enum-told4 .given .1)
+returns-6 c = c .alone2 .ensures ∙ refusal-same (c .before .enum-told4 .given .1)
 
 pub common-reply-spec : {M : Type 1} → statement M
 common-reply-spec =

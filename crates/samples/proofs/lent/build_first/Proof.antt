@@ -62,8 +62,9 @@ use Rattle.samples.proofs.lent.build_first.Key.{name as #build-first}
 use Rattle.samples.proofs.lent.build_first as self
 use Rattle.samples.proofs.lent.build_first.Statement as stated
 use Rattle.samples.proofs.lent.build_first.Code as code
-use Rattle.samples.proofs.lent.build_first.Proof.Lending.{R, whole, Apart, first-of, stored, lent-first, back}
-use Rattle.samples.proofs.lent.build_first.Proof.Callees.{line-vals, array-val, laid, stayed, sl, Build, typed-array, halved, a as args-of, vals as vals-of, Post as post-of, lent-args, to-build, asked-build, exits}
+use Rattle.build.proofs.Machine.{R, sl, laid}
+use Rattle.samples.proofs.lent.build_first.Proof.Lending.{array-type, Apart, first-of, stored, lent-first, back}
+use Rattle.samples.proofs.lent.build_first.Proof.Callees.{line-vals, array-val, stayed, Build, typed-array, halved, a as args-of, vals as vals-of, Post as post-of, lent-args, to-build, asked-build, exits}
 
 module _ {M : Type 1} (𝓤 : URA M) (H : Heap 𝓤) (A : Atoms 𝓤) (W : Given 𝓤 H A) (mem : Memory → SProp 𝓤) (run : Routine → Fun 𝓤) (κ′ κ″ : Lft) (q′ q″ : Share)
     (n : ℕ) (ls : List Observation) (k : ℕ) (lay : Layout) (m r : RefT (List ℤ)) (nf : n < 2 ^ 32) (kf : k < 2 ^ 64) (is : Is (Array R 320) ls (array-val ls ∷ [])) (lf : Is L.the-row lay (laid lay ∷ [])) where
@@ -122,7 +123,7 @@ module _ {M : Type 1} (𝓤 : URA M) (H : Heap 𝓤) (A : Atoms 𝓤) (W : Given
         move ! (2 ∷ []) $ split ! $ move ! (1 ∷ []) $ peeks ! B.the-row (Is B.the-row) (shows 𝓤 H A B.the-row) b (w ∷ []) (λ is′.
         land ! (from ! (stop !)) (init ! 30 refl (EL.lawful B.the-type B′.the-laws 𝓤 H A W tt .typed b _ is′ .0)) $
         -- the lifetime is ended, and the array taken back
-        move ! (1 ∷ []) $ split ! $ lft-end ! tt $ move ! (0 ∷ 5 ∷ []) $ use2 W (later (some (λ (v : Val). ‵ (fat fullShare whole l₇ 0 v)))) (back 𝓤 H A W ls l₇ (α ∷ [])) $ await ! tt $ pick ! (λ v.
+        move ! (1 ∷ []) $ split ! $ lft-end ! tt $ move ! (0 ∷ 5 ∷ []) $ use2 W (later (some (λ (v : Val). ‵ (fat fullShare array-type l₇ 0 v)))) (back 𝓤 H A W ls l₇ (α ∷ [])) $ await ! tt $ pick ! (λ v.
         -- [the array; the tokens; the answer; last right; last matrix; _13; …]
         returns ! (look ! 30 refl) $ forget ! 0 refl $ forget ! 5 refl $ forget ! 7 refl $ forget ! 9 refl $ forget ! 11 refl $ forget ! 13 refl $ forget ! 15 refl $ forget ! 18 refl $ forget ! 20 refl $ forget ! 22 refl $ forget ! 24 refl $ forget ! 26 refl $ forget ! 28 refl $ forget ! 30 refl $
         move ! (30 ∷ 31 ∷ []) $ free1 ! $ move ! (28 ∷ 29 ∷ []) $ free1 ! $ move ! (26 ∷ 27 ∷ []) $ free1 ! $ move ! (24 ∷ 25 ∷ []) $ free1 ! $ move ! (22 ∷ 23 ∷ []) $ free1 ! $ move ! (20 ∷ 21 ∷ []) $ free1 ! $ move ! (18 ∷ 19 ∷ []) $ free1 ! $ move ! (0 ∷ 17 ∷ []) $ free1 ! $

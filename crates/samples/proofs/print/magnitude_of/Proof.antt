@@ -10,9 +10,9 @@ use borrow.Author.Needs.{needs}
 use Rattle.samples.proofs.print.magnitude_of.Statement.{statement}
 use Rattle.samples.proofs.print.magnitude_of.Tie as tie
 
-above : (z : ℤ) → mag z < 2 ^ 63 → ltZ z (negsuc 9223372036854775806) ≡ false → natAbs z < 2 ^ 63
-above (pos n) f h = f
-above (negsuc n) f h = omega (arith, ltb-false 9223372036854775806 n h)
+above-lowest : (z : ℤ) → mag z < 2 ^ 63 → ltZ z (negsuc 9223372036854775806) ≡ false → natAbs z < 2 ^ 63
+above-lowest (pos n) f h = f
+above-lowest (negsuc n) f h = omega (arith, ltb-false 9223372036854775806 n h)
 
 returns : tie.Need-returns
 returns c = search needs
@@ -20,7 +20,7 @@ returns c = search needs
 magnitude-requires : tie.Need-magnitude-requires
 magnitude-requires c κs =
     let f = c .before .fits .x .sfits in
-    rw (read _ f) (above (c .before .args .x) f (rw (read _ f) at (c .if1 .left)))
+    rw (read _ f) (above-lowest (c .before .args .x) f (rw (read _ f) at (c .if1 .left)))
 
 returns-2 : tie.Need-returns-2
 returns-2 c = search needs

@@ -47,37 +47,27 @@ use Rattle.build_equations.specs.declared.Layout.{Layout}
 use Rattle.build_equations.proofs.Layout as L
 use Rattle.build_equations.proofs.Layout.Laws as L′
 use Rattle.build.specs.BuiltAs.{BuiltAs}
+use Rattle.build.proofs.Machine.{R, sl, laid, the-one}
 use Rattle.build.proofs.build as build-fn
 use Rattle.samples.proofs.lent.build_first as self
-use Rattle.samples.proofs.lent.build_first.Proof.Lending.{R, whole, first-of}
+use Rattle.samples.proofs.lent.build_first.Proof.Lending.{array-type, first-of}
 
 abbrev pub line-vals : Observation → List Val
 line-vals = LL.vals T.the-type T′.the-laws
-
-abbrev the-one : List Val → Val
-the-one [] = vint w64 0
-the-one (v ∷ vs) = v
 
 -- the machine value of the array
 abbrev pub array-val : List Observation → Val
 array-val ls = the-one (array-vals line-vals ls)
 
--- the machine value of a layout
-abbrev pub laid : Layout → Val
-laid l = EL.val L.the-type L′.the-laws l
-
 abbrev pub stayed : Stays (self.ended .signature .params) (self.ended .kept)
 stayed = (stay-none (λ _. u32) yes, (stay-none (λ _. Array R 320) yes, (stay-none (λ _. usize) yes, (stay-none (λ _. L.the-row) yes, (gave-slice (0 ∷ []) tt (plain (λ _. i64)), (gave-slice (1 ∷ []) tt (plain (λ _. i64)), tt))))))
-
-abbrev pub sl : {A : Type 0} → RefT (List A) → Val
-sl x = sliceVal (x .ptr) (length (x .now))
 
 module _ {M : Type 1} (𝓤 : URA M) (H : Heap 𝓤) (A : Atoms 𝓤) (mem : Memory → SProp 𝓤) (run : Routine → Fun 𝓤) where
   abbrev pub Build : Contract 𝓤
   Build = tripleOf 𝓤 H A build-fn.signature (build-fn.spec 𝓤 H A mem run)
 
 module _ {M : Type 1} (𝓤 : URA M) (H : Heap 𝓤) (A : Atoms 𝓤) (W : Given 𝓤 H A) where
-  pub typed-array : (ls : List Observation) → Is (Array R 320) ls (array-val ls ∷ []) → Holds (hasTy whole (array-val ls)) × WT (array-val ls)
+  pub typed-array : (ls : List Observation) → Is (Array R 320) ls (array-val ls ∷ []) → Holds (hasTy array-type (array-val ls)) × WT (array-val ls)
   typed-array ls is = array-lawful 𝓤 H A W R (LL.lawful T.the-type T′.the-laws 𝓤 H A W) 320 .typed ls _ is .0
 
   pub halved : Halved 𝓤 H A R

@@ -18,7 +18,6 @@ use ghost.Atoms.{Atoms, sem}
 use types.Kit.{Given, ‵, _⊛_, some, later, _$_, _∵_, !, qed, by, move, keep, use1, use2, rewrite, split, pick, fsplit, fjoin, fpick, fpack, feqL, feqI, await, updating, now as at-once}
 use types.Tokens.{lent-back}
 use types.Share.{arr-parts}
-use denote.RattleType.{RattleType}
 use denote.Memory.{lone, cellAt, partAt, partOf, shares}
 use denote.Array.{Array, arrayVal}
 use denote.ArrayMemory.{array-apart, array-whole}
@@ -28,13 +27,10 @@ use borrow.Table.Owned as O
 use borrow.Table.Copies.{Halved}
 use borrow.Rule.Slice.Prefix.{shs-prefix-same}
 use Rattle.build_lines.specs.declared.Observation.{Observation}
-use Rattle.build_lines.proofs.Observation as T
+use Rattle.build.proofs.Machine.{R}
 
-abbrev pub R : RattleType
-R = T.the-row
-
-abbrev pub whole : Ty
-whole = tyArray (lone (R .mir)) 320
+abbrev pub array-type : Ty
+array-type = tyArray (lone (R .mir)) 320
 
 -- the share of all the lines of the array at l
 abbrev pub Apart : List Observation → ℕ → Fml
@@ -44,11 +40,11 @@ abbrev pub first-of : List Observation → ℕ → ℕ → GName → RefT (List 
 first-of ls k l γ = record { ptr = (l, 0); name = γ; now = take k ls }
 
 module _ {M : Type 1} (𝓤 : URA M) (H : Heap 𝓤) (A : Atoms 𝓤) (W : Given 𝓤 H A) (ls : List Observation) (l : ℕ) where
-  pub stored : (v : Val) → ent 𝓤 (sep 𝓤 (sem 𝓤 H A (fat fullShare whole l 0 v)) (sem 𝓤 H A (Array R 320 .own ls (v ∷ [])))) (sem 𝓤 H A (Apart ls l))
+  pub stored : (v : Val) → ent 𝓤 (sep 𝓤 (sem 𝓤 H A (fat fullShare array-type l 0 v)) (sem 𝓤 H A (Array R 320 .own ls (v ∷ [])))) (sem 𝓤 H A (Apart ls l))
   unfolding partOf
   stored v =
-      qed W (‵ (fat fullShare whole l 0 v) ∷ ‵ (Array R 320 .own ls (v ∷ [])) ∷ []) ∵
-      use1 W (‵ (cellAt fullShare (whole ∷ []) (v ∷ []) l 0)) (W .laws .at-raw fullShare whole l 0 v) $ fjoin ! $
+      qed W (‵ (fat fullShare array-type l 0 v) ∷ ‵ (Array R 320 .own ls (v ∷ [])) ∷ []) ∵
+      use1 W (‵ (cellAt fullShare (array-type ∷ []) (v ∷ []) l 0)) (W .laws .at-raw fullShare array-type l 0 v) $ fjoin ! $
       fpack ! (List Val) (λ vs. fsep (cellAt fullShare (Array R 320 .mir) vs l 0) (Array R 320 .own ls vs)) (v ∷ []) $
       by ! (array-apart 𝓤 H A W R fullShare tt 320 ls l 0)
 
@@ -67,12 +63,12 @@ module _ {M : Type 1} (𝓤 : URA M) (H : Heap 𝓤) (A : Atoms 𝓤) (W : Given
         move ! (0 ∷ 1 ∷ 2 ∷ []) $ rewrite ! 2 (λ (z : ℕ). ‵ (flent κ (arr-parts (shares R) z .part fullShare ls l 0))) all refl $ at-once ! $ by ! (exI 𝓤 Part γ₁))))
 
   abbrev There : Val → SProp 𝓤
-  There v = sem 𝓤 H A (fat fullShare whole l 0 v)
+  There v = sem 𝓤 H A (fat fullShare array-type l 0 v)
 
   pub back : (κ : Lft) → ent 𝓤 (sep 𝓤 (A .dead κ) (A .lent κ (Apart ls l))) (H .⇛ (ex 𝓤 There))
   unfolding partOf
   back κ =
       qed W (‵ (fdead κ) ∷ ‵ (flent κ (Apart ls l)) ∷ []) {P = H .⇛ (ex 𝓤 There)} (updating ! $ lent-back ! tt $
       use1 W (‵ (partAt (Array R 320) fullShare ls l 0)) (array-whole 𝓤 H A W R fullShare 320 ls l 0) $ fpick ! (λ vs. fsplit ! $ move ! (1 ∷ []) $ fpick ! (λ us. fsplit ! $ fsplit ! $ feqL ! (λ e. feqL ! (λ n.
-      rewrite ! 1 (λ (ws : List Val). ‵ (cellAt fullShare (whole ∷ []) ws l 0)) e refl $ move ! (1 ∷ []) $
-      use1 W (‵ (fat fullShare whole l 0 (arrayVal us))) (W .laws .raw-at fullShare whole l 0 (arrayVal us)) $ keep ! (0 ∷ []) $ at-once ! $ by ! (exI 𝓤 There (arrayVal us)))))))
+      rewrite ! 1 (λ (ws : List Val). ‵ (cellAt fullShare (array-type ∷ []) ws l 0)) e refl $ move ! (1 ∷ []) $
+      use1 W (‵ (fat fullShare array-type l 0 (arrayVal us))) (W .laws .raw-at fullShare array-type l 0 (arrayVal us)) $ keep ! (0 ∷ []) $ at-once ! $ by ! (exI 𝓤 There (arrayVal us)))))))
