@@ -1,22 +1,27 @@
 -- The sums over all rows.
 --   no-sums, sums-none, sums-more, sums-end — at none, with one row more and at the end, for loops
 --   ups-small, downs-small, sums-room, total-small, biased-small — the sums, the sum of the factors and 2^25 times it stay small
---   sums-less — the two sums, put right, are the sum of the multiples of what the biased numbers stand for
+--   unit-up, unit-down — what adding number m, m of T·I to its sum leaves of the two sums of number j;  unit-small — it stays small
+--   sums-less — the two sums with that, put right, are T·I less the sum of the multiples of what the biased numbers stand for
 use mathlib.Core.List.{List}
-use mathlib.Core.Path.{_≡_, sym, ap, subst, _∙_}
+use mathlib.Core.Path.{_≡_, refl, sym, ap, subst, _∙_}
 use Prim.Native.Nat.{ℕ, zero, suc, _+_, _*_, _≤_, _<_, _^_}
 use native.Mathlib.Omega.{arith}
 use native.Mathlib.Nat.{le-refl, mul-le-mul, mul-le-mul-right, le-trans, le-antisymm}
 use lib.IntN.{ℤ, pos, natAbs, _+ℤ_, _-ℤ_, _*ℤ_}
-use lib.ListN.{getD, replicate, getD-replicate}
+use lib.ListN.{getD, length, set, replicate, getD-replicate}
+use lib.Seq.{getD-set-same, getD-set-other}
+use native.Mathlib.Decide.{ℕ-discrete}
 use Rattle.integer.specs.SignedParts.{posPart, negPart}
 use Rattle.integer.specs.Finite.{sum, sumℕ}
 use Rattle.integer.proofs.Difference.{is, zz}
-use Rattle.integer.proofs.Absolute.{abs-*}
+use Rattle.integer.proofs.Absolute.{abs-*, abs-+}
 use Rattle.integer.proofs.Sum.{sumℕ-none, sumℕ-next, sumℕ≤, abs-sum≤}
 use Rattle.check_biased_rows.specs.Biased.{bias, unbiased, unbiasedRows}
 use Rattle.check_biased_rows.specs.Place.{biasedPlace}
+use Rattle.linear.specs.Matrix.{identity}
 use Rattle.check_arrays.specs.Arrays.{PrefixIs}
+use Rattle.check_arrays.proofs.Magnitudes.{unit-magnitude, unit-same, unit-other}
 use Rattle.check_defects.proofs.Halves.{signs, up-magnitude, down-magnitude}
 use Rattle.check_defects.specs.Sums.{SmallSums, Added, SumsOf}
 
@@ -84,12 +89,38 @@ sums-unbiased c xs g (suc n) =
     ∙ one-term-more c (posPart (xs n)) (negPart (xs n)) (g n) _ _ (sum n xs)
     ∙ ap (λ (z : ℤ). pos (sumℕ n (λ (k : ℕ). posPart (xs k) * g k) + posPart (xs n) * g n) -ℤ pos (sumℕ n (λ (k : ℕ). negPart (xs k) * g k) + negPart (xs n) * g n) -ℤ pos c *ℤ (sum n xs +ℤ z)) (sym (signs (xs n))))
 
-put-right : (u v : ℤ) (a b : ℕ) → u +ℤ (v +ℤ pos b -ℤ pos a) ≡ u -ℤ (pos a -ℤ pos b -ℤ v)
+put-right : (u v : ℤ) (a b : ℕ) → v +ℤ (pos b +ℤ u) -ℤ pos a ≡ u -ℤ (pos a -ℤ pos b -ℤ v)
 put-right u v a b = rw (is u, is v) (simp zz (omega arith))
 
-pub sums-less : {sums : List ℕ} (rows : List ℕ) (n : ℕ) (xs : ℕ → ℤ) (u : ℤ) → SumsOf sums n n xs (λ (k j : ℕ). getD rows (biasedPlace n k j) 0) → (j : ℕ) → j < n →
-    u +ℤ (pos bias *ℤ sum n xs +ℤ pos (getD sums (32 + j) 0) -ℤ pos (getD sums j 0)) ≡ u -ℤ sum n (λ (k : ℕ). xs k *ℤ unbiasedRows rows n k j)
+module _ (sums : List ℕ) (t m : ℕ) where
+  abbrev withUnit : List ℕ
+  withUnit = set sums (32 + m) (getD sums (32 + m) 0 + 2 ^ t)
+
+  pub unit-up : (j : ℕ) → j < 32 → getD withUnit j 0 ≡ getD sums j 0
+  unit-up j l = getD-set-other sums (32 + m) j _ 0 (omega arith)
+
+  pub unit-down : (j : ℕ) → length sums ≡ 64 → m < 32 → pos (getD withUnit (32 + j) 0) ≡ pos (getD sums (32 + j) 0) +ℤ pos (2 ^ t) *ℤ identity m j
+  unit-down j long l = go (ℕ-discrete m j)
+    where
+      go : Dec (m ≡ j) → pos (getD withUnit (32 + j) 0) ≡ pos (getD sums (32 + j) 0) +ℤ pos (2 ^ t) *ℤ identity m j
+      go (yes p) =
+          rw (sym p, getD-set-same sums (32 + m) (getD sums (32 + m) 0 + 2 ^ t) 0 (omega arith), sym (unit-same (2 ^ t) m m refl)) (simp zz (omega arith))
+      go (no p) =
+          rw (getD-set-other sums (32 + m) (32 + j) (getD sums (32 + m) 0 + 2 ^ t) 0 (omega (arith, p)), sym (unit-other (2 ^ t) m j p)) (simp zz (omega arith))
+
+  pub unit-small : (j : ℕ) → length sums ≡ 64 → t ≤ 20 → m < 32 → getD sums (32 + j) 0 ≤ 2 ^ 51 → getD withUnit (32 + j) 0 ≤ 2 ^ 52
+  unit-small j long few l low =
+      omega (
+        arith,
+        ap natAbs (unit-down j long l),
+        abs-+ (pos (getD sums (32 + j) 0)) (pos (2 ^ t) *ℤ identity m j),
+        unit-magnitude t m j few,
+      )
+
+pub sums-less : {sums after : List ℕ} (rows : List ℕ) (n : ℕ) (xs : ℕ → ℤ) (t m : ℕ) → n ≤ 32 → length sums ≡ 64 → m < 32 →
+    SumsOf sums n n xs (λ (k j : ℕ). getD rows (biasedPlace n k j) 0) → after ≡ set sums (32 + m) (getD sums (32 + m) 0 + 2 ^ t) → (j : ℕ) → j < n →
+    pos bias *ℤ sum n xs +ℤ pos (getD after (32 + j) 0) -ℤ pos (getD after j 0) ≡ pos (2 ^ t) *ℤ identity m j -ℤ sum n (λ (k : ℕ). xs k *ℤ unbiasedRows rows n k j)
 unfolding unbiased
-sums-less {sums} rows n xs u h j l =
-    rw (h .ups j l, h .downs j l, sums-unbiased bias xs (λ (k : ℕ). getD rows (biasedPlace n k j) 0) n)
-    (put-right u (pos bias *ℤ sum n xs) _ _)
+sums-less {sums} rows n xs t m few long lm h e j l =
+    rw (e, unit-down sums t m j long lm, unit-up sums t m j (omega arith), h .ups j l, h .downs j l, sums-unbiased bias xs (λ (k : ℕ). getD rows (biasedPlace n k j) 0) n)
+    (put-right (pos (2 ^ t) *ℤ identity m j) (pos bias *ℤ sum n xs) _ _)

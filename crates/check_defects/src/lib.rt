@@ -4,9 +4,8 @@ ghost use mathlib.Core.Path.{_≡_};
 ghost use Prim.Native.Nat.{ℕ, _+_, _*_, _/_, _%_, _≤_, _<_, _^_};
 ghost use mathlib.Core.List.{[]};
 ghost use lib.IntN.{pos, natAbs, _+ℤ_, _-ℤ_, _*ℤ_};
-ghost use lib.ListN.{getD, length};
+ghost use lib.ListN.{getD, length, set};
 ghost use Rattle.integer.specs.Finite.{sum};
-ghost use Rattle.linear.specs.Matrix.{identity};
 ghost use Rattle.linear.specs.Slice.{at};
 ghost use Rattle.linear.specs.Place.{Carried};
 ghost use Rattle.linear.specs.Reach.{Reach, MatrixList};
@@ -19,12 +18,12 @@ ghost use Rattle.check_arrays.specs.Arrays.{PrefixIs};
 ghost use Rattle.check_arrays.specs.Parts.{rowsPart};
 ghost use Rattle.check_defects.specs.Sums.{halfOf, SmallSums, Added, SumsOf};
 ghost use Rattle.check_defects.specs.Difference.{numberLess, difference};
-use check_arrays::unit_at;
 use check_biased_rows::BIAS;
 use check_biased_rows::ROWS_LENGTH;
 use check_biased_rows::add_low;
 use check_biased_rows::bias_columns;
 use integer::magnitude;
+use integer::power;
 
 // Term j of a multiple of a biased row: sum + magnitude·x, where x is number j of the row that starts at place row, by way of the place that was carried to it.
 fn add_scaled(sum: u64, magnitude: u64, rows: &[u64], row: usize, place: usize, j: usize) -> u64
@@ -97,8 +96,9 @@ fn add_rows(
     requires { ⌜ BiasedRows (now rows) n ⌝ }
     requires { ⌜ (length (now sums) ≡ 64) × PrefixIs 0 (now sums) 64 (λ (j : ℕ). 0) ⌝ }
     ensures { λ r. ⌜ (r ≡ sum n (λ (k : ℕ). at (now (xs .entry)) (start + k * stride)))
+        × ((length (now (sums .exit)) ≡ 64)
         × SumsOf (now (sums .exit)) n n (λ (k : ℕ). at (now (xs .entry)) (start + k * stride))
-        (λ (k j : ℕ). getD (now (rows .entry)) (biasedPlace n k j) 0) ⌝ }
+        (λ (k j : ℕ). getD (now (rows .entry)) (biasedPlace n k j) 0)) ⌝ }
 {
     let mut total: i64 = 0;
     let mut from = start;
@@ -113,13 +113,21 @@ fn add_rows(
     total
 }
 
-// Number m, j of T·I less a number of the product, from the two sums that stand for it and from what all biased numbers have too much of.
-fn number_less(t: u32, m: usize, j: usize, biased: i64, up: u64, down: u64) -> i64
-    requires { ⌜ (t ≤ 20) × (natAbs biased ≤ 2 ^ 50) ⌝ }
-    requires { ⌜ (up ≤ 2 ^ 51) × (down ≤ 2 ^ 51) ⌝ }
-    ensures { λ r. ⌜ r ≡ pos (2 ^ t) *ℤ identity m j +ℤ (biased +ℤ pos down -ℤ pos up) ⌝ }
+// Adds number m, m of T·I to the sum that is taken with its sign.
+fn add_unit(sums: &mut [u64; 64], t: u32, m: usize)
+    requires { ⌜ (t ≤ 20) × ((m < 32) × (getD (now sums) (32 + m) 0 ≤ 2 ^ 51)) ⌝ }
+    ensures { λ _. ⌜ now (sums .exit) ≡ set (now (sums .entry)) (32 + m) (getD (now (sums .entry)) (32 + m) 0 + 2 ^ t) ⌝ }
 {
-    unit_at(t, m, j) + (biased + down as i64 - up as i64)
+    sums[32 + m] += power(t);
+}
+
+// A number of T·I less the product, from the two sums that stand for it and from what all biased numbers have too much of.
+fn number_less(biased: i64, up: u64, down: u64) -> i64
+    requires { ⌜ natAbs biased ≤ 2 ^ 50 ⌝ }
+    requires { ⌜ (up ≤ 2 ^ 51) × (down ≤ 2 ^ 52) ⌝ }
+    ensures { λ r. ⌜ r ≡ biased +ℤ pos down -ℤ pos up ⌝ }
+{
+    biased + down as i64 - up as i64
 }
 
 // Number m of every column of the differences, from the numbers of the list from place start on.
@@ -141,9 +149,10 @@ fn store_row(
 {
     let mut sums = [0u64; 64];
     let biased = BIAS as i64 * add_rows(&mut sums, xs, start, stride, rows, n);
+    add_unit(&mut sums, t, m);
     let mut place = m;
     for j in 0..n {
-        out[place] = number_less(t, m, j, biased, sums[j], sums[32 + j]);
+        out[place] = number_less(biased, sums[j], sums[32 + j]);
         place += n;
     }
 }

@@ -1,60 +1,61 @@
--- Sizes of p for all columns: what the list of them holds, and that half of them will do where p is symmetric.
---   known-none, known-fewer — the list begins with the magnitudes of no column, and of fewer than it does
---   known-kept, known-more — it keeps them while column j is written after them, and then has that column too
---   known-across — where p is symmetric, number j of column m is that of p_m of column j
---   symmetric-magnitudes — symmetric for the residuals themselves, then for the biased rows that stand for them
+-- Absolute values of p for all columns: what the list of them holds, and that half of them will do where p is symmetric.
+--   known-none, known-more — the list has those of no column, and of one column more
+--   known-across — where p is symmetric, those before the diagonal of column j are read across the columns before it
+--   magnitudes-in — those worked out from a biased row are those of the residuals;  magnitudes-plain — they are the definition's without slack
 use mathlib.Core.Path.{_≡_, sym, ap, _∙_}
 use mathlib.Core.List.{List}
-use Prim.Native.Nat.{ℕ, _+_, _*_, _≤_, _<_}
+use Prim.Native.Nat.{ℕ, _+_, _*_, _-_, _≤_, _<_}
 use native.Mathlib.Omega.{arith}
 use native.Mathlib.Nat.{mul-le-mul-right}
 use borrow.Author.Count.{below-more}
 use lib.IntN.{ℤ, natAbs}
 use lib.ListN.{getD, length}
-use Rattle.linear.specs.Place.{Carried}
+use Rattle.linear.specs.Place.{placeOf}
+use Rattle.linear.specs.Slice.{at}
 use Rattle.linear.specs.Written.{written}
-use Rattle.linear.proofs.Carried.{column-place}
 use Rattle.linear.proofs.Written.{written-at, written-else}
-use Rattle.check_biased_rows.specs.Biased.{BiasedRows}
-use Rattle.check_biased_rows.specs.Place.{RowsOfMatrix}
-use Rattle.check_biased_rows.proofs.Standing.{rows-stand}
-use Rattle.check_bounds.specs.Limits.{columnMagnitude}
-use Rattle.check_inverse_bounds.specs.SymmetricRows.{KnownColumns, SymmetricRows, SymmetricProduct}
+use Rattle.integer.proofs.Sum.{sumℕ-*}
+use Rattle.check_biased_rows.specs.Biased.{BiasedRows, RowOf, unbiasedRows}
+use Rattle.enclosure.specs.Reckoning.{magnitudesWith}
+use Rattle.check_arrays.specs.Arrays.{PrefixIs}
+use Rattle.check_arrays.proofs.Filled.{prefix-as}
+use Rattle.check_bounds.specs.Limits.{columnMagnitude, inversePart}
 use Rattle.check_bounds.proofs.Column.{image-is}
+use Rattle.check_inverse_bounds.specs.SymmetricRows.{magnitudeIn, KnownHalf, SymmetricProduct}
 
-module _ {list : List ℕ} {n : ℕ} {rows residuals : List ℕ} where
-  pub known-none : KnownColumns list n 0 rows residuals
-  known-none = record { each = λ k m l lm. absurd (omega arith) }
+module _ {n : ℕ} {rows : List ℕ} (residuals : List ℤ) where
+  pub known-none : {list : List ℕ} → KnownHalf list n 0 rows residuals
+  known-none = record { each = λ j m l lm. absurd (omega arith) }
 
-  pub known-fewer : {j k : ℕ} → k ≤ j → KnownColumns list n j rows residuals → KnownColumns list n k rows residuals
-  known-fewer h e = record { each = λ i m l lm. e .each i m (omega arith) lm }
+  pub magnitudes-plain : (j : ℕ) {out : List ℕ} → BiasedRows rows n → PrefixIs 0 out n (magnitudeIn rows residuals n j) →
+      PrefixIs 0 out n (magnitudesWith (inversePart n rows) (λ (k : ℕ). at residuals (j * n + k)) (λ (k : ℕ). 0))
+  unfolding magnitudesWith
+  magnitudes-plain j h e = prefix-as 0 _ _ (λ m l. omega (arith, sumℕ-* n 0 (λ (k : ℕ). natAbs (unbiasedRows rows n m k)))) e
 
-  pub known-kept : {k : ℕ} (f : ℕ → ℕ) {j : ℕ} (i : ℕ) {after : List ℕ} → k ≤ j → KnownColumns list n k rows residuals →
-      after ≡ written list (j * n) 1 f i → KnownColumns after n k rows residuals
-  known-kept f {j} i h e s = record {
-    each = λ a m l lm.
-        rw s (written-else list (j * n) 1 f 0 i (a * n + m) (λ x lx q. let b : a + 1 ≤ j = omega arith in omega (arith, mul-le-mul-right n b)) ∙ e .each a m l lm);
-  }
+  module _ (j : ℕ) {biased : List ℕ} (h : BiasedRows rows n) (r : RowOf biased (0 * (n + 1)) n (λ (k : ℕ). at residuals (j * n + k))) where
+    pub magnitudes-in : {out : List ℕ} → PrefixIs 0 out n (λ (m : ℕ). columnMagnitude rows biased n m 0) → PrefixIs 0 out n (magnitudeIn rows residuals n j)
+    magnitudes-in e = prefix-as 0 _ _ (image-is n h r) e
 
-  pub known-more : (j : ℕ) {after : List ℕ} → j * n + n ≤ length list → KnownColumns list n j rows residuals →
-      after ≡ written list (j * n) 1 (λ (m : ℕ). columnMagnitude rows residuals n m j) n → KnownColumns after n (j + 1) rows residuals
-  known-more j {after} long e s = record { each = λ i m l. all i l m }
-    where
-      f : ℕ → ℕ
-      f m = columnMagnitude rows residuals n m j
+    pub known-across : {list out : List ℕ} → j < n → SymmetricProduct rows residuals n → KnownHalf list n j rows residuals →
+        PrefixIs 0 out j (λ (m : ℕ). getD list (placeOf n m j) 0) → PrefixIs 0 out j (λ (m : ℕ). columnMagnitude rows biased n m 0)
+    known-across lj s k e =
+        prefix-as 0 _ _ (λ m l. let lm : m < n = omega arith in k .each m j l (omega arith) lj ∙ sym (ap natAbs (s .each m j lm lj)) ∙ sym (image-is n h r m lm)) e
 
-      new : (m : ℕ) → m < n → getD after (j * n + m) 0 ≡ f m
-      new m lm = rw s (written-at list (j * n) 1 f 0 n m (omega arith) (omega arith) lm (λ k l. omega arith))
+    pub known-more : {list after : List ℕ} → j < n → j * n + n ≤ length list → KnownHalf list n j rows residuals →
+        after ≡ written list (j * n + j) 1 (λ (i : ℕ). columnMagnitude rows biased n (j + i) 0) (n - j) → KnownHalf after n (j + 1) rows residuals
+    known-more {list} {after} lj long k e = record { each = λ i m l. all i l m }
+      where
+        f : ℕ → ℕ
+        f i = columnMagnitude rows biased n (j + i) 0
 
-      all : (i : ℕ) → i < j + 1 → (m : ℕ) → m < n → getD after (i * n + m) 0 ≡ columnMagnitude rows residuals n m i
-      all = below-more (λ i. (m : ℕ) → m < n → getD after (i * n + m) 0 ≡ columnMagnitude rows residuals n m i) j (λ i l m. known-kept f n (omega arith) e s .each i m l) new
+        old : (i : ℕ) → i < j → (m : ℕ) → i ≤ m → m < n → getD after (i * n + m) 0 ≡ magnitudeIn rows residuals n i m
+        old i l m d lm =
+            rw e (written-else list (j * n + j) 1 f 0 (n - j) (i * n + m) (λ x lx q. let b : i + 1 ≤ j = omega arith in omega (arith, mul-le-mul-right n b)) ∙ k .each i m l d lm)
 
-  pub known-across : {k m j across : ℕ} → m < k → k ≤ j → j < n → Carried j n m across → KnownColumns list n k rows residuals →
-      SymmetricRows rows residuals n → getD list across 0 ≡ columnMagnitude rows residuals n m j
-  known-across {k} {m} {j} l h lj c e s = rw (column-place c) (e .each m j l lj ∙ s .each j m lj (omega arith))
+        new : (m : ℕ) → j ≤ m → m < n → getD after (j * n + m) 0 ≡ magnitudeIn rows residuals n j m
+        new m d lm =
+            let there : j + (m - j) ≡ m = omega arith in
+            rw e (written-at list (j * n + j) 1 f 0 (n - j) (m - j) (omega arith) (omega arith) (omega arith) (λ x l. omega arith)) ∙ ap (λ (a : ℕ). columnMagnitude rows biased n a 0) there ∙ image-is n h r m lm
 
-pub symmetric-magnitudes : {n : ℕ} {rows biased : List ℕ} {residuals : List ℤ} → BiasedRows rows n → RowsOfMatrix biased n residuals →
-    SymmetricProduct rows residuals n → SymmetricRows rows biased n
-symmetric-magnitudes {n} h r s = record {
-  each = λ m j lm lj. image-is n h (rows-stand r .each j lj) m lm ∙ ap natAbs (s .each m j lm lj) ∙ sym (image-is n h (rows-stand r .each m lm) j lj);
-}
+        all : (i : ℕ) → i < j + 1 → (m : ℕ) → i ≤ m → m < n → getD after (i * n + m) 0 ≡ magnitudeIn rows residuals n i m
+        all = below-more (λ i. (m : ℕ) → i ≤ m → m < n → getD after (i * n + m) 0 ≡ magnitudeIn rows residuals n i m) j old new

@@ -1,10 +1,10 @@
 // The limits of all columns of the inverse, by half of p where it is symmetric.
 ghost use mathlib.Core.Path.{_≡_};
 ghost use mathlib.Core.Bool.{true};
-ghost use Prim.Native.Nat.{ℕ, _+_, _*_, _≤_, _<_};
-ghost use lib.ListN.{length};
+ghost use Prim.Native.Nat.{ℕ, _+_, _*_, _-_, _≤_, _<_};
+ghost use lib.ListN.{getD, length};
 ghost use Rattle.linear.specs.Slice.{at};
-ghost use Rattle.linear.specs.Place.{Carried};
+ghost use Rattle.linear.specs.Place.{Carried, placeOf};
 ghost use Rattle.linear.specs.Reach.{ColumnList};
 ghost use Rattle.linear.specs.Written.{written};
 ghost use Rattle.check_biased_rows.specs.Biased.{BiasedRow, BiasedRows};
@@ -13,80 +13,95 @@ ghost use Rattle.check_arrays.specs.Arrays.{PrefixIs, columnsWritten};
 ghost use Rattle.check_arrays.specs.Rows.{InverseRows};
 ghost use Rattle.check_ratios.specs.Ratio.{Positive, Caps};
 ghost use Rattle.check_bounds.specs.Limits.{columnMagnitude, limitsOf};
-ghost use Rattle.check_inverse_bounds.specs.SymmetricRows.{KnownColumns, SymmetricRows, SymmetricProduct};
-use check_biased_rows::bias_rows;
+ghost use Rattle.check_inverse_bounds.specs.SymmetricRows.{magnitudeIn, KnownHalf, SymmetricProduct};
+use check_biased_rows::bias_row;
 use check_biased_rows::row_dot;
 use check_bounds::store;
 use check_ratios::bounds_of;
 use integer::magnitude;
 
-// The absolute value of p_m of column j: where column m is one of the first `known`, read there as that of p_j of column m, else worked out.
-fn magnitude_at(
-    list: &[u64],
-    across: usize,
-    known: usize,
-    rows: &[u64],
-    m: usize,
-    row: usize,
-    residuals: &[u64],
-    j: usize,
-    place: usize,
-    n: usize,
-) -> u64
-    requires { ⌜ (n ≤ 32) × ((m < n) × ((j < n) × ((known ≤ j) × (n * n ≤ length (now list))))) ⌝ }
-    requires { ⌜ Carried j n m across × (Carried 0 (n + 1) m row × Carried 0 (n + 1) j place) ⌝ }
-    requires { ⌜ BiasedRows (now rows) n × BiasedRow (now residuals) (j * (n + 1)) n ⌝ }
-    requires { ⌜ KnownColumns (now list) n known (now rows) (now residuals) ⌝ }
-    requires { ⌜ (m < known → SymmetricRows (now rows) (now residuals) n) ⌝ }
-    ensures { λ r. ⌜ r ≡ columnMagnitude (now (rows .entry)) (now (residuals .entry)) n m j ⌝ }
+// The first j absolute values of p = G·r for column j where p is symmetric, read across the j columns that the list begins with.
+fn read_across(out: &mut [u64; 32], list: &[u64], j: usize, n: usize)
+    requires { ⌜ (n ≤ 32) × ((j < n) × ((length (now out) ≡ 32) × (n * n ≤ length (now list)))) ⌝ }
+    ensures { λ _. ⌜ (length (now (out .exit)) ≡ 32) × PrefixIs 0 (now (out .exit)) j (λ (m : ℕ). getD (now (list .entry)) (placeOf n m j) 0) ⌝ }
 {
-    if m < known {
-        return list[across];
+    let mut across = j;
+    for m in 0..j {
+        out[m] = list[across];
+        across += n;
     }
-    magnitude(row_dot(rows, m, row, residuals, j, place, n))
 }
 
-// The absolute values of p = G·r for column j, of which the first `known` are read across the columns before it; they are put in the list after these.
-fn column_magnitudes(
+// The absolute values of p = G·r from the biased row that stands for r, from number `known` on, which is that of the biased row of G at place first.
+// They are put in the list too, from place to on.
+fn work_out(
+    out: &mut [u64; 32],
     list: &mut [u64],
+    to: usize,
     known: usize,
+    first: usize,
     rows: &[u64],
     residuals: &[u64],
+    n: usize,
+)
+    requires { ⌜ (n ≤ 32) × ((known ≤ n) × ((length (now out) ≡ 32) × ((to + n ≤ 1024 + known) × (to + n ≤ length (now list) + known)))) ⌝ }
+    requires { ⌜ Carried 0 (n + 1) known first ⌝ }
+    requires { ⌜ BiasedRows (now rows) n × BiasedRow (now residuals) (0 * (n + 1)) n ⌝ }
+    requires { ⌜ PrefixIs 0 (now out) known (λ (m : ℕ). columnMagnitude (now rows) (now residuals) n m 0) ⌝ }
+    ensures { λ _. ⌜ (length (now (out .exit)) ≡ 32)
+        × (PrefixIs 0 (now (out .exit)) n (λ (m : ℕ). columnMagnitude (now (rows .entry)) (now (residuals .entry)) n m 0)
+        × (now (list .exit) ≡ written (now (list .entry)) to 1
+        (λ (i : ℕ). columnMagnitude (now (rows .entry)) (now (residuals .entry)) n (known + i) 0) (n - known))) ⌝ }
+{
+    let mut along = to;
+    let mut row = first;
+    for m in known..n {
+        let x = magnitude(row_dot(rows, m, row, residuals, 0, 0, n));
+        out[m] = x;
+        list[along] = x;
+        along += 1;
+        row += n + 1;
+    }
+}
+
+// The absolute values of p = G·r for column j, whose residuals start at place start. Where p is symmetric, those before the diagonal are read from the
+// list, and the others are put there; place is that of biased row j, and of the diagonal.
+fn column_magnitudes(
+    out: &mut [u64; 32],
+    list: &mut [u64],
+    biased: &mut [u64; 33],
+    rows: &[u64],
+    residuals: &[i64],
+    symmetric: bool,
     j: usize,
     place: usize,
     start: usize,
     n: usize,
-) -> [u64; 32]
-    requires { ⌜ (n ≤ 32) × ((j < n) × ((known ≤ j) × (n * n ≤ length (now list)))) ⌝ }
+)
+    requires { ⌜ (n ≤ 32) × ((j < n) × ((length (now out) ≡ 32) × ((length (now biased) ≡ 33) × (n * n ≤ length (now list))))) ⌝ }
     requires { ⌜ Carried 0 (n + 1) j place × Carried 0 n j start ⌝ }
-    requires { ⌜ BiasedRows (now rows) n × BiasedRow (now residuals) (j * (n + 1)) n ⌝ }
-    requires { ⌜ KnownColumns (now list) n known (now rows) (now residuals) ⌝ }
-    requires { ⌜ (0 < known → SymmetricRows (now rows) (now residuals) n) ⌝ }
-    ensures { λ r. ⌜ PrefixIs 0 r n (λ (m : ℕ). columnMagnitude (now (rows .entry)) (now (residuals .entry)) n m j)
-        × (now (list .exit) ≡ written (now (list .entry)) (j * n) 1 (λ (m : ℕ). columnMagnitude (now (rows .entry)) (now (residuals .entry)) n m j) n) ⌝ }
+    requires { ⌜ BiasedRows (now rows) n ⌝ }
+    requires { ⌜ ColumnList (now residuals) (n * n) allowedResidual ⌝ }
+    requires { ⌜ (symmetric ≡ true → SymmetricProduct (now rows) (now residuals) n × KnownHalf (now list) n j (now rows) (now residuals)) ⌝ }
+    ensures { λ _. ⌜ ((length (now (out .exit)) ≡ 32) × (length (now (biased .exit)) ≡ 33))
+        × (PrefixIs 0 (now (out .exit)) n (magnitudeIn (now (rows .entry)) (now (residuals .entry)) n j)
+        × (symmetric ≡ true → KnownHalf (now (list .exit)) n (j + 1) (now (rows .entry)) (now (residuals .entry)))) ⌝ }
 {
-    let mut out = [0u64; 32];
-    let mut across = j;
-    let mut along = start;
-    let mut row = 0;
-    for m in 0..n {
-        let x = magnitude_at(list, across, known, rows, m, row, residuals, j, place, n);
-        out[m] = x;
-        list[along] = x;
-        across += n;
-        along += 1;
-        row += n + 1;
+    bias_row(biased, 0, residuals, start, 1, n);
+    if symmetric {
+        read_across(out, list, j, n);
+        work_out(out, list, place, j, place, rows, biased, n);
+        return;
     }
-    out
+    work_out(out, list, start, 0, 0, rows, biased, n);
 }
 
 // Writes the limits of all columns of the inverse, row after row, from their residuals, column after column, and the biased rows of G.
-// Where p of the columns is symmetric, half of it is worked out. The biased residuals and the absolute values of p are put in two lists for that.
+// Where p of the columns is symmetric, half of it is worked out; its absolute values are put in a list for that.
 pub fn store_columns(
     dst: &mut [u64],
     rows: &[u64],
     residuals: &[i64],
-    biased: &mut [u64],
     list: &mut [u64],
     symmetric: bool,
     margins: &[u64; 32],
@@ -94,7 +109,7 @@ pub fn store_columns(
     weights: &[i64],
     n: usize,
 )
-    requires { ⌜ (0 < n) × ((n ≤ 32) × ((n * n ≤ length (now dst)) × ((n * (n + 1) ≤ length (now biased)) × (n * n ≤ length (now list))))) ⌝ }
+    requires { ⌜ (0 < n) × ((n ≤ 32) × ((n * n ≤ length (now dst)) × (n * n ≤ length (now list)))) ⌝ }
     requires { ⌜ InverseRows (now rows) n ⌝ }
     requires { ⌜ ColumnList (now residuals) (n * n) allowedResidual ⌝ }
     requires { ⌜ (symmetric ≡ true → SymmetricProduct (now rows) (now residuals) n) ⌝ }
@@ -105,12 +120,23 @@ pub fn store_columns(
         (λ (i j : ℕ). limitsOf n (now (rows .entry)) (λ (k : ℕ). at (now (residuals .entry)) (j * n + k)) (λ (k : ℕ). 0)
         (now (margins .entry)) (now (weights .entry)) i) n ⌝ }
 {
-    bias_rows(biased, residuals, n);
+    let mut magnitudes = [0u64; 32];
+    let mut biased = [0u64; 33];
     let mut place = 0;
     let mut start = 0;
     for j in 0..n {
-        let known = if symmetric { j } else { 0 };
-        let magnitudes = column_magnitudes(list, known, rows, biased, j, place, start, n);
+        column_magnitudes(
+            &mut magnitudes,
+            list,
+            &mut biased,
+            rows,
+            residuals,
+            symmetric,
+            j,
+            place,
+            start,
+            n,
+        );
         let column = bounds_of(&magnitudes, margins, caps, weights, n);
         store(dst, j, n, column, n);
         place += n + 1;

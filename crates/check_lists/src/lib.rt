@@ -28,11 +28,10 @@ use rules::Outcome;
 use rules::Refusal;
 
 // The reckoning of what passes 8 and 3, from a base of the residuals, what is allowed of them and of the inverse's columns, and their slacks: all refusals are
-// decided before the first limit is written. Four lists to work in are lent: the biased rows of the inverse, its residuals, these biased, and the absolute values of p.
+// decided before the first limit is written. Three lists to work in are lent: the biased rows of the inverse, its residuals, and the absolute values of p.
 fn compute_bounds_in(
     rows: &mut [u64],
     columns: &mut [i64],
-    biased: &mut [u64],
     magnitudes: &mut [u64],
     n: usize,
     t: u32,
@@ -47,7 +46,7 @@ fn compute_bounds_in(
     solution_bounds: &mut [u64],
     inverse_bounds: &mut [u64],
 ) -> Outcome
-    requires { ⌜ (n * (n + 1) ≤ length (now rows)) × ((n * n ≤ length (now columns)) × ((n * (n + 1) ≤ length (now biased)) × (n * n ≤ length (now magnitudes)))) ⌝ }
+    requires { ⌜ (n * (n + 1) ≤ length (now rows)) × ((n * n ≤ length (now columns)) × (n * n ≤ length (now magnitudes))) ⌝ }
     requires { ⌜ Workable (work n t (now matrix) (now base) (now allowed) (now «allowed_in_columns») (now slacks) (now guess) (now inverse)
         (now weights) (now «solution_bounds») (now «inverse_bounds»)) ⌝ }
     ensures { λ r. ⌜ ComputedAs (work n t (now (matrix .entry)) (now (base .entry)) (now (allowed .entry)) (now («allowed_in_columns» .entry))
@@ -73,7 +72,6 @@ fn compute_bounds_in(
                 inverse_bounds,
                 rows,
                 columns,
-                biased,
                 magnitudes,
                 symmetric,
                 &margins,
@@ -86,7 +84,7 @@ fn compute_bounds_in(
     }
 }
 
-// The same in lists of its own. Filling them takes longer than the rest where n is small, so there are two lengths of them.
+// The same in lists of its own. Filling long ones takes longer than the rest where n is small, so there are three lengths of them.
 pub fn compute_bounds(
     n: usize,
     t: u32,
@@ -110,12 +108,32 @@ pub fn compute_bounds(
     if n <= 8 {
         let mut rows = [0u64; 72];
         let mut columns = [0i64; 64];
-        let mut biased = [0u64; 72];
         let mut magnitudes = [0u64; 64];
         return compute_bounds_in(
             &mut rows,
             &mut columns,
-            &mut biased,
+            &mut magnitudes,
+            n,
+            t,
+            matrix,
+            base,
+            allowed,
+            allowed_in_columns,
+            slacks,
+            guess,
+            inverse,
+            weights,
+            solution_bounds,
+            inverse_bounds,
+        );
+    }
+    if n <= 16 {
+        let mut rows = [0u64; 272];
+        let mut columns = [0i64; 256];
+        let mut magnitudes = [0u64; 256];
+        return compute_bounds_in(
+            &mut rows,
+            &mut columns,
             &mut magnitudes,
             n,
             t,
@@ -133,12 +151,10 @@ pub fn compute_bounds(
     }
     let mut rows = [0u64; 1056];
     let mut columns = [0i64; 1024];
-    let mut biased = [0u64; 1056];
     let mut magnitudes = [0u64; 1024];
     compute_bounds_in(
         &mut rows,
         &mut columns,
-        &mut biased,
         &mut magnitudes,
         n,
         t,

@@ -1,6 +1,6 @@
 // The limits of a column from the absolute values of its p, the margins and the weights: each is that of the row where |p| / margin is largest.
 ghost use mathlib.Core.Path.{_≡_};
-ghost use mathlib.Core.Bool.{true};
+ghost use mathlib.Core.Bool.{true, false};
 ghost use Prim.Native.Nat.{ℕ, _*_, _≤_, _<_, _^_};
 ghost use lib.Dec.{ltb};
 ghost use lib.IntN.{natAbs};
@@ -154,13 +154,26 @@ fn is_within_caps(magnitudes: &[u64; 32], caps: &[u64; 32], n: usize) -> bool
     requires { ⌜ n ≤ 32 ⌝ }
     ensures { λ r. ⌜ (r ≡ true → WithinCaps (now (magnitudes .entry)) (now (caps .entry)) n) ⌝ }
 {
-    let mut within_caps = true;
     for m in 0..n {
         if caps[m] < magnitudes[m] {
-            within_caps = false;
+            return false;
         }
     }
-    within_caps
+    true
+}
+
+// Whether n numbers are all 0.
+fn all_zero(xs: &[u64; 32], n: usize) -> bool
+    requires { ⌜ n ≤ 32 ⌝ }
+    ensures { λ r. ⌜ (r ≡ true → sumℕ n (λ (k : ℕ). getD (now (xs .entry)) k 0) ≡ 0)
+        × (r ≡ false → 0 < sumℕ n (λ (k : ℕ). getD (now (xs .entry)) k 0)) ⌝ }
+{
+    for k in 0..n {
+        if xs[k] != 0 {
+            return false;
+        }
+    }
+    true
 }
 
 // The limits of a column. Where every magnitude is at most its cap they are all 1, or all 0 where every magnitude is 0: nothing is divided.
@@ -180,7 +193,7 @@ pub fn bounds_of(
         (λ (i : ℕ). natAbs (at (now (weights .entry)) i))) ⌝ }
 {
     if is_within_caps(magnitudes, caps, n) {
-        if sum_of(magnitudes, n) == 0 {
+        if all_zero(magnitudes, n) {
             return [0u64; 32];
         }
         return [1u64; 32];

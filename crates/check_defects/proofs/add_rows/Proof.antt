@@ -128,7 +128,7 @@ loop-again c =
 returns : tie.Need-returns Inv-loop μ-loop
 returns c =
     let l = c .before .loop in
-    (l .inv .1 .1 .0 ∙ sum-end _ (l .inv .0) (c .loop-test .left), sums-end _ _ _ (l .inv .0) (c .loop-test .left) (l .inv .1 .1 .1 .1))
+    (l .inv .1 .1 .0 ∙ sum-end _ (l .inv .0) (c .loop-test .left), (l .inv .1 .1 .1 .0, sums-end _ _ _ (l .inv .0) (c .loop-test .left) (l .inv .1 .1 .1 .1)))
 
 pub add-rows-spec : {M : Type 1} → statement M
 add-rows-spec =

@@ -8,7 +8,6 @@ use mir.Val.{SFits, toZ, ofZ}
 use mir.ValLaws.{toZ-ofZ}
 use Rattle.integer.specs.Finite.{sum}
 use Rattle.integer.proofs.Machine.{small, read}
-use Rattle.linear.specs.Matrix.{identity}
 use Rattle.linear.specs.Slice.{at}
 use Rattle.linear.specs.Place.{Carried}
 use Rattle.linear.specs.Written.{written}
@@ -18,7 +17,7 @@ use Rattle.linear.proofs.Written.{written-none, written-more, written-end, writ
 use Rattle.check_biased_rows.specs.Biased.{bias}
 use Rattle.check_biased_rows.specs.Place.{biasedPlace}
 use Rattle.check_defects.specs.Difference.{numberLess}
-use Rattle.check_defects.proofs.Sums.{no-sums, ups-small, downs-small, biased-small, sums-less}
+use Rattle.check_defects.proofs.Sums.{no-sums, ups-small, downs-small, biased-small, unit-up, unit-small, sums-less}
 use borrow.Author.Needs.{needs}
 use Rattle.check_defects.proofs.store_row.Statement.{statement}
 use Rattle.check_defects.proofs.store_row.Tie as tie
@@ -53,10 +52,32 @@ module _ (c : tie.After-add-rows Inv-loop μ-loop) where
   low : (i j : ℕ) → i < start .args .n → j < start .args .n → getD (start .args .rows .now) (biasedPlace (start .args .n) i j) 0 ≤ 2 ^ 26
   low i j li lj = start .pre .1 .1 .each i li .small .each j lj
 
+-- the sums, from the turn
+abbrev added : tie.In-loop Inv-loop μ-loop → tie.After-add-rows Inv-loop μ-loop
+added t = t .before .before .before .before
+
+module _ (t : tie.In-loop Inv-loop μ-loop) where
+  abbrev before : tie.Start Inv-loop μ-loop
+  before = start (added t)
+
+  inside : before .args .m < 32
+  inside = omega (arith, before .pre .0 .1 .1 .0, before .pre .0 .1 .0)
+
+  up-most : getD (t .before .before .add-unit .last .0) (t .before .loop .j) 0 ≤ 2 ^ 51
+  up-most =
+      rw (t .before .before .add-unit .ensures, unit-up (added t .add-rows .last .0) (before .args .t) (before .args .m) (t .before .loop .j) (omega (arith, t .loop-test .taken, before .pre .0 .1 .0)))
+      (ups-small _ _ _ (before .pre .0 .1 .0) (before .pre .1 .0 .magnitudes) (low (added t)) (added t .add-rows .ensures .1 .1) _ (t .loop-test .taken))
+
+  down-most : getD (t .before .before .add-unit .last .0) (32 + t .before .loop .j) 0 ≤ 2 ^ 52
+  down-most =
+      rw (t .before .before .add-unit .ensures)
+      (unit-small (added t .add-rows .last .0) (before .args .t) (before .args .m) (t .before .loop .j) (added t .add-rows .ensures .1 .0) (before .pre .0 .0) inside
+      (downs-small _ _ _ (before .pre .0 .1 .0) (before .pre .1 .0 .magnitudes) (low (added t)) (added t .add-rows .ensures .1 .1) _ (t .loop-test .taken)))
+
 -- the place in the list
-in-list : (t : tie.In-loop Inv-loop μ-loop) → let n = start (t .before .before) .args .n in (t .before .loop .place < n * n) × (t .before .loop .place + n < 2048)
+in-list : (t : tie.In-loop Inv-loop μ-loop) → let n = start (added t) .args .n in (t .before .loop .place < n * n) × (t .before .loop .place + n < 2048)
 in-list t =
-    let s = start (t .before .before) in (
+    let s = start (added t) in (
       omega (arith, t .before .loop .inv .1 .0 .is, place (t .loop-test .taken) (s .pre .0 .1 .1 .0)),
       omega (arith, t .before .loop .inv .1 .0 .is, place (t .loop-test .taken) (s .pre .0 .1 .1 .0), square (s .pre .0 .1 .0), s .pre .0 .1 .0),
     )
@@ -70,6 +91,14 @@ add-rows-requires c κs =
 
 mul-biased : tie.Need-mul-biased Inv-loop μ-loop
 mul-biased c = rw (total-is c) (biased-fits c)
+
+add-unit-requires : tie.Need-add-unit-requires Inv-loop μ-loop
+add-unit-requires c κs =
+    let a = c .before in
+    let s = start a in (
+      s .pre .0 .0,
+      (omega (arith, s .pre .0 .1 .1 .0, s .pre .0 .1 .0), downs-small _ _ _ (s .pre .0 .1 .0) (s .pre .1 .0 .magnitudes) (low a) (a .add-rows .ensures .1 .1) _ (s .pre .0 .1 .1 .0)),
+    )
 
 loop-holds : tie.Need-loop-holds Inv-loop μ-loop
 loop-holds c = (omega arith, (carried-first _ _, sym (written-none _ _ _ _)))
@@ -90,25 +119,15 @@ array-read-number-less-2 : tie.Need-array-read-number-less-2 Inv-loop μ-loop
 array-read-number-less-2 c = search needs
 
 number-less-requires : tie.Need-number-less-requires Inv-loop μ-loop
-number-less-requires c κs =
-    let a = c .before .before in
-    let s = start a in
-    let few = s .pre .0 .1 .0 in
-    let h = a .add-rows .ensures .1 in (
-      (s .pre .0 .0, rw (biased-is a) (biased-most a)),
-      (
-        ups-small _ _ _ few (s .pre .1 .0 .magnitudes) (low a) h _ (omega arith),
-        downs-small _ _ _ few (s .pre .1 .0 .magnitudes) (low a) h _ (omega arith),
-      ),
-    )
+number-less-requires c κs = (rw (biased-is (added c)) (biased-most (added c)), (up-most c, down-most c))
 
-mul-t27 : tie.Need-mul-t27 Inv-loop μ-loop
-mul-t27 c = omega (arith, in-list (c .before) .0, square (start (c .before .before .before) .pre .0 .1 .0))
+mul-t29 : tie.Need-mul-t29 Inv-loop μ-loop
+mul-t29 c = omega (arith, in-list (c .before) .0, square (start (added (c .before)) .pre .0 .1 .0))
 
 slice-set-from-out : tie.Need-slice-set-from-out Inv-loop μ-loop
 slice-set-from-out c =
     let t = c .before in
-    let s = start (t .before .before) in
+    let s = start (added t) in
     omega (arith, in-list t .0, s .pre .0 .1 .1 .1 .1, ap length (t .before .loop .inv .1 .1), written-length (s .args .out .now) (s .args .m) (s .args .n) (λ (i : ℕ). numberLess (s .args .t) (s .args .xs .now) (s .args .start) (s .args .stride) (s .args .rows .now) (s .args .n) (s .args .m) i) (t .before .loop .j))
 
 add-place : tie.Need-add-place Inv-loop μ-loop
@@ -122,14 +141,15 @@ loop-less c = search needs
 
 loop-again : tie.Need-loop-again Inv-loop μ-loop
 loop-again c =
-    let a = c .before .before .before in
+    let t = c .before in
+    let a = added t in
     let s = start a in
-    let l = c .before .before .loop in (
+    let l = t .before .loop in (
       omega arith,
       (
         carried-next (l .inv .1 .0),
         written-more _ _ _ _ (l .j) (l .inv .1 .1) (l .inv .1 .0 .is)
-            (read _ (c .number-less .ok) ∙ (rw (biased-is a) at (c .number-less .ensures)) ∙ sums-less (s .args .rows .now) (s .args .n) (X s) (pos (2 ^ s .args .t) *ℤ identity (s .args .m) (l .j)) (a .add-rows .ensures .1) (l .j) (c .before .loop-test .taken)),
+            (read _ (c .number-less .ok) ∙ (rw (biased-is a) at (c .number-less .ensures)) ∙ sums-less (s .args .rows .now) (s .args .n) (X s) (s .args .t) (s .args .m) (s .pre .0 .1 .0) (a .add-rows .ensures .1 .0) (inside t) (a .add-rows .ensures .1 .1) (t .before .before .add-unit .ensures) (l .j) (t .loop-test .taken)),
       ),
     )
 
@@ -148,6 +168,7 @@ store-row-spec =
     cast-biased
     add-rows-requires
     mul-biased
+    add-unit-requires
     loop-holds
     mul-number-less
     array-read-number-less
@@ -155,7 +176,7 @@ store-row-spec =
     mul-number-less-2
     array-read-number-less-2
     number-less-requires
-    mul-t27
+    mul-t29
     slice-set-from-out
     add-place
     add-j

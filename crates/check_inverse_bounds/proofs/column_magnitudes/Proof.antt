@@ -1,144 +1,120 @@
-use mathlib.Core.Path.{_≡_, refl, sym, ap, _∙_}
-use Prim.Native.Nat.{ℕ, _+_, _*_, _≤_, _<_, _-_}
+use mathlib.Core.Path.{_≡_, _∙_}
+use Prim.Native.Nat.{ℕ, _+_, _*_}
 use native.Mathlib.Omega.{arith}
-use lib.ListN.{length, length-set}
-use Rattle.linear.specs.Place.{Carried}
-use Rattle.linear.specs.Written.{written}
-use Rattle.linear.proofs.Carried.{carried-first, carried-next, start-place}
-use Rattle.linear.proofs.Places.{place, square}
-use Rattle.linear.proofs.Written.{written-none, written-more, written-end, written-length}
-use Rattle.check_biased_rows.proofs.Filling.{rows-room}
-use Rattle.check_arrays.specs.Arrays.{PrefixIs}
-use Rattle.check_arrays.proofs.Filled.{prefix-none, prefix-more, prefix-end}
-use Rattle.check_bounds.specs.Limits.{columnMagnitude}
-use Rattle.check_inverse_bounds.proofs.SymmetricRows.{known-kept}
+use lib.ListN.{length}
+use Rattle.integer.proofs.Search.{clash}
+use Rattle.linear.specs.Slice.{at}
+use Rattle.linear.proofs.Carried.{carried-first, start-place}
+use Rattle.linear.proofs.Places.{row-ends, row-room, row-reach}
+use Rattle.check_biased_rows.specs.Biased.{RowOf}
+use Rattle.check_biased_rows.proofs.Unbiasing.{row-as}
+use Rattle.check_arrays.proofs.Filled.{prefix-none}
+use Rattle.check_inverse_bounds.proofs.SymmetricRows.{magnitudes-in, known-across, known-more}
 use borrow.Author.Needs.{needs}
 use Rattle.check_inverse_bounds.proofs.column_magnitudes.Statement.{statement}
 use Rattle.check_inverse_bounds.proofs.column_magnitudes.Tie as tie
 
-abbrev Inv-loop : tie.InvT-loop
-Inv-loop list₀ known rows residuals j place start n out₀ across₀ along₀ row₀ m₀ list out across along row m =
-    (m ≤ n) × ((Carried j n m across × (Carried start 1 m along × Carried 0 (n + 1) m row)) × ((length out ≡ 32)
-    × (PrefixIs 0 out m (λ (i : ℕ). columnMagnitude rows residuals n i j) × (list ≡ written list₀ (j * n) 1 (λ (i : ℕ). columnMagnitude rows residuals n i j) m))))
+-- the start, from the biased residuals
+abbrev start : tie.After-bias-row → tie.Start
+start r = r .before .before .before .before
 
-abbrev μ-loop : tie.MeasureT-loop
-μ-loop list₀ known rows residuals j place start n out₀ across₀ along₀ row₀ m₀ list out across along row m = n - m
+-- stages on the way to the end where p is symmetric: the last lending, the first half, the test, and the biased residuals
+abbrev lent : tie.After-slice-known2 → tie.After-work-out-arg4
+lent c = c .before .before .before
 
-abbrev turn : tie.After-magnitude-at Inv-loop μ-loop → tie.In-loop Inv-loop μ-loop
-turn c = c .before .before
+abbrev half : tie.After-work-out-arg4 → tie.After-read-across
+half c = c .before .before .before .before
 
-abbrev start : tie.In-loop Inv-loop μ-loop → tie.Start Inv-loop μ-loop
-start t = t .before .before .before .before .before
+abbrev biased : tie.After-read-across → tie.After-bias-row
+biased c = c .before .before .before .before
 
--- the place in the list that is written
-module _ (t : tie.In-loop Inv-loop μ-loop) where
-  along-is : t .before .loop .along ≡ start t .args .j * start t .args .n + t .before .loop .m * 1
-  along-is = omega (arith, t .before .loop .inv .1 .0 .1 .0 .is, start-place (start t .pre .1 .0 .1))
+row-is : (r : tie.After-bias-row) →
+    let s = start r .args in RowOf (r .bias-row .last .0) (0 * (s .n + 1)) (s .n) (λ (k : ℕ). at (s .residuals .now) (s .j * s .n + k))
+row-is r =
+    let s = start r in
+    let first : 0 * (s .args .n + 1) ≡ 0 = omega arith in
+    rw first (row-as _ (λ k l. let e : s .args .start + k * 1 ≡ s .args .j * s .args .n + k = omega (arith, start-place (s .pre .1 .0 .1)) in rw e) (r .bias-row .ensures .0))
 
-  inside : t .before .loop .along < start t .args .n * start t .args .n
-  inside = omega (arith, along-is, place (start t .pre .0 .1 .0) (t .loop-test .taken))
+-- the place of the diagonal
+diagonal : (s : tie.Start) → s .args .place ≡ s .args .j * s .args .n + s .args .j
+diagonal s = omega (arith, start-place (s .pre .1 .0 .0))
 
-  below : t .before .loop .along < 1024
-  below = omega (arith, inside, square (start t .pre .0 .0))
-
-  length-here : length (t .before .loop .list) ≡ length (start t .args .list .now)
-  length-here = ap length (t .before .loop .inv .1 .1 .1 .1) ∙ written-length _ _ _ _ (t .before .loop .m)
-
-loop-holds : tie.Need-loop-holds Inv-loop μ-loop
-loop-holds c =
-    (omega arith, ((carried-first _ _, (carried-first _ _, carried-first _ _)), (refl, (prefix-none _ _ _, sym (written-none _ _ _ _)))))
-
-magnitude-at-requires : tie.Need-magnitude-at-requires Inv-loop μ-loop
-magnitude-at-requires c κs =
-    let t = c .before in
-    let l = t .before .loop in
-    let p = start t .pre in (
-      (p .0 .0, (t .loop-test .taken, (p .0 .1 .0, (p .0 .1 .1 .0, omega (arith, length-here t, p .0 .1 .1 .1))))),
-      (
-        (l .inv .1 .0 .0, (l .inv .1 .0 .1 .1, p .1 .0 .0)),
-        (p .1 .1 .0, (known-kept _ (l .m) (p .0 .1 .1 .0) (p .1 .1 .1 .0) (l .inv .1 .1 .1 .1), λ h. p .1 .1 .1 .1 (omega (arith, h)))),
-      ),
+bias-row-requires : tie.Need-bias-row-requires
+bias-row-requires c κs =
+    let s = c .before .before .before in
+    let e = start-place (s .pre .1 .0 .1) in (
+      (s .pre .0 .0, (omega (arith, e, row-ends (s .pre .0 .1 .0) (s .pre .0 .0)), omega (arith, s .pre .0 .0, s .pre .0 .1 .1 .1 .0))),
+      rw e (row-reach (s .pre .1 .1 .1 .0) (s .args .j) (s .pre .0 .1 .0)),
     )
 
-mul-out : tie.Need-mul-out Inv-loop μ-loop
-mul-out c = search needs
+read-across-requires : tie.Need-read-across-requires
+read-across-requires c κs = search needs
 
-array-write-out : tie.Need-array-write-out Inv-loop μ-loop
-array-write-out c = search needs
+long : (r : tie.After-bias-row) → length (r .bias-row .last .0) ≡ 33
+long r = r .bias-row .ensures .1 .long ∙ start r .pre .0 .1 .1 .1 .0
 
-mul-list : tie.Need-mul-list Inv-loop μ-loop
-mul-list c = omega (arith, below (turn c))
-
-slice-write-list : tie.Need-slice-write-list Inv-loop μ-loop
-slice-write-list c =
-    let t = turn c in
-    omega (arith, inside t, length-here t, start t .pre .0 .1 .1 .1)
-
-add-across : tie.Need-add-across Inv-loop μ-loop
-add-across c =
-    let t = turn c in
-    let p = start t .pre in
-    omega (arith, t .before .loop .inv .1 .0 .0 .is, place (t .loop-test .taken) (p .0 .1 .0), square (p .0 .0))
-
-add-along : tie.Need-add-along Inv-loop μ-loop
-add-along c = omega (arith, below (turn c))
-
-add-row : tie.Need-add-row Inv-loop μ-loop
-add-row c = search needs
-
-add-row-2 : tie.Need-add-row-2 Inv-loop μ-loop
-add-row-2 c =
-    let t = turn c in
-    omega (arith, t .before .loop .inv .1 .0 .1 .1 .is, rows-room (t .loop-test .taken) (start t .pre .0 .0))
-
-add-m : tie.Need-add-m Inv-loop μ-loop
-add-m c = search needs
-
-loop-less : tie.Need-loop-less Inv-loop μ-loop
-loop-less c = search needs
-
-loop-again : tie.Need-loop-again Inv-loop μ-loop
-loop-again c =
-    let i = turn c .before .loop .inv in (
-      omega arith,
+work-out-requires : tie.Need-work-out-requires
+work-out-requires c κs =
+    let a = half c in
+    let r = biased a in
+    let s = start r in
+    let p = s .pre in
+    let both = p .1 .1 .1 .1 (a .before .before .before .if1 .taken) in (
       (
-        (carried-next (i .1 .0 .0), (carried-next (i .1 .0 .1 .0), carried-next (i .1 .0 .1 .1))),
-        (
-          simp length-set (i .1 .1 .0),
-          (
-            prefix-more _ _ _ _ _ (i .1 .1 .1 .0) (omega arith) (c .magnitude-at .ensures),
-            written-more _ _ _ _ (turn c .before .loop .m) (i .1 .1 .1 .1) (along-is (turn c)) (c .magnitude-at .ensures),
-          ),
-        ),
+        p .0 .0,
+        (omega (arith, p .0 .1 .0), (a .read-across .ensures .0, (omega (arith, diagonal s, row-ends (p .0 .1 .0) (p .0 .0)), omega (arith, diagonal s, row-room (p .0 .1 .0) (p .0 .1 .1 .1 .1))))),
       ),
+      (p .1 .0 .0, ((p .1 .1 .0, row-is r .row), known-across (s .args .residuals .now) (s .args .j) (p .1 .1 .0) (row-is r) (p .0 .1 .0) (both .0) (both .1) (a .read-across .ensures .1))),
     )
 
-same-length : tie.Need-same-length Inv-loop μ-loop
-same-length c = ap length (c .before .loop .inv .1 .1 .1 .1) ∙ written-length _ _ _ _ (c .before .loop .m)
+same-length : tie.Need-same-length
+same-length c = search needs
 
-returns : tie.Need-returns Inv-loop μ-loop
+returns : tie.Need-returns
 returns c =
-    let i = c .before .loop .inv in
-    (prefix-end 0 (i .0) (c .loop-test .left) (i .1 .1 .1 .0), i .1 .1 .1 .1 ∙ written-end _ _ _ _ (i .0) (c .loop-test .left))
+    let a = half (lent c) in
+    let r = biased a in
+    let s = start r in
+    let p = s .pre in
+    let z = c .before .before in (
+      (z .work-out .ensures .0, long r),
+      (
+        magnitudes-in (s .args .residuals .now) (s .args .j) (p .1 .1 .0) (row-is r) (z .work-out .ensures .1 .0),
+        λ y. known-more (s .args .residuals .now) (s .args .j) (p .1 .1 .0) (row-is r) (p .0 .1 .0) (row-room (p .0 .1 .0) (p .0 .1 .1 .1 .1)) (p .1 .1 .1 .1 y .1) (rw (diagonal s) at (z .work-out .ensures .1 .1)),
+      ),
+    )
+
+work-out-requires-2 : tie.Need-work-out-requires-2
+work-out-requires-2 c κs =
+    let r = c .before .before .before .before .before in
+    let s = start r in
+    let p = s .pre in
+    let e = start-place (p .1 .0 .1) in (
+      (p .0 .0, (omega arith, (p .0 .1 .1 .0, (omega (arith, e, row-ends (p .0 .1 .0) (p .0 .0)), omega (arith, e, row-room (p .0 .1 .0) (p .0 .1 .1 .1 .1)))))),
+      (carried-first _ _, ((p .1 .1 .0, row-is r .row), prefix-none _ _ _)),
+    )
+
+same-length-2 : tie.Need-same-length-2
+same-length-2 c = search needs
+
+returns-2 : tie.Need-returns-2
+returns-2 c =
+    let t = c .before .before .before .before .before .before .before in
+    let r = t .before in
+    let s = start r in (
+      (c .before .before .work-out2 .ensures .0, long r),
+      (magnitudes-in (s .args .residuals .now) (s .args .j) (s .pre .1 .1 .0) (row-is r) (c .before .before .work-out2 .ensures .1 .0), λ y. clash _ y (t .if1 .left)),
+    )
 
 pub column-magnitudes-spec : {M : Type 1} → statement M
 column-magnitudes-spec =
     tie.close
     (tie.spec
-    Inv-loop
-    μ-loop
-    loop-holds
-    magnitude-at-requires
-    mul-out
-    array-write-out
-    mul-list
-    slice-write-list
-    add-across
-    add-along
-    add-row
-    add-row-2
-    add-m
-    loop-less
-    loop-again
+    bias-row-requires
+    read-across-requires
+    work-out-requires
     same-length
-    returns)
+    returns
+    work-out-requires-2
+    same-length-2
+    returns-2)

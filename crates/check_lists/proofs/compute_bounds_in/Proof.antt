@@ -17,8 +17,8 @@ use Rattle.check_lists.proofs.compute_bounds_in.Statement.{statement}
 use Rattle.check_lists.proofs.compute_bounds_in.Tie as tie
 
 -- stages on the way: the start, after the residuals of the inverse, the margins, the first row that fails, the judgement, the caps, the limits of the solution and their store
-abbrev at-start : tie.After-slice-known5 → tie.Start
-at-start c = c .before .before .before .before .before
+abbrev at-start : tie.After-slice-known4 → tie.Start
+at-start c = c .before .before .before .before
 
 abbrev at-columns : tie.After-margins-of → tie.After-inverse-residuals-of
 at-columns m = m .before .before .before .before
@@ -39,13 +39,13 @@ abbrev stored : tie.After-store-columns-arg2 → tie.After-store
 stored c = c .before .before .before .before
 
 abbrev at-limits : tie.After-caps2 → tie.After-store-columns-arg2
-at-limits c = c .before .before .before .before .before
+at-limits c = c .before .before .before .before
 
 abbrev solved : tie.After-caps2 → tie.After-caps
 solved c = stored (at-limits c) .before .before .before
 
-abbrev returned : tie.After-slice-known10 → tie.After-inverse-bounds
-returned c = c .before .before .before .before .before
+abbrev returned : tie.After-slice-known8 → tie.After-inverse-bounds
+returned c = c .before .before .before
 
 abbrev W : tie.Start → Work
 W s =
@@ -221,9 +221,6 @@ same-length-6 c = search needs
 same-length-7 : tie.Need-same-length-7
 same-length-7 c = search needs
 
-same-length-8 : tie.Need-same-length-8
-same-length-8 c = search needs
-
 returns-2 : tie.Need-returns-2
 returns-2 c =
     let z = returned c .before .before in
@@ -260,5 +257,4 @@ compute-bounds-in-spec =
     same-length-5
     same-length-6
     same-length-7
-    same-length-8
     returns-2)
