@@ -3,10 +3,13 @@
   python3 bench/batched.py BATCH COPIED FOLDER [COUNT]
 
 FOLDER gets COUNT files, else 5,000, of levelling nets of n = 32 as offices send them (`office` of tests/common/systems/timed.py). Both have as many processes as there are
-processors. Each round begins without listings; a ratio is that of the clock's times within a round, and of 7 rounds the middle one is printed, as table.py reads it."""
+processors. Each round writes to folders of its own, and nothing is removed before the last: some file systems work long after a removal. Every other round begins
+with the copies. A ratio is that of times within a round, once by the clock and once by the processors' time; of 11 rounds the middle one is printed, as table.py reads it,
+and the least and the largest go to standard error."""
 
 import os
 import random
+import resource
 import shutil
 import subprocess
 import sys
@@ -19,7 +22,7 @@ sys.path.insert(0, str(ROOT / "tests"))
 from common.net import file_of, lines_of
 from common.systems.timed import office
 
-ROUNDS, KINDS, IN_A_FOLDER = 7, 100, 1000
+ROUNDS, KINDS, IN_A_FOLDER = 11, 100, 1000
 
 
 def write_nets(folder, count):
@@ -31,40 +34,51 @@ def write_nets(folder, count):
         place.write_bytes(files[number % len(files)])
 
 
-def empty(*folders):
-    for folder in folders:
-        shutil.rmtree(folder, ignore_errors=True)
-
-
 def timed(command, **options):
+    """Seconds by the clock, and of the processors."""
     os.sync()  # so that neither pays for what the other wrote
-    began = time.monotonic()
+    used, began = resource.getrusage(resource.RUSAGE_CHILDREN), time.monotonic()
     subprocess.run(command, check=True, stdout=subprocess.DEVNULL, **options)
-    return time.monotonic() - began
+    clock, after = time.monotonic() - began, resource.getrusage(resource.RUSAGE_CHILDREN)
+    return clock, after.ru_utime + after.ru_stime - used.ru_utime - used.ru_stime
+
+
+def show(what, ratios):
+    ratios.sort()
+    print(f"{what}\tread and written alone\t32\t{ratios[len(ratios) // 2]:.4f}")
+    print(f"{what}: {ratios[0]:.2f} to {ratios[-1]:.2f}", file=sys.stderr)
 
 
 def main():
-    batch, copied, folder = map(Path, sys.argv[1:4])
+    batch, copied, above = map(Path, sys.argv[1:4])
     count = int(sys.argv[4]) if len(sys.argv) > 4 else 5000
-    nets, listings, state, copies = (folder / name for name in ("nets", "listings", "listings.batch", "copies"))
-    empty(nets, listings, state, copies)
+    folder = above / "batched"
+    shutil.rmtree(folder, ignore_errors=True)
+    nets = folder / "nets"
     write_nets(nets, count)
     names = "".join(f"{path}\n" for path in sorted(nets.rglob("*.txt"))).encode()
     environment = os.environ | {"KODARFI_BATCH": str(batch), "KODARFI_REGISTER": str(ROOT / "register")}
-    processes = len(os.sched_getaffinity(0))
+    processes = str(len(os.sched_getaffinity(0)))
+    listings = folder / "listings"
+    subprocess.run([batch, nets, listings], check=True, stdout=subprocess.DEVNULL, env=environment)  # it warms the cache
+    length = str(sum(path.stat().st_size for path in listings.rglob("*.txt")) // count)
     rounds = []
-    for number in range(ROUNDS + 1):
-        empty(listings, state, copies)
+    for number in range(ROUNDS):
+        copies = folder / f"copies-{number}"
         for part in range(0, count, IN_A_FOLDER):
             (copies / str(part // IN_A_FOLDER)).mkdir(parents=True)
-        judged = timed([batch, "--jobs", str(processes), nets, listings], env=environment)
-        length = sum(path.stat().st_size for path in listings.rglob("*.txt")) // count
-        moved = timed([copied, str(processes), str(length), copies], input=names)
-        if number:  # the first warms the cache
-            rounds.append((judged / moved, judged))
-    ratio, judged = sorted(rounds)[ROUNDS // 2]
-    print(f"batch, office: {count / judged:.0f} files a second\tread and written alone\t32\t{ratio:.4f}")
-    empty(nets, listings, state, copies)
+        turns = [
+            lambda: timed([batch, "--jobs", processes, nets, folder / f"listings-{number}"], env=environment),
+            lambda: timed([copied, processes, length, copies], input=names),
+        ]
+        if number % 2:
+            rounds.append((turns[0](), turns[1]()))
+        else:
+            rounds.append((turns[1](), turns[0]())[::-1])
+    clock = sorted(judged[0] for judged, _ in rounds)[ROUNDS // 2]
+    show(f"batch, office, by the clock: {count / clock:.0f} files a second", [judged[0] / moved[0] for judged, moved in rounds])
+    show("batch, office, by the processors' time", [judged[1] / moved[1] for judged, moved in rounds])
+    shutil.rmtree(folder, ignore_errors=True)
 
 
 if __name__ == "__main__":

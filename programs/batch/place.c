@@ -70,7 +70,8 @@ bool read_net(const struct folders *folders, const char *name, uint8_t *bytes, s
 static uint64_t largest_entry(const uint8_t *listing, size_t length) {
     uint64_t largest = 0;
     for (size_t at = 0, end; at < length; at = end + 1) {
-        for (end = at; end < length && listing[end] != '\n'; end++) {}
+        const uint8_t *feed = memchr(listing + at, '\n', length - at);
+        end = feed ? (size_t)(feed - listing) : length;
         if (end - at < 8 || memcmp(listing + at, "(entry ", 7)) continue;
         uint64_t number = 0, unit = 1;
         for (size_t digit = end - 3; listing[digit] >= '0' && listing[digit] <= '9'; digit--, unit *= 10) number += unit * (listing[digit] - '0');

@@ -81,12 +81,17 @@ static void start_worker(struct pool *pool, unsigned k) {
     worker->out = from[0];
 }
 
-/* Sends a chunk's nets from number `from` on; a worker that is gone is noticed where its answers end. */
-static void send_chunk(struct pool *pool, struct worker *worker, struct chunk *chunk, unsigned from) {
+/* Sends a chunk's nets from number `from` on in one piece; a worker that is gone is noticed where its answers end. */
+static void send_chunk(struct worker *worker, const struct chunk *chunk, unsigned from) {
+    size_t length = 0;
+    for (unsigned i = from; i < chunk->count; i++) length += sizeof chunk->heads[i] + chunk->heads[i].length;
+    char *message = must(malloc(length + 1)), *end = message;
     for (unsigned i = from; i < chunk->count; i++) {
-        if (!write_all(worker->in, &chunk->heads[i], sizeof chunk->heads[i]) || !write_all(worker->in, chunk->names[i], chunk->heads[i].length)) return;
+        end = mempcpy(end, &chunk->heads[i], sizeof chunk->heads[i]);
+        end = mempcpy(end, chunk->names[i], chunk->heads[i].length);
     }
-    (void)pool;
+    (void)write_all(worker->in, message, length);
+    free(message);
 }
 
 /* Fills a chunk with the next names; false where there is none left. */
@@ -121,7 +126,7 @@ static void dispatch(struct pool *pool) {
     struct worker *worker;
     while (!signal_met && pool->end - pool->first < pool->room && (worker = freest(pool)) && fill(pool, chunk_at(pool, pool->end))) {
         worker->chunks[worker->count++] = pool->end;
-        send_chunk(pool, worker, chunk_at(pool, pool->end), 0);
+        send_chunk(worker, chunk_at(pool, pool->end), 0);
         pool->end++;
     }
 }
@@ -176,7 +181,7 @@ static void replace(struct pool *pool, unsigned k) {
         answer(pool, worker, &none);
     }
     start_worker(pool, k);
-    for (unsigned c = 0; c < worker->count; c++) send_chunk(pool, worker, chunk_at(pool, worker->chunks[c]), chunk_at(pool, worker->chunks[c])->answered);
+    for (unsigned c = 0; c < worker->count; c++) send_chunk(worker, chunk_at(pool, worker->chunks[c]), chunk_at(pool, worker->chunks[c])->answered);
 }
 
 static void read_answers(struct pool *pool, unsigned k) {

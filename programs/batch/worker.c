@@ -49,10 +49,12 @@ void work(const struct folders *folders, int number, int in, int out) {
     snprintf(own, sizeof own, "%d", number);
     signal(SIGINT, SIG_IGN);
     signal(SIGTERM, SIG_IGN);
+    signal(SIGHUP, SIG_IGN);
     prctl(PR_SET_PDEATHSIG, SIGKILL);
-    while (read_all(in, &head, sizeof head)) {
+    FILE *nets = must(fdopen(in, "r"));
+    while (fread(&head, sizeof head, 1, nets) == 1) {
         if (head.length + 1 > room) name = must(realloc(name, room = head.length + 1));
-        if (!read_all(in, name, head.length)) break;
+        if (fread(name, 1, head.length, nets) < head.length) break;
         name[head.length] = 0;
         struct result result = head.old;
         if (head.is_done && is_unchanged(folders, name, &head.old)) result.is_kept = 1;
