@@ -1,7 +1,7 @@
 """Kodarfi's checker of error limits for levelling nets, from Python.
 
 A solver that nobody needs to trust proposes heights, an inverse and weights for a net; the proved library says how far the exact heights can lie from
-them, or refuses by number:
+them, or refuses with a number:
 
     from kodarfi import Net, Proposal, Refused, check, entry
 
