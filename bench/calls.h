@@ -21,7 +21,7 @@ struct nets {
     struct outcome expected[MOST_NETS];
 };
 
-/* One version of a call: `run` calls it on every sample with n equations, `agrees` tells whether it answers every sample rightly. */
+/* One version of a call: `run` calls it on every sample with n equations, `agrees` is whether it answers every sample rightly. */
 struct version {
     const char *name;
     void (*run)(const struct version *version, uint32_t n);

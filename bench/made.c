@@ -1,4 +1,4 @@
-/* Samples by chance, the same in every run: field lines for builds, and problems for searches. */
+/* Random samples, the same in every run: field lines for builds, and problems for searches. */
 #include "calls.h"
 
 #include <string.h>

@@ -22,7 +22,7 @@ check_on_lists native_check_naive;
 /* The same with 2 * n divisions: the row with the largest |p_m| / g_m is found first. */
 check_on_lists native_check_quick;
 
-/* The same by the ways of the proved check: numbers of the matrix other than 0 alone, sums of products by way of biased rows, half of the work where matrix and
+/* The same by the methods of the proved check: numbers of the matrix other than 0 alone, sums of products through biased rows, half of the work where matrix and
  * inverse are symmetric, and no division where the limits of a column are 0 or 1. */
 check_on_lists native_check_sparse;
 

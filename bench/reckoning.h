@@ -21,7 +21,7 @@ struct system {
     const int64_t *A, *b, *d, *X, *G, *w;
 };
 
-/* The limits of one column from its sizes |p_m|, the margins and the weights. */
+/* The limits of one column from its magnitudes |p_m|, the margins and the weights. */
 typedef void bounds_of_column(uint32_t n, const int64_t *w, const int64_t *p, const int64_t *g, uint64_t *bounds);
 
 static inline int64_t size_of(int64_t x) {
@@ -106,7 +106,7 @@ static inline bool failing_inverse(const struct system *y, const int64_t *sums, 
     return false;
 }
 
-/* Adds to each size |p_m| of the guess the sum over j of |G_mj| * S * d_j, where some d_j is above 0. */
+/* Adds to each magnitude |p_m| of the guess the sum over j of |G_mj| * S * d_j, where some d_j is above 0. */
 static inline void add_slacks(const struct system *y, int64_t *p) {
     if (all_within(y->d, y->n, 0, 0)) return;
     for (uint32_t m = 0; m < y->n; m++) {
@@ -114,7 +114,7 @@ static inline void add_slacks(const struct system *y, int64_t *p) {
     }
 }
 
-/* Each weight's limit by the row with this size and margin. */
+/* Each weight's limit by the row with this magnitude and margin. */
 static inline void bounds_by_row(uint32_t n, const int64_t *w, int64_t p, int64_t g, uint64_t *bounds) {
     for (uint32_t i = 0; i < n; i++) bounds[i] = (uint64_t)((w[i] * p + g - 1) / g);
 }

@@ -1,4 +1,4 @@
-/* The reckoning by the ways of the proved check (crates differences, symmetry, margins, bounds, ratios), on the parts of reckoning.h. */
+/* The reckoning by the methods of the proved check (crates check_defects, check_symmetry, check_margins, check_bounds, check_ratios), on the parts of reckoning.h. */
 #ifndef SPARSE_H
 #define SPARSE_H
 
@@ -57,9 +57,9 @@ static inline bool is_symmetric(size_t n, const int64_t *x) {
     return same;
 }
 
-/* The limits of one column from its sizes, the margins, and each margin divided by the largest weight, its cap.
+/* The limits of one column from its magnitudes |p_m|, the margins, and each margin divided by the largest weight, its cap.
  *
- * Where every size is at most its cap the limits are all 1, or all 0 where every size is 0. Else the steepest row is found by products where these fit, and
+ * Where every magnitude is at most its cap the limits are all 1, or all 0 where every magnitude is 0. Else the steepest row is found by products where these fit, and
  * by quotients where not. */
 static inline void sparse_bounds(uint32_t n, const int64_t *w, const int64_t *p, const int64_t *g, const int64_t *caps, uint64_t *bounds) {
     bool is_flat = true;
@@ -94,7 +94,7 @@ static inline void sizes_from(size_t known, size_t n, const uint64_t *rows, cons
     for (size_t m = known; m < n; m++) p[m] = size_of(row_dot(n, rows + m * (n + 1), residuals));
 }
 
-/* From the raised rows of G and the residuals, column after column; where A and G are symmetric the sizes of a column before its diagonal are read across the
+/* From the raised rows of G and the residuals, column after column; where A and G are symmetric the magnitudes of a column before its diagonal are read across the
  * columns before it. */
 static inline void write_columns(const struct system *y, const uint64_t *rows, const int64_t *R, bool is_mirrored, const int64_t *g, const int64_t *caps,
                                  uint64_t *bounds) {

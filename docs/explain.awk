@@ -93,15 +93,15 @@ function note_form(    count) {
   if (part[1] == "problem") n = part[2] + 0
   if (part[1] == "right" && count == 4 && part[4] + 0 > 0) tolerances++
   if (!(key() in given)) { given[key()] = lines; form[key()] = text }
-  if (number == 5 && key() == "inverse " first || number == 7 && key() == "row " second) told = last
-  if (number == 6 && (key() == "row " first || key() == "right " first)) told = told (told ? " and " : "") last
+  if (number == 5 && key() == "inverse " first || number == 7 && key() == "row " second) quote = last
+  if (number == 6 && (key() == "row " first || key() == "right " first)) quote = quote (quote ? " and " : "") last
 }
 
 # What the refusal is about.
 function found() {
-  if (number == 5) return "row " first " of the inverse is " told
-  if (number == 6) return "equation " first " is " told
-  if (number == 7) return "column " first " of the inverse does not fit equation " second ", which is " told
+  if (number == 5) return "row " first " of the inverse is " quote
+  if (number == 6) return "equation " first " is " quote
+  if (number == 7) return "column " first " of the inverse does not fit equation " second ", which is " quote
   if (number == 13) return missing() " missing"
   if (number == 15) return lines ? "the last line is " last : "the file is empty"
   return "line " first " is " line
@@ -128,11 +128,11 @@ function fault_of_line() {
 function numbers(count) { return count " number" (count == 1 ? "" : "s") }
 
 # 12: where the form was given first, and whether both say the same.
-function repeated(    old, told) {
+function repeated(    old, words) {
   take_apart(text)
   old = form[key()]
-  told = "line " given[key()] " gave it first, as " quoted(old) ", and the two "
-  return told (old == text ? "are the same" : meaning(old) == meaning(text) ? "have the same numbers" : "differ")
+  words = "line " given[key()] " gave it first, as " quoted(old) ", and the two "
+  return words (old == text ? "are the same" : meaning(old) == meaning(text) ? "have the same numbers" : "differ")
 }
 
 # The word and the numbers of a form, with the tolerance of 0 that a right side by itself has.

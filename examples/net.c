@@ -1,6 +1,6 @@
 /* From field lines to heights with limits, in C: net. The solver is a plain one in doubles, and nobody needs to trust it.
  *
- * Exit status 0 where the net is accepted, 1 where something is refused; the refusal is then told in plain words. */
+ * Exit status 0 where the net is accepted, 1 where something is refused; the refusal is then given in plain words. */
 #include "kodarfi_net.h"
 
 static struct kodarfi_net net;

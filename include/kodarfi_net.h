@@ -112,7 +112,7 @@ static inline void kodarfi_half_net_clear(struct kodarfi_half_net *net, uint32_t
     for (size_t i = 0; i < KODARFI_COLUMN_LENGTH; i++) net->weights[i] = 1;
 }
 
-/* The net with the whole matrix, for the calls that have no form for the half. Where n is outside its range the matrix is 0, and every call says 3. */
+/* The net with the whole matrix, for the calls that have no form for the half. Where n is outside its range the matrix is 0, and every call is refused with 3. */
 static inline void kodarfi_half_net_fill_out(const struct kodarfi_half_net *half, struct kodarfi_net *net) {
     kodarfi_net_clear(net, half->n, half->s, half->t);
     memcpy(net->right, half->right, sizeof net->right);

@@ -118,7 +118,7 @@ commit() {
   echo "$commit${changed:+-dirty}"
 }
 
-# note_version PROGRAM COMMIT: writes what a program was built from, and by which kit, beside it, with its own digest, so that nothing is told of another program.
+# note_version PROGRAM COMMIT: writes what a program was built from, and by which kit, beside it, with its own digest, so that nothing is claimed of another program.
 note_version() {
   local kit number=''
   kit=$(rt version 2>/dev/null) || kit=unknown

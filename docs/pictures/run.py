@@ -1,9 +1,9 @@
-"""The pictures of the documents, each made from a file that says what is in it; and the map and the largest numbers of docs/DESIGN.md.
+"""The pictures of the documents, each made from a file that says what is in it; the map of docs/CRATES.md; and the largest numbers of docs/DESIGN.md.
 
   python3 docs/pictures/run.py --write       writes all
   python3 docs/pictures/run.py --check       compares all, the map with crates.txt, and the numbers with the laws; the last line is 'N passed, M failed'
   python3 docs/pictures/run.py --self-test   the same on mutants of what they are made from
-  python3 docs/pictures/run.py --gate LOG    prints the table gate.tsv, from what a gate printed
+  python3 docs/pictures/run.py --gate LOG    makes gate.tsv and its picture from what a gate printed
 
 docs/town.svg and docs/office.svg are drawn by the Python package (`python3 -m kodarfi draw`), and tests/package compares them."""
 
@@ -43,7 +43,7 @@ def fault_of_picture(picture, source, draw):
 
 # What is compared: the file that it hangs on, and a function from this file's text to what is wrong, nothing where all is right.
 COMPARED = {picture: (source, fault_of_picture(picture, source, draw)) for picture, (source, draw) in PICTURES.items()}
-COMPARED["the map"] = ("crates.txt", lambda text: storeys.fault_of_map(read("docs/DESIGN.md"), text))
+COMPARED["the map"] = ("crates.txt", lambda text: storeys.fault_of_map(read("docs/CRATES.md"), text))
 COMPARED["the largest numbers"] = ("docs/DESIGN.md", lambda text: figures.fault_of(text, read))
 
 # What must be detected: what is compared, a text in the file that it hangs on, another text for it, and a part of the fault.
@@ -56,6 +56,7 @@ MUTANTS = {
     "a step's crate is gone": ("docs/way.svg", "check_margins: ", "check_margin: ", "names the crate check_margins"),
     "another time": ("docs/gate.svg", "The check\t", "The check\t1", "is not what docs/pictures/gate.tsv gives"),
     "a time that is none": ("docs/gate.svg", "The check\t", "The check\tlong", "invalid literal"),
+    "no word of which gate": ("docs/gate.svg", "# ", "", "does not begin with '# '"),
     "a field less": ("docs/gate.svg", "The check\t", "The check ", "has not four fields"),
     "another ratio": ("bench/speed.svg", "| check, office | naive in C | 0.", "| check, office | naive in C | 1.", "is not what bench/README.md gives"),
     "a ratio of 0": ("bench/speed.svg", "| check, office | quick in C | ", "| check, office | quick in C | 0 | ", "cannot be read"),
@@ -76,7 +77,9 @@ proofs                    100 s       10 passed      0 failed
 all: 130 s
 18 passed, 0 failed
 """
-LOG_GIVES = f"{gate.HEAD}\nMathematics\t5\t24\t0\nA file and its listing\t10\t20\t0\n{gate.AFTER}\t0\t0\t30\n"
+LOG_GIVES = f"""{gate.HEAD}\nMathematics\t5\t24\t0\nA file and its listing\t10\t20\t0\n{gate.AFTER}\t0\t0\t30
+# 2 crates and 8 must-fail edits. By the clock: 100 s for proofs, edits and programs, then 30 s for the tests.
+"""
 
 
 def fault_of(what, text):
@@ -122,9 +125,9 @@ def run():
         if words == ["--write"]:
             return write()
         if len(words) == 2 and words[0] == "--gate":
-            print(gate.table(Path(words[1]).read_text(encoding="utf-8"), read("crates.txt")), end="", flush=True)
-            return 0
-    except (Fault, UnicodeDecodeError) as error:
+            (ROOT / "docs/pictures/gate.tsv").write_text(gate.table(Path(words[1]).read_text(encoding="utf-8"), read("crates.txt")), encoding="utf-8")
+            return write()
+    except (Fault, OSError, UnicodeDecodeError) as error:
         print(f"docs/pictures/run.py: {error}", file=sys.stderr)
         return 2
     print("usage: python3 docs/pictures/run.py --write | --check | --self-test | --gate LOG", file=sys.stderr)

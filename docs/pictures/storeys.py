@@ -114,7 +114,7 @@ def draw(text):
 
 
 def fault_of_map(text, crates):
-    """What is wrong with the map of docs/DESIGN.md, a row for each crate, the storey in the first row of its crates; nothing where it is that of crates.txt."""
+    """What is wrong with the map of docs/CRATES.md, a row for each crate, the storey in the first row of its crates; nothing where it is that of crates.txt."""
     found, title = {}, ""
     for storey, crate in ROW.findall(text.partition("\n## Map\n")[2]):
         title = storey or title
@@ -122,5 +122,5 @@ def fault_of_map(text, crates):
     storeys, _ = storeys_of(crates)
     for title in [*storeys, *found]:
         if found.get(title) != storeys.get(title):
-            return f"docs/DESIGN.md: its map has not the crates of crates.txt in the storey '{title}'"
+            return f"docs/CRATES.md: its map has not the crates of crates.txt in the storey '{title}'"
     return ""

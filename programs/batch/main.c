@@ -30,7 +30,7 @@ static void hold_standard_streams(void) {
     setvbuf(stdout, NULL, _IOLBF, 1 << 16);
 }
 
-/* What tells one version of the program from another, wherever it stands: a sum over its own bytes. */
+/* What distinguishes one version of the program from another, wherever it stands: a sum over its own bytes. */
 static const char *identity(void) {
     static char text[20];
     static unsigned char bytes[1 << 16];

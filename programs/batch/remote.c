@@ -102,7 +102,7 @@ static uint64_t receive(const struct folders *folders, const char *token, const 
     FILE *names = fdopen(openat(folders->state, "names", O_RDONLY | O_CLOEXEC), "r");
     char *piece = NULL, *name = NULL;
     size_t room = 0, name_room = 0;
-    bool is_told = false;
+    bool is_reported = false;
     for (ssize_t got; names && (got = getdelim(&piece, &room, 0, in)) > 0;) {
         struct result result = {0};
         intmax_t at;
@@ -113,8 +113,8 @@ static uint64_t receive(const struct folders *folders, const char *token, const 
         if (!feed || piece[got - 1]) continue;
         *feed = 0;
         if (strcmp(piece + end, version)) {
-            if (!is_told) say("a machine has another version of the program; what it sends is passed over");
-            is_told = true;
+            if (!is_reported) say("a machine has another version of the program; what it sends is passed over");
+            is_reported = true;
             continue;
         }
         const uint8_t *listing = (const uint8_t *)feed + 1;

@@ -13,7 +13,7 @@
 #include <unistd.h>
 
 static uint64_t accepted, refused, failures, kept, bare, count, there, there_refused;
-static struct timespec began, told;
+static struct timespec began, printed;
 static bool is_moving, is_unwritten;
 static FILE *summary;
 static char *summary_name, *summary_part;
@@ -82,7 +82,7 @@ void start_report(uint64_t names, const char *name) {
     count = names;
     accepted = refused = failures = kept = 0;
     clock_gettime(CLOCK_MONOTONIC, &began);
-    told = began;
+    printed = began;
     is_moving = isatty(2);
     signal(SIGPIPE, SIG_IGN);
     if (!name) return;
@@ -130,13 +130,13 @@ void report(const char *name, const struct result *r) {
 
 /* On a terminal one line that moves, four times a second; elsewhere a line every ten seconds. */
 static void show_progress(uint64_t done, uint64_t refusals) {
-    double since = seconds_since(&told), all = seconds_since(&began);
+    double since = seconds_since(&printed), all = seconds_since(&began);
     if (since < (is_moving ? 0.25 : 10)) return;
     double rate = all > 0 ? (double)done / all : 0;
     char line[200];
     snprintf(line, sizeof line, "%" PRIu64 " of %" PRIu64 ", %.0f a second, %" PRIu64 " refused, %" PRIu64 " failed, %.0f s left", done, count, rate, refusals, failures,
              rate > 0 ? (double)(count - done) / rate : 0);
-    clock_gettime(CLOCK_MONOTONIC, &told);
+    clock_gettime(CLOCK_MONOTONIC, &printed);
     if (is_moving) dprintf(2, "\r\033[K%s", line);
     else say("%s", line);
 }

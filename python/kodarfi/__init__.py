@@ -1,7 +1,7 @@
 """Kodarfi's checker of error limits for levelling nets, from Python.
 
 A solver that nobody needs to trust proposes heights, an inverse and weights for a net; the proved library says how far the exact heights can lie from
-them, or refuses by number:
+them, or refuses with a number:
 
     from kodarfi import Net, Proposal, Refused, check, entry
 
@@ -22,7 +22,7 @@ The functions: check, check_half, listing, entry, find_weights, build, build_hal
 Loader. The types: Net, Proposal, Limits, FieldLine, Entry, Found, Common, Factor, Listing, Refused. Beside them: kodarfi.forms reads and writes files,
 kodarfi.field reads field books and makes equations of them, also of a net that hangs from another, kodarfi.propose is a solver, kodarfi.names reads the
 names of marks, kodarfi.sheet makes pages and kodarfi.draw pictures, kodarfi.enter and kodarfi.audit keep a register, and python3 -m kodarfi has commands.
-What is promised of each call is proved, and include/kodarfi.h tells it in full, with all ranges; this package only hands the numbers over, and is tested.
+What is promised of each call is proved, and include/kodarfi.h states it in full, with all ranges; this package only hands the numbers over, and is tested.
 
 The package needs the shared object libkodarfi.so. It is looked for at the first call: what KODARFI_LIBRARY names, the checkout's target/lib (made by
 'make lib'), the lib folder of Python's own prefix and of /usr/local, and wherever the system's loader looks; LibraryMissing says so where there is none."""

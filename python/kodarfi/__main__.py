@@ -93,7 +93,7 @@ def read(name: str, length: int) -> bytes:
 
 def help_text() -> str:
     width = max(len(f"{name} {command.files}") for name, command in COMMANDS.items())
-    return HELP.format(commands="\n".join(f"  {name + ' ' + command.files:<{width}}   {command.tells}" for name, command in COMMANDS.items()))
+    return HELP.format(commands="\n".join(f"  {name + ' ' + command.files:<{width}}   {command.gives}" for name, command in COMMANDS.items()))
 
 
 # Options with a number: what it is called, and its range.
@@ -151,7 +151,7 @@ def texts_of(name: str, files: List[str]) -> List[bytes]:
 
 def run(name: str, words: List[str]) -> int:
     if set(words) & {"-h", "--help"} and "--" not in words:
-        put(f"usage: python3 -m kodarfi {name} {COMMANDS[name].files}\n\n{COMMANDS[name].tells}; python3 -m kodarfi --help says more\n".encode())
+        put(f"usage: python3 -m kodarfi {name} {COMMANDS[name].files}\n\n{COMMANDS[name].gives}; python3 -m kodarfi --help says more\n".encode())
         return 0
     files, given = words_of(name, words)
     names = " and ".join(map(shown, files))

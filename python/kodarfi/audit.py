@@ -100,7 +100,7 @@ def _place_faults(net: Net, before: str, corrected: Set[Any]) -> Iterator[str]:
         yield f"it corrects net {net.corrects!r:.40}, which is no earlier one, or is corrected already"
 
 
-def told(found: Audit) -> str:
+def report(found: Audit) -> str:
     """What an audit prints."""
     counts = f"{counted(found.nets, 'net')}, {counted(found.marks, 'mark')}, judged by {VERSION}"
     lines = [" ".join(fault.split()) for fault in found.faults]
@@ -113,5 +113,5 @@ def look(place: str) -> str:
     """What an audit of a clean register prints. Raises Faulty."""
     found = audit(place)
     if found.faults:
-        raise Faulty(told(found), counted(len(found.faults), "fault"))
-    return told(found)
+        raise Faulty(report(found), counted(len(found.faults), "fault"))
+    return report(found)

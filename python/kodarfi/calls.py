@@ -1,5 +1,5 @@
 """A function for every call of the library, lists in and lists out. No list is ever too short, so nothing is refused with 8; whatever else a call refuses
-is raised as Refused. What is promised of each call is proved, and include/kodarfi.h tells it in full; these lines only hand the numbers over.
+is raised as Refused. What is promised of each call is proved, and include/kodarfi.h states it in full; these lines only hand the numbers over.
 
 A number that is too large for the call's type is handed over as the largest, which is outside every range: it is refused with 3 like any other."""
 

@@ -133,7 +133,7 @@ def make_drawing(given: Given) -> bytes:
 
 
 def enter_net(given: Given) -> bytes:
-    return enter.told(enter.enter(given.names[0], given.names[1], given.files[1], given.net)).encode()
+    return enter.report(enter.enter(given.names[0], given.names[1], given.files[1], given.net)).encode()
 
 
 def look_through(given: Given) -> bytes:
@@ -145,11 +145,11 @@ def _listed(head: str, lines: List[str]) -> bytes:
 
 
 class Command(NamedTuple):
-    """A command: what it does, how it is called, what it tells, the most bytes of each of its files that are read, and how many it needs."""
+    """A command: what it does, how it is called, what it gives, the most bytes of each of its files that are read, and how many it needs."""
 
     act: Callable[[Given], bytes]
     files: str
-    tells: str
+    gives: str
     lengths: Tuple[int, ...] = (FILE_LENGTH,)
     least: int = 0
 

@@ -40,7 +40,7 @@ def _make_ready(register: sqlite3.Connection) -> None:
             register.execute(statement)
     faults = schema_faults(register)
     if faults:
-        raise RegisterError(f"{faults[0]}: nothing more is entered there, and audit tells all")
+        raise RegisterError(f"{faults[0]}: nothing more is entered there, and audit reports all")
 
 
 def _known(register: sqlite3.Connection, file_sha256: str, corrects: Optional[int]) -> Optional[Net]:
@@ -79,7 +79,7 @@ def _add(register: sqlite3.Connection, net: Net, judged: Judged) -> None:
         register.execute(f"INSERT INTO entry VALUES ({', '.join('?' * len(ENTRY))})", (net.number, *row))
 
 
-def told(entered: Entered) -> str:
+def report(entered: Entered) -> str:
     """What is said of a net that is in the register."""
     net = entered.net
     how = f"entered{f', correcting net {net.corrects}' if net.corrects else ''}" if entered.is_new else "is this file already, and nothing was entered"

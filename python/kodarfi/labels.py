@@ -35,7 +35,7 @@ def around(middle: Point, width: float, height: float) -> Box:
 def width_of(text: str, size: float) -> float:
     """About as wide as a text is in a usual font, rather too wide."""
     wide = len([letter for letter in text if unicodedata.east_asian_width(letter) in "WF" or letter in "MWmw@%"])
-    return size * (0.58 * (len(text) - wide) + 1.0 * wide)
+    return size * (0.62 * (len(text) - wide) + 1.0 * wide)
 
 
 def crosses(segment: Segment, box: Box) -> bool:

@@ -1,7 +1,7 @@
 """A register: a database of SQLite that keeps the entries of accepted files. Nets are added one after the other; nothing is changed or removed.
 
 A net is a file that was entered, with a number of its own: marks are 1 to n of a file, so mark 2 of net 3 is a mark that no other net has. Each net is
-sealed: its seal is the sha256 of the seal before it and of what is said of the net, so whoever has noted the last seal can tell whether any net up to it
+sealed: its seal is the sha256 of the seal before it and of what is said of the net, so whoever has noted the last seal can find out whether any net up to it
 was changed since."""
 
 import hashlib
@@ -148,7 +148,7 @@ def opened(place: str, mode: str) -> Iterator[sqlite3.Connection]:
         try:
             register.text_factory = lambda text: text.decode("utf-8", "backslashreplace")
             _look_whose(register)
-            # One file when nobody writes, and an entry that was told is on the disk: the folder is synchronized too, after the journal is removed.
+            # One file when nobody writes, and an entry that was reported is on the disk: the folder is synchronized too, after the journal is removed.
             register.execute("PRAGMA journal_mode = DELETE")
             register.execute("PRAGMA synchronous = EXTRA")
             yield register

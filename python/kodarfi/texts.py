@@ -3,7 +3,7 @@
 import csv
 from typing import List, NamedTuple
 
-TEXT_LENGTH = 2**20  # bytes; a longer text is told as that
+TEXT_LENGTH = 2**20  # bytes; a longer text is reported as such
 
 
 def shown(name: str) -> str:

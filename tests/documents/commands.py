@@ -1,4 +1,7 @@
-"""The commands that pages show: run in a folder of their own, or left to the part of the gate that runs them, or not run, each for a stated reason."""
+"""The commands that pages show: run in a folder of their own, or left to the part of the gate that runs them, or not run, each for a stated reason.
+
+Commands of the kit, and edits of sources ('sed -i .. crates/..'), run in a tree of the crates that a page names, so that a page can show an edit and what the
+prover says to it. The lines shown below such a command are parts of what it prints; with 'error:' in them its status is 1."""
 
 import os
 import re
@@ -10,7 +13,7 @@ from pathlib import Path
 # what is not run, and why
 NOT_RUN = (
     (r"(?:bash )?\.ci/run|make check|rt ci", "the gate itself"),
-    (r"rt \w+", "it proves, for seconds to many minutes; `rt ci` does the same in the gate"),
+    (r"rt (?:prove|check$)", "it proves every crate, as `rt ci` does in the gate"),
     (r"bench/run", "it measures for many minutes"),
     (r"\./batch .*--sshlogin", "it needs other machines"),
     (r"pip install", "it needs a network"),
@@ -26,6 +29,7 @@ ELSEWHERE = (
     (r"python3 (?P<word>docs/\S+)", r".*", "tests/install/cases.py", "WORD"),
     (r"tests/run(?! --list)", r".*", ".ci/run", "tests/parts.sh"),
     (r"(?:tests/link/run)", r".*", "tests/registry", "tests/link/run"),
+    (r"(?P<word>rt staticlib \w+)", r".*", "tests/registry", "WORD"),
 )
 # what stands for any file of a kind, with an example of it
 FOR_ANY = (
@@ -43,6 +47,7 @@ MADE = {
     "target/main.txt": "python3 -m kodarfi build examples/region/main.txt | python3 -m kodarfi propose > target/main.txt",
     "./batch": "me=batch here=$PWD; . scripts/command_line.sh; link_batch target/bin/batch",
 }
+OF_KIT = re.compile(r"rt \w|sed -i .* crates/")
 ANYTHING = re.compile(r"(?<![\w/.$-])[A-Z][A-Z]*(?![\w/.=-])")
 
 
@@ -70,12 +75,50 @@ def not_run(command):
     return next((why for begins, why in NOT_RUN if re.match(rf"(?:\w+=\S* )*(?:{begins})", command)), None)
 
 
+class Tree:
+    """The crates that commands name and those beneath them, copied with what is proved of them. Of a named one's must-fail edits the first is kept: each costs a check."""
+
+    def __init__(self, root, path):
+        self.root, self.path, self.held = root, path, set()
+        self.named = dict(re.findall(r"(?m)^(\w+):(.*)", (root / "crates.txt").read_text()))
+
+    def add(self, crate, edits=0):
+        if crate in self.held or crate not in self.named:
+            return
+        self.held.add(crate)
+        for other in self.named[crate].split():
+            self.add(other)
+        shutil.copytree(self.root / "crates" / crate, self.path / "crates" / crate)
+        for edit in sorted((self.path / "crates" / crate).glob("must-fail/*.edit"))[edits:]:
+            edit.unlink()
+        library, stamp = Path("target/rlib") / f"{crate}.rlib", Path("target/stamp") / crate
+        if (self.root / stamp).is_file():
+            shutil.copytree(self.root / library, self.path / library)
+            (self.path / stamp).parent.mkdir(exist_ok=True)
+            shutil.copy2(self.root / stamp, self.path / stamp)
+
+    def run(self, command):
+        """The status of a command of the kit, and what it prints. What only reads runs in the repository itself."""
+        self.path.mkdir(exist_ok=True)
+        for word in re.findall(r"(?:crates/|rt [a-z-]+ )(\w+)", command):
+            self.add(word, edits=1)
+        (self.path / "crates.txt").write_text("".join(f"{crate}:{others}\n" for crate, others in self.named.items() if crate in self.held))
+        place = self.root if command == "rt fmt --check" else self.path
+        return finished(["bash", "-c", command], 600, cwd=place)
+
+
+def finished(words, seconds, **settings):
+    done = subprocess.run(words, timeout=seconds, stdin=subprocess.DEVNULL, stdout=subprocess.PIPE, stderr=subprocess.STDOUT, text=True, **settings)
+    return done.returncode, done.stdout
+
+
 class Folder:
     """A folder in which commands run, made for the first of them: a copy of the repository, but for its crates, and a target of its own with what is built."""
 
     def __init__(self, root):
         self.root, self.held = root, tempfile.TemporaryDirectory()
         self.path = Path(self.held.name) / "clone"
+        self.tree = Tree(root, Path(self.held.name) / "tree")
 
     def make(self):
         root = self.root
@@ -100,14 +143,14 @@ class Folder:
 
     def run(self, command):
         """The status of a command, and what it prints."""
+        if OF_KIT.match(command):
+            return self.tree.run(command)
         if not self.path.exists():
             self.make()
         # nothing is built for a page: the programs are taken as they are, and rt is a stand-in that refuses
         environment = os.environ | {"PYTHONPATH": "python", "KODARFI_AS_BUILT": "silent", "LC_ALL": "C.UTF-8"}
         environment["PATH"] = f"{self.path}/target/tools:{environment['PATH']}"
-        settings = {"cwd": self.path, "env": environment, "stdin": subprocess.DEVNULL, "stdout": subprocess.PIPE, "stderr": subprocess.STDOUT, "text": True}
-        done = subprocess.run(["bash", "-o", "pipefail", "-c", command], timeout=60, **settings)
-        return done.returncode, done.stdout
+        return finished(["bash", "-o", "pipefail", "-c", command], 60, cwd=self.path, env=environment)
 
 
 def full_lines(text):
@@ -132,8 +175,11 @@ def fault_of(root, folder, shown):
         if f"{name} " in f"{command} " and not (folder.path / name.replace("./", "target/bin/")).exists():
             folder.run(made)
     status, printed = folder.run(command)
-    if status != (1 if "examples/refused/" in command else 0):
+    lines = full_lines("\n".join(shown.printed or []))
+    of_kit = OF_KIT.match(command)
+    refused = any("error:" in line for line in lines) if of_kit else "examples/refused/" in command
+    if status != int(refused):
         return f"'{command}' has status {status}: {printed.strip()[:200]}"
-    if shown.printed is not None and full_lines("\n".join(shown.printed)) not in ([], full_lines(printed)):
+    if not (all(line.strip() in printed for line in lines) if of_kit else lines in ([], full_lines(printed))):
         return f"'{command}' prints something else: {printed.strip()[:200]}"
     return None

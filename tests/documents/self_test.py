@@ -2,6 +2,7 @@
 
 import contextlib
 import io
+import os
 import tempfile
 from pathlib import Path
 
@@ -13,7 +14,8 @@ FILES = {
     "`./register --explain FILE` explains, `--brief` is short.\n\n"
     "    ./register examples/whole-file.txt     the listing\n    ./register FILE\n    bash .ci/run     the gate\n\n"
     "`tests/adds.py` has 3 lines, and adds at `tests/adds.py:2`. `made.txt` is an example. The net is hung.\nCONTRIBUTING.md is next, and `tests/README.md`.\n",
-    "CONTRIBUTING.md": "# To contribute\n\n`sums/specs/Sum.antt` has `sumOf`.\n\n```\npython3 tests/adds.py --all\n```\n\n| a table |\n|---|\n| " + LONG + " |\n",
+    "CONTRIBUTING.md": "# To contribute\n\n`sums/specs/Sum.antt` has `sumOf`.\n\n```\npython3 tests/adds.py --all\n```\n\n| a table |\n|---|\n| " + LONG + " |\n\n"
+    "    rt dev sums\n\n    $ sed -i 's/= n/= m/' crates/sums/specs/Sum.antt\n    $ rt dev sums\n    error: sumOf fails\n",
     "docs/DAY.md": "# Office\n\n## A day of `work`\n\n    $ ./register examples/made.txt\n    listing of made.txt\n\n    $ ./register examples/refused/2-none.txt\n    listing of 2-none.txt\n\n"
     "A desk takes it, and two hung nets.\n",
     "docs/GLOSSARY.md": '# Glossary\n\n| Term | Meaning |\n|---|---|\n| "desk" | what takes lines |\n| "hung net" | a net below another |\n',
@@ -33,6 +35,7 @@ FILES = {
     "examples/refused/2-none.txt": "x\n",
     "crates/sums/specs/Sum.antt": "-- Sums.\nabbrev pub sumOf : ℕ → ℕ\nsumOf n = n\n",
     "crates.txt": "sums:\n",
+    "tools/rt": '#!/bin/sh\n[ "$1" != help ] || exec echo "  rt dev NAME"\n[ -d "crates/$2" ] || exit 2\ngrep -q "= n" crates/$2/specs/Sum.antt || { echo "Sum.antt: error: sumOf fails"; exit 1; }\n',
 }
 
 # name: file, what stands there, what stands there then, what must be detected
@@ -63,6 +66,9 @@ WRONG = {
     "a test that runs it no more": ("tests/registry", "python3 tests/adds.py", "python3 tests/other.py", "tests/registry no longer names what runs 'python3 tests/adds.py"),
     "a page that is run no more": ("tests/package/pages.py", '"OFFICE.md"', '"CLERK.md"', "tests/package/pages.py no longer names what runs './register none'"),
     "a gate without the tests": (".ci/run", "tests/parts.sh", "tests/others.sh", ".ci/run no longer names what runs 'tests/run'"),
+    "a crate that is not there": ("CONTRIBUTING.md", "    rt dev sums\n\n", "    rt dev sum\n\n", "'rt dev sum' has status 2"),
+    "an edit that the prover takes": ("CONTRIBUTING.md", "s/= n/= m/", "s/= q/= m/", "'rt dev sums' has status 0"),
+    "what the prover does not say": ("CONTRIBUTING.md", "error: sumOf fails", "error: sumOf holds", "'rt dev sums' prints something else"),
     "a long line": ("docs/DAY.md", "A desk", LONG + "a desk", "the line has"),
     "a line too long for the first page": ("README.md", "CONTRIBUTING.md is next", "CONTRIBUTING.md is next " + LONG[:110], "the line has"),
     "a first page too long": ("README.md", "# Made up\n", "# Made up\n" + "\n" * 140, "151 lines, and at most 150"),
@@ -87,6 +93,7 @@ def reported(folder, change=None):
 def self_test():
     faults = []
     with tempfile.TemporaryDirectory() as name:
+        os.environ["PATH"] = f"{name}/tools:{os.environ['PATH']}"  # a stand-in for the kit
         said = reported(Path(name))
         if not said.endswith(" passed, 0 failed\n"):
             faults.append(f"the right documents are refused: {said}")

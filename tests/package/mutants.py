@@ -134,7 +134,7 @@ MUTANTS = {
     "labels as they are in SVG": ("svg.py", "kind, escape(line), x=x", "kind, line, x=x", pictures.pictures_show_the_net),
     "labels at the first place": ("labels.py", "cost, _, box = min(costs)", "cost, _, box = costs[0]", pictures.nothing_lies_over_another),
     "pictures as small as can be": ("draw.py", "has_room = not placed.clashes and", "has_room = True or", pictures.nothing_lies_over_another),
-    "letters half as wide": ("labels.py", "0.58 * (len(text) - wide)", "0.29 * (len(text) - wide)", pictures.nothing_lies_over_another),
+    "letters half as wide": ("labels.py", "0.62 * (len(text) - wide)", "0.31 * (len(text) - wide)", pictures.nothing_lies_over_another),
     "weights over labels": ("labels.py", "    taken = rings + labels\n", "    taken = list(rings)\n", pictures.nothing_lies_over_another),
     "the column in red": ("draw.py", "judged.places[judged.number == 7]", "judged.places[0]", pictures.a_refused_row_is_red),
     "a refused row's lines as others": ("svg.py", 'kind = "refused line" if one.marks[i].is_refused or one.marks[j].is_refused else "line"', 'kind = "line"', pictures.a_refused_row_is_red),

@@ -1,4 +1,4 @@
--- Where a call for other languages says 0, the limits that it leaves are good (good_limits/specs/Good).
+-- Where a call for other languages answers 0, the limits that it leaves are good (good_limits/specs/Good).
 --   zero-good, half-zero-good, through-zero-good, reported-good — `kodarfi_check`, `kodarfi_check_half`, `kodarfi_loader_check`, `kodarfi_listing`
 --   zero-one-step, half-zero-one-step, through-zero-one-step, reported-one-step — a rounded exact proposal with 3·Σ|A_ij| ≤ 2·T gets 0, and limits of 0 or 1
 use mathlib.Core.Bool.{true, false}

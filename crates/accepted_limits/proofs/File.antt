@@ -1,6 +1,6 @@
 -- The limits in the listing of an accepted file are good (good_limits/specs/Good).
 --   file-good     — of every file of which nothing is said
---   answered-good, listed-good — where `answer_file` says 0, and where the listing begins with "(bounds "
+--   answered-good, listed-good — where `answer_file` answers 0, and where the listing begins with "(bounds "
 --   file-one-step — a complete file with a rounded exact proposal, without tolerances, with weights 1 and 3·Σ|A_ij| ≤ 2·T is accepted, and its limits are 0 or 1
 use mathlib.Core.Path.{_≡_}
 use mathlib.Core.List.{List, []}

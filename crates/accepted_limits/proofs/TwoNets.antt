@@ -1,7 +1,7 @@
 -- The limits of two accepted nets are good, those of the dependent net as a problem in solution steps (specs/TwoNets).
 --   steps-residual, steps-slack — the residual and the slack of that problem are Paper 8's;  steps-bound — so are its limits
 --   both-parts    — where nothing is said of two nets, nothing is said of either
---   together-good — two accepted nets;  together-zero-good — where `kodarfi_check_dependent` says 0
+--   together-good — two accepted nets;  together-zero-good — where `kodarfi_check_dependent` answers 0
 use mathlib.Core.List.{List, [], _∷_}
 use mathlib.Core.Path.{_≡_, refl, sym, ap, _∙_}
 use Prim.Native.Nat.{ℕ}

@@ -4,7 +4,7 @@
 --   CaseOf I k a b — the case of the refusal k of a check, with the numbers a and b that it gives;  stated-case — what is stated has it
 --   case-of, code-as — what is said has its case, and what is stated is said
 --   back     — a place counted from 1, counted from 0
---   never-15 — a check on lists never says 15
+--   never-15 — a check on lists never answers 15
 use mathlib.Core.Bool.{Bool, true, false}
 use mathlib.Core.List.{List, [], _∷_}
 use mathlib.Core.Path.{_≡_, ap}

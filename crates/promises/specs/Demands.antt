@@ -62,7 +62,7 @@ LimitsComputed =
     (P : Problem) (E : ℕ → ℕ) (L : ℕ → ℕ → ℕ) → Accepted P E L →
     ((i : ℕ) → i < P .n → E i ≡ bound P i) × ((i j : ℕ) → i < P .n → j < P .n → L i j ≡ inverseBound P i j)
 
--- of a file these are the limits in the bytes of its listing, which tells by its first bytes that it is accepted
+-- of a file these are the limits in the bytes of its listing, whose first bytes say that it is accepted
 abbrev pub FileShowsLimits : Type 0
 FileShowsLimits =
     (file old new : List ℕ) (r : FileAnswer) → AnsweredAs file old new r → r .reply .number ≡ 0 →
@@ -117,7 +117,7 @@ FileHasOneCase = (file : List ℕ) → (w : List ℕ) × (FileStated file w × (
 abbrev pub AcceptedEncloses : Type 0
 AcceptedEncloses = (P : Problem) (E : ℕ → ℕ) (L : ℕ → ℕ → ℕ) → Accepted P E L → Encloses P E L
 
--- second half: a rounded exact proposal with a two-sided inverse, weights 1 and a sum of sizes below 2T (`RoundedExact`) is always accepted; 01: "The second
+-- second half: a rounded exact proposal with a two-sided inverse, weights 1 and a sum of absolute values below 2T (`RoundedExact`) is always accepted; 01: "The second
 -- half presumes that no lent list is too short (8) and, through a desk, an accepted end"; and numbers in their ranges, since 3 comes before 5, 6 and 7
 abbrev pub CheckAccepts : Type 0
 CheckAccepts =
