@@ -538,14 +538,3 @@ def no_parallel_is_2(box):
         (tools / name).symlink_to(shutil.which(name))
     process = subprocess.run([box.program, "--sshlogin", "host", "nets", "listings"], cwd=box.root, env={"PATH": str(tools), "KODARFI_BATCH": "x", "KODARFI_REGISTER": "x"}, capture_output=True)
     return process.returncode == 2 and process.stderr == b"batch: the tool 'parallel' (GNU parallel) is missing\n"
-
-
-TESTS = (
-    lists_as_register_does, reports_what_is_not_accepted, status_is_the_worst, unreadable_net_fails, unseen_folder_is_2, unseen_folder_keeps_its_listings, names_may_begin_with_a_dash,
-    place_that_is_taken_fails, nothing_to_judge_is_2,
-    lost_report_is_2, goes_on_where_it_was, size_counts_where_the_time_is_the_same, lost_listing_is_written_again, net_that_fails_loses_its_listing,
-    fresh_and_another_version_judge_all, other_nets_are_refused, listings_may_stand_below_the_nets, two_at_once, kills_lose_nothing, torn_journal_is_no_harm,
-    state_does_not_grow, writer_that_is_left_does_no_harm,    interrupt_stops_and_goes_on, dead_worker_is_replaced, full_disk_is_one_line, vanished_folder_is_2,
-    net_that_goes_meanwhile_keeps_its_listing, shows_progress_on_a_terminal, summary_is_a_table,
-    explains_refused_nets, words_are_of_the_present, memory_does_not_grow, many_machines_list_the_same, machine_that_dies_loses_nothing, real_parallel_lists_the_same, no_parallel_is_2,
-)

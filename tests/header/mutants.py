@@ -6,11 +6,11 @@ NET = "kodarfi_net.h"
 
 # Mutants of headers: the program that must detect it, the file, a text in it and another text for it. Every constant is tried one off, too (off_by_one).
 HEADERS = {
-    "fewer bytes decide a file": ("header", "kodarfi.h", "KODARFI_FILE_LENGTH 65536", "KODARFI_FILE_LENGTH 21299"),
+    "fewer bytes decide a file": ("constants", "kodarfi.h", "KODARFI_FILE_LENGTH 65536", "KODARFI_FILE_LENGTH 21299"),
     "less stack than a listing takes": ("stack", "kodarfi.h", "KODARFI_STACK_MAX 114688", "KODARFI_STACK_MAX 90112"),
-    "from after to": ("header", "kodarfi.h", "    uint32_t from;\n    uint32_t to;\n", "    uint32_t to;\n    uint32_t from;\n"),
-    "a weight before the difference": ("header", "kodarfi.h", "    int64_t difference;\n    uint32_t weight;\n", "    uint32_t weight;\n    int64_t difference;\n"),
-    "a difference of 32 bits": ("header", "kodarfi.h", "int64_t difference;", "int32_t difference;"),
+    "from after to": ("constants", "kodarfi.h", "    uint32_t from;\n    uint32_t to;\n", "    uint32_t to;\n    uint32_t from;\n"),
+    "a weight before the difference": ("constants", "kodarfi.h", "    int64_t difference;\n    uint32_t weight;\n", "    uint32_t weight;\n    int64_t difference;\n"),
+    "a difference of 32 bits": ("constants", "kodarfi.h", "int64_t difference;", "int32_t difference;"),
     "right sides for tolerances": ("net", NET, "KODARFI_COLUMN_((net)->right), KODARFI_COLUMN_((net)->tolerance)", "KODARFI_COLUMN_((net)->tolerance), KODARFI_COLUMN_((net)->right)"),
     "guesses for tolerances": ("net", NET, "KODARFI_COLUMN_((net)->tolerance), KODARFI_COLUMN_((net)->guess)", "KODARFI_COLUMN_((net)->guess), KODARFI_COLUMN_((net)->tolerance)"),
     "guesses for weights": ("net", NET, "KODARFI_MATRIX_((net)->inverse), KODARFI_COLUMN_((net)->weights)", "KODARFI_MATRIX_((net)->inverse), KODARFI_COLUMN_((net)->guess)"),
@@ -72,4 +72,4 @@ def off_by_one():
     for name, number in constants().items():
         if name not in NOT_EXACT:
             wrong = number + 1 if number <= 22 and name != "KODARFI_SCALE_MAX" else number - 1
-            yield f"{name} is {wrong}", ("header", "kodarfi.h", f"#define {name} ", f"#define {name} {wrong} + 0 * ")
+            yield f"{name} is {wrong}", ("constants", "kodarfi.h", f"#define {name} ", f"#define {name} {wrong} + 0 * ")

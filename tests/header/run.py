@@ -2,10 +2,11 @@
 
   python3 tests/header/run.py FOLDER   the library is FOLDER/libkodarfi.a; the last line is 'N passed, M failed'
 
-Constants, ranges and the layout of a field line by header.c, header.cpp and from_python.py; the stack of every call and null pointers by stack.c; the calls on
-whole nets by net.c; the numbers in words by words.c beside docs/refusals.tsv.
+Constants, ranges and the layout of a field line by constants.py, header.cpp and from_python.py; the stack of every call and null pointers by stack.c; the calls
+on whole nets by net.c; the numbers in words by words.c beside docs/refusals.tsv.
 Named mutants of the headers and of calls must each be detected by the program that is named with it."""
 
+import ctypes
 import re
 import shutil
 import subprocess
@@ -17,7 +18,8 @@ sys.path.insert(0, str(Path(__file__).resolve().parent.parent))
 
 from common.mutated import ROOT, edit, main, report
 from header import mutants
-from header.from_python import PATIENCE, python_results
+from header.constants import PATIENCE, constant_results, printed
+from header.from_python import python_results
 from header.read import INCLUDE, write_calls
 from header.texts import are_words, text_results
 
@@ -25,28 +27,24 @@ HERE = ROOT / "tests" / "header"
 # What the standards forbid is an error; warnings are shown, and a newer compiler may have more of them.
 STRICT = ["-O1", "-Wall", "-Wextra", "-pedantic-errors"]
 STANDARDS = {"c99": "cc", "c11": "cc", "c++11": "c++", "c++17": "c++"}
-EXAMPLES = str(ROOT / "examples" / "refused")
 
-# The programs: source, language standard, arguments.
-PROGRAMS = {
-    "header": ("header.c", "c99", [EXAMPLES]),
-    "header++": ("header.cpp", "c++11", []),
-    "stack": ("stack.c", "c99", []),
-    "net": ("net.c", "c99", []),
-    "words": ("words.c", "c99", []),
-}
+# The programs: source and language standard.
+PROGRAMS = {"header++": ("header.cpp", "c++11"), "stack": ("stack.c", "c99"), "net": ("net.c", "c99"), "words": ("words.c", "c99")}
 
 
 class Workshop:
-    """A temporary folder with the programs, and headers to edit."""
+    """A temporary folder with the programs, the library as a shared one, and headers to edit."""
 
     def __init__(self, library, folder):
         self.library, self.folder = str(library), Path(folder)
         write_calls(self.folder / "calls.h")
+        shared = str(self.folder / "libkodarfi.so")
+        subprocess.run(["cc", "-shared", "-Wl,--whole-archive", self.library, "-Wl,--no-whole-archive", "-o", shared], check=True, timeout=PATIENCE)
+        self.shared = ctypes.CDLL(shared)
 
     def build(self, name, include=INCLUDE, extra=(), warnings=STRICT):
         """The path of a program, None where it does not compile."""
-        source, standard, _ = PROGRAMS[name]
+        source, standard = PROGRAMS[name]
         path = self.folder / f"program-{name}"
         command = [STANDARDS[standard], f"-std={standard}", *warnings, f"-I{include}", f"-I{HERE}", f"-I{self.folder}", str(HERE / source), *extra, self.library, "-o", str(path)]
         done = subprocess.run(command, capture_output=True, text=True, timeout=PATIENCE)
@@ -55,7 +53,7 @@ class Workshop:
 
     def run(self, name, path):
         """Passed and failed; 0 and 1 where there is no closing line, or one that its status does not tell."""
-        done = subprocess.run([str(path), *PROGRAMS[name][2]], capture_output=True, text=True, timeout=PATIENCE)
+        done = subprocess.run([str(path)], capture_output=True, text=True, timeout=PATIENCE)
         closing = re.fullmatch(r"(\d+) passed, (\d+) failed", done.stdout.rstrip("\n").rpartition("\n")[2])
         if not closing or (done.returncode == 0) != (closing[2] == "0") or int(closing[1]) == 0:
             return 0, 1, done.stdout
@@ -71,6 +69,9 @@ class Workshop:
 
     def detects(self, name, include=INCLUDE, extra=()):
         """Whether a program compiles with a mutant, and detects it: by a failed test, or by a stop."""
+        if name == "constants":
+            found = printed(self, include)
+            return found is not None and not all(good for _, good in constant_results(found, self.shared))
         path = self.build(name, include, extra, warnings=["-O0", "-w"])
         return path is not None and self.run(name, path)[1] > 0
 
@@ -115,6 +116,7 @@ def results(workshop):
         passed, failed, said = workshop.run(name, path) if path else (0, 1, "does not compile")
         print("".join(line for line in said.splitlines(True) if not line.startswith(("row\t", "text\t"))), end="")
         yield f"{name}: {passed} tests", failed == 0
+    yield from constant_results(printed(workshop, INCLUDE), workshop.shared)
     yield from text_results()
     yield from python_results(workshop)
     yield from example_results(workshop)

@@ -41,5 +41,5 @@ def text_results():
     yield "the ranges are those of the table", {str(constants()[name]) for name in kinds} == ranges
     words = next(line.split("\t")[2] for line in (ROOT / "docs" / "refusals.tsv").read_text().splitlines() if line.startswith("3\t"))
     ends = {name: constants()[name] for name in [*kinds, "KODARFI_OBSERVATIONS_MAX"]}
-    told = set(re.findall(r"[\d,^]*\d", words))
-    yield "the words of 3 tell every range", all({f"{end:,}", f"2^{end.bit_length() - 1}"} & told for end in ends.values())
+    reported = set(re.findall(r"[\d,^]*\d", words))
+    yield "the words of 3 tell every range", all({f"{end:,}", f"2^{end.bit_length() - 1}"} & reported for end in ends.values())
