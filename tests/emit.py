@@ -48,7 +48,7 @@ def main():
         return self_test(suite, seed, options.count)
     if options.sizes is None:
         cases = suite.generate(seed, suite.count if options.count is None else options.count)
-        return emit(file_of(suite.answers, (made for case in cases for made in suite.calls(case, suite.answer(case)))))
+        return emit(file_of(suite.answers, (made for case in cases for made in suite.calls(case, suite.answer(case))), options.count is None))
     if suite.of_net is None:
         parser.error(f"{options.name} has no nets of given sizes")
     return emit(part for net in accepted(seed, options.sizes, options.each, KINDS[options.kind]) for part in suite.of_net(net))

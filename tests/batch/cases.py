@@ -28,6 +28,13 @@ def write_nets(box, files, folder="nets"):
         box.write(f"{folder}/{name}", file)
 
 
+def make_open(root):
+    """The folders of a batch, which another user may write to."""
+    for folder in (root / "listings", root / "listings.batch"):
+        folder.mkdir()
+        folder.chmod(0o777)
+
+
 def shown(name):
     return "".join("?" if ord(letter) < 32 else letter for letter in name)
 
@@ -72,9 +79,7 @@ def status_is_the_worst(box):
 def unreadable_net_fails(box):
     box.write("nets/net", WHOLE)
     box.write("nets/closed", WHOLE).chmod(0)
-    for folder in ("listings", "listings.batch"):
-        (box.root / folder).mkdir()
-        (box.root / folder).chmod(0o777)
+    make_open(box.root)
     status, out, err = box.run("nets", "listings", **another_user())
     return status == 2 and out == ["failed closed", "1 accepted, 0 refused, 1 failed"] and "closed: no right to read it" in err
 
@@ -83,9 +88,7 @@ def unseen_folder_is_2(box):
     box.write("nets/net", WHOLE)
     box.write("nets/closed/net", WHOLE)
     (box.root / "nets/closed").chmod(0)
-    for folder in ("listings", "listings.batch"):
-        (box.root / folder).mkdir()
-        (box.root / folder).chmod(0o777)
+    make_open(box.root)
     status, out, _ = box.run("nets", "listings", **another_user())
     return status == 2 and out == ["failed: a folder under nets that cannot be read", "1 accepted, 0 refused, 0 failed"]
 
@@ -94,9 +97,7 @@ def unseen_folder_keeps_its_listings(box):
     """Nets in a folder that cannot be read are not gone."""
     box.write("nets/net", WHOLE)
     box.write("nets/closed/net", WHOLE)
-    for folder in ("listings", "listings.batch"):
-        (box.root / folder).mkdir()
-        (box.root / folder).chmod(0o777)
+    make_open(box.root)
     first = box.run("nets", "listings", **another_user())[0]
     (box.root / "nets/closed").chmod(0)
     status, _, err = box.run("nets", "listings", **another_user())
@@ -428,6 +429,15 @@ def summary_is_a_table(box):
     box.run("--summary", "table", "nets", "listings")
     wanted = "file\tnumber\tplaces\tlargest limit\na\t0\t\t1\nb\t2\t5 0\t\nc\\011d\t0\t\t1\ne\tfailed\t\t\n"
     return first == wanted == (box.root / "table").read_text()
+
+
+def summary_leaves_what_is_no_file(box):
+    """A table for a pipe is read from it, and the pipe stays one: so does a device, which is everybody's."""
+    write_nets(box, {"a": WHOLE})
+    os.mkfifo(box.root / "pipe")
+    reader = os.open(box.root / "pipe", os.O_RDONLY | os.O_NONBLOCK)
+    status = box.run("--summary", "pipe", "nets", "listings")[0]
+    return status == 0 and os.read(reader, 4096).endswith(b"\na\t0\t\t1\n") and (box.root / "pipe").is_fifo() and not (box.root / "pipe.part").exists()
 
 
 def explains_refused_nets(box):

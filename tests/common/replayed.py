@@ -116,8 +116,8 @@ def said(answer):
     return (answer.number, (*answer.values, 0, 0)[:2]) if isinstance(answer, Refusal) else (0, (0, 0))
 
 
-def file_of(answers, made):
-    """The parts of a file, by the answers that must be met of each call, and its calls; each list of each call must be a null pointer in one of them."""
+def file_of(answers, made, is_whole):
+    """The parts of a file, by the answers that must be met of each call, and its calls. In a whole one each list of each call is once a null pointer."""
     head = ((PLACES[name], sum(1 << number for number in numbers)) for name, numbers in answers.items())
     yield [len(answers), *chain.from_iterable(head)]
     without = {(name, at) for name in answers for at in LISTS[name]}
@@ -126,5 +126,5 @@ def file_of(answers, made):
         if call.empty():
             yield from call._replace(nulls=call.empty()).parts()
             without -= {(call.name, at) for at in call.empty()}
-    if without:
+    if without and is_whole:
         raise ValueError(f"no call has a null pointer for {sorted(without)}")

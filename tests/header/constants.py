@@ -4,14 +4,12 @@ import ctypes
 import subprocess
 
 from common.mutated import ROOT
-from common.net import file_of, lines_of, net_of
-from header.read import constants, prototypes
+from header.read import WIDEST, constants, prototypes
 
 PATIENCE = 600
 FIELDS = ("key", "from", "to", "difference", "weight")
 TYPES = {"uint32_t": ctypes.c_uint32, "int64_t": ctypes.c_int64, "uint64_t": ctypes.c_uint64, "size_t": ctypes.c_size_t, "double": ctypes.c_double, "uint8_t": ctypes.c_uint8}
 SQUARE = [int(at % 33 == 0) for at in range(1024)]
-WIDEST = file_of(lines_of(net_of(20, 20, [[-(2**20)] * 32] * 32, [-(2**30)] * 32, [-(2**36)] * 32, [[-(2**20)] * 32] * 32, [1024] * 32)))
 WIDE = {"n": 2, "s": 0, "t": 0, "matrix": [1, 2**20, 0, 1], "tolerance": [1, 65536], "inverse": [1, -(2**20), 0, 1]}
 
 

@@ -10,7 +10,7 @@ from pathlib import Path
 sys.path.insert(0, str(Path(__file__).resolve().parent.parent))
 
 from common.mutated import main
-from header.read import prototypes
+from header.read import parameters_of, prototypes
 
 # Sizes that are cut in every call, with the files of the calls that have them.
 CUT = {
@@ -63,14 +63,12 @@ def done(name, text):
 def shim():
     yield '#include "shim.h"\n'
     for result, name, parameters in prototypes():
-        kinds = [kind.replace("const", "const ").replace("struct", "struct ") for kind, _ in parameters]
-        names = [parameter for _, parameter in parameters]
-        yield f"{result} real_{name}({', '.join(kinds)});"
-        yield f"{result} {name}({', '.join(map(' '.join, zip(kinds, names)))}) {{"
-        yield from (done(f"{base}_of_{bits}_bits", f"{size} = (uint{bits}_t){size};") for size in names for base in CUT if size.rstrip("12") == base for bits in (8, 16))
+        declared, handed = parameters_of(parameters)
+        yield f"{result} real_{name}({declared});\n{result} {name}({declared}) {{"
+        yield from (done(f"{base}_of_{bits}_bits", f"{size} = (uint{bits}_t){size};") for _, size in parameters for base in CUT if size.rstrip("12") == base for bits in (8, 16))
         own = {mutant: edits for mutant, (_, call, *edits) in MUTANTS.items() if f"kodarfi_{call}" == name}
         yield from (done(mutant, before) for mutant, (before, _) in own.items() if before)
-        yield f"    {'uint32_t number = ' if result != 'void' else ''}real_{name}({', '.join(names)});"
+        yield f"    {'uint32_t number = ' if result != 'void' else ''}real_{name}({handed});"
         yield from (done(mutant, after) for mutant, (_, after) in own.items() if after)
         yield f"    {'return number;' if result != 'void' else ''}\n}}\n"
 
