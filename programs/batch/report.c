@@ -87,8 +87,11 @@ void start_report(uint64_t names, const char *name) {
     signal(SIGPIPE, SIG_IGN);
     if (!name) return;
     summary_name = must(strdup(name));
-    if (asprintf(&summary_part, "%s.part", name) < 0) fail("no memory");
-    summary = fopen(summary_part, "we");
+    /* a device or a pipe is written as it is: a file put in its place would take it away from everybody */
+    struct stat status;
+    const bool is_file = stat(name, &status) < 0 || S_ISREG(status.st_mode);
+    if (is_file && asprintf(&summary_part, "%s.part", name) < 0) fail("no memory");
+    summary = fopen(is_file ? summary_part : name, "we");
     if (!summary) fail("%s: %s", name, strerror(errno));
     fputs("file\tnumber\tplaces\tlargest limit\n", summary);
 }
@@ -153,7 +156,7 @@ static void end_summary(void) {
     if (!summary) return;
     bool is_written = fflush(summary) == 0 && !ferror(summary);
     fclose(summary);
-    if (!is_written || rename(summary_part, summary_name) < 0) fail("%s could not be written: %s", summary_name, strerror(errno));
+    if (!is_written || (summary_part && rename(summary_part, summary_name) < 0)) fail("%s could not be written: %s", summary_name, strerror(errno));
     free(summary_part);
     summary_part = NULL;
 }

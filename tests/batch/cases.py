@@ -28,6 +28,13 @@ def write_nets(box, files, folder="nets"):
         box.write(f"{folder}/{name}", file)
 
 
+def make_open(root):
+    """The folders of a batch, which another user may write to."""
+    for folder in (root / "listings", root / "listings.batch"):
+        folder.mkdir()
+        folder.chmod(0o777)
+
+
 def shown(name):
     return "".join("?" if ord(letter) < 32 else letter for letter in name)
 
@@ -72,9 +79,7 @@ def status_is_the_worst(box):
 def unreadable_net_fails(box):
     box.write("nets/net", WHOLE)
     box.write("nets/closed", WHOLE).chmod(0)
-    for folder in ("listings", "listings.batch"):
-        (box.root / folder).mkdir()
-        (box.root / folder).chmod(0o777)
+    make_open(box.root)
     status, out, err = box.run("nets", "listings", **another_user())
     return status == 2 and out == ["failed closed", "1 accepted, 0 refused, 1 failed"] and "closed: no right to read it" in err
 
@@ -83,9 +88,7 @@ def unseen_folder_is_2(box):
     box.write("nets/net", WHOLE)
     box.write("nets/closed/net", WHOLE)
     (box.root / "nets/closed").chmod(0)
-    for folder in ("listings", "listings.batch"):
-        (box.root / folder).mkdir()
-        (box.root / folder).chmod(0o777)
+    make_open(box.root)
     status, out, _ = box.run("nets", "listings", **another_user())
     return status == 2 and out == ["failed: a folder under nets that cannot be read", "1 accepted, 0 refused, 0 failed"]
 
@@ -94,9 +97,7 @@ def unseen_folder_keeps_its_listings(box):
     """Nets in a folder that cannot be read are not gone."""
     box.write("nets/net", WHOLE)
     box.write("nets/closed/net", WHOLE)
-    for folder in ("listings", "listings.batch"):
-        (box.root / folder).mkdir()
-        (box.root / folder).chmod(0o777)
+    make_open(box.root)
     first = box.run("nets", "listings", **another_user())[0]
     (box.root / "nets/closed").chmod(0)
     status, _, err = box.run("nets", "listings", **another_user())
@@ -430,6 +431,15 @@ def summary_is_a_table(box):
     return first == wanted == (box.root / "table").read_text()
 
 
+def summary_leaves_what_is_no_file(box):
+    """A table for a pipe is read from it, and the pipe stays one: so does a device, which is everybody's."""
+    write_nets(box, {"a": WHOLE})
+    os.mkfifo(box.root / "pipe")
+    reader = os.open(box.root / "pipe", os.O_RDONLY | os.O_NONBLOCK)
+    status = box.run("--summary", "pipe", "nets", "listings")[0]
+    return status == 0 and os.read(reader, 4096).endswith(b"\na\t0\t\t1\n") and (box.root / "pipe").is_fifo() and not (box.root / "pipe.part").exists()
+
+
 def explains_refused_nets(box):
     write_nets(box, {"a": WHOLE, "b/c": REFUSED})
     for _ in range(2):
@@ -538,14 +548,3 @@ def no_parallel_is_2(box):
         (tools / name).symlink_to(shutil.which(name))
     process = subprocess.run([box.program, "--sshlogin", "host", "nets", "listings"], cwd=box.root, env={"PATH": str(tools), "KODARFI_BATCH": "x", "KODARFI_REGISTER": "x"}, capture_output=True)
     return process.returncode == 2 and process.stderr == b"batch: the tool 'parallel' (GNU parallel) is missing\n"
-
-
-TESTS = (
-    lists_as_register_does, reports_what_is_not_accepted, status_is_the_worst, unreadable_net_fails, unseen_folder_is_2, unseen_folder_keeps_its_listings, names_may_begin_with_a_dash,
-    place_that_is_taken_fails, nothing_to_judge_is_2,
-    lost_report_is_2, goes_on_where_it_was, size_counts_where_the_time_is_the_same, lost_listing_is_written_again, net_that_fails_loses_its_listing,
-    fresh_and_another_version_judge_all, other_nets_are_refused, listings_may_stand_below_the_nets, two_at_once, kills_lose_nothing, torn_journal_is_no_harm,
-    state_does_not_grow, writer_that_is_left_does_no_harm,    interrupt_stops_and_goes_on, dead_worker_is_replaced, full_disk_is_one_line, vanished_folder_is_2,
-    net_that_goes_meanwhile_keeps_its_listing, shows_progress_on_a_terminal, summary_is_a_table,
-    explains_refused_nets, words_are_of_the_present, memory_does_not_grow, many_machines_list_the_same, machine_that_dies_loses_nothing, real_parallel_lists_the_same, no_parallel_is_2,
-)

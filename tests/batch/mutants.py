@@ -43,6 +43,7 @@ MUTANTS = {
     "a part of the summary is left": ("report.c", "if (summary_part) unlink(summary_part);\n    say", "say", cases.interrupt_stops_and_goes_on),
     "a dead worker's net is lost": ("pool.c", "++chunk->deaths > 1", "++chunk->deaths > 0", cases.dead_worker_is_replaced),
     "a full disk fails net after net": ("place.c", "        result->number = STOPPED;\n        result->largest = (uint64_t)error;", "        result->number = FAILED;", cases.full_disk_is_one_line),
+    "a file for a pipe": ("report.c", "stat(name, &status) < 0 || S_ISREG(status.st_mode)", "true", cases.summary_leaves_what_is_no_file),
     "the summary of this run alone": ("report.c", "    summarize(name, r);", "    if (!r->is_kept) summarize(name, r);", cases.summary_is_a_table),
     "accepted nets are explained": ("worker.c", "result->number == 0 || ", "", cases.explains_refused_nets),
     "names are kept": ("pool.c", "            free(chunk->names[i]);\n", "", cases.memory_does_not_grow),

@@ -11,17 +11,17 @@ from pathlib import Path
 
 sys.path.insert(0, str(Path(__file__).resolve().parent.parent))
 
-from batch.cases import TESTS
+from batch import cases
 from batch.mutants import MUTANTS
 from batch.sandbox import ARCHIVE, REGISTER, Sandbox, compile_program
-from common.mutated import main, open_folder, report, results
+from common.mutated import main, open_folder, report, results, tests_of
 
 
 def run():
     with tempfile.TemporaryDirectory(dir=open_folder()) as folder:
         os.chmod(folder, 0o755)
         program = compile_program(folder)
-        return report(results(TESTS, MUTANTS, lambda edits: Sandbox(compile_program(folder, edits) if edits else program), sys.argv[1:]))
+        return report(results(tests_of(cases), MUTANTS, lambda edits: Sandbox(compile_program(folder, edits) if edits else program), sys.argv[1:]))
 
 
 if __name__ == "__main__":

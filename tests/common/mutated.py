@@ -40,11 +40,11 @@ def another_user():
     return {"user": 65534, "group": 65534, "extra_groups": []} if os.geteuid() == 0 else {}
 
 
-def tests_of(*modules):
-    """The functions of these modules whose one parameter is `box`, in their order."""
+def tests_of(*modules, of="box"):
+    """The functions of these modules whose one parameter is `box`, or has the other name, in their order."""
     for module in modules:
         for function in vars(module).values():
-            if inspect.isfunction(function) and function.__module__ == module.__name__ and list(inspect.signature(function).parameters) == ["box"]:
+            if inspect.isfunction(function) and function.__module__ == module.__name__ and list(inspect.signature(function).parameters) == [of]:
                 yield function
 
 

@@ -17,7 +17,8 @@ class Suite(NamedTuple):
     count: int  # how many cases, or problems with several cases each, where nothing else is said
     generate: Callable  # generate(seed, count): the cases
     answer: Callable  # answer(case)
-    write: Callable  # write(case, answer), for other programs: lists of numbers, a line each, and bytes as they are
+    calls: Callable  # calls(case, answer): the calls that the replays make of it (replayed.py)
+    answers: dict  # by the name of each such call, the answers that must be met
     coverage: Callable  # coverage(case, answer): names of what the case meets
     required: dict  # how often each name must be met; below 1 by which share of the cases, and NEVER
     mutants: tuple  # pairs: mutants by name, and detects(mutant, case, answer)
@@ -26,7 +27,7 @@ class Suite(NamedTuple):
     tested: Callable = None  # tested(seed, count): the cases of the self-test, where they are others than those generated
     tested_count: int = None
     seed: str = "1"
-    of_net: Callable = None  # of_net(net): the case of a net
+    of_net: Callable = None  # of_net(net): what is measured of a net, for other programs: lists of numbers, a line each, and bytes as they are
 
 
 def mutant(base, **parts):

@@ -31,7 +31,8 @@ sys.path[:0] = [str(HERE.parent), str(HERE)]
 sys.path.append(str(NAMES))  # after this folder: both have a run.py and a self_test.py
 
 from commands import Folder, fault_of
-from common.mutated import ROOT, close, main
+from common.made_up import run
+from common.mutated import close, main
 from pages import Page
 
 spec = importlib.util.spec_from_file_location("names_run", NAMES / "run.py")
@@ -214,16 +215,5 @@ def check(root):
     return close(documents.passed + len(faults), faults)
 
 
-def run(arguments):
-    if not arguments:
-        return check(ROOT)
-    if arguments == ["--self-test"]:
-        from self_test import self_test
-
-        return self_test()
-    print(__doc__)
-    return 2
-
-
 if __name__ == "__main__":
-    main(lambda: run(sys.argv[1:]))
+    main(lambda: run(check))

@@ -2,32 +2,17 @@
 
 import ctypes
 import re
-import subprocess
 
+from header.constants import Observation
 from header.read import INCLUDE
-
-PATIENCE = 600
-
-
-class Observation(ctypes.Structure):
-    """A field line, as the header tells its layout for other languages."""
-
-    _fields_ = [("key", ctypes.c_uint32), ("from_", ctypes.c_uint32), ("to", ctypes.c_uint32), ("difference", ctypes.c_int64), ("weight", ctypes.c_uint32)]
-
-
-def shared_library(workshop):
-    shared = workshop.folder / "libkodarfi.so"
-    subprocess.run(["cc", "-shared", "-Wl,--whole-archive", workshop.library, "-Wl,--no-whole-archive", "-o", str(shared)], check=True, timeout=PATIENCE)
-    return ctypes.CDLL(str(shared))
 
 
 def python_results(workshop):
     """The same from Python: the layout in the header's words, a build by it, and None for an empty list."""
-    told = re.search(r"(\d+) bytes, aligned to (\d+); key stands at byte (\d+), from at (\d+), to at (\d+), difference at (\d+) and weight at (\d+)", (INCLUDE / "kodarfi.h").read_text())
+    reported = re.search(r"(\d+) bytes, aligned to (\d+); key stands at byte (\d+), from at (\d+), to at (\d+), difference at (\d+) and weight at (\d+)", (INCLUDE / "kodarfi.h").read_text())
     fields = [getattr(Observation, name).offset for name, _ in Observation._fields_]
-    yield "Python's layout is the one that is told", told and [int(number) for number in told.groups()] == [ctypes.sizeof(Observation), ctypes.alignment(Observation), *fields]
-    library = shared_library(workshop)
-    build = library.kodarfi_build
+    yield "Python's layout is the one that the header states", reported and [int(number) for number in reported.groups()] == [ctypes.sizeof(Observation), ctypes.alignment(Observation), *fields]
+    build = workshop.shared.kodarfi_build
     build.restype = ctypes.c_uint32
     build.argtypes = [ctypes.c_uint32, ctypes.c_void_p, ctypes.c_size_t, ctypes.c_void_p, ctypes.c_size_t, ctypes.c_void_p, ctypes.c_size_t]
     matrix, right = (ctypes.c_int64 * 1024)(), (ctypes.c_int64 * 32)()

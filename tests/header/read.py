@@ -1,10 +1,14 @@
-"""What is read off include/kodarfi.h: its constants and its calls, and the calls as header/stack.c makes them."""
+"""What is read off include/kodarfi.h: its constants and its calls, and the calls as header/stack.c makes them, with the nets and files that it hands over."""
 
 import re
 
 from common.mutated import ROOT
+from common.net import file_of, flat, lines_of, net_of
 
 INCLUDE = ROOT / "include"
+MARKS = range(32)
+# The longest file whose every line is accepted, and that has no tolerances.
+WIDEST = file_of(lines_of(net_of(20, 20, [[-(2**20)] * 32] * 32, [-(2**30)] * 32, [-(2**36)] * 32, [[-(2**20)] * 32] * 32, [1024] * 32)))
 CONSTANT = re.compile(r"^#define (KODARFI_[A-Z_]+) (?:U?INT64_C\()?(\d+)\)?(?= |$)", re.M)
 
 
@@ -18,6 +22,12 @@ def prototypes():
     for result, name, parameters in re.findall(r"^(uint32_t|void) (kodarfi_\w+)\(([^)]*)\);", text, re.M):
         split = [re.fullmatch(r"(.*?[ *])(\w+)(\[\d+\])?", " ".join(parameter.split())) for parameter in parameters.split(",")]
         yield result, name, [((parts[1] + ("*" if parts[3] else "")).replace(" ", ""), parts[2]) for parts in split]
+
+
+def parameters_of(kinds_and_names):
+    """Parameters as C declares them, and their names, each as one text."""
+    kinds = [kind.replace("const", "const ").replace("struct", "struct ") for kind, _ in kinds_and_names]
+    return ", ".join(f"{kind} {name}" for kind, (_, name) in zip(kinds, kinds_and_names)), ", ".join(name for _, name in kinds_and_names)
 
 
 def argument(kind, name, index):
@@ -41,6 +51,26 @@ def said_of_none(names):
     return free[names[0]] if set(names) <= set(free) else 8
 
 
+def large(way):
+    """An accepted net of 32 marks. The way through a check depends on it: ones on the diagonal, and beside them or not; a guess that is off by a step, or none;
+    tolerances in all rows but the last, or none. The inverse is exact."""
+    beside, off, tolerance = way & 1, way >> 1 & 1, way >> 2
+    matrix = [[int(j == i or j == i + beside) for j in MARKS] for i in MARKS]
+    inverse = [[(-1) ** (j - i) * 2**20 if j == i or beside and j > i else 0 for j in MARKS] for i in MARKS]
+    return net_of(10, 20, matrix, [0] * 32, [off, *[0] * 31], inverse, [1] * 32).with_(tolerance=[*[tolerance] * 31, 0])
+
+
+def nets_in_c():
+    """NETS, FILES and LINES for header/stack.c: the eight nets, their files and the longest, and a line of each net's inverse."""
+    listed = lambda numbers: "{" + ", ".join(map(str, numbers)) + "}"
+    nets = [large(way) for way in range(8)]
+    texts = [*(file_of(lines_of(net)) for net in nets), WIDEST], [next(line for line in lines_of(net) if line.startswith("(inverse 1 ")).encode() for net in nets]
+    lists = [f"{{32, 10, 20, {', '.join(map(listed, (flat(net.matrix), net.right, net.tolerance, net.guess, flat(net.inverse), net.weights)))}}}" for net in nets]
+    yield f"static const struct lists NETS[] = {{{', '.join(lists)}}};\n"
+    for name, all_texts in zip(("FILES", "LINES"), texts):
+        yield f"static const struct text {name}[] = {{{', '.join(f'{{{len(text)}, {listed(text)}}}' for text in all_texts)}}};\n"
+
+
 def write_calls(path):
     """CALLS for header/stack.c, every call, and NULLS, the same with each of its lists null and of length 0, and with all of them so; each with its number."""
     runs, calls, nulls = [], [], []
@@ -56,4 +86,4 @@ def write_calls(path):
             called = f"{name}({', '.join(handed)});"
             runs.append(f"static void {run}(void) {{ {'number = ' if result == 'uint32_t' else ''}{called}{'' if result == 'uint32_t' else ' number = 0;'} }}\n")
             (nulls if empty else calls).append(f'    {{"{name}", {run}, {said_of_none([parameters[index][1] for index in empty]) if empty else 0}}},\n')
-    path.write_text(f"{''.join(runs)}\nstatic const struct call {{\n    const char *name;\n    void (*run)(void);\n    uint32_t number;\n}} CALLS[] = {{\n{''.join(calls)}}}, NULLS[] = {{\n{''.join(nulls)}}};\n")
+    path.write_text(f"{''.join(nets_in_c())}{''.join(runs)}\nstatic const struct call {{\n    const char *name;\n    void (*run)(void);\n    uint32_t number;\n}} CALLS[] = {{\n{''.join(calls)}}}, NULLS[] = {{\n{''.join(nulls)}}};\n")

@@ -2,10 +2,11 @@
 
   python3 tests/header/run.py FOLDER   the library is FOLDER/libkodarfi.a; the last line is 'N passed, M failed'
 
-Constants, ranges and the layout of a field line by header.c, header.cpp and from_python.py; the stack of every call and null pointers by stack.c; the calls on
-whole nets by net.c; the numbers in words by words.c beside docs/refusals.tsv.
+Constants, ranges and the layout of a field line by constants.py, header.cpp and from_python.py; the stack of every call and null pointers by stack.c; the calls
+on whole nets by nets.py; the numbers in words by words.py beside docs/refusals.tsv.
 Named mutants of the headers and of calls must each be detected by the program that is named with it."""
 
+import ctypes
 import re
 import shutil
 import subprocess
@@ -17,36 +18,37 @@ sys.path.insert(0, str(Path(__file__).resolve().parent.parent))
 
 from common.mutated import ROOT, edit, main, report
 from header import mutants
-from header.from_python import PATIENCE, python_results
-from header.read import INCLUDE, write_calls
-from header.texts import are_words, text_results
+from header.constants import PATIENCE, constant_results, printed
+from header.from_python import python_results
+from header.nets import net_library, net_results
+from header.read import INCLUDE, parameters_of, prototypes, write_calls
+from header.texts import text_results
+from header.words import word_results, words_library
 
 HERE = ROOT / "tests" / "header"
 # What the standards forbid is an error; warnings are shown, and a newer compiler may have more of them.
 STRICT = ["-O1", "-Wall", "-Wextra", "-pedantic-errors"]
 STANDARDS = {"c99": "cc", "c11": "cc", "c++11": "c++", "c++17": "c++"}
-EXAMPLES = str(ROOT / "examples" / "refused")
 
-# The programs: source, language standard, arguments.
-PROGRAMS = {
-    "header": ("header.c", "c99", [EXAMPLES]),
-    "header++": ("header.cpp", "c++11", []),
-    "stack": ("stack.c", "c99", []),
-    "net": ("net.c", "c99", []),
-    "words": ("words.c", "c99", []),
-}
+# The programs: source and language standard.
+PROGRAMS = {"header++": ("header.cpp", "c++11"), "stack": ("stack.c", "c99")}
+# What is tried from Python: how it is made of the headers, and what is tested of it.
+FROM_PYTHON = {"constants": (printed, constant_results), "nets": (net_library, net_results), "words": (words_library, word_results)}
 
 
 class Workshop:
-    """A temporary folder with the programs, and headers to edit."""
+    """A temporary folder with the programs, the library as a shared one, and headers to edit."""
 
     def __init__(self, library, folder):
         self.library, self.folder = str(library), Path(folder)
         write_calls(self.folder / "calls.h")
+        shared = str(self.folder / "libkodarfi.so")
+        subprocess.run(["cc", "-shared", "-Wl,--whole-archive", self.library, "-Wl,--no-whole-archive", "-o", shared], check=True, timeout=PATIENCE)
+        self.shared = ctypes.CDLL(shared)
 
     def build(self, name, include=INCLUDE, extra=(), warnings=STRICT):
         """The path of a program, None where it does not compile."""
-        source, standard, _ = PROGRAMS[name]
+        source, standard = PROGRAMS[name]
         path = self.folder / f"program-{name}"
         command = [STANDARDS[standard], f"-std={standard}", *warnings, f"-I{include}", f"-I{HERE}", f"-I{self.folder}", str(HERE / source), *extra, self.library, "-o", str(path)]
         done = subprocess.run(command, capture_output=True, text=True, timeout=PATIENCE)
@@ -55,27 +57,33 @@ class Workshop:
 
     def run(self, name, path):
         """Passed and failed; 0 and 1 where there is no closing line, or one that its status does not tell."""
-        done = subprocess.run([str(path), *PROGRAMS[name][2]], capture_output=True, text=True, timeout=PATIENCE)
+        done = subprocess.run([str(path)], capture_output=True, text=True, timeout=PATIENCE)
         closing = re.fullmatch(r"(\d+) passed, (\d+) failed", done.stdout.rstrip("\n").rpartition("\n")[2])
         if not closing or (done.returncode == 0) != (closing[2] == "0") or int(closing[1]) == 0:
             return 0, 1, done.stdout
-        if name == "words" and not are_words(done.stdout):
-            return 0, 1, done.stdout
         return int(closing[1]), int(closing[2]), done.stdout
+
+    def fresh(self):
+        return Path(tempfile.mkdtemp(dir=self.folder))
 
     def edited(self, file, old, new):
         """A folder with the headers, one of them edited."""
-        folder = shutil.copytree(INCLUDE, tempfile.mkdtemp(dir=self.folder), dirs_exist_ok=True)
+        folder = shutil.copytree(INCLUDE, self.fresh(), dirs_exist_ok=True)
         edit(folder, [(file, old, new)])
         return folder
 
     def detects(self, name, include=INCLUDE, extra=()):
         """Whether a program compiles with a mutant, and detects it: by a failed test, or by a stop."""
+        if name in FROM_PYTHON:
+            make, results_of = FROM_PYTHON[name]
+            made = make(self, include)
+            return made is not None and not all(good for _, good in results_of(made, self.shared))
         path = self.build(name, include, extra, warnings=["-O0", "-w"])
         return path is not None and self.run(name, path)[1] > 0
 
-    def detects_call(self, program, call, parameters, arguments, first):
+    def detects_call(self, program, call, first):
         """Whether a program detects a call that does something else first."""
+        parameters, arguments = next(parameters_of(parameters) for _, name, parameters in prototypes() if name == call)
         source = self.folder / "mutant.c"
         source.write_text(f'#include "kodarfi.h"\nuint32_t __real_{call}({parameters});\nuint32_t __wrap_{call}({parameters}) {{ {first} return __real_{call}({arguments}); }}\n')
         done = subprocess.run(["cc", "-O0", f"-I{INCLUDE}", "-c", str(source), "-o", str(self.folder / "mutant.o")], timeout=PATIENCE)
@@ -113,8 +121,10 @@ def results(workshop):
     for name in PROGRAMS:
         path = workshop.build(name)
         passed, failed, said = workshop.run(name, path) if path else (0, 1, "does not compile")
-        print("".join(line for line in said.splitlines(True) if not line.startswith(("row\t", "text\t"))), end="")
+        print(said, end="")
         yield f"{name}: {passed} tests", failed == 0
+    for make, results_of in FROM_PYTHON.values():
+        yield from results_of(make(workshop, INCLUDE), workshop.shared)
     yield from text_results()
     yield from python_results(workshop)
     yield from example_results(workshop)

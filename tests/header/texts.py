@@ -8,19 +8,6 @@ from common.mutated import ROOT
 from header.read import INCLUDE, constants, prototypes
 
 
-def are_words(printed):
-    """What words.c prints, beside the table: every row of it and no other, and the texts of a few refusals."""
-    lines = [line.split("\t") for line in (ROOT / "docs" / "refusals.tsv").read_text().replace("`", "").splitlines()[1:]]
-    table = {line[0]: line[1:4] for line in lines}
-    rows = [line.split("\t")[1:] for line in printed.splitlines() if line.startswith("row\t")]
-    texts = dict(line.split("\t")[1:] for line in printed.splitlines() if line.startswith("text\t"))
-    where = {"2": ", line 17", "5": ", row 3", "6": ", the second of the two, row 4", "7": ", the first of the two, column 5, row 6", "8": "", "13": ", 9 missing", "16": "", "20": "",
-             "3": ", the second of the two"}
-    expected = {number: f"refused with {number}{place}: {table[number][0]}\\n  expected: {table[number][1]}\\n  for whoever wrote it: {table[number][2]}\\n" for number, place in where.items()}
-    expected |= {"0": f"{table['0'][0]}\\n  concluded: {table['0'][1]}\\n  to do: {table['0'][2]}\\n", "999": "refused with 999\\n"}
-    return rows == [[number, *table[number]] for number in table] and texts == expected
-
-
 def text_results():
     """What can be read off the header alone."""
     version = (ROOT / "VERSION").read_text()
@@ -41,5 +28,5 @@ def text_results():
     yield "the ranges are those of the table", {str(constants()[name]) for name in kinds} == ranges
     words = next(line.split("\t")[2] for line in (ROOT / "docs" / "refusals.tsv").read_text().splitlines() if line.startswith("3\t"))
     ends = {name: constants()[name] for name in [*kinds, "KODARFI_OBSERVATIONS_MAX"]}
-    told = set(re.findall(r"[\d,^]*\d", words))
-    yield "the words of 3 tell every range", all({f"{end:,}", f"2^{end.bit_length() - 1}"} & told for end in ends.values())
+    reported = set(re.findall(r"[\d,^]*\d", words))
+    yield "the words of 3 tell every range", all({f"{end:,}", f"2^{end.bit_length() - 1}"} & reported for end in ends.values())

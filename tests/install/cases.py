@@ -172,10 +172,10 @@ def destdir_is_only_where_files_go(box):
     if not box.install(*words):
         return False
     box.prefix = stage / "opt/kodarfi"
-    told = (box.prefix / "lib/pkgconfig/kodarfi.pc").read_text().startswith("prefix=/opt/kodarfi\n")
+    reported = (box.prefix / "lib/pkgconfig/kodarfi.pc").read_text().startswith("prefix=/opt/kodarfi\n")
     nowhere = all(str(stage).encode() not in contents for _, _, contents in box.tree().values())
     runs = box.installed("register", box.prefix / "share/doc/kodarfi/examples/whole-file.txt")[0] == 0
-    return told and nowhere and runs and box.uninstall(*words) and not stage.exists()
+    return reported and nowhere and runs and box.uninstall(*words) and not stage.exists()
 
 
 def is_one_line(answer, *words):

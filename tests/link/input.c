@@ -21,10 +21,8 @@ static char *bytes_of(FILE *file, size_t *length) {
     return *length == (size_t)size ? bytes : NULL;
 }
 
-void open_input(const char *folder, const char *name) {
-    char path[4096];
+void open_input(const char *path) {
     size_t length;
-    snprintf(path, sizeof path, "%s/%s", folder, name);
     FILE *const file = fopen(path, "rb");
     at = input = bytes_of(file, &length);
     if (!input) {
@@ -54,20 +52,22 @@ uint64_t next_number(void) {
     return is_negative ? -number : number;
 }
 
-void next_words(void *list, size_t count) {
-    for (uint64_t *word = list; count > 0; count--) *word++ = next_number();
-}
-
-void next_halves(uint32_t *list, size_t count) {
-    for (size_t k = 0; k < count; k++) list[k] = (uint32_t)next_number();
-}
-
-void end_numbers(void) {
+/* The line feed that ends a line of numbers before bytes, and so many bytes. */
+static void next_bytes(void *bytes, size_t count) {
     if (at == end || *at++ != '\n') stop("a line feed is missing in what an emitter wrote");
-}
-
-void next_bytes(void *bytes, size_t count) {
     if (count > (size_t)(end - at)) stop("bytes are missing in what an emitter wrote");
     memcpy(bytes, at, count);
     at += count;
+}
+
+/* The machine's lowest byte comes first, so that the first bytes of a number are the narrower number. */
+void next_numbers(void *list, size_t width, size_t count) {
+    if (width == 1) {
+        next_bytes(list, count);
+        return;
+    }
+    for (char *place = list; count > 0; count--, place += width) {
+        const uint64_t number = next_number();
+        memcpy(place, &number, width);
+    }
 }

@@ -3,10 +3,12 @@
 #include <string.h>
 
 /* A guard is as long as a column, so that a list written one column past its end stays in it. */
-enum { MOST_WORDS = 1 << 18, GUARD = 32 };
+enum { MOST_WORDS = 1 << 18, MOST_LISTS = 64, GUARD = 32 };
 
 static uint64_t held[MOST_WORDS], right[MOST_WORDS];
-static size_t used;
+
+/* Where the lists begin, and where what is lent ends. */
+static size_t lists[MOST_LISTS], count, used;
 
 /* Another number at each place, and no byte that a right answer has at its end. */
 static uint64_t sentinel(size_t at) {
@@ -18,53 +20,43 @@ static void guard(size_t words) {
     for (const size_t end = used + words; used < end; used++) held[used] = sentinel(used);
 }
 
-void lend_anew(void) {
-    used = 0;
-    guard(GUARD);
+void keep_lists(size_t kept) {
+    if (kept > count) stop("a list is kept that was not lent");
+    if (kept < count) used = lists[kept];
+    count = kept;
+    if (used == 0) guard(GUARD);
 }
 
-void *lend(size_t bytes) {
-    uint64_t *const at = &held[used];
-    guard((bytes + 7) / 8 + GUARD);
-    return at;
+void *lent(uint64_t place) {
+    if (place == UINT64_MAX) return NULL;
+    if (place >= count) stop("a list is no list that is lent");
+    return &held[lists[place]];
 }
 
-int64_t *lend_list(size_t given, size_t length, int64_t fill) {
-    int64_t *const list = lend(length * sizeof *list);
-    next_words(list, given);
-    for (size_t k = given; k < length; k++) list[k] = fill;
-    return list;
+void lend_list(void) {
+    const size_t width = next_number(), length = next_number(), given = next_number(), filled = next_number();
+    const uint64_t fill = next_number();
+    if (count == MOST_LISTS || given + filled > length) stop("a list is too long");
+    lists[count++] = used;
+    guard((width * length + 7) / 8 + GUARD);
+    char *const list = lent(count - 1);
+    next_numbers(list, width, given);
+    for (size_t at = given; at < given + filled; at++) memcpy(list + at * width, &fill, width);
 }
 
-size_t lent_now(void) {
-    return used;
+static void change_in(uint64_t *words) {
+    const size_t place = next_number(), at = next_number(), width = next_number(), numbers = next_number();
+    lent(place);
+    next_numbers((char *)&words[lists[place]] + at * width, width, numbers);
 }
 
-void take_back(size_t lent) {
-    used = lent;
+void change(void) {
+    change_in(held);
 }
 
-void expect_unchanged(void) {
+void expect(size_t changes) {
     memcpy(right, held, used * sizeof *held);
-}
-
-/* Where what is expected of a lent place stands. */
-static void *expected(const void *lent) {
-    return (char *)right + ((const char *)lent - (const char *)held);
-}
-
-uint32_t expect_half(const uint32_t *lent) {
-    const uint32_t number = (uint32_t)next_number();
-    expect_bytes(lent, &number, sizeof number);
-    return number;
-}
-
-void expect_words(const void *lent, size_t count) {
-    next_words(expected(lent), count);
-}
-
-void expect_bytes(const void *lent, const void *bytes, size_t count) {
-    memcpy(expected(lent), bytes, count);
+    for (; changes > 0; changes--) change_in(right);
 }
 
 bool is_as_expected(void) {

@@ -1,7 +1,8 @@
 /* The replay in C: each call that the emitters wrote is made to the library, and all that it was lent is compared with what the oracle says, each list, each
  * place and each sentinel.
  *
- *   link FOLDER [PART]   on what the emitters wrote into FOLDER; with PART, a name of the list below, that part alone, up to the first test that fails
+ *   link FILE..          on the files that emitters wrote
+ *   link --first FILE..  up to the first test that fails
  *
  * The last line is 'N passed, M failed'. */
 #include "replay.h"
@@ -12,8 +13,12 @@
 
 enum { ANSWERS = 32, ENOUGH = 20 };
 
-static unsigned passed, failed, calls, met[ANSWERS];
+static unsigned passed, failed;
 static bool stops;
+
+/* Of each call, how often it was made and each answer was right, and the answers that must be met. */
+static unsigned made[MOST_CALLS], met[MOST_CALLS][ANSWERS];
+static uint64_t wanted[MOST_CALLS];
 
 static int close_count(void) {
     printf("%u passed, %u failed\n", passed, failed);
@@ -30,63 +35,51 @@ static void test(const char *what, unsigned index, bool holds) {
     if (stops) exit(close_count());
 }
 
-bool next_call(void) {
-    lend_anew();
-    return !at_end();
-}
-
-void end_call(const char *what, uint32_t said, uint32_t number) {
+static void replay_call(void) {
+    const size_t call = next_number(), kept = next_number(), lists = next_number(), changes = next_number(), count = next_number();
+    const uint32_t number = (uint32_t)next_number();
+    const size_t right = next_number();
+    uint64_t arguments[MOST_ARGUMENTS] = {0};
+    if (call >= MOST_CALLS || count > MOST_ARGUMENTS) stop("no call has so many arguments");
+    keep_lists(kept);
+    for (size_t k = 0; k < lists; k++) lend_list();
+    for (size_t k = 0; k < changes; k++) change();
+    next_numbers(arguments, sizeof *arguments, count);
+    expect(right);
+    const uint32_t said = make_call(call, arguments);
     const bool is_left = is_as_expected();
-    test(what, calls++, said == number && is_left);
-    met[number % ANSWERS]++;
+    test(NAMES[call], made[call]++, said == number && is_left);
+    met[call][number % ANSWERS]++;
 }
 
-void test_reach(const char *what, const unsigned *numbers) {
-    printf("%u calls of %s:", calls, what);
-    do {
-        printf(" %u: %u", *numbers, met[*numbers]);
-        test(what, *numbers, met[*numbers] >= ENOUGH);
-    } while (*++numbers != 0);
-    printf("\n");
-    memset(met, 0, sizeof met);
-    calls = 0;
-}
-
-/* The parts: the name, what an emitter wrote for it, and the replay. */
-static const struct part {
-    const char *name, *file;
-    void (*replay)(void);
-} PARTS[] = {
-    {"check", "check.cases", replay_checks},
-    {"half", "half.cases", replay_halves},
-    {"dependent", "dependent.cases", replay_dependent},
-    {"common", "common.cases", replay_common},
-    {"entry", "entry.cases", replay_entries},
-    {"weights", "weights.cases", replay_weights},
-    {"quality", "quality.cases", replay_quality},
-    {"build", "build.cases", replay_builds},
-    {"doubles", "doubles.cases", replay_doubles},
-    {"listing", "listing.cases", replay_files},
-    {"convert", "convert.cases", replay_conversions},
-    {"loader", "loader.cases", replay_loader},
-};
-
-/* Runs all parts, or the one with this name; gives how many were run. */
-static unsigned run_parts(const char *folder, const char *only) {
-    unsigned count = 0;
-    for (const struct part *part = PARTS; part < PARTS + sizeof PARTS / sizeof *PARTS; part++) {
-        if (only && strcmp(only, part->name) != 0) continue;
-        open_input(folder, part->file);
-        part->replay();
-        close_input();
-        count++;
+/* That each answer that must be met of a call was right often enough. */
+static void test_answers(size_t call) {
+    printf("%u calls of %s:", made[call], NAMES[call]);
+    for (unsigned number = 0; number < ANSWERS; number++) {
+        if (!(wanted[call] >> number & 1)) continue;
+        printf(" %u: %u", number, met[call][number]);
+        test(NAMES[call], number, met[call][number] >= ENOUGH);
     }
-    return count;
+    printf("\n");
+}
+
+static void replay(const char *path) {
+    open_input(path);
+    for (size_t calls = next_number(); calls > 0; calls--) {
+        const size_t call = next_number();
+        if (call >= MOST_CALLS) stop("there is no such call");
+        wanted[call] = next_number();
+    }
+    keep_lists(0);
+    while (!at_end()) replay_call();
+    close_input();
 }
 
 int main(int argc, char **argv) {
-    stops = argc == 3;
-    if ((argc == 2 || argc == 3) && run_parts(argv[1], argv[2]) > 0) return close_count();
-    fprintf(stderr, "usage: link FOLDER [PART]\n");
-    return 2;
+    stops = argc > 1 && strcmp(argv[1], "--first") == 0;
+    for (int k = 1 + stops; k < argc; k++) replay(argv[k]);
+    for (size_t call = 0; call < MOST_CALLS; call++) {
+        if (wanted[call]) test_answers(call);
+    }
+    return passed + failed > 0 ? close_count() : 2;
 }

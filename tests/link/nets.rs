@@ -1,12 +1,13 @@
-//! What the calls on nets are lent and leave, as the emitters write it.
+//! Nets as a call of kodarfi_check has them.
 
-use crate::input::Input;
-use crate::lent::{Lent, Place};
+use crate::input::{Call, Change, List};
 
 pub const MATRIX: usize = 1024;
 pub const COLUMN: usize = 32;
 /// Stands in the lists past the numbers given: outside every range.
 pub const UNREAD: i64 = i64::MIN;
+/// The places of both lists of limits and of the two places among the lists of a call, behind the lists of the net.
+const LEFT: [usize; 3] = [6, 7, 8];
 
 /// The lists of a net, each of full length (matrix, right sides, tolerances, guess, inverse and weights), and the lengths that a call is given of them and of
 /// both lists of limits.
@@ -28,68 +29,53 @@ pub struct Outcome {
     pub inverse: Vec<u64>,
 }
 
+fn numbers(bytes: &[u8]) -> impl Iterator<Item = u64> + '_ {
+    bytes.chunks_exact(8).map(|number| u64::from_le_bytes(number.try_into().unwrap()))
+}
+
+fn bytes(numbers: impl IntoIterator<Item = u64>) -> Vec<u8> {
+    numbers.into_iter().flat_map(u64::to_le_bytes).collect()
+}
+
 impl Outcome {
     pub fn refused(number: u32, places: [u64; 2]) -> Outcome {
         Outcome { number, places, solution: Vec::new(), inverse: Vec::new() }
     }
-}
 
-fn read_lists(input: &mut Input, of_matrix: usize, count: usize, fill: i64) -> [Vec<i64>; 6] {
-    [(of_matrix, MATRIX), (count, COLUMN), (count, COLUMN), (count, COLUMN), (count * count, MATRIX), (count, COLUMN)]
-        .map(|(given, length)| input.filled(given, length, fill))
-}
-
-/// A net: a count, n s t, eight lengths and the lists. Its matrix may be the lower half.
-pub fn read_net(input: &mut Input, is_half: bool) -> Net {
-    let count = input.length();
-    let (n, s, t, lengths) = (input.word(), input.word(), input.word(), input.lengths());
-    let of_matrix = if is_half { count * (count + 1) / 2 } else { count * count };
-    Net { n, s, t, lengths, lists: read_lists(input, of_matrix, count, UNREAD) }
-}
-
-/// A proposal: as a net, with six lengths and the number that fills each list.
-pub fn read_proposal(input: &mut Input) -> Net {
-    let count = input.length();
-    let (n, s, t) = (input.word(), input.word(), input.word());
-    let [a, b, c, d, e, f] = input.lengths();
-    let fill = input.number() as i64;
-    Net { n, s, t, lengths: [a, b, c, d, e, f, COLUMN, MATRIX], lists: read_lists(input, count * count, count, fill) }
-}
-
-/// The number and its places, and where it is 0 the limits.
-pub fn read_outcome(input: &mut Input, n: u32) -> Outcome {
-    let mut outcome = Outcome::refused(input.word(), input.places());
-    if outcome.number == 0 {
-        read_limits(input, n, &mut outcome);
+    /// What is right of a call.
+    pub fn of(call: &Call) -> Outcome {
+        let [solution, inverse, places] = LEFT.map(|list| call.right.iter().filter(|change| change.list == list).flat_map(|change| numbers(&change.bytes)).collect::<Vec<u64>>());
+        Outcome { number: call.number, places: [places[0], places[1]], solution, inverse }
     }
-    outcome
 }
 
-pub fn read_limits(input: &mut Input, n: u32, outcome: &mut Outcome) {
-    outcome.solution = input.numbers(n as usize);
-    outcome.inverse = input.numbers((n * n) as usize);
-}
+impl Net {
+    /// The net of a call of kodarfi_check.
+    pub fn of(call: &Call) -> Net {
+        let a = &call.arguments;
+        Net {
+            n: a[0] as u32,
+            s: a[1] as u32,
+            t: a[2] as u32,
+            lists: std::array::from_fn(|k| numbers(&call.lists[k].bytes).map(|number| number as i64).collect()),
+            lengths: std::array::from_fn(|k| a[2 * k + 4] as usize),
+        }
+    }
 
-/// The pointers of a net's lists, all lent.
-pub fn lend_net(lent: &mut Lent, net: &Net) -> [*const i64; 6] {
-    std::array::from_fn(|which| {
-        let list = lent.lend_list(&net.lists[which]);
-        lent.pointer(list).cast_const()
-    })
-}
-
-/// The two lists of limits of a net.
-#[derive(Clone, Copy)]
-pub struct Limits {
-    pub solution: Place<u64>,
-    pub inverse: Place<u64>,
-}
-
-pub fn lend_limits(lent: &mut Lent) -> Limits {
-    Limits { solution: lent.lend(COLUMN), inverse: lent.lend(MATRIX) }
-}
-
-pub fn expect_limits(lent: &mut Lent, limits: Limits, right: &Outcome) {
-    lent.expect(limits.solution, &right.solution);
-    lent.expect(limits.inverse, &right.inverse);
+    /// A call of the same form on this net, of which this is right.
+    pub fn call(&self, place: usize, right: &Outcome) -> Call {
+        let read = self.lists.iter().map(|list| List { length: 8 * list.len(), bytes: bytes(list.iter().map(|&number| number as u64)) });
+        let written = [COLUMN, MATRIX, 2].map(|length| List { length: 8 * length, bytes: Vec::new() });
+        let lists = self.lengths.iter().enumerate().flat_map(|(k, &length)| [k as u64, length as u64]);
+        let left = [right.solution.clone(), right.inverse.clone(), right.places.to_vec()];
+        Call {
+            place,
+            kept: 0,
+            lists: read.chain(written).collect(),
+            before: Vec::new(),
+            arguments: [self.n, self.s, self.t].map(u64::from).into_iter().chain(lists).chain([LEFT[2] as u64]).collect(),
+            number: right.number,
+            right: LEFT.into_iter().zip(left).map(|(list, numbers)| Change { list, at: 0, bytes: bytes(numbers) }).collect(),
+        }
+    }
 }

@@ -1,22 +1,33 @@
-//! The replay of calls: where they are read from, what they are lent, and how tests are counted. The first that fail are named.
+//! The replay of calls, and how tests are counted. The first that fail are named.
 
-use crate::input::Input;
+use crate::calls::{make_call, NAMES};
+use crate::input::{Call, Input};
 use crate::lent::Lent;
 use std::process::exit;
 
 const ANSWERS: usize = 32;
 const ENOUGH: usize = 20;
 
-pub struct Count {
+/// Of one call, how often it was made and each answer was right, and the answers that must be met, a bit each.
+#[derive(Clone, Copy, Default)]
+struct Met {
+    calls: usize,
+    answers: [usize; ANSWERS],
+    wanted: u64,
+}
+
+pub struct Replay {
     stops: bool,
     passed: usize,
     failed: usize,
+    lent: Lent,
+    met: Vec<Met>,
 }
 
-impl Count {
+impl Replay {
     /// One that may stop at the first test that fails.
-    pub fn new(stops: bool) -> Count {
-        Count { stops, passed: 0, failed: 0 }
+    pub fn new(stops: bool) -> Replay {
+        Replay { stops, passed: 0, failed: 0, lent: Lent::new(), met: vec![Met::default(); NAMES.len()] }
     }
 
     pub fn test(&mut self, what: &str, index: usize, holds: bool) {
@@ -37,51 +48,43 @@ impl Count {
         println!("{} passed, {} failed", self.passed, self.failed);
         exit(i32::from(self.failed > 0))
     }
-}
 
-pub struct Replay<'a> {
-    pub input: Input<'a>,
-    pub lent: Lent,
-    count: &'a mut Count,
-    calls: usize,
-    met: [usize; ANSWERS],
-}
-
-impl<'a> Replay<'a> {
-    pub fn of(bytes: &'a [u8], count: &'a mut Count) -> Replay<'a> {
-        Replay { input: Input(bytes), lent: Lent::new(), count, calls: 0, met: [0; ANSWERS] }
+    /// Makes a call: where the right number is said, and all that was lent is as expected, it has passed.
+    pub fn make(&mut self, call: &Call) {
+        let (lent, met) = (&mut self.lent, &mut self.met[call.place]);
+        lent.keep(call.kept);
+        call.lists.iter().for_each(|list| lent.lend(list));
+        call.before.iter().for_each(|change| lent.change(change));
+        lent.expect(&call.right);
+        let said = unsafe { make_call(call.place, &call.arguments, |place| lent.pointer(place)) };
+        let is_left = lent.is_as_expected();
+        met.calls += 1;
+        met.answers[call.number as usize % ANSWERS] += 1;
+        let index = met.calls - 1;
+        self.test(NAMES[call.place], index, said == call.number && is_left);
     }
 
-    /// Ends a call: where the right number was said, and all that was lent is as expected, it has passed.
-    pub fn end_call(&mut self, what: &str, said: u32, number: u32) {
-        let is_left = self.lent.is_as_expected();
-        self.test(what, said == number && is_left);
-        self.calls += 1;
-        self.met[number as usize % ANSWERS] += 1;
-    }
-
-    /// Replays calls up to the input's end: `call` reads, lends and makes one, and gives what was said and what is right. Each of these answers must be met.
-    pub fn each(&mut self, what: &str, numbers: &[usize], call: impl Fn(&mut Input<'a>, &mut Lent) -> (u32, u32)) {
-        while !self.input.at_end() {
-            self.lent.anew();
-            let (said, right) = call(&mut self.input, &mut self.lent);
-            self.end_call(what, said, right);
+    /// Makes the calls that an emitter wrote, each of which is handed on.
+    pub fn file(&mut self, bytes: &[u8], mut each: impl FnMut(&mut Replay, Call)) {
+        let mut input = Input(bytes);
+        for _ in 0..input.number() {
+            let place = input.length();
+            self.met[place].wanted = input.number();
         }
-        self.test_reach(what, numbers);
-    }
-
-    /// A test of the call that is replayed.
-    pub fn test(&mut self, what: &str, holds: bool) {
-        self.count.test(what, self.calls, holds);
-    }
-
-    /// That each of these answers was right often enough in the calls so far. The count begins anew.
-    pub fn test_reach(&mut self, what: &str, numbers: &[usize]) {
-        let met: Vec<String> = numbers.iter().map(|&number| format!("{number}: {}", self.met[number])).collect();
-        println!("{} calls of {what}: {}", self.calls, met.join(" "));
-        for &number in numbers {
-            self.count.test(what, number, self.met[number] >= ENOUGH);
+        while !input.at_end() {
+            let call = input.call();
+            self.make(&call);
+            each(self, call);
         }
-        (self.calls, self.met) = (0, [0; ANSWERS]);
+    }
+
+    /// That each answer that must be met of a call was right often enough.
+    pub fn test_answers(&mut self) {
+        for (place, Met { calls, answers, wanted }) in self.met.clone().into_iter().enumerate().filter(|(_, met)| met.wanted > 0) {
+            let numbers: Vec<usize> = (0..ANSWERS).filter(|number| wanted >> number & 1 == 1).collect();
+            let shown: Vec<String> = numbers.iter().map(|&number| format!("{number}: {}", answers[number])).collect();
+            println!("{calls} calls of {}: {}", NAMES[place], shown.join(" "));
+            numbers.iter().for_each(|&number| self.test(NAMES[place], number, answers[number] >= ENOUGH));
+        }
     }
 }

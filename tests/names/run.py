@@ -31,7 +31,8 @@ from pathlib import Path
 sys.path.insert(0, str(Path(__file__).resolve().parent.parent))
 
 import once
-from common.mutated import ROOT, close, main
+from common.made_up import run
+from common.mutated import close, main
 
 FOLDERS = "crates|docs|tests|examples|include|scripts|python|bench|programs|\\.ci"
 PATH = re.compile(rf"(?<![\w/.*-])((?:{FOLDERS})/[\w./-]*\w|[a-z_]+/(?:specs|proofs|src|must-fail)(?:/[\w./-]*\w)?)")
@@ -190,16 +191,5 @@ def check(root):
     return close(repository.passed + len(faults), faults)
 
 
-def run(arguments):
-    if not arguments:
-        return check(ROOT)
-    if arguments == ["--self-test"]:
-        from self_test import self_test
-
-        return self_test()
-    print(__doc__)
-    return 2
-
-
 if __name__ == "__main__":
-    main(lambda: run(sys.argv[1:]))
+    main(lambda: run(check))

@@ -1,11 +1,4 @@
-"""Made-up documents and sources, right and then wrong: each wrong name must be told, and nothing else."""
-
-import contextlib
-import io
-import tempfile
-from pathlib import Path
-
-from run import check
+"""Made-up documents and sources, and mutants of them, each of which must be detected by what is said of it, and nothing else."""
 
 FILES = {
     "README.md": "# Made up\n\n`sums::add_all` adds, as `sumOf` of `sums/specs/Sum.antt` says (`sum-zero` in `sums/proofs/Sum.antt`); `Adder::put` puts.\n"
@@ -29,8 +22,8 @@ FILES = {
     "crates/promises/proofs/Sums.antt": "-- Theorems of specs/Sums.\npub sum-is-sum : statement.SumIsSum\nsum-is-sum = 0\n\nuse Rattle.sums.specs.Sum.{sumOf}\n",
 }
 
-# name: file, what stands there, what stands there then, what must be told
-WRONG = {
+# name: file, what stands there, what stands there then, what must be said
+MUTANTS = {
     "a file that is not there": ("README.md", "sums/proofs/Sum.antt", "sums/proofs/Total.antt", "there is no sums/proofs/Total.antt"),
     "a file of another folder": ("README.md", "`sums/specs/Sum.antt`", "`sums/src/Sum.antt`", "there is no sums/src/Sum.antt"),
     "a script that is not there": ("README.md", "tests/adds.py", "tests/added.py", "there is no tests/added.py"),
@@ -64,33 +57,3 @@ WRONG = {
     "a long way back": ("crates/sums/proofs/Sum.antt", "sum-zero = 0", "sum-zero = c" + " .before" * 6, "6 steps back"),
     "a long line": ("docs/PROMISES.md", "a sum", "a sum " * 40, "the line has"),
 }
-
-
-def told(folder, change=None):
-    for name, text in FILES.items():
-        path = folder / name
-        path.parent.mkdir(parents=True, exist_ok=True)
-        path.write_text(text.replace(change[1], change[2], 1) if change and change[0] == name else text)
-    said = io.StringIO()
-    with contextlib.redirect_stdout(said):
-        check(folder)
-    return said.getvalue()
-
-
-def self_test():
-    faults = []
-    with tempfile.TemporaryDirectory() as name:
-        said = told(Path(name))
-        if not said.endswith(" passed, 0 failed\n"):
-            faults.append(f"the right documents are refused: {said}")
-        for title, change in WRONG.items():
-            said = told(Path(name), change)
-            if change[1] not in FILES[change[0]] or change[3] not in said or said.count("FAILED") > 2:
-                faults.append(f"{title}: {said}")
-    with tempfile.TemporaryDirectory() as name, contextlib.redirect_stdout(io.StringIO()):
-        if check(Path(name)) == 0:
-            faults.append("no documents at all are taken")
-    for fault in faults:
-        print("FAILED", fault)
-    print(f"{len(WRONG) + 2 - len(faults)} passed, {len(faults)} failed")
-    return int(bool(faults))

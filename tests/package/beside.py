@@ -1,4 +1,4 @@
-"""Every call of the package beside the second implementation, and in exact fractions where that says more."""
+"""Every call of the package beside the oracle, and in exact fractions where that says more."""
 
 import random
 from fractions import Fraction
@@ -42,9 +42,24 @@ def said(act, *words):
         return error.number, error.places, error.line, error.net
 
 
-def refusal(second, net=0):
-    """The same of the second implementation's."""
-    return second.number, (*second.values, 0, 0)[:2], 0, net
+def refusal(refused, net=0, line=0):
+    """The same of the oracle's."""
+    return refused.number, (*refused.values, 0, 0)[:2], line, net
+
+
+def right(answer, given=lambda answer: answer):
+    """What the oracle's answer is met as, and what the package must give: what `given` makes of it, or the refusal."""
+    return (answer.number, refusal(answer)) if isinstance(answer, Refusal) else (0, given(answer))
+
+
+def met_by(cases):
+    """What is met by cases, each of what it is met as, what is right and what is said; nothing where one is wrong."""
+    met = set()
+    for name, expected, answer in cases:
+        if answer != expected:
+            return set()
+        met.add(name)
+    return met
 
 
 def rows(numbers, n):
@@ -80,15 +95,13 @@ def proposal_of(calls, call, matrix=None):
     return calls.Proposal(calls.Net(matrix or rows(A, n), b, d), call.s, call.t, X, rows(G, n), w)
 
 
-def check_is_the_seconds(package):
-    met = set()
-    for call in check_calls():
-        right = check(call.problem())
-        answer = said(package.calls.check, proposal_of(package.calls, call))
-        met.add(right.number if isinstance(right, Refusal) else 0)
-        if answer != (refusal(right) if isinstance(right, Refusal) else package.calls.Limits(right.solution, right.inverse)):
-            return False
-    return met == {0, 3, 5, 6, 7}
+def limits(calls):
+    return lambda bounds: calls.Limits(bounds.solution, bounds.inverse)
+
+
+def check_is_the_oracles(package):
+    calls = package.calls
+    return met_by((*right(check(call.problem()), limits(calls)), said(calls.check, proposal_of(calls, call))) for call in check_calls()) == {0, 3, 5, 6, 7}
 
 
 def limits_hold_in_fractions(package):
@@ -108,17 +121,16 @@ def limits_hold_in_fractions(package):
     return accepted > 20
 
 
-def check_half_is_the_seconds(package):
-    met = set()
+def halves(calls):
     for call in check_calls():
-        n, lower = call.n, half.lower_half(call.n, call.lists[0])
-        triangle = [lower[i * (i + 1) // 2 : (i + 1) * (i + 2) // 2] for i in range(n)]
-        right = half.HalfEntry().check(call._replace(lists=(lower, *call.lists[1:])).problem())
-        answer = said(package.calls.check_half, proposal_of(package.calls, call, triangle))
-        met.add(right.number if isinstance(right, Refusal) else 0)
-        if answer != (refusal(right) if isinstance(right, Refusal) else package.calls.Limits(right.solution, right.inverse)):
-            return False
-    return met >= {0, 3, 5, 6}
+        lower = half.lower_half(call.n, call.lists[0])
+        triangle = [lower[i * (i + 1) // 2 : (i + 1) * (i + 2) // 2] for i in range(call.n)]
+        answer = half.HalfEntry().check(call._replace(lists=(lower, *call.lists[1:])).problem())
+        yield *right(answer, limits(calls)), said(calls.check_half, proposal_of(calls, call, triangle))
+
+
+def check_half_is_the_oracles(package):
+    return met_by(halves(package.calls)) >= {0, 3, 5, 6}
 
 
 def files():
@@ -126,169 +138,151 @@ def files():
     yield from (generate.case("package", index).file for index in range(FILES))
 
 
-def listing_is_the_seconds(package):
-    met = set()
+def listings(calls):
     for file in files():
-        right, answer = Program().listing(file), package.calls.listing(file)
-        form = right.decode().strip() if right.startswith(b"(refused") else None
-        met.add(answer.refused.number if answer.refused else 0)
-        if answer.text != right or (answer.refused.form() if answer.refused else None) != form:
-            return False
-        if answer.refused and answer.refused.line != (Program().refused_line(file) if answer.refused.number in WITH_LINE else 0):
-            return False
-    return met == {0, 1, 2, 3, 4, 5, 6, 7, 11, 12, 13, 14, 15}
+        listing, answer = Program().listing(file), calls.listing(file)
+        number, form, line = (answer.refused.number, answer.refused.form(), answer.refused.line) if answer.refused else (0, None, 0)
+        is_refused = listing.startswith(b"(refused")
+        yield number, (listing, listing.decode().strip() if is_refused else None, Program().refused_line(file) if number in WITH_LINE else 0), (answer.text, form, line)
 
 
-def convert_is_the_seconds(package):
-    met = set()
+def listing_is_the_oracles(package):
+    return met_by(listings(package.calls)) == {0, 1, 2, 3, 4, 5, 6, 7, 11, 12, 13, 14, 15}
+
+
+def conversions(calls):
     for file in files():
-        right, answer = Converter().convert(file), said(package.calls.convert, file)
-        if isinstance(right, Refusal):
-            met.add(right.number)
-            count = right.values[0] if right.number == 13 else 0
-            right = right.number, (count, 0), Program().refused_line(file) if right.number not in (15, 22) else 0, 0
-        if answer != right:
-            return False
-    return met >= {1, 2, 3, 4, 11, 12, 13, 14, 15, 22}
+        new = Converter().convert(file)
+        number = new.number if isinstance(new, Refusal) else 0
+        if number:
+            new = refusal(Refusal(number, new.values[:1] if number == 13 else ()), line=0 if number in (15, 22) else Program().refused_line(file))
+        yield number, new, said(calls.convert, file)
 
 
-def loader_is_the_seconds(package):
+def convert_is_the_oracles(package):
+    return met_by(conversions(package.calls)) >= {1, 2, 3, 4, 11, 12, 13, 14, 15, 22}
+
+
+def sessions(calls):
     """Line after line, refused ones among them, and the check in between and at the end."""
-    ended = 0
     for file in files():
-        loader, second = package.calls.Loader(), Loader()
+        loader, oracle = calls.Loader(), Loader()
         for text in lines_of(file):
-            answer, right = said(loader.take, text), second.take(text)
-            if answer != (refusal(right) if right else None) or loader.is_ended != second.ended:
-                return False
-        if not second.ended:
-            if said(loader.check) != (15, (0, 0), 0, 0):
-                return False
+            answer, taken = said(loader.take, text), oracle.take(text)
+            yield "line", (refusal(taken) if taken else None, oracle.ended), (answer, loader.is_ended)
+        if not oracle.ended:
+            yield "open", (15, (0, 0), 0, 0), said(loader.check)
             continue
-        problem = Program().problem(second)
-        right = Reckoning().check(problem)
-        n, given_lists = problem.n, loader.proposal()
-        ended += 1
-        if said(loader.check) != (refusal(right) if isinstance(right, Refusal) else package.calls.Limits(right.solution, right.inverse)):
-            return False
-        if given_lists != package.calls.Proposal(package.calls.Net(rows(problem.matrix, n), problem.right[:n], problem.tolerance[:n]), problem.s, problem.t, problem.guess[:n], rows(problem.inverse, n), problem.weights[:n]):
-            return False
-    return ended > 20
+        problem = Program().problem(oracle)
+        yield file, right(Reckoning().check(problem), limits(calls))[1], said(loader.check)
+        n, net = problem.n, calls.Net(rows(problem.matrix, problem.n), problem.right[: problem.n], problem.tolerance[: problem.n])
+        yield file, calls.Proposal(net, problem.s, problem.t, problem.guess[:n], rows(problem.inverse, n), problem.weights[:n]), loader.proposal()
 
 
-def entry_is_the_seconds(package):
+def loader_is_the_oracles(package):
+    return len(met_by(sessions(package.calls))) > 22
+
+
+def entry_is_the_oracles(package):
     odd = [(2**70, 0, 3), (-(2**70), 0, 3), (0, 0, -1), (0, 0, 2**32)]
-    for guess, bound, s in [*entries.ends(), *entries.halves(), *entries.by_chance("package", 2000), *odd]:
-        right = Entry().enter(guess, bound, s)
-        if said(package.calls.entry, guess, bound, s) != (refusal(right) if isinstance(right, Refusal) else right):
-            return False
-    return all(raises(ValueError, package.calls.entry, 0, bound, 3) for bound in (-1, 2**64))
+    every = [*entries.ends(), *entries.halves(), *entries.by_chance("package", 2000), *odd]
+    met = met_by((*right(Entry().enter(*words)), said(package.calls.entry, *words)) for words in every)
+    return met == {0, 3} and all(raises(ValueError, package.calls.entry, 0, bound, 3) for bound in (-1, 2**64))
 
 
-def weights_are_the_seconds(package):
-    met = set()
+def found_weights(calls):
     for request, *_ in searches.generate("package", SEARCHES):
-        if request.lengths != weights.FULL or not 1 <= request.n <= 32:
-            continue
-        n = request.n
-        right = weights.WeightSearch().find(request)
-        answer = said(package.calls.find_weights, rows(request.matrix, n), rows(request.inverse, n), request.t, request.allowance)
-        met.add(right.number if isinstance(right, Refusal) else min(right.tried, 3))
-        if answer != (refusal(right) if isinstance(right, Refusal) else (right.weights, right.tried)):
-            return False
-    return met == {1, 2, 3, 18}
+        if request.lengths == weights.FULL and 1 <= request.n <= 32:
+            number, expected = right(weights.WeightSearch().find(request), lambda found: (found.weights, found.tried))
+            answer = said(calls.find_weights, rows(request.matrix, request.n), rows(request.inverse, request.n), request.t, request.allowance)
+            yield number or min(expected[1], 3), expected, answer
 
 
-def build_is_the_seconds(package):
-    met = set()
+def weights_are_the_oracles(package):
+    return met_by(found_weights(package.calls)) == {1, 2, 3, 18}
+
+
+def built(calls):
     for call in builds.generate("package", BUILDS):
-        if call.lengths != field_lines.LEAST[call.layout]:
-            continue
-        right = Builder().build(call)
-        answer = said(package.calls.build_half if call.layout == LOWER else package.calls.build, call.n, call.lines)
-        met.add((call.layout, right.number if isinstance(right, Refusal) else 0))
-        if isinstance(right, Refusal):
-            if answer != (right.number, (0, 0), Builder().refused_line(call), 0):
-                return False
-            continue
-        if (sum(answer.matrix, []), answer.right, answer.tolerance) != (right.matrix, right.right, [0] * call.n):
-            return False
-        if call.layout == LOWER and answer.filled_out() != package.calls.build(call.n, call.lines):
-            return False
+        if call.lengths == field_lines.LEAST[call.layout]:
+            number, expected = right(Builder().build(call), lambda built: (built.matrix, built.right, [0] * call.n))
+            answer = said(calls.build_half if call.layout == LOWER else calls.build, call.n, call.lines)
+            if number:
+                expected = number, (0, 0), Builder().refused_line(call), 0
+            elif call.layout == LOWER:
+                yield "filled out", calls.build(call.n, call.lines), answer.filled_out()
+            yield (call.layout, number), expected, answer if number else (sum(answer.matrix, []), answer.right, answer.tolerance)
+
+
+def build_is_the_oracles(package):
     far = [(2**32 + 1, 0, 1, 5, 1), (1, 0, 1, 2**63, 1), (1, 0, 1, -(2**64), 1), (1, -1, 1, 5, 1), (1, 0, 2**32, 5, 1), (1, 0, 1, 5, 2**32 + 1)]
     refused = all(said(package.calls.build, 1, [(9, 0, 1, 5, 1), line]) == (3, (0, 0), 2, 0) for line in far)
-    return refused and met >= {(layout, number) for layout in field_lines.LEAST for number in (0, 3, 16, 17)}
+    return refused and met_by(built(package.calls)) >= {(layout, number) for layout in field_lines.LEAST for number in (0, 3, 16, 17)}
 
 
-def doubles_are_the_seconds(package):
-    second, met = doubles.Doubles(), set()
+def exchanged(calls):
+    oracle = doubles.Doubles()
     for index in range(DOUBLES):
         rng = random.Random(f"package doubles/{index}")
-        call = exchanges.inward(rng, second)
-        for call in (call, exchanges.damaged_inward(rng, call)):
+        inward = exchanges.inward(rng, oracle)
+        for call in (inward, exchanges.damaged_inward(rng, inward)):
             if call.lengths == doubles.Inward(0, 0, []).lengths and 0 <= call.n <= 32:
-                right, answer = second.guesses(call), said(package.calls.guesses, call.values[: call.n], call.s)
-                met.add(right.number if isinstance(right, Refusal) else 0)
-                if answer != (refusal(right) if isinstance(right, Refusal) else right):
-                    return False
-        call = exchanges.outward(rng)
-        for call in (call, exchanges.damaged_outward(rng, call)):
+                yield *right(oracle.guesses(call)), said(calls.guesses, call.values[: call.n], call.s)
+        outward = exchanges.outward(rng)
+        for call in (outward, exchanges.damaged_outward(rng, outward)):
             if call.lengths == doubles.Outward(0, 0, [], []).lengths and 0 <= call.n <= 32:
-                right, answer = second.intervals(call), said(package.calls.intervals, call.guess[: call.n], call.bounds[: call.n], call.s)
-                met.add(right.number if isinstance(right, Refusal) else "out")
-                if answer != (refusal(right) if isinstance(right, Refusal) else right):
-                    return False
-    return met == {0, 3, 19, "out"} and said(package.calls.intervals, [0], [-1], 3) == said(package.calls.intervals, [0], [2**64], 3) == (3, (0, 0), 0, 0)
+                number, expected = right(oracle.intervals(call))
+                yield number or "out", expected, said(calls.intervals, call.guess[: call.n], call.bounds[: call.n], call.s)
 
 
-def dependent_is_the_seconds(package):
-    met = set()
+def doubles_are_the_oracles(package):
+    odd = [said(package.calls.intervals, [0], [bound], 3) for bound in (-1, 2**64)]
+    return met_by(exchanged(package.calls)) == {0, 3, 19, "out"} and odd == [(3, (0, 0), 0, 0)] * 2
+
+
+def dependent_pairs(calls):
     for call, _ in pairs.generate("package", PAIRS):
         one, two = call.main, call.dependent
-        if call.lengths() != type(call.lengths())() or (one.n, two.n) != (one.count, two.count) or len(call.coupling) != one.n * two.n:
-            continue
-        right = DependentCheck().check(call.nets(), call.lengths())
-        coupling = [call.coupling[i * one.n : (i + 1) * one.n] for i in range(two.n)]
-        answer = said(package.calls.check_dependent, proposal_of(package.calls, one), proposal_of(package.calls, two), coupling)
-        met.add((right.net, right.refusal.number) if isinstance(right, NetRefusal) else 0)
-        if isinstance(right, NetRefusal):
-            if answer != refusal(right.refusal, right.net):
-                return False
-        elif answer != tuple(package.calls.Limits(bounds.solution, bounds.inverse) for bounds in right):
-            return False
-    return met >= {0, (1, 3), (2, 3), (2, 5), (2, 6)}
+        if call.lengths() == type(call.lengths())() and (one.n, two.n) == (one.count, two.count) and len(call.coupling) == one.n * two.n:
+            coupling = [call.coupling[i * one.n : (i + 1) * one.n] for i in range(two.n)]
+            answer = said(calls.check_dependent, proposal_of(calls, one), proposal_of(calls, two), coupling)
+            found = DependentCheck().check(call.nets(), call.lengths())
+            if isinstance(found, NetRefusal):
+                yield (found.net, found.refusal.number), refusal(found.refusal, found.net), answer
+            else:
+                yield 0, tuple(map(limits(calls), found)), answer
 
 
-def common_is_the_seconds(package):
-    met = set()
+def dependent_is_the_oracles(package):
+    return met_by(dependent_pairs(package.calls)) >= {0, (1, 3), (2, 3), (2, 5), (2, 6)}
+
+
+def common_pairs(calls):
     for handed in proposals.generate("package", PAIRS):
         pair = handed.pair()
-        if pair != pair._replace(low=32, high=32) or any(call.lengths[:6] != FULL[:6] or call.n != call.count for call in handed.calls):
-            continue
-        right = CommonInterval().find(pair)
-        answer = said(package.calls.common, *(proposal_of(package.calls, call) for call in handed.calls))
-        met.add(0 if isinstance(right, Intervals) else right.refusal.number)
-        if isinstance(right, Intervals):
-            if answer != (max(call.s for call in handed.calls), list(zip(*right))):
-                return False
-        elif answer != refusal(right.refusal, right.proposal):
-            return False
-    return met >= {0, 3, 20, 21}
+        if pair == pair._replace(low=32, high=32) and all(call.lengths[:6] == FULL[:6] and call.n == call.count for call in handed.calls):
+            answer = said(calls.common, *(proposal_of(calls, call) for call in handed.calls))
+            found = CommonInterval().find(pair)
+            if isinstance(found, Intervals):
+                yield 0, (max(call.s for call in handed.calls), list(zip(*found))), answer
+            else:
+                yield found.refusal.number, refusal(found.refusal, found.proposal), answer
 
 
-def quality_is_the_seconds(package):
-    met = set()
+def common_is_the_oracles(package):
+    return met_by(common_pairs(package.calls)) >= {0, 3, 20, 21}
+
+
+def rated(calls):
     for inquiry in inquiries.generate("package", SEARCHES):
         n = inquiry.n
-        if inquiry.lengths != quality.FULL or not 1 <= n <= 32:
-            continue
-        right = quality.Quality().rate(inquiry)
-        net = package.calls.Net(rows(inquiry.matrix, n), [0] * n)
-        answer = said(package.calls.quality, package.calls.Proposal(net, 0, inquiry.t, [0] * n, rows(inquiry.inverse, n), inquiry.weights[:n]))
-        met.add(right.number if isinstance(right, Refusal) else 0)
-        if answer != (refusal(right) if isinstance(right, Refusal) else tuple(right)):
-            return False
-    return met >= {0, 5}
+        if inquiry.lengths == quality.FULL and 1 <= n <= 32:
+            proposal = calls.Proposal(calls.Net(rows(inquiry.matrix, n), [0] * n), 0, inquiry.t, [0] * n, rows(inquiry.inverse, n), inquiry.weights[:n])
+            yield *right(quality.Quality().rate(inquiry), tuple), said(calls.quality, proposal)
+
+
+def quality_is_the_oracles(package):
+    return met_by(rated(package.calls)) >= {0, 5}
 
 
 def raises(kind, act, *words):
@@ -341,10 +335,3 @@ def other_counts_are_errors(package):
         and raises(ValueError, calls.check_dependent, calls.Proposal(*good), calls.Proposal(*good), [[1, 1]])
         and raises(TypeError, calls.build, 1, [(1, 0, 1, 0.5, 1)])
     )
-
-
-TESTS = (
-    check_is_the_seconds, limits_hold_in_fractions, check_half_is_the_seconds, listing_is_the_seconds, convert_is_the_seconds, loader_is_the_seconds,
-    entry_is_the_seconds, weights_are_the_seconds, build_is_the_seconds, doubles_are_the_seconds, dependent_is_the_seconds, common_is_the_seconds,
-    quality_is_the_seconds, nets_outside_1_to_32_are_3, other_counts_are_errors,
-)  # fmt: skip

@@ -1,4 +1,4 @@
-"""The commands: what they print beside the second implementation, their statuses, and every kind of bad input."""
+"""The commands: what they print beside the oracle, their statuses, and every kind of bad input."""
 
 import os
 import random
@@ -61,7 +61,7 @@ def text_of(lines):
 
 
 def equations(n, lines):
-    """The forms that the second implementation builds, with tolerances reckoned mark by mark, and the tolerances."""
+    """The forms that the oracle builds, with tolerances reckoned mark by mark, and the tolerances."""
     built = Builder().build(Build(n, tuple(line for line, _ in lines)))
     distinct = dict((line.key, (line, limit)) for line, limit in lines).values()
     tolerance = [sum(line.weight * limit for line, limit in distinct if k in (line.start, line.to)) for k in range(1, n + 1)]
@@ -69,7 +69,7 @@ def equations(n, lines):
     return file_of([f"(problem {n})", *rows, *map(right_line, range(1, n + 1), built.right, tolerance)]), tolerance
 
 
-def books_are_built_as_the_second_does(package):
+def books_are_built_as_the_oracle_does(package):
     return all(acted(package, "build", text_of(lines)) == equations(n, lines)[0] for n, lines in map(book, range(BOOKS))) and acted(package, "build", FIELD) == b"".join(
         line + b"\n" for line in (TOWN / "net.txt").read_bytes().split(b"\n") if line.startswith((b"(problem", b"(row", b"(right"))
     )
@@ -157,7 +157,7 @@ UNREADABLE = (
 )
 
 
-def bad_field_books_are_told(package):
+def bad_field_books_are_reported(package):
     """A refused one by its number and line, with status 1; one that cannot be read with status 2; each with one line of words."""
     for text, form in REFUSED:
         answer = acted(package, "build", text)
@@ -172,8 +172,8 @@ def bad_field_books_are_told(package):
         if (status, out) != (2, b"") or err.count(b"\n") != 1 or words.encode() not in err or not err.startswith(b"build: standard input: "):
             return False
     field = __import__("kodarfi.field", fromlist=["read"])
-    told = lambda text: next((str(error) for error in [raised(field.read, text)] if type(error).__name__ == "TextError"), "")
-    return all(words in told(text) for text, words in UNREADABLE[:-1])
+    reported = lambda text: next((str(error) for error in [raised(field.read, text)] if type(error).__name__ == "TextError"), "")
+    return all(words in reported(text) for text, words in UNREADABLE[:-1])
 
 
 def raised(act, *words):
@@ -229,7 +229,7 @@ UNPROPOSED = (
 )
 
 
-def what_cannot_be_proposed_is_told(package):
+def what_cannot_be_proposed_is_reported(package):
     if any(acted(package, "propose", text) != form for text, form in UNPROPOSED):
         return False
     for text, form in UNPROPOSED[2], UNPROPOSED[-2], UNPROPOSED[-1]:
@@ -240,7 +240,7 @@ def what_cannot_be_proposed_is_told(package):
 
 
 def problems():
-    """Whole files by chance: the file, and its problem with the matrices in lists as long as the second implementation has them."""
+    """Whole files by chance: the file, and its problem with the matrices in lists as long as the oracle has them."""
     for index in range(40):
         rng = random.Random(f"package commands/{index}")
         make, size, _ = generate.TABLE[generate.ORDER[index]]
@@ -257,7 +257,7 @@ def interval_lines(head, pairs):
     return "".join(line + "\n" for line in (head, *(f"(interval {i} ({low} {high}))" for i, (low, high) in enumerate(pairs, 1)), "(end)")).encode()
 
 
-def files_are_judged_as_the_second_does(package):
+def files_are_judged_as_the_oracle_does(package):
     """check, weights, quality and intervals on whole files, and each on a file that is refused in a line."""
     met = set()
     for file, problem in problems():
@@ -284,7 +284,7 @@ def files_are_judged_as_the_second_does(package):
     return refused and met >= {0, 5, 6}
 
 
-def common_ends_are_the_seconds(package):
+def common_ends_are_the_oracles(package):
     """Of a file and the same equations in other steps, in either order; and where one or both are refused."""
     accepted = 0
     as_pair = lambda *both: Pair(*(Proposal(Problem(*(tuple(part) if isinstance(part, list) else part for part in one))) for one in both))
@@ -349,8 +349,8 @@ def mistakes_are_2(package):
     helped = [command(package, *words) for words in (("--help",), ("-h",))]
     each = [command(package, name, "--help") for name in ("build", "common")]
     version = (0, f"kodarfi {(ROOT / 'VERSION').read_text().strip()}\n".encode(), b"")
-    told = helped[0] == helped[1] and helped[0][0] == 0 and all(name.encode() in helped[0][1] for name in ("build [FIELD]", "propose", "check", "weights", "common A B", "intervals", "quality"))
-    return told and command(package, "--version") == version and all(status == 0 and out.startswith(b"usage: ") and not err for status, out, err in each)
+    reported = helped[0] == helped[1] and helped[0][0] == 0 and all(name.encode() in helped[0][1] for name in ("build [FIELD]", "propose", "check", "weights", "common A B", "intervals", "quality"))
+    return reported and command(package, "--version") == version and all(status == 0 and out.startswith(b"usage: ") and not err for status, out, err in each)
 
 
 def lost_output_is_2(package):
@@ -381,14 +381,7 @@ def field_lines_to_listing(package):
     readme = (ROOT / "README.md").read_text()
     first, line = re.search(r"(?m)^    (make lib && .*)\n    (.*kodarfi propose.*)$", readme).groups()
     made = package.shell("python3 -m kodarfi build examples/town/field.txt | python3 -m kodarfi propose")
-    told = first == "make lib && export PYTHONPATH=python" and made == (0, (TOWN / "net.txt").read_bytes(), b"")
+    reported = first == "make lib && export PYTHONPATH=python" and made == (0, (TOWN / "net.txt").read_bytes(), b"")
     piped = package.shell(line, KODARFI_AS_BUILT="silent")
     listing = (TOWN / "listing.txt").read_bytes()
-    return told and piped == (0, listing, b"") and faults(net_from(Program().load(made[1])), listing) == []
-
-
-TESTS = (
-    books_are_built_as_the_second_does, tolerances_cover_the_readings, csv_is_read_as_text_is, bad_field_books_are_told, proposals_are_good, wide_tolerances_leave_room,
-    what_cannot_be_proposed_is_told, files_are_judged_as_the_second_does, common_ends_are_the_seconds, called_as_a_filter, called_as_a_filter_of_two, mistakes_are_2, lost_output_is_2,
-    missing_library_is_2, field_lines_to_listing,
-)  # fmt: skip
+    return reported and piped == (0, listing, b"") and faults(net_from(Program().load(made[1])), listing) == []

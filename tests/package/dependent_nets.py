@@ -1,4 +1,4 @@
-"""The command dependent: a suburb's field lines beside the second implementation, and both nets' limits beside exact joint solutions."""
+"""The command dependent: a suburb's field lines beside the oracle, and both nets' limits beside exact joint solutions."""
 
 import random
 from fractions import Fraction
@@ -49,7 +49,7 @@ class DependentPair:
 
 
 def proposed(package, dependent_net):
-    """The suburb's problem, with what the package proposes for the second implementation's equations, and C row after row."""
+    """The suburb's problem, with what the package proposes for the oracle's equations, and C row after row."""
     calls, (matrix, coupling, right, tolerance) = package.calls, dependent_net.equations()
     propose = __import__("kodarfi.propose", fromlist=["propose_dependent"])
     main = __import__("kodarfi.forms", fromlist=["read"]).read(dependent_net.file)
@@ -63,7 +63,7 @@ def report(problem, limits):
 
 
 def listings_of_two_nets(package):
-    """Both listings, from text and from CSV, are those of the second implementation."""
+    """Both listings, from text and from CSV, are those of the oracle."""
     for dependent_net in (DependentPair(package, index) for index in range(PAIRS)):
         problem, coupling = proposed(package, dependent_net)
         bounds = DependentCheck().check(Nets(Program().load(dependent_net.file), problem, coupling))
@@ -199,26 +199,26 @@ def suburbs_are_judged_by_their_lines(package):
     return once == twice != fixed and limits_of(once)[1].guess == [183] and limits_of(fixed)[1].guess == [160]
 
 
-def what_is_wrong_with_two_nets_is_told(package):
+def what_is_wrong_with_two_nets_is_reported(package):
     """Of which file, with its line; and as a filter, with either file on standard input."""
-    told = lambda main, text: command(package, "dependent", main, "-", input=text)
+    reported = lambda main, text: command(package, "dependent", main, "-", input=text)
     is_one_line = lambda answer, status, out, *words: answer[:2] == (status, out) and answer[2].count(b"\n") == 1 and all(word in answer[2] for word in words)
     refused = ROOT / "examples" / "refused"
     wide = b"8 main:1 1 5 64 16384\n"
     open_height = b"8 main:1 1 5 1\n9 2 3 5 1\n"
     by_name = f"dependent: {MAIN_FILE} and standard input: ".encode()
     return (
-        all(is_one_line(told(MAIN_FILE, text), 2, b"", b"dependent: standard input: line 1: ") for text in UNREADABLE[:3])
+        all(is_one_line(reported(MAIN_FILE, text), 2, b"", b"dependent: standard input: line 1: ") for text in UNREADABLE[:3])
         and all(type(acted_raising(package, text)).__name__ == "TextError" for text in UNREADABLE)
         and is_one_line(command(package, "build", input=SUBURBS[0][0]), 2, b"", b"'main:1' is not a whole number")
-        and is_one_line(told(MAIN_FILE, SUBURBS[2][0]), 1, b"(refused 17 (2))\n", by_name, b"the second of the two, line 2", b"marks of the main net differ")
-        and is_one_line(told(MAIN_FILE, SUBURBS[9][0]), 1, b"(refused 16 (2))\n", b"no end of it is a mark of the dependent net")
-        and is_one_line(told(TOWN / "net.txt", wide), 1, b"(refused 6 (1))\n", b"the second of the two, row 1")
-        and is_one_line(told(MAIN_FILE, open_height), 1, b"", b"leave a height open")
-        and is_one_line(told(refused / "5-inverse-of-0.txt", b"nonsense"), 1, b"(refused 5 (1))\n", b"the first of the two, row 1")
-        and is_one_line(told(refused / "15-no-end.txt", b""), 1, b"(refused 15 (0))\n", b"the first of the two: ")
+        and is_one_line(reported(MAIN_FILE, SUBURBS[2][0]), 1, b"(refused 17 (2))\n", by_name, b"the second of the two, line 2", b"marks of the main net differ")
+        and is_one_line(reported(MAIN_FILE, SUBURBS[9][0]), 1, b"(refused 16 (2))\n", b"no end of it is a mark of the dependent net")
+        and is_one_line(reported(TOWN / "net.txt", wide), 1, b"(refused 6 (1))\n", b"the second of the two, row 1")
+        and is_one_line(reported(MAIN_FILE, open_height), 1, b"", b"leave a height open")
+        and is_one_line(reported(refused / "5-inverse-of-0.txt", b"nonsense"), 1, b"(refused 5 (1))\n", b"the first of the two, row 1")
+        and is_one_line(reported(refused / "15-no-end.txt", b""), 1, b"(refused 15 (0))\n", b"the first of the two: ")
         and is_one_line(command(package, "dependent", MAIN_FILE, "nowhere"), 2, b"", b"dependent: nowhere: ")
-        and is_one_line(told(MAIN_FILE, b"# long\n" * 200000), 2, b"", b"standard input: more than 1,048,576 bytes")
+        and is_one_line(reported(MAIN_FILE, b"# long\n" * 200000), 2, b"", b"standard input: more than 1,048,576 bytes")
         and command(package, "dependent", "-", TOWN / "field.txt", input=WHOLE) == (0, acted(package, "dependent", WHOLE, FIELD), b"")
     )
 
@@ -239,9 +239,3 @@ def coarse_steps_leave_room(package):
     made = command(package, "propose", "--scale", "6", input=coarse.main)
     refused, accepted = (acted(package, "dependent", dependent_net.file, dependent_net.text()) for dependent_net in (fine, coarse))
     return refused == "(refused 6 (6))" and made == (0, coarse.file, b"") and isinstance(accepted, bytes)
-
-
-TESTS = (
-    coarse_steps_leave_room, listings_of_two_nets, proposals_of_suburbs_are_good, true_heights_lie_within_the_limits, limits_hold_of_joint_solutions, suburbs_are_judged_by_their_lines,
-    what_is_wrong_with_two_nets_is_told,
-)  # fmt: skip

@@ -21,13 +21,13 @@ def full_lines(text):
 
 def prints_what_it_says(package, page):
     """How many commands a page has, where each prints what the page says, one after the other in a folder that has the examples; else 0."""
-    told = commands_in((ROOT / "docs" / page).read_text(encoding="utf-8"))
+    reported = commands_in((ROOT / "docs" / page).read_text(encoding="utf-8"))
     with tempfile.TemporaryDirectory(dir=open_folder()) as folder:
         (Path(folder) / "target").mkdir()
         (Path(folder) / "examples").symlink_to(ROOT / "examples")
         settings = {"cwd": folder, "env": package.environment(), "stdout": subprocess.PIPE, "stderr": subprocess.STDOUT, "text": True}
-        said = [subprocess.run(["bash", "-c", command], **settings).stdout for command, _ in told]
-    return len(told) if list(map(full_lines, said)) == [full_lines(lines) for _, lines in told] else 0
+        said = [subprocess.run(["bash", "-c", command], **settings).stdout for command, _ in reported]
+    return len(reported) if list(map(full_lines, said)) == [full_lines(lines) for _, lines in reported] else 0
 
 
 def clerks_page_prints_what_it_says(package):
@@ -45,6 +45,3 @@ def towns_picture_is_the_one_that_is_drawn(package):
     """docs/town.svg."""
     picture = acted(package, "draw", (TOWN / "net.txt").read_bytes(), (TOWN / "names.txt").read_bytes())
     return (ROOT / "docs" / "town.svg").read_bytes() == picture
-
-
-TESTS = (clerks_page_prints_what_it_says, offices_page_prints_what_it_says, towns_picture_is_the_one_that_is_drawn)

@@ -116,8 +116,8 @@ def a_refused_row_is_red(package):
     poor = ROOT / "examples" / "refused" / "6-poor-guess.txt"
     status, out, err = command(package, "draw", poor)
     broken = command(package, "draw", ROOT / "examples" / "refused" / "15-no-end.txt")
-    told = status == 1 and out.startswith(b"<svg ") and err.count(b"\n") == 1 and f"draw: {poor}: refused with 6, row ".encode() in err
-    return met >= {0, 5, 6} and told and broken[:2] == (1, b"(refused 15 (0))\n") and broken[2].count(b"\n") == 1
+    reported = status == 1 and out.startswith(b"<svg ") and err.count(b"\n") == 1 and f"draw: {poor}: refused with 6, row ".encode() in err
+    return met >= {0, 5, 6} and reported and broken[:2] == (1, b"(refused 15 (0))\n") and broken[2].count(b"\n") == 1
 
 
 def pictured(package, file):
@@ -136,6 +136,3 @@ def pictures_are_always_the_same(package):
     settings = [{"input": region, "env": package.environment(PYTHONHASHSEED=seed)} for seed in ("1", "2")]
     again = [command(package, "draw", "-", REGION / "names.txt", **options) for options in settings]
     return again == [(0, here, b"")] * 2 and all(word in here for word in (b"prefers-color-scheme: dark", b"@media print"))
-
-
-TESTS = (pictures_show_the_net, nothing_lies_over_another, a_refused_row_is_red, pictures_are_always_the_same)

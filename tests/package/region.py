@@ -103,14 +103,14 @@ def solution(matrix, right):
     return x
 
 
-def printed(package):
+def printed(loaded):
     """Of every mark its entry and the limit; the main net's are the same with either suburb."""
-    main = acted(package, "propose", acted(package, "build", (REGION / "main.txt").read_bytes()))
+    main = acted(loaded, "propose", acted(loaded, "build", (REGION / "main.txt").read_bytes()))
     found = {}
     for name in SUBURBS:
-        text = acted(package, "dependent", main, (REGION / f"{name}.txt").read_bytes())
+        text = acted(loaded, "dependent", main, (REGION / f"{name}.txt").read_bytes())
         both = limits_of(text)
-        if len(both) != 2 or not text.startswith(acted(package, "check", main)):
+        if len(both) != 2 or not text.startswith(acted(loaded, "check", main)):
             return {}
         for one, part in zip(both, ("main", name)):
             found.update((mark, (*entry, Fraction(X, 2**10))) for mark, entry, X in zip(marks_of(part), one.entries, one.guess))
@@ -129,9 +129,9 @@ def region_lies_within_its_limits(package):
 SHOWN = [("main", 6), ("main", 22), ("main", 30), ("east", 1), ("east", 16), ("east", 30), ("north", 6), ("north", 12), ("north", 25)]
 
 
-def table(package):
+def table(loaded):
     """The rows of the page's table."""
-    found = printed(package)
+    found = printed(loaded)
     for mark in SHOWN:
         (V, limit, _), (height, moved) = found[mark], joint()[mark]
         yield f"| {mark[0]} {mark[1]} | {V} | {limit} | {float(height):.2f} | {float(moved):.2f} | {float(at_once()[mark]):.2f} |"
@@ -170,10 +170,7 @@ def page_prints_what_it_says(package):
     with tempfile.TemporaryDirectory(dir=open_folder()) as folder:
         (Path(folder) / "target").mkdir()
         (Path(folder) / "examples").symlink_to(ROOT / "examples")
-        told = commands_in(PAGE.read_text(encoding="utf-8"))
+        reported = commands_in(PAGE.read_text(encoding="utf-8"))
         settings = {"cwd": folder, "env": package.environment(), "stdout": subprocess.PIPE, "stderr": subprocess.STDOUT, "text": True}
-        said = [subprocess.run(["bash", "-c", command], **settings).stdout for command, _ in told]
-        return len(told) == 7 and said == [lines for _, lines in told]
-
-
-TESTS = (region_lies_within_its_limits, page_says_what_is_so, page_prints_what_it_says)
+        said = [subprocess.run(["bash", "-c", command], **settings).stdout for command, _ in reported]
+        return len(reported) == 7 and said == [lines for _, lines in reported]

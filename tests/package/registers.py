@@ -1,4 +1,4 @@
-"""Registers: what is entered beside the second implementation, what is not, that nothing is changed, and what an audit names."""
+"""Registers: what is entered beside the oracle, what is not, that nothing is changed, and what an audit names."""
 
 import hashlib
 import random
@@ -22,13 +22,13 @@ def sha256(text):
 
 
 def accepted_files():
-    """Files of every kind that the second implementation accepts."""
+    """Files of every kind that the oracle accepts."""
     files = [WHOLE, *(net(k) for k in range(3)), net(7, marks=32), *(file for file, _ in problems())]
     return [file for file in dict.fromkeys(files) if Program().listing(file).startswith(b"(bounds ")][:30]
 
 
 def entries_follow_from_files(package):
-    """Every row beside the second implementation's listing; files and listings byte for byte; hashes and seals reckoned again."""
+    """Every row beside the oracle's listing; files and listings byte for byte; hashes and seals reckoned again."""
     files, version = accepted_files(), f"kodarfi {package.calls.__version__}"
     with folder() as place:
         register = place / "register.db"
@@ -150,10 +150,10 @@ def audits_name_what_does_not_follow(package):
         return faults(register) == [] and faults(changed(register)) == []
 
 
-def damage_is_told(package):
+def damage_is_reported(package):
     """Bytes changed anywhere in the file, and a file cut short: an audit names what does not follow or says that the database is damaged, and whatever it calls
     clean has every row as it was."""
-    rng, told = random.Random("damage"), {"clean": 0, "faults": 0, "damaged": 0}
+    rng, reported = random.Random("damage"), {"clean": 0, "faults": 0, "damaged": 0}
     with folder() as place:
         register, copy = filled(place / "register.db"), place / "copy.db"
         good, tables = register.read_bytes(), (SAME + " ORDER BY number", "SELECT * FROM entry ORDER BY net, mark")
@@ -170,10 +170,10 @@ def damage_is_told(package):
                 kind = "faults" if faults(copy) else "clean"
             except part("register").RegisterError:
                 kind = "damaged"
-            told[kind] += 1
+            reported[kind] += 1
             if kind == "clean" and [rows(copy, table) for table in tables] != before:
                 return False
-        return kind == "faults" and min(told["clean"], told["faults"], told["damaged"]) > 5
+        return kind == "faults" and min(reported["clean"], reported["faults"], reported["damaged"]) > 5
 
 
 def audits_look_at_the_triggers(package):
@@ -219,9 +219,3 @@ def files_and_corrections(package):
         if any(enter(*words) != right for words, right in steps):
             return False
         return rows(place / "register.db", "SELECT number, corrects FROM net ORDER BY number") == [(1, None), (2, 1), (3, 2), (4, None), (5, 3)] and faults(place / "register.db") == []
-
-
-TESTS = (
-    entries_follow_from_files, refused_files_are_not_entered, nothing_is_changed_or_removed, audits_name_what_does_not_follow, damage_is_told, audits_look_at_the_triggers,
-    files_and_corrections,
-)  # fmt: skip

@@ -11,12 +11,12 @@ from pathlib import Path
 sys.dont_write_bytecode = True
 sys.path.insert(0, str(Path(__file__).resolve().parent.parent))
 
-from common.mutated import main, open_folder, report, results
+from common.mutated import main, open_folder, report, results, tests_of
 from package import beside, commands, dependent_nets, pages, pictures, region, register_mutants, registers, shape, sheets, writers
 from package.loaded import SHARED, SOURCES, Package, copied
 from package.mutants import MUTANTS
 
-TESTS = (*shape.TESTS, *beside.TESTS, *commands.TESTS, *dependent_nets.TESTS, *region.TESTS, *sheets.TESTS, *pictures.TESTS, *registers.TESTS, *writers.TESTS, *pages.TESTS)
+TESTS = tuple(tests_of(shape, beside, commands, dependent_nets, region, sheets, pictures, registers, writers, pages, of="package"))
 
 
 def run():

@@ -48,14 +48,14 @@ def every_call_has_a_function(package):
     """Each call of the header is named by a function's documentation, which is typed."""
     calls = package.calls
     members = [getattr(calls, name) for name in calls.__all__]
-    told = " ".join(inspect.getdoc(member) or "" for member in members)
+    reported = " ".join(inspect.getdoc(member) or "" for member in members)
     functions = [member for member in members if inspect.isfunction(member)]
     typed = all(set(inspect.signature(act).parameters) | {"return"} == set(act.__annotations__) for act in functions)
-    return all(re.search(rf"\b{name}\b", told) for _, name, _ in prototypes()) and all(map(inspect.getdoc, members)) and typed and (package.folder / "kodarfi/py.typed").exists()
+    return all(re.search(rf"\b{name}\b", reported) for _, name, _ in prototypes()) and all(map(inspect.getdoc, members)) and typed and (package.folder / "kodarfi/py.typed").exists()
 
 
-def sources(package):
-    return sorted((package.folder / "kodarfi").glob("*.py"))
+def sources(loaded):
+    return sorted((loaded.folder / "kodarfi").glob("*.py"))
 
 
 # The modules of Python that the package uses.
@@ -183,9 +183,3 @@ def installs_by_pip(package):
         modules = {path.name for path in sources(package)} | {"py.typed"}
         used = package.python("-c", USE + "print(kodarfi.__file__)", env=moved, cwd=folder)
         return used == (0, FOUND + f"{to}/kodarfi/__init__.py\n".encode(), b"") and modules <= {path.name for path in (to / "kodarfi").iterdir()}
-
-
-TESTS = (
-    types_are_the_headers, every_call_has_a_function, syntax_is_that_of_3_9, words_are_the_tables, version_is_the_projects,
-    example_of_the_documentation_runs, library_is_found, installs_by_pip,
-)  # fmt: skip

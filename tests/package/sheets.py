@@ -21,12 +21,12 @@ def names_text(unit, marks):
     return "".join(f"{what} {name}\n" for what, name in [("unit", unit), *enumerate(marks)]).encode()
 
 
-def files(package):
+def files(loaded):
     """Accepted files of books by chance, each with names, the unit, and the book's lines."""
     for index in range(8):
         n, lines = book(index)
         rng = random.Random(f"package names/{index}")
-        yield acted(package, "propose", equations(n, lines)[0]), names(rng, n), rng.choice(("mm", "tenths of a <mm>")), lines
+        yield acted(loaded, "propose", equations(n, lines)[0]), names(rng, n), rng.choice(("mm", "tenths of a <mm>")), lines
 
 
 class Cells(HTMLParser):
@@ -65,8 +65,8 @@ def sheets_say_what_listings_say(package):
         rows = [(str(mark), marks[mark], f"{V} {unit}", f"{limit} {unit}") for mark, (V, limit) in enumerate(entries, 1)]
         title, source = f"Heights above the fixed mark {marks[0]}", [hashlib.sha256(file).hexdigest(), f"kodarfi {VERSION}"]
         lines = text.split("\n")
-        told = [re.sub(r"  +", "|", line.strip()) for line in lines[3 : 3 + len(rows)]]
-        if lines[0] != title or told != ["|".join(row) for row in rows] or len({len(line) for line in lines[2 : 3 + len(rows)]}) != 1:
+        reported = [re.sub(r"  +", "|", line.strip()) for line in lines[3 : 3 + len(rows)]]
+        if lines[0] != title or reported != ["|".join(row) for row in rows] or len({len(line) for line in lines[2 : 3 + len(rows)]}) != 1:
             return False
         if [line.split(": ")[-1] for line in lines[-3:-1]] != source or not text.endswith("\n") or any(line != line.rstrip() for line in lines):
             return False
@@ -111,7 +111,7 @@ SAME_NAMES = (
 
 
 def names_are_read(package):
-    """Text or CSV; one that cannot be read is told in one line, of the second file, with a status of 2."""
+    """Text or CSV; one that cannot be read is reported in one line, of the second file, with a status of 2."""
     named = __import__("kodarfi.names", fromlist=["read"])
     page = acted(package, "sheet", WHOLE, WHOLE_NAMES)
     if any(acted(package, "sheet", WHOLE, text) != page for text in SAME_NAMES) or b"Church door" not in page:
@@ -119,7 +119,7 @@ def names_are_read(package):
     commas = named.read(WHOLE_NAMES.replace(b"Mill", b"Mill, old; upper"), 2).marks[2] == "Mill, old; upper"
     quoted = named.read(SAME_NAMES[0].replace(b",Mill", b',"Mill, old"'), 2).marks[2] == "Mill, old"
 
-    def told(text):
+    def reported(text):
         try:
             return str(named.read(text, 2))
         except ValueError as error:
@@ -130,7 +130,7 @@ def names_are_read(package):
         status, out, err = command(package, name, whole, "-", input=text)
         if (status, out) != (2, b"") or err.count(b"\n") != 1 or not err.startswith(f"{name}: standard input: ".encode()) or words.encode() not in err:
             return False
-    return all(words in told(text) for text, words in BAD_NAMES[:-1]) and commas and quoted
+    return all(words in reported(text) for text, words in BAD_NAMES[:-1]) and commas and quoted
 
 
 MISUSED = (
@@ -159,6 +159,3 @@ def pages_as_filters(package):
         and one(command(package, "sheet", ROOT / whole, ROOT / "examples"), 2, b"sheet: ", b"examples: ")
         and one(command(package, "sheet", ROOT / whole, "no\nnames"), 2, b"sheet: no?names: ")
     )  # fmt: skip
-
-
-TESTS = (sheets_say_what_listings_say, names_are_read, pages_as_filters)

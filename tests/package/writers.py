@@ -62,13 +62,13 @@ def entering(place, numbers, tell):
 
 
 def kills_at_any_moment(package):
-    """Killed in the middle of many entries, and started again: each that was told is there, no part of a net is, and in the end all are, once."""
+    """Killed in the middle of many entries, and started again: each that was reported is there, no part of a net is, and in the end all are, once."""
     rng = random.Random("kills")
     with folder() as place:
-        register, told = place / "register.db", 0
+        register, reported = place / "register.db", 0
         for left in reversed(range(ROUNDS)):
             seen, tell = os.pipe()
-            begin = max(0, told - 3)
+            begin = max(0, reported - 3)
             child = entering(register, range(begin, MANY), tell)
             os.close(tell)
             seen_done = sum(len(os.read(seen, 1)) for _ in range(rng.randint(5, MANY // ROUNDS) if left else MANY + 1))
@@ -80,7 +80,7 @@ def kills_at_any_moment(package):
             found = part("audit").audit(str(register))
             if status not in ((KILLED, 0) if left else (0,)) or found.faults or found.nets < begin + seen_done or found.marks != 3 * found.nets:
                 return False
-            told = found.nets
+            reported = found.nets
         return rows(register, "SELECT name FROM net ORDER BY number") == [(f"net-{k}.txt",) for k in range(MANY)]
 
 
@@ -146,7 +146,7 @@ def entries_wait_for_another(package):
 
 
 def entries_are_on_the_disk(package):
-    """The register is one file when nobody writes, and what is told is on the disk, its folder's change too."""
+    """The register is one file when nobody writes, and what is reported is on the disk, its folder's change too."""
     with folder() as place:
         register = filled(place / "register.db")
         with part("register").opened(str(register), "rw") as opened:
@@ -170,7 +170,7 @@ def limited(size):
     return lambda: resource.setrlimit(resource.RLIMIT_FSIZE, (size, size))
 
 
-def what_cannot_be_done_is_told(package):
+def what_cannot_be_done_is_reported(package):
     """What is no register, what cannot be read or written: one line, a status of 2, and nothing is changed."""
     part("enter").judge(WHOLE)  # the library is loaded before another user asks for it
     with folder() as place:
@@ -219,8 +219,3 @@ def lost_words_lose_no_entry(package):
         and found[0] == 1 and found[1].startswith(b"trigger net_no_delete is missing\n3 nets, 12 marks, ") and b": 1 fault\n" in found[1] and found[2] == f"audit: {register}: 1 fault\n".encode()
         and odd[0] == 0 and b"a\\xff?b, the first of a new register\n" in odd[1] and odd[2] == b""
     )  # fmt: skip
-
-
-TESTS = (
-    kills_at_any_statement, kills_at_any_moment, writers_at_once_lose_nothing, entries_wait_for_another, entries_are_on_the_disk, what_cannot_be_done_is_told, lost_words_lose_no_entry,
-)  # fmt: skip

@@ -1,4 +1,4 @@
-"""Named wrong versions of the calls, each with the property that must detect it: a call, what stands in for it, handed the real one first, and the property."""
+"""Named mutants of the calls, each with the property that must detect it: a call, what stands in for it, handed the real one first, and the property."""
 
 import re
 

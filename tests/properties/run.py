@@ -28,7 +28,7 @@ MUTANT_NETS, LEAST_SHARE = 1000, 100
 
 
 def holds(each, given):
-    """Whether a property holds, None where it does not apply; what it raises is told."""
+    """Whether a property holds, None where it does not apply; what it raises is reported."""
     try:
         return each(given)
     except Exception as error:
@@ -36,7 +36,7 @@ def holds(each, given):
 
 
 def tallies(properties, indices, seed):
-    """How often each property applied, how often it failed, and where first, with what was told."""
+    """How often each property applied, how often it failed, and where first, with what was reported."""
     real, applied, failed, first = calls(), Counter(), Counter(), {}
     for index in indices:
         given = Given(case_at(seed, index), real)
@@ -54,8 +54,8 @@ def property_results(properties, indices, seed):
     for name in properties:
         print(f"{name}: {applied[name]} nets", flush=True)
         if failed[name]:
-            index, told = first[name]
-            yield f"{name}: {failed[name]} nets{told}; the first again: python3 tests/properties/run.py --seed {seed} --net {index} {name}", False
+            index, reported = first[name]
+            yield f"{name}: {failed[name]} nets{reported}; the first again: python3 tests/properties/run.py --seed {seed} --net {index} {name}", False
         else:
             yield f"{name}: fewer than {least} nets", applied[name] >= least
 

@@ -1,10 +1,7 @@
-"""The reading list of made-up sources, right and then wrong: each change must be told by --check, and by what it says."""
+"""The reading list of made-up sources, and mutants of them: each must be detected by --check, and by what it says."""
 
-import contextlib
-import io
-import tempfile
-from pathlib import Path
-
+from common.made_up import results, said_of
+from common.mutated import report
 from run import Reading, check
 from sources import Fault
 
@@ -34,8 +31,11 @@ FILES = {
     "words.tsv": "natAbs\tthe size of a whole number\ngetD\ta number of a list\n",
 }
 
-# name: file, what stands there, what stands there then, what must be told
-WRONG = {
+# One change may be as many lines of the page.
+ANY = 999
+
+# name: file, what stands there, what stands there then, what must be said
+MUTANTS = {
     "a line more in a file": ("crates/entry/specs/Size.antt", "sizeOf z = natAbs z\n", "sizeOf z = natAbs z\n\n", "entry/specs/Size.antt` | 7"),
     "another head": ("crates/half/specs/Filled.antt", "What is filled", "What is left", "What is left"),
     "a file that a contract needs now": (
@@ -75,52 +75,34 @@ WRONG = {
 }
 
 
-def page_of(folder, change=None):
-    for name, text in FILES.items():
-        path = folder / name
-        path.parent.mkdir(parents=True, exist_ok=True)
-        path.write_text(text.replace(change[1], change[2], 1) if change and change[0] == name else text)
+def reading_of(folder):
     return Reading(folder, (folder / "words.tsv").read_text())
 
 
-def told(folder, change=None):
-    """What --check says of the right page."""
-    said = io.StringIO()
-    with contextlib.redirect_stdout(said):
-        try:
-            check(page_of(folder, change), folder / "READING.md")
-        except Fault as fault:
-            print("FAILED", fault)
-    return said.getvalue()
+def checked(folder):
+    """What --check says of the page of the right files."""
+    try:
+        check(reading_of(folder), folder / "READING.md")
+    except Fault as fault:
+        print("FAILED", fault)
+
+
+def begin(folder):
+    """The right page, which is left in the folder, and one with an empty line more."""
+    right = reading_of(folder)
+    tiers = [[right.sources.path_of(unit) for unit in units] for _, units in right.tiers()]
+    expected = [
+        ["entry/specs/Size.antt", "entry/src/lib.rt", "entry/specs/Entered.antt"], ["half/specs/Filled.antt"], ["half/specs/Stated.antt"],
+        ["promises/specs/Paper01.antt"], ["entry/specs/Cases.antt"],
+    ]
+    yield f"the tiers of the made-up sources are {tiers}", tiers == expected
+    why = right.why("entry/specs/Size.antt")
+    ways = ["half::fill: half/specs/Filled.antt > entry/specs/Size.antt", "kodarfi_enter: entry/specs/Entered.antt > entry/specs/Size.antt"]
+    yield f"why Size is read: {why}", why[1::2] == ways and not right.why("entry/specs/Inner.antt")
+    (folder / "READING.md").write_text(right.page().replace("## Tier 2: the statements", "\n## Tier 2: the statements"))
+    yield "an empty line more", "another order, or not as often" in said_of(checked, folder)
+    (folder / "READING.md").write_text(right.page())
 
 
 def self_test():
-    faults = []
-    with tempfile.TemporaryDirectory() as name:
-        folder = Path(name)
-        right = page_of(folder)
-        tiers = [[right.sources.path_of(unit) for unit in units] for _, units in right.tiers()]
-        expected = [
-            ["entry/specs/Size.antt", "entry/src/lib.rt", "entry/specs/Entered.antt"], ["half/specs/Filled.antt"], ["half/specs/Stated.antt"],
-            ["promises/specs/Paper01.antt"], ["entry/specs/Cases.antt"],
-        ]
-        if tiers != expected:
-            faults.append(f"the tiers of the made-up sources are {tiers}")
-        if right.why("entry/specs/Size.antt")[1::2] != ["half::fill: half/specs/Filled.antt > entry/specs/Size.antt",
-                                                       "kodarfi_enter: entry/specs/Entered.antt > entry/specs/Size.antt"] or right.why("entry/specs/Inner.antt"):
-            faults.append(f"why Size is read: {right.why('entry/specs/Size.antt')}")
-        page = right.page()
-        (folder / "READING.md").write_text(page)
-        if not told(folder).endswith(" passed, 0 failed\n"):
-            faults.append("the right page is refused")
-        for title, change in WRONG.items():
-            said = told(folder, change)
-            if change[1] not in FILES[change[0]] or "FAILED" not in said or change[3] not in said:
-                faults.append(f"{title}: {said}")
-        (folder / "READING.md").write_text(page.replace("## Tier 2: the statements", "\n## Tier 2: the statements"))
-        if "another order, or not as often" not in told(folder):
-            faults.append("an empty line more is not told")
-    for fault in faults:
-        print("FAILED", fault)
-    print(f"{len(WRONG) + 4 - len(faults)} passed, {len(faults)} failed")
-    return int(bool(faults))
+    return report(results(checked, FILES, MUTANTS, ANY, begin))

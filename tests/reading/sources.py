@@ -140,7 +140,7 @@ class Sources:
                 ensures = [" ".join(clause.split()) for clause in re.findall(r"(?s)ensures \{ (.*?⌝) \}", found.group(1))]
                 if not ensures:
                     raise Fault(f"{name} in crates/{crate}/src/{path.name} has no ensures")
-                told = set(re.findall(r"[^\s().,;«»⌜⌝]+", " ".join(ensures)))
-                cited = [self.unit_of(module) for module, names, _ in uses(text) if told & set(names)]
+                reported = set(re.findall(r"[^\s().,;«»⌜⌝]+", " ".join(ensures)))
+                cited = [self.unit_of(module) for module, names, _ in uses(text) if reported & set(names)]
                 return ensures, [unit for unit in cited if unit]
         raise Fault(f"crates/{crate}/src has no public function {function}, which docs/API.md names")

@@ -1,21 +1,20 @@
-"""Lists of field lines (02, Paper 3) by chance, for squares and lower halves, and damaged calls of them.
-
-Each is written as n, how many lines, 0 for a square and 1 for a lower half (02, Paper 10), and the two lengths that the call is told; then the lines, five
-numbers each; then the refusal's number, 0 where the equations are built, and the refused line, 0 where there is none; and then, where they are, the numbers of
-the matrix, n × n or n(n + 1)/2, and the n right sides."""
+"""Lists of field lines (02, Paper 3) by chance, for squares and lower halves, and damaged calls of them."""
 
 import random
+import struct
 from pathlib import Path
 
 from calls.build.mutants import LINES, MUTANTS
-from calls.build.oracle import LEAST, LOWER, SQUARE, Builder
+from calls.build.oracle import FULL, LEAST, LOWER, SQUARE, Builder
 from calls.half.oracle import HALF, HalfEntry
 from common.net import joined
+from common.replayed import Kept, Made, text, written
 from common.rules import Refusal
 from common.suite import Suite
 from common.systems import usual
 from common.systems.field import damaged, halved, listed, town
 
+PADDING = 0x81010181
 TOWN_NET = Path(__file__).resolve().parents[3] / "examples/town/net.txt"
 
 REQUIRED = dict.fromkeys(
@@ -42,15 +41,18 @@ def generate(seed, count):
                 yield damaged(rng, laid)
 
 
-def write(call, answer):
-    yield [call.n, len(call.lines), (SQUARE, LOWER).index(call.layout), *call.lengths]
-    yield from call.lines
-    if isinstance(answer, Refusal):
-        yield [answer.number, Builder().refused_line(call)]
-    else:
-        yield [0, 0]
-        yield answer.matrix
-        yield answer.right
+def packed(line):
+    """The 32 bytes of a field line in memory, with what is no number between its numbers and after them."""
+    return struct.pack("<IIIIqII", line.key, line.start, line.to, PADDING, line.difference, line.weight, PADDING)
+
+
+def calls(call, answer):
+    """A build, and the one that gives the refused line."""
+    number, line, matrix, right = (answer.number, Builder().refused_line(call), (), ()) if isinstance(answer, Refusal) else (0, 0, *answer)
+    name = "kodarfi_build" + "_half" * (call.layout == LOWER)
+    lists = len(call.lines), written(FULL.matrix, matrix), call.lengths.matrix, written(FULL.right, right), call.lengths.right
+    yield Made(name, [call.n, text(b"".join(map(packed, call.lines))), *lists], number)
+    yield Made(f"{name}_line", [call.n, Kept(0), *lists, written(1, [line])], number, kept=1)
 
 
 def half_coverage(call, answer):
@@ -126,7 +128,8 @@ def faults(index, call, answer):
 
 
 SUITE = Suite(
-    count=6000, tested_count=2000, generate=generate, write=write, coverage=coverage, required=REQUIRED, faults=faults, others=others,
+    count=6000, tested_count=2000, generate=generate, calls=calls, coverage=coverage, required=REQUIRED, faults=faults, others=others,
+    answers=dict.fromkeys((f"kodarfi_build{half}{line}" for half in ("", "_half") for line in ("", "_line")), (0, 3, 8, 16, 17)),
     answer=Builder().build,
     mutants=(
         (MUTANTS, lambda mutant, call, answer: mutant.build(call) != answer),

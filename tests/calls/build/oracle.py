@@ -25,7 +25,7 @@ class FieldLine(NamedTuple):
 
 
 class Lengths(NamedTuple):
-    """The lengths that a call is told."""
+    """The lengths that a call is given."""
 
     matrix: int = MATRIX
     right: int = COLUMN

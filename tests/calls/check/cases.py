@@ -2,9 +2,8 @@
 reads in different ways: symmetric, nearly symmetric with one number off, sparse, dense, and such that the columns of the inverse have limits of 0, of 1 and
 above 1.
 
-Each is written as a count k, n s t, and the eight lengths that the call is told; then the numbers of the lists, k × k of the matrix, k of the right side, k
-tolerances, k of the guess, k × k of the inverse and k weights, after which each list is filled with UNREAD; then the refusal's number (0 where accepted) with
-its two places (0 where it names none), and where accepted n solution limits and n × n inverse limits."""
+What is measured of a net is written as a count k, n s t, and eight lengths; then the numbers of the lists, k × k of the matrix, k of the right side, k
+tolerances, k of the guess, k × k of the inverse and k weights; then the answer, 0, with its two places, n solution limits and n × n inverse limits."""
 
 import random
 from itertools import islice
@@ -17,11 +16,14 @@ from common.damage.lists import Call, call_of, damaged
 from common.exact import nearest
 from common.generate import WHOLE, made as made_of
 from common.net import direct_sum, flat, frozen, net_of, relabelled
+from common.replayed import Made, said, written
 from common.suite import Suite
 from common.systems import edge, usual
 from common.systems.blocks import sign
 from common.systems.timed import halves_up
 
+# What a check answers.
+ANSWERS = (0, 3, 5, 6, 7, 8)
 # A damaged system that may be reckoned, and one that mutants reckon too, has at most so many equations: reckoning takes its time.
 MOST_DAMAGED = 10
 DAMAGES = 6
@@ -195,15 +197,15 @@ def generate(seed, count):
     yield from shaped(seed)
 
 
-def answer_lines(answer):
-    """The refusal's number with its places, and where accepted the limits."""
-    if isinstance(answer, Bounds):
-        return [[0, 0, 0], answer.solution, flat(answer.inverse)]
-    return [[answer.number, *answer.values, 0, 0][:3]]
+def made_call(name, call, answer):
+    number, places = said(answer)
+    return Made(name, [*call.arguments(), *call.limits(answer), written(2, places)], number)
 
 
-def write(sent, answer):
-    return [*sent.call.written(), *answer_lines(answer)]
+def of_net(net):
+    call = call_of(net)
+    limits = check(call.problem())
+    return [[call.count, call.n, call.s, call.t, *call.lengths], *call.lists, [0, 0, 0], limits.solution, flat(limits.inverse)]
 
 
 def is_of_shape(name, net, answer):
@@ -241,12 +243,14 @@ def faults(index, sent, answer):
 
 
 SUITE = Suite(
-    count=1000, generate=generate, write=write, coverage=coverage, required=dict.fromkeys(SHAPES, 15), faults=faults,
+    count=1000, generate=generate, coverage=coverage, required=dict.fromkeys(SHAPES, 15), faults=faults,
+    calls=lambda sent, answer: [made_call("kodarfi_check", sent.call, answer)],
+    answers={"kodarfi_check": ANSWERS},
     answer=lambda sent: check(sent.call.problem(), sent.call.lengths),
     mutants=(
         (MUTANTS, differs),
         (ON_LISTS, lambda mutant, sent, answer: not sent.net and sent.call.count <= MOST_DAMAGED and mutant(sent.call.problem(), sent.call.lengths) != answer),
     ),
     tested=tested,
-    of_net=lambda net: Sent(call_of(net)),
+    of_net=of_net,
 )

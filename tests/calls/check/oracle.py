@@ -216,7 +216,7 @@ class Reckoning:
 
 
 class Lengths(NamedTuple):
-    """The lengths that a call is told: of the six lists, then of both lists of limits."""
+    """The lengths that a call is given: of the six lists, then of both lists of limits."""
 
     matrix: int = MATRIX
     right: int = COLUMN

@@ -1,10 +1,5 @@
 """Two proposals by chance (02, Paper 13): for the same equations with other steps, roundings and weights, for equations that differ in one place, and with
-limits about 2^36; in the order made and in the other, and damaged.
-
-Each pair is written as, of either proposal, a count k, n s t, the six lengths that the call is told and the number that fills each list after those given;
-then k × k numbers of the matrix, k of the right side, k tolerances, k of the guess, k × k of the inverse and k weights; then the lengths of the two interval
-lists; then the refusal's number (0 where the intervals are found), the proposal it is of and its two places (0 where there is none); and where they are found
-n lower and n upper ends."""
+limits about 2^36; in the order made and in the other, and damaged."""
 
 import random
 from fractions import Fraction
@@ -13,9 +8,10 @@ from typing import NamedTuple
 from calls.check.oracle import COLUMN, FULL, Problem
 from calls.common.mutants import MUTANTS
 from calls.common.oracle import CommonInterval, Intervals, Pair, Proposal, outcome
-from common.damage.lists import UNREAD, call_of, damaged
+from common.damage.lists import call_of, damaged
 from common.exact import corners, inverse_of, product
 from common.net import SIZE, direct_sum, net_of
+from common.replayed import UNREAD, Made, said, written
 from common.rules import Refusal
 from common.suite import Suite
 from common.systems import tolerant, usual
@@ -132,7 +128,7 @@ def proposal_of(call, fill):
 
 
 def spoilt(rng, handed):
-    """One or both calls damaged, or an interval list told shorter."""
+    """One or both calls damaged, or an interval list given as shorter."""
     way = rng.randrange(4)
     if way == 3:
         short = rng.choice((31, 31, 16, 0))
@@ -159,17 +155,13 @@ def answer(handed):
     return pair, CommonInterval().find(pair)
 
 
-def write(handed, answer):
-    _, found = answer
-    for call, fill in zip(handed.calls, handed.fills):
-        yield [call.count, call.n, call.s, call.t, *call.lengths[:6], fill]
-        yield from call.lists
-    yield [handed.low, handed.high]
-    if isinstance(found, Intervals):
-        yield [0, 0, 0, 0]
-        yield from found
-    else:
-        yield [found.refusal.number, found.proposal, *(*found.refusal.values, 0, 0)[:2]]
+def calls(handed, answer):
+    found = answer[1]
+    proposal, refusal, low, high = (0, None, *found) if isinstance(found, Intervals) else (*found, (), ())
+    number, places = said(refusal)
+    first, second = (call.arguments(fill) for call, fill in zip(handed.calls, handed.fills))
+    ends = written(COLUMN, low), handed.low, written(COLUMN, high), handed.high
+    yield Made("kodarfi_common", [*first, *second, *ends, written(1, [proposal], 4), written(2, places)], number)
 
 
 REQUIRED = dict.fromkeys(
@@ -243,6 +235,7 @@ def faults(index, handed, answer):
 
 
 SUITE = Suite(
-    count=2800, tested_count=700, generate=generate, answer=answer, write=write, coverage=coverage, required=REQUIRED, faults=faults,
+    count=2800, tested_count=700, generate=generate, answer=answer, calls=calls, coverage=coverage, required=REQUIRED, faults=faults,
+    answers={"kodarfi_common": (0, 3, 5, 6, 7, 8, 20, 21)},
     mutants=((MUTANTS, lambda mutant, handed, answer: mutant.find(answer[0]) != answer[1]),),
 )

@@ -12,7 +12,7 @@ WIDEST = 2**36
 
 
 class Proposal(NamedTuple):
-    """A problem whose lists are tuples, and what the call is told of its six lists; those for the limits are the call's own."""
+    """A problem whose lists are tuples, and what the call is given as lengths of its six lists; those for the limits are the call's own."""
 
     problem: Problem
     lengths: Lengths = FULL

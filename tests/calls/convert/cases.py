@@ -1,18 +1,15 @@
-"""Conversions (02, Paper 14): files by rule and by chance, each with several lengths of the buffer.
-
-Each is written as a line with seven numbers: the length of the file, that of the buffer, the number of the refusal (0 where it is converted), the two values
-that it gives (0 where there is none), the line that is refused (0 where none is), and the length of the new file (0 on a refusal); then the bytes of the file
-and those of the new one."""
+"""Conversions (02, Paper 14): files by rule and by chance, each with several lengths of the buffer."""
 
 import random
 
 from calls.check.oracle import Reckoning
-from calls.convert.mutants import MUTANTS, TOLD
+from calls.convert.mutants import MUTANTS, REPORTED
 from calls.convert.oracle import ROOM, Converter, answered
 from calls.listing.oracle import Program, under
 from common import damage, given
 from common.generate import arranged, thinned
 from common.net import file_of, lines_of
+from common.replayed import Kept, Made, text, written
 from common.rules import Refusal, Rules
 from common.suite import Suite
 from common.systems import edge, ends, rows, usual
@@ -62,21 +59,22 @@ def generate(seed, count):
             yield file, room
 
 
-def told(case, converted):
+def reported(case, converted):
     """The number and the two values that a call gives, and the refused line."""
     return [*answered(converted)[0], Program().refused_line(case[0])]
 
 
-def write(case, converted):
+def calls(case, converted):
+    """A conversion, and the one that gives the refused line."""
     file, room = case
-    text = answered(converted)[1]
-    yield [len(file), room, *told(case, converted), len(text)]
-    yield file
-    yield text
+    (number, *places, line), new = reported(case, converted), answered(converted)[1]
+    arguments = len(file), written(room, new, 1), room, written(1, [] if number else [len(new)]), written(2, places)
+    yield Made("kodarfi_convert", [text(file), *arguments], number)
+    yield Made("kodarfi_convert_line", [Kept(0), *arguments, written(1, [line])], number, kept=1)
 
 
-def tells_otherwise(rule, case, converted):
-    right = told(case, converted)
+def reports_otherwise(rule, case, converted):
+    right = reported(case, converted)
     return rule(right[:3], right[3]) != right
 
 
@@ -123,7 +121,8 @@ def faults(index, case, text):
 
 
 SUITE = Suite(
-    count=400, generate=generate, write=write, coverage=coverage, required=REQUIRED, faults=faults,
+    count=400, generate=generate, calls=calls, coverage=coverage, required=REQUIRED, faults=faults,
+    answers=dict.fromkeys(("kodarfi_convert", "kodarfi_convert_line"), (0, 1, 2, 3, 4, 11, 12, 13, 14, 15, 22)),
     answer=lambda case: Converter().convert(*case),
-    mutants=((MUTANTS, lambda mutant, case, converted: mutant.convert(*case) != converted), (TOLD, tells_otherwise)),
+    mutants=((MUTANTS, lambda mutant, case, converted: mutant.convert(*case) != converted), (REPORTED, reports_otherwise)),
 )

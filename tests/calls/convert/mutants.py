@@ -113,7 +113,7 @@ def lined(number, line):
 
 
 # Of what a call tells beside the new file: rule(number and values, the refused line).
-TOLD = {
+REPORTED = {
     "13 without its count": lambda said, line: [said[0], 0, 0, line],
     "the line among the values": lambda said, line: [said[0], line, 0, line],
     "lines from 0": lambda said, line: [*said, max(line - 1, 0)],

@@ -1,14 +1,10 @@
 """Calls of the check of a net and one dependent on it (02, Paper 8): pairs of every family, as they are and damaged: either net's lists and numbers, C, unequal
-s.
-
-Each is written as, for each net, a count k, n s t, the eight lengths that the call is told, and the lists as calls/check writes them; then how many numbers
-of C are given, the length that the call is told of C, and these numbers, after which it is filled with UNREAD; then the refusal's number (0 where accepted),
-the net that it is of (0 where accepted) and two places, and where accepted the limits, n and n × n of the main net, n and n × n of the other."""
+s."""
 
 import random
 from typing import NamedTuple
 
-from calls.check.cases import answer_lines
+from calls.check.cases import ANSWERS
 from calls.check.oracle import MATRIX, Bounds, Reckoning, check
 from calls.dependent.mutants import MUTANTS, UNSOUND
 from calls.dependent.oracle import MAIN, DependentCheck, NetRefusal, Nets, Lengths
@@ -17,6 +13,7 @@ from common.damage import lists
 from common.damage.lists import Call, call_of, filled, odd_number
 from common.format import is_within
 from common.net import flat
+from common.replayed import Made, read, said, written
 from common.rules import Refusal
 from common.suite import Suite
 from common.systems.dependent import RESIDUAL, pair_of
@@ -26,7 +23,7 @@ MOST_DAMAGED = 8
 
 
 class PairCall(NamedTuple):
-    """What a call is handed: two calls on lists, and the first numbers of C with the length that is told."""
+    """What a call is handed: two calls on lists, and the first numbers of C with the length that is given."""
 
     main: Call
     dependent: Call
@@ -103,16 +100,12 @@ def generate(seed, count):
             yield from (Sent(lists.damaged(rng, call, DAMAGES, (1, 1, 2)), None) for _ in range(5))
 
 
-def write(sent, answer):
-    call = sent.call
-    yield from call.main.written() + call.dependent.written()
-    yield [len(call.coupling), call.coupling_length]
-    yield call.coupling
-    if isinstance(answer, NetRefusal):
-        yield [answer.refusal.number, answer.net, *(*answer.refusal.values, 0, 0)[:2]]
-    else:
-        yield [0, 0, 0, 0]
-        yield from answer_lines(answer.main)[1:] + answer_lines(answer.dependent)[1:]
+def calls(sent, answer):
+    main, dependent, coupling = sent.call.main, sent.call.dependent, read(sent.call.coupling, MATRIX)
+    net, *both = (answer.net, answer.refusal, answer.refusal) if isinstance(answer, NetRefusal) else (0, answer.main, answer.dependent)
+    number, places = said(both[0])
+    first, second = main.arguments() + main.limits(both[0]), dependent.arguments() + dependent.limits(both[1])
+    yield Made("kodarfi_check_dependent", [*first, *second[:5], coupling, sent.call.coupling_length, *second[5:], written(1, [net], 4), written(2, places)], number)
 
 
 REQUIRED = dict.fromkeys(("accepted", *(f"net {net} refused {number}" for net in (1, 2) for number in (3, 5, 6, 7, 8))), 20)
@@ -231,7 +224,8 @@ def is_left(mutant, sent, answer):
 
 
 SUITE = Suite(
-    count=1460, tested_count=480, generate=generate, write=write, coverage=coverage, required=REQUIRED, faults=faults,
+    count=1460, tested_count=480, generate=generate, calls=calls, coverage=coverage, required=REQUIRED, faults=faults,
+    answers={"kodarfi_check_dependent": ANSWERS},
     answer=lambda sent: reckon(DependentCheck(), sent),
     mutants=(
         (MUTANTS, lambda mutant, sent, answer: reckon(mutant, sent) != answer),

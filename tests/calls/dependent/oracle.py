@@ -19,7 +19,7 @@ class Nets(NamedTuple):
 
 
 class Lengths(NamedTuple):
-    """The lengths that a call is told."""
+    """The lengths that a call is given."""
 
     main: tuple = FULL
     dependent: tuple = FULL

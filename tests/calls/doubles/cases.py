@@ -1,8 +1,5 @@
-"""Doubles in and out (02, Paper 11) by chance: doubles to become guesses, and guesses with limits to become pairs of doubles; and damaged calls.
-
-So many calls inward are written, and as many outward. A call inward is: 0, n and s, the two lengths that it is told, the bits of 32 doubles, the refusal's
-number (0 where accepted), and where it is 0 the n guesses. A call outward is: 1, n and s, the four lengths, 32 guesses and 32 limits, the refusal's number,
-and where it is 0 the bits of n low ends and of n high ends."""
+"""Doubles in and out (02, Paper 11) by chance: so many calls with doubles to become guesses, and as many with guesses and limits to become pairs of doubles; some of
+them damaged."""
 
 import math
 import random
@@ -10,8 +7,10 @@ from fractions import Fraction
 from itertools import islice
 
 from calls.doubles.mutants import INWARD, OUTWARD
+from calls.check.oracle import COLUMN
 from calls.doubles.oracle import Doubles, Inward, Outward, bits_of, of_bits
 from common.damage.lists import other_size
+from common.replayed import List, Made, read, said, written
 from common.rules import Refusal
 from common.suite import Suite
 
@@ -174,7 +173,7 @@ def outward_coverage(x, e, low, high):
         yield "a high end at a power of two"
 
 
-def calls(seed, way):
+def by_kind(seed, way):
     """Without end, in or out: three calls in four that are accepted, and damaged ones."""
     rng, oracle = random.Random(f"doubles {way} {seed}"), Doubles()
     while True:
@@ -187,7 +186,7 @@ def calls(seed, way):
 
 def generate(seed, count):
     for way in ("in", "out"):
-        yield from islice(calls(seed, way), count)
+        yield from islice(by_kind(seed, way), count)
 
 
 def is_inward(call):
@@ -198,13 +197,20 @@ def answered(oracle, call):
     return oracle.guesses(call) if is_inward(call) else oracle.intervals(call)
 
 
-def write(call, answer):
-    yield [0 if is_inward(call) else 1, call.n, call.s, *call.lengths]
-    yield from (map(bits_of, call.values),) if is_inward(call) else (call.guess, call.bounds)
-    if isinstance(answer, Refusal):
-        yield [answer.number]
+def ends(doubles):
+    """A list of doubles, each no number with bits of its own before it is written. Doubles are compared as their bits: minus zero is not plus zero."""
+    return List(8, COLUMN, filled=COLUMN, fill=0x7FF80000DEADBEEF, right=((0, bits_of(doubles)),))
+
+
+def calls(call, answer):
+    number, places = said(answer)
+    found = () if number else answer
+    if is_inward(call):
+        lists = read(bits_of(call.values), COLUMN), written(COLUMN, found)
     else:
-        yield [0, *answer] if is_inward(call) else [0, *(bits_of(low) for low, _ in answer), *(bits_of(high) for _, high in answer)]
+        lists = read(call.guess, COLUMN), read(call.bounds, COLUMN), ends([low for low, _ in found]), ends([high for _, high in found])
+    stated = (part for pair in zip(lists, call.lengths) for part in pair)
+    yield Made("kodarfi_guesses" if is_inward(call) else "kodarfi_intervals", [call.n, call.s, *stated, written(2, places)], number)
 
 
 IN = ("accepted", "refused 3", "refused 8", "refused 19", "plus zero", "minus zero", "a subnormal", "a half of an even step", "a half of an odd step")
@@ -242,7 +248,8 @@ def differs(mutant, call, answer):
 
 
 SUITE = Suite(
-    count=50000, tested_count=6000, seed="2", generate=generate, write=write, coverage=coverage, required=REQUIRED, faults=faults,
+    count=50000, tested_count=6000, seed="2", generate=generate, calls=calls, coverage=coverage, required=REQUIRED, faults=faults,
+    answers={"kodarfi_guesses": (0, 3, 8, 19), "kodarfi_intervals": (0, 3, 8)},
     answer=lambda call: answered(Doubles(), call),
     mutants=(
         ({f"in: {name}": mutant for name, mutant in INWARD.items()}, lambda mutant, call, answer: is_inward(call) and differs(mutant, call, answer)),

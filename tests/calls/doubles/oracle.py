@@ -12,7 +12,7 @@ LARGEST_BOUND = 2**60
 
 
 class Inward(NamedTuple):
-    """What a call is handed that makes guesses of doubles, and the lengths that it is told of its two lists."""
+    """What a call is handed that makes guesses of doubles, and the lengths that it is given of its two lists."""
 
     n: int
     s: int
@@ -21,7 +21,7 @@ class Inward(NamedTuple):
 
 
 class Outward(NamedTuple):
-    """What a call is handed that makes pairs of doubles of guesses and limits, and the lengths that it is told of its four lists."""
+    """What a call is handed that makes pairs of doubles of guesses and limits, and the lengths that it is given of its four lists."""
 
     n: int
     s: int
@@ -34,8 +34,8 @@ def of_bits(bits):
     return struct.unpack("<d", struct.pack("<Q", bits))[0]
 
 
-def bits_of(x):
-    return struct.unpack("<Q", struct.pack("<d", x))[0]
+def bits_of(doubles):
+    return list(struct.unpack(f"<{len(doubles)}Q", struct.pack(f"<{len(doubles)}d", *doubles)))
 
 
 def distance(x, steps, s):

@@ -1,12 +1,11 @@
-"""Register entries: document 01's case l, 02's case of Paper 2, the ends of every range, halves of units, and numbers by chance.
-
-Each is written as a line of six numbers: guess, limit and s; the refusal's number (0 where accepted), the entry and its limit (0 and 0 where refused)."""
+"""Register entries: document 01's case l, 02's case of Paper 2, the ends of every range, halves of units, and numbers by chance."""
 
 import itertools
 import random
 
 from calls.entry.mutants import MUTANTS, OF_CALL
 from calls.entry.oracle import Entry
+from common.replayed import Made, said, written
 from common.rules import Refusal
 from common.suite import Suite, mutant
 
@@ -39,8 +38,10 @@ def generate(seed, count):
     return itertools.chain([(-24, 0, 4), (24, 10, 4)], ends(), halves(), by_chance(seed, count))
 
 
-def write(case, answer):
-    yield [*case, answer.number, 0, 0] if isinstance(answer, Refusal) else [*case, 0, *answer]
+def calls(case, answer):
+    number, places = said(answer)
+    entry = [(), ()] if isinstance(answer, Refusal) else [[part] for part in answer]
+    yield Made("kodarfi_entry", [*case, *(written(1, part) for part in entry), written(2, places)], number)
 
 
 NAMES = ("entered", "refused 3", "s of 20", "a guess of 2^36 in size", "a half above 0", "a half below 0", "a limit of 0", "a limit of 2^64 - 1")
@@ -64,7 +65,8 @@ def coverage(case, answer):
 
 
 SUITE = Suite(
-    count=20000, generate=generate, write=write, coverage=coverage, required=REQUIRED,
+    count=20000, generate=generate, calls=calls, coverage=coverage, required=REQUIRED,
+    answers={"kodarfi_entry": (0, 3)},
     answer=lambda case: Entry().enter(*case),
     mutants=(({name: mutant(Entry, **parts) for name, parts in {**MUTANTS, **OF_CALL}.items()}, lambda mutant, case, answer: mutant.enter(*case) != answer),),
 )

@@ -1,11 +1,9 @@
-"""Calls of the check by half the matrix (02, Paper 10): symmetric systems, others sent by their lower half, and nearly symmetric ones; and damaged calls.
-
-Each is written as calls/check writes it, with the k(k + 1)/2 numbers of the half in place of the k × k of the matrix."""
+"""Calls of the check by half the matrix (02, Paper 10): symmetric systems, others sent by their lower half, and nearly symmetric ones; and damaged calls."""
 
 import random
 from typing import NamedTuple
 
-from calls.check.cases import heavy_matrix, write
+from calls.check.cases import ANSWERS, heavy_matrix, made_call
 from calls.check.mutants import is_symmetric
 from calls.check.oracle import Bounds, check
 from calls.half.mutants import MUTANTS
@@ -209,7 +207,9 @@ def faults(index, sent, answer):
 
 
 SUITE = Suite(
-    count=1820, tested_count=600, generate=generate, write=write, coverage=coverage, required=REQUIRED, faults=faults,
+    count=1820, tested_count=600, generate=generate, coverage=coverage, required=REQUIRED, faults=faults,
+    calls=lambda sent, answer: [made_call("kodarfi_check_half", sent.call, answer)],
+    answers={"kodarfi_check_half": ANSWERS},
     answer=lambda sent: HalfEntry().check(sent.call.problem(), sent.call.lengths),
     mutants=((MUTANTS, lambda mutant, sent, answer: sent.call.n <= MOST_DAMAGED and mutant.check(sent.call.problem(), sent.call.lengths) != answer),),
 )

@@ -1,8 +1,8 @@
 """Files with their listings: those of common/given.py, 01's whole file damaged at every byte, then damaged ones and some whole ones of the sequence of
 common/generate.py. The self-test, and tests/compare.py, have all of that sequence in place of the damaged bytes.
 
-Each is written as a line with five numbers: the length of the file, the number of its refusal (0 where accepted), the two numbers of the refusal's inner
-brackets (0 where there is none), and the length of its listing; then the bytes of the file and those of the listing."""
+What is measured of a net is written as a line with five numbers: the length of its file, 0 for the answer and both places, and the length of its listing; then the
+bytes of the file and those of the listing."""
 
 import re
 from typing import NamedTuple
@@ -16,11 +16,14 @@ from common.checks import entries_in, inverse_limits_in, is_accepted, limits_in,
 from common.exact import inverse_of, is_rounded_exact, product, size_sum
 from common.generate import Case
 from common.net import file_of, flat, lines_of as lines_of_net
+from common.replayed import Made, said, text, written
 from common.rules import Refusal
 from common.suite import NEVER, Suite
 
 # Of the whole files of the sequence one in so many is written: the damaged ones are read, the whole ones reckoned too, which takes longer.
 WHOLE_ONE_IN = 7
+# The bytes that a listing is written into.
+LONGEST = 32768
 # Margins and residuals are looked at in nets of so many equations at most.
 NEAR = 12
 NUMBERS = re.compile(rb"\d+")
@@ -95,11 +98,16 @@ def refusal_in(listing):
     return Refusal(number, tuple(values))
 
 
-def write(case, answer):
-    said = refusal_in(answer.listing)
-    yield [len(case.file), *(said.number, *said.values, 0, 0)[:3], len(answer.listing)]
-    yield case.file
-    yield answer.listing
+def calls(case, answer):
+    number, places = said(refusal_in(answer.listing))
+    listing = written(LONGEST, answer.listing, 1), written(1, [len(answer.listing)])
+    yield Made("kodarfi_listing", [text(case.file), len(case.file), *listing, written(2, places)], number)
+
+
+def of_net(net):
+    file = file_of(lines_of_net(net))
+    listing = Program().listing(file)
+    return [len(file), 0, 0, 0, len(listing)], file, listing
 
 
 def entries_coverage(net, listing):
@@ -220,8 +228,9 @@ def others():
 
 
 SUITE = Suite(
-    count=8000, generate=generate, answer=answer, write=write, coverage=coverage, required=REQUIRED, faults=faults, others=others,
+    count=8000, generate=generate, answer=answer, calls=calls, coverage=coverage, required=REQUIRED, faults=faults, others=others,
+    answers={"kodarfi_listing": (0, 1, 2, 3, 4, 5, 6, 7, 11, 12, 13, 14, 15)},
     tested=tested, tested_count=2000,
     mutants=((READING, reads_otherwise), (PRINTING, prints_otherwise)),
-    of_net=lambda net: Case("net", file_of(lines_of_net(net))),
+    of_net=of_net,
 )

@@ -207,7 +207,7 @@ HELD = {
     "the sum along the row of the column's number": dict(reckoning=RowOfTheColumn),
 }
 
-def told(rule):
+def reported(rule):
     """A program that tells rule(refusal) of a line or of a file that stops early."""
 
     def load(self, file):
@@ -217,12 +217,12 @@ def told(rule):
     return dict(load=load)
 
 
-# The program's own: a file read only as far as a short buffer holds, and what is told of a refusal.
+# The program's own: a file read only as far as a short buffer holds, and what is reported of a refusal.
 OWN = {
     "only the first 4,096 bytes": dict(lines=lambda self, file: lines_of(file[:4096])),
-    "lines from 0": told(lambda refusal: refusal._replace(values=(refusal.values[0] - 1,)) if refusal.number in WITH_LINE else refusal),
-    "a line for 15": told(lambda refusal: Refusal(15, (1,)) if refusal.number == 15 else refusal),
-    "13 without its count": told(lambda refusal: Refusal(13, (0,)) if refusal.number == 13 else refusal),
+    "lines from 0": reported(lambda refusal: refusal._replace(values=(refusal.values[0] - 1,)) if refusal.number in WITH_LINE else refusal),
+    "a line for 15": reported(lambda refusal: Refusal(15, (1,)) if refusal.number == 15 else refusal),
+    "13 without its count": reported(lambda refusal: Refusal(13, (0,)) if refusal.number == 13 else refusal),
 }
 ORDERED = {"row before column": dict(refused=lambda self, refusal: Program.refused(self, refusal._replace(values=refusal.values[::-1])))}
 

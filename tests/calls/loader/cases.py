@@ -1,24 +1,25 @@
 """Sessions at a loader (01: desk): the lines of a file one at a time, past every refusal, at a new loader or at made-up numbers, and checks; the files are
 those of common/given.py and some of the sequence of common/generate.py. Beside them, what files meet of the reading (calls/listing).
 
-A session is written as steps, each a line of numbers that begins with its kind:
+A session is answered in steps, each a line's text and numbers that begin with its kind:
 
   0                                                       a new loader; the six lists hold `before`
   1 and nine numbers                                      the loader is set to these numbers, made by no loader
-  2, the list that is one too short (0: none, 1 to 6), the length of the line, the number that is said of it and the first place; then the nine numbers
-     afterwards, how many numbers of the lists are other than before, and three for each: list, place and number; the bytes of the line follow
-  3, the list that is too short (7 and 8: the lists of limits), the number of a check and its two places"""
+  2, the list that is one too short (0: none, 1 to 6), the number that is said of the line and the first place; then the nine numbers afterwards, and three for
+     each number of the lists that is other than before: list, place and number
+  3, the list that is too short (7 and 8: the lists of limits), the number of a check and its two places, and where it is accepted the limits"""
 
 import random
 import re
 
-from calls.check.oracle import COLUMN, Reckoning
+from calls.check.oracle import COLUMN, FULL, Reckoning
 from calls.listing.oracle import without
 from calls.loader.mutants import MUTANTS
-from calls.loader.oracle import ENDED, SIZED, Steps
+from calls.loader.oracle import BEFORE, ENDED, SIZED, Steps
 from common import generate as sequence, given
 from common.checks import is_accepted, limits_in
 from common.format import RANGES, lines_of, read_form
+from common.replayed import Kept, Made, read, text as lent_text, written
 from common.rules import Refusal
 from common.suite import NEVER, Suite
 
@@ -65,8 +66,51 @@ def differs(mutant, session, answer):
     return any(own != right for own, right in zip(steps_of(session, mutant), answer))
 
 
-def write(session, answer):
-    return (part for step in answer for part in step)
+def lengths(short):
+    """The lengths of all lists; where one, from 1, is too short, by one less and then 0."""
+    for stated in (FULL[short - 1] - 1, 0) if short else (FULL[0],):
+        yield [stated if place == short else length for place, length in enumerate(FULL, 1)]
+
+
+def kept_lists(stated, changes=()):
+    """The six lists, which stay lent behind the loader, each with its length and with what is then other."""
+    right = [[], [], [], [], [], []]
+    for which, at, number in zip(changes[::3], changes[1::3], changes[2::3]):
+        right[which].append((at, [number]))
+    for place, length in enumerate(stated[:6]):
+        yield from (Kept(place + 1, 8, right=right[place]), length)
+
+
+def taken(loader, text, numbers):
+    """A line, of which the loader's nine numbers and those of the lists that are others are right afterwards."""
+    short, number, place = numbers[:3]
+    for stated in lengths(short):
+        arguments = [loader._replace(right=((0, numbers[3:12]),)), lent_text(text), len(text), *kept_lists(stated, numbers[12:]), written(2, (place, 0))]
+        yield Made("kodarfi_loader_take", arguments, number, kept=7)
+
+
+def checked(loader, n, numbers):
+    short, number, *places = numbers[:4]
+    for stated in lengths(short):
+        limits = written(FULL.solution, numbers[4 : 4 + n]), stated[6], written(FULL.bounds, numbers[4 + n :]), stated[7]
+        yield Made("kodarfi_loader_check", [loader, *kept_lists(stated), *limits, written(2, places)], number, kept=7)
+
+
+def calls(session, answer):
+    """A loader and its lists stay lent from step to step; numbers that it is set to stand there before the next call."""
+    for (kind, *numbers), text in answer:
+        if kind == 0:
+            nine = [0] * 9
+            yield Made("kodarfi_loader_new", [written(9, nine, 4)], 0, beside=[read(numbers, len(numbers)) for numbers in BEFORE.values()])
+        elif kind == 1:
+            loader, nine = Kept(0, 4, before=((0, numbers),)), numbers
+            continue
+        elif kind == 2:
+            yield from taken(loader, text, numbers)
+            nine = numbers[3:12]
+        else:
+            yield from checked(loader, nine[1], numbers)
+        loader = Kept(0, 4)
 
 
 REQUIRED = {
@@ -104,15 +148,20 @@ def coverage(session, answer):
         if kind == 3:
             yield f"check {numbers_said[1]}"
         elif kind == 2:
-            said = numbers_said[2]
-            yield from line_coverage(said, numbers_said[13], text, numbers, after_refusal, is_made_up)
-            numbers, after_refusal = numbers_said[4:13], after_refusal or said != 0
+            said = numbers_said[1]
+            yield from line_coverage(said, len(numbers_said[12:]) // 3, text, numbers, after_refusal, is_made_up)
+            numbers, after_refusal = numbers_said[3:12], after_refusal or said != 0
         else:
             numbers, after_refusal, is_made_up = numbers_said or [0] * 9, False, kind == 1
 
 
 SUITE = Suite(
-    count=250, generate=generate, write=write, coverage=coverage, required=REQUIRED,
+    count=250, generate=generate, calls=calls, coverage=coverage, required=REQUIRED,
+    answers={
+        "kodarfi_loader_new": (0,),
+        "kodarfi_loader_take": (0, 1, 2, 3, 4, 8, 11, 12, 13, 14),
+        "kodarfi_loader_check": (0, 3, 5, 6, 7, 8, 15),
+    },
     answer=lambda session: list(steps_of(session)),
     mutants=((MUTANTS, differs),),
 )

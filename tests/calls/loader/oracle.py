@@ -4,6 +4,7 @@ from functools import cached_property
 
 from calls.check.oracle import COLUMN, KINDS, MATRIX, Problem, check
 from common.format import LONGEST_LINE, PLACED, is_in_range, read_form
+from common.net import flat
 from common.rules import IN_FORCE, Refusal
 
 # How far a loader has come.
@@ -206,15 +207,14 @@ class Steps:
         loader = self.loader(self.numbers, self.lists)
         refusal = Refusal(8) if short else loader.take(text)
         self.numbers = list(self.numbers) if short else loader.left(refusal)
-        changed = [
-            (which, place, new) for which, kind in enumerate(KINDS) for place, (was, new) in enumerate(zip(old[kind], self.lists[kind])) if was != new
-        ]
+        others = [(which, old[kind], self.lists[kind]) for which, kind in enumerate(KINDS) if old[kind] != self.lists[kind]]
+        changed = [(which, place, new) for which, before, after in others for place, (was, new) in enumerate(zip(before, after)) if was != new]
         said = (0, 0) if refusal is None else (refusal.number, *(*refusal.values, 0)[:1])
-        return [2, short, len(text), *said, *self.numbers, len(changed), *(number for change in changed for number in change)], text
+        return [2, short, *said, *self.numbers, *(number for change in changed for number in change)], text
 
     def check(self, short):
         answer = self.checked(short)
-        said = (answer.number, *answer.values, 0, 0)[:3] if isinstance(answer, Refusal) else (0, 0, 0)
+        said = (answer.number, *answer.values, 0, 0)[:3] if isinstance(answer, Refusal) else (0, 0, 0, *answer.solution, *flat(answer.inverse))
         return [3, short, *said], b""
 
     def checked(self, short):

@@ -1,15 +1,12 @@
-"""Calls for the factor of a proposal's limits, by chance: problems whose margins are above 0 and others, with weights of several kinds; and damaged ones.
-
-Each is written as a count k, n and t, and the three lengths that the call is told; then k × k numbers of the matrix and of the inverse and k weights, after
-which each list is filled with UNREAD; then the refusal's number (0 where there is a factor), its row (0 where it has none), and numerator and denominator (0
-where refused)."""
+"""Calls for the factor of a proposal's limits, by chance: problems whose margins are above 0 and others, with weights of several kinds; and damaged ones."""
 
 import random
 
 from calls.quality.mutants import MUTANTS
 from calls.quality.oracle import FULL, Inquiry, Quality
 from calls.weights.oracle import WeightSearch
-from common.damage.lists import SCALES, SIZES, filled, odd_number, other_size, rows_given, shorter
+from common.damage.lists import SCALES, SIZES, filled, odd_number, other_size, shorter
+from common.replayed import Made, read, said, written
 from common.rules import Refusal
 from common.suite import Suite
 from common.systems.searched import searched, with_defect
@@ -95,13 +92,11 @@ def generate(seed, count):
         yield damaged(rng, inquiry)
 
 
-def write(inquiry, answer):
-    count = rows_given((inquiry.matrix, inquiry.inverse), inquiry.weights)
-    yield [count, inquiry.n, inquiry.t, *inquiry.lengths]
-    yield inquiry.matrix[: count * count]
-    yield inquiry.inverse[: count * count]
-    yield inquiry.weights[:count]
-    yield [answer.number, *(answer.values or (0,)), 0, 0] if isinstance(answer, Refusal) else [0, 0, *answer]
+def calls(inquiry, answer):
+    number, places = said(answer)
+    factor = [(), ()] if isinstance(answer, Refusal) else [[part] for part in answer]
+    lists = (part for name, stated in inquiry.lengths._asdict().items() for part in (read(getattr(inquiry, name), getattr(FULL, name)), stated))
+    yield Made("kodarfi_quality", [inquiry.n, inquiry.t, *lists, *(written(1, part) for part in factor), written(2, places)], number)
 
 
 REQUIRED = dict.fromkeys(
@@ -132,7 +127,8 @@ def coverage(inquiry, answer):
 
 
 SUITE = Suite(
-    count=2400, tested_count=800, generate=generate, write=write, coverage=coverage, required=REQUIRED,
+    count=2400, tested_count=800, generate=generate, calls=calls, coverage=coverage, required=REQUIRED,
+    answers={"kodarfi_quality": (0, 3, 5, 8)},
     answer=Quality().rate,
     mutants=((MUTANTS, lambda mutant, inquiry, answer: mutant.rate(inquiry) != answer),),
 )

@@ -9,7 +9,7 @@ from common.rules import Refusal
 
 
 class Inquiry(NamedTuple):
-    """What a call is handed: the matrices row after row in lists of at least n × n numbers, at least n weights, and what it is told of its lists."""
+    """What a call is handed: the matrices row after row in lists of at least n × n numbers, at least n weights, and what it is given as lengths of its lists."""
 
     n: int
     t: int

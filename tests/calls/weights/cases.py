@@ -1,15 +1,12 @@
-"""Searches for weights (02, Paper 7): problems by chance, each with several allowances, and damaged ones.
-
-Each is written as a count k, n t and the allowance, and the three lengths that the call is told; then k × k numbers of the matrix and of the inverse, after
-which each list is filled with UNREAD; then the refusal's number (0 where a list is found), how many lists were tried (0 where refused) and the place of
-the first good list among the first 65 (0 where none of them is good, or where 8 or 3 is said); and where a list is found its n weights."""
+"""Searches for weights (02, Paper 7): problems by chance, each with several allowances, and damaged ones."""
 
 import random
 from typing import NamedTuple
 
 from calls.weights.mutants import MUTANTS
 from calls.weights.oracle import FULL, Found, Request, WeightSearch, place_within
-from common.damage.lists import SCALES, SIZES, filled, odd_number, other_size, rows_given, shorter
+from common.damage.lists import SCALES, SIZES, filled, odd_number, other_size, shorter
+from common.replayed import Made, read, said, written
 from common.rules import Refusal
 from common.suite import Suite
 from common.systems.searched import late, searched
@@ -23,10 +20,9 @@ REQUIRED |= {"list 64 of 64": 1, "list 65 of 64": 1}
 
 
 class Search(NamedTuple):
-    """A request, how many rows of its lists are given, and the place of its first good list."""
+    """A request, and the place of its first good list among the first 65: 0 where none of them is good, or where 8 or 3 is said."""
 
     request: Request
-    count: int
     place: int
 
 
@@ -58,25 +54,24 @@ def generate(seed, count):
     for index in range(count):
         rng = random.Random(f"weights {seed}/{index}")
         request = late(64 + index) if index < 2 else searched(rng)
-        place, rows = place_within(request, MOST), request.n
+        place = place_within(request, MOST)
         request = request._replace(matrix=filled(request.matrix, FULL.matrix), inverse=filled(request.inverse, FULL.inverse))
         for allowance in allowances(rng, place):
-            yield Search(request._replace(allowance=allowance), rows, place)
+            yield Search(request._replace(allowance=allowance), place)
         for _ in range(2):
             changed = damaged(rng, request)
             answer = WeightSearch().find(changed)
             is_searched = isinstance(answer, Found) or answer.number == 18
-            yield Search(changed, rows_given((changed.matrix, changed.inverse)), place_within(changed, MOST) if is_searched else 0)
+            yield Search(changed, place_within(changed, MOST) if is_searched else 0)
 
 
-def write(search, answer):
-    request, used = search.request, search.count**2
-    number, tried, weights = (answer.number, 0, []) if isinstance(answer, Refusal) else (0, *answer)
-    yield [search.count, request.n, request.t, request.allowance, *request.lengths]
-    yield request.matrix[:used]
-    yield request.inverse[:used]
-    yield [number, tried, search.place]
-    yield weights
+def calls(search, answer):
+    request, (number, places) = search.request, said(answer)
+    tried, weights = ([], []) if isinstance(answer, Refusal) else ([answer.tried], answer.weights)
+    stated = request.lengths
+    matrices = read(request.matrix, FULL.matrix), stated.matrix, read(request.inverse, FULL.inverse), stated.inverse
+    found = written(FULL.weights, weights), stated.weights, written(1, tried, 4), written(2, places)
+    yield Made("kodarfi_find_weights", [request.n, request.t, *matrices, request.allowance, *found], number)
 
 
 def coverage(search, answer):
@@ -96,7 +91,8 @@ def coverage(search, answer):
 
 
 SUITE = Suite(
-    count=2420, tested_count=800, generate=generate, write=write, coverage=coverage, required=REQUIRED,
+    count=2420, tested_count=800, generate=generate, calls=calls, coverage=coverage, required=REQUIRED,
+    answers={"kodarfi_find_weights": (0, 3, 8, 18)},
     answer=lambda search: WeightSearch().find(search.request),
     mutants=((MUTANTS, lambda mutant, search, answer: mutant.find(search.request) != answer),),
 )

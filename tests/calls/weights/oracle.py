@@ -11,7 +11,7 @@ HIGHEST = 1023
 
 
 class Lengths(NamedTuple):
-    """The lengths that a call is told."""
+    """The lengths that a call is given."""
 
     matrix: int = MATRIX
     inverse: int = MATRIX
@@ -22,7 +22,7 @@ FULL = Lengths()
 
 
 class Request(NamedTuple):
-    """What a search is handed: the matrices row after row in lists of at least n × n numbers, and what it is told of its lists."""
+    """What a search is handed: the matrices row after row in lists of at least n × n numbers, and what it is given as lengths of its lists."""
 
     n: int
     t: int

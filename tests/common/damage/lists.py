@@ -1,13 +1,10 @@
 """Calls of the check on lists, damaged: lengths, n, s and t, numbers at the ends of ranges, other guesses, tolerances and weights."""
 
-from math import ceil, sqrt
 from typing import NamedTuple
 
-from calls.check.oracle import FULL, Lengths, Problem
+from calls.check.oracle import FULL, Bounds, Lengths, Problem
 from common.net import flat
-
-# Stands in the lists past the numbers given.
-UNREAD = -(2**63)
+from common.replayed import UNREAD, read, written
 
 # Sizes and scales at the ends of their ranges, and past them up to a machine word's.
 SIZES, SCALES = (0, 1, 2, 31, 32, 33, 2**32 - 1), (0, 1, 19, 20, 21, 63, 64, 2**32 - 1)
@@ -21,14 +18,8 @@ def filled(numbers, length):
     return list(numbers) + [UNREAD] * (length - len(numbers))
 
 
-def rows_given(matrices, column=()):
-    """The least count k such that UNREAD stands past the first k × k numbers of each matrix and the first k of a column."""
-    given = lambda numbers: max((at + 1 for at, number in enumerate(numbers) if number != UNREAD), default=0)
-    return max(given(column), *(ceil(sqrt(given(numbers))) for numbers in matrices))
-
-
 class Call(NamedTuple):
-    """What a call is handed: the first count × count or count numbers of each list, and what it is told of them."""
+    """What a call is handed: the first count × count or count numbers of each list, and what it is given as lengths of them."""
 
     count: int
     n: int
@@ -40,9 +31,15 @@ class Call(NamedTuple):
     def problem(self):
         return Problem(self.n, self.s, self.t, *(filled(numbers, length) for numbers, length in zip(self.lists, FULL)))
 
-    def written(self):
-        """As the emitters write it: what it is told, then its lists."""
-        return [[self.count, self.n, self.s, self.t, *self.lengths], *self.lists]
+    def arguments(self, fill=UNREAD):
+        """n, s and t, and each list with its length."""
+        lists = ((read(numbers, length, fill), stated) for numbers, length, stated in zip(self.lists, FULL, self.lengths))
+        return [self.n, self.s, self.t, *(part for pair in lists for part in pair)]
+
+    def limits(self, answer):
+        """Both lists of limits, which are written where it is accepted, each with its length."""
+        solution, inverse = (answer.solution, flat(answer.inverse)) if isinstance(answer, Bounds) else ((), ())
+        return [written(FULL.solution, solution), self.lengths.solution, written(FULL.bounds, inverse), self.lengths.bounds]
 
     def with_number(self, which, at, value):
         numbers = list(self.lists[which])
