@@ -3,7 +3,8 @@ ghost use mathlib.Core.Path.{_≡_};
 ghost use Prim.Native.Nat.{_+_, _≤_};
 ghost use lib.ListN.{length, drop};
 ghost use Rattle.loader_runs.specs.Length.{lineLength};
-ghost use Rattle.file.specs.Read.{ReadAs};
+ghost use Rattle.loader_lists.specs.Lists.{lists};
+ghost use Rattle.file.specs.Read.{ReadAs, LinesTakenAs};
 ghost use Rattle.file.specs.Feeds.{FeedWithin};
 use loader::Loader;
 use rules::Outcome;
@@ -50,7 +51,70 @@ fn line_end(file: &[u8], at: usize) -> usize
     i
 }
 
-// What comes of a file's lines: the first refusal and the number of its line, from 1, or acceptance of all lines; the loader then, and its lists.
+// What taking a file's lines gives back: the first refusal and the number of its line, from 1, or acceptance of all lines; and the loader then.
+pub struct LinesTaken {
+    pub outcome: Outcome,
+    pub line: u64,
+    pub loader: Loader,
+}
+
+// Every line up to the first refusal, at a new loader, and the lists that their numbers go into.
+pub fn take_lines(
+    file: &[u8],
+    matrix: &mut [i64],
+    right: &mut [i64],
+    tolerance: &mut [i64],
+    guess: &mut [i64],
+    inverse: &mut [i64],
+    weights: &mut [i64],
+) -> LinesTaken
+    ensures { λ r. ⌜
+        LinesTakenAs (now (file .entry))
+        (lists (now (matrix .entry)) (now (right .entry)) (now (tolerance .entry)) (now (guess .entry)) (now (inverse .entry))
+        (now (weights .entry)))
+        r
+        (lists (now (matrix .exit)) (now (right .exit)) (now (tolerance .exit)) (now (guess .exit)) (now (inverse .exit))
+        (now (weights .exit)))
+        ⌝ }
+{
+    let mut loader = Loader::new();
+    let mut line: u64 = 0;
+    let mut at = 0;
+    while at < file.len() {
+        let end = line_end(file, at);
+        let taken = loader.take(
+            &file[at..end],
+            matrix,
+            right,
+            tolerance,
+            guess,
+            inverse,
+            weights,
+        );
+        line += 1;
+        let outcome = taken.outcome;
+        match outcome {
+            Outcome::Refused(refusal) => {
+                return LinesTaken {
+                    outcome: Outcome::Refused(refusal),
+                    line,
+                    loader,
+                };
+            }
+            Outcome::Accepted => {}
+        }
+        let next = taken.loader;
+        loader = next;
+        at = end + 1;
+    }
+    LinesTaken {
+        outcome: Outcome::Accepted,
+        line,
+        loader,
+    }
+}
+
+// The same, with the lists by value.
 pub struct Collected {
     pub outcome: Outcome,
     pub line: u64,
@@ -73,45 +137,20 @@ pub fn read_file(file: &[u8]) -> Collected
     let mut guess = [0i64; 32];
     let mut inverse = [0i64; 1024];
     let mut weights = [0i64; 32];
-    let mut loader = Loader::new();
-    let mut line: u64 = 0;
-    let mut at = 0;
-    while at < file.len() {
-        let end = line_end(file, at);
-        let taken = loader.take(
-            &file[at..end],
-            &mut matrix,
-            &mut right,
-            &mut tolerance,
-            &mut guess,
-            &mut inverse,
-            &mut weights,
-        );
-        line += 1;
-        let outcome = taken.outcome;
-        match outcome {
-            Outcome::Refused(refusal) => {
-                return Collected {
-                    outcome: Outcome::Refused(refusal),
-                    line,
-                    loader,
-                    matrix,
-                    right,
-                    tolerance,
-                    guess,
-                    inverse,
-                    weights,
-                };
-            }
-            Outcome::Accepted => {}
-        }
-        let next = taken.loader;
-        loader = next;
-        at = end + 1;
-    }
+    let taken = take_lines(
+        file,
+        &mut matrix,
+        &mut right,
+        &mut tolerance,
+        &mut guess,
+        &mut inverse,
+        &mut weights,
+    );
+    let outcome = taken.outcome;
+    let loader = taken.loader;
     Collected {
-        outcome: Outcome::Accepted,
-        line,
+        outcome,
+        line: taken.line,
         loader,
         matrix,
         right,

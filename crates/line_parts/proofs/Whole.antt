@@ -1,7 +1,8 @@
 -- The parts that the code has read make the whole line.
+--   beside-list, beside-none — the numbers beside a form, where it has a list and where it has none
 --   decided-none, decided-form — the two ways in which `decide` ends
 --   line-read — what is decided from the parts is what the line is by its reading
-use mathlib.Core.Path.{_≡_, refl}
+use mathlib.Core.Path.{_≡_, refl, sym, _∙_}
 use mathlib.Core.Bool.{Bool, true, false, cond}
 use mathlib.Core.List.{List, [], _∷_}
 use mathlib.Core.Option.{none, some}
@@ -26,10 +27,10 @@ use Rattle.line_form.specs.declared.Word.{Word}
 use Rattle.line_form.specs.declared.Word.the-variants.{Problem, Scale, Row, Right, Guess, Inverse, Weight, End}
 use Rattle.line_form.specs.Form.{Form, bytes}
 use Rattle.line_form.specs.Reading.{wordAt, headAt, endOf, formOf, formAt, reading}
-use Rattle.line_form.specs.List.{firstValues, numbersOf}
+use Rattle.line_form.specs.List.{firstValues, noNumbers, numbersOf}
 use Rattle.line_form.specs.ListAt.{listedAt}
 use Rattle.line_parts.specs.Line.{cappedForm, numbersIn, refused, ofReading}
-use Rattle.line_parts.specs.Parts.{kindOf, lastIn, cappedRight, cappedOf, besideOf, decided}
+use Rattle.line_parts.specs.Parts.{kindOf, lastIn, cappedRight, cappedOf, hasList, besideOf, decided}
 
 right-form : (k : Kind) (i v a : ℤ) (zs : List ℤ) → cappedRight (cap i) (cap v) (numbersOf k (a ∷ zs)) ≡ cappedForm (formOf Right i v a zs)
 unfolding numbersOf firstValues
@@ -56,6 +57,12 @@ beside-form Guess i v a zs = refl
 beside-form Inverse i v a zs = refl
 beside-form Weight i v a zs = refl
 beside-form End i v a zs = refl
+
+pub beside-list : (w : Word) (l : Numbers) {b : Bool} → b ≡ hasList w → b ≡ true → l ≡ besideOf w l
+beside-list w l e t = rw (sym e ∙ t)
+
+pub beside-none : (w : Word) (l : Numbers) {n : Numbers} {b : Bool} → b ≡ hasList w → b ≡ false → n ≡ noNumbers → n ≡ besideOf w l
+beside-none w l e f z = rw (sym e ∙ f) z
 
 -- ---- the two ways in which `decide` ends
 module _ (s : List ℕ) (h : Head) (i v : Number) (l : Listed) (e : ℕ) where

@@ -4,9 +4,9 @@
 --   lastIn s ..    — the place of the last bracket of the line s, from its head, a first number, a second one, and a list
 --   cappedRight i v l — the form of the word right: with the second number where the list has one number, else with the first two of the list
 --   cappedOf w i v l — the form of the word w with the number i and a second one, or a list
---   besideOf w l   — the numbers beside it
+--   hasList w      — whether the numbers of its list stand beside it;  besideOf w l — the numbers beside it
 --   decided s ..   — what the line s is by its reading, from its head, a first number, a second one, a list, and the place after its last bracket
-use mathlib.Core.Bool.{cond}
+use mathlib.Core.Bool.{Bool, true, false, cond}
 use mathlib.Core.List.{List}
 use Prim.Native.Nat.{ℕ}
 use lib.Dec.{eqb}
@@ -58,15 +58,18 @@ cappedOf Inverse i v l = capped.Inverse i
 cappedOf Weight i v l = capped.Weight i v
 cappedOf End i v l = capped.End
 
+abbrev pub hasList : Word → Bool
+hasList Problem = false
+hasList Scale = false
+hasList Row = true
+hasList Right = false
+hasList Guess = false
+hasList Inverse = true
+hasList Weight = false
+hasList End = false
+
 abbrev pub besideOf : Word → Numbers → Numbers
-besideOf Problem l = noNumbers
-besideOf Scale l = noNumbers
-besideOf Row l = l
-besideOf Right l = noNumbers
-besideOf Guess l = noNumbers
-besideOf Inverse l = l
-besideOf Weight l = noNumbers
-besideOf End l = noNumbers
+besideOf w l = cond (hasList w) l noNumbers
 
 unfoldable pub decided : List ℕ → Head → Number → Number → Listed → ℕ → Line
 decided s h i v l e = cond (eqb e (length s)) (record { answer = answer.Form (cappedOf (h .word) (i .value) (v .value) (l .numbers)); numbers = besideOf (h .word) (l .numbers) }) (refused NoForm)

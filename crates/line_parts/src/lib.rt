@@ -4,7 +4,7 @@ ghost use Rattle.line_form.specs.Form.{bytes};
 ghost use Rattle.line_form.specs.ListAt.{listedAt};
 ghost use Rattle.line_form.specs.Reading.{wordAt, rightLast, lastOf};
 ghost use Rattle.line_parts.specs.Line.{refused};
-ghost use Rattle.line_parts.specs.Parts.{kindOf, lastIn, cappedRight, cappedOf, besideOf, decided};
+ghost use Rattle.line_parts.specs.Parts.{kindOf, lastIn, cappedRight, cappedOf, hasList, decided};
 use line_form::Head;
 use line_form::Listed;
 use line_form::Numbers;
@@ -136,19 +136,19 @@ fn form_of(word: Word, first: i64, second: i64, list: Numbers) -> CappedForm
     }
 }
 
-// The numbers beside a form: those of its list, if it has one.
-fn numbers_of(word: Word, list: Numbers) -> Numbers
-    ensures { λ r. ⌜ r ≡ besideOf word list ⌝ }
+// Whether the numbers of a list stand beside a form.
+fn has_list(word: Word) -> bool
+    ensures { λ r. ⌜ r ≡ hasList word ⌝ }
 {
     match word {
-        Word::Problem => line_form::no_numbers(),
-        Word::Scale => line_form::no_numbers(),
-        Word::Row => list,
-        Word::Right => line_form::no_numbers(),
-        Word::Guess => line_form::no_numbers(),
-        Word::Inverse => list,
-        Word::Weight => line_form::no_numbers(),
-        Word::End => line_form::no_numbers(),
+        Word::Problem => false,
+        Word::Scale => false,
+        Word::Row => true,
+        Word::Right => false,
+        Word::Guess => false,
+        Word::Inverse => true,
+        Word::Weight => false,
+        Word::End => false,
     }
 }
 
@@ -177,8 +177,12 @@ pub fn decide(
     }
     let word = head.word;
     let numbers = list.numbers;
+    let answer = Answer::Form(form_of(word, first.value, second.value, numbers));
+    if has_list(word) {
+        return Line { answer, numbers };
+    }
     Line {
-        answer: Answer::Form(form_of(word, first.value, second.value, numbers)),
-        numbers: numbers_of(word, numbers),
+        answer,
+        numbers: line_form::no_numbers(),
     }
 }

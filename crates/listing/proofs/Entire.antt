@@ -16,7 +16,7 @@ use Rattle.rules.specs.declared.Outcome.the-variants.{Accepted, Refused}
 use Rattle.rules.specs.declared.Refusal.{Refusal}
 use Rattle.check_spec.specs.Order.{checkedOf}
 use Rattle.check_spec.specs.Input.{Input, short}
-use Rattle.loader_lists.specs.Lists.{shortLists}
+use Rattle.loader_lists.specs.Lists.{Lists, shortLists}
 use Rattle.loader_progress.specs.Progress.{ended}
 use Rattle.loader_order.specs.Through.{answerThrough}
 use Rattle.loader_order.proofs.Through.{answer-ended}
@@ -30,14 +30,14 @@ use Rattle.listing_refusal.specs.Refused.{printed, refusedOf}
 use Rattle.listing_refusal.specs.Answered.{Answered}
 use Rattle.listing_refusal.specs.declared.FileAnswer.{FileAnswer}
 use Rattle.listing_refusal.proofs.Refused.{same-answer}
-use Rattle.file.specs.declared.Collected.{Collected}
+use Rattle.file.specs.declared.LinesTaken.{LinesTaken}
 use Rattle.loader_runs.specs.Lines.{linesOf}
 use Rattle.loader_runs.specs.Read.{Reading, zeros, readingOf}
-use Rattle.file.specs.Read.{stateOf, ReadAs}
+use Rattle.file.specs.Read.{LinesTakenAs}
 use Rattle.loader_runs.proofs.Whole.{all-accepted, all-run}
 use Rattle.file_check.specs.Judged.{reportedOf, lineOr}
 use Rattle.listing.specs.Listing.{problemIn, answerOf, listingOf, ListedAs, AnsweredAs}
-use Rattle.file_check.specs.Shown.{inputAt, codeOf, shownOf}
+use Rattle.file_check.specs.Shown.{stateAt, inputAt, codeOf, shownOf}
 use Rattle.file_check.proofs.Forms.{reported-forms, answer-forms}
 
 pub zeros-long : shortLists zeros ≡ false
@@ -120,14 +120,17 @@ module _ (file : List ℕ) where
           listing = rw (check-code e, reported-forms (R .state) (forms lines) (from e)) (listing-from (answer-judged e));
         }
 
-module _ (file : List ℕ) {r : Collected} (read : ReadAs file r) where
+module _ (file : List ℕ) {old new : Lists} {r : LinesTaken} (lent : LinesTakenAs file old r new) (z : old ≡ zeros) where
+  read : LinesTakenAs file zeros r new
+  read = rw z at lent
+
   pub refusal-answered : {o p : List ℕ} {a : FileAnswer} (x : Refusal) → r .outcome ≡ Refused x →
       Answered (printed (r .line) (numberOf x ∷ valuesOf x)) (refusedOf (printed (r .line) (numberOf x ∷ valuesOf x))) o p a → Answered (answerOf file) (listingOf file) o p a
   refusal-answered x e =
       let q : answerOf file ≡ printed (r .line) (numberOf x ∷ valuesOf x) = rw (read .line) (answer-refused file (sym (read .says) ∙ ap code e)) in
       same-answer (sym q) (sym (listing-from file q))
 
-  pub check-answered : {o p : List ℕ} {a : FileAnswer} → r .outcome ≡ Accepted → Answered (codeOf (stateOf r)) (shownOf (stateOf r)) o p a → Answered (answerOf file) (listingOf file) o p a
+  pub check-answered : {o p : List ℕ} {a : FileAnswer} → r .outcome ≡ Accepted → Answered (codeOf (stateAt (r .loader) new)) (shownOf (stateAt (r .loader) new)) o p a → Answered (answerOf file) (listingOf file) o p a
   check-answered {o} {p} {a} e =
       let quiet = sym (read .says) ∙ ap code e in
       let c = as-checked file quiet in

@@ -1,7 +1,7 @@
 // The listing of a file.
 ghost use lib.ListN.{length};
 ghost use Rattle.listing.specs.Listing.{ListedAs, AnsweredAs};
-use file::read_file;
+use file::take_lines;
 use file_check::put_checked;
 use listing_refusal::FileAnswer;
 use listing_refusal::put_refusal;
@@ -11,11 +11,37 @@ use rules::Outcome;
 pub fn answer_file(file: &[u8], out: &mut [u8; 32768]) -> FileAnswer
     ensures { λ r. ⌜ AnsweredAs (now (file .entry)) (now (out .entry)) (now (out .exit)) r ⌝ }
 {
-    let collected = read_file(file);
-    let outcome = collected.outcome;
+    let mut matrix = [0i64; 1024];
+    let mut right = [0i64; 32];
+    let mut tolerance = [0i64; 32];
+    let mut guess = [0i64; 32];
+    let mut inverse = [0i64; 1024];
+    let mut weights = [0i64; 32];
+    let taken = take_lines(
+        file,
+        &mut matrix,
+        &mut right,
+        &mut tolerance,
+        &mut guess,
+        &mut inverse,
+        &mut weights,
+    );
+    let outcome = taken.outcome;
     match outcome {
-        Outcome::Refused(refusal) => put_refusal(out, refusal, collected.line),
-        Outcome::Accepted => put_checked(out, collected),
+        Outcome::Refused(refusal) => put_refusal(out, refusal, taken.line),
+        Outcome::Accepted => {
+            let loader = taken.loader;
+            put_checked(
+                out,
+                loader,
+                &matrix,
+                &right,
+                &tolerance,
+                &guess,
+                &inverse,
+                &weights,
+            )
+        }
     }
 }
 

@@ -33,10 +33,15 @@ fn put_digits(out: &mut [u8], at: usize, n: u64) -> usize
     last + 1
 }
 
+// The digits of n: one is written here, since most limits have one and a function that calls itself is never taken into its caller.
 pub fn put_natural(out: &mut [u8], at: usize, n: u64) -> usize
     requires { ⌜ at + 20 ≤ length (now out) ⌝ }
     ensures { λ r. ⌜ Wrote 20 (now (out .entry)) at (decimal n) (now (out .exit)) r ⌝ }
 {
+    if n < 10 {
+        out[at] = 48 + n as u8;
+        return at + 1;
+    }
     put_digits(out, at, n)
 }
 

@@ -109,12 +109,17 @@ pub fn is_misplaced(stage: Stage, n: u32, item: Item) -> bool
     }
 }
 
-// The set of a part.
+// The set of a part. Its index is a constant in each arm, here and in `with`, so that the five sets need not stand in memory.
 pub fn set_of(sets: [u32; 5], part: Part) -> u32
     ensures { λ r. ⌜ r ≡ setOf sets part ⌝ }
 {
-    let j = loader_values::part_index(part);
-    sets[j]
+    match part {
+        Part::Row => sets[0],
+        Part::Right => sets[1],
+        Part::Guess => sets[2],
+        Part::Inverse => sets[3],
+        Part::Weight => sets[4],
+    }
 }
 
 // Whether the form of a part for the number i, from 1, was given.
@@ -130,8 +135,23 @@ pub fn with(mut sets: [u32; 5], part: Part, i: u32) -> [u32; 5]
     requires { ⌜ (1 ≤ i) × (i ≤ 32) ⌝ }
     ensures { λ r. ⌜ r ≡ marked sets part i ⌝ }
 {
-    let j = loader_values::part_index(part);
-    sets[j] = loader_bit_set::with_place(sets[j], i - 1);
+    match part {
+        Part::Row => {
+            sets[0] = loader_bit_set::with_place(sets[0], i - 1);
+        }
+        Part::Right => {
+            sets[1] = loader_bit_set::with_place(sets[1], i - 1);
+        }
+        Part::Guess => {
+            sets[2] = loader_bit_set::with_place(sets[2], i - 1);
+        }
+        Part::Inverse => {
+            sets[3] = loader_bit_set::with_place(sets[3], i - 1);
+        }
+        Part::Weight => {
+            sets[4] = loader_bit_set::with_place(sets[4], i - 1);
+        }
+    }
     sets
 }
 
