@@ -1,7 +1,7 @@
 // How large a residual may be: the slack of its tolerance (02, Paper 5: "a slack S·d_m") and the sum of |A_kj| along its row (Paper 9: "the sum of |a| along
 // that row").
 ghost use mathlib.Core.Path.{_≡_};
-ghost use Prim.Native.Nat.{_+_, _≤_, _<_, _^_, ℕ, min};
+ghost use Prim.Native.Nat.{_+_, _*_, _≤_, _<_, _^_, ℕ, min};
 ghost use lib.IntN.{natAbs, pos};
 ghost use lib.ListN.{length, getD};
 ghost use Rattle.linear.specs.Slice.{at};
@@ -16,18 +16,18 @@ use integer::power;
 // Term j of a sum: sum + |a|, where a is number j of the row that starts at place row, by way of the place that was carried to it.
 fn add_magnitude(sum: u64, matrix: &[i64], row: usize, place: usize, j: usize) -> u64
     requires { ⌜ Carried row 1 j place ⌝ }
-    requires { ⌜ (row + j < length (now matrix)) × (natAbs (at (now matrix) (row + j)) ≤ 2 ^ 20) ⌝ }
+    requires { ⌜ (row + j < length (now matrix)) × (natAbs (at (now matrix) (row + j)) ≤ 2 ^ 46) ⌝ }
     requires { ⌜ sum ≤ 2 ^ 62 ⌝ }
     ensures { λ r. ⌜ r ≡ sum + natAbs (at (now (matrix .entry)) (row + j)) ⌝ }
 {
     sum + magnitude(matrix[place])
 }
 
-// The sum along row k, which starts at place row.
-fn row_sum(matrix: &[i64], k: usize, row: usize, n: usize) -> u64
+// The sum of the absolute values along row k, which starts at place row.
+pub fn row_sum(matrix: &[i64], k: usize, row: usize, n: usize) -> u64
     requires { ⌜ (n ≤ 32) × (k < n) ⌝ }
     requires { ⌜ Carried 0 n k row ⌝ }
-    requires { ⌜ MatrixList (now matrix) n ⌝ }
+    requires { ⌜ ColumnList (now matrix) (n * n) (2 ^ 46) ⌝ }
     ensures { λ r. ⌜ r ≡ rowSumOf n (now (matrix .entry)) k ⌝ }
 {
     let mut sum: u64 = 0;

@@ -15,6 +15,7 @@ ghost use Rattle.enclosure.specs.Problem.{problemOf};
 ghost use Rattle.check_arrays.specs.Parts.{columnResidual, cutMargin};
 ghost use Rattle.check_symmetry.specs.Symmetric.{Symmetric};
 ghost use Rattle.check_margins.specs.Load.{loadFrom};
+use check_allowances::row_sum;
 use check_defects::defects_of;
 use integer::first_or;
 use integer::magnitude;
@@ -39,7 +40,7 @@ fn weigh_at(sum: u64, defects: &[i64], row: usize, place: usize, w: i64, j: usiz
 }
 
 // The sum over j of |D_mj|·w_j; D stands row after row, row m from place row on.
-fn load_of(defects: &[i64], weights: &[i64], n: usize, m: usize, row: usize) -> u64
+fn weighted_load(defects: &[i64], weights: &[i64], n: usize, m: usize, row: usize) -> u64
     requires { ⌜ (n ≤ 32) × ((m < n) × Carried 0 n m row) ⌝ }
     requires { ⌜ ColumnList (now defects) (n * n) (2 ^ 46) ⌝ }
     requires { ⌜ ColumnList (now weights) n 1024 ⌝ }
@@ -54,15 +55,51 @@ fn load_of(defects: &[i64], weights: &[i64], n: usize, m: usize, row: usize) -> 
     sum
 }
 
+// Whether all weights are 1, which saves a product a number.
+fn all_ones(weights: &[i64], n: usize) -> bool
+    requires { ⌜ (n ≤ 32) × (n ≤ length (now weights)) ⌝ }
+    ensures { λ r. ⌜ (r ≡ true → (j : ℕ) → j < n → natAbs (at (now (weights .entry)) j) ≡ 1) ⌝ }
+{
+    for j in 0..n {
+        if weights[j] != 1 {
+            return false;
+        }
+    }
+    true
+}
+
+// The load of row m, where `ones` tells that all weights are 1.
+fn load_of(defects: &[i64], weights: &[i64], ones: bool, n: usize, m: usize, row: usize) -> u64
+    requires { ⌜ (n ≤ 32) × ((m < n) × Carried 0 n m row) ⌝ }
+    requires { ⌜ ColumnList (now defects) (n * n) (2 ^ 46) ⌝ }
+    requires { ⌜ ColumnList (now weights) n 1024 ⌝ }
+    requires { ⌜ (ones ≡ true → (j : ℕ) → j < n → natAbs (at (now weights) j) ≡ 1) ⌝ }
+    ensures { λ r. ⌜ r ≡ loadFrom n (now (defects .entry)) (now (weights .entry)) m ⌝ }
+{
+    if ones {
+        return row_sum(defects, m, row, n);
+    }
+    weighted_load(defects, weights, n, m, row)
+}
+
 // The margin of row m, 0 where it is 0 or less.
-fn margin_of(t: u32, defects: &[i64], weights: &[i64], n: usize, m: usize, row: usize) -> u64
+fn margin_of(
+    t: u32,
+    defects: &[i64],
+    weights: &[i64],
+    ones: bool,
+    n: usize,
+    m: usize,
+    row: usize,
+) -> u64
     requires { ⌜ (t ≤ 20) × ((n ≤ 32) × ((m < n) × Carried 0 n m row)) ⌝ }
     requires { ⌜ ColumnList (now defects) (n * n) (2 ^ 46) ⌝ }
     requires { ⌜ ColumnList (now weights) n 1024 ⌝ }
+    requires { ⌜ (ones ≡ true → (j : ℕ) → j < n → natAbs (at (now weights) j) ≡ 1) ⌝ }
     ensures { λ r. ⌜ r ≡ 2 ^ t * natAbs (at (now (weights .entry)) m) - loadFrom n (now (defects .entry)) (now (weights .entry)) m ⌝ }
 {
     let full = power(t) * magnitude(weights[m]);
-    let sum = load_of(defects, weights, n, m, row);
+    let sum = load_of(defects, weights, ones, n, m, row);
     if sum < full { full - sum } else { 0 }
 }
 
@@ -74,10 +111,11 @@ fn margins_from(t: u32, defects: &[i64], weights: &[i64], n: usize) -> [u64; 32]
     ensures { λ r. ⌜ PrefixIs 0 r n
         (λ (m : ℕ). 2 ^ t * natAbs (at (now (weights .entry)) m) - loadFrom n (now (defects .entry)) (now (weights .entry)) m) ⌝ }
 {
+    let ones = all_ones(weights, n);
     let mut out = [0u64; 32];
     let mut row = 0;
     for m in 0..n {
-        out[m] = margin_of(t, defects, weights, n, m, row);
+        out[m] = margin_of(t, defects, weights, ones, n, m, row);
         row += n;
     }
     out

@@ -8,6 +8,7 @@ use Rattle.check_arrays.specs.Arrays.{PrefixIs}
 use Rattle.check_arrays.proofs.Filled.{prefix-none, prefix-more, prefix-end}
 use Rattle.linear.proofs.Places.{row-ends}
 use Rattle.check_allowances.specs.Sum.{rowSumOf}
+use Rattle.check_allowances.proofs.Magnitudes.{matrix-within}
 use borrow.Author.Needs.{needs}
 use Rattle.check_allowances.proofs.row_sums_of.Statement.{statement}
 use Rattle.check_allowances.proofs.row_sums_of.Tie as tie
@@ -23,7 +24,7 @@ loop-holds c = (omega arith, (carried-first _ _, (refl, prefix-none _ _ _)))
 
 row-sum-requires : tie.Need-row-sum-requires Inv-loop μ-loop
 row-sum-requires c κs =
-    let s = c .before .before in ((s .pre .0, c .loop-test .taken), (c .before .loop .inv .1 .0, s .pre .1))
+    let s = c .before .before in ((s .pre .0, c .loop-test .taken), (c .before .loop .inv .1 .0, matrix-within (s .pre .1)))
 
 mul-out : tie.Need-mul-out Inv-loop μ-loop
 mul-out c = search needs

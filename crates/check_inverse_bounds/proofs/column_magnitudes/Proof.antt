@@ -28,6 +28,10 @@ half c = c .before .before .before .before
 abbrev biased : tie.After-read-across → tie.After-bias-row
 biased c = c .before .before .before .before
 
+-- the test, from the last lending where it is not
+abbrev tested : tie.After-work-out-arg8 → tie.Else1
+tested c = c .before .before .before .before
+
 row-is : (r : tie.After-bias-row) →
     let s = start r .args in RowOf (r .bias-row .last .0) (0 * (s .n + 1)) (s .n) (λ (k : ℕ). at (s .residuals .now) (s .j * s .n + k))
 row-is r =
@@ -86,7 +90,7 @@ returns c =
 
 work-out-requires-2 : tie.Need-work-out-requires-2
 work-out-requires-2 c κs =
-    let r = c .before .before .before .before .before in
+    let r = tested c .before in
     let s = start r in
     let p = s .pre in
     let e = start-place (p .1 .0 .1) in (
@@ -99,7 +103,7 @@ same-length-2 c = search needs
 
 returns-2 : tie.Need-returns-2
 returns-2 c =
-    let t = c .before .before .before .before .before .before .before in
+    let t = tested (c .before .before .before) in
     let r = t .before in
     let s = start r in (
       (c .before .before .work-out2 .ensures .0, long r),

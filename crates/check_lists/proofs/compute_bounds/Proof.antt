@@ -5,7 +5,7 @@ use borrow.Author.Needs.{needs}
 use Rattle.check_lists.proofs.compute_bounds.Statement.{statement}
 use Rattle.check_lists.proofs.compute_bounds.Tie as tie
 
--- stages on the way: the test of n, from the lists of each length, and the reckoning, from where they are back
+-- stages on the way: the test of n, from the lists of each length, the start from the first such test, and the reckoning, from where they are back
 abbrev few : tie.After-magnitudes → tie.Then1
 few c = c .before .before .before
 
@@ -14,6 +14,9 @@ some c = c .before .before .before
 
 abbrev many : tie.After-magnitudes5 → tie.Else2
 many c = c .before .before .before
+
+abbrev begun : tie.Else1 → tie.Start
+begun c = c .before .before .before
 
 abbrev computed : tie.After-magnitudes2 → tie.After-compute-bounds-in
 computed c = c .before .before .before
@@ -61,7 +64,7 @@ slice-aggregate-compute-bounds-in-6 : tie.Need-slice-aggregate-compute-bounds-in
 slice-aggregate-compute-bounds-in-6 c = search needs
 
 compute-bounds-in-requires-2 : tie.Need-compute-bounds-in-requires-2
-compute-bounds-in-requires-2 c κs = let t = some (c .before .before) in (room (t .if2 .taken), t .before .before .before .before .pre)
+compute-bounds-in-requires-2 c κs = let t = some (c .before .before) in (room (t .if2 .taken), begun (t .before) .pre)
 
 same-length-3 : tie.Need-same-length-3
 same-length-3 c = search needs
@@ -82,7 +85,7 @@ slice-aggregate-compute-bounds-in-9 : tie.Need-slice-aggregate-compute-bounds-in
 slice-aggregate-compute-bounds-in-9 c = search needs
 
 compute-bounds-in-requires-3 : tie.Need-compute-bounds-in-requires-3
-compute-bounds-in-requires-3 c κs = let s = many (c .before .before) .before .before .before .before in (room (s .pre .few), s .pre)
+compute-bounds-in-requires-3 c κs = let s = begun (many (c .before .before) .before) in (room (s .pre .few), s .pre)
 
 same-length-5 : tie.Need-same-length-5
 same-length-5 c = search needs

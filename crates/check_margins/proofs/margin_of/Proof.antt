@@ -11,7 +11,7 @@ use Rattle.check_margins.proofs.margin_of.Statement.{statement}
 use Rattle.check_margins.proofs.margin_of.Tie as tie
 
 weight-small : (c : tie.After-magnitude-arg) → natAbs (at (c .before .before .args .weights .now) (c .before .before .args .m)) ≤ 1024
-weight-small c = let s = c .before .before in s .pre .1 .1 .within .magnitudes (s .args .m) (s .pre .0 .1 .1 .0)
+weight-small c = let s = c .before .before in s .pre .1 .1 .0 .within .magnitudes (s .args .m) (s .pre .0 .1 .1 .0)
 
 module _ (c : tie.After-magnitude) where
   weight-is : let s = c .before .before .before in c .magnitude .result ≡ natAbs (at (s .args .weights .now) (s .args .m))

@@ -15,11 +15,14 @@ use Rattle.check_margins.proofs.margins_from.Statement.{statement}
 use Rattle.check_margins.proofs.margins_from.Tie as tie
 
 abbrev Inv-loop : tie.InvT-loop
-Inv-loop t defects weights n out₀ row₀ m₀ out row m =
+Inv-loop t defects weights n ones out₀ row₀ m₀ out row m =
     (m ≤ n) × (Carried 0 n m row × ((length out ≡ 32) × PrefixIs 0 out m (λ (k : ℕ). 2 ^ t * natAbs (at weights k) - loadFrom n defects weights k)))
 
 abbrev μ-loop : tie.MeasureT-loop
-μ-loop t defects weights n out₀ row₀ m₀ out row m = n - m
+μ-loop t defects weights n ones out₀ row₀ m₀ out row m = n - m
+
+all-ones-requires : tie.Need-all-ones-requires Inv-loop μ-loop
+all-ones-requires c κs = (c .pre .0 .1, c .pre .1 .1 .long)
 
 loop-holds : tie.Need-loop-holds Inv-loop μ-loop
 loop-holds c = (omega arith, (carried-first _ _, (refl, prefix-none _ _ _)))
@@ -27,8 +30,9 @@ loop-holds c = (omega arith, (carried-first _ _, (refl, prefix-none _ _ _)))
 margin-of-requires : tie.Need-margin-of-requires Inv-loop μ-loop
 margin-of-requires c κs =
     let l = c .before .loop in
-    let p = c .before .before .pre in
-    ((p .0 .0, (p .0 .1, (c .loop-test .taken, l .inv .1 .0))), p .1)
+    let a = c .before .before in
+    let p = a .before .pre in
+    ((p .0 .0, (p .0 .1, (c .loop-test .taken, l .inv .1 .0))), (p .1 .0, (p .1 .1, a .all-ones .ensures)))
 
 mul-out : tie.Need-mul-out Inv-loop μ-loop
 mul-out c = search needs
@@ -37,7 +41,7 @@ array-write-out : tie.Need-array-write-out Inv-loop μ-loop
 array-write-out c = search needs
 
 add-row : tie.Need-add-row Inv-loop μ-loop
-add-row c = let t = c .before in omega (arith, t .before .loop .inv .1 .0 .is, row-ends (t .loop-test .taken) (t .before .before .pre .0 .1))
+add-row c = let t = c .before in omega (arith, t .before .loop .inv .1 .0 .is, row-ends (t .loop-test .taken) (t .before .before .before .pre .0 .1))
 
 add-m : tie.Need-add-m Inv-loop μ-loop
 add-m c = search needs
@@ -64,6 +68,7 @@ margins-from-spec =
     (tie.spec
     Inv-loop
     μ-loop
+    all-ones-requires
     loop-holds
     margin-of-requires
     mul-out
