@@ -43,7 +43,7 @@ def another_user():
 def tests_of(*modules, of="box"):
     """The functions of these modules whose one parameter is `box`, or has the other name, in their order."""
     for module in modules:
-        for function in vars(module).values():
+        for function in list(vars(module).values()):
             if inspect.isfunction(function) and function.__module__ == module.__name__ and list(inspect.signature(function).parameters) == [of]:
                 yield function
 
