@@ -14,7 +14,7 @@ use Rattle.loader_runs.specs.Lines.{linesOf}
 use Rattle.loader_runs.specs.Read.{readingOf}
 use Rattle.loader_runs.specs.Run.{forms}
 use Rattle.listing_refusal.specs.declared.FileAnswer.{FileAnswer}
-use Rattle.file_check.proofs.Forms.{some, heavy}
+use Rattle.file_check.proofs.Forms.{n-pos, heavy}
 use Rattle.listing.specs.Listing.{problemIn, answerOf, ListedAs, AnsweredAs}
 use Rattle.listing.specs.Complete.{Complete}
 use Rattle.listing.proofs.Demand.{accepted-parts, exact-accepted}
@@ -31,7 +31,7 @@ module _ (file : List ℕ) where
       let u = readingOf file .state in
       let f = from file (c .lines) (c .end) in
       let r = inside file (c .lines) (c .end) in
-      limits-good (problemIn file) (some u (forms (linesOf file)) f r) (heavy u (forms (linesOf file)) f r) (code-sound (problemIn file) (a .quiet) .margins)
+      limits-good (problemIn file) (n-pos u (forms (linesOf file)) f r) (heavy u (forms (linesOf file)) f r) (code-sound (problemIn file) (a .quiet) .margins)
 
   pub file-one-step : Complete file → (N : Vec) (q : ℕ) (H : Mat) (q′ : ℕ) → FineRounded (problemIn file) N q H q′ →
       (answerOf file ≡ []) × OneStep (problemIn file .n) (bound (problemIn file)) (inverseBound (problemIn file))

@@ -36,10 +36,10 @@ use Rattle.good_limits.proofs.Good.{limits-good, good-as}
 pub written-good : (P : Problem) (E₀ : ℕ → ℕ) (L₀ : ℕ → ℕ → ℕ) (oldE oldL : List ℕ) → P .n ≤ 32 → 32 ≤ length oldE → 1024 ≤ length oldL → {E L : List ℕ} →
     E ≡ written oldE 0 1 E₀ (P .n) → L ≡ written oldL 0 1 (λ (k : ℕ). L₀ (k / P .n) (k % P .n)) (P .n * P .n) →
     Good P E₀ L₀ → Good P (λ (i : ℕ). getD E i 0) (λ (i j : ℕ). getD L (i * P .n + j) 0)
-written-good P E₀ L₀ oldE oldL few e l {E} {L} hE hL =
+written-good P E₀ L₀ oldE oldL n-max e l {E} {L} hE hL =
     good-as P E₀ (λ (i : ℕ). getD E i 0) L₀ (λ (i j : ℕ). getD L (i * P .n + j) 0)
-    (λ i li. rw hE (front-at oldE E₀ 0 (P .n) i li (omega (arith, few, e))))
-    (λ i j li lj. rw hL (front-at oldL (λ (k : ℕ). L₀ (k / P .n) (k % P .n)) 0 (P .n * P .n) (i * P .n + j) (place li lj) (omega (arith, square few, l))
+    (λ i li. rw hE (front-at oldE E₀ 0 (P .n) i li (omega (arith, n-max, e))))
+    (λ i j li lj. rw hL (front-at oldL (λ (k : ℕ). L₀ (k / P .n) (k % P .n)) 0 (P .n * P .n) (i * P .n + j) (place li lj) (omega (arith, square n-max, l))
     ∙ rw (place-column i j (P .n) lj, place-row i j (P .n) lj)))
 
 -- what an accepted check leaves, whichever tests came before
@@ -49,8 +49,8 @@ check-good I e hE hL =
     let u = accepted-usable I e in
     let fit = fit-of I (u .long) (u .inside) in
     let P : Problem = problem I in
-    written-good P (bound P) (inverseBound P) (I .solutionBounds) (I .inverseBounds) (fit .few) (fit .solution-long) (fit .inverse-long) hE hL
-    (limits-good P (fit .some) (fit .heavy) (code-sound P (sym (answer-ready I (u .long) (u .inside)) ∙ e) .margins))
+    written-good P (bound P) (inverseBound P) (I .solutionBounds) (I .inverseBounds) (fit .n-max) (fit .solution-long) (fit .inverse-long) hE hL
+    (limits-good P (fit .n-pos) (fit .heavy) (code-sound P (sym (answer-ready I (u .long) (u .inside)) ∙ e) .margins))
 
 -- ---- lists
 module _ (I : Input) (r : Outcome) (E L : List ℕ) (x : Checked I r E L) where

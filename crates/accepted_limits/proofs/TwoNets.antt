@@ -56,7 +56,7 @@ module _ (D : DependentNet) where
       let p = passed-of D h in
       let fit = own-fit D (p .usable) in
       good-as (dependentInSteps D) (bound (dependentInSteps D)) (dependentBound D) (inverseBound (dependentInSteps D)) (inverseBound (ownProblem D)) (λ i l. sym (steps-bound i)) (λ i j li lj. refl)
-      (limits-good (dependentInSteps D) (fit .some) (fit .heavy) (steps-margins (p .margins)))
+      (limits-good (dependentInSteps D) (fit .n-pos) (fit .heavy) (steps-margins (p .margins)))
 
 -- ---- both nets
 module _ (J : Nets) where
@@ -77,7 +77,7 @@ module _ (J : Nets) where
         main = check-good (J .main) m (x .main-solution ∙ accepted-new _ _ j) (x .main-inverse ∙ accepted-new _ _ j);
         dependent =
             written-good (dependentInSteps (dependentOf J)) (dependentBound (dependentOf J)) (inverseBound (ownProblem (dependentOf J))) (J .dependent .solutionBounds) (J .dependent .inverseBounds)
-            (fit .few) (fit .solution-long) (fit .inverse-long) (x .dependent-solution ∙ accepted-new _ _ j) (x .dependent-inverse ∙ accepted-new _ _ j)
+            (fit .n-max) (fit .solution-long) (fit .inverse-long) (x .dependent-solution ∙ accepted-new _ _ j) (x .dependent-inverse ∙ accepted-new _ _ j)
             (steps-good (dependentOf J) d);
       }
 

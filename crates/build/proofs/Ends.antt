@@ -29,11 +29,11 @@ pub long-right : (layout : Layout) (a b : List ℤ) → shortFor layout a b ≡ 
 long-right layout a b e = ltb-false (length b) 32 (neither-right (shortAs layout (length a)) (shortColumn (length b)) e)
 
 room-as : (layout : Layout) (n k : ℕ) → n ≤ 32 → shortAs layout k ≡ false → sumℕ n (widthOf layout n) ≤ k
-room-as Square n k few e = omega (arith, square-start n n, square few, ltb-false k 1024 e)
-room-as Lower n k few e = omega (arith, lower-start n n, count-few few, ltb-false k 528 e)
+room-as Square n k n-max e = omega (arith, square-start n n, square n-max, ltb-false k 1024 e)
+room-as Lower n k n-max e = omega (arith, lower-start n n, count-few n-max, ltb-false k 528 e)
 
 pub matrix-room : (layout : Layout) (n : ℕ) (a b : List ℤ) → n ≤ 32 → shortFor layout a b ≡ false → sumℕ n (widthOf layout n) ≤ length a
-matrix-room layout n a b few e = room-as layout n (length a) few (neither-left (shortAs layout (length a)) (shortColumn (length b)) e)
+matrix-room layout n a b n-max e = room-as layout n (length a) n-max (neither-left (shortAs layout (length a)) (shortColumn (length b)) e)
 
 module _ (g : Gathered) (layout : Layout) (a b : List ℤ) where
   pub finish-done : g .progress .status ≡ Done → {a′ b′ : List ℤ} → a′ ≡ matrixWritten layout (g .progress .n) (keptMatrix g) a → b′ ≡ rightWritten (g .progress .n) (keptRight g) b → Finished g layout a b Done a′ b′

@@ -68,24 +68,24 @@ module _ (n : ℕ) (ls : List Observation) (layout : Layout) (a b : List ℤ) {r
 
     pub right-in-check-range : allInRange kind.Right n (at b′) ≡ true
     right-in-check-range =
-        all-in kind.Right n (at b′) (λ i m. subst (λ (z : ℤ). inRange kind.Right z ≡ true) (sym (right-held i m)) (right-in-range n ls (fitting .1) (fitting .0 .few) i))
+        all-in kind.Right n (at b′) (λ i m. subst (λ (z : ℤ). inRange kind.Right z ≡ true) (sym (right-held i m)) (right-in-range n ls (fitting .1) (fitting .0 .count-max) i))
 
     -- a list that has the built matrix at i·n + j
     pub matrix-in-check-range : (A : List ℤ) → ((i j : ℕ) → i < n → j < n → at A (i * n + j) ≡ builtMatrix ls i j) → allInRange kind.Matrix (n * n) (at A) ≡ true
     matrix-in-check-range A h =
-        all-in kind.Matrix (n * n) (at A) (λ p m. subst (λ (z : ℤ). inRange kind.Matrix z ≡ true) (sym (place p m)) (matrix-in-range n ls (fitting .1) (fitting .0 .few) (p / n) (p % n)))
+        all-in kind.Matrix (n * n) (at A) (λ p m. subst (λ (z : ℤ). inRange kind.Matrix z ≡ true) (sym (place p m)) (matrix-in-range n ls (fitting .1) (fitting .0 .count-max) (p / n) (p % n)))
       where
-        some : (p : ℕ) → p < n * n → 0 < n
-        some p m = omega (arith, size-range n (fitting .0 .size) .0)
+        n-pos : (p : ℕ) → p < n * n → 0 < n
+        n-pos p m = omega (arith, size-range n (fitting .0 .size) .0)
 
         place : (p : ℕ) → p < n * n → at A p ≡ builtMatrix ls (p / n) (p % n)
-        place p m = ap (at A) (sym (div-add-mod' p n)) ∙ h (p / n) (p % n) (div-lt-iff-lt-mul (some p m) .1 m) (mod-lt p (some p m))
+        place p m = ap (at A) (sym (div-add-mod' p n)) ∙ h (p / n) (p % n) (div-lt-iff-lt-mul (n-pos p m) .1 m) (mod-lt p (n-pos p m))
 
 module _ (n : ℕ) (ls : List Observation) (a b : List ℤ) {r : Built} {a′ b′ : List ℤ} (built : BuiltAs n ls Square a b r a′ b′) (done : buildCode r ≡ []) where
   pub held : HeldSquare n ls a b a′ b′
   held =
-      let few = few-rows n ls Square a b built done in
-      let fits : n * n ≤ length a = omega (arith, square-start n n, matrix-room Square n a b few (fitting n ls Square a b built done .0 .long)) in
+      let n-max = few-rows n ls Square a b built done in
+      let fits : n * n ≤ length a = omega (arith, square-start n n, matrix-room Square n a b n-max (fitting n ls Square a b built done .0 .long)) in
       record {
         matrix = λ i j p q. ap (λ (l : List ℤ). at l (i * n + j)) (new-matrix n ls Square a b built done) ∙ square-at n (builtMatrix ls) a fits i j p q;
         right = right-held n ls Square a b built done;
@@ -98,8 +98,8 @@ module _ (n : ℕ) (ls : List Observation) (a b : List ℤ) {r : Built} {a′ b�
 
 pub repeated-built : (n : ℕ) (l : Observation) (xs ys : List Observation) (layout : Layout) (a b : List ℤ) {r s : Built} {a′ b′ a″ b″ : List ℤ} →
     BuiltAs n (xs ++ ys) layout a b r a′ b′ → buildCode r ≡ [] → Among l (xs ++ ys) → length (xs ++ l ∷ ys) ≤ 256 → BuiltAs n (xs ++ l ∷ ys) layout a b s a″ b″ → (buildCode s ≡ []) × (a″ ≡ a′) × (b″ ≡ b′)
-repeated-built n l xs ys layout a b f done i few g =
-    let same = repeated-builds n (shortFor layout a b) l xs ys (sym (f .says) ∙ done) i few in
+repeated-built n l xs ys layout a b f done i count-max g =
+    let same = repeated-builds n (shortFor layout a b) l xs ys (sym (f .says) ∙ done) i count-max in
     let again = g .says ∙ same .builds in (
       again,
       new-matrix n (xs ++ l ∷ ys) layout a b g again ∙ rows-ext (widthOf layout n) n (builtMatrix (xs ++ l ∷ ys)) (builtMatrix (xs ++ ys)) a (same .matrix) ∙ sym (new-matrix n (xs ++ ys) layout a b f done),

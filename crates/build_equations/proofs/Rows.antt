@@ -44,7 +44,7 @@ module _ (seen : List ℕ) (k : ℕ) where
   }
     where
       most : (f : ℕ → ℤ) → ((i : ℕ) → i < p → natAbs (f i) ≤ 2 ^ 22) → natAbs (sum p f) ≤ 2 ^ 30
-      most f s = omega (arith, abs-sum≤ p (2 ^ 22) f s, mul-le-mul-right {m = p} {n = 256} (2 ^ 22) (omega (arith, lines .few)))
+      most f s = omega (arith, abs-sum≤ p (2 ^ 22) f s, mul-le-mul-right {m = p} {n = 256} (2 ^ 22) (omega (arith, lines .count-max)))
 
 module _ (g : Gathered) (i : ℕ) {r : Row} (o : RowSums (g .seen) (i + 1) (g .progress .count) r) where
   pub row-matrix : (j : ℕ) → j < 32 → at (r .sums) (j + 1) ≡ keptMatrix g i j

@@ -124,7 +124,7 @@ module _ (k : ℕ) (l : Observation) (proper : Proper l) where
     gain-from = rw (ne-eqb (l .to) k e, eq-eqb (l .«from») k here) (+ℤ-idl (negℤ (weightedDifference l)))
 
 -- ---- a whole row
-module _ (k : ℕ) (l : Observation) (proper : Proper l) (few : k ≤ 32) (row : Row) (long : length (row .sums) ≡ 33) where
+module _ (k : ℕ) (l : Observation) (proper : Proper l) (n-max : k ≤ 32) (row : Row) (long : length (row .sums) ≡ 33) where
   abbrev twice : ℕ → List ℤ
   twice other = set (set (row .sums) k (at (row .sums) k +ℤ pos (l .weight))) other (at (row .sums) other -ℤ pos (l .weight))
 

@@ -30,15 +30,15 @@ use Rattle.build_gathering.proofs.Places.{with-length, with-other, with
 
 -- a line is kept at a place
 pub record MetLine (g : Gathered) (e : Observation) : Type 0 where
-  pub place : ℕ
-  pub below : place < g .progress .count
-  pub is : keptAt g place ≡ e
+  pub index : ℕ
+  pub below : index < g .progress .count
+  pub is : keptAt g index ≡ e
 
 pub record Follows (n : ℕ) (es : List Observation) (g : Gathered) : Type 0 where
   pub size : g .progress .n ≡ n
   pub done : g .progress .status ≡ Done
   pub long : length (g .seen) ≡ 1280
-  pub few : g .progress .count ≤ 256
+  pub count-max : g .progress .count ≤ 256
   pub lines : g .progress .lines ≡ length es
   pub among : (p : ℕ) → p < g .progress .count → Among (keptAt g p) es
   pub met : (e : Observation) → Among e es → MetLine g e
@@ -51,7 +51,7 @@ pub data LineStep (n : ℕ) (es : List Observation) (g : Gathered) (l : Observat
 
 module _ (n : ℕ) (es : List Observation) (g : Gathered) (l : Observation) (fol : Follows n es g) (room : g .progress .count < 256) (early : g .progress .lines < 256) where
   pub all : g .progress .count ≡ places (g .progress .count)
-  all = omega (arith, fol .few)
+  all = omega (arith, fol .count-max)
 
   next : min (g .progress .lines + 1) 256 ≡ length (l ∷ es)
   next = omega (arith, fol .lines)
@@ -64,10 +64,10 @@ module _ (n : ℕ) (es : List Observation) (g : Gathered) (l : Observation) (fol
         size = fol .size;
         done = fol .done;
         long = fol .long;
-        few = fol .few;
+        count-max = fol .count-max;
         lines = next;
         among = λ p h. there (fol .among p h);
-        met = λ d j. either j (λ p. record { place = i; below = b; is = e ∙ sym p }) (λ k. let m = fol .met d k in record { place = m .place; below = m .below; is = m .is });
+        met = λ d j. either j (λ p. record { index = i; below = b; is = e ∙ sym p }) (λ k. let m = fol .met d k in record { index = m .index; below = m .below; is = m .is });
         one = λ x y j k. fol .one x y (own x j) (own y k);
         good = λ x j. fol .good x (own x j);
       }))
@@ -101,10 +101,10 @@ module _ (n : ℕ) (es : List Observation) (g : Gathered) (l : Observation) (fol
         size = fol .size;
         done = fol .done;
         long = with-length (g .seen) (g .progress .count) l ∙ fol .long;
-        few = omega arith;
+        count-max = omega arith;
         lines = next;
         among = λ p b. upto (λ (q : ℕ). Among (keptAt grown q) (l ∷ es)) (g .progress .count) p (omega arith) (λ q c. rw (old q c) (there (fol .among q c))) (rw (last good) here);
-        met = λ d j. either j (λ p. record { place = g .progress .count; below = omega arith; is = last good ∙ sym p }) (λ k. let m = fol .met d k in record { place = m .place; below = omega (arith, m .below); is = old (m .place) (m .below) ∙ m .is });
+        met = λ d j. either j (λ p. record { index = g .progress .count; below = omega arith; is = last good ∙ sym p }) (λ k. let m = fol .met d k in record { index = m .index; below = omega (arith, m .below); is = old (m .index) (m .below) ∙ m .is });
         one = one;
         good = λ x j. either j (λ p. subst (Passes n) (sym p) good) (fol .good x);
       }))

@@ -63,7 +63,7 @@ pub record GatheringAs (n : ℕ) (es ls : List Observation) (g r : Gathered) : T
   pub says : buildCode (r .progress .status) ≡ observationsSay n es ls
   pub line : lineNumberOf r ≡ refusedFrom n (g .progress .lines) es ls
   pub size : r .progress .n ≡ n
-  pub few : buildCode (r .progress .status) ≡ [] → r .progress .count ≤ 256
+  pub count-max : buildCode (r .progress .status) ≡ [] → r .progress .count ≤ 256
   pub good : buildCode (r .progress .status) ≡ [] → (p : ℕ) → p < r .progress .count → Passes n (keptAt r p)
   pub sums : buildCode (r .progress .status) ≡ [] → (f : Observation → ℤ) → keptSum f r ≡ keptSum f g +ℤ total f (distinctAfter es ls)
 
@@ -73,7 +73,7 @@ gathers n es [] g fol room early = record {
   says = ap buildCode (fol .done);
   line = ap (λ (t : Built). cond (isRefused t) (g .progress .lines) 0) (fol .done);
   size = fol .size;
-  few = λ e. fol .few;
+  count-max = λ e. fol .count-max;
   good = λ e p b. fol .good (keptAt g p) (fol .among p b);
   sums = λ e f. unfold distinctAfter total in sym (+ℤ-idr (keptSum f g));
 }
@@ -90,7 +90,7 @@ gathers n es (l ∷ ls) g fol room early = go (step n es g l fol (omega arith) (
           says = e₁ ∙ sym (rw (s, e));
           line = j ∙ sym (rw (s, e));
           size = unfold saying in fol .size;
-          few = λ p. absurd (nothing-is-not (sym e₁ ∙ p));
+          count-max = λ p. absurd (nothing-is-not (sym e₁ ∙ p));
           good = λ p. absurd (nothing-is-not (sym e₁ ∙ p));
           sums = λ p. absurd (nothing-is-not (sym e₁ ∙ p));
         })
@@ -101,7 +101,7 @@ gathers n es (l ∷ ls) g fol room early = go (step n es g l fol (omega arith) (
           says = o .says ∙ sym (rw s);
           line = o .line ∙ ap (λ (k : ℕ). refusedFrom n k (l ∷ es) ls) next ∙ sym (rw s);
           size = o .size;
-          few = o .few;
+          count-max = o .count-max;
           good = o .good;
           sums = λ e f.
               o .sums e f ∙ ap (λ (z : ℤ). z +ℤ total f (distinctAfter (l ∷ es) ls)) (sum f) ∙ +ℤ-assoc (keptSum f g) (share f es l) (total f (distinctAfter (l ∷ es) ls))

@@ -106,12 +106,12 @@ module _ (seen : List ℕ) (p : ℕ) (l : Observation) where
 
   pub with-same : length seen ≡ 1280 → p < 256 → natAbs (l .difference) ≤ 2 ^ 16 → lineAt (withLine seen p l) p ≡ l
   unfolding withLine lineAt
-  with-same long h few =
+  with-same long h count-max =
       rw (
         first-is seen p (l .key) (l .«from») (l .to) counted (l .weight) long h,
         second-is seen p (l .key) (l .«from») (l .to) counted (l .weight) long h,
         third-is seen p (l .key) (l .«from») (l .to) counted (l .weight) long h,
         fourth-is seen p (l .key) (l .«from») (l .to) counted (l .weight) long h,
         fifth-is seen p (l .key) (l .«from») (l .to) counted (l .weight) long h,
-        lowest-back (l .difference) few,
+        lowest-back (l .difference) count-max,
       )

@@ -56,7 +56,7 @@ module _ (n : ℕ) (es : List Observation) (g : Gathered) (l : Observation) (fol
           none true c =
               let x = has-line es (l .key) c in
               let m = fol .met (x .line) (x .among) in
-              absurd (clash (test (m .place)) (eq-eqb (keyAt (g .seen) (m .place)) (l .key) (key-of (m .place) (m .is) ∙ x .key)) (h (m .place) (m .below)))
+              absurd (clash (test (m .index)) (eq-eqb (keyAt (g .seen) (m .index)) (l .key) (key-of (m .index) (m .is) ∙ x .key)) (h (m .index) (m .below)))
 
       at : (o : Bool) → outsideRange n l ≡ o → (s : Bool) → sameMark l ≡ s → LineStep n es g l
       at true o s p = refused (Refused OutOfRange) 3 [] refl (taken-is (taken-outside (counted g) l (own o) refl)) (rw o)

@@ -53,7 +53,7 @@ begun n k short d = record {
   size = refl;
   done = d;
   long = length-replicate {A = ℕ} 1280 0;
-  few = omega arith;
+  count-max = omega arith;
   lines = refl;
   among = λ p b. absurd (omega arith);
   met = λ e i. nobody i;
@@ -87,7 +87,7 @@ module _ (n k : ℕ) (short : Bool) where
 
   opening-done : Admitted n k short → opened n k short .progress .status ≡ Done
   unfolding openingProgress openedAs
-  opening-done u = rw (u .long, u .size, le-leb k 256 (u .few))
+  opening-done u = rw (u .long, u .size, le-leb k 256 (u .count-max))
 
   opening-size : opened n k short .progress .n ≡ n
   unfolding openingProgress
@@ -145,8 +145,8 @@ module _ (n : ℕ) (ls : List Observation) (short : Bool) where
           let z = size-range n (u .size) in
           let c = none-counted n (length ls) short in
           let k = none-looked n (length ls) short in
-          let r : gatheredOf ≡ folded start ls = ap (λ (b : Built). gathered start ls (few b (length ls))) t ∙ ap (gathered start ls) (few-all (length ls) (u .few)) ∙ gathered-folded start ls in
-          let o = gathers n [] ls start (begun n (length ls) short t) (omega (arith, c, u .few)) (omega (arith, k, u .few)) in
+          let r : gatheredOf ≡ folded start ls = ap (λ (b : Built). gathered start ls (few b (length ls))) t ∙ ap (gathered start ls) (few-all (length ls) (u .count-max)) ∙ gathered-folded start ls in
+          let o = gathers n [] ls start (begun n (length ls) short t) (omega (arith, c, u .count-max)) (omega (arith, k, u .count-max)) in
           let w : GatheringAs n [] ls start gatheredOf = subst (GatheringAs n [] ls start) (sym r) o in
           record {
             says = w .says ∙ (unfold buildAnswer in ap (λ (v : List ℕ). orElse v (observationsSay n [] ls)) (sym e));
@@ -157,9 +157,9 @@ module _ (n : ℕ) (ls : List Observation) (short : Bool) where
               ready = λ d.
                   let q = ap buildCode d in
                   record {
-                    some = rw (w .size) (z .0);
+                    n-pos = rw (w .size) (z .0);
                     size = rw (w .size) (z .1);
-                    lines = record { few = w .few q; proper = λ p b. properOf n (keptAt gatheredOf p) (z .1) (w .good q p b) };
+                    lines = record { count-max = w .count-max q; proper = λ p b. properOf n (keptAt gatheredOf p) (z .1) (w .good q p b) };
                   };
             };
             sums = λ d f. w .sums d f ∙ ap (λ (x : ℤ). x +ℤ total f (distinct ls)) (none f c) ∙ +ℤ-idl (total f (distinct ls));

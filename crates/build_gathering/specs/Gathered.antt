@@ -129,11 +129,11 @@ pub record Proper (l : Observation) : Type 0 where
   pub difference : natAbs (l .difference) ≤ 2 ^ 16
 
 pub record ProperLines (seen : List ℕ) (c : ℕ) : Type 0 where
-  pub few : c ≤ 256
+  pub count-max : c ≤ 256
   pub proper : (p : ℕ) → p < c → Proper (lineAt seen p)
 
 pub record Ready (g : Gathered) : Type 0 where
-  pub some : 0 < g .progress .n
+  pub n-pos : 0 < g .progress .n
   pub size : g .progress .n ≤ 32
   pub lines : ProperLines (g .seen) (g .progress .count)
 

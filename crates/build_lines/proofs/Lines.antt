@@ -85,10 +85,10 @@ module _ (n k : ℕ) (short : Bool) where
   pub usable : verdict (openOrder n k short) ≡ [] → Admitted n k short
   usable e =
       let t = no-code (openOrder n k short) [] refl e in
-      record { long = t .0; size = not-false _ (t .1 .0); few = ltb-false 256 k (t .1 .1 .0) }
+      record { long = t .0; size = not-false _ (t .1 .0); count-max = ltb-false 256 k (t .1 .1 .0) }
 
   usable-code : Admitted n k short → verdict (openOrder n k short) ≡ []
-  usable-code u = silent (openOrder n k short) (u .long, (ap not (u .size), (le-ltb 256 k (u .few), tt)))
+  usable-code u = silent (openOrder n k short) (u .long, (ap not (u .size), (le-ltb 256 k (u .count-max), tt)))
 
 -- ---- the whole
 module _ (n : ℕ) (ls : List Observation) (short : Bool) where

@@ -85,7 +85,7 @@ gain-magnitude k l = go (eqb (l .to) k) (eqb (l .«from») k) (pos (l .weight) *
     go false true z e = omega (arith, abs-sub (pos 0) z, e)
     go false false z e = omega arith
 
-module _ (n : ℕ) (ls : List Observation) (fit : Buildable n ls) (few : length ls ≤ 256) where
+module _ (n : ℕ) (ls : List Observation) (fit : Buildable n ls) (count-max : length ls ≤ 256) where
   each-inside : (l : Observation) → Among l (distinct ls) → InsideLine n l
   each-inside l i = inside-line n l (fit .good l (distinct-among [] ls l i) .inside)
 
@@ -95,7 +95,7 @@ module _ (n : ℕ) (ls : List Observation) (fit : Buildable n ls) (few : length 
         arith,
         abs-total 64 (weightAt (i + 1) (j + 1)) (distinct ls) (λ l k. omega (arith, weight-at-magnitude (i + 1) (j + 1) l, each-inside l k .weight)),
         mul-le-mul-right 64 (distinct-length [] ls),
-        mul-le-mul-right 64 few,
+        mul-le-mul-right 64 count-max,
       )
 
   pub right-magnitude : (i : ℕ) → natAbs (builtRight ls i) ≤ 2 ^ 30
@@ -104,7 +104,7 @@ module _ (n : ℕ) (ls : List Observation) (fit : Buildable n ls) (few : length 
         arith,
         abs-total (2 ^ 22) (gain (i + 1)) (distinct ls) (λ l k. omega (arith, gain-magnitude (i + 1) l, mul-le-mul (each-inside l k .weight) (each-inside l k .difference))),
         mul-le-mul-right (2 ^ 22) (distinct-length [] ls),
-        mul-le-mul-right (2 ^ 22) few,
+        mul-le-mul-right (2 ^ 22) count-max,
       )
 
   pub matrix-in-range : (i j : ℕ) → inRange kind.Matrix (builtMatrix ls i j) ≡ true

@@ -16,14 +16,14 @@ use Rattle.build_lines.proofs.Repeat.{repeated-total}
 
 pub repeated-builds : (n : ℕ) (short : Bool) (l : Observation) (xs ys : List Observation) → buildAnswer n (xs ++ ys) short ≡ [] → Among l (xs ++ ys) → length (xs ++ l ∷ ys) ≤ 256 →
     SameBuilt n (xs ++ ys) (xs ++ l ∷ ys) short
-repeated-builds n short l xs ys e i few =
+repeated-builds n short l xs ys e i count-max =
     let t = builds-fits n (xs ++ ys) short e in
     let u = t .0 in
     let w = t .1 in
     let own : (m : Observation) → Among m (xs ++ l ∷ ys) → Among m (xs ++ ys) = λ m j. joined xs ys j (λ p. subst (λ (z : Observation). Among z (xs ++ ys)) (sym p) i) (λ k. k) in
     record {
       builds =
-          fits-builds n (xs ++ l ∷ ys) short (record { long = u .long; size = u .size; few = few })
+          fits-builds n (xs ++ l ∷ ys) short (record { long = u .long; size = u .size; count-max = count-max })
           (record { good = λ m j. w .good m (own m j); one = λ x y j k. w .one x y (own x j) (own y k) });
       matrix = λ r c. repeated-total (weightAt (r + 1) (c + 1)) l xs ys [] i (λ y j k. w .one y l j i k);
       right = λ r. repeated-total (gain (r + 1)) l xs ys [] i (λ y j k. w .one y l j i k);

@@ -52,7 +52,7 @@ fit-to w f t q d e = turn ∙ ap (λ (z : ℤ). w *ℤ z) e ∙ by-zero (simp ri
     turn : w *ℤ t -ℤ w *ℤ f ≡ w *ℤ (t -ℤ f)
     turn = by-zero (simp ring (simp moves (simp ring₀)))
 
-module _ (n : ℕ) (l : Observation) (q : ℕ) (h : ℕ → ℤ) (k : ℕ) (good : Passes n l) (few : k ≤ n) (fixed : h 0 ≡ pos 0) (fits : h (l .to) -ℤ h (l .«from») ≡ pos q *ℤ l .difference) where
+module _ (n : ℕ) (l : Observation) (q : ℕ) (h : ℕ → ℤ) (k : ℕ) (good : Passes n l) (count-max : k ≤ n) (fixed : h 0 ≡ pos 0) (fits : h (l .to) -ℤ h (l .«from») ≡ pos q *ℤ l .difference) where
   abbrev w : ℤ
   w = pos (l .weight)
 
@@ -63,7 +63,7 @@ module _ (n : ℕ) (l : Observation) (q : ℕ) (h : ℕ → ℤ) (k : ℕ) (good
   picked m p = pick n m (λ (i : ℕ). w *ℤ h i) p (ap (λ (z : ℤ). w *ℤ z) fixed ∙ *-zero w)
 
   row : (m : ℕ) → m ≤ n → sum n (λ (i : ℕ). at k i -ℤ at m i) ≡ w *ℤ h k -ℤ w *ℤ h m
-  row m p = sum-sub n (at k) (at m) ∙ rw (picked k few, picked m p)
+  row m p = sum-sub n (at k) (at m) ∙ rw (picked k count-max, picked m p)
 
   pub line-row : sum n (λ (i : ℕ). weightAt k (i + 1) l *ℤ h (i + 1)) ≡ pos q *ℤ gain k l
   unfolding weightAt gain

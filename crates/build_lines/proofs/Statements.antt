@@ -60,7 +60,7 @@ module _ (n : ℕ) (ls : List Observation) (short : Bool) where
       go false p false q z r = subst (BuildStated n ls short) (sym (size-code p q)) (size-outside p q)
       go false p true q true r = subst (BuildStated n ls short) (sym (many-code p q r)) (too-many p q (ltb-true 256 (length ls) r))
       go false p true q false r =
-          let u : Admitted n (length ls) short = record { long = p; size = q; few = ltb-false 256 (length ls) r } in
+          let u : Admitted n (length ls) short = record { long = p; size = q; count-max = ltb-false 256 (length ls) r } in
           subst (BuildStated n ls short) (sym (usable-answer n ls short u)) (lines u (observationsSay n [] ls) refl)
 
   -- ---- what has its stated case is said

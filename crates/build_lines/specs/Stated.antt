@@ -26,7 +26,7 @@ pub record Buildable (n : ℕ) (ls : List Observation) : Type 0 where
 pub record Admitted (n k : ℕ) (short : Bool) : Type 0 where
   pub long : short ≡ false
   pub size : inRange kind.Size (pos n) ≡ true
-  pub few : k ≤ 256
+  pub count-max : k ≤ 256
 
 pub data BuildStated (n : ℕ) (ls : List Observation) (short : Bool) : List ℕ → Type 0 where
   -- 8: a lent list too short

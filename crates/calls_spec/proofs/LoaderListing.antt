@@ -73,8 +73,8 @@ module _ (l : Lists) (long : shortLists l ≡ false) (lines : List (List ℕ)) {
   pub turns-listing : (E L : List ℕ) → 32 ≤ length E → 1024 ≤ length L → {number : ℕ} {places E′ L′ : List ℕ}
       → LoaderCheckExported (loaderOf w′ .stage) (inputOf (stateWith (loaderOf w′) l′) E L) number places E′ L′
       → {old : List ℕ} {listed : ℕ} {shown new : List ℕ} {written : ℕ} → ListingExported file old listed shown new written → (number ≡ listed) × (places ≡ shown)
-  turns-listing E L few many x {listed = listed} {shown} y =
-      let a = turns-check l long lines t e E L few many x in
+  turns-listing E L column-long matrix-long x {listed = listed} {shown} y =
+      let a = turns-check l long lines t e E L column-long matrix-long x in
       let q : answerOf file ≡ printed 0 (checkedOf (problemFrom (forms (keptLines lines numbers)))) =
       answer-judged file (complete .lines) (complete .end) ∙ ap (λ (ls : List (List ℕ)). printed 0 (checkedOf (problemFrom (forms ls)))) own in
       let b = status-printed (checkedOf (problemFrom (forms (keptLines lines numbers)))) (subst (λ (z : List ℕ). ReplyIs z listed shown) q (y .status)) in

@@ -90,7 +90,7 @@ zeros-kept (next {line = line} {number = number} {lines = lines} {numbers} x t) 
 
 -- ---- lines from a new loader, with lists that are long enough, and the check after them
 module _ (l : Lists) (long : shortLists l ≡ false) (lines : List (List ℕ)) {numbers w′ : List ℕ} {l′ : Lists} (t : Turns (loaderNumbers fresh) l lines numbers w′ l′)
-    (e : ended (loaderOf w′ .stage) ≡ true) (E L : List ℕ) (few : 32 ≤ length E) (many : 1024 ≤ length L) where
+    (e : ended (loaderOf w′ .stage) ≡ true) (E L : List ℕ) (column-long : 32 ≤ length E) (matrix-long : 1024 ≤ length L) where
   abbrev last : State
   last = stateWith (loaderOf w′) l′
 
@@ -126,7 +126,7 @@ module _ (l : Lists) (long : shortLists l ≡ false) (lines : List (List ℕ)) {
   says : answerThrough (loaderOf w′ .stage) (inputOf last E L) ≡ checkedOf (problemFrom (forms given))
   says =
       answer-ended (loaderOf w′ .stage) (inputOf last E L) e
-      ∙ answer-ready (inputOf last E L) (enough last E L lists-long few many) ranges
+      ∙ answer-ready (inputOf last E L) (enough last E L lists-long column-long matrix-long) ranges
       ∙ sym (answer-ready (inputAt last) own-long ranges)
       ∙ answer-forms last (forms given) from inside own-long
 
@@ -150,5 +150,5 @@ module _ (l : Lists) (long : shortLists l ≡ false) {numbers w′ : List ℕ} {
 
   pub whole-check : (E L : List ℕ) → 32 ≤ length E → 1024 ≤ length L → {number : ℕ} {places E′ L′ : List ℕ}
       → LoaderCheckExported (loaderOf w′ .stage) (inputOf (stateWith (loaderOf w′) l′) E L) number places E′ L′ → number ≡ 0
-  whole-check E L few many x =
-      turns-check l long (linesOf wholeFile) t (whole-turns .1) E L few many x .number-is ∙ ap (λ (a : List ℕ). getD a 0 0) whole-quiet
+  whole-check E L column-long matrix-long x =
+      turns-check l long (linesOf wholeFile) t (whole-turns .1) E L column-long matrix-long x .number-is ∙ ap (λ (a : List ℕ). getD a 0 0) whole-quiet

@@ -56,12 +56,12 @@ module _ (l : Lists) (long : shortLists l ≡ false) {n s t : ℕ} {fs : List Fo
       let e = shape-ends l long h in
       (turns-zero x (e .0), subst (λ (u : State). ended (u .loader .stage) ≡ true) (sym (turns-run x)) (e .1))
 
-  module _ (E L : List ℕ) (few : 32 ≤ length E) (many : 1024 ≤ length L) {number : ℕ} {places E′ L′ : List ℕ}
+  module _ (E L : List ℕ) (column-long : 32 ≤ length E) (matrix-long : 1024 ≤ length L) {number : ℕ} {places E′ L′ : List ℕ}
       (c : LoaderCheckExported (loaderOf w′ .stage) (inputOf (stateWith (loaderOf w′) l′) E L) number places E′ L′) where
     pub shape-check : ReplyIs (checkedOf (problemFrom fs)) number places
     shape-check =
         subst (λ (gs : List Form). ReplyIs (checkedOf (problemFrom gs)) number places) (ap forms (zeros-kept x (shape-turns .0)) ∙ forms-spelled fs)
-        (turns-check l long (spelled fs) x (shape-turns .1) E L few many c)
+        (turns-check l long (spelled fs) x (shape-turns .1) E L column-long matrix-long c)
 
     pub shape-exact : (N : Vec) (q : ℕ) (H : Mat) (q′ : ℕ) → RoundedExact (problemFrom fs) N q H q′ → number ≡ 0
     shape-exact N q H q′ e =

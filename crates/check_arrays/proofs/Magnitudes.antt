@@ -56,7 +56,7 @@ raisable q = record { long = q .long; within = record { magnitudes = λ k l. le-
 
 -- the numbers of D, for a problem in 01's ranges
 pub record Ranged (P : Problem) : Type 0 where
-  pub few : P .n ≤ 32
+  pub n-max : P .n ≤ 32
   pub scale : P .t ≤ 20
   pub matrix : (i j : ℕ) → i < P .n → j < P .n → natAbs (P .A i j) ≤ 2 ^ 20
   pub inverse : (i j : ℕ) → i < P .n → j < P .n → natAbs (P .G i j) ≤ 2 ^ 20
@@ -70,14 +70,14 @@ defect-most P r m j lm lj =
       unit-magnitude (P .t) m j (r .scale),
       abs-sum≤ (P .n) (2 ^ 40) (λ (k : ℕ). P .G m k *ℤ P .A k j)
           (λ k lk. rw (abs-* (P .G m k) (P .A k j)) (mul-le-mul (r .inverse m k lm lk) (r .matrix k j lk lj))),
-      mul-le-mul-right (2 ^ 40) (r .few),
+      mul-le-mul-right (2 ^ 40) (r .n-max),
     )
 
 -- of lists in these ranges
-module _ (n t : ℕ) (matrix inverse : List ℤ) (ht : t ≤ 20) (few : n ≤ 32) (hm : MatrixList matrix n) (hi : MatrixList inverse n) where
+module _ (n t : ℕ) (matrix inverse : List ℤ) (ht : t ≤ 20) (n-max : n ≤ 32) (hm : MatrixList matrix n) (hi : MatrixList inverse n) where
   ranged-of : Ranged (problemOf n 0 t matrix [] [] [] inverse [])
   ranged-of = record {
-    few = few;
+    n-max = n-max;
     scale = ht;
     matrix = λ i j li lj. hm .within .magnitudes (i * n + j) (place li lj);
     inverse = λ i j li lj. hi .within .magnitudes (i * n + j) (place li lj);
@@ -92,11 +92,11 @@ residual-exchanged n t matrix inverse j k = refl
 
 pub residual-magnitude : (n t : ℕ) (matrix inverse : List ℤ) → t ≤ 20 → n ≤ 32 → MatrixList matrix n → MatrixList inverse n →
     (j k : ℕ) → j < n → k < n → natAbs (columnResidual n t matrix inverse j k) ≤ 2 ^ 46
-residual-magnitude n t matrix inverse ht few hm hi j k lj lk = rw (residual-exchanged n t matrix inverse j k) (defect-magnitude n t inverse matrix ht few hi hm k j lk lj)
+residual-magnitude n t matrix inverse ht n-max hm hi j k lj lk = rw (residual-exchanged n t matrix inverse j k) (defect-magnitude n t inverse matrix ht n-max hi hm k j lk lj)
 
 -- places of a column stay small
 pub column-ends : {j n : ℕ} → j < n → n ≤ 32 → j + n * n < 2048
-column-ends l few = omega (arith, square few)
+column-ends l n-max = omega (arith, square n-max)
 
 -- the code's test of a residual
 pub above-below : (a z : ℤ) → ltZ z (pos 0 -ℤ a) ≡ true → true ≡ aboveAllowed a z

@@ -34,7 +34,7 @@ pub part-whole : {before out : List ℕ} {p i n sum : ℕ} {f : ℕ → ℤ} →
 part-whole {before} {out} {p} {i} {n} {sum} {f} a b h = subst (λ (k : ℕ). RowPart before out p k f sum) (le-antisymm a b) h
 
 pub part-sum : {before out : List ℕ} {p k sum : ℕ} {f : ℕ → ℤ} → k ≤ 32 → RowPart before out p k f sum → sum ≤ 2 ^ 31
-part-sum {before} {out} {p} {k} few h = omega (arith, h .total, sumℕ≤ k (2 ^ 26) (λ (j : ℕ). getD out (p + j) 0) (h .small .each), mul-le-mul-right (2 ^ 26) few)
+part-sum {before} {out} {p} {k} n-max h = omega (arith, h .total, sumℕ≤ k (2 ^ 26) (λ (j : ℕ). getD out (p + j) 0) (h .small .each), mul-le-mul-right (2 ^ 26) n-max)
 
 module _ {before out : List ℕ} {p k sum : ℕ} {f : ℕ → ℤ} (h : RowPart before out p k f sum) (inside : p + k < length out) where
   module _ (x : ℕ) where
@@ -93,10 +93,10 @@ pub row-below : {a i : ℕ} (n : ℕ) → a < i → a * (n + 1) + n < i * (n + 1
 row-below n l = omega (arith, mul-le-mul-right (n + 1) l)
 
 pub rows-room : {i n : ℕ} → i < n → n ≤ 32 → i * (n + 1) + n < 1056
-rows-room {i} {n} l few = omega (arith, row-below n l, square few)
+rows-room {i} {n} l n-max = omega (arith, row-below n l, square n-max)
 
 pub rows-fit : {n : ℕ} → n ≤ 32 → n * (n + 1) ≤ 1056
-rows-fit few = omega (arith, square few)
+rows-fit n-max = omega (arith, square n-max)
 
 pub rows-none : (xs : List ℕ) (n : ℕ) (f : ℕ → ℕ → ℤ) → RowsOf xs n 0 f
 rows-none xs n f = record { each = λ i l. absurd (omega arith) }

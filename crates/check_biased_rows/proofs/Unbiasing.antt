@@ -30,15 +30,15 @@ module _ (z : ℤ) (h : natAbs z ≤ 2 ^ 25) where
   unbiased-biased = ap (λ (x : ℤ). x -ℤ pos 33554432) (sym biased-is) ∙ +ℤ-negℤ-cancel z (pos 33554432)
 
 pub row-sum : {xs : List ℕ} {p n : ℕ} → n ≤ 32 → BiasedRow xs p n → getD xs (p + n) 0 ≤ 2 ^ 31
-row-sum {xs} {p} {n} few l =
-    rw (l .total) (omega (arith, sumℕ≤ n (2 ^ 26) (λ (k : ℕ). getD xs (p + k) 0) (l .small .each), mul-le-mul-right (2 ^ 26) few))
+row-sum {xs} {p} {n} n-max l =
+    rw (l .total) (omega (arith, sumℕ≤ n (2 ^ 26) (λ (k : ℕ). getD xs (p + k) 0) (l .small .each), mul-le-mul-right (2 ^ 26) n-max))
 
 pub row-products : {xs ys : List ℕ} {p q n : ℕ} → n ≤ 32 → Small xs p n → Small ys q n → sumℕ n (λ (k : ℕ). getD xs (p + k) 0 * getD ys (q + k) 0) ≤ 2 ^ 57
-row-products {xs} {ys} {p} {q} {n} few a b =
+row-products {xs} {ys} {p} {q} {n} n-max a b =
     omega (
       arith,
       sumℕ≤ n (2 ^ 52) (λ (k : ℕ). getD xs (p + k) 0 * getD ys (q + k) 0) (λ k l. mul-le-mul (a .each k l) (b .each k l)),
-      mul-le-mul-right (2 ^ 52) few,
+      mul-le-mul-right (2 ^ 52) n-max,
     )
 
 module _ (c : ℕ) (a b : ℕ → ℕ) where
@@ -71,12 +71,12 @@ unbiased-magnitude x h = near-biased 33554432 x h
 
 pub row-dot-magnitude : {xs ys : List ℕ} {p q n : ℕ} → n ≤ 32 → Small xs p n → Small ys q n → natAbs (rowDot xs p ys q n) ≤ 2 ^ 55
 unfolding rowDot
-row-dot-magnitude {xs} {ys} {p} {q} {n} few a b =
+row-dot-magnitude {xs} {ys} {p} {q} {n} n-max a b =
     omega (
       arith,
       abs-sum≤ n (2 ^ 50) (λ (k : ℕ). unbiased (getD xs (p + k) 0) *ℤ unbiased (getD ys (q + k) 0))
           (λ k l. rw (abs-* (unbiased (getD xs (p + k) 0)) (unbiased (getD ys (q + k) 0))) (mul-le-mul (unbiased-magnitude _ (a .each k l)) (unbiased-magnitude _ (b .each k l)))),
-      mul-le-mul-right (2 ^ 50) few,
+      mul-le-mul-right (2 ^ 50) n-max,
     )
 
 pub row-dot-shows : {xs ys : List ℕ} {p q : ℕ} (n : ℕ) {f g : ℕ → ℤ} → RowOf xs p n f → RowOf ys q n g → rowDot xs p ys q n ≡ sum n (λ (k : ℕ). f k *ℤ g k)

@@ -38,7 +38,7 @@ module _ (n : ℕ) {rows residuals : List ℕ} {place : ℕ} {r : Vec} (h : Bias
 
   pub image-magnitude : {magnitudes : List ℕ} → n ≤ 32 → PrefixIs 0 magnitudes n (λ (m : ℕ). natAbs (rowDot rows (m * (n + 1)) residuals place n)) →
       (m : ℕ) → m < n → getD magnitudes m 0 ≤ 2 ^ 55
-  image-magnitude few b m l = rw (b .each m l) (row-dot-magnitude few (h .each m l .small) (s .row .small))
+  image-magnitude n-max b m l = rw (b .each m l) (row-dot-magnitude n-max (h .each m l .small) (s .row .small))
 
   pub plain-magnitudes : {magnitudes : List ℕ} → PrefixIs 0 magnitudes n (λ (m : ℕ). natAbs (rowDot rows (m * (n + 1)) residuals place n)) →
       PrefixIs 0 magnitudes n (magnitudesWith (inversePart n rows) r (λ (k : ℕ). 0))
@@ -54,9 +54,9 @@ module _ (n : ℕ) {rows residuals : List ℕ} {place : ℕ} {r : Vec} (h : Bias
 pub magnitudes-small : {n : ℕ} {rows : List ℕ} {r : Vec} {σ : ℕ → ℕ} {out : List ℕ} → n ≤ 32 → InverseRows rows n → Near r σ n →
     PrefixIs 0 out n (magnitudesWith (inversePart n rows) r σ) → Bounded out n
 unfolding magnitudesWith
-magnitudes-small {n} {rows} {r} {σ} few h near b = record {
+magnitudes-small {n} {rows} {r} {σ} n-max h near b = record {
   most = λ m l. rw (b .each m l)
-      (omega (arith, joint n (2 ^ 20) (2 ^ 25) (unbiasedRows rows n) r σ m (λ j lj. h .magnitudes m j l lj) (near .each), mul-le-mul-right (2 ^ 45) few));
+      (omega (arith, joint n (2 ^ 20) (2 ^ 25) (unbiasedRows rows n) r σ m (λ j lj. h .magnitudes m j l lj) (near .each), mul-le-mul-right (2 ^ 45) n-max));
 }
 
 pub slack-near : {n : ℕ} {r : Vec} {σ : ℕ → ℕ} → Near r σ n → (k : ℕ) → k < n → σ k ≤ allowedResidual

@@ -71,7 +71,7 @@ pub added-none : (sums : List ℕ) (n : ℕ) (row : ℕ → ℕ) → Added sums 
 unfolding posPart negPart
 added-none sums n row = record { long = refl; ups = λ j l. omega arith; downs = λ j l. omega arith }
 
-module _ (sums : List ℕ) (n : ℕ) (few : n ≤ 32) (long : length sums ≡ 64) (row : ℕ → ℕ) where
+module _ (sums : List ℕ) (n : ℕ) (n-max : n ≤ 32) (long : length sums ≡ 64) (row : ℕ → ℕ) where
   pub added-row : (x : ℤ) → Added sums (written sums (halfOf x) 1 (λ (j : ℕ). getD sums (halfOf x + j) 0 + natAbs x * row j) n) n x row
   unfolding posPart negPart halfOf
   added-row (pos a) = record {

@@ -31,7 +31,7 @@ no-sums = record { each = λ j l. getD-replicate 64 j 0 0 l }
 
 module _ (n : ℕ) (xs : ℕ → ℤ) (rows : ℕ → ℕ → ℕ) where
   pub sums-none : {sums : List ℕ} → n ≤ 32 → PrefixIs 0 sums 64 (λ (j : ℕ). 0) → SumsOf sums n 0 xs rows
-  sums-none few h = record {
+  sums-none n-max h = record {
     ups = λ j l. h .each j (omega arith) ∙ sym (sumℕ-none _);
     downs = λ j l. h .each (32 + j) (omega arith) ∙ sym (sumℕ-none _);
   }
@@ -46,14 +46,14 @@ module _ (n : ℕ) (xs : ℕ → ℤ) (rows : ℕ → ℕ → ℕ) where
   pub sums-end : {sums : List ℕ} {k m : ℕ} → k ≤ m → m ≤ k → SumsOf sums n k xs rows → SumsOf sums n m xs rows
   sums-end {sums} a b h = subst (λ (k : ℕ). SumsOf sums n k xs rows) (le-antisymm a b) h
 
-  module _ {sums : List ℕ} {k : ℕ} (few : k ≤ 32) (small : (i : ℕ) → i < k → natAbs (xs i) ≤ 2 ^ 20) (low : (i j : ℕ) → i < k → j < n → rows i j ≤ 2 ^ 26) (h : SumsOf sums n k xs rows) where
+  module _ {sums : List ℕ} {k : ℕ} (n-max : k ≤ 32) (small : (i : ℕ) → i < k → natAbs (xs i) ≤ 2 ^ 20) (low : (i j : ℕ) → i < k → j < n → rows i j ≤ 2 ^ 26) (h : SumsOf sums n k xs rows) where
     pub ups-small : (j : ℕ) → j < n → getD sums j 0 ≤ 2 ^ 51
     ups-small j l =
         rw (h .ups j l)
         (omega (
           arith,
           sumℕ≤ k (2 ^ 46) (λ (i : ℕ). posPart (xs i) * rows i j) (λ i li. mul-le-mul (le-trans (up-magnitude (xs i)) (small i li)) (low i j li l)),
-          mul-le-mul-right (2 ^ 46) few,
+          mul-le-mul-right (2 ^ 46) n-max,
         ))
 
     pub downs-small : (j : ℕ) → j < n → getD sums (32 + j) 0 ≤ 2 ^ 51
@@ -62,17 +62,17 @@ module _ (n : ℕ) (xs : ℕ → ℤ) (rows : ℕ → ℕ → ℕ) where
         (omega (
           arith,
           sumℕ≤ k (2 ^ 46) (λ (i : ℕ). negPart (xs i) * rows i j) (λ i li. mul-le-mul (le-trans (down-magnitude (xs i)) (small i li)) (low i j li l)),
-          mul-le-mul-right (2 ^ 46) few,
+          mul-le-mul-right (2 ^ 46) n-max,
         ))
 
     pub sums-room : SmallSums sums 0 n × SmallSums sums 32 n
     sums-room = (record { each = λ j l. let e : 0 + j ≡ j = omega arith in rw e (omega (arith, ups-small j l)) }, record { each = λ j l. omega (arith, downs-small j l) })
 
 pub total-small : {k : ℕ} (xs : ℕ → ℤ) → k ≤ 32 → ((i : ℕ) → i < k → natAbs (xs i) ≤ 2 ^ 20) → natAbs (sum k xs) ≤ 2 ^ 25
-total-small {k} xs few small = omega (arith, abs-sum≤ k (2 ^ 20) xs small, mul-le-mul-right (2 ^ 20) few)
+total-small {k} xs n-max small = omega (arith, abs-sum≤ k (2 ^ 20) xs small, mul-le-mul-right (2 ^ 20) n-max)
 
 pub biased-small : {n : ℕ} (xs : ℕ → ℤ) → n ≤ 32 → ((i : ℕ) → i < n → natAbs (xs i) ≤ 2 ^ 20) → natAbs (pos bias *ℤ sum n xs) ≤ 2 ^ 50
-biased-small {n} xs few small = rw (abs-* (pos bias) (sum n xs)) (mul-le-mul (le-refl bias) (total-small xs few small))
+biased-small {n} xs n-max small = rw (abs-* (pos bias) (sum n xs)) (mul-le-mul (le-refl bias) (total-small xs n-max small))
 
 -- ---- what the sums stand for
 one-term-more : (c u d g a b : ℕ) (s : ℤ) →
@@ -109,18 +109,18 @@ module _ (sums : List ℕ) (t m : ℕ) where
           rw (getD-set-other sums (32 + m) (32 + j) (getD sums (32 + m) 0 + 2 ^ t) 0 (omega (arith, p)), sym (unit-other (2 ^ t) m j p)) (simp zz (omega arith))
 
   pub unit-small : (j : ℕ) → length sums ≡ 64 → t ≤ 20 → m < 32 → getD sums (32 + j) 0 ≤ 2 ^ 51 → getD withUnit (32 + j) 0 ≤ 2 ^ 52
-  unit-small j long few l low =
+  unit-small j long n-max l low =
       omega (
         arith,
         ap natAbs (unit-down j long l),
         abs-+ (pos (getD sums (32 + j) 0)) (pos (2 ^ t) *ℤ identity m j),
-        unit-magnitude t m j few,
+        unit-magnitude t m j n-max,
       )
 
 pub sums-less : {sums after : List ℕ} (rows : List ℕ) (n : ℕ) (xs : ℕ → ℤ) (t m : ℕ) → n ≤ 32 → length sums ≡ 64 → m < 32 →
     SumsOf sums n n xs (λ (k j : ℕ). getD rows (biasedPlace n k j) 0) → after ≡ set sums (32 + m) (getD sums (32 + m) 0 + 2 ^ t) → (j : ℕ) → j < n →
     pos bias *ℤ sum n xs +ℤ pos (getD after (32 + j) 0) -ℤ pos (getD after j 0) ≡ pos (2 ^ t) *ℤ identity m j -ℤ sum n (λ (k : ℕ). xs k *ℤ unbiasedRows rows n k j)
 unfolding unbiased
-sums-less {sums} rows n xs t m few long lm h e j l =
+sums-less {sums} rows n xs t m n-max long lm h e j l =
     rw (e, unit-down sums t m j long lm, unit-up sums t m j (omega arith), h .ups j l, h .downs j l, sums-unbiased bias xs (λ (k : ℕ). getD rows (biasedPlace n k j) 0) n)
     (put-right (pos (2 ^ t) *ℤ identity m j) (pos bias *ℤ sum n xs) _ _)

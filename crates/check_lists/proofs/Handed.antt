@@ -63,22 +63,22 @@ module _ (I : Input) {base allowed columns : List ℤ} {slacks sums : List ℕ} 
   pub workable : Workable W
   unfolding rowSum
   workable = record {
-    some = fit .some;
-    few = fit .few;
+    n-pos = fit .n-pos;
+    n-max = fit .n-max;
     inverse-scale = fit .inverse-scale;
     matrix = fit .matrix;
     base = record {
-      long = omega (arith, h .base-long, fit .few);
+      long = omega (arith, h .base-long, fit .n-max);
       within = record { magnitudes = λ k l. rw (h .base .each k l) (omega (arith, scaled-magnitude (I .s) (at (I .right) k) (fit .solution-scale) (fit .right .within .magnitudes k l))) };
     };
-    allowed = record { long = omega (arith, h .allowed-long, fit .few); within = record { magnitudes = λ k l. rw (h .allowed .each k l) (allowed-magnitude (getD slacks k 0) (getD sums k 0)) } };
+    allowed = record { long = omega (arith, h .allowed-long, fit .n-max); within = record { magnitudes = λ k l. rw (h .allowed .each k l) (allowed-magnitude (getD slacks k 0) (getD sums k 0)) } };
     room = λ k l z p. ltb-false allowedResidual (natAbs z + getD slacks k 0)
         (neither-left _ (ltb (getD sums k 0) (natAbs z)) (sym (allowed-test (getD slacks k 0) (getD sums k 0) z) ∙ (rw (h .allowed .each k l) at p)));
     in-columns = record {
-      long = omega (arith, h .in-columns-long, fit .few);
+      long = omega (arith, h .in-columns-long, fit .n-max);
       within = record { magnitudes = λ k l. rw (h .in-columns .each k l) (allowed-magnitude (getD (replicate 32 0) k 0) (getD sums k 0)) };
     };
-    column-rule = λ k l. h .in-columns .each k l ∙ ap₂ allowedBeside (getD-replicate 32 k 0 0 (omega (arith, fit .few))) (sum-is k l);
+    column-rule = λ k l. h .in-columns .each k l ∙ ap₂ allowedBeside (getD-replicate 32 k 0 0 (omega (arith, fit .n-max))) (sum-is k l);
     guess = fit .guess;
     inverse = fit .inverse;
     weights = fit .weights;

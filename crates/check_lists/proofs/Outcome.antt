@@ -100,7 +100,7 @@ module _ (W : Work) (ready : Workable W) {rows margins : List ℕ} {residuals co
               ∙ sym (accepted-new _ _ (sym s));
           inverse-bounds = eL
               ∙ written-columns (W .n) (λ (b c : ℕ). limitsOf (W .n) rows (λ (x : ℕ). at columns (c * W .n + x)) (λ (x : ℕ). 0) margins (W .weights) b)
-              (inverseBound (workProblem W)) (W .inverseBounds) (ready .some) (omega (arith, square (ready .few), ready .inverse-long))
+              (inverseBound (workProblem W)) (W .inverseBounds) (ready .n-pos) (omega (arith, square (ready .n-max), ready .inverse-long))
               (inverse-limit W (a .biased) margins (a .hm) positive-here columns (a .hc))
               ∙ sym (accepted-new _ _ (sym s));
         }

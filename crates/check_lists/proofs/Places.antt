@@ -72,7 +72,7 @@ module _ (W : Work) (ready : Workable W) where
 
     here : (i : ℕ) → column-refused i ≡ ltb allowedResidual (natAbs (at columns i) + 0) || ltb (rowSum (workProblem W) (i % W .n)) (natAbs (at columns i))
     here i =
-        ap (λ (a : ℤ). aboveAllowed a (at columns i)) (ready .column-rule (i % W .n) (mod-lt i (ready .some)))
+        ap (λ (a : ℤ). aboveAllowed a (at columns i)) (ready .column-rule (i % W .n) (mod-lt i (ready .n-pos)))
         ∙ allowed-test 0 (rowSum (workProblem W) (i % W .n)) (at columns i)
 
     place-is : (i : ℕ) → i < W .n * W .n → column-refused i ≡ exceeds (columnOf (workProblem W) (i / W .n)) (i % W .n)

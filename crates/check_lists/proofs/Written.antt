@@ -16,7 +16,7 @@ use Rattle.check_arrays.proofs.Filled.{columns-length}
 
 pub written-columns : (n : ℕ) (f g : ℕ → ℕ → ℕ) (l : List ℕ) → 0 < n → n * n ≤ length l → ((i j : ℕ) → i < n → j < n → f i j ≡ g i j) →
     columnsWritten l n f n ≡ written l 0 1 (λ (k : ℕ). g (k / n) (k % n)) (n * n)
-written-columns n f g l some long h =
+written-columns n f g l n-pos long h =
     ext-getD 0 (columnsWritten l n f n) (written l 0 1 (λ (k : ℕ). g (k / n) (k % n)) (n * n))
     (columns-length l n f n ∙ sym (written-length l 0 1 (λ (k : ℕ). g (k / n) (k % n)) (n * n))) (λ k m. go k (decLe (n * n) k))
   where
@@ -26,8 +26,8 @@ written-columns n f g l some long h =
     go k (no p) =
         let i : ℕ = k / n in
         let j : ℕ = k % n in
-        let li : i < n = div-lt-iff-lt-mul some .1 (omega arith) in
-        let lj : j < n = mod-lt k some in
+        let li : i < n = div-lt-iff-lt-mul n-pos .1 (omega arith) in
+        let lj : j < n = mod-lt k n-pos in
         let e : k ≡ placeOf n i j = omega (arith, div-add-mod' k n) in
         ap (λ (x : ℕ). getD (columnsWritten l n f n) x 0) e
         ∙ columns-at 0 l n f n i j li lj (omega arith) long

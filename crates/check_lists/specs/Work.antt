@@ -74,8 +74,8 @@ workAnswer W =
     (firstInversePlace (workProblem W)))
 
 pub record Workable (W : Work) : Type 0 where
-  pub some : 0 < W .n
-  pub few : W .n ≤ 32
+  pub n-pos : 0 < W .n
+  pub n-max : W .n ≤ 32
   pub inverse-scale : W .t ≤ 20
   pub matrix : MatrixList (W .matrix) (W .n)
   pub base : ColumnList (W .base) (W .n) (2 ^ 62)

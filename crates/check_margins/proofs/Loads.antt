@@ -44,9 +44,9 @@ module _ (n t : ℕ) (matrix inverse : List ℤ) where
 
   pub defects-within : {defects : List ℤ} → t ≤ 20 → n ≤ 32 → MatrixList matrix n → MatrixList inverse n → n * n ≤ length defects →
       DefectList defects n t matrix inverse → ColumnList defects (n * n) (2 ^ 46)
-  defects-within ht few hm hi long h = record {
+  defects-within ht n-max hm hi long h = record {
     long = long;
-    within = record { magnitudes = λ i l. rw (h .each i l) (defect-magnitude n t matrix inverse ht few hm hi (i / n) (i % n) (in-square n i l .0) (in-square n i l .1)) };
+    within = record { magnitudes = λ i l. rw (h .each i l) (defect-magnitude n t matrix inverse ht n-max hm hi (i / n) (i % n) (in-square n i l .0) (in-square n i l .1)) };
   }
 
   defect-at : {defects : List ℤ} → DefectList defects n t matrix inverse → (m j : ℕ) → m < n → j < n →
@@ -66,5 +66,5 @@ module _ {defects weights : List ℤ} {n m : ℕ} (d : ColumnList defects (n * n
   term-magnitude j l = mul-le-mul (d .within .magnitudes (m * n + j) (place lm l)) (w .within .magnitudes j l)
 
   pub load-magnitude : {sum : ℕ} (j : ℕ) → n ≤ 32 → j ≤ n → sum ≡ sumℕ j (λ (k : ℕ). natAbs (at defects (m * n + k)) * natAbs (at weights k)) → sum ≤ 2 ^ 62
-  load-magnitude j few l e =
+  load-magnitude j n-max l e =
       omega (arith, e, sumℕ≤ j (2 ^ 56) (λ (k : ℕ). natAbs (at defects (m * n + k)) * natAbs (at weights k)) (λ k lk. term-magnitude k (omega arith)))

@@ -33,7 +33,7 @@ module _ (n : ℕ) (magnitudes margins : List ℕ) (weights : List ℤ) (positiv
   limit = boundFrom n (λ (m : ℕ). getD magnitudes m 0) (λ (m : ℕ). getD margins m 0) (λ (i : ℕ). natAbs (at weights i))
 
   pub within-caps-none : n ≤ 32 → sumℕ n (λ (m : ℕ). getD magnitudes m 0) ≡ 0 → PrefixIs 0 (replicate 32 0) n limit
-  within-caps-none few e = record {
+  within-caps-none n-max e = record {
     each = λ i l. getD-replicate 32 i 0 0 (omega arith) ∙ le-antisymm (omega arith)
         (bound-least n magnitude (λ (m : ℕ). getD margins m 0) (λ (i : ℕ). natAbs (at weights i)) i 0 (positive .above)
         (λ m lm. let z : magnitude m ≡ 0 = omega (arith, e, sumℕ-at n magnitude m lm) in rw z (omega arith)));
@@ -50,11 +50,11 @@ module _ (n : ℕ) (magnitudes margins : List ℕ) (weights : List ℤ) (positiv
     none i m l lm e =
         let c : natAbs (at weights i) * magnitude m ≤ 0 * getD margins m 0 =
         rw e at (bound-covers n magnitude (λ (m : ℕ). getD margins m 0) (λ (i : ℕ). natAbs (at weights i)) i m lm (positive .above m lm)) in
-        omega (arith, mul-le-mul-right (magnitude m) (k .some i l))
+        omega (arith, mul-le-mul-right (magnitude m) (k .weights-pos i l))
 
     one : (i : ℕ) → i < n → (sumℕ n magnitude ≡ 0 → ⊥) → (x : ℕ) → limit i ≡ x → 1 ≡ x
     one i l some zero e = absurd (some (sumℕ-ext n magnitude (λ (m : ℕ). 0) (λ m lm. none i m l lm e) ∙ sumℕ-zero n))
     one i l some (suc x) e = omega (arith, most i l)
 
     pub within-caps-some : n ≤ 32 → (sumℕ n (λ (m : ℕ). getD magnitudes m 0) ≡ 0 → ⊥) → PrefixIs 0 (replicate 32 1) n limit
-    within-caps-some few some = record { each = λ i l. getD-replicate 32 i 1 0 (omega arith) ∙ one i l some (limit i) refl }
+    within-caps-some n-max some = record { each = λ i l. getD-replicate 32 i 1 0 (omega arith) ∙ one i l some (limit i) refl }

@@ -40,5 +40,5 @@ pub record WithinCaps (magnitudes caps : List ℕ) (n : ℕ) : Type 0 where
   pub each : (m : ℕ) → m < n → getD magnitudes m 0 ≤ getD caps m 0
 
 pub record Caps (caps margins : List ℕ) (weights : List ℤ) (n : ℕ) : Type 0 where
-  pub some : (i : ℕ) → i < n → 0 < natAbs (at weights i)
+  pub weights-pos : (i : ℕ) → i < n → 0 < natAbs (at weights i)
   pub under : (i m : ℕ) → i < n → m < n → natAbs (at weights i) * getD caps m 0 ≤ getD margins m 0

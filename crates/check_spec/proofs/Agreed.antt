@@ -109,11 +109,11 @@ module _ (I J : Input) (a : Agree I J) where
       (a .long) (a .long′) ∙ ap answer like-is
 
   module _ (e : answer I ≡ []) where
-    few : I .n ≤ 32
-    few = fit-of I (a .long) (accepted-usable I e .inside) .few
+    n-max : I .n ≤ 32
+    n-max = fit-of I (a .long) (accepted-usable I e .inside) .n-max
 
-    some : 0 < I .n
-    some = fit-of I (a .long) (accepted-usable I e .inside) .some
+    n-pos : 0 < I .n
+    n-pos = fit-of I (a .long) (accepted-usable I e .inside) .n-pos
 
     long : LongEnough like
     long = long-of like (a .long′)
@@ -124,9 +124,9 @@ module _ (I J : Input) (a : Agree I J) where
         here : getD (solutionBoundsAfter I) i 0 ≡ getD (solutionBoundsAfter like) i 0
         here =
             rw (solution-written I e, solution-written like (ap answer like-is ∙ sym same-answer ∙ e))
-            (front-at (I .solutionBounds) (bound (problem I)) 0 (I .n) i l (omega (arith, few, long-of I (a .long) .solution))
+            (front-at (I .solutionBounds) (bound (problem I)) 0 (I .n) i l (omega (arith, n-max, long-of I (a .long) .solution))
             ∙ like-bound i l
-            ∙ sym (front-at (J .solutionBounds) (bound (problem like)) 0 (I .n) i l (omega (arith, few, long .solution))))
+            ∙ sym (front-at (J .solutionBounds) (bound (problem like)) 0 (I .n) i l (omega (arith, n-max, long .solution))))
 
     pub same-inverse : (k : ℕ) → k < I .n * I .n → getD (inverseBoundsAfter I) k 0 ≡ getD (inverseBoundsAfter J) k 0
     same-inverse k l = here ∙ ap (λ (X : Input). getD (inverseBoundsAfter X) k 0) like-is
@@ -134,6 +134,6 @@ module _ (I J : Input) (a : Agree I J) where
         here : getD (inverseBoundsAfter I) k 0 ≡ getD (inverseBoundsAfter like) k 0
         here =
             rw (inverse-written I e, inverse-written like (ap answer like-is ∙ sym same-answer ∙ e))
-            (front-at (I .inverseBounds) (λ (x : ℕ). inverseBound (problem I) (x / I .n) (x % I .n)) 0 (I .n * I .n) k l (omega (arith, square few, long-of I (a .long) .inverses))
-            ∙ like-inverse (k / I .n) (k % I .n) (div-lt-iff-lt-mul some .1 l) (mod-lt k some)
-            ∙ sym (front-at (J .inverseBounds) (λ (x : ℕ). inverseBound (problem like) (x / I .n) (x % I .n)) 0 (I .n * I .n) k l (omega (arith, square few, long .inverses))))
+            (front-at (I .inverseBounds) (λ (x : ℕ). inverseBound (problem I) (x / I .n) (x % I .n)) 0 (I .n * I .n) k l (omega (arith, square n-max, long-of I (a .long) .inverses))
+            ∙ like-inverse (k / I .n) (k % I .n) (div-lt-iff-lt-mul n-pos .1 l) (mod-lt k n-pos)
+            ∙ sym (front-at (J .inverseBounds) (λ (x : ℕ). inverseBound (problem like) (x / I .n) (x % I .n)) 0 (I .n * I .n) k l (omega (arith, square n-max, long .inverses))))

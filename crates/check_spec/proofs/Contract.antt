@@ -63,10 +63,10 @@ accepted-places n m k i e = go (ltb m n) refl (ltb k n) refl (ltb i (n * n)) ref
     go false p false q false r = record { margin = ltb-false m n p; residual = ltb-false k n q; column = ltb-false i (n * n) r }
 
 pub sound-code : (P : Problem) → 0 < P .n → Sound P → checkedOf P ≡ []
-sound-code P some x =
+sound-code P n-pos x =
     let m : firstMargin P ≡ P .n = first-never (P .n) (marginFails P) (x .margins) in
     let k : firstResidual P ≡ P .n = first-never (P .n) (exceeds P) (x .residuals) in
-    rw (m, k, no-place P some (x .columns)) (rw (le-ltb (P .n) (P .n) (omega arith), le-ltb (P .n * P .n) (P .n * P .n) (omega arith)))
+    rw (m, k, no-place P n-pos (x .columns)) (rw (le-ltb (P .n) (P .n) (omega arith), le-ltb (P .n * P .n) (P .n * P .n) (omega arith)))
 
 pub code-sound : (P : Problem) → checkedOf P ≡ [] → Sound P
 code-sound P e =
@@ -108,8 +108,8 @@ module _ (I : Input) (e : short I ≡ false) (f : inRanges I ≡ true) where
       let fit = fit-of I e f in
       let P : Problem = problem I in
       encloses-as P (bound P) (λ (i : ℕ). getD E i 0) (inverseBound P) (λ (i j : ℕ). getD L (i * I .n + j) 0)
-      (λ i l. rw eE (front-at (I .solutionBounds) (bound P) 0 (I .n) i l (omega (arith, fit .few, fit .solution-long))))
-      (λ i j li lj. rw eL (front-at (I .inverseBounds) (λ (k : ℕ). inverseBound P (k / I .n) (k % I .n)) 0 (I .n * I .n) (i * I .n + j) (place li lj) (omega (arith, square (fit .few), fit .inverse-long))
+      (λ i l. rw eE (front-at (I .solutionBounds) (bound P) 0 (I .n) i l (omega (arith, fit .n-max, fit .solution-long))))
+      (λ i j li lj. rw eL (front-at (I .inverseBounds) (λ (k : ℕ). inverseBound P (k / I .n) (k % I .n)) 0 (I .n * I .n) (i * I .n + j) (place li lj) (omega (arith, square (fit .n-max), fit .inverse-long))
       ∙ rw (place-column i j (I .n) lj, place-row i j (I .n) lj)))
       (encloses P (fit .heavy) margins)
 
@@ -125,5 +125,5 @@ module _ (I : Input) (e : short I ≡ false) (f : inRanges I ≡ true) where
         encloses = λ n.
             let s : checkedOf (problem I) ≡ [] = sym says ∙ n in
             written-encloses (hE ∙ accepted-new _ _ s) (hL ∙ accepted-new _ _ s) (code-sound (problem I) s .margins);
-        accepts = λ N q H q′ s r x. says ∙ sound-code (problem I) (fit .some) (rounded-sound (problem I) N q H q′ (fit .inverse-scale) x);
+        accepts = λ N q H q′ s r x. says ∙ sound-code (problem I) (fit .n-pos) (rounded-sound (problem I) N q H q′ (fit .inverse-scale) x);
       }

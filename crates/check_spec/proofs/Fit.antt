@@ -20,8 +20,8 @@ use Rattle.check_spec.specs.Input.{Input, short, inRanges, sizesInRange,
 use Rattle.check_spec.proofs.Lengths.{long-of}
 
 pub record Fit (I : Input) : Type 0 where
-  pub some : 0 < I .n
-  pub few : I .n ≤ 32
+  pub n-pos : 0 < I .n
+  pub n-max : I .n ≤ 32
   pub solution-scale : I .s ≤ 20
   pub inverse-scale : I .t ≤ 20
   pub matrix : MatrixList (I .matrix) (I .n)
@@ -47,22 +47,22 @@ fit-of I e f =
     let l1 : listsInRange (I .n) (I .matrix) (I .right) (I .tolerance) (I .guess) (I .inverse) (I .weights) ≡ true = both-right (sizesInRange (I .n) (I .s) (I .t)) _ f in
     let size = size-range (I .n) (both-left _ _ sizes) in
     let scales = both-right (inRange kind.Size (pos (I .n))) _ sizes in
-    let few : I .n ≤ 32 = size .1 in
+    let n-max : I .n ≤ 32 = size .1 in
     let l2 = both-right (allInRange kind.Matrix (I .n * I .n) (at (I .matrix))) _ l1 in
     let l3 = both-right (allInRange kind.Right (I .n) (at (I .right))) _ l2 in
     let l4 = both-right (allInRange kind.Tolerance (I .n) (at (I .tolerance))) _ l3 in
     let l5 = both-right (allInRange kind.Guess (I .n) (at (I .guess))) _ l4 in
     let l6 : allInRange kind.Weight (I .n) (at (I .weights)) ≡ true = both-right (allInRange kind.Inverse (I .n * I .n) (at (I .inverse))) _ l5 in
     record {
-      some = size .0;
-      few = few;
+      n-pos = size .0;
+      n-max = n-max;
       solution-scale = solution-scale-range (I .s) (both-left _ _ scales);
       inverse-scale = inverse-scale-range (I .t) (both-right (inRange kind.SolutionScale (pos (I .s))) _ scales);
-      matrix = squared kind.Matrix (I .matrix) (I .n) matrix-range (both-left _ _ l1) (omega (arith, square few, long .matrix));
+      matrix = squared kind.Matrix (I .matrix) (I .n) matrix-range (both-left _ _ l1) (omega (arith, square n-max, long .matrix));
       right = listed-column kind.Right (I .right) (I .n) (2 ^ 30) right-range (both-left _ _ l2) (omega (arith, long .right));
       tolerance = listed-column kind.Tolerance (I .tolerance) (I .n) (2 ^ 20) (λ z h. tolerance-range z h .1) (both-left _ _ l3) (omega (arith, long .tolerance));
       guess = listed-column kind.Guess (I .guess) (I .n) (2 ^ 36) guess-range (both-left _ _ l4) (omega (arith, long .guess));
-      inverse = squared kind.Inverse (I .inverse) (I .n) inverse-range (both-left _ _ l5) (omega (arith, square few, long .inverse));
+      inverse = squared kind.Inverse (I .inverse) (I .n) inverse-range (both-left _ _ l5) (omega (arith, square n-max, long .inverse));
       weights = listed-column kind.Weight (I .weights) (I .n) 1024 (λ z h. weight-range z h .1) l6 (omega (arith, long .weights));
       heavy = λ i l. weight-range (at (I .weights) i) (all-at kind.Weight (I .n) (at (I .weights)) l6 i l) .0;
       solution-long = long .solution;

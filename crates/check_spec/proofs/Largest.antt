@@ -21,7 +21,7 @@ module _ (I : Input) (fit : Fit I) (e : checkedOf (problem I) ≡ []) where
   pub solution-magnitude : (i : ℕ) → i < I .n → bound (problem I) i ≤ largestBound
   unfolding bound
   solution-magnitude = bound-magnitude (problem I) (residual (problem I)) (slack (problem I)) (record {
-    few = fit .few;
+    n-max = fit .n-max;
     inverse = λ i j li lj. fit .inverse .within .magnitudes (i * I .n + j) (place li lj);
     weights = fit .weights .within .magnitudes;
     residuals = λ k l. ltb-false allowedResidual (natAbs (residual (problem I) k) + slack (problem I) k) (exceeds-05 (problem I) k (code-sound (problem I) e .residuals k l));
@@ -31,7 +31,7 @@ module _ (I : Input) (fit : Fit I) (e : checkedOf (problem I) ≡ []) where
   pub inverse-magnitude : (i j : ℕ) → i < I .n → j < I .n → inverseBound (problem I) i j ≤ largestBound
   unfolding bound margin load defect
   inverse-magnitude i j li lj = bound-magnitude (columnOf (problem I) j) (residual (columnOf (problem I) j)) (slack (columnOf (problem I) j)) (record {
-    few = fit .few;
+    n-max = fit .n-max;
     inverse = λ i j li lj. fit .inverse .within .magnitudes (i * I .n + j) (place li lj);
     weights = fit .weights .within .magnitudes;
     residuals = λ k l. ltb-false allowedResidual (natAbs (residual (columnOf (problem I) j) k) + slack (columnOf (problem I) j) k) (exceeds-05 (columnOf (problem I) j) k (code-sound (problem I) e .columns j lj k l));

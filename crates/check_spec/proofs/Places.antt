@@ -30,7 +30,7 @@ module _ (P : Problem) where
           rw e (r (i % P .n) (omega (arith, div-add-mod' i (P .n), ap (λ (x : ℕ). x * P .n) e)))
 
   pub no-place : 0 < P .n → ((j : ℕ) → j < P .n → Residuals (columnOf P j)) → firstInversePlace P ≡ P .n * P .n
-  no-place some h = first-never (P .n * P .n) _ (λ i l. h (i / P .n) (div-lt-iff-lt-mul some .1 l) (i % P .n) (mod-lt i some))
+  no-place n-pos h = first-never (P .n * P .n) _ (λ i l. h (i / P .n) (div-lt-iff-lt-mul n-pos .1 l) (i % P .n) (mod-lt i n-pos))
 
   pub none-placed : P .n * P .n ≤ firstInversePlace P → (j : ℕ) → j < P .n → Residuals (columnOf P j)
   none-placed past j lj k lk =

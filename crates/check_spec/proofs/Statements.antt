@@ -42,17 +42,17 @@ module _ (I : Input) where
     says : {l : List ℕ} → checkedOf (problem I) ≡ l → answer I ≡ l
     says e = answer-ready I (u .long) (u .inside) ∙ e
 
-    some : 0 < I .n
-    some = fit-of I (u .long) (u .inside) .some
+    n-pos : 0 < I .n
+    n-pos = fit-of I (u .long) (u .inside) .n-pos
 
     -- 7 and acceptance
     at-columns : Margins (problem I) → Residuals (problem I) → firstMargin (problem I) ≡ I .n → firstResidual (problem I) ≡ I .n → Searched (I .n * I .n) large → Stated I (answer I)
     unfolding large
     at-columns m r e f (found i l g p h) =
         subst (Stated I) (sym (says (code-7 i e f g l)))
-        (inverse-large (i / I .n) (i % I .n) u m r (div-lt-iff-lt-mul some .1 l) (mod-lt i some) p
+        (inverse-large (i / I .n) (i % I .n) u m r (div-lt-iff-lt-mul n-pos .1 l) (mod-lt i n-pos) p
         (λ c lc x lx. rw (place-column c x (I .n) lx, place-row c x (I .n) lx) at (h (c * I .n + x) (below c x lc lx)))
-        (λ x lx. rw (place-column (i / I .n) x (I .n) (omega (arith, mod-lt i some)), place-row (i / I .n) x (I .n) (omega (arith, mod-lt i some))) at (h (i / I .n * I .n + x) (omega (arith, div-add-mod' i (I .n))))))
+        (λ x lx. rw (place-column (i / I .n) x (I .n) (omega (arith, mod-lt i n-pos)), place-row (i / I .n) x (I .n) (omega (arith, mod-lt i n-pos))) at (h (i / I .n * I .n + x) (omega (arith, div-add-mod' i (I .n))))))
       where
         below : (c x : ℕ) → c < i / I .n → x < I .n → c * I .n + x < i
         below c x lc lx = omega (arith, div-add-mod' i (I .n), mul-le-mul-right (I .n) lc)
@@ -91,7 +91,7 @@ module _ (I : Input) where
   code-of (inverse-large j k u m r lj lk p q h) =
       says u (code-7 (j * I .n + k) (no-margin m) (no-residual r) (first-place (problem I) j k lj lk p q h) (place lj lk)
       ∙ rw (place-column j k (I .n) lk, place-row j k (I .n) lk))
-  code-of (accepted u x) = says u (sound-code (problem I) (some u) x)
+  code-of (accepted u x) = says u (sound-code (problem I) (n-pos u) x)
 
 -- what is accepted is usable
 usable-of : (I : Input) {l : List ℕ} → Stated I l → l ≡ [] → Usable I

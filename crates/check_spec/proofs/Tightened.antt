@@ -82,7 +82,7 @@ module _ (I : Input) where
 
     -- a row of the guess is above its sum, before the old row
     to-row : I .n ≤ m → k ≤ I .n → k′ < k → FirstRow (problem I) k′ → Tightened I was is
-    to-row a few l f = go (decLe (I .n) k) (decLe (I .n * I .n) i)
+    to-row a n-max l f = go (decLe (I .n) k) (decLe (I .n * I .n) i)
       where
         go : Dec (I .n ≤ k) → Dec (I .n * I .n ≤ i) → Tightened I was is
         go (no b) c = pair (says-6 (I .n) m k i a (omega arith)) (says-6 (I .n) m k′ i′ a (omega arith)) (change.row-lower k k′ l f)
@@ -91,7 +91,7 @@ module _ (I : Input) where
 
     -- no row is, and a place of the inverse is, before the old place
     to-place : I .n ≤ m → I .n ≤ k → I .n ≤ k′ → i ≤ I .n * I .n → i′ < i → RowsKept (problem I) (I .n) → FirstPlace (problem I) i′ → Tightened I was is
-    to-place a b c few l h f = go (decLe (I .n * I .n) i)
+    to-place a b c n-max l h f = go (decLe (I .n * I .n) i)
       where
         go : Dec (I .n * I .n ≤ i) → Tightened I was is
         go (no d) = pair (says-7 (I .n) m k i a b (omega arith)) (says-7 (I .n) m k′ i′ a c (omega arith)) (change.place-lower i i′ l h f)
@@ -100,7 +100,7 @@ module _ (I : Input) where
   -- the same places
   stays-here : (m k i : ℕ) → I .n ≤ m → i ≤ I .n * I .n → RowsKept (problem I) k → (I .n ≤ k → PlacesKept (problem I) i) →
       Tightened I (verdict (computed (I .n) m k i)) (verdict (computed (I .n) m k i))
-  stays-here m k i a few h p = go (decLe (I .n) k) (decLe (I .n * I .n) i)
+  stays-here m k i a n-max h p = go (decLe (I .n) k) (decLe (I .n * I .n) i)
     where
       go : Dec (I .n ≤ k) → Dec (I .n * I .n ≤ i) → Tightened I (verdict (computed (I .n) m k i)) (verdict (computed (I .n) m k i))
       go (no b) c = pair (says-6 (I .n) m k i a (omega arith)) (says-6 (I .n) m k i a (omega arith)) (change.row-stays k h)

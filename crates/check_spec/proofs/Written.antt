@@ -42,11 +42,11 @@ module _ (I : Input) (e : answer I ≡ []) where
 
 module _ (I : Input) (fit : Fit I) where
   pub solution-at : (i : ℕ) → i < I .n → getD (solutionAfter [] I) i 0 ≡ bound (problem I) i
-  solution-at i l = front-at (I .solutionBounds) (bound (problem I)) 0 (I .n) i l (omega (arith, fit .few, fit .solution-long))
+  solution-at i l = front-at (I .solutionBounds) (bound (problem I)) 0 (I .n) i l (omega (arith, fit .n-max, fit .solution-long))
 
   pub inverse-place : (k : ℕ) → k < I .n * I .n → getD (inverseAfter [] I) k 0 ≡ inverseBound (problem I) (k / I .n) (k % I .n)
   inverse-place k l =
-      front-at (I .inverseBounds) (λ (k : ℕ). inverseBound (problem I) (k / I .n) (k % I .n)) 0 (I .n * I .n) k l (omega (arith, square (fit .few), fit .inverse-long))
+      front-at (I .inverseBounds) (λ (k : ℕ). inverseBound (problem I) (k / I .n) (k % I .n)) 0 (I .n * I .n) k l (omega (arith, square (fit .n-max), fit .inverse-long))
 
   pub inverse-at : (i j : ℕ) → i < I .n → j < I .n → getD (inverseAfter [] I) (i * I .n + j) 0 ≡ inverseBound (problem I) i j
   inverse-at i j li lj = inverse-place (i * I .n + j) (place li lj) ∙ rw (place-column i j (I .n) lj, place-row i j (I .n) lj)

@@ -73,7 +73,7 @@ pub equations-ready : (I J : Input) → answer I ≡ [] → answer J ≡ [] →
 equations-ready I J a b =
     let l = long I a in
     let m = long J b in
-    ((fit I a .few, (l .matrix, m .matrix)), ((l .right, m .right), (l .tolerance, m .tolerance)))
+    ((fit I a .n-max, (l .matrix, m .matrix)), ((l .right, m .right), (l .tolerance, m .tolerance)))
 
 pub meeting-ready : (Q : Proposals) → shortIntervals Q ≡ false → answer (Q .first) ≡ [] → answer (Q .second) ≡ [] → sameEquations (Q .first) (Q .second) ≡ true →
     ((Q .first .n ≤ 32) × ((Q .first .n ≤ length (Q .low)) × (Q .first .n ≤ length (Q .high))))
@@ -81,7 +81,7 @@ pub meeting-ready : (Q : Proposals) → shortIntervals Q ≡ false → answer (Q
 meeting-ready Q e a b s =
     let f = fit (Q .first) a in
     let g = fit (Q .second) b in (
-      (f .few, (long-low Q e a, long-high Q e a)),
+      (f .n-max, (long-low Q e a, long-high Q e a)),
       ((f .solution-scale, g .solution-scale), (f .guess, subst (λ (n : ℕ). ColumnList (Q .second .guess) n (2 ^ 36)) (sym (same-of (Q .first) (Q .second) s .n)) (g .guess))),
     )
 

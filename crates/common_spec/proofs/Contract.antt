@@ -65,14 +65,14 @@ module _ (Q : Proposals) where
 
 -- ---- room for the ends of n intervals
 module _ (Q : Proposals) (e : shortIntervals Q ≡ false) (a : answer (Q .first) ≡ []) where
-  few : Q .first .n ≤ 32
-  few = let u = accepted-usable (Q .first) a in fit-of (Q .first) (u .long) (u .inside) .few
+  n-max : Q .first .n ≤ 32
+  n-max = let u = accepted-usable (Q .first) a in fit-of (Q .first) (u .long) (u .inside) .n-max
 
   pub long-low : Q .first .n ≤ length (Q .low)
-  long-low = omega (arith, few, ltb-false (length (Q .low)) 32 (neither-left _ _ e))
+  long-low = omega (arith, n-max, ltb-false (length (Q .low)) 32 (neither-left _ _ e))
 
   pub long-high : Q .first .n ≤ length (Q .high)
-  long-high = omega (arith, few, ltb-false (length (Q .high)) 32 (neither-right (shortColumn (length (Q .low))) _ e))
+  long-high = omega (arith, n-max, ltb-false (length (Q .high)) 32 (neither-right (shortColumn (length (Q .low))) _ e))
 
 -- ---- the contract
 module _ (Q : Proposals) where

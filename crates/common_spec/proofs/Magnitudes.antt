@@ -47,8 +47,8 @@ end-magnitude Q e i l =
     let I : Input = Q .first in
     let J : Input = Q .second in
     let s : ℕ = finer I J in
-    let few : finer I J ≤ 20 = omega (arith, scale I (c .first), scale J (c .second)) in
+    let n-max : finer I J ≤ 20 = omega (arith, scale I (c .first), scale J (c .second)) in
     let lj : i < J .n = omega (arith, c .same .n) in (
-      max-either (lowOf s I i) (lowOf s J i) (λ (z : ℤ). natAbs z ≤ 2 ^ 57) (low-magnitude I (c .first) (c .first-narrow) s few i l) (low-magnitude J (c .second) (c .second-narrow) s few i lj),
-      min-either (highOf s I i) (highOf s J i) (λ (z : ℤ). natAbs z ≤ 2 ^ 57) (high-magnitude I (c .first) (c .first-narrow) s few i l) (high-magnitude J (c .second) (c .second-narrow) s few i lj),
+      max-either (lowOf s I i) (lowOf s J i) (λ (z : ℤ). natAbs z ≤ 2 ^ 57) (low-magnitude I (c .first) (c .first-narrow) s n-max i l) (low-magnitude J (c .second) (c .second-narrow) s n-max i lj),
+      min-either (highOf s I i) (highOf s J i) (λ (z : ℤ). natAbs z ≤ 2 ^ 57) (high-magnitude I (c .first) (c .first-narrow) s n-max i l) (high-magnitude J (c .second) (c .second-narrow) s n-max i lj),
     )

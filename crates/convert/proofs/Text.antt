@@ -51,7 +51,7 @@ module _ (file : List ℕ) {o p : List ℕ} {r : Conversion} (x : ConvertedAt fi
 
   module _ (kept : length p ≡ length o) where
     written-shown : {t q : List ℕ} {end : ℕ} → Wrote 32768 p 0 t q end → t ≡ convertedText file → Shown file end q
-    written-shown w e = (omega (arith, w .place, ap length e), taken-text w (omega (arith, kept, room)) ∙ e)
+    written-shown w e = (omega (arith, w .end-is, ap length e), taken-text w (omega (arith, kept, room)) ∙ e)
 
     pub shown-refusal : {f : Refusal} {q : List ℕ} {a : FileAnswer} → r .answer ≡ Refused f
         → Answered (printed (r .line) (numberOf f ∷ valuesOf f)) (refusedOf (printed (r .line) (numberOf f ∷ valuesOf f))) p q a → Shown file (a .length) q

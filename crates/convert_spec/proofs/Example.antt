@@ -121,8 +121,8 @@ unfolding valueFrom sizeFrom scalesFrom exceeds rowSum residual margin load defe
 shuffled-checked = refl
 
 pub shuffled-accepted-01 : (E L : List ℕ) → 32 ≤ length E → 1024 ≤ length L → answer01 (inputOld wholeFile E L) ≡ []
-shuffled-accepted-01 E L few many =
-    let a = same-limits shuffledFile 172 shuffled-converted E L few many .accepts (answer-is shuffledFile shuffledForms shuffled-spelled shuffled-passes shuffled-checked) in
+shuffled-accepted-01 E L n-max many =
+    let a = same-limits shuffledFile 172 shuffled-converted E L n-max many .accepts (answer-is shuffledFile shuffledForms shuffled-spelled shuffled-passes shuffled-checked) in
     rw shuffled-new at a
 
 -- ---- a file whose check is refused

@@ -74,7 +74,7 @@ numbers-through a b = record {
 
 -- ---- a state in its ranges that holds the numbers of P, which has no tolerance
 module _ (u : State) (P : Problem) (same : SameNumbers (problem (inputAt u)) P) (untolerant : NoTolerance P) (none : NoTolerance (problem (inputAt u))) (r : InRange u)
-    (lists : shortLists (u .lists) ≡ false) (E L : List ℕ) (few : 32 ≤ length E) (many : 1024 ≤ length L) where
+    (lists : shortLists (u .lists) ≡ false) (E L : List ℕ) (n-max : 32 ≤ length E) (many : 1024 ≤ length L) where
   abbrev I : Input
   I = inputOf u E L
 
@@ -86,7 +86,7 @@ module _ (u : State) (P : Problem) (same : SameNumbers (problem (inputAt u)) P) 
 
   accepts-here : checkedOf P ≡ [] → answer01 I ≡ []
   accepts-here e =
-      accepted-01 I (long-lent (u .lists) lists .tolerance) none (answer-ready I (enough u E L lists few many) (inside u E L r) ∙ same-check (problem I) P same tolerances ∙ e)
+      accepted-01 I (long-lent (u .lists) lists .tolerance) none (answer-ready I (enough u E L lists n-max many) (inside u E L r) ∙ same-check (problem I) P same tolerances ∙ e)
 
   module _ (e : answer01 I ≡ []) where
     bound-here : (i : ℕ) → i < P .n → getD (solutionAfter01 I) i 0 ≡ bound P i
@@ -103,7 +103,7 @@ module _ (u : State) (P : Problem) (same : SameNumbers (problem (inputAt u)) P) 
         ∙ same-inverse-bound (problem I) P same tolerances i j m k
 
 -- ---- the new file of a complete file without tolerance
-module _ (file : List ℕ) (c : Complete file) (z : NoTolerance (problemIn file)) (E L : List ℕ) (few : 32 ≤ length E) (many : 1024 ≤ length L) where
+module _ (file : List ℕ) (c : Complete file) (z : NoTolerance (problemIn file)) (E L : List ℕ) (n-max : 32 ≤ length E) (many : 1024 ≤ length L) where
   abbrev P : Problem
   P = problemIn file
 
@@ -133,7 +133,7 @@ module _ (file : List ℕ) (c : Complete file) (z : NoTolerance (problemIn file)
   pub same-limits : SameLimits file (newFile file) E L
   same-limits = record {
     numbers = rw (new-reading file c) same;
-    accepts = λ e. rw (new-reading file c) (accepts-here u P same z none ready lists E L few many (accepted-parts file e .quiet));
-    bounds = rw (new-reading file c) (bound-here u P same z none ready lists E L few many);
-    inverse-bounds = rw (new-reading file c) (inverse-bound-here u P same z none ready lists E L few many);
+    accepts = λ e. rw (new-reading file c) (accepts-here u P same z none ready lists E L n-max many (accepted-parts file e .quiet));
+    bounds = rw (new-reading file c) (bound-here u P same z none ready lists E L n-max many);
+    inverse-bounds = rw (new-reading file c) (inverse-bound-here u P same z none ready lists E L n-max many);
   }

@@ -52,18 +52,18 @@ whole-list g zero h = absurd (omega arith)
 whole-list g (suc m) h = let e : suc m - 1 ≡ m = omega arith in ap (λ (c : ℕ). g 0 ∷ numbersAlong g 1 c) e
 
 -- ---- a row of n numbers
-module _ (g : ℕ → ℤ) (n : ℕ) (some : 1 ≤ n) where
+module _ (g : ℕ → ℤ) (n : ℕ) (n-pos : 1 ≤ n) where
   abbrev pub numbers : List ℤ
   numbers = g 0 ∷ numbersAlong g 1 (n - 1)
 
   pub row-count : length numbers ≡ n
-  row-count = ap length (whole-list g n some) ∙ along-length g 0 n
+  row-count = ap length (whole-list g n n-pos) ∙ along-length g 0 n
 
   pub row-at : (j : ℕ) → j < n → getD numbers j (pos 0) ≡ g j
-  row-at j l = ap (λ (zs : List ℤ). getD zs j (pos 0)) (whole-list g n some) ∙ along-at g 0 n j l ∙ ap g (omega arith)
+  row-at j l = ap (λ (zs : List ℤ). getD zs j (pos 0)) (whole-list g n n-pos) ∙ along-at g 0 n j l ∙ ap g (omega arith)
 
   pub row-inside : (k : Kind) → ((m : ℕ) → m < n → inRange k (g m) ≡ true) → allInside k numbers ≡ true
-  row-inside k h = ap (allInside k) (whole-list g n some) ∙ along-inside k g n 0 n (omega arith) h
+  row-inside k h = ap (allInside k) (whole-list g n n-pos) ∙ along-inside k g n 0 n (omega arith) h
 
 -- ---- the form of a part for a row
 pub item-for : (P : Problem) (p : Part) (i : ℕ) → itemOf (formFor P p i) ≡ Of p (pos (suc i))
@@ -80,17 +80,17 @@ old-for P Guess i = refl
 old-for P Inverse i = refl
 old-for P Weight i = refl
 
-module _ (P : Problem) (some : 1 ≤ P .n) where
+module _ (P : Problem) (n-pos : 1 ≤ P .n) where
   pub miscounted-for : (p : Part) (i : ℕ) → miscounted (P .n) (formFor P p i) ≡ false
-  miscounted-for Row i = rw (eq-eqb (length (numbers (P .A i) (P .n) some)) (P .n) (row-count (P .A i) (P .n) some))
+  miscounted-for Row i = rw (eq-eqb (length (numbers (P .A i) (P .n) n-pos)) (P .n) (row-count (P .A i) (P .n) n-pos))
   miscounted-for Right i = refl
   miscounted-for Guess i = refl
-  miscounted-for Inverse i = rw (eq-eqb (length (numbers (P .G i) (P .n) some)) (P .n) (row-count (P .G i) (P .n) some))
+  miscounted-for Inverse i = rw (eq-eqb (length (numbers (P .G i) (P .n) n-pos)) (P .n) (row-count (P .G i) (P .n) n-pos))
   miscounted-for Weight i = refl
 
   pub outside-for : NumbersInRange P → (p : Part) (i : ℕ) → i < P .n → outside (formFor P p i) ≡ false
-  outside-for h Row i l = rw (row-inside (P .A i) (P .n) some kind.Matrix (λ j m. h .matrix i j l m))
+  outside-for h Row i l = rw (row-inside (P .A i) (P .n) n-pos kind.Matrix (λ j m. h .matrix i j l m))
   outside-for h Right i l = rw (h .right i l)
   outside-for h Guess i l = rw (h .guess i l)
-  outside-for h Inverse i l = rw (row-inside (P .G i) (P .n) some kind.Inverse (λ j m. h .inverse i j l m))
+  outside-for h Inverse i l = rw (row-inside (P .G i) (P .n) n-pos kind.Inverse (λ j m. h .inverse i j l m))
   outside-for h Weight i l = rw (h .weights i l)

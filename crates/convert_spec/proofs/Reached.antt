@@ -35,7 +35,7 @@ pub record GivenTo (n r : ℕ) (d : Loader) : Type 0 where
   pub done : (q : Part) (k : ℕ) → 1 ≤ k → k ≤ n → rank q k ≤ r → given (d .sets) q k ≡ true
   pub clear : (q : Part) (k : ℕ) → 1 ≤ k → k ≤ n → r < rank q k → given (d .sets) q k ≡ false
 
-module _ (n : ℕ) (few : n ≤ 32) where
+module _ (n : ℕ) (n-max : n ≤ 32) where
   -- one form more
   module _ {r : ℕ} {d : Loader} (h : GivenTo n r d) (p : Part) (i : ℕ) (from : 1 ≤ i) (to : i ≤ n) (next : rank p i ≡ suc r) where
     done-next : (q : Part) (k : ℕ) → 1 ≤ k → k ≤ n → rank q k ≤ rank p i → given (marked (d .sets) p i) q k ≡ true
@@ -73,7 +73,7 @@ total-none : (ps : List Part) (f : Part → ℕ) → ((q : Part) → f q ≡ 0) 
 total-none [] f h = refl
 total-none (q ∷ ps) f h = omega (arith, h q, total-none ps f h)
 
-module _ {n : ℕ} {d : Loader} (few : n ≤ 32) (h : GivenTo n 165 d) where
+module _ {n : ℕ} {d : Loader} (n-max : n ≤ 32) (h : GivenTo n 165 d) where
   all-there : (q : Part) → lacking (setOf (d .sets) q) n ≡ 0
   all-there q =
       none-lacking (setOf (d .sets) q) n

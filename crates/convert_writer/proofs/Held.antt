@@ -114,12 +114,12 @@ module _ (c : Collected) (r : InRange (stateOf c)) where
       Wrote (mostFor part) o from (formLine (formFor (heldBy c) part i)) p end
   line-of {o} {p} {t} {from} {end} {room} i l q {part} e s x =
       rw e (record {
-        place = x .place ∙ ap (λ (k : List ℕ). from + length k) s;
+        end-is = x .end-is ∙ ap (λ (k : List ℕ). from + length k) s;
         stored = x .stored ∙ ap (sets o from) s;
-        few =
+        end-max =
             omega (
               arith,
-              x .place ∙ ap (λ (k : List ℕ). from + length k) s,
+              x .end-is ∙ ap (λ (k : List ℕ). from + length k) s,
               length-append (spell (formFor (heldBy c) q i)) (10 ∷ []),
               part-most (heldBy c) held-in-range q i l,
               place-most (suc i) (omega (arith, size .1)),

@@ -27,7 +27,7 @@ module _ (d : Collected) where
   pub rest-written : n ≤ 32 → {b r g x v w z : List ℕ} {jb jr jg jx jv jw jz : ℕ}
       → Lines Row b jb r jr → Lines Right r jr g jg → Lines Guess g jg x jx → Lines Inverse x jx v jv → Lines Weight v jv w jw → Wrote 6 w jw (bytes "(end)\n") z jz
       → Wrote 21318 b jb (restOf (heldBy d)) z jz
-  rest-written few h3 h4 h5 h6 h7 h8 = wider 21318 (omega (arith, few)) (then h3 (then h4 (then h5 (then h6 (then h7 (called end-line h8))))))
+  rest-written n-max h3 h4 h5 h6 h7 h8 = wider 21318 (omega (arith, n-max)) (then h3 (then h4 (then h5 (then h6 (then h7 (called end-line h8))))))
 
   pub file-written : {k s t : ℕ} {o a b z : List ℕ} {ja jb jz : ℕ} → k ≡ n → s ≡ d .loader .s → t ≡ d .loader .t → Wrote 31 o 0 (formLine (problem (pos k))) a ja
       → Wrote 50 a ja (formLine (scale (pos s) (pos t))) b jb → Wrote 21318 b jb (restOf (heldBy d)) z jz → Wrote 32768 o 0 (oldFile (heldBy d)) z jz

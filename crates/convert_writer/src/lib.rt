@@ -50,11 +50,11 @@ fn put_integers(out: &mut [u8], at: usize, values: &[i64; 1024], start: usize, n
     requires { ⌜ SmallFrom (now values) start n ⌝ }
     ensures { λ r. ⌜ Wrote (n * 21) (now (out .entry)) at (integers n (λ (j : ℕ). number (now (values .entry)) (start + j))) (now (out .exit)) r ⌝ }
 {
-    let mut place = at;
+    let mut index = at;
     for j in 0..n {
-        place = put_next(out, place, j, values[start + j]);
+        index = put_next(out, index, j, values[start + j]);
     }
-    place
+    index
 }
 
 // (word i (v .. v))
@@ -116,11 +116,11 @@ fn put_part(out: &mut [u8], at: usize, part: Part, n: usize, c: Collected) -> us
     requires { ⌜ (n ≡ c .loader .n) × ((n ≤ 32) × (at + n * mostFor part + lineRoom ≤ length (now out))) ⌝ }
     ensures { λ r. ⌜ Wrote (n * mostFor part) (now (out .entry)) at (each n (λ (i : ℕ). formLine (formFor (heldBy c) part i))) (now (out .exit)) r ⌝ }
 {
-    let mut place = at;
+    let mut index = at;
     for i in 0..n {
-        place = put_line(out, place, part, i, n, c);
+        index = put_line(out, index, part, i, n, c);
     }
-    place
+    index
 }
 
 // (problem n)

@@ -36,15 +36,15 @@ module _ (tolerance : Bool) (o t : List ℕ) where
     handed-room = omega (arith, ltb-false (length o) (length t) (neither-right tolerance (ltb (length o) (length t)) e))
 
     pub handed : {p : List ℕ} {most end : ℕ} → Wrote most o 0 t p end → Delivered (unfit tolerance (length o) (length t)) t o p (Length end)
-    handed w = rw e (record { says = refl; size = omega (arith, w .place); bytes = from-start w (omega (arith, handed-room)) })
+    handed w = rw e (record { says = refl; size = omega (arith, w .end-is); bytes = from-start w (omega (arith, handed-room)) })
 
 -- ---- the first bytes of a buffer
 module _ {o t p : List ℕ} {end : ℕ} (w : Wrote 32768 o 0 t p end) (h : 32768 ≤ length o) where
   length-is : end ≡ length t
-  length-is = omega (arith, w .place)
+  length-is = omega (arith, w .end-is)
 
   pub taken-text : take end p ≡ t
-  taken-text = rw (from-start w (omega (arith, length-is, w .few))) (take-at t (drop (length t) o) end (sym length-is))
+  taken-text = rw (from-start w (omega (arith, length-is, w .end-max))) (take-at t (drop (length t) o) end (sym length-is))
 
   pub counted : end ≡ length (take end p)
   counted = length-is ∙ ap length (sym taken-text)

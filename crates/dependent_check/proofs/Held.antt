@@ -80,7 +80,7 @@ module _ (J : Nets) where
       fit = accepted-fit (J .main) main-accepted
 
       pub marks-few : J .main .n ≤ 32
-      marks-few = fit .few
+      marks-few = fit .n-max
 
       pub guess-known : ColumnList (J .main .guess) (J .main .n) (2 ^ 36)
       guess-known = fit .guess

@@ -26,19 +26,19 @@ row-past {k} {marks} p q =
 
 pub base-magnitude : (k : ℕ) {marks : ℕ} (base coupling guess : List ℤ) → marks ≤ 32 → natAbs (at base k) ≤ 2 ^ 50 → Reach coupling (k * marks) 1 marks (2 ^ 20) →
     ColumnList guess marks (2 ^ 36) → natAbs (residualFrom marks base coupling guess k) ≤ 2 ^ 62
-base-magnitude k {marks} base coupling guess few small h g =
+base-magnitude k {marks} base coupling guess n-max small h g =
     omega (
       arith,
       abs-sub (at base k) (apply marks (matrixOf coupling marks) (vectorOf guess) k),
       ap natAbs (dot-row marks coupling guess k),
       dot-magnitude coupling (k * marks) 1 guess 0 1 marks (2 ^ 20) (2 ^ 36) h (list-reach g),
-      mul-le-mul-right (2 ^ 20 * 2 ^ 36) few,
+      mul-le-mul-right (2 ^ 20 * 2 ^ 36) n-max,
     )
 
-module _ {xs : List ℤ} (k : ℕ) {marks : ℕ} (few : marks ≤ 32) (h : Reach xs (k * marks) 1 marks (2 ^ 20)) (limits : List ℕ) where
+module _ {xs : List ℤ} (k : ℕ) {marks : ℕ} (n-max : marks ≤ 32) (h : Reach xs (k * marks) 1 marks (2 ^ 20)) (limits : List ℕ) where
   pub carried-magnitude : (j : ℕ) → j ≤ marks → sumℕ j (λ (i : ℕ). natAbs (matrixOf xs marks k i) * min (getD limits i 0) limitCap) ≤ 2 ^ 51
   carried-magnitude j m =
       let term : (i : ℕ) → i < j → natAbs (matrixOf xs marks k i) * min (getD limits i 0) limitCap ≤ 2 ^ 20 * limitCap =
       λ i l.
       let b : min (getD limits i 0) limitCap ≤ limitCap = omega arith in mul-le-mul (rw (row-place marks k (carried (k * marks) 1 i)) at (h .magnitudes i (omega arith))) b in
-      omega (arith, sumℕ≤ j (2 ^ 20 * limitCap) (λ (i : ℕ). natAbs (matrixOf xs marks k i) * min (getD limits i 0) limitCap) term, mul-le-mul-right (2 ^ 20 * limitCap) m, mul-le-mul-right (2 ^ 20 * limitCap) few)
+      omega (arith, sumℕ≤ j (2 ^ 20 * limitCap) (λ (i : ℕ). natAbs (matrixOf xs marks k i) * min (getD limits i 0) limitCap) term, mul-le-mul-right (2 ^ 20 * limitCap) m, mul-le-mul-right (2 ^ 20 * limitCap) n-max)

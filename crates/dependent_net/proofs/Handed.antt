@@ -74,15 +74,15 @@ pub record HandedDependent (marks : ℕ) (guess : List ℤ) (limits : List ℕ) 
 -- C, as far as it is used
 pub coupling-list : (marks : ℕ) (coupling : List ℤ) (n : ℕ) → n ≤ 32 → marks ≤ 32 → 1024 ≤ length coupling → allInRange kind.Matrix (n * marks) (at coupling) ≡ true →
     ColumnList coupling (n * marks) (2 ^ 20)
-coupling-list marks coupling n few m long e = record {
-  long = omega (arith, mul-le-mul-right marks few);
+coupling-list marks coupling n n-max m long e = record {
+  long = omega (arith, mul-le-mul-right marks n-max);
   within = record { magnitudes = λ k l. matrix-range (at coupling k) (all-at kind.Matrix (n * marks) (at coupling) e k l) };
 }
 
 -- S·b2 and S·d2
 pub scaled-list : (I : Input) → Fit I → {p : List ℤ} → length p ≡ 32 → PrefixIs (pos 0) p (I .n) (λ (k : ℕ). pos (2 ^ I .s) *ℤ at (I .right) k) → ColumnList p (I .n) (2 ^ 50)
 scaled-list I fit {p} long h = record {
-  long = omega (arith, fit .few);
+  long = omega (arith, fit .n-max);
   within = record { magnitudes = λ k l. rw (h .each k l) (scaled-magnitude (I .s) (at (I .right) k) (fit .solution-scale) (fit .right .within .magnitudes k l)) };
 }
 
@@ -93,7 +93,7 @@ module _ (marks s₁ : ℕ) (guess : List ℤ) (limits : List ℕ) (coupling : L
   abbrev D : DependentNet
   D = dependentBy marks s₁ (vectorOf guess) (λ j. getD limits j 0) coupling I
 
-  module _ (few : marks ≤ 32) (known : ColumnList guess marks (2 ^ 36)) (u : UsableDependent D)
+  module _ (n-max : marks ≤ 32) (known : ColumnList guess marks (2 ^ 36)) (u : UsableDependent D)
       {p b a c : List ℤ} {τ σ w : List ℕ} (h : HandedDependent marks guess limits coupling I p b τ σ a w c) where
     abbrev W : Work
     W = work (I .n) (I .t) (I .matrix) b a c σ (I .guess) (I .inverse) (I .weights) (I .solutionBounds) (I .inverseBounds)
@@ -103,7 +103,7 @@ module _ (marks s₁ : ℕ) (guess : List ℤ) (limits : List ℕ) (coupling : L
 
     coupled : ColumnList coupling (I .n * marks) (2 ^ 20)
     coupled =
-        coupling-list marks coupling (I .n) (fit .few) few (ltb-false (length coupling) 1024 (neither-left _ _ (u .long)))
+        coupling-list marks coupling (I .n) (fit .n-max) n-max (ltb-false (length coupling) 1024 (neither-left _ _ (u .long)))
         (both-right (eqb (I .s) s₁) _ (both-right (inRanges I) _ (u .inside)))
 
     sum-is : (k : ℕ) → k < I .n → getD w k 0 ≡ rowSum (ownProblem D) k
@@ -112,7 +112,7 @@ module _ (marks s₁ : ℕ) (guess : List ℤ) (limits : List ℕ) (coupling : L
 
     -- 2^25 in every row
     alone : (k : ℕ) → k < I .n → getD (replicate 32 allowedResidual) k 0 ≡ allowedResidual
-    alone k l = getD-replicate 32 k allowedResidual 0 (omega (arith, fit .few))
+    alone k l = getD-replicate 32 k allowedResidual 0 (omega (arith, fit .n-max))
 
     allowed-is : (k : ℕ) → k < I .n → (z : ℤ) → aboveAllowed (at a k) z ≡ ltb allowedResidual (natAbs z + getD σ k 0)
     allowed-is k l z =
@@ -121,24 +121,24 @@ module _ (marks s₁ : ℕ) (guess : List ℤ) (limits : List ℕ) (coupling : L
     pub workable : Workable W
     unfolding rowSum
     workable = record {
-      some = fit .some;
-      few = fit .few;
+      n-pos = fit .n-pos;
+      n-max = fit .n-max;
       inverse-scale = fit .inverse-scale;
       matrix = fit .matrix;
       base = record {
-        long = omega (arith, h .base-long, fit .few);
+        long = omega (arith, h .base-long, fit .n-max);
         within = record {
           magnitudes = λ k l. rw (h .base .each k l)
-              (base-magnitude k p coupling guess few (scaled-list I fit (h .scaled-long) (h .scaled) .within .magnitudes k l) (row-reach coupled k l) known);
+              (base-magnitude k p coupling guess n-max (scaled-list I fit (h .scaled-long) (h .scaled) .within .magnitudes k l) (row-reach coupled k l) known);
         };
       };
-      allowed = record { long = omega (arith, h .allowed-long, fit .few); within = record { magnitudes = λ k l. rw (h .allowed .each k l) (allowed-magnitude (getD σ k 0) _) } };
+      allowed = record { long = omega (arith, h .allowed-long, fit .n-max); within = record { magnitudes = λ k l. rw (h .allowed .each k l) (allowed-magnitude (getD σ k 0) _) } };
       room = λ k l z e. ltb-false allowedResidual (natAbs z + getD σ k 0) (sym (allowed-is k l z) ∙ e);
       in-columns = record {
-        long = omega (arith, h .in-columns-long, fit .few);
+        long = omega (arith, h .in-columns-long, fit .n-max);
         within = record { magnitudes = λ k l. rw (h .in-columns .each k l) (allowed-magnitude (getD (replicate 32 0) k 0) (getD w k 0)) };
       };
-      column-rule = λ k l. h .in-columns .each k l ∙ ap₂ allowedBeside (getD-replicate 32 k 0 0 (omega (arith, fit .few))) (sum-is k l);
+      column-rule = λ k l. h .in-columns .each k l ∙ ap₂ allowedBeside (getD-replicate 32 k 0 0 (omega (arith, fit .n-max))) (sum-is k l);
       guess = fit .guess;
       inverse = fit .inverse;
       weights = fit .weights;

@@ -94,10 +94,10 @@ module _ (J : Nets) where
               encloses-both-as J (bound (problem (J .main))) (λ (i : ℕ). getD E₁ i 0) (inverseBound (problem (J .main))) (λ (i j : ℕ). getD L₁ (i * J .main .n + j) 0)
               (dependentBound (dependentOf J)) (λ (i : ℕ). getD E₂ i 0) (inverseBound (problem (J .dependent))) (λ (i j : ℕ). getD L₂ (i * n + j) 0)
               (written-encloses (J .main) (usable .long) (usable .inside) h₁ g₁ margins)
-              (λ i l. rw h₁ (front-at (J .main .solutionBounds) (bound (problem (J .main))) 0 (J .main .n) i l (omega (arith, fit₁ .few, fit₁ .solution-long))))
-              (λ i l. rw h₂ (front-at (J .dependent .solutionBounds) (dependentBound (dependentOf J)) 0 n i l (omega (arith, fit₂ .few, fit₂ .solution-long))))
+              (λ i l. rw h₁ (front-at (J .main .solutionBounds) (bound (problem (J .main))) 0 (J .main .n) i l (omega (arith, fit₁ .n-max, fit₁ .solution-long))))
+              (λ i l. rw h₂ (front-at (J .dependent .solutionBounds) (dependentBound (dependentOf J)) 0 n i l (omega (arith, fit₂ .n-max, fit₂ .solution-long))))
               (λ i j li lj. rw g₂ (front-at (J .dependent .inverseBounds) (λ (k : ℕ). inverseBound (problem (J .dependent)) (k / n) (k % n)) 0 (n * n) (i * n + j) (place li lj)
-              (omega (arith, square (fit₂ .few), fit₂ .inverse-long)) ∙ rw (place-column i j n lj, place-row i j n lj)))
+              (omega (arith, square (fit₂ .n-max), fit₂ .inverse-long)) ∙ rw (place-column i j n lj, place-row i j n lj)))
               (encloses-both J one-scale (fit₁ .heavy) (fit₂ .heavy) margins (passed .margins));
         }
 

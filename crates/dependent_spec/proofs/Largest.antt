@@ -31,7 +31,7 @@ dependent-magnitude D e =
     let p = passed-of D e in
     let fit = own-fit D (p .usable) in
     bound-magnitude (ownProblem D) (dependentResidual D) (dependentSlack D) (record {
-      few = fit .few;
+      n-max = fit .n-max;
       inverse = λ i j li lj. fit .inverse .within .magnitudes (i * D .own .n + j) (place li lj);
       weights = fit .weights .within .magnitudes;
       residuals = λ k l. ltb-false allowedResidual (natAbs (dependentResidual D k) + dependentSlack D k) (p .residuals k l);

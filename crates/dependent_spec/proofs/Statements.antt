@@ -71,8 +71,8 @@ module _ (D : DependentNet) where
     says : {l : List ℕ} → dependentComputed D ≡ l → dependentAnswer D ≡ l
     says e = answer-ready (u .long) (u .inside) ∙ e
 
-    some : 0 < n
-    some = own-fit u .some
+    n-pos : 0 < n
+    n-pos = own-fit u .n-pos
 
     -- 7 and acceptance
     at-columns : Margins (ownProblem D) → DependentResiduals D → firstMargin (ownProblem D) ≡ n → firstDependentResidual D ≡ n → Searched (n * n) large →
@@ -80,9 +80,9 @@ module _ (D : DependentNet) where
     unfolding large
     at-columns m r e f (found i l g p h) =
         subst (StatedDependent D) (sym (says (code-7 i e f g l)))
-        (inverse-large (i / n) (i % n) u m r (div-lt-iff-lt-mul some .1 l) (mod-lt i some) p
+        (inverse-large (i / n) (i % n) u m r (div-lt-iff-lt-mul n-pos .1 l) (mod-lt i n-pos) p
         (λ c lc x lx. rw (place-column c x n lx, place-row c x n lx) at (h (c * n + x) (below c x lc lx)))
-        (λ x lx. rw (place-column (i / n) x n (omega (arith, mod-lt i some)), place-row (i / n) x n (omega (arith, mod-lt i some))) at (h (i / n * n + x) (omega (arith, div-add-mod' i n)))))
+        (λ x lx. rw (place-column (i / n) x n (omega (arith, mod-lt i n-pos)), place-row (i / n) x n (omega (arith, mod-lt i n-pos))) at (h (i / n * n + x) (omega (arith, div-add-mod' i n)))))
       where
         below : (c x : ℕ) → c < i / n → x < n → c * n + x < i
         below c x lc lx = omega (arith, div-add-mod' i n, mul-le-mul-right n lc)
@@ -120,7 +120,7 @@ module _ (D : DependentNet) where
   code-of-dependent (inverse-large j k u m r lj lk p q h) =
       says u (code-7 (j * n + k) (no-margin m) (no-residual r) (first-place (ownProblem D) j k lj lk p q h) (place lj lk)
       ∙ rw (place-column j k n lk, place-row j k n lk))
-  code-of-dependent (accepted u m r c) = says u (code-0 (no-margin m) (no-residual r) (no-place (ownProblem D) (some u) c))
+  code-of-dependent (accepted u m r c) = says u (code-0 (no-margin m) (no-residual r) (no-place (ownProblem D) (n-pos u) c))
 
 -- ---- nothing is said of the dependent net
 pub record Passed (D : DependentNet) : Type 0 where

@@ -37,7 +37,7 @@ same-rest w n xs f p i l = rw p (past-kept 0 w n xs f i l)
 -- the limits of the inverse, place by place
 inverse-places : (I J : Input) (a : Agree I J) → 0 < I .n → (k : ℕ) → k < I .n * I .n →
     inverseBound (problem I) (k / I .n) (k % I .n) ≡ inverseBound (problem (like I J a)) (k / I .n) (k % I .n)
-inverse-places I J a some k l = like-inverse I J a (k / I .n) (k % I .n) (div-lt-iff-lt-mul some .1 l) (mod-lt k some)
+inverse-places I J a n-pos k l = like-inverse I J a (k / I .n) (k % I .n) (div-lt-iff-lt-mul n-pos .1 l) (mod-lt k n-pos)
 
 pub same-together : (J K : Nets) → AgreeingNets J K → {r r′ : CheckedNets} {E₁ L₁ E₂ L₂ E₁′ L₁′ E₂′ L₂′ : List ℕ} →
     CheckedTogether J r E₁ L₁ E₂ L₂ → CheckedTogether K r′ E₁′ L₁′ E₂′ L₂′ → SameTogether J r r′ E₁ L₁ E₂ L₂ E₁′ L₁′ E₂′ L₂′
@@ -46,23 +46,23 @@ same-together J K a {r} {r′} {E₁} {L₁} {E₂} {L₂} {E₁′} {L₁′} {
   main-solution = λ z.
       let f = fit₁ z in
       same-written 0 n₁ (J .main .solutionBounds) (K .main .solutionBounds) (bound (problem (J .main))) (bound (problem (K′ J K a .main)))
-      (omega (arith, f .few, f .solution-long)) (omega (arith, f .few, long-of (K .main) (a .main .long′) .solution)) (like-bound (J .main) (K .main) (a .main))
+      (omega (arith, f .n-max, f .solution-long)) (omega (arith, f .n-max, long-of (K .main) (a .main .long′) .solution)) (like-bound (J .main) (K .main) (a .main))
       (c .main-solution ∙ accepted-new _ _ (none z)) (d′ .main-solution ∙ accepted-new _ _ (none′ z));
   main-inverse = λ z.
       let f = fit₁ z in
       same-written 0 (n₁ * n₁) (J .main .inverseBounds) (K .main .inverseBounds) _ _
-      (omega (arith, square (f .few), f .inverse-long)) (omega (arith, square (f .few), long-of (K .main) (a .main .long′) .inverses)) (inverse-places (J .main) (K .main) (a .main) (f .some))
+      (omega (arith, square (f .n-max), f .inverse-long)) (omega (arith, square (f .n-max), long-of (K .main) (a .main .long′) .inverses)) (inverse-places (J .main) (K .main) (a .main) (f .n-pos))
       (c .main-inverse ∙ accepted-new _ _ (none z)) (d′ .main-inverse ∙ accepted-new _ _ (none′ z));
   dependent-solution = λ z.
       let f = fit₂ z in
       same-written 0 n₂ (J .dependent .solutionBounds) (K .dependent .solutionBounds) (dependentBound (dependentOf J)) (dependentBound (dependentOf (K′ J K a)))
-      (omega (arith, f .few, f .solution-long)) (omega (arith, f .few, long-of (K .dependent) (a .dependent .long′) .solution)) (bound-alike J K a)
+      (omega (arith, f .n-max, f .solution-long)) (omega (arith, f .n-max, long-of (K .dependent) (a .dependent .long′) .solution)) (bound-alike J K a)
       (c .dependent-solution ∙ accepted-new _ _ (none z)) (d′ .dependent-solution ∙ accepted-new _ _ (none′ z));
   dependent-inverse = λ z.
       let f = fit₂ z in
       same-written 0 (n₂ * n₂) (J .dependent .inverseBounds) (K .dependent .inverseBounds) _ _
-      (omega (arith, square (f .few), f .inverse-long)) (omega (arith, square (f .few), long-of (K .dependent) (a .dependent .long′) .inverses))
-      (inverse-places (J .dependent) (K .dependent) (a .dependent) (f .some))
+      (omega (arith, square (f .n-max), f .inverse-long)) (omega (arith, square (f .n-max), long-of (K .dependent) (a .dependent .long′) .inverses))
+      (inverse-places (J .dependent) (K .dependent) (a .dependent) (f .n-pos))
       (c .dependent-inverse ∙ accepted-new _ _ (none z)) (d′ .dependent-inverse ∙ accepted-new _ _ (none′ z));
 }
   where

@@ -142,7 +142,7 @@ module _ (s : ℕ) (x : Float) where
   -- with at most 2^20 steps to one, whatever is below 2^-1022 in absolute value gives 0
   pub guess-tiny : natAbs (whole x) < 2 ^ 52 → s ≤ 20 → guessFor s x ≡ pos 0
   unfolding guessFor
-  guess-tiny h few =
+  guess-tiny h s-max =
       let a : natAbs (whole x) * 2 ^ s < 2 ^ (52 + s) = shl-lt 52 s h in
       let b : 2 ^ (52 + s) ≤ 2 ^ 72 = pow-mono {i = 52 + s} {j = 72} (omega arith) in
       let c : natAbs (whole x *ℤ pos (2 ^ s)) ≡ natAbs (whole x) * 2 ^ s = abs-* (whole x) (pos (2 ^ s)) in

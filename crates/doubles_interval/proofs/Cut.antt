@@ -50,7 +50,7 @@ pub record Cut (n q c k : ℕ) : Type 0 where
   pub low : q * 2 ^ k ≤ n
   pub high : n ≤ c * 2 ^ k
   pub narrow : q ≤ 2 ^ 53
-  pub wide : c ≤ 2 ^ 53
+  pub digits-max : c ≤ 2 ^ 53
   pub next : c ≤ q + 1
   pub most : (q' k' : ℕ) → q' < 2 ^ 53 → q' * 2 ^ k' ≤ n → q' * 2 ^ k' ≤ q * 2 ^ k
   pub least : (q' k' : ℕ) → q' < 2 ^ 53 → n ≤ q' * 2 ^ k' → c * 2 ^ k ≤ q' * 2 ^ k'
@@ -80,7 +80,7 @@ module _ (n k : ℕ) (small : n / 2 ^ k < 2 ^ 53) where
     low = low;
     high = ceil-covers n P (pow-pos k);
     narrow = omega arith;
-    wide = omega (arith, next);
+    digits-max = omega (arith, next);
     next = next;
     most = λ q' k' l h. le-trans h e;
     least = λ q' k' l h. le-trans (mul-le-mul-right P (ceil-least n P q (pow-pos k) e)) (le-trans low h);
@@ -92,7 +92,7 @@ module _ (n k : ℕ) (small : n / 2 ^ k < 2 ^ 53) where
     low = low;
     high = ceil-covers n P (pow-pos k);
     narrow = omega arith;
-    wide = omega (arith, next);
+    digits-max = omega (arith, next);
     next = next;
     most = λ q' k' l h. by-order (q' * 2 ^ k') (q * P) (λ above. omega (arith, gap q k q' k' Q l above, high));
     least = λ q' k' l h. by-exact (q' * 2 ^ k') h (λ above. gap q k q' k' Q l above);

@@ -76,11 +76,11 @@ module _ (s : Bool) (n : ℕ) (small : n < endRoom) where
 
   away-value : HasValue (away s n) s high (2 ^ 1074)
   unfolding away
-  away-value = units-value s (ceilDiv n (2 ^ k)) k (c .wide) high-room
+  away-value = units-value s (ceilDiv n (2 ^ k)) k (c .digits-max) high-room
 
   away-double : Double (away s n)
   unfolding away
-  away-double = units-double s (ceilDiv n (2 ^ k)) k (c .wide) high-room
+  away-double = units-double s (ceilDiv n (2 ^ k)) k (c .digits-max) high-room
 
   low-some : 0 < n → 0 < low
   low-some h = c .most 1 0 (omega arith) h

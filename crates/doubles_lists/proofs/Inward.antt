@@ -44,10 +44,10 @@ pub record ReadyInward (I : Incoming) : Type 0 where
 module _ (I : Incoming) where
   pub ready : shortIncoming I ≡ false → exchangeSizes (I .n) (I .s) ≡ true → ReadyInward I
   ready e f =
-      let few = size-range (I .n) (both-left (inRange kind.Size (pos (I .n))) _ f) .1 in
+      let n-max = size-range (I .n) (both-left (inRange kind.Size (pos (I .n))) _ f) .1 in
       record {
-        values = omega (arith, few, ltb-false (length (I .values)) 32 (neither-left _ _ e));
-        guess = omega (arith, few, ltb-false (length (I .guess)) 32 (neither-right (shortColumn (length (I .values))) _ e));
+        values = omega (arith, n-max, ltb-false (length (I .values)) 32 (neither-left _ _ e));
+        guess = omega (arith, n-max, ltb-false (length (I .guess)) 32 (neither-right (shortColumn (length (I .values))) _ e));
         scale = solution-scale-range (I .s) (both-right (inRange kind.Size (pos (I .n))) _ f);
       }
 

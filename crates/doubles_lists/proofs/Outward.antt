@@ -41,14 +41,14 @@ pub record ReadyOutward (I : Outgoing) : Type 0 where
 module _ (I : Outgoing) where
   pub ready : shortOutgoing I ≡ false → exchangeSizes (I .n) (I .s) ≡ true → ReadyOutward I
   ready e1 f =
-      let few = size-range (I .n) (both-left (inRange kind.Size (pos (I .n))) _ f) .1 in
+      let n-max = size-range (I .n) (both-left (inRange kind.Size (pos (I .n))) _ f) .1 in
       let e2 = neither-right (shortColumn (length (I .guess))) _ e1 in
       let e3 = neither-right (shortColumn (length (I .bounds))) _ e2 in
       record {
-        guess = omega (arith, few, ltb-false (length (I .guess)) 32 (neither-left _ _ e1));
-        bounds = omega (arith, few, ltb-false (length (I .bounds)) 32 (neither-left _ _ e2));
-        low = omega (arith, few, ltb-false (length (I .low)) 32 (neither-left _ _ e3));
-        high = omega (arith, few, ltb-false (length (I .high)) 32 (neither-right (shortColumn (length (I .low))) _ e3));
+        guess = omega (arith, n-max, ltb-false (length (I .guess)) 32 (neither-left _ _ e1));
+        bounds = omega (arith, n-max, ltb-false (length (I .bounds)) 32 (neither-left _ _ e2));
+        low = omega (arith, n-max, ltb-false (length (I .low)) 32 (neither-left _ _ e3));
+        high = omega (arith, n-max, ltb-false (length (I .high)) 32 (neither-right (shortColumn (length (I .low))) _ e3));
       }
 
   pub small-intervals : outgoingInRanges I ≡ true → SmallIntervals (I .n) (I .s) (I .guess) (I .bounds)

@@ -64,10 +64,10 @@ steps-taken s x y d w h = both (is-true (finite y) (d .finite)) (ap (inRange kin
 module _ (n s : ℕ) (guess : List ℤ) (bounds : List ℕ) (low high : List Float) where
   pub numbers-taken : 0 < n → n ≤ 32 → s ≤ 20 → 32 ≤ length guess → 32 ≤ length bounds → 32 ≤ length low → 32 ≤ length high →
       ((i : ℕ) → i < n → natAbs (at guess i) ≤ 2 ^ 36) → ((i : ℕ) → i < n → getD bounds i 0 ≤ 2 ^ 60) → outwardAnswer (outgoing n s guess bounds low high) ≡ []
-  numbers-taken some few scale hx he hl hh x e =
+  numbers-taken n-pos n-max scale hx he hl hh x e =
       outward.code-nothing (outgoing n s guess bounds low high) .1 (
         rw (le-ltb (length guess) 32 hx, le-ltb (length bounds) 32 he, le-ltb (length low) 32 hl, le-ltb (length high) 32 hh),
-        both (both (in-size-range n some few) (in-scale s scale))
+        both (both (in-size-range n n-pos n-max) (in-scale s scale))
             (both (all-in kind.Guess n (at guess) (λ i l. in-guess (at guess i) (x i l))) (every-in n _ (λ i l. le-leb (getD bounds i 0) (2 ^ 60) (e i l)))),
       )
 
@@ -76,8 +76,8 @@ pub written-taken : (J : Input) → Usable J → (f : ℕ → ℕ) {E : List ℕ
 written-taken J u f {E} e small low high hl hh =
     let fit = fit-of J (u .long) (u .inside) in
     let long : length E ≡ length (J .solutionBounds) = ap length e ∙ written-length (J .solutionBounds) 0 1 f (J .n) in
-    let at-place : (i : ℕ) → i < J .n → getD E i 0 ≡ f i = λ i l. rw e (front-at (J .solutionBounds) f 0 (J .n) i l (omega (arith, fit .few, fit .solution-long))) in
-    numbers-taken (J .n) (J .s) (J .guess) E low high (fit .some) (fit .few) (fit .solution-scale) (long-of J (u .long) .guess) (omega (arith, long, fit .solution-long)) hl hh (fit .guess .within .magnitudes)
+    let at-place : (i : ℕ) → i < J .n → getD E i 0 ≡ f i = λ i l. rw e (front-at (J .solutionBounds) f 0 (J .n) i l (omega (arith, fit .n-max, fit .solution-long))) in
+    numbers-taken (J .n) (J .s) (J .guess) E low high (fit .n-pos) (fit .n-max) (fit .solution-scale) (long-of J (u .long) .guess) (omega (arith, long, fit .solution-long)) hl hh (fit .guess .within .magnitudes)
     (λ i l. rw (at-place i l) (small i l))
 
 pub checked-taken : (J : Input) {a : Outcome} {E L : List ℕ} → Checked J a E L → code a ≡ [] → (low high : List Float) → 32 ≤ length low → 32 ≤ length high →

@@ -14,7 +14,7 @@ use Rattle.enclosure.specs.Largest.{largestMagnitude, largestBound}
 use Rattle.enclosure.proofs.Bounds.{bound-least}
 
 pub record SmallProblem (P : Problem) (r : Vec) (σ : ℕ → ℕ) : Type 0 where
-  pub few : P .n ≤ 32
+  pub n-max : P .n ≤ 32
   pub inverse : (i j : ℕ) → i < P .n → j < P .n → natAbs (P .G i j) ≤ 2 ^ 20
   pub weights : (i : ℕ) → i < P .n → P .w i ≤ 1024
   pub residuals : (k : ℕ) → k < P .n → natAbs (r k) + σ k ≤ allowedResidual
@@ -24,7 +24,7 @@ module _ (P : Problem) (r : Vec) (σ : ℕ → ℕ) (h : SmallProblem P r σ) wh
   magnitudes-most : (m : ℕ) → m < P .n → magnitudesWith P r σ m ≤ largestMagnitude
   unfolding magnitudesWith
   magnitudes-most m l =
-      omega (arith, joint (P .n) (2 ^ 20) allowedResidual (P .G) r σ m (λ j lj. h .inverse m j l lj) (h .residuals), mul-le-mul-right (2 ^ 45) (h .few))
+      omega (arith, joint (P .n) (2 ^ 20) allowedResidual (P .G) r σ m (λ j lj. h .inverse m j l lj) (h .residuals), mul-le-mul-right (2 ^ 45) (h .n-max))
 
   times : (w p g : ℕ) → w ≤ 1024 → p ≤ 2 ^ 50 → 0 < g → w * p ≤ 2 ^ 60 * g
   times w p g a b c = omega (arith, mul-le-mul a b)

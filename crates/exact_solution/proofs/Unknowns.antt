@@ -61,7 +61,7 @@ pub record Kernel (n m : ℕ) (B : Mat) : Type 0 where
   pub v : Vec
   pub at : ℕ
   pub below : at < m
-  pub some : 0 < natAbs (v at)
+  pub pivot-pos : 0 < natAbs (v at)
   pub zero : (k : ℕ) → k < n → apply m B v k ≡ pos 0
 
 -- ---- the last equation has no coefficient
@@ -79,7 +79,7 @@ module _ (n : ℕ) (B : Mat) (none : (j : ℕ) → j < suc (suc n) → B n j ≡
     v = longer;
     at = K .at;
     below = omega (arith, K .below);
-    some = rw (same (K .at) (K .below)) (K .some);
+    pivot-pos = rw (same (K .at) (K .below)) (K .pivot-pos);
     zero = λ k l. upto (λ (i : ℕ). sum (suc (suc n)) (λ (j : ℕ). B i j *ℤ longer j) ≡ pos 0) n k l earlier last;
   }
     where
@@ -97,7 +97,7 @@ module _ (n : ℕ) (B : Mat) (none : (j : ℕ) → j < suc (suc n) → B n j ≡
 abbrev reduced : ℕ → ℕ → Mat → Mat
 reduced n p B k j = B n p *ℤ B k (skip p j) -ℤ B k p *ℤ B n (skip p j)
 
-module _ (n p : ℕ) (B : Mat) (inside : p < suc (suc n)) (some : 0 < natAbs (B n p)) (K : Kernel n (suc n) (reduced n p B)) where
+module _ (n p : ℕ) (B : Mat) (inside : p < suc (suc n)) (pivot-pos : 0 < natAbs (B n p)) (K : Kernel n (suc n) (reduced n p B)) where
   -- the sums of row k over the other places
   unfoldable rest : ℕ → ℤ
   rest k = sum (suc n) (λ (j : ℕ). B k (skip p j) *ℤ K .v j)
@@ -133,7 +133,7 @@ module _ (n p : ℕ) (B : Mat) (inside : p < suc (suc n)) (some : 0 < natAbs (B 
     v = whole;
     at = skip p (K .at);
     below = low (ltb (K .at) p) refl;
-    some = rw (elsewhere (K .at), abs-* (B n p) (K .v (K .at))) (mul-le-mul some (K .some));
+    pivot-pos = rw (elsewhere (K .at), abs-* (B n p) (K .v (K .at))) (mul-le-mul pivot-pos (K .pivot-pos));
     zero = λ k l. upto (λ (i : ℕ). sum (suc (suc n)) (λ (j : ℕ). B i j *ℤ whole j) ≡ pos 0) n k l earlier last;
   }
     where
@@ -151,7 +151,7 @@ is-zero : (z : ℤ) → ltb 0 (natAbs z) ≡ false → z ≡ pos 0
 is-zero z e = abs-zero z (ltb-false 0 (natAbs z) e)
 
 pub more-unknowns : (n : ℕ) (B : Mat) → Kernel n (suc n) B
-more-unknowns zero B = record { v = λ j. pos 1; at = 0; below = omega arith; some = omega arith; zero = λ k l. absurd (omega arith) }
+more-unknowns zero B = record { v = λ j. pos 1; at = 0; below = omega arith; pivot-pos = omega arith; zero = λ k l. absurd (omega arith) }
 more-unknowns (suc n) B = go (searched (suc (suc n)) (λ (j : ℕ). ltb 0 (natAbs (B n j)))) (more-unknowns n B) (λ p. more-unknowns n (reduced n p B))
   where
     go : Searched (suc (suc n)) (λ (j : ℕ). ltb 0 (natAbs (B n j))) → Kernel n (suc n) B → ((p : ℕ) → Kernel n (suc n) (reduced n p B)) → Kernel (suc n) (suc (suc n)) B

@@ -34,11 +34,11 @@ readWith old file = readFrom 0 (fromNew old) (linesOf file)
 -- k lines were taken, up to the place at: what is left to read gives what was to be read
 pub record ReadUpTo (file : List ℕ) (old : Lists) (k at : ℕ) (d : Loader) (l : Lists) : Type 0 where
   pub so : readFrom k (stateWith d l) (linesOf (drop at file)) ≡ readWith old file
-  pub few : k ≤ at
+  pub count-max : k ≤ at
   pub inside : at ≤ length file + 1
 
 pub at-start : (file : List ℕ) (old : Lists) {d : Loader} → d ≡ fresh → ReadUpTo file old 0 0 d old
-at-start file old e = record { so = rw e; few = omega arith; inside = omega arith }
+at-start file old e = record { so = rw e; count-max = omega arith; inside = omega arith }
 
 -- what is given back where the lines end, or one is refused
 abbrev takenAs : Outcome → ℕ → Loader → LinesTaken
@@ -70,7 +70,7 @@ module _ (file : List ℕ) (old : Lists) {l l′ : Lists} {k at end : ℕ} {d : 
       let s : lineAnswer d l line ≡ [] = sym (taken .says) ∙ ap code e in
       record {
         so = rw (taken .loader, taken .lists) (sym (read-accepted k (stateWith d l) line rest s) ∙ split);
-        few = omega (arith, h .few, place .0);
+        count-max = omega (arith, h .count-max, place .0);
         inside = omega (arith, place .1);
       }
 

@@ -1,7 +1,7 @@
 -- A file that has come to its end: what the check says of the lists, and what is reported, is what the file's forms give.
 --   wide, narrow — the numbers of a matrix list, and of a column list, are those that the forms give
 --   checked-forms, reported-forms — what the reckoning says of the lists, and the report, are those of the problem that the forms give
---   some, fine, heavy — n is above 0, t at most 20, every weight at least 1
+--   n-pos, fine, heavy — n is above 0, t at most 20, every weight at least 1
 --   answer-forms — no complete file gives 3, and its check says what the reckoning says
 use mathlib.Core.Path.{_≡_, refl, sym, ap, _∙_, subst}
 use mathlib.Core.Bool.{false}
@@ -75,8 +75,8 @@ module _ (u : State) (fs : List Form) (from : FromForms fs u) where
 
   -- what the theorems of the enclosure ask of the problem
   module _ (h : InRange u) where
-    pub some : 0 < problemFrom fs .n
-    some = rw (sym (from .size)) (size-range n (h .size) .0)
+    pub n-pos : 0 < problemFrom fs .n
+    n-pos = rw (sym (from .size)) (size-range n (h .size) .0)
 
     pub fine : problemFrom fs .t ≤ 20
     fine = rw (sym (from .scales .1)) (inverse-scale-range (u .loader .t) (h .inverse-scale))

@@ -59,11 +59,11 @@ module _ (s : Stage) (I : Input) where
     pub report-ready : {n t : ℕ} → n ≡ I .n → t ≡ I .s → Reportable n t (I .guess) E L
     report-ready en et =
         rw (en, et) (record {
-          few = ready .few;
+          n-max = ready .n-max;
           scale = ready .solution-scale;
           guess-long = ready .guess .long;
-          solution-long = omega (arith, ready .few, ready .solution-long, solution-length);
-          inverse-long = omega (arith, square (ready .few), ready .inverse-long, inverse-length);
+          solution-long = omega (arith, ready .n-max, ready .solution-long, solution-length);
+          inverse-long = omega (arith, square (ready .n-max), ready .inverse-long, inverse-length);
           guess = ready .guess .within .magnitudes;
         })
 

@@ -22,13 +22,13 @@ use Rattle.enclosure.proofs.QualityZero.{zero-solves, zero-exact, exact-zero}
 use Rattle.good_limits.specs.Good.{OwnFactor, Attained, GoodFor, Good}
 
 own-factor : (P : Problem) → 0 < P .n → Margins P → (a : ℕ) × ((c : ℕ) × OwnFactor P a c)
-own-factor P some hm =
-    let (k, (l, f)) = peak-factor P some hm in
+own-factor P n-pos hm =
+    let (k, (l, f)) = peak-factor P n-pos hm in
     (T P * P .w k + load P k, (natAbs (margin P k), record { row = k; below = l; above-is = refl; under-is = refl; every-row = f }))
 
 pub good-for : (P : Problem) → 0 < P .n → ((i : ℕ) → i < P .n → 1 ≤ P .w i) → Margins P → GoodFor P (bound P)
-good-for P some hw hm =
-    let x = corner P some hm in
+good-for P n-pos hw hm =
+    let x = corner P n-pos hm in
     let whole = encloses P hw hm .determined in
     let y = whole .exists-over (x .β) 1 (lit≤ tt) in
     let z = whole .exists (P .b) in
@@ -36,21 +36,21 @@ good-for P some hw hm =
       β = x .β;
       at-end = x .at-end;
       right = x .right;
-      at-corner = record { N = y .N; q = y .q; holds = y .holds; far = λ N q h a c f. far-row P a c N q some (h .positive) hw (x .never-far a c f N q h) };
-      at-b = λ none. record { N = z .N; q = z .q; holds = z .holds; far = λ N q h a c f. never-far-row P a c some hw hm none f N q h };
+      at-corner = record { N = y .N; q = y .q; holds = y .holds; far = λ N q h a c f. far-row P a c N q n-pos (h .positive) hw (x .never-far a c f N q h) };
+      at-b = λ none. record { N = z .N; q = z .q; holds = z .holds; far = λ N q h a c f. never-far-row P a c n-pos hw hm none f N q h };
       zero-exact = λ i l e. record { solves = zero-solves P hw hm i l e; no-tolerance = zero-exact P hw hm i l e };
       exact-zero = λ g i l. exact-zero P hm (g .no-tolerance) (g .solves) i;
     }
 
 pub limits-good : (P : Problem) → 0 < P .n → ((i : ℕ) → i < P .n → 1 ≤ P .w i) → Margins P → Good P (bound P) (inverseBound P)
-limits-good P some hw hm =
-    let (a, (c, f)) = own-factor P some hm in
+limits-good P n-pos hw hm =
+    let (a, (c, f)) = own-factor P n-pos hm in
     record {
       a = a;
       c = c;
       factor = f;
-      solution = good-for P some hw hm;
-      columns = λ j l. good-for (columnOf P j) some hw (λ m lm. rw (column-margin P j m) (hm m lm));
+      solution = good-for P n-pos hw hm;
+      columns = λ j l. good-for (columnOf P j) n-pos hw (λ m lm. rw (column-margin P j m) (hm m lm));
       column-factors = column-factor P;
       one-step = λ N q H q′ x. record {
         solution = rounded-limits P N q H q′ (x .rounded) (x .fine);

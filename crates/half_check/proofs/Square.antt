@@ -28,28 +28,28 @@ use Rattle.half_check.specs.Checked.{withMatrix, filledInput, CheckedHal
 use Rattle.half_fill.proofs.Places.{some-row}
 use Rattle.half_fill.proofs.Filling.{filled-at}
 
-module _ (H : Input) (A : List ℤ) (long : short (filledInput H) ≡ false) (wide : shortMatrix (length A) ≡ false)
+module _ (H : Input) (A : List ℤ) (long : short (filledInput H) ≡ false) (matrix-long : shortMatrix (length A) ≡ false)
     (same : (i j : ℕ) → i < H .n → j < H .n → matrixOf A (H .n) i j ≡ at (H .matrix) (halfPlace i j)) where
   long-square : short (withMatrix H A) ≡ false
-  long-square = rw (wide, neither-right (shortMatrix (length (filledOut (H .n) (H .matrix)))) _ long)
+  long-square = rw (matrix-long, neither-right (shortMatrix (length (filledOut (H .n) (H .matrix)))) _ long)
 
   here : H .n ≤ 32 → (k : ℕ) → k < H .n * H .n → at (filledOut (H .n) (H .matrix)) k ≡ at A k
-  here few k l =
+  here n-max k l =
       let i : ℕ = k / H .n in
       let j : ℕ = k % H .n in
       let li : i < H .n = div-lt-iff-lt-mul (some-row l) .1 l in
       let lj : j < H .n = mod-lt k (some-row l) in
       let e : k ≡ i * H .n + j = omega (arith, div-add-mod' k (H .n)) in
-      ap (at (filledOut (H .n) (H .matrix))) e ∙ filled-at (H .n) (H .matrix) few i j li lj ∙ sym (same i j li lj) ∙ ap (at A) (sym e)
+      ap (at (filledOut (H .n) (H .matrix))) e ∙ filled-at (H .n) (H .matrix) n-max i j li lj ∙ sym (same i j li lj) ∙ ap (at A) (sym e)
 
   square-agrees : H .n ≤ 32 → Agree (filledInput H) (withMatrix H A)
-  square-agrees few = record {
+  square-agrees n-max = record {
     n = refl;
     s = refl;
     t = refl;
     long = long;
     long′ = long-square;
-    matrix = here few;
+    matrix = here n-max;
     right = λ k l. refl;
     tolerance = λ k l. refl;
     guess = λ k l. refl;

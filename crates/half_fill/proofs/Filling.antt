@@ -69,9 +69,9 @@ module _ (n : ℕ) (half : List ℤ) where
       go false e = rw (filled-outside e) (length-replicate 1024 (pos 0))
 
   pub filled-at : n ≤ 32 → (i j : ℕ) → i < n → j < n → matrixOf (filledOut n half) n i j ≡ at half (halfPlace i j)
-  filled-at few i j li lj =
-      ap (λ (A : List ℤ). at A (i * n + j)) (filled-inside (in-size-range n (omega arith) few))
-      ∙ front-at zeroEntries numberAt (pos 0) (n * n) (i * n + j) (place li lj) (omega (arith, square few, length-replicate 1024 (pos 0)))
+  filled-at n-max i j li lj =
+      ap (λ (A : List ℤ). at A (i * n + j)) (filled-inside (in-size-range n (omega arith) n-max))
+      ∙ front-at zeroEntries numberAt (pos 0) (n * n) (i * n + j) (place li lj) (omega (arith, square n-max, length-replicate 1024 (pos 0)))
       ∙ sym (number-is i j lj)
 
   pub filled-past : (k : ℕ) → n * n ≤ k → k < 1024 → at (filledOut n half) k ≡ pos 0
@@ -82,7 +82,7 @@ module _ (n : ℕ) (half : List ℤ) where
       go false e = rw (filled-outside e) (getD-replicate 1024 k (pos 0) (pos 0) h)
 
   pub filled-symmetric : n ≤ 32 → (i j : ℕ) → i < n → j < n → matrixOf (filledOut n half) n i j ≡ matrixOf (filledOut n half) n j i
-  filled-symmetric few i j li lj = filled-at few i j li lj ∙ ap (at half) (place-swap i j) ∙ sym (filled-at few j i lj li)
+  filled-symmetric n-max i j li lj = filled-at n-max i j li lj ∙ ap (at half) (place-swap i j) ∙ sym (filled-at n-max j i lj li)
 
 pub filled-same : (n : ℕ) (half other : List ℤ) → ((k : ℕ) → k < halfCount n → at half k ≡ at other k) → filledOut n half ≡ filledOut n other
 unfolding filledOut

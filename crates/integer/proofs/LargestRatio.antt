@@ -34,9 +34,9 @@ module _ (u v : ℕ → ℕ) where
   }
 
   pub largest-ratio-of : (n : ℕ) → ((i : ℕ) → i < n → 0 < v i) → 0 < n → (k : ℕ) × LargestRatio n u v k
-  largest-ratio-of zero hv some = absurd (omega arith)
-  largest-ratio-of (suc zero) hv some = (0, largest-ratio-one)
-  largest-ratio-of (suc (suc n)) hv some = go (largest-ratio-of (suc n) (λ i l. hv i (omega arith)) (omega arith))
+  largest-ratio-of zero hv n-pos = absurd (omega arith)
+  largest-ratio-of (suc zero) hv n-pos = (0, largest-ratio-one)
+  largest-ratio-of (suc (suc n)) hv n-pos = go (largest-ratio-of (suc n) (λ i l. hv i (omega arith)) (omega arith))
     where
       go : (k : ℕ) × LargestRatio (suc n) u v k → (k : ℕ) × LargestRatio (suc (suc n)) u v k
       go (k, s) = pick (decLe (u (suc n) * v k) (u k * v (suc n)))

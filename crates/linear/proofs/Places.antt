@@ -29,10 +29,10 @@ pub row-room : {i n size : ℕ} → i < n → n * n ≤ size → i * n + n ≤ s
 row-room {i} {n} l h = omega (arith, mul-le-mul l (le-refl n))
 
 pub row-ends : {i n : ℕ} → i < n → n ≤ 32 → i * n + n ≤ 1024
-row-ends l few = row-room l (square few)
+row-ends l n-max = row-room l (square n-max)
 
 pub row-fits : {i n : ℕ} → i < n → n ≤ 32 → i * n < 2 ^ 64
-row-fits l few = omega (arith, row-ends l few)
+row-fits l n-max = omega (arith, row-ends l n-max)
 
 pub place-column : (j k n : ℕ) → k < n → (j * n + k) / n ≡ j
 place-column j k n l = div-eq-of-lt-le n (omega arith) (omega arith)
@@ -76,7 +76,7 @@ module _ (a : List ℤ) (p s : ℕ) (x : List ℤ) (q u n : ℕ) (ha : Reach a p
   dot-term j l = rw (abs-* (at a (p + j * s)) (at x (q + j * u))) (mul-le-mul (ha .magnitudes j l) (hx .magnitudes j l))
 
   pub dot-fits : (j : ℕ) → n ≤ 32 → j < n → natAbs (dotOf a p s x q u j) + natAbs (at a (p + j * s)) * natAbs (at x (q + j * u)) < 2 ^ 63
-  dot-fits j few l =
+  dot-fits j n-max l =
       omega (
         arith,
         abs-sum≤ j (2 ^ 56) (λ (k : ℕ). at a (p + k * s) *ℤ at x (q + k * u)) (λ k m. dot-term k (omega arith)),

@@ -23,7 +23,7 @@ use Rattle.listing_refusal.specs.Refused.{printed}
 use Rattle.loader_runs.specs.Lines.{linesOf}
 use Rattle.loader_runs.specs.Read.{readingOf}
 use Rattle.file_check.specs.Judged.{reportedOf}
-use Rattle.file_check.proofs.Forms.{some, fine, heavy}
+use Rattle.file_check.proofs.Forms.{n-pos, fine, heavy}
 use Rattle.listing.specs.Listing.{problemIn, answerOf, listingOf}
 use Rattle.listing.specs.Complete.{Complete}
 use Rattle.listing.proofs.Entire.{answer-judged, listing-from, from, inside}
@@ -70,5 +70,5 @@ module _ (file : List ℕ) where
       let f = from file (c .lines) (c .end) in
       let r = inside file (c .lines) (c .end) in
       let u = readingOf file .state in
-      let s = sound-code (problemIn file) (some u (forms (linesOf file)) f r) (rounded-sound (problemIn file) N q H q′ (fine u (forms (linesOf file)) f r) x) in
+      let s = sound-code (problemIn file) (n-pos u (forms (linesOf file)) f r) (rounded-sound (problemIn file) N q H q′ (fine u (forms (linesOf file)) f r) x) in
       answer-judged file (c .lines) (c .end) ∙ ap (printed 0) s

@@ -140,14 +140,14 @@ module _ (file : List ℕ) {old new : Lists} {r : LinesTaken} (lent : LinesTaken
 as-listed : (file : List ℕ) {o p : List ℕ} {end : ℕ} → 32768 ≤ length o → Wrote 32768 o 0 (listingOf file) p end → ListedAs file o p end
 as-listed file {o} {p} {end} h w =
     let text = listingOf file in
-    let n : end ≡ length text = omega (arith, w .place) in
+    let n : end ≡ length text = omega (arith, w .end-is) in
     let z : 0 + length text ≡ length text = omega arith in
-    let q : p ≡ text ++ drop (length text) o = w .stored ∙ sets-eq text o 0 (omega (arith, w .few)) ∙ rw z in
+    let q : p ≡ text ++ drop (length text) o = w .stored ∙ sets-eq text o 0 (omega (arith, w .end-max)) ∙ rw z in
     record {
       size = n;
       bytes = rw q (take-at text (drop (length text) o) end (sym n));
       others = rw q (drop-at text (drop (length text) o) end (sym n)) ∙ ap (λ (k : ℕ). drop k o) (sym n);
-      fits = omega (arith, w .few);
+      fits = omega (arith, w .end-max);
     }
 
 pub as-answered : (file : List ℕ) {o p : List ℕ} {a : FileAnswer} → 32768 ≤ length o → Answered (answerOf file) (listingOf file) o p a → AnsweredAs file o p a

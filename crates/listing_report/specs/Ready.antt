@@ -12,7 +12,7 @@ use Rattle.listing_report.specs.declared.Block.the-variants.{Solution, E
 use Rattle.listing_report.specs.Report.{solutionLine, entryLine, inverseLine, reportOf}
 
 pub record Reportable (n s : ℕ) (X : List ℤ) (E L : List ℕ) : Type 0 where
-  pub few : n ≤ 32
+  pub n-max : n ≤ 32
   pub scale : s ≤ 20
   pub guess-long : n ≤ length X
   pub solution-long : n ≤ length E

@@ -71,11 +71,11 @@ fn put_lines(
     ensures { λ r. ⌜ Wrote (n * mostOf block) (now (out .entry)) at
         (each n (blockLine block n s (now (guess .entry)) (now («solution_bounds» .entry)) (now («inverse_bounds» .entry)))) (now (out .exit)) r ⌝ }
 {
-    let mut place = at;
+    let mut index = at;
     for i in 0..n {
-        place = put_line(
+        index = put_line(
             out,
-            place,
+            index,
             block,
             i,
             n,
@@ -85,7 +85,7 @@ fn put_lines(
             inverse_bounds,
         );
     }
-    place
+    index
 }
 
 // (bounds n)

@@ -36,7 +36,7 @@ wrote-more m i f x e y = wider ((i + 1) * m) (omega arith) (called (sym (each-ne
 pub wrote-end : (m : ℕ) {i n : ℕ} (f : ℕ → List ℕ) {o p : List ℕ} {at j : ℕ} → i ≤ n → n ≤ i → Wrote (i * m) o at (each i f) p j → Wrote (n * m) o at (each n f) p j
 wrote-end m f {o} {p} {at} {j} a b x = rw (le-antisymm a b) at x
 
-pub next-room : (m n at : ℕ) {i place size : ℕ} → i < n → place ≤ at + i * m → at + n * m ≤ size → place + m ≤ size
+pub next-room : (m n at : ℕ) {i index size : ℕ} → i < n → index ≤ at + i * m → at + n * m ≤ size → index + m ≤ size
 next-room m n at l h r = omega (arith, mul-le-mul-right m l)
 
 -- ---- the space before every number but the first

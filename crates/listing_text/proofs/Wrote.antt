@@ -43,27 +43,27 @@ copied l src at i h =
 
 pub all-copied : {l new src : List ℕ} {at i : ℕ} → i ≡ length src → new ≡ sets l at (take i src) → Wrote (length src) l at src new (at + i)
 all-copied {l} {new} {src} {at} {i} e s = record {
-  place = omega arith;
+  end-is = omega arith;
   stored = s ∙ ap (λ (k : ℕ). sets l at (take k src)) e ∙ ap (λ (t : List ℕ). sets l at t) (take-length src);
-  few = omega arith;
+  end-max = omega arith;
 }
 
 -- ---- one text after another
 pub wrote-nothing : (l : List ℕ) (at : ℕ) → Wrote 0 l at [] l at
-wrote-nothing l at = record { place = omega arith; stored = refl; few = omega arith }
+wrote-nothing l at = record { end-is = omega arith; stored = refl; end-max = omega arith }
 
 pub byte : (l : List ℕ) (at b : ℕ) → Wrote 1 l at (b ∷ []) (set l at b) (at + 1)
-byte l at b = record { place = refl; stored = refl; few = omega arith }
+byte l at b = record { end-is = refl; stored = refl; end-max = omega arith }
 
 pub then : {a b : ℕ} {o n p v w : List ℕ} {at j k : ℕ} → Wrote a o at v n j → Wrote b n j w p k → Wrote (a + b) o at (v ++ w) p k
 then {a} {b} {o} {n} {p} {v} {w} {at} {j} {k} x y = record {
-  place = simp length-append (omega (arith, x .place, y .place));
-  stored = y .stored ∙ ap (λ (l : List ℕ). sets l j w) (x .stored) ∙ ap (λ (i : ℕ). sets (sets o at v) i w) (x .place) ∙ sym (sets-append o at v w);
-  few = omega (arith, x .few, y .few);
+  end-is = simp length-append (omega (arith, x .end-is, y .end-is));
+  stored = y .stored ∙ ap (λ (l : List ℕ). sets l j w) (x .stored) ∙ ap (λ (i : ℕ). sets (sets o at v) i w) (x .end-is) ∙ sym (sets-append o at v w);
+  end-max = omega (arith, x .end-max, y .end-max);
 }
 
 pub wider : {a : ℕ} (b : ℕ) {o n v : List ℕ} {at j : ℕ} → a ≤ b → Wrote a o at v n j → Wrote b o at v n j
-wider b h x = record { place = x .place; stored = x .stored; few = omega (arith, x .few) }
+wider b h x = record { end-is = x .end-is; stored = x .stored; end-max = omega (arith, x .end-max) }
 
 pub called : {a : ℕ} {o n v w : List ℕ} {at j : ℕ} → v ≡ w → Wrote a o at v n j → Wrote a o at w n j
 called e x = rw e at x

@@ -8,6 +8,6 @@ use lib.ListN.{length}
 use lib.Seq.{sets}
 
 pub record Wrote (most : ℕ) (old : List ℕ) (at : ℕ) (text new : List ℕ) (end : ℕ) : Type 0 where
-  pub place : end ≡ at + length text
+  pub end-is : end ≡ at + length text
   pub stored : new ≡ sets old at text
-  pub few : end ≤ at + most
+  pub end-max : end ≤ at + most

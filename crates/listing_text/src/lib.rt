@@ -104,11 +104,11 @@ fn put_numbers(out: &mut [u8], at: usize, values: &[u64], start: usize, n: usize
     requires { ⌜ (n ≤ 32) × ((start + n ≤ length (now values)) × (at + n * 21 ≤ length (now out))) ⌝ }
     ensures { λ r. ⌜ Wrote (n * 21) (now (out .entry)) at (numbers n (λ (j : ℕ). getD (now (values .entry)) (start + j) 0)) (now (out .exit)) r ⌝ }
 {
-    let mut place = at;
+    let mut index = at;
     for j in 0..n {
-        place = put_item(out, place, j, values[start + j]);
+        index = put_item(out, index, j, values[start + j]);
     }
-    place
+    index
 }
 
 // (word i (v .. v))

@@ -21,11 +21,11 @@ pub record Alike (d : Loader) (l : Lists) (line line′ : List ℕ) : Type 0 whe
   pub loader : loaderAfter d l line ≡ loaderAfter d l line′
   pub lists : listsAfter d l line ≡ listsAfter d l line′
 
-module _ (d : Loader) (l : Lists) (i b : ℤ) (line line′ : List ℕ) (few : length line ≤ 320) (few′ : length line′ ≤ 320)
+module _ (d : Loader) (l : Lists) (i b : ℤ) (line line′ : List ℕ) (length-max : length line ≤ 320) (length-max′ : length line′ ≤ 320)
     (r : reading line ≡ some (right i b)) (r′ : reading line′ ≡ some (rightWithin i b (pos 0))) where
   same : lineAnswer d l line ≡ lineAnswer d l line′
   unfolding lineAnswer
-  same = rw (r, r′, le-ltb 320 (length line) few, le-ltb 320 (length line′) few′, within-alone i b)
+  same = rw (r, r′, le-ltb 320 (length line) length-max, le-ltb 320 (length line′) length-max′, within-alone i b)
 
   pub alike : Alike d l line line′
   unfolding loaderAfter listsAfter

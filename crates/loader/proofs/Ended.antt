@@ -33,12 +33,12 @@ pub record EndFills (d : Loader) (l l′ : Lists) : Type 0 where
   pub guess : l′ .guess ≡ l .guess
   pub inverse : l′ .inverse ≡ l .inverse
 
-module _ (d : Loader) (l : Lists) (few : d .n ≤ length (l .weights)) where
+module _ (d : Loader) (l : Lists) (n-fits : d .n ≤ length (l .weights)) where
   filled-so : EndFills d l (listsWith d end l)
   filled-so =
       let z = setOf (d .sets) Weight in
       record {
-        one = λ i a b g. filled-one (d .n) z (l .weights) (i - 1) g (omega arith) few;
+        one = λ i a b g. filled-one (d .n) z (l .weights) (i - 1) g (omega arith) n-fits;
         kept = λ i g. filled-given (d .n) z (l .weights) (i - 1) g;
         past = λ k a. filled-past (d .n) z (l .weights) k a;
         size = length-filled (d .n) z (l .weights);
@@ -54,12 +54,12 @@ module _ (d : Loader) (l : Lists) (line : List ℕ) (e : lineAnswer d l line ≡
   unfolding lineAnswer
   here = passed (caseOf d l line) e
 
-  few : d .n ≤ length (l .weights)
-  few = omega (arith, end-size (d .stage) (d .n) {x = End} refl (rw r at (here .early)) (rw r at (here .misplaced)) .1, long-lent l (here .short) .weights)
+  n-fits : d .n ≤ length (l .weights)
+  n-fits = omega (arith, end-size (d .stage) (d .n) {x = End} refl (rw r at (here .early)) (rw r at (here .misplaced)) .1, long-lent l (here .short) .weights)
 
   after-end : listsAfter d l line ≡ listsWith d end l
   unfolding listsAfter
   after-end = rw (e, r)
 
   pub end-fills : EndFills d l (listsAfter d l line)
-  end-fills = subst (λ (k : Lists). EndFills d l k) (sym after-end) (filled-so d l few)
+  end-fills = subst (λ (k : Lists). EndFills d l k) (sym after-end) (filled-so d l n-fits)

@@ -68,7 +68,7 @@ module _ (s : Slot) (n : ℕ) (us vs l : List ℤ) (many : length us ≡ 32) whe
       go : (b : Bool) → eqb (partIndex (partOf s)) (partIndex q) ≡ b → InSpan (cond b (record { at = k; count = width s n }) nowhere) (length l)
           → pastedAt (cond b (record { at = k; count = width s n }) nowhere) us l ≡ cond b (sets l k vs) l
       go true t h =
-          pasted l us k (width s n) (h .end) (omega (arith, h .few))
+          pasted l us k (width s n) (h .end) (omega (arith, h .count-max))
           ∙ ap (sets l k) (e (part-same (partOf s) q (eqb-true (partIndex (partOf s)) (partIndex q) t)))
       go false t h = sym (paste-zero l 0 us)
 
@@ -103,23 +103,23 @@ length-written Weight us h = h
 put-exact : (s : Slot) (n : ℕ) (f : Form) (l : List ℤ) → Narrow n (itemOf f) → length (writtenTo s (valuesIn (cappedForm f) (numbersIn f .values))) ≡ 32 → Room (width s n) (length l) (itemOf f)
     → outside f ≡ false → miscounted n f ≡ false → pastedAt (spanOf (partOf s) (itemOf f) (width s n)) (writtenTo s (valuesIn (cappedForm f) (numbersIn f .values))) l ≡ put s n f l
 unfolding numbersOf cap
-put-exact s n (problem m) l few many r o c = sym (paste-zero l 0 (writtenTo s (noNumbers .values)))
-put-exact s n (scale u v) l few many r o c = sym (paste-zero l 0 (writtenTo s (noNumbers .values)))
-put-exact s n (row i a others) l few many r o c =
-    put-by s n (writtenTo s (firstValues 32 (a ∷ others))) (a ∷ others) l many part.Row i r (wide-part s n (firstValues 32 (a ∷ others)) (a ∷ others) (λ e. other-part e tt) (list-exact kind.Matrix n (a ∷ others) (few .0) o c))
-put-exact s n (right i b) l few many r o c =
+put-exact s n (problem m) l count-max many r o c = sym (paste-zero l 0 (writtenTo s (noNumbers .values)))
+put-exact s n (scale u v) l count-max many r o c = sym (paste-zero l 0 (writtenTo s (noNumbers .values)))
+put-exact s n (row i a others) l count-max many r o c =
+    put-by s n (writtenTo s (firstValues 32 (a ∷ others))) (a ∷ others) l many part.Row i r (wide-part s n (firstValues 32 (a ∷ others)) (a ∷ others) (λ e. other-part e tt) (list-exact kind.Matrix n (a ∷ others) (count-max .0) o c))
+put-exact s n (right i b) l count-max many r o c =
     put-by s n (writtenTo s (set (set (replicate 32 (pos 0)) 0 (cap b)) 1 (pos 0))) (rightValue s b (pos 0) ∷ []) l many part.Right i r (right-exact n b (pos 0) (not-false _ o) zero-tolerance s)
-put-exact s n (rightWithin i b d) l few many r o c =
+put-exact s n (rightWithin i b d) l count-max many r o c =
     let h : inRange kind.Right b && inRange kind.Tolerance d ≡ true = not-false _ o in
     put-by s n (writtenTo s (set (set (replicate 32 (pos 0)) 0 (cap b)) 1 (cap d))) (rightValue s b d ∷ []) l many part.Right i r
     (right-exact n b d (both-left (inRange kind.Right b) (inRange kind.Tolerance d) h) (both-right (inRange kind.Right b) (inRange kind.Tolerance d) h) s)
-put-exact s n (guess i x) l few many r o c =
+put-exact s n (guess i x) l count-max many r o c =
     put-by s n (writtenTo s (set (replicate 32 (pos 0)) 0 (cap x))) (x ∷ []) l many part.Guess i r (wide-part s n (set (replicate 32 (pos 0)) 0 (cap x)) (x ∷ []) (λ e. other-part e tt) (one-exact kind.Guess x o))
-put-exact s n (inverse i g others) l few many r o c =
-    put-by s n (writtenTo s (firstValues 32 (g ∷ others))) (g ∷ others) l many part.Inverse i r (wide-part s n (firstValues 32 (g ∷ others)) (g ∷ others) (λ e. other-part e tt) (list-exact kind.Inverse n (g ∷ others) (few .0) o c))
-put-exact s n (weight i w) l few many r o c =
+put-exact s n (inverse i g others) l count-max many r o c =
+    put-by s n (writtenTo s (firstValues 32 (g ∷ others))) (g ∷ others) l many part.Inverse i r (wide-part s n (firstValues 32 (g ∷ others)) (g ∷ others) (λ e. other-part e tt) (list-exact kind.Inverse n (g ∷ others) (count-max .0) o c))
+put-exact s n (weight i w) l count-max many r o c =
     put-by s n (writtenTo s (set (replicate 32 (pos 0)) 0 (cap w))) (w ∷ []) l many part.Weight i r (wide-part s n (set (replicate 32 (pos 0)) 0 (cap w)) (w ∷ []) (λ e. other-part e tt) (one-exact kind.Weight w o))
-put-exact s n end l few many r o c = sym (paste-zero l 0 (writtenTo s (noNumbers .values)))
+put-exact s n end l count-max many r o c = sym (paste-zero l 0 (writtenTo s (noNumbers .values)))
 
 -- ---- all lists
 first-length : (m : ℕ) (zs : List ℤ) → length (firstValues m zs) ≡ m
@@ -141,11 +141,11 @@ values-length (inverse i g others) = first-length 32 (g ∷ others)
 values-length (weight i w) = refl
 values-length end = refl
 
-module _ (n : ℕ) (f : Form) (l : Lists) (enough : shortLists l ≡ false) (few : Narrow n (itemOf f)) (o : outside f ≡ false) (c : miscounted n f ≡ false) where
+module _ (n : ℕ) (f : Form) (l : Lists) (enough : shortLists l ≡ false) (count-max : Narrow n (itemOf f)) (o : outside f ≡ false) (c : miscounted n f ≡ false) where
   one : (s : Slot) (k : List ℤ) → Room (width s n) (length k) (itemOf f) → pastedAt (spanOf (partOf s) (itemOf f) (width s n)) (writtenTo s (valuesIn (cappedForm f) (numbersIn f .values))) k ≡ put s n f k
-  one s k r = put-exact s n f k few (length-written s _ (values-length f)) r o c
+  one s k r = put-exact s n f k count-max (length-written s _ (values-length f)) r o c
 
   pub all-exact : pastedAll n (itemOf f) (valuesIn (cappedForm f) (numbersIn f .values)) l ≡ putAll n f l
   all-exact =
-      let r = rooms n (itemOf f) l enough few in
+      let r = rooms n (itemOf f) l enough count-max in
       lists-≡ (one Matrix (l .matrix) (r .matrix)) (one Right (l .right) (r .right)) (one Tolerance (l .tolerance) (r .tolerance)) (one Guess (l .guess) (r .guess)) (one Inverse (l .inverse) (r .inverse)) (one Weight (l .weights) (r .weights))

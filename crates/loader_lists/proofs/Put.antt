@@ -40,17 +40,17 @@ module _ (w : ℕ) (p : Part) {q : Part} {x : Item} {i : ℤ} (e : x ≡ Of q i)
 
 -- at most 32 places, which end inside the list
 pub record InSpan (s : Span) (k : ℕ) : Type 0 where
-  pub few : s .count ≤ 32
+  pub count-max : s .count ≤ 32
   pub end : s .at + s .count ≤ k
 
 by-part : (w k : ℕ) (i : ℤ) (b : Bool) → (w ≤ 32) × (32 * w ≤ k) × (leZ (pos 1) i && leZ i (pos 32) ≡ true) → InSpan (cond b (record { at = (natAbs i - 1) * w; count = w }) nowhere) k
 by-part w k i true h =
     let b = from-to 1 32 i (h .2) in
-    record { few = h .0; end = omega (arith, stride (natAbs i) w (b .from) (b .to), h .1) }
-by-part w k i false h = record { few = omega arith; end = omega arith }
+    record { count-max = h .0; end = omega (arith, stride (natAbs i) w (b .from) (b .to), h .1) }
+by-part w k i false h = record { count-max = omega arith; end = omega arith }
 
 pub span-fits : (p : Part) (w k : ℕ) (x : Item) → Room w k x → InSpan (spanOf p x w) k
-span-fits p w k (Problem n) h = record { few = omega arith; end = omega arith }
-span-fits p w k (Scale s t) h = record { few = omega arith; end = omega arith }
+span-fits p w k (Problem n) h = record { count-max = omega arith; end = omega arith }
+span-fits p w k (Scale s t) h = record { count-max = omega arith; end = omega arith }
 span-fits p w k (Of q i) h = by-part w k i (eqb (partIndex p) (partIndex q)) h
-span-fits p w k End h = record { few = omega arith; end = omega arith }
+span-fits p w k End h = record { count-max = omega arith; end = omega arith }

@@ -96,11 +96,11 @@ enough u E L s e l =
 pub inside : (u : State) (E L : List ℕ) → InRange u → inRanges (inputOf u E L) ≡ true
 inside u E L h = both (both (h .size) (both (h .solution) (h .inverse-scale))) (both (h .matrix) (both (h .right) (both (h .tolerance) (both (h .guess) (both (h .inverse) (h .weights))))))
 
-module _ (l : Lists) (lines : List (List ℕ)) (a : Accepts (fromNew l) lines) (e : ended (run (fromNew l) lines .loader .stage) ≡ true) (E L : List ℕ) (few : 32 ≤ length E) (many : 1024 ≤ length L) where
+module _ (l : Lists) (lines : List (List ℕ)) (a : Accepts (fromNew l) lines) (e : ended (run (fromNew l) lines .loader .stage) ≡ true) (E L : List ℕ) (column-long : 32 ≤ length E) (matrix-long : 1024 ≤ length L) where
   abbrev last : State
   last = run (fromNew l) lines
 
   pub end-answers : ComputedSays (answerThrough (last .loader .stage) (inputOf last E L))
   end-answers =
-      rw (answer-ended (last .loader .stage) (inputOf last E L) e, answer-ready (inputOf last E L) (enough last E L (lists-long l lines a e) few many) (inside last E L (in-range l lines a e)))
+      rw (answer-ended (last .loader .stage) (inputOf last E L) e, answer-ready (inputOf last E L) (enough last E L (lists-long l lines a e) column-long matrix-long) (inside last E L (in-range l lines a e)))
       (computes (last .loader .n) (firstMargin (problem (inputOf last E L))) (firstResidual (problem (inputOf last E L))) (firstInversePlace (problem (inputOf last E L))))

@@ -67,10 +67,10 @@ pass-all k u (f ∷ fs) h p =
     let d = u .loader in
     let going = both-left (not (ended (d .stage))) _ p in
     let q = both-right (not (ended (d .stage))) _ p in
-    let few = both-left (not (ltb 320 (length (spell f)))) _ q in
+    let length-max = both-left (not (ltb 320 (length (spell f)))) _ q in
     let r = both-right (not (ltb 320 (length (spell f)))) _ q in
     let e : lineAnswer d (u .lists) (spell f) ≡ [] =
-    answer-form d (u .lists) (spell f) f h (not-true _ going) (not-true _ few) (read-spelled f) ∙ is-none (formCode d f) (both-left (noCode (formCode d f)) _ r) in
+    answer-form d (u .lists) (spell f) f h (not-true _ going) (not-true _ length-max) (read-spelled f) ∙ is-none (formCode d f) (both-left (noCode (formCode d f)) _ r) in
     let next : loaderAfter d (u .lists) (spell f) ≡ after d (itemOf f) = rw (e, read-spelled f) in
     rw (read-accepted k u (spell f) (spelled fs) e)
     (pass-all (k + 1) (step u (spell f)) fs (step-long u (spell f) e h) (rw next (both-right (noCode (formCode d f)) _ r)))

@@ -32,4 +32,4 @@ respelled-front k u line line′ lines lines′ a h = rw (a .says, a .loader, a 
 pub respelled-read : (k : ℕ) (u : State) {lines lines′ : List (List ℕ)} → Respelled lines lines′ → readFrom k u lines ≡ readFrom k u lines′
 respelled-read k u none = refl
 respelled-read k u (same {lines} {lines′} line h) = respelled-front k u line line lines lines′ (record { says = refl; loader = refl; lists = refl }) (λ j v. respelled-read j v h)
-respelled-read k u (alone {lines} {lines′} i b few h) = respelled-front k u (spell (right i b)) (spell (rightWithin i b (pos 0))) lines lines′ (either-spelling u i b few) (λ j v. respelled-read j v h)
+respelled-read k u (alone {lines} {lines′} i b length-max h) = respelled-front k u (spell (right i b)) (spell (rightWithin i b (pos 0))) lines lines′ (either-spelling u i b length-max) (λ j v. respelled-read j v h)

@@ -36,7 +36,7 @@ own-placed d own x = go (sized (d .stage)) refl
 module _ (d : Loader) (l : Lists) (line : List ℕ) where
   -- ---- by the tests of a form
   pub code-form : {f : Form} → Formed d l line f → lineAnswer d l line ≡ formCode d f
-  code-form {f} h = answer-form d l line f (h .long) (h .going) (le-ltb 320 (length line) (h .few)) (reads-as line f (h .spelled))
+  code-form {f} h = answer-form d l line f (h .long) (h .going) (le-ltb 320 (length line) (h .length-max)) (reads-as line f (h .spelled))
 
   code-early : {f : Form} → Formed d l line f → early (d .stage) (itemOf f) ≡ true → lineAnswer d l line ≡ 11 ∷ []
   code-early h e = code-form h ∙ unfold formCode in rw e

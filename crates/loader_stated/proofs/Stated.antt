@@ -55,7 +55,7 @@ module _ (d : Loader) (l : Lists) (line : List ℕ) where
     where
       nothing : {f : Form} → none ≡ some f → ⊥
       nothing q = let z : _≡_ {A = ℕ} 0 1 = cc in omega arith
-  at-reading a b c (some f) e = at-form f (record { long = a; going = b; few = c; spelled = spelled-read line f e }) (early (d .stage) (itemOf f)) refl
+  at-reading a b c (some f) e = at-form f (record { long = a; going = b; length-max = c; spelled = spelled-read line f e }) (early (d .stage) (itemOf f)) refl
 
   reached : Reached
   reached = go (shortLists l) refl (ended (d .stage)) refl (ltb 320 (length line)) refl
@@ -63,7 +63,7 @@ module _ (d : Loader) (l : Lists) (line : List ℕ) where
       go : (x : Bool) → shortLists l ≡ x → (y : Bool) → ended (d .stage) ≡ y → (z : Bool) → ltb 320 (length line) ≡ z → Reached
       go true a y b z c = refused (8 ∷ []) (λ f h. clash (shortLists l) a (h .long)) (too-short a)
       go false a true b z c = refused (14 ∷ []) (λ f h. clash (ended (d .stage)) b (h .going)) (after-end a b)
-      go false a false b true c = refused (1 ∷ []) (λ f h. absurd (omega (arith, ltb-true 320 (length line) c, h .few))) (too-long a b (ltb-true 320 (length line) c))
+      go false a false b true c = refused (1 ∷ []) (λ f h. absurd (omega (arith, ltb-true 320 (length line) c, h .length-max))) (too-long a b (ltb-true 320 (length line) c))
       go false a false b false c = at-reading a b (omega (arith, ltb-false 320 (length line) c)) (reading line) refl
 
   -- ---- the tests of a form in time

@@ -19,7 +19,7 @@ use Rattle.loader.specs.declared.Loader.{Loader}
 pub record Formed (d : Loader) (l : Lists) (line : List ℕ) (f : Form) : Type 0 where
   pub long : shortLists l ≡ false
   pub going : ended (d .stage) ≡ false
-  pub few : length line ≤ 320
+  pub length-max : length line ≤ 320
   pub spelled : line ≡ spell f
 
 pub record Unrepeated (d : Loader) (l : Lists) (line : List ℕ) (f : Form) : Type 0 where

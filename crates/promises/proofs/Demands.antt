@@ -28,7 +28,7 @@ use Rattle.listing_report.proofs.OneToOne.{SameShown, report-one}
 use Rattle.loader_runs.specs.Lines.{linesOf}
 use Rattle.loader_runs.specs.Read.{readingOf}
 use Rattle.loader_runs.specs.Run.{forms}
-use Rattle.file_check.proofs.Forms.{some}
+use Rattle.file_check.proofs.Forms.{n-pos}
 use Rattle.listing.specs.Listing.{problemIn, answerOf}
 use Rattle.listing.proofs.Entire.{from, inside}
 use Rattle.listing.proofs.Demand.{accepted-parts, file-reported, exact-accepted}
@@ -78,7 +78,7 @@ listing-shows-limits file old new count x b = x .bytes ∙ file-reported file (l
 file-has-row : (file : List ℕ) → answerOf file ≡ [] → 0 < problemIn file .n
 file-has-row file e =
     let c = accepted-parts file e .complete in
-    some (readingOf file .state) (forms (linesOf file)) (from file (c .lines) (c .end)) (inside file (c .lines) (c .end))
+    n-pos (readingOf file .state) (forms (linesOf file)) (from file (c .lines) (c .end)) (inside file (c .lines) (c .end))
 
 rows-one : (n s n′ s′ : ℕ) (X X′ : ℕ → ℤ) (E E′ : ℕ → ℕ) (L L′ : ℕ → ℕ → ℕ) → 0 < n → 0 < n′ → reportOf n s X E L ≡ reportOf n′ s′ X′ E′ L′ → SameShown n X E L n′ X′ E′ L′
 rows-one zero s n′ s′ X X′ E E′ L L′ p q e = absurd (omega (arith, p))

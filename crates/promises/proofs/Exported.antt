@@ -45,5 +45,5 @@ pub refused-take-leaves : exported.RefusedTakeLeaves
 refused-take-leaves w line l number places w′ l′ x h = take-refused x h
 
 pub line-by-line-as-listing : exported.LineByLineAsListing
-line-by-line-as-listing l long lines numbers w′ l′ t e file own E L few many number places E′ L′ x old listed shown new count y =
-    turns-listing l long lines t e file own E L few many x y
+line-by-line-as-listing l long lines numbers w′ l′ t e file own E L column-long matrix-long number places E′ L′ x old listed shown new count y =
+    turns-listing l long lines t e file own E L column-long matrix-long x y

@@ -208,7 +208,7 @@ begun-own e = refl
 begun-end : Unrepeated begunLoader zeros (spell end) end
 unfolding spell
 begun-end = record {
-  formed = record { long = zeros-long; going = refl; few = lit≤ tt; spelled = refl };
+  formed = record { long = zeros-long; going = refl; length-max = lit≤ tt; spelled = refl };
   timely = refl;
   place = refl;
   first = refl;

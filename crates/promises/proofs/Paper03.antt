@@ -27,7 +27,7 @@ pub diagonal-twice : paper.DiagonalTwice
 diagonal-twice n ls layout a b r a′ b′ x e = diagonal-held layout n ls a b x e
 
 pub repeat-changes-nothing : paper.RepeatChangesNothing
-repeat-changes-nothing n l xs ys layout a b r s a′ b′ a″ b″ x e i few y = repeated-built n l xs ys layout a b x e i few y
+repeat-changes-nothing n l xs ys layout a b r s a′ b′ a″ b″ x e i count-max y = repeated-built n l xs ys layout a b x e i count-max y
 
 pub build-refuses-as-stated : paper.BuildRefusesAsStated
 build-refuses-as-stated n ls layout a b r a′ b′ x w =

@@ -43,7 +43,7 @@ both-limits-computed J r E₁ L₁ E₂ L₂ x e =
     let g = dependent-fit J r E₁ L₁ E₂ L₂ x e in
     let z = none J r E₁ L₁ E₂ L₂ x e in (
       λ i l. rw (x .main-solution, z) (solution-at (J .main) f i l),
-      λ i l. rw (x .dependent-solution, z) (front-at (J .dependent .solutionBounds) (dependentBound (dependentOf J)) 0 (J .dependent .n) i l (omega (arith, g .few, g .solution-long))),
+      λ i l. rw (x .dependent-solution, z) (front-at (J .dependent .solutionBounds) (dependentBound (dependentOf J)) 0 (J .dependent .n) i l (omega (arith, g .n-max, g .solution-long))),
     )
 
 pub both-inverse-limits-computed : paper.BothInverseLimitsComputed

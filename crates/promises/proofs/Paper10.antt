@@ -11,12 +11,12 @@ use Rattle.build.proofs.Halves.{half-is-square, same-refusals}
 use Rattle.promises.specs.Paper10 as paper
 
 pub filled-out-is : paper.FilledOutIs
-filled-out-is n half few i j li lj =
+filled-out-is n half n-max i j li lj =
     let p = place-from-one i j lj in
     let at-place : halfPlace i j ≡ (i + 1) * ((i + 1) - 1) / 2 + (j + 1) - 1 = omega (arith, p) in
     let lj′ : j < n = omega (arith, li, lj) in (
-      filled-at n half few i j li lj′ ∙ ap (at half) at-place,
-      filled-at n half few j i lj′ li ∙ ap (at half) (place-swap j i ∙ at-place),
+      filled-at n half n-max i j li lj′ ∙ ap (at half) at-place,
+      filled-at n half n-max j i lj′ li ∙ ap (at half) (place-swap j i ∙ at-place),
     )
 
 pub half-is-the-square : paper.HalfIsSquare

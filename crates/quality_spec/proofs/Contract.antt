@@ -51,8 +51,8 @@ long-inquiry Q h =
     }
 
 pub record FitInquiry (Q : Inquiry) : Type 0 where
-  pub some : 0 < Q .n
-  pub few : Q .n ≤ 32
+  pub n-pos : 0 < Q .n
+  pub n-max : Q .n ≤ 32
   pub scale : Q .t ≤ 20
   pub matrix : MatrixList (Q .matrix) (Q .n)
   pub inverse : MatrixList (Q .inverse) (Q .n)
@@ -64,15 +64,15 @@ fit-inquiry Q e f =
     let sizes : inquirySizes (Q .n) (Q .t) ≡ true = both-left _ _ f in
     let lists : inquiryLists (Q .n) (Q .matrix) (Q .inverse) (Q .weights) ≡ true = both-right (inquirySizes (Q .n) (Q .t)) _ f in
     let size = size-range (Q .n) (both-left _ _ sizes) in
-    let few : Q .n ≤ 32 = size .1 in
+    let n-max : Q .n ≤ 32 = size .1 in
     let rest = both-right (allInRange kind.Matrix (Q .n * Q .n) (at (Q .matrix))) _ lists in
     let light : allInRange kind.Weight (Q .n) (at (Q .weights)) ≡ true = both-right (allInRange kind.Inverse (Q .n * Q .n) (at (Q .inverse))) _ rest in
     record {
-      some = size .0;
-      few = few;
+      n-pos = size .0;
+      n-max = n-max;
       scale = inverse-scale-range (Q .t) (both-right (inRange kind.Size (pos (Q .n))) _ sizes);
-      matrix = squared kind.Matrix (Q .matrix) (Q .n) matrix-range (both-left _ _ lists) (omega (arith, square few, long .matrix));
-      inverse = squared kind.Inverse (Q .inverse) (Q .n) inverse-range (both-left _ _ rest) (omega (arith, square few, long .inverse));
+      matrix = squared kind.Matrix (Q .matrix) (Q .n) matrix-range (both-left _ _ lists) (omega (arith, square n-max, long .matrix));
+      inverse = squared kind.Inverse (Q .inverse) (Q .n) inverse-range (both-left _ _ rest) (omega (arith, square n-max, long .inverse));
       weights = record {
         long = omega (arith, long .weights);
         within = record { magnitudes = λ i l. weight-range (at (Q .weights) i) (all-at kind.Weight (Q .n) (at (Q .weights)) light i l) .1 };
@@ -136,12 +136,12 @@ module _ (Q : Inquiry) where
         let P = inquiryProblem Q in
         let z : Q .n ≤ firstMargin P = omega arith in
         let given = answer-given e f z in
-        let some = fit-inquiry Q e f .some in
+        let n-pos = fit-inquiry Q e f .n-pos in
         let margins : Margins P = first-past (Q .n) (marginFails P) z in
         record {
           says = sym given;
           numerator-is = x ∙ sym (accepted-new _ _ given);
           denominator-is = y ∙ sym (accepted-new _ _ given);
-          factor = λ n s right tolerance guess. factor-any s right tolerance guess a c (rw (x, y) (peak-factor P some margins));
-          least = λ n s right tolerance guess b d g. rw (x, y) (peak-least P some margins b d (any-factor s right tolerance guess b d g));
+          factor = λ n s right tolerance guess. factor-any s right tolerance guess a c (rw (x, y) (peak-factor P n-pos margins));
+          least = λ n s right tolerance guess b d g. rw (x, y) (peak-least P n-pos margins b d (any-factor s right tolerance guess b d g));
         }

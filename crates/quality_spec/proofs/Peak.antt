@@ -68,7 +68,7 @@ module _ (n : ℕ) (u v : ℕ → ℕ) where
 
   pub peak-largest-ratio : ((i : ℕ) → i < n → 0 < v i) → 0 < n → LargestRatio n u v (peak n u v)
   unfolding peak
-  peak-largest-ratio o some = go (searched n (noLargerRatio n u v))
+  peak-largest-ratio o n-pos = go (searched n (noLargerRatio n u v))
     where
       go : Searched n (noLargerRatio n u v) → LargestRatio n u v (first n (noLargerRatio n u v))
       go (found i l e p r) =
@@ -76,7 +76,7 @@ module _ (n : ℕ) (u v : ℕ → ℕ) where
             below = l;
             most = λ m lm. ltb-false (u i * v m) (u m * v i) (first-past n (largerRatio u v i) (leb-true n (first n (largerRatio u v i)) p) m lm);
           })
-      go (nowhere e r) = let (k, s) = largest-ratio-of u v n o some in clash (noLargerRatio n u v k) (none-larger-ratio k s) (r k (s .below))
+      go (nowhere e r) = let (k, s) = largest-ratio-of u v n o n-pos in clash (noLargerRatio n u v k) (none-larger-ratio k s) (r k (s .below))
 
 pub leading-end : {m n : ℕ} (u v : ℕ → ℕ) (k : ℕ) → m ≤ n → n ≤ m → Leading m u v k → Leading n u v k
 leading-end u v k p q s = rw (← le-antisymm p q) s
@@ -88,9 +88,9 @@ peak-ext n u u′ v v′ hu hv =
     (λ k lk. ap (leb n) (first-ext n (largerRatio u v k) (largerRatio u′ v′ k) (λ m lm. rw (hu k lk, hu m lm, hv k lk, hv m lm))))
 
 -- ---- of a problem
-module _ (P : Problem) (some : 0 < P .n) (hm : Margins P) where
+module _ (P : Problem) (n-pos : 0 < P .n) (hm : Margins P) where
   pub largest-ratio-row : LargestRatio (P .n) (spread P) (λ (m : ℕ). natAbs (margin P m)) (peakRow P)
-  largest-ratio-row = peak-largest-ratio (P .n) (spread P) (λ (m : ℕ). natAbs (margin P m)) (λ m l. margin-above P m (hm m l)) some
+  largest-ratio-row = peak-largest-ratio (P .n) (spread P) (λ (m : ℕ). natAbs (margin P m)) (λ m l. margin-above P m (hm m l)) n-pos
 
   pub peak-factor : Factor P (numerator P) (denominator P)
   peak-factor = record {

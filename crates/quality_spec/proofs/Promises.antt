@@ -84,7 +84,7 @@ module _ (Q : Inquiry) where
       let h = given-margins z in
       let f = fit-inquiry Q (u .long) (u .inside) in
       let k : ℕ = peakRow P in
-      let l = largest-ratio-row P (f .some) h .below in
+      let l = largest-ratio-row P (f .n-pos) h .below in
       let full : 2 ^ Q .t * natAbs (at (Q .weights) k) ≤ 2 ^ 20 * 1024 =
       mul-le-mul (pow-le-pow-right {n = 2} (omega arith) {i = Q .t} {j = 20} (f .scale)) (f .weights .within .magnitudes k l) in
       (omega (arith, full, margin-sum P k (h k l), margin-above P k (h k l)), omega (arith, full, margin-sum P k (h k l)))

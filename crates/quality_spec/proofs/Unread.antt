@@ -76,7 +76,7 @@ module _ (Q : Inquiry) (matrix inverse weights : List ℤ) (long : inquiryShort 
     answer-here = rw (long, long′, ranges-here, low-here)
 
     row-below : qualityAnswer Q ≡ [] → peakRow (inquiryProblem Q) < Q .n
-    row-below z = let u = given-usable Q z in largest-ratio-row (inquiryProblem Q) (fit-inquiry Q (u .long) (u .inside) .some) (given-margins Q z) .below
+    row-below z = let u = given-usable Q z in largest-ratio-row (inquiryProblem Q) (fit-inquiry Q (u .long) (u .inside) .n-pos) (given-margins Q z) .below
 
     numerator-here : numeratorAfter Q ≡ numeratorAfter R
     unfolding numeratorAfter

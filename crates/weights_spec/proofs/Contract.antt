@@ -47,7 +47,7 @@ long-request Q h =
     }
 
 pub record FitRequest (Q : Request) : Type 0 where
-  pub few : Q .n ≤ 32
+  pub n-max : Q .n ≤ 32
   pub scale : Q .t ≤ 20
   pub allowed : Q .allowance ≤ 64
   pub matrix : MatrixList (Q .matrix) (Q .n)
@@ -59,16 +59,16 @@ fit-request Q e f =
     let long = long-request Q e in
     let sizes : searchSizes (Q .n) (Q .t) (Q .allowance) ≡ true = both-left _ _ f in
     let lists : searchLists (Q .n) (Q .matrix) (Q .inverse) ≡ true = both-right (searchSizes (Q .n) (Q .t) (Q .allowance)) _ f in
-    let few : Q .n ≤ 32 = size-range (Q .n) (both-left _ _ sizes) .1 in
+    let n-max : Q .n ≤ 32 = size-range (Q .n) (both-left _ _ sizes) .1 in
     let rest = both-right (inRange kind.Size (pos (Q .n))) _ sizes in
     record {
-      few = few;
+      n-max = n-max;
       scale = inverse-scale-range (Q .t) (both-left _ _ rest);
       allowed = allowance-range (Q .allowance) (both-right (inRange kind.InverseScale (pos (Q .t))) _ rest) .1;
-      matrix = squared kind.Matrix (Q .matrix) (Q .n) matrix-range (both-left _ _ lists) (omega (arith, square few, long .matrix));
+      matrix = squared kind.Matrix (Q .matrix) (Q .n) matrix-range (both-left _ _ lists) (omega (arith, square n-max, long .matrix));
       inverse = squared kind.Inverse (Q .inverse) (Q .n) inverse-range (both-right (allInRange kind.Matrix (Q .n * Q .n) (at (Q .matrix))) _ lists)
-          (omega (arith, square few, long .inverse));
-      long = omega (arith, few, long .weights);
+          (omega (arith, square n-max, long .inverse));
+      long = omega (arith, n-max, long .weights);
     }
 
 module _ (Q : Request) where

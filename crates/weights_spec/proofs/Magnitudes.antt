@@ -17,7 +17,7 @@ module _ (P : Problem) (r : Ranged P) where
     load-magnitude m lm =
         le-trans
         (sumℕ≤ (P .n) ((2 ^ 45 + 2 ^ 20) * 1024) (λ (j : ℕ). natAbs (defect P m j) * w j) (λ j lj. mul-le-mul (defect-most P r m j lm lj) (light j lj)))
-        (mul-le-mul-right ((2 ^ 45 + 2 ^ 20) * 1024) (r .few))
+        (mul-le-mul-right ((2 ^ 45 + 2 ^ 20) * 1024) (r .n-max))
 
   pub tried-load : (k m : ℕ) → m < P .n → loads P (tried P k) m ≤ 2 ^ 60 + 2 ^ 35
   tried-load k = load-magnitude (tried P k) (tried-high P k)

@@ -110,7 +110,7 @@ sums-fit Q u =
     let f = fit-request Q (u .long) (u .inside) in
     tried-load (searchProblem Q)
     (record {
-      few = f .few;
+      n-max = f .n-max;
       scale = f .scale;
       matrix = λ i j li lj. f .matrix .within .magnitudes (i * Q .n + j) (place li lj);
       inverse = λ i j li lj. f .inverse .within .magnitudes (i * Q .n + j) (place li lj);

@@ -30,13 +30,13 @@ module _ (n t : ℕ) (matrix inverse : List ℤ) where
   abbrev P : Problem
   P = problemOf n 0 t matrix [] [] [] inverse []
 
-  module _ (ht : t ≤ 20) (few : n ≤ 32) (hm : MatrixList matrix n) (hi : MatrixList inverse n) where
+  module _ (ht : t ≤ 20) (n-max : n ≤ 32) (hm : MatrixList matrix n) (hi : MatrixList inverse n) where
     pub magnitudes-at : {magnitudes : List ℕ} → PrefixIs 0 magnitudes (n * n) (λ (i : ℕ). natAbs (columnResidual n t inverse matrix (i / n) (i % n))) →
         (m j : ℕ) → m < n → j < n → getD magnitudes (j * n + m) 0 ≡ natAbs (defect P m j)
     magnitudes-at h m j lm lj = h .each (j * n + m) (place lj lm) ∙ rw (place-column j m n lm, place-row j m n lm) (ap natAbs (residual-exchanged n t inverse matrix j m))
 
     pub magnitudes-below : {magnitudes : List ℕ} → PrefixIs 0 magnitudes (n * n) (λ (i : ℕ). natAbs (columnResidual n t inverse matrix (i / n) (i % n))) → Below magnitudes (n * n) (2 ^ 46)
-    magnitudes-below h = record { each = λ i l. rw (h .each i l) (residual-magnitude n t inverse matrix ht few hi hm (i / n) (i % n) (in-square n i l .0) (in-square n i l .1)) }
+    magnitudes-below h = record { each = λ i l. rw (h .each i l) (residual-magnitude n t inverse matrix ht n-max hi hm (i / n) (i % n) (in-square n i l .0) (in-square n i l .1)) }
 
 -- ---- one step of the sequence
 pub below-of : {xs : List ℕ} (P : Problem) (k : ℕ) → PrefixIs 0 xs (P .n) (tried P k) → Below xs (P .n) 1024
@@ -64,4 +64,4 @@ module _ (P : Problem) (w : ℕ → ℕ) {weights : List ℕ} (hw : PrefixIs 0 w
 -- ---- the loop of `search`
 module _ (P : Problem) where
   pub ones : P .n ≤ 32 → PrefixIs 0 (replicate 32 1) (P .n) (tried P 0)
-  ones few = record { each = λ i l. getD-replicate 32 i 1 0 (omega arith) ∙ sym (tried-first P i) }
+  ones n-max = record { each = λ i l. getD-replicate 32 i 1 0 (omega arith) ∙ sym (tried-first P i) }

@@ -20,7 +20,7 @@ loop-holds : tie.Need-loop-holds Inv-loop μ-loop
 loop-holds c = (search needs, row-none _ _)
 
 line-at-requires : tie.Need-line-at-requires Inv-loop μ-loop
-line-at-requires c κs = omega (arith, c .loop-test .taken, c .before .before .pre .1 .few)
+line-at-requires c κs = omega (arith, c .loop-test .taken, c .before .before .pre .1 .count-max)
 
 is-at-requires : tie.Need-is-at-requires Inv-loop μ-loop
 is-at-requires c κs = search needs

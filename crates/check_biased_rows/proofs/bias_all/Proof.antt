@@ -24,7 +24,7 @@ abbrev start : tie.In-loop Inv-loop μ-loop → tie.Start Inv-loop μ-loop
 start t = t .before .before .before
 
 steps : (s : tie.Start Inv-loop μ-loop) (i : ℕ) → i ≤ s .args .n → i * s .args .step ≤ 1024
-steps s i l = let few : i ≤ 32 = omega (arith, s .pre .0 .0) in mul-le-mul few (s .pre .0 .1 .0)
+steps s i l = let n-max : i ≤ 32 = omega (arith, s .pre .0 .0) in mul-le-mul n-max (s .pre .0 .1 .0)
 
 loop-holds : tie.Need-loop-holds Inv-loop μ-loop
 loop-holds c = (omega arith, (carried-first _ _, (carried-first _ _, (refl, rows-none _ _ _))))
@@ -34,11 +34,11 @@ bias-row-requires c κs =
     let l = c .before .before .loop in
     let s = start (c .before) in
     let t = c .before .loop-test .taken in
-    let few = s .pre .0 .0 in (
+    let n-max = s .pre .0 .0 in (
       (
-        few,
+        n-max,
         (
-          omega (arith, l .inv .1 .1 .0 .is, steps s (l .i) (l .inv .0), mul-le-mul few (s .pre .0 .1 .1 .0)),
+          omega (arith, l .inv .1 .1 .0 .is, steps s (l .i) (l .inv .0), mul-le-mul n-max (s .pre .0 .1 .1 .0)),
           omega (arith, l .inv .1 .0 .is, l .inv .1 .1 .1 .0, row-below (s .args .n) t, s .pre .0 .1 .1 .1),
         ),
       ),

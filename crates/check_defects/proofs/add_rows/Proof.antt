@@ -39,8 +39,8 @@ X s i = at (s .args .xs .now) (s .args .start + i * s .args .stride)
 
 -- the number of this turn, and the sums before it
 module _ (t : tie.In-loop Inv-loop μ-loop) where
-  few : t .before .loop .k ≤ 32
-  few = omega (arith, t .before .loop .inv .0, start t .pre .0 .0)
+  n-max : t .before .loop .k ≤ 32
+  n-max = omega (arith, t .before .loop .inv .0, start t .pre .0 .0)
 
   magnitudes : (i : ℕ) → i < t .before .loop .k → natAbs (X (start t) i) ≤ 2 ^ 20
   magnitudes i l = start t .pre .1 .0 .magnitudes i (omega (arith, t .before .loop .inv .0))
@@ -51,7 +51,7 @@ module _ (t : tie.In-loop Inv-loop μ-loop) where
       (omega (
         arith,
         abs-+ (sum (t .before .loop .k) (X (start t))) (X (start t) (t .before .loop .k)),
-        total-small (X (start t)) few magnitudes,
+        total-small (X (start t)) n-max magnitudes,
         start t .pre .1 .0 .magnitudes (t .before .loop .k) (t .loop-test .taken),
       ))
 
@@ -80,7 +80,7 @@ add-multiple-requires c κs =
           s .pre .1 .1 .0 .each (l .k) (t .loop-test .taken),
           (
             l .inv .1 .1 .1 .0,
-            sums-room _ _ _ (few t) (magnitudes t) (λ i j li lj. s .pre .1 .1 .0 .each i (omega (arith, l .inv .0)) .small .each j lj) (l .inv .1 .1 .1 .1),
+            sums-room _ _ _ (n-max t) (magnitudes t) (λ i j li lj. s .pre .1 .1 .0 .each i (omega (arith, l .inv .0)) .small .each j lj) (l .inv .1 .1 .1 .1),
           ),
         ),
       ),

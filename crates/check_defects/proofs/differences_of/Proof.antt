@@ -30,8 +30,8 @@ start t = t .before .before .before
 -- where the row starts
 starts : (t : tie.In-loop Inv-loop μ-loop) → t .before .loop .start ≤ 1024
 starts t =
-    let few : t .before .loop .m ≤ 32 = omega (arith, t .before .loop .inv .0, start t .pre .0 .1 .0) in
-    rw (start-place (t .before .loop .inv .1 .0)) (mul-le-mul few (start t .pre .0 .1 .1 .0))
+    let n-max : t .before .loop .m ≤ 32 = omega (arith, t .before .loop .inv .0, start t .pre .0 .1 .0) in
+    rw (start-place (t .before .loop .inv .1 .0)) (mul-le-mul n-max (start t .pre .0 .1 .1 .0))
 
 length-here : (c : tie.At-loop Inv-loop μ-loop) → length (c .loop .out) ≡ length (c .before .before .args .out .now)
 length-here c = ap length (c .loop .inv .1 .1) ∙ columns-length _ _ _ (c .loop .m)

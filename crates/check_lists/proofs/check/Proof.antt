@@ -80,21 +80,21 @@ are-lists-in-range-requires c κs =
 
 slacks-of-requires : tie.Need-slacks-of-requires
 slacks-of-requires c κs =
-    let x = fit c in ((x .solution-scale, x .few), x .tolerance)
+    let x = fit c in ((x .solution-scale, x .n-max), x .tolerance)
 
 row-sums-of-requires : tie.Need-row-sums-of-requires
 row-sums-of-requires c κs =
-    let x = fit (c .before) in (x .few, x .matrix)
+    let x = fit (c .before) in (x .n-max, x .matrix)
 
 scaled-right-requires : tie.Need-scaled-right-requires
 scaled-right-requires c κs =
-    let x = fit (c .before .before) in ((x .solution-scale, x .few), x .right)
+    let x = fit (c .before .before) in ((x .solution-scale, x .n-max), x .right)
 
 allowed-of-requires : tie.Need-allowed-of-requires
-allowed-of-requires c κs = fit (c .before .before .before .before .before) .few
+allowed-of-requires c κs = fit (c .before .before .before .before .before) .n-max
 
 allowed-of-requires-2 : tie.Need-allowed-of-requires-2
-allowed-of-requires-2 c κs = fit (at-right (c .before .before) .before .before .before) .few
+allowed-of-requires-2 c κs = fit (at-right (c .before .before) .before .before .before) .n-max
 
 compute-bounds-requires : tie.Need-compute-bounds-requires
 compute-bounds-requires c κs =

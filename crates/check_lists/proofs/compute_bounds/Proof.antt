@@ -6,11 +6,11 @@ use Rattle.check_lists.proofs.compute_bounds.Statement.{statement}
 use Rattle.check_lists.proofs.compute_bounds.Tie as tie
 
 -- stages on the way: the test of n, from the lists of each length, the start from the first such test, and the reckoning, from where they are back
-abbrev few : tie.After-magnitudes → tie.Then1
-few c = c .before .before .before
+abbrev n-max : tie.After-magnitudes → tie.Then1
+n-max c = c .before .before .before
 
-abbrev some : tie.After-magnitudes3 → tie.Then2
-some c = c .before .before .before
+abbrev n-pos : tie.After-magnitudes3 → tie.Then2
+n-pos c = c .before .before .before
 
 abbrev many : tie.After-magnitudes5 → tie.Else2
 many c = c .before .before .before
@@ -43,7 +43,7 @@ slice-aggregate-compute-bounds-in-3 : tie.Need-slice-aggregate-compute-bounds-in
 slice-aggregate-compute-bounds-in-3 c = search needs
 
 compute-bounds-in-requires : tie.Need-compute-bounds-in-requires
-compute-bounds-in-requires c κs = let t = few (c .before .before) in (room (t .if1 .taken), t .before .before .before .pre)
+compute-bounds-in-requires c κs = let t = n-max (c .before .before) in (room (t .if1 .taken), t .before .before .before .pre)
 
 same-length : tie.Need-same-length
 same-length c = search needs
@@ -64,7 +64,7 @@ slice-aggregate-compute-bounds-in-6 : tie.Need-slice-aggregate-compute-bounds-in
 slice-aggregate-compute-bounds-in-6 c = search needs
 
 compute-bounds-in-requires-2 : tie.Need-compute-bounds-in-requires-2
-compute-bounds-in-requires-2 c κs = let t = some (c .before .before) in (room (t .if2 .taken), begun (t .before) .pre)
+compute-bounds-in-requires-2 c κs = let t = n-pos (c .before .before) in (room (t .if2 .taken), begun (t .before) .pre)
 
 same-length-3 : tie.Need-same-length-3
 same-length-3 c = search needs
@@ -85,7 +85,7 @@ slice-aggregate-compute-bounds-in-9 : tie.Need-slice-aggregate-compute-bounds-in
 slice-aggregate-compute-bounds-in-9 c = search needs
 
 compute-bounds-in-requires-3 : tie.Need-compute-bounds-in-requires-3
-compute-bounds-in-requires-3 c κs = let s = begun (many (c .before .before) .before) in (room (s .pre .few), s .pre)
+compute-bounds-in-requires-3 c κs = let s = begun (many (c .before .before) .before) in (room (s .pre .n-max), s .pre)
 
 same-length-5 : tie.Need-same-length-5
 same-length-5 c = search needs

@@ -67,8 +67,8 @@ residuals-are : (c : tie.After-inverse-residuals-of) →
 residuals-are c = columns-are (W (begun (biased-before c))) (biased-before c .bias-rows .ensures) (c .inverse-residuals-of .ensures)
 
 -- the lengths of the lists
-wide : (c : tie.After-residuals-of) → length (c .residuals-of .result) ≡ 32
-wide c = search needs
+length-is : (c : tie.After-residuals-of) → length (c .residuals-of .result) ≡ 32
+length-is c = search needs
 
 same-rows : (c : tie.After-bias-rows) → length (c .bias-rows .last .0) ≡ length (begun c .args .rows .now)
 same-rows c = search needs
@@ -112,27 +112,27 @@ worked j = record {
 }
 
 bias-rows-requires : tie.Need-bias-rows-requires
-bias-rows-requires c κs = let p = at-start (c .before) .pre in ((p .1 .few, p .0 .0), raisable (p .1 .inverse))
+bias-rows-requires c κs = let p = at-start (c .before) .pre in ((p .1 .n-max, p .0 .0), raisable (p .1 .inverse))
 
 inverse-residuals-of-requires : tie.Need-inverse-residuals-of-requires
 inverse-residuals-of-requires c κs =
     let r = c .before .before .before .before in
-    let p = begun r .pre in ((p .1 .inverse-scale, (p .1 .few, p .0 .1 .0)), (p .1 .matrix, r .bias-rows .ensures .rows))
+    let p = begun r .pre in ((p .1 .inverse-scale, (p .1 .n-max, p .0 .1 .0)), (p .1 .matrix, r .bias-rows .ensures .rows))
 
 are-symmetric-requires : tie.Need-are-symmetric-requires
-are-symmetric-requires c κs = let p = begun (biased-before (c .before)) .pre in (p .1 .few, (p .1 .matrix .long, p .1 .inverse .long))
+are-symmetric-requires c κs = let p = begun (biased-before (c .before)) .pre in (p .1 .n-max, (p .1 .matrix .long, p .1 .inverse .long))
 
 margins-of-requires : tie.Need-margins-of-requires
 margins-of-requires c κs =
     let k = c .before .before .before in
     let p = begun (biased-before k) .pre .1 in
-    ((p .inverse-scale, (p .few, long-columns k)), (search (p .matrix, p .inverse), (search (p .matrix, p .inverse), (residuals-are k, (c .before .are-symmetric .ensures, p .weights)))))
+    ((p .inverse-scale, (p .n-max, long-columns k)), (search (p .matrix, p .inverse), (search (p .matrix, p .inverse), (residuals-are k, (c .before .are-symmetric .ensures, p .weights)))))
 
 residuals-of-requires : tie.Need-residuals-of-requires
-residuals-of-requires c κs = let p = begun (biased-before (at-columns c)) .pre .1 in (p .few, (p .base, (p .matrix, p .guess)))
+residuals-of-requires c κs = let p = begun (biased-before (at-columns c)) .pre .1 in (p .n-max, (p .base, (p .matrix, p .guess)))
 
 first-zero-requires : tie.Need-first-zero-requires
-first-zero-requires c κs = begun (biased-before (at-columns (c .before .before))) .pre .1 .few
+first-zero-requires c κs = begun (biased-before (at-columns (c .before .before))) .pre .1 .n-max
 
 slice-aggregate-first-above : tie.Need-slice-aggregate-first-above
 slice-aggregate-first-above c = search needs
@@ -140,15 +140,15 @@ slice-aggregate-first-above c = search needs
 first-above-requires : tie.Need-first-above-requires
 first-above-requires c κs =
     let p = begun (biased-before (at-columns (at-margins (c .before)))) .pre .1 in
-    ((p .few, (omega (arith, p .few, wide (c .before .before .before)), lit≤ tt)), p .allowed)
+    ((p .n-max, (omega (arith, p .n-max, length-is (c .before .before .before)), lit≤ tt)), p .allowed)
 
 first-above-in-columns-requires : tie.Need-first-above-in-columns-requires
 first-above-in-columns-requires c κs =
     let k = at-columns (at-margins (c .before .before .before)) in
-    let p = begun (biased-before k) .pre .1 in ((p .few, long-columns k), p .in-columns)
+    let p = begun (biased-before k) .pre .1 in ((p .n-max, long-columns k), p .in-columns)
 
 judge-requires : tie.Need-judge-requires
-judge-requires c κs = let p = begun (biased-before (at-columns (at-margins (at-zero c)))) .pre .1 in (p .some, p .few)
+judge-requires c κs = let p = begun (biased-before (at-columns (at-margins (at-zero c)))) .pre .1 in (p .n-pos, p .n-max)
 
 enum-known-outcome : tie.Need-enum-known-outcome
 enum-known-outcome c = search needs
@@ -161,7 +161,7 @@ caps-of-requires c κs =
     let j = c .before .before .before in
     let s = start j in
     let p = s .pre .1 in
-    ((p .some, p .few), (p .weights, weighed-here (W s) p (worked j) (c .before .enum-told .given .1)))
+    ((p .n-pos, p .n-max), (p .weights, weighed-here (W s) p (worked j) (c .before .enum-told .given .1)))
 
 column-bounds-requires : tie.Need-column-bounds-requires
 column-bounds-requires c κs =
@@ -169,12 +169,12 @@ column-bounds-requires c κs =
     let s = start j in
     let p = s .pre .1 in
     let e = at-caps c .before .before .enum-told .given .1 in
-    ((p .some, p .few), (rows-are (biased j), (near-here (W s) p (worked j) e, (positive-here (W s) p (worked j) e, (p .weights, at-caps c .caps-of .ensures)))))
+    ((p .n-pos, p .n-max), (rows-are (biased j), (near-here (W s) p (worked j) e, (positive-here (W s) p (worked j) e, (p .weights, at-caps c .caps-of .ensures)))))
 
 store-requires : tie.Need-store-requires
 store-requires c κs =
     let p = start (judged (at-caps (c .before .before))) .pre .1 in
-    ((omega (arith, p .few), omega (arith, p .few)), λ k l. omega (arith, p .few, p .solution-long))
+    ((omega (arith, p .n-max), omega (arith, p .n-max)), λ k l. omega (arith, p .n-max, p .solution-long))
 
 store-columns-requires : tie.Need-store-columns-requires
 store-columns-requires c κs =
@@ -182,7 +182,7 @@ store-columns-requires c κs =
     let s = start j in
     let p = s .pre .1 in
     let e = at-caps (solved c) .before .before .enum-told .given .1 in (
-      (p .some, (p .few, (omega (arith, square (p .few), p .inverse-long), s .pre .0 .1 .1))),
+      (p .n-pos, (p .n-max, (omega (arith, square (p .n-max), p .inverse-long), s .pre .0 .1 .1))),
       (
         rows-are (biased j),
         (

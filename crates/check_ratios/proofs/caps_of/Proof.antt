@@ -58,7 +58,7 @@ returns : tie.Need-returns Inv-loop μ-loop
 returns c =
     let s = c .before .before .before in
     record {
-      some = s .pre .1 .1;
+      weights-pos = s .pre .1 .1;
       under = λ i m li lm. cap-under (s .args .n) _ i _ _ li (prefix-end 0 (c .before .loop .inv .0) (c .loop-test .left) (c .before .loop .inv .1 .1) .each m lm);
     }
 

@@ -6,12 +6,12 @@ use borrow.Author.Needs.{needs}
 use Rattle.convert.proofs.print_text.Statement.{statement}
 use Rattle.convert.proofs.print_text.Tie as tie
 
-wide : (c : tie.Start) → length (c .args .t1) ≡ 65536
-wide c = search needs
+length-is : (c : tie.Start) → length (c .args .t1) ≡ 65536
+length-is c = search needs
 
 -- the bytes that were read are n
 handed : (c : tie.Start) → length (take (c .args .n) (c .args .t1)) ≡ c .args .n
-handed c = length-take-le _ _ (omega (arith, wide c, c .pre))
+handed c = length-take-le _ _ (omega (arith, length-is c, c .pre))
 
 -- the text's length, as its contract gives it
 counted : (c : tie.After-put-text) → c .put-text .result ≡ length (take (c .put-text .result) (c .put-text .last .1 .0))

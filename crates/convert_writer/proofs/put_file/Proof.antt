@@ -35,8 +35,8 @@ put-rest-requires c κs =
     let a = b .before .before .before .before in
     let z = a .before .before .before .before in
     let s = z .before .before .before in
-    let few = size (s .args .c) (s .pre .0) .1 in
-    (s .pre .0, (z .size .ensures, (omega (arith, z .size .ensures, few), omega (arith, s .pre .1, a .put-problem .ensures .few, a .put-problem .kept .0, b .put-scale .ensures .few, b .put-scale .kept .0))))
+    let n-max = size (s .args .c) (s .pre .0) .1 in
+    (s .pre .0, (z .size .ensures, (omega (arith, z .size .ensures, n-max), omega (arith, s .pre .1, a .put-problem .ensures .end-max, a .put-problem .kept .0, b .put-scale .ensures .end-max, b .put-scale .kept .0))))
 
 same-length : tie.Need-same-length
 same-length c = search needs

@@ -15,11 +15,11 @@ use Rattle.convert_writer.proofs.put_integers.Statement.{statement}
 use Rattle.convert_writer.proofs.put_integers.Tie as tie
 
 abbrev Inv-loop : tie.InvT-loop
-Inv-loop out₀ at values start n place₀ j₀ out place j =
-    (j ≤ n) × (length out ≡ length out₀) × Wrote (j * 21) out₀ at (integers j (λ (k : ℕ). number values (start + k))) out place
+Inv-loop out₀ at values start n index₀ j₀ out index j =
+    (j ≤ n) × (length out ≡ length out₀) × Wrote (j * 21) out₀ at (integers j (λ (k : ℕ). number values (start + k))) out index
 
 abbrev μ-loop : tie.MeasureT-loop
-μ-loop out₀ at values start n place₀ j₀ out place j = n - j
+μ-loop out₀ at values start n index₀ j₀ out index j = n - j
 
 -- the turn that a number was written in
 abbrev turn : tie.After-put-next Inv-loop μ-loop → tie.In-loop Inv-loop μ-loop
@@ -42,7 +42,7 @@ put-next-requires c κs =
     let l = c .before .before .before .loop in
     let s = c .before .before .before .before .before in
     let small = s .pre .1 (l .j) (c .before .before .loop-test .taken) in
-    (rw (small-read _ small) small, next-room 21 (s .args .n) (s .args .at) (c .before .before .loop-test .taken) (l .inv .2 .few) (omega (arith, l .inv .1, s .pre .0 .1 .1)))
+    (rw (small-read _ small) small, next-room 21 (s .args .n) (s .args .at) (c .before .before .loop-test .taken) (l .inv .2 .end-max) (omega (arith, l .inv .1, s .pre .0 .1 .1)))
 
 add-j : tie.Need-add-j Inv-loop μ-loop
 add-j c = search needs

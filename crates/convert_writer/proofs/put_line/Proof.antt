@@ -45,8 +45,8 @@ put-row-requires : tie.Need-put-row-requires
 put-row-requires c κs =
     let s = at-row c .before .before .before in
     let e = s .pre .1 .0 in
-    let few = s .pre .1 .1 .0 in
-    ((omega arith, (few, (row-ends (s .pre .1 .1 .1 .0) few, s .pre .1 .1 .1 .1))), rw e (matrix-small (s .args .c) (s .pre .0) (s .args .i) (inside s)))
+    let n-max = s .pre .1 .1 .0 in
+    ((omega arith, (n-max, (row-ends (s .pre .1 .1 .1 .0) n-max, s .pre .1 .1 .1 .1))), rw e (matrix-small (s .args .c) (s .pre .0) (s .args .i) (inside s)))
 
 enum-told-2 : tie.Need-enum-told-2
 enum-told-2 c = search needs
@@ -99,8 +99,8 @@ put-row-requires-2 : tie.Need-put-row-requires-2
 put-row-requires-2 c κs =
     let s = at-inverse c .before .before .before in
     let e = s .pre .1 .0 in
-    let few = s .pre .1 .1 .0 in
-    ((omega arith, (few, (row-ends (s .pre .1 .1 .1 .0) few, s .pre .1 .1 .1 .1))), rw e (inverse-small (s .args .c) (s .pre .0) (s .args .i) (inside s)))
+    let n-max = s .pre .1 .1 .0 in
+    ((omega arith, (n-max, (row-ends (s .pre .1 .1 .1 .0) n-max, s .pre .1 .1 .1 .1))), rw e (inverse-small (s .args .c) (s .pre .0) (s .args .i) (inside s)))
 
 enum-told-5 : tie.Need-enum-told-5
 enum-told-5 c = search needs

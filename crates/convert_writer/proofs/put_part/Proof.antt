@@ -13,11 +13,11 @@ use Rattle.convert_writer.proofs.put_part.Statement.{statement}
 use Rattle.convert_writer.proofs.put_part.Tie as tie
 
 abbrev Inv-loop : tie.InvT-loop
-Inv-loop out₀ at part n collected place₀ i₀ out place i =
-    (i ≤ n) × (length out ≡ length out₀) × Wrote (i * mostFor part) out₀ at (each i (λ (k : ℕ). formLine (formFor (heldBy collected) part k))) out place
+Inv-loop out₀ at part n collected index₀ i₀ out index i =
+    (i ≤ n) × (length out ≡ length out₀) × Wrote (i * mostFor part) out₀ at (each i (λ (k : ℕ). formLine (formFor (heldBy collected) part k))) out index
 
 abbrev μ-loop : tie.MeasureT-loop
-μ-loop out₀ at part n collected place₀ i₀ out place i = n - i
+μ-loop out₀ at part n collected index₀ i₀ out index i = n - i
 
 loop-holds : tie.Need-loop-holds Inv-loop μ-loop
 loop-holds c = (omega arith, refl, wrote-none _ _ _ _)
@@ -27,7 +27,7 @@ put-line-requires c κs =
     let l = c .before .before .loop in
     let s = c .before .before .before .before in
     let t = c .before .loop-test .taken in
-    (s .pre .0, (s .pre .1 .0, (s .pre .1 .1 .0, (t, omega (arith, l .inv .2 .few, l .inv .1, s .pre .1 .1 .1, mul-le-mul-right {m = l .i} {n = s .args .n} (mostFor (s .args .part)) (omega (arith, t)))))))
+    (s .pre .0, (s .pre .1 .0, (s .pre .1 .1 .0, (t, omega (arith, l .inv .2 .end-max, l .inv .1, s .pre .1 .1 .1, mul-le-mul-right {m = l .i} {n = s .args .n} (mostFor (s .args .part)) (omega (arith, t)))))))
 
 add-i : tie.Need-add-i Inv-loop μ-loop
 add-i c = search needs

@@ -13,14 +13,14 @@ put-part-requires-2 : tie.Need-put-part-requires-2
 put-part-requires-2 c κs =
     let p1 = c .before .before .before in
     let s = p1 .before .before .before in
-    (s .pre .0, (s .pre .1 .0, (s .pre .1 .1 .0, omega (arith, s .pre .1 .1 .0, s .pre .1 .1 .1, p1 .put-part .ensures .few, p1 .put-part .kept .0))))
+    (s .pre .0, (s .pre .1 .0, (s .pre .1 .1 .0, omega (arith, s .pre .1 .1 .0, s .pre .1 .1 .1, p1 .put-part .ensures .end-max, p1 .put-part .kept .0))))
 
 put-part-requires-3 : tie.Need-put-part-requires-3
 put-part-requires-3 c κs =
     let p2 = c .before .before .before in
     let p1 = p2 .before .before .before .before in
     let s = p1 .before .before .before in
-    (s .pre .0, (s .pre .1 .0, (s .pre .1 .1 .0, omega (arith, s .pre .1 .1 .0, s .pre .1 .1 .1, p1 .put-part .ensures .few, p1 .put-part .kept .0, p2 .put-part2 .ensures .few, p2 .put-part2 .kept .0))))
+    (s .pre .0, (s .pre .1 .0, (s .pre .1 .1 .0, omega (arith, s .pre .1 .1 .0, s .pre .1 .1 .1, p1 .put-part .ensures .end-max, p1 .put-part .kept .0, p2 .put-part2 .ensures .end-max, p2 .put-part2 .kept .0))))
 
 put-part-requires-4 : tie.Need-put-part-requires-4
 put-part-requires-4 c κs =
@@ -28,7 +28,7 @@ put-part-requires-4 c κs =
     let p2 = p3 .before .before .before .before in
     let p1 = p2 .before .before .before .before in
     let s = p1 .before .before .before in
-    (s .pre .0, (s .pre .1 .0, (s .pre .1 .1 .0, omega (arith, s .pre .1 .1 .0, s .pre .1 .1 .1, p1 .put-part .ensures .few, p1 .put-part .kept .0, p2 .put-part2 .ensures .few, p2 .put-part2 .kept .0, p3 .put-part3 .ensures .few, p3 .put-part3 .kept .0))))
+    (s .pre .0, (s .pre .1 .0, (s .pre .1 .1 .0, omega (arith, s .pre .1 .1 .0, s .pre .1 .1 .1, p1 .put-part .ensures .end-max, p1 .put-part .kept .0, p2 .put-part2 .ensures .end-max, p2 .put-part2 .kept .0, p3 .put-part3 .ensures .end-max, p3 .put-part3 .kept .0))))
 
 put-part-requires-5 : tie.Need-put-part-requires-5
 put-part-requires-5 c κs =
@@ -37,7 +37,7 @@ put-part-requires-5 c κs =
     let p2 = p3 .before .before .before .before in
     let p1 = p2 .before .before .before .before in
     let s = p1 .before .before .before in
-    (s .pre .0, (s .pre .1 .0, (s .pre .1 .1 .0, omega (arith, s .pre .1 .1 .0, s .pre .1 .1 .1, p1 .put-part .ensures .few, p1 .put-part .kept .0, p2 .put-part2 .ensures .few, p2 .put-part2 .kept .0, p3 .put-part3 .ensures .few, p3 .put-part3 .kept .0, p4 .put-part4 .ensures .few, p4 .put-part4 .kept .0))))
+    (s .pre .0, (s .pre .1 .0, (s .pre .1 .1 .0, omega (arith, s .pre .1 .1 .0, s .pre .1 .1 .1, p1 .put-part .ensures .end-max, p1 .put-part .kept .0, p2 .put-part2 .ensures .end-max, p2 .put-part2 .kept .0, p3 .put-part3 .ensures .end-max, p3 .put-part3 .kept .0, p4 .put-part4 .ensures .end-max, p4 .put-part4 .kept .0))))
 
 slice-aggregate-put-bytes : tie.Need-slice-aggregate-put-bytes
 slice-aggregate-put-bytes c = search needs
@@ -50,7 +50,7 @@ put-bytes-requires c κs =
     let p2 = p3 .before .before .before .before in
     let p1 = p2 .before .before .before .before in
     let s = p1 .before .before .before in
-    omega (arith, s .pre .1 .1 .0, s .pre .1 .1 .1, p1 .put-part .ensures .few, p1 .put-part .kept .0, p2 .put-part2 .ensures .few, p2 .put-part2 .kept .0, p3 .put-part3 .ensures .few, p3 .put-part3 .kept .0, p4 .put-part4 .ensures .few, p4 .put-part4 .kept .0, p5 .put-part5 .ensures .few, p5 .put-part5 .kept .0)
+    omega (arith, s .pre .1 .1 .0, s .pre .1 .1 .1, p1 .put-part .ensures .end-max, p1 .put-part .kept .0, p2 .put-part2 .ensures .end-max, p2 .put-part2 .kept .0, p3 .put-part3 .ensures .end-max, p3 .put-part3 .kept .0, p4 .put-part4 .ensures .end-max, p4 .put-part4 .kept .0, p5 .put-part5 .ensures .end-max, p5 .put-part5 .kept .0)
 
 same-length : tie.Need-same-length
 same-length c = search needs

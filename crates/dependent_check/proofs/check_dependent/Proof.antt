@@ -80,9 +80,9 @@ copy-limits-requires c κs =
     let a = after-dependent c in
     let h = held a in
     let e = status a .enum-told .given .1 in
-    let few = marks-few (J (start h)) (h .before .before .if1 .left) (h .before .if2 .left) (h .check-held .ensures) e in
+    let n-max = marks-few (J (start h)) (h .before .before .if1 .left) (h .before .if2 .left) (h .check-held .ensures) e in
     let long = limits-long (J (start h)) (h .before .before .if1 .left) (h .before .if2 .left) (h .check-held .ensures) e in
-    (omega (arith, few, long), omega (arith, few, h .before .before .if1 .left))
+    (omega (arith, n-max, long), omega (arith, n-max, h .before .before .if1 .left))
 
 slice-aggregate-copy-limits-2 : tie.Need-slice-aggregate-copy-limits-2
 slice-aggregate-copy-limits-2 c =
@@ -93,16 +93,16 @@ mul-copy-limits : tie.Need-mul-copy-limits
 mul-copy-limits c =
     let a = after-dependent (copied c .before) in
     let h = held a in
-    let few = marks-few (J (start h)) (h .before .before .if1 .left) (h .before .if2 .left) (h .check-held .ensures) (status a .enum-told .given .1) in omega (arith, square few)
+    let n-max = marks-few (J (start h)) (h .before .before .if1 .left) (h .before .if2 .left) (h .check-held .ensures) (status a .enum-told .given .1) in omega (arith, square n-max)
 
 copy-limits-requires-2 : tie.Need-copy-limits-requires-2
 copy-limits-requires-2 c κs =
     let a = after-dependent (copied c .before) in
     let h = held a in
     let e = status a .enum-told .given .1 in
-    let few = marks-few (J (start h)) (h .before .before .if1 .left) (h .before .if2 .left) (h .check-held .ensures) e in
+    let n-max = marks-few (J (start h)) (h .before .before .if1 .left) (h .before .if2 .left) (h .check-held .ensures) e in
     let long = inverse-long (J (start h)) (h .before .before .if1 .left) (h .before .if2 .left) (h .check-held .ensures) e in
-    (omega (arith, square few, long), omega (arith, square few, h .before .if2 .left))
+    (omega (arith, square n-max, long), omega (arith, square n-max, h .before .if2 .left))
 
 returns-3 : tie.Need-returns-3
 returns-3 c =

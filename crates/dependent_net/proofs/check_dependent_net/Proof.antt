@@ -77,8 +77,8 @@ within c = both (sizes (c .before .before)) (sym (c .before .are-lists-in-range 
 one-scale : (c : tie.Then5) → eqb (start5 c .args .s) (start5 c .args .main-scale) ≡ true
 one-scale c = eq-eqb _ _ (c .if5 .taken)
 
-few : (c : tie.Then3) → start3 c .args .n ≤ 32
-few c = size-range _ (both-left _ _ (sizes c)) .1
+n-max : (c : tie.Then3) → start3 c .args .n ≤ 32
+n-max c = size-range _ (both-left _ _ (sizes c)) .1
 
 usable : (c : tie.Then6) → UsableDependent (D (start6 c))
 usable c =
@@ -93,7 +93,7 @@ fit c = own-fit (D (start6 c)) (usable c)
 
 coupled : (c : tie.Then6) → ColumnList (start6 c .args .coupling .now) (start6 c .args .n * start6 c .args .marks) (2 ^ 20)
 coupled c =
-    coupling-list _ _ _ (fit c .few) (start6 c .pre .0) (at-short (c .before .before .before) .before .before .if1 .left)
+    coupling-list _ _ _ (fit c .n-max) (start6 c .pre .0) (at-short (c .before .before .before) .before .before .if1 .left)
     (sym (c .before .all-in-range .ensures) ∙ c .if6 .taken)
 
 -- what is handed to the reckoning
@@ -135,25 +135,25 @@ are-sizes-in-range-requires c κs = search needs
 are-lists-in-range-requires : tie.Need-are-lists-in-range-requires
 are-lists-in-range-requires c κs =
     let l = long-of (I (start3 c)) (not-short (c .before .before)) in
-    (few c, (l .matrix, (l .right, (l .tolerance, (l .guess, (l .inverse, l .weights))))))
+    (n-max c, (l .matrix, (l .right, (l .tolerance, (l .guess, (l .inverse, l .weights))))))
 
 mul-all-in-range : tie.Need-mul-all-in-range
-mul-all-in-range c = omega (arith, mul-le-mul (few (c .before .before .before)) (start5 c .pre .0))
+mul-all-in-range c = omega (arith, mul-le-mul (n-max (c .before .before .before)) (start5 c .pre .0))
 
 all-in-range-requires : tie.Need-all-in-range-requires
 all-in-range-requires c κs =
     let t = c .before in
-    omega (arith, mul-le-mul (few (t .before .before)) (start5 c .pre .0), at-short t .before .before .if1 .left)
+    omega (arith, mul-le-mul (n-max (t .before .before)) (start5 c .pre .0), at-short t .before .before .if1 .left)
 
 scaled-right-requires : tie.Need-scaled-right-requires
 scaled-right-requires c κs =
-    let x = fit c in ((x .solution-scale, x .few), x .right)
+    let x = fit c in ((x .solution-scale, x .n-max), x .right)
 
 base-of-requires : tie.Need-base-of-requires
 base-of-requires c κs =
     let t = c .before in
     let x = fit t in (
-      (start6 t .pre .0, x .few),
+      (start6 t .pre .0, x .n-max),
       (
         scaled-list (I (start6 t)) x (search needs) (c .scaled-right .ensures),
         (coupled t, start6 t .pre .1),
@@ -162,25 +162,25 @@ base-of-requires c κs =
 
 slacks-of-requires : tie.Need-slacks-of-requires
 slacks-of-requires c κs =
-    let x = fit (c .before .before) in ((x .solution-scale, x .few), x .tolerance)
+    let x = fit (c .before .before) in ((x .solution-scale, x .n-max), x .tolerance)
 
 slacks-with-requires : tie.Need-slacks-with-requires
 slacks-with-requires c κs =
     let t = c .before .before .before in
     let x = fit t in (
-      (start6 t .pre .0, x .few),
+      (start6 t .pre .0, x .n-max),
       (own-slacks (I (start6 t)) x (c .slacks-of .ensures), coupled t),
     )
 
 row-sums-of-requires : tie.Need-row-sums-of-requires
 row-sums-of-requires c κs =
-    let x = fit (c .before .before .before .before) in (x .few, x .matrix)
+    let x = fit (c .before .before .before .before) in (x .n-max, x .matrix)
 
 allowed-of-requires : tie.Need-allowed-of-requires
-allowed-of-requires c κs = fit (at-base (c .before .before) .before .before) .few
+allowed-of-requires c κs = fit (at-base (c .before .before) .before .before) .n-max
 
 allowed-of-requires-2 : tie.Need-allowed-of-requires-2
-allowed-of-requires-2 c κs = fit (at-base (at-sums (c .before .before)) .before .before) .few
+allowed-of-requires-2 c κs = fit (at-base (at-sums (c .before .before)) .before .before) .n-max
 
 compute-bounds-requires : tie.Need-compute-bounds-requires
 compute-bounds-requires c κs =

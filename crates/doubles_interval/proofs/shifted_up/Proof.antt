@@ -5,14 +5,14 @@ use Rattle.doubles_interval.proofs.Shift.{full}
 use Rattle.doubles_interval.proofs.shifted_up.Statement.{statement}
 use Rattle.doubles_interval.proofs.shifted_up.Tie as tie
 
-few : (c : tie.Start) → leadingZeros 64 (c .args .a) < 64
-few c = full (c .args .a) (c .pre) (c .fits .a .fits) .zeros
+n-max : (c : tie.Start) → leadingZeros 64 (c .args .a) < 64
+n-max c = full (c .args .a) (c .pre) (c .fits .a .fits) .zeros
 
 cast-t3 : tie.Need-cast-t3
-cast-t3 c = record { fits = omega (arith, few c) }
+cast-t3 c = record { fits = omega (arith, n-max c) }
 
 shl-t4 : tie.Need-shl-t4
-shl-t4 c = few c
+shl-t4 c = n-max c
 
 returns : tie.Need-returns
 returns c = full (c .args .a) (c .pre) (c .fits .a .fits)

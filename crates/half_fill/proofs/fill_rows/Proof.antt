@@ -31,8 +31,8 @@ add-from c = search needs
 
 add-from-2 : tie.Need-add-from-2 Inv-loop μ-loop
 add-from-2 c =
-    let few : c .before .before .before .loop .i ≤ 32 = omega arith in
-    omega (arith, c .before .before .before .loop .inv .1 .1 .0, count-few few)
+    let n-max : c .before .before .before .loop .i ≤ 32 = omega arith in
+    omega (arith, c .before .before .before .loop .inv .1 .1 .0, count-few n-max)
 
 add-i : tie.Need-add-i Inv-loop μ-loop
 add-i c = search needs

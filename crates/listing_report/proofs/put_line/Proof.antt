@@ -78,14 +78,14 @@ mul-put-list : tie.Need-mul-put-list
 mul-put-list c =
     let status = c .before .before in
     let s = status .before .before .before .before .before in
-    record { fits = row-fits (s .pre .1 .0) (s .pre .0 .few) }
+    record { fits = row-fits (s .pre .1 .0) (s .pre .0 .n-max) }
 
 put-list-requires : tie.Need-put-list-requires
 put-list-requires c κs =
     let status = c .before .before in
     let s = status .before .before .before .before .before in
     let m = ap mostOf (status .enum-told3 .given .1) in
-    (omega arith, (s .pre .0 .few, (row-room (s .pre .1 .0) (s .pre .0 .inverse-long), omega (arith, m))))
+    (omega arith, (s .pre .0 .n-max, (row-room (s .pre .1 .0) (s .pre .0 .inverse-long), omega (arith, m))))
 
 same-length : tie.Need-same-length
 same-length c = search needs

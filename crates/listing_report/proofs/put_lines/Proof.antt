@@ -11,11 +11,11 @@ use Rattle.listing_report.proofs.put_lines.Statement.{statement}
 use Rattle.listing_report.proofs.put_lines.Tie as tie
 
 abbrev Inv-loop : tie.InvT-loop
-Inv-loop out₀ at block n s guess solution-bounds inverse-bounds place₀ i₀ out place i =
-    (i ≤ n) × (length out ≡ length out₀) × Wrote (i * mostOf block) out₀ at (each i (blockLine block n s guess solution-bounds inverse-bounds)) out place
+Inv-loop out₀ at block n s guess solution-bounds inverse-bounds index₀ i₀ out index i =
+    (i ≤ n) × (length out ≡ length out₀) × Wrote (i * mostOf block) out₀ at (each i (blockLine block n s guess solution-bounds inverse-bounds)) out index
 
 abbrev μ-loop : tie.MeasureT-loop
-μ-loop out₀ at block n s guess solution-bounds inverse-bounds place₀ i₀ out place i = n - i
+μ-loop out₀ at block n s guess solution-bounds inverse-bounds index₀ i₀ out index i = n - i
 
 -- the start, from the turn
 abbrev start : tie.In-loop Inv-loop μ-loop → tie.Start Inv-loop μ-loop
@@ -28,7 +28,7 @@ put-line-requires : tie.Need-put-line-requires Inv-loop μ-loop
 put-line-requires c κs =
     let l = c .before .before .loop in
     let s = start (c .before) in
-    (s .pre .0, (c .before .loop-test .taken, next-room (mostOf (s .args .block)) (s .args .n) (s .args .at) (c .before .loop-test .taken) (l .inv .2 .few) (omega (arith, l .inv .1, s .pre .1))))
+    (s .pre .0, (c .before .loop-test .taken, next-room (mostOf (s .args .block)) (s .args .n) (s .args .at) (c .before .loop-test .taken) (l .inv .2 .end-max) (omega (arith, l .inv .1, s .pre .1))))
 
 add-i : tie.Need-add-i Inv-loop μ-loop
 add-i c = search needs

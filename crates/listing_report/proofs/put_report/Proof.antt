@@ -27,7 +27,7 @@ put-bytes-requires c κs =
     let l1 = l2 .before .before .before .before in
     let b = l1 .before .before .before .before in
     let s = b .before .before .before .before .before in
-    omega (arith, l3 .put-lines3 .ensures .few, l2 .put-lines2 .ensures .few, l1 .put-lines .ensures .few, b .put-bounds .ensures .few, s .pre .0 .few, s .pre .1, l3 .put-lines3 .kept .0, l2 .put-lines2 .kept .0, l1 .put-lines .kept .0, b .put-bounds .kept .0)
+    omega (arith, l3 .put-lines3 .ensures .end-max, l2 .put-lines2 .ensures .end-max, l1 .put-lines .ensures .end-max, b .put-bounds .ensures .end-max, s .pre .0 .n-max, s .pre .1, l3 .put-lines3 .kept .0, l2 .put-lines2 .kept .0, l1 .put-lines .kept .0, b .put-bounds .kept .0)
 
 same-length : tie.Need-same-length
 same-length c = search needs
@@ -41,7 +41,7 @@ returns c =
     let b = l1 .before .before .before .before in
     let s = b .before .before .before .before .before in
     unfold reportOf in
-    wider 32768 (omega (arith, s .pre .0 .few))
+    wider 32768 (omega (arith, s .pre .0 .n-max))
     (then (then (then (then (b .put-bounds .ensures) (l1 .put-lines .ensures)) (l2 .put-lines2 .ensures)) (l3 .put-lines3 .ensures)) (e .put-bytes .ensures))
 
 pub put-report-spec : {M : Type 1} → statement M

@@ -12,11 +12,11 @@ use Rattle.listing_text.proofs.put_numbers.Statement.{statement}
 use Rattle.listing_text.proofs.put_numbers.Tie as tie
 
 abbrev Inv-loop : tie.InvT-loop
-Inv-loop out₀ at values start n place₀ j₀ out place j =
-    (j ≤ n) × (length out ≡ length out₀) × Wrote (j * 21) out₀ at (numbers j (λ (k : ℕ). getD values (start + k) 0)) out place
+Inv-loop out₀ at values start n index₀ j₀ out index j =
+    (j ≤ n) × (length out ≡ length out₀) × Wrote (j * 21) out₀ at (numbers j (λ (k : ℕ). getD values (start + k) 0)) out index
 
 abbrev μ-loop : tie.MeasureT-loop
-μ-loop out₀ at values start n place₀ j₀ out place j = n - j
+μ-loop out₀ at values start n index₀ j₀ out index j = n - j
 
 -- the turn that a number was written in
 abbrev turn : tie.After-put-item Inv-loop μ-loop → tie.In-loop Inv-loop μ-loop

@@ -11,7 +11,7 @@ write-values-requires : tie.Need-write-values-requires
 write-values-requires c κs =
     let s = c .before .before in
     let f = span-fits (s .args .part) (s .args .width) (length (s .args .l .now)) (s .args .item) (s .pre) in
-    rw (c .before .span-of .ensures) (f .few, f .end)
+    rw (c .before .span-of .ensures) (f .count-max, f .end)
 
 same-length : tie.Need-same-length
 same-length c = search needs

@@ -33,16 +33,16 @@ none-low c =
     first-past (P .n) (marginFails P) (omega (arith, c .if1 .left, low-is (Q (m .before)) (m .margins-for .ensures) (c .before .first-zero .ensures)))
 
 margins-for-requires : tie.Need-margins-for-requires
-margins-for-requires c κs = let f = fit c in ((f .scale, f .few), (f .matrix, (f .inverse, f .weights)))
+margins-for-requires c κs = let f = fit c in ((f .scale, f .n-max), (f .matrix, (f .inverse, f .weights)))
 
 first-zero-requires : tie.Need-first-zero-requires
-first-zero-requires c κs = fit (c .before .before) .few
+first-zero-requires c κs = fit (c .before .before) .n-max
 
 cast-t13 : tie.Need-cast-t13
-cast-t13 c = record { fits = omega (arith, c .if1 .taken, fit (c .before .before .before .before) .few) }
+cast-t13 c = record { fits = omega (arith, c .if1 .taken, fit (c .before .before .before .before) .n-max) }
 
 add-t14 : tie.Need-add-t14
-add-t14 c = record { fits = omega (arith, c .if1 .taken, fit (c .before .before .before .before) .few) }
+add-t14 c = record { fits = omega (arith, c .if1 .taken, fit (c .before .before .before .before) .n-max) }
 
 returns : tie.Need-returns
 returns c =
@@ -54,7 +54,7 @@ spreads-of-requires : tie.Need-spreads-of-requires
 spreads-of-requires c κs =
     let m = c .before .before .before .before in
     let f = fit (m .before) in
-    ((f .scale, f .few), (f .weights, under (Q (m .before)) (m .margins-for .ensures)))
+    ((f .scale, f .n-max), (f .weights, under (Q (m .before)) (m .margins-for .ensures)))
 
 peak-of-requires : tie.Need-peak-of-requires
 peak-of-requires c κs =
@@ -62,7 +62,7 @@ peak-of-requires c κs =
     let m = i .before .before .before in
     let s = m .before in
     let f = fit s in (
-      (f .some, f .few),
+      (f .n-pos, f .n-max),
       (
         λ k l. omega (arith, full-small (Q s) f k l, c .before .before .spreads-of .ensures .each k l),
         λ k l. (above (Q s) (m .margins-for .ensures) (none-low i) k l, omega (arith, full-small (Q s) f k l, under (Q s) (m .margins-for .ensures) k l)),
@@ -70,7 +70,7 @@ peak-of-requires c κs =
     )
 
 row-small : (c : tie.After-peak-of) → c .peak-of .result < 32
-row-small c = omega (arith, c .peak-of .ensures .0, fit (start c) .few)
+row-small c = omega (arith, c .peak-of .ensures .0, fit (start c) .n-max)
 
 mul-t19 : tie.Need-mul-t19
 mul-t19 c = record { fits = omega (arith, row-small c) }

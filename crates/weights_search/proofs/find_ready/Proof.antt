@@ -14,13 +14,13 @@ fit : (s : tie.Start) → FitRequest (Q s)
 fit s = fit-request (Q s) (s .pre .0) (s .pre .1)
 
 search-requires : tie.Need-search-requires
-search-requires c κs = let f = fit c in ((f .scale, f .few), (f .matrix, f .inverse))
+search-requires c κs = let f = fit c in ((f .scale, f .n-max), (f .matrix, f .inverse))
 
 write-weights-requires : tie.Need-write-weights-requires
 write-weights-requires c κs =
     let r = c .before .before .before in
     let f = fit (r .before) in
-    ((f .few, f .long), below-of (searchProblem (Q (r .before))) _ (r .search .ensures .list))
+    ((f .n-max, f .long), below-of (searchProblem (Q (r .before))) _ (r .search .ensures .list))
 
 add-t14 : tie.Need-add-t14
 add-t14 c =
