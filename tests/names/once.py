@@ -18,7 +18,6 @@ KIT = {"std", "io", "libc", "os", "bytes"}
 # What the kit wants beside them: the crate of a type that a value has in one of its fields.
 FIELDS = {
     "file": {"loader_progress"},
-    "file_check": {"loader"},
     "convert_writer": {"loader_progress", "loader"},
     "converter": {"loader"},
     "samples": {"loader_progress"},

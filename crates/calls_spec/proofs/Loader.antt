@@ -26,8 +26,7 @@ use Rattle.loader.specs.declared.Loader.{Loader}
 use Rattle.loader.specs.Answer.{caseOf, lineAnswer}
 use Rattle.loader.specs.Taken.{loaderAfter, loaderOf}
 use Rattle.loader_numbers.proofs.Taken.{numbers-next, numbers-refused, lists-refused}
-use Rattle.loader_runs.specs.Run.{step}
-use Rattle.loader_runs.proofs.Read.{stateWith}
+use Rattle.loader_runs.specs.Run.{stateWith, step}
 use Rattle.reply.specs.ReplyIs.{ReplyIs}
 use Rattle.calls_spec.specs.Exported.{LoaderTakeExported, LoaderCheckExported}
 use Rattle.calls_spec.proofs.Meaning.{zero-code}

@@ -13,13 +13,13 @@ use Rattle.loader_progress.specs.Progress.{ended}
 use Rattle.loader.specs.declared.Loader.{Loader}
 use Rattle.loader.specs.Answer.{lineAnswer}
 use Rattle.loader.specs.Taken.{fresh, loaderAfter, listsAfter, loaderOf, loaderNumbers}
-use Rattle.loader_runs.specs.Run.{State, fromNew, step, forms}
+use Rattle.loader_runs.specs.Run.{State, stateWith, fromNew, step, forms}
 use Rattle.loader_runs.specs.Accepts.{run, Accepts}
 use Rattle.loader_runs.specs.Lines.{linesOf}
 use Rattle.loader_runs.specs.Read.{zeros, readFrom}
 use Rattle.loader_runs.specs.Holds.{inputOf}
 use Rattle.loader_runs.proofs.Passing.{step-long}
-use Rattle.loader_runs.proofs.Read.{stateWith, read-none, read-accepted}
+use Rattle.loader_runs.proofs.Read.{read-none, read-accepted}
 use Rattle.listing_refusal.specs.Refused.{printed}
 use Rattle.file_check.specs.Judged.{problemFrom}
 use Rattle.listing.specs.Listing.{answerOf}

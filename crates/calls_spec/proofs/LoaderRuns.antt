@@ -21,7 +21,7 @@ use Rattle.loader_progress.specs.Progress.{ended}
 use Rattle.loader_order.specs.Through.{answerThrough}
 use Rattle.loader_order.proofs.Through.{answer-ended}
 use Rattle.loader.specs.Taken.{fresh, loaderOf, loaderNumbers}
-use Rattle.loader_runs.specs.Run.{State, fromNew, forms}
+use Rattle.loader_runs.specs.Run.{State, stateWith, fromNew, forms}
 use Rattle.loader_runs.specs.Accepts.{run, Accepts}
 use Rattle.loader_runs.specs.Holds.{InRange, inputOf}
 use Rattle.loader_runs.specs.Lines.{linesOf}
@@ -29,7 +29,6 @@ use Rattle.loader_runs.specs.Read.{readFrom}
 use Rattle.loader_runs.proofs.Check.{run-long, enough}
 use Rattle.loader_runs.proofs.End.{FromForms, from-forms, in-range}
 use Rattle.loader_runs.proofs.Passing.{forms-spelled, pass-all}
-use Rattle.loader_runs.proofs.Read.{stateWith}
 use Rattle.loader_runs.proofs.Whole.{all-accepted, all-run}
 use Rattle.file_check.specs.Judged.{problemFrom}
 use Rattle.file_check.specs.Shown.{inputAt}

@@ -17,11 +17,10 @@ use Rattle.line_form.specs.Form.{Form}
 use Rattle.loader_lists.specs.Lists.{Lists, shortLists}
 use Rattle.loader_progress.specs.Progress.{ended}
 use Rattle.loader.specs.Taken.{fresh, loaderOf, loaderNumbers}
-use Rattle.loader_runs.specs.Run.{State, fromNew, forms}
+use Rattle.loader_runs.specs.Run.{State, stateWith, fromNew, forms}
 use Rattle.loader_runs.specs.Accepts.{run}
 use Rattle.loader_runs.specs.Holds.{inputOf}
 use Rattle.loader_runs.proofs.Passing.{spelled, forms-spelled}
-use Rattle.loader_runs.proofs.Read.{stateWith}
 use Rattle.listing_refusal.specs.Refused.{printed}
 use Rattle.loader_spelled.specs.Ones.{textOf}
 use Rattle.file_check.specs.Judged.{problemFrom}

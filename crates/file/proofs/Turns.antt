@@ -20,9 +20,9 @@ use Rattle.loader.specs.Taken.{fresh, listsAfter, TakenAs}
 use Rattle.loader_runs.specs.Length.{lineLength}
 use Rattle.loader_runs.specs.Lines.{linesOf}
 use Rattle.loader_runs.specs.Read.{Reading, readFrom, zeros}
-use Rattle.loader_runs.specs.Run.{fromNew}
+use Rattle.loader_runs.specs.Run.{stateWith, fromNew}
 use Rattle.loader_runs.proofs.Lines.{lines-at, lines-end}
-use Rattle.loader_runs.proofs.Read.{stateWith, read-none, read-accepted, read-refused}
+use Rattle.loader_runs.proofs.Read.{read-none, read-accepted, read-refused}
 use Rattle.file.specs.declared.Collected.{Collected}
 use Rattle.file.specs.declared.LinesTaken.{LinesTaken}
 use Rattle.file.specs.Read.{LinesTakenAs, ReadAs}

@@ -3,7 +3,8 @@ ghost use Prim.Native.Nat.{_≤_};
 ghost use lib.ListN.{length};
 ghost use Rattle.loader_lists.specs.Lists.{lists};
 ghost use Rattle.listing_refusal.specs.Answered.{Answered};
-ghost use Rattle.file_check.specs.Shown.{stateAt, codeOf, shownOf};
+ghost use Rattle.loader_runs.specs.Run.{stateWith};
+ghost use Rattle.file_check.specs.Shown.{codeOf, shownOf};
 use listing_refusal::FileAnswer;
 use listing_refusal::no_refusal;
 use listing_refusal::put_refusal;
@@ -25,8 +26,8 @@ pub fn put_checked(
     requires { ⌜ 32768 ≤ length (now out) ⌝ }
     ensures { λ r. ⌜
         Answered
-        (codeOf (stateAt loader (lists (now (matrix .entry)) (now (right .entry)) (now (tolerance .entry)) (now (guess .entry)) (now (inverse .entry)) (now (weights .entry)))))
-        (shownOf (stateAt loader (lists (now (matrix .entry)) (now (right .entry)) (now (tolerance .entry)) (now (guess .entry)) (now (inverse .entry)) (now (weights .entry)))))
+        (codeOf (stateWith loader (lists (now (matrix .entry)) (now (right .entry)) (now (tolerance .entry)) (now (guess .entry)) (now (inverse .entry)) (now (weights .entry)))))
+        (shownOf (stateWith loader (lists (now (matrix .entry)) (now (right .entry)) (now (tolerance .entry)) (now (guess .entry)) (now (inverse .entry)) (now (weights .entry)))))
         (now (out .entry)) (now (out .exit)) r
         ⌝ }
 {

@@ -20,7 +20,7 @@ use Rattle.loader_lists.specs.Lists.{Lists, shortLists}
 use Rattle.loader_progress.specs.Progress.{ended}
 use Rattle.loader_order.specs.Through.{answerThrough}
 use Rattle.loader_order.proofs.Through.{answer-ended}
-use Rattle.loader_runs.specs.Run.{State, fromNew, forms}
+use Rattle.loader_runs.specs.Run.{State, stateWith, fromNew, forms}
 use Rattle.loader_runs.specs.Accepts.{run, Accepts}
 use Rattle.loader_runs.specs.Holds.{InRange}
 use Rattle.loader_runs.proofs.Check.{run-long, enough}
@@ -37,7 +37,7 @@ use Rattle.file.specs.Read.{LinesTakenAs}
 use Rattle.loader_runs.proofs.Whole.{all-accepted, all-run}
 use Rattle.file_check.specs.Judged.{reportedOf, lineOr}
 use Rattle.listing.specs.Listing.{problemIn, answerOf, listingOf, ListedAs, AnsweredAs}
-use Rattle.file_check.specs.Shown.{stateAt, inputAt, codeOf, shownOf}
+use Rattle.file_check.specs.Shown.{inputAt, codeOf, shownOf}
 use Rattle.file_check.proofs.Forms.{reported-forms, answer-forms}
 
 pub zeros-long : shortLists zeros ≡ false
@@ -130,7 +130,7 @@ module _ (file : List ℕ) {old new : Lists} {r : LinesTaken} (lent : LinesTaken
       let q : answerOf file ≡ printed (r .line) (numberOf x ∷ valuesOf x) = rw (read .line) (answer-refused file (sym (read .says) ∙ ap code e)) in
       same-answer (sym q) (sym (listing-from file q))
 
-  pub check-answered : {o p : List ℕ} {a : FileAnswer} → r .outcome ≡ Accepted → Answered (codeOf (stateAt (r .loader) new)) (shownOf (stateAt (r .loader) new)) o p a → Answered (answerOf file) (listingOf file) o p a
+  pub check-answered : {o p : List ℕ} {a : FileAnswer} → r .outcome ≡ Accepted → Answered (codeOf (stateWith (r .loader) new)) (shownOf (stateWith (r .loader) new)) o p a → Answered (answerOf file) (listingOf file) o p a
   check-answered {o} {p} {a} e =
       let quiet = sym (read .says) ∙ ap code e in
       let c = as-checked file quiet in

@@ -1,17 +1,11 @@
 -- Laws of the lines of a file at a loader.
---   stateWith d l — the state of a loader d with the lists l
 --   read-none, read-accepted, read-refused — no line; a line that is accepted; one that is refused
 use mathlib.Core.Path.{_≡_, refl}
 use mathlib.Core.List.{List, [], _∷_}
 use Prim.Native.Nat.{ℕ, _+_}
-use Rattle.loader_lists.specs.Lists.{Lists}
-use Rattle.loader.specs.declared.Loader.{Loader}
 use Rattle.loader.specs.Answer.{lineAnswer}
 use Rattle.loader_runs.specs.Run.{State, step}
 use Rattle.loader_runs.specs.Read.{readFrom}
-
-abbrev pub stateWith : Loader → Lists → State
-stateWith d l = record { loader = d; lists = l }
 
 pub read-none : (k : ℕ) (u : State) → readFrom k u [] ≡ record { code = []; line = k; state = u }
 unfolding readFrom

@@ -1,5 +1,5 @@
 -- A run of lines at a loader, and what it collects.
---   State, fromNew l — a loader and its lists; the loader of `new`, with the lists l
+--   State, stateWith d l — a loader and its lists;  fromNew l — the loader of `new`, with the lists l
 --   step u line     — the state after a line, accepted or refused
 --   forms lines     — the forms that lines are;  withForm — a form, where there is one, before others
 use mathlib.Core.List.{List, [], _∷_}
@@ -14,6 +14,9 @@ use Rattle.loader.specs.Taken.{fresh, loaderAfter, listsAfter}
 pub record State : Type 0 where
   pub loader : Loader
   pub lists : Lists
+
+abbrev pub stateWith : Loader → Lists → State
+stateWith d l = record { loader = d; lists = l }
 
 abbrev pub fromNew : Lists → State
 fromNew l = record { loader = fresh; lists = l }
