@@ -1,4 +1,4 @@
--- Sizes of the reckoning's numbers, all within an i64.
+-- Magnitudes of the reckoning's numbers, all within an i64.
 --   power-magnitude, unit-same, unit-other, unit-magnitude, scaled-magnitude — of 2^t, of the numbers of T·I and of S·b
 --   raisable — a matrix list, as `bias_rows` and `bias_columns` ask for it
 --   Ranged P, defect-most — n at most 32, t at most 20, A and G at most 2^20 in absolute value: then |D_mj| ≤ 2^45 + 2^20

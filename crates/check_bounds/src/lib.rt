@@ -65,7 +65,7 @@ fn slack_of(rows: &[u64], m: usize, row: usize, slacks: &[u64; 32], n: usize) ->
     sum
 }
 
-// Sizes, each with its slack; where no row has one, n·n products are saved.
+// Magnitudes, each with its slack; where no row has one, n·n products are saved.
 fn add_slacks(magnitudes: [u64; 32], rows: &[u64], slacks: &[u64; 32], n: usize) -> [u64; 32]
     requires { ⌜ n ≤ 32 ⌝ }
     requires { ⌜ BiasedRows (now rows) n ⌝ }

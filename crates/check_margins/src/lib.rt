@@ -68,7 +68,7 @@ fn all_ones(weights: &[i64], n: usize) -> bool
     true
 }
 
-// The load of row m, where `ones` tells that all weights are 1.
+// The load of row m, where `ones` is whether all weights are 1.
 fn load_of(defects: &[i64], weights: &[i64], ones: bool, n: usize, m: usize, row: usize) -> u64
     requires { ⌜ (n ≤ 32) × ((m < n) × Carried 0 n m row) ⌝ }
     requires { ⌜ ColumnList (now defects) (n * n) (2 ^ 46) ⌝ }

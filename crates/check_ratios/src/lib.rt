@@ -18,7 +18,7 @@ use integer::ceil_div;
 use integer::larger;
 use integer::magnitude;
 
-// Sizes whose sum is below this have products with a margin below 2^63.
+// Magnitudes whose sum is below this have products with a margin below 2^63.
 const SMALL_SUM: u64 = 8589934592;
 
 // A row with the quotient and the remainder of |p_m| by its margin g_m.

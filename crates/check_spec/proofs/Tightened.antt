@@ -69,7 +69,7 @@ module _ (I : Input) where
   large : ℕ → Bool
   large i = exceeds05 (columnOf (problem I) (i / I .n)) (i % I .n)
 
-  -- the two ways of saying, at the places of before and of now
+  -- both answers, at the places of before and of now
   pair : {a b x y : List ℕ} → a ≡ x → b ≡ y → Tightened I x y → Tightened I a b
   pair {a} {b} {x} {y} e f t = subst (λ (l : List ℕ). Tightened I l b) (sym e) (subst (Tightened I x) (sym f) t)
 

@@ -2,7 +2,7 @@
 --   whole-new, shuffled-new — the new file of 01's whole file is that file, computed byte by byte, and so is that of its shuffled copy
 --   shuffled-converted, shuffled-too-small — for a buffer that is just as long it is converted, for one that is a byte shorter it is not
 --   shuffled-accepted-01 — 01's own check accepts what the desk of 01 holds after the new file
---   unbounded-refused, unbounded-converted, unbounded-new — a file whose check says 5 is converted
+--   unbounded-refused, unbounded-converted, unbounded-new — a file that a check refuses with 5 is converted
 --   tolerant-refused — a file with a tolerance is 22, whatever the room
 --   longest-in-range, longest-size — a problem in range whose file has 21,300 bytes: the bound of `old-size` is reached
 --   longest-converted, longest-too-small — that file is converted for a buffer of 21,300 bytes, and is 22 for one that is a byte shorter

@@ -1,7 +1,7 @@
 -- Files and what a converter makes of them, and files and what the desk of 01 says of them.
 --   shuffledFile — 01's whole file in another order, a right side spelled with a tolerance of 0, without weights and without the last line feed: its new file is
 --     01's whole file
---   unboundedFile — 01's case c as a file, of which a check says 5, row 1: it is converted like any other;  unboundedNew — its new file
+--   unboundedFile — 01's case c as a file, which a check refuses with 5, row 1: it is converted like any other;  unboundedNew — its new file
 --   unlikeFile   — a file of unlike numbers, n, s and t among them, neither matrix its own transpose, a weight given and one left out;  unlikeNew — its new file
 --   Printed      — a file, and what the program prints of it;  printedCases — such files: the loader's refusals come first, then 15, then 22
 --   oldCases     — files, each with the number and the count that the desk of 01 says of it

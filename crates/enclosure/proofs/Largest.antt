@@ -1,4 +1,4 @@
--- Sizes and limits of a problem whose numbers are in their ranges.
+-- Magnitudes and limits of a problem whose numbers are in their ranges.
 --   SmallProblem P r σ — what is asked of it: at most 32 rows, the inverse at most 2^20 in absolute value, weights at most 1,024, each residual with its slack at most 2^25 in absolute value,
 --     margins above 0
 --   magnitudes-most, bound-magnitude — then |p_m| with its slack is at most 2^50, and a limit at most 2^60

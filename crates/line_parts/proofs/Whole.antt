@@ -1,6 +1,6 @@
 -- The parts that the code has read make the whole line.
 --   beside-list, beside-none — the numbers beside a form, where it has a list and where it has none
---   decided-none, decided-form — the two ways in which `decide` ends
+--   decided-none, decided-form — the two ends of `decide`
 --   line-read — what is decided from the parts is what the line is by its reading
 use mathlib.Core.Path.{_≡_, refl, sym, _∙_}
 use mathlib.Core.Bool.{Bool, true, false, cond}
@@ -64,7 +64,7 @@ beside-list w l e t = rw (sym e ∙ t)
 pub beside-none : (w : Word) (l : Numbers) {n : Numbers} {b : Bool} → b ≡ hasList w → b ≡ false → n ≡ noNumbers → n ≡ besideOf w l
 beside-none w l e f z = rw (sym e ∙ f) z
 
--- ---- the two ways in which `decide` ends
+-- ---- the two ends of `decide`
 module _ (s : List ℕ) (h : Head) (i v : Number) (l : Listed) (e : ℕ) where
   pub decided-none : {r : Line} → (e ≡ length s → ⊥) → r ≡ refused NoForm → r ≡ decided s h i v l e
   unfolding decided

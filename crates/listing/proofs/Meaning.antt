@@ -1,6 +1,6 @@
--- What a caller may take from `answer_file` and `listing`: who is told of acceptance has the limits that enclose and the one height (02, Papers 2 and 12).
+-- What a caller may take from `answer_file` and `listing`: whoever gets an acceptance has the limits that enclose and the one height (02, Papers 2 and 12).
 --   begins-bounds, bounds-begin — a listing begins with "(bounds " exactly where the file is accepted
---   answered-none — `answer_file` says 0 of an accepted file alone;  listed-none — `listing` writes "(bounds " first of an accepted file alone
+--   answered-none — `answer_file` answers 0 for an accepted file alone;  listed-none — `listing` writes "(bounds " first of an accepted file alone
 --   answered-encloses, listed-encloses, answered-height, listed-height — what holds then
 use mathlib.Core.Path.{_≡_, refl, sym, ap, _∙_}
 use mathlib.Core.List.{List, [], _∷_}

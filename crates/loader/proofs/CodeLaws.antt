@@ -1,6 +1,6 @@
 -- What a refused line leaves, and a loader whose own n is out of range.
 --   refused-leaves — a refused line leaves the loader and the lists as they were; so after 13 the loader can still be completed
---   own-size       — past problem, a loader whose own n is outside its range answers 3 to every line that reaches the test
+--   own-size       — past problem, a loader whose own n is outside its range answers 3 to every line that comes to the test
 use mathlib.Core.Path.{_≡_}
 use mathlib.Core.Bool.{true, false}
 use mathlib.Core.List.{List, [], _∷_}

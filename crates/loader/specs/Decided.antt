@@ -1,6 +1,6 @@
 -- What the code decides of a line before it writes, with the cases of its form, the numbers capped; cited by the contracts inside.
 -- proofs/Exact.antt ties them to the exact form.
---   caseIn d m c b — the cases from 11 on; c is the count of its list, b tells whether the numbers of its list are in their range
+--   caseIn d m c b — the cases from 11 on; c is the count of its list, b is whether the numbers of its list are in their range
 --   codeIn         — what is said of it
 --   fits x         — its numbers are in their ranges, i in 1 to 32
 --   nothing        — an item that leaves the lists;  refusedBy d x — what is decided of a line that is refused with x

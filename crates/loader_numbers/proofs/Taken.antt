@@ -1,5 +1,5 @@
 -- What a line leaves of a loader in nine numbers.
---   taken-accepted, taken-refused — the contract of `take` from that of `Loader::take`, by the two ways it goes
+--   taken-accepted, taken-refused — the contract of `take` from that of `Loader::take`, for both of its outcomes
 --   numbers-next     — the numbers afterwards stand for the loader after the line
 --   numbers-refused, lists-refused — a refused line leaves every number, of the loader and of the lists
 use mathlib.Core.Path.{_≡_, refl, sym, ap, subst, _∙_}

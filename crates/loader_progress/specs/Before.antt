@@ -1,5 +1,5 @@
--- Document 01's count of missing forms, before Paper 1 of 02 ("gives the count of forms still missing out of 5n"). Only the theorem on what changes cites it
--- (loader/proofs/Count).
+-- Document 01's count of missing forms, before Paper 1 of 02 ("gives the count of forms still missing out of 5n"). The theorem on what changes cites it
+-- (loader/proofs/Count), and the loader of 01 (convert_spec/specs/Edition).
 --   incomplete01 n z x — 13: end with forms outstanding, of all that were not given (`ungiven`)
 use mathlib.Core.Bool.{Bool, false}
 use mathlib.Core.List.{List}

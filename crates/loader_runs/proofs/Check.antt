@@ -1,7 +1,7 @@
 -- A check through a loader after an accepted end of lines taken from `new`, on those lists, with limit lists that are long enough.
 --   length-put  — a line leaves the lengths of the lists
 --   run-long, lists-long — lists that are long enough stay so, and at an accepted end they are
---   enough      — with limit lists that are long enough too, a check does not say 8
+--   enough      — with limit lists that are long enough too, a check does not answer 8
 --   computes, end-answers — the check answers accepted, 5, 6 or 7 only
 --   inside      — nor 3, where every number is in its range
 use mathlib.Core.Path.{_≡_, refl, _∙_}

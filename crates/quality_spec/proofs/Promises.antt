@@ -34,7 +34,7 @@ use Rattle.quality_spec.specs.Stated.{UsableInquiry, QualityStated, is-8
 use Rattle.quality_spec.proofs.Peak.{largest-ratio-row}
 use Rattle.quality_spec.proofs.Contract.{fit-inquiry, answer-short, answer-range, answer-low, answer-given}
 
--- ---- what was said tells which case it was
+-- ---- the answer decides which case it was
 module _ (Q : Inquiry) where
   at-margins : UsableInquiry Q → Searched (Q .n) (marginFails (inquiryProblem Q)) → QualityStated Q (qualityAnswer Q)
   at-margins u (found m l e p h) = subst (QualityStated Q) (sym (answer-low Q (u .long) (u .inside) m (sym e) l)) (is-5 m u l p h)

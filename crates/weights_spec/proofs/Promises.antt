@@ -31,7 +31,7 @@ use Rattle.weights_spec.proofs.Contract.{fit-request, answer-short, ans
 use Rattle.weights_spec.proofs.First as first
 use Rattle.weights_spec.proofs.Magnitudes.{tried-load}
 
--- ---- what was said tells which case it was
+-- ---- the answer decides which case it was
 pub search-stated : (Q : Request) → SearchStated Q (searchAnswer Q)
 search-stated Q = go (searchShort Q) refl (searchInRanges Q) refl (ltb (passed Q) (Q .allowance)) refl
   where

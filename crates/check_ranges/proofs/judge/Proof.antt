@@ -7,7 +7,7 @@ use borrow.Author.Needs.{needs}
 use Rattle.check_ranges.proofs.judge.Statement.{statement}
 use Rattle.check_ranges.proofs.judge.Tie as tie
 
--- the start, from where a column is told
+-- the start, from where a column is known
 abbrev start : tie.Then3 → tie.Start
 start c = c .before .before .before
 

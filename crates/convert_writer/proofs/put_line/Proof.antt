@@ -7,7 +7,7 @@ use borrow.Author.Needs.{needs}
 use Rattle.convert_writer.proofs.put_line.Statement.{statement}
 use Rattle.convert_writer.proofs.put_line.Tie as tie
 
--- the places where the part is told
+-- the places where the part is known
 abbrev at-row : tie.After-matrix2 → tie.After-enum-told
 at-row c = c .before .before .before .before
 

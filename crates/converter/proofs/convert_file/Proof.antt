@@ -3,7 +3,7 @@ use borrow.Author.Needs.{needs}
 use Rattle.converter.proofs.convert_file.Statement.{statement}
 use Rattle.converter.proofs.convert_file.Tie as tie
 
--- the places back from what was told of the file
+-- the places back from what was answered of the file
 abbrev start : tie.After-read-file → tie.Start
 start c = c .before .before .before
 

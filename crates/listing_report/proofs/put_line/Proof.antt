@@ -8,7 +8,7 @@ use borrow.Author.Needs.{needs}
 use Rattle.listing_report.proofs.put_line.Statement.{statement}
 use Rattle.listing_report.proofs.put_line.Tie as tie
 
--- the places where the block is told
+-- the places where the block is known
 abbrev at-solution : tie.After-put-pair → tie.After-enum-told
 at-solution c = c .before .before .before .before .before
 
