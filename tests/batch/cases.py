@@ -380,9 +380,9 @@ def vanished_folder_is_2(box):
         while (box.root / "away").exists():
             shutil.rmtree(box.root / "away", ignore_errors=True)
         _, err = process.communicate(timeout=600)
-        lines = err.decode().splitlines()
-        singly = folder == "nets" and all(line.endswith(": no such file") for line in lines)
-        good &= process.returncode == 1 or (process.returncode == 2 and (singly or "what is done stays done" in lines[-1]))
+        last = [line for line in err.decode().splitlines() if not line.endswith(": no such file")]  # workers may still report nets after it
+        stopped = len(last) == 1 and "what is done stays done" in last[0]
+        good &= process.returncode == 1 or (process.returncode == 2 and (stopped or (folder == "nets" and not last)))
         for name in ("nets", "listings", "listings.batch"):
             shutil.rmtree(box.root / name, ignore_errors=True)
     return good
