@@ -13,7 +13,7 @@ Read are README.md, CONTRIBUTING.md, docs/*.md, tests/README.md and bench/README
 5. An option in backquotes or in a block is one of the command that it follows, or of some script where it stands alone. What follows `rt` is a command of the
    kit, what follows `make` a target of Makefile, what follows `tests/run` a part of the registry.
 6. A command in a block of indented or fenced lines runs, and prints what stands below it where it follows '$ '. Its status is 0, or 1 where it names a file of
-   examples/refused. Words for any file have an example. commands.py lists what is not run, and what another part of the gate runs.
+   examples/refused. Words for any file have an example. commands.py lists what is not run, what runs in a shorter form, and what another part of the gate runs.
 7. No line is above 200 characters, but in tables and in what a command prints ('$ '). README.md has at most 150 lines of at most 120 characters, CONTRIBUTING.md
    at most 200 lines.
 8. Every term of docs/GLOSSARY.md is used in another page."""
