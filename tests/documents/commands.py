@@ -21,8 +21,7 @@ ELSEWHERE = (
     (r".*", r"docs/LARGE-NETS\.md", "tests/package/region.py", '"PAGE"'),
     (r"(?:cc|c\+\+|rustc) ", r".*", "tests/languages.py", "PAGE"),
     (r"make(?: lib| install\b.*| uninstall\b.*)?$", r".*", "tests/install/cases.py", "box.make("),
-    (r"python3 (?P<word>(?:tests|docs/pictures)/\S+)", r".*", "tests/registry", "WORD"),
-    (r"python3 (?P<word>docs/\S+)", r".*", "tests/install/cases.py", "WORD"),
+    (r"python3 tests/edits\.py --write", r".*", "tests/edits_self_test.py", ".write()"),
     (r"tests/run(?! --list)", r".*", ".ci/run", "tests/parts.sh"),
     (r"(?:tests/link/run)", r".*", "tests/registry", "tests/link/run"),
     (r"(?P<word>rt staticlib \w+)", r".*", "tests/registry", "WORD"),
@@ -125,7 +124,7 @@ def finished(words, **settings):
 
 
 class Folder:
-    """A folder in which commands run, made for the first of them: a copy of the repository, but for its crates, and a target of its own with what is built."""
+    """A folder in which commands run, made for the first of them: a copy of the repository, and a target of its own with what is built."""
 
     def __init__(self, root):
         self.root, self.held = root, tempfile.TemporaryDirectory()
@@ -134,8 +133,7 @@ class Folder:
 
     def make(self):
         root = self.root
-        shutil.copytree(root, self.path, ignore=lambda folder, names: ["crates", "target", ".git", "__pycache__"] if Path(folder) == root else ["__pycache__"])
-        (self.path / "crates").symlink_to(root / "crates")
+        shutil.copytree(root, self.path, ignore=lambda folder, names: ["target", ".git", "__pycache__"] if Path(folder) == root else ["__pycache__"])
         for path in [*root.glob("target/bin/*"), *root.glob("target/lib/*"), *root.glob("target/staticlib/*")]:
             place = self.path / path.relative_to(root)
             place.parent.mkdir(parents=True, exist_ok=True)

@@ -60,7 +60,7 @@ MUTANTS = {
     "a file that is no longer refused": ("register", "*refused*", "*none-at-all*", "2-none.txt' has status 0"),
     "a word without an example": ("README.md", "    ./register FILE", "    ./register WHAT", "there is no example for WHAT"),
     "something else that is printed": ("docs/DAY.md", "    listing of made.txt", "    listing of file.txt", "prints something else"),
-    "a test that runs it no more": ("tests/registry", "python3 tests/adds.py", "python3 tests/other.py", "tests/registry no longer names what runs 'python3 tests/adds.py"),
+    "a script that fails": ("tests/adds.py", "# end", "raise SystemExit(3)", "'python3 tests/adds.py --all' has status 3"),
     "a page that is run no more": ("tests/package/pages.py", '"OFFICE.md"', '"CLERK.md"', "tests/package/pages.py no longer names what runs './register none'"),
     "a gate without the tests": (".ci/run", "tests/parts.sh", "tests/others.sh", ".ci/run no longer names what runs 'tests/run'"),
     "a crate that is not there": ("CONTRIBUTING.md", "    rt dev sums\n\n", "    rt dev sum\n\n", "'rt dev sum' has status 2"),
