@@ -13,6 +13,7 @@ FILES = {
     "docs/DAY.md": "# Office\n\n## A day of `work`\n\n    $ ./register examples/made.txt\n    listing of made.txt\n\n    $ ./register examples/refused/2-none.txt\n    listing of 2-none.txt\n\n"
     "A desk takes it, and two hung nets.\n",
     "docs/GLOSSARY.md": '# Glossary\n\n| Term | Meaning |\n|---|---|\n| "desk" | what takes lines |\n| "hung net" | a net below another |\n',
+    "CHANGELOG.md": "# What changed\n\n`gone.txt` went.\n",
     "docs/landings/first.md": "See `gone.txt` and [nothing](none.md). " + LONG + "\n",
     "tests/README.md": "    tests/run\n    tests/run adds\n    make lib\n\n`adds.py` adds.\n",
     "bench/README.md": "    bench/run     measures\n    bench/run BEFORE.a AFTER.a     compares\n",
@@ -70,6 +71,7 @@ MUTANTS = {
     "a measurement without its short form": ("bench/run", "--quick", "--short", "'bench/run --quick' has status 3"),
     "a measurement of what is not built": ("target/staticlib/libkodarfi.a", None, None, "'bench/run --quick' has status 1"),
     "a long line": ("docs/DAY.md", "A desk", LONG + "a desk", "the line has"),
+    "a long line of what changed": ("CHANGELOG.md", "went.", "went. " + LONG, "CHANGELOG.md:3: the line has"),
     "a line too long for the first page": ("README.md", "CONTRIBUTING.md is next", "CONTRIBUTING.md is next " + LONG[:110], "the line has"),
     "a first page too long": ("README.md", "# Made up\n", "# Made up\n" + "\n" * 140, "151 lines, and at most 150"),
     "a term that no page uses": ("docs/DAY.md", "hung nets", "other nets", "no other page uses 'hung net'"),
