@@ -1,10 +1,10 @@
 """Times a batch beside a program that reads the same files and writes as many bytes (copied.c), in turns, on this folder's file system and from a warm cache.
 
-  python3 bench/batched.py BATCH COPIED FOLDER [COUNT]
+  python3 bench/batched.py BATCH COPIED FOLDER COUNT ROUNDS
 
-FOLDER gets COUNT files, else 5,000, of levelling nets of n = 32 as offices send them (`office` of tests/common/systems/timed.py). Both have as many processes as there are
+FOLDER gets COUNT files of levelling nets of n = 32 as offices send them (`office` of tests/common/systems/timed.py). Both have as many processes as there are
 processors. Each round writes to folders of its own, and nothing is removed before the last: some file systems work long after a removal. Every other round begins
-with the copies. A ratio is that of times within a round, once by the clock and once by the processors' time; of 11 rounds the middle one is printed, as table.py reads it,
+with the copies. A ratio is that of times within a round, once by the clock and once by the processors' time; the median of all ROUNDS is printed, as table.py reads it,
 and the least and the largest go to standard error."""
 
 import os
@@ -22,7 +22,7 @@ sys.path.insert(0, str(ROOT / "tests"))
 from common.net import file_of, lines_of
 from common.systems.timed import office
 
-ROUNDS, KINDS, IN_A_FOLDER = 11, 100, 1000
+KINDS, IN_A_FOLDER = 100, 1000
 
 
 def write_nets(folder, count):
@@ -51,7 +51,7 @@ def show(what, ratios):
 
 def main():
     batch, copied, above = map(Path, sys.argv[1:4])
-    count = int(sys.argv[4]) if len(sys.argv) > 4 else 5000
+    count, all_rounds = map(int, sys.argv[4:6])
     folder = above / "batched"
     shutil.rmtree(folder, ignore_errors=True)
     nets = folder / "nets"
@@ -63,7 +63,7 @@ def main():
     subprocess.run([batch, nets, listings], check=True, stdout=subprocess.DEVNULL, env=environment)  # it warms the cache
     length = str(sum(path.stat().st_size for path in listings.rglob("*.txt")) // count)
     rounds = []
-    for number in range(ROUNDS):
+    for number in range(all_rounds):
         copies = folder / f"copies-{number}"
         for part in range(0, count, IN_A_FOLDER):
             (copies / str(part // IN_A_FOLDER)).mkdir(parents=True)
@@ -75,7 +75,7 @@ def main():
             rounds.append((turns[0](), turns[1]()))
         else:
             rounds.append((turns[1](), turns[0]())[::-1])
-    clock = sorted(judged[0] for judged, _ in rounds)[ROUNDS // 2]
+    clock = sorted(judged[0] for judged, _ in rounds)[all_rounds // 2]
     show(f"batch, office, by the clock: {count / clock:.0f} files a second", [judged[0] / moved[0] for judged, moved in rounds])
     show("batch, office, by the processors' time", [judged[1] / moved[1] for judged, moved in rounds])
     shutil.rmtree(folder, ignore_errors=True)

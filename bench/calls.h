@@ -11,7 +11,8 @@ typedef uint32_t build_of(uint32_t n, const struct kodarfi_observation *observat
 typedef uint32_t search_of(uint32_t n, uint32_t t, const int64_t *matrix, size_t matrix_len, const int64_t *inverse, size_t inverse_len,
                            uint32_t allowance, int64_t *weights, size_t weights_len, uint32_t *tried, uint64_t places[2]);
 
-enum { MOST_NETS = 150 };
+/* EACH samples of each of three sizes; bench/run says how many. */
+enum { MOST_NETS = 3 * EACH };
 
 /* Accepted nets of a kind, with their outcomes. */
 struct nets {

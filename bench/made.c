@@ -3,7 +3,7 @@
 
 #include <string.h>
 
-enum { SIZES = 3, LISTS = 50, LINES = 256, PROBLEMS = 20, STEPS = 20, NONE_GOOD = 18 };
+enum { SIZES = 3, LISTS = EACH, LINES = 256, PROBLEMS = 20, STEPS = 20, NONE_GOOD = 18 };
 
 static struct kodarfi_observation lists[SIZES][LISTS][LINES];
 static int64_t matrices[PROBLEMS][MATRIX], inverses[PROBLEMS][MATRIX];

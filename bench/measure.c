@@ -2,12 +2,12 @@
  *
  *   measure OFFICE DENSE ROUGH FILES    accepted nets of three kinds as tests/emit.py writes them, and those of the first as files, as tests/emit.py listing does
  *
- * A line for each: what is measured, what it is compared with, n, the ratio. Both run on the same samples in turns in one process; a ratio is the middle one of those within a
- * round. Every answer is compared first. With BEFORE another archive of the library is linked too, its names with before_ put before them; with ARB Arb is. */
+ * A line for each: what is measured, what it is compared with, n, the ratio. Both run on the same samples in turns in one process; a ratio is taken within a
+ * round, and the median of ROUNDS is printed. Every answer is compared first. With BEFORE another archive of the library is linked too, its names with before_ put before them; with ARB Arb is. */
 #include "calls.h"
 #include "timing.h"
 
-enum { ROUNDS = 101, ROUNDS_OF_ARB = 5 };
+enum { ROUNDS_OF_ARB = ROUNDS < 5 ? ROUNDS : 5 };
 
 #ifdef BEFORE
 check_on_lists before_kodarfi_check;
@@ -45,7 +45,7 @@ static bool measure(const char *what, const struct version *one, const struct ve
             const double time = time_of(one, n);
             ratios[round] = time / time_of(other, n);
         }
-        printf("%s\t%s\t%u\t%.4f\n", what, other->name, n, middle_of(ratios, rounds));
+        printf("%s\t%s\t%u\t%.4f\n", what, other->name, n, median_of(ratios, rounds));
     }
     return true;
 }
@@ -94,7 +94,7 @@ int main(int argc, char **argv) {
         return 2;
     }
     if (!read_nets(&office, argv[1]) || !read_nets(&dense, argv[2]) || !read_nets(&rough, argv[3]) || !read_files(argv[4])) {
-        fprintf(stderr, "measure: 50 samples of each size were expected in each file\n");
+        fprintf(stderr, "measure: %d samples of each size were expected in each file\n", EACH);
         return 2;
     }
     make_lists();

@@ -2,7 +2,7 @@
 
   python3 bench/table.py COMPILER FILE..
 
-Each FILE has lines of four fields with tabs between them: what is measured, what it is compared with, n, the ratio. Where several files have the same three, the middle ratio counts."""
+Each FILE has lines of four fields with tabs between them: what is measured, what it is compared with, n, the ratio. Where several files have the same three, the median counts."""
 
 import os
 import statistics

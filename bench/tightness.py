@@ -6,7 +6,7 @@
 
 Of each size so many accepted nets, guess and inverse rounded to nearest steps (tests/common/systems/timed.py): without tolerances, and with a tolerance of 1 to 8 in
 each right side, there with weights 1 and with weights in proportion to what decides a limit. The largest true error of a mark is that over all right sides
-within the tolerances: |S·x_i − X_i| + S·Σ|B_ik|·d_k, for the exact solution x and the exact inverse B. Prints three tables; each cell is the middle value, that
+within the tolerances: |S·x_i − X_i| + S·Σ|B_ik|·d_k, for the exact solution x and the exact inverse B. Prints three tables; each cell is the median, the value
 which 95 of 100 do not pass, and the largest."""
 
 import argparse

@@ -14,7 +14,7 @@ static int by_size(const void *a, const void *b) {
     return (x > y) - (x < y);
 }
 
-double middle_of(double *numbers, size_t count) {
+double median_of(double *numbers, size_t count) {
     qsort(numbers, count, sizeof *numbers, by_size);
     return numbers[count / 2];
 }

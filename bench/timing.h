@@ -7,7 +7,7 @@
 /* The processor's time of this process. */
 double processor_time(void);
 
-/* The middle one of the numbers, which are sorted by it. */
-double middle_of(double *numbers, size_t count);
+/* The median of the numbers, which are sorted by it. */
+double median_of(double *numbers, size_t count);
 
 #endif

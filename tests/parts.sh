@@ -10,7 +10,7 @@ read_registry() {
     /^built / { built[substr($1, 7)]; next }
     { count = split($4, words, " "); for (k = 1; k <= count; k++) if (words[k] != "-" && !(words[k] in built)) { print NR; exit } }' tests/registry 2>/dev/null) ||
     fail "tests/registry cannot be read"
-  [ -z "$wrong" ] || fail "tests/registry: line $wrong has not the fields that its head tells, a name for the second time, or something built that no line before it names"
+  [ -z "$wrong" ] || fail "tests/registry: line $wrong has not the fields that its head names, a name for the second time, or something built that no line before it names"
   mapfile -t parts < <(awk -F ' +[|] +' -v OFS='\t' '!/^(#|$|built )/ { $1 = $1; print }' tests/registry)
   names=("${parts[@]%%$'\t'*}")
   mapfile -t builds < <(awk -F ' +[|] +' -v OFS='\t' '/^built / { sub(/^built /, ""); $1 = $1; print }' tests/registry)
@@ -47,8 +47,8 @@ judge() {
   fi
 }
 
-# part NAME TOOLS BUILT COMMAND: runs a command into $logs/NAME.log, before everyone's eyes too where NAME is among the words of `shown`, and writes passed, failed
-# and seconds into $logs/NAME.sum. Without a tool or what must be built, without a closing line, or with a status that this line does not tell, it has failed.
+# part NAME TOOLS BUILT COMMAND: runs a command into $logs/NAME.log, and prints its output too where NAME is among the words of `shown`, and writes passed, failed
+# and seconds into $logs/NAME.sum. Without a tool or what must be built, without a closing line, or with a status that does not fit this line, it has failed.
 part() {
   local name=$1 log=$logs/$1.log began said passed=0 failed=1
   began=$(date +%s) said=$(lacking "$2" "$3")

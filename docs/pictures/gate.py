@@ -45,6 +45,9 @@ def table(log, crates):
         sums[home[found[1]]][1] += int(found[4])
     if not whole or not proofs or not any(map(any, sums.values())):
         raise Fault("the log has no times of a gate: '.ci/run' prints them at its end")
+    lacking = home.keys() - {found[1] for found in crates}
+    if lacking:
+        raise Fault(f"the log has no time of {', '.join(sorted(lacking))}: it is of a gate that failed, or of other crates")
     made = [HEAD, *(f"{title}\t{proof}\t{edits}\t0" for title, (proof, edits) in sums.items() if proof or edits)]
     after, count = whole[-1] - proofs[-1], sum(int(found[3]) for found in crates)
     of_gate = f"# {len(crates)} crates and {count} must-fail edits. By the clock: {proofs[-1]:,} s for proofs, edits and programs, then {after:,} s for the tests."

@@ -68,6 +68,7 @@ MUTANTS = {
     "no table": ("bench/speed.svg", "| Time of |", "| Times of |", "there is not one table"),
 }
 
+CRATES = "# Mathematics\ninteger:\n# A file and its listing\nlisting: integer\n"
 LOG = """== times
 crate         proof s  edits  edits s
 integer             5      6       24
@@ -96,17 +97,23 @@ def detected(what, old, new, said):
 
 
 def table_of_log():
-    """A gate's log gives its table, and another text a fault."""
+    """A gate's log gives its table."""
+    return gate.table(LOG, CRATES) == LOG_GIVES
+
+
+def no_table(log, said):
     try:
-        gate.table("18 passed, 0 failed\n", read("crates.txt"))
-    except Fault:
-        return gate.table(LOG, read("crates.txt")) == LOG_GIVES
-    return False
+        return not gate.table(log, CRATES)
+    except Fault as fault:
+        return said in str(fault)
 
 
 def self_test():
     found = [(f"mutant '{name}' is detected", detected(*mutant)) for name, mutant in MUTANTS.items()]
-    return report([*found, ("the table of a log", table_of_log())])
+    found.append(("the table of a log", table_of_log()))
+    found.append(("a log without times is detected", no_table("18 passed, 0 failed\n", "no times of a gate")))
+    found.append(("a log without a crate is detected", no_table(LOG.replace("listing ", "other "), "no time of listing")))
+    return report(found)
 
 
 def write():

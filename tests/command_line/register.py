@@ -62,7 +62,7 @@ def unreadable_file_is_2(box):
 
 
 def gone_reader_is_no_fault(box):
-    """The reader of the pipe has gone before the listing is written: the status tells what was judged, and nothing is said, whether a signal would kill or is ignored."""
+    """The reader of the pipe has gone before the listing is written: the status says what was judged, and nothing is said, whether a signal would kill or is ignored."""
     for words, status in ((WHOLE, 0), (REFUSED, 1), ("--help", 0), ("--version", 0)):
         for first in ("", "trap '' PIPE; "):
             reader, writer = os.pipe()
@@ -96,7 +96,7 @@ def copied_away_is_2(box):
 
 
 def installed_needs_no_checkout(box):
-    """A script with its program and what it shares in ../lib/kodarfi judges, explains and tells its version; without the program it says so."""
+    """A script with its program and what it shares in ../lib/kodarfi judges, explains and reports its version; without the program it says so."""
     box.shell("mkdir -p away/bin away/lib/kodarfi && cp register away/bin && cp scripts/command_line.sh docs/explain.awk docs/refusals.tsv program away/lib/kodarfi")
     box.shell("cd away/lib/kodarfi && mv program register && printf 'version 3, commit c, kit k\\n%s\\nnames\\n' $(sha256sum <register | cut -d ' ' -f 1) >register.version")
     script = "away/bin/register"

@@ -1,4 +1,4 @@
-"""The commands that pages show: run in a folder of their own, or left to the part of the gate that runs them, or not run, each for a stated reason.
+"""The commands that pages show: run in a folder of their own, some in a shorter form, or left to the part of the gate that runs them, or not run, each for a stated reason.
 
 Commands of the kit, and edits of sources ('sed -i .. crates/..'), run in a tree of the crates that a page names, so that a page can show an edit and what the
 prover says to it. The lines shown below such a command are parts of what it prints; with 'error:' in them its status is 1."""
@@ -13,11 +13,7 @@ from pathlib import Path
 # what is not run, and why
 NOT_RUN = (
     (r"(?:bash )?\.ci/run|make check|rt ci", "the gate itself"),
-    (r"rt (?:prove|check$)", "it proves every crate, as `rt ci` does in the gate"),
-    (r"bench/run", "it measures for many minutes"),
     (r"\./batch .*--sshlogin", "it needs other machines"),
-    (r"pip install", "it needs a network"),
-    (r"git ", "it is about a clone, and changes it"),
 )
 # what another part of the gate runs: the command, its pages, the test, and what must stand in that test; PAGE is the page's file name, WORD the command's file
 ELSEWHERE = (
@@ -25,14 +21,17 @@ ELSEWHERE = (
     (r".*", r"docs/LARGE-NETS\.md", "tests/package/region.py", '"PAGE"'),
     (r"(?:cc|c\+\+|rustc) ", r".*", "tests/languages.py", "PAGE"),
     (r"make(?: lib| install\b.*| uninstall\b.*)?$", r".*", "tests/install/cases.py", "box.make("),
-    (r"python3 (?P<word>(?:tests|docs/pictures)/\S+)", r".*", "tests/registry", "WORD"),
-    (r"python3 (?P<word>docs/\S+)", r".*", "tests/install/cases.py", "WORD"),
+    (r"python3 tests/edits\.py --write", r".*", "tests/edits_self_test.py", ".write()"),
     (r"tests/run(?! --list)", r".*", ".ci/run", "tests/parts.sh"),
     (r"(?:tests/link/run)", r".*", "tests/registry", "tests/link/run"),
     (r"(?P<word>rt staticlib \w+)", r".*", "tests/registry", "WORD"),
 )
+# what runs in a shorter form, which its own help describes
+SHORTER = ((r"bench/run(?! --quick)", "bench/run --quick"),)
 # what stands for any file of a kind, with an example of it
 FOR_ANY = (
+    ("BEFORE.a AFTER.a", "target/staticlib/libkodarfi.a target/staticlib/libkodarfi.a"),
+    ("AFTER.a", "target/staticlib/libkodarfi.a"),
     ("FILE NAMES", "target/named.txt examples/office/names.txt"),
     ("MAIN FIELD", "target/main.txt examples/region/east.txt"),
     ("REGISTER FILE", "target/documents.db examples/whole-file.txt"),
@@ -47,13 +46,21 @@ MADE = {
     "target/main.txt": "python3 -m kodarfi build examples/region/main.txt | python3 -m kodarfi propose > target/main.txt",
     "./batch": "me=batch here=$PWD; . scripts/command_line.sh; link_batch target/bin/batch",
 }
+# for rt: the library is taken as it is built, and nothing else is made
+STAND_IN = """#!/bin/sh
+[ "$*" != "staticlib kodarfi" ] || exec test -e target/staticlib/libkodarfi.a
+echo 'nothing is proved for a page' >&2
+exit 2
+"""
 OF_KIT = re.compile(r"rt \w|sed -i .* crates/")
 ANYTHING = re.compile(r"(?<![\w/.$-])[A-Z][A-Z]*(?![\w/.=-])")
 
 
 def filled(command):
-    """A command with examples for the words that stand for any file; options in square brackets are left out."""
+    """A command in its shorter form, with examples for the words that stand for any file; options in square brackets are left out."""
     plain = re.sub(r"[\[\]]", "", re.sub(r"\[-[^\]]*\] *", "", command))
+    for begins, shorter in SHORTER:
+        plain = re.sub(rf"^{begins}", shorter, plain)
     for words, examples in FOR_ANY:
         plain = re.sub(rf"(?<![\w/.-]){words}(?![\w/.=-])", examples, plain)
     return plain
@@ -104,16 +111,20 @@ class Tree:
             self.add(word, edits=1)
         (self.path / "crates.txt").write_text("".join(f"{crate}:{others}\n" for crate, others in self.named.items() if crate in self.held))
         place = self.root if command == "rt fmt --check" else self.path
-        return finished(["bash", "-c", command], 600, cwd=place)
+        return finished(["bash", "-c", command], cwd=place)
 
 
-def finished(words, seconds, **settings):
-    done = subprocess.run(words, timeout=seconds, stdin=subprocess.DEVNULL, stdout=subprocess.PIPE, stderr=subprocess.STDOUT, text=True, **settings)
+def finished(words, **settings):
+    """The status of a command and what it prints; what hangs is given up after ten minutes."""
+    try:
+        done = subprocess.run(words, timeout=600, stdin=subprocess.DEVNULL, stdout=subprocess.PIPE, stderr=subprocess.STDOUT, text=True, **settings)
+    except subprocess.TimeoutExpired:
+        return None, "it did not end within ten minutes"
     return done.returncode, done.stdout
 
 
 class Folder:
-    """A folder in which commands run, made for the first of them: a copy of the repository, but for its crates, and a target of its own with what is built."""
+    """A folder in which commands run, made for the first of them: a copy of the repository, and a target of its own with what is built."""
 
     def __init__(self, root):
         self.root, self.held = root, tempfile.TemporaryDirectory()
@@ -122,14 +133,13 @@ class Folder:
 
     def make(self):
         root = self.root
-        shutil.copytree(root, self.path, ignore=lambda folder, names: ["crates", "target", ".git", "__pycache__"] if Path(folder) == root else ["__pycache__"])
-        (self.path / "crates").symlink_to(root / "crates")
+        shutil.copytree(root, self.path, ignore=lambda folder, names: ["target", ".git", "__pycache__"] if Path(folder) == root else ["__pycache__"])
         for path in [*root.glob("target/bin/*"), *root.glob("target/lib/*"), *root.glob("target/staticlib/*")]:
             place = self.path / path.relative_to(root)
             place.parent.mkdir(parents=True, exist_ok=True)
             place.symlink_to(path)
         (self.path / "target" / "tools").mkdir(parents=True)
-        (self.path / "target" / "tools" / "rt").write_text("#!/bin/sh\necho 'nothing is proved for a page' >&2\nexit 2\n")
+        (self.path / "target" / "tools" / "rt").write_text(STAND_IN)
         (self.path / "target" / "tools" / "rt").chmod(0o755)
         (self.path / "nets").mkdir()
         for path in root.glob("examples/*.txt"):
@@ -147,10 +157,10 @@ class Folder:
             return self.tree.run(command)
         if not self.path.exists():
             self.make()
-        # nothing is built for a page: the programs are taken as they are, and rt is a stand-in that refuses
+        # nothing is proved for a page: programs and library are taken as they are
         environment = os.environ | {"PYTHONPATH": "python", "KODARFI_AS_BUILT": "silent", "LC_ALL": "C.UTF-8"}
         environment["PATH"] = f"{self.path}/target/tools:{environment['PATH']}"
-        return finished(["bash", "-o", "pipefail", "-c", command], 60, cwd=self.path, env=environment)
+        return finished(["bash", "-o", "pipefail", "-c", command], cwd=self.path, env=environment)
 
 
 def full_lines(text):

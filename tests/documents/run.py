@@ -3,7 +3,8 @@
   python3 tests/documents/run.py               after `make` and `make lib`; the last line is 'N passed, M failed'
   python3 tests/documents/run.py --self-test   made-up documents, right and then wrong in each way of self_test.py; needs nothing built
 
-Read are README.md, CONTRIBUTING.md, docs/*.md, tests/README.md and bench/README.md; docs/landings and CHANGELOG.md describe the past and are not read.
+Read are README.md, CONTRIBUTING.md, docs/*.md, tests/README.md and bench/README.md; docs/landings and CHANGELOG.md describe the past: of
+CHANGELOG.md only the lengths of lines are read.
 
 1. Links lead to files of the repository, and what follows '#' is a heading there. No link leaves the repository.
 2. Every page is reached from README.md, by links and names of pages, in one step or two.
@@ -13,7 +14,7 @@ Read are README.md, CONTRIBUTING.md, docs/*.md, tests/README.md and bench/README
 5. An option in backquotes or in a block is one of the command that it follows, or of some script where it stands alone. What follows `rt` is a command of the
    kit, what follows `make` a target of Makefile, what follows `tests/run` a part of the registry.
 6. A command in a block of indented or fenced lines runs, and prints what stands below it where it follows '$ '. Its status is 0, or 1 where it names a file of
-   examples/refused. Words for any file have an example. commands.py lists what is not run, and what another part of the gate runs.
+   examples/refused. Words for any file have an example. commands.py lists what is not run, what runs in a shorter form, and what another part of the gate runs.
 7. No line is above 200 characters, but in tables and in what a command prints ('$ '). README.md has at most 150 lines of at most 120 characters, CONTRIBUTING.md
    at most 200 lines.
 8. Every term of docs/GLOSSARY.md is used in another page."""
@@ -81,6 +82,8 @@ class Documents:
         for page in self.pages.values():
             for check in (self.links, self.files, self.counts, self.options, self.words, self.lengths):
                 yield from (f"{page.name}{fault}" for fault in check(page) if fault)
+        past = [Page(self.root, name) for name in self.cited.paths if name == "CHANGELOG.md"]
+        yield from (f"{page.name}{fault}" for page in past for fault in self.lengths(page) if fault)
         yield from (fault for check in (self.reached, self.names, self.commands, self.glossary) for fault in check() if fault)
 
     def links(self, page):

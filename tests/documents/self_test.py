@@ -7,14 +7,18 @@ FILES = {
     "README.md": "# Made up\n\nSee [a day](docs/DAY.md#a-day-of-work), [the way](#made-up), `docs/OFFICE.md` and `docs/GLOSSARY.md`.\n"
     "`./register --explain FILE` explains, `--brief` is short.\n\n"
     "    ./register examples/whole-file.txt     the listing\n    ./register FILE\n    bash .ci/run     the gate\n\n"
-    "`tests/adds.py` has 3 lines, and adds at `tests/adds.py:2`. `made.txt` is an example. The net is hung.\nCONTRIBUTING.md is next, and `tests/README.md`.\n",
+    "`tests/adds.py` has 3 lines, and adds at `tests/adds.py:2`. `made.txt` is an example. The net is hung.\nCONTRIBUTING.md is next, and `tests/README.md` and `bench/README.md`.\n",
     "CONTRIBUTING.md": "# To contribute\n\n`sums/specs/Sum.antt` has `sumOf`.\n\n```\npython3 tests/adds.py --all\n```\n\n| a table |\n|---|\n| " + LONG + " |\n\n"
     "    rt dev sums\n\n    $ sed -i 's/= n/= m/' crates/sums/specs/Sum.antt\n    $ rt dev sums\n    error: sumOf fails\n",
     "docs/DAY.md": "# Office\n\n## A day of `work`\n\n    $ ./register examples/made.txt\n    listing of made.txt\n\n    $ ./register examples/refused/2-none.txt\n    listing of 2-none.txt\n\n"
     "A desk takes it, and two hung nets.\n",
     "docs/GLOSSARY.md": '# Glossary\n\n| Term | Meaning |\n|---|---|\n| "desk" | what takes lines |\n| "hung net" | a net below another |\n',
+    "CHANGELOG.md": "# What changed\n\n`gone.txt` went.\n",
     "docs/landings/first.md": "See `gone.txt` and [nothing](none.md). " + LONG + "\n",
     "tests/README.md": "    tests/run\n    tests/run adds\n    make lib\n\n`adds.py` adds.\n",
+    "bench/README.md": "    bench/run     measures\n    bench/run BEFORE.a AFTER.a     compares\n",
+    "bench/run": '#!/bin/sh\n[ "$1" = --quick ] && shift || exit 3\n[ $# -gt 0 ] || exec rt staticlib kodarfi\ncmp "$1" "$2"\n',
+    "target/staticlib/libkodarfi.a": "library\n",
     "Makefile": "lib:\n",
     "tests/install/cases.py": "box.make()\n",
     "tests/registry": "adds | proofs | python3 | - | python3 tests/adds.py | adds\n",
@@ -57,13 +61,17 @@ MUTANTS = {
     "a file that is no longer refused": ("register", "*refused*", "*none-at-all*", "2-none.txt' has status 0"),
     "a word without an example": ("README.md", "    ./register FILE", "    ./register WHAT", "there is no example for WHAT"),
     "something else that is printed": ("docs/DAY.md", "    listing of made.txt", "    listing of file.txt", "prints something else"),
-    "a test that runs it no more": ("tests/registry", "python3 tests/adds.py", "python3 tests/other.py", "tests/registry no longer names what runs 'python3 tests/adds.py"),
+    "a script that fails": ("tests/adds.py", "# end", "raise SystemExit(3)", "'python3 tests/adds.py --all' has status 3"),
     "a page that is run no more": ("tests/package/pages.py", '"OFFICE.md"', '"CLERK.md"', "tests/package/pages.py no longer names what runs './register none'"),
     "a gate without the tests": (".ci/run", "tests/parts.sh", "tests/others.sh", ".ci/run no longer names what runs 'tests/run'"),
     "a crate that is not there": ("CONTRIBUTING.md", "    rt dev sums\n\n", "    rt dev sum\n\n", "'rt dev sum' has status 2"),
     "an edit that the prover takes": ("CONTRIBUTING.md", "s/= n/= m/", "s/= q/= m/", "'rt dev sums' has status 0"),
     "what the prover does not say": ("CONTRIBUTING.md", "error: sumOf fails", "error: sumOf holds", "'rt dev sums' prints something else"),
+    "a measurement that fails": ("bench/run", 'cmp "$1"', 'cmp "$1.o"', "'bench/run --quick target/staticlib/libkodarfi.a target/staticlib/libkodarfi.a' has status 2"),
+    "a measurement without its short form": ("bench/run", "--quick", "--short", "'bench/run --quick' has status 3"),
+    "a measurement of what is not built": ("target/staticlib/libkodarfi.a", None, None, "'bench/run --quick' has status 1"),
     "a long line": ("docs/DAY.md", "A desk", LONG + "a desk", "the line has"),
+    "a long line of what changed": ("CHANGELOG.md", "went.", "went. " + LONG, "CHANGELOG.md:3: the line has"),
     "a line too long for the first page": ("README.md", "CONTRIBUTING.md is next", "CONTRIBUTING.md is next " + LONG[:110], "the line has"),
     "a first page too long": ("README.md", "# Made up\n", "# Made up\n" + "\n" * 140, "151 lines, and at most 150"),
     "a term that no page uses": ("docs/DAY.md", "hung nets", "other nets", "no other page uses 'hung net'"),

@@ -14,7 +14,7 @@ WIDE = {"n": 2, "s": 0, "t": 0, "matrix": [1, 2**20, 0, 1], "tolerance": [1, 655
 
 
 class Observation(ctypes.Structure):
-    """A field line, as the header tells its layout for other languages."""
+    """A field line, with the layout that the header states for other languages."""
 
     _fields_ = list(zip(("key", "from_", "to", "difference", "weight"), (ctypes.c_uint32,) * 3 + (ctypes.c_int64, ctypes.c_uint32)))
 

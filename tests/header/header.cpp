@@ -6,7 +6,7 @@
 #include <string>
 #include <vector>
 
-static_assert(sizeof(kodarfi_observation) == 32 && alignof(kodarfi_observation) == 8, "the layout that the header tells");
+static_assert(sizeof(kodarfi_observation) == 32 && alignof(kodarfi_observation) == 8, "the layout that the header states");
 
 static unsigned passed, failed;
 

@@ -56,7 +56,7 @@ class Workshop:
         return None if done.returncode else path
 
     def run(self, name, path):
-        """Passed and failed; 0 and 1 where there is no closing line, or one that its status does not tell."""
+        """Passed and failed; 0 and 1 where there is no closing line, or one that does not fit its status."""
         done = subprocess.run([str(path)], capture_output=True, text=True, timeout=PATIENCE)
         closing = re.fullmatch(r"(\d+) passed, (\d+) failed", done.stdout.rstrip("\n").rpartition("\n")[2])
         if not closing or (done.returncode == 0) != (closing[2] == "0") or int(closing[1]) == 0:

@@ -4,7 +4,7 @@
   python3 tests/names/run.py --self-test   made-up documents, right and then wrong in each way of self_test.py
 
 Read are README.md, tests/README.md, docs/*.md, include/*.h, and the head comments of crates: the lines of comment before the first other line of each file
-of specs/, proofs/ and src/. docs/landings and CHANGELOG.md tell of the past and are not read. What counts as a citation:
+of specs/, proofs/ and src/. docs/landings and CHANGELOG.md describe the past and are not read. What counts as a citation:
 
 1. A file or a folder: a word with a slash that begins with a folder of the repository, or with a crate and specs, proofs, src or must-fail, anywhere; in
    backquotes also a word that ends like a file of the sources (.antt, .rt, .py, .edit, .awk, .tsv). There must be one whose path ends so; .antt may be left

@@ -62,7 +62,7 @@ def highest_margin(self, margins):
 RECKONED = {
     "A·G for G·A": changed_system("defect", A=lambda system: system.G, G=lambda system: system.A),
     "margin 0 good": reckoning(is_margin_good=lambda self, margin: margin >= 0),
-    "margin of the summed size": margins_by(lambda T, w, m, row: T * w[m] - abs(sum(d * x for d, x in zip(row, w)))),
+    "margin of a sum's absolute value": margins_by(lambda T, w, m, row: T * w[m] - abs(sum(d * x for d, x in zip(row, w)))),
     "margin with its own row's weight": margins_by(lambda T, w, m, row: T * w[m] - sum(abs(d) * w[m] for d in row)),
     "margin without weights": margins_by(lambda T, w, m, row: T - sum(map(abs, row))),
     "highest failing margin": reckoning(failing_margin=highest_margin),
@@ -78,7 +78,7 @@ RECKONED = {
     "no limits written": bound_by(lambda w, i, sizes, margins: 0),
     "2^25 refused": residuals_by(lambda r, slack: abs(r) + slack < LARGEST_RESIDUAL),
     "2^25 + 1 accepted": residuals_by(lambda r, slack: abs(r) + slack <= LARGEST_RESIDUAL + 1),
-    "residual without its size": residuals_by(lambda r, slack: r + slack <= LARGEST_RESIDUAL),
+    "residual with its sign": residuals_by(lambda r, slack: r + slack <= LARGEST_RESIDUAL),
     "7 by row first": reckoning(failing_column=row_first),
     "7 never": reckoning(failing_column=lambda self, system, columns: None),
     "7 before 6": reckoning(ORDER=(5, 7, 6)),
@@ -167,7 +167,7 @@ def flat_where(is_flat):
 
 
 def all_below(weight):
-    """No size times this weight above its margin."""
+    """No magnitude times this weight is above its margin."""
     return lambda w, sizes, margins: all(weight(w) * p <= g for p, g in zip(sizes, margins))
 
 

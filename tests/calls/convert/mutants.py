@@ -112,7 +112,7 @@ def lined(number, line):
     return lambda said, right: [*said[:3], line if said[0] == number else right]
 
 
-# Of what a call tells beside the new file: rule(number and values, the refused line).
+# Of what a call reports beside the new file: rule(number and values, the refused line).
 REPORTED = {
     "13 without its count": lambda said, line: [said[0], 0, 0, line],
     "the line among the values": lambda said, line: [said[0], line, 0, line],

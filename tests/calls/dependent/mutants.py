@@ -114,7 +114,7 @@ MUTANTS = {
     "slack of the tolerance alone": dependent(slacks=Reckoning.slacks),
     "slack of C alone": dependent(slacks=lambda self, system: [sum(abs(c) * E for c, E in zip(row, self.E1)) for row in self.C]),
     "no slack": dependent(slacks=lambda self, system: [0] * system.n),
-    "C without its size": slacked(lambda c, E: c * E),
+    "C with its sign": slacked(lambda c, E: c * E),
     "|C| without E1": slacked(lambda c, E: abs(c)),
     "E1 where C is not 0": slacked(lambda c, E: E if c else 0),
     "E1 without C": slacked(lambda c, E: E),
@@ -147,4 +147,4 @@ MUTANTS = {
 }
 
 # Those whose limits, where they accept, are too small for some joint solution.
-UNSOUND = ("slack of the tolerance alone", "slack of C alone", "no slack", "limits without the slack", "C·X1 left out", "C without its size")
+UNSOUND = ("slack of the tolerance alone", "slack of C alone", "no slack", "limits without the slack", "C·X1 left out", "C with its sign")

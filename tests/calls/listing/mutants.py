@@ -187,7 +187,7 @@ HELD = {
     "the sum along the row of the inverse": sums_by(lambda system, k, row: along(system.G[k])),
     "the sum along the next row": sums_by(lambda system, k, row: along(system.A[(k + 1) % system.n])),
     "the sum of the whole matrix": sums_by(lambda system, k, row: sum(map(along, system.A))),
-    "the size of the row's sum": sums_by(lambda system, k, row: abs(sum(row))),
+    "the absolute value of the row's sum": sums_by(lambda system, k, row: abs(sum(row))),
     "the largest number of the row": sums_by(lambda system, k, row: max(map(abs, row))),
     "the sum beside the diagonal": sums_by(lambda system, k, row: along(row) - abs(row[k])),
     "half the row's sum": sums_by(lambda system, k, row: along(row) // 2),
@@ -208,7 +208,7 @@ HELD = {
 }
 
 def reported(rule):
-    """A program that tells rule(refusal) of a line or of a file that stops early."""
+    """A program that reports rule(refusal) of a line or of a file that stops early."""
 
     def load(self, file):
         loaded = Program.load(self, file)

@@ -86,7 +86,7 @@ MUTANTS = {
     "T·w without the load": changed(lambda factor: Factor((factor.numerator + factor.denominator) // 2, factor.denominator)),
     "the load without T·w": changed(lambda factor: Factor((factor.numerator - factor.denominator) // 2, factor.denominator)),
     "A·G for G·A": rating(reckoning=RECKONED["A·G for G·A"]),
-    "sums with sign": rating(reckoning=RECKONED["margin of the summed size"]),
+    "sums with sign": rating(reckoning=RECKONED["margin of a sum's absolute value"]),
     "weights of 1": rating(rows=lambda self, inquiry: Quality.rows(self, inquiry._replace(weights=[1] * inquiry.n))),
     "a margin of 0 good": rating(reckoning=RECKONED["margin 0 good"]),
     "5 with the last row": rating(reckoning=RECKONED["highest failing margin"]),

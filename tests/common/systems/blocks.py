@@ -124,7 +124,7 @@ def with_residuals(rng, s, t, matrix, residuals):
 
 
 def row_block(rng, s, t, beyond):
-    """One to four equations: the size of one residual is the sum along its row and `beyond` more, and of the others at most the sums along theirs."""
+    """One to four equations: the absolute value of one residual is the sum along its row and `beyond` more, and of the others at most the sums along theirs."""
 
     def attempt():
         n = rng.randint(1, 4) if t > 3 else 1
@@ -140,7 +140,7 @@ def row_block(rng, s, t, beyond):
 
 
 def column_pair(rng, s, t, beyond):
-    """Two equations: the size of the residual in column 2, row 1 is the sum along row 1 and `beyond` more, for beyond −1, 0 or 1; t at least 3.
+    """Two equations: the absolute value of the residual in column 2, row 1 is the sum along row 1 and `beyond` more, for beyond −1, 0 or 1; t at least 3.
 
     With A = (a c / 0 1) and T in place 2, 2 of the inverse that residual is −(a·g + c·T), g being the number in place 1, 2."""
     T = 2**t
