@@ -1,4 +1,4 @@
--- Raised numbers and the numbers they stand for.
+-- Biased numbers and the numbers they stand for.
 --   biased-is, biased-small, unbiased-biased — x + 2^25 is a natural number, at most 2^26, and stands for x
 --   unbiased-below, unbiased-above, unbiased-magnitude — the magnitude of the number that x stands for: 2^25 − x or x − 2^25, at most 2^25
 --   row-sum, row-products — a row's sum is at most 2^31, the sum of the products of two rows at most 2^57

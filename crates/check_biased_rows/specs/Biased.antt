@@ -1,5 +1,5 @@
 -- Numbers biased above 0, in rows; for the reckoning's own use, no word of 01.
---   bias      — 2^25, what is added to a number to raise it
+--   bias      — 2^25, what is added to a number to bias it
 --   unbiased x     — the number that x stands for, x − 2^25
 --   Small xs p n  — n numbers from place p on, each at most 2^26
 --   BiasedRow xs p n — such numbers, and after them their sum;  BiasedRows xs n — n such rows one after another

@@ -11,7 +11,7 @@ ghost use Rattle.linear.specs.Reach.{Reach, ColumnList};
 ghost use Rattle.check_biased_rows.specs.Biased.{bias, unbiased, Small, BiasedRow, rowDot, RowOf, RowsOf, Kept};
 ghost use Rattle.check_biased_rows.specs.Place.{RowsOfMatrix, ColumnsOfMatrix};
 
-// What is added to a number to raise it, 2^25, and its square.
+// What is added to a number to bias it, 2^25, and its square.
 pub const BIAS: u64 = 33554432;
 
 const BIAS_SQUARED: u64 = 1125899906842624;
@@ -108,7 +108,7 @@ fn bias_at(xs: &[i64], start: usize, stride: usize, from: usize, k: usize) -> u6
     biased_of(xs[from])
 }
 
-// Raises n numbers of a list, some places apart, and puts their sum after them.
+// Biases n numbers of a list, some places apart, and puts their sum after them.
 pub fn bias_row(out: &mut [u64], place: usize, xs: &[i64], start: usize, stride: usize, n: usize)
     requires { ⌜ (n ≤ 32) × ((start + n * stride < 2 ^ 60) × (place + n < length (now out))) ⌝ }
     requires { ⌜ Reach (now xs) start stride n bias ⌝ }
@@ -128,7 +128,7 @@ pub fn bias_row(out: &mut [u64], place: usize, xs: &[i64], start: usize, stride:
     out[to] = sum;
 }
 
-// Raises n rows of n numbers one after another, each a step after the one before.
+// Biases n rows of n numbers one after another, each a step after the one before.
 fn bias_all(out: &mut [u64], xs: &[i64], step: usize, stride: usize, n: usize)
     requires { ⌜ (n ≤ 32) × ((step ≤ 32) × ((stride ≤ 32) × (n * (n + 1) ≤ length (now out)))) ⌝ }
     requires { ⌜ ((i : ℕ) → i < n → Reach (now xs) (i * step) stride n bias) ⌝ }
@@ -143,7 +143,7 @@ fn bias_all(out: &mut [u64], xs: &[i64], step: usize, stride: usize, n: usize)
     }
 }
 
-// Raises the rows of a matrix: row i starts at i·n and has stride 1.
+// Biases the rows of a matrix: row i starts at i·n and has stride 1.
 pub fn bias_rows(out: &mut [u64], xs: &[i64], n: usize)
     requires { ⌜ (n ≤ 32) × (n * (n + 1) ≤ length (now out)) ⌝ }
     requires { ⌜ ColumnList (now xs) (n * n) bias ⌝ }
@@ -152,7 +152,7 @@ pub fn bias_rows(out: &mut [u64], xs: &[i64], n: usize)
     bias_all(out, xs, n, 1, n);
 }
 
-// Raises the columns of a matrix: column j starts at j and has stride n.
+// Biases the columns of a matrix: column j starts at j and has stride n.
 pub fn bias_columns(out: &mut [u64], xs: &[i64], n: usize)
     requires { ⌜ (n ≤ 32) × (n * (n + 1) ≤ length (now out)) ⌝ }
     requires { ⌜ ColumnList (now xs) (n * n) bias ⌝ }

@@ -1,4 +1,4 @@
--- Lines that spell forms, and are accepted: reckoned without the numbers that they put into their lists.
+-- Lines that spell forms, and are accepted: computed without the numbers that they put into their lists.
 --   spelled fs   — the lines of the forms fs;  forms-spelled — their forms
 --   passes d fs  — at the loader d the line of every form is accepted where no lent list is too short, and the last is an end
 --   Whole R      — every line is accepted, and the last is an end
