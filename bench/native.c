@@ -14,7 +14,7 @@ static void naive_bounds(uint32_t n, const int64_t *w, const int64_t *p, const i
     }
 }
 
-static uint32_t reckon_plainly(const struct system *y, bounds_of_column *bounds_of, uint64_t *solution_bounds, uint64_t *inverse_bounds, uint64_t places[2]) {
+static uint32_t compute_plainly(const struct system *y, bounds_of_column *bounds_of, uint64_t *solution_bounds, uint64_t *inverse_bounds, uint64_t places[2]) {
     int64_t D[PLACES], R[PLACES], g[MOST], r[MOST], p[MOST], sums[MOST];
     uint64_t column[MOST];
     sum_rows(y, sums);
@@ -23,7 +23,7 @@ static uint32_t reckon_plainly(const struct system *y, bounds_of_column *bounds_
     if ((places[0] = failing_residual(y, sums, r)) != 0) return 6;
     difference(y->n, y->T, y->A, y->G, R);
     if (failing_inverse(y, sums, R, 1, y->n, places)) return 7;
-    for (uint32_t m = 0; m < y->n; m++) p[m] = size_of(dot(y->n, y->G + m * y->n, r, 1));
+    for (uint32_t m = 0; m < y->n; m++) p[m] = magnitude_of(dot(y->n, y->G + m * y->n, r, 1));
     add_slacks(y, p);
     bounds_of(y->n, y->w, p, g, column);
     memcpy(solution_bounds, column, y->n * sizeof *column);
@@ -31,14 +31,14 @@ static uint32_t reckon_plainly(const struct system *y, bounds_of_column *bounds_
     return 0;
 }
 
-static uint32_t reckon_naive(const struct system *y, uint64_t *solution_bounds, uint64_t *inverse_bounds, uint64_t places[2]) {
-    return reckon_plainly(y, naive_bounds, solution_bounds, inverse_bounds, places);
+static uint32_t compute_naively(const struct system *y, uint64_t *solution_bounds, uint64_t *inverse_bounds, uint64_t places[2]) {
+    return compute_plainly(y, naive_bounds, solution_bounds, inverse_bounds, places);
 }
 
-static uint32_t reckon_quick(const struct system *y, uint64_t *solution_bounds, uint64_t *inverse_bounds, uint64_t places[2]) {
-    return reckon_plainly(y, quick_bounds, solution_bounds, inverse_bounds, places);
+static uint32_t compute_quickly(const struct system *y, uint64_t *solution_bounds, uint64_t *inverse_bounds, uint64_t places[2]) {
+    return compute_plainly(y, quick_bounds, solution_bounds, inverse_bounds, places);
 }
 
-CHECK(native_check_naive, reckon_naive)
-CHECK(native_check_quick, reckon_quick)
-CHECK(native_check_sparse, sparse_reckon)
+CHECK(native_check_naive, compute_naively)
+CHECK(native_check_quick, compute_quickly)
+CHECK(native_check_sparse, compute_sparsely)

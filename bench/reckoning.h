@@ -24,7 +24,7 @@ struct system {
 /* The limits of one column from its magnitudes |p_m|, the margins and the weights. */
 typedef void bounds_of_column(uint32_t n, const int64_t *w, const int64_t *p, const int64_t *g, uint64_t *bounds);
 
-static inline int64_t size_of(int64_t x) {
+static inline int64_t magnitude_of(int64_t x) {
     return x < 0 ? -x : x;
 }
 
@@ -62,7 +62,7 @@ static inline uint32_t failing_margin(const struct system *y, const int64_t *D, 
     uint32_t failing = 0;
     for (uint32_t m = y->n; m-- > 0;) {
         int64_t sum = 0;
-        for (uint32_t j = 0; j < y->n; j++) sum += size_of(D[m * y->n + j]) * y->w[j];
+        for (uint32_t j = 0; j < y->n; j++) sum += magnitude_of(D[m * y->n + j]) * y->w[j];
         g[m] = y->T * y->w[m] - sum;
         if (g[m] <= 0) failing = m + 1;
     }
@@ -70,15 +70,15 @@ static inline uint32_t failing_margin(const struct system *y, const int64_t *D, 
 }
 
 /* 02, Paper 5: "size of residual plus slack is above 2^25"; Paper 9: "the residual of row m, without slack, may be at most the sum of |a| along that row". */
-static inline bool is_above(int64_t size, int64_t slack, int64_t sum) {
-    return size + slack > LARGEST_RESIDUAL || size > sum;
+static inline bool is_above(int64_t magnitude, int64_t slack, int64_t sum) {
+    return magnitude + slack > LARGEST_RESIDUAL || magnitude > sum;
 }
 
 /* The sums of |a| along the rows. */
 static inline void sum_rows(const struct system *y, int64_t *sums) {
     for (uint32_t k = 0; k < y->n; k++) {
         sums[k] = 0;
-        for (uint32_t j = 0; j < y->n; j++) sums[k] += size_of(y->A[k * y->n + j]);
+        for (uint32_t j = 0; j < y->n; j++) sums[k] += magnitude_of(y->A[k * y->n + j]);
     }
 }
 
@@ -87,7 +87,7 @@ static inline uint32_t failing_residual(const struct system *y, const int64_t *s
     uint32_t failing = 0;
     for (uint32_t k = y->n; k-- > 0;) {
         r[k] = y->S * y->b[k] - dot(y->n, y->A + k * y->n, y->X, 1);
-        if (is_above(size_of(r[k]), y->S * y->d[k], sums[k])) failing = k + 1;
+        if (is_above(magnitude_of(r[k]), y->S * y->d[k], sums[k])) failing = k + 1;
     }
     return failing;
 }
@@ -96,7 +96,7 @@ static inline uint32_t failing_residual(const struct system *y, const int64_t *s
 static inline bool failing_inverse(const struct system *y, const int64_t *sums, const int64_t *R, size_t across, size_t down, uint64_t places[2]) {
     for (uint32_t j = 0; j < y->n; j++) {
         for (uint32_t k = 0; k < y->n; k++) {
-            if (is_above(size_of(R[j * across + k * down]), 0, sums[k])) {
+            if (is_above(magnitude_of(R[j * across + k * down]), 0, sums[k])) {
                 places[0] = j + 1;
                 places[1] = k + 1;
                 return true;
@@ -110,7 +110,7 @@ static inline bool failing_inverse(const struct system *y, const int64_t *sums, 
 static inline void add_slacks(const struct system *y, int64_t *p) {
     if (all_within(y->d, y->n, 0, 0)) return;
     for (uint32_t m = 0; m < y->n; m++) {
-        for (uint32_t j = 0; j < y->n; j++) p[m] += size_of(y->G[m * y->n + j]) * y->S * y->d[j];
+        for (uint32_t j = 0; j < y->n; j++) p[m] += magnitude_of(y->G[m * y->n + j]) * y->S * y->d[j];
     }
 }
 
@@ -140,14 +140,14 @@ static inline void write_inverse(const struct system *y, const int64_t *R, const
     uint64_t column[MOST];
     difference(y->n, 0, y->G, R, P);
     for (uint32_t j = 0; j < y->n; j++) {
-        for (uint32_t m = 0; m < y->n; m++) p[m] = size_of(P[m * y->n + j]);
+        for (uint32_t m = 0; m < y->n; m++) p[m] = magnitude_of(P[m * y->n + j]);
         bounds_of(y->n, y->w, p, g, column);
         for (uint32_t i = 0; i < y->n; i++) bounds[i * y->n + j] = column[i];
     }
 }
 
 /* The checks differ in their reckoning alone: "Order for a check: 8, .. 3, 5, 6, 7." */
-#define CHECK(name, reckon)                                                                                                               \
+#define CHECK(name, compute)                                                                                                             \
     uint32_t name(uint32_t n, uint32_t s, uint32_t t, const int64_t *matrix, size_t matrix_len, const int64_t *right, size_t right_len,  \
                   const int64_t *tolerance, size_t tolerance_len, const int64_t *guess, size_t guess_len, const int64_t *inverse,        \
                   size_t inverse_len, const int64_t *weights, size_t weights_len, uint64_t *solution_bounds, size_t solution_bounds_len, \
@@ -158,7 +158,7 @@ static inline void write_inverse(const struct system *y, const int64_t *R, const
             guess_len < MOST || weights_len < MOST || solution_bounds_len < MOST)                                                        \
             return 8;                                                                                                                    \
         if (!is_in_range(n, s, t, &y)) return 3;                                                                                         \
-        return reckon(&y, solution_bounds, inverse_bounds, places);                                                                      \
+        return compute(&y, solution_bounds, inverse_bounds, places);                                                                     \
     }
 
 #endif

@@ -100,13 +100,13 @@ def exact_solution(example):
 
 
 def table_differences(example):
-    """The printed errors that differ by two units of the ninth decimal or more from the reckoned ones."""
-    exact, reckoned = exact_solution(example), iterates(example)
+    """The printed errors that differ by two units of the ninth decimal or more from the computed ones."""
+    exact, computed = exact_solution(example), iterates(example)
     return [
         (count, i + 1)
         for count, errors in example.errors.items()
         for i, printed in enumerate(errors)
-        if printed is not None and abs(reckoned[count][i] - exact[i] - printed * UNIT) >= 2 * UNIT
+        if printed is not None and abs(computed[count][i] - exact[i] - printed * UNIT) >= 2 * UNIT
     ]
 
 

@@ -129,11 +129,11 @@ pub fn check(net: &Net) -> Outcome {
     if out_of_range(net) {
         return Outcome::refused(3, [0, 0]);
     }
-    reckon(&System::of(net))
+    compute_bounds(&System::of(net))
 }
 
 /// 5, 6, 7 and the limits.
-fn reckon(system: &System) -> Outcome {
+fn compute_bounds(system: &System) -> Outcome {
     let n = system.n;
     let (residual, slacks, sums, none) = (system.guess_residual(), system.slacks(), system.row_sums(), vec![0; n]);
     let margins: Vec<i128> = (0..n).map(|m| system.margin(m)).collect();

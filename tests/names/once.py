@@ -50,10 +50,17 @@ def laws(root):
                     yield name, lines, "/".join(parts)
 
 
+def types(root):
+    """(name, file) of the structs and enums of the code."""
+    for path in sorted((root / "crates").glob("*/src/**/*.rt")):
+        for name in re.findall(r"(?m)^(?:pub )?(?:struct|enum) (\w+)", path.read_text()):
+            yield name, path.relative_to(root / "crates").as_posix()
+
+
 def equal_names(root):
-    """Names that several files of laws define. X-none, X-next and X-end are laws of X."""
+    """Names that several files of laws define, or the code for a type. X-none, X-next and X-end are laws of X."""
     places = defaultdict(dict)
-    for name, _, file in laws(root):
+    for name, file in [*((name, file) for name, _, file in laws(root)), *types(root)]:
         places[name][file] = True
     for name, files in sorted(places.items()):
         if len(files) > 1 and not SHAPES.fullmatch(name):

@@ -49,6 +49,7 @@ MUTANTS = {
     "a statement without a theorem": ("crates/promises/proofs/Sums.antt", "statement.SumIsSum", "statement.SumIs", "has no theorem of SumIsSum"),
     "two laws of one name": ("crates/sums/proofs/Sum.antt", "pub never-far-away : ℕ", "pub sumOf : ℕ\nsumOf = 0\npub never-far-away : ℕ", "sumOf is defined in"),
     "two laws of one name, one in a function's folder": ("crates/sums/proofs/add_all/Proof.antt", "helper", "never-far-away", "never-far-away is defined in"),
+    "a type of the code and a definition of one name": ("crates/sums/src/lib.rt", "pub struct Adder {", "pub enum SumIsSum {\n    None,\n}\n\npub struct Adder {", "SumIsSum is defined in"),
     "one definition by two names": ("crates/sums/proofs/Sum.antt", "pub sum-zero :", "abbrev total : ℕ → ℕ\ntotal k = k\n\npub sum-zero :", "total in sums/proofs/Sum.antt and sumOf in"),
     "one law by two names": ("crates/sums/proofs/Sum.antt", "pub sum-zero :", "same-law : (k : ℕ) → k ≡ sumOf k\nsame-law k = refl\n\npub sum-zero :", "far-law in"),
     "one definition in a function's folder": ("crates/sums/proofs/add_all/Proof.antt", "helper = 2", "helper = 1", "are one: one law"),

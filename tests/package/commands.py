@@ -61,7 +61,7 @@ def text_of(lines):
 
 
 def equations(n, lines):
-    """The forms that the oracle builds, with tolerances reckoned mark by mark, and the tolerances."""
+    """The forms that the oracle builds, with tolerances computed mark by mark, and the tolerances."""
     built = Builder().build(Build(n, tuple(line for line, _ in lines)))
     distinct = dict((line.key, (line, limit)) for line, limit in lines).values()
     tolerance = [sum(line.weight * limit for line, limit in distinct if k in (line.start, line.to)) for k in range(1, n + 1)]

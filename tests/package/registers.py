@@ -28,7 +28,7 @@ def accepted_files():
 
 
 def entries_follow_from_files(package):
-    """Every row beside the oracle's listing; files and listings byte for byte; hashes and seals reckoned again."""
+    """Every row beside the oracle's listing; files and listings byte for byte; hashes and seals computed again."""
     files, version = accepted_files(), f"kodarfi {package.calls.__version__}"
     with folder() as place:
         register = place / "register.db"

@@ -60,18 +60,18 @@ class Session:
         refusal = None if isinstance(outcome, Bounds) else outcome
         return f"{self.printing.said(refusal)}{one}{self.printing.limits(bounds.solution, first)}{other}{self.printing.limits(flat, second)}"
 
-    def reckoned(self, n, s, t):
+    def computed(self, n, s, t):
         return check(Problem(n, s, t, *(self.loader.lists[kind] for kind in KINDS)))
 
     def check(self):
         """A check through the loader, and one with a solution limit list that is too short."""
-        outcome = self.reckoned(self.loader.n, self.loader.s, self.loader.t) if self.loader.ended else Refusal(15)
+        outcome = self.computed(self.loader.n, self.loader.s, self.loader.t) if self.loader.ended else Refusal(15)
         self.command(b"c", self.limits(outcome, (" solution", 3), (" inverse", 5)))
         self.command(b"d", self.printing.refused(8))
 
     def check_on_lists(self, letter, n, s, t):
         self.text(f"{letter}: ")
-        self.command(b"k" + bytes((n, s, t)), self.limits(self.reckoned(n, s, t), ("; solution", 2), ("; inverse", 4)))
+        self.command(b"k" + bytes((n, s, t)), self.limits(self.computed(n, s, t), ("; solution", 2), ("; inverse", 4)))
 
 
 def whole(session, net):

@@ -27,8 +27,8 @@ use Rattle.half_fill.specs.Half.{shortHalf}
 use Rattle.half_check.specs.Checked.{filledInput, CheckedHalf}
 use Rattle.loader_progress.specs.Progress.{ended}
 use Rattle.loader_progress.specs.declared.Stage.{Stage}
-use Rattle.loader_order.specs.Through.{answerThrough, solutionBoundsThrough, inverseBoundsThrough, CheckedThrough}
-use Rattle.loader_order.proofs.Through.{answer-ended}
+use Rattle.loader_order.specs.Through.{CheckedThrough}
+use Rattle.loader_order.proofs.Through.{through-lists}
 use Rattle.good_limits.specs.Good.{FineRounded, Good}
 use Rattle.accepted_limits.specs.Lists.{GoodLists, OneStepLists}
 use Rattle.good_limits.proofs.Good.{limits-good, good-as}
@@ -80,25 +80,8 @@ module _ (H : Input) (r : Outcome) (E L : List ℕ) (x : CheckedHalf H r E L) wh
 
 -- ---- through a loader
 module _ (s : Stage) (I : Input) (r : Outcome) (E L : List ℕ) (x : CheckedThrough s I r E L) where
-  -- no check before an end is accepted
-  open-not : ended s ≡ false → answerThrough s I ≡ [] → ⊥
-  unfolding answerThrough
-  open-not o e = go (short I) refl
-    where
-      go : (b : Bool) → short I ≡ b → ⊥
-      go true h = nothing-is-not (rw h at e)
-      go false h = nothing-is-not (rw (h, o) at e)
-
   pub through-good : code r ≡ [] → GoodLists I E L
-  unfolding solutionBoundsThrough inverseBoundsThrough
-  through-good e = go (ended s) refl
-    where
-      t : answerThrough s I ≡ []
-      t = sym (x .says) ∙ e
-
-      go : (b : Bool) → ended s ≡ b → GoodLists I E L
-      go true o = check-good I (sym (answer-ended s I o) ∙ t) (x .solution-bounds ∙ accepted-new _ _ t) (x .inverse-bounds ∙ accepted-new _ _ t)
-      go false o = absurd (open-not o t)
+  through-good e = checked-good I r E L (through-lists s I x e) e
 
   pub through-one-step : (N : Vec) (q : ℕ) (H : Mat) (q′ : ℕ) → short I ≡ false → ended s ≡ true → inRanges I ≡ true → FineRounded (problem I) N q H q′ →
       (code r ≡ []) × OneStepLists I E L

@@ -9,7 +9,7 @@ use libc::STDERR_FILENO;
 use libc::STDOUT_FILENO;
 use listing_refusal::put_refusal;
 use listing_text::put_list;
-use program_input::Input;
+use program_input::BytesRead;
 use program_input::fill;
 use program_input::skip_rest;
 
@@ -58,8 +58,8 @@ fn main() {
     let mut text = io::large_buffer();
     let input = fill(&mut text);
     match input {
-        Input::Failed => report(b"convert: the input could not be read\n"),
-        Input::Bytes(n) => {
+        BytesRead::Failed => report(b"convert: the input could not be read\n"),
+        BytesRead::Bytes(n) => {
             if skip_rest() {
                 print_text(text, n);
             } else {

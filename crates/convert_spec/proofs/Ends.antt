@@ -11,7 +11,7 @@ use native.Mathlib.Omega.{arith}
 use borrow.Author.Tests.{le-leb, le-ltb}
 use lib.IntN.{pos}
 use lib.ListN.{length}
-use Rattle.rules.proofs.Ranges.{both, size-range}
+use Rattle.rules.proofs.Ranges.{both}
 use Rattle.enclosure.specs.Problem.{Problem}
 use Rattle.line_form.specs.Form.{Form, end}
 use Rattle.loader_values.specs.Item.{itemOf, partIndex}
@@ -28,14 +28,11 @@ use Rattle.loader_runs.specs.Read.{readingOf}
 use Rattle.convert_spec.specs.Edition.{readingOfOld, CompleteOld}
 use Rattle.convert_spec.specs.File.{formFor, rising, partsThen, oldForms, oldFile}
 use Rattle.convert_spec.specs.Numbers.{NumbersInRange}
-use Rattle.convert_spec.proofs.Numbers.{item-for, old-for, miscounted-for, outside-for}
+use Rattle.convert_spec.proofs.Numbers.{size-within, item-for, old-for, miscounted-for, outside-for}
 use Rattle.convert_spec.proofs.Reached.{rank, GivenTo, reached-next, reached-part, reached-all, reached-old}
 use Rattle.convert_spec.proofs.Taken.{PassesOld, TakesOld, now-complete, old-reading, old-complete}
 
 module _ (P : Problem) (w : NumbersInRange P) where
-  size : (1 ≤ P .n) × (P .n ≤ 32)
-  size = size-range (P .n) (w .size)
-
   abbrev After : ℕ → List Form → Type 0
   After r fs = (d : Loader) → GivenTo (P .n) r d → TakesOld d fs
 
@@ -44,7 +41,7 @@ module _ (P : Problem) (w : NumbersInRange P) where
     passes-for i l {d} h = record {
       now =
           passed-part d (rw (h .size) (w .size)) (h .ready) (formFor P p i) (item-for P p i) (rw (h .size) (both (le-leb 1 (suc i) (omega arith)) (le-leb (suc i) (P .n) (omega arith))))
-          (outside-for P (size .0) w p i l) (rw (h .size) (miscounted-for P (size .0) p i)) (h .clear p (suc i) (omega arith) (omega arith) (omega arith));
+          (outside-for P (size-within w .0) w p i l) (rw (h .size) (miscounted-for P (size-within w .0) p i)) (h .clear p (suc i) (omega arith) (omega arith) (omega arith));
       old = old-for P p i;
       counted = rw (item-for P p i);
     }
@@ -53,7 +50,7 @@ module _ (P : Problem) (w : NumbersInRange P) where
     unfolding rising
     part-ends zero i e rest k d h = let j : i ≡ P .n = omega arith in k d (subst (λ (m : ℕ). GivenTo (P .n) (rank p m) d) j h)
     part-ends (suc c) i e rest k d h =
-        let next = reached-next (P .n) (size .1) h p (suc i) (omega arith) (omega arith) (omega arith) in
+        let next = reached-next (P .n) (size-within w .1) h p (suc i) (omega arith) (omega arith) (omega arith) in
         (h .going, (passes-for i (omega arith) h, part-ends c (suc i) (omega arith) rest k (after d (itemOf (formFor P p i))) (rw (item-for P p i) next)))
 
   -- the parts ps come in their order, from the place m on
@@ -67,15 +64,15 @@ module _ (P : Problem) (w : NumbersInRange P) where
       let a : m * 33 ≡ rank p 0 = omega (arith, o .0) in
       let b : (m + length (p ∷ ps)) * 33 ≡ (suc m + length ps) * 33 = omega arith in
       part-ends p (P .n) 0 (omega arith) (partsThen P ps rest)
-      (λ v g. parts-end (suc m) ps (o .1) rest (subst (λ (r : ℕ). After r rest) b k) v (reached-part (P .n) (size .1) p m (o .0) g))
+      (λ v g. parts-end (suc m) ps (o .1) rest (subst (λ (r : ℕ). After r rest) b k) v (reached-part (P .n) (size-within w .1) p m (o .0) g))
       d (subst (λ (r : ℕ). GivenTo (P .n) r d) a h)
 
   end-ends : After 165 (end ∷ [])
   end-ends d h =
       let o : PassesOld d end = record {
-        now = passed-end d (rw (h .size) (w .size)) (h .ready) (reached-all (size .1) h);
+        now = passed-end d (rw (h .size) (w .size)) (h .ready) (reached-all (size-within w .1) h);
         old = refl;
-        counted = le-ltb 0 (ungiven (d .n) (d .sets)) (omega (arith, reached-old (size .1) h));
+        counted = le-ltb 0 (ungiven (d .n) (d .sets)) (omega (arith, reached-old (size-within w .1) h));
       } in
       (h .going, (o, refl))
 

@@ -1,4 +1,5 @@
 -- Laws of the lists of numbers that are written, and of the forms that they make.
+--   size-within — n of numbers in their ranges is 1 to 32
 --   along-length, along-at, along-inside, along-ext — how many, each of them, all in range, equal numbers
 --   whole-list    — the first number and the others are the whole list
 --   row-count, row-at, row-inside — the same of the numbers of a row, its first number and the others
@@ -14,7 +15,7 @@ use lib.ListN.{length, getD}
 use Rattle.rules.specs.Range.{inRange}
 use Rattle.rules.specs.declared.Kind.{Kind}
 use Rattle.rules.specs.declared.Kind.the-variants as kind
-use Rattle.rules.proofs.Ranges.{both}
+use Rattle.rules.proofs.Ranges.{both, size-range}
 use Rattle.enclosure.specs.Problem.{Problem}
 use Rattle.line_form.specs.List.{allInside}
 use Rattle.loader_values.specs.Item.{itemOf, outside, miscounted}
@@ -24,6 +25,9 @@ use Rattle.loader_values.specs.declared.Part.the-variants.{Row, Right, Guess, I
 use Rattle.convert_spec.specs.Edition.{isOld}
 use Rattle.convert_spec.specs.File.{numbersAlong, formFor}
 use Rattle.convert_spec.specs.Numbers.{NumbersInRange}
+
+pub size-within : {P : Problem} → NumbersInRange P → (1 ≤ P .n) × (P .n ≤ 32)
+size-within {P} w = size-range (P .n) (w .size)
 
 along-length : (g : ℕ → ℤ) (j c : ℕ) → length (numbersAlong g j c) ≡ c
 unfolding numbersAlong

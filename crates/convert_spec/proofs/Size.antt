@@ -12,7 +12,6 @@ use native.Mathlib.Omega.{arith}
 use lib.IntN.{ℤ, pos}
 use lib.ListN.{length, length-append}
 use Rattle.rules.specs.declared.Kind.the-variants as kind
-use Rattle.rules.proofs.Ranges.{size-range}
 use Rattle.enclosure.specs.Problem.{Problem}
 use Rattle.line_numeral.specs.Decimal.{numeral}
 use Rattle.line_form.specs.Form.{Form, problem, scale, end}
@@ -23,7 +22,7 @@ use Rattle.loader_spelled.specs.Ones.{textOf}
 use Rattle.loader_spelled.proofs.Length.{kind-most, numerals-most, place-small, place-most, problem-length, scale-length, row-length, right-length, guess-length, inverse-length, weight-length, end-length}
 use Rattle.convert_spec.specs.File.{numbersAlong, formFor, rising, partsThen, oldForms, oldFile}
 use Rattle.convert_spec.specs.Numbers.{NumbersInRange}
-use Rattle.convert_spec.proofs.Numbers.{row-count, row-inside}
+use Rattle.convert_spec.proofs.Numbers.{size-within, row-count, row-inside}
 
 -- the most bytes of a line of the part, with its line feed, beside those of i
 abbrev pub most : Part → ℕ
@@ -46,9 +45,6 @@ place-saves i l = go (decLt i 9)
     go (no h) = omega (arith, place-most (suc i) (omega arith))
 
 module _ (P : Problem) (w : NumbersInRange P) where
-  size : (1 ≤ P .n) × (P .n ≤ 32)
-  size = size-range (P .n) (w .size)
-
   -- the numbers of a row after the first
   abbrev others : (ℕ → ℤ) → List ℤ
   others g = numbersAlong g 1 (P .n - 1)
@@ -57,20 +53,20 @@ module _ (P : Problem) (w : NumbersInRange P) where
   part-most Row i l =
       omega (
         arith,
-        size .1,
+        size-within w .1,
         row-length (pos (suc i)) (P .A i 0) (others (P .A i)),
-        row-count (P .A i) (P .n) (size .0),
-        numerals-most kind.Matrix (P .A i 0) (others (P .A i)) (row-inside (P .A i) (P .n) (size .0) kind.Matrix (λ j m. w .matrix i j l m)),
+        row-count (P .A i) (P .n) (size-within w .0),
+        numerals-most kind.Matrix (P .A i 0) (others (P .A i)) (row-inside (P .A i) (P .n) (size-within w .0) kind.Matrix (λ j m. w .matrix i j l m)),
       )
   part-most Right i l = omega (arith, right-length (pos (suc i)) (P .b i), kind-most kind.Right (P .b i) (w .right i l))
   part-most Guess i l = omega (arith, guess-length (pos (suc i)) (P .X i), kind-most kind.Guess (P .X i) (w .guess i l))
   part-most Inverse i l =
       omega (
         arith,
-        size .1,
+        size-within w .1,
         inverse-length (pos (suc i)) (P .G i 0) (others (P .G i)),
-        row-count (P .G i) (P .n) (size .0),
-        numerals-most kind.Inverse (P .G i 0) (others (P .G i)) (row-inside (P .G i) (P .n) (size .0) kind.Inverse (λ j m. w .inverse i j l m)),
+        row-count (P .G i) (P .n) (size-within w .0),
+        numerals-most kind.Inverse (P .G i 0) (others (P .G i)) (row-inside (P .G i) (P .n) (size-within w .0) kind.Inverse (λ j m. w .inverse i j l m)),
       )
   part-most Weight i l = omega (arith, weight-length (pos (suc i)) (pos (P .w i)), kind-most kind.Weight (pos (P .w i)) (w .weights i l))
 
@@ -81,10 +77,10 @@ module _ (P : Problem) (w : NumbersInRange P) where
   rising-size p rest (suc c) i l =
       omega (
         arith,
-        size .1,
+        size-within w .1,
         file-next (formFor P p i) (rising (formFor P p) (suc i) c rest),
         part-most p i (omega arith),
-        place-saves i (omega (arith, size .1)),
+        place-saves i (omega (arith, size-within w .1)),
         rising-size p rest c (suc i) (omega arith),
         suc-mul c (most p + 2),
       )
@@ -99,7 +95,7 @@ module _ (P : Problem) (w : NumbersInRange P) where
       let e : length (textOf z) ≡ 6 = rw (file-next end []) (unfold textOf in omega (arith, end-length)) in
       omega (
         arith,
-        size .1,
+        size-within w .1,
         e,
         part-size Weight z,
         part-size Inverse (partsThen P (Weight ∷ []) z),

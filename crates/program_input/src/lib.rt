@@ -29,13 +29,13 @@ fn read_some(buf: &mut [u8], from: usize) -> Step
 }
 
 // The bytes read, or that a read failed.
-pub enum Input {
+pub enum BytesRead {
     Bytes(usize),
     Failed,
 }
 
 // Fills the buffer, or reads to the end of the input where it comes first.
-pub fn fill(buf: &mut [u8]) -> Input
+pub fn fill(buf: &mut [u8]) -> BytesRead
     ensures { λ r. ⌜ Filled (length (now (buf .entry))) r ⌝ }
 {
     let mut done = 0;
@@ -43,17 +43,17 @@ pub fn fill(buf: &mut [u8]) -> Input
         let step = read_some(buf, done);
         match step {
             Step::Failed => {
-                return Input::Failed;
+                return BytesRead::Failed;
             }
             Step::End => {
-                return Input::Bytes(done);
+                return BytesRead::Bytes(done);
             }
             Step::More(n) => {
                 done += n;
             }
         }
     }
-    Input::Bytes(done)
+    BytesRead::Bytes(done)
 }
 
 // One read whose bytes are not kept; whether to go on.

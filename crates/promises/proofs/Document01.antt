@@ -47,6 +47,9 @@ pub sizes-ranged : document.SizesRanged
 unfolding inRange rangeOf ranges
 sizes-ranged = (λ z. refl, (λ z. refl, λ z. refl))
 
+pub steps-are-powers : document.StepsArePowers
+steps-are-powers P = (refl, refl)
+
 pub forms-ranged : document.FormsRanged
 unfolding inRange rangeOf ranges
 forms-ranged = (λ z. refl, (λ z. refl, (λ z. refl, (λ z. refl, λ z. refl))))
@@ -66,6 +69,9 @@ long-enough I h =
 
 pub lengths-asked : document.LengthsAsked
 lengths-asked I = (long-of I, long-enough I)
+
+pub used-row-after-row : document.UsedRowAfterRow
+used-row-after-row I i j = ((refl, refl), (refl, (refl, (refl, refl))))
 
 pub rest-not-read : document.RestNotRead
 rest-not-read I J r r′ E L E′ L′ a x y = (

@@ -1,7 +1,14 @@
 -- The theorems for specs/Words01, a theorem for each statement.
+use mathlib.Core.List.{List, [], append-nil}
+use mathlib.Core.Path.{refl, subst}
+use Prim.Native.Nat.{ℕ, _<_}
+use lib.ListN.{getD}
 use Rattle.linear.specs.Matrix.{apply, product}
 use Rattle.enclosure.specs.Demand.{sumOfMagnitudes}
 use Rattle.enclosure.specs.Reckoning.{rowSum}
+use Rattle.line_numeral.specs.Decimal.{decimal, numeral}
+use Rattle.line_numeral.proofs.Decimal.{decimal-small, decimal-next}
+use Rattle.line_numeral.proofs.Digits.{first-digit}
 use Rattle.listing.proofs.Table.{whole-spelled}
 use Rattle.promises.specs.Words01 as words
 use Rattle.promises.proofs.Demands.{accepted-encloses}
@@ -37,6 +44,16 @@ rounded-means P N q H q′ = (
     small = h .1 .1 .1 .1 .1 .1;
   },
 )
+
+pub numbers-spelled : words.NumbersSpelled
+unfolding numeral
+numbers-spelled = (
+  decimal-small,
+  (decimal-next, (λ n h. subst (λ (l : List ℕ). 48 < getD l 0 0) (append-nil (decimal n)) (first-digit n [] h .0), λ n. refl)),
+)
+
+pub places-ranged : words.PlacesRanged
+places-ranged n p i = refl
 
 pub whole-file-spelled : words.WholeFileSpelled
 whole-file-spelled = whole-spelled

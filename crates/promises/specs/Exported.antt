@@ -1,6 +1,6 @@
 -- The calls for C: a number and two places that stand for what is said (`ReplyIs`), and the promises above for each entry point. The contracts of
--- the other calls for C (calls_spec/specs: `EntryExported`, `BuildExported`, `SearchExported`, `GuessesExported`, `IntervalsExported`, `DependentExported`, `CommonExported`,
--- `QualityExported`, `ConvertExported`) have the contract that the papers' statements are over as a field.
+-- the other calls for C (calls_spec/specs: `EntryExported`, `BuildExported`, `SearchExported`, `GuessesExported`, `IntervalsExported`, `DependentExported`,
+-- `CommonExported`, `QualityExported`, `ConvertExported`) have the contract that the papers' statements are over as a field.
 use mathlib.Core.Bool.{true, false}
 use mathlib.Core.List.{List}
 use mathlib.Core.Path.{_≡_}

@@ -1,16 +1,23 @@
 -- Sentences of document 01 that say what a word means, each above the statement that says it, and its whole file and cases. The others stand in
 -- specs/Document01 and specs/Lines01.
-use mathlib.Core.List.{[], _∷_, map}
+use mathlib.Core.Bool.{_&&_}
+use mathlib.Core.List.{[], _∷_, _++_, map}
 use mathlib.Core.Logic.{_↔_}
 use mathlib.Core.Path.{_≡_}
-use Prim.Native.Nat.{ℕ, _*_, _≤_, _<_}
-use lib.IntN.{pos, negsuc, natAbs, _-ℤ_, _*ℤ_}
+use Prim.Native.Nat.{ℕ, suc, _+_, _*_, _/_, _%_, _≤_, _<_}
+use lib.IntN.{ℤ, pos, negsuc, natAbs, _-ℤ_, _*ℤ_}
+use lib.ListN.{getD}
+use lib.Signed.{leZ}
 use Rattle.integer.specs.Finite.{sum, sumℕ}
 use Rattle.linear.specs.Matrix.{Vec, Mat, identity}
 use Rattle.enclosure.specs.Demand.{ExactSolution, ExactInverse, TwoSided, NoTolerance, RoundedExact}
 use Rattle.enclosure.specs.Problem.{Problem, S, T}
+use Rattle.line_numeral.specs.Decimal.{numeral}
 use Rattle.line_form.specs.Form.{problem, scale, row, right, guess, inverse, weight, end}
 use Rattle.line_form.specs.Spelling.{spell}
+use Rattle.loader_values.specs.Item.{placed}
+use Rattle.loader_values.specs.declared.Item.the-variants.{Of}
+use Rattle.loader_values.specs.declared.Part.{Part}
 use Rattle.loader_runs.specs.Lines.{linesOf}
 use Rattle.listing.specs.Cases.{wholeFile}
 use Rattle.promises.specs.Ways.{Accepted}
@@ -54,6 +61,18 @@ RoundedMeans =
     × (((i : ℕ) → i < P .n → P .w i ≡ 1) × (sumℕ (P .n) (λ (i : ℕ). sumℕ (P .n) (λ (j : ℕ). natAbs (P .A i j))) < 2 * T P)))))))
 
 -- ---- The file, and A whole file
+-- "A number is 0, or digits without a leading 0, with a minus before it where negative; −0 is no number": what `spell` writes of a number. 48 to 57 are the digits, 45 is
+-- the minus; no digits begin with 0 but those of 0, which has no minus
+abbrev pub NumbersSpelled : Type 0
+NumbersSpelled =
+    ((n : ℕ) → n < 10 → numeral (pos n) ≡ (48 + n) ∷ [])
+    × (((n : ℕ) → 10 ≤ n → numeral (pos n) ≡ numeral (pos (n / 10)) ++ ((48 + n % 10) ∷ []))
+    × (((n : ℕ) → 1 ≤ n → 48 < getD (numeral (pos n)) 0 0) × ((n : ℕ) → numeral (negsuc n) ≡ 45 ∷ numeral (pos (suc n)))))
+
+-- "i is 1 to n" (`placed`; else 3, `OutsideIs3` of Lines01)
+abbrev pub PlacesRanged : Type 0
+PlacesRanged = (n : ℕ) (p : Part) (i : ℤ) → placed n (Of p i) ≡ leZ (pos 1) i && leZ i (pos n)
+
 -- "(problem n), (scale s t), (row i (a .. a)), (right i b), (guess i X), (inverse i (g .. g)), (weight i w), (end)": `spell` has each for any numbers. Here
 -- "(problem 2), (scale 4 4), (row 1 (4 -1)), (row 2 (-1 3)), (right 1 5), (right 2 1), (guess 1 23), (guess 2 13), (inverse 1 (4 1)), (inverse 2 (1 6)),
 -- (weight 1 1), (weight 2 1), (end), a line each"

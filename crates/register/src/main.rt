@@ -4,7 +4,7 @@ ghost use mathlib.Core.Path.{_≡_};
 ghost use Rattle.listing.specs.Listing.{listingOf};
 use libc::STDERR_FILENO;
 use libc::STDOUT_FILENO;
-use program_input::Input;
+use program_input::BytesRead;
 use program_input::fill;
 use program_input::skip_rest;
 
@@ -34,8 +34,8 @@ fn main() {
     let mut text = io::large_buffer();
     let input = fill(&mut text);
     match input {
-        Input::Failed => report(b"register: the input could not be read\n"),
-        Input::Bytes(n) => {
+        BytesRead::Failed => report(b"register: the input could not be read\n"),
+        BytesRead::Bytes(n) => {
             if skip_rest() {
                 print_listing(text, n);
             } else {

@@ -9,7 +9,7 @@ use rules::Outcome;
 pub const UNWRITTEN: u64 = 1152921504606846977;
 
 // The outcome is that of the line taken last.
-pub struct Held {
+pub struct Loaded {
     pub loader: Loader,
     pub matrix: [i64; 1024],
     pub right: [i64; 32],
@@ -21,7 +21,7 @@ pub struct Held {
 }
 
 // What a check answered, and the limit lists after it.
-pub struct Checked {
+pub struct Limits {
     pub outcome: Outcome,
     pub solution: [u64; 32],
     pub inverse: [u64; 1024],
@@ -39,10 +39,10 @@ pub fn marked_matrix() -> [i64; 1024]
     [-7; 1024]
 }
 
-pub fn fresh() -> Held {
+pub fn fresh() -> Loaded {
     let matrix = marked_matrix();
     let list = marked();
-    Held {
+    Loaded {
         loader: Loader::new(),
         matrix,
         right: list,
@@ -86,7 +86,7 @@ pub fn less_where(n: usize, short: bool) -> usize
 }
 
 // Takes a line; of the lists 0 to 5 the one named is too short.
-pub fn taken(held: Held, line: &[u8], short: u8) -> Held {
+pub fn taken(held: Loaded, line: &[u8], short: u8) -> Loaded {
     let loader = held.loader;
     let held_matrix = held.matrix;
     let held_right = held.right;
@@ -117,7 +117,7 @@ pub fn taken(held: Held, line: &[u8], short: u8) -> Held {
     );
     let outcome = taken.outcome;
     let next = taken.loader;
-    Held {
+    Loaded {
         loader: next,
         matrix,
         right,
@@ -130,7 +130,7 @@ pub fn taken(held: Held, line: &[u8], short: u8) -> Held {
 }
 
 // A check through the loader, with a solution limit list that is long enough or too short.
-pub fn checked_through(held: Held, short: bool) -> Checked {
+pub fn checked_through(held: Loaded, short: bool) -> Limits {
     let loader = held.loader;
     let matrix = held.matrix;
     let right = held.right;
@@ -151,7 +151,7 @@ pub fn checked_through(held: Held, short: bool) -> Checked {
         &mut solution_bounds[..k],
         &mut inverse_bounds,
     );
-    Checked {
+    Limits {
         outcome,
         solution: solution_bounds,
         inverse: inverse_bounds,
@@ -159,7 +159,7 @@ pub fn checked_through(held: Held, short: bool) -> Checked {
 }
 
 // A check on the lists.
-pub fn checked_on_lists(held: Held, n: u32, s: u32, t: u32) -> Checked {
+pub fn checked_on_lists(held: Loaded, n: u32, s: u32, t: u32) -> Limits {
     let matrix = held.matrix;
     let right = held.right;
     let tolerance = held.tolerance;
@@ -181,7 +181,7 @@ pub fn checked_on_lists(held: Held, n: u32, s: u32, t: u32) -> Checked {
         &mut solution_bounds,
         &mut inverse_bounds,
     );
-    Checked {
+    Limits {
         outcome,
         solution: solution_bounds,
         inverse: inverse_bounds,

@@ -14,7 +14,7 @@
 ghost use mathlib.Core.Path.{_≡_};
 ghost use lib.ListN.{length};
 use building::print_build;
-use held::Held;
+use held::Loaded;
 use held::fresh;
 use held::taken;
 use libc::STDERR_FILENO;
@@ -61,7 +61,7 @@ fn run(text: &[u8]) {
     }
 }
 
-fn entry(held: Held, text: &[u8]) -> Held {
+fn entry(held: Loaded, text: &[u8]) -> Loaded {
     if 1 < text.len() {
         if text[0] == 254 {
             return command(held, text[1], &text[2..]);
@@ -70,14 +70,14 @@ fn entry(held: Held, text: &[u8]) -> Held {
     print_taken(held, text, b'-')
 }
 
-fn print_taken(held: Held, line: &[u8], short: u8) -> Held {
+fn print_taken(held: Loaded, line: &[u8], short: u8) -> Loaded {
     let next = taken(held, line, short);
     let outcome = next.outcome;
     print_answer(outcome);
     next
 }
 
-fn command(held: Held, name: u8, rest: &[u8]) -> Held {
+fn command(held: Loaded, name: u8, rest: &[u8]) -> Loaded {
     if name == b'n' {
         return fresh();
     }

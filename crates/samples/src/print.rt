@@ -1,5 +1,5 @@
 // Answers, lists and numbers on standard output.
-use crate::held::Checked;
+use crate::held::Limits;
 use crate::held::UNWRITTEN;
 use libc::STDOUT_FILENO;
 use rules::Outcome;
@@ -94,7 +94,7 @@ fn print_bound(bound: u64) {
 
 // An answer, and the first limits of both lists, each list after its name.
 pub fn print_checked(
-    checked: Checked,
+    checked: Limits,
     solution_name: &[u8],
     solutions: usize,
     inverse_name: &[u8],

@@ -1,5 +1,5 @@
 // Commands on what is held: its lists, and checks of them.
-use crate::held::Held;
+use crate::held::Loaded;
 use crate::held::checked_on_lists;
 use crate::held::checked_through;
 use crate::print::print_answer;
@@ -7,7 +7,7 @@ use crate::print::print_checked;
 use crate::print::print_column;
 use crate::print::print_matrix;
 
-pub fn print_of(held: Held, name: u8, rest: &[u8]) {
+pub fn print_of(held: Loaded, name: u8, rest: &[u8]) {
     match name {
         b'p' => print_list_of(held, byte(rest, 0)),
         b'c' => print_through(held),
@@ -29,7 +29,7 @@ fn number(x: u8) -> u32 {
     x as u32
 }
 
-fn print_list_of(held: Held, which: u32) {
+fn print_list_of(held: Loaded, which: u32) {
     match which {
         0 => {
             let matrix = held.matrix;
@@ -58,7 +58,7 @@ fn print_list_of(held: Held, which: u32) {
     }
 }
 
-fn print_through(held: Held) {
+fn print_through(held: Loaded) {
     print_checked(
         checked_through(held, false),
         b" solution",
@@ -68,13 +68,13 @@ fn print_through(held: Held) {
     );
 }
 
-fn print_short(held: Held) {
+fn print_short(held: Loaded) {
     let checked = checked_through(held, true);
     let outcome = checked.outcome;
     print_answer(outcome);
 }
 
-fn print_on_lists(held: Held, n: u32, s: u32, t: u32) {
+fn print_on_lists(held: Loaded, n: u32, s: u32, t: u32) {
     print_checked(
         checked_on_lists(held, n, s, t),
         b"; solution",

@@ -24,7 +24,7 @@ from common.systems.timed import halves_up
 
 # What a check answers.
 ANSWERS = (0, 3, 5, 6, 7, 8)
-# A damaged system that may be reckoned, and one that mutants reckon too, has at most so many equations: reckoning takes its time.
+# A damaged system whose limits may be computed, and one of which mutants compute them too, has at most so many equations: it takes its time.
 MOST_DAMAGED = 10
 DAMAGES = 6
 # So many systems of shapes, each shape in its turn, and in the self-test so many others.
@@ -59,7 +59,7 @@ def made(rng, matrix_of):
 
 def heavy_matrix(rng, n, large):
     """A symmetric matrix with numbers small beside the diagonal."""
-    return usual.mirrored([[large + rng.randint(0, large) if i == j else rng.randint(-large // n, large // n) for j in range(n)] for i in range(n)])
+    return usual.made_symmetric([[large + rng.randint(0, large) if i == j else rng.randint(-large // n, large // n) for j in range(n)] for i in range(n)])
 
 
 def symmetric_matrix(rng, n):
@@ -68,7 +68,7 @@ def symmetric_matrix(rng, n):
 
 def symmetric(rng, n):
     net = made(rng, lambda: symmetric_matrix(rng, n))
-    return net.with_(inverse=usual.mirrored(net.inverse))
+    return net.with_(inverse=usual.made_symmetric(net.inverse))
 
 
 def a_pair(rng, n):
@@ -92,7 +92,7 @@ def off_in_matrix(rng, n, is_below):
         i, j = a_pair(rng, n)
         off = moved(rng, matrix, *((i, j) if is_below else (j, i)))
         net, near = proposed(rng, off, t, halves_up), proposed(rng, matrix, t, rng.choice(ROUNDINGS))
-        return net and near and net.with_(inverse=usual.mirrored(near.inverse))
+        return net and near and net.with_(inverse=usual.made_symmetric(near.inverse))
 
     return usual.repeated(attempt)
 
@@ -145,7 +145,7 @@ def limits_of_each_kind(rng, n, is_symmetric):
         net = usual.proposal(rng, matrix, s, t, right, [rng.randint(1, 2) for _ in matrix], usual.within_a_step)
         if net is None:
             return None
-        net = net.with_(inverse=usual.mirrored(net.inverse)) if is_symmetric else net
+        net = net.with_(inverse=usual.made_symmetric(net.inverse)) if is_symmetric else net
         order = rng.sample(range(n), n)
         return relabelled(direct_sum([one(rng, s, t, exact), net, one(rng, s, t, inexact)]), order, order)
 

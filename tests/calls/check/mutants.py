@@ -1,4 +1,4 @@
-"""Mutants of the reckoning, by name. RECKONED break one rule of document 01 each, and the files must detect them (calls/listing); MUTANTS go wrong where the
+"""Mutants of the reckoning, by name. COMPUTED break one rule of document 01 each, and the files must detect them (calls/listing); MUTANTS go wrong where the
 shape of matrix and inverse matters: whether both are symmetric, which numbers are 0, and whether a column's limits are 0, 1 or above; ON_LISTS test the lengths
 and ranges of a call otherwise."""
 
@@ -59,7 +59,7 @@ def highest_margin(self, margins):
     return (rows[-1],) if rows else None
 
 
-RECKONED = {
+COMPUTED = {
     "A·G for G·A": changed_system("defect", A=lambda system: system.G, G=lambda system: system.A),
     "margin 0 good": reckoning(is_margin_good=lambda self, margin: margin >= 0),
     "margin of a sum's absolute value": margins_by(lambda T, w, m, row: T * w[m] - abs(sum(d * x for d, x in zip(row, w)))),
@@ -146,7 +146,7 @@ class Mirroring(Reckoning):
         return [self.bounds_of_sizes(system, column, margins) for column in half]
 
 
-def mirroring(defect, half):
+def reading_symmetric(defect, half):
     parts = {"reads_defect": lambda self, system: defect(system), "reads_half": lambda self, system: half(system)}
     return type("Mutant", (Mirroring,), parts)
 
@@ -161,9 +161,9 @@ def bounds_by(rule):
     return reckoning(bounds=bounds)
 
 
-def flat_where(is_flat):
-    """Limits of 1, or of 0 where every size is 0, where is_flat(weights, sizes, margins)."""
-    return bounds_by(lambda w, sizes, margins: [int(any(sizes))] * len(w) if is_flat(w, sizes, margins) else None)
+def within_caps_where(is_within_caps):
+    """Limits of 1, or of 0 where every size is 0, where is_within_caps(weights, sizes, margins)."""
+    return bounds_by(lambda w, sizes, margins: [int(any(sizes))] * len(w) if is_within_caps(w, sizes, margins) else None)
 
 
 def all_below(weight):
@@ -171,8 +171,8 @@ def all_below(weight):
     return lambda w, sizes, margins: all(weight(w) * p <= g for p, g in zip(sizes, margins))
 
 
-def steepest_by(product):
-    """Limits of the row that is steepest by products as they come out."""
+def largest_ratio_by(product):
+    """Limits of the row whose ratio is largest by products as they come out."""
 
     def rule(w, sizes, margins):
         best = 0
@@ -198,28 +198,28 @@ class LastPassedOver(Reckoning):
 
 # Other ways to the same numbers.
 AGREEING = {
-    "read where both are symmetric": mirroring(of_both, of_both),
-    "flat by the largest weight": flat_where(all_below(max)),
-    "products of any size": steepest_by(lambda p, g: p * g),
+    "read where both are symmetric": reading_symmetric(of_both, of_both),
+    "capped by the largest weight": within_caps_where(all_below(max)),
+    "products of any size": largest_ratio_by(lambda p, g: p * g),
 }
 
 MUTANTS = {
-    "symmetry taken for granted": mirroring(always, always),
-    "A alone compared": mirroring(of_matrix, of_matrix),
-    "G alone compared": mirroring(of_inverse, of_inverse),
-    "D read where A is symmetric": mirroring(of_matrix, of_both),
-    "D read where G is symmetric": mirroring(of_inverse, of_both),
-    "half of p where A is symmetric": mirroring(of_both, of_matrix),
-    "half of p where G is symmetric": mirroring(of_both, of_inverse),
-    "half of p for every proposal": mirroring(of_both, always),
-    "the last row not compared": mirroring(*[without(lambda n, i, j: i == n - 1)] * 2),
-    "the first column not compared": mirroring(*[without(lambda n, i, j: j == 0)] * 2),
-    "numbers beside the diagonal not compared": mirroring(*[without(lambda n, i, j: j == i - 1)] * 2),
-    "the last row alone compared": mirroring(*[without(lambda n, i, j: i < n - 1)] * 2),
-    "flat by the smallest weight": flat_where(all_below(min)),
-    "flat by the first weight": flat_where(all_below(lambda w: w[0])),
-    "flat where the last row is": flat_where(lambda w, sizes, margins: max(w) * sizes[-1] <= margins[-1]),
-    "flat where one row is": flat_where(lambda w, sizes, margins: any(max(w) * p <= g for p, g in zip(sizes, margins))),
+    "symmetry taken for granted": reading_symmetric(always, always),
+    "A alone compared": reading_symmetric(of_matrix, of_matrix),
+    "G alone compared": reading_symmetric(of_inverse, of_inverse),
+    "D read where A is symmetric": reading_symmetric(of_matrix, of_both),
+    "D read where G is symmetric": reading_symmetric(of_inverse, of_both),
+    "half of p where A is symmetric": reading_symmetric(of_both, of_matrix),
+    "half of p where G is symmetric": reading_symmetric(of_both, of_inverse),
+    "half of p for every proposal": reading_symmetric(of_both, always),
+    "the last row not compared": reading_symmetric(*[without(lambda n, i, j: i == n - 1)] * 2),
+    "the first column not compared": reading_symmetric(*[without(lambda n, i, j: j == 0)] * 2),
+    "numbers beside the diagonal not compared": reading_symmetric(*[without(lambda n, i, j: j == i - 1)] * 2),
+    "the last row alone compared": reading_symmetric(*[without(lambda n, i, j: i < n - 1)] * 2),
+    "capped by the smallest weight": within_caps_where(all_below(min)),
+    "capped by the first weight": within_caps_where(all_below(lambda w: w[0])),
+    "capped where the last row is": within_caps_where(lambda w, sizes, margins: max(w) * sizes[-1] <= margins[-1]),
+    "capped where one row is": within_caps_where(lambda w, sizes, margins: any(max(w) * p <= g for p, g in zip(sizes, margins))),
     "1 for a column of zeros": bounds_by(lambda w, sizes, margins: None if any(sizes) else [1] * len(w)),
     "0 where the last size is 0": bounds_by(lambda w, sizes, margins: None if sizes[-1] else [0] * len(w)),
     "the last number of a row passed over": LastPassedOver,

@@ -206,7 +206,7 @@ class Reckoning:
         return self.bounds_of_sizes(system, self.sizes(system, residuals, slacks), margins)
 
     def bounds_of_sizes(self, system, sizes, margins):
-        """01: the largest over all rows m of w_i·|p_m| / g_m, each rounded up to a whole number. Equal weights have equal limits, reckoned once."""
+        """01: the largest over all rows m of w_i·|p_m| / g_m, each rounded up to a whole number. Equal weights have equal limits, computed once."""
         largest = {w: max(rounded_up(w * p, g) for p, g in zip(sizes, margins)) for w in set(system.w)}
         return [largest[w] for w in system.w]
 

@@ -136,7 +136,7 @@ def range_coverage(call, answer):
         yield "C too short"
 
 
-def reckoned(call, main):
+def computed(call, main):
     """E1, C as rows, and residuals, slacks and row sums of the dependent net."""
     nets = call.nets()
     rows = DependentCheck().rows(nets)
@@ -145,10 +145,10 @@ def reckoned(call, main):
     return main.solution, rows, reckoning.guess_residual(system), reckoning.slacks(system), Reckoning.guess_sums(reckoning, system)
 
 
-def reckoned_coverage(call, answer, main):
-    """What a call meets whose dependent net is reckoned."""
+def computed_coverage(call, answer, main):
+    """What a call meets whose dependent net is computed."""
     number = answer.refusal.number if isinstance(answer, NetRefusal) else 0
-    E1, rows, residuals, slacks, sums = reckoned(call, main)
+    E1, rows, residuals, slacks, sums = computed(call, main)
     sizes = [abs(r) + slack for r, slack in zip(residuals, slacks)]
     far = max(E1) > RESIDUAL + 1
     if number == 7:
@@ -188,7 +188,7 @@ def coverage(sent, answer):
     if isinstance(main, Bounds):
         yield from range_coverage(call, answer)
         if not (is_refused and answer.refusal.number in (3, 8)):
-            yield from reckoned_coverage(call, answer, main)
+            yield from computed_coverage(call, answer, main)
 
 
 def differs_alone(call, answer):
@@ -198,7 +198,7 @@ def differs_alone(call, answer):
     main = main_answer(call, answer)
     if isinstance(main, Refusal):
         return False
-    _, _, residuals, _, sums = reckoned(call, main)
+    _, _, residuals, _, sums = computed(call, main)
     alone = check(call.nets().dependent)
     said = answer.refusal if isinstance(answer, NetRefusal) else answer.dependent
     is_near = all(abs(r) <= most for r, most in zip(residuals, sums))
@@ -213,22 +213,22 @@ def faults(index, sent, answer):
         yield from joint.faults(random.Random(index), sent.pair, answer)
 
 
-def reckon(oracle, sent):
+def answer_of(oracle, sent):
     return oracle.check(sent.call.nets(), sent.call.lengths())
 
 
 def is_left(mutant, sent, answer):
     """Whether a mutant accepts the pair with limits that a joint solution leaves."""
-    own = reckon(mutant, sent) if sent.pair else answer
+    own = answer_of(mutant, sent) if sent.pair else answer
     return own != answer and not isinstance(own, NetRefusal) and any(joint.faults(random.Random(1), sent.pair, own))
 
 
 SUITE = Suite(
     count=1460, tested_count=480, generate=generate, calls=calls, coverage=coverage, required=REQUIRED, faults=faults,
     answers={"kodarfi_check_dependent": ANSWERS},
-    answer=lambda sent: reckon(DependentCheck(), sent),
+    answer=lambda sent: answer_of(DependentCheck(), sent),
     mutants=(
-        (MUTANTS, lambda mutant, sent, answer: reckon(mutant, sent) != answer),
+        (MUTANTS, lambda mutant, sent, answer: answer_of(mutant, sent) != answer),
         ({f"{name}, by joint solutions": MUTANTS[name] for name in UNSOUND}, is_left),
     ),
 )

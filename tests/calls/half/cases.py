@@ -23,14 +23,14 @@ MOST_DAMAGED = 10
 
 
 def symmetric(rng, n):
-    return usual.repeated(lambda: usual.made(rng, usual.mirrored(usual.general_matrix(rng, n))))
+    return usual.repeated(lambda: usual.made(rng, usual.made_symmetric(usual.general_matrix(rng, n))))
 
 
 def coarse(rng, n):
     """Few equations with coarse steps, so that margins lie near 0."""
 
     def attempt():
-        matrix = usual.mirrored([[rng.randint(-4, 4) for _ in range(n)] for _ in range(n)])
+        matrix = usual.made_symmetric([[rng.randint(-4, 4) for _ in range(n)] for _ in range(n)])
         right = [rng.randint(-20, 20) for _ in range(n)]
         return usual.proposed(rng, matrix, rng.randint(0, 5), rng.randint(0, 6), right, [rng.randint(1, 3) for _ in range(n)])
 
@@ -60,7 +60,7 @@ def off_in_matrix(rng, n):
 def off_in_inverse(rng, n):
     """A symmetric system whose inverse is symmetric but for one number."""
     net = usual.levelling(rng, n)
-    moved = net.with_(inverse=one_off(rng, usual.mirrored(net.inverse), rng.choice((1, 1, 1, 8, 256))))
+    moved = net.with_(inverse=one_off(rng, usual.made_symmetric(net.inverse), rng.choice((1, 1, 1, 8, 256))))
     return moved if moved.is_in_range() else net
 
 

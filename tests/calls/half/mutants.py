@@ -52,12 +52,12 @@ def n_last(problem, lengths, right):
     return Refusal(5, (1,)) if right == Refusal(3) and not is_within("problem", [problem.n]) else right
 
 
-def mirrored_inverse(self, problem):
+def symmetric_inverse(self, problem):
     n = problem.n
     return check(problem._replace(inverse=self.filled_out(n, lower_half(n, problem.inverse))))
 
 
-def mirrored_bounds(problem, lengths, right):
+def symmetric_bounds(problem, lengths, right):
     """The limits of the inverse by their lower half."""
     if not isinstance(right, Bounds):
         return right
@@ -84,6 +84,6 @@ MUTANTS = {
     "the half's ranges not tested": entry(square=lambda self, problem: check(problem._replace(matrix=[min(max(a, -(2**20)), 2**20) for a in problem.matrix]))),
     "n before the lengths": answered(lambda problem, lengths, right: right if is_within("problem", [problem.n]) else Refusal(3)),
     "n out of range looked at": answered(n_last),
-    "the inverse by its lower half": entry(square=mirrored_inverse),
-    "the inverse's limits by their lower half": answered(mirrored_bounds),
+    "the inverse by its lower half": entry(square=symmetric_inverse),
+    "the inverse's limits by their lower half": answered(symmetric_bounds),
 }

@@ -20,7 +20,7 @@ from common.replayed import Made, said, text, written
 from common.rules import Refusal
 from common.suite import NEVER, Suite
 
-# Of the whole files of the sequence one in so many is written: the damaged ones are read, the whole ones reckoned too, which takes longer.
+# Of the whole files of the sequence one in so many is written: the damaged ones are read, the whole ones computed too, which takes longer.
 WHOLE_ONE_IN = 7
 # The bytes that a listing is written into.
 LONGEST = 32768
@@ -210,7 +210,7 @@ def faults(index, case, answer):
 
 
 def reads_otherwise(mutant, case, answer):
-    """It need not reckon where it has read the same."""
+    """It need not compute where it has read the same."""
     read = mutant.load(case.file)
     return read != answer.loaded and mutant.printed(read) != answer.listing
 

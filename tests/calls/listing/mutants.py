@@ -6,7 +6,7 @@ from dataclasses import replace
 from math import inf
 from operator import mul
 
-from calls.check.mutants import RECKONED, reckoning as reckoning_class, residuals_by, steepest_by
+from calls.check.mutants import COMPUTED, reckoning as reckoning_class, residuals_by, largest_ratio_by
 from calls.check.oracle import LARGEST_RESIDUAL, Reckoning, times, transposed
 from calls.entry.mutants import MUTANTS as ENTERED
 from calls.listing.oracle import WITH_LINE, Program
@@ -115,7 +115,7 @@ SLACKENED = {
     "slacks with the signs of G": carried_by(lambda row, m, slacks: abs(sum(map(mul, row, slacks)))),
     "slack of its own row alone": carried_by(lambda row, m, slacks: abs(row[m]) * slacks[m]),
     "slack not carried by G": carried_by(lambda row, m, slacks: slacks[m]),
-    "the steepest row by products of 64 bits": dict(reckoning=steepest_by(lambda p, g: p * g % 2**64)),
+    "the largest ratio by products of 64 bits": dict(reckoning=largest_ratio_by(lambda p, g: p * g % 2**64)),
     "p and slack in one size": reckoning(sizes=lambda self, system, residuals, slacks: [abs(p + q) for p, q in zip(times(system.G, residuals), self.carried(system, slacks))]),
     "slack in the columns of the inverse": reckoning(column_slacks=Reckoning.slacks),
     "slack in the limits of the columns alone": reckoning(bounds_of_columns=lambda self, system, columns, margins: [self.bounds(system, column, self.slacks(system), margins) for column in columns]),
@@ -232,7 +232,7 @@ def programs(*tables):
 
 
 READING = programs(of_loader.READING, TOLERATED, OWN)
-PRINTING = programs({name: dict(reckoning=reckoned) for name, reckoned in RECKONED.items()}, ENTERED, SLACKENED, HELD, ORDERED)
+PRINTING = programs({name: dict(reckoning=computed) for name, computed in COMPUTED.items()}, ENTERED, SLACKENED, HELD, ORDERED)
 
 
 def by_statements():

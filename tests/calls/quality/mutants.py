@@ -3,7 +3,7 @@
 from functools import partial
 from math import gcd
 
-from calls.check.mutants import RECKONED
+from calls.check.mutants import COMPUTED
 from calls.quality.oracle import FULL, Factor, Quality
 from common.format import is_within
 from common.rules import Refusal
@@ -85,11 +85,11 @@ MUTANTS = {
     "numerator and denominator exchanged": changed(lambda factor: Factor(factor.denominator, factor.numerator)),
     "T·w without the load": changed(lambda factor: Factor((factor.numerator + factor.denominator) // 2, factor.denominator)),
     "the load without T·w": changed(lambda factor: Factor((factor.numerator - factor.denominator) // 2, factor.denominator)),
-    "A·G for G·A": rating(reckoning=RECKONED["A·G for G·A"]),
-    "sums with sign": rating(reckoning=RECKONED["margin of a sum's absolute value"]),
+    "A·G for G·A": rating(reckoning=COMPUTED["A·G for G·A"]),
+    "sums with sign": rating(reckoning=COMPUTED["margin of a sum's absolute value"]),
     "weights of 1": rating(rows=lambda self, inquiry: Quality.rows(self, inquiry._replace(weights=[1] * inquiry.n))),
-    "a margin of 0 good": rating(reckoning=RECKONED["margin 0 good"]),
-    "5 with the last row": rating(reckoning=RECKONED["highest failing margin"]),
+    "a margin of 0 good": rating(reckoning=COMPUTED["margin 0 good"]),
+    "5 with the last row": rating(reckoning=COMPUTED["highest failing margin"]),
     "5 counted from 0": said_by(lambda said: Refusal(5, (said.values[0] - 1,)) if said.number == 5 else said),
     "5 without a row": said_by(lambda said: Refusal(said.number)),
     "a weight of 0 taken": ranged("weights", 0, 1024),

@@ -2,7 +2,7 @@
 
 from functools import partial
 
-from calls.check.mutants import RECKONED, reckoning
+from calls.check.mutants import COMPUTED, reckoning
 from calls.check.oracle import Reckoning
 from calls.weights.oracle import FULL, Found, WeightSearch
 from common.format import is_within
@@ -80,7 +80,7 @@ MUTANTS = {
     "one list more": within(1),
     "one list less": within(-1),
     "2 everywhere first": search(first=lambda self, n: [2] * n),
-    "A·G for G·A": search(reckoning=RECKONED["A·G for G·A"]),
+    "A·G for G·A": search(reckoning=COMPUTED["A·G for G·A"]),
     "T·I + G·A": search(reckoning=reckoning(defect=lambda self, system: Reckoning.defect(self, system._replace(G=[[-g for g in row] for row in system.G])))),
     "an allowance of 0 taken": ranged(0, 64),
     "an allowance of 65 taken": ranged(1, 65),

@@ -20,7 +20,7 @@ def levelling_matrix(rng, n, heaviest):
     return frozen([built.matrix[i * n : i * n + n] for i in range(n)])
 
 
-def mirrored(matrix):
+def made_symmetric(matrix):
     """A matrix with each number above the diagonal that below it."""
     places = range(len(matrix))
     return frozen([[matrix[max(i, j)][min(i, j)] for j in places] for i in places])
