@@ -31,7 +31,7 @@ quotient-less Q R G q r g h l = omega (arith, mul-le-mul-right (g * G) l, mul-le
 quotient-same : (Q R G q r g : ℕ) → Q ≡ q → R * g ≤ r * G → (Q * G + R) * g ≤ (q * g + r) * G
 quotient-same Q R G q r g e h = rw e (omega arith)
 
--- which of two rows is steeper
+-- which of two rows has the larger ratio
 module _ (k P G m p g : ℕ) (hG : 0 < G) (hg : 0 < g) where
   whole : (x y : ℕ) → x / y * y + x % y ≡ x
   whole x y = div-add-mod' x y

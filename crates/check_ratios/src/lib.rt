@@ -130,7 +130,7 @@ fn bound_of(w: i64, p: u64, g: u64) -> u64
     ceil_div(magnitude(w) * p, g)
 }
 
-// The limits of a column by its steepest row.
+// The limits of a column by the row with the largest ratio.
 fn ratio_bounds(magnitudes: &[u64; 32], margins: &[u64; 32], weights: &[i64], n: usize) -> [u64; 32]
     requires { ⌜ (0 < n) × (n ≤ 32) ⌝ }
     requires { ⌜ Bounded (now magnitudes) n ⌝ }

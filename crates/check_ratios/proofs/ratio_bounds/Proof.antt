@@ -20,7 +20,7 @@ Inv-loop magnitudes margins weights n k p g out₀ i₀ out i =
 abbrev μ-loop : tie.MeasureT-loop
 μ-loop magnitudes margins weights n k p g out₀ i₀ out i = n - i
 
--- after the search of the steepest row
+-- after the search of the row with the largest ratio
 abbrev at-largest-ratio : tie.In-loop Inv-loop μ-loop → tie.After-largest-ratio-of Inv-loop μ-loop
 at-largest-ratio t = t .before .before .before .before
 
