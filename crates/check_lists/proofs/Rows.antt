@@ -1,15 +1,16 @@
 -- The biased rows of the inverse stand for it.
 --   inverse-rows — they are what the reckoning asks
 --   margins-are  — margins of a problem without a guess are the problem's
---   workColumn W — the residuals of the inverse, column after column;  columns-are — those from the rows are these
+--   workColumn W — the residuals of the inverse, column after column;  columns-are — those from the rows are these;  columns-within — their magnitudes
 --   magnitudes-are — magnitudes from the rows, of residuals and slacks that agree on the first n, are the problem's
 use mathlib.Core.Path.{_≡_}
 use mathlib.Core.List.{List, []}
-use Prim.Native.Nat.{ℕ, _+_, _*_, _/_, _%_, _<_}
+use Prim.Native.Nat.{ℕ, _+_, _*_, _/_, _%_, _<_, _≤_, _^_}
 use lib.IntN.{ℤ, pos}
+use lib.ListN.{length}
 use Rattle.linear.specs.Matrix.{Vec}
 use Rattle.linear.specs.Slice.{matrixOf}
-use Rattle.linear.specs.Reach.{MatrixList}
+use Rattle.linear.specs.Reach.{ColumnList, MatrixList}
 use Rattle.linear.proofs.Places.{place}
 use Rattle.linear.proofs.Slack.{slack-ext}
 use Rattle.check_biased_rows.specs.Biased.{unbiasedRows}
@@ -21,6 +22,7 @@ use Rattle.check_arrays.specs.Parts.{rowsPart, columnResidual, cutMargin}
 use Rattle.check_arrays.specs.Rows.{InverseRows}
 use Rattle.check_arrays.proofs.Columns.{in-square}
 use Rattle.check_arrays.proofs.Filled.{prefix-as}
+use Rattle.check_arrays.proofs.Magnitudes.{residual-magnitude}
 use Rattle.check_defects.proofs.Product.{residual-of-rows}
 use Rattle.check_bounds.specs.Limits.{inversePart}
 use Rattle.check_lists.specs.Work.{Work, workProblem}
@@ -37,6 +39,17 @@ module _ (n : ℕ) (inverse : List ℤ) {rows : List ℕ} (h : RowsOfMatrix rows
 
 abbrev pub workColumn : Work → Vec
 workColumn W i = columnResidual (W .n) (W .t) (W .matrix) (W .inverse) (i / W .n) (i % W .n)
+
+pub columns-within : (W : Work) {columns : List ℤ} → W .t ≤ 20 → W .n ≤ 32 → MatrixList (W .matrix) (W .n) → MatrixList (W .inverse) (W .n) →
+    W .n * W .n ≤ length columns → PrefixIs (pos 0) columns (W .n * W .n) (workColumn W) → ColumnList columns (W .n * W .n) (2 ^ 46)
+columns-within W ht n-max hm hi long h = record {
+  long = long;
+  within = record {
+    magnitudes = λ i l.
+        rw (h .each i l)
+        (residual-magnitude (W .n) (W .t) (W .matrix) (W .inverse) ht n-max hm hi (i / W .n) (i % W .n) (in-square (W .n) i l .0) (in-square (W .n) i l .1));
+  };
+}
 
 pub margins-are : (W : Work) {margins : List ℕ} → PrefixIs 0 margins (W .n) (cutMargin (problemOf (W .n) 0 (W .t) (W .matrix) [] [] [] (W .inverse) (W .weights))) →
     PrefixIs 0 margins (W .n) (cutMargin (workProblem W))

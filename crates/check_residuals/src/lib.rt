@@ -1,5 +1,6 @@
 // The residuals of the guess, and the first of these, or of the residuals of all columns of the inverse, that is above what is allowed.
 ghost use mathlib.Core.Path.{_≡_};
+ghost use mathlib.Core.Bool.{true, false};
 ghost use Prim.Native.Nat.{ℕ, _+_, _*_, _%_, _≤_, _<_, _^_};
 ghost use lib.IntN.{pos, natAbs, _-ℤ_, _*ℤ_};
 ghost use lib.ListN.{length};
@@ -7,10 +8,11 @@ ghost use Rattle.integer.specs.Finite.{first};
 ghost use Rattle.linear.specs.Matrix.{apply};
 ghost use Rattle.linear.specs.Slice.{at, vectorOf, matrixOf};
 ghost use Rattle.linear.specs.Place.{Carried};
-ghost use Rattle.linear.specs.Reach.{ColumnList, MatrixList};
+ghost use Rattle.linear.specs.Reach.{Reach, ColumnList, MatrixList};
 ghost use Rattle.enclosure.specs.Reckoning.{allowedResidual};
 ghost use Rattle.check_arrays.specs.Arrays.{PrefixIs, firstFrom};
 ghost use Rattle.check_arrays.specs.Parts.{residualFrom, aboveAllowed};
+use integer::magnitude;
 use integer::power;
 use linear::dot;
 
@@ -90,6 +92,43 @@ pub fn first_above(residuals: &[i64], start: usize, allowed: &[i64; 32], n: usiz
     n
 }
 
+// One step of a quick test: the bits of all, and of a number that is 2^62 or more where a residual is above what is allowed, in one number.
+fn add_far(all: u64, allowed: i64, z: i64) -> u64
+    requires { ⌜ (natAbs allowed ≤ allowedResidual) × (natAbs z ≤ 2 ^ 46) ⌝ }
+    ensures { λ r. ⌜ (all ≤ r) × (r < 2 ^ 62 → aboveAllowed allowed z ≡ false) ⌝ }
+{
+    all | ((4611686018427387903 + magnitude(z)) as i64 - allowed) as u64
+}
+
+// The quick test: true only where none of n residuals from an index on is above what its row allows. One comparison is made, of the bits of all n.
+fn is_near(residuals: &[i64], start: usize, allowed: &[i64; 32], n: usize) -> bool
+    requires { ⌜ (n ≤ 32) × (start ≤ 1024) ⌝ }
+    requires { ⌜ Reach (now residuals) start 1 n (2 ^ 46) ⌝ }
+    requires { ⌜ ColumnList (now allowed) n allowedResidual ⌝ }
+    ensures { λ r. ⌜ (r ≡ true → first n (λ (k : ℕ). aboveAllowed (at (now (allowed .entry)) k) (at (now (residuals .entry)) (start + k))) ≡ n) ⌝ }
+{
+    let mut all: u64 = 0;
+    let mut place = start;
+    for k in 0..n {
+        all = add_far(all, allowed[k], residuals[place]);
+        place += 1;
+    }
+    all < 4611686018427387904
+}
+
+// The first of n residuals from an index on that is above what its row allows, searched for only where the quick test fails; n where there is none.
+fn first_in_column(columns: &[i64], start: usize, allowed: &[i64; 32], n: usize) -> usize
+    requires { ⌜ (n ≤ 32) × ((start + n ≤ length (now columns)) × (start ≤ 1024)) ⌝ }
+    requires { ⌜ Reach (now columns) start 1 n (2 ^ 46) ⌝ }
+    requires { ⌜ ColumnList (now allowed) n allowedResidual ⌝ }
+    ensures { λ r. ⌜ r ≡ first n (λ (k : ℕ). aboveAllowed (at (now (allowed .entry)) k) (at (now (columns .entry)) (start + k))) ⌝ }
+{
+    if is_near(columns, start, allowed, n) {
+        return n;
+    }
+    first_above(columns, start, allowed, n)
+}
+
 // One step of a search part by part: found, the first below start; next, the first of those from start on.
 fn first_from(found: usize, start: usize, next: usize) -> usize
     requires { ⌜ (start ≤ 1024) × (next ≤ 1024) ⌝ }
@@ -100,14 +139,15 @@ fn first_from(found: usize, start: usize, next: usize) -> usize
 
 // The first residual, column after column, that is above what its row allows; n·n where there is none.
 pub fn first_above_in_columns(columns: &[i64], allowed: &[i64; 32], n: usize) -> usize
-    requires { ⌜ (n ≤ 32) × (n * n ≤ length (now columns)) ⌝ }
+    requires { ⌜ n ≤ 32 ⌝ }
+    requires { ⌜ ColumnList (now columns) (n * n) (2 ^ 46) ⌝ }
     requires { ⌜ ColumnList (now allowed) n allowedResidual ⌝ }
     ensures { λ r. ⌜ r ≡ first (n * n) (λ (i : ℕ). aboveAllowed (at (now (allowed .entry)) (i % n)) (at (now (columns .entry)) i)) ⌝ }
 {
     let mut found = 0;
     let mut start = 0;
     for j in 0..n {
-        found = first_from(found, start, first_above(columns, start, allowed, n));
+        found = first_from(found, start, first_in_column(columns, start, allowed, n));
         start += n;
     }
     found

@@ -10,3 +10,4 @@ pub mod Covering
 pub mod Same
 pub mod Order
 pub mod Below
+pub mod Union

@@ -2,7 +2,7 @@
 --   range-magnitude — a number in range is at most `magnitudeOf k` in absolute value
 --   range-natural — where the lowest value is a natural number, a number in range is one, and at least that;  range-kept — so its magnitude is in range
 --   size-range, solution-scale-range, .., weight-range, allowance-range, in-allowance-range, line-weight-range, difference-range — what the range of each kind is
---   in-size-range, in-matrix-range, in-right-range — the converse: a number of that magnitude is in range;  zero-tolerance, one-weight — so are these two
+--   in-size-range, in-matrix-range, in-inverse-range, in-right-range — the converse: a number of that magnitude is in range;  zero-tolerance, one-weight — so are these two
 --   both, both-left, both-right, not-both, not-first, neither, neither-left, neither-right, or-left, or-right, and-true — of two tests
 --   range-test — what the code tests is inRange
 use mathlib.Core.Path.{_≡_, refl, sym, subst}
@@ -166,6 +166,10 @@ module _ (z : ℤ) where
   pub in-matrix-range : natAbs z ≤ 2 ^ 20 → inRange Matrix z ≡ true
   unfolding inRange rangeOf ranges
   in-matrix-range h = magnitude-in-range 1048575 z h
+
+  pub in-inverse-range : natAbs z ≤ 2 ^ 20 → inRange Inverse z ≡ true
+  unfolding inRange rangeOf ranges
+  in-inverse-range h = magnitude-in-range 1048575 z h
 
   pub in-right-range : natAbs z ≤ 2 ^ 30 → inRange Right z ≡ true
   unfolding inRange rangeOf ranges

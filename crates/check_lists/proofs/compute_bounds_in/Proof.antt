@@ -10,7 +10,7 @@ use Rattle.check_arrays.specs.Rows.{InverseRows}
 use Rattle.check_arrays.proofs.Magnitudes.{raisable}
 use Rattle.check_lists.specs.Work.{Work, work}
 use Rattle.check_lists.proofs.Outcome.{WorkedOut, refused, positive-here, weighed-here, near-here, columns-here, accepted-here}
-use Rattle.check_lists.proofs.Rows.{inverse-rows, workColumn, margins-are, columns-are}
+use Rattle.check_lists.proofs.Rows.{inverse-rows, workColumn, margins-are, columns-are, columns-within}
 use Rattle.check_lists.proofs.SymmetricMatrix.{symmetric-product}
 use borrow.Author.Needs.{needs}
 use Rattle.check_lists.proofs.compute_bounds_in.Statement.{statement}
@@ -145,7 +145,8 @@ first-above-requires c κs =
 first-above-in-columns-requires : tie.Need-first-above-in-columns-requires
 first-above-in-columns-requires c κs =
     let k = at-columns (at-margins (c .before .before .before)) in
-    let p = begun (biased-before k) .pre .1 in ((p .n-max, long-columns k), p .in-columns)
+    let p = begun (biased-before k) .pre .1 in
+    (p .n-max, (columns-within (W (begun (biased-before k))) (p .inverse-scale) (p .n-max) (p .matrix) (p .inverse) (long-columns k) (residuals-are k), p .in-columns))
 
 judge-requires : tie.Need-judge-requires
 judge-requires c κs = let p = begun (biased-before (at-columns (at-margins (at-zero c)))) .pre .1 in (p .n-pos, p .n-max)

@@ -5,9 +5,12 @@ use borrow.Author.Needs.{needs}
 use Rattle.check_ranges.proofs.are_lists_in_range.Statement.{statement}
 use Rattle.check_ranges.proofs.are_lists_in_range.Tie as tie
 
--- stages on the way: the start, and after the test of the matrix, the right side, the tolerances and the guess
-abbrev start : tie.Then1 → tie.Start
-start c = c .before .before
+-- stages on the way: the start, the quick test, and after the test of the matrix, the right side, the tolerances and the guess
+abbrev start : tie.After-are-small → tie.Start
+start q = q .before
+
+abbrev quick : tie.Then1 → tie.After-are-small
+quick c = c .before .before
 
 abbrev at-matrix : tie.Then2 → tie.Then1
 at-matrix c = c .before .before
@@ -21,11 +24,17 @@ at-tolerance c = c .before .before
 abbrev at-guess : tie.Then5 → tie.Then4
 at-guess c = c .before .before
 
-mul-all-in-range : tie.Need-mul-all-in-range
-mul-all-in-range c = omega (arith, square (c .pre .0))
+mul-size : tie.Need-mul-size
+mul-size c = omega (arith, square (c .pre .0))
+
+are-small-requires : tie.Need-are-small-requires
+are-small-requires c κs = (omega (arith, square (c .pre .0)), omega (arith, square (c .pre .0)))
+
+are-in-range-requires : tie.Need-are-in-range-requires
+are-in-range-requires c κs = (omega (arith, square (start c .pre .0)), λ t. c .are-small .ensures t .0)
 
 all-in-range-requires : tie.Need-all-in-range-requires
-all-in-range-requires c κs = omega (arith, square (c .pre .0))
+all-in-range-requires c κs = search needs
 
 all-in-range-requires-2 : tie.Need-all-in-range-requires-2
 all-in-range-requires-2 c κs = search needs
@@ -33,17 +42,12 @@ all-in-range-requires-2 c κs = search needs
 all-in-range-requires-3 : tie.Need-all-in-range-requires-3
 all-in-range-requires-3 c κs = search needs
 
+are-in-range-requires-2 : tie.Need-are-in-range-requires-2
+are-in-range-requires-2 c κs =
+    let q = quick (at-matrix (at-right (at-tolerance c))) in (omega (arith, square (start q .pre .0)), λ t. q .are-small .ensures t .1)
+
 all-in-range-requires-4 : tie.Need-all-in-range-requires-4
 all-in-range-requires-4 c κs = search needs
-
-mul-all-in-range-2 : tie.Need-mul-all-in-range-2
-mul-all-in-range-2 c = omega (arith, square (start (at-matrix (at-right (at-tolerance c))) .pre .0))
-
-all-in-range-requires-5 : tie.Need-all-in-range-requires-5
-all-in-range-requires-5 c κs = omega (arith, square (start (at-matrix (at-right (at-tolerance c))) .pre .0))
-
-all-in-range-requires-6 : tie.Need-all-in-range-requires-6
-all-in-range-requires-6 c κs = search needs
 
 returns : tie.Need-returns
 returns c =
@@ -53,12 +57,12 @@ returns c =
     let b = at-right d in
     let m = at-matrix b in
     rw (
-      sym (m .before .all-in-range .ensures) ∙ m .if1 .taken,
-      sym (b .before .all-in-range2 .ensures) ∙ b .if2 .taken,
-      sym (d .before .all-in-range3 .ensures) ∙ d .if3 .taken,
-      sym (x .before .all-in-range4 .ensures) ∙ x .if4 .taken,
-      sym (g .before .all-in-range5 .ensures) ∙ g .if5 .taken,
-    ) (c .all-in-range6 .ensures)
+      sym (m .before .are-in-range .ensures) ∙ m .if1 .taken,
+      sym (b .before .all-in-range .ensures) ∙ b .if2 .taken,
+      sym (d .before .all-in-range2 .ensures) ∙ d .if3 .taken,
+      sym (x .before .all-in-range3 .ensures) ∙ x .if4 .taken,
+      sym (g .before .are-in-range2 .ensures) ∙ g .if5 .taken,
+    ) (c .all-in-range4 .ensures)
 
 returns-2 : tie.Need-returns-2
 returns-2 c =
@@ -67,11 +71,11 @@ returns-2 c =
     let b = at-right d in
     let m = at-matrix b in
     rw (
-      sym (m .before .all-in-range .ensures) ∙ m .if1 .taken,
-      sym (b .before .all-in-range2 .ensures) ∙ b .if2 .taken,
-      sym (d .before .all-in-range3 .ensures) ∙ d .if3 .taken,
-      sym (x .before .all-in-range4 .ensures) ∙ x .if4 .taken,
-      sym (c .before .all-in-range5 .ensures) ∙ c .if5 .left,
+      sym (m .before .are-in-range .ensures) ∙ m .if1 .taken,
+      sym (b .before .all-in-range .ensures) ∙ b .if2 .taken,
+      sym (d .before .all-in-range2 .ensures) ∙ d .if3 .taken,
+      sym (x .before .all-in-range3 .ensures) ∙ x .if4 .taken,
+      sym (c .before .are-in-range2 .ensures) ∙ c .if5 .left,
     )
 
 returns-3 : tie.Need-returns-3
@@ -80,10 +84,10 @@ returns-3 c =
     let b = at-right d in
     let m = at-matrix b in
     rw (
-      sym (m .before .all-in-range .ensures) ∙ m .if1 .taken,
-      sym (b .before .all-in-range2 .ensures) ∙ b .if2 .taken,
-      sym (d .before .all-in-range3 .ensures) ∙ d .if3 .taken,
-      sym (c .before .all-in-range4 .ensures) ∙ c .if4 .left,
+      sym (m .before .are-in-range .ensures) ∙ m .if1 .taken,
+      sym (b .before .all-in-range .ensures) ∙ b .if2 .taken,
+      sym (d .before .all-in-range2 .ensures) ∙ d .if3 .taken,
+      sym (c .before .all-in-range3 .ensures) ∙ c .if4 .left,
     )
 
 returns-4 : tie.Need-returns-4
@@ -91,34 +95,34 @@ returns-4 c =
     let b = c .before .before in
     let m = at-matrix b in
     rw (
-      sym (m .before .all-in-range .ensures) ∙ m .if1 .taken,
-      sym (b .before .all-in-range2 .ensures) ∙ b .if2 .taken,
-      sym (c .before .all-in-range3 .ensures) ∙ c .if3 .left,
+      sym (m .before .are-in-range .ensures) ∙ m .if1 .taken,
+      sym (b .before .all-in-range .ensures) ∙ b .if2 .taken,
+      sym (c .before .all-in-range2 .ensures) ∙ c .if3 .left,
     )
 
 returns-5 : tie.Need-returns-5
 returns-5 c =
     let m = c .before .before in
     rw (
-      sym (m .before .all-in-range .ensures) ∙ m .if1 .taken,
-      sym (c .before .all-in-range2 .ensures) ∙ c .if2 .left,
+      sym (m .before .are-in-range .ensures) ∙ m .if1 .taken,
+      sym (c .before .all-in-range .ensures) ∙ c .if2 .left,
     )
 
 returns-6 : tie.Need-returns-6
-returns-6 c = rw (sym (c .before .all-in-range .ensures) ∙ c .if1 .left)
+returns-6 c = rw (sym (c .before .are-in-range .ensures) ∙ c .if1 .left)
 
 pub are-lists-in-range-spec : {M : Type 1} → statement M
 are-lists-in-range-spec =
     tie.close
     (tie.spec
-    mul-all-in-range
+    mul-size
+    are-small-requires
+    are-in-range-requires
     all-in-range-requires
     all-in-range-requires-2
     all-in-range-requires-3
+    are-in-range-requires-2
     all-in-range-requires-4
-    mul-all-in-range-2
-    all-in-range-requires-5
-    all-in-range-requires-6
     returns
     returns-2
     returns-3
