@@ -40,18 +40,16 @@ pub fn row_sum(matrix: &[i64], k: usize, row: usize, n: usize) -> u64
 }
 
 // The sums along all rows.
-pub fn row_sums_of(matrix: &[i64], n: usize) -> [u64; 32]
-    requires { ⌜ n ≤ 32 ⌝ }
+pub fn row_sums_of(out: &mut [u64; 32], matrix: &[i64], n: usize)
+    requires { ⌜ (n ≤ 32) × (length (now out) ≡ 32) ⌝ }
     requires { ⌜ MatrixList (now matrix) n ⌝ }
-    ensures { λ r. ⌜ PrefixIs 0 r n (rowSumOf n (now (matrix .entry))) ⌝ }
+    ensures { λ _. ⌜ (length (now (out .exit)) ≡ 32) × PrefixIs 0 (now (out .exit)) n (rowSumOf n (now (matrix .entry))) ⌝ }
 {
-    let mut out = [0u64; 32];
     let mut row = 0;
     for k in 0..n {
         out[k] = row_sum(matrix, k, row, n);
         row += n;
     }
-    out
 }
 
 // How large a residual and its slack may be together (02: "6 is now given where size of residual plus slack is above 2^25").
@@ -66,16 +64,14 @@ fn slack_at(s: u32, d: i64) -> u64
 }
 
 // 2^s·d for the tolerances d.
-pub fn slacks_of(s: u32, tolerance: &[i64], n: usize) -> [u64; 32]
-    requires { ⌜ (s ≤ 20) × (n ≤ 32) ⌝ }
+pub fn slacks_of(out: &mut [u64; 32], s: u32, tolerance: &[i64], n: usize)
+    requires { ⌜ (s ≤ 20) × ((n ≤ 32) × (length (now out) ≡ 32)) ⌝ }
     requires { ⌜ ColumnList (now tolerance) n (2 ^ 20) ⌝ }
-    ensures { λ r. ⌜ PrefixIs 0 r n (λ (k : ℕ). slackAt s (at (now (tolerance .entry)) k)) ⌝ }
+    ensures { λ _. ⌜ (length (now (out .exit)) ≡ 32) × PrefixIs 0 (now (out .exit)) n (λ (k : ℕ). slackAt s (at (now (tolerance .entry)) k)) ⌝ }
 {
-    let mut out = [0u64; 32];
     for k in 0..n {
         out[k] = slack_at(s, tolerance[k]);
     }
-    out
 }
 
 // The smaller of two numbers.
@@ -96,13 +92,12 @@ fn allowed_at(slack: u64, sum: u64) -> i64
 }
 
 // How large each residual may be, row by row.
-pub fn allowed_of(slacks: &[u64; 32], sums: &[u64; 32], n: usize) -> [i64; 32]
-    requires { ⌜ n ≤ 32 ⌝ }
-    ensures { λ r. ⌜ PrefixIs (pos 0) r n (λ (k : ℕ). allowedBeside (getD (now (slacks .entry)) k 0) (getD (now (sums .entry)) k 0)) ⌝ }
+pub fn allowed_of(out: &mut [i64; 32], slacks: &[u64; 32], sums: &[u64; 32], n: usize)
+    requires { ⌜ (n ≤ 32) × (length (now out) ≡ 32) ⌝ }
+    ensures { λ _. ⌜ (length (now (out .exit)) ≡ 32)
+        × PrefixIs (pos 0) (now (out .exit)) n (λ (k : ℕ). allowedBeside (getD (now (slacks .entry)) k 0) (getD (now (sums .entry)) k 0)) ⌝ }
 {
-    let mut out = [0i64; 32];
     for k in 0..n {
         out[k] = allowed_at(slacks[k], sums[k]);
     }
-    out
 }

@@ -24,18 +24,17 @@ use check_ratios::sum_of;
 use integer::magnitude;
 
 // The absolute values of p = G·r, from the biased rows of G and the biased row that stands for r.
-fn magnitudes_of(rows: &[u64], residuals: &[u64], n: usize) -> [u64; 32]
-    requires { ⌜ n ≤ 32 ⌝ }
+fn magnitudes_of(out: &mut [u64; 32], rows: &[u64], residuals: &[u64], n: usize)
+    requires { ⌜ (n ≤ 32) × (length (now out) ≡ 32) ⌝ }
     requires { ⌜ BiasedRows (now rows) n × BiasedRow (now residuals) (0 * (n + 1)) n ⌝ }
-    ensures { λ r. ⌜ PrefixIs 0 r n (λ (m : ℕ). columnMagnitude (now (rows .entry)) (now (residuals .entry)) n m 0) ⌝ }
+    ensures { λ _. ⌜ (length (now (out .exit)) ≡ 32)
+        × PrefixIs 0 (now (out .exit)) n (λ (m : ℕ). columnMagnitude (now (rows .entry)) (now (residuals .entry)) n m 0) ⌝ }
 {
-    let mut out = [0u64; 32];
     let mut row = 0;
     for m in 0..n {
         out[m] = magnitude(row_dot(rows, m, row, residuals, 0, 0, n));
         row += n + 1;
     }
-    out
 }
 
 // Term j of a slack: sum + |x|·slack, where x is number j of a biased row, by way of the place that was carried to it.
@@ -65,25 +64,23 @@ fn slack_of(rows: &[u64], m: usize, row: usize, slacks: &[u64; 32], n: usize) ->
     sum
 }
 
-// Magnitudes, each with its slack; where no row has one, n·n products are saved.
-fn add_slacks(magnitudes: [u64; 32], rows: &[u64], slacks: &[u64; 32], n: usize) -> [u64; 32]
-    requires { ⌜ n ≤ 32 ⌝ }
+// Adds to each magnitude its slack; where no row has one, n·n products are saved.
+fn add_slacks(magnitudes: &mut [u64; 32], rows: &[u64], slacks: &[u64; 32], n: usize)
+    requires { ⌜ (n ≤ 32) × (length (now magnitudes) ≡ 32) ⌝ }
     requires { ⌜ BiasedRows (now rows) n ⌝ }
     requires { ⌜ ((k : ℕ) → k < n → getD (now slacks) k 0 ≤ allowedResidual) ⌝ }
-    requires { ⌜ ((m : ℕ) → m < n → getD magnitudes m 0 ≤ 2 ^ 55) ⌝ }
-    ensures { λ r. ⌜ PrefixIs 0 r n (λ (m : ℕ). getD magnitudes m 0
+    requires { ⌜ ((m : ℕ) → m < n → getD (now magnitudes) m 0 ≤ 2 ^ 55) ⌝ }
+    ensures { λ _. ⌜ PrefixIs 0 (now (magnitudes .exit)) n (λ (m : ℕ). getD (now (magnitudes .entry)) m 0
         + sumℕ n (λ (j : ℕ). natAbs (unbiasedRows (now (rows .entry)) n m j) * getD (now (slacks .entry)) j 0)) ⌝ }
 {
     if sum_of(slacks, n) == 0 {
-        return magnitudes;
+        return;
     }
-    let mut out = [0u64; 32];
     let mut row = 0;
     for m in 0..n {
-        out[m] = magnitudes[m] + slack_of(rows, m, row, slacks, n);
+        magnitudes[m] += slack_of(rows, m, row, slacks, n);
         row += n + 1;
     }
-    out
 }
 
 // The limits of the column with these residuals and slacks, from the biased rows of G.
@@ -108,7 +105,9 @@ pub fn column_bounds(
 {
     let mut biased = [0u64; 33];
     bias_row(&mut biased, 0, residuals, 0, 1, n);
-    let magnitudes = add_slacks(magnitudes_of(rows, &biased, n), rows, slacks, n);
+    let mut magnitudes = [0u64; 32];
+    magnitudes_of(&mut magnitudes, rows, &biased, n);
+    add_slacks(&mut magnitudes, rows, slacks, n);
     bounds_of(&magnitudes, margins, caps, weights, n)
 }
 

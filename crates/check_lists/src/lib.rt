@@ -56,8 +56,19 @@ fn compute_bounds_in(
     bias_rows(rows, inverse, n);
     inverse_residuals_of(columns, t, matrix, rows, n);
     let symmetric = are_symmetric(matrix, inverse, n);
-    let margins = margins_of(t, matrix, inverse, columns, symmetric, weights, n);
-    let residuals = residuals_of(base, matrix, guess, n);
+    let mut margins = [0u64; 32];
+    margins_of(
+        &mut margins,
+        t,
+        matrix,
+        inverse,
+        columns,
+        symmetric,
+        weights,
+        n,
+    );
+    let mut residuals = [0i64; 32];
+    residuals_of(&mut residuals, base, matrix, guess, n);
     let m = first_zero(&margins, n);
     let k = first_above(&residuals, 0, allowed, n);
     let i = first_above_in_columns(columns, allowed_in_columns, n);
@@ -65,7 +76,8 @@ fn compute_bounds_in(
     match outcome {
         Outcome::Refused(refusal) => Outcome::Refused(refusal),
         Outcome::Accepted => {
-            let caps = caps_of(&margins, weights, n);
+            let mut caps = [0u64; 32];
+            caps_of(&mut caps, &margins, weights, n);
             let column = column_bounds(rows, &residuals, slacks, &margins, &caps, weights, n);
             store(solution_bounds, 0, 1, column, n);
             store_columns(
@@ -204,11 +216,16 @@ pub fn check(
     if are_sizes_in_range(n, s, t) {
         let size = n as usize;
         if are_lists_in_range(size, matrix, right, tolerance, guess, inverse, weights) {
-            let slacks = slacks_of(s, tolerance, size);
-            let sums = row_sums_of(matrix, size);
-            let base = scaled_right(s, right, size);
-            let allowed = allowed_of(&slacks, &sums, size);
-            let allowed_in_columns = allowed_of(&[0u64; 32], &sums, size);
+            let mut slacks = [0u64; 32];
+            slacks_of(&mut slacks, s, tolerance, size);
+            let mut sums = [0u64; 32];
+            row_sums_of(&mut sums, matrix, size);
+            let mut base = [0i64; 32];
+            scaled_right(&mut base, s, right, size);
+            let mut allowed = [0i64; 32];
+            allowed_of(&mut allowed, &slacks, &sums, size);
+            let mut allowed_in_columns = [0i64; 32];
+            allowed_of(&mut allowed_in_columns, &[0u64; 32], &sums, size);
             return compute_bounds(
                 size,
                 t,

@@ -104,25 +104,24 @@ fn margin_of(
 }
 
 // The margins of all rows, from D, row after row.
-fn margins_from(t: u32, defects: &[i64], weights: &[i64], n: usize) -> [u64; 32]
-    requires { ⌜ (t ≤ 20) × (n ≤ 32) ⌝ }
+fn margins_from(out: &mut [u64; 32], t: u32, defects: &[i64], weights: &[i64], n: usize)
+    requires { ⌜ (t ≤ 20) × ((n ≤ 32) × (length (now out) ≡ 32)) ⌝ }
     requires { ⌜ ColumnList (now defects) (n * n) (2 ^ 46) ⌝ }
     requires { ⌜ ColumnList (now weights) n 1024 ⌝ }
-    ensures { λ r. ⌜ PrefixIs 0 r n
+    ensures { λ _. ⌜ (length (now (out .exit)) ≡ 32) × PrefixIs 0 (now (out .exit)) n
         (λ (m : ℕ). 2 ^ t * natAbs (at (now (weights .entry)) m) - loadFrom n (now (defects .entry)) (now (weights .entry)) m) ⌝ }
 {
     let ones = all_ones(weights, n);
-    let mut out = [0u64; 32];
     let mut row = 0;
     for m in 0..n {
         out[m] = margin_of(t, defects, weights, ones, n, m, row);
         row += n;
     }
-    out
 }
 
 // The margins of all rows. Where A and G are symmetric, row m of D is column m of T·I − A·G, which stands in the list of the inverse's residuals.
 pub fn margins_of(
+    out: &mut [u64; 32],
     t: u32,
     matrix: &[i64],
     inverse: &[i64],
@@ -130,20 +129,21 @@ pub fn margins_of(
     symmetric: bool,
     weights: &[i64],
     n: usize,
-) -> [u64; 32]
-    requires { ⌜ (t ≤ 20) × ((n ≤ 32) × (n * n ≤ length (now columns))) ⌝ }
+)
+    requires { ⌜ (t ≤ 20) × ((n ≤ 32) × ((length (now out) ≡ 32) × (n * n ≤ length (now columns)))) ⌝ }
     requires { ⌜ MatrixList (now matrix) n ⌝ }
     requires { ⌜ MatrixList (now inverse) n ⌝ }
     requires { ⌜ PrefixIs (pos 0) (now columns) (n * n) (λ (i : ℕ). columnResidual n t (now matrix) (now inverse) (i / n) (i % n)) ⌝ }
     requires { ⌜ (symmetric ≡ true → Symmetric (now matrix) n × Symmetric (now inverse) n) ⌝ }
     requires { ⌜ ColumnList (now weights) n 1024 ⌝ }
-    ensures { λ r. ⌜ PrefixIs 0 r n
+    ensures { λ _. ⌜ (length (now (out .exit)) ≡ 32) × PrefixIs 0 (now (out .exit)) n
         (cutMargin (problemOf n 0 t (now (matrix .entry)) [] [] [] (now (inverse .entry)) (now (weights .entry)))) ⌝ }
 {
     if symmetric {
-        return margins_from(t, columns, weights, n);
+        margins_from(out, t, columns, weights, n);
+        return;
     }
-    margins_from(t, &defects_of(t, matrix, inverse, n), weights, n)
+    margins_from(out, t, &defects_of(t, matrix, inverse, n), weights, n);
 }
 
 // The first margin that is 0; n where there is none.

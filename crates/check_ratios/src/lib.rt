@@ -4,7 +4,7 @@ ghost use mathlib.Core.Bool.{true, false};
 ghost use Prim.Native.Nat.{ℕ, _*_, _≤_, _<_, _^_};
 ghost use lib.Dec.{ltb};
 ghost use lib.IntN.{natAbs};
-ghost use lib.ListN.{getD};
+ghost use lib.ListN.{getD, length};
 ghost use Rattle.integer.specs.Finite.{sumℕ, largest};
 ghost use Rattle.integer.specs.LargestRatio.{LargestRatio};
 ghost use Rattle.integer.specs.Quotient.{ceilDiv};
@@ -215,16 +215,14 @@ fn largest_weight(weights: &[i64], n: usize) -> u64
 }
 
 // The caps of all rows: each margin divided by the largest weight.
-pub fn caps_of(margins: &[u64; 32], weights: &[i64], n: usize) -> [u64; 32]
-    requires { ⌜ (0 < n) × (n ≤ 32) ⌝ }
+pub fn caps_of(out: &mut [u64; 32], margins: &[u64; 32], weights: &[i64], n: usize)
+    requires { ⌜ (0 < n) × ((n ≤ 32) × (length (now out) ≡ 32)) ⌝ }
     requires { ⌜ ColumnList (now weights) n 1024 ⌝ }
     requires { ⌜ ((i : ℕ) → i < n → 0 < natAbs (at (now weights) i)) ⌝ }
-    ensures { λ r. ⌜ Caps r (now (margins .entry)) (now (weights .entry)) n ⌝ }
+    ensures { λ _. ⌜ (length (now (out .exit)) ≡ 32) × Caps (now (out .exit)) (now (margins .entry)) (now (weights .entry)) n ⌝ }
 {
     let most = largest_weight(weights, n);
-    let mut out = [0u64; 32];
     for m in 0..n {
         out[m] = margins[m] / most;
     }
-    out
 }

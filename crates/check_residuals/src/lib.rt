@@ -25,16 +25,14 @@ fn scaled(s: u32, b: i64) -> i64
 }
 
 // 2^s·b for the right side b.
-pub fn scaled_right(s: u32, right: &[i64], n: usize) -> [i64; 32]
-    requires { ⌜ (s ≤ 20) × (n ≤ 32) ⌝ }
+pub fn scaled_right(out: &mut [i64; 32], s: u32, right: &[i64], n: usize)
+    requires { ⌜ (s ≤ 20) × ((n ≤ 32) × (length (now out) ≡ 32)) ⌝ }
     requires { ⌜ ColumnList (now right) n (2 ^ 30) ⌝ }
-    ensures { λ r. ⌜ PrefixIs (pos 0) r n (λ (k : ℕ). pos (2 ^ s) *ℤ at (now (right .entry)) k) ⌝ }
+    ensures { λ _. ⌜ (length (now (out .exit)) ≡ 32) × PrefixIs (pos 0) (now (out .exit)) n (λ (k : ℕ). pos (2 ^ s) *ℤ at (now (right .entry)) k) ⌝ }
 {
-    let mut out = [0i64; 32];
     for k in 0..n {
         out[k] = scaled(s, right[k]);
     }
-    out
 }
 
 // base less row k of a, which starts at index p, times x.
@@ -49,20 +47,19 @@ fn difference(base: i64, a: &[i64], k: usize, p: usize, x: &[i64], n: usize) -> 
 }
 
 // The residuals of a guess: a base less A·X.
-pub fn residuals_of(base: &[i64; 32], matrix: &[i64], guess: &[i64], n: usize) -> [i64; 32]
-    requires { ⌜ n ≤ 32 ⌝ }
+pub fn residuals_of(out: &mut [i64; 32], base: &[i64; 32], matrix: &[i64], guess: &[i64], n: usize)
+    requires { ⌜ (n ≤ 32) × (length (now out) ≡ 32) ⌝ }
     requires { ⌜ ColumnList (now base) n (2 ^ 62) ⌝ }
     requires { ⌜ MatrixList (now matrix) n ⌝ }
     requires { ⌜ ColumnList (now guess) n (2 ^ 36) ⌝ }
-    ensures { λ r. ⌜ PrefixIs (pos 0) r n (residualFrom n (now (base .entry)) (now (matrix .entry)) (now (guess .entry))) ⌝ }
+    ensures { λ _. ⌜ (length (now (out .exit)) ≡ 32)
+        × PrefixIs (pos 0) (now (out .exit)) n (residualFrom n (now (base .entry)) (now (matrix .entry)) (now (guess .entry))) ⌝ }
 {
-    let mut out = [0i64; 32];
     let mut row = 0;
     for k in 0..n {
         out[k] = difference(base[k], matrix, k, row, guess, n);
         row += n;
     }
-    out
 }
 
 // Whether a residual is above what is allowed, in absolute value; compared on both sides, so that no residual is too large for it.

@@ -70,13 +70,18 @@ pub fn check_dependent_net(
         if are_lists_in_range(size, matrix, right, tolerance, guess, inverse, weights) {
             if s == main_scale {
                 if all_in_range(Kind::Matrix, coupling, size * marks) {
-                    let scaled = scaled_right(s, right, size);
+                    let mut scaled = [0i64; 32];
+                    scaled_right(&mut scaled, s, right, size);
                     let base = base_of(scaled, coupling, main_guess, marks, size);
-                    let tolerances = slacks_of(s, tolerance, size);
+                    let mut tolerances = [0u64; 32];
+                    slacks_of(&mut tolerances, s, tolerance, size);
                     let slacks = slacks_with(tolerances, coupling, main_limits, marks, size);
-                    let sums = row_sums_of(matrix, size);
-                    let allowed = allowed_of(&slacks, &[ALLOWED_RESIDUAL; 32], size);
-                    let allowed_in_columns = allowed_of(&[0u64; 32], &sums, size);
+                    let mut sums = [0u64; 32];
+                    row_sums_of(&mut sums, matrix, size);
+                    let mut allowed = [0i64; 32];
+                    allowed_of(&mut allowed, &slacks, &[ALLOWED_RESIDUAL; 32], size);
+                    let mut allowed_in_columns = [0i64; 32];
+                    allowed_of(&mut allowed_in_columns, &[0u64; 32], &sums, size);
                     return compute_bounds(
                         size,
                         t,

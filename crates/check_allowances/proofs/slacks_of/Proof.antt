@@ -1,4 +1,4 @@
-use mathlib.Core.Path.{_≡_, refl}
+use mathlib.Core.Path.{_≡_}
 use Prim.Native.Nat.{ℕ, _≤_, _-_}
 use native.Mathlib.Omega.{arith}
 use lib.ListN.{length, length-set}
@@ -12,13 +12,13 @@ use Rattle.check_allowances.proofs.slacks_of.Statement.{statement}
 use Rattle.check_allowances.proofs.slacks_of.Tie as tie
 
 abbrev Inv-loop : tie.InvT-loop
-Inv-loop s tolerance n out₀ k₀ out k = (k ≤ n) × ((length out ≡ 32) × PrefixIs 0 out k (λ (i : ℕ). slackAt s (at tolerance i)))
+Inv-loop out₀ s tolerance n k₀ out k = (k ≤ n) × ((length out ≡ 32) × PrefixIs 0 out k (λ (i : ℕ). slackAt s (at tolerance i)))
 
 abbrev μ-loop : tie.MeasureT-loop
-μ-loop s tolerance n out₀ k₀ out k = n - k
+μ-loop out₀ s tolerance n k₀ out k = n - k
 
 loop-holds : tie.Need-loop-holds Inv-loop μ-loop
-loop-holds c = (omega arith, (refl, prefix-none _ _ _))
+loop-holds c = (omega arith, (c .pre .0 .1 .1, prefix-none _ _ _))
 
 mul-slack-at : tie.Need-mul-slack-at Inv-loop μ-loop
 mul-slack-at c = search needs
@@ -34,8 +34,8 @@ slack-at-requires c κs =
 mul-out : tie.Need-mul-out Inv-loop μ-loop
 mul-out c = search needs
 
-array-write-out : tie.Need-array-write-out Inv-loop μ-loop
-array-write-out c = search needs
+element-write-out : tie.Need-element-write-out Inv-loop μ-loop
+element-write-out c = search needs
 
 add-k : tie.Need-add-k Inv-loop μ-loop
 add-k c = search needs
@@ -49,7 +49,7 @@ loop-again c =
     (omega arith, (simp length-set (l .inv .1 .0), prefix-more _ _ _ _ _ (l .inv .1 .1) (omega arith) (rw (read _ (c .before .slack-at-arg .given)) at (c .slack-at .ensures))))
 
 returns : tie.Need-returns Inv-loop μ-loop
-returns c = prefix-end _ (c .before .loop .inv .0) (c .loop-test .left) (c .before .loop .inv .1 .1)
+returns c = let i = c .before .loop .inv in (i .1 .0, prefix-end 0 (i .0) (c .loop-test .left) (i .1 .1))
 
 pub slacks-of-spec : {M : Type 1} → statement M
 slacks-of-spec =
@@ -62,7 +62,7 @@ slacks-of-spec =
     shared-slice-copy-out-slack-at
     slack-at-requires
     mul-out
-    array-write-out
+    element-write-out
     add-k
     loop-less
     loop-again

@@ -1,4 +1,4 @@
-use mathlib.Core.Path.{_≡_}
+use mathlib.Core.Path.{_≡_, refl}
 use Prim.Native.Nat.{ℕ, _+_, _*_}
 use native.Mathlib.Omega.{arith}
 use lib.ListN.{getD, length}
@@ -20,19 +20,23 @@ begun r = r .before .before .before .before
 long : (c : tie.After-bias-row-arg) → length (c .before .before .before .args .residuals .now) ≡ 32
 long c = search needs
 
-abbrev start : tie.After-magnitudes-of → tie.Start
-start c = begun (c .before .before .before)
+-- the biased residuals, from the magnitudes
+abbrev biased : tie.After-magnitudes-of → tie.After-bias-row
+biased c = c .before .before .before .before
 
-row-is : (c : tie.After-magnitudes-of) → RowOf (c .before .before .before .bias-row .last .0) (0 * (start c .args .n + 1)) (start c .args .n) (at (start c .args .residuals .now))
+abbrev start : tie.After-magnitudes-of → tie.Start
+start c = begun (biased c)
+
+row-is : (c : tie.After-magnitudes-of) → RowOf (biased c .bias-row .last .0) (0 * (start c .args .n + 1)) (start c .args .n) (at (start c .args .residuals .now))
 row-is c =
     let first : 0 * (start c .args .n + 1) ≡ 0 = omega arith in
-    rw first (row-as _ (λ k l. let e : 0 + k * 1 ≡ k = omega arith in rw e) (c .before .before .before .bias-row .ensures .0))
+    rw first (row-as _ (λ k l. let e : 0 + k * 1 ≡ k = omega arith in rw e) (biased c .bias-row .ensures .0))
 
 magnitudes-are : (c : tie.After-add-slacks) →
-    PrefixIs 0 (c .add-slacks .result) (start (c .before) .args .n) (magnitudesWith (inversePart (start (c .before) .args .n) (start (c .before) .args .rows .now)) (at (start (c .before) .args .residuals .now)) (λ (k : ℕ). getD (start (c .before) .args .slacks .now) k 0))
+    PrefixIs 0 (c .add-slacks .last .0) (start (c .before .before) .args .n) (magnitudesWith (inversePart (start (c .before .before) .args .n) (start (c .before .before) .args .rows .now)) (at (start (c .before .before) .args .residuals .now)) (λ (k : ℕ). getD (start (c .before .before) .args .slacks .now) k 0))
 magnitudes-are c =
-    let z = c .before in
-    slack-magnitudes (start z .args .n) (start z .pre .1 .0 .rows) (row-is z) (λ (k : ℕ). getD (start z .args .slacks .now) k 0) (z .magnitudes-of .ensures) (c .add-slacks .ensures)
+    let z = c .before .before in
+    slack-magnitudes (start z .args .n) (start z .pre .1 .0 .rows) (row-is z) (λ (k : ℕ). getD (start z .args .slacks .now) k 0) (z .magnitudes-of .ensures .1) (c .add-slacks .ensures)
 
 slice-aggregate-bias-row : tie.Need-slice-aggregate-bias-row
 slice-aggregate-bias-row c = search needs
@@ -47,19 +51,20 @@ slice-aggregate-magnitudes-of c = search needs
 
 magnitudes-of-requires : tie.Need-magnitudes-of-requires
 magnitudes-of-requires c κs =
-    let r = c .before .before in
+    let r = c .before .before .before in
     let s = begun r in
-    let first : 0 * (s .args .n + 1) ≡ 0 = omega arith in (s .pre .0 .1, (s .pre .1 .0 .rows, rw first (r .bias-row .ensures .0 .row)))
+    let first : 0 * (s .args .n + 1) ≡ 0 = omega arith in ((s .pre .0 .1, refl), (s .pre .1 .0 .rows, rw first (r .bias-row .ensures .0 .row)))
 
 add-slacks-requires : tie.Need-add-slacks-requires
 add-slacks-requires c κs =
-    let s = start c in
-    (s .pre .0 .1, (s .pre .1 .0 .rows, (slack-near (s .pre .1 .1 .0), image-magnitude (s .args .n) (s .pre .1 .0 .rows) (row-is c) (s .pre .0 .1) (c .magnitudes-of .ensures))))
+    let z = c .before in
+    let s = start z in
+    ((s .pre .0 .1, z .magnitudes-of .ensures .0), (s .pre .1 .0 .rows, (slack-near (s .pre .1 .1 .0), image-magnitude (s .args .n) (s .pre .1 .0 .rows) (row-is z) (s .pre .0 .1) (z .magnitudes-of .ensures .1))))
 
 bounds-of-requires : tie.Need-bounds-of-requires
 bounds-of-requires c κs =
     let a = c .before in
-    let s = start (a .before) in
+    let s = start (a .before .before) in
     (s .pre .0, (magnitudes-small (s .pre .0 .1) (s .pre .1 .0) (s .pre .1 .1 .0) (magnitudes-are a), s .pre .1 .1 .1))
 
 returns : tie.Need-returns

@@ -1,4 +1,4 @@
-use mathlib.Core.Path.{_≡_, refl}
+use mathlib.Core.Path.{_≡_}
 use Prim.Native.Nat.{ℕ, _+_, _≤_, _-_}
 use native.Mathlib.Omega.{arith}
 use lib.ListN.{length, length-set}
@@ -15,35 +15,35 @@ use Rattle.check_bounds.proofs.magnitudes_of.Statement.{statement}
 use Rattle.check_bounds.proofs.magnitudes_of.Tie as tie
 
 abbrev Inv-loop : tie.InvT-loop
-Inv-loop rows residuals n out₀ row₀ m₀ out row m =
+Inv-loop out₀ rows residuals n row₀ m₀ out row m =
     (m ≤ n) × (Carried 0 (n + 1) m row × ((length out ≡ 32) × PrefixIs 0 out m (λ (i : ℕ). columnMagnitude rows residuals n i 0)))
 
 abbrev μ-loop : tie.MeasureT-loop
-μ-loop rows residuals n out₀ row₀ m₀ out row m = n - m
+μ-loop out₀ rows residuals n row₀ m₀ out row m = n - m
 
 -- the start, from the turn
 abbrev start : tie.In-loop Inv-loop μ-loop → tie.Start Inv-loop μ-loop
 start t = t .before .before .before .before
 
 loop-holds : tie.Need-loop-holds Inv-loop μ-loop
-loop-holds c = (omega arith, (carried-first _ _, (refl, prefix-none _ _ _)))
+loop-holds c = (omega arith, (carried-first _ _, (c .before .before .pre .0 .1, prefix-none _ _ _)))
 
 row-dot-requires : tie.Need-row-dot-requires Inv-loop μ-loop
 row-dot-requires c κs =
     let s = start c in
-    let l = c .before .loop in (s .pre .0, ((l .inv .1 .0, carried-first _ _), (s .pre .1 .0 .each (l .m) (c .loop-test .taken), s .pre .1 .1)))
+    let l = c .before .loop in (s .pre .0 .0, ((l .inv .1 .0, carried-first _ _), (s .pre .1 .0 .each (l .m) (c .loop-test .taken), s .pre .1 .1)))
 
 magnitude-requires : tie.Need-magnitude-requires Inv-loop μ-loop
 magnitude-requires c κs =
     let t = c .before in
     let s = start t in
-    rw (read _ (c .row-dot .ok), c .row-dot .ensures) (omega (arith, row-dot-magnitude (s .pre .0) (s .pre .1 .0 .each (t .before .loop .m) (t .loop-test .taken) .small) (s .pre .1 .1 .small)))
+    rw (read _ (c .row-dot .ok), c .row-dot .ensures) (omega (arith, row-dot-magnitude (s .pre .0 .0) (s .pre .1 .0 .each (t .before .loop .m) (t .loop-test .taken) .small) (s .pre .1 .1 .small)))
 
 mul-out : tie.Need-mul-out Inv-loop μ-loop
 mul-out c = search needs
 
-array-write-out : tie.Need-array-write-out Inv-loop μ-loop
-array-write-out c = search needs
+element-write-out : tie.Need-element-write-out Inv-loop μ-loop
+element-write-out c = search needs
 
 add-row : tie.Need-add-row Inv-loop μ-loop
 add-row c = search needs
@@ -51,7 +51,7 @@ add-row c = search needs
 add-row-2 : tie.Need-add-row-2 Inv-loop μ-loop
 add-row-2 c =
     let l = c .before .before .before .loop in
-    omega (arith, l .inv .1 .0 .is, rows-room (c .before .before .loop-test .taken) (start (c .before .before) .pre .0))
+    omega (arith, l .inv .1 .0 .is, rows-room (c .before .before .loop-test .taken) (start (c .before .before) .pre .0 .0))
 
 add-m : tie.Need-add-m Inv-loop μ-loop
 add-m c = search needs
@@ -73,7 +73,7 @@ loop-again c =
     )
 
 returns : tie.Need-returns Inv-loop μ-loop
-returns c = prefix-end 0 (c .before .loop .inv .0) (c .loop-test .left) (c .before .loop .inv .1 .1 .1)
+returns c = let i = c .before .loop .inv in (i .1 .1 .0, prefix-end 0 (i .0) (c .loop-test .left) (i .1 .1 .1))
 
 pub magnitudes-of-spec : {M : Type 1} → statement M
 magnitudes-of-spec =
@@ -85,7 +85,7 @@ magnitudes-of-spec =
     row-dot-requires
     magnitude-requires
     mul-out
-    array-write-out
+    element-write-out
     add-row
     add-row-2
     add-m

@@ -1,4 +1,4 @@
-use mathlib.Core.Path.{_≡_, sym, _∙_}
+use mathlib.Core.Path.{_≡_, refl, sym, _∙_}
 use mathlib.Core.Bool.{true, false}
 use Rattle.rules.proofs.Ranges.{both, both-left, not-both, not-first, size-range}
 use Rattle.check_spec.specs.Input.{Input, input, short, sizesInRange, inRanges}
@@ -10,20 +10,27 @@ use borrow.Author.Needs.{needs}
 use Rattle.check_lists.proofs.check.Statement.{statement}
 use Rattle.check_lists.proofs.check.Tie as tie
 
--- stages on the way: from the test of the lengths and from that of n, s and t to the start, and after the right side, what is allowed, and all lists
+-- stages on the way: from the test of the lengths and from that of n, s and t to the start, and after the slacks, the sums, the right side, what is allowed, and
+-- all lists
 abbrev start1 : tie.Else1 → tie.Start
 start1 c = c .before .before .before .before
 
 abbrev start2 : tie.Then2 → tie.Start
 start2 c = start1 (c .before .before)
 
+abbrev at-slacks : tie.After-row-sums-of → tie.After-slacks-of
+at-slacks u = u .before .before
+
+abbrev at-sums : tie.After-scaled-right → tie.After-row-sums-of
+at-sums r = r .before .before
+
 abbrev at-right : tie.After-allowed-of → tie.After-scaled-right
-at-right a = a .before .before .before
+at-right a = a .before .before .before .before
 
 abbrev at-allowed : tie.After-allowed-of2 → tie.After-allowed-of
-at-allowed z = z .before .before .before
+at-allowed z = z .before .before .before .before
 
-abbrev ready : tie.After-slacks2 → tie.After-allowed-of2
+abbrev ready : tie.After-slacks3 → tie.After-allowed-of2
 ready c = c .before .before .before .before
 
 abbrev I : tie.Start → Input
@@ -47,21 +54,32 @@ within c = both (sizes (c .before .before)) (sym (c .before .are-lists-in-range 
 fit : (c : tie.Then3) → Fit (I (start c))
 fit c = fit-of (I (start c)) (long (c .before .before .before .before)) (within c)
 
+-- the last test, from the slacks, the sums and the right side
+abbrev tested : tie.After-slacks-of → tie.Then3
+tested k = k .before .before
+
+abbrev tested1 : tie.After-row-sums-of → tie.Then3
+tested1 u = tested (at-slacks u)
+
+abbrev tested2 : tie.After-scaled-right → tie.Then3
+tested2 r = tested1 (at-sums r)
+
 -- what is handed to the reckoning
 abbrev admitted : tie.After-allowed-of2 → tie.Then3
-admitted c = at-right (at-allowed c) .before .before .before
+admitted c = tested2 (at-right (at-allowed c))
 
 handed : (c : tie.After-allowed-of2) →
-    Handed (I (start (admitted c))) (at-right (at-allowed c) .scaled-right .result) (at-allowed c .allowed-of .result) (c .allowed-of2 .result) (at-right (at-allowed c) .before .before .slacks-of .result) (at-right (at-allowed c) .before .row-sums-of .result)
+    let r = at-right (at-allowed c) in
+    Handed (I (start (admitted c))) (r .scaled-right .last .0) (at-allowed c .allowed-of .last .0) (c .allowed-of2 .last .0) (at-slacks (at-sums r) .slacks-of .last .0) (at-sums r .row-sums-of .last .0)
 handed c = record {
-  base-long = search needs;
-  base = at-right (at-allowed c) .scaled-right .ensures;
-  allowed-long = search needs;
-  allowed = at-allowed c .allowed-of .ensures;
-  in-columns-long = search needs;
-  in-columns = c .allowed-of2 .ensures;
-  sums = at-right (at-allowed c) .before .row-sums-of .ensures;
-  slacks = at-right (at-allowed c) .before .before .slacks-of .ensures;
+  base-long = at-right (at-allowed c) .scaled-right .ensures .0;
+  base = at-right (at-allowed c) .scaled-right .ensures .1;
+  allowed-long = at-allowed c .allowed-of .ensures .0;
+  allowed = at-allowed c .allowed-of .ensures .1;
+  in-columns-long = c .allowed-of2 .ensures .0;
+  in-columns = c .allowed-of2 .ensures .1;
+  sums = at-sums (at-right (at-allowed c)) .row-sums-of .ensures .1;
+  slacks = at-slacks (at-sums (at-right (at-allowed c))) .slacks-of .ensures .1;
 }
 
 is-short-requires : tie.Need-is-short-requires
@@ -80,21 +98,21 @@ are-lists-in-range-requires c κs =
 
 slacks-of-requires : tie.Need-slacks-of-requires
 slacks-of-requires c κs =
-    let x = fit c in ((x .solution-scale, x .n-max), x .tolerance)
+    let x = fit (c .before) in ((x .solution-scale, (x .n-max, refl)), x .tolerance)
 
 row-sums-of-requires : tie.Need-row-sums-of-requires
 row-sums-of-requires c κs =
-    let x = fit (c .before) in (x .n-max, x .matrix)
+    let x = fit (tested (c .before)) in ((x .n-max, refl), x .matrix)
 
 scaled-right-requires : tie.Need-scaled-right-requires
 scaled-right-requires c κs =
-    let x = fit (c .before .before) in ((x .solution-scale, x .n-max), x .right)
+    let x = fit (tested1 (c .before)) in ((x .solution-scale, (x .n-max, refl)), x .right)
 
 allowed-of-requires : tie.Need-allowed-of-requires
-allowed-of-requires c κs = fit (c .before .before .before .before .before) .n-max
+allowed-of-requires c κs = (fit (tested2 (c .before .before .before)) .n-max, refl)
 
 allowed-of-requires-2 : tie.Need-allowed-of-requires-2
-allowed-of-requires-2 c κs = fit (at-right (c .before .before) .before .before .before) .n-max
+allowed-of-requires-2 c κs = (fit (tested2 (at-right (c .before .before .before))) .n-max, refl)
 
 compute-bounds-requires : tie.Need-compute-bounds-requires
 compute-bounds-requires c κs =

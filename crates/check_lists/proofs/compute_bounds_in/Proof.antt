@@ -1,4 +1,4 @@
-use mathlib.Core.Path.{_≡_}
+use mathlib.Core.Path.{_≡_, refl}
 use Prim.Native.Nat.{_*_, _≤_}
 use native.Mathlib.Omega.{arith}
 use lib.Dec.{lit≤}
@@ -21,27 +21,27 @@ abbrev at-start : tie.After-slice-known4 → tie.Start
 at-start c = c .before .before .before .before
 
 abbrev at-columns : tie.After-margins-of → tie.After-inverse-residuals-of
-at-columns m = m .before .before .before .before
+at-columns m = m .before .before .before .before .before
 
 abbrev at-margins : tie.After-first-zero → tie.After-margins-of
-at-margins z = z .before .before .before
+at-margins z = z .before .before .before .before
 
 abbrev at-zero : tie.After-first-above-in-columns → tie.After-first-zero
 at-zero c = c .before .before .before .before
 
 abbrev judged : tie.After-caps-of → tie.After-judge
-judged c = c .before .before .before .before
+judged c = c .before .before .before .before .before
 
-abbrev at-caps : tie.After-caps → tie.After-caps-of
+abbrev at-caps : tie.After-caps2 → tie.After-caps-of
 at-caps c = c .before .before .before .before
 
 abbrev stored : tie.After-store-columns-arg2 → tie.After-store
 stored c = c .before .before .before .before
 
-abbrev at-limits : tie.After-caps2 → tie.After-store-columns-arg2
+abbrev at-limits : tie.After-caps3 → tie.After-store-columns-arg2
 at-limits c = c .before .before .before .before
 
-abbrev solved : tie.After-caps2 → tie.After-caps
+abbrev solved : tie.After-caps3 → tie.After-caps2
 solved c = stored (at-limits c) .before .before .before
 
 abbrev returned : tie.After-slice-known8 → tie.After-inverse-bounds
@@ -67,8 +67,8 @@ residuals-are : (c : tie.After-inverse-residuals-of) →
 residuals-are c = columns-are (W (begun (biased-before c))) (biased-before c .bias-rows .ensures) (c .inverse-residuals-of .ensures)
 
 -- the lengths of the lists
-length-is : (c : tie.After-residuals-of) → length (c .residuals-of .result) ≡ 32
-length-is c = search needs
+length-is : (c : tie.After-residuals-of) → length (c .residuals-of .last .0) ≡ 32
+length-is c = c .residuals-of .ensures .0
 
 same-rows : (c : tie.After-bias-rows) → length (c .bias-rows .last .0) ≡ length (begun c .args .rows .now)
 same-rows c = search needs
@@ -84,7 +84,7 @@ abbrev with-margins : tie.After-judge → tie.After-margins-of
 with-margins j = at-margins (at-zero (j .before))
 
 abbrev looked : tie.After-judge → tie.After-are-symmetric
-looked j = with-margins j .before .before
+looked j = with-margins j .before .before .before
 
 abbrev known : tie.After-judge → tie.After-inverse-residuals-of
 known j = looked j .before .before
@@ -96,11 +96,11 @@ abbrev start : tie.After-judge → tie.Start
 start j = begun (biased j)
 
 abbrev worked : (j : tie.After-judge) →
-    WorkedOut (W (start j)) (biased j .bias-rows .last .0) (with-margins j .margins-of .result) (at-zero (j .before) .before .before .residuals-of .result) (known j .inverse-residuals-of .last .0) (j .judge .result)
+    WorkedOut (W (start j)) (biased j .bias-rows .last .0) (with-margins j .margins-of .last .0) (at-zero (j .before) .before .before .residuals-of .last .0) (known j .inverse-residuals-of .last .0) (j .judge .result)
 worked j = record {
   biased = biased j .bias-rows .ensures;
-  hm = margins-are (W (start j)) (with-margins j .margins-of .ensures);
-  hr = at-zero (j .before) .before .before .residuals-of .ensures;
+  hm = margins-are (W (start j)) (with-margins j .margins-of .ensures .1);
+  hr = at-zero (j .before) .before .before .residuals-of .ensures .1;
   hc = residuals-are (known j);
   m = at-zero (j .before) .first-zero .result;
   k = j .before .before .before .first-above .result;
@@ -124,15 +124,15 @@ are-symmetric-requires c κs = let p = begun (biased-before (c .before)) .pre in
 
 margins-of-requires : tie.Need-margins-of-requires
 margins-of-requires c κs =
-    let k = c .before .before .before in
+    let k = c .before .before .before .before in
     let p = begun (biased-before k) .pre .1 in
-    ((p .inverse-scale, (p .n-max, long-columns k)), (search (p .matrix, p .inverse), (search (p .matrix, p .inverse), (residuals-are k, (c .before .are-symmetric .ensures, p .weights)))))
+    ((p .inverse-scale, (p .n-max, (refl, long-columns k))), (search (p .matrix, p .inverse), (search (p .matrix, p .inverse), (residuals-are k, (c .before .before .are-symmetric .ensures, p .weights)))))
 
 residuals-of-requires : tie.Need-residuals-of-requires
-residuals-of-requires c κs = let p = begun (biased-before (at-columns c)) .pre .1 in (p .n-max, (p .base, (p .matrix, p .guess)))
+residuals-of-requires c κs = let p = begun (biased-before (at-columns (c .before))) .pre .1 in ((p .n-max, refl), (p .base, (p .matrix, p .guess)))
 
 first-zero-requires : tie.Need-first-zero-requires
-first-zero-requires c κs = begun (biased-before (at-columns (c .before .before))) .pre .1 .n-max
+first-zero-requires c κs = begun (biased-before (at-columns (c .before .before .before))) .pre .1 .n-max
 
 slice-aggregate-first-above : tie.Need-slice-aggregate-first-above
 slice-aggregate-first-above c = search needs
@@ -159,18 +159,18 @@ enum-told c = search needs
 
 caps-of-requires : tie.Need-caps-of-requires
 caps-of-requires c κs =
-    let j = c .before .before .before in
+    let j = c .before .before .before .before in
     let s = start j in
     let p = s .pre .1 in
-    ((p .n-pos, p .n-max), (p .weights, weighed-here (W s) p (worked j) (c .before .enum-told .given .1)))
+    ((p .n-pos, (p .n-max, refl)), (p .weights, weighed-here (W s) p (worked j) (c .before .before .enum-told .given .1)))
 
 column-bounds-requires : tie.Need-column-bounds-requires
 column-bounds-requires c κs =
     let j = judged (at-caps c) in
     let s = start j in
     let p = s .pre .1 in
-    let e = at-caps c .before .before .enum-told .given .1 in
-    ((p .n-pos, p .n-max), (rows-are (biased j), (near-here (W s) p (worked j) e, (positive-here (W s) p (worked j) e, (p .weights, at-caps c .caps-of .ensures)))))
+    let e = at-caps c .before .before .before .enum-told .given .1 in
+    ((p .n-pos, p .n-max), (rows-are (biased j), (near-here (W s) p (worked j) e, (positive-here (W s) p (worked j) e, (p .weights, at-caps c .caps-of .ensures .1)))))
 
 store-requires : tie.Need-store-requires
 store-requires c κs =
@@ -182,7 +182,7 @@ store-columns-requires c κs =
     let j = judged (at-caps (solved c)) in
     let s = start j in
     let p = s .pre .1 in
-    let e = at-caps (solved c) .before .before .enum-told .given .1 in (
+    let e = at-caps (solved c) .before .before .before .enum-told .given .1 in (
       (p .n-pos, (p .n-max, (omega (arith, square (p .n-max), p .inverse-long), s .pre .0 .1 .1))),
       (
         rows-are (biased j),
@@ -190,7 +190,7 @@ store-columns-requires c κs =
           columns-here (W s) p (worked j) e (long-columns (known j)),
           (
             (λ y. let both = looked j .are-symmetric .ensures y in symmetric-product (W s) (biased j .bias-rows .ensures) (residuals-are (known j)) (both .0) (both .1)),
-            (positive-here (W s) p (worked j) e, (p .weights, at-caps (solved c) .caps-of .ensures)),
+            (positive-here (W s) p (worked j) e, (p .weights, at-caps (solved c) .caps-of .ensures .1)),
           ),
         ),
       ),
@@ -225,7 +225,7 @@ same-length-7 c = search needs
 returns-2 : tie.Need-returns-2
 returns-2 c =
     let z = returned c .before .before in
-    let told = at-caps (solved z) .before .before in
+    let told = at-caps (solved z) .before .before .before in
     let j = told .before .before in
     let s = stored (at-limits z) in
     accepted-here (W (start j)) (start j .pre .1) (worked j) (told .enum-told .given .1) (s .before .before .column-bounds .ensures) (s .store .ensures) (returned c .before .store-columns .ensures)

@@ -20,19 +20,19 @@ long d = search needs
 
 margins-from-requires : tie.Need-margins-from-requires
 margins-from-requires c κs =
-    let s = c .before in
+    let s = c .before .before in
     let p = s .pre in (
-      (p .0 .0, p .0 .1 .0),
+      (p .0 .0, (p .0 .1 .0, p .0 .1 .1 .0)),
       (
-        defects-within (s .args .n) (s .args .t) (s .args .matrix .now) (s .args .inverse .now) (p .0 .0) (p .0 .1 .0) (p .1 .0) (p .1 .1 .0) (p .0 .1 .1) (symmetric-are c),
+        defects-within (s .args .n) (s .args .t) (s .args .matrix .now) (s .args .inverse .now) (p .0 .0) (p .0 .1 .0) (p .1 .0) (p .1 .1 .0) (p .0 .1 .1 .1) (symmetric-are (c .before)),
         p .1 .1 .1 .1 .1,
       ),
     )
 
 returns : tie.Need-returns
 returns c =
-    let s = c .before .before in
-    defect-margins (s .args .n) (s .args .t) (s .args .matrix .now) (s .args .inverse .now) (s .args .weights .now) (symmetric-are (c .before)) (c .margins-from .ensures)
+    let s = c .before .before .before in
+    (c .margins-from .ensures .0, defect-margins (s .args .n) (s .args .t) (s .args .matrix .now) (s .args .inverse .now) (s .args .weights .now) (symmetric-are (c .before .before)) (c .margins-from .ensures .1))
 
 defects-of-requires : tie.Need-defects-of-requires
 defects-of-requires c κs = search needs
@@ -43,9 +43,9 @@ slice-aggregate-margins-from c = search needs
 margins-from-requires-2 : tie.Need-margins-from-requires-2
 margins-from-requires-2 c κs =
     let d = c .before in
-    let s = d .before .before in
+    let s = d .before .before .before in
     let p = s .pre in (
-      (p .0 .0, p .0 .1 .0),
+      (p .0 .0, (p .0 .1 .0, p .0 .1 .1 .0)),
       (
         defects-within (s .args .n) (s .args .t) (s .args .matrix .now) (s .args .inverse .now) (p .0 .0) (p .0 .1 .0) (p .1 .0) (p .1 .1 .0) (omega (arith, square (p .0 .1 .0), long d)) (d .defects-of .ensures),
         p .1 .1 .1 .1 .1,
@@ -55,8 +55,8 @@ margins-from-requires-2 c κs =
 returns-2 : tie.Need-returns-2
 returns-2 c =
     let d = c .before .before in
-    let s = d .before .before in
-    defect-margins (s .args .n) (s .args .t) (s .args .matrix .now) (s .args .inverse .now) (s .args .weights .now) (d .defects-of .ensures) (c .margins-from2 .ensures)
+    let s = d .before .before .before in
+    (c .margins-from2 .ensures .0, defect-margins (s .args .n) (s .args .t) (s .args .matrix .now) (s .args .inverse .now) (s .args .weights .now) (d .defects-of .ensures) (c .margins-from2 .ensures .1))
 
 pub margins-of-spec : {M : Type 1} → statement M
 margins-of-spec =

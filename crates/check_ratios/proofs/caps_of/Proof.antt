@@ -8,23 +8,23 @@ use lib.ListN.{getD, length, length-set}
 use lib.IntN.{natAbs}
 use native.Mathlib.Omega.{arith}
 use Prim.Native.Nat.{ℕ, _/_, _≤_, _-_}
-use mathlib.Core.Path.{_≡_, refl}
+use mathlib.Core.Path.{_≡_}
 use borrow.Author.Needs.{needs}
 use Rattle.check_ratios.proofs.caps_of.Statement.{statement}
 use Rattle.check_ratios.proofs.caps_of.Tie as tie
 
 abbrev Inv-loop : tie.InvT-loop
-Inv-loop margins weights n most out₀ m₀ out m =
+Inv-loop out₀ margins weights n most m₀ out m =
     (m ≤ n) × ((length out ≡ 32) × PrefixIs 0 out m (λ (k : ℕ). getD margins k 0 / largest n (λ (i : ℕ). natAbs (at weights i))))
 
 abbrev μ-loop : tie.MeasureT-loop
-μ-loop margins weights n most out₀ m₀ out m = n - m
+μ-loop out₀ margins weights n most m₀ out m = n - m
 
 largest-weight-requires : tie.Need-largest-weight-requires Inv-loop μ-loop
 largest-weight-requires c κs = search needs
 
 loop-holds : tie.Need-loop-holds Inv-loop μ-loop
-loop-holds c = (omega arith, (refl, prefix-none _ _ _))
+loop-holds c = (omega arith, (c .before .pre .0 .1 .1, prefix-none _ _ _))
 
 mul-out : tie.Need-mul-out Inv-loop μ-loop
 mul-out c = search needs
@@ -40,8 +40,8 @@ div-out c =
 mul-out-2 : tie.Need-mul-out-2 Inv-loop μ-loop
 mul-out-2 c = search needs
 
-array-write-out : tie.Need-array-write-out Inv-loop μ-loop
-array-write-out c = search needs
+element-write-out : tie.Need-element-write-out Inv-loop μ-loop
+element-write-out c = search needs
 
 add-m : tie.Need-add-m Inv-loop μ-loop
 add-m c = search needs
@@ -57,10 +57,13 @@ loop-again c =
 returns : tie.Need-returns Inv-loop μ-loop
 returns c =
     let s = c .before .before .before in
-    record {
-      weights-pos = s .pre .1 .1;
-      under = λ i m li lm. cap-under (s .args .n) _ i _ _ li (prefix-end 0 (c .before .loop .inv .0) (c .loop-test .left) (c .before .loop .inv .1 .1) .each m lm);
-    }
+    let h = c .before .loop .inv in (
+      h .1 .0,
+      record {
+        weights-pos = s .pre .1 .1;
+        under = λ i m li lm. cap-under (s .args .n) _ i _ _ li (prefix-end 0 (h .0) (c .loop-test .left) (h .1 .1) .each m lm);
+      },
+    )
 
 pub caps-of-spec : {M : Type 1} → statement M
 caps-of-spec =
@@ -74,7 +77,7 @@ caps-of-spec =
     element-copy-out-out
     div-out
     mul-out-2
-    array-write-out
+    element-write-out
     add-m
     loop-less
     loop-again

@@ -1,4 +1,4 @@
-use mathlib.Core.Path.{_≡_, refl, _∙_}
+use mathlib.Core.Path.{_≡_, _∙_}
 use Prim.Native.Nat.{_≤_, _-_}
 use native.Mathlib.Omega.{arith}
 use lib.IntN.{pos}
@@ -15,14 +15,14 @@ use Rattle.check_residuals.proofs.residuals_of.Statement.{statement}
 use Rattle.check_residuals.proofs.residuals_of.Tie as tie
 
 abbrev Inv-loop : tie.InvT-loop
-Inv-loop base matrix guess n out₀ row₀ k₀ out row k =
+Inv-loop out₀ base matrix guess n row₀ k₀ out row k =
     (k ≤ n) × (Carried 0 n k row × ((length out ≡ 32) × PrefixIs (pos 0) out k (residualFrom n base matrix guess)))
 
 abbrev μ-loop : tie.MeasureT-loop
-μ-loop base matrix guess n out₀ row₀ k₀ out row k = n - k
+μ-loop out₀ base matrix guess n row₀ k₀ out row k = n - k
 
 loop-holds : tie.Need-loop-holds Inv-loop μ-loop
-loop-holds c = (omega arith, (carried-first _ _, (refl, prefix-none _ _ _)))
+loop-holds c = (omega arith, (carried-first _ _, (c .pre .0 .1, prefix-none _ _ _)))
 
 mul-difference : tie.Need-mul-difference Inv-loop μ-loop
 mul-difference c = search needs
@@ -35,18 +35,18 @@ difference-requires c κs =
     let t = c .before in
     let s = t .before .before in
     let l = t .before .loop in (
-      (s .pre .0, (t .loop-test .taken, rw (read _ (c .difference-arg .given)) (s .pre .1 .0 .within .magnitudes (l .k) (t .loop-test .taken)))),
+      (s .pre .0 .0, (t .loop-test .taken, rw (read _ (c .difference-arg .given)) (s .pre .1 .0 .within .magnitudes (l .k) (t .loop-test .taken)))),
       (l .inv .1 .0, s .pre .1 .1),
     )
 
-mul-out : tie.Need-mul-out Inv-loop μ-loop
-mul-out c = search needs
+mul-t14 : tie.Need-mul-t14 Inv-loop μ-loop
+mul-t14 c = search needs
 
-array-set-from-out : tie.Need-array-set-from-out Inv-loop μ-loop
-array-set-from-out c = search needs
+element-set-from-out : tie.Need-element-set-from-out Inv-loop μ-loop
+element-set-from-out c = search needs
 
 add-row : tie.Need-add-row Inv-loop μ-loop
-add-row c = let t = c .before .before in omega (arith, t .before .loop .inv .1 .0 .is, row-ends (t .loop-test .taken) (t .before .before .pre .0))
+add-row c = let t = c .before .before in omega (arith, t .before .loop .inv .1 .0 .is, row-ends (t .loop-test .taken) (t .before .before .pre .0 .0))
 
 add-k : tie.Need-add-k Inv-loop μ-loop
 add-k c = search needs
@@ -69,7 +69,7 @@ loop-again c =
     )
 
 returns : tie.Need-returns Inv-loop μ-loop
-returns c = prefix-end _ (c .before .loop .inv .0) (c .loop-test .left) (c .before .loop .inv .1 .1 .1)
+returns c = let i = c .before .loop .inv in (i .1 .1 .0, prefix-end (pos 0) (i .0) (c .loop-test .left) (i .1 .1 .1))
 
 pub residuals-of-spec : {M : Type 1} → statement M
 residuals-of-spec =
@@ -81,8 +81,8 @@ residuals-of-spec =
     mul-difference
     element-copy-out-difference
     difference-requires
-    mul-out
-    array-set-from-out
+    mul-t14
+    element-set-from-out
     add-row
     add-k
     loop-less

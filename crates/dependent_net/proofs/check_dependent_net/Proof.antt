@@ -1,11 +1,11 @@
-use mathlib.Core.Path.{_≡_, sym, _∙_}
+use mathlib.Core.Path.{_≡_, refl, sym, _∙_}
 use mathlib.Core.Bool.{true, false}
 use Prim.Native.Nat.{_*_, _≤_, _^_}
 use native.Mathlib.Omega.{arith}
 use native.Mathlib.Nat.{mul-le-mul}
 use borrow.Author.Tests.{lt-ltb, le-ltb, eq-eqb, ne-eqb}
 use lib.Dec.{eqb}
-use lib.ListN.{getD}
+use lib.ListN.{getD, length}
 use Rattle.linear.specs.Reach.{ColumnList}
 use Rattle.linear.specs.Slice.{vectorOf}
 use Rattle.rules.proofs.Ranges.{both, both-left, not-both, not-first, neither, size-range}
@@ -22,18 +22,21 @@ use borrow.Author.Needs.{needs}
 use Rattle.dependent_net.proofs.check_dependent_net.Statement.{statement}
 use Rattle.dependent_net.proofs.check_dependent_net.Tie as tie
 
--- stages on the way: after the test of the lengths, the right side with its coupling, the sums along the rows, what is allowed, and all lists
+-- stages on the way: after the test of the lengths, the right side with its coupling, the slacks with theirs, the sums along the rows, what is allowed, and all lists
 abbrev at-short : tie.Then4 → tie.Else2
 at-short t = t .before .before .before .before
 
-abbrev at-base : tie.After-row-sums-of → tie.After-base-of
-at-base r = r .before .before .before
+abbrev at-base : tie.After-slacks-with → tie.After-base-of
+at-base w = w .before .before .before
+
+abbrev at-slacks : tie.After-row-sums-of → tie.After-slacks-with
+at-slacks r = r .before .before
 
 abbrev at-sums : tie.After-allowed-of → tie.After-row-sums-of
-at-sums a = a .before .before .before
+at-sums a = a .before .before .before .before
 
 abbrev at-allowed : tie.After-allowed-of2 → tie.After-allowed-of
-at-allowed z = z .before .before .before
+at-allowed z = z .before .before .before .before
 
 abbrev ready : tie.After-slacks2 → tie.After-allowed-of2
 ready c = c .before .before .before .before
@@ -96,27 +99,42 @@ coupled c =
     coupling-list _ _ _ (fit c .n-max) (start6 c .pre .0) (at-short (c .before .before .before) .before .before .if1 .left)
     (sym (c .before .all-in-range .ensures) ∙ c .if6 .taken)
 
+-- the last test, from the right side with its coupling, and from the sums along the rows
+abbrev tested : tie.After-base-of → tie.Then6
+tested b = b .before .before .before
+
+abbrev tested2 : tie.After-row-sums-of → tie.Then6
+tested2 r = tested (at-base (at-slacks r))
+
+base-length : (b : tie.After-base-of) → length (b .base-of .result) ≡ 32
+base-length b = search needs
+
 -- what is handed to the reckoning
 abbrev place : tie.After-allowed-of2 → tie.Then6
-place z = at-base (at-sums (at-allowed z)) .before .before
+place z = tested2 (at-sums (at-allowed z))
 
 handed : (z : tie.After-allowed-of2) →
+    let r = at-sums (at-allowed z) in
+    let w = at-slacks r in
     HandedDependent (start6 (place z) .args .marks) (start6 (place z) .args .main-guess .now) (start6 (place z) .args .main-limits) (start6 (place z) .args .coupling .now) (I (start6 (place z)))
-    (at-base (at-sums (at-allowed z)) .before .scaled-right .result) (at-base (at-sums (at-allowed z)) .base-of .result) (at-sums (at-allowed z) .before .before .slacks-of .result)
-    (at-sums (at-allowed z) .before .slacks-with .result) (at-allowed z .allowed-of .result) (at-sums (at-allowed z) .row-sums-of .result) (z .allowed-of2 .result)
-handed z = record {
-  scaled-long = search needs;
-  scaled = at-base (at-sums (at-allowed z)) .before .scaled-right .ensures;
-  base-long = search needs;
-  base = at-base (at-sums (at-allowed z)) .base-of .ensures;
-  own = at-sums (at-allowed z) .before .before .slacks-of .ensures;
-  slacks = at-sums (at-allowed z) .before .slacks-with .ensures;
-  allowed-long = search needs;
-  allowed = at-allowed z .allowed-of .ensures;
-  sums = at-sums (at-allowed z) .row-sums-of .ensures;
-  in-columns-long = search needs;
-  in-columns = z .allowed-of2 .ensures;
-}
+    (at-base w .before .scaled-right .last .0) (at-base w .base-of .result) (w .before .slacks-of .last .0) (w .slacks-with .result) (at-allowed z .allowed-of .last .0) (r .row-sums-of .last .0)
+    (z .allowed-of2 .last .0)
+handed z =
+    let r = at-sums (at-allowed z) in
+    let w = at-slacks r in
+    record {
+      scaled-long = at-base w .before .scaled-right .ensures .0;
+      scaled = at-base w .before .scaled-right .ensures .1;
+      base-long = base-length (at-base w);
+      base = at-base w .base-of .ensures;
+      own = w .before .slacks-of .ensures .1;
+      slacks = w .slacks-with .ensures;
+      allowed-long = at-allowed z .allowed-of .ensures .0;
+      allowed = at-allowed z .allowed-of .ensures .1;
+      sums = r .row-sums-of .ensures .1;
+      in-columns-long = z .allowed-of2 .ensures .0;
+      in-columns = z .allowed-of2 .ensures .1;
+    }
 
 returns : tie.Need-returns
 returns c = dependent-short (D (c .before .before .before)) (rw (lt-ltb _ _ (c .if1 .taken)))
@@ -147,40 +165,40 @@ all-in-range-requires c κs =
 
 scaled-right-requires : tie.Need-scaled-right-requires
 scaled-right-requires c κs =
-    let x = fit c in ((x .solution-scale, x .n-max), x .right)
+    let x = fit (c .before) in ((x .solution-scale, (x .n-max, refl)), x .right)
 
 base-of-requires : tie.Need-base-of-requires
 base-of-requires c κs =
-    let t = c .before in
+    let t = c .before .before in
     let x = fit t in (
       (start6 t .pre .0, x .n-max),
       (
-        scaled-list (I (start6 t)) x (search needs) (c .scaled-right .ensures),
+        scaled-list (I (start6 t)) x (c .scaled-right .ensures .0) (c .scaled-right .ensures .1),
         (coupled t, start6 t .pre .1),
       ),
     )
 
 slacks-of-requires : tie.Need-slacks-of-requires
 slacks-of-requires c κs =
-    let x = fit (c .before .before) in ((x .solution-scale, x .n-max), x .tolerance)
+    let x = fit (tested (c .before)) in ((x .solution-scale, (x .n-max, refl)), x .tolerance)
 
 slacks-with-requires : tie.Need-slacks-with-requires
 slacks-with-requires c κs =
-    let t = c .before .before .before in
+    let t = tested (c .before .before) in
     let x = fit t in (
       (start6 t .pre .0, x .n-max),
-      (own-slacks (I (start6 t)) x (c .slacks-of .ensures), coupled t),
+      (own-slacks (I (start6 t)) x (c .slacks-of .ensures .1), coupled t),
     )
 
 row-sums-of-requires : tie.Need-row-sums-of-requires
 row-sums-of-requires c κs =
-    let x = fit (c .before .before .before .before) in (x .n-max, x .matrix)
+    let x = fit (tested (at-base (c .before))) in ((x .n-max, refl), x .matrix)
 
 allowed-of-requires : tie.Need-allowed-of-requires
-allowed-of-requires c κs = fit (at-base (c .before .before) .before .before) .n-max
+allowed-of-requires c κs = (fit (tested2 (c .before .before .before)) .n-max, refl)
 
 allowed-of-requires-2 : tie.Need-allowed-of-requires-2
-allowed-of-requires-2 c κs = fit (at-base (at-sums (c .before .before)) .before .before) .n-max
+allowed-of-requires-2 c κs = (fit (tested2 (at-sums (c .before .before .before))) .n-max, refl)
 
 compute-bounds-requires : tie.Need-compute-bounds-requires
 compute-bounds-requires c κs =
