@@ -53,7 +53,7 @@ MUTANTS_HERE = {
     "a term of biased rows": ("check_biased_rows/src/lib.rt", "        at_b += 1;", "        at_b = q + (k + 1) * 1;"),
     "the start of a biased row": ("check_biased_rows/src/lib.rt", "        place += n + 1;", "        place = (i + 1) * (n + 1);"),
     "a row of the defect": ("check_margins/src/lib.rt", "margin_of(t, defects, weights, ones, n, m, row)", "margin_of(t, defects, weights, ones, n, m, m * n)"),
-    "a row of the matrix": ("check_defects/src/lib.rt", "store_row(out, t, m, xs, start, stride, rows, n)", "store_row(out, t, m, xs, m * step, stride, rows, n)"),
+    "a row of the matrix": ("check_defects/src/lib.rt", "store_row(out, &mut sums, t, m, xs, start, stride, rows, n)", "store_row(out, &mut sums, t, m, xs, m * step, stride, rows, n)"),
     "a biased row of the inverse": ("check_defects/src/lib.rt", "        row += n + 1;", "        row = (k + 1) * (n + 1);"),
     "a place across the diagonal": ("check_symmetry/src/lib.rt", "        down += n;", "        down = (j + 1) * n + i;"),
     "a row of p": ("check_bounds/src/lib.rt", "out[m] = magnitude(row_dot(rows, m, row, residuals, 0, 0, n))", "out[m] = magnitude(row_dot(rows, m, m * (n + 1), residuals, 0, 0, n))"),

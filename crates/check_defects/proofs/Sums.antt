@@ -1,5 +1,6 @@
 -- The sums over all rows.
---   no-sums, sums-none, sums-more, sums-end — at none, with one row more and at the end, for loops
+--   none-cleared, one-cleared, all-cleared — at none, with the sums of one number more and at the end, for the loop that clears them
+--   sums-none, sums-more, sums-end — at none, with one row more and at the end, for loops
 --   ups-small, downs-small, sums-room, total-small, biased-small — the sums, the sum of the factors and 2^25 times it stay small
 --   unit-up, unit-down — what adding number m, m of T·I to its sum leaves of the two sums of number j;  unit-small — it stays small
 --   sums-less — the two sums with that, put right, are T·I less the sum of the multiples of what the biased numbers stand for
@@ -9,9 +10,10 @@ use Prim.Native.Nat.{ℕ, zero, suc, _+_, _*_, _≤_, _<_, _^_}
 use native.Mathlib.Omega.{arith}
 use native.Mathlib.Nat.{le-refl, mul-le-mul, mul-le-mul-right, le-trans, le-antisymm}
 use lib.IntN.{ℤ, pos, natAbs, _+ℤ_, _-ℤ_, _*ℤ_}
-use lib.ListN.{getD, length, set, replicate, getD-replicate}
+use lib.ListN.{getD, length, set, length-set}
 use lib.Seq.{getD-set-same, getD-set-other}
 use native.Mathlib.Decide.{ℕ-discrete}
+use borrow.Author.Count.{below-more}
 use Rattle.integer.specs.SignedParts.{posPart, negPart}
 use Rattle.integer.specs.Finite.{sum, sumℕ}
 use Rattle.integer.proofs.Difference.{is, zz}
@@ -20,21 +22,33 @@ use Rattle.integer.proofs.Sum.{sumℕ-none, sumℕ-next, sumℕ≤, abs-sum≤}
 use Rattle.check_biased_rows.specs.Biased.{bias, unbiased, unbiasedRows}
 use Rattle.check_biased_rows.specs.Place.{biasedPlace}
 use Rattle.linear.specs.Matrix.{identity}
-use Rattle.check_arrays.specs.Arrays.{PrefixIs}
 use Rattle.check_arrays.proofs.Magnitudes.{unit-magnitude, unit-same, unit-other}
 use Rattle.check_defects.proofs.Halves.{signs, up-magnitude, down-magnitude}
-use Rattle.check_defects.specs.Sums.{SmallSums, Added, SumsOf}
+use Rattle.check_defects.specs.Sums.{NoSums, SmallSums, Added, SumsOf}
+
+-- ---- clearing the sums
+pub none-cleared : {sums : List ℕ} → length sums ≡ 64 → NoSums sums 0
+none-cleared long = record { long = long; ups = λ j l. absurd (omega arith); downs = λ j l. absurd (omega arith) }
+
+pub one-cleared : (sums : List ℕ) (n : ℕ) → n < 32 → NoSums sums n → NoSums (set (set sums n 0) (32 + n) 0) (n + 1)
+one-cleared sums n l h = record {
+  long = simp length-set (h .long);
+  ups = below-more (λ j. getD (set (set sums n 0) (32 + n) 0) j 0 ≡ 0) n
+      (λ j p. getD-set-other (set sums n 0) (32 + n) j 0 0 (omega arith) ∙ getD-set-other sums n j 0 0 (omega arith) ∙ h .ups j p)
+      (getD-set-other (set sums n 0) (32 + n) n 0 0 (omega arith) ∙ getD-set-same sums n 0 0 (omega (arith, h .long)));
+  downs = below-more (λ j. getD (set (set sums n 0) (32 + n) 0) (32 + j) 0 ≡ 0) n
+      (λ j p. getD-set-other (set sums n 0) (32 + n) (32 + j) 0 0 (omega arith) ∙ getD-set-other sums n (32 + j) 0 0 (omega arith) ∙ h .downs j p)
+      (getD-set-same (set sums n 0) (32 + n) 0 0 (omega (arith, length-set sums n 0, h .long)));
+}
+
+pub all-cleared : {sums : List ℕ} {j n : ℕ} → j ≤ n → n ≤ j → NoSums sums j → NoSums sums n
+all-cleared {sums} a b h = subst (λ (k : ℕ). NoSums sums k) (le-antisymm a b) h
 
 -- ---- row after row
-pub no-sums : PrefixIs {A = ℕ} 0 (replicate 64 0) 64 (λ (j : ℕ). 0)
-no-sums = record { each = λ j l. getD-replicate 64 j 0 0 l }
 
 module _ (n : ℕ) (xs : ℕ → ℤ) (rows : ℕ → ℕ → ℕ) where
-  pub sums-none : {sums : List ℕ} → n ≤ 32 → PrefixIs 0 sums 64 (λ (j : ℕ). 0) → SumsOf sums n 0 xs rows
-  sums-none n-max h = record {
-    ups = λ j l. h .each j (omega arith) ∙ sym (sumℕ-none _);
-    downs = λ j l. h .each (32 + j) (omega arith) ∙ sym (sumℕ-none _);
-  }
+  pub sums-none : {sums : List ℕ} → NoSums sums n → SumsOf sums n 0 xs rows
+  sums-none h = record { ups = λ j l. h .ups j l ∙ sym (sumℕ-none _); downs = λ j l. h .downs j l ∙ sym (sumℕ-none _) }
 
   pub sums-more : {sums after : List ℕ} {x : ℤ} {row : ℕ → ℕ} (k : ℕ) → SumsOf sums n k xs rows → x ≡ xs k → ((j : ℕ) → row j ≡ rows k j) →
       Added sums after n x row → SumsOf after n (k + 1) xs rows

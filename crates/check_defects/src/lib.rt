@@ -16,7 +16,7 @@ ghost use Rattle.enclosure.specs.Problem.{columnOf, problemOf};
 ghost use Rattle.enclosure.specs.Reckoning.{defect, residual};
 ghost use Rattle.check_arrays.specs.Arrays.{PrefixIs};
 ghost use Rattle.check_arrays.specs.Parts.{rowsPart};
-ghost use Rattle.check_defects.specs.Sums.{halfOf, SmallSums, Added, SumsOf};
+ghost use Rattle.check_defects.specs.Sums.{halfOf, NoSums, SmallSums, Added, SumsOf};
 ghost use Rattle.check_defects.specs.Difference.{numberLess, difference};
 use check_biased_rows::BIAS;
 use check_biased_rows::ROWS_LENGTH;
@@ -82,6 +82,17 @@ fn number_at(xs: &[i64], start: usize, stride: usize, from: usize, k: usize) -> 
     xs[from]
 }
 
+// Clears the sums of the first n numbers of a row.
+fn clear(sums: &mut [u64; 64], n: usize)
+    requires { ⌜ (n ≤ 32) × (length (now sums) ≡ 64) ⌝ }
+    ensures { λ _. ⌜ NoSums (now (sums .exit)) n ⌝ }
+{
+    for j in 0..n {
+        sums[j] = 0;
+        sums[32 + j] = 0;
+    }
+}
+
 // Adds the multiples of all rows by the numbers of a list, some places apart; gives the sum of these numbers.
 fn add_rows(
     sums: &mut [u64; 64],
@@ -94,7 +105,7 @@ fn add_rows(
     requires { ⌜ (n ≤ 32) × (start + n * stride < 2 ^ 60) ⌝ }
     requires { ⌜ Reach (now xs) start stride n (2 ^ 20) ⌝ }
     requires { ⌜ BiasedRows (now rows) n ⌝ }
-    requires { ⌜ (length (now sums) ≡ 64) × PrefixIs 0 (now sums) 64 (λ (j : ℕ). 0) ⌝ }
+    requires { ⌜ NoSums (now sums) n ⌝ }
     ensures { λ r. ⌜ (r ≡ sum n (λ (k : ℕ). at (now (xs .entry)) (start + k * stride)))
         × ((length (now (sums .exit)) ≡ 64)
         × SumsOf (now (sums .exit)) n n (λ (k : ℕ). at (now (xs .entry)) (start + k * stride))
@@ -130,9 +141,10 @@ fn number_less(biased: i64, up: u64, down: u64) -> i64
     biased + down as i64 - up as i64
 }
 
-// Number m of every column of the differences, from the numbers of the list from place start on.
+// Number m of every column of the differences, from the numbers of the list from place start on. The sums are lent to work in.
 fn store_row(
     out: &mut [i64],
+    sums: &mut [u64; 64],
     t: u32,
     m: usize,
     xs: &[i64],
@@ -141,15 +153,15 @@ fn store_row(
     rows: &[u64],
     n: usize,
 )
-    requires { ⌜ (t ≤ 20) × ((n ≤ 32) × ((m < n) × ((start + n * stride < 2 ^ 60) × (n * n ≤ length (now out))))) ⌝ }
+    requires { ⌜ (t ≤ 20) × ((n ≤ 32) × ((m < n) × ((start + n * stride < 2 ^ 60) × ((length (now sums) ≡ 64) × (n * n ≤ length (now out)))))) ⌝ }
     requires { ⌜ Reach (now xs) start stride n (2 ^ 20) ⌝ }
     requires { ⌜ BiasedRows (now rows) n ⌝ }
-    ensures { λ _. ⌜ now (out .exit) ≡ written (now (out .entry)) m n
-        (λ (j : ℕ). numberLess t (now (xs .entry)) start stride (now (rows .entry)) n m j) n ⌝ }
+    ensures { λ _. ⌜ (length (now (sums .exit)) ≡ 64) × (now (out .exit) ≡ written (now (out .entry)) m n
+        (λ (j : ℕ). numberLess t (now (xs .entry)) start stride (now (rows .entry)) n m j) n) ⌝ }
 {
-    let mut sums = [0u64; 64];
-    let biased = BIAS as i64 * add_rows(&mut sums, xs, start, stride, rows, n);
-    add_unit(&mut sums, t, m);
+    clear(sums, n);
+    let biased = BIAS as i64 * add_rows(sums, xs, start, stride, rows, n);
+    add_unit(sums, t, m);
     let mut place = m;
     for j in 0..n {
         out[place] = number_less(biased, sums[j], sums[32 + j]);
@@ -173,9 +185,10 @@ fn differences_of(
     ensures { λ _. ⌜ PrefixIs (pos 0) (now (out .exit)) (n * n)
         (λ (i : ℕ). difference n t (now (xs .entry)) step stride (now (rows .entry)) (i / n) (i % n)) ⌝ }
 {
+    let mut sums = [0u64; 64];
     let mut start = 0;
     for m in 0..n {
-        store_row(out, t, m, xs, start, stride, rows, n);
+        store_row(out, &mut sums, t, m, xs, start, stride, rows, n);
         start += step;
     }
 }

@@ -61,7 +61,7 @@ x-is c =
     ap (λ (z : ℤ). toZ w64 (ofZ w64 z)) (c .number-at .ensures) ∙ read-at (start t .args .xs .now) refl (start t .pre .1 .0 .magnitudes (t .before .loop .k) (t .loop-test .taken))
 
 loop-holds : tie.Need-loop-holds Inv-loop μ-loop
-loop-holds c = (omega arith, ((carried-first _ _, carried-first _ _), (rw (sum-none _), (c .before .pre .1 .1 .1 .0, sums-none _ _ _ (c .before .pre .0 .0) (c .before .pre .1 .1 .1 .1)))))
+loop-holds c = (omega arith, ((carried-first _ _, carried-first _ _), (rw (sum-none _), (c .before .pre .1 .1 .1 .long, sums-none _ _ _ (c .before .pre .1 .1 .1)))))
 
 number-at-requires : tie.Need-number-at-requires Inv-loop μ-loop
 number-at-requires c κs =

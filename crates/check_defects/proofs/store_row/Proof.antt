@@ -1,8 +1,8 @@
-use mathlib.Core.Path.{_≡_, refl, sym, ap, _∙_}
+use mathlib.Core.Path.{_≡_, sym, ap, _∙_}
 use Prim.Native.Nat.{ℕ, _+_, _*_, _≤_, _<_, _-_, _^_}
 use native.Mathlib.Omega.{arith}
 use lib.IntN.{ℤ, pos, natAbs, _*ℤ_}
-use lib.ListN.{getD, length}
+use lib.ListN.{getD, length, length-set}
 use mir.Syntax.{w64}
 use mir.Val.{SFits, toZ, ofZ}
 use mir.ValLaws.{toZ-ofZ}
@@ -17,17 +17,17 @@ use Rattle.linear.proofs.Written.{written-none, written-more, written-end, writ
 use Rattle.check_biased_rows.specs.Biased.{bias}
 use Rattle.check_biased_rows.specs.Place.{biasedPlace}
 use Rattle.check_defects.specs.Difference.{numberLess}
-use Rattle.check_defects.proofs.Sums.{no-sums, ups-small, downs-small, biased-small, unit-up, unit-small, sums-less}
+use Rattle.check_defects.proofs.Sums.{ups-small, downs-small, biased-small, unit-up, unit-small, sums-less}
 use borrow.Author.Needs.{needs}
 use Rattle.check_defects.proofs.store_row.Statement.{statement}
 use Rattle.check_defects.proofs.store_row.Tie as tie
 
 abbrev Inv-loop : tie.InvT-loop
-Inv-loop out₀ t m xs start stride rows n sums biased place₀ j₀ out place j =
+Inv-loop out₀ sums t m xs start stride rows n biased place₀ j₀ out place j =
     (j ≤ n) × (Carried m n j place × (out ≡ written out₀ m n (λ (i : ℕ). numberLess t xs start stride rows n m i) j))
 
 abbrev μ-loop : tie.MeasureT-loop
-μ-loop out₀ t m xs start stride rows n sums biased place₀ j₀ out place j = n - j
+μ-loop out₀ sums t m xs start stride rows n biased place₀ j₀ out place j = n - j
 
 abbrev X : tie.Start Inv-loop μ-loop → ℕ → ℤ
 X s i = at (s .args .xs .now) (s .args .start + i * s .args .stride)
@@ -35,7 +35,7 @@ X s i = at (s .args .xs .now) (s .args .start + i * s .args .stride)
 -- what all biased numbers have too much of
 module _ (c : tie.After-add-rows Inv-loop μ-loop) where
   abbrev start : tie.Start Inv-loop μ-loop
-  start = c .before .before .before
+  start = c .before .before .before .before .before
 
   biased-most : natAbs (pos bias *ℤ sum (start .args .n) (X start)) ≤ 2 ^ 50
   biased-most = biased-small (X start) (start .pre .0 .1 .0) (start .pre .1 .0 .magnitudes)
@@ -74,6 +74,10 @@ module _ (t : tie.In-loop Inv-loop μ-loop) where
       (unit-small (added t .add-rows .last .0) (before .args .t) (before .args .m) (t .before .loop .j) (added t .add-rows .ensures .1 .0) (before .pre .0 .0) inside
       (downs-small _ _ _ (before .pre .0 .1 .0) (before .pre .1 .0 .magnitudes) (low (added t)) (added t .add-rows .ensures .1 .1) _ (t .loop-test .taken)))
 
+-- the sums with number m, m of T·I are 64
+sums-long : (u : tie.After-add-unit Inv-loop μ-loop) → length (u .add-unit .last .0) ≡ 64
+sums-long u = rw (u .add-unit .ensures) (simp length-set (u .before .before .add-rows .ensures .1 .0))
+
 -- the place in the list
 in-list : (t : tie.In-loop Inv-loop μ-loop) → let n = start (added t) .args .n in (t .before .loop .place < n * n) × (t .before .loop .place + n < 2048)
 in-list t =
@@ -82,12 +86,15 @@ in-list t =
       omega (arith, t .before .loop .inv .1 .0 .is, place (t .loop-test .taken) (s .pre .0 .1 .1 .0), square (s .pre .0 .1 .0), s .pre .0 .1 .0),
     )
 
+clear-requires : tie.Need-clear-requires Inv-loop μ-loop
+clear-requires c κs = let s = c .before .before in (s .pre .0 .1 .0, s .pre .0 .1 .1 .1 .1 .0)
+
 cast-biased : tie.Need-cast-biased Inv-loop μ-loop
 cast-biased c = search needs
 
 add-rows-requires : tie.Need-add-rows-requires Inv-loop μ-loop
 add-rows-requires c κs =
-    let s = c .before .before in ((s .pre .0 .1 .0, s .pre .0 .1 .1 .1 .0), (s .pre .1 .0, (s .pre .1 .1, (refl, no-sums))))
+    let s = c .before .before .before .before in ((s .pre .0 .1 .0, s .pre .0 .1 .1 .1 .0), (s .pre .1 .0, (s .pre .1 .1, c .before .clear .ensures)))
 
 mul-biased : tie.Need-mul-biased Inv-loop μ-loop
 mul-biased c = rw (total-is c) (biased-fits c)
@@ -106,8 +113,8 @@ loop-holds c = (omega arith, (carried-first _ _, sym (written-none _ _ _ _)))
 mul-number-less : tie.Need-mul-number-less Inv-loop μ-loop
 mul-number-less c = search needs
 
-array-read-number-less : tie.Need-array-read-number-less Inv-loop μ-loop
-array-read-number-less c = search needs
+element-copy-out-number-less : tie.Need-element-copy-out-number-less Inv-loop μ-loop
+element-copy-out-number-less c = omega (arith, sums-long (c .before .before))
 
 add-number-less : tie.Need-add-number-less Inv-loop μ-loop
 add-number-less c = search needs
@@ -115,23 +122,27 @@ add-number-less c = search needs
 mul-number-less-2 : tie.Need-mul-number-less-2 Inv-loop μ-loop
 mul-number-less-2 c = search needs
 
-array-read-number-less-2 : tie.Need-array-read-number-less-2 Inv-loop μ-loop
-array-read-number-less-2 c = search needs
+element-copy-out-number-less-2 : tie.Need-element-copy-out-number-less-2 Inv-loop μ-loop
+element-copy-out-number-less-2 c = omega (arith, sums-long (c .before .before .before))
 
 number-less-requires : tie.Need-number-less-requires Inv-loop μ-loop
-number-less-requires c κs = (rw (biased-is (added c)) (biased-most (added c)), (up-most c, down-most c))
+number-less-requires c κs = let t = c .before .before in (rw (biased-is (added t)) (biased-most (added t)), (up-most t, down-most t))
 
-mul-t29 : tie.Need-mul-t29 Inv-loop μ-loop
-mul-t29 c = omega (arith, in-list (c .before) .0, square (start (added (c .before)) .pre .0 .1 .0))
+-- the turn
+abbrev turn : tie.After-number-less Inv-loop μ-loop → tie.In-loop Inv-loop μ-loop
+turn c = c .before .before .before
+
+mul-t30 : tie.Need-mul-t30 Inv-loop μ-loop
+mul-t30 c = omega (arith, in-list (turn c) .0, square (start (added (turn c)) .pre .0 .1 .0))
 
 slice-set-from-out : tie.Need-slice-set-from-out Inv-loop μ-loop
 slice-set-from-out c =
-    let t = c .before in
+    let t = turn c in
     let s = start (added t) in
-    omega (arith, in-list t .0, s .pre .0 .1 .1 .1 .1, ap length (t .before .loop .inv .1 .1), written-length (s .args .out .now) (s .args .m) (s .args .n) (λ (i : ℕ). numberLess (s .args .t) (s .args .xs .now) (s .args .start) (s .args .stride) (s .args .rows .now) (s .args .n) (s .args .m) i) (t .before .loop .j))
+    omega (arith, in-list t .0, s .pre .0 .1 .1 .1 .1 .1, ap length (t .before .loop .inv .1 .1), written-length (s .args .out .now) (s .args .m) (s .args .n) (λ (i : ℕ). numberLess (s .args .t) (s .args .xs .now) (s .args .start) (s .args .stride) (s .args .rows .now) (s .args .n) (s .args .m) i) (t .before .loop .j))
 
 add-place : tie.Need-add-place Inv-loop μ-loop
-add-place c = omega (arith, in-list (c .before) .1)
+add-place c = omega (arith, in-list (turn c) .1)
 
 add-j : tie.Need-add-j Inv-loop μ-loop
 add-j c = search needs
@@ -141,7 +152,7 @@ loop-less c = search needs
 
 loop-again : tie.Need-loop-again Inv-loop μ-loop
 loop-again c =
-    let t = c .before in
+    let t = turn c in
     let a = added t in
     let s = start a in
     let l = t .before .loop in (
@@ -157,7 +168,7 @@ same-length : tie.Need-same-length Inv-loop μ-loop
 same-length c = ap length (c .before .loop .inv .1 .1) ∙ written-length _ _ _ _ (c .before .loop .j)
 
 returns : tie.Need-returns Inv-loop μ-loop
-returns c = c .before .loop .inv .1 .1 ∙ written-end _ _ _ _ (c .before .loop .inv .0) (c .loop-test .left)
+returns c = let i = c .before .loop .inv in (sums-long (c .before .before), i .1 .1 ∙ written-end _ _ _ _ (i .0) (c .loop-test .left))
 
 pub store-row-spec : {M : Type 1} → statement M
 store-row-spec =
@@ -165,18 +176,19 @@ store-row-spec =
     (tie.spec
     Inv-loop
     μ-loop
+    clear-requires
     cast-biased
     add-rows-requires
     mul-biased
     add-unit-requires
     loop-holds
     mul-number-less
-    array-read-number-less
+    element-copy-out-number-less
     add-number-less
     mul-number-less-2
-    array-read-number-less-2
+    element-copy-out-number-less-2
     number-less-requires
-    mul-t29
+    mul-t30
     slice-set-from-out
     add-place
     add-j
