@@ -1,9 +1,9 @@
 """Document 01's desk: it collects forms line by line and fills the lists; and the loader of the library, nine numbers beside six lists, step by step."""
 
-from functools import cached_property
+from typing import NamedTuple
 
 from calls.check.oracle import COLUMN, KINDS, MATRIX, Problem, check
-from common.format import LONGEST_LINE, PLACED, is_in_range, read_form
+from common.format import LONGEST_LINE, PLACED, are_values_in_range, read_form
 from common.net import flat
 from common.rules import IN_FORCE, Refusal
 
@@ -11,16 +11,11 @@ from common.rules import IN_FORCE, Refusal
 NOTHING, SIZED, SCALED, ENDED = range(4)
 
 
-class Line:
-    """A line with its form, which is read only when a test asks for it."""
+class Line(NamedTuple):
+    """A line with its form, None where it has none."""
 
-    def __init__(self, text, read):
-        self.text = text
-        self._read = read
-
-    @cached_property
-    def form(self):
-        return self._read(self.text)
+    text: bytes
+    form: object
 
 
 class Loader:
@@ -43,7 +38,7 @@ class Loader:
 
     def take(self, text):
         """Takes a line in; gives its refusal, or None where it is accepted."""
-        line = Line(text, self.read)
+        line = Line(text, self.read(text))
         for number, refusal in self.tests:
             values = refusal(self, line)
             if values is not None:
@@ -89,8 +84,7 @@ class Loader:
 
     def refusal_3_for_values(self, line):
         """01: A number outside its range: the others."""
-        form = line.form
-        return None if all(map(is_in_range, form.kinds(), form.values)) else ()
+        return None if are_values_in_range(line.form) else ()
 
     def refusal_4(self, line):
         """01: A row or inverse list with other than n numbers."""
