@@ -1,5 +1,6 @@
 """Document 01's desk: it collects forms line by line and fills the lists; and the loader of the library, nine numbers beside six lists, step by step."""
 
+from functools import lru_cache
 from typing import NamedTuple
 
 from calls.check.oracle import COLUMN, KINDS, MATRIX, Problem, check
@@ -18,6 +19,12 @@ class Line(NamedTuple):
     form: object
 
 
+@lru_cache(maxsize=None)
+def tests_of(loader, order):
+    """The tests of a class of loaders in an order, each with its number."""
+    return [(int(test.split("_")[0]), getattr(loader, f"refusal_{test}")) for test in order]
+
+
 class Loader:
     # 01: "Order for a line: 8, 14, 1, 2, 11, 3, 4, 12, 13." The lists here are never too short.
     VALUES_FIRST = ("14", "1", "2", "11", "3_for_i", "3_for_values", "4", "12", "13")
@@ -30,7 +37,7 @@ class Loader:
 
     def __init__(self, rules=IN_FORCE):
         self.rules = rules
-        self.tests = [(int(test.split("_")[0]), getattr(type(self), f"refusal_{test}")) for test in self.order()]
+        self.tests = tests_of(type(self), self.order())
         self.n = self.s = self.t = None
         self.given = set()
         self.ended = False
