@@ -9,25 +9,26 @@ from operator import mul
 def inverse_of(matrix):
     """(q, H) with A·H = q·I and H·A = q·I, q at least 1, for a matrix given as a tuple of tuples; None where there is none.
 
-    Elimination without fractions: each division by the last pivot leaves no remainder. A row begins with the column in work; those before it are done with."""
+    Elimination without fractions, in place: each division by the last pivot leaves no remainder. A row begins with the column in work, and ends with the columns
+    of the inverse that are done; a row exchanged for another is a column of the inverse exchanged."""
     n = len(matrix)
-    rows = [list(row) + [int(i == j) for j in range(n)] for i, row in enumerate(matrix)]
+    rows, order = list(matrix), list(range(n))
     last = 1
     for k in range(n):
         found = next((i for i in range(k, n) if rows[i][0]), None)
         if found is None:
             return None
-        if found != k:
-            rows[k], rows[found] = rows[found], [-value for value in rows[k]]
+        rows[k], rows[found] = rows[found], rows[k]
+        order[k], order[found] = order[found], order[k]
         pivot, *pivot_row = rows[k]
-        rows[k] = pivot_row
-        for i in range(n):
-            if i != k:
-                factor, *row = rows[i]
-                rows[i] = [(pivot * x - factor * y) // last for x, y in zip(row, pivot_row)]
+        for i, (factor, *row) in enumerate(rows):
+            rows[i] = [(pivot * x - factor * y) // last for x, y in zip(row, pivot_row)] if factor else [pivot * x // last for x in row]
+            rows[i].append(-factor)
+        rows[k] = [*pivot_row, last]
         last = pivot
     sign = 1 if last > 0 else -1
-    return sign * last, tuple(tuple(sign * value for value in row) for row in rows)
+    places = [order.index(j) for j in range(n)]
+    return sign * last, tuple(tuple(sign * row[place] for place in places) for row in rows)
 
 
 def product(matrix, vector):

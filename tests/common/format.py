@@ -59,7 +59,12 @@ def is_in_range(kind, number):
 
 
 def is_within(kind, numbers):
-    return all(is_in_range(kind, number) for number in numbers)
+    return not numbers or is_in_range(kind, min(numbers)) and is_in_range(kind, max(numbers))
+
+
+@lru_cache(maxsize=1024)
+def are_values_in_range(form):
+    return all(map(is_in_range, form.kinds(), form.values))
 
 
 def lines_of(file):

@@ -28,7 +28,7 @@ class Net:
     def is_in_range(self):
         """01: Every form has its own range."""
         return (
-            all(abs(value) <= SIZE for row in self.matrix + self.inverse for value in row)
+            all(-SIZE <= min(row) and max(row) <= SIZE for row in self.matrix + self.inverse)
             and all(abs(value) <= WHOLE for value in self.right)
             and all(0 <= value <= SIZE for value in self.tolerance)
             and all(abs(value) <= LARGE for value in self.guess)

@@ -98,7 +98,7 @@ def changes(placed, when):
 def read(numbers, length, fill=UNREAD):
     """A list of 64-bit numbers that is read, with the fill past those given."""
     end = numbers.index(fill) if fill in numbers else len(numbers)
-    given = numbers[:end] if all(number == fill for number in numbers[end:]) else numbers
+    given = numbers[:end] if numbers.count(fill) == len(numbers) - end else numbers
     return List(8, length, given, length - len(given), fill)
 
 

@@ -1,7 +1,7 @@
 """What documents say of files, commands and options is so; their lines are short; the commands that they show run.
 
   python3 tests/documents/run.py               after `make` and `make lib`; the last line is 'N passed, M failed'
-  python3 tests/documents/run.py --self-test   made-up documents, right and then wrong in each way of self_test.py; needs nothing built
+  python3 tests/documents/run.py --self-test   made-up documents, right ones and the mutants of self_test.py; needs nothing built
 
 Read are README.md, CONTRIBUTING.md, docs/*.md, tests/README.md and bench/README.md; docs/landings and CHANGELOG.md describe the past: of
 CHANGELOG.md only the lengths of lines are read.

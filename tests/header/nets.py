@@ -110,7 +110,7 @@ def memory(index):
     n = call.n if 1 <= call.n <= 32 else 1
     half = {name: part for name, part in whole.items() if name != "matrix"} | {"half": lower_half(n, whole["matrix"])}
     lines = [Observation(rng.randint(1, 60), at := rng.randrange(2), rng.choice((1 - at, 1 - at, 1 - at, 1 - at, 1 - at, 1 - at, at, 2)), rng.randint(-2, 2), rng.randint(0, 9) or 1) for _ in range(rng.choice((257, *range(9))))]
-    heights = [rng.choice((1e300, *(rng.randint(-99999, 99999) / 7 for _ in range(99)))) for _ in range(32)]
+    heights = [rng.randint(-99999, 99999) / 7 if rng.randrange(100) else 1e300 for _ in range(32)]
     return {
         "net": filled("net", **whole), "other": filled("net", n=other.n, s=other.s, t=other.t, **lists(other)), "half": filled("half_net", **half),
         "bounds": filled("bounds", solution=[rng.randrange(1000) for _ in range(32)]), "more_bounds": filled("bounds"), "common": filled("common_intervals"), "ends": filled("ends"),

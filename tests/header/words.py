@@ -41,7 +41,7 @@ def text_of(number, where, rows):
 def is_written(library, refusal, text):
     """In a buffer of every length, from none on: as snprintf."""
     for length in range(len(text) + 3):
-        buffer = (ctypes.c_char * (ENOUGH + 1))(*b"\7" * (ENOUGH + 1))
+        buffer = (ctypes.c_char * (ENOUGH + 1)).from_buffer_copy(b"\7" * (ENOUGH + 1))
         right = (text[: max(length - 1, 0)] + b"\0" * (length > 0)).ljust(len(text) + 4, b"\7")
         if library.text_of(ctypes.byref(refusal), buffer if length else None, ctypes.c_size_t(length)) != len(text) or bytes(buffer)[: len(text) + 4] != right:
             return False

@@ -28,7 +28,7 @@ def in_c():
 def in_rust():
     yield "pub const NAMES: &[&str] = &["
     yield from (f'    "{name}",' for _, name, _ in prototypes())
-    yield '];\n\n#[link(name = "kodarfi", kind = "static")]\nextern "C" {'
+    yield '];\n\n#[link(name = "kodarfi", kind = "static", modifiers = "-bundle")]\nextern "C" {'
     for result, name, parameters in prototypes():
         kinds = ", ".join(f"_: {NUMBERS.get(kind, '*mut u8')}" for kind, _ in parameters)
         yield f"    fn {name}({kinds}){'' if result == 'void' else ' -> u32'};"

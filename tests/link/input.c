@@ -1,8 +1,12 @@
 #include "replay.h"
 
+#include <fcntl.h>
 #include <stdio.h>
 #include <stdlib.h>
 #include <string.h>
+#include <sys/mman.h>
+#include <sys/stat.h>
+#include <unistd.h>
 
 static char *input, *at, *end;
 
@@ -11,30 +15,21 @@ void stop(const char *what) {
     exit(2);
 }
 
-/* All bytes of a file; none where it cannot be read. */
-static char *bytes_of(FILE *file, size_t *length) {
-    if (!file || fseek(file, 0, SEEK_END) != 0) return NULL;
-    const long size = ftell(file);
-    char *const bytes = size < 0 ? NULL : malloc((size_t)size + 1);
-    rewind(file);
-    *length = bytes ? fread(bytes, 1, (size_t)size, file) : 0;
-    return *length == (size_t)size ? bytes : NULL;
-}
-
 void open_input(const char *path) {
-    size_t length;
-    FILE *const file = fopen(path, "rb");
-    at = input = bytes_of(file, &length);
-    if (!input) {
+    struct stat status;
+    const int file = open(path, O_RDONLY);
+    const size_t length = file >= 0 && fstat(file, &status) == 0 ? (size_t)status.st_size : 0;
+    at = input = mmap(NULL, length, PROT_READ, MAP_PRIVATE, file, 0);
+    if (input == MAP_FAILED) {
         perror(path);
         exit(2);
     }
     end = input + length;
-    fclose(file);
+    close(file);
 }
 
 void close_input(void) {
-    free(input);
+    munmap(input, (size_t)(end - input));
 }
 
 bool at_end(void) {

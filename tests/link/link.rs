@@ -21,7 +21,7 @@ use checks::Checks;
 use replay::Replay;
 use std::process::exit;
 
-fn main() {
+pub fn main() {
     let arguments: Vec<String> = std::env::args().skip(1).collect();
     let stops = arguments.first().is_some_and(|argument| argument == "--first");
     let (mut replay, mut checks) = (Replay::new(stops), Checks::default());

@@ -9,7 +9,7 @@
 /* Ends the program with this line: what an emitter wrote cannot be replayed. */
 _Noreturn void stop(const char *what);
 
-/* Opens a file that an emitter wrote. */
+/* Opens a file that an emitter wrote; of it no more is read than is asked for. */
 void open_input(const char *path);
 void close_input(void);
 

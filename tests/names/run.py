@@ -1,7 +1,7 @@
 """Each name that a document or a head comment cites exists, and what the crates define has one name.
 
   python3 tests/names/run.py               the last line is 'N passed, M failed'
-  python3 tests/names/run.py --self-test   made-up documents, right and then wrong in each way of self_test.py
+  python3 tests/names/run.py --self-test   made-up documents, right ones and the mutants of self_test.py
 
 Read are README.md, tests/README.md, docs/*.md, include/*.h, and the head comments of crates: the lines of comment before the first other line of each file
 of specs/, proofs/ and src/. docs/landings and CHANGELOG.md describe the past and are not read. What counts as a citation:

@@ -3,7 +3,7 @@
   python3 tests/reading/run.py --write       writes docs/READING.md
   python3 tests/reading/run.py --check       docs/READING.md is what --write would write, and README quotes a contract as it stands; the last line is 'N passed, M failed'
   python3 tests/reading/run.py --why FILE    why tier 1 has a file of the list: for each public call the imports that lead there, the fewest
-  python3 tests/reading/run.py --self-test   the list of made-up sources, right and then changed in each way of self_test.py
+  python3 tests/reading/run.py --self-test   the list of made-up sources, right ones and the mutants of self_test.py
 
 Tier 1 is what the `ensures` of the public calls cite, with all that it imports from specs/ and the structs and enums that it takes from src/. The public
 calls are those of the table "Public calls" of docs/API.md and all that crates/kodarfi exports. Those of document 01 come first: the calls of the crates BASE,

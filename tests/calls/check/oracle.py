@@ -121,7 +121,7 @@ class Reckoning:
     def margins(self, system):
         """g_m = T·w_m − (sum over j of |D_mj|·w_j)."""
         return [
-            system.T * system.w[m] - sum(abs(d) * w for d, w in zip(row, system.w))
+            system.T * system.w[m] - dot(map(abs, row), system.w)
             for m, row in enumerate(self.defect(system))
         ]
 
@@ -199,7 +199,7 @@ class Reckoning:
 
     def carried(self, system, slacks):
         """The sum over j of |G_mj| times the slack of row j, for each m."""
-        return [sum(abs(g) * slack for g, slack in zip(row, slacks)) for row in system.G] if any(slacks) else slacks
+        return [dot(map(abs, row), slacks) for row in system.G] if any(slacks) else slacks
 
     def bounds(self, system, residuals, slacks, margins):
         """The limits of one column, from its residuals and slacks."""
@@ -207,7 +207,7 @@ class Reckoning:
 
     def bounds_of_sizes(self, system, sizes, margins):
         """01: the largest over all rows m of w_i·|p_m| / g_m, each rounded up to a whole number. Equal weights have equal limits, computed once."""
-        largest = {w: max(rounded_up(w * p, g) for p, g in zip(sizes, margins)) for w in set(system.w)}
+        largest = {w: max(map(rounded_up, [w * p for p in sizes], margins)) for w in set(system.w)}
         return [largest[w] for w in system.w]
 
     def bounds_of_columns(self, system, columns, margins):

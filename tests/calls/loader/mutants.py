@@ -22,7 +22,7 @@ def any_kind_missing(self):
 
 def with_form(test, change):
     """A test that sees another form; change(loader, form) gives it."""
-    return lambda self, line: getattr(Loader, test)(self, type(line)(None, lambda text: change(self, line.form)))
+    return lambda self, line: getattr(Loader, test)(self, line._replace(form=change(self, line.form)))
 
 
 def up_to_32(self, line):

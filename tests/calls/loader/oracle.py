@@ -1,9 +1,10 @@
 """Document 01's desk: it collects forms line by line and fills the lists; and the loader of the library, nine numbers beside six lists, step by step."""
 
-from functools import cached_property
+from functools import lru_cache
+from typing import NamedTuple
 
 from calls.check.oracle import COLUMN, KINDS, MATRIX, Problem, check
-from common.format import LONGEST_LINE, PLACED, is_in_range, read_form
+from common.format import LONGEST_LINE, PLACED, are_values_in_range, read_form
 from common.net import flat
 from common.rules import IN_FORCE, Refusal
 
@@ -11,16 +12,17 @@ from common.rules import IN_FORCE, Refusal
 NOTHING, SIZED, SCALED, ENDED = range(4)
 
 
-class Line:
-    """A line with its form, which is read only when a test asks for it."""
+class Line(NamedTuple):
+    """A line with its form, None where it has none."""
 
-    def __init__(self, text, read):
-        self.text = text
-        self._read = read
+    text: bytes
+    form: object
 
-    @cached_property
-    def form(self):
-        return self._read(self.text)
+
+@lru_cache(maxsize=None)
+def tests_of(loader, order):
+    """The tests of a class of loaders in an order, each with its number."""
+    return [(int(test.split("_")[0]), getattr(loader, f"refusal_{test}")) for test in order]
 
 
 class Loader:
@@ -35,7 +37,7 @@ class Loader:
 
     def __init__(self, rules=IN_FORCE):
         self.rules = rules
-        self.tests = [(int(test.split("_")[0]), getattr(type(self), f"refusal_{test}")) for test in self.order()]
+        self.tests = tests_of(type(self), self.order())
         self.n = self.s = self.t = None
         self.given = set()
         self.ended = False
@@ -43,7 +45,7 @@ class Loader:
 
     def take(self, text):
         """Takes a line in; gives its refusal, or None where it is accepted."""
-        line = Line(text, self.read)
+        line = Line(text, self.read(text))
         for number, refusal in self.tests:
             values = refusal(self, line)
             if values is not None:
@@ -89,8 +91,7 @@ class Loader:
 
     def refusal_3_for_values(self, line):
         """01: A number outside its range: the others."""
-        form = line.form
-        return None if all(map(is_in_range, form.kinds(), form.values)) else ()
+        return None if are_values_in_range(line.form) else ()
 
     def refusal_4(self, line):
         """01: A row or inverse list with other than n numbers."""

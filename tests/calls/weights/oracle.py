@@ -2,7 +2,7 @@
 
 from typing import NamedTuple
 
-from calls.check.oracle import COLUMN, MATRIX, Problem, Reckoning
+from calls.check.oracle import COLUMN, MATRIX, Problem, Reckoning, times
 from common.format import is_within
 from common.rules import Refusal
 
@@ -69,7 +69,7 @@ class WeightSearch:
         sizes = self.sizes(system)
         weights = self.first(n)
         while True:
-            loads = [sum(size * w for size, w in zip(row, weights)) for row in sizes]
+            loads = times(sizes, weights)
             yield weights, [system.T * w - load for w, load in zip(weights, loads)]
             weights = self.next(loads)
 
