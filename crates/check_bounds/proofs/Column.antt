@@ -4,14 +4,14 @@
 --   magnitudes-small — they are at most 2^50
 --   slack-near, near-reach, columns-near — slacks and residuals that are near are small; residuals of columns are near
 --   slack-sum — a sum of slacks is at most 2^50 a term;  no-slack-sum — where no row has one it is 0
---   bounds-of-magnitudes, column-more — limits from an array of magnitudes, and one column more of the loop over all
+--   written-as, written-prefix — what is written from an array, and to one;  bounds-of-magnitudes, column-more — limits from an array of magnitudes, and one column more of the loop over all
 use mathlib.Core.Path.{_≡_, refl, sym, ap, _∙_}
 use mathlib.Core.List.{List}
 use Prim.Native.Nat.{ℕ, _+_, _*_, _≤_, _<_, _^_}
 use native.Mathlib.Omega.{arith}
 use native.Mathlib.Nat.{mul-le-mul, mul-le-mul-right}
 use lib.IntN.{ℤ, natAbs}
-use lib.ListN.{getD, length}
+use lib.ListN.{getD, length, replicate, length-replicate}
 use Rattle.integer.specs.Finite.{sumℕ}
 use Rattle.integer.proofs.Sum.{sumℕ-ext, sumℕ-*, sumℕ-zero, sumℕ-at, sumℕ≤}
 use Rattle.linear.specs.Matrix.{Vec, apply}
@@ -20,7 +20,7 @@ use Rattle.linear.specs.Reach.{Reach, ColumnList}
 use Rattle.linear.specs.Written.{written}
 use Rattle.linear.proofs.Places.{place, list-reach}
 use Rattle.linear.proofs.Slack.{joint}
-use Rattle.linear.proofs.Written.{written-ext}
+use Rattle.linear.proofs.Written.{written-ext, front-at}
 use Rattle.check_biased_rows.specs.Biased.{bias, unbiased, BiasedRow, BiasedRows, unbiasedRows, rowDot, RowOf}
 use Rattle.check_biased_rows.proofs.Unbiasing.{unbiased-magnitude, row-dot-magnitude, row-dot-shows, rows-themselves}
 use Rattle.enclosure.specs.Reckoning.{allowedResidual, magnitudesWith, boundFrom}
@@ -78,14 +78,22 @@ slack-sum slacks j l h s = sumℕ≤ j (2 ^ 50) _ (λ k m. mul-le-mul (unbiased-
 pub no-slack-sum : (n : ℕ) (a σ : ℕ → ℕ) → sumℕ n σ ≡ 0 → sumℕ n (λ (j : ℕ). a j * σ j) ≡ 0
 no-slack-sum n a σ e = sumℕ-ext n (λ (j : ℕ). a j * σ j) (λ (j : ℕ). 0) (λ j l. let z : σ j ≡ 0 = omega (arith, e, sumℕ-at n σ j l) in rw z (omega arith)) ∙ sumℕ-zero n
 
+-- what is written from an array is what the array begins with
+pub written-as : (xs : List ℕ) (p s n : ℕ) (f : ℕ → ℕ) {column after : List ℕ} → PrefixIs 0 column n f → after ≡ written xs p s (λ (i : ℕ). getD column i 0) n →
+    after ≡ written xs p s f n
+written-as xs p s n f {column} h a = a ∙ written-ext xs p s (λ (i : ℕ). getD column i 0) f n (h .each)
+
+-- an array of zeros that numbers were written to begins with them
+pub written-prefix : (n : ℕ) (f : ℕ → ℕ) {column : List ℕ} → n ≤ 32 → column ≡ written (replicate 32 0) 0 1 f n → PrefixIs 0 column n f
+written-prefix n f n-max e = record { each = λ i l. ap (λ (xs : List ℕ). getD xs i 0) e ∙ front-at (replicate 32 0) f 0 n i l (omega (arith, n-max, length-replicate {A = ℕ} 32 0)) }
+
 -- limits from an array of magnitudes are those of the magnitudes that it begins with
-pub bounds-of-magnitudes : (n : ℕ) (magnitudes : List ℕ) (f margins w : ℕ → ℕ) {out : List ℕ} → PrefixIs 0 magnitudes n f →
-    PrefixIs 0 out n (boundFrom n (λ (m : ℕ). getD magnitudes m 0) margins w) → PrefixIs 0 out n (boundFrom n f margins w)
-bounds-of-magnitudes n magnitudes f margins w h k =
-    prefix-as 0 _ _ (λ i l. bound-ext n (λ (m : ℕ). getD magnitudes m 0) margins f margins w i (h .each) (λ m lm. refl)) k
+pub bounds-of-magnitudes : (xs : List ℕ) (p s n : ℕ) (magnitudes : List ℕ) (f margins w : ℕ → ℕ) {after : List ℕ} → PrefixIs 0 magnitudes n f →
+    after ≡ written xs p s (boundFrom n (λ (m : ℕ). getD magnitudes m 0) margins w) n → after ≡ written xs p s (boundFrom n f margins w) n
+bounds-of-magnitudes xs p s n magnitudes f margins w h a =
+    a ∙ written-ext xs p s _ _ n (λ i l. bound-ext n (λ (m : ℕ). getD magnitudes m 0) margins f margins w i (h .each) (λ m lm. refl))
 
 -- one column more
-pub column-more : (xs : List ℕ) (n : ℕ) (f : ℕ → ℕ → ℕ) (j : ℕ) {now after column : List ℕ} → now ≡ columnsWritten xs n f j →
-    PrefixIs 0 column n (λ (i : ℕ). f i j) → after ≡ written now j n (λ (i : ℕ). getD column i 0) n → after ≡ columnsWritten xs n f (j + 1)
-column-more xs n f j {now} {after} {column} e h a =
-    a ∙ written-ext now j n (λ (i : ℕ). getD column i 0) (λ (i : ℕ). f i j) n (h .each) ∙ rw e (sym (columns-next xs n f j))
+pub column-more : (xs : List ℕ) (n : ℕ) (f : ℕ → ℕ → ℕ) (j : ℕ) {now after : List ℕ} → now ≡ columnsWritten xs n f j →
+    after ≡ written now j n (λ (i : ℕ). f i j) n → after ≡ columnsWritten xs n f (j + 1)
+column-more xs n f j e a = a ∙ rw e (sym (columns-next xs n f j))

@@ -10,16 +10,18 @@ ghost use Rattle.linear.specs.Place.{Carried};
 ghost use Rattle.linear.specs.Reach.{ColumnList};
 ghost use Rattle.linear.specs.Written.{written};
 ghost use Rattle.check_biased_rows.specs.Biased.{bias, unbiased, BiasedRow, BiasedRows, unbiasedRows};
-ghost use Rattle.enclosure.specs.Reckoning.{allowedResidual};
+ghost use Rattle.enclosure.specs.Reckoning.{allowedResidual, boundFrom};
 ghost use Rattle.check_arrays.specs.Arrays.{PrefixIs};
 ghost use Rattle.check_arrays.specs.Rows.{InverseRows};
-ghost use Rattle.check_ratios.specs.Ratio.{Positive, Caps};
+ghost use Rattle.check_ratios.specs.Ratio.{Positive, Bounded, Caps};
 ghost use Rattle.check_bounds.specs.Limits.{columnMagnitude, Near, limitsOf};
 use check_biased_rows::add_low;
 use check_biased_rows::bias_row;
 use check_biased_rows::row_dot;
 use check_biased_rows::unbiased_magnitude;
-use check_ratios::bounds_of;
+use check_ratios::all_zero;
+use check_ratios::is_within_caps;
+use check_ratios::ratio_bounds;
 use check_ratios::sum_of;
 use integer::magnitude;
 
@@ -108,7 +110,9 @@ pub fn column_bounds(
     let mut magnitudes = [0u64; 32];
     magnitudes_of(&mut magnitudes, rows, &biased, n);
     add_slacks(&mut magnitudes, rows, slacks, n);
-    bounds_of(&magnitudes, margins, caps, weights, n)
+    let mut column = [0u64; 32];
+    store_limits(&mut column, 0, 1, &magnitudes, margins, caps, weights, n);
+    column
 }
 
 // Writes n limits from an index on, a stride apart.
@@ -122,4 +126,37 @@ pub fn store(dst: &mut [u64], start: usize, stride: usize, column: [u64; 32], n:
         dst[place] = column[i];
         place += stride;
     }
+}
+
+// Writes the limits of a column, from an index on, a stride apart, by its magnitudes. Where each of these is at most its cap the limits are all 1, or all 0 where
+// every magnitude is 0: nothing is divided.
+pub fn store_limits(
+    dst: &mut [u64],
+    start: usize,
+    stride: usize,
+    magnitudes: &[u64; 32],
+    margins: &[u64; 32],
+    caps: &[u64; 32],
+    weights: &[i64],
+    n: usize,
+)
+    requires { ⌜ (0 < n) × ((n ≤ 32) × (start + n * stride < 2 ^ 60)) ⌝ }
+    requires { ⌜ ((k : ℕ) → k < n → start + k * stride < length (now dst)) ⌝ }
+    requires { ⌜ Bounded (now magnitudes) n ⌝ }
+    requires { ⌜ Positive (now margins) n ⌝ }
+    requires { ⌜ ColumnList (now weights) n 1024 ⌝ }
+    requires { ⌜ Caps (now caps) (now margins) (now weights) n ⌝ }
+    ensures { λ _. ⌜ now (dst .exit) ≡ written (now (dst .entry)) start stride (boundFrom n (λ (m : ℕ). getD (now (magnitudes .entry)) m 0)
+        (λ (m : ℕ). getD (now (margins .entry)) m 0) (λ (i : ℕ). natAbs (at (now (weights .entry)) i))) n ⌝ }
+{
+    if is_within_caps(magnitudes, caps, n) {
+        if all_zero(magnitudes, n) {
+            store(dst, start, stride, [0u64; 32], n);
+            return;
+        }
+        store(dst, start, stride, [1u64; 32], n);
+        return;
+    }
+    let column = ratio_bounds(magnitudes, margins, weights, n);
+    store(dst, start, stride, column, n);
 }

@@ -16,8 +16,7 @@ ghost use Rattle.check_bounds.specs.Limits.{columnMagnitude, limitsOf};
 ghost use Rattle.check_inverse_bounds.specs.SymmetricRows.{magnitudeIn, KnownHalf, SymmetricProduct};
 use check_biased_rows::bias_row;
 use check_biased_rows::row_dot;
-use check_bounds::store;
-use check_ratios::bounds_of;
+use check_bounds::store_limits;
 use integer::magnitude;
 
 // The first j absolute values of p = G·r for column j where p is symmetric, read across the j columns that the list begins with.
@@ -137,8 +136,7 @@ pub fn store_columns(
             start,
             n,
         );
-        let column = bounds_of(&magnitudes, margins, caps, weights, n);
-        store(dst, j, n, column, n);
+        store_limits(dst, j, n, &magnitudes, margins, caps, weights, n);
         place += n + 1;
         start += n;
     }

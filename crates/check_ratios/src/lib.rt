@@ -131,7 +131,12 @@ fn bound_of(w: i64, p: u64, g: u64) -> u64
 }
 
 // The limits of a column by the row with the largest ratio.
-fn ratio_bounds(magnitudes: &[u64; 32], margins: &[u64; 32], weights: &[i64], n: usize) -> [u64; 32]
+pub fn ratio_bounds(
+    magnitudes: &[u64; 32],
+    margins: &[u64; 32],
+    weights: &[i64],
+    n: usize,
+) -> [u64; 32]
     requires { ⌜ (0 < n) × (n ≤ 32) ⌝ }
     requires { ⌜ Bounded (now magnitudes) n ⌝ }
     requires { ⌜ Positive (now margins) n ⌝ }
@@ -150,7 +155,7 @@ fn ratio_bounds(magnitudes: &[u64; 32], margins: &[u64; 32], weights: &[i64], n:
 }
 
 // Whether every magnitude is at most its cap.
-fn is_within_caps(magnitudes: &[u64; 32], caps: &[u64; 32], n: usize) -> bool
+pub fn is_within_caps(magnitudes: &[u64; 32], caps: &[u64; 32], n: usize) -> bool
     requires { ⌜ n ≤ 32 ⌝ }
     ensures { λ r. ⌜ (r ≡ true → WithinCaps (now (magnitudes .entry)) (now (caps .entry)) n) ⌝ }
 {
@@ -163,7 +168,7 @@ fn is_within_caps(magnitudes: &[u64; 32], caps: &[u64; 32], n: usize) -> bool
 }
 
 // Whether n numbers are all 0.
-fn all_zero(xs: &[u64; 32], n: usize) -> bool
+pub fn all_zero(xs: &[u64; 32], n: usize) -> bool
     requires { ⌜ n ≤ 32 ⌝ }
     ensures { λ r. ⌜ (r ≡ true → sumℕ n (λ (k : ℕ). getD (now (xs .entry)) k 0) ≡ 0)
         × (r ≡ false → 0 < sumℕ n (λ (k : ℕ). getD (now (xs .entry)) k 0)) ⌝ }
@@ -174,31 +179,6 @@ fn all_zero(xs: &[u64; 32], n: usize) -> bool
         }
     }
     true
-}
-
-// The limits of a column. Where every magnitude is at most its cap they are all 1, or all 0 where every magnitude is 0: nothing is divided.
-pub fn bounds_of(
-    magnitudes: &[u64; 32],
-    margins: &[u64; 32],
-    caps: &[u64; 32],
-    weights: &[i64],
-    n: usize,
-) -> [u64; 32]
-    requires { ⌜ (0 < n) × (n ≤ 32) ⌝ }
-    requires { ⌜ Bounded (now magnitudes) n ⌝ }
-    requires { ⌜ Positive (now margins) n ⌝ }
-    requires { ⌜ ColumnList (now weights) n 1024 ⌝ }
-    requires { ⌜ Caps (now caps) (now margins) (now weights) n ⌝ }
-    ensures { λ r. ⌜ PrefixIs 0 r n (boundFrom n (λ (m : ℕ). getD (now (magnitudes .entry)) m 0) (λ (m : ℕ). getD (now (margins .entry)) m 0)
-        (λ (i : ℕ). natAbs (at (now (weights .entry)) i))) ⌝ }
-{
-    if is_within_caps(magnitudes, caps, n) {
-        if all_zero(magnitudes, n) {
-            return [0u64; 32];
-        }
-        return [1u64; 32];
-    }
-    ratio_bounds(magnitudes, margins, weights, n)
 }
 
 // The largest weight.

@@ -8,7 +8,7 @@ use Rattle.check_biased_rows.proofs.Unbiasing.{row-as}
 use Rattle.enclosure.specs.Reckoning.{magnitudesWith}
 use Rattle.check_arrays.specs.Arrays.{PrefixIs}
 use Rattle.check_bounds.specs.Limits.{inversePart}
-use Rattle.check_bounds.proofs.Column.{image-magnitude, slack-magnitudes, magnitudes-small, slack-near, near-reach, bounds-of-magnitudes}
+use Rattle.check_bounds.proofs.Column.{image-magnitude, slack-magnitudes, magnitudes-small, slack-near, near-reach, bounds-of-magnitudes, written-prefix}
 use borrow.Author.Needs.{needs}
 use Rattle.check_bounds.proofs.column_bounds.Statement.{statement}
 use Rattle.check_bounds.proofs.column_bounds.Tie as tie
@@ -61,14 +61,21 @@ add-slacks-requires c κs =
     let s = start z in
     ((s .pre .0 .1, z .magnitudes-of .ensures .0), (s .pre .1 .0 .rows, (slack-near (s .pre .1 .1 .0), image-magnitude (s .args .n) (s .pre .1 .0 .rows) (row-is z) (s .pre .0 .1) (z .magnitudes-of .ensures .1))))
 
-bounds-of-requires : tie.Need-bounds-of-requires
-bounds-of-requires c κs =
-    let a = c .before in
-    let s = start (a .before .before) in
-    (s .pre .0, (magnitudes-small (s .pre .0 .1) (s .pre .1 .0) (s .pre .1 .1 .0) (magnitudes-are a), s .pre .1 .1 .1))
+slice-aggregate-store-limits : tie.Need-slice-aggregate-store-limits
+slice-aggregate-store-limits c = search needs
+
+store-limits-requires : tie.Need-store-limits-requires
+store-limits-requires c κs =
+    let a = c .before .before in
+    let s = start (a .before .before) in (
+      (s .pre .0 .0, (s .pre .0 .1, omega (arith, s .pre .0 .1))),
+      ((λ k l. omega (arith, s .pre .0 .1)), (magnitudes-small (s .pre .0 .1) (s .pre .1 .0) (s .pre .1 .1 .0) (magnitudes-are a), s .pre .1 .1 .1)),
+    )
 
 returns : tie.Need-returns
-returns c = bounds-of-magnitudes _ _ _ _ _ (magnitudes-are (c .before .before)) (c .bounds-of .ensures)
+returns c =
+    let a = c .before .before .before .before in
+    written-prefix _ _ (start (a .before .before) .pre .0 .1) (bounds-of-magnitudes _ _ _ _ _ _ _ _ (magnitudes-are a) (c .before .store-limits .ensures))
 
 pub column-bounds-spec : {M : Type 1} → statement M
 column-bounds-spec =
@@ -79,5 +86,6 @@ column-bounds-spec =
     slice-aggregate-magnitudes-of
     magnitudes-of-requires
     add-slacks-requires
-    bounds-of-requires
+    slice-aggregate-store-limits
+    store-limits-requires
     returns)

@@ -35,10 +35,10 @@ start t = t .before .before .before .before .before
 abbrev turn : tie.After-column-magnitudes Inv-loop μ-loop → tie.In-loop Inv-loop μ-loop
 turn c = c .before .before .before .before
 
-abbrev at-magnitudes : tie.After-store-arg Inv-loop μ-loop → tie.After-column-magnitudes Inv-loop μ-loop
-at-magnitudes c = c .before .before .before .before .before
+abbrev at-magnitudes : tie.After-magnitudes2 Inv-loop μ-loop → tie.After-column-magnitudes Inv-loop μ-loop
+at-magnitudes c = c .before .before .before .before
 
-abbrev lent : tie.After-slice-known4 Inv-loop μ-loop → tie.After-store-arg Inv-loop μ-loop
+abbrev lent : tie.After-slice-known4 Inv-loop μ-loop → tie.After-magnitudes2 Inv-loop μ-loop
 lent c = c .before .before .before
 
 abbrev F : tie.Start Inv-loop μ-loop → ℕ → ℕ → ℕ
@@ -68,22 +68,18 @@ column-magnitudes-requires c κs =
       (i .1 .0, (p .1 .0 .rows, (p .1 .1 .0, λ y. (p .1 .1 .1 .0 y, i .1 .1 .1 .0 y)))),
     )
 
-bounds-of-requires : tie.Need-bounds-of-requires Inv-loop μ-loop
-bounds-of-requires c κs =
-    let z = c .before .before .before in
+store-limits-requires : tie.Need-store-limits-requires Inv-loop μ-loop
+store-limits-requires c κs =
+    let z = at-magnitudes c in
     let t = turn z in
-    let p = start t .pre in (
-      (p .0 .0, p .0 .1 .0),
-      (magnitudes-small (p .0 .1 .0) (p .1 .0) (columns-near (t .before .loop .j) (t .loop-test .taken) (p .1 .1 .0)) (magnitudes-here z), p .1 .1 .1 .1),
-    )
-
-store-requires : tie.Need-store-requires Inv-loop μ-loop
-store-requires c κs =
-    let t = turn (at-magnitudes c) in
     let l = t .before .loop in
-    let s = start t in (
-      (omega (arith, s .pre .0 .1 .0), omega (arith, column-ends (t .loop-test .taken) (s .pre .0 .1 .0))),
-      λ k h. omega (arith, place {i = k} {m = s .args .n} {n = s .args .n} (omega (arith, h)) (t .loop-test .taken), s .pre .0 .1 .1 .0, ap length (l .inv .1 .1 .1 .1), columns-length (s .args .dst .now) (s .args .n) (F s) (l .j)),
+    let s = start t in
+    let p = s .pre in (
+      (p .0 .0, (p .0 .1 .0, omega (arith, column-ends (t .loop-test .taken) (p .0 .1 .0)))),
+      (
+        (λ k h. omega (arith, place {i = k} {m = s .args .n} {n = s .args .n} (omega (arith, h)) (t .loop-test .taken), p .0 .1 .1 .0, ap length (l .inv .1 .1 .1 .1), columns-length (s .args .dst .now) (s .args .n) (F s) (l .j))),
+        (magnitudes-small (p .0 .1 .0) (p .1 .0) (columns-near (l .j) (t .loop-test .taken) (p .1 .1 .0)) (magnitudes-here z), p .1 .1 .1 .1),
+      ),
     )
 
 add-place : tie.Need-add-place Inv-loop μ-loop
@@ -110,7 +106,6 @@ loop-less c = search needs
 loop-again : tie.Need-loop-again Inv-loop μ-loop
 loop-again c =
     let z = at-magnitudes (lent c) in
-    let k = c .before .before in
     let l = turn z .before .loop in
     let s = start (turn z) in (
       omega arith,
@@ -120,7 +115,7 @@ loop-again c =
           (same-list z, z .column-magnitudes .ensures .0),
           (
             z .column-magnitudes .ensures .1 .1,
-            column-more (s .args .dst .now) (s .args .n) (F s) (l .j) (l .inv .1 .1 .1 .1) (bounds-of-magnitudes _ _ _ _ _ (magnitudes-here z) (k .before .before .bounds-of .ensures)) (k .store .ensures),
+            column-more (s .args .dst .now) (s .args .n) (F s) (l .j) (l .inv .1 .1 .1 .1) (bounds-of-magnitudes _ _ _ _ _ _ _ _ (magnitudes-here z) (c .before .before .store-limits .ensures)),
           ),
         ),
       ),
@@ -143,8 +138,7 @@ store-columns-spec =
     μ-loop
     loop-holds
     column-magnitudes-requires
-    bounds-of-requires
-    store-requires
+    store-limits-requires
     add-place
     add-place-2
     add-start
