@@ -23,18 +23,6 @@ bool write_all(int file, const void *bytes, size_t length) {
     return true;
 }
 
-/* Reads as many bytes as are asked for; false where the end comes before. */
-bool read_all(int file, void *bytes, size_t length) {
-    for (char *at = bytes; length > 0;) {
-        ssize_t got = read(file, at, length);
-        if (got < 0 && errno == EINTR) continue;
-        if (got <= 0) return false;
-        at += got;
-        length -= (size_t)got;
-    }
-    return true;
-}
-
 static bool failed(const struct folders *folders, const char *name, const char *reason, struct result *result) {
     if (!folders->is_quiet) say("%s/%s: %s", folders->nets_name, shown(name), reason);
     result->number = FAILED;
