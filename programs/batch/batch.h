@@ -79,9 +79,16 @@ void place(const struct folders *folders, const char *own, const char *name, con
 bool explain(const struct folders *folders, const char *own, const char *name);
 bool is_unchanged(const struct folders *folders, const char *name, const struct result *old);
 bool write_all(int file, const void *bytes, size_t length);
-bool read_all(int file, void *bytes, size_t length);
 
-/* worker.c */
+/* worker.c: takes orders from `in`, and sends a byte to `out` for each that is done. An order is followed by a head and a name for each of its nets. */
+enum { CHUNK = 32 };
+/* Results of one order, in memory that the worker shares with the process that reads them. The first `count` are there. */
+struct answers {
+    struct result results[CHUNK];
+    _Atomic unsigned count;
+};
+struct order { struct answers *answers; unsigned count; };
+struct head { struct result old; uint32_t is_done, length; };
 void work(const struct folders *folders, int number, int in, int out);
 
 /* pool.c: judges all names on this machine; `finished` gets each net's result in the order of the names. */

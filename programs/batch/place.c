@@ -23,25 +23,13 @@ bool write_all(int file, const void *bytes, size_t length) {
     return true;
 }
 
-/* Reads as many bytes as are asked for; false where the end comes before. */
-bool read_all(int file, void *bytes, size_t length) {
-    for (char *at = bytes; length > 0;) {
-        ssize_t got = read(file, at, length);
-        if (got < 0 && errno == EINTR) continue;
-        if (got <= 0) return false;
-        at += got;
-        length -= (size_t)got;
-    }
-    return true;
-}
-
 static bool failed(const struct folders *folders, const char *name, const char *reason, struct result *result) {
     if (!folders->is_quiet) say("%s/%s: %s", folders->nets_name, shown(name), reason);
     result->number = FAILED;
     return false;
 }
 
-/* A net is a file, or a link to one. Size and time are taken before the first byte is read: where the file changes meanwhile, the next run sees it. */
+/* A net is a file, or a link to one; nothing else is opened. Size and time are taken before that: where the file changes meanwhile, the next run sees it. */
 bool read_net(const struct folders *folders, const char *name, uint8_t *bytes, size_t *length, struct result *result) {
     struct stat status;
     memset(result, 0, sizeof *result);
@@ -49,14 +37,12 @@ bool read_net(const struct folders *folders, const char *name, uint8_t *bytes, s
     if (!S_ISREG(status.st_mode)) return failed(folders, name, S_ISDIR(status.st_mode) ? "a folder, not a file" : "not a file", result);
     int file = openat(folders->nets, name, O_RDONLY | O_NONBLOCK | O_NOCTTY | O_CLOEXEC);
     if (file < 0) return failed(folders, name, errno == EACCES ? "no right to read it" : errno == ENOENT ? "no such file" : strerror(errno), result);
-    ssize_t got = fstat(file, &status);
+    ssize_t got;
     *length = 0;
-    while (got >= 0 && *length < FILE_BYTES) {
+    do {
         got = read(file, bytes + *length, FILE_BYTES - *length);
         if (got > 0) *length += (size_t)got;
-        if (got < 0 && errno == EINTR) got = 0;
-        else if (got == 0) break;
-    }
+    } while (got < 0 ? errno == EINTR : got > 0 && *length < FILE_BYTES && *length != (size_t)status.st_size);
     int reason = errno;
     close(file);
     if (got < 0) return failed(folders, name, strerror(reason), result);

@@ -1,8 +1,9 @@
 /* The workers, one for each processor, and their answers in the order of the names.
  *
- * Nets are sent in chunks, at most two to a worker at a time, and a chunk's answers are handed on when those of all chunks before it have been. A worker's
- * answers fit into its pipe, so it never waits for this process, and this process may wait for a worker to take what it is sent.
- * Where a worker dies, its nets go to a new one; the net at which two workers died has failed. */
+ * Nets are sent in chunks, at most two to a worker at a time, and a chunk's answers are handed on when those of all chunks before it have been. They stand in
+ * memory that the worker shares with this process, and a byte says that a chunk is done: so a worker never waits for this process, and this process may wait for
+ * a worker to take what it is sent.
+ * Where a worker dies, the nets that it has not answered go to a new one; the net at which two workers died has failed. */
 #define _GNU_SOURCE
 #include "batch.h"
 
@@ -12,20 +13,20 @@
 #include <signal.h>
 #include <stdlib.h>
 #include <string.h>
+#include <sys/mman.h>
 #include <sys/stat.h>
 #include <sys/wait.h>
 #include <unistd.h>
 
-enum { CHUNK = 32, EACH = 2, MOST_WORKERS = 256 }; /* 64 answers are 3,584 bytes, and every pipe takes 4,096 */
+enum { EACH = 2, MOST_WORKERS = 256 };
 
 volatile int signal_met;
 
 struct chunk {
     char *names[CHUNK];
-    struct { struct result old; uint32_t is_done, length; } heads[CHUNK];
-    struct result results[CHUNK];
+    struct head heads[CHUNK];
+    struct answers *answers;
     unsigned count, answered, deaths, died_at; /* how many workers died at net number died_at, one after another */
-    int worker;
 };
 
 struct worker {
@@ -40,6 +41,7 @@ struct pool {
     struct worker workers[MOST_WORKERS];
     unsigned worker_count;
     struct chunk *ring;
+    struct answers *answers; /* one for each chunk of the ring */
     unsigned long first, end, room; /* chunks first .. end - 1 are under way */
     FILE *names;
     char *line;
@@ -81,12 +83,13 @@ static void start_worker(struct pool *pool, unsigned k) {
     worker->out = from[0];
 }
 
-/* Sends a chunk's nets from number `from` on in one piece; a worker that is gone is noticed where its answers end. */
-static void send_chunk(struct worker *worker, const struct chunk *chunk, unsigned from) {
-    size_t length = 0;
-    for (unsigned i = from; i < chunk->count; i++) length += sizeof chunk->heads[i] + chunk->heads[i].length;
-    char *message = must(malloc(length + 1)), *end = message;
-    for (unsigned i = from; i < chunk->count; i++) {
+/* Sends a chunk's nets, those that are not answered, in one piece; a worker that is gone is noticed where its bytes end. */
+static void send_chunk(struct worker *worker, const struct chunk *chunk) {
+    const struct order order = {chunk->answers, chunk->count - chunk->answered};
+    size_t length = sizeof order;
+    for (unsigned i = chunk->answered; i < chunk->count; i++) length += sizeof chunk->heads[i] + chunk->heads[i].length;
+    char *message = must(malloc(length)), *end = mempcpy(message, &order, sizeof order);
+    for (unsigned i = chunk->answered; i < chunk->count; i++) {
         end = mempcpy(end, &chunk->heads[i], sizeof chunk->heads[i]);
         end = mempcpy(end, chunk->names[i], chunk->heads[i].length);
     }
@@ -97,6 +100,8 @@ static void send_chunk(struct worker *worker, const struct chunk *chunk, unsigne
 /* Fills a chunk with the next names; false where there is none left. */
 static bool fill(struct pool *pool, struct chunk *chunk) {
     chunk->count = chunk->answered = chunk->deaths = 0;
+    chunk->answers = &pool->answers[chunk - pool->ring];
+    chunk->answers->count = 0;
     while (chunk->count < CHUNK && !pool->is_read) {
         ssize_t length = getline(&pool->line, &pool->line_room, pool->names);
         if (length <= 0) {
@@ -126,7 +131,7 @@ static void dispatch(struct pool *pool) {
     struct worker *worker;
     while (!signal_met && pool->end - pool->first < pool->room && (worker = freest(pool)) && fill(pool, chunk_at(pool, pool->end))) {
         worker->chunks[worker->count++] = pool->end;
-        send_chunk(worker, chunk_at(pool, pool->end), 0);
+        send_chunk(worker, chunk_at(pool, pool->end));
         pool->end++;
     }
 }
@@ -145,18 +150,20 @@ static void hand_on(struct pool *pool, void (*finished)(const char *, const stru
         struct chunk *chunk = chunk_at(pool, pool->first);
         if (chunk->answered < chunk->count) return;
         for (unsigned i = 0; i < chunk->count; i++) {
-            finished(chunk->names[i], &chunk->results[i]);
+            finished(chunk->names[i], &chunk->answers->results[i]);
             free(chunk->names[i]);
         }
     }
 }
 
-static void answer(struct pool *pool, struct worker *worker, const struct result *result) {
+/* Takes the answers to a worker's first chunk, as far as they are there. */
+static void take_answers(struct pool *pool, struct worker *worker) {
     struct chunk *chunk = chunk_at(pool, worker->chunks[0]);
-    unsigned i = chunk->answered++;
-    if (result->number == STOPPED) stop(pool, result->largest);
-    chunk->results[i] = *result;
-    if (!result->is_kept && result->number != FAILED) note_done(chunk->names[i], result);
+    for (; chunk->answered < chunk->answers->count; chunk->answered++) {
+        const struct result *result = &chunk->answers->results[chunk->answered];
+        if (result->number == STOPPED) stop(pool, result->largest);
+        if (!result->is_kept && result->number != FAILED) note_done(chunk->names[chunk->answered], result);
+    }
     if (chunk->answered == chunk->count) {
         flush_journal(pool->folders);
         memmove(worker->chunks, worker->chunks + 1, sizeof worker->chunks - sizeof worker->chunks[0]);
@@ -172,28 +179,25 @@ static void replace(struct pool *pool, unsigned k) {
     close(worker->out);
     while (waitpid(worker->process, &status, 0) < 0 && errno == EINTR) {}
     worker->process = 0;
+    if (worker->count) take_answers(pool, worker);
     struct chunk *chunk = worker->count ? chunk_at(pool, worker->chunks[0]) : NULL;
     if (chunk && chunk->died_at != chunk->answered) chunk->deaths = 0, chunk->died_at = chunk->answered;
     if (chunk && ++chunk->deaths > 1) {
-        struct result none = {.number = FAILED};
         say("%s/%s: a worker ended by signal %d while judging it", pool->folders->nets_name, shown(chunk->names[chunk->answered]), WIFSIGNALED(status) ? WTERMSIG(status) : 0);
         chunk->deaths = 0;
-        answer(pool, worker, &none);
+        chunk->answers->results[chunk->answers->count++] = (struct result){.number = FAILED};
+        take_answers(pool, worker);
     }
     start_worker(pool, k);
-    for (unsigned c = 0; c < worker->count; c++) send_chunk(worker, chunk_at(pool, worker->chunks[c]), chunk_at(pool, worker->chunks[c])->answered);
+    for (unsigned c = 0; c < worker->count; c++) send_chunk(worker, chunk_at(pool, worker->chunks[c]));
 }
 
 static void read_answers(struct pool *pool, unsigned k) {
-    struct result results[CHUNK];
-    ssize_t got = read(pool->workers[k].out, results, sizeof results);
+    char bytes[EACH];
+    ssize_t got = read(pool->workers[k].out, bytes, sizeof bytes);
     if (got < 0 && errno == EINTR) return;
-    size_t odd = got > 0 ? (size_t)got % sizeof results[0] : 0;
-    if (got <= 0 || (odd && !read_all(pool->workers[k].out, (char *)results + got, sizeof results[0] - odd))) {
-        replace(pool, k);
-        return;
-    }
-    for (size_t i = 0; i < ((size_t)got + sizeof results[0] - 1) / sizeof results[0]; i++) answer(pool, &pool->workers[k], &results[i]);
+    if (got <= 0) replace(pool, k);
+    for (ssize_t i = 0; i < got; i++) take_answers(pool, &pool->workers[k]);
 }
 
 static void end_workers(struct pool *pool) {
@@ -215,6 +219,8 @@ void run_pool(const struct folders *folders, unsigned workers, void (*finished)(
     if (!pool.names) fail("%s: %s", folders->state_name, strerror(errno));
     pool.room = 2 * EACH * pool.worker_count;
     pool.ring = must(calloc(pool.room, sizeof *pool.ring));
+    pool.answers = mmap(NULL, pool.room * sizeof *pool.answers, PROT_READ | PROT_WRITE, MAP_SHARED | MAP_ANONYMOUS, -1, 0);
+    if (pool.answers == MAP_FAILED) fail("no memory");
     of_gone = folders;
     for (unsigned k = 0; k < pool.worker_count; k++) start_worker(&pool, k);
     for (dispatch(&pool); pool.first < pool.end; dispatch(&pool)) {
@@ -232,5 +238,6 @@ void run_pool(const struct folders *folders, unsigned workers, void (*finished)(
     close_done(pool.done);
     fclose(pool.names);
     free(pool.ring);
+    munmap(pool.answers, pool.room * sizeof *pool.answers);
     free(pool.line);
 }

@@ -1,4 +1,4 @@
-/* A process that judges the nets it is sent: for each a head and a name in, a result out. */
+/* A process that judges the nets it is sent. */
 #define _GNU_SOURCE
 #include "batch.h"
 
@@ -42,8 +42,17 @@ static void explain_one(const struct folders *folders, const char *own, const ch
     else if (!result->is_kept || fstatat(folders->explained, name, &status, AT_SYMLINK_NOFOLLOW) < 0 || !S_ISREG(status.st_mode)) result->is_bare = !explain(folders, own, name);
 }
 
+/* The next net's head and name; false where there is none. */
+static bool read_head(FILE *nets, struct head *head, char **name, size_t *room) {
+    if (fread(head, sizeof *head, 1, nets) < 1) return false;
+    if (head->length + 1 > *room) *name = must(realloc(*name, *room = head->length + 1));
+    (*name)[head->length] = 0;
+    return fread(*name, 1, head->length, nets) == head->length;
+}
+
 void work(const struct folders *folders, int number, int in, int out) {
-    struct { struct result old; uint32_t is_done, length; } head;
+    struct order order;
+    struct head head;
     char own[16], *name = NULL;
     size_t room = 0;
     snprintf(own, sizeof own, "%d", number);
@@ -52,15 +61,17 @@ void work(const struct folders *folders, int number, int in, int out) {
     signal(SIGHUP, SIG_IGN);
     prctl(PR_SET_PDEATHSIG, SIGKILL);
     FILE *nets = must(fdopen(in, "r"));
-    while (fread(&head, sizeof head, 1, nets) == 1) {
-        if (head.length + 1 > room) name = must(realloc(name, room = head.length + 1));
-        if (fread(name, 1, head.length, nets) < head.length) break;
-        name[head.length] = 0;
-        struct result result = head.old;
-        if (head.is_done && is_unchanged(folders, name, &head.old)) result.is_kept = 1;
-        else judge_one(folders, own, name, &result);
-        explain_one(folders, own, name, &result);
-        if (!write_all(out, &result, sizeof result)) break;
+    for (bool is_good = true; is_good && fread(&order, sizeof order, 1, nets) == 1;) {
+        for (; is_good && order.count > 0 && read_head(nets, &head, &name, &room); order.count--) {
+            struct result result = head.old;
+            if (head.is_done && is_unchanged(folders, name, &head.old)) result.is_kept = 1;
+            else judge_one(folders, own, name, &result);
+            explain_one(folders, own, name, &result);
+            order.answers->results[order.answers->count] = result;
+            order.answers->count++;
+            is_good = result.number != STOPPED;
+        }
+        is_good &= write_all(out, "", 1);
     }
     _exit(0);
 }

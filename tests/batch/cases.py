@@ -254,6 +254,16 @@ def two_at_once(box):
     return (status, out, err) == (2, [], "batch: another batch is writing to listings\n") and box.run("nets", "listings")[0] == 1
 
 
+# A call of the C library: a worker dies at the net "deadly".
+DEADLY = """int openat(int folder, const char *name, int flags, ...) {
+    __builtin_va_list more;
+    __builtin_va_start(more, flags);
+    if (!strcmp(name, "deadly")) raise(SIGKILL);
+    return syscall(SYS_openat, folder, name, flags, __builtin_va_arg(more, int));
+}
+"""
+
+
 def kills_lose_nothing(box):
     """Killed ten times at moments by chance and started again: no part of a listing is ever seen, and in the end all are those of one run."""
     files, wanted, rng = some_files(500), listings_of(500), random.Random(9)
@@ -349,6 +359,14 @@ def dead_worker_is_replaced(box):
     lines = (box.root / "report").read_text().splitlines()
     in_order = lines[:-1] == sorted(lines[:-1], key=lambda line: line.split(")) ")[-1])
     return process.returncode == 1 and box.files() == listings_of(3000) and in_order and lines[-1].endswith(" 0 failed")
+
+
+def deadly_net_fails(box):
+    """Two workers die at one net: it has failed, and those before and after it are judged."""
+    write_nets(box, {"a": WHOLE, "b": REFUSED, "deadly": WHOLE, "e": REFUSED, "f": WHOLE})
+    status, out, err = box.run("nets", "listings", library=box.standing_in(DEADLY))
+    report = out == ["(refused 2 (5)) b", "failed deadly", "(refused 2 (5)) e", "2 accepted, 2 refused, 1 failed"]
+    return status == 2 and report and err == "batch: nets/deadly: a worker ended by signal 9 while judging it\n" and set(box.files()) == {"a", "b", "e", "f"}
 
 
 def full_disk_is_one_line(box):

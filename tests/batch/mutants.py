@@ -30,6 +30,7 @@ MUTANTS = {
     "listings are nets": ("walk.c", "!is_same(&status, &walk->listings) && ", "", cases.listings_may_stand_below_the_nets),
     "no lock": ("journal.c", "flock(file, LOCK_EX | LOCK_NB) < 0", "false", cases.two_at_once),
     "a listing is written in its place": ("place.c", "int file = open_own(folders, own);\n    bool is_written = file >= 0", "make_folders(folders->listings, name);\n    int file = openat(folders->listings, name, O_WRONLY | O_CREAT | O_TRUNC | O_CLOEXEC, 0666);\n    usleep(3000);\n    return (void)(write_all(file, listing, length), close(file));\n    bool is_written = file >= 0", cases.kills_lose_nothing),
+    "what a dead worker answered is lost": ("pool.c", "    if (worker->count) take_answers(pool, worker);\n", "", cases.deadly_net_fails),
     "a torn line counts": ("journal.c", "strcmp(*line + length - 3, \"\\t.\\n\")", "length < 40", cases.torn_journal_is_no_harm),
     "every line is kept": ("journal.c", "if (!is_next || strncmp(line, next, name + 1)) ", "", cases.state_does_not_grow),
     "the file of another process is taken": ("place.c", "O_CREAT | O_EXCL", "O_CREAT | O_TRUNC", cases.writer_that_is_left_does_no_harm),

@@ -34,11 +34,19 @@ class Sandbox(Box):
         super().__init__()
         self.program = program
 
-    def start(self, *words, path=None, **options):
+    def standing_in(self, *calls):
+        """A library that stands before that of C, with these calls in place of its own."""
+        self.write("calls.c", "#define _GNU_SOURCE\n" + "".join(f"#include <{head}.h>\n" for head in ("errno", "fcntl", "signal", "string", "sys/syscall", "unistd")) + "".join(calls))
+        subprocess.run(["cc", "-shared", "-fPIC", "-w", self.root / "calls.c", "-o", self.root / "calls.so"], check=True)
+        return self.root / "calls.so"
+
+    def start(self, *words, path=None, library=None, **options):
         settings = {"stdin": subprocess.DEVNULL, "stdout": subprocess.PIPE, "stderr": subprocess.PIPE, "cwd": self.root} | options
         environment = os.environ | {"KODARFI_BATCH": str(self.program), "KODARFI_REGISTER": str(ROOT / "register"), "KODARFI_AS_BUILT": "silent", "LC_ALL": "C"}
         if path:
             environment["PATH"] = f"{path}:{os.environ['PATH']}"
+        if library:
+            environment["LD_PRELOAD"] = str(library)
         before = settings.pop("before", lambda: None)
 
         def prepare():
