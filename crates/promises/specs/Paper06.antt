@@ -1,4 +1,4 @@
--- 02, Paper 6. "A block pasted twice is told as that". "A user who pastes a block of rows twice and damages the copy gets 3 or 4, and looks in the wrong spot.
+-- 02, Paper 6. A block pasted twice is told as that. "A user who pastes a block of rows twice and damages the copy gets 3 or 4, and looks in the wrong spot.
 -- Repetition and the rules on values overlap" is its reason. "Order of a line from now on": `LineOrdered` of Lines01; "repetition is now tested first":
 -- `RepeatedIs12`.
 use mathlib.Core.List.{List, [], _∷_}
