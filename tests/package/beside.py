@@ -224,7 +224,7 @@ def exchanged(calls):
     oracle = doubles.Doubles()
     for index in range(DOUBLES):
         rng = random.Random(f"package doubles/{index}")
-        inward = exchanges.inward(rng, oracle)
+        inward = exchanges.inward(rng)
         for call in (inward, exchanges.damaged_inward(rng, inward)):
             if call.lengths == doubles.Inward(0, 0, []).lengths and 0 <= call.n <= 32:
                 yield *right(oracle.guesses(call)), said(calls.guesses, call.values[: call.n], call.s)
