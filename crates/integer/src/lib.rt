@@ -1,4 +1,6 @@
 // Leaf functions on machine integers.
+#![tactic(auto)]
+
 ghost use Rattle.std.specs.Prelude.{◌≡◌, ◌+◌, ◌*◌, ◌<◌, ◌≤◌, ◌^◌, max, pos, nat_abs, ◌+ℤ◌, ◌-ℤ◌, ◌*ℤ◌};
 ghost use Rattle.integer.specs.Finite.{first_or};
 ghost use Rattle.integer.specs.Quotient.{ceil_div, round_div};
