@@ -1,4 +1,6 @@
 // The sums over the distinct lines (document 02, Paper 3), and where they are written.
+#![tactic(auto)]
+
 ghost use Rattle.std.specs.Prelude.{◌≡◌, true, ℕ, ◌+◌, ◌≤◌, ◌<◌, ◌^◌, pos, nat_abs, ◌+ℤ◌, ◌-ℤ◌, ◌*ℤ◌, length, set};
 ghost use Rattle.integer.specs.Finite.{sumℕ};
 ghost use Rattle.linear.specs.Slice.{at};
@@ -12,14 +14,14 @@ use build_gathering::{Gathered, line_at};
 use build_lines::Observation;
 
 // How a matrix is laid out: row after row, whole rows or the lower half.
-#[derive(Drop)]
+#[derive(Clone, Copy)]
 pub enum Layout {
     Square,
     Lower,
 }
 
 // The sums of the row of a mark, one at each mark from 0 to 32, and its right side.
-#[derive(Drop)]
+#[derive(Clone, Copy)]
 pub struct Row {
     pub sums: [i64; 33],
     pub right: i64,

@@ -1,4 +1,6 @@
 // The adder (document 02, Paper 3): field lines are taken one after the other, and those whose key is new are kept.
+#![tactic(auto)]
+
 ghost use Rattle.std.specs.Prelude.{◌≡◌, ℕ, ◌+◌, ◌≤◌, ◌<◌, ◌^◌, min, eqb, pos, nat_abs, ◌+ℤ◌, ◌-ℤ◌};
 ghost use Rattle.integer.specs.Finite.{first};
 ghost use Rattle.build_gathering.specs.Gathered.{places, key_at, line_at, with_line, together, saying, is_refused, added, opened_as, opening_progress, no_lines, few, line_number_of};
@@ -7,7 +9,7 @@ use build_lines::{Built, Observation, has_contents, is_outside_range};
 use rules::{Kind, Refusal, is_natural_in_range};
 
 // How far the lines are taken: `count` of them are kept, `lines` of them were looked at, the refused one among them.
-#[derive(Drop)]
+#[derive(Clone, Copy)]
 pub struct Progress {
     pub n: u32,
     pub count: usize,
@@ -17,7 +19,7 @@ pub struct Progress {
 
 // The lines taken so far. Those whose key no earlier line has are kept in `seen`, as numbers, because a list of numbers can be lent to the adder: line p has its key
 // at p, its marks at 256 + p and 512 + p, its difference, counted from the lowest one, at 768 + p, and its weight at 1024 + p.
-#[derive(Drop)]
+#[derive(Clone, Copy)]
 pub struct Gathered {
     pub progress: Progress,
     pub seen: [u32; 1280],

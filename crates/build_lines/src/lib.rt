@@ -1,4 +1,6 @@
 // Field lines (document 02, Paper 3) and the tests of one line.
+#![tactic(auto)]
+
 ghost use Rattle.std.specs.Prelude.{◌≡◌};
 ghost use Rattle.build_lines.specs.Line.{is_mark, outside_range, same_contents};
 
@@ -6,7 +8,7 @@ use rules::{Kind, Refusal, is_in_range, is_natural_in_range};
 
 // A field line: its key, the two marks, the difference in whole units and the weight. Its layout is C's.
 #[repr(C)]
-#[derive(Drop)]
+#[derive(Clone, Copy)]
 pub struct Observation {
     pub key: u32,
     pub from: u32,
@@ -16,7 +18,7 @@ pub struct Observation {
 }
 
 // The answer to a list of field lines.
-#[derive(Drop)]
+#[derive(Clone, Copy)]
 pub enum Built {
     // the equations are built
     Done,

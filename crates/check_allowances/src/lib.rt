@@ -1,5 +1,7 @@
 // How large a residual may be: the slack of its tolerance (02, Paper 5: "a slack S·d_m") and the sum of |A_kj| along its row (Paper 9: "the sum of |a| along
 // that row").
+#![tactic(auto)]
+
 ghost use Rattle.std.specs.Prelude.{◌≡◌, ◌+◌, ◌*◌, ◌≤◌, ◌<◌, ◌^◌, ℕ, min, nat_abs, pos, length, get_or};
 ghost use Rattle.linear.specs.Slice.{at};
 ghost use Rattle.linear.specs.Place.{Carried};

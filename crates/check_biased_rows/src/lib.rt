@@ -1,5 +1,7 @@
 // Sums of products by way of numbers biased above 0. x86-64 multiplies two pairs of unsigned 32-bit numbers at once, and signed 64-bit
 // numbers one pair at a time: so a matrix is biased row after row, and a sum of products is put right by the sums of its two rows.
+#![tactic(auto)]
+
 ghost use Rattle.std.specs.Prelude.{◌≡◌, ℕ, ◌+◌, ◌*◌, ◌<◌, ◌≤◌, ◌^◌, pos, nat_abs, ◌-ℤ◌, get_or, length};
 ghost use Rattle.integer.specs.Finite.{sumℕ};
 ghost use Rattle.linear.specs.Slice.{at};

@@ -1,5 +1,7 @@
 // The limits of a column from the biased rows of the inverse, and the writer of a column (01: "The limits of one column are worked out
 // whole before any of them is written").
+#![tactic(auto)]
+
 ghost use Rattle.std.specs.Prelude.{◌≡◌, ℕ, ◌+◌, ◌*◌, ◌≤◌, ◌<◌, ◌^◌, nat_abs, get_or, length};
 ghost use Rattle.integer.specs.Finite.{sumℕ};
 ghost use Rattle.linear.specs.Slice.{at};

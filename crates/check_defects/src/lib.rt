@@ -1,5 +1,7 @@
 // T.I less a product of two matrices, of which the first has few numbers other than 0 in a levelling net: each of these takes a multiple of a whole biased
 // row of the second, and a 0 takes nothing.
+#![tactic(auto)]
+
 ghost use Rattle.std.specs.Prelude.{◌≡◌, ℕ, ◌+◌, ◌*◌, ◌/◌, ◌%◌, ◌≤◌, ◌<◌, ◌^◌, [], pos, nat_abs, ◌+ℤ◌, ◌-ℤ◌, ◌*ℤ◌, get_or, length, set};
 ghost use Rattle.integer.specs.Finite.{sum};
 ghost use Rattle.linear.specs.Slice.{at};

@@ -1,4 +1,6 @@
 // The check on lists whose limits are held by value: nothing is written until the caller writes it.
+#![tactic(auto)]
+
 ghost use Rattle.std.specs.Prelude.{replicate};
 ghost use Rattle.check_spec.specs.Input.{input};
 ghost use Rattle.check_held.specs.Held.{HeldAs};
@@ -7,7 +9,7 @@ use check_lists::check;
 use rules::Outcome;
 
 // What the check says, and the limits that it found.
-#[derive(Drop)]
+#[derive(Clone, Copy)]
 pub struct Held {
     pub outcome: Outcome,
     pub solution: [u64; 32],

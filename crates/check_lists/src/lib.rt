@@ -1,4 +1,6 @@
 // The check on lists (document 01, "The checker's task").
+#![tactic(auto)]
+
 ghost use Rattle.std.specs.Prelude.{◌+◌, ◌*◌, ◌≤◌, length};
 ghost use Rattle.check_spec.specs.Checked.{Checked};
 ghost use Rattle.check_spec.specs.Input.{input};

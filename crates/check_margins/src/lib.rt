@@ -1,4 +1,6 @@
 // The margins of all rows (01: g_m = T·w_m − the sum over j of |D_mj|·w_j), and the first that is 0 or less.
+#![tactic(auto)]
+
 ghost use Rattle.std.specs.Prelude.{◌≡◌, true, [], ℕ, ◌+◌, ◌*◌, ◌-◌, ◌/◌, ◌%◌, ◌≤◌, ◌<◌, ◌^◌, eqb, pos, nat_abs, get_or, length};
 ghost use Rattle.integer.specs.Finite.{first};
 ghost use Rattle.linear.specs.Slice.{at};

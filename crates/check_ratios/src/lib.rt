@@ -1,4 +1,6 @@
 // The limits of a column from the absolute values of its p, the margins and the weights: each is that of the row where |p| / margin is largest.
+#![tactic(auto)]
+
 ghost use Rattle.std.specs.Prelude.{◌≡◌, true, false, ℕ, ◌*◌, ◌≤◌, ◌<◌, ◌^◌, ltb, nat_abs, get_or, length};
 ghost use Rattle.integer.specs.Finite.{sumℕ, largest};
 ghost use Rattle.integer.specs.LargestRatio.{LargestRatio};
@@ -16,7 +18,7 @@ use integer::{ceil_div, larger, magnitude};
 const SMALL_SUM: u64 = 8589934592;
 
 // A row with the quotient and the remainder of |p_m| by its margin g_m.
-#[derive(Drop)]
+#[derive(Clone, Copy)]
 pub struct Ratio {
     pub row: usize,
     pub quotient: u64,

@@ -1,4 +1,6 @@
 // The tests of 20 and 21 and the ends of common intervals (document 02, Paper 13).
+#![tactic(auto)]
+
 ghost use Rattle.std.specs.Prelude.{◌≡◌, [], ◌*◌, ◌≤◌, ◌<◌, ◌^◌, max, pos, nat_abs, ◌+ℤ◌, ◌-ℤ◌, ◌*ℤ◌, length};
 ghost use Rattle.linear.specs.Reach.{ColumnList};
 ghost use Rattle.linear.specs.Slice.{at};
@@ -15,7 +17,7 @@ use integer::power;
 const MOST_STEPS: u64 = 68719476736;
 
 // The two ends of an interval.
-#[derive(Drop)]
+#[derive(Clone, Copy)]
 pub struct Ends {
     pub low: i64,
     pub high: i64,

@@ -1,4 +1,6 @@
 // Two proposals for the same equations: each height's common interval (document 02, Paper 13).
+#![tactic(auto)]
+
 ghost use Rattle.common_spec.specs.Answer.{CommonAs};
 ghost use Rattle.common_spec.specs.Proposals.{proposal, proposals};
 

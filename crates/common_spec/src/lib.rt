@@ -1,7 +1,9 @@
 // What is answered of two proposals for the same equations (document 02, Paper 13). The code stands in the crates common_ends and common_interval.
+#![tactic(auto)]
+
 use rules::Refusal;
 
-#[derive(Drop)]
+#[derive(Clone, Copy)]
 pub enum Common {
     // the common intervals are written
     Found,

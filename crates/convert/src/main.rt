@@ -1,4 +1,6 @@
 // The program: a file on standard input, the same file for offices on the old edition on standard output, or the line of a refusal.
+#![tactic(auto)]
+
 ghost use Rattle.std.specs.Prelude.{◌≤◌, ◌≡◌, length, take};
 ghost use Rattle.convert_spec.specs.Converted.{converted_text};
 

@@ -1,7 +1,9 @@
 // What a converter answers (document 02, Paper 14). Its code stands in the crates convert_writer and converter.
+#![tactic(auto)]
+
 use rules::Refusal;
 
-#[derive(Drop)]
+#[derive(Clone, Copy)]
 pub enum Converted {
     // a new file was written: its length
     Length(usize),
@@ -12,7 +14,7 @@ pub enum Converted {
 }
 
 // The same, with the number of the line that is refused, from 1; 0 where every line is accepted.
-#[derive(Drop)]
+#[derive(Clone, Copy)]
 pub struct Conversion {
     pub answer: Converted,
     pub line: u64,

@@ -1,4 +1,6 @@
 // The new file of a converter, written into a buffer line by line. Each function gives the index after what it wrote.
+#![tactic(auto)]
+
 ghost use Rattle.std.specs.Prelude.{◌≡◌, ◌++◌, ℕ, ◌+◌, ◌*◌, ◌≤◌, ◌<◌, ◌^◌, ltb, pos, nat_abs, length};
 ghost use Rattle.integer.specs.Finite.{largest};
 ghost use Rattle.linear.specs.Slice.{at as number};

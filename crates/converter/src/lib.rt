@@ -1,4 +1,6 @@
 // The converter: a file as one that offices on the old edition can read (document 02, Paper 14).
+#![tactic(auto)]
+
 ghost use Rattle.std.specs.Prelude.{length};
 ghost use Rattle.convert_spec.specs.Converted.{Delivered, ConvertedAs, ConvertedAt};
 ghost use Rattle.convert_spec.specs.File.{old_file};

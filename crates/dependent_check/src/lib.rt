@@ -1,4 +1,6 @@
 // The check of two nets, the second dependent on the first (document 02, Paper 8).
+#![tactic(auto)]
+
 ghost use Rattle.check_spec.specs.Input.{input};
 ghost use Rattle.dependent_spec.specs.Nets.{nets};
 ghost use Rattle.dependent_spec.specs.Together.{CheckedTogether};

@@ -1,5 +1,7 @@
 // What a dependent net takes over from the main net: C.X1, |C|·E1, and the main net's limits once both are accepted (document 02, Paper 8). C stands row after
 // row, with as many numbers in a row as the main net has marks.
+#![tactic(auto)]
+
 ghost use Rattle.std.specs.Prelude.{◌≡◌, ℕ, ◌+◌, ◌*◌, ◌≤◌, ◌<◌, ◌^◌, min, pos, nat_abs, ◌-ℤ◌, get_or, length};
 ghost use Rattle.linear.specs.Matrix.{apply};
 ghost use Rattle.linear.specs.Slice.{at, vector_of, matrix_of};

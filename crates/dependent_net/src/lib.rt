@@ -1,4 +1,6 @@
 // The check of a dependent net whose main net is accepted (document 02, Paper 8).
+#![tactic(auto)]
+
 ghost use Rattle.std.specs.Prelude.{ℕ, ◌≤◌, ◌^◌, get_or};
 ghost use Rattle.linear.specs.Slice.{vector_of};
 ghost use Rattle.linear.specs.Reach.{ColumnList};

@@ -1,8 +1,10 @@
 // What the check of two nets, the second dependent on the first, answers (document 02, Paper 8). Its code stands in the crates dependent_coupling, dependent_net, check_held
 // and dependent_check.
+#![tactic(auto)]
+
 use rules::Refusal;
 
-#[derive(Drop)]
+#[derive(Clone, Copy)]
 pub enum CheckedNets {
     // both nets are accepted
     Accepted,

@@ -1,11 +1,13 @@
 // Doubles by their bits: the meaning of a double in whole numbers of 2 ^ -1074, and the guess nearest to it.
+#![tactic(auto)]
+
 ghost use Rattle.std.specs.Prelude.{◌≡◌, ◌+◌, ◌*◌, ◌%◌, ◌≤◌, ◌<◌, ◌^◌};
 ghost use Rattle.doubles_guess.specs.Units.{signed_by};
 ghost use Rattle.doubles_guess.specs.Decoded.{Decoded, Normal};
 ghost use Rattle.doubles_guess.specs.Guess.{MagnitudeFoundAs, GuessFoundAs};
 
 // The sign, the digits and the exponent of a double: ±digits · 2^shift units of 2^-1074.
-#[derive(Drop)]
+#[derive(Clone, Copy)]
 pub struct DoubleParts {
     pub finite: bool,
     pub negative: bool,
@@ -54,7 +56,7 @@ pub fn decode(x: f64) -> DoubleParts
 }
 
 // An absolute value in steps; found is false where it is above 2^36.
-#[derive(Drop)]
+#[derive(Clone, Copy)]
 pub struct FoundMagnitude {
     pub found: bool,
     pub steps: u64,
@@ -98,7 +100,7 @@ fn nearest(digits: u64, shift: u64, s: u64) -> FoundMagnitude
 }
 
 // The guess that a double gives; found is false where it gives none (19).
-#[derive(Drop)]
+#[derive(Clone, Copy)]
 pub struct FoundGuess {
     pub found: bool,
     pub steps: i64,

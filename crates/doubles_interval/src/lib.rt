@@ -1,4 +1,6 @@
 // The doubles on either side of a height (02, Paper 11), by bits: no float arithmetic, no rounding mode.
+#![tactic(auto)]
+
 ghost use Rattle.std.specs.Prelude.{cond, ◌≡◌, ◌*◌, ◌-◌, ◌/◌, ◌≤◌, ◌<◌, ◌^◌, nat_abs};
 ghost use Rattle.std.specs.Float.{binary64};
 ghost use Rattle.std.specs.Float.Ieee.{units};
@@ -10,7 +12,7 @@ ghost use Rattle.doubles_interval.specs.Interval.{units_of, interval_of};
 use integer::magnitude;
 
 // The two ends of a height, compared through their exact whole-number meaning (01, "The form to use in each place").
-#[derive(Drop)]
+#[derive(Clone, Copy)]
 pub struct Interval {
     pub low: f64,
     pub high: f64,
@@ -30,7 +32,7 @@ fn from_parts(negative: bool, digits: u64, shift: u32) -> f64
 }
 
 // A number shifted up to 64 digits, and by how many.
-#[derive(Drop)]
+#[derive(Clone, Copy)]
 pub struct Shifted {
     pub number: u64,
     pub zeros: u32,

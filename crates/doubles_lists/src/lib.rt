@@ -1,4 +1,6 @@
 // Doubles in, doubles out (02, Paper 11): the two calls on lists. Each tests everything before it writes anything.
+#![tactic(auto)]
+
 ghost use Rattle.std.specs.Prelude.{true, ◌≡◌, ℕ, ◌≤◌, ◌^◌, leb, get_or, length};
 ghost use Rattle.integer.specs.Finite.{every};
 ghost use Rattle.linear.specs.Slice.{at};
@@ -14,7 +16,7 @@ use doubles_interval::interval_of;
 use rules::{COLUMN_LENGTH, Kind, Outcome, Refusal, all_in_range, is_natural_in_range};
 
 // The answer to doubles that are to become guesses.
-#[derive(Drop)]
+#[derive(Clone, Copy)]
 pub enum Guessed {
     Accepted,
     Refused(Refusal),

@@ -1,4 +1,6 @@
 // The register entry of a guess and its limit.
+#![tactic(auto)]
+
 ghost use Rattle.std.specs.Prelude.{◌≡◌, ◌≤◌, ◌^◌, nat_abs};
 ghost use Rattle.entry.specs.Entry.{entry_bound};
 ghost use Rattle.entry.specs.Register.{can_enter, RegisteredAs};
@@ -16,7 +18,7 @@ pub fn entry_bound(x: i64, e: u64, s: u32) -> u64
 }
 
 // A register entry, V and its limit, or a refusal.
-#[derive(Drop)]
+#[derive(Clone, Copy)]
 pub enum Registered {
     Entry(i64, u64),
     Refused(Refusal),

@@ -1,1 +1,2 @@
 // Definitions and theorems only: exact solutions in fractions.
+#![tactic(auto)]

@@ -1,4 +1,6 @@
 // The lines of a file, taken by a loader one after another.
+#![tactic(auto)]
+
 ghost use Rattle.std.specs.Prelude.{◌≡◌, ◌+◌, ◌≤◌, length, drop};
 ghost use Rattle.loader_runs.specs.Length.{line_length};
 ghost use Rattle.loader_lists.specs.Lists.{lists};
@@ -51,7 +53,7 @@ fn line_end(file: &[u8], at: usize) -> usize
 }
 
 // What taking a file's lines gives back: the first refusal and the number of its line, from 1, or acceptance of all lines; and the loader then.
-#[derive(Drop)]
+#[derive(Clone, Copy)]
 pub struct LinesTaken {
     pub outcome: Outcome,
     pub line: u64,
@@ -113,7 +115,7 @@ pub fn take_lines(
 }
 
 // The same, with the lists by value.
-#[derive(Drop)]
+#[derive(Clone, Copy)]
 pub struct Collected {
     pub outcome: Outcome,
     pub line: u64,

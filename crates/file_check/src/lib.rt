@@ -1,4 +1,6 @@
 // The check of a file whose lines are all accepted: what it says, as a line, or the report.
+#![tactic(auto)]
+
 ghost use Rattle.std.specs.Prelude.{◌≤◌, length};
 ghost use Rattle.loader_lists.specs.Lists.{lists};
 ghost use Rattle.listing_refusal.specs.Answered.{Answered};

@@ -1,4 +1,6 @@
 // The check of a symmetric matrix that is handed in by its lower half (document 02, Paper 10).
+#![tactic(auto)]
+
 ghost use Rattle.check_spec.specs.Input.{input};
 ghost use Rattle.half_check.specs.Checked.{CheckedHalf};
 

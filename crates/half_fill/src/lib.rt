@@ -1,4 +1,6 @@
 // A symmetric matrix that is handed in by its lower half, filled out (document 02, Paper 10).
+#![tactic(auto)]
+
 ghost use Rattle.std.specs.Prelude.{◌≡◌, ℕ, ◌+◌, ◌*◌, ◌≤◌, ◌<◌, length};
 ghost use Rattle.linear.specs.Slice.{at};
 ghost use Rattle.linear.specs.Written.{written};

@@ -1,4 +1,6 @@
 // The functions that other languages link: total, over numbers and slices, with document 01's number as their result (include/kodarfi.h).
+#![tactic(auto)]
+
 ghost use Rattle.check_spec.specs.Input.{input};
 ghost use Rattle.weights_spec.specs.Request.{request};
 ghost use Rattle.build_equations.specs.declared.Layout.TheVariants.{Square};

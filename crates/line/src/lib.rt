@@ -1,4 +1,6 @@
 // A line of the file: one of the forms, spelled exactly, or 01's refusal 1 or 2.
+#![tactic(auto)]
+
 ghost use Rattle.std.specs.Prelude.{◌≡◌};
 ghost use Rattle.line_form.specs.Form.{bytes};
 ghost use Rattle.line_form.specs.Reading.{word_at, reading};

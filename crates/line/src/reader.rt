@@ -12,7 +12,7 @@ use line_form::{Head, Listed, Word};
 use line_numeral::Number;
 use line_parts::{close_at, list_at};
 
-#[derive(Drop)]
+#[derive(Clone, Copy)]
 pub struct LineReader<'a> {
     pub line: &'a [u8],
     pub at: usize,

@@ -1,5 +1,7 @@
 // The parts of a line at an index: a form's opening word, bytes, and a list of numbers. Each gives the index after it, past the end of
 // the line where it does not stand there.
+#![tactic(auto)]
+
 ghost use Rattle.std.specs.Prelude.{◌≡◌, ◌-◌, drop, set};
 ghost use Rattle.line_form.specs.Reading.{starts, word_at, or_word, head_at};
 ghost use Rattle.line_form.specs.List.{no_numbers};
@@ -8,7 +10,7 @@ ghost use Rattle.line_form.specs.ListAt.{listed_at};
 use rules::Kind;
 
 // The word that a form starts with.
-#[derive(Drop)]
+#[derive(Clone, Copy)]
 pub enum Word {
     Problem,
     Scale,
@@ -21,14 +23,14 @@ pub enum Word {
 }
 
 // A form's word, and the index after its opening.
-#[derive(Drop)]
+#[derive(Clone, Copy)]
 pub struct Head {
     pub word: Word,
     pub next: usize,
 }
 
 // The numbers of a list: how many, whether all of them are in their range, and the first 32 of them.
-#[derive(Drop)]
+#[derive(Clone, Copy)]
 pub struct Numbers {
     pub count: usize,
     pub inside: bool,
@@ -36,7 +38,7 @@ pub struct Numbers {
 }
 
 // The numbers of a list, and the index after the last.
-#[derive(Drop)]
+#[derive(Clone, Copy)]
 pub struct Listed {
     pub numbers: Numbers,
     pub next: usize,

@@ -1,4 +1,6 @@
 // A number at a place of a line (01: "A number is 0, or digits without a leading 0, with a minus before it where negative; −0 is no number").
+#![tactic(auto)]
+
 ghost use Rattle.std.specs.Prelude.{◌≡◌, ◌≤◌, length, drop, pos, neg_ℤ, slice_index};
 ghost use Rattle.line_numeral.specs.Numeral.{digit_of, lost, run_at, magnitude_at, number_at, positive_of, negative_of, cap_at, cap_magnitude};
 ghost use Rattle.line_numeral.specs.Capped.{capped_magnitude, capped_number};
@@ -6,14 +8,14 @@ ghost use Rattle.line_numeral.specs.Capped.{capped_magnitude, capped_number};
 const CAP: u64 = 1099511627776;
 
 // The absolute value of a number, and the index after it.
-#[derive(Drop)]
+#[derive(Clone, Copy)]
 struct Magnitude {
     value: u64,
     next: usize,
 }
 
 // A number, and the index after it.
-#[derive(Drop)]
+#[derive(Clone, Copy)]
 pub struct Number {
     pub value: i64,
     pub next: usize,

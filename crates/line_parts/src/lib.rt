@@ -1,4 +1,6 @@
 // What a line is, from its parts: one of the forms, its numbers capped, or 01's refusal 1 or 2.
+#![tactic(auto)]
+
 ghost use Rattle.std.specs.Prelude.{◌≡◌};
 ghost use Rattle.line_form.specs.Form.{bytes};
 ghost use Rattle.line_form.specs.ListAt.{listed_at};
@@ -12,7 +14,7 @@ use rules::{Kind, Refusal};
 
 // A form's numbers, ±2^40 where they are larger in absolute value; i comes first and is kept apart. The numbers of a row stand beside it. The third of a right side is
 // its tolerance, 0 where it has none.
-#[derive(Drop)]
+#[derive(Clone, Copy)]
 pub enum CappedForm {
     Problem(i64),
     Scale(i64, i64),
@@ -25,14 +27,14 @@ pub enum CappedForm {
 }
 
 // The form, or 1 or 2 (01's numbers by `lineCode` of specs/Line.antt).
-#[derive(Drop)]
+#[derive(Clone, Copy)]
 pub enum Answer {
     Form(CappedForm),
     Refused(Refusal),
 }
 
 // What a line is. Where it is neither a row nor a row of the inverse, there are no numbers beside the answer.
-#[derive(Drop)]
+#[derive(Clone, Copy)]
 pub struct Line {
     pub answer: Answer,
     pub numbers: Numbers,

@@ -1,4 +1,6 @@
 // The listing of a file.
+#![tactic(auto)]
+
 ghost use Rattle.std.specs.Prelude.{length};
 ghost use Rattle.listing.specs.Listing.{ListedAs, AnsweredAs};
 

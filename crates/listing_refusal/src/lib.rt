@@ -1,4 +1,6 @@
 // The answer to a refused file: in numbers, and as one line written into a buffer.
+#![tactic(auto)]
+
 ghost use Rattle.std.specs.Prelude.{◌≡◌, [], ◌∷◌, ◌≤◌, length, get_or};
 ghost use Rattle.rules.specs.Refusal.{number_of, values_of};
 ghost use Rattle.listing_refusal.specs.Refused.{shown, printed, refused_of};
@@ -9,7 +11,7 @@ use listing_text::put_list;
 use rules::Refusal;
 
 // The answer in numbers: 01's number of a refusal, how many numbers stand in the inner brackets, and these; 0 where there is none.
-#[derive(Drop)]
+#[derive(Clone, Copy)]
 pub struct Reply {
     pub number: u32,
     pub count: usize,
@@ -18,7 +20,7 @@ pub struct Reply {
 }
 
 // The answer, and the bytes written of it.
-#[derive(Drop)]
+#[derive(Clone, Copy)]
 pub struct FileAnswer {
     pub reply: Reply,
     pub length: usize,

@@ -1,4 +1,6 @@
 // The report of an accepted proposal, written into a buffer.
+#![tactic(auto)]
+
 ghost use Rattle.std.specs.Prelude.{◌+◌, ◌*◌, ◌≤◌, ◌<◌, ◌^◌, nat_abs, length};
 ghost use Rattle.line_form.specs.Form.{bytes};
 ghost use Rattle.listing_text.specs.Wrote.{Wrote};
@@ -20,7 +22,7 @@ fn put_entry(out: &mut [u8], at: usize, i: u64, x: i64, e: u64, s: u32) -> usize
 }
 
 // The three blocks of a report, a line for each row.
-#[derive(Drop)]
+#[derive(Clone, Copy)]
 pub enum Block {
     Solution,
     Entry,

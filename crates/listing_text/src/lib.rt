@@ -1,4 +1,6 @@
 // Bytes, numbers and the lines of a listing put into a buffer at an index. Each function gives the index after what it wrote.
+#![tactic(auto)]
+
 ghost use Rattle.std.specs.Prelude.{◌+◌, ◌≤◌, ◌<◌, ◌^◌, ℕ, ◌*◌, nat_abs, length, get_or, ◌++◌};
 ghost use Rattle.line_numeral.specs.Decimal.{decimal, numeral};
 ghost use Rattle.listing_text.specs.Wrote.{Wrote};

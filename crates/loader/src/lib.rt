@@ -1,4 +1,6 @@
 // The loader (01: desk): it collects the forms of a file, line by line.
+#![tactic(auto)]
+
 ghost use Rattle.std.specs.Prelude.{◌≡◌, true, cond, [], ◌∷◌};
 ghost use Rattle.rules.specs.Refusal.{code};
 ghost use Rattle.check_spec.specs.Input.{input};
@@ -15,7 +17,7 @@ use loader_values::{Item, Part};
 use rules::{Outcome, Refusal};
 
 // n, s and t once given, how far the loader has come, and for each part the set of the forms it was given.
-#[derive(Drop)]
+#[derive(Clone, Copy)]
 pub struct Loader {
     n: u32,
     s: u32,
@@ -25,7 +27,7 @@ pub struct Loader {
 }
 
 // What taking a line gives back.
-#[derive(Drop)]
+#[derive(Clone, Copy)]
 pub struct Taken {
     pub loader: Loader,
     pub outcome: Outcome,
@@ -33,7 +35,7 @@ pub struct Taken {
 
 // What is decided of a line before anything is written: what is given back, and the form to write. A problem form writes nothing, and stands where nothing
 // is to be written.
-#[derive(Drop)]
+#[derive(Clone, Copy)]
 pub struct Decided {
     taken: Taken,
     item: Item,

@@ -1,4 +1,6 @@
 // Sets of places below 32, one bit of a u32 for each place (01: "One u32 of given places per kind").
+#![tactic(auto)]
+
 ghost use Rattle.std.specs.Prelude.{◌≡◌, ◌≤◌, ◌<◌};
 ghost use Rattle.loader_bit_set.specs.Places.{has_place, with_place, lacking};
 

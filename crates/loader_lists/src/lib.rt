@@ -1,4 +1,6 @@
 // The six lent lists: whether one is too short, where the numbers of a form are written in them, and the weights that an end fills in.
+#![tactic(auto)]
+
 ghost use Rattle.std.specs.Prelude.{◌≡◌, ◌+◌, ◌≤◌, ◌<◌, length};
 ghost use Rattle.std.proofs.Math.Seq.{paste};
 ghost use Rattle.loader_lists.specs.Put.{filled_at, filled, closed_weights, closed};
@@ -10,7 +12,7 @@ use loader_values::{Item, Part};
 use rules::{COLUMN_LENGTH, MATRIX_LENGTH};
 
 // Places of a list, one after another.
-#[derive(Drop)]
+#[derive(Clone, Copy)]
 pub struct Span {
     at: usize,
     count: usize,

@@ -1,4 +1,6 @@
 // A loader in nine numbers that a caller lends (01: desk), for callers that cannot hold the struct.
+#![tactic(auto)]
+
 ghost use Rattle.std.specs.Prelude.{◌≡◌};
 ghost use Rattle.check_spec.specs.Input.{input};
 ghost use Rattle.loader_lists.specs.Lists.{lists};

@@ -1,1 +1,2 @@
 // The refusals at a loader in their order: definitions and theorems, no code.
+#![tactic(auto)]

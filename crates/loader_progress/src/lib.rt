@@ -1,4 +1,6 @@
 // How far a loader has come (01: desk): the stage it is at and, for each part, the set of the forms it was given.
+#![tactic(auto)]
+
 ghost use Rattle.std.specs.Prelude.{◌≡◌, true, false, cond, [], ◌∷◌, ◌≤◌};
 ghost use Rattle.rules.specs.Refusal.{code};
 ghost use Rattle.loader_values.specs.Item.{placed};
@@ -8,7 +10,7 @@ use loader_values::{Item, Part};
 use rules::{Kind, Outcome, Refusal};
 
 // Nothing given yet, problem given, scale given, end accepted.
-#[derive(Drop)]
+#[derive(Clone, Copy)]
 pub enum Stage {
     Start,
     Sized,

@@ -1,4 +1,6 @@
 // What a form of a line gives: for which part and number i, and which numbers.
+#![tactic(auto)]
+
 ghost use Rattle.std.specs.Prelude.{◌≡◌, true, ◌&&◌, ◌≤◌, ◌<◌, pos, nat_abs};
 ghost use Rattle.std.specs.Int.Signed.{le_z};
 ghost use Rattle.loader_values.specs.Item.{part_index, placed};
@@ -8,7 +10,7 @@ use line_parts::CappedForm;
 use rules::Kind;
 
 // The forms that are given once for each i from 1 to n.
-#[derive(Drop)]
+#[derive(Clone, Copy)]
 pub enum Part {
     Row,
     Right,
@@ -18,7 +20,7 @@ pub enum Part {
 }
 
 // Which form a line is, with n, with s and t, or with the number i.
-#[derive(Drop)]
+#[derive(Clone, Copy)]
 pub enum Item {
     Problem(i64),
     Scale(i64, i64),

@@ -1,11 +1,13 @@
 // Standard input, read into a buffer.
+#![tactic(auto)]
+
 ghost use Rattle.std.specs.Prelude.{◌≤◌, ◌≡◌, length, take};
 ghost use Rattle.program_input.specs.Step.{Inside, Filled};
 
 use libc::STDIN_FILENO;
 
 // What one read gives.
-#[derive(Drop)]
+#[derive(Clone, Copy)]
 pub enum Step {
     More(usize),
     End,
@@ -29,7 +31,7 @@ fn read_some(buf: &mut [u8], from: usize) -> Step
 }
 
 // The bytes read, or that a read failed.
-#[derive(Drop)]
+#[derive(Clone, Copy)]
 pub enum BytesRead {
     Bytes(usize),
     Failed,

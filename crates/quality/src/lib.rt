@@ -1,4 +1,6 @@
 // The factor of a proposal's limits: how far a limit can lie above a true error.
+#![tactic(auto)]
+
 ghost use Rattle.std.specs.Prelude.{◌≡◌, true, false, [], ℕ, ◌*◌, ◌-◌, ◌≤◌, ◌<◌, ◌^◌, ltb, nat_abs, get_or};
 ghost use Rattle.linear.specs.Slice.{at};
 ghost use Rattle.linear.specs.Reach.{ColumnList, MatrixList};

@@ -1,7 +1,9 @@
 // What a call for the factor of the limits answers. Its code stands in the crate quality.
+#![tactic(auto)]
+
 use rules::Refusal;
 
-#[derive(Drop)]
+#[derive(Clone, Copy)]
 pub enum Quality {
     // numerator and denominator of the largest (T·w_m + load_m) / margin_m, as they stand in the lowest row where it is largest
     Factor(u64, u64),

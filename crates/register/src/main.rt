@@ -1,4 +1,6 @@
 // The program: a file on standard input, its listing on standard output.
+#![tactic(auto)]
+
 ghost use Rattle.std.specs.Prelude.{◌≤◌, ◌≡◌};
 ghost use Rattle.listing.specs.Listing.{listing_of};
 

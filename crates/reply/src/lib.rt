@@ -1,4 +1,6 @@
 // What a call answers, in numbers for other languages: 01's number and its two places.
+#![tactic(auto)]
+
 ghost use Rattle.std.specs.Prelude.{◌≡◌, [], ◌∷◌, get_or};
 ghost use Rattle.rules.specs.Refusal.{code, number_of};
 ghost use Rattle.listing_refusal.specs.Refused.{printed};

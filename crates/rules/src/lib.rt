@@ -1,10 +1,12 @@
 // The ranges of document 01 and of 02's Papers 7, 5 and 3, and 01's refusals.
+#![tactic(auto)]
+
 ghost use Rattle.std.specs.Prelude.{◌≡◌, ◌&&◌, ℕ, ◌<◌, ◌≤◌, pos, get_or, length};
 ghost use Rattle.std.specs.Int.Signed.{le_z};
 ghost use Rattle.rules.specs.Range.{index_of, range_of, in_range, all_in_range};
 
 // What a number stands for; each kind has its own range (01: "Every form has its own range").
-#[derive(Drop)]
+#[derive(Clone, Copy)]
 pub enum Kind {
     Size,
     SolutionScale,
@@ -25,7 +27,7 @@ pub enum Kind {
     LineWeight,
 }
 
-#[derive(Drop)]
+#[derive(Clone, Copy)]
 pub struct Range {
     pub lowest: i64,
     pub highest: i64,
@@ -111,7 +113,7 @@ pub const MATRIX_LENGTH: usize = 1024;
 pub const COLUMN_LENGTH: usize = 32;
 
 // Why something is refused: a case for each of 01's numbers, with the places or the count that it gives. Rows and columns count from 1.
-#[derive(Drop)]
+#[derive(Clone, Copy)]
 pub enum Refusal {
     // 1: a line above 320 bytes
     TooLong,
@@ -141,7 +143,7 @@ pub enum Refusal {
     NotEnded,
 }
 
-#[derive(Drop)]
+#[derive(Clone, Copy)]
 pub enum Outcome {
     Accepted,
     Refused(Refusal),

@@ -10,21 +10,21 @@ use build_equations::Layout;
 use build_lines::{Built, Observation};
 use line_numeral::Number;
 
-#[derive(Drop)]
+#[derive(Clone, Copy)]
 struct Placed {
     line: Observation,
     next: usize,
 }
 
 // The first count of the lines were read.
-#[derive(Drop)]
+#[derive(Clone, Copy)]
 struct Lines {
     lines: [Observation; 320],
     count: usize,
 }
 
 // The answer, and both lists afterwards.
-#[derive(Drop)]
+#[derive(Clone, Copy)]
 struct BuiltLists {
     built: Built,
     matrix: [i64; 1024],

@@ -8,7 +8,7 @@ use rules::Outcome;
 pub const UNWRITTEN: u64 = 1152921504606846977;
 
 // The outcome is that of the line taken last.
-#[derive(Drop)]
+#[derive(Clone, Copy)]
 pub struct Loaded {
     pub loader: Loader,
     pub matrix: [i64; 1024],
@@ -21,7 +21,7 @@ pub struct Loaded {
 }
 
 // What a check answered, and the limit lists after it.
-#[derive(Drop)]
+#[derive(Clone, Copy)]
 pub struct Limits {
     pub outcome: Outcome,
     pub solution: [u64; 32],

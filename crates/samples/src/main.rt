@@ -11,6 +11,8 @@
 //   b  build equations: the rest is n and then field lines, five numbers each, with a space after each number;  a, r  the same, with a matrix list, or a list
 //      of right sides, that is one number too short
 // Any other entry is a line for the loader. A script that fills the buffer may have been cut, so it is not run at all.
+#![tactic(auto)]
+
 ghost use Rattle.std.specs.Prelude.{◌≡◌, length};
 
 use building::print_build;

@@ -24,7 +24,7 @@ fn print_read(answer: Answer) {
 }
 
 // How a form is printed: a word, and so many numbers; a tolerance of 0 is not printed, given or not.
-#[derive(Drop)]
+#[derive(Clone, Copy)]
 struct Words {
     from: usize,
     to: usize,

@@ -1,4 +1,6 @@
 // Weights found by the program (document 02, Paper 7).
+#![tactic(auto)]
+
 ghost use Rattle.std.specs.Prelude.{◌≡◌, true, false, [], ℕ, ◌≤◌, pos, get_or, length};
 ghost use Rattle.linear.specs.Reach.{MatrixList};
 ghost use Rattle.linear.specs.Written.{written};
@@ -16,7 +18,7 @@ use weights_steps::{defect_magnitudes, is_good, is_short, loads_of, next_weights
 mod ranges;
 
 // How many lists were passed over, and the list at which the search stopped.
-#[derive(Drop)]
+#[derive(Clone, Copy)]
 pub struct Last {
     pub passed: u32,
     pub weights: [u64; 32],

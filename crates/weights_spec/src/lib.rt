@@ -1,7 +1,9 @@
 // What a search for weights answers (document 02, Paper 7). Its code stands in the crates weights_steps and weights_search.
+#![tactic(auto)]
+
 use rules::Refusal;
 
-#[derive(Drop)]
+#[derive(Clone, Copy)]
 pub enum Found {
     // the number of the first good list, from 1: so many lists were tried
     Tried(u32),

@@ -1,4 +1,6 @@
 // One step of the sequence of document 02, Paper 7: the sums |D|·w of a list, whether it is good, and the list after it; and 8 of a search.
+#![tactic(auto)]
+
 ghost use Rattle.std.specs.Prelude.{◌≡◌, ℕ, ◌*◌, ◌-◌, ◌/◌, ◌%◌, ◌≤◌, ◌<◌, ◌+◌, ◌^◌, leb, eqb, nat_abs, get_or};
 ghost use Rattle.integer.specs.Finite.{first, largest};
 ghost use Rattle.linear.specs.Place.{Carried};
