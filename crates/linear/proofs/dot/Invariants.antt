@@ -13,4 +13,4 @@ use Rattle.linear.proofs.Places.{dot_fits}
 use Rattle.linear.proofs.dot.Given as goal
 
 abbrev pub invariant-loop-j : goal.invariant-loop-j
-invariant-loop-j l = (l.j ≤ l.n) × ((Carried l.p l.s l.j l.at_a × Carried l.q l.u l.j l.at_x) × (to_z w64 l.sum ≡ dot_of l.a l.p l.s l.x l.q l.u l.j))
+invariant-loop-j l = (l.j ≤ l.n) × ((Carried l.p l.s l.j l.at_a × Carried l.q l.u l.j l.at_x) × (l.sum ≡ dot_of l.a l.p l.s l.x l.q l.u l.j))
