@@ -36,6 +36,7 @@ onto_back (x ∷ xs) es i = onto_back xs (x ∷ es) (there i)
 
 pub onto_front : {e : Observation} (xs es : List Observation) → Among e xs → Among e (onto xs es)
 unfolding onto
+onto_front {e = e} [] es x' = elim x' [ ]
 onto_front (x ∷ xs) es here = onto_back xs (x ∷ es) here
 onto_front (x ∷ xs) es (there i) = onto_front xs (x ∷ es) i
 

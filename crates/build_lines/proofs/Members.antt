@@ -40,6 +40,7 @@ line_same l = rw (eq-eqb l.«from» l.«from» refl, eq-eqb l.to l.to refl, numb
 -- ---- keys
 pub key_here : {e : Observation} (es : List Observation) → Among e es → has_key es e.key ≡ true
 unfolding has_key
+key_here {e = e} [] x' = elim x' [ ]
 key_here (e ∷ es) here = rw (eq-eqb e.key e.key refl)
 key_here {e} (d ∷ es) (there i) = rw (key_here es i) (or_right (eqb d.key e.key) refl)
 
@@ -63,6 +64,7 @@ has_line (e ∷ es) k h = go (eqb e.key k) refl (has_line es k) h
 -- ---- other contents
 pub no_clash : (es : List Observation) (l e : Observation) → clashes es l ≡ false → Among e es → e.key ≡ l.key → e ≡ l
 unfolding clashes
+no_clash [] l e h x3 k = elim x3 [ ]
 no_clash (d ∷ es) l e h here k = same_line e l k (go (same_contents e l) (rw (eq-eqb e.key l.key k) at (neither_left (eqb e.key l.key && not (same_contents e l)) (clashes es l) h)))
   where
     go : (b : Bool) → not b ≡ false → b ≡ true

@@ -1,0 +1,6 @@
+use Rattle.build_lines.proofs.Laws.{contents_tested}
+use Rattle.std.proofs.Common.{rules}
+use Rattle.build_lines.proofs.has_contents.Goals as goal
+
+pub returns : goal.returns
+returns c = contents_tested _ _ (search rules) (search rules)

@@ -1,0 +1,14 @@
+use mathlib.Core.Path.{◌≡◌, refl, ◌∙◌}
+use Prim.Native.Nat.{ℕ, ◌+◌, ◌*◌, ◌≤◌, ◌-◌}
+use native.Mathlib.Omega.{arith}
+use native.Mathlib.Nat.{mul-le-mul}
+use lib.ListN.{length}
+use Rattle.linear.specs.Slice.{at}
+use Rattle.linear.specs.Place.{Carried}
+use Rattle.linear.proofs.Carried.{start_place, carried_first, carried_next}
+use Rattle.check_biased_rows.specs.Biased.{RowsOf}
+use Rattle.check_biased_rows.proofs.Filling.{row_below, rows_none, rows_more, rows_end}
+use Rattle.check_biased_rows.proofs.bias_all.Given as goal
+
+abbrev pub invariant-loop-i : goal.invariant-loop-i
+invariant-loop-i l = (l.i ≤ l.n) × ((Carried 0 (l.n + 1) l.i l.place) × ((Carried 0 l.step l.i l.start) × ((length l.out ≡ length l.initial.out) × RowsOf l.out l.n l.i (λ (a k : ℕ). at l.xs (a * l.step + k * l.stride)))))
