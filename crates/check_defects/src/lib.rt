@@ -1,4 +1,4 @@
-// T.I less a product of two matrices, of which the first has few numbers other than 0 in a levelling net: each of these takes a multiple of a whole biased
+// T·I less a product of two matrices, of which the first has few numbers other than 0 in a levelling net: each of these takes a multiple of a whole biased
 // row of the second, and a 0 takes nothing.
 #![tactic(auto)]
 
@@ -119,7 +119,7 @@ fn add_rows(
     total
 }
 
-// Adds number m, m of T.I to the sum that is taken with its sign.
+// Adds number m, m of T·I to the sum that is taken with its sign.
 fn add_unit(sums: &mut [u64; 64], t: u32, m: usize)
     requires { (t ≤ 20) × ((m < 32) × (get_or sums.old (32 + m) 0 ≤ 2 ^ 51)) }
     ensures { sums.new ≡ set sums.old (32 + m) (get_or sums.old (32 + m) 0 + 2 ^ t) }
@@ -127,7 +127,7 @@ fn add_unit(sums: &mut [u64; 64], t: u32, m: usize)
     sums[32 + m] += power(t);
 }
 
-// A number of T.I less the product, from the two sums that stand for it and from what all biased numbers have too much of.
+// A number of T·I less the product, from the two sums that stand for it and from what all biased numbers have too much of.
 fn number_less(biased: i64, up: u64, down: u64) -> i64
     requires biased_bound { nat_abs biased ≤ 2 ^ 50 }
     requires up_bound { (up ≤ 2 ^ 51) × (down ≤ 2 ^ 52) }
@@ -164,7 +164,7 @@ fn store_row(
     }
 }
 
-// Puts T.I less the product in a list, column after column.
+// Puts T·I less the product in a list, column after column.
 fn differences_of(
     out: &mut [i64],
     t: u32,
@@ -188,7 +188,7 @@ fn differences_of(
     }
 }
 
-// Puts the residuals T.I − A.G of the inverse in a list, column after column, from the biased rows of G.
+// Puts the residuals T·I − A·G of the inverse in a list, column after column, from the biased rows of G.
 pub fn inverse_residuals_of(out: &mut [i64], t: u32, matrix: &[i64], rows: &[u64], n: usize)
     requires t_bound { (t ≤ 20) × ((n ≤ 32) × (n * n ≤ length out.old)) }
     requires matrix_list { MatrixList matrix.now n }
@@ -199,7 +199,7 @@ pub fn inverse_residuals_of(out: &mut [i64], t: u32, matrix: &[i64], rows: &[u64
     differences_of(out, t, matrix, n, 1, rows, n);
 }
 
-// D = T.I − G.A, row after row: its row m is column m of T.I less the product of A and G, each read by columns.
+// D = T·I − G·A, row after row: its row m is column m of T·I less the product of A and G, each read by columns.
 pub fn defects_of(t: u32, matrix: &[i64], inverse: &[i64], n: usize) -> [i64; 1024]
     requires t_bound { (t ≤ 20) × (n ≤ 32) }
     requires matrix_list { MatrixList matrix.now n }

@@ -114,7 +114,7 @@ fn margins_from(out: &mut [u64; 32], t: u32, defects: &[i64], weights: &[i64], n
     }
 }
 
-// The margins of all rows. Where A and G are symmetric, row m of D is column m of T.I − A.G, which stands in the list of the inverse's residuals.
+// The margins of all rows. Where A and G are symmetric, row m of D is column m of T·I − A·G, which stands in the list of the inverse's residuals.
 pub fn margins_of(
     out: &mut [u64; 32],
     t: u32,

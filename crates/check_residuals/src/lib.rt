@@ -44,7 +44,7 @@ fn difference(base: i64, a: &[i64], k: usize, p: usize, x: &[i64], n: usize) -> 
     base - dot(a, p, 1, x, 0, 1, n)
 }
 
-// The residuals of a guess: a base less A.X.
+// The residuals of a guess: a base less A·X.
 pub fn residuals_of(out: &mut [i64; 32], base: &[i64; 32], matrix: &[i64], guess: &[i64], n: usize)
     requires n_bound { (n ≤ 32) × (length out.old ≡ 32) }
     requires column_list { ColumnList base.now n (2 ^ 62) }

@@ -1,4 +1,4 @@
-// What a dependent net takes over from the main net: C.X1, |C|·E1, and the main net's limits once both are accepted (document 02, Paper 8). C stands row after
+// What a dependent net takes over from the main net: C·X1, |C|·E1, and the main net's limits once both are accepted (document 02, Paper 8). C stands row after
 // row, with as many numbers in a row as the main net has marks.
 #![tactic(auto)]
 
@@ -29,7 +29,7 @@ fn base_at(base: i64, coupling: &[i64], k: usize, row: usize, guess: &[i64], mar
     base - dot(coupling, row, 1, guess, 0, 1, marks)
 }
 
-// The base of the residuals: S·b2 less C.X1.
+// The base of the residuals: S·b2 less C·X1.
 pub fn base_of(
     base: [i64; 32],
     coupling: &[i64],

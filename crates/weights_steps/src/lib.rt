@@ -24,7 +24,7 @@ pub fn is_short(a: usize, g: usize, w: usize) -> bool
     (a < MATRIX_LENGTH) | ((g < MATRIX_LENGTH) | (w < COLUMN_LENGTH))
 }
 
-// |D|, column after column: T.I − G.A is what the residuals of an inverse are with the two matrices exchanged.
+// |D|, column after column: T·I − G·A is what the residuals of an inverse are with the two matrices exchanged.
 pub fn defect_magnitudes(t: u32, matrix: &[i64], inverse: &[i64], n: usize) -> [u64; 1024]
     requires t_bound { (t ≤ 20) × (n ≤ 32) }
     requires matrix_list { MatrixList matrix.now n × MatrixList inverse.now n }

@@ -1,0 +1,6 @@
+use Rattle.build_gathering.specs.Gathered.{opening_progress}
+use Rattle.std.proofs.Common.{rules}
+use Rattle.build_gathering.proofs.open.Goals as goal
+
+pub returns : goal.returns
+returns c = unfold opening_progress in rw c.opened_as-status.ensures

@@ -1,0 +1,13 @@
+use mathlib.Core.Path.{◌≡◌, sym, ap, ◌∙◌}
+use Prim.Native.Nat.{ℕ, ◌+◌, ◌*◌, ◌≤◌, ◌-◌}
+use native.Mathlib.Omega.{arith}
+use lib.ListN.{get_or}
+use Rattle.linear.specs.Place.{Carried}
+use Rattle.linear.specs.Written.{written}
+use Rattle.linear.proofs.Carried.{carried_first, carried_next}
+use Rattle.linear.proofs.Written.{written_none, written_more, written_end}
+use Rattle.check_defects.proofs.Halves.{written_ahead}
+use Rattle.check_defects.proofs.add_row.Given as goal
+
+abbrev pub invariant-loop-j : goal.invariant-loop-j
+invariant-loop-j l = (l.j ≤ l.n) × ((Carried l.row 1 l.j l.place × Carried l.half 1 l.j l.to) × (l.sums ≡ written l.initial.sums l.half 1 (λ (i : ℕ). get_or l.initial.sums (l.half + i) 0 + l.magnitude * get_or l.rows (l.row + i) 0) l.j))

@@ -1,0 +1,12 @@
+use mathlib.Core.Path.{◌≡◌, sym, ◌∙◌}
+use Prim.Native.Nat.{ℕ, ◌≤◌, ◌-◌}
+use native.Mathlib.Omega.{arith}
+use lib.IntN.{nat_abs}
+use Rattle.integer.specs.Finite.{largest}
+use Rattle.integer.proofs.Machine.{read}
+use Rattle.integer.proofs.Search.{largest_none, largest_next, largest_end}
+use Rattle.linear.specs.Slice.{at}
+use Rattle.check_ratios.proofs.largest_weight.Given as goal
+
+abbrev pub invariant-loop-i : goal.invariant-loop-i
+invariant-loop-i l = (l.i ≤ l.n) × (l.most ≡ largest l.i (λ (k : ℕ). nat_abs (at l.weights k)))

@@ -1,0 +1,12 @@
+use mathlib.Core.Bool.{false}
+use mathlib.Core.Path.{◌≡◌, sym, ◌∙◌}
+use Prim.Native.Nat.{ℕ, ◌+◌, ◌≤◌, ◌<◌, ◌-◌}
+use native.Mathlib.Omega.{arith}
+use Rattle.integer.proofs.Machine.{read}
+use Rattle.integer.proofs.Search.{upto, first_is, first_never}
+use Rattle.linear.specs.Slice.{at}
+use Rattle.check_arrays.specs.Parts.{above_allowed}
+use Rattle.check_residuals.proofs.first_above.Given as goal
+
+abbrev pub invariant-loop-k : goal.invariant-loop-k
+invariant-loop-k l = (l.k ≤ l.n) × ((l.place ≡ l.start + l.k) × ((i : ℕ) → i < l.k → above_allowed (at l.allowed i) (at l.residuals (l.start + i)) ≡ false))

@@ -1,0 +1,18 @@
+use native.Mathlib.Omega.{arith}
+use mathlib.Core.Path.{sym, ap, ap₂, ◌∙◌}
+use lib.IntN.{ℤ}
+use lib.ListN.{length}
+use mir.Syntax.{w64}
+use mir.Val.{SFits}
+use mir.ValLaws.{to_z-of_z}
+use Rattle.linear.specs.Written.{written}
+use Rattle.integer.proofs.Machine.{read}
+use Rattle.linear.proofs.Written.{written_none, written_more, written_end, written_length}
+use Rattle.common_spec.specs.Ends.{maxℤ, minℤ}
+use Prim.Native.Nat.{ℕ, ◌≤◌, ◌-◌}
+use mathlib.Core.Path.{◌≡◌}
+use Rattle.common_ends.specs.Met.{lows_of, highs_of}
+use Rattle.common_ends.proofs.write_ends.Given as goal
+
+abbrev pub invariant-loop-i : goal.invariant-loop-i
+invariant-loop-i l = (l.i ≤ l.n) × ((l.low ≡ written l.initial.low 0 1 (lows_of l.k1 l.guess1 l.limits1 l.k2 l.guess2 l.limits2) l.i) × (l.high ≡ written l.initial.high 0 1 (highs_of l.k1 l.guess1 l.limits1 l.k2 l.guess2 l.limits2) l.i))

@@ -1,0 +1,10 @@
+use mathlib.Core.Path.{◌≡◌, refl, sym, ap, ◌∙◌}
+use Prim.Native.Nat.{ℕ, ◌≤◌, ◌-◌}
+use native.Mathlib.Omega.{arith}
+use lib.ListN.{length, get_or}
+use Rattle.linear.specs.Written.{written}
+use Rattle.linear.proofs.Written.{written_none, written_more, written_end, written_length}
+use Rattle.dependent_coupling.proofs.copy_limits.Given as goal
+
+abbrev pub invariant-loop-i : goal.invariant-loop-i
+invariant-loop-i l = (l.i ≤ l.n) × (l.dst ≡ written l.initial.dst 0 1 (λ (k : ℕ). get_or l.src k 0) l.i)

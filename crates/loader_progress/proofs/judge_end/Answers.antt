@@ -1,0 +1,7 @@
+use Rattle.loader_progress.proofs.Progress.{end_size, says_13, says_none}
+use Rattle.std.proofs.Common.{rules}
+use Rattle.loader_progress.proofs.judge_end.Goals as goal
+use Rattle.loader_progress.proofs.judge_end.Goals.{Start}
+
+pub count_missing-count-requires : goal.count_missing-count-requires
+count_missing-count-requires c = let s = (goal.at.count_missing-count-requires c).Start in end_size s.args.stage s.args.n c.enum_told-in-End-1.given.1 s.requires.0 s.requires.1
