@@ -1,0 +1,12 @@
+use Rattle.std.proofs.Common.{◌≡◌}
+use Rattle.build.specs.BuiltAs.{short_for}
+use Rattle.build.proofs.Contract.{gathered_for, ready, built}
+use Rattle.build.proofs.build.Goals as goal
+
+pub finish-requires : goal.finish-requires
+finish-requires c =
+    ready c.args.n c.args.observations.now c.args.layout c.args.matrix.now c.args.right.now (rw c.begin-start.ensures at c.gather-g.ensures)
+
+pub returns : goal.returns
+returns c =
+    built c.args.n c.args.observations.now c.args.layout c.args.matrix.now c.args.right.now (rw c.begin-start.ensures at c.gather-g.ensures) c.finish.ensures

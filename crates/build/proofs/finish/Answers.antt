@@ -1,0 +1,10 @@
+use Rattle.build.proofs.Ends.{finish_done, finish_refused, long_right, matrix_room}
+use Rattle.build_lines.specs.Order.{build_code}
+use native.Mathlib.Omega.{arith}
+use mathlib.Core.Path.{ap}
+use Rattle.std.proofs.Common.{rules}
+use Rattle.build.proofs.finish.Goals as goal
+use Rattle.build.proofs.finish.Goals.{In-Done, Start}
+
+pub write_equations-requires-clause-n_in_bounds : goal.write_equations-requires-clause-n_in_bounds
+write_equations-requires-clause-n_in_bounds c = let status = (goal.at.write_equations-requires-clause-n_in_bounds c).In-Done in let s = (goal.at.write_equations-requires-clause-n_in_bounds c).Start in let d = c.in-Done.is in let r = s.requires.lines.ready d in let l = s.requires.long d in (matrix_room s.args.layout s.args.g.progress.n s.args.matrix.now s.args.right.now r.size l, omega (arith, r.size, long_right s.args.layout s.args.matrix.now s.args.right.now l))

@@ -1,0 +1,12 @@
+use Rattle.linear.specs.Slice.{at}
+use Rattle.linear.specs.Written.{written}
+use Rattle.integer.proofs.Machine.{read}
+use Rattle.linear.proofs.Written.{written_none, written_more, written_end}
+use native.Mathlib.Omega.{arith}
+use lib.ListN.{length, length-set}
+use Prim.Native.Nat.{ℕ, ◌+◌, ◌≤◌, ◌-◌}
+use mathlib.Core.Path.{◌≡◌, sym, ◌∙◌}
+use Rattle.build_equations.proofs.store_row.Given as goal
+
+abbrev pub invariant-loop-j : goal.invariant-loop-j
+invariant-loop-j l = (l.j ≤ l.width) × (length l.dst ≡ length l.initial.dst) × (l.dst ≡ written l.initial.dst l.start 1 (λ (i : ℕ). at l.sums (i + 1)) l.j)

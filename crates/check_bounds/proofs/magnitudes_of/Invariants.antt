@@ -1,0 +1,16 @@
+use mathlib.Core.Path.{◌≡◌}
+use Prim.Native.Nat.{ℕ, ◌+◌, ◌≤◌, ◌-◌}
+use native.Mathlib.Omega.{arith}
+use lib.ListN.{length, length-set}
+use Rattle.integer.proofs.Machine.{read}
+use Rattle.linear.specs.Place.{Carried}
+use Rattle.linear.proofs.Carried.{carried_first, carried_next}
+use Rattle.check_biased_rows.proofs.Filling.{rows_room}
+use Rattle.check_biased_rows.proofs.Unbiasing.{row_dot_magnitude}
+use Rattle.check_arrays.specs.Arrays.{PrefixIs}
+use Rattle.check_arrays.proofs.Filled.{prefix_none, prefix_more, prefix_end}
+use Rattle.check_bounds.specs.Limits.{column_magnitude}
+use Rattle.check_bounds.proofs.magnitudes_of.Given as goal
+
+abbrev pub invariant-loop-m : goal.invariant-loop-m
+invariant-loop-m l = (l.m ≤ l.n) × (Carried 0 (l.n + 1) l.m l.row × ((length l.out ≡ 32) × PrefixIs 0 l.out l.m (λ (i : ℕ). column_magnitude l.rows l.residuals l.n i 0)))

@@ -1,0 +1,8 @@
+use mathlib.Core.Path.{refl}
+use lib.Ieee.{nan_bits, of_bits}
+use Rattle.std.proofs.Common.{rules}
+use Rattle.doubles_interval.proofs.plus_zero.Goals as goal
+
+pub float_from_bits-result : goal.float_from_bits-result
+unfolding nan_bits
+float_from_bits-result c = tt

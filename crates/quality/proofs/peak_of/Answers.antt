@@ -1,0 +1,34 @@
+use mathlib.Core.Path.{sym, ◌∙◌}
+use mathlib.Core.Logic.{⊎_elim}
+use Prim.Native.Nat.{ℕ, ◌≤◌, ◌<◌, ◌-◌}
+use native.Mathlib.Omega.{arith}
+use borrow.Author.Tests.{ltb-true, ltb-false}
+use lib.ListN.{get_or}
+use Rattle.quality_spec.proofs.Peak.{Leading, leading_one, leading_stays, leading_moves, leading_end, peak_is}
+use Rattle.std.proofs.Common.{rules}
+use Rattle.quality.proofs.peak_of.Goals as goal
+use Rattle.quality.proofs.peak_of.Goals.{In-loop-m, Start}
+
+pub loop-m-preserved : goal.loop-m-preserved
+loop-m-preserved c =
+    let here = (goal.at.loop-m-preserved c).In-loop-m in
+    let s = (goal.at.loop-m-preserved c).Start in
+    let l = here.loop-m in
+    let i = l.invariant.1.1 in
+    let t = here.loop-m-test.true in
+    let e = c.is_larger_ratio.ensures in (
+      omega arith,
+      (
+        omega arith,
+        ⊎_elim
+            (λ w. rw w.1 (leading_moves l.m _ _ l.k (λ j lj. (s.requires.by_index_2 j (omega arith)).0) i (ltb-true _ _ (sym e ∙ w.0.taken))))
+            (λ w. rw w.1 (leading_stays l.m _ _ l.k i (ltb-false _ _ (sym e ∙ w.0.left))))
+            c.if-is_larger_ratio.branch,
+      ),
+    )
+
+
+pub returns : goal.returns
+returns c =
+    let i = leading_end _ _ _ c.loop-m.invariant.1.0 c.loop-m-test.false c.loop-m.invariant.1.1 in
+    (i.largest_ratio_row.below, sym (peak_is _ _ _ _ i))

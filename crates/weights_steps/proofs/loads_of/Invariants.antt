@@ -1,0 +1,11 @@
+use mathlib.Core.Path.{◌≡◌, refl}
+use Prim.Native.Nat.{◌≤◌, ◌-◌}
+use native.Mathlib.Omega.{arith}
+use lib.ListN.{length, length-set}
+use Rattle.check_arrays.specs.Arrays.{PrefixIs}
+use Rattle.check_arrays.proofs.Filled.{prefix_none, prefix_more, prefix_end}
+use Rattle.weights_steps.specs.Steps.{stored_load}
+use Rattle.weights_steps.proofs.loads_of.Given as goal
+
+abbrev pub invariant-loop-m : goal.invariant-loop-m
+invariant-loop-m l = (l.m ≤ l.n) × ((length l.out ≡ 32) × PrefixIs 0 l.out l.m (stored_load l.n l.magnitudes l.weights))
