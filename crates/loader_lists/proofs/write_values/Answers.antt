@@ -18,9 +18,9 @@ pub loop-j-preserved : goal.loop-j-preserved
 loop-j-preserved c =
     let s = (goal.at.loop-j-preserved c).Start in
     let l = c.loop-j in
-    let f : SFits w64 (get_or s.args.t1 l.j (pos 0)) = record { sfits = c.l-1.given } in
-    let len : length s.args.t1 ≡ 32 = search rules in (
+    let f : SFits w64 (get_or s.args.values l.j (pos 0)) = record { sfits = c.l-1.given } in
+    let len : length s.args.values ≡ 32 = search rules in (
       search rules,
       simp length-set l.invariant.1,
-      rw (to_z-of_z f, l.invariant.2, add-one) (paste-suc s.args.l.now s.args.at s.args.t1 l.j (pos 0) (omega arith) (omega arith)),
+      rw (to_z-of_z f, l.invariant.2, add-one) (paste-suc s.args.l.now s.args.at s.args.values l.j (pos 0) (omega arith) (omega arith)),
     )

@@ -7,7 +7,7 @@ use lib.ListN.{get_or}
 use Rattle.quality_spec.proofs.Peak.{Leading, leading_one, leading_stays, leading_moves, leading_end, peak_is}
 use Rattle.std.proofs.Common.{rules}
 use Rattle.quality.proofs.peak_of.Goals as goal
-use Rattle.quality.proofs.peak_of.Goals.{In-loop-m, Start}
+use Rattle.quality.proofs.peak_of.Goals.{then-is_larger_ratio, else-is_larger_ratio, In-loop-m, Start}
 
 pub loop-m-preserved : goal.loop-m-preserved
 loop-m-preserved c =
@@ -20,10 +20,10 @@ loop-m-preserved c =
       omega arith,
       (
         omega arith,
-        ⊎_elim
-            (λ w. rw w.1 (leading_moves l.m _ _ l.k (λ j lj. (s.requires.by_index_2 j (omega arith)).0) i (ltb-true _ _ (sym e ∙ w.0.taken))))
-            (λ w. rw w.1 (leading_stays l.m _ _ l.k i (ltb-false _ _ (sym e ∙ w.0.left))))
-            c.if-is_larger_ratio.branch,
+        elim c.if-is_larger_ratio.branch [
+          then-is_larger_ratio w ↦ rw w.k-is (leading_moves l.m _ _ l.k (λ j lj. (s.requires.by_index_2 j (omega arith)).0) i (ltb-true _ _ (sym e ∙ w.if-is_larger_ratio.true)))
+        | else-is_larger_ratio w ↦ rw w.k-is (leading_stays l.m _ _ l.k i (ltb-false _ _ (sym e ∙ w.if-is_larger_ratio.false)))
+        ],
       ),
     )
 
