@@ -1,6 +1,4 @@
-use Rattle.std.proofs.Common.{◌≡◌}
-use Rattle.build.specs.BuiltAs.{short_for}
-use Rattle.build.proofs.Contract.{gathered_for, ready, built}
+use Rattle.build.proofs.Contract.{ready, built}
 use Rattle.build.proofs.build.Goals as goal
 
 pub finish-requires : goal.finish-requires

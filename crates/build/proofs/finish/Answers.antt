@@ -1,8 +1,5 @@
-use Rattle.build.proofs.Ends.{finish_done, finish_refused, long_right, matrix_room}
-use Rattle.build_lines.specs.Order.{build_code}
+use Rattle.build.proofs.Ends.{long_right, matrix_room}
 use native.Mathlib.Omega.{arith}
-use mathlib.Core.Path.{ap}
-use Rattle.std.proofs.Common.{rules}
 use Rattle.build.proofs.finish.Goals as goal
 use Rattle.build.proofs.finish.Goals.{In-Done, Start}
 

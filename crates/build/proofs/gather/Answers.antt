@@ -1,5 +1,5 @@
-use Rattle.std.proofs.Common.{ap, ◌≡◌, ◌≤◌, ◌<◌, ◌∙◌, sym, length, rules, arith}
-use Rattle.build_gathering.specs.Gathered.{together, gathered, no_lines, few}
+use Rattle.std.proofs.Common.{ap, ◌<◌, ◌∙◌, sym, length, rules, arith}
+use Rattle.build_gathering.specs.Gathered.{together, gathered, no_lines}
 use Rattle.build_gathering.proofs.Whole.{gathered_none, gathered_next, gathered_end, few_below}
 use Rattle.build.proofs.gather.Goals as goal
 

@@ -1,5 +1,5 @@
 use mir.Val.{SFits}
-use Rattle.build_equations.proofs.Terms.{join_room, right_room, grown_to, grown_from}
+use Rattle.build_equations.proofs.Terms.{right_room, grown_to, grown_from}
 use Rattle.integer.proofs.Machine.{read}
 use mir.ValLaws.{to_z-of_z}
 use mir.Syntax.{w64}
@@ -16,7 +16,6 @@ plus-requires c =
     let f : SFits w64 s.args.row.right = search rules in
     right_room s.args.row s.requires.k_bound.1.1 s.args.l s.requires.k_bound.1.0 (to_z-of_z w64 s.args.row.right f) (read _ p.type_inv ∙ p.ensures)
 
-
 pub returns-then-l-k : goal.returns-then-l-k
 returns-then-l-k c =
     let q = (goal.at.returns-then-l-k c).After-product_of-product in
@@ -28,7 +27,6 @@ returns-then-l-k c =
     (rw (read _ w.type_inv, w.ensures) at c.join.ensures)
     (read _ c.plus.type_inv ∙ (rw (to_z-of_z w64 s.args.row.right f, read _ p.type_inv, p.ensures) at c.plus.ensures))
 
-
 pub minus-requires : goal.minus-requires
 minus-requires c =
     let q = (goal.at.minus-requires c).After-product_of-product in
@@ -36,7 +34,6 @@ minus-requires c =
     let p = q.product_of-product in
     let f : SFits w64 s.args.row.right = search rules in
     right_room s.args.row s.requires.k_bound.1.1 s.args.l s.requires.k_bound.1.0 (to_z-of_z w64 s.args.row.right f) (read _ p.type_inv ∙ p.ensures)
-
 
 pub returns : goal.returns
 returns c =

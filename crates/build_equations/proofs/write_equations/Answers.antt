@@ -1,19 +1,17 @@
 use mir.Val.{SFits}
 use mir.ValLaws.{to_z-of_z}
 use mir.Syntax.{w64}
-use Rattle.build_equations.proofs.Places.{rows_none, rows_end, row_start, row_room, row_length, row_written}
+use Rattle.build_equations.proofs.Places.{rows_none, row_start, row_room, row_length, row_written}
 use Rattle.build_equations.proofs.Rows.{row_matrix, row_right}
-use Rattle.build_gathering.specs.Gathered.{together}
-use Rattle.build_equations.specs.Kept.{kept_matrix, kept_right}
-use Rattle.build_equations.specs.Written.{width_of, rows_written}
+use Rattle.build_equations.specs.Kept.{kept_matrix}
+use Rattle.build_equations.specs.Written.{width_of}
 use Rattle.integer.proofs.Sum.{sumℕ_none}
 use Rattle.integer.specs.Finite.{sumℕ}
-use Rattle.linear.specs.Written.{written}
-use Rattle.linear.proofs.Written.{written_none, written_more, written_end}
+use Rattle.linear.proofs.Written.{written_none, written_more}
 use lib.ListN.{length, length-set}
 use native.Mathlib.Omega.{arith}
-use Prim.Native.Nat.{◌+◌, ◌≤◌, ◌-◌}
-use mathlib.Core.Path.{◌≡◌, sym, ◌∙◌}
+use Prim.Native.Nat.{◌+◌, ◌≤◌}
+use mathlib.Core.Path.{sym, ◌∙◌}
 use Rattle.std.proofs.Common.{rules}
 use Rattle.build_equations.proofs.write_equations.Goals as goal
 use Rattle.build_equations.proofs.write_equations.Goals.{After-count_of-n, After-seen-1, After-width_of-width, In-loop-i, Start}
@@ -42,7 +40,6 @@ module _ (c : After-count_of-n) where
 pub loop-i-init : goal.loop-i-init
 loop-i-init c = (search rules, sym (sumℕ_none _), search rules, search rules, sym (rows_none _ _ _), sym (written_none _ _ 1 _))
 
-
 pub store_row-requires : goal.store_row-requires
 store_row-requires c =
     let s = (goal.at.store_row-requires c).After-count_of-n in
@@ -50,7 +47,6 @@ store_row-requires c =
     let w = c.width_of-width.ensures in
     let e = row_room s.args.layout s.count_of-n.result l.i l.invariant.1 w.0 c.loop-i-test.true (room (goal.at.store_row-requires c).After-count_of-n) in
     (w.1, omega (arith, e, l.invariant.2))
-
 
 pub overflow_add-start : goal.overflow_add-start
 overflow_add-start c =
@@ -60,7 +56,6 @@ overflow_add-start c =
     let e : l.start + c.width_of-width.result ≤ length s.args.matrix.now =
     row_room s.args.layout s.count_of-n.result l.i l.invariant.1 w.0 c.loop-i-test.true (room (goal.at.overflow_add-start c).After-count_of-n) in
     search rules
-
 
 pub loop-i-preserved : goal.loop-i-preserved
 loop-i-preserved c =

@@ -1,6 +1,5 @@
 use Rattle.integer.proofs.Machine.{read}
 use Rattle.build_gathering.specs.Gathered.{line_at}
-use Rattle.std.proofs.Common.{rules}
 use Rattle.build_gathering.proofs.line_at.Goals as goal
 
 pub returns : goal.returns

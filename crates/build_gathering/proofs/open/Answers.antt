@@ -1,5 +1,4 @@
 use Rattle.build_gathering.specs.Gathered.{opening_progress}
-use Rattle.std.proofs.Common.{rules}
 use Rattle.build_gathering.proofs.open.Goals as goal
 
 pub returns : goal.returns

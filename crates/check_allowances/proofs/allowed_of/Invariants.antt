@@ -1,11 +1,8 @@
-use mathlib.Core.Path.{◌≡◌, ◌∙◌}
-use Prim.Native.Nat.{ℕ, ◌≤◌, ◌-◌}
-use native.Mathlib.Omega.{arith}
+use mathlib.Core.Path.{◌≡◌}
+use Prim.Native.Nat.{ℕ, ◌≤◌}
 use lib.IntN.{pos}
-use lib.ListN.{get_or, length, length-set}
-use Rattle.integer.proofs.Machine.{read}
+use lib.ListN.{get_or, length}
 use Rattle.check_arrays.specs.Arrays.{PrefixIs}
-use Rattle.check_arrays.proofs.Filled.{prefix_none, prefix_more, prefix_end}
 use Rattle.check_allowances.specs.Allowed.{allowed_beside}
 use Rattle.check_allowances.proofs.allowed_of.Given as goal
 

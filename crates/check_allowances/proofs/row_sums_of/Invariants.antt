@@ -1,14 +1,9 @@
 use mathlib.Core.Path.{◌≡◌}
-use Prim.Native.Nat.{◌≤◌, ◌-◌}
-use native.Mathlib.Omega.{arith}
-use lib.ListN.{length, length-set}
+use Prim.Native.Nat.{◌≤◌}
+use lib.ListN.{length}
 use Rattle.linear.specs.Place.{Carried}
-use Rattle.linear.proofs.Carried.{carried_first, carried_next}
 use Rattle.check_arrays.specs.Arrays.{PrefixIs}
-use Rattle.check_arrays.proofs.Filled.{prefix_none, prefix_more, prefix_end}
-use Rattle.linear.proofs.Places.{row_ends}
 use Rattle.check_allowances.specs.Sum.{row_sum_of}
-use Rattle.check_allowances.proofs.Magnitudes.{matrix_within}
 use Rattle.check_allowances.proofs.row_sums_of.Given as goal
 
 abbrev pub invariant-loop-k : goal.invariant-loop-k

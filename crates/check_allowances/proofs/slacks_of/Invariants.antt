@@ -1,12 +1,9 @@
 use mathlib.Core.Path.{◌≡◌}
-use Prim.Native.Nat.{ℕ, ◌≤◌, ◌-◌}
-use native.Mathlib.Omega.{arith}
-use lib.ListN.{length, length-set}
-use Rattle.integer.proofs.Machine.{read}
+use Prim.Native.Nat.{ℕ, ◌≤◌}
+use lib.ListN.{length}
 use Rattle.linear.specs.Slice.{at}
 use Rattle.check_arrays.specs.Arrays.{PrefixIs}
 use Rattle.check_allowances.specs.Allowed.{slack_at}
-use Rattle.check_arrays.proofs.Filled.{prefix_none, prefix_more, prefix_end}
 use Rattle.check_allowances.proofs.slacks_of.Given as goal
 
 abbrev pub invariant-loop-k : goal.invariant-loop-k

@@ -1,14 +1,8 @@
-use mathlib.Core.Path.{◌≡◌, refl, ◌∙◌}
-use Prim.Native.Nat.{ℕ, ◌+◌, ◌*◌, ◌≤◌, ◌-◌}
+use mathlib.Core.Path.{◌∙◌}
 use native.Mathlib.Omega.{arith}
-use native.Mathlib.Nat.{mul-le-mul}
-use lib.ListN.{length}
 use Rattle.linear.specs.Slice.{at}
-use Rattle.linear.specs.Place.{Carried}
-use Rattle.linear.proofs.Carried.{start_place, carried_first, carried_next}
-use Rattle.check_biased_rows.specs.Biased.{RowsOf}
-use Rattle.check_biased_rows.proofs.Filling.{row_below, rows_none, rows_more, rows_end}
-use Rattle.std.proofs.Common.{rules}
+use Rattle.linear.proofs.Carried.{start_place, carried_next}
+use Rattle.check_biased_rows.proofs.Filling.{rows_more}
 use Rattle.check_biased_rows.proofs.bias_all.Goals as goal
 
 pub loop-i-preserved : goal.loop-i-preserved

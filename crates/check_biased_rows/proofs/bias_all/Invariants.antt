@@ -1,13 +1,9 @@
-use mathlib.Core.Path.{◌≡◌, refl, ◌∙◌}
-use Prim.Native.Nat.{ℕ, ◌+◌, ◌*◌, ◌≤◌, ◌-◌}
-use native.Mathlib.Omega.{arith}
-use native.Mathlib.Nat.{mul-le-mul}
+use mathlib.Core.Path.{◌≡◌}
+use Prim.Native.Nat.{ℕ, ◌+◌, ◌*◌, ◌≤◌}
 use lib.ListN.{length}
 use Rattle.linear.specs.Slice.{at}
 use Rattle.linear.specs.Place.{Carried}
-use Rattle.linear.proofs.Carried.{start_place, carried_first, carried_next}
 use Rattle.check_biased_rows.specs.Biased.{RowsOf}
-use Rattle.check_biased_rows.proofs.Filling.{row_below, rows_none, rows_more, rows_end}
 use Rattle.check_biased_rows.proofs.bias_all.Given as goal
 
 abbrev pub invariant-loop-i : goal.invariant-loop-i

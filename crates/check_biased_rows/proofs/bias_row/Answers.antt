@@ -1,13 +1,9 @@
 use mathlib.Core.Path.{◌≡◌}
-use Prim.Native.Nat.{ℕ, ◌+◌, ◌*◌, ◌≤◌, ◌-◌}
 use native.Mathlib.Omega.{arith}
-use native.Mathlib.Nat.{mul-le-mul_right}
 use lib.ListN.{length}
 use Rattle.linear.specs.Slice.{at}
-use Rattle.linear.specs.Place.{Carried}
 use Rattle.linear.proofs.Carried.{unit_place, carried_first, carried_next}
-use Rattle.check_biased_rows.proofs.Filling.{RowPart, part_none, part_more, part_whole, part_end, part_sum}
-use Rattle.std.proofs.Common.{rules}
+use Rattle.check_biased_rows.proofs.Filling.{part_none, part_more, part_whole, part_end, part_sum}
 use Rattle.check_biased_rows.proofs.bias_row.Goals as goal
 use Rattle.check_biased_rows.proofs.bias_row.Goals.{At-loop-k, Start}
 
@@ -17,13 +13,11 @@ length-here c = c.loop-k.invariant.1.1.1.kept.long
 pub loop-k-init : goal.loop-k-init
 loop-k-init c = (omega arith, (carried_first _ _, (carried_first _ _, part_none _ _ _)))
 
-
 pub overflow_add-sum : goal.overflow_add-sum
 overflow_add-sum c =
     let l = c.loop-k in
     let s = (goal.at.overflow_add-sum c).Start in
     omega (arith, c.bias_at-x.ensures.1, part_sum (omega (arith, l.invariant.0, s.requires.n_bound.0)) l.invariant.1.1.1)
-
 
 pub loop-k-preserved : goal.loop-k-preserved
 loop-k-preserved c =
@@ -38,7 +32,6 @@ loop-k-preserved c =
         ),
       ),
     )
-
 
 pub returns : goal.returns
 returns c =

@@ -5,8 +5,7 @@ use mir.Val.{SFits}
 use mir.ValLaws.{to_z-of_z}
 use Rattle.integer.proofs.Absolute.{abs-+}
 use Rattle.integer.proofs.Machine.{small}
-use Rattle.check_biased_rows.proofs.Unbiasing.{biased_is, biased_small, unbiased_biased}
-use Rattle.std.proofs.Common.{rules}
+use Rattle.check_biased_rows.proofs.Unbiasing.{biased_small, unbiased_biased}
 use Rattle.check_biased_rows.proofs.biased_of.Goals as goal
 use Rattle.check_biased_rows.proofs.biased_of.Goals.{Start}
 

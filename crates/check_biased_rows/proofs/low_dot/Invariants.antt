@@ -1,12 +1,8 @@
-use mathlib.Core.Path.{◌≡◌, sym, ◌∙◌}
-use Prim.Native.Nat.{ℕ, ◌+◌, ◌*◌, ◌≤◌, ◌-◌, ◌^◌}
-use native.Mathlib.Omega.{arith}
-use native.Mathlib.Nat.{mul-le-mul}
+use mathlib.Core.Path.{◌≡◌}
+use Prim.Native.Nat.{ℕ, ◌+◌, ◌*◌, ◌≤◌}
 use lib.ListN.{get_or}
 use Rattle.integer.specs.Finite.{sumℕ}
-use Rattle.integer.proofs.Sum.{sumℕ_none, sumℕ_next, sumℕ_end, sumℕ≤}
 use Rattle.linear.specs.Place.{Carried}
-use Rattle.linear.proofs.Carried.{carried_first, carried_next}
 use Rattle.check_biased_rows.proofs.low_dot.Given as goal
 
 abbrev pub invariant-loop-k : goal.invariant-loop-k

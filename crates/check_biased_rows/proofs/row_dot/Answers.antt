@@ -5,7 +5,6 @@ use Rattle.integer.proofs.Machine.{read}
 use Rattle.linear.proofs.Carried.{start_place}
 use Rattle.check_biased_rows.specs.Biased.{BiasedRow}
 use Rattle.check_biased_rows.proofs.Unbiasing.{row_sum_lem, row_products, row_dot_is}
-use Rattle.std.proofs.Common.{rules}
 use Rattle.check_biased_rows.proofs.row_dot.Goals as goal
 use Rattle.check_biased_rows.proofs.row_dot.Goals.{After-low_dot, Start}
 
@@ -29,22 +28,18 @@ products c =
 pub overflow_add-up : goal.overflow_add-up
 overflow_add-up c = omega (arith, products c)
 
-
 pub overflow_add-down-3 : goal.overflow_add-down-3
 overflow_add-down-3 c =
     let s = start (goal.at.overflow_add-down-3 c).After-low_dot in omega (arith, row_sum_lem s.requires.n_bound (left s), row_sum_lem s.requires.n_bound (right s))
-
 
 pub overflow_mul-down : goal.overflow_mul-down
 overflow_mul-down c =
     let s = start (goal.at.overflow_mul-down c).After-low_dot in omega (arith, row_sum_lem s.requires.n_bound (left s), row_sum_lem s.requires.n_bound (right s))
 
-
 pub less-requires : goal.less-requires
 less-requires c =
     let s = start (goal.at.less-requires c).After-low_dot in
     (omega (arith, products (goal.at.less-requires c).After-low_dot), omega (arith, row_sum_lem s.requires.n_bound (left s), row_sum_lem s.requires.n_bound (right s)))
-
 
 pub returns : goal.returns
 returns c =

@@ -1,12 +1,11 @@
-use mathlib.Core.Path.{◌≡◌, ap, ◌∙◌}
-use Prim.Native.Nat.{ℕ, ◌+◌, ◌*◌}
+use mathlib.Core.Path.{◌≡◌}
+use Prim.Native.Nat.{◌+◌}
 use native.Mathlib.Omega.{arith}
 use lib.IntN.{nat_abs}
 use lib.ListN.{get_or}
 use Rattle.linear.proofs.Carried.{unit_place}
 use Rattle.check_biased_rows.specs.Biased.{unbiased}
 use Rattle.check_biased_rows.proofs.Unbiasing.{unbiased_magnitude}
-use Rattle.std.proofs.Common.{rules}
 use Rattle.check_bounds.proofs.add_slack.Goals as goal
 use Rattle.check_bounds.proofs.add_slack.Goals.{After-unbiased_magnitude, Start}
 

@@ -1,21 +1,11 @@
-use native.Mathlib.Nat.{le_trans}
-use lib.Dec.{lit≤}
-use mathlib.Core.Path.{◌≡◌, refl, sym, ap, ◌∙◌}
-use Prim.Native.Nat.{ℕ, ◌+◌, ◌*◌, ◌≤◌, ◌-◌, ◌^◌}
+use mathlib.Core.Path.{◌≡◌, sym, ◌∙◌}
+use Prim.Native.Nat.{ℕ, ◌^◌}
 use native.Mathlib.Omega.{arith}
 use native.Mathlib.Nat.{mul-le-mul_right}
 use lib.IntN.{nat_abs}
-use lib.ListN.{length, length-set, get_or}
-use lib.Seq.{get_or-set_other}
-use Rattle.integer.specs.Finite.{sumℕ}
-use Rattle.linear.specs.Place.{Carried}
-use Rattle.linear.proofs.Carried.{carried_first, carried_next}
+use lib.ListN.{get_or}
 use Rattle.check_biased_rows.specs.Biased.{unbiased_rows}
-use Rattle.check_biased_rows.proofs.Filling.{rows_room}
-use Rattle.check_arrays.specs.Arrays.{PrefixIs}
-use Rattle.check_arrays.proofs.Filled.{prefix_none, prefix_more, prefix_end}
 use Rattle.check_bounds.proofs.Column.{slack_sum, no_slack_sum}
-use Rattle.std.proofs.Common.{rules}
 use Rattle.check_bounds.proofs.add_slacks.Goals as goal
 use Rattle.check_bounds.proofs.add_slacks.Goals.{After-slack_of, In-loop-m, Start}
 
@@ -27,7 +17,6 @@ pub returns-then-sum_of-eq0 : goal.returns-then-sum_of-eq0
 returns-then-sum_of-eq0 c =
     let s = (goal.at.returns-then-sum_of-eq0 c).Start in
     record { each = λ m l. omega (arith, no_slack_sum s.args.n (λ (j : ℕ). nat_abs (unbiased_rows s.args.rows.now s.args.n m j)) (λ (j : ℕ). get_or s.args.slacks.now j 0) (sym c.sum_of.ensures ∙ c.if-sum_of-eq0.true)) }
-
 
 pub overflow_add-magnitudes : goal.overflow_add-magnitudes
 overflow_add-magnitudes c =

@@ -1,20 +1,11 @@
-use native.Mathlib.Nat.{le_trans}
-use lib.Dec.{lit≤}
-use mathlib.Core.Path.{◌≡◌, refl, sym, ap, ◌∙◌}
-use Prim.Native.Nat.{ℕ, ◌+◌, ◌*◌, ◌≤◌, ◌-◌, ◌^◌}
-use native.Mathlib.Omega.{arith}
-use native.Mathlib.Nat.{mul-le-mul_right}
+use mathlib.Core.Path.{◌≡◌}
+use Prim.Native.Nat.{ℕ, ◌+◌, ◌*◌, ◌≤◌}
 use lib.IntN.{nat_abs}
-use lib.ListN.{length, length-set, get_or}
-use lib.Seq.{get_or-set_other}
+use lib.ListN.{length, get_or}
 use Rattle.integer.specs.Finite.{sumℕ}
 use Rattle.linear.specs.Place.{Carried}
-use Rattle.linear.proofs.Carried.{carried_first, carried_next}
 use Rattle.check_biased_rows.specs.Biased.{unbiased_rows}
-use Rattle.check_biased_rows.proofs.Filling.{rows_room}
 use Rattle.check_arrays.specs.Arrays.{PrefixIs}
-use Rattle.check_arrays.proofs.Filled.{prefix_none, prefix_more, prefix_end}
-use Rattle.check_bounds.proofs.Column.{slack_sum, no_slack_sum}
 use Rattle.check_bounds.proofs.add_slacks.Given as goal
 
 abbrev pub invariant-loop-m : goal.invariant-loop-m

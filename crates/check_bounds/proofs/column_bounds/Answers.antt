@@ -1,15 +1,14 @@
-use mathlib.Core.Path.{◌≡◌, refl}
+use mathlib.Core.Path.{◌≡◌}
 use Prim.Native.Nat.{ℕ, ◌+◌, ◌*◌}
 use native.Mathlib.Omega.{arith}
-use lib.ListN.{get_or, length}
+use lib.ListN.{get_or}
 use Rattle.linear.specs.Slice.{at}
 use Rattle.check_biased_rows.specs.Biased.{RowOf}
 use Rattle.check_biased_rows.proofs.Unbiasing.{row_as}
 use Rattle.enclosure.specs.Reckoning.{magnitudes_with}
 use Rattle.check_arrays.specs.Arrays.{PrefixIs}
 use Rattle.check_bounds.specs.Limits.{inverse_part}
-use Rattle.check_bounds.proofs.Column.{image_magnitude, slack_magnitudes, magnitudes_small, slack_near, near_reach, bounds_of_magnitudes, written_prefix}
-use Rattle.std.proofs.Common.{rules}
+use Rattle.check_bounds.proofs.Column.{image_magnitude, slack_magnitudes, magnitudes_small, bounds_of_magnitudes, written_prefix}
 use Rattle.check_bounds.proofs.column_bounds.Goals as goal
 use Rattle.check_bounds.proofs.column_bounds.Goals.{After-add_slacks, After-magnitudes_of, Start}
 
@@ -28,7 +27,6 @@ pub returns : goal.returns
 returns c =
     let a = (goal.at.returns c).After-add_slacks in
     written_prefix _ _ a.requires.n_nonzero.1 (bounds_of_magnitudes _ _ _ _ _ _ _ _ (magnitudes_are (goal.at.returns c).After-add_slacks) c.store_limits.ensures)
-
 
 pub add_slacks-requires-clause-by_index_2 : goal.add_slacks-requires-clause-by_index_2
 add_slacks-requires-clause-by_index_2 c = let z = (goal.at.add_slacks-requires-clause-by_index_2 c).After-magnitudes_of in let s = (goal.at.add_slacks-requires-clause-by_index_2 c).Start in image_magnitude s.args.n s.requires.inverse_rows.rows (row_is (goal.at.add_slacks-requires-clause-by_index_2 c).After-magnitudes_of) s.requires.n_nonzero.1 z.magnitudes_of.ensures.1

@@ -1,14 +1,10 @@
-use mathlib.Core.Path.{◌≡◌, sym, ◌∙◌}
-use Prim.Native.Nat.{ℕ, ◌*◌, ◌≤◌, ◌-◌}
-use native.Mathlib.Omega.{arith}
+use mathlib.Core.Path.{◌≡◌}
+use Prim.Native.Nat.{ℕ, ◌*◌, ◌≤◌}
 use lib.IntN.{nat_abs}
 use lib.ListN.{get_or}
 use Rattle.integer.specs.Finite.{sumℕ}
-use Rattle.integer.proofs.Sum.{sumℕ_none, sumℕ_next, sumℕ_end}
 use Rattle.linear.specs.Place.{Carried}
-use Rattle.linear.proofs.Carried.{start_place, carried_first, carried_next}
-use Rattle.check_biased_rows.specs.Biased.{BiasedRow, unbiased_rows}
-use Rattle.check_bounds.proofs.Column.{slack_sum}
+use Rattle.check_biased_rows.specs.Biased.{unbiased_rows}
 use Rattle.check_bounds.proofs.slack_of.Given as goal
 
 abbrev pub invariant-loop-j : goal.invariant-loop-j

@@ -1,16 +1,10 @@
-use mathlib.Core.Path.{◌≡◌, refl, sym, ap, ◌∙◌}
-use Prim.Native.Nat.{ℕ, ◌+◌, ◌*◌, ◌≤◌, ◌<◌, ◌-◌}
+use mathlib.Core.Path.{refl, sym}
 use native.Mathlib.Omega.{arith}
-use native.Mathlib.Nat.{mul-le-mul_right}
-use lib.ListN.{length, get_or}
-use Rattle.linear.specs.Written.{written}
-use Rattle.linear.proofs.Written.{written_none, written_more, written_end, written_length}
-use Rattle.std.proofs.Common.{rules}
+use Rattle.linear.proofs.Written.{written_none, written_more}
 use Rattle.check_bounds.proofs.store.Goals as goal
 
 pub loop-i-init : goal.loop-i-init
 loop-i-init c = (omega arith, (omega arith, sym (written_none _ _ _ _)))
-
 
 pub loop-i-preserved : goal.loop-i-preserved
 loop-i-preserved c =

@@ -1,10 +1,7 @@
-use mathlib.Core.Path.{◌≡◌, refl, sym, ap, ◌∙◌}
-use Prim.Native.Nat.{ℕ, ◌+◌, ◌*◌, ◌≤◌, ◌<◌, ◌-◌}
-use native.Mathlib.Omega.{arith}
-use native.Mathlib.Nat.{mul-le-mul_right}
-use lib.ListN.{length, get_or}
+use mathlib.Core.Path.{◌≡◌}
+use Prim.Native.Nat.{ℕ, ◌+◌, ◌*◌, ◌≤◌}
+use lib.ListN.{get_or}
 use Rattle.linear.specs.Written.{written}
-use Rattle.linear.proofs.Written.{written_none, written_more, written_end, written_length}
 use Rattle.check_bounds.proofs.store.Given as goal
 
 abbrev pub invariant-loop-i : goal.invariant-loop-i

@@ -1,12 +1,8 @@
-use mathlib.Core.Path.{◌≡◌, sym, ap, ◌∙◌}
-use Prim.Native.Nat.{ℕ, ◌+◌, ◌*◌, ◌≤◌, ◌-◌}
-use native.Mathlib.Omega.{arith}
+use mathlib.Core.Path.{◌≡◌}
+use Prim.Native.Nat.{ℕ, ◌+◌, ◌*◌, ◌≤◌}
 use lib.ListN.{get_or}
 use Rattle.linear.specs.Place.{Carried}
 use Rattle.linear.specs.Written.{written}
-use Rattle.linear.proofs.Carried.{carried_first, carried_next}
-use Rattle.linear.proofs.Written.{written_none, written_more, written_end}
-use Rattle.check_defects.proofs.Halves.{written_ahead}
 use Rattle.check_defects.proofs.add_row.Given as goal
 
 abbrev pub invariant-loop-j : goal.invariant-loop-j

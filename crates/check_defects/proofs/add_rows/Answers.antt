@@ -1,25 +1,18 @@
 use mathlib.Core.Path.{◌≡◌, refl, sym, ap, ◌∙◌}
-use Prim.Native.Nat.{ℕ, ◌+◌, ◌*◌, ◌≤◌, ◌<◌, ◌-◌, ◌^◌}
+use Prim.Native.Nat.{ℕ, ◌+◌, ◌*◌, ◌≤◌, ◌<◌, ◌^◌}
 use native.Mathlib.Omega.{arith}
-use native.Mathlib.Nat.{mul-le-mul_right}
 use lib.IntN.{ℤ, nat_abs, ◌+ℤ◌}
-use lib.ListN.{get_or, length}
 use mir.Syntax.{w64}
 use mir.Val.{SFits, to_z, of_z}
 use mir.ValLaws.{to_z-of_z}
 use Rattle.integer.specs.Finite.{sum}
 use Rattle.integer.proofs.Absolute.{abs-+}
 use Rattle.integer.proofs.Machine.{small}
-use Rattle.integer.proofs.Sum.{sum_none, sum_next, sum_end}
+use Rattle.integer.proofs.Sum.{sum_none, sum_next}
 use Rattle.linear.specs.Slice.{at}
-use Rattle.linear.specs.Place.{Carried}
 use Rattle.linear.proofs.Carried.{carried_first, carried_next}
-use Rattle.check_biased_rows.specs.Place.{biased_place}
-use Rattle.check_biased_rows.proofs.Filling.{rows_room}
-use Rattle.check_defects.specs.Sums.{SumsOf}
 use Rattle.check_defects.proofs.Halves.{read_at}
-use Rattle.check_defects.proofs.Sums.{sums_none, sums_more, sums_end, sums_room, total_small}
-use Rattle.std.proofs.Common.{rules}
+use Rattle.check_defects.proofs.Sums.{sums_none, sums_more, sums_room, total_small}
 use Rattle.check_defects.proofs.add_rows.Goals as goal
 use Rattle.check_defects.proofs.add_rows.Goals.{After-number_at-x, In-loop-k, Start}
 
@@ -55,10 +48,8 @@ x-is c =
 pub loop-k-init : goal.loop-k-init
 loop-k-init c = (omega arith, ((carried_first _ _, carried_first _ _), (rw (sum_none _), (c.requires.no_sums.long, sums_none _ _ _ c.requires.no_sums))))
 
-
 pub overflow_add-total : goal.overflow_add-total
 overflow_add-total c = let x = (goal.at.overflow_add-total c).After-number_at-x in let t = (goal.at.overflow_add-total c).In-loop-k in rw (t.loop-k.invariant.1.1.0, x-is (goal.at.overflow_add-total c).After-number_at-x) (total-fits (goal.at.overflow_add-total c).In-loop-k)
-
 
 pub loop-k-preserved : goal.loop-k-preserved
 loop-k-preserved c =
@@ -77,9 +68,8 @@ loop-k-preserved c =
       ),
     )
 
-
 pub add_multiple-requires-clause-sums_len : goal.add_multiple-requires-clause-sums_len
 add_multiple-requires-clause-sums_len c = let t = (goal.at.add_multiple-requires-clause-sums_len c).In-loop-k in let l = t.loop-k in let s = (goal.at.add_multiple-requires-clause-sums_len c).Start in (
-            l.invariant.1.1.1.0,
-            sums_room _ _ _ (n_max (goal.at.add_multiple-requires-clause-sums_len c).In-loop-k) (magnitudes (goal.at.add_multiple-requires-clause-sums_len c).In-loop-k) (λ i j li lj. (s.requires.biased_rows.each i (omega (arith, l.invariant.0))).small.each j lj) l.invariant.1.1.1.1,
-          )
+  l.invariant.1.1.1.0,
+  sums_room _ _ _ (n_max (goal.at.add_multiple-requires-clause-sums_len c).In-loop-k) (magnitudes (goal.at.add_multiple-requires-clause-sums_len c).In-loop-k) (λ i j li lj. (s.requires.biased_rows.each i (omega (arith, l.invariant.0))).small.each j lj) l.invariant.1.1.1.1,
+)

@@ -1,24 +1,11 @@
-use mathlib.Core.Path.{◌≡◌, refl, sym, ap, ◌∙◌}
-use Prim.Native.Nat.{ℕ, ◌+◌, ◌*◌, ◌≤◌, ◌<◌, ◌-◌, ◌^◌}
-use native.Mathlib.Omega.{arith}
-use native.Mathlib.Nat.{mul-le-mul_right}
-use lib.IntN.{ℤ, nat_abs, ◌+ℤ◌}
+use mathlib.Core.Path.{◌≡◌}
+use Prim.Native.Nat.{ℕ, ◌+◌, ◌*◌, ◌≤◌}
 use lib.ListN.{get_or, length}
-use mir.Syntax.{w64}
-use mir.Val.{SFits, to_z, of_z}
-use mir.ValLaws.{to_z-of_z}
 use Rattle.integer.specs.Finite.{sum}
-use Rattle.integer.proofs.Absolute.{abs-+}
-use Rattle.integer.proofs.Machine.{small}
-use Rattle.integer.proofs.Sum.{sum_none, sum_next, sum_end}
 use Rattle.linear.specs.Slice.{at}
 use Rattle.linear.specs.Place.{Carried}
-use Rattle.linear.proofs.Carried.{carried_first, carried_next}
 use Rattle.check_biased_rows.specs.Place.{biased_place}
-use Rattle.check_biased_rows.proofs.Filling.{rows_room}
 use Rattle.check_defects.specs.Sums.{SumsOf}
-use Rattle.check_defects.proofs.Halves.{read_at}
-use Rattle.check_defects.proofs.Sums.{sums_none, sums_more, sums_end, sums_room, total_small}
 use Rattle.check_defects.proofs.add_rows.Given as goal
 
 abbrev pub invariant-loop-k : goal.invariant-loop-k

@@ -1,7 +1,5 @@
-use Prim.Native.Nat.{◌≤◌, ◌-◌}
-use native.Mathlib.Omega.{arith}
+use Prim.Native.Nat.{◌≤◌}
 use Rattle.check_defects.specs.Sums.{NoSums}
-use Rattle.check_defects.proofs.Sums.{none_cleared, one_cleared, all_cleared}
 use Rattle.check_defects.proofs.clear.Given as goal
 
 abbrev pub invariant-loop-j : goal.invariant-loop-j

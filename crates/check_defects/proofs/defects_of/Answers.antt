@@ -1,15 +1,8 @@
-use mathlib.Core.Path.{◌≡◌}
-use Prim.Native.Nat.{◌*◌, ◌/◌, ◌%◌}
-use native.Mathlib.Omega.{arith}
-use lib.Dec.{lit≤}
+use Prim.Native.Nat.{◌/◌, ◌%◌}
 use lib.IntN.{pos}
-use Rattle.linear.proofs.Places.{column_reach, square, square_list}
 use Rattle.check_arrays.proofs.Columns.{in_square}
 use Rattle.check_arrays.proofs.Filled.{prefix_as}
-use Rattle.check_arrays.proofs.Magnitudes.{raisable}
-use Rattle.check_biased_rows.proofs.Filling.{rows_fit}
 use Rattle.check_defects.proofs.Product.{columns_defect}
-use Rattle.std.proofs.Common.{rules}
 use Rattle.check_defects.proofs.defects_of.Goals as goal
 use Rattle.check_defects.proofs.defects_of.Goals.{After-bias_columns, Start}
 

@@ -1,24 +1,18 @@
 use mathlib.Core.List.{List}
-use mathlib.Core.Path.{◌≡◌, refl, sym, ap, ap₂, ◌∙◌}
-use Prim.Native.Nat.{ℕ, ◌≤◌, ◌-◌}
+use mathlib.Core.Path.{refl, sym, ap₂, ◌∙◌}
+use Prim.Native.Nat.{ℕ}
 use native.Mathlib.Omega.{arith}
-use native.Mathlib.Nat.{mul-le-mul}
 use lib.IntN.{ℤ, pos}
-use lib.ListN.{length}
-use Rattle.linear.specs.Place.{Carried}
 use Rattle.linear.specs.Written.{written}
 use Rattle.linear.proofs.Carried.{carried_first, carried_next, start_place}
-use Rattle.check_arrays.specs.Arrays.{columns_written}
-use Rattle.check_arrays.proofs.Filled.{columns_none, columns_next, columns_end, columns_length}
+use Rattle.check_arrays.proofs.Filled.{columns_none, columns_next, columns_end}
 use Rattle.check_arrays.proofs.Columns.{columns_whole}
 use Rattle.check_defects.specs.Difference.{number_less, difference}
-use Rattle.std.proofs.Common.{rules}
 use Rattle.check_defects.proofs.differences_of.Goals as goal
 use Rattle.check_defects.proofs.differences_of.Goals.{In-loop-m, Start}
 
 pub loop-m-init : goal.loop-m-init
 loop-m-init c = (omega arith, (carried_first _ _, (refl, sym (columns_none _ _ _))))
-
 
 pub loop-m-preserved : goal.loop-m-preserved
 loop-m-preserved c =
@@ -36,7 +30,6 @@ loop-m-preserved c =
         ),
       ),
     )
-
 
 pub returns : goal.returns
 returns c =

@@ -1,11 +1,7 @@
 use Prim.Native.Nat.{◌/◌, ◌%◌}
-use native.Mathlib.Omega.{arith}
-use lib.Dec.{lit≤}
 use lib.IntN.{pos}
-use Rattle.linear.proofs.Places.{row_reach, square_list}
 use Rattle.check_arrays.proofs.Filled.{prefix_as}
 use Rattle.check_defects.proofs.Product.{rows_residual}
-use Rattle.std.proofs.Common.{rules}
 use Rattle.check_defects.proofs.inverse_residuals_of.Goals as goal
 
 pub returns : goal.returns

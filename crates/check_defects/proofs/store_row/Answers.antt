@@ -1,24 +1,20 @@
-use mathlib.Core.Path.{◌≡◌, sym, ap, ◌∙◌}
-use Prim.Native.Nat.{ℕ, ◌+◌, ◌*◌, ◌≤◌, ◌<◌, ◌-◌, ◌^◌}
+use mathlib.Core.Path.{◌≡◌, sym, ◌∙◌}
+use Prim.Native.Nat.{ℕ, ◌+◌, ◌*◌, ◌≤◌, ◌<◌, ◌^◌}
 use native.Mathlib.Omega.{arith}
 use lib.IntN.{ℤ, pos, nat_abs, ◌*ℤ◌}
-use lib.ListN.{get_or, length, length-set}
+use lib.ListN.{get_or}
 use mir.Syntax.{w64}
 use mir.Val.{SFits, to_z, of_z}
 use mir.ValLaws.{to_z-of_z}
 use Rattle.integer.specs.Finite.{sum}
 use Rattle.integer.proofs.Machine.{small, read}
 use Rattle.linear.specs.Slice.{at}
-use Rattle.linear.specs.Place.{Carried}
-use Rattle.linear.specs.Written.{written}
 use Rattle.linear.proofs.Carried.{carried_first, carried_next}
-use Rattle.linear.proofs.Places.{place, square}
-use Rattle.linear.proofs.Written.{written_none, written_more, written_end, written_length}
+use Rattle.linear.proofs.Written.{written_none, written_more}
 use Rattle.check_biased_rows.specs.Biased.{bias}
 use Rattle.check_biased_rows.specs.Place.{biased_place}
 use Rattle.check_defects.specs.Difference.{number_less}
 use Rattle.check_defects.proofs.Sums.{ups_small, downs_small, biased_small, unit_up, unit_small, sums_less}
-use Rattle.std.proofs.Common.{rules}
 use Rattle.check_defects.proofs.store_row.Goals as goal
 use Rattle.check_defects.proofs.store_row.Goals.{After-add_rows, After-way_told-1, In-loop-j, Start}
 
@@ -66,7 +62,6 @@ module _ (t : In-loop-j) where
 pub overflow_mul-biased : goal.overflow_mul-biased
 overflow_mul-biased c = rw (total-is c) (biased-fits c)
 
-
 pub add_unit-requires : goal.add_unit-requires
 add_unit-requires c =
     let a = (goal.at.add_unit-requires c).After-add_rows in
@@ -75,10 +70,8 @@ add_unit-requires c =
       (omega (arith, s.requires.t_bound.1.1.0, s.requires.t_bound.1.0), downs_small _ _ _ s.requires.t_bound.1.0 s.requires.reach.magnitudes (low (goal.at.add_unit-requires c).After-add_rows) a.add_rows.ensures.1.1 _ s.requires.t_bound.1.1.0),
     )
 
-
 pub loop-j-init : goal.loop-j-init
 loop-j-init c = (omega arith, (carried_first _ _, sym (written_none _ _ _ _)))
-
 
 pub loop-j-preserved : goal.loop-j-preserved
 loop-j-preserved c =
@@ -93,7 +86,6 @@ loop-j-preserved c =
             (read _ c.number_less.type_inv ∙ (rw (biased_is (goal.at.loop-j-preserved c).After-add_rows) at c.number_less.ensures) ∙ sums_less s.args.rows.now s.args.n (X (goal.at.loop-j-preserved c).Start) s.args.t s.args.m s.requires.t_bound.1.0 a.add_rows.ensures.1.0 (inside (goal.at.loop-j-preserved c).In-loop-j) a.add_rows.ensures.1.1 t.add_unit.ensures l.j t.loop-j-test.true),
       ),
     )
-
 
 pub number_less-requires-clause-biased_bound : goal.number_less-requires-clause-biased_bound
 number_less-requires-clause-biased_bound c = let t = (goal.at.number_less-requires-clause-biased_bound c).After-way_told-1 in rw (biased_is (goal.at.number_less-requires-clause-biased_bound c).After-add_rows) (biased-most (goal.at.number_less-requires-clause-biased_bound c).After-add_rows)

@@ -4,13 +4,11 @@ use native.Mathlib.Omega.{arith}
 use lib.ListN.{length}
 use Rattle.integer.proofs.Search.{clash}
 use Rattle.linear.specs.Slice.{at}
-use Rattle.linear.proofs.Carried.{carried_first, start_place}
-use Rattle.linear.proofs.Places.{row_ends, row_room, row_reach}
+use Rattle.linear.proofs.Carried.{start_place}
+use Rattle.linear.proofs.Places.{row_room}
 use Rattle.check_biased_rows.specs.Biased.{RowOf}
 use Rattle.check_biased_rows.proofs.Unbiasing.{row_as}
-use Rattle.check_arrays.proofs.Filled.{prefix_none}
 use Rattle.check_inverse_bounds.proofs.SymmetricRows.{magnitudes_in, known_across, known_more}
-use Rattle.std.proofs.Common.{rules}
 use Rattle.check_inverse_bounds.proofs.column_magnitudes.Goals as goal
 use Rattle.check_inverse_bounds.proofs.column_magnitudes.Goals.{After-bias_row, After-read_across, After-work_out, Else-symmetric, Start}
 
@@ -49,7 +47,6 @@ returns-then-symmetric c =
       ),
     )
 
-
 pub returns : goal.returns
 returns c =
     let t = (goal.at.returns c).Else-symmetric in
@@ -58,7 +55,6 @@ returns c =
       (c.work_out-2.ensures.0, long (goal.at.returns c).After-bias_row),
       (magnitudes_in s.args.residuals.now s.args.j s.requires.biased_rows (row_is (goal.at.returns c).After-bias_row) c.work_out-2.ensures.1.0, λ y. clash _ y t.if-symmetric.false),
     )
-
 
 pub work_out-requires-clause-prefix_is : goal.work_out-requires-clause-prefix_is
 work_out-requires-clause-prefix_is c = let a = (goal.at.work_out-requires-clause-prefix_is c).After-read_across in let r = (goal.at.work_out-requires-clause-prefix_is c).After-bias_row in let s = (goal.at.work_out-requires-clause-prefix_is c).Start in let p = s.requires in let both = p.symmetric_product a.if-symmetric.true in known_across s.args.residuals.now s.args.j p.biased_rows (row_is (goal.at.work_out-requires-clause-prefix_is c).After-bias_row) p.n_bound.1.0 both.0 both.1 a.read_across.ensures.1

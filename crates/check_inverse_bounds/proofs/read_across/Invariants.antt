@@ -1,12 +1,8 @@
-use mathlib.Core.Path.{◌≡◌, ap}
-use Prim.Native.Nat.{ℕ, ◌+◌, ◌*◌, ◌≤◌, ◌<◌, ◌-◌}
-use native.Mathlib.Omega.{arith}
-use lib.ListN.{get_or, length, length-set}
+use mathlib.Core.Path.{◌≡◌}
+use Prim.Native.Nat.{ℕ, ◌≤◌}
+use lib.ListN.{get_or, length}
 use Rattle.linear.specs.Place.{Carried, place_of}
-use Rattle.linear.proofs.Carried.{carried_first, carried_next, column_place}
-use Rattle.linear.proofs.Places.{place, square}
 use Rattle.check_arrays.specs.Arrays.{PrefixIs}
-use Rattle.check_arrays.proofs.Filled.{prefix_none, prefix_more, prefix_end}
 use Rattle.check_inverse_bounds.proofs.read_across.Given as goal
 
 abbrev pub invariant-loop-m : goal.invariant-loop-m

@@ -1,20 +1,15 @@
 use mathlib.Core.Bool.{true}
-use mathlib.Core.Path.{◌≡◌, refl, sym, ap, ◌∙◌}
-use Prim.Native.Nat.{ℕ, ◌+◌, ◌*◌, ◌≤◌, ◌<◌, ◌-◌}
+use mathlib.Core.Path.{◌≡◌, refl, sym}
+use Prim.Native.Nat.{ℕ, ◌+◌, ◌*◌}
 use native.Mathlib.Omega.{arith}
 use lib.ListN.{length}
 use Rattle.linear.specs.Slice.{at}
-use Rattle.linear.specs.Place.{Carried}
 use Rattle.linear.proofs.Carried.{carried_first, carried_next}
-use Rattle.linear.proofs.Places.{place, row_ends}
-use Rattle.check_biased_rows.proofs.Filling.{rows_room}
 use Rattle.enclosure.specs.Reckoning.{magnitudes_with}
-use Rattle.check_arrays.specs.Arrays.{PrefixIs, columns_written}
-use Rattle.check_arrays.proofs.Filled.{columns_none, columns_end, columns_length}
-use Rattle.check_arrays.proofs.Magnitudes.{column_ends}
+use Rattle.check_arrays.specs.Arrays.{PrefixIs}
+use Rattle.check_arrays.proofs.Filled.{columns_none}
 use Rattle.check_bounds.specs.Limits.{inverse_part, limits_of}
 use Rattle.check_bounds.proofs.Column.{magnitudes_small, columns_near, bounds_of_magnitudes, column_more}
-use Rattle.check_inverse_bounds.specs.SymmetricRows.{KnownHalf}
 use Rattle.check_inverse_bounds.proofs.SymmetricRows.{known_none, magnitudes_plain}
 use Rattle.std.proofs.Common.{rules}
 use Rattle.check_inverse_bounds.proofs.store_columns.Goals as goal
@@ -38,7 +33,6 @@ loop-j-init c =
     let s = (goal.at.loop-j-init c).Start in
     (omega arith, ((carried_first _ _, carried_first _ _), ((refl, (refl, refl)), ((λ y. known_none s.args.residuals.now), sym (columns_none _ _ _)))))
 
-
 pub loop-j-preserved : goal.loop-j-preserved
 loop-j-preserved c =
     let z = (goal.at.loop-j-preserved c).After-column_magnitudes in
@@ -56,7 +50,6 @@ loop-j-preserved c =
         ),
       ),
     )
-
 
 pub store_limits-requires-clause-bounded : goal.store_limits-requires-clause-bounded
 store_limits-requires-clause-bounded c = let z = (goal.at.store_limits-requires-clause-bounded c).After-column_magnitudes in let t = (goal.at.store_limits-requires-clause-bounded c).In-loop-j in let l = t.loop-j in let s = (goal.at.store_limits-requires-clause-bounded c).Start in let p = s.requires in magnitudes_small p.n_nonzero.1.0 p.inverse_rows (columns_near l.j t.loop-j-test.true p.column_list) (magnitudes-here (goal.at.store_limits-requires-clause-bounded c).After-column_magnitudes)

@@ -1,21 +1,13 @@
 use mathlib.Core.Bool.{true}
-use mathlib.Core.Path.{◌≡◌, refl, sym, ap, ◌∙◌}
-use Prim.Native.Nat.{ℕ, ◌+◌, ◌*◌, ◌≤◌, ◌<◌, ◌-◌}
-use native.Mathlib.Omega.{arith}
+use mathlib.Core.Path.{◌≡◌}
+use Prim.Native.Nat.{ℕ, ◌+◌, ◌*◌, ◌≤◌}
 use lib.ListN.{length}
 use Rattle.linear.specs.Slice.{at}
 use Rattle.linear.specs.Place.{Carried}
-use Rattle.linear.proofs.Carried.{carried_first, carried_next}
-use Rattle.linear.proofs.Places.{place, row_ends}
-use Rattle.check_biased_rows.proofs.Filling.{rows_room}
-use Rattle.enclosure.specs.Reckoning.{magnitudes_with}
-use Rattle.check_arrays.specs.Arrays.{PrefixIs, columns_written}
-use Rattle.check_arrays.proofs.Filled.{columns_none, columns_end, columns_length}
-use Rattle.check_arrays.proofs.Magnitudes.{column_ends}
-use Rattle.check_bounds.specs.Limits.{inverse_part, limits_of}
-use Rattle.check_bounds.proofs.Column.{magnitudes_small, columns_near, bounds_of_magnitudes, column_more}
+use Rattle.linear.proofs.Places.{place}
+use Rattle.check_arrays.specs.Arrays.{columns_written}
+use Rattle.check_bounds.specs.Limits.{limits_of}
 use Rattle.check_inverse_bounds.specs.SymmetricRows.{KnownHalf}
-use Rattle.check_inverse_bounds.proofs.SymmetricRows.{known_none, magnitudes_plain}
 use Rattle.check_inverse_bounds.proofs.store_columns.Given as goal
 
 abbrev pub invariant-loop-j : goal.invariant-loop-j

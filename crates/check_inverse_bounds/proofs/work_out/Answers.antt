@@ -1,18 +1,13 @@
-use mathlib.Core.Path.{◌≡◌, sym, ap, ◌∙◌}
-use Prim.Native.Nat.{ℕ, ◌+◌, ◌*◌, ◌≤◌, ◌<◌, ◌-◌}
+use mathlib.Core.Path.{◌≡◌, sym}
+use Prim.Native.Nat.{◌+◌, ◌-◌}
 use native.Mathlib.Omega.{arith}
-use lib.ListN.{length, length-set}
+use lib.ListN.{length-set}
 use Rattle.integer.proofs.Machine.{read}
-use Rattle.linear.specs.Place.{Carried}
-use Rattle.linear.specs.Written.{written}
 use Rattle.linear.proofs.Carried.{carried_first, carried_next}
-use Rattle.linear.proofs.Written.{written_none, written_more, written_end, written_length}
-use Rattle.check_biased_rows.proofs.Filling.{rows_room}
+use Rattle.linear.proofs.Written.{written_none, written_more}
 use Rattle.check_biased_rows.proofs.Unbiasing.{row_dot_magnitude}
-use Rattle.check_arrays.specs.Arrays.{PrefixIs}
-use Rattle.check_arrays.proofs.Filled.{prefix_more, prefix_end}
+use Rattle.check_arrays.proofs.Filled.{prefix_more}
 use Rattle.check_bounds.specs.Limits.{column_magnitude}
-use Rattle.std.proofs.Common.{rules}
 use Rattle.check_inverse_bounds.proofs.work_out.Goals as goal
 use Rattle.check_inverse_bounds.proofs.work_out.Goals.{After-magnitude-x, In-loop-m, Start}
 
@@ -32,13 +27,11 @@ loop-m-init c =
       ((rw none (carried_first _ _), s.requires.carried), (s.requires.n_bound.1.1.0, (s.requires.prefix_is, rw none (sym (written_none _ _ _ _))))),
     )
 
-
 pub magnitude-x-requires : goal.magnitude-x-requires
 magnitude-x-requires c =
     let t = (goal.at.magnitude-x-requires c).In-loop-m in
     let s = (goal.at.magnitude-x-requires c).Start in
     rw (read _ c.row_dot.type_inv, c.row_dot.ensures) (omega (arith, row_dot_magnitude s.requires.n_bound.0 (s.requires.biased_rows.0.each t.loop-m.m t.loop-m-test.true).small s.requires.biased_rows.1.small))
-
 
 pub loop-m-preserved : goal.loop-m-preserved
 loop-m-preserved c =

@@ -1,16 +1,9 @@
-use mathlib.Core.Path.{◌≡◌, sym, ap, ◌∙◌}
-use Prim.Native.Nat.{ℕ, ◌+◌, ◌*◌, ◌≤◌, ◌<◌, ◌-◌}
-use native.Mathlib.Omega.{arith}
-use lib.ListN.{length, length-set}
-use Rattle.integer.proofs.Machine.{read}
+use mathlib.Core.Path.{◌≡◌}
+use Prim.Native.Nat.{ℕ, ◌+◌, ◌≤◌, ◌-◌}
+use lib.ListN.{length}
 use Rattle.linear.specs.Place.{Carried}
 use Rattle.linear.specs.Written.{written}
-use Rattle.linear.proofs.Carried.{carried_first, carried_next}
-use Rattle.linear.proofs.Written.{written_none, written_more, written_end, written_length}
-use Rattle.check_biased_rows.proofs.Filling.{rows_room}
-use Rattle.check_biased_rows.proofs.Unbiasing.{row_dot_magnitude}
 use Rattle.check_arrays.specs.Arrays.{PrefixIs}
-use Rattle.check_arrays.proofs.Filled.{prefix_more, prefix_end}
 use Rattle.check_bounds.specs.Limits.{column_magnitude}
 use Rattle.check_inverse_bounds.proofs.work_out.Given as goal
 

@@ -6,7 +6,6 @@ use Rattle.check_spec.proofs.Contract.{checked_short, checked_range}
 use Rattle.check_spec.proofs.Fit.{Fit, fit_of}
 use Rattle.check_spec.proofs.Lengths.{long_of}
 use Rattle.check_lists.proofs.Handed.{Handed, workable, computed_checked}
-use Rattle.std.proofs.Common.{rules}
 use Rattle.check_lists.proofs.check.Goals as goal
 use Rattle.check_lists.proofs.check.Goals.{After-allowed_of-then-are_lists_in_range, After-compute_bounds, After-scaled_right, Else-is_short, Start, Then-are_lists_in_range, Then-are_sizes_in_range}
 
@@ -45,20 +44,16 @@ handed c = record {
 pub returns-then-is_short : goal.returns-then-is_short
 returns-then-is_short c = checked_short (I (goal.at.returns-then-is_short c).Start) (sym c.is_short.ensures ∙ c.if-is_short.true)
 
-
 pub allowed_of-requires : goal.allowed_of-requires
 allowed_of-requires c = ((fit (goal.at.allowed_of-requires c).Then-are_lists_in_range).n_max, refl)
 
-
 pub allowed_of-requires-then-are_lists_in_range : goal.allowed_of-requires-then-are_lists_in_range
 allowed_of-requires-then-are_lists_in_range c = ((fit (goal.at.allowed_of-requires-then-are_lists_in_range c).Then-are_lists_in_range).n_max, refl)
-
 
 pub compute_bounds-requires : goal.compute_bounds-requires
 compute_bounds-requires c =
     let z = (goal.at.compute_bounds-requires c).After-allowed_of-then-are_lists_in_range in
     let t = (goal.at.compute_bounds-requires c).Then-are_lists_in_range in workable (I (goal.at.compute_bounds-requires c).Start) (long (goal.at.compute_bounds-requires c).Else-is_short) (within (goal.at.compute_bounds-requires c).Then-are_lists_in_range) (handed (goal.at.compute_bounds-requires c).After-allowed_of-then-are_lists_in_range)
-
 
 pub returns-then-are_lists_in_range : goal.returns-then-are_lists_in_range
 returns-then-are_lists_in_range c =
@@ -66,19 +61,16 @@ returns-then-are_lists_in_range c =
     let z = (goal.at.returns-then-are_lists_in_range c).After-allowed_of-then-are_lists_in_range in
     let t = (goal.at.returns-then-are_lists_in_range c).Then-are_lists_in_range in computed_checked (I (goal.at.returns-then-are_lists_in_range c).Start) (long (goal.at.returns-then-are_lists_in_range c).Else-is_short) (within (goal.at.returns-then-are_lists_in_range c).Then-are_lists_in_range) (handed (goal.at.returns-then-are_lists_in_range c).After-allowed_of-then-are_lists_in_range) r.compute_bounds.ensures
 
-
 pub returns-else-are_lists_in_range : goal.returns-else-are_lists_in_range
 returns-else-are_lists_in_range c =
     let t = (goal.at.returns-else-are_lists_in_range c).Then-are_sizes_in_range in
     checked_range (I (goal.at.returns-else-are_lists_in_range c).Start) (long (goal.at.returns-else-are_lists_in_range c).Else-is_short)
     (not_both (sizes (goal.at.returns-else-are_lists_in_range c).Then-are_sizes_in_range) (sym c.are_lists_in_range.ensures ∙ c.if-are_lists_in_range.false))
 
-
 pub returns-else-are_sizes_in_range : goal.returns-else-are_sizes_in_range
 returns-else-are_sizes_in_range c =
     checked_range (I (goal.at.returns-else-are_sizes_in_range c).Start) (long (goal.at.returns-else-are_sizes_in_range c).Else-is_short)
     (not_first _ (sym c.are_sizes_in_range.ensures ∙ c.if-are_sizes_in_range.false))
-
 
 pub are_lists_in_range-requires-clause-n_bound : goal.are_lists_in_range-requires-clause-n_bound
 are_lists_in_range-requires-clause-n_bound c = let l = long_of (I (goal.at.are_lists_in_range-requires-clause-n_bound c).Start) (long (goal.at.are_lists_in_range-requires-clause-n_bound c).Else-is_short) in (size_range _ (both_left _ _ (sizes c))).1

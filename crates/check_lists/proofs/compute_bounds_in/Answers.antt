@@ -1,16 +1,12 @@
-use mathlib.Core.Path.{◌≡◌, refl}
+use mathlib.Core.Path.{◌≡◌}
 use Prim.Native.Nat.{◌*◌, ◌≤◌}
 use native.Mathlib.Omega.{arith}
-use lib.Dec.{lit≤}
 use lib.IntN.{pos}
 use lib.ListN.{length}
-use Rattle.linear.proofs.Places.{square}
 use Rattle.check_arrays.specs.Arrays.{PrefixIs}
-use Rattle.check_arrays.specs.Rows.{InverseRows}
-use Rattle.check_arrays.proofs.Magnitudes.{raisable}
 use Rattle.check_lists.specs.Work.{Work, work}
 use Rattle.check_lists.proofs.Outcome.{WorkedOut, refused, positive_here, weighed_here, near_here, columns_here, accepted_here}
-use Rattle.check_lists.proofs.Rows.{inverse_rows, work_column, margins_are, columns_are, columns_within}
+use Rattle.check_lists.proofs.Rows.{work_column, margins_are, columns_are, columns_within}
 use Rattle.check_lists.proofs.SymmetricMatrix.{symmetric_product}
 use Rattle.std.proofs.Common.{rules}
 use Rattle.check_lists.proofs.compute_bounds_in.Goals as goal
@@ -19,7 +15,7 @@ use Rattle.check_lists.proofs.compute_bounds_in.Goals.{After-bias_rows, After-ca
 abbrev W : Start → Work
 W s =
     let a = s.args in
-    work a.n a.t a.matrix.now a.base.now a.allowed.now a.allowed-in-columns.now a.slacks.now a.guess.now a.inverse.now a.weights.now a.solution_bounds.now a.inverse_bounds.now
+    work a.n a.t a.matrix.now a.base.now a.allowed.now a.allowed_in_columns.now a.slacks.now a.guess.now a.inverse.now a.weights.now a.solution_bounds.now a.inverse_bounds.now
 
 abbrev biased-before : After-inverse_residuals_of → After-bias_rows
 biased-before c = (goal.at.After-inverse_residuals_of c).After-bias_rows
@@ -45,10 +41,10 @@ worked j = record {
   hr = j.residuals_of.ensures.1;
   hc = residuals-are (goal.at.After-judge-outcome j).After-inverse_residuals_of;
   m = j.first_zero-m.result;
-  k = j.first_above.result;
+  k = j.first_above-k.result;
   i = j.first_above_in_columns-i.result;
   em = j.first_zero-m.ensures;
-  ek = j.first_above.ensures;
+  ek = j.first_above-k.ensures;
   ei = j.first_above_in_columns-i.ensures;
   er = j.judge-outcome.ensures;
 }
@@ -56,8 +52,7 @@ worked j = record {
 pub returns-in-Refused : goal.returns-in-Refused
 returns-in-Refused c =
     let j = (goal.at.returns-in-Refused c).After-judge-outcome in
-    refused (W (goal.at.returns-in-Refused c).Start) j.requires.workable (worked (goal.at.returns-in-Refused c).After-judge-outcome) _ c.outcome-1.given.1
-
+    refused (W (goal.at.returns-in-Refused c).Start) j.requires.workable (worked (goal.at.returns-in-Refused c).After-judge-outcome) _ c.in-Refused.is
 
 pub returns-in-Accepted : goal.returns-in-Accepted
 returns-in-Accepted c =
@@ -65,8 +60,7 @@ returns-in-Accepted c =
     let told = (goal.at.returns-in-Accepted c).In-Accepted in
     let j = (goal.at.returns-in-Accepted c).After-judge-outcome in
     let s = (goal.at.returns-in-Accepted c).After-store in
-    accepted_here (W (goal.at.returns-in-Accepted c).Start) j.requires.workable (worked (goal.at.returns-in-Accepted c).After-judge-outcome) told.enum_told-1.given.1 s.column_bounds-column.ensures s.store.ensures c.store_columns.ensures
-
+    accepted_here (W (goal.at.returns-in-Accepted c).Start) j.requires.workable (worked (goal.at.returns-in-Accepted c).After-judge-outcome) c.in-Accepted.is s.column_bounds-column.ensures s.store.ensures c.store_columns.ensures
 
 pub margins_of-requires-clause-prefix_is : goal.margins_of-requires-clause-prefix_is
 margins_of-requires-clause-prefix_is c = let k = (goal.at.margins_of-requires-clause-prefix_is c).After-inverse_residuals_of-arg-1 in let p = k.requires.workable in residuals-are (goal.at.margins_of-requires-clause-prefix_is c).After-inverse_residuals_of
@@ -75,19 +69,19 @@ pub first_above_in_columns-i-requires-clause-column_list : goal.first_above_in_c
 first_above_in_columns-i-requires-clause-column_list c = let k = (goal.at.first_above_in_columns-i-requires-clause-column_list c).After-inverse_residuals_of in let p = k.requires.workable in columns_within (W (goal.at.first_above_in_columns-i-requires-clause-column_list c).Start) p.inverse_scale p.n_max p.matrix p.inverse (long-columns (goal.at.first_above_in_columns-i-requires-clause-column_list c).After-inverse_residuals_of) (residuals-are (goal.at.first_above_in_columns-i-requires-clause-column_list c).After-inverse_residuals_of)
 
 pub caps_of-requires-clause-by_index : goal.caps_of-requires-clause-by_index
-caps_of-requires-clause-by_index c = let j = (goal.at.caps_of-requires-clause-by_index c).After-judge-outcome in let s = (goal.at.caps_of-requires-clause-by_index c).Start in let p = s.requires.workable in weighed_here (W (goal.at.caps_of-requires-clause-by_index c).Start) p (worked (goal.at.caps_of-requires-clause-by_index c).After-judge-outcome) c.enum_told-1.given.1
+caps_of-requires-clause-by_index c = let j = (goal.at.caps_of-requires-clause-by_index c).After-judge-outcome in let s = (goal.at.caps_of-requires-clause-by_index c).Start in let p = s.requires.workable in weighed_here (W (goal.at.caps_of-requires-clause-by_index c).Start) p (worked (goal.at.caps_of-requires-clause-by_index c).After-judge-outcome) c.in-Accepted.is
 
 pub column_bounds-column-requires-clause-positive : goal.column_bounds-column-requires-clause-positive
-column_bounds-column-requires-clause-positive c = let j = (goal.at.column_bounds-column-requires-clause-positive c).After-judge-outcome in let s = (goal.at.column_bounds-column-requires-clause-positive c).Start in let p = s.requires.workable in let e = c.enum_told-1.given.1 in positive_here (W (goal.at.column_bounds-column-requires-clause-positive c).Start) p (worked (goal.at.column_bounds-column-requires-clause-positive c).After-judge-outcome) e
+column_bounds-column-requires-clause-positive c = let j = (goal.at.column_bounds-column-requires-clause-positive c).After-judge-outcome in let s = (goal.at.column_bounds-column-requires-clause-positive c).Start in let p = s.requires.workable in let e = c.in-Accepted.is in positive_here (W (goal.at.column_bounds-column-requires-clause-positive c).Start) p (worked (goal.at.column_bounds-column-requires-clause-positive c).After-judge-outcome) e
 
 pub column_bounds-column-requires-clause-near : goal.column_bounds-column-requires-clause-near
-column_bounds-column-requires-clause-near c = let j = (goal.at.column_bounds-column-requires-clause-near c).After-judge-outcome in let s = (goal.at.column_bounds-column-requires-clause-near c).Start in let p = s.requires.workable in let e = c.enum_told-1.given.1 in near_here (W (goal.at.column_bounds-column-requires-clause-near c).Start) p (worked (goal.at.column_bounds-column-requires-clause-near c).After-judge-outcome) e
+column_bounds-column-requires-clause-near c = let j = (goal.at.column_bounds-column-requires-clause-near c).After-judge-outcome in let s = (goal.at.column_bounds-column-requires-clause-near c).Start in let p = s.requires.workable in let e = c.in-Accepted.is in near_here (W (goal.at.column_bounds-column-requires-clause-near c).Start) p (worked (goal.at.column_bounds-column-requires-clause-near c).After-judge-outcome) e
 
 pub store_columns-requires-clause-column_list : goal.store_columns-requires-clause-column_list
-store_columns-requires-clause-column_list c = let j = (goal.at.store_columns-requires-clause-column_list c).After-judge-outcome in let s = (goal.at.store_columns-requires-clause-column_list c).Start in let p = s.requires.workable in let e = c.enum_told-1.given.1 in columns_here (W (goal.at.store_columns-requires-clause-column_list c).Start) p (worked (goal.at.store_columns-requires-clause-column_list c).After-judge-outcome) e (long-columns (goal.at.store_columns-requires-clause-column_list c).After-inverse_residuals_of)
+store_columns-requires-clause-column_list c = let j = (goal.at.store_columns-requires-clause-column_list c).After-judge-outcome in let s = (goal.at.store_columns-requires-clause-column_list c).Start in let p = s.requires.workable in let e = c.in-Accepted.is in columns_here (W (goal.at.store_columns-requires-clause-column_list c).Start) p (worked (goal.at.store_columns-requires-clause-column_list c).After-judge-outcome) e (long-columns (goal.at.store_columns-requires-clause-column_list c).After-inverse_residuals_of)
 
 pub store_columns-requires-clause-symmetric_product : goal.store_columns-requires-clause-symmetric_product
-store_columns-requires-clause-symmetric_product c = let j = (goal.at.store_columns-requires-clause-symmetric_product c).After-judge-outcome in let s = (goal.at.store_columns-requires-clause-symmetric_product c).Start in let p = s.requires.workable in let e = c.enum_told-1.given.1 in (λ y. let both = j.are_symmetric-symmetric.ensures y in symmetric_product (W (goal.at.store_columns-requires-clause-symmetric_product c).Start) j.bias_rows.ensures (residuals-are (goal.at.store_columns-requires-clause-symmetric_product c).After-inverse_residuals_of) both.0 both.1)
+store_columns-requires-clause-symmetric_product c = let j = (goal.at.store_columns-requires-clause-symmetric_product c).After-judge-outcome in let s = (goal.at.store_columns-requires-clause-symmetric_product c).Start in let p = s.requires.workable in let e = c.in-Accepted.is in (λ y. let both = j.are_symmetric-symmetric.ensures y in symmetric_product (W (goal.at.store_columns-requires-clause-symmetric_product c).Start) j.bias_rows.ensures (residuals-are (goal.at.store_columns-requires-clause-symmetric_product c).After-inverse_residuals_of) both.0 both.1)
 
 pub store_columns-requires-clause-positive : goal.store_columns-requires-clause-positive
-store_columns-requires-clause-positive c = let j = (goal.at.store_columns-requires-clause-positive c).After-judge-outcome in let s = (goal.at.store_columns-requires-clause-positive c).Start in let p = s.requires.workable in let e = c.enum_told-1.given.1 in positive_here (W (goal.at.store_columns-requires-clause-positive c).Start) p (worked (goal.at.store_columns-requires-clause-positive c).After-judge-outcome) e
+store_columns-requires-clause-positive c = let j = (goal.at.store_columns-requires-clause-positive c).After-judge-outcome in let s = (goal.at.store_columns-requires-clause-positive c).Start in let p = s.requires.workable in let e = c.in-Accepted.is in positive_here (W (goal.at.store_columns-requires-clause-positive c).Start) p (worked (goal.at.store_columns-requires-clause-positive c).After-judge-outcome) e

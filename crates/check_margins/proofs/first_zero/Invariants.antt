@@ -1,10 +1,8 @@
-use mathlib.Core.Path.{◌≡◌, sym, ◌∙◌}
-use Prim.Native.Nat.{ℕ, ◌≤◌, ◌-◌}
-use native.Mathlib.Omega.{arith}
+use mathlib.Core.Path.{◌≡◌}
+use Prim.Native.Nat.{ℕ, ◌≤◌}
 use lib.Dec.{eqb}
 use lib.ListN.{get_or}
 use Rattle.integer.specs.Finite.{first}
-use Rattle.integer.proofs.Search.{first_none, first_next, first_end}
 use Rattle.check_margins.proofs.first_zero.Given as goal
 
 abbrev pub invariant-loop-m : goal.invariant-loop-m

@@ -1,7 +1,6 @@
 use mathlib.Core.Path.{◌∙◌}
 use native.Mathlib.Omega.{arith}
 use Rattle.integer.proofs.Sum.{sumℕ_ext}
-use Rattle.std.proofs.Common.{rules}
 use Rattle.check_margins.proofs.load_of.Goals as goal
 use Rattle.check_margins.proofs.load_of.Goals.{Then-ones}
 

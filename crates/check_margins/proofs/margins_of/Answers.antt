@@ -23,13 +23,11 @@ returns-then-symmetric c =
     let s = (goal.at.returns-then-symmetric c).Start in
     (c.margins_from.ensures.0, defect_margins s.args.n s.args.t s.args.matrix.now s.args.inverse.now s.args.weights.now (symmetric-are (goal.at.returns-then-symmetric c).Then-symmetric) c.margins_from.ensures.1)
 
-
 pub returns : goal.returns
 returns c =
     let d = (goal.at.returns c).After-defects_of in
     let s = (goal.at.returns c).Start in
     (c.margins_from-2.ensures.0, defect_margins s.args.n s.args.t s.args.matrix.now s.args.inverse.now s.args.weights.now d.defects_of.ensures c.margins_from-2.ensures.1)
-
 
 pub margins_from-requires-clause-column_list : goal.margins_from-requires-clause-column_list
 margins_from-requires-clause-column_list c = let s = (goal.at.margins_from-requires-clause-column_list c).Start in let p = s.requires in defects_within s.args.n s.args.t s.args.matrix.now s.args.inverse.now p.t_bound.0 p.t_bound.1.0 p.matrix_list p.matrix_list_2 p.t_bound.1.1.1 (symmetric-are (goal.at.margins_from-requires-clause-column_list c).Then-symmetric)

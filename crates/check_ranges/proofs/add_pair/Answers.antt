@@ -3,7 +3,6 @@ use native.Mathlib.Nat.{le_of_eq, le_trans}
 use lib.Bits.{bit_or}
 use Rattle.integer.proofs.Machine.{read}
 use Rattle.integer.proofs.Union.{union_left, union_right}
-use Rattle.std.proofs.Common.{rules}
 use Rattle.check_ranges.proofs.add_pair.Goals as goal
 use Rattle.check_ranges.proofs.add_pair.Goals.{Start}
 

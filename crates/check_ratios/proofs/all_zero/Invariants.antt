@@ -1,10 +1,7 @@
-use mathlib.Core.Path.{◌≡◌, sym, subst, ◌∙◌}
-use Prim.Native.Nat.{ℕ, ◌≤◌, ◌-◌}
-use native.Mathlib.Omega.{arith}
-use lib.Dec.{T}
+use mathlib.Core.Path.{◌≡◌}
+use Prim.Native.Nat.{ℕ, ◌≤◌}
 use lib.ListN.{get_or}
 use Rattle.integer.specs.Finite.{sumℕ}
-use Rattle.integer.proofs.Sum.{sumℕ_none, sumℕ_next, sumℕ_end, sumℕ_at}
 use Rattle.check_ratios.proofs.all_zero.Given as goal
 
 abbrev pub invariant-loop-k : goal.invariant-loop-k

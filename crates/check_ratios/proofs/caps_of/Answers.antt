@@ -1,15 +1,10 @@
 use Rattle.check_ratios.proofs.WithinCaps.{cap_under}
-use Rattle.check_arrays.proofs.Filled.{prefix_none, prefix_more, prefix_end}
-use Rattle.check_arrays.specs.Arrays.{PrefixIs}
+use Rattle.check_arrays.proofs.Filled.{prefix_end}
 use Rattle.linear.specs.Slice.{at}
 use Rattle.integer.proofs.Search.{largest_at}
-use Rattle.integer.specs.Finite.{largest}
-use lib.ListN.{get_or, length, length-set}
 use lib.IntN.{nat_abs}
 use native.Mathlib.Omega.{arith}
-use Prim.Native.Nat.{ℕ, ◌/◌, ◌≤◌, ◌-◌}
-use mathlib.Core.Path.{◌≡◌}
-use Rattle.std.proofs.Common.{rules}
+use Prim.Native.Nat.{ℕ}
 use Rattle.check_ratios.proofs.caps_of.Goals as goal
 use Rattle.check_ratios.proofs.caps_of.Goals.{After-largest_weight-most, Start}
 
@@ -17,7 +12,6 @@ pub nonzero_div-out : goal.nonzero_div-out
 nonzero_div-out c =
     let s = (goal.at.nonzero_div-out c).After-largest_weight-most in
     omega (arith, c.largest_weight-most.ensures, largest_at s.args.n (λ (i : ℕ). nat_abs (at s.args.weights.now i)) 0 s.requires.n_nonzero.0, s.requires.by_index 0 s.requires.n_nonzero.0)
-
 
 pub returns : goal.returns
 returns c =

@@ -1,13 +1,9 @@
-use Rattle.check_ratios.proofs.WithinCaps.{cap_under}
-use Rattle.check_arrays.proofs.Filled.{prefix_none, prefix_more, prefix_end}
 use Rattle.check_arrays.specs.Arrays.{PrefixIs}
 use Rattle.linear.specs.Slice.{at}
-use Rattle.integer.proofs.Search.{largest_at}
 use Rattle.integer.specs.Finite.{largest}
-use lib.ListN.{get_or, length, length-set}
+use lib.ListN.{get_or, length}
 use lib.IntN.{nat_abs}
-use native.Mathlib.Omega.{arith}
-use Prim.Native.Nat.{ℕ, ◌/◌, ◌≤◌, ◌-◌}
+use Prim.Native.Nat.{ℕ, ◌/◌, ◌≤◌}
 use mathlib.Core.Path.{◌≡◌}
 use Rattle.check_ratios.proofs.caps_of.Given as goal
 

@@ -1,11 +1,7 @@
-use mathlib.Core.Logic.{⊎_elim}
-use Prim.Native.Nat.{ℕ, ◌≤◌, ◌<◌, ◌-◌}
+use Prim.Native.Nat.{◌<◌}
 use native.Mathlib.Omega.{arith}
 use lib.ListN.{get_or}
-use Rattle.integer.specs.LargestRatio.{LargestRatio}
-use Rattle.integer.proofs.LargestRatio.{largest_ratio_one}
-use Rattle.check_ratios.proofs.Ratios.{product_moves, product_stays, largest_ratio_end}
-use Rattle.std.proofs.Common.{rules}
+use Rattle.check_ratios.proofs.Ratios.{product_moves, product_stays}
 use Rattle.check_ratios.proofs.largest_ratio_by_products.Goals as goal
 use Rattle.check_ratios.proofs.largest_ratio_by_products.Goals.{then-is_larger_ratio, else-is_larger_ratio, Start}
 
@@ -20,8 +16,8 @@ loop-m-preserved c =
       (
         omega arith,
         elim c.if-is_larger_ratio.branch [
-          then-is_larger_ratio w ↦ rw w.k-is (product_moves _ _ l.m l.k above i e w.if-is_larger_ratio.true)
-        | else-is_larger_ratio w ↦ rw w.k-is (product_stays _ _ l.m l.k i e w.if-is_larger_ratio.false)
+          | then-is_larger_ratio w ↦ rw w.k-is (product_moves _ _ l.m l.k above i e w.if-is_larger_ratio.true)
+          | else-is_larger_ratio w ↦ rw w.k-is (product_stays _ _ l.m l.k i e w.if-is_larger_ratio.false)
         ],
       ),
     )

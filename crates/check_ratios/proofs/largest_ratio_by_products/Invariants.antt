@@ -1,10 +1,6 @@
-use mathlib.Core.Logic.{⊎_elim}
-use Prim.Native.Nat.{ℕ, ◌≤◌, ◌<◌, ◌-◌}
-use native.Mathlib.Omega.{arith}
+use Prim.Native.Nat.{ℕ, ◌≤◌}
 use lib.ListN.{get_or}
 use Rattle.integer.specs.LargestRatio.{LargestRatio}
-use Rattle.integer.proofs.LargestRatio.{largest_ratio_one}
-use Rattle.check_ratios.proofs.Ratios.{product_moves, product_stays, largest_ratio_end}
 use Rattle.check_ratios.proofs.largest_ratio_by_products.Given as goal
 
 abbrev pub invariant-loop-m : goal.invariant-loop-m

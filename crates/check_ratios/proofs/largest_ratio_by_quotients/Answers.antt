@@ -1,8 +1,5 @@
-use Prim.Native.Nat.{ℕ, ◌≤◌, ◌<◌, ◌-◌}
 use native.Mathlib.Omega.{arith}
-use lib.ListN.{get_or}
-use Rattle.check_ratios.proofs.Ratios.{Best, best_first, best_next, best_end, narrow}
-use Rattle.std.proofs.Common.{rules}
+use Rattle.check_ratios.proofs.Ratios.{best_next}
 use Rattle.check_ratios.proofs.largest_ratio_by_quotients.Goals as goal
 use Rattle.check_ratios.proofs.largest_ratio_by_quotients.Goals.{Start}
 

@@ -1,7 +1,6 @@
-use Prim.Native.Nat.{ℕ, ◌≤◌, ◌<◌, ◌-◌}
-use native.Mathlib.Omega.{arith}
+use Prim.Native.Nat.{ℕ, ◌≤◌}
 use lib.ListN.{get_or}
-use Rattle.check_ratios.proofs.Ratios.{Best, best_first, best_next, best_end, narrow}
+use Rattle.check_ratios.proofs.Ratios.{Best}
 use Rattle.check_ratios.proofs.largest_ratio_by_quotients.Given as goal
 
 abbrev pub invariant-loop-m : goal.invariant-loop-m

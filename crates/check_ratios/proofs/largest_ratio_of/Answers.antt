@@ -1,6 +1,5 @@
 use Rattle.check_ratios.proofs.WithinCaps.{small_each}
 use native.Mathlib.Omega.{arith}
-use Rattle.std.proofs.Common.{rules}
 use Rattle.check_ratios.proofs.largest_ratio_of.Goals as goal
 use Rattle.check_ratios.proofs.largest_ratio_of.Goals.{Start}
 

@@ -1,17 +1,12 @@
-use mathlib.Core.Path.{◌≡◌, sym, ◌∙◌}
-use Prim.Native.Nat.{ℕ, ◌≤◌, ◌-◌}
+use mathlib.Core.Path.{sym, ◌∙◌}
 use native.Mathlib.Omega.{arith}
-use lib.IntN.{nat_abs}
-use Rattle.integer.specs.Finite.{largest}
 use Rattle.integer.proofs.Machine.{read}
-use Rattle.integer.proofs.Search.{largest_none, largest_next, largest_end}
+use Rattle.integer.proofs.Search.{largest_none, largest_next}
 use Rattle.linear.specs.Slice.{at}
-use Rattle.std.proofs.Common.{rules}
 use Rattle.check_ratios.proofs.largest_weight.Goals as goal
 
 pub loop-i-init : goal.loop-i-init
 loop-i-init c = (omega arith, sym (largest_none _))
-
 
 pub loop-i-preserved : goal.loop-i-preserved
 loop-i-preserved c =

@@ -1,10 +1,7 @@
-use mathlib.Core.Path.{◌≡◌, sym, ◌∙◌}
-use Prim.Native.Nat.{ℕ, ◌≤◌, ◌-◌}
-use native.Mathlib.Omega.{arith}
+use mathlib.Core.Path.{◌≡◌}
+use Prim.Native.Nat.{ℕ, ◌≤◌}
 use lib.IntN.{nat_abs}
 use Rattle.integer.specs.Finite.{largest}
-use Rattle.integer.proofs.Machine.{read}
-use Rattle.integer.proofs.Search.{largest_none, largest_next, largest_end}
 use Rattle.linear.specs.Slice.{at}
 use Rattle.check_ratios.proofs.largest_weight.Given as goal
 

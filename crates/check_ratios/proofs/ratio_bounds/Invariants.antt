@@ -1,14 +1,10 @@
-use mathlib.Core.Path.{◌≡◌, refl, sym}
-use Prim.Native.Nat.{ℕ, ◌*◌, ◌≤◌, ◌-◌}
-use native.Mathlib.Omega.{arith}
+use mathlib.Core.Path.{◌≡◌}
+use Prim.Native.Nat.{ℕ, ◌*◌, ◌≤◌}
 use lib.IntN.{nat_abs}
-use lib.ListN.{length, length-set}
+use lib.ListN.{length}
 use Rattle.integer.specs.Quotient.{ceil_div}
-use Rattle.integer.proofs.Machine.{read}
 use Rattle.linear.specs.Slice.{at}
-use Rattle.enclosure.proofs.Bounds.{bound_at}
 use Rattle.check_arrays.specs.Arrays.{PrefixIs}
-use Rattle.check_arrays.proofs.Filled.{prefix_none, prefix_more, prefix_end, prefix_as}
 use Rattle.check_ratios.proofs.ratio_bounds.Given as goal
 
 abbrev pub invariant-loop-i : goal.invariant-loop-i

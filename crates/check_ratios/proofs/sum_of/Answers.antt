@@ -1,11 +1,10 @@
-use mathlib.Core.Path.{◌≡◌, sym, ap, ◌∙◌}
-use Prim.Native.Nat.{ℕ, ◌+◌, ◌*◌, ◌≤◌, ◌-◌}
+use mathlib.Core.Path.{sym, ap, ◌∙◌}
+use Prim.Native.Nat.{ℕ, ◌+◌, ◌*◌, ◌≤◌}
 use native.Mathlib.Omega.{arith}
 use lib.ListN.{get_or}
 use Rattle.integer.specs.Finite.{sumℕ}
-use Rattle.integer.proofs.Sum.{sumℕ_none, sumℕ_next, sumℕ_end, sumℕ≤}
+use Rattle.integer.proofs.Sum.{sumℕ_none, sumℕ_next, sumℕ≤}
 use Rattle.enclosure.specs.Largest.{largest_magnitude}
-use Rattle.std.proofs.Common.{rules}
 use Rattle.check_ratios.proofs.sum_of.Goals as goal
 use Rattle.check_ratios.proofs.sum_of.Goals.{After-way_told-1, At-loop-k, Start}
 
@@ -16,14 +15,12 @@ partial s k l = sumℕ≤ k largest_magnitude _ (λ i h. s.requires.bounded.most
 pub loop-k-init : goal.loop-k-init
 loop-k-init c = (omega arith, sym (sumℕ_none _))
 
-
 pub overflow_add-sum : goal.overflow_add-sum
 overflow_add-sum c =
     let t = (goal.at.overflow_add-sum c).After-way_told-1 in
     let l = t.loop-k in
     let s = (goal.at.overflow_add-sum c).At-loop-k in
     omega (arith, l.invariant.1, partial (goal.at.overflow_add-sum c).Start l.k l.invariant.0, s.requires.bounded.most l.k t.loop-k-test.true)
-
 
 pub loop-k-preserved : goal.loop-k-preserved
 loop-k-preserved c =

@@ -12,7 +12,6 @@ use Rattle.integer.proofs.Difference.{zz}
 use Rattle.integer.proofs.Machine.{read}
 use Rattle.integer.proofs.Union.{union_left, union_right}
 use Rattle.check_arrays.specs.Parts.{above_allowed}
-use Rattle.std.proofs.Common.{rules}
 use Rattle.check_residuals.proofs.add_far.Goals as goal
 use Rattle.check_residuals.proofs.add_far.Goals.{After-magnitude, Start}
 

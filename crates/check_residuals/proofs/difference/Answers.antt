@@ -12,8 +12,6 @@ use Rattle.linear.specs.Slice.{vector_of, matrix_of}
 use Rattle.linear.specs.Reach.{dot_of, Reach}
 use Rattle.linear.proofs.Carried.{start_place}
 use Rattle.linear.proofs.Places.{row_reach, list_reach, square_list, dot_row, dot_magnitude}
-use Rattle.linear.proofs.Places.{row_ends}
-use Rattle.std.proofs.Common.{rules}
 use Rattle.check_residuals.proofs.difference.Goals as goal
 use Rattle.check_residuals.proofs.difference.Goals.{After-dot, Start}
 
@@ -32,7 +30,6 @@ fits c =
 
 pub overflow_sub-result : goal.overflow_sub-result
 overflow_sub-result c = simp (read, c.ranges.base.sfits, c.dot.type_inv) (fits c)
-
 
 pub returns : goal.returns
 returns c =

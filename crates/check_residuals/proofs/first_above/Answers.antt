@@ -1,12 +1,11 @@
 use mathlib.Core.Bool.{false}
 use mathlib.Core.Path.{◌≡◌, sym, ◌∙◌}
-use Prim.Native.Nat.{ℕ, ◌+◌, ◌≤◌, ◌<◌, ◌-◌}
+use Prim.Native.Nat.{◌+◌}
 use native.Mathlib.Omega.{arith}
 use Rattle.integer.proofs.Machine.{read}
-use Rattle.integer.proofs.Search.{upto, first_is, first_never}
+use Rattle.integer.proofs.Search.{first_is, first_never}
 use Rattle.linear.specs.Slice.{at}
 use Rattle.check_arrays.specs.Parts.{above_allowed}
-use Rattle.std.proofs.Common.{rules}
 use Rattle.check_residuals.proofs.first_above.Goals as goal
 use Rattle.check_residuals.proofs.first_above.Goals.{After-is_above, In-loop-k, Start}
 
@@ -27,7 +26,6 @@ pub returns-then-is_above : goal.returns-then-is_above
 returns-then-is_above c =
     let t = (goal.at.returns-then-is_above c).In-loop-k in
     sym (first_is _ _ t.loop-k.k t.loop-k-test.true (sym (here (goal.at.returns-then-is_above c).After-is_above) ∙ c.if-is_above.true) t.loop-k.invariant.1.1)
-
 
 pub returns : goal.returns
 returns c = sym (first_never _ _ (λ i m. c.loop-k.invariant.1.1 i (omega (arith, m, c.loop-k-test.false))))

@@ -1,9 +1,6 @@
 use mathlib.Core.Bool.{false}
-use mathlib.Core.Path.{◌≡◌, sym, ◌∙◌}
-use Prim.Native.Nat.{ℕ, ◌+◌, ◌≤◌, ◌<◌, ◌-◌}
-use native.Mathlib.Omega.{arith}
-use Rattle.integer.proofs.Machine.{read}
-use Rattle.integer.proofs.Search.{upto, first_is, first_never}
+use mathlib.Core.Path.{◌≡◌}
+use Prim.Native.Nat.{ℕ, ◌+◌, ◌≤◌, ◌<◌}
 use Rattle.linear.specs.Slice.{at}
 use Rattle.check_arrays.specs.Parts.{above_allowed}
 use Rattle.check_residuals.proofs.first_above.Given as goal

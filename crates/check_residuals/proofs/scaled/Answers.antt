@@ -6,7 +6,6 @@ use mir.Val.{SFits}
 use mir.ValLaws.{to_z-of_z, to_z_pos}
 use Rattle.integer.proofs.Machine.{small}
 use Rattle.check_arrays.proofs.Magnitudes.{power_magnitude, scaled_magnitude}
-use Rattle.std.proofs.Common.{rules}
 use Rattle.check_residuals.proofs.scaled.Goals as goal
 use Rattle.check_residuals.proofs.scaled.Goals.{After-power}
 
@@ -19,7 +18,6 @@ module _ (c : After-power) where
 
 pub overflow_mul-result : goal.overflow_mul-result
 overflow_mul-result c = rw (to_z_pos w64 _ (small_power c), c.power.ensures, to_z-of_z w64 _ c.ranges.b) (fits c)
-
 
 pub returns : goal.returns
 returns c = rw (to_z_pos w64 _ (small_power c), c.power.ensures, to_z-of_z w64 _ c.ranges.b, to_z-of_z w64 _ (fits c))

@@ -1,10 +1,6 @@
-use mathlib.Core.Path.{◌≡◌, sym, subst}
-use Prim.Native.Nat.{ℕ, ◌+◌, ◌*◌, ◌≤◌, ◌<◌, ◌-◌}
-use native.Mathlib.Omega.{arith}
+use mathlib.Core.Path.{◌≡◌}
+use Prim.Native.Nat.{ℕ, ◌+◌, ◌*◌, ◌≤◌, ◌<◌}
 use Rattle.linear.specs.Slice.{at}
-use Rattle.linear.proofs.Places.{square}
-use lib.Dec.{T}
-use Rattle.check_symmetry.proofs.Rows.{row_in, column_in, row_more}
 use Rattle.check_symmetry.proofs.is_row_symmetric.Given as goal
 
 abbrev pub invariant-loop-j : goal.invariant-loop-j

@@ -1,15 +1,11 @@
-use mathlib.Core.Path.{◌≡◌, sym, ◌∙◌}
-use Prim.Native.Nat.{◌≤◌, ◌-◌}
+use mathlib.Core.Path.{sym}
 use Rattle.integer.proofs.Machine.{read}
-use Rattle.linear.specs.Slice.{at}
-use Rattle.common_spec.specs.Proposals.{all_same}
-use Rattle.common_ends.proofs.Loops.{same_none, same_next, same_end}
+use Rattle.common_ends.proofs.Loops.{same_none, same_next}
 use Rattle.std.proofs.Common.{rules}
 use Rattle.common_ends.proofs.are_same.Goals as goal
 
 pub loop-i-init : goal.loop-i-init
 loop-i-init c = (search rules, sym (same_none _ _))
-
 
 pub loop-i-preserved : goal.loop-i-preserved
 loop-i-preserved c =

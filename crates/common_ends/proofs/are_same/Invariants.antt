@@ -1,9 +1,7 @@
-use mathlib.Core.Path.{◌≡◌, sym, ◌∙◌}
-use Prim.Native.Nat.{◌≤◌, ◌-◌}
-use Rattle.integer.proofs.Machine.{read}
+use mathlib.Core.Path.{◌≡◌}
+use Prim.Native.Nat.{◌≤◌}
 use Rattle.linear.specs.Slice.{at}
 use Rattle.common_spec.specs.Proposals.{all_same}
-use Rattle.common_ends.proofs.Loops.{same_none, same_next, same_end}
 use Rattle.common_ends.proofs.are_same.Given as goal
 
 abbrev pub invariant-loop-i : goal.invariant-loop-i

@@ -8,7 +8,6 @@ use Rattle.integer.proofs.Absolute.{abs-+, abs_sub}
 use Rattle.integer.proofs.Machine.{small}
 use Rattle.check_arrays.proofs.Magnitudes.{power_magnitude}
 use Rattle.common_spec.proofs.Magnitudes.{stepped_magnitude}
-use Rattle.std.proofs.Common.{rules}
 use Rattle.common_ends.proofs.ends_of.Goals as goal
 use Rattle.common_ends.proofs.ends_of.Goals.{After-power-factor, Start}
 
@@ -40,11 +39,9 @@ pub overflow_mul-result : goal.overflow_mul-result
 overflow_mul-result c =
     rw (to_z_pos w64 _ (small-factor c), c.power-factor.ensures, to_z_pos w64 _ (small-half c), to_z-of_z w64 _ c.ranges.x, to_z-of_z w64 _ (lower c)) (low_end c)
 
-
 pub overflow_mul-result-2 : goal.overflow_mul-result-2
 overflow_mul-result-2 c =
     rw (to_z_pos w64 _ (small-factor c), c.power-factor.ensures, to_z_pos w64 _ (small-half c), to_z-of_z w64 _ c.ranges.x, to_z-of_z w64 _ (upper c)) (high_end_lem c)
-
 
 pub returns : goal.returns
 returns c = (

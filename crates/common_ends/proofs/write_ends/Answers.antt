@@ -1,15 +1,13 @@
 use native.Mathlib.Omega.{arith}
-use mathlib.Core.Path.{sym, ap, ap₂, ◌∙◌}
+use mathlib.Core.Path.{sym, ap₂, ◌∙◌}
 use lib.IntN.{ℤ}
-use lib.ListN.{length}
 use mir.Syntax.{w64}
 use mir.Val.{SFits}
 use mir.ValLaws.{to_z-of_z}
-use Rattle.linear.specs.Written.{written}
 use Rattle.integer.proofs.Machine.{read}
-use Rattle.linear.proofs.Written.{written_none, written_more, written_end, written_length}
+use Rattle.linear.proofs.Written.{written_none, written_more}
 use Rattle.common_spec.specs.Ends.{maxℤ, minℤ}
-use Prim.Native.Nat.{ℕ, ◌≤◌, ◌-◌}
+use Prim.Native.Nat.{ℕ}
 use mathlib.Core.Path.{◌≡◌}
 use Rattle.common_ends.specs.Met.{lows_of, highs_of}
 use Rattle.std.proofs.Common.{rules}
@@ -37,7 +35,6 @@ module _ (c : After-common_of-both) where
 
 pub loop-i-init : goal.loop-i-init
 loop-i-init c = (omega arith, (sym (written_none _ _ _ _), sym (written_none _ _ _ _)))
-
 
 pub loop-i-preserved : goal.loop-i-preserved
 loop-i-preserved c =

@@ -1,15 +1,5 @@
-use native.Mathlib.Omega.{arith}
-use mathlib.Core.Path.{sym, ap, ap₂, ◌∙◌}
-use lib.IntN.{ℤ}
-use lib.ListN.{length}
-use mir.Syntax.{w64}
-use mir.Val.{SFits}
-use mir.ValLaws.{to_z-of_z}
 use Rattle.linear.specs.Written.{written}
-use Rattle.integer.proofs.Machine.{read}
-use Rattle.linear.proofs.Written.{written_none, written_more, written_end, written_length}
-use Rattle.common_spec.specs.Ends.{maxℤ, minℤ}
-use Prim.Native.Nat.{ℕ, ◌≤◌, ◌-◌}
+use Prim.Native.Nat.{◌≤◌}
 use mathlib.Core.Path.{◌≡◌}
 use Rattle.common_ends.specs.Met.{lows_of, highs_of}
 use Rattle.common_ends.proofs.write_ends.Given as goal

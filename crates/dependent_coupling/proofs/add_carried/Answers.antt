@@ -7,7 +7,6 @@ use Rattle.integer.proofs.Machine.{read}
 use Rattle.linear.specs.Slice.{at}
 use Rattle.linear.proofs.Carried.{unit_place}
 use Rattle.dependent_coupling.specs.Carried.{limit_cap}
-use Rattle.std.proofs.Common.{rules}
 use Rattle.dependent_coupling.proofs.add_carried.Goals as goal
 use Rattle.dependent_coupling.proofs.add_carried.Goals.{After-capped, After-magnitude, Start}
 

@@ -12,8 +12,6 @@ use Rattle.linear.specs.Slice.{vector_of, matrix_of}
 use Rattle.linear.specs.Reach.{dot_of, Reach}
 use Rattle.linear.proofs.Carried.{start_place}
 use Rattle.linear.proofs.Places.{list_reach, dot_row, dot_magnitude}
-use Rattle.dependent_coupling.proofs.Rows.{row_past}
-use Rattle.std.proofs.Common.{rules}
 use Rattle.dependent_coupling.proofs.base_at.Goals as goal
 use Rattle.dependent_coupling.proofs.base_at.Goals.{After-dot, Start}
 
@@ -32,7 +30,6 @@ fits c =
 
 pub overflow_sub-result : goal.overflow_sub-result
 overflow_sub-result c = simp (read, c.ranges.base.sfits, c.dot.type_inv) (fits c)
-
 
 pub returns : goal.returns
 returns c =

@@ -1,15 +1,11 @@
-use mathlib.Core.Path.{◌≡◌, sym, ◌∙◌}
-use Prim.Native.Nat.{ℕ, ◌*◌, ◌≤◌, ◌-◌, min}
-use native.Mathlib.Omega.{arith}
+use mathlib.Core.Path.{◌≡◌}
+use Prim.Native.Nat.{ℕ, ◌*◌, ◌≤◌, min}
 use lib.IntN.{nat_abs}
 use lib.ListN.{get_or}
 use Rattle.integer.specs.Finite.{sumℕ}
-use Rattle.integer.proofs.Sum.{sumℕ_none, sumℕ_next, sumℕ_end}
 use Rattle.linear.specs.Place.{Carried}
 use Rattle.linear.specs.Slice.{matrix_of}
-use Rattle.linear.proofs.Carried.{start_place, row_place, carried, carried_first, carried_next}
 use Rattle.dependent_coupling.specs.Carried.{limit_cap}
-use Rattle.dependent_coupling.proofs.Rows.{row_past, carried_magnitude}
 use Rattle.dependent_coupling.proofs.carried_at.Given as goal
 
 abbrev pub invariant-loop-j : goal.invariant-loop-j

@@ -1,15 +1,6 @@
-use mathlib.Core.Path.{◌≡◌, refl}
-use Prim.Native.Nat.{ℕ, ◌+◌, ◌≤◌, ◌-◌}
 use native.Mathlib.Omega.{arith}
-use lib.ListN.{get_or, length, length-set}
-use Rattle.linear.specs.Place.{Carried}
-use Rattle.linear.proofs.Carried.{carried_first, carried_next}
-use Rattle.check_arrays.specs.Arrays.{PrefixIs}
-use Rattle.check_arrays.proofs.Filled.{prefix_none, prefix_more, prefix_end}
-use Rattle.dependent_coupling.specs.Carried.{capped_sum}
 use Rattle.linear.proofs.Places.{row_reach}
-use Rattle.dependent_coupling.proofs.Rows.{row_past, carried_magnitude}
-use Rattle.std.proofs.Common.{rules}
+use Rattle.dependent_coupling.proofs.Rows.{carried_magnitude}
 use Rattle.dependent_coupling.proofs.slacks_with.Goals as goal
 use Rattle.dependent_coupling.proofs.slacks_with.Goals.{In-loop-k, Start}
 

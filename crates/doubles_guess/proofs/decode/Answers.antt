@@ -10,7 +10,6 @@ use lib.Ieee.Scale.{finite}
 use Rattle.doubles_guess.specs.Decoded.{Decoded, Normal}
 use Rattle.doubles_guess.proofs.Pattern.{field_zero, field_some, field_top, of_bits_is, no_nan, is_nan_lem}
 use Rattle.doubles_guess.proofs.Exact.{value_finite}
-use Rattle.std.proofs.Common.{rules}
 use Rattle.doubles_guess.proofs.decode.Goals as goal
 use Rattle.doubles_guess.proofs.decode.Goals.{Start}
 
@@ -65,18 +64,14 @@ held c = subst T (sym c.well_formed.0.1) tt
 pub returns-then-x : goal.returns-then-x
 returns-then-x c = decoded-other c.args.x (is_nan_lem c.args.x c.if-x.true)
 
-
 pub float_to_bits-bits : goal.float_to_bits-bits
 float_to_bits-bits c = no_nan c.args.x c.if-x.false
-
 
 pub returns-then-field-eq2047 : goal.returns-then-field-eq2047
 returns-then-field-eq2047 c = let s = (goal.at.returns-then-field-eq2047 c).Start in at_top s.args.x (held s) c.if-field-eq2047.true
 
-
 pub returns-then-field-eq0 : goal.returns-then-field-eq0
 returns-then-field-eq0 c = let s = (goal.at.returns-then-field-eq0 c).Start in at_zero s.args.x (held s) c.if-field-eq0.true
-
 
 pub returns : goal.returns
 returns c = let s = (goal.at.returns c).Start in at_some s.args.x (held s) c.if-field-eq0.false c.if-field-eq2047.false

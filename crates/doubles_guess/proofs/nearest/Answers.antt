@@ -1,13 +1,11 @@
 use mathlib.Core.Path.{◌≡◌, refl, sym, subst, ◌∙◌}
 use mathlib.Core.Bool.{true, false}
 use native.Mathlib.Omega.{arith}
-use native.Mathlib.Nat.{div-le_self, lt_of_le_of_lt}
 use Prim.Native.Nat.{ℕ, ◌+◌, ◌-◌, ◌*◌, ◌/◌, ◌%◌, ◌^◌, ◌≤◌, ◌<◌}
 use borrow.Author.Tests.{le-leb, lt-leb}
 use lib.Dec.{T}
 use Rattle.doubles_guess.specs.Guess.{magnitude_for, MagnitudeFoundAs}
 use Rattle.doubles_guess.proofs.Steps.{magnitude_down, magnitude_none, magnitude_far}
-use Rattle.std.proofs.Common.{rules}
 use Rattle.doubles_guess.proofs.nearest.Goals as goal
 use Rattle.doubles_guess.proofs.nearest.Goals.{After-half_up-steps, Start}
 
@@ -32,19 +30,16 @@ returns-then-t-ge1074 c =
     not_found s.args.digits s.args.shift s.args.s _ refl
     (magnitude_far s.args.digits s.args.shift s.args.s c.if-t-ge1074.true (s.requires.0.full (λ (z : s.args.shift ≡ 0). omega arith)))
 
-
 pub returns-then-d-gt63 : goal.returns-then-d-gt63
 returns-then-d-gt63 c =
     let s = (goal.at.returns-then-d-gt63 c).Start in
     here s.args.digits s.args.shift s.args.s 0
     (magnitude_none s.args.digits s.args.shift s.args.s (1073 - (s.args.shift + s.args.s)) (omega arith) s.requires.0.narrow (omega arith)) (omega arith)
 
-
 pub returns-then-steps-le68719476736 : goal.returns-then-steps-le68719476736
 returns-then-steps-le68719476736 c =
     let s = (goal.at.returns-then-steps-le68719476736 c).Start in
     here s.args.digits s.args.shift s.args.s _ (magnitude-is (goal.at.returns-then-steps-le68719476736 c).After-half_up-steps) (omega (arith, c.if-steps-le68719476736.true))
-
 
 pub returns : goal.returns
 returns c =

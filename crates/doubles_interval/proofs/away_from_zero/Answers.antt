@@ -3,7 +3,6 @@ use mathlib.Core.Path.{sym, ap, ◌∙◌}
 use Prim.Native.Nat.{ℕ, ◌+◌, ◌-◌}
 use lib.Ieee.{binary64, units}
 use Rattle.doubles_interval.proofs.Shift.{away_exact, away_next, away_carry}
-use Rattle.std.proofs.Common.{rules}
 use Rattle.doubles_interval.proofs.away_from_zero.Goals as goal
 use Rattle.doubles_interval.proofs.away_from_zero.Goals.{After-leading-digits, After-shifted_up-f, Else-f-eq0, Start, Then-f-eq0}
 
@@ -18,7 +17,6 @@ returns-then-f-eq0 c =
     ∙ ap (λ (q : ℕ). units binary64 s.args.negative q (1085 - s.args.s - r.zeros)) g.leading-digits.ensures
     ∙ sym (away_exact s.args.negative s.args.a s.args.s r.number r.zeros s.requires.1 u.shifted_up-f.ensures (omega (arith, i.if-f-eq0.true)))
 
-
 pub returns-then-digits-eq9007199254740991 : goal.returns-then-digits-eq9007199254740991
 returns-then-digits-eq9007199254740991 c =
     let i = (goal.at.returns-then-digits-eq9007199254740991 c).Else-f-eq0 in
@@ -28,7 +26,6 @@ returns-then-digits-eq9007199254740991 c =
     let r = u.shifted_up-f.result in
     c.from_parts-then-digits-eq9007199254740991.ensures
     ∙ sym (away_carry s.args.negative s.args.a s.args.s r.number r.zeros s.requires.1 u.shifted_up-f.ensures i.if-f-eq0.false (sym g.leading-digits.ensures ∙ c.if-digits-eq9007199254740991.true))
-
 
 pub returns : goal.returns
 returns c =

@@ -4,7 +4,6 @@ use mathlib.Core.Bool.{Bool, true, false}
 use Prim.Native.Nat.{ℕ, ◌+◌, ◌-◌, ◌*◌, ◌^◌, ◌≤◌, ◌<◌}
 use Rattle.doubles_guess.proofs.Pattern as P
 use Rattle.doubles_interval.proofs.Values.{from_pattern}
-use Rattle.std.proofs.Common.{rules}
 use Rattle.doubles_interval.proofs.from_parts.Goals as goal
 use Rattle.doubles_interval.proofs.from_parts.Goals.{Else-negative, Start, Then-negative}
 
@@ -35,16 +34,13 @@ pub float_from_bits-result : goal.float_from_bits-result
 float_from_bits-result c =
     let s = (goal.at.float_from_bits-result c).Start in P.pattern_number _ s.args.shift s.args.digits s.args.negative s.requires.2 s.requires.0 (minus c)
 
-
 pub float_from_bits-result-else-negative : goal.float_from_bits-result-else-negative
 float_from_bits-result-else-negative c =
     let s = (goal.at.float_from_bits-result-else-negative c).Start in P.pattern_number _ s.args.shift s.args.digits s.args.negative s.requires.2 s.requires.0 (plus c)
 
-
 pub returns-then-negative : goal.returns-then-negative
 returns-then-negative c =
     let s = (goal.at.returns-then-negative c).Start in from_pattern _ s.args.shift s.args.digits s.args.negative s.requires.2 s.requires.0 s.requires.1 (minus c)
-
 
 pub returns-else-negative : goal.returns-else-negative
 returns-else-negative c =

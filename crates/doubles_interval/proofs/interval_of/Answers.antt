@@ -8,7 +8,6 @@ use mir.Val.{SFits}
 use mir.ValLaws.{to_z-of_z, to_z_pos}
 use Rattle.integer.proofs.Absolute.{abs-+, abs_sub}
 use Rattle.integer.proofs.Machine.{small}
-use Rattle.std.proofs.Common.{rules}
 use Rattle.doubles_interval.proofs.interval_of.Goals as goal
 use Rattle.doubles_interval.proofs.interval_of.Goals.{Start}
 

@@ -18,7 +18,6 @@ returns-then-a-eq0 c =
     let m = (goal.at.returns-then-a-eq0 c).After-magnitude-a in
     c.plus_zero.ensures ∙ below_zero m.args.s m.args.z (sym (magnitude-is (goal.at.returns-then-a-eq0 c).After-magnitude-a) ∙ c.if-a-eq0.true)
 
-
 pub returns : goal.returns
 returns c =
     let i = (goal.at.returns c).Else-a-eq0 in

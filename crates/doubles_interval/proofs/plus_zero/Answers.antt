@@ -1,6 +1,4 @@
-use mathlib.Core.Path.{refl}
-use lib.Ieee.{nan_bits, of_bits}
-use Rattle.std.proofs.Common.{rules}
+use lib.Ieee.{nan_bits}
 use Rattle.doubles_interval.proofs.plus_zero.Goals as goal
 
 pub float_from_bits-result : goal.float_from_bits-result

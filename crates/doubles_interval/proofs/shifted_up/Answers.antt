@@ -1,8 +1,4 @@
-use native.Mathlib.Omega.{arith}
-use lib.Count.{count_leading_zeros}
-use Prim.Native.Nat.{◌<◌}
 use Rattle.doubles_interval.proofs.Shift.{full}
-use Rattle.std.proofs.Common.{rules}
 use Rattle.doubles_interval.proofs.shifted_up.Goals as goal
 
 pub returns : goal.returns

@@ -2,7 +2,6 @@ use mathlib.Core.Path.{sym, ap, ◌∙◌}
 use Prim.Native.Nat.{ℕ, ◌-◌}
 use lib.Ieee.{binary64, units}
 use Rattle.doubles_interval.proofs.Shift.{toward_is}
-use Rattle.std.proofs.Common.{rules}
 use Rattle.doubles_interval.proofs.toward_zero.Goals as goal
 use Rattle.doubles_interval.proofs.toward_zero.Goals.{After-leading, After-shifted_up-f, Start}
 

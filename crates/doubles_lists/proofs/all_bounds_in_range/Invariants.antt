@@ -1,9 +1,8 @@
-use mathlib.Core.Path.{◌≡◌, sym, ◌∙◌}
-use Prim.Native.Nat.{ℕ, ◌≤◌, ◌-◌, ◌^◌}
+use mathlib.Core.Path.{◌≡◌}
+use Prim.Native.Nat.{ℕ, ◌≤◌, ◌^◌}
 use lib.Dec.{leb}
 use lib.ListN.{get_or}
 use Rattle.integer.specs.Finite.{every}
-use Rattle.rules.proofs.Every.{every_none, every_next, every_end}
 use Rattle.doubles_lists.proofs.all_bounds_in_range.Given as goal
 
 abbrev pub invariant-loop-i : goal.invariant-loop-i

@@ -1,9 +1,8 @@
-use mathlib.Core.Path.{◌≡◌, sym, ◌∙◌}
-use Prim.Native.Nat.{ℕ, ◌≤◌, ◌-◌}
+use mathlib.Core.Path.{◌≡◌}
+use Prim.Native.Nat.{ℕ, ◌≤◌}
 use Rattle.integer.specs.Finite.{every}
 use Rattle.doubles_guess.specs.Guess.{has_guess}
 use Rattle.doubles_lists.specs.Lists.{double_at}
-use Rattle.rules.proofs.Every.{every_none, every_next, every_end}
 use Rattle.doubles_lists.proofs.all_have_guess.Given as goal
 
 abbrev pub invariant-loop-i : goal.invariant-loop-i

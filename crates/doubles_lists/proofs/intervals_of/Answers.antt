@@ -7,7 +7,6 @@ use Rattle.rules.proofs.Ranges.{both, not_both, not_first}
 use Rattle.doubles_lists.specs.Lists.{exchange_sizes}
 use Rattle.doubles_lists.specs.Outward.{Outgoing, outgoing, short_outgoing, outgoing_in_ranges}
 use Rattle.doubles_lists.proofs.Outward.{ReadyOutward, ready, small_intervals, out_short, out_range, out_all}
-use Rattle.std.proofs.Common.{rules}
 use Rattle.doubles_lists.proofs.intervals_of.Goals as goal
 use Rattle.doubles_lists.proofs.intervals_of.Goals.{After-write_intervals, Else-is_short, Start, Then-all_bounds_in_range, Then-all_in_range, Then-are_sizes_in_range}
 
@@ -33,14 +32,11 @@ within c = let t = (goal.at.Then-all_bounds_in_range c).Then-all_in_range in bot
 pub returns-then-is_short : goal.returns-then-is_short
 returns-then-is_short c = out_short (I (goal.at.returns-then-is_short c).Start) (sym c.is_short.ensures ∙ c.if-is_short.true)
 
-
 pub all_in_range-requires : goal.all_in_range-requires
 all_in_range-requires c = (here c).guess
 
-
 pub all_bounds_in_range-requires : goal.all_bounds_in_range-requires
 all_bounds_in_range-requires c = (here (goal.at.all_bounds_in_range-requires c).Then-are_sizes_in_range).bounds
-
 
 pub returns-then-all_bounds_in_range : goal.returns-then-all_bounds_in_range
 returns-then-all_bounds_in_range c =
@@ -49,23 +45,19 @@ returns-then-all_bounds_in_range c =
     let s = (goal.at.returns-then-all_bounds_in_range c).Then-all_in_range in
     out_all (I (goal.at.returns-then-all_bounds_in_range c).Start) (long (goal.at.returns-then-all_bounds_in_range c).Else-is_short) (within (goal.at.returns-then-all_bounds_in_range c).Then-all_bounds_in_range) w.write_intervals.ensures.low_after w.write_intervals.ensures.high_after
 
-
 pub returns-else-all_bounds_in_range : goal.returns-else-all_bounds_in_range
 returns-else-all_bounds_in_range c =
     let s = (goal.at.returns-else-all_bounds_in_range c).Then-all_in_range in
     out_range (I (goal.at.returns-else-all_bounds_in_range c).Start) (long (goal.at.returns-else-all_bounds_in_range c).Else-is_short)
     (not_both (sized (goal.at.returns-else-all_bounds_in_range c).Then-are_sizes_in_range) (not_both (guesses (goal.at.returns-else-all_bounds_in_range c).Then-all_in_range) (sym c.all_bounds_in_range.ensures ∙ c.if-all_bounds_in_range.false)))
 
-
 pub returns-else-all_in_range : goal.returns-else-all_in_range
 returns-else-all_in_range c =
     let s = (goal.at.returns-else-all_in_range c).Then-are_sizes_in_range in
     out_range (I (goal.at.returns-else-all_in_range c).Start) (long (goal.at.returns-else-all_in_range c).Else-is_short) (not_both (sized (goal.at.returns-else-all_in_range c).Then-are_sizes_in_range) (not_first _ (sym c.all_in_range.ensures ∙ c.if-all_in_range.false)))
 
-
 pub returns-else-are_sizes_in_range : goal.returns-else-are_sizes_in_range
 returns-else-are_sizes_in_range c = out_range (I (goal.at.returns-else-are_sizes_in_range c).Start) (long (goal.at.returns-else-are_sizes_in_range c).Else-is_short) (not_first _ (sym c.are_sizes_in_range.ensures ∙ c.if-are_sizes_in_range.false))
-
 
 pub write_intervals-requires-clause-n_in_bounds : goal.write_intervals-requires-clause-n_in_bounds
 write_intervals-requires-clause-n_in_bounds c = let t = (goal.at.write_intervals-requires-clause-n_in_bounds c).Then-all_bounds_in_range in let h = here (goal.at.write_intervals-requires-clause-n_in_bounds c).Then-are_sizes_in_range in (h.guess, (h.bounds, (h.low, h.high)))

@@ -1,14 +1,9 @@
 use mir.Syntax.{w64}
 use mir.Val.{SFits}
 use mir.ValLaws.{to_z-of_z}
-use mathlib.Core.Path.{◌≡◌, sym, ap, ◌∙◌}
-use Prim.Native.Nat.{ℕ, ◌≤◌, ◌-◌}
-use lib.ListN.{length}
+use mathlib.Core.Path.{sym, ◌∙◌}
 use native.Mathlib.Omega.{arith}
-use Rattle.linear.specs.Written.{written}
-use Rattle.linear.proofs.Written.{written_none, written_more, written_end, written_length}
-use Rattle.doubles_guess.specs.Guess.{guess_for}
-use Rattle.doubles_lists.specs.Lists.{double_at}
+use Rattle.linear.proofs.Written.{written_none, written_more}
 use Rattle.rules.proofs.Every.{every_at}
 use Rattle.std.proofs.Common.{rules}
 use Rattle.doubles_lists.proofs.write_guesses.Goals as goal
@@ -16,7 +11,6 @@ use Rattle.doubles_lists.proofs.write_guesses.Goals.{In-loop-i, Start}
 
 pub loop-i-init : goal.loop-i-init
 loop-i-init c = (search rules, sym (written_none _ _ _ _))
-
 
 pub loop-i-preserved : goal.loop-i-preserved
 loop-i-preserved c =

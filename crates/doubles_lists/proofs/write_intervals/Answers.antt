@@ -1,12 +1,10 @@
-use Rattle.linear.specs.Written.{written}
 use Rattle.doubles_interval.specs.declared.Interval.{Interval}
-use mathlib.Core.Path.{◌≡◌, sym, ap, ◌∙◌}
-use Prim.Native.Nat.{ℕ, ◌≤◌, ◌-◌}
+use mathlib.Core.Path.{◌≡◌, sym, ap}
 use lib.IntN.{pos}
-use lib.ListN.{length, get_or}
+use lib.ListN.{get_or}
 use native.Mathlib.Omega.{arith}
 use Rattle.integer.proofs.Machine.{read}
-use Rattle.linear.proofs.Written.{written_none, written_more, written_end, written_length}
+use Rattle.linear.proofs.Written.{written_none, written_more}
 use Rattle.doubles_interval.specs.Interval.{interval_of}
 use Rattle.std.proofs.Common.{rules}
 use Rattle.doubles_lists.proofs.write_intervals.Goals as goal
@@ -21,7 +19,6 @@ ends c = rw (read _ c.interval_of-arg-1.given) at c.interval_of-v.ensures
 
 pub loop-i-init : goal.loop-i-init
 loop-i-init c = (search rules, (sym (written_none _ _ _ _), sym (written_none _ _ _ _)))
-
 
 pub loop-i-preserved : goal.loop-i-preserved
 loop-i-preserved c =

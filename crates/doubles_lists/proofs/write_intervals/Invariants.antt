@@ -1,12 +1,8 @@
 use Rattle.linear.specs.Written.{written}
-use Rattle.doubles_interval.specs.declared.Interval.{Interval}
-use mathlib.Core.Path.{◌≡◌, sym, ap, ◌∙◌}
-use Prim.Native.Nat.{ℕ, ◌≤◌, ◌-◌}
+use mathlib.Core.Path.{◌≡◌}
+use Prim.Native.Nat.{ℕ, ◌≤◌}
 use lib.IntN.{pos}
-use lib.ListN.{length, get_or}
-use native.Mathlib.Omega.{arith}
-use Rattle.integer.proofs.Machine.{read}
-use Rattle.linear.proofs.Written.{written_none, written_more, written_end, written_length}
+use lib.ListN.{get_or}
 use Rattle.doubles_interval.specs.Interval.{interval_of}
 use Rattle.doubles_lists.proofs.write_intervals.Given as goal
 

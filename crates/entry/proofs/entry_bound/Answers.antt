@@ -9,7 +9,6 @@ use Rattle.integer.specs.Quotient.{round_div}
 use Rattle.integer.proofs.Machine.{read}
 use Rattle.integer.proofs.Rounding.{round_near, round_magnitude}
 use Rattle.entry.specs.Entry.{entry_bound}
-use Rattle.std.proofs.Common.{rules}
 use Rattle.entry.proofs.entry_bound.Goals as goal
 use Rattle.entry.proofs.entry_bound.Goals.{After-distance, After-round_scaled-value, Start}
 
@@ -29,13 +28,11 @@ distance-requires c =
     rw (guess_is s, value_is c, c.power-steps.ensures)
     (omega (arith, small s), omega (arith, small s, s.requires.0, round_magnitude s.args.x (2 ^ s.args.s)))
 
-
 pub ceil_sum-requires : goal.ceil_sum-requires
 ceil_sum-requires c =
     let s = (goal.at.ceil_sum-requires c).Start in
     rw (c.distance.ensures, guess_is s, value_is (goal.at.ceil_sum-requires c).After-round_scaled-value, c.power-steps.ensures)
     (pow_pos s.args.s, (round_near s.args.x (2 ^ s.args.s) (pow_pos s.args.s), omega (arith, small s)))
-
 
 pub returns : goal.returns
 returns c =

@@ -2,8 +2,7 @@ use mathlib.Core.Path.{◌≡◌, sym, ◌∙◌}
 use native.Mathlib.Omega.{arith}
 use Rattle.integer.proofs.Machine.{read}
 use Rattle.entry.specs.Register.{can_enter}
-use Rattle.entry.proofs.Register.{entry_fits, registered, not_registered}
-use Rattle.std.proofs.Common.{rules}
+use Rattle.entry.proofs.Register.{entry_fits}
 use Rattle.entry.proofs.register_entry.Goals as goal
 use Rattle.entry.proofs.register_entry.Goals.{After-can_enter, Start}
 
@@ -15,7 +14,6 @@ round_scaled-requires c =
     let a = (goal.at.round_scaled-requires c).Start in
     let f = entry_fits a.args.x a.args.s (sym (tested (goal.at.round_scaled-requires c).After-can_enter) ∙ c.if-can_enter.true) in
     (rw (read a.args.x a.ranges.x.sfits) f.0, omega (arith, f.1))
-
 
 pub entry_bound-requires : goal.entry_bound-requires
 entry_bound-requires c =

@@ -1,14 +1,12 @@
-use mathlib.Core.Path.{◌≡◌, sym, ap, ◌∙◌}
-use Prim.Native.Nat.{ℕ, ◌+◌, ◌*◌, ◌≤◌, ◌<◌, ◌-◌}
+use mathlib.Core.Path.{sym, ap, ◌∙◌}
+use Prim.Native.Nat.{◌<◌}
 use native.Mathlib.Omega.{arith}
 use Rattle.linear.specs.Slice.{at}
-use Rattle.linear.specs.Written.{written}
 use Rattle.linear.proofs.Places.{place, square}
 use Rattle.integer.proofs.Machine.{read}
-use Rattle.linear.proofs.Written.{written_none, written_more, written_end}
+use Rattle.linear.proofs.Written.{written_none, written_more}
 use Rattle.half_fill.specs.Half.{half_place, half_count}
 use Rattle.half_fill.proofs.Places.{place_lower, place_below, count_few}
-use Rattle.std.proofs.Common.{rules}
 use Rattle.half_fill.proofs.fill_row.Goals as goal
 use Rattle.half_fill.proofs.fill_row.Goals.{In-loop-j}
 
@@ -28,14 +26,11 @@ module _ (c : In-loop-j) where
 pub loop-j-init : goal.loop-j-init
 loop-j-init c = (omega arith, (omega arith, (c.requires.to_value.1 ∙ sym (place_lower (omega arith)), sym (written_none _ _ _ _))))
 
-
 pub offset_bounds-half-at_half : goal.offset_bounds-half-at_half
 offset_bounds-half-at_half c = omega (arith, there c)
 
-
 pub bounds-half-at_half : goal.bounds-half-at_half
 bounds-half-at_half c = omega (arith, there c)
-
 
 pub loop-j-preserved : goal.loop-j-preserved
 loop-j-preserved c =

@@ -1,13 +1,8 @@
-use mathlib.Core.Path.{◌≡◌, sym, ap, ◌∙◌}
-use Prim.Native.Nat.{ℕ, ◌+◌, ◌*◌, ◌≤◌, ◌<◌, ◌-◌}
-use native.Mathlib.Omega.{arith}
+use mathlib.Core.Path.{◌≡◌}
+use Prim.Native.Nat.{ℕ, ◌+◌, ◌*◌, ◌≤◌}
 use Rattle.linear.specs.Slice.{at}
 use Rattle.linear.specs.Written.{written}
-use Rattle.linear.proofs.Places.{place, square}
-use Rattle.integer.proofs.Machine.{read}
-use Rattle.linear.proofs.Written.{written_none, written_more, written_end}
-use Rattle.half_fill.specs.Half.{half_place, half_count}
-use Rattle.half_fill.proofs.Places.{place_lower, place_below, count_few}
+use Rattle.half_fill.specs.Half.{half_place}
 use Rattle.half_fill.proofs.fill_row.Given as goal
 
 abbrev pub invariant-loop-j : goal.invariant-loop-j

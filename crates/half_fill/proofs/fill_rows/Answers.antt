@@ -1,17 +1,12 @@
-use mathlib.Core.Path.{◌≡◌, refl, sym, ◌∙◌}
-use Prim.Native.Nat.{◌*◌, ◌≤◌, ◌-◌}
+use mathlib.Core.Path.{refl, sym, ◌∙◌}
 use native.Mathlib.Omega.{arith}
-use Rattle.linear.proofs.Places.{place, square}
-use Rattle.half_fill.specs.Half.{lower_place, filled_rows}
-use Rattle.half_fill.proofs.Places.{count_next, count_few}
-use Rattle.half_fill.proofs.Filling.{rows_none, rows_next, rows_end}
-use Rattle.std.proofs.Common.{rules}
+use Rattle.half_fill.proofs.Places.{count_next}
+use Rattle.half_fill.proofs.Filling.{rows_none, rows_next}
 use Rattle.half_fill.proofs.fill_rows.Goals as goal
 use Rattle.half_fill.proofs.fill_rows.Goals.{Start}
 
 pub loop-i-init : goal.loop-i-init
 loop-i-init c = (omega arith, (omega arith, (refl, sym (rows_none c.args.n c.args.half.now))))
-
 
 pub loop-i-preserved : goal.loop-i-preserved
 loop-i-preserved c =

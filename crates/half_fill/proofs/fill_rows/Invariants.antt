@@ -1,10 +1,6 @@
-use mathlib.Core.Path.{◌≡◌, refl, sym, ◌∙◌}
-use Prim.Native.Nat.{◌*◌, ◌≤◌, ◌-◌}
-use native.Mathlib.Omega.{arith}
-use Rattle.linear.proofs.Places.{place, square}
+use mathlib.Core.Path.{◌≡◌}
+use Prim.Native.Nat.{◌*◌, ◌≤◌}
 use Rattle.half_fill.specs.Half.{lower_place, filled_rows}
-use Rattle.half_fill.proofs.Places.{count_next, count_few}
-use Rattle.half_fill.proofs.Filling.{rows_none, rows_next, rows_end}
 use Rattle.half_fill.proofs.fill_rows.Given as goal
 
 abbrev pub invariant-loop-i : goal.invariant-loop-i

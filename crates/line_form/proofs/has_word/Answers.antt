@@ -1,9 +1,7 @@
-use mathlib.Core.Path.{◌≡◌, ◌∙◌}
-use Prim.Native.Nat.{◌≤◌, ◌-◌, ◌+◌}
-use native.Mathlib.Nat.{add-zero, add_assoc}
+use mathlib.Core.Path.{◌∙◌}
+use Prim.Native.Nat.{◌+◌}
+use native.Mathlib.Nat.{add_assoc}
 use native.Mathlib.Omega.{arith}
-use lib.ListN.{length, drop}
-use Rattle.line_form.specs.Reading.{starts}
 use Rattle.line_form.proofs.Steps.{word_all, word_short, word_same, word_other}
 use Rattle.std.proofs.Common.{rules}
 use Rattle.line_form.proofs.has_word.Goals as goal
@@ -15,14 +13,12 @@ returns-then-left-i c =
     let a = l.args in
     word_short a.s.now a.word.now (a.at + l.loop-i.i) _ c.loop-i-test.true (omega arith) ∙ l.loop-i.invariant.1
 
-
 pub returns-then-s-at : goal.returns-then-s-at
 returns-then-s-at c =
     let t = (goal.at.returns-then-s-at c).In-loop-i in
     let l = (goal.at.returns-then-s-at c).At-loop-i in
     let a = l.args in
     word_other a.s.now a.word.now (a.at + l.loop-i.i) _ t.loop-i-test.true (omega arith) c.if-s-at.true ∙ l.loop-i.invariant.1
-
 
 pub loop-i-preserved : goal.loop-i-preserved
 loop-i-preserved c =
@@ -32,7 +28,6 @@ loop-i-preserved c =
       search rules,
       rw (← add_assoc) (word_same a.s.now a.word.now (a.at + l.loop-i.i) _ t.loop-i-test.true (omega arith) c.if-s-at.false ∙ l.loop-i.invariant.1),
     )
-
 
 pub returns : goal.returns
 returns c =

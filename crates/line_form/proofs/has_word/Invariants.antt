@@ -1,10 +1,7 @@
-use mathlib.Core.Path.{◌≡◌, ◌∙◌}
+use mathlib.Core.Path.{◌≡◌}
 use Prim.Native.Nat.{◌≤◌, ◌-◌, ◌+◌}
-use native.Mathlib.Nat.{add-zero, add_assoc}
-use native.Mathlib.Omega.{arith}
 use lib.ListN.{length, drop}
 use Rattle.line_form.specs.Reading.{starts}
-use Rattle.line_form.proofs.Steps.{word_all, word_short, word_same, word_other}
 use Rattle.line_form.proofs.has_word.Given as goal
 
 abbrev pub invariant-loop-i : goal.invariant-loop-i

@@ -1,5 +1,4 @@
 use Rattle.line_form.proofs.Steps.{eight_words}
-use Rattle.std.proofs.Common.{rules}
 use Rattle.line_form.proofs.head_at.Goals as goal
 use Rattle.line_form.proofs.head_at.Goals.{After-or_word-arg-10-1, After-or_word-arg-11-1, After-or_word-arg-14-1, After-or_word-arg-15-1, After-or_word-arg-7-1, After-or_word-h-4, After-or_word-h-6}
 

@@ -1,11 +1,6 @@
-use mathlib.Core.Path.{◌≡◌, ◌∙◌}
-use Prim.Native.Nat.{◌≤◌, ◌-◌, ◌+◌}
+use mathlib.Core.Path.{◌∙◌}
 use native.Mathlib.Omega.{arith}
-use lib.ListN.{length}
-use Rattle.line_numeral.proofs.Places.{inside_byte}
-use Rattle.line_form.specs.Reading.{others_at}
-use Rattle.line_form.specs.ListAt.{listed_at}
-use Rattle.line_form.proofs.Turns.{listed, list_start, list_more, list_stop, list_out}
+use Rattle.line_form.proofs.Turns.{list_start, list_more, list_stop, list_out}
 use Rattle.std.proofs.Common.{rules}
 use Rattle.line_form.proofs.list_at.Goals as goal
 use Rattle.line_form.proofs.list_at.Goals.{After-byte_at, After-number_at-n, After-put, After-put-in-loop-count, At-loop-count}
@@ -14,7 +9,6 @@ pub loop-count-init : goal.loop-count-init
 loop-count-init c =
     let p = (goal.at.loop-count-init c).After-put in
     (omega arith, search rules, list_start _ _ _ p.number_at-first.ensures (search rules) c.is_in_range-inside.ensures p.put.ensures)
-
 
 pub loop-count-preserved : goal.loop-count-preserved
 loop-count-preserved c =
@@ -27,10 +21,8 @@ loop-count-preserved c =
       list_more _ _ _ _ b.byte_at.ensures b.loop-count-test.true n.if-byte_at-ne32.false n.number_at-n.ensures (search rules) c.is_in_range-inside-in-loop-count.ensures p.put-in-loop-count.ensures ∙ l.loop-count.invariant.2,
     )
 
-
 pub returns-after-loop-count : goal.returns-after-loop-count
 returns-after-loop-count c = list_out _ _ _ _ c.loop-count-test.false ∙ c.loop-count.invariant.2
-
 
 pub returns-then-byte_at-ne32 : goal.returns-then-byte_at-ne32
 returns-then-byte_at-ne32 c =

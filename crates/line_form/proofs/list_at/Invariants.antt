@@ -1,11 +1,9 @@
-use mathlib.Core.Path.{◌≡◌, ◌∙◌}
+use mathlib.Core.Path.{◌≡◌}
 use Prim.Native.Nat.{◌≤◌, ◌-◌, ◌+◌}
-use native.Mathlib.Omega.{arith}
 use lib.ListN.{length}
-use Rattle.line_numeral.proofs.Places.{inside_byte}
 use Rattle.line_form.specs.Reading.{others_at}
 use Rattle.line_form.specs.ListAt.{listed_at}
-use Rattle.line_form.proofs.Turns.{listed, list_start, list_more, list_stop, list_out}
+use Rattle.line_form.proofs.Turns.{listed}
 use Rattle.line_form.proofs.list_at.Given as goal
 
 abbrev pub invariant-loop-count : goal.invariant-loop-count

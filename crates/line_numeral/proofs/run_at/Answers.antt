@@ -1,6 +1,4 @@
-use Rattle.std.proofs.Common.{◌≡◌, ◌-◌, ◌≤◌, length, drop, ◌∙◌, rules}
-use Rattle.line_numeral.specs.Numeral.{run_at, cap_at}
-use Rattle.line_numeral.specs.Capped.{capped_magnitude}
+use Rattle.std.proofs.Common.{◌∙◌, rules}
 use Rattle.line_numeral.proofs.Steps.{run_digit, run_stop, run_end}
 use Rattle.std.proofs.Common.{rules}
 use Rattle.line_numeral.proofs.run_at.Goals as goal
@@ -15,10 +13,8 @@ loop-i-preserved c =
       run_digit _ l.v _ d.loop-i-test.true d.digit-d.ensures.0 c.if-d-ge10.false c.cap_magnitude-v.ensures.0 ∙ l.invariant.2,
     )
 
-
 pub returns-after-loop-i : goal.returns-after-loop-i
 returns-after-loop-i c = run_end _ _ _ c.loop-i-test.false c.loop-i.invariant.1 ∙ c.loop-i.invariant.2
-
 
 pub returns-then-d-ge10 : goal.returns-then-d-ge10
 returns-then-d-ge10 c =

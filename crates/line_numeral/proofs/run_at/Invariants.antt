@@ -1,7 +1,6 @@
-use Rattle.std.proofs.Common.{◌≡◌, ◌-◌, ◌≤◌, length, drop, ◌∙◌, rules}
+use Rattle.std.proofs.Common.{◌≡◌, ◌-◌, ◌≤◌, length, drop}
 use Rattle.line_numeral.specs.Numeral.{run_at, cap_at}
 use Rattle.line_numeral.specs.Capped.{capped_magnitude}
-use Rattle.line_numeral.proofs.Steps.{run_digit, run_stop, run_end}
 use Rattle.line_numeral.proofs.run_at.Given as goal
 
 abbrev pub invariant-loop-i : goal.invariant-loop-i

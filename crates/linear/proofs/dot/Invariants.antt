@@ -1,15 +1,7 @@
-use mathlib.Core.Path.{◌≡◌, sym, ◌∙◌}
-use Prim.Native.Nat.{◌+◌, ◌≤◌, ◌<◌, ◌-◌, ◌^◌}
-use native.Mathlib.Omega.{arith}
-use native.Mathlib.Nat.{mul-le-mul_right}
-use mir.Syntax.{w64}
-use mir.Val.{to_z}
-use Rattle.integer.proofs.Machine.{read}
-use Rattle.integer.proofs.Sum.{sum_none, sum_next, sum_end}
+use mathlib.Core.Path.{◌≡◌}
+use Prim.Native.Nat.{◌≤◌}
 use Rattle.linear.specs.Place.{Carried}
 use Rattle.linear.specs.Reach.{dot_of}
-use Rattle.linear.proofs.Carried.{carried_first, carried_next}
-use Rattle.linear.proofs.Places.{dot_fits}
 use Rattle.linear.proofs.dot.Given as goal
 
 abbrev pub invariant-loop-j : goal.invariant-loop-j

@@ -1,6 +1,4 @@
-use native.Mathlib.Omega.{arith}
-use Rattle.listing_refusal.proofs.Refused.{few_shown, answered}
-use Rattle.std.proofs.Common.{rules}
+use Rattle.listing_refusal.proofs.Refused.{answered}
 use Rattle.listing_refusal.proofs.put_refusal.Goals as goal
 use Rattle.listing_refusal.proofs.put_refusal.Goals.{After-put_list-arg-1, After-put_list-length}
 

@@ -1,5 +1,4 @@
 use Rattle.listing_text.proofs.Wrote.{then}
-use Rattle.std.proofs.Common.{rules}
 use Rattle.listing_report.proofs.put_bounds.Goals as goal
 use Rattle.listing_report.proofs.put_bounds.Goals.{After-out-1, After-out-2-1, After-put_bytes}
 

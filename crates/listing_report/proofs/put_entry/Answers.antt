@@ -1,7 +1,6 @@
 use native.Mathlib.Omega.{arith}
 use Rattle.integer.proofs.Machine.{read}
 use Rattle.listing_report.proofs.Rows.{entry_magnitude}
-use Rattle.std.proofs.Common.{rules}
 use Rattle.listing_report.proofs.put_entry.Goals as goal
 use Rattle.listing_report.proofs.put_entry.Goals.{After-slice_known-1}
 

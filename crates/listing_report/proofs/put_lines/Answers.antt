@@ -1,17 +1,10 @@
-use mathlib.Core.Path.{◌≡◌, refl, ◌∙◌}
-use Prim.Native.Nat.{◌*◌, ◌-◌, ◌≤◌}
+use mathlib.Core.Path.{refl, ◌∙◌}
 use native.Mathlib.Omega.{arith}
-use lib.ListN.{length}
-use Rattle.listing_text.specs.Wrote.{Wrote}
-use Rattle.listing_text.specs.Line.{each}
-use Rattle.listing_report.specs.Ready.{block_line, most_of}
-use Rattle.listing_text.proofs.Each.{wrote_none, wrote_more, wrote_end, next_room}
-use Rattle.std.proofs.Common.{rules}
+use Rattle.listing_text.proofs.Each.{wrote_none, wrote_more}
 use Rattle.listing_report.proofs.put_lines.Goals as goal
 
 pub loop-i-init : goal.loop-i-init
 loop-i-init c = (omega arith, refl, wrote_none _ _ _ _)
-
 
 pub loop-i-preserved : goal.loop-i-preserved
 loop-i-preserved c =

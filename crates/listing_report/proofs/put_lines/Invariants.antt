@@ -1,11 +1,9 @@
-use mathlib.Core.Path.{◌≡◌, refl, ◌∙◌}
-use Prim.Native.Nat.{◌*◌, ◌-◌, ◌≤◌}
-use native.Mathlib.Omega.{arith}
+use mathlib.Core.Path.{◌≡◌}
+use Prim.Native.Nat.{◌*◌, ◌≤◌}
 use lib.ListN.{length}
 use Rattle.listing_text.specs.Wrote.{Wrote}
 use Rattle.listing_text.specs.Line.{each}
 use Rattle.listing_report.specs.Ready.{block_line, most_of}
-use Rattle.listing_text.proofs.Each.{wrote_none, wrote_more, wrote_end, next_room}
 use Rattle.listing_report.proofs.put_lines.Given as goal
 
 abbrev pub invariant-loop-i : goal.invariant-loop-i

@@ -1,7 +1,6 @@
 use native.Mathlib.Omega.{arith}
 use Rattle.listing_text.proofs.Wrote.{then, wider}
 use Rattle.listing_report.specs.Report.{report_of}
-use Rattle.std.proofs.Common.{rules}
 use Rattle.listing_report.proofs.put_report.Goals as goal
 use Rattle.listing_report.proofs.put_report.Goals.{After-out-1, After-out-2-1, After-out-3-1, After-out-4-1, After-put_bytes, After-slice_known-1}
 

@@ -1,11 +1,9 @@
-use mathlib.Core.Path.{◌≡◌, refl, ap, ◌∙◌}
+use mathlib.Core.Path.{ap, ◌∙◌}
 use mathlib.Core.List.{List}
-use Prim.Native.Nat.{ℕ, ◌+◌, ◌-◌, ◌≤◌}
+use Prim.Native.Nat.{ℕ, ◌+◌}
 use native.Mathlib.Omega.{arith}
-use lib.ListN.{length, take, get_or, set, length-set}
-use lib.Seq.{sets}
-use Rattle.listing_text.proofs.Wrote.{copied, all_copied}
-use Rattle.std.proofs.Common.{rules}
+use lib.ListN.{get_or, set, length-set}
+use Rattle.listing_text.proofs.Wrote.{copied}
 use Rattle.listing_text.proofs.put_bytes.Goals as goal
 
 pub loop-i-preserved : goal.loop-i-preserved

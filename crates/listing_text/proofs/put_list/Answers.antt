@@ -1,6 +1,5 @@
 use native.Mathlib.Omega.{arith}
 use Rattle.listing_text.proofs.Wrote.{then, wider}
-use Rattle.std.proofs.Common.{rules}
 use Rattle.listing_text.proofs.put_list.Goals as goal
 use Rattle.listing_text.proofs.put_list.Goals.{After-out-1, After-out-2-1, After-put_bytes}
 

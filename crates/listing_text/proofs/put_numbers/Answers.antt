@@ -1,19 +1,16 @@
-use mathlib.Core.Path.{◌≡◌, refl, ◌∙◌}
+use mathlib.Core.Path.{refl, ◌∙◌}
 use mathlib.Core.List.{◌++◌}
-use Prim.Native.Nat.{ℕ, ◌+◌, ◌*◌, ◌-◌, ◌≤◌}
+use Prim.Native.Nat.{ℕ, ◌+◌}
 use native.Mathlib.Omega.{arith}
-use lib.ListN.{length, get_or}
+use lib.ListN.{get_or}
 use Rattle.line_numeral.specs.Decimal.{decimal}
-use Rattle.listing_text.specs.Wrote.{Wrote}
-use Rattle.listing_text.specs.Line.{gap, numbers}
-use Rattle.listing_text.proofs.Each.{wrote_none, wrote_more, wrote_end}
-use Rattle.std.proofs.Common.{rules}
+use Rattle.listing_text.specs.Line.{gap}
+use Rattle.listing_text.proofs.Each.{wrote_none, wrote_more}
 use Rattle.listing_text.proofs.put_numbers.Goals as goal
 use Rattle.listing_text.proofs.put_numbers.Goals.{In-loop-j}
 
 pub loop-j-init : goal.loop-j-init
 loop-j-init c = (omega arith, refl, wrote_none 21 _ _ _)
-
 
 pub loop-j-preserved : goal.loop-j-preserved
 loop-j-preserved c =

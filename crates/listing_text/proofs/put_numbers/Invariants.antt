@@ -1,12 +1,8 @@
-use mathlib.Core.Path.{◌≡◌, refl, ◌∙◌}
-use mathlib.Core.List.{◌++◌}
-use Prim.Native.Nat.{ℕ, ◌+◌, ◌*◌, ◌-◌, ◌≤◌}
-use native.Mathlib.Omega.{arith}
+use mathlib.Core.Path.{◌≡◌}
+use Prim.Native.Nat.{ℕ, ◌+◌, ◌*◌, ◌≤◌}
 use lib.ListN.{length, get_or}
-use Rattle.line_numeral.specs.Decimal.{decimal}
 use Rattle.listing_text.specs.Wrote.{Wrote}
-use Rattle.listing_text.specs.Line.{gap, numbers}
-use Rattle.listing_text.proofs.Each.{wrote_none, wrote_more, wrote_end}
+use Rattle.listing_text.specs.Line.{numbers}
 use Rattle.listing_text.proofs.put_numbers.Given as goal
 
 abbrev pub invariant-loop-j : goal.invariant-loop-j

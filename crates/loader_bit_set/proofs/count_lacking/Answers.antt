@@ -3,7 +3,6 @@ use lib.Bits.{and_mask}
 use native.Mathlib.Nat.{mod-lt}
 use lib.Pow.{pow_pos}
 use lib.Count.{ones-le}
-use Rattle.std.proofs.Common.{rules}
 use Rattle.loader_bit_set.proofs.count_lacking.Goals as goal
 
 pub returns : goal.returns

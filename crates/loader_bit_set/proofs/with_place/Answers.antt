@@ -3,7 +3,6 @@ use lib.Pow.{shl_exact}
 use lib.Dec.{lit<}
 use native.Mathlib.Nat.{one-mul}
 use native.Mathlib.Omega.{arith}
-use Rattle.std.proofs.Common.{rules}
 use Rattle.loader_bit_set.proofs.with_place.Goals as goal
 
 pub returns : goal.returns

@@ -1,10 +1,6 @@
-use mathlib.Core.Path.{◌≡◌, refl, ◌∙◌}
-use Prim.Native.Nat.{◌≤◌, ◌-◌}
-use native.Mathlib.Nat.{le_antisymm}
+use mathlib.Core.Path.{refl, ◌∙◌}
 use native.Mathlib.Numerals.{add-one}
 use native.Mathlib.Omega.{arith}
-use lib.ListN.{length}
-use Rattle.loader_lists.specs.Put.{filled}
 use Rattle.loader_lists.proofs.Filled.{filled_none, filled_next}
 use Rattle.std.proofs.Common.{rules}
 use Rattle.loader_lists.proofs.fill_places.Goals as goal
@@ -12,7 +8,6 @@ use Rattle.loader_lists.proofs.fill_places.Goals.{After-fill_place, Start}
 
 pub loop-i-init : goal.loop-i-init
 loop-i-init c = (omega arith, refl, filled_none c.args.set c.args.l.now)
-
 
 pub loop-i-preserved : goal.loop-i-preserved
 loop-i-preserved c =

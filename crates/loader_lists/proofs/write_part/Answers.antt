@@ -1,6 +1,5 @@
 use lib.ListN.{length}
-use Rattle.loader_lists.proofs.Put.{narrow_of, span_fits}
-use Rattle.std.proofs.Common.{rules}
+use Rattle.loader_lists.proofs.Put.{span_fits}
 use Rattle.loader_lists.proofs.write_part.Goals as goal
 use Rattle.loader_lists.proofs.write_part.Goals.{Start}
 

@@ -4,12 +4,10 @@ use mir.Facts.{to_z-of_z}
 use lib.ListN.{get_or}
 use lib.IntN.{pos}
 use native.Mathlib.Omega.{arith}
-use native.Mathlib.Nat.{le_antisymm}
 use native.Mathlib.Numerals.{add-one}
-use Prim.Native.Nat.{◌≤◌, ◌-◌}
 use mathlib.Core.Path.{◌≡◌}
 use lib.ListN.{length, length-set}
-use lib.Seq.{paste, paste-zero, paste-suc}
+use lib.Seq.{paste-suc}
 use Rattle.std.proofs.Common.{rules}
 use Rattle.loader_lists.proofs.write_values.Goals as goal
 use Rattle.loader_lists.proofs.write_values.Goals.{Start}

@@ -5,7 +5,6 @@ use mir.Syntax.{w64}
 use lib.IntN.{pos}
 use native.Mathlib.Omega.{arith}
 use mathlib.Core.Path.{◌≡◌, sym, ◌∙◌}
-use Rattle.std.proofs.Common.{rules}
 use Rattle.loader_progress.proofs.is_misplaced.Goals as goal
 use Rattle.loader_progress.proofs.is_misplaced.Goals.{Start, Then-is_sized}
 
@@ -19,7 +18,6 @@ returns-then-is_in_range c =
     (rw k at (sym c.is_in_range.ensures ∙ c.if-is_in_range.true))
     c.is_placed.ensures
 
-
 pub returns-else-is_in_range : goal.returns-else-is_in_range
 returns-else-is_in_range c =
     let s = (goal.at.returns-else-is_in_range c).Start in
@@ -27,7 +25,6 @@ returns-else-is_in_range c =
     misplaced_own s.args.stage s.args.n s.args.item
     (sym c.is_sized.ensures ∙ c.if-is_sized.true)
     (rw k at (sym c.is_in_range.ensures ∙ c.if-is_in_range.false))
-
 
 pub returns-else-is_sized : goal.returns-else-is_sized
 returns-else-is_sized c =

@@ -1,5 +1,4 @@
-use Rattle.loader_progress.proofs.Progress.{end_size, says_13, says_none}
-use Rattle.std.proofs.Common.{rules}
+use Rattle.loader_progress.proofs.Progress.{end_size}
 use Rattle.loader_progress.proofs.judge_end.Goals as goal
 use Rattle.loader_progress.proofs.judge_end.Goals.{Start}
 

@@ -1,4 +1,3 @@
-
 use Rattle.program_input.proofs.skip_rest.Given as goal
 
 abbrev pub invariant-loop-turns : goal.invariant-loop-turns

@@ -8,7 +8,6 @@ use Rattle.check_arrays.specs.Parts.{cut_margin}
 use Rattle.check_arrays.proofs.Filled.{prefix_as}
 use Rattle.weights_steps.specs.Steps.{Below, stored_margin}
 use Rattle.weights_steps.proofs.Stored.{magnitudes_at, magnitudes_below, load_is}
-use Rattle.std.proofs.Common.{rules}
 use Rattle.quality.proofs.margins_for.Goals as goal
 use Rattle.quality.proofs.margins_for.Goals.{After-defect_magnitudes-magnitudes, After-loads_of-loads, After-weights_of-list, Start}
 
@@ -30,7 +29,6 @@ returns c =
     ∙ load_is P (λ (k : ℕ). nat_abs (at a.weights.now k)) w.weights_of-list.ensures d.defect_magnitudes-magnitudes.result
     (magnitudes_at a.n a.t a.matrix.now a.inverse.now p.t_bound.0 p.t_bound.1 p.matrix_list p.matrix_list_2 d.defect_magnitudes-magnitudes.ensures) m lm))
     c.margins_from.ensures
-
 
 pub loads_of-loads-requires-clause-below : goal.loads_of-loads-requires-clause-below
 loads_of-loads-requires-clause-below c = let w = (goal.at.loads_of-loads-requires-clause-below c).After-weights_of-list in let s = (goal.at.loads_of-loads-requires-clause-below c).Start in let a = s.args in let p = s.requires in (magnitudes_below a.n a.t a.matrix.now a.inverse.now p.t_bound.0 p.t_bound.1 p.matrix_list p.matrix_list_2 w.defect_magnitudes-magnitudes.ensures, weights-below (goal.at.loads_of-loads-requires-clause-below c).After-weights_of-list)

@@ -1,11 +1,7 @@
 use mathlib.Core.Path.{sym, ◌∙◌}
-use mathlib.Core.Logic.{⊎_elim}
-use Prim.Native.Nat.{ℕ, ◌≤◌, ◌<◌, ◌-◌}
 use native.Mathlib.Omega.{arith}
 use borrow.Author.Tests.{ltb-true, ltb-false}
-use lib.ListN.{get_or}
-use Rattle.quality_spec.proofs.Peak.{Leading, leading_one, leading_stays, leading_moves, leading_end, peak_is}
-use Rattle.std.proofs.Common.{rules}
+use Rattle.quality_spec.proofs.Peak.{leading_stays, leading_moves, leading_end, peak_is}
 use Rattle.quality.proofs.peak_of.Goals as goal
 use Rattle.quality.proofs.peak_of.Goals.{then-is_larger_ratio, else-is_larger_ratio, In-loop-m, Start}
 
@@ -21,12 +17,11 @@ loop-m-preserved c =
       (
         omega arith,
         elim c.if-is_larger_ratio.branch [
-          then-is_larger_ratio w ↦ rw w.k-is (leading_moves l.m _ _ l.k (λ j lj. (s.requires.by_index_2 j (omega arith)).0) i (ltb-true _ _ (sym e ∙ w.if-is_larger_ratio.true)))
-        | else-is_larger_ratio w ↦ rw w.k-is (leading_stays l.m _ _ l.k i (ltb-false _ _ (sym e ∙ w.if-is_larger_ratio.false)))
+          | then-is_larger_ratio w ↦ rw w.k-is (leading_moves l.m _ _ l.k (λ j lj. (s.requires.by_index_2 j (omega arith)).0) i (ltb-true _ _ (sym e ∙ w.if-is_larger_ratio.true)))
+          | else-is_larger_ratio w ↦ rw w.k-is (leading_stays l.m _ _ l.k i (ltb-false _ _ (sym e ∙ w.if-is_larger_ratio.false)))
         ],
       ),
     )
-
 
 pub returns : goal.returns
 returns c =

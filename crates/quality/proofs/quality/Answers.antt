@@ -1,9 +1,8 @@
 use mathlib.Core.Path.{◌≡◌, sym, ◌∙◌}
 use mathlib.Core.Bool.{true, false}
-use Rattle.rules.proofs.Ranges.{both, both_left, not_both, not_first, size_range}
-use Rattle.quality_spec.specs.Inquiry.{Inquiry, inquiry, inquiry_short, inquiry_in_ranges, inquiry_sizes}
+use Rattle.rules.proofs.Ranges.{both_left, not_both, not_first, size_range}
+use Rattle.quality_spec.specs.Inquiry.{Inquiry, inquiry, inquiry_short, inquiry_sizes}
 use Rattle.quality_spec.proofs.Contract.{long_inquiry, quality_short, quality_range}
-use Rattle.std.proofs.Common.{rules}
 use Rattle.quality.proofs.quality.Goals as goal
 use Rattle.quality.proofs.quality.Goals.{Else-is_short, Start, Then-are_sizes_in_range}
 
@@ -20,18 +19,15 @@ sizes c = sym c.are_sizes_in_range.ensures ∙ c.if-are_sizes_in_range.true
 pub returns-then-is_short : goal.returns-then-is_short
 returns-then-is_short c = quality_short (Q (goal.at.returns-then-is_short c).Start) (sym c.is_short.ensures ∙ c.if-is_short.true)
 
-
 pub are_lists_in_range-requires : goal.are_lists_in_range-requires
 are_lists_in_range-requires c =
     let l = long_inquiry (Q (goal.at.are_lists_in_range-requires c).Start) (long (goal.at.are_lists_in_range-requires c).Else-is_short) in
     ((size_range _ (both_left _ _ (sizes c))).1, (l.matrix, (l.inverse, l.weights)))
 
-
 pub returns-else-are_lists_in_range : goal.returns-else-are_lists_in_range
 returns-else-are_lists_in_range c =
     quality_range (Q (goal.at.returns-else-are_lists_in_range c).Start) (long (goal.at.returns-else-are_lists_in_range c).Else-is_short)
     (not_both (sizes (goal.at.returns-else-are_lists_in_range c).Then-are_sizes_in_range) (sym c.are_lists_in_range.ensures ∙ c.if-are_lists_in_range.false))
-
 
 pub returns-else-are_sizes_in_range : goal.returns-else-are_sizes_in_range
 returns-else-are_sizes_in_range c =

@@ -9,7 +9,6 @@ use Rattle.quality_spec.specs.Peak.{spread}
 use Rattle.quality_spec.specs.Inquiry.{Inquiry, inquiry, inquiry_problem}
 use Rattle.quality_spec.proofs.Contract.{FitInquiry, fit_inquiry, quality_low, quality_given}
 use Rattle.quality.proofs.Rows.{full_small, low_is, under, margin_is, above, spread_is, row_is}
-use Rattle.std.proofs.Common.{rules}
 use Rattle.quality.proofs.rate.Goals as goal
 use Rattle.quality.proofs.rate.Goals.{After-margins_for-margins, After-peak_of-k, Else-low-n, Start}
 
@@ -32,14 +31,11 @@ row_small c = omega (arith, c.peak_of-k.ensures.0, (fit (goal.at.After-peak_of-k
 pub first_zero-low-requires : goal.first_zero-low-requires
 first_zero-low-requires c = (fit (goal.at.first_zero-low-requires c).Start).n_max
 
-
 pub overflow_cast-result : goal.overflow_cast-result
 overflow_cast-result c = record { fits = omega (arith, c.if-low-n.true, (fit (goal.at.overflow_cast-result c).Start).n_max) }
 
-
 pub overflow_add-result : goal.overflow_add-result
 overflow_add-result c = record { fits = omega (arith, c.if-low-n.true, (fit (goal.at.overflow_add-result c).Start).n_max) }
-
 
 pub returns-then-low-n : goal.returns-then-low-n
 returns-then-low-n c =
@@ -47,22 +43,17 @@ returns-then-low-n c =
     let s = (goal.at.returns-then-low-n c).Start in
     quality_low (Q (goal.at.returns-then-low-n c).Start) s.requires.weights_value s.requires.weights_value_2 _ (low_is (Q (goal.at.returns-then-low-n c).Start) m.margins_for-margins.ensures c.first_zero-low.ensures) c.if-low-n.true
 
-
 pub offset_bounds-spreads-k : goal.offset_bounds-spreads-k
 offset_bounds-spreads-k c = record { fits = omega (arith, row_small c) }
-
 
 pub bounds-spreads-k : goal.bounds-spreads-k
 bounds-spreads-k c = row_small c
 
-
 pub offset_bounds-margins-k : goal.offset_bounds-margins-k
 offset_bounds-margins-k c = record { fits = omega (arith, row_small c) }
 
-
 pub bounds-margins-k : goal.bounds-margins-k
 bounds-margins-k c = row_small c
-
 
 pub returns : goal.returns
 returns c =
@@ -78,7 +69,6 @@ returns c =
     quality_given (Q (goal.at.returns c).Start) s.requires.weights_value s.requires.weights_value_2 _ (low_is (Q (goal.at.returns c).Start) hm i.first_zero-low.ensures) i.if-low-n.false
     (spread_is (Q (goal.at.returns c).Start) hm h hs _ l ∙ ap (spread P) row)
     (margin_is (Q (goal.at.returns c).Start) hm h _ l ∙ ap (λ (k : ℕ). nat_abs (margin P k)) row)
-
 
 pub margins_for-margins-requires-clause-t_bound : goal.margins_for-margins-requires-clause-t_bound
 margins_for-margins-requires-clause-t_bound c = let f = fit c in (f.scale, f.n_max)

@@ -5,7 +5,6 @@ use native.Mathlib.Nat.{mul-le-mul}
 use lib.IntN.{nat_abs}
 use Rattle.integer.proofs.Machine.{read}
 use Rattle.check_arrays.proofs.Magnitudes.{power_magnitude}
-use Rattle.std.proofs.Common.{rules}
 use Rattle.quality.proofs.spread_of.Goals as goal
 use Rattle.quality.proofs.spread_of.Goals.{After-magnitude}
 

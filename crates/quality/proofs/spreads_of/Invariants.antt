@@ -1,12 +1,9 @@
-use mathlib.Core.Path.{◌≡◌, refl}
+use mathlib.Core.Path.{◌≡◌}
 use Prim.Native.Nat.{ℕ, ◌*◌, ◌≤◌, ◌-◌, ◌^◌}
-use native.Mathlib.Omega.{arith}
 use lib.IntN.{nat_abs}
-use lib.ListN.{get_or, length, length-set}
-use Rattle.integer.proofs.Machine.{read}
+use lib.ListN.{get_or, length}
 use Rattle.linear.specs.Slice.{at}
 use Rattle.check_arrays.specs.Arrays.{PrefixIs}
-use Rattle.check_arrays.proofs.Filled.{prefix_none, prefix_more, prefix_end}
 use Rattle.quality.proofs.spreads_of.Given as goal
 
 abbrev pub invariant-loop-m : goal.invariant-loop-m

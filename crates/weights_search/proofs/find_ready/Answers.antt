@@ -1,9 +1,6 @@
-use native.Mathlib.Omega.{arith}
 use Rattle.weights_spec.specs.Request.{Request, request, search_problem}
 use Rattle.weights_spec.proofs.Contract.{FitRequest, fit_request, found_list, found_none}
-use Rattle.weights_spec.proofs.First.{first_most}
 use Rattle.weights_steps.proofs.Stored.{below_of}
-use Rattle.std.proofs.Common.{rules}
 use Rattle.weights_search.proofs.find_ready.Goals as goal
 use Rattle.weights_search.proofs.find_ready.Goals.{After-search-end, Start, Then-passed-allowance}
 
@@ -20,10 +17,8 @@ returns-then-passed-allowance c =
     let s = (goal.at.returns-then-passed-allowance c).Start in
     found_list (Q (goal.at.returns-then-passed-allowance c).Start) s.requires.weights_value s.requires.weights_value_2 _ r.search-end.ensures.place i.if-passed-allowance.true r.search-end.ensures.list c.write_weights.ensures
 
-
 pub returns : goal.returns
 returns c = let s = (goal.at.returns c).Start in found_none (Q (goal.at.returns c).Start) s.requires.weights_value s.requires.weights_value_2 _ c.search-end.ensures.place c.if-passed-allowance.false
-
 
 pub search-end-requires-clause-matrix_list : goal.search-end-requires-clause-matrix_list
 search-end-requires-clause-matrix_list c = let f = fit c in (f.matrix, f.inverse)

@@ -1,9 +1,8 @@
 use mathlib.Core.Path.{◌≡◌, sym, ◌∙◌}
 use mathlib.Core.Bool.{true, false}
-use Rattle.rules.proofs.Ranges.{both, both_left, not_both, not_first, size_range}
-use Rattle.weights_spec.specs.Request.{Request, request, search_short, search_in_ranges, search_sizes}
+use Rattle.rules.proofs.Ranges.{both_left, not_both, not_first, size_range}
+use Rattle.weights_spec.specs.Request.{Request, request, search_short, search_sizes}
 use Rattle.weights_spec.proofs.Contract.{long_request, found_short, found_range}
-use Rattle.std.proofs.Common.{rules}
 use Rattle.weights_search.proofs.find_weights.Goals as goal
 use Rattle.weights_search.proofs.find_weights.Goals.{Else-is_short, Start, Then-are_sizes_in_range}
 
@@ -20,19 +19,16 @@ sizes c = sym c.are_sizes_in_range.ensures ∙ c.if-are_sizes_in_range.true
 pub returns-then-is_short : goal.returns-then-is_short
 returns-then-is_short c = found_short (Q (goal.at.returns-then-is_short c).Start) (sym c.is_short.ensures ∙ c.if-is_short.true)
 
-
 pub are_lists_in_range-requires : goal.are_lists_in_range-requires
 are_lists_in_range-requires c =
     let l = long_request (Q (goal.at.are_lists_in_range-requires c).Start) (long (goal.at.are_lists_in_range-requires c).Else-is_short) in
     ((size_range _ (both_left _ _ (sizes c))).1, (l.matrix, l.inverse))
-
 
 pub returns-else-are_lists_in_range : goal.returns-else-are_lists_in_range
 returns-else-are_lists_in_range c =
     let t = (goal.at.returns-else-are_lists_in_range c).Then-are_sizes_in_range in
     found_range (Q (goal.at.returns-else-are_lists_in_range c).Start) (long (goal.at.returns-else-are_lists_in_range c).Else-is_short)
     (not_both (sizes (goal.at.returns-else-are_lists_in_range c).Then-are_sizes_in_range) (sym c.are_lists_in_range.ensures ∙ c.if-are_lists_in_range.false))
-
 
 pub returns-else-are_sizes_in_range : goal.returns-else-are_sizes_in_range
 returns-else-are_sizes_in_range c =

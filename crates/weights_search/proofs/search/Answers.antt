@@ -1,7 +1,7 @@
 use mathlib.Core.Path.{◌≡◌, sym, ◌∙◌}
 use mathlib.Core.Bool.{Bool, true, false}
 use mathlib.Core.List.{[]}
-use Prim.Native.Nat.{ℕ, ◌+◌, ◌*◌, ◌-◌, ◌^◌, ◌≤◌, ◌<◌}
+use Prim.Native.Nat.{ℕ, ◌+◌, ◌*◌, ◌^◌, ◌<◌}
 use native.Mathlib.Omega.{arith}
 use borrow.Author.Count.{below_more}
 use lib.Dec.{leb, eqb}
@@ -17,7 +17,6 @@ use Rattle.weights_spec.specs.Sequence.{loads, tried, good}
 use Rattle.weights_spec.proofs.Lists.{tried_next}
 use Rattle.weights_steps.specs.Steps.{Below, stored_margin}
 use Rattle.weights_steps.proofs.Stored.{magnitudes_at, magnitudes_below, below_of, load_is, good_is, next_is, ones}
-use Rattle.std.proofs.Common.{rules}
 use Rattle.weights_search.proofs.search.Goals as goal
 use Rattle.weights_search.proofs.search.Goals.{After-defect_magnitudes-magnitudes, After-is_good, After-loads_of-loads, Else-is_good, Start}
 
@@ -53,7 +52,6 @@ module _ (c : After-is_good) where
 pub loop-passed-init : goal.loop-passed-init
 loop-passed-init c = (omega arith, (ones (P (goal.at.loop-passed-init c).Start) c.requires.t_bound.1, λ k l. absurd (omega arith)))
 
-
 pub returns-then-is_good : goal.returns-then-is_good
 returns-then-is_good c =
     let a = (goal.at.returns-then-is_good c).After-loads_of-loads in
@@ -62,7 +60,6 @@ returns-then-is_good c =
       place = sym (first_is _ (λ (k : ℕ). good (P (goal.at.returns-then-is_good c).Start) (tried (P (goal.at.returns-then-is_good c).Start) k)) l.passed a.loop-passed-test.true (told (goal.at.returns-then-is_good c).After-is_good true c.if-is_good.true) l.invariant.1.1);
       list = l.invariant.1.0;
     }
-
 
 pub loop-passed-preserved : goal.loop-passed-preserved
 loop-passed-preserved c =
@@ -76,7 +73,6 @@ loop-passed-preserved c =
       ),
     )
 
-
 pub returns : goal.returns
 returns c =
     let l = c.loop-passed in
@@ -86,7 +82,6 @@ returns c =
       place = z ∙ sym (first_never s.args.allowance (λ (k : ℕ). good (P (goal.at.returns c).Start) (tried (P (goal.at.returns c).Start) k)) (λ k lk. l.invariant.1.1 k (omega arith)));
       list = l.invariant.1.0;
     }
-
 
 pub loads_of-loads-requires-clause-below : goal.loads_of-loads-requires-clause-below
 loads_of-loads-requires-clause-below c = let l = c.loop-passed in let d = (goal.at.loads_of-loads-requires-clause-below c).After-defect_magnitudes-magnitudes in (small-here (goal.at.loads_of-loads-requires-clause-below c).After-defect_magnitudes-magnitudes, below_of (P (goal.at.loads_of-loads-requires-clause-below c).Start) l.passed l.invariant.1.0)

@@ -1,22 +1,10 @@
-use mathlib.Core.Path.{◌≡◌, sym, ◌∙◌}
-use mathlib.Core.Bool.{Bool, true, false}
+use mathlib.Core.Path.{◌≡◌}
+use mathlib.Core.Bool.{false}
 use mathlib.Core.List.{[]}
-use Prim.Native.Nat.{ℕ, ◌+◌, ◌*◌, ◌-◌, ◌^◌, ◌≤◌, ◌<◌}
-use native.Mathlib.Omega.{arith}
-use borrow.Author.Count.{below_more}
-use lib.Dec.{leb, eqb}
-use lib.IntN.{nat_abs}
-use lib.ListN.{get_or}
-use Rattle.integer.specs.Finite.{first}
-use Rattle.integer.proofs.Search.{first_is, first_never}
-use Rattle.enclosure.specs.Problem.{Problem, problem_of}
-use Rattle.enclosure.specs.Reckoning.{defect}
+use Prim.Native.Nat.{ℕ, ◌-◌, ◌≤◌, ◌<◌}
+use Rattle.enclosure.specs.Problem.{problem_of}
 use Rattle.check_arrays.specs.Arrays.{PrefixIs}
-use Rattle.check_arrays.proofs.Filled.{prefix_as}
-use Rattle.weights_spec.specs.Sequence.{loads, tried, good}
-use Rattle.weights_spec.proofs.Lists.{tried_next}
-use Rattle.weights_steps.specs.Steps.{Below, stored_margin}
-use Rattle.weights_steps.proofs.Stored.{magnitudes_at, magnitudes_below, below_of, load_is, good_is, next_is, ones}
+use Rattle.weights_spec.specs.Sequence.{tried, good}
 use Rattle.weights_search.proofs.search.Given as goal
 
 abbrev pub invariant-loop-passed : goal.invariant-loop-passed

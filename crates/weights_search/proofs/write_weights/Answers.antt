@@ -1,13 +1,10 @@
 use mathlib.Core.Path.{◌≡◌, sym, ap, ◌∙◌}
-use Prim.Native.Nat.{ℕ, ◌≤◌, ◌-◌}
+use Prim.Native.Nat.{◌≤◌}
 use native.Mathlib.Omega.{arith}
-use lib.IntN.{pos}
 use lib.ListN.{length, get_or}
 use mir.Syntax.{w64}
 use mir.ValLaws.{to_z_pos}
-use Rattle.linear.specs.Written.{written}
-use Rattle.linear.proofs.Written.{written_none, written_more, written_end, written_length}
-use Rattle.std.proofs.Common.{rules}
+use Rattle.linear.proofs.Written.{written_none, written_more, written_length}
 use Rattle.weights_search.proofs.write_weights.Goals as goal
 use Rattle.weights_search.proofs.write_weights.Goals.{In-loop-i}
 
@@ -20,7 +17,6 @@ module _ (c : In-loop-i) where
 
 pub loop-i-init : goal.loop-i-init
 loop-i-init c = (omega arith, sym (written_none _ _ _ _))
-
 
 pub loop-i-preserved : goal.loop-i-preserved
 loop-i-preserved c =

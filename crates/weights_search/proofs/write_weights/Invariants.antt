@@ -1,12 +1,8 @@
-use mathlib.Core.Path.{◌≡◌, sym, ap, ◌∙◌}
-use Prim.Native.Nat.{ℕ, ◌≤◌, ◌-◌}
-use native.Mathlib.Omega.{arith}
+use mathlib.Core.Path.{◌≡◌}
+use Prim.Native.Nat.{ℕ, ◌≤◌}
 use lib.IntN.{pos}
-use lib.ListN.{length, get_or}
-use mir.Syntax.{w64}
-use mir.ValLaws.{to_z_pos}
+use lib.ListN.{get_or}
 use Rattle.linear.specs.Written.{written}
-use Rattle.linear.proofs.Written.{written_none, written_more, written_end, written_length}
 use Rattle.weights_search.proofs.write_weights.Given as goal
 
 abbrev pub invariant-loop-i : goal.invariant-loop-i

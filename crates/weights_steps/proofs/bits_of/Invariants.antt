@@ -1,9 +1,5 @@
-use mathlib.Core.Path.{◌≡◌, sym, ap, ◌∙◌}
+use mathlib.Core.Path.{◌≡◌}
 use Prim.Native.Nat.{ℕ, ◌/◌, ◌^◌, ◌<◌}
-use native.Mathlib.Omega.{arith}
-use native.Mathlib.Nat.{div-one}
-use borrow.Author.Count.{below_more}
-use Rattle.weights_spec.proofs.Bits.{bits_is, count_small, halved}
 use Rattle.weights_steps.proofs.bits_of.Given as goal
 
 abbrev pub invariant-loop-rest : goal.invariant-loop-rest

@@ -1,18 +1,15 @@
-use mathlib.Core.Path.{◌≡◌, refl, ◌∙◌}
-use Prim.Native.Nat.{◌^◌, ℕ, ◌*◌, ◌/◌, ◌%◌, ◌≤◌, ◌<◌, ◌-◌}
+use mathlib.Core.Path.{◌≡◌, ◌∙◌}
+use Prim.Native.Nat.{◌^◌, ◌/◌, ◌%◌, ◌<◌}
 use native.Mathlib.Omega.{arith}
 use lib.IntN.{nat_abs, pos}
-use lib.ListN.{length, length-set, get_or}
+use lib.ListN.{length-set, get_or}
 use Rattle.integer.proofs.Machine.{read}
 use Rattle.linear.proofs.Places.{square}
-use Rattle.check_biased_rows.proofs.Filling.{rows_fit}
-use Rattle.check_arrays.specs.Arrays.{PrefixIs}
 use Rattle.check_arrays.specs.Parts.{column_residual}
 use Rattle.check_arrays.proofs.Columns.{in_square}
-use Rattle.check_arrays.proofs.Filled.{prefix_none, prefix_more, prefix_end}
-use Rattle.check_arrays.proofs.Magnitudes.{raisable, residual_magnitude}
+use Rattle.check_arrays.proofs.Filled.{prefix_more}
+use Rattle.check_arrays.proofs.Magnitudes.{residual_magnitude}
 use Rattle.check_defects.proofs.Product.{residual_of_rows}
-use Rattle.std.proofs.Common.{rules}
 use Rattle.weights_steps.proofs.defect_magnitudes.Goals as goal
 use Rattle.weights_steps.proofs.defect_magnitudes.Goals.{In-loop-i, Start}
 
@@ -40,7 +37,6 @@ module _ (c : In-loop-i) where
 
 pub magnitude-requires : goal.magnitude-requires
 magnitude-requires c = rw (read _ c.magnitude-arg-1.given) (residual-here (goal.at.magnitude-requires c).In-loop-i)
-
 
 pub loop-i-preserved : goal.loop-i-preserved
 loop-i-preserved c =

@@ -2,7 +2,6 @@ use mathlib.Core.Path.{ap, ◌∙◌}
 use Prim.Native.Nat.{ℕ}
 use lib.Dec.{leb, eqb}
 use Rattle.integer.proofs.Search.{first_ext}
-use Rattle.std.proofs.Common.{rules}
 use Rattle.weights_steps.proofs.is_good.Goals as goal
 
 pub returns : goal.returns

@@ -1,9 +1,7 @@
-use mathlib.Core.Path.{◌≡◌, sym, ◌∙◌}
-use Prim.Native.Nat.{ℕ, ◌≤◌, ◌-◌}
-use native.Mathlib.Omega.{arith}
+use mathlib.Core.Path.{◌≡◌}
+use Prim.Native.Nat.{ℕ, ◌≤◌}
 use lib.ListN.{get_or}
 use Rattle.integer.specs.Finite.{largest}
-use Rattle.integer.proofs.Search.{largest_none, largest_next, largest_end}
 use Rattle.weights_steps.proofs.largest_of.Given as goal
 
 abbrev pub invariant-loop-m : goal.invariant-loop-m

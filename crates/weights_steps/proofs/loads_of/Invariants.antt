@@ -1,9 +1,7 @@
-use mathlib.Core.Path.{◌≡◌, refl}
-use Prim.Native.Nat.{◌≤◌, ◌-◌}
-use native.Mathlib.Omega.{arith}
-use lib.ListN.{length, length-set}
+use mathlib.Core.Path.{◌≡◌}
+use Prim.Native.Nat.{◌≤◌}
+use lib.ListN.{length}
 use Rattle.check_arrays.specs.Arrays.{PrefixIs}
-use Rattle.check_arrays.proofs.Filled.{prefix_none, prefix_more, prefix_end}
 use Rattle.weights_steps.specs.Steps.{stored_load}
 use Rattle.weights_steps.proofs.loads_of.Given as goal
 

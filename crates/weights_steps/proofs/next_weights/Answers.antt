@@ -1,16 +1,12 @@
-use mathlib.Core.Path.{◌≡◌, refl, ap}
-use Prim.Native.Nat.{ℕ, ◌+◌, ◌/◌, ◌^◌, ◌≤◌, ◌<◌, ◌-◌}
+use mathlib.Core.Path.{◌≡◌}
+use Prim.Native.Nat.{ℕ, ◌/◌, ◌^◌, ◌≤◌, ◌<◌}
 use native.Mathlib.Omega.{arith}
-use lib.ListN.{length, length-set, get_or}
+use lib.ListN.{get_or}
 use Rattle.integer.specs.Finite.{largest}
 use Rattle.integer.proofs.Search.{largest_at}
-use Rattle.check_arrays.specs.Arrays.{PrefixIs}
-use Rattle.check_arrays.proofs.Filled.{prefix_none, prefix_more, prefix_end}
 use Rattle.weights_spec.specs.Sequence.{bits}
 use Rattle.weights_spec.proofs.Bits.{bits_fit, bits_most}
 use Rattle.weights_spec.proofs.Lists.{shifted_small}
-use Rattle.weights_steps.specs.Steps.{shifted_next}
-use Rattle.std.proofs.Common.{rules}
 use Rattle.weights_steps.proofs.next_weights.Goals as goal
 use Rattle.weights_steps.proofs.next_weights.Goals.{After-bits_of-count, Start}
 
@@ -29,7 +25,6 @@ module _ (c : After-bits_of-count) where
 
 pub overflow_shr-out : goal.overflow_shr-out
 overflow_shr-out c = omega (arith, count_few (goal.at.overflow_shr-out c).After-bits_of-count)
-
 
 pub overflow_add-out : goal.overflow_add-out
 overflow_add-out c = omega (arith, small (goal.at.overflow_add-out c).After-bits_of-count _ c.loop-i-test.true)
