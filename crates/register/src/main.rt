@@ -5,7 +5,7 @@ ghost use Rattle.std.specs.Prelude.{◌≤◌, ◌≡◌};
 ghost use Rattle.listing.specs.Listing.{listing_of};
 
 use program_input::{BytesRead, fill, skip_rest};
-use std::io::{Stderr, Stdout};
+use std::io::Stderr;
 
 fn report(errors: Stderr, text: &[u8]) {
     let _ = errors.write_all(text);
