@@ -6,21 +6,21 @@ ghost use Rattle.convert_spec.specs.Converted.{converted_text};
 
 use convert_spec::Converted;
 use converter::convert_file;
-use libc::{STDERR_FILENO, STDOUT_FILENO};
 use listing_refusal::put_refusal;
 use listing_text::put_list;
 use program_input::{BytesRead, fill, skip_rest};
+use std::io::Stderr;
 
-fn report(text: &[u8]) {
-    io::write_all(STDERR_FILENO, text);
+fn report(errors: Stderr, text: &[u8]) {
+    let _ = errors.write_all(text);
 }
 
 // The one place that writes to standard output: what it is handed is the new file, or the line of a refusal.
-fn write_text(file: &[u8], bytes: &[u8])
+fn write_text(rt: &HostRuntime, file: &[u8], bytes: &[u8])
     requires { bytes.now ≡ converted_text file.now }
 {
-    if !io::write_all(STDOUT_FILENO, bytes) {
-        report(b"convert: the file could not be written\n");
+    if rt.stdout().write_all(bytes).is_err() {
+        report(rt.stderr(), b"convert: the file could not be written\n");
     }
 }
 
@@ -44,24 +44,24 @@ fn put_text(file: &[u8], out: &mut [u8; 32768]) -> usize
 }
 
 // The text of the first n bytes read, which decide the whole file.
-fn print_text(text: [u8; 65536], n: usize)
+fn print_text(rt: &HostRuntime, text: [u8; 65536], n: usize)
     requires { n ≤ 65536 }
 {
     let mut out = [0u8; 32768];
     let k = put_text(&text[..n], &mut out);
-    write_text(&text[..n], &out[..k]);
+    write_text(rt, &text[..n], &out[..k]);
 }
 
-fn main() {
-    let mut text = io::large_buffer();
-    let input = fill(&mut text);
-    match input {
-        BytesRead::Failed => report(b"convert: the input could not be read\n"),
+fn main(rt: HostRuntime) {
+    let mut input = rt.stdin();
+    let mut text = [0u8; 65536];
+    match fill(&mut input, &mut text) {
+        BytesRead::Failed => report(rt.stderr(), b"convert: the input could not be read\n"),
         BytesRead::Bytes(n) => {
-            if skip_rest() {
-                print_text(text, n);
+            if skip_rest(&mut input) {
+                print_text(&rt, text, n);
             } else {
-                report(b"convert: the input could not be read\n");
+                report(rt.stderr(), b"convert: the input could not be read\n");
             }
         }
     }

@@ -1,4 +1,1 @@
-pub mod Entry
-pub mod BuildParts
-pub mod BuildWalk
-pub mod BuildLineWalk
+pub mod Lined

@@ -4,7 +4,7 @@
 ghost use Rattle.std.specs.Prelude.{◌≤◌, ◌≡◌, length, take};
 ghost use Rattle.program_input.specs.Step.{Inside, Filled};
 
-use libc::STDIN_FILENO;
+use std::io::{Read, Stdin};
 
 // What one read gives.
 #[derive(Clone, Copy)]
@@ -15,19 +15,18 @@ pub enum Step {
 }
 
 // One read into a buffer from an index on; the bytes before it stay.
-fn read_some(buf: &mut [u8], from: usize) -> Step
+fn read_some(input: &mut Stdin, buf: &mut [u8], from: usize) -> Step
     requires { from ≤ length buf.old }
     ensures inside { Inside from (length buf.old) result }
     ensures buf_unchanged { take from buf.new ≡ take from buf.old }
 {
-    let got = libc::read(STDIN_FILENO, &mut buf[from..]);
-    if got < 0 {
+    let Ok(got) = input.read(&mut buf[from..]) else {
         return Step::Failed;
-    }
+    };
     if got < 1 {
         return Step::End;
     }
-    Step::More(got as usize)
+    Step::More(got)
 }
 
 // The bytes read, or that a read failed.
@@ -38,12 +37,12 @@ pub enum BytesRead {
 }
 
 // Fills the buffer, or reads to the end of the input where it comes first.
-pub fn fill(buf: &mut [u8]) -> BytesRead
+pub fn fill(input: &mut Stdin, buf: &mut [u8]) -> BytesRead
     ensures { Filled (length buf.old) result }
 {
     let mut done = 0;
     while done < buf.len() {
-        let step = read_some(buf, done);
+        let step = read_some(input, buf, done);
         match step {
             Step::Failed => {
                 return BytesRead::Failed;
@@ -60,26 +59,22 @@ pub fn fill(buf: &mut [u8]) -> BytesRead
 }
 
 // One read whose bytes are not kept; whether to go on.
-fn skip_some() -> Step {
-    let mut scratch = io::buffer();
-    read_some(&mut scratch, 0)
+fn skip_some(input: &mut Stdin) -> Step {
+    let mut scratch = [0u8; 4096];
+    read_some(input, &mut scratch, 0)
 }
 
-// Reads what is left of the input; whether no read failed. A proved loop ends: this one counts down from a number that no input uses up.
-pub fn skip_rest() -> bool {
-    let mut turns = u64::MAX;
-    while turns > 0 {
-        let step = skip_some();
-        match step {
+// Reads what is left of the input; whether no read failed. A proved loop ends: this one goes round a number of times that no input uses up.
+pub fn skip_rest(input: &mut Stdin) -> bool {
+    for _ in 0..u64::MAX {
+        match skip_some(input) {
             Step::Failed => {
                 return false;
             }
             Step::End => {
                 return true;
             }
-            Step::More(_) => {
-                turns -= 1;
-            }
+            Step::More(_) => {}
         }
     }
     true

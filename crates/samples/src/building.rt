@@ -9,6 +9,7 @@ use crate::print::{
 use build_equations::Layout;
 use build_lines::{Built, Observation};
 use line_numeral::Number;
+use std::io::Stdout;
 
 #[derive(Clone, Copy)]
 struct Placed {
@@ -109,12 +110,12 @@ fn shown_of(n: u32) -> usize {
     if n < 6 { 26 } else { 1024 }
 }
 
-fn print_built(built: Built) {
+fn print_built(output: Stdout, built: Built) {
     match built {
-        Built::Done => print_text(b"built"),
-        Built::Refused(refusal) => print_refusal(refusal),
-        Built::SameMark => print_number(16),
-        Built::OtherContents => print_number(17),
+        Built::Done => print_text(output, b"built"),
+        Built::Refused(refusal) => print_refusal(output, refusal),
+        Built::SameMark => print_number(output, 16),
+        Built::OtherContents => print_number(output, 17),
     }
 }
 
@@ -142,7 +143,7 @@ fn built_of(name: u8, n: u32, lines: [Observation; 320], count: usize) -> BuiltL
 }
 
 // A build: the text is n and then the lines, five numbers each.
-pub fn print_build(name: u8, text: &[u8]) {
+pub fn print_build(output: Stdout, name: u8, text: &[u8]) {
     let size = number_from(text, 0);
     let n = natural(size.value);
     let read = lines_from(text, size.next);
@@ -151,9 +152,9 @@ pub fn print_build(name: u8, text: &[u8]) {
     let built = after.built;
     let matrix = after.matrix;
     let right = after.right;
-    print_built(built);
-    print_matrix(matrix, shown_of(n));
-    print_text(b" right");
-    print_column(right, 32);
-    print_text(b"\n");
+    print_built(output, built);
+    print_matrix(output, matrix, shown_of(n));
+    print_text(output, b" right");
+    print_column(output, right, 32);
+    print_text(output, b"\n");
 }

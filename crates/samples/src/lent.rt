@@ -1,4 +1,4 @@
-// A build of lines that stand in an array of the program's own. The function lends a part of that array as a slice of structs, and is proved by a walk of its code by hand.
+// A build of lines that stand in an array of the program's own. The function lends a part of that array as a slice of structs.
 ghost use Rattle.std.specs.Prelude.{◌≤◌, take};
 ghost use Rattle.build.specs.BuiltAs.{BuiltAs};
 

@@ -13,14 +13,14 @@
 // Any other entry is a line for the loader. A script that fills the buffer may have been cut, so it is not run at all.
 #![tactic(auto)]
 
-ghost use Rattle.std.specs.Prelude.{◌≡◌, length};
+ghost use Rattle.std.specs.Prelude.{◌≡◌, ◌≤◌, length};
 
 use building::print_build;
 use held::{Loaded, fresh, taken};
-use libc::{STDERR_FILENO, STDIN_FILENO};
 use print::{print_answer, print_text};
 use read::{print_line, print_listing};
 use show::print_of;
+use std::io::{Read, Stdin, Stdout};
 
 mod building;
 mod held;
@@ -35,64 +35,81 @@ fn script_buffer() -> [u8; 262144]
     [0; 262144]
 }
 
-fn main() {
+// Reads until the buffer is full, the input ends or a read fails; gives how many bytes were read.
+fn read_full(input: &mut Stdin, buf: &mut [u8]) -> usize
+    ensures { result ≤ length buf.new }
+{
+    let mut done = 0;
+    while done < buf.len() {
+        let got = input.read(&mut buf[done..]).unwrap_or(0);
+        if got == 0 {
+            break;
+        }
+        done += got;
+    }
+    done
+}
+
+fn main(rt: HostRuntime) {
     let mut text = script_buffer();
-    let n = io::read_full(STDIN_FILENO, &mut text);
+    let n = read_full(&mut rt.stdin(), &mut text);
     if n < 262144 {
-        run(&text[..n]);
+        run(rt.stdout(), &text[..n]);
     } else {
-        io::write_all(STDERR_FILENO, b"samples: the script fills the buffer\n");
+        let _ = rt
+            .stderr()
+            .write_all(b"samples: the script fills the buffer\n");
     }
 }
 
-fn run(text: &[u8]) {
+fn run(output: Stdout, text: &[u8]) {
     let mut held = fresh();
     let mut from = 0usize;
     let mut i = 0usize;
     while i < text.len() {
         if text[i] == 255 {
-            held = entry(held, &text[from..i]);
+            held = entry(output, held, &text[from..i]);
             from = i + 1;
         }
         i += 1;
     }
 }
 
-fn entry(held: Loaded, text: &[u8]) -> Loaded {
+fn entry(output: Stdout, held: Loaded, text: &[u8]) -> Loaded {
     if 1 < text.len() {
         if text[0] == 254 {
-            return command(held, text[1], &text[2..]);
+            return command(output, held, text[1], &text[2..]);
         }
     }
-    print_taken(held, text, b'-')
+    print_taken(output, held, text, b'-')
 }
 
-fn print_taken(held: Loaded, line: &[u8], short: u8) -> Loaded {
+fn print_taken(output: Stdout, held: Loaded, line: &[u8], short: u8) -> Loaded {
     let next = taken(held, line, short);
     let outcome = next.outcome;
-    print_answer(outcome);
+    print_answer(output, outcome);
     next
 }
 
-fn command(held: Loaded, name: u8, rest: &[u8]) -> Loaded {
+fn command(output: Stdout, held: Loaded, name: u8, rest: &[u8]) -> Loaded {
     if name == b'n' {
         return fresh();
     }
     if name < b'6' {
-        return print_taken(held, rest, name);
+        return print_taken(output, held, rest, name);
     }
-    print_given(name, rest);
-    print_of(held, name, rest);
+    print_given(output, name, rest);
+    print_of(output, held, name, rest);
     held
 }
 
 // A command on the rest of its entry alone.
-fn print_given(name: u8, rest: &[u8]) {
+fn print_given(output: Stdout, name: u8, rest: &[u8]) {
     match name {
-        b't' => print_text(rest),
-        b'l' => print_line(rest),
-        b'f' => print_listing(rest),
-        b'a' | b'b' | b'r' => print_build(name, rest),
+        b't' => print_text(output, rest),
+        b'l' => print_line(output, rest),
+        b'f' => print_listing(output, rest),
+        b'a' | b'b' | b'r' => print_build(output, name, rest),
         _ => {}
     }
 }

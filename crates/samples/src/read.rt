@@ -2,24 +2,25 @@
 use crate::print::{print_column, print_number, print_refusal, print_signed, print_text};
 use line_form::Numbers;
 use line_parts::{Answer, CappedForm};
+use std::io::Stdout;
 
-pub fn print_line(text: &[u8]) {
+pub fn print_line(output: Stdout, text: &[u8]) {
     let line = line::read_line(text);
     let answer = line.answer;
     let numbers = line.numbers;
-    print_read(answer);
-    print_numbers(numbers);
-    print_text(b"\n");
+    print_read(output, answer);
+    print_numbers(output, numbers);
+    print_text(output, b"\n");
 }
 
 // A line that is refused has no numbers beside it.
-fn print_read(answer: Answer) {
+fn print_read(output: Stdout, answer: Answer) {
     match answer {
         Answer::Refused(refusal) => {
-            print_text(b"refused ");
-            print_refusal(refusal);
+            print_text(output, b"refused ");
+            print_refusal(output, refusal);
         }
-        Answer::Form(form) => print_form(form),
+        Answer::Form(form) => print_form(output, form),
     }
 }
 
@@ -70,59 +71,60 @@ fn shown_form(form: CappedForm) -> Words {
     }
 }
 
-fn print_form(form: CappedForm) {
+fn print_form(output: Stdout, form: CappedForm) {
     let shown = shown_form(form);
     print_part(
+        output,
         b"problemscalerowrightguessinverseweightend",
         shown.from,
         shown.to,
     );
-    print_pair(shown.count, shown.first, shown.second);
-    print_tolerance(shown.tolerance);
+    print_pair(output, shown.count, shown.first, shown.second);
+    print_tolerance(output, shown.tolerance);
 }
 
-fn print_part(words: &[u8], from: usize, to: usize) {
+fn print_part(output: Stdout, words: &[u8], from: usize, to: usize) {
     if from <= to {
         if to <= words.len() {
-            print_text(&words[from..to]);
+            print_text(output, &words[from..to]);
         }
     }
 }
 
-fn print_pair(count: usize, first: i64, second: i64) {
+fn print_pair(output: Stdout, count: usize, first: i64, second: i64) {
     if 0 < count {
-        print_signed(first);
+        print_signed(output, first);
     }
     if 1 < count {
-        print_signed(second);
+        print_signed(output, second);
     }
 }
 
-fn print_tolerance(d: i64) {
+fn print_tolerance(output: Stdout, d: i64) {
     if d != 0 {
-        print_signed(d);
+        print_signed(output, d);
     }
 }
 
 // The count of a list, whether all its numbers are in range, and the first 32.
-fn print_numbers(numbers: Numbers) {
+fn print_numbers(output: Stdout, numbers: Numbers) {
     let count = numbers.count;
     if count == 0 {
         return;
     }
-    print_text(b" of ");
-    print_number(count as u64);
+    print_text(output, b" of ");
+    print_number(output, count as u64);
     if numbers.inside {
-        print_text(b" in range:");
+        print_text(output, b" in range:");
     } else {
-        print_text(b" not in range:");
+        print_text(output, b" not in range:");
     }
     let values = numbers.values;
-    print_column(values, count);
+    print_column(output, values, count);
 }
 
-pub fn print_listing(file: &[u8]) {
+pub fn print_listing(output: Stdout, file: &[u8]) {
     let mut out = [0u8; 32768];
     let k = listing::listing(file, &mut out);
-    print_text(&out[..k]);
+    print_text(output, &out[..k]);
 }

@@ -1,0 +1,16 @@
+use Rattle.std.proofs.Common.{◌≡◌}
+use Rattle.build_equations.specs.declared.Layout.TheVariants.{Square}
+use Rattle.build.proofs.Contract.{gathered_for, ready}
+use Rattle.kodarfi.proofs.Lined.{is_whole, lined}
+use Rattle.kodarfi.proofs.which_line.kodarfi_build_line.Goals as goal
+
+pub finish_status-requires : goal.finish_status-requires
+finish_status-requires c =
+    ready c.args.n c.args.observations.now Square c.args.matrix.now c.args.right.now
+    (is_whole c.args.n c.args.observations.now Square c.args.matrix.now c.args.right.now c.begin-start.ensures c.gather-g.ensures)
+
+pub returns : goal.returns
+returns c =
+    lined c.args.n c.args.observations.now Square c.args.matrix.now c.args.right.now
+    (is_whole c.args.n c.args.observations.now Square c.args.matrix.now c.args.right.now c.begin-start.ensures c.gather-g.ensures)
+    c.finish_status.ensures
