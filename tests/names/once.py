@@ -48,12 +48,17 @@ def own_words(root, text):
     return re.compile(r"(?<![\w'.-])(?:" + "|".join(found) + ")") if found else re.compile(r"(?!)")
 
 
+def proofs_of(root):
+    """The files of specs/ and proofs/ of all crates."""
+    return sorted(path for part in ("specs", "proofs") for path in (root / "crates").glob(f"*/{part}/**/*.antt"))
+
+
 def laws(root):
     """(name, lines, file) of what the files of laws declare at top level. In the folder of a function, whose names are the kit's, what speaks of that function
     itself does not count. An indented module's own laws do not count either: they have its parameters."""
-    for path in sorted((root / "crates").glob("*/*/**/*.antt")):
+    for path in proofs_of(root):
         parts = path.relative_to(root / "crates").parts
-        if parts[1] in ("specs", "proofs") and path.name != "Lib.antt":
+        if path.name != "Lib.antt":
             text = path.read_text()
             own = own_words(root, text)
             for name, lines in blocks(text):
@@ -108,7 +113,7 @@ def equal_laws(root):
 
 def named_crates(folder):
     """The crates that the files of a crate name."""
-    for path in folder.rglob("*"):
+    for path in [path for part in ("src", "specs", "proofs") for path in (folder / part).rglob("*")]:
         if path.suffix in (".antt", ".rt"):
             text = path.read_text()
             yield from re.findall(r"Rattle\.([a-z0-9_]+)", text)
@@ -119,7 +124,7 @@ def named_crates(folder):
 def dependencies(root):
     """A crate lists the crates that its own files name, what the kit wants beside them, and no other; the kit's own may stand there too."""
     path = root / "crates.txt"
-    lines = [line.split(":") for line in path.read_text().split("\n") if re.match(r"[a-z0-9_]+:", line)] if path.is_file() else []
+    lines = re.findall(r"(?m)^([a-z0-9_]+)(?: staticlib)?:(.*)", path.read_text()) if path.is_file() else []
     crates = {name for name, _ in lines}
     for name, listed in lines:
         named = (set(named_crates(root / "crates" / name)) | FIELDS.get(name, set())) & crates - {name}
@@ -129,7 +134,7 @@ def dependencies(root):
 
 def long_ways(root):
     """Six steps back or more, one after the other or in one line: the stage has a name at the head of its file."""
-    for path in sorted((root / "crates").rglob("*.antt")):
+    for path in proofs_of(root):
         text = path.read_text()
         for found in re.finditer(r"(?:\.before\b[^\n.]*){6,}|(?:\.before\s*){6,}", text):
             yield f"{path.relative_to(root).as_posix()}:{text.count(chr(10), 0, found.start()) + 1}: {found.group().count('.before')} steps back"

@@ -33,6 +33,7 @@ sys.path.insert(0, str(Path(__file__).resolve().parent.parent))
 import once
 from common.made_up import run
 from common.mutated import close, main
+from common.walked import walked
 
 FOLDERS = "crates|docs|tests|examples|include|scripts|python|bench|programs|\\.ci"
 PATH = re.compile(rf"(?<![\w/.*-])((?:{FOLDERS})/[\w./-]*\w|[a-z_]+/(?:specs|proofs|src|must-fail)(?:/[\w./-]*\w)?)")
@@ -85,12 +86,7 @@ class Repository:
 
     def __init__(self, root):
         self.root = root
-        skipped = {"target", ".git", "__pycache__"}
-        self.paths = {}
-        for path in sorted(root.rglob("*")):
-            parts = path.relative_to(root).parts
-            if not skipped & set(parts):
-                self.paths["/".join(parts)] = path
+        self.paths = {path.relative_to(root).as_posix(): path for path in walked(root)}
         self.crates = {name.split("/")[1] for name in self.paths if re.fullmatch(r"crates/\w+", name)}
         self.words, self.passed = set(), 0
         for name, path in self.paths.items():
