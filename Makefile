@@ -1,6 +1,7 @@
 # What docs/API.md describes, by name. `make` and `make lib` need the kit (`rt`); `make install` takes what is built, and builds only what is missing.
 #   make            the programs, target/bin/register, convert and batch
 #   make lib        the library, target/staticlib/libkodarfi.a, and target/lib/libkodarfi.so, the shared one
+#   make archive    target/staticlib/libkodarfi.a alone
 #   make check      the gate
 #   make install    all of it under DESTDIR/PREFIX; make uninstall takes it away again
 SHELL := /bin/bash
@@ -13,21 +14,23 @@ PROVED := target/bin/register target/bin/convert
 PROGRAMS := $(PROVED) target/bin/batch
 ARCHIVE := target/staticlib/libkodarfi.a
 SHARED := target/lib/libkodarfi.so.$(VERSION)
-# rt with a temporary folder in memory, where there is room for one
-RT := here=$$(pwd); . scripts/command_line.sh; memory=$$(memory_folder 1); trap 'rm -rf "$$memory"' EXIT; from=$$(commit); TMPDIR=$${memory:-$${TMPDIR:-/tmp}} rt
+# the functions by which rt proves and builds, with a temporary folder in memory, where there is room for one
+RT := here=$$(pwd); . scripts/command_line.sh; memory=$$(memory_folder 1); trap 'rm -rf "$$memory"' EXIT; from=$$(commit); export TMPDIR=$${memory:-$${TMPDIR:-/tmp}};
 
-.PHONY: programs lib check install uninstall
+.PHONY: programs lib archive check install uninstall
 .DELETE_ON_ERROR:
 .NOTPARALLEL:
 
 programs:
-	@$(RT) check $(notdir $(PROVED)) && for program in $(PROVED); do note_version $$program "$$from"; done
-	@$(RT) staticlib kodarfi
+	@$(RT) for name in $(notdir $(PROVED)); do prove_program $$name && note_version target/bin/$$name "$$from" || exit; done
+	@$(RT) prove_library
 	@$(MAKE) --no-print-directory -W $(ARCHIVE) target/bin/batch
 
-lib:
-	@$(RT) staticlib kodarfi
+lib: archive
 	@$(MAKE) --no-print-directory $(SHARED)
+
+archive:
+	@$(RT) prove_library
 
 check:
 	bash .ci/run
@@ -42,7 +45,7 @@ $(PROVED):
 	@$(MAKE) --no-print-directory programs
 
 $(ARCHIVE):
-	@$(RT) staticlib kodarfi
+	@$(MAKE) --no-print-directory archive
 
 target/bin/batch: $(wildcard programs/batch/* include/*.h) $(ARCHIVE)
 	@me=batch here=$$(pwd); . scripts/command_line.sh; beside=(programs/batch include); link_batch $@ && note_version $@ "$$(commit)"

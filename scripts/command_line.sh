@@ -67,12 +67,30 @@ open_input() {
   { : 3>&1; } 2>/dev/null || fail "$name: $unwritten"
 }
 
-# The sources: find's words for their names, so that an editor's own files are none. A script whose program is made of more than its own crate says so by
-# `crate`, the crate that is proved for it, `beside`, the folders beside crates/ that are read, and make_program.
+# The sources: find's words for their names, so that an editor's own files are none, and for what is none: the folder out of a crate, which is the kit's. A script
+# whose program is made of more than its own crate says so by `crate`, the crate that is proved for it, `beside`, the folders beside crates/ that are read, and
+# make_program.
 is_source=('(' -name '[!.#]*.rt' -o -name '[!.#]*.antt' -o -name '[!.#]*.[ch]' -o -name crates.txt ')')
+of_kit=(-path 'crates/*/out' -prune)
 crate=$me beside=()
 make_program() {
-  rt check "$me"
+  prove_program "$me"
+}
+
+# put FILE FOLDER: a copy of the file in the folder, whole or not at all.
+put() {
+  [ -f "$1" ] || { echo "rt: it has left no $1"; return 1; }
+  mkdir -p "$2" && cp "$1" "$2/${1##*/}.new" && mv -f "$2/${1##*/}.new" "$2/${1##*/}"
+}
+
+# prove_program NAME: rt proves the program's crate with all that it depends on, builds the program and runs it, here on an empty input. It goes to target/bin.
+prove_program() {
+  (cd "crates/$1" && rt run </dev/null 2>&1 >/dev/null) && put "crates/$1/out/$1" target/bin
+}
+
+# prove_library: the same of the static library, which goes to target/staticlib.
+prove_library() {
+  (cd crates/kodarfi && rt lib </dev/null 2>&1) && put crates/kodarfi/out/libkodarfi.a target/staticlib
 }
 
 # link_batch PROGRAM: the program of ./batch from its sources and the library, once that is proved.
@@ -82,7 +100,7 @@ link_batch() {
 
 # The names of all sources, as one number.
 names_digest() {
-  (cd "$here" && find crates.txt crates "${beside[@]}" -type f "${is_source[@]}" | LC_ALL=C sort | sha256sum | cut -d ' ' -f 1)
+  (cd "$here" && find crates.txt crates "${beside[@]}" "${of_kit[@]}" -o -type f "${is_source[@]}" -print | LC_ALL=C sort | sha256sum | cut -d ' ' -f 1)
 }
 
 # Prints a fresh folder in memory that others may pass through, where there is one with $1 gigabytes of room from which programs can be run.
@@ -154,7 +172,7 @@ reason_to_build() {
   if [ ! -x "$program" ]; then
     echo "the program is not built"
   elif [ $is_installed = no ]; then
-    newer=$(cd "$here" && find crates.txt crates "${beside[@]}" -newer "$program" '(' -type d -printf '%p/\n' -o "${is_source[@]}" -print -quit ')') || newer='a source that cannot be read'
+    newer=$(cd "$here" && find crates.txt crates "${beside[@]}" "${of_kit[@]}" -o -newer "$program" '(' -type d -printf '%p/\n' -o "${is_source[@]}" -print -quit ')') || newer='a source that cannot be read'
     newer=${newer##*$'\n'}
     if [[ $newer == */ ]]; then
       if names=$(noted 2); then
@@ -180,21 +198,23 @@ count_crates() {
     END { walk(wanted); print all }' "$here/crates.txt"
 }
 
-# show_progress: of what rt says, a line for each crate that is proved, and what else it has to say about crates.
+# show_progress: of what rt says, a line for each crate that is proved, one for a crate that is not, and what else it has to say about crates.
 show_progress() {
-  local line count=0 all
+  local line count=0 all of=$crate
   all=$(count_crates)
   while IFS= read -r line; do
     case $line in
-      'rt: ok, '*) ;;
-      'rt: '*' proved ('*) count=$((count + 1)); echo "$me: $count of $all crates" >&2 ;;
+      'crate '*': modules '*) of=${line#crate } of=${of%%:*} ;;
+      'logic=proved '*) count=$((count + 1)); echo "$me: $count of $all crates" >&2 ;;
+      'logic='*) echo "$me: $of is not proved" >&2 ;;
+      'rt: chose '* | 'rt: note: '* | 'rt: rt '* | 'rt: '*': begins with '*) ;;
       'rt: '*) printf '%s\n' "$line" >&2 ;;
     esac
   done
 }
 
 # Builds the program, one at a time: whoever waited for the lock looks again. It gets the time at which its building
-# began, so that a source that was changed meanwhile is newer, and the lowest time where the building failed.
+# began, so that a source that was changed meanwhile is newer; where the building failed, the one before stays.
 build() {
   local reason=$1 began from
   command -v rt >/dev/null 2>&1 || fail "$reason, and the tool 'rt' that builds it is missing$([ ! -x "$program" ] || echo '; with KODARFI_AS_BUILT=1 in the environment it is taken as it was built')"
@@ -210,9 +230,8 @@ build() {
     echo "$me: $reason: building it, which takes some minutes" >&2
     began=$(date +%s.%N) from=$(commit) memory=$(memory_folder 2)
     trap '[ -z "$memory" ] || rm -rf "$memory"' EXIT
-    if ! (set -o pipefail; cd "$here" && TMPDIR=${memory:-$(open_folder)} make_program </dev/null 3<&- | show_progress); then
-      touch -c -d @0 "$program" 2>/dev/null
-      fail "$reason, and building it failed: 'rt check $crate' in $here tells more"
+    if ! (set -o pipefail; cd "$here" && TMPDIR=${memory:-$(open_folder)} make_program 3<&- | show_progress); then
+      fail "$reason, and building it failed: 'rt check' in $here/crates/$crate tells more"
     fi
     [ -x "$program" ] || fail "the program was not built; remove the folder $here/target and try again"
     [ "$from" = "$(commit)" ] || from=${from%-dirty}-dirty

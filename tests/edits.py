@@ -1,21 +1,22 @@
 """The must-fail edits: what each breaks, where the prover refuses it, and which promise names it.
 
-The first line of an edit says what it breaks, the second where the prover refuses it: 'refused at: ' and the first fact that fails of what is promised, by its
-file (under the crate's proofs/ where no other folder is named) and its name: what a function returns, what a loop keeps, or a law. 'first at ..' names a side
-condition (a bound, a cast, a `requires`) that is refused before it, and 'only at ..' one where no such fact fails by itself. `rt` passes over both lines.
+The first line of an edit says what it breaks, the second where the prover refuses it: 'refused at: ' and the first fact that `rt` names, by its file (under the
+crate's proofs/ where no other folder is named) and its name: what a function returns, what a loop keeps, or a law. 'first at ..' names a side condition (a bound,
+a cast, a `requires`), and 'only by a limit at ..' a fact at which the prover gave up. `rt` passes over both lines.
 
-  python3 tests/edits.py --list        prints all edits, a table for each crate, from these lines
-  python3 tests/edits.py --write       writes the second lines from the logs that the gate, or `rt must-fail`, leaves in target/must-fail;
-                                       an edit without a log keeps its line and is reported
-  python3 tests/edits.py --check       each edit has both lines, the second as its log has it, and docs/PROMISES.md names every edit and no other;
-                                       the last line is 'N passed, M failed'
-  python3 tests/edits.py --self-test   these three on made-up edits, right and then with each mutant of edits_self_test.py"""
+  python3 tests/edits.py --list            prints all edits, a table for each crate, from these lines
+  python3 tests/edits.py --write [LOG..]   writes the second lines from what `rt must-fail` or the gate printed into these files, else from target/must-fail.log,
+                                           which the gate leaves; an edit of which they say nothing keeps its line and is reported
+  python3 tests/edits.py --check [LOG..]   each edit has both lines, the second as the logs have it, and docs/PROMISES.md names every edit and no other;
+                                           the last line is 'N passed, M failed'
+  python3 tests/edits.py --self-test       these three on made-up edits, right and then with each mutant of edits_self_test.py"""
 
 import re
 import sys
+from pathlib import Path
 
 from common.mutated import ROOT, close, main
-from refused_at import refused_at
+from refused_at import lines_of, refused_at
 
 REFUSED = "refused at: "
 RULES = ("file:", "old:", "new:")  # how the lines begin that `rt` reads
@@ -26,14 +27,14 @@ def cell(text):
 
 
 class Edit:
-    """A must-fail edit: its lines, and the folder in which a run tried it."""
+    """A must-fail edit: its lines, and what a run said of it; None where it said nothing."""
 
-    def __init__(self, root, path):
+    def __init__(self, path, logs):
         self.path = path
         self.crate, self.label = path.parts[-3], path.stem
         self.name = f"{self.crate}/{self.label}"
         self.lines = path.read_text().split("\n")
-        self.folder = root / "target" / "must-fail" / self.crate / self.label
+        self.log = logs.get(self.name)
 
     @property
     def breaks(self):
@@ -48,9 +49,8 @@ class Edit:
 
     @property
     def logged(self):
-        """Where the run refused it; None where it left no log, or the log does not say."""
-        log = self.folder / ".log"
-        return refused_at(self.folder, log.read_text(errors="replace")) if log.is_file() else None
+        """Where the run refused it; None where it does not say."""
+        return refused_at(self.path.parents[1], self.log) if self.log is not None else None
 
     def row(self):
         return f"| {self.label} | {cell(self.breaks or '?')} | {cell('; '.join(line.removeprefix(REFUSED) for line in self.said) or '?')} |"
@@ -75,7 +75,7 @@ class Edit:
         if self.said != self.lines[1:2]:
             return f"{self.name} must have one line that begins with '{REFUSED.strip()}', its second (python3 tests/edits.py --write)"
         if logged is None:
-            return f"target/must-fail has no log of {self.name} (run the gate first), or it names no fact that fails, or the proof does not fit the code"
+            return f"no log shows that {self.name} is refused, at what fact: {self.log or 'run the gate first'}"
         if self.lines[1] != REFUSED + logged:
             return f"{self.name} has '{self.lines[1]}', its log '{REFUSED}{logged}' (python3 tests/edits.py --write)"
         return None
@@ -84,9 +84,11 @@ class Edit:
 class Edits:
     """The edits of a repository, with the logs of their run and the promises that name them."""
 
-    def __init__(self, root):
+    def __init__(self, root, logs=()):
         self.root = root
-        self.all = [Edit(root, path) for path in sorted(root.glob("crates/*/must-fail/*.edit"))]
+        texts = [path.read_text(errors="replace") for path in [*map(Path, logs)] or [root / "target" / "must-fail.log"] if logs or path.is_file()]
+        said = lines_of("\n".join(texts))
+        self.all = [Edit(path, said) for path in sorted(root.glob("crates/*/must-fail/*.edit"))]
 
     def table(self):
         lines = ["# The must-fail edits"]
@@ -122,15 +124,16 @@ class Edits:
 
 
 def run():
-    edits = Edits(ROOT)
+    command, logs = sys.argv[1:2], sys.argv[2:]
+    edits = Edits(ROOT, logs)
     if sys.argv[1:] == ["--list"]:
         print(edits.table())
         return 0
-    if sys.argv[1:] == ["--write"]:
+    if command == ["--write"]:
         left = edits.write()
         print("".join(f"no log says where {name} is refused, or it does not say what it breaks\n" for name in left), end="")
         return int(bool(left))
-    if sys.argv[1:] == ["--check"]:
+    if command == ["--check"]:
         return close(2 * len(edits.all), edits.faults())
     if sys.argv[1:] == ["--self-test"]:
         from edits_self_test import self_test

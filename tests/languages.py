@@ -1,7 +1,7 @@
 """The library in each language: the compile lines of docs/API.md, section "Linking", are run as they stand there, each program lists files, and those with a
 loader take lines as they are typed.
 
-  python3 tests/languages.py   after `rt staticlib kodarfi`; the last line is 'N passed, M failed'"""
+  python3 tests/languages.py   after `make archive`; the last line is 'N passed, M failed'"""
 
 import select
 import subprocess

@@ -222,7 +222,7 @@ def sources(crates=CRATES):
 def not_read():
     """The crates with code that a crate with sums can call and that are not read. The checker has no sum of its own."""
     lines = [line.split(":") for line in (ROOT / "crates.txt").read_text().splitlines() if ":" in line]
-    beneath = {used for name, deps in lines if name in CRATES and name != "check_lists" for used in deps.split() if used not in CRATES}
+    beneath = {used for name, deps in lines if name.split()[0] in CRATES and name != "check_lists" for used in deps.split() if used not in CRATES}
     return sorted(name for name in beneath if any(any(functions(code(text))) for text in sources([name]).values()))
 
 

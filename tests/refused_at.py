@@ -1,36 +1,30 @@
-"""Where a log of the prover says that a crate was refused: the first fact of a promise that fails, rather than a side condition before it."""
+"""Where `rt` says that a must-fail edit was refused: the first fact that its line names, and whether that is a promise, a law or a side condition."""
 
 import re
-from typing import NamedTuple
 
-# A fact refused in a proof file, and one of a function that has none.
-REFUSED = re.compile(r"^(?P<file>\S+?\.antt):\d+:\d+: error: `(?P<fact>[^`]+)`: (?P<text>.*)$")
-UNPROVED = re.compile(r"^note: (?P<file>\S+?\.rt):(?P<line>\d+):\d+: (?P<text>it is not proved .*)\(`(?P<fact>[^`]+)`\)$")
+# What `rt ci` and `rt must-fail` say of an edit, a line each.
+LINE = re.compile(r"^rt: must-fail (?P<name>\w+/[\w.-]+)\.edit: (?P<said>.*)$")
+REFUSED = "refused, as it must be"
+LIMIT = " (only by a limit of the prover"
 
-# The log has this where the code has another shape than its proof: such an edit shows nothing.
-NO_NEED = "has no `Need-"
-
-# A definition that is refused by itself, for a name or a type, shows nothing either.
-SPECS = "specs/"
+# A fact refused in a proof file, and one of a function that no proof file answers. A line is cut after so many characters, in a name too.
+IN_PROOF = re.compile(r"(?:\./)?(?P<file>\S+?\.antt):\d+:\d+: error: `(?P<fact>[^`]+)`: ")
+IN_CODE = re.compile(r"note: (?:\./)?(?P<file>\S+?\.rt):(?P<line>\d+):\d+: it is not proved .*?\(`(?P<fact>[^`]*)(?P<end>`?)")
 
 # What a function returns, what a loop keeps, the contract of a function: by the names that the prover gives them.
-PROMISED = re.compile(r"(.+-)?(returns|loop-again|loop-holds)(-\d+)?|.+-spec")
+PROMISED = re.compile(r"(.+-)?(returns|loop-.+-(init|preserved))(-.*)?|.+-spec")
 
 
-class Fact(NamedTuple):
-    """A fact that was refused: the file and its name, whether it fails only because another one did, and whether it is a side condition."""
-
-    file: str
-    name: str
-    follows: bool
-    is_side_condition: bool
+def lines_of(log):
+    """What is said of each edit, by its name, 'crate/edit'."""
+    found = (LINE.match(line) for line in log.split("\n"))
+    return {match["name"]: match["said"] for match in found if match}
 
 
-def is_owed(path, fact):
-    """Whether a fact is one that a function's proof owes the prover, as a bound, a cast or a callee's `requires`."""
+def is_goal(path, fact):
+    """Whether a proof file declares a fact as an answer to a goal of its function, as a bound, a cast or a callee's `requires`."""
     name = re.escape(fact)
-    declared = re.search(rf"^ *(?:pub )?{name} :(.*?)^ *{name}\b", path.read_text(), re.MULTILINE | re.DOTALL)
-    return declared is not None and "Need-" in declared.group(1)
+    return path.is_file() and re.search(rf"^ *(?:pub )?{name} : \w+\.{name}(?![\w'-])", path.read_text(), re.MULTILINE) is not None
 
 
 def function_at(path, line):
@@ -38,33 +32,19 @@ def function_at(path, line):
     return re.findall(r"\bfn (\w+)", "\n".join(path.read_text().split("\n")[:line]))[-1]
 
 
-def facts(folder, log):
-    """The facts that a log names, in its order; the run was in `folder`."""
-    for text in log.split("\n"):
-        found = REFUSED.match(text) or UNPROVED.match(text)
-        if not found:
-            continue
-        file = found["file"].split(f"/{folder.parent.name}/{folder.name}/", 1)[-1]
-        path, fact = folder / file, found["fact"]
-        is_promised = PROMISED.fullmatch(fact) is not None
-        if file.startswith(SPECS):
-            yield Fact(file, f"`{fact}`", "was not admitted" in found["text"], False)
-        elif path.suffix == ".rt":
-            yield Fact(file, f"`{fact}` of `{function_at(path, int(found['line']))}`", False, not is_promised)
-        else:
-            yield Fact(file.removeprefix("proofs/"), f"`{fact}`", "was not admitted" in found["text"], not is_promised and is_owed(path, fact))
-
-
-def refused_at(folder, log):
-    """What an edit's second line says (edits.py) of the run in `folder`; None where the log names no fact, a definition is none, or the proof no longer fits the code."""
-    own = [fact for fact in facts(folder, log) if not fact.follows]
-    if not own or NO_NEED in log or any(fact.file.startswith(SPECS) for fact in own):
+def refused_at(crate, said):
+    """What an edit's second line says (edits.py) where `rt` said this of it; `crate` is the crate's folder. None where the edit was not refused, where no fact
+    is named, where a definition is refused by itself, for a name or a type, and where only a proof names what the edit took away: such an edit shows nothing."""
+    is_at_limit = said.startswith(REFUSED + LIMIT)
+    text = said.partition("): ")[2] if is_at_limit else said.removeprefix(REFUSED + ": ")
+    found = IN_PROOF.match(text) or IN_CODE.match(text)
+    if not said.startswith((REFUSED + ": ", REFUSED + LIMIT)) or not found or found["file"].startswith("specs/"):
         return None
-    first = own[0]
-    promised = next((fact for fact in own if not fact.is_side_condition), None)
-    if promised is None:
-        return f"only at `{first.file}`, {first.name}"
-    at = f"`{promised.file}`, {promised.name}"
-    if promised is first:
-        return at
-    return f"{at}; first at {first.name}" if promised.file == first.file else f"{at}; first at `{first.file}`, {first.name}"
+    file, fact, path = found["file"].removeprefix("proofs/"), found["fact"], crate / found["file"]
+    if path.suffix == ".rt":
+        name = f"`{fact}{'' if found['end'] else '..'}` of `{function_at(path, int(found['line']))}`"
+        is_side_condition = PROMISED.fullmatch(fact) is None
+    else:
+        name = f"`{fact}`"
+        is_side_condition = PROMISED.fullmatch(fact) is None and is_goal(path, fact)
+    return ("only by a limit at " if is_at_limit else "first at " if is_side_condition else "") + f"`{file}`, {name}"

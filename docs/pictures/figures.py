@@ -6,7 +6,7 @@ import re
 from svg import Fault
 
 SECTION = "\n## Why 64 bits are enough\n"
-NAMED = {"largestMagnitude": 2**50, "largestBound": 2**60}
+NAMED = {"largest_magnitude": 2**50, "largest_bound": 2**60}
 LAW = re.compile(r"`([\w-]+)` in `([\w/]+\.antt)`|`([\w-]+)`(?=, `[\w-]+` in `([\w/]+\.antt)`)")
 NUMBER = re.compile(r"[\d^·*+() ]+")
 

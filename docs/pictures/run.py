@@ -62,9 +62,9 @@ MUTANTS = {
     "a ratio of 0": ("bench/speed.svg", "| check, office | quick in C | ", "| check, office | quick in C | 0 | ", "cannot be read"),
     "a crate that the map lacks": ("the map", "check_held: ", "check_kept: ", "in the storey 'The check'"),
     "a storey that the map lacks": ("the map", "# Calls\n", "# All calls\n", "in the storey 'All calls'"),
-    "a larger number": ("the largest numbers", "| 2^51 | 2^5 · 2^20 · 2^26 |", "| 2^52 | 2^5 · 2^20 · 2^26 |", "2^52 is not what ups-small says"),
+    "a larger number": ("the largest numbers", "| 2^51 | 2^5 · 2^20 · 2^26 |", "| 2^52 | 2^5 · 2^20 · 2^26 |", "2^52 is not what ups_small says"),
     "a product that is larger": ("the largest numbers", "| 2^10 · 2^50 |", "| 2^12 · 2^50 |", "2^12 · 2^50 is not at most 2^60"),
-    "another law": ("the largest numbers", "`load-magnitude` in", "`term-magnitude` in", "2^62 is not what term-magnitude says"),
+    "another law": ("the largest numbers", "`load_magnitude` in", "`term_magnitude` in", "2^62 is not what term_magnitude says"),
     "no table": ("bench/speed.svg", "| Time of |", "| Times of |", "there is not one table"),
 }
 

@@ -25,6 +25,7 @@ def storeys_of(text):
             storeys[title] = []
             continue
         crate, colon, rest = line.partition(":")
+        crate = crate.removesuffix(" staticlib")
         if not colon or not storeys:
             raise Fault(f"crates.txt: line {count}: neither a storey, '# TITLE', nor a crate below one, 'NAME: DEP ..'")
         storeys[title].append(crate)

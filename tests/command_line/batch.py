@@ -2,22 +2,24 @@
 
 from command_line.sandbox import failed
 
-# A stand-in for rt that makes an archive whose one call refuses every file with 15.
+# A stand-in for rt, called in a crate's folder, that makes an archive whose one call refuses every file with 15, or ./register's program.
 RT = r"""#!/bin/sh
 [ "$1" = version ] && { echo kit-of-the-tests; exit; }
-echo "$*" >>calls
-mkdir -p target/staticlib
-cat >stand_in.c <<'C'
+top=$(cd ../.. && pwd)
+echo "${PWD##*/}: $*" >>"$top/calls"
+mkdir -p out
+cat >out/stand_in.c <<'C'
 #include "include/kodarfi.h"
 #include <string.h>
 uint32_t kodarfi_listing(const uint8_t *file, size_t length, uint8_t *out, size_t *written, uint64_t *places)
 { (void)file; (void)length; memcpy(out, "(refused 15 (0))\n", *written = 17); places[0] = places[1] = 0; return 15; }
 C
-cc -c stand_in.c -o stand_in.o && ar rcs target/staticlib/libkodarfi.a stand_in.o
-[ ! -e broken ] || { echo "rt: kodarfi NOT PROVED"; exit 1; }
+cc -I"$top" -c out/stand_in.c -o out/stand_in.o && ar rcs out/libkodarfi.a out/stand_in.o
 echo "library std: modules loaded=0" >&2
-echo "rt: kodarfi proved (1 s)" >&2
-[ "$1" = staticlib ] || { mkdir -p target/bin; printf '#!/bin/sh\necho "(refused 15 (0))"\n' >target/bin/register; chmod 755 target/bin/register; }
+[ ! -e "$top/broken" ] || { echo "logic=not-proved"; exit 1; }
+echo "logic=proved functions=1"
+echo "logic=proved functions=2" >&2
+[ "$1" = lib ] || { printf '#!/bin/sh\necho "(refused 15 (0))"\n' >out/register; chmod 755 out/register; }
 """
 
 
@@ -36,12 +38,15 @@ def builds_at_first_use(box):
     source.write_text(source.read_text() + "\n")
     newer = box.run("nets", "listings", script="batch")
     answers = [(status, out) for status, out, _ in (first, again, newer)] == [(1, b"(refused 15 (0)) net\n0 accepted, 1 refused, 0 failed\n")] * 3
-    said = b"batch: the program is not built: building it" in first[2] and b"batch: 1 of " in first[2] and b"library" not in first[2] and b"building" not in again[2] and b"main.c is newer than the program" in newer[2]
-    return answers and said and box.calls() == ["staticlib kodarfi"] * 2
+    said = b"batch: the program is not built: building it" in first[2] and b"batch: 2 of " in first[2] and b"library" not in first[2] and b"building" not in again[2] and b"main.c is newer than the program" in newer[2]
+    return answers and said and box.calls() == ["kodarfi: lib"] * 2
 
 
 def failed_build_is_2(box):
-    prepared(box).write("broken", b"")
+    """Though there is the library of an earlier building."""
+    prepared(box).run("nets", "earlier", script="batch")
+    (box.root / "target/bin/batch").unlink()
+    box.write("broken", b"")
     status, out, err = box.run("nets", "listings", script="batch")
     return (status, out) == (2, b"") and b"building it failed" in err.splitlines()[-1] and not (box.root / "listings").exists()
 

@@ -10,7 +10,7 @@ from command_line.register import REFUSED, WHOLE, listing_of
 from command_line.sandbox import LONG_AGO, SOURCE, ended, failed
 from common.mutated import ROOT, another_user
 
-ASKED = ["check register"]
+ASKED = ["register: run"]
 
 
 def newer_source(sandbox):
@@ -116,6 +116,16 @@ def editors_files_are_no_sources(box):
     return otherwise and built and refuses(box) and box.run(REFUSED, rt=False) == (1, b"(refused 2 (5))\n", b"") and box.calls() == ASKED
 
 
+def what_the_kit_keeps_is_no_source(box):
+    """In the folder out of a crate, though it is newer than the program."""
+    older_program(box)
+    built, later = refuses(box), time.time() + 5
+    kept = box.write("crates/register/out/rlib/kept.antt", "")
+    for path in (kept, kept.parent, kept.parent.parent):
+        os.utime(path, (later, later))
+    return built and refuses(box) and refuses(box, rt=False) and box.calls() == ASKED
+
+
 def gone_source_builds_again(box):
     older_program(box)
     more = box.write("crates/register/src/more.rt", "")
@@ -176,21 +186,20 @@ def old_program_without_a_right_to_write_is_2(box):
 
 
 def failed_build_is_2(box):
-    """And stays so at the next use, though rt has left a program that is newer than every source."""
+    """And stays so at the next use, though rt has left a program that is newer than every source; which crate is not proved is said, and what rt says."""
     older_program(box)
     box.write("broken", "")
     for _ in range(2):
         status, out, err = box.run(REFUSED)
-        if (status, out) != (2, b"") or b"rt: register NOT PROVED\n" not in err or not err.endswith(b"tells more\n"):
+        if (status, out) != (2, b"") or b"register: listing is not proved\nrt: mend this first\n" not in err or not err.endswith(b"tells more\n"):
             return False
     (box.root / "broken").unlink()
     return refuses(box) and box.calls() == 3 * ASKED
 
 
 def failed_first_build_leaves_nothing(box):
-    """Where there was no program there is none afterwards, and --version says so."""
+    """Where there was no program there is none afterwards, though rt has left one, and --version says so."""
     box.put_program().unlink()
-    (box.root / "program").unlink()
     box.write("broken", "")
     status = box.run(REFUSED)[0]
     return status == 2 and not (box.root / "target/bin/register").exists() and b"not built yet" in box.run("--version")[1]
@@ -200,7 +209,7 @@ def build_without_a_program_is_2(box):
     box.put_program().unlink()
     (box.root / "program").unlink()
     status, out, err = box.run(REFUSED)
-    return (status, out) == (2, b"") and b"remove the folder" in err
+    return (status, out) == (2, b"") and b"rt: it has left no crates/register/out/register\n" in err
 
 
 def nothing_is_built_for_a_mistake(box):

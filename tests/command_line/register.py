@@ -180,7 +180,7 @@ def version_says_what_was_built(box):
         version_after(box, "rm changed; echo 1.2 >VERSION", again),
         version_after(box, "cp program other; echo >>other; mv other target/bin/register"),
         version_after(box, "rm at VERSION", again),
-        version_after(box, "rm target/bin/register program"),
+        version_after(box, "rm -r target/bin/register program crates/register/out"),
     ] == [
         "commit unknown, kit unknown: the program was not built by ./register",
         "commit abc, kit kit-of-the-tests",

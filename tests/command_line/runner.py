@@ -19,9 +19,15 @@ from common.box import Box
 from common.mutated import ROOT, main, named, report, results, tests_of
 
 RUN, GATE, PARTS, README = "tests/run", ".ci/run", "tests/parts.sh", "tests/README.md"
+OK = "rt: ok; handles allowed: none; must-fail edits: 3 refused{}; every proof and must-fail edit was done in this run"
 GOOD = "good | proofs | sh | - | echo '3 passed, 0 failed' | what is good"
 MORE = "more | native | sh | - | cat; echo '4 passed, 0 failed' | what is more"
 LAST = "last | python | sh | - | echo '5 passed, 0 failed' | what is last"
+
+
+def says_ok(last, more=""):
+    """A stand-in for `rt ci` that ends well, with more said of its edits."""
+    return f"echo '{OK.format(more)}'; echo '{last}'"
 
 
 def calls(root):
@@ -35,7 +41,7 @@ class Scripts(Box):
     def __init__(self, edits=()):
         names = [RUN, GATE, PARTS, README, "tests/registry", "scripts/command_line.sh", *(f"tests/calls/{call}" for call in calls(ROOT))]
         super().__init__(edits, names)
-        self.rt("echo '6 passed, 0 failed'")
+        self.rt(says_ok("6 passed, 0 failed"))
 
     def rt(self, script):
         self.write("tools/rt", f"#!/bin/sh\n{script}\n", 0o755)
@@ -98,10 +104,44 @@ def gate_adds_up(box):
     box.registry(GOOD, MORE, LAST)
     status, out, err = box.shell("bash .ci/run")
     at = out.index("== times")
-    times = [re.sub(r"\d+ s", "s", " ".join(line.split())) for line in out[at + 3 :]]
+    times = [re.sub(r"\d+ s", "s", " ".join(line.split())) for line in out[at + 1 :]]
     expected = ["proofs s 6 passed 0 failed", "good s 3 passed 0 failed", "more s 4 passed 0 failed", "last s 5 passed 0 failed", "all: s", "18 passed, 0 failed"]
     box.rt("exit 1")
     return (status, err, times) == (0, [], expected) and is_one_line(box.shell("bash .ci/run"), 1, "proofs: no closing line")
+
+
+def gate_runs_all_of_rt(box):
+    """With no names, at the top of the checkout, and with nothing taken away before."""
+    box.registry(GOOD)
+    box.write("target/thing", "")
+    box.rt('[ "$1" = version ] || echo "$PWD: $*: $(ls target)" >asked; ' + says_ok("6 passed, 0 failed"))
+    return box.shell("cd tests && bash ../.ci/run")[0] == 0 and (box.root / "asked").read_text() == f"{box.root.resolve()}: ci: thing\n"
+
+
+def bad_edits_have_failed(box):
+    """As many as the line `rt: ok` names, though `rt ci` itself passes; and a run without this line has failed."""
+    box.registry(GOOD)
+    found = []
+    for script in (says_ok("6 passed, 0 failed", ", 2 bad"), says_ok("6 passed, 0 failed", ", 1 of them only by a limit, 2 bad"), says_ok("6 passed, 0 failed", ", 0 bad"), "echo '6 passed, 0 failed'"):
+        box.rt(script)
+        status, out, err = box.shell("bash .ci/run")
+        found.append((status, out[-1], err))
+    bad = (1, "9 passed, 2 failed", ["proofs: 2 bad must-fail edits"])
+    return found == [bad, bad, (0, "9 passed, 0 failed", []), (1, "9 passed, 1 failed", ["proofs: no line 'rt: ok'"])]
+
+
+def gate_takes_what_is_proved(box):
+    """The programs that `rt ci` built go to target/bin with what they were built from, and what it said of edits to target/must-fail.log."""
+    box.registry(GOOD)
+    edits = ["rt: must-fail sum/sign.edit: refused, as it must be: ./proofs/Sum.antt:1:1: error: `sum`: no", "rt: must-fail sum/size.edit: refused, as it must be"]
+    said = "; ".join(f"echo '{line}'" for line in edits)
+    box.rt("[ \"$1\" != version ] || { echo the kit; exit; }; mkdir -p crates/register/out; echo made >crates/register/out/register; chmod 755 crates/register/out/register; " + said + "; " + says_ok("8 passed, 0 failed"))
+    status, out, _ = box.shell("bash .ci/run")
+    counted = [" ".join(line.split()) for line in out[out.index("== edits") + 1 : out.index("== times")]]
+    place = box.root / "target" / "bin"
+    noted = (place / "register.version").read_text().startswith("commit unknown, kit the kit\n")
+    taken = (place / "register").read_text() == "made\n" and noted and not (place / "convert").exists()
+    return status == 0 and taken and (box.root / "target/must-fail.log").read_text().splitlines() == edits and counted == ["crate edits", "sum 2", "all 2"]
 
 
 def unknown_name_runs_nothing(box):
@@ -119,7 +159,7 @@ def failed_part_has_failed(box):
 def unwritten_output_is_2(box):
     """The gate, which takes long, looks for a closed output first."""
     box.registry(GOOD)
-    box.rt("touch proved; echo '6 passed, 0 failed'")
+    box.rt("touch proved; " + says_ok("6 passed, 0 failed"))
     early = is_one_line(box.shell("bash .ci/run >&-"), 2, "standard output could not be written") and not (box.root / "proved").exists()
     commands = [f"{command} {to}" for command in ("tests/run", "tests/run --list", "bash .ci/run") for to in (">/dev/full", ">&-")]
     return early and all(is_one_line(box.shell(command), 2, "standard output could not be written") for command in commands)
@@ -188,6 +228,13 @@ MUTANTS = {
     "one part alone": (RUN, "for name; do\n  hand_out", "for name in \"$1\"; do\n  hand_out", parts_add_up),
     "the gate forgets the proofs": (GATE, 'add_up proofs "${names[@]}"', 'add_up "${names[@]}"', gate_adds_up),
     "the gate forgets a lane": (GATE, "grep -vx proofs", "grep -vx -e proofs -e native", gate_adds_up),
+    "rt ci with names": (GATE, "part proofs rt - 'rt ci'", "part proofs rt - 'rt ci sum'", gate_runs_all_of_rt),
+    "something is taken away before": (GATE, "part proofs rt - 'rt ci'", "part proofs rt - 'rm -rf target; rt ci'", gate_runs_all_of_rt),
+    "bad edits are no matter": (GATE, 'failed=$((failed + BASH_REMATCH[1])) said=', "said=", bad_edits_have_failed),
+    "no bad edit is one": (GATE, ' && [ "${BASH_REMATCH[1]}" -gt 0 ]', "", bad_edits_have_failed),
+    "a run that is not ok will do": (GATE, "    failed=1 said=\"no line 'rt: ok'\"", "    :", bad_edits_have_failed),
+    "no program is taken": (GATE, 'put "crates/$name/out/$name" target/bin &&', "true &&", gate_takes_what_is_proved),
+    "an edit of which no more is said does not count": (GATE, "/^rt: must-fail .*: refused, as it must be/", "/^rt: must-fail .*: refused, as it must be:/", gate_takes_what_is_proved),
     "README's own list": (README, "\n| places | ", "\n| place | ", readme_has_the_list),
     "a call without a line": ("tests/registry", "\nplaces | ", "\nextra | proofs | python3 | - | python3 tests/emit.py no_such_call --self-test | nothing\nplaces | ", every_call_has_a_line),
 }

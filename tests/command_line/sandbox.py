@@ -12,27 +12,33 @@ from common.mutated import ROOT
 BUILT = ROOT / "target" / "bin"
 PROGRAMS = ("register", "convert")
 PROGRAM = BUILT / "register"
-NAMES = ("register", "convert", "batch", "crates.txt", "README.md", "docs", "examples", "scripts", "include", "programs", "crates/register/src")
+NAMES = ("register", "convert", "batch", "crates.txt", "README.md", "docs", "examples", "scripts", "include", "programs", "crates/register/src", "crates/kodarfi/src")
 SOURCE = "crates/register/src/main.rt"
 LONG_AGO = 1_000_000_000
 PATIENCE = 600
 
-# The stand-in for rt: writes down each call, says so where two of them build at once, reads its input, and puts the program into place.
+# The stand-in for rt, which is called in a crate's folder: writes down each call, says so where two of them build at once, reads its input, and leaves the
+# program in the crate's folder out, where it fails too.
 RT = """#!/bin/sh
 [ "$1" = version ] && { echo kit-of-the-tests; exit; }
-echo "$*" >>calls
-echo "$TMPDIR" >folder
-mkdir building || echo "two at once" >>calls
+top=$(cd ../.. && pwd)
+echo "${PWD##*/}: $*" >>"$top/calls"
+echo "$TMPDIR" >"$top/folder"
+mkdir "$top/building" || echo "two at once" >>"$top/calls"
 cat >/dev/null
 sleep 0.2
-echo "fn register::main: proved"
-echo "rt: integer proved (1 s)"
-mkdir -p target/bin
-[ ! -e changed-meanwhile ] || { touch crates/register/src/main.rt; rm changed-meanwhile; }
-cp program target/bin/register
-rmdir building
-[ ! -e broken ] || { echo "rt: register NOT PROVED"; exit 1; }
-echo "rt: register proved (1 s)"
+echo "rt: what the program prints"
+echo "rt: chose --jobs 2 for integer" >&2
+echo "fn register::main: proved" >&2
+echo "crate integer: modules loaded=1 checked=0" >&2
+echo "logic=proved functions=1" >&2
+mkdir -p out
+[ ! -e "$top/changed-meanwhile" ] || { touch src/main.rt; rm "$top/changed-meanwhile"; }
+cp "$top/program" out/register
+rmdir "$top/building"
+echo "crate listing: modules loaded=1 checked=0" >&2
+[ ! -e "$top/broken" ] || { echo "logic=not-proved" >&2; echo "rt: mend this first" >&2; exit 1; }
+echo "logic=proved functions=1" >&2
 """
 
 

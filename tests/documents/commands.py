@@ -1,7 +1,7 @@
 """The commands that pages show: run in a folder of their own, some in a shorter form, or left to the part of the gate that runs them, or not run, each for a stated reason.
 
-Commands of the kit, and edits of sources ('sed -i .. crates/..'), run in a tree of the crates that a page names, so that a page can show an edit and what the
-prover says to it. The lines shown below such a command are parts of what it prints; with 'error:' in them its status is 1."""
+Commands of the kit, in a crate's folder ('cd crates/NAME && rt ..') or above it, and edits of sources ('sed -i .. crates/..'), run in a tree of the crates that a
+page names, so that a page can show an edit and what the prover says to it. The lines shown below such a command are parts of what it prints; with 'error:' in them its status is 1."""
 
 import os
 import re
@@ -9,6 +9,8 @@ import shutil
 import subprocess
 import tempfile
 from pathlib import Path
+
+from common.walked import made
 
 # what is not run, and why
 NOT_RUN = (
@@ -20,11 +22,11 @@ ELSEWHERE = (
     (r".*", r"docs/(?:CLERK|OFFICE)\.md", "tests/package/pages.py", '"PAGE"'),
     (r".*", r"docs/LARGE-NETS\.md", "tests/package/region.py", '"PAGE"'),
     (r"(?:cc|c\+\+|rustc) ", r".*", "tests/languages.py", "PAGE"),
-    (r"make(?: lib| install\b.*| uninstall\b.*)?$", r".*", "tests/install/cases.py", "box.make("),
+    (r"make(?: lib| archive| install\b.*| uninstall\b.*)?$", r".*", "tests/install/cases.py", "box.make("),
+    (r"rt must-fail(?: \w+)? >\S+$", r".*", "tests/edits_self_test.py", "rt: must-fail"),
     (r"python3 tests/edits\.py --write", r".*", "tests/edits_self_test.py", ".write()"),
     (r"tests/run(?! --list)", r".*", ".ci/run", "tests/parts.sh"),
     (r"(?:tests/link/run)", r".*", "tests/registry", "tests/link/run"),
-    (r"(?P<word>rt staticlib \w+)", r".*", "tests/registry", "WORD"),
 )
 # what runs in a shorter form, which its own help describes
 SHORTER = ((r"bench/run(?! --quick)", "bench/run --quick"),)
@@ -48,11 +50,11 @@ MADE = {
 }
 # for rt: the library is taken as it is built, and nothing else is made
 STAND_IN = """#!/bin/sh
-[ "$*" != "staticlib kodarfi" ] || exec test -e target/staticlib/libkodarfi.a
+[ "$*" != lib ] || { mkdir -p out && exec cp ../../target/staticlib/libkodarfi.a out/; }
 echo 'nothing is proved for a page' >&2
 exit 2
 """
-OF_KIT = re.compile(r"rt \w|sed -i .* crates/")
+OF_KIT = re.compile(r"(?:cd crates/\w+ && )?rt \w|sed -i .* crates/")
 ANYTHING = re.compile(r"(?<![\w/.$-])[A-Z][A-Z]*(?![\w/.=-])")
 
 
@@ -83,11 +85,12 @@ def not_run(command):
 
 
 class Tree:
-    """The crates that commands name and those beneath them, copied with what is proved of them. Of a named one's must-fail edits the first is kept: each costs a check."""
+    """The crates that commands name and those beneath them. Of a named one's must-fail edits the first is kept: each costs a check."""
 
     def __init__(self, root, path):
         self.root, self.path, self.held = root, path, set()
-        self.named = dict(re.findall(r"(?m)^(\w+):(.*)", (root / "crates.txt").read_text()))
+        lines = re.findall(r"(?m)^((\w+)(?: staticlib)?:(.*))", (root / "crates.txt").read_text())
+        self.lines, self.named = {crate: line for line, crate, _ in lines}, {crate: others for _, crate, others in lines}
 
     def add(self, crate, edits=0):
         if crate in self.held or crate not in self.named:
@@ -95,23 +98,17 @@ class Tree:
         self.held.add(crate)
         for other in self.named[crate].split():
             self.add(other)
-        shutil.copytree(self.root / "crates" / crate, self.path / "crates" / crate)
+        shutil.copytree(self.root / "crates" / crate, self.path / "crates" / crate, ignore=lambda folder, names: made(self.root, folder, names))
         for edit in sorted((self.path / "crates" / crate).glob("must-fail/*.edit"))[edits:]:
             edit.unlink()
-        library, stamp = Path("target/rlib") / f"{crate}.rlib", Path("target/stamp") / crate
-        if (self.root / stamp).is_file():
-            shutil.copytree(self.root / library, self.path / library)
-            (self.path / stamp).parent.mkdir(exist_ok=True)
-            shutil.copy2(self.root / stamp, self.path / stamp)
 
     def run(self, command):
-        """The status of a command of the kit, and what it prints. What only reads runs in the repository itself."""
+        """The status of a command of the kit, and what it prints."""
         self.path.mkdir(exist_ok=True)
         for word in re.findall(r"(?:crates/|rt [a-z-]+ )(\w+)", command):
             self.add(word, edits=1)
-        (self.path / "crates.txt").write_text("".join(f"{crate}:{others}\n" for crate, others in self.named.items() if crate in self.held))
-        place = self.root if command == "rt fmt --check" else self.path
-        return finished(["bash", "-c", command], cwd=place)
+        (self.path / "crates.txt").write_text("".join(f"{line}\n" for crate, line in self.lines.items() if crate in self.held))
+        return finished(["bash", "-c", command], cwd=self.path)
 
 
 def finished(words, **settings):
@@ -133,7 +130,7 @@ class Folder:
 
     def make(self):
         root = self.root
-        shutil.copytree(root, self.path, ignore=lambda folder, names: ["target", ".git", "__pycache__"] if Path(folder) == root else ["__pycache__"])
+        shutil.copytree(root, self.path, ignore=lambda folder, names: made(root, folder, names))
         for path in [*root.glob("target/bin/*"), *root.glob("target/lib/*"), *root.glob("target/staticlib/*")]:
             place = self.path / path.relative_to(root)
             place.parent.mkdir(parents=True, exist_ok=True)

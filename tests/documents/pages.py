@@ -3,7 +3,7 @@
 import re
 
 # how a command of this repository begins, after variables that are set for it
-COMMAND = re.compile(r"(?:export \w+=\S+ && |\w+=\S* )*(?:\./\w+|tests/run|bench/run|tests/link/run|(?:python3|bash|make|cc|c\+\+|rustc|rt|pip|git)(?= |$))")
+COMMAND = re.compile(r"(?:export \w+=\S+ && |\w+=\S* |cd crates/\w+ && )*(?:\./\w+|tests/run|bench/run|tests/link/run|(?:python3|bash|make|cc|c\+\+|rustc|rt|pip|git)(?= |$))")
 
 
 def slug(heading):

@@ -3,7 +3,7 @@
   python3 tests/documents/run.py               after `make` and `make lib`; the last line is 'N passed, M failed'
   python3 tests/documents/run.py --self-test   made-up documents, right ones and the mutants of self_test.py; needs nothing built
 
-Read are README.md, CONTRIBUTING.md, docs/*.md, tests/README.md and bench/README.md; docs/landings and CHANGELOG.md describe the past: of
+Read are README.md, CONTRIBUTING.md, docs/*.md, tests/README.md and bench/README.md; docs/landings, docs/PORT.md and CHANGELOG.md describe the past: of
 CHANGELOG.md only the lengths of lines are read.
 
 1. Links lead to files of the repository, and what follows '#' is a heading there. No link leaves the repository.
@@ -12,7 +12,7 @@ CHANGELOG.md only the lengths of lines are read.
    CONTRIBUTING.md and bench/README.md are read here by the same rules. `./X` in backquotes is a script of the repository.
 4. `FILE:N` in backquotes is a line of that file; where a page says of a file that it has N lines, it has.
 5. An option in backquotes or in a block is one of the command that it follows, or of some script where it stands alone. What follows `rt` is a command of the
-   kit, what follows `make` a target of Makefile, what follows `tests/run` a part of the registry.
+   kit, by its help or its page; what follows `make` a target of Makefile, what follows `tests/run` a part of the registry.
 6. A command in a block of indented or fenced lines runs, and prints what stands below it where it follows '$ '. Its status is 0, or 1 where it names a file of
    examples/refused. Words for any file have an example. commands.py lists what is not run, what runs in a shorter form, and what another part of the gate runs.
 7. No line is above 200 characters, but in tables and in what a command prints ('$ '). README.md has at most 150 lines of at most 120 characters, CONTRIBUTING.md
@@ -40,7 +40,7 @@ spec = importlib.util.spec_from_file_location("names_run", NAMES / "run.py")
 names = importlib.util.module_from_spec(spec)
 spec.loader.exec_module(names)
 
-READ = r"README\.md|CONTRIBUTING\.md|docs/[^/]+\.md|tests/README\.md|bench/README\.md"
+READ = r"README\.md|CONTRIBUTING\.md|docs/(?!PORT\.md)[^/]+\.md|tests/README\.md|bench/README\.md"
 LENGTHS = {"README.md": (150, 120), "CONTRIBUTING.md": (200, 200)}
 FILE = re.compile(r"[\w./-]+\.(?:md|svg|txt|csv|h|c|cpp|rs|1|sh|toml)")
 PAGE = re.compile(r"(?<![\w/.-])[A-Z][A-Z-]*\.md\b")
@@ -128,9 +128,11 @@ class Documents:
     @cached_property
     def kit_help(self):
         try:
-            return subprocess.run(["rt", "help"], capture_output=True, text=True, timeout=60).stdout
+            said = subprocess.run(["rt", "help"], stdout=subprocess.PIPE, stderr=subprocess.STDOUT, text=True, timeout=60).stdout
+            page = Path(subprocess.run(["rt", "doc"], capture_output=True, text=True, timeout=60).stdout.strip())
         except OSError:
             return ""
+        return said + (page.read_text(encoding="utf-8") if page.is_file() else "")
 
     @property
     def kit(self):
@@ -158,7 +160,7 @@ class Documents:
 
     def words(self, page):
         """The word after rt, make or tests/run."""
-        knows = {"rt": (r"(?m)^  rt {}\b", self.kit_help), "make": (r"(?m)^{}:|\.PHONY:.* {}\b", self.file("Makefile")), "tests/run": (r"(?m)^{} \| ", self.file("tests/registry"))}
+        knows = {"rt": (r"(?m)^(?:usage:)? *rt (?:[a-z-]+\|)*{}(?![\w-])", self.kit_help), "make": (r"(?m)^{}:|\.PHONY:.* {}\b", self.file("Makefile")), "tests/run": (r"(?m)^{} \| ", self.file("tests/registry"))}
         for number, text in [*page.spans(), *page.numbered("block")]:
             for command in re.split(r"\||&&", re.split(r"(?<=\S) {3,}", text)[0].removeprefix("$ ")):
                 tool, *after = re.sub(r"^ *(?:\w+=\S* )*", "", command).split() or [""]

@@ -8,8 +8,8 @@ FILES = {
     "`./register --explain FILE` explains, `--brief` is short.\n\n"
     "    ./register examples/whole-file.txt     the listing\n    ./register FILE\n    bash .ci/run     the gate\n\n"
     "`tests/adds.py` has 3 lines, and adds at `tests/adds.py:2`. `made.txt` is an example. The net is hung.\nCONTRIBUTING.md is next, and `tests/README.md` and `bench/README.md`.\n",
-    "CONTRIBUTING.md": "# To contribute\n\n`sums/specs/Sum.antt` has `sumOf`.\n\n```\npython3 tests/adds.py --all\n```\n\n| a table |\n|---|\n| " + LONG + " |\n\n"
-    "    rt dev sums\n\n    $ sed -i 's/= n/= m/' crates/sums/specs/Sum.antt\n    $ rt dev sums\n    error: sumOf fails\n",
+    "CONTRIBUTING.md": "# To contribute\n\n`sums/specs/Sum.antt` has `sum_of`.\n\n```\npython3 tests/adds.py --all\n```\n\n| a table |\n|---|\n| " + LONG + " |\n\n"
+    "    cd crates/sums && rt check     the check\n    rt must-fail sums\n\n    $ sed -i 's/= n/= m/' crates/sums/specs/Sum.antt\n    $ cd crates/sums && rt check\n    error: sum_of fails\n",
     "docs/DAY.md": "# Office\n\n## A day of `work`\n\n    $ ./register examples/made.txt\n    listing of made.txt\n\n    $ ./register examples/refused/2-none.txt\n    listing of 2-none.txt\n\n"
     "A desk takes it, and two hung nets.\n",
     "docs/GLOSSARY.md": '# Glossary\n\n| Term | Meaning |\n|---|---|\n| "desk" | what takes lines |\n| "hung net" | a net below another |\n',
@@ -17,7 +17,7 @@ FILES = {
     "docs/landings/first.md": "See `gone.txt` and [nothing](none.md). " + LONG + "\n",
     "tests/README.md": "    tests/run\n    tests/run adds\n    make lib\n\n`adds.py` adds.\n",
     "bench/README.md": "    bench/run     measures\n    bench/run BEFORE.a AFTER.a     compares\n",
-    "bench/run": '#!/bin/sh\n[ "$1" = --quick ] && shift || exit 3\n[ $# -gt 0 ] || exec rt staticlib kodarfi\ncmp "$1" "$2"\n',
+    "bench/run": '#!/bin/sh\n[ "$1" = --quick ] && shift || exit 3\n[ $# -gt 0 ] || { cd crates/sums; exec rt lib; }\ncmp "$1" "$2"\n',
     "target/staticlib/libkodarfi.a": "library\n",
     "Makefile": "lib:\n",
     "tests/install/cases.py": "box.make()\n",
@@ -31,9 +31,10 @@ FILES = {
     "examples/whole-file.txt": "(end)\n",
     "examples/made.txt": "(end)\n",
     "examples/refused/2-none.txt": "x\n",
-    "crates/sums/specs/Sum.antt": "-- Sums.\nabbrev pub sumOf : ℕ → ℕ\nsumOf n = n\n",
+    "crates/sums/specs/Sum.antt": "-- Sums.\nabbrev pub sum_of : ℕ → ℕ\nsum_of n = n\n",
     "crates.txt": "sums:\n",
-    "tools/rt": '#!/bin/sh\n[ "$1" != help ] || exec echo "  rt dev NAME"\n[ -d "crates/$2" ] || exit 2\ngrep -q "= n" crates/$2/specs/Sum.antt || { echo "Sum.antt: error: sumOf fails"; exit 1; }\n',
+    "tools/rt": '#!/bin/sh\n[ "$1" != doc ] || exec echo "$PWD/none"\n[ "$1" != help ] || exec echo "       rt check|lib [NAME]\n  rt must-fail [NAME..]" >&2\n'
+    '[ "$1" != must-fail ] || { cd "crates/$2" && exec grep -q "sums:$" ../../crates.txt; }\ngrep -q "= n" specs/Sum.antt || { echo "Sum.antt: error: sum_of fails"; exit 1; }\n',
 }
 
 # name: file, what stands there, what stands there then, what must be said
@@ -47,7 +48,7 @@ MUTANTS = {
     "a page that is not there": ("README.md", "CONTRIBUTING.md is", "CONTRIBUTE.md is", "there is no CONTRIBUTE.md"),
     "a file that is not there": ("README.md", "`made.txt`", "`make.txt`", "there is no make.txt"),
     "a script that is not there": ("README.md", "`made.txt`", "`./registers`", "there is no ./registers"),
-    "a definition that is not there": ("CONTRIBUTING.md", "`sumOf`", "`sumUp`", "no source has sumUp"),
+    "a definition that is not there": ("CONTRIBUTING.md", "`sum_of`", "`sum_up`", "no source has sum_up"),
     "a path that is not there": ("CONTRIBUTING.md", "sums/specs/Sum.antt", "sums/specs/Sums.antt", "there is no sums/specs/Sums.antt"),
     "a line past the end": ("README.md", "adds.py:2", "adds.py:4", "tests/adds.py has [3] lines, and not 4"),
     "another number of lines": ("README.md", "has 3 lines", "has 4 lines", "tests/adds.py has [3] lines, and not 4"),
@@ -64,9 +65,12 @@ MUTANTS = {
     "a script that fails": ("tests/adds.py", "# end", "raise SystemExit(3)", "'python3 tests/adds.py --all' has status 3"),
     "a page that is run no more": ("tests/package/pages.py", '"OFFICE.md"', '"CLERK.md"', "tests/package/pages.py no longer names what runs './register none'"),
     "a gate without the tests": (".ci/run", "tests/parts.sh", "tests/others.sh", ".ci/run no longer names what runs 'tests/run'"),
-    "a crate that is not there": ("CONTRIBUTING.md", "    rt dev sums\n\n", "    rt dev sum\n\n", "'rt dev sum' has status 2"),
-    "an edit that the prover takes": ("CONTRIBUTING.md", "s/= n/= m/", "s/= q/= m/", "'rt dev sums' has status 0"),
-    "what the prover does not say": ("CONTRIBUTING.md", "error: sumOf fails", "error: sumOf holds", "'rt dev sums' prints something else"),
+    "a crate that is not there": ("CONTRIBUTING.md", "    cd crates/sums && rt check  ", "    cd crates/sum && rt check  ", "'cd crates/sum && rt check' has status 1"),
+    "a crate without edits": ("CONTRIBUTING.md", "rt must-fail sums", "rt must-fail sum", "'rt must-fail sum' has status "),
+    "what the kit does not know": ("CONTRIBUTING.md", "rt must-fail sums", "rt must-pass sums", "rt knows no must-pass"),
+    "a command of the kit behind another": ("CONTRIBUTING.md", "    cd crates/sums && rt check  ", "    cd crates/sums && rt prove  ", "rt knows no prove"),
+    "an edit that the prover takes": ("CONTRIBUTING.md", "s/= n/= m/", "s/= q/= m/", "'cd crates/sums && rt check' has status 0"),
+    "what the prover does not say": ("CONTRIBUTING.md", "error: sum_of fails", "error: sum_of holds", "'cd crates/sums && rt check' prints something else"),
     "a measurement that fails": ("bench/run", 'cmp "$1"', 'cmp "$1.o"', "'bench/run --quick target/staticlib/libkodarfi.a target/staticlib/libkodarfi.a' has status 2"),
     "a measurement without its short form": ("bench/run", "--quick", "--short", "'bench/run --quick' has status 3"),
     "a measurement of what is not built": ("target/staticlib/libkodarfi.a", None, None, "'bench/run --quick' has status 1"),

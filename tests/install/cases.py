@@ -12,16 +12,20 @@ LISTING = whole_file.LISTING.decode()
 
 
 def make_builds_the_programs(box):
-    """By the kit, and their version is noted; make lib makes archive and shared object; make check is the gate."""
+    """By the kit, and their version is noted; make lib makes archive and shared object, make archive the one alone; make check is the gate."""
     (box.root / "target/bin/batch").unlink()
+    shutil.rmtree(box.root / "target/staticlib")
+    if box.make("archive")[0] or not (box.root / "target/staticlib/libkodarfi.a").is_file() or (box.root / "target/lib").exists():
+        return False
+    (box.folder / "calls").unlink()
     if any(box.make(*words)[0] for words in ((), ("lib",), ("check",))):
         return False
     calls = (box.folder / "calls").read_text().splitlines()
     noted = [(box.root / "target/bin" / f"{name}.version").read_text().split("\n")[0] for name in NAMES]
     version = (ROOT / "VERSION").read_text().strip()
     # the library is linked into batch, where that is a program
-    built = ["check register convert", "staticlib kodarfi"]
-    return calls == built + ["staticlib kodarfi"] and all(line == f"version {version}, commit unknown, kit kit-of-the-tests" for line in noted)
+    built = ["register: run", "convert: run", "kodarfi: lib"]
+    return calls == built + ["kodarfi: lib"] and all(line == f"version {version}, commit unknown, kit kit-of-the-tests" for line in noted)
 
 
 def install_builds_nothing(box):
@@ -29,7 +33,7 @@ def install_builds_nothing(box):
     built = box.make("install", f"PREFIX={box.prefix}")[0] == 0 and not (box.folder / "calls").exists()
     (box.root / "target/bin/convert").unlink()
     box.make("install", f"PREFIX={box.prefix}")
-    return built and (box.folder / "calls").read_text().startswith("check register convert\n")
+    return built and (box.folder / "calls").read_text().startswith("register: run\nconvert: run\n")
 
 
 def installed_files_can_be_read(box):

@@ -4,7 +4,7 @@ from install import cases
 
 INSTALL = "scripts/install"
 MUTANTS = {
-    "no version is noted": ("Makefile", "note_version $$program", ": $$program", cases.make_builds_the_programs),
+    "no version is noted": ("Makefile", "note_version target/bin/$$name", ": target/bin/$$name", cases.make_builds_the_programs),
     "install always builds": ("Makefile", "install: $(PROGRAMS)", "install: programs", cases.install_builds_nothing),
     "no soname": ("Makefile", "-Wl,-soname,$(SONAME) ", "", cases.c_program_by_pkg_config),
     "the whole version as soname": ("Makefile", "$(firstword $(subst ., ,$(VERSION)))", "$(VERSION)", cases.c_program_by_pkg_config),

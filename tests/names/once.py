@@ -8,12 +8,12 @@ DECLARED = re.compile(
     rf"(?P<marks>(?:(?:pub|abbrev|unfoldable|record|data|ruleset) )+)(?P<marked>{NAME})|(?P<name>{NAME})(?: \{{[^{{}}:]*\}})? :(?:\s|$)"
 )
 OTHERS = {"mod", "use", "module"}
-SHAPES = re.compile(r".*-(?:none|next|end)")
-# What a proof says of its own function: the facts and stages of the kit's walk, and its contract.
-OWN = re.compile(r"(?<![\w-])(?:tie|self|stated)\.|(?<![\w-])statement M\b")
+SHAPES = re.compile(r".*[_-](?:none|next|end)")
+# What a file of proofs takes from a module of its own crate, by a word for the module or by names in braces.
+TAKEN = re.compile(r"(?m)^use Rattle\.(\w+)\.proofs\.([^\s{]+?)(?:\.\{([^}]*)\}| as (\S+))$")
 CONSTRUCTORS = {"pos", "negsuc", "suc", "zero", "true", "false", "none", "some", "refl", "here", "there", "next", "tt"}
 # One formula, two ideas: a bias of 2^25 and the largest residual that is allowed; the number of a refusal, and of which of two it is.
-TWO_IDEAS = {("allowedResidual", "bias"), ("head", "whichOf")}
+TWO_IDEAS = {("allowed_residual", "bias"), ("head", "which_of")}
 KIT = {"std", "io", "libc", "os", "bytes"}
 # What the kit wants beside them: the crate of a type that a value has in one of its fields.
 FIELDS = {
@@ -39,14 +39,30 @@ def blocks(text):
     return [(name, lines) for name, lines in found if name]
 
 
+def own_words(root, text):
+    """What a proof says of its own function is said by words of modules that the prover makes, the goals and what is known there: those without a file."""
+    found = []
+    for crate, module, names, alias in TAKEN.findall(text):
+        if not (root / "crates" / crate / "proofs" / (module.replace(".", "/") + ".antt")).is_file():
+            found += [re.escape(alias) + r"\."] if alias else [re.escape(name.split(" as ")[-1].strip()) + r"(?![\w'-])" for name in names.split(",")]
+    return re.compile(r"(?<![\w'.-])(?:" + "|".join(found) + ")") if found else re.compile(r"(?!)")
+
+
+def proofs_of(root):
+    """The files of specs/ and proofs/ of all crates."""
+    return sorted(path for part in ("specs", "proofs") for path in (root / "crates").glob(f"*/{part}/**/*.antt"))
+
+
 def laws(root):
     """(name, lines, file) of what the files of laws declare at top level. In the folder of a function, whose names are the kit's, what speaks of that function
     itself does not count. An indented module's own laws do not count either: they have its parameters."""
-    for path in sorted((root / "crates").glob("*/*/**/*.antt")):
+    for path in proofs_of(root):
         parts = path.relative_to(root / "crates").parts
-        if parts[1] in ("specs", "proofs") and path.name != "Lib.antt":
-            for name, lines in blocks(path.read_text()):
-                if len(parts) == 3 or not OWN.search("\n".join(lines)):
+        if path.name != "Lib.antt":
+            text = path.read_text()
+            own = own_words(root, text)
+            for name, lines in blocks(text):
+                if len(parts) == 3 or not own.search("\n".join(lines)):
                     yield name, lines, "/".join(parts)
 
 
@@ -78,7 +94,7 @@ def shape(name, lines):
     text = "\n".join(lines if defines else signature)
     bound = re.findall(r"[({]\s*([^(){}:=;]+?)\s*:\s", text) + re.findall(r"λ ([^(){}.]+)\.", text)
     heads = re.findall(rf"(?m)^{re.escape(name)}\s([^=\n]*?)=(?:\s|$)", text)
-    variables = {word for group in bound for word in group.split()} | {word for head in heads for word in re.findall(r"(?<![\w.])[a-z]\w*′*", head)} - CONSTRUCTORS
+    variables = {word for group in bound for word in group.split()} | {word for head in heads for word in re.findall(r"(?<![\w.])[a-z]\w*'*", head)} - CONSTRUCTORS
     numbers, tokens = {name: "it"}, re.findall(r"[(){}.;,@\"«»]|[^\s(){}.;,@\"«»]+", text)
     words = [numbers.setdefault(word, len(numbers)) if word in variables else numbers.get(word, word) for word in tokens]
     return tuple(word for word in words if word not in ("pub", "abbrev", "unfoldable"))
@@ -97,10 +113,10 @@ def equal_laws(root):
 
 def named_crates(folder):
     """The crates that the files of a crate name."""
-    for path in folder.rglob("*"):
+    for path in [path for part in ("src", "specs", "proofs") for path in (folder / part).rglob("*")]:
         if path.suffix in (".antt", ".rt"):
             text = path.read_text()
-            yield from re.findall(r"Rattle·([a-z0-9_]+)", text)
+            yield from re.findall(r"Rattle\.([a-z0-9_]+)", text)
             if path.suffix == ".rt":
                 yield from re.findall(r"(?<![\w:])([a-z0-9_]+)::", re.sub(r"//[^\n]*", "", text))
 
@@ -108,7 +124,7 @@ def named_crates(folder):
 def dependencies(root):
     """A crate lists the crates that its own files name, what the kit wants beside them, and no other; the kit's own may stand there too."""
     path = root / "crates.txt"
-    lines = [line.split(":") for line in path.read_text().split("\n") if re.match(r"[a-z0-9_]+:", line)] if path.is_file() else []
+    lines = re.findall(r"(?m)^([a-z0-9_]+)(?: staticlib)?:(.*)", path.read_text()) if path.is_file() else []
     crates = {name for name, _ in lines}
     for name, listed in lines:
         named = (set(named_crates(root / "crates" / name)) | FIELDS.get(name, set())) & crates - {name}
@@ -118,7 +134,7 @@ def dependencies(root):
 
 def long_ways(root):
     """Six steps back or more, one after the other or in one line: the stage has a name at the head of its file."""
-    for path in sorted((root / "crates").rglob("*.antt")):
+    for path in proofs_of(root):
         text = path.read_text()
         for found in re.finditer(r"(?:\.before\b[^\n.]*){6,}|(?:\.before\s*){6,}", text):
             yield f"{path.relative_to(root).as_posix()}:{text.count(chr(10), 0, found.start()) + 1}: {found.group().count('.before')} steps back"

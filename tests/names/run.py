@@ -4,7 +4,7 @@
   python3 tests/names/run.py --self-test   made-up documents, right ones and the mutants of self_test.py
 
 Read are README.md, tests/README.md, docs/*.md, include/*.h, and the head comments of crates: the lines of comment before the first other line of each file
-of specs/, proofs/ and src/. docs/landings and CHANGELOG.md describe the past and are not read. What counts as a citation:
+of specs/, proofs/ and src/. docs/landings, docs/PORT.md and CHANGELOG.md describe the past and are not read. What counts as a citation:
 
 1. A file or a folder: a word with a slash that begins with a folder of the repository, or with a crate and specs, proofs, src or must-fail, anywhere; in
    backquotes also a word that ends like a file of the sources (.antt, .rt, .py, .edit, .awk, .tsv). There must be one whose path ends so; .antt may be left
@@ -16,9 +16,9 @@ of specs/, proofs/ and src/. docs/landings and CHANGELOG.md describe the past an
 4. `File.Name`, in backquotes, where File is a file of promises/specs, and `Name` followed by "of File": Name is declared there. And docs/PROMISES.md names
    every statement of promises/specs, a theorem of the file of the same name in proofs/ has it as its type, or refutes it (False), and no line of the
    document is above 200 characters.
-5. A word in backquotes that has the form of a definition or a theorem, lower-case words with hyphens between them or letters with a capital inside: it
-   stands in some source of the repository outside the documents, and in crates outside comments.
-6. Of the crates themselves (once.py): no two files of specs/ and proofs/ define one name at top level, but for the shapes X-none, X-next and X-end; no two
+5. A word in backquotes that has the form of a definition or a theorem, lower-case words with underscores or hyphens between them or letters with a capital
+   inside: it stands in some source of the repository outside the documents, and in crates outside comments.
+6. Of the crates themselves (once.py): no two files of specs/ and proofs/ define one name at top level, but for the shapes X_none, X_next and X_end; no two
    definitions are equal, and no two laws state the same, up to their names and those of their variables. In the folders of functions what speaks of the function
    itself does not count. crates.txt lists for each crate the crates that its own files name, and no other; and no line of a proof has six `.before` or more.
 
@@ -33,6 +33,7 @@ sys.path.insert(0, str(Path(__file__).resolve().parent.parent))
 import once
 from common.made_up import run
 from common.mutated import close, main
+from common.walked import walked
 
 FOLDERS = "crates|docs|tests|examples|include|scripts|python|bench|programs|\\.ci"
 PATH = re.compile(rf"(?<![\w/.*-])((?:{FOLDERS})/[\w./-]*\w|[a-z_]+/(?:specs|proofs|src|must-fail)(?:/[\w./-]*\w)?)")
@@ -42,7 +43,7 @@ ITEM = re.compile(r"(?<![\w:])((?:\w+::)+\w+)")
 ANYTHING = re.compile(r"(?:^|/)(?:CRATE|FILE|NAME|PREFIX)\b")
 NAMES = re.compile(r"((?:`[^`\s]+`(?:, | and )?)+) (in |of |\()`?((?:[a-z_]+/)?(?:specs|proofs|src)/[\w./-]*\w)")
 OF_FILE = re.compile(r"((?:`\w+`(?:, | and )?)+) of (\w+)\b(?!/)")
-FORM = re.compile(r"[a-z][a-z0-9]*(?:-(?:[a-z][a-z0-9]*|[0-9]+))+|[a-z]+[A-Z]\w*|[A-Z][a-z]+[A-Z]\w*")
+FORM = re.compile(r"[a-z][a-z0-9]*(?:-(?:[a-z][a-z0-9]*|[0-9]+))+|[a-z]\w*_\w+'*|[a-z]+[A-Z]\w*|[A-Z][a-z]+[A-Z]\w*")
 SOURCES = {".antt", ".rt", ".py", ".c", ".h", ".cpp", ".rs", ".sh", ".awk", ""}
 MODIFIERS = "(?:pub|abbrev|unfoldable|irreducible|data|record|def|class)"
 
@@ -75,9 +76,9 @@ def declares(path, name):
     code, plain = code_of(path), re.escape(name)
     if path.suffix == ".rt":
         return bool(re.search(rf"(?m)\b(?:fn|struct|enum|const|mod) {plain}\b" + (rf"|^    {plain}\b(?:,|\(| \{{)" if name[0].isupper() else ""), code))
-    if re.search(rf"(?m)^ +(?:{MODIFIERS} )*(?:[\w′-]+ )*{plain} (?:[\w′-]+ )*:", code):
+    if re.search(rf"(?m)^ +(?:{MODIFIERS} )*(?:[\w'-]+ )*{plain} (?:[\w'-]+ )*:", code):
         return True
-    return bool(re.search(rf"(?m)^(?:{MODIFIERS} )*{plain}(?![\w′-])", code))
+    return bool(re.search(rf"(?m)^(?:{MODIFIERS} )*{plain}(?![\w'-])", code))
 
 
 class Repository:
@@ -85,12 +86,7 @@ class Repository:
 
     def __init__(self, root):
         self.root = root
-        skipped = {"target", ".git", "__pycache__"}
-        self.paths = {}
-        for path in sorted(root.rglob("*")):
-            parts = path.relative_to(root).parts
-            if not skipped & set(parts):
-                self.paths["/".join(parts)] = path
+        self.paths = {path.relative_to(root).as_posix(): path for path in walked(root)}
         self.crates = {name.split("/")[1] for name in self.paths if re.fullmatch(r"crates/\w+", name)}
         self.words, self.passed = set(), 0
         for name, path in self.paths.items():
@@ -105,7 +101,7 @@ class Repository:
     def texts(self):
         """(where, text, file) of all that is read: documents line by line, and head comments."""
         for name, path in self.paths.items():
-            if re.fullmatch(r"README\.md|tests/README\.md|docs/[^/]+\.md|include/[^/]+\.h", name):
+            if re.fullmatch(r"README\.md|tests/README\.md|docs/(?!PORT\.md)[^/]+\.md|include/[^/]+\.h", name):
                 for number, line in enumerate(path.read_text().split("\n"), 1):
                     yield f"{name}:{number}", line, name
             elif re.match(r"crates/\w+/(?:specs|proofs|src)/", name) and path.suffix in (".antt", ".rt"):
@@ -150,7 +146,7 @@ class Repository:
             files = [path for path in self.found(f"{own}/{cited}" if own and LOCAL.match(cited) else cited) if path.is_file()]
             has = declares if not own or joined != "(" else (lambda path, name: name in words_of(code_of(path)))
             for name in re.findall(r"`([^`]+)`", names):
-                if files and re.fullmatch(r"[\w′-]+", name):
+                if files and re.fullmatch(r"[\w'-]+", name):
                     yield self.judged(any(has(path, name) for path in files), f"{cited} declares no {name}")
 
     def statements_in(self, text):

@@ -25,8 +25,8 @@ from sources import Fault, Sources
 BASE = ("check_lists", "entry", "line", "listing", "loader")
 CASES = re.compile(r"(Cases|Before|Tightened|Example)\d*")
 STANDARD = (
-    "Bool true false not _&&_ _||_ ℕ zero suc _+_ _-_ _*_ _/_ _%_ _^_ _<_ _≤_ max min ℤ _+ℤ_ _-ℤ_ _*ℤ_ _<ℤ_ _≤ℤ_ "
-    "List [] _∷_ _++_ Option none some String _≡_ _↔_ _⊎_"
+    "Bool true false not ◌&&◌ ◌||◌ ℕ zero suc ◌+◌ ◌-◌ ◌*◌ ◌/◌ ◌%◌ ◌^◌ ◌<◌ ◌≤◌ ◌==◌ max min ℤ ◌+ℤ◌ ◌-ℤ◌ ◌*ℤ◌ ◌<ℤ◌ ◌≤ℤ◌ "
+    "List [] ◌∷◌ ◌++◌ Option none some String ◌≡◌ ◌↔◌ ◌⊎◌"
 ).split()
 INTRODUCTION = """# What to read to believe it
 
@@ -41,7 +41,7 @@ Nothing else of `specs/` is needed to know what is promised: it serves contracts
 """
 
 
-SIGNS = """`-` of two numbers from 0 on stops at 0, `/` rounds down; `×` is and, `⊎` or, `⊥` what never holds; a sign with ℤ is that of whole numbers."""
+SIGNS = """`-` of two numbers from 0 on stops at 0, `/` rounds down; `==` is the test that two are equal; `×` is and, `⊎` or, `⊥` what never holds; a sign with ℤ is that of whole numbers."""
 
 
 class Reading:
@@ -104,7 +104,7 @@ class Reading:
         parts.append(f"| together | {len(every)} | {self.lines(every)} |")
         for title, units in tiers:
             parts += [f"\n## {title}\n\n| File | Lines | What its head says |\n|---|---|---|", *map(self.row, units), f"| together | {self.lines(units)} | |"]
-        parts.append("\n## The contracts of the public calls\n\n`now` is what a list holds, `.entry` before the call and `.exit` after it; r is the answer.\n")
+        parts.append("\n## The contracts of the public calls\n\n`.now` is what a list holds that is only read, `.old` what a list holds before the call and `.new` after it; `result` is the answer.\n")
         for name, ensures, _ in self.contracts:
             parts.append(f"`{name}`\n")
             parts += ["    " + textwrap.fill(clause, 150, break_long_words=False, break_on_hyphens=False, subsequent_indent=" " * 8) for clause in ensures] + [""]
@@ -119,7 +119,7 @@ class Reading:
             if name not in used:
                 raise Fault(f"{name} of words.tsv is imported by no file of the list")
         rows = [f"| `{name}` | {self.meanings[name]} |" for name in sorted(self.meanings, key=str.lower)]
-        standard = " ".join(f"`{name.replace('_', '')}`" for name in STANDARD if name in used)
+        standard = " ".join(f"`{name.replace('◌', '')}`" for name in STANDARD if name in used)
         standard = textwrap.fill(f"Standard, as their signs say: {standard}.", 150, break_long_words=False, break_on_hyphens=False)
         return "\n".join(["## The library's words", "", standard, SIGNS, "", "| Word | Meaning |", "|---|---|", *rows, ""])
 

@@ -4,8 +4,9 @@ import re
 from pathlib import Path
 
 USE = re.compile(r"(?m)^(?:ghost )?use ([^\s;{]+?)(?:\.\{([^}]*)\})?(?: as (\S+?))?;?$")
-OWN = re.compile(r"Rattle·(\w+?)(?:·specs)?\.specs\.(.+)")
-DECLARED = r"(?m)((?:^//[^\n]*\n)*)^(?:pub )?(?:enum|struct) {}\b[^{{;]*\{{[^}}]*^\}}\n"
+OWN = re.compile(r"Rattle\.(?!std\.)(\w+)\.specs\.(.+)")
+DECLARED = r"(?m)((?:^//[^\n]*\n)*)(?:^#\[[^\n]*\]\n)*^(?:pub )?(?:enum|struct) {}\b[^{{;]*\{{[^}}]*^\}}\n"
+ENSURES = re.compile(r"\bensures (?:(\w+) )?\{")
 
 
 class Fault(Exception):
@@ -15,6 +16,18 @@ class Fault(Exception):
 def uses(text):
     """What a file imports, a triple each: the module, the names in braces after it, and the word that stands for it, or ''."""
     return [(module, [name.split(" as ")[0].strip() for name in names.split(",") if name.strip()], alias) for module, names, alias in USE.findall(text)]
+
+
+def clauses(signature):
+    """What a signature ensures, each clause on one line, behind its name where it has one."""
+    found = []
+    for opened in ENSURES.finditer(signature):
+        depth, at = 1, opened.end()
+        while depth:
+            depth += {"{": 1, "}": -1}.get(signature[at], 0)
+            at += 1
+        found.append((f"{opened[1]}: " if opened[1] else "") + " ".join(signature[opened.end() : at - 1].split()))
+    return found
 
 
 class Sources:
@@ -137,10 +150,10 @@ class Sources:
             text = path.read_text()
             found = re.search(rf'(?ms)^ *pub (?:extern "C" )?fn {function}\b(.*?)^ *\{{$', text)
             if found:
-                ensures = [" ".join(clause.split()) for clause in re.findall(r"(?s)ensures \{ (.*?⌝) \}", found.group(1))]
+                ensures = clauses(found.group(1))
                 if not ensures:
                     raise Fault(f"{name} in crates/{crate}/src/{path.name} has no ensures")
-                reported = set(re.findall(r"[^\s().,;«»⌜⌝]+", " ".join(ensures)))
+                reported = set(re.findall(r"[^\s(){}.,;«»]+", " ".join(ensures)))
                 cited = [self.unit_of(module) for module, names, _ in uses(text) if reported & set(names)]
                 return ensures, [unit for unit in cited if unit]
         raise Fault(f"crates/{crate}/src has no public function {function}, which docs/API.md names")
