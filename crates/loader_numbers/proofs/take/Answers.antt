@@ -1,0 +1,28 @@
+use Rattle.loader_numbers.proofs.Taken.{taken_accepted, taken_refused}
+use Rattle.loader_lists.specs.Lists.{Lists, lists}
+use Rattle.std.proofs.Common.{rules}
+use Rattle.loader_numbers.proofs.take.Goals as goal
+use Rattle.loader_numbers.proofs.take.Goals.{After-from_numbers, After-take-taken, Start}
+
+abbrev lent : Start → Lists
+lent s = lists s.args.matrix.now s.args.right.now s.args.tolerance.now s.args.guess.now s.args.inverse.now s.args.weights.now
+
+abbrev left : After-take-taken → Lists
+left k =
+    let z = k.take-taken.new.matrix in
+    lists z.0 z.1.0 z.1.1.0 z.1.1.1.0 z.1.1.1.1.0 z.1.1.1.1.1.0
+
+pub returns-in-Accepted : goal.returns-in-Accepted
+returns-in-Accepted c =
+    let k = (goal.at.returns-in-Accepted c).After-take-taken in
+    let d = (goal.at.returns-in-Accepted c).After-from_numbers in
+    let s = (goal.at.returns-in-Accepted c).Start in
+    taken_accepted s.args.loader.now {l = lent (goal.at.returns-in-Accepted c).Start} {l' = left (goal.at.returns-in-Accepted c).After-take-taken} d.from_numbers.ensures k.take-taken.ensures c.in-Accepted.is c.numbers-numbers.ensures
+
+
+pub returns-in-Refused : goal.returns-in-Refused
+returns-in-Refused c =
+    let k = (goal.at.returns-in-Refused c).After-take-taken in
+    let d = (goal.at.returns-in-Refused c).After-from_numbers in
+    let s = (goal.at.returns-in-Refused c).Start in
+    taken_refused s.args.loader.now {l = lent (goal.at.returns-in-Refused c).Start} {l' = left (goal.at.returns-in-Refused c).After-take-taken} d.from_numbers.ensures k.take-taken.ensures c.in-Refused.is
