@@ -93,33 +93,27 @@ handed z =
 pub returns-then-coupling-lt-MATRIX_LENGTH : goal.returns-then-coupling-lt-MATRIX_LENGTH
 returns-then-coupling-lt-MATRIX_LENGTH c = dependent_short_lem (D (goal.at.returns-then-coupling-lt-MATRIX_LENGTH c).Start) (rw (lt-ltb _ _ c.if-coupling-lt-MATRIX_LENGTH.true))
 
-
 pub returns-then-is_short : goal.returns-then-is_short
 returns-then-is_short c =
     dependent_short_lem (D (goal.at.returns-then-is_short c).Start)
     (rw (le-ltb _ _ c.if-coupling-lt-MATRIX_LENGTH.false) (sym c.is_short.ensures ∙ c.if-is_short.true))
-
 
 pub all_in_range-requires : goal.all_in_range-requires
 all_in_range-requires c =
     let t = (goal.at.all_in_range-requires c).Then-are_lists_in_range in
     omega (arith, mul-le-mul (n_max (goal.at.all_in_range-requires c).Then-are_sizes_in_range) c.requires.marks_bound, t.if-coupling-lt-MATRIX_LENGTH.false)
 
-
 pub allowed_of-requires : goal.allowed_of-requires
 allowed_of-requires c = ((fit (goal.at.allowed_of-requires c).Then-all_in_range).n_max, refl)
 
-
 pub allowed_of-requires-then-all_in_range : goal.allowed_of-requires-then-all_in_range
 allowed_of-requires-then-all_in_range c = ((fit (goal.at.allowed_of-requires-then-all_in_range c).Then-all_in_range).n_max, refl)
-
 
 pub compute_bounds-requires : goal.compute_bounds-requires
 compute_bounds-requires c =
     let z = (goal.at.compute_bounds-requires c).After-allowed_of-then-all_in_range in
     let t = (goal.at.compute_bounds-requires c).Then-all_in_range in
     let s = (goal.at.compute_bounds-requires c).Start in workable s.args.marks s.args.main_scale s.args.main_guess.now s.args.main_limits s.args.coupling.now (I (goal.at.compute_bounds-requires c).Start) s.requires.marks_bound s.requires.column_list (usable (goal.at.compute_bounds-requires c).Then-all_in_range) (handed (goal.at.compute_bounds-requires c).After-allowed_of-then-all_in_range)
-
 
 pub returns-then-all_in_range : goal.returns-then-all_in_range
 returns-then-all_in_range c =
@@ -129,19 +123,16 @@ returns-then-all_in_range c =
     let s = (goal.at.returns-then-all_in_range c).Start in
     computed_dependent s.args.marks s.args.main_scale s.args.main_guess.now s.args.main_limits s.args.coupling.now (I (goal.at.returns-then-all_in_range c).Start) s.requires.marks_bound s.requires.column_list (usable (goal.at.returns-then-all_in_range c).Then-all_in_range) (handed (goal.at.returns-then-all_in_range c).After-allowed_of-then-all_in_range) r.compute_bounds.ensures
 
-
 pub returns-else-all_in_range : goal.returns-else-all_in_range
 returns-else-all_in_range c =
     let t = (goal.at.returns-else-all_in_range c).Then-s-main_scale in
     dependent_range (D (goal.at.returns-else-all_in_range c).Start) (long (goal.at.returns-else-all_in_range c).Else-is_short)
     (not_both (within (goal.at.returns-else-all_in_range c).Then-are_lists_in_range) (not_both (one_scale (goal.at.returns-else-all_in_range c).Then-s-main_scale) (sym c.all_in_range.ensures ∙ c.if-all_in_range.false)))
 
-
 pub returns-else-s-main_scale : goal.returns-else-s-main_scale
 returns-else-s-main_scale c =
     dependent_range (D (goal.at.returns-else-s-main_scale c).Start) (long (goal.at.returns-else-s-main_scale c).Else-is_short)
     (not_both (within (goal.at.returns-else-s-main_scale c).Then-are_lists_in_range) (not_first _ (ne_eqb _ _ c.if-s-main_scale.false)))
-
 
 pub returns-else-are_lists_in_range : goal.returns-else-are_lists_in_range
 returns-else-are_lists_in_range c =
@@ -149,12 +140,10 @@ returns-else-are_lists_in_range c =
     dependent_range (D (goal.at.returns-else-are_lists_in_range c).Start) (long (goal.at.returns-else-are_lists_in_range c).Else-is_short)
     (not_first _ (not_both (sizes (goal.at.returns-else-are_lists_in_range c).Then-are_sizes_in_range) (sym c.are_lists_in_range.ensures ∙ c.if-are_lists_in_range.false)))
 
-
 pub returns-else-are_sizes_in_range : goal.returns-else-are_sizes_in_range
 returns-else-are_sizes_in_range c =
     dependent_range (D (goal.at.returns-else-are_sizes_in_range c).Start) (long (goal.at.returns-else-are_sizes_in_range c).Else-is_short)
     (not_first _ (not_first _ (sym c.are_sizes_in_range.ensures ∙ c.if-are_sizes_in_range.false)))
-
 
 pub are_lists_in_range-requires-clause-n_bound : goal.are_lists_in_range-requires-clause-n_bound
 are_lists_in_range-requires-clause-n_bound c = let l = long_of (I (goal.at.are_lists_in_range-requires-clause-n_bound c).Start) (not_short (goal.at.are_lists_in_range-requires-clause-n_bound c).Else-is_short) in n_max c

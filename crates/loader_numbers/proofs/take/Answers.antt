@@ -9,8 +9,8 @@ lent s = lists s.args.matrix.now s.args.right.now s.args.tolerance.now s.args.gu
 
 abbrev left : After-take-taken → Lists
 left k =
-    let z = k.take-taken.new.matrix in
-    lists z.0 z.1.0 z.1.1.0 z.1.1.1.0 z.1.1.1.1.0 z.1.1.1.1.1.0
+    let z = k.take-taken.new in
+    lists z.matrix z.right z.tolerance z.guess z.inverse z.weights
 
 pub returns-in-Accepted : goal.returns-in-Accepted
 returns-in-Accepted c =

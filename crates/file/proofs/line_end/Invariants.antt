@@ -1,0 +1,13 @@
+use mathlib.Core.Path.{◌≡◌}
+use Prim.Native.Nat.{◌+◌, ◌-◌, ◌≤◌}
+use native.Mathlib.Omega.{arith}
+use lib.ListN.{length, drop}
+use Rattle.loader_runs.specs.Length.{line_length}
+use Rattle.loader_runs.proofs.Lines.{length_feed, length_byte, length_end}
+use Rattle.file.proofs.line_end.Given as goal
+
+abbrev pub invariant-loop-i : goal.invariant-loop-i
+invariant-loop-i l = (l.i ≤ length l.file) × (l.i + line_length (drop l.i l.file) ≡ l.at + line_length (drop l.at l.file))
+
+abbrev pub decreases-loop-i : goal.decreases-loop-i
+decreases-loop-i l = length l.file - l.i
