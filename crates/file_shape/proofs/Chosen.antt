@@ -51,6 +51,7 @@ module _ (keep : ℤ → Bool) where
 
   pub among_chosen : {f : Form} (fs : List Form) → stays keep f ≡ true → Among f fs → Among f (chosen keep fs)
   unfolding chosen
+  among_chosen {f = f} [] e x'' = elim x'' [ ]
   among_chosen (g ∷ fs) e here = rw e here
   among_chosen {f} (g ∷ fs) e (there a) = go (stays keep g) (among_chosen fs e a)
     where

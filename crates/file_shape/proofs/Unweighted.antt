@@ -23,6 +23,7 @@ keep_none i = false
 
 none_left : (fs : List Form) (i w : ℤ) → Among (weight i w) (unweighted fs) → ⊥
 unfolding chosen
+none_left [] i w a = elim a [ ]
 none_left (f ∷ fs) i w a = go (stays keep_none f) refl a (none_left fs i w)
   where
     go : (b : Bool) → stays keep_none f ≡ b → Among (weight i w) (cond b (f ∷ unweighted fs) (unweighted fs)) → (Among (weight i w) (unweighted fs) → ⊥) → ⊥
