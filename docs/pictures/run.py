@@ -111,7 +111,7 @@ def no_table(log, said):
 def self_test():
     found = [(f"mutant '{name}' is detected", detected(*mutant)) for name, mutant in MUTANTS.items()]
     found.append(("the table of a log", table_of_log()))
-    found.append(("a log without times is detected", no_table("18 passed, 0 failed\n", "no times of a gate")))
+    found.append(("a log without times is detected", no_table("18 passed, 0 failed\n", "no times of crates")))
     found.append(("a log without a crate is detected", no_table(LOG.replace("listing ", "other "), "no time of listing")))
     return report(found)
 
