@@ -207,7 +207,7 @@ show_progress() {
       'crate '*': modules '*) of=${line#crate } of=${of%%:*} ;;
       'logic=proved '*) count=$((count + 1)); echo "$me: $count of $all crates" >&2 ;;
       'logic='*) echo "$me: $of is not proved" >&2 ;;
-      'rt: chose '* | 'rt: note: '* | 'rt: rt '* | 'rt: '*': begins with '*) ;;
+      'rt: chose '* | 'rt: note: '* | 'rt: rt '* | 'rt: running '* | 'rt: '*': begins with '*) ;;
       'rt: '*) printf '%s\n' "$line" >&2 ;;
     esac
   done

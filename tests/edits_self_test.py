@@ -19,6 +19,7 @@ overflow_add-sum c = search rules
 
 # What `rt` says of each edit, behind its name.
 LOGS = {
+    "sum/before": "refused, as it must be: ./proofs/total/Answers.antt:8:5: error: 1 declaration that depends on `small`, which was rejected, was not checked: returns",
     "sum/no_proof": "refused, as it must be: ./proofs/Law.antt:7:3: error: `total_even`: expected type `Even n`",
     "sum/other_sign": "refused, as it must be: ./proofs/total/Answers.antt:8:13: error: `returns`: `search`: no proof of `n ≡ m`",
     "sum/side": "refused, as it must be: ./proofs/total/Answers.antt:11:22: error: `overflow_add-sum`: `search`: no proof",
@@ -30,6 +31,7 @@ LOGS = {
 }
 
 RIGHT = {
+    "sum/before": "`total/Answers.antt`, `small`",
     "sum/no_proof": "`Law.antt`, `total_even`",
     "sum/other_sign": "`total/Answers.antt`, `returns`",
     "sum/side": "first at `total/Answers.antt`, `overflow_add-sum`",
@@ -40,7 +42,7 @@ RIGHT = {
     "text/of_loop": "`src/lib.rt`, `loop-i-preserved` of `take`",
 }
 
-PROMISES = "| Promise | Edits |\n|---|---|\n| sums | sum/other_sign, too_large, side, small_part; sum/no_proof |\n| bytes | text/no_proof_file, of_loop, cut |\n"
+PROMISES = "| Promise | Edits |\n|---|---|\n| sums | sum/other_sign, before, too_large, side, small_part; sum/no_proof |\n| bytes | text/no_proof_file, of_loop, cut |\n"
 
 TABLE = """# The must-fail edits
 
@@ -48,6 +50,7 @@ TABLE = """# The must-fail edits
 
 | Edit | What it breaks | Refused at |
 |---|---|---|
+| before | \\|before\\| is kept | `total/Answers.antt`, `small` |
 | no_proof | \\|no_proof\\| is kept | `Law.antt`, `total_even` |
 | other_sign | \\|other_sign\\| is kept | `total/Answers.antt`, `returns` |
 | side | \\|side\\| is kept | first at `total/Answers.antt`, `overflow_add-sum` |
@@ -90,6 +93,7 @@ MUTANTS = {
     "a log of another edit": (LOG, "sum/other_sign.edit", "sum/other_size.edit"),
     "a log of another fact": (LOG, FACT, "other_sign.edit: refused, as it must be: ./proofs/Law.antt:1:1: error: `total_even`: expected type"),
     "a log that names no fact": (LOG, FACT, "other_sign.edit: refused, as it must be"),
+    "a clause that cannot be read": (LOG, FACT, "other_sign.edit: refused, as it must be: src/lib.rt:2:7: error: `ensures-1`: a projection is written right after a name"),
     "an edit that is bad": (LOG, FACT, "other_sign.edit: BAD EDIT: an 'old:' text is in src/lib.rt 0 times, and not once"),
     "an edit that is proved": (LOG, FACT, "other_sign.edit: NOT REFUSED: the crate is still proved with this edit"),
     "an edit that is not tried": (LOG, FACT, "other_sign.edit: NOT TRIED: its check was killed"),

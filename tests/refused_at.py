@@ -7,8 +7,9 @@ LINE = re.compile(r"^rt: must-fail (?P<name>\w+/[\w.-]+)\.edit: (?P<said>.*)$")
 REFUSED = "refused, as it must be"
 LIMIT = " (only by a limit of the prover"
 
-# A fact refused in a proof file, and one of a function that no proof file answers. A line is cut after so many characters, in a name too.
-IN_PROOF = re.compile(r"(?:\./)?(?P<file>\S+?\.antt):\d+:\d+: error: `(?P<fact>[^`]+)`: ")
+# A fact refused in a proof file, one that another of the file before it stands on, and one of a function that no proof file answers. A line is cut after so many
+# characters, in a name too.
+IN_PROOF = re.compile(r"(?:\./)?(?P<file>\S+?\.antt):\d+:\d+: error: (?:`(?P<fact>[^`]+)`: |\d+ declarations? that depends? on `(?P<below>[^`]+)`, which was rejected)")
 IN_CODE = re.compile(r"note: (?:\./)?(?P<file>\S+?\.rt):(?P<line>\d+):\d+: it is not proved .*?\(`(?P<fact>[^`]*)(?P<end>`?)")
 
 # What a function returns, what a loop keeps, the contract of a function: by the names that the prover gives them.
@@ -40,7 +41,8 @@ def refused_at(crate, said):
     found = IN_PROOF.match(text) or IN_CODE.match(text)
     if not said.startswith((REFUSED + ": ", REFUSED + LIMIT)) or not found or found["file"].startswith("specs/"):
         return None
-    file, fact, path = found["file"].removeprefix("proofs/"), found["fact"], crate / found["file"]
+    file, path = found["file"].removeprefix("proofs/"), crate / found["file"]
+    fact = found["fact"] if found["fact"] is not None else found["below"]
     if path.suffix == ".rt":
         name = f"`{fact}{'' if found['end'] else '..'}` of `{function_at(path, int(found['line']))}`"
         is_side_condition = PROMISED.fullmatch(fact) is None

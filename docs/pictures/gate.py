@@ -1,4 +1,5 @@
-"""Where the time of the gate goes, from docs/pictures/gate.tsv, which is made from what a gate printed (`table`).
+"""Where the time of the gate went, from docs/pictures/gate.tsv, which is made from what a gate printed (`table`) with an older kit, whose `rt ci` told the seconds
+of each crate and edit.
 
 A line of the table has four fields with tabs between them: a storey, or AFTER, and the seconds of its proofs, of its must-fail edits and of its tests.
 The last line begins with '# ' and says of which gate they are."""
@@ -44,7 +45,7 @@ def table(log, crates):
         sums[home[found[1]]][0] += int(found[2])
         sums[home[found[1]]][1] += int(found[4])
     if not whole or not proofs or not any(map(any, sums.values())):
-        raise Fault("the log has no times of a gate: '.ci/run' prints them at its end")
+        raise Fault("the log has no times of crates: '.ci/run' printed them with an older kit")
     lacking = home.keys() - {found[1] for found in crates}
     if lacking:
         raise Fault(f"the log has no time of {', '.join(sorted(lacking))}: it is of a gate that failed, or of other crates")

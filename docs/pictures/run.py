@@ -3,7 +3,7 @@
   python3 docs/pictures/run.py --write       writes all
   python3 docs/pictures/run.py --check       compares all, the map with crates.txt, and the numbers with the laws; the last line is 'N passed, M failed'
   python3 docs/pictures/run.py --self-test   the same on mutants of what they are made from
-  python3 docs/pictures/run.py --gate LOG    makes gate.tsv and its picture from what a gate printed
+  python3 docs/pictures/run.py --gate LOG    makes gate.tsv and its picture from what a gate printed with an older kit; today's tells no seconds of a crate
 
 docs/town.svg and docs/office.svg are drawn by the Python package (`python3 -m kodarfi draw`), and tests/package compares them."""
 
@@ -111,7 +111,7 @@ def no_table(log, said):
 def self_test():
     found = [(f"mutant '{name}' is detected", detected(*mutant)) for name, mutant in MUTANTS.items()]
     found.append(("the table of a log", table_of_log()))
-    found.append(("a log without times is detected", no_table("18 passed, 0 failed\n", "no times of a gate")))
+    found.append(("a log without times is detected", no_table("18 passed, 0 failed\n", "no times of crates")))
     found.append(("a log without a crate is detected", no_table(LOG.replace("listing ", "other "), "no time of listing")))
     return report(found)
 

@@ -28,6 +28,7 @@ mkdir "$top/building" || echo "two at once" >>"$top/calls"
 cat >/dev/null
 sleep 0.2
 echo "rt: what the program prints"
+echo "rt: integer: begins with what a check kept" >&2
 echo "rt: chose --jobs 2 for integer" >&2
 echo "fn register::main: proved" >&2
 echo "crate integer: modules loaded=1 checked=0" >&2
@@ -39,6 +40,7 @@ rmdir "$top/building"
 echo "crate listing: modules loaded=1 checked=0" >&2
 [ ! -e "$top/broken" ] || { echo "logic=not-proved" >&2; echo "rt: mend this first" >&2; exit 1; }
 echo "logic=proved functions=1" >&2
+echo "rt: running out/register" >&2
 """
 
 
