@@ -5,7 +5,6 @@ use Rattle.check_spec.specs.Order.{answer}
 use Rattle.common_spec.specs.Proposals.{Proposals, proposal, proposals, short_intervals, same_equations}
 use Rattle.common_spec.proofs.Contract.{common_short, common_first, common_second, common_different}
 use Rattle.common_interval.proofs.Meeting.{short_low, short_high, long_both, code_refused, code_accepted, equations_ready, meeting_ready, common_met}
-use Rattle.std.proofs.Common.{rules}
 use Rattle.common_interval.proofs.common_interval.Goals as goal
 use Rattle.common_interval.proofs.common_interval.Goals.{After-check_held-first, After-check_held-second, After-meet, Else-are_equations_same, Else-high-lt-COLUMN_LENGTH, In-Accepted, In-Accepted-code2, Start, Then-are_equations_same}
 
@@ -47,10 +46,8 @@ different c = sym c.are_equations_same.ensures ∙ c.if-are_equations_same.false
 pub returns-then-low-lt-COLUMN_LENGTH : goal.returns-then-low-lt-COLUMN_LENGTH
 returns-then-low-lt-COLUMN_LENGTH c = common_short (Q (goal.at.returns-then-low-lt-COLUMN_LENGTH c).Start) (short_low (Q (goal.at.returns-then-low-lt-COLUMN_LENGTH c).Start) c.if-low-lt-COLUMN_LENGTH.true)
 
-
 pub returns-then-high-lt-COLUMN_LENGTH : goal.returns-then-high-lt-COLUMN_LENGTH
 returns-then-high-lt-COLUMN_LENGTH c = let q = Q (goal.at.returns-then-high-lt-COLUMN_LENGTH c).Start in common_short q (short_high q c.if-low-lt-COLUMN_LENGTH.false c.if-high-lt-COLUMN_LENGTH.true)
-
 
 pub returns-then-are_equations_same : goal.returns-then-are_equations_same
 returns-then-are_equations_same c =
@@ -59,13 +56,11 @@ returns-then-are_equations_same c =
     let b = (goal.at.returns-then-are_equations_same c).In-Accepted-code2 in
     common_met (Q (goal.at.returns-then-are_equations_same c).Start) _ _ b.check_held-first.ensures b.check_held-second.ensures (long (goal.at.returns-then-are_equations_same c).Else-high-lt-COLUMN_LENGTH) (first_code (goal.at.returns-then-are_equations_same c).In-Accepted) (second_code (goal.at.returns-then-are_equations_same c).In-Accepted-code2) (same (goal.at.returns-then-are_equations_same c).Then-are_equations_same) m.meet.ensures
 
-
 pub returns-in-Refused : goal.returns-in-Refused
 returns-in-Refused c =
     let p = (goal.at.returns-in-Refused c).After-check_held-first in
     let q = Q (goal.at.returns-in-Refused c).Start in
     common_first q (long (goal.at.returns-in-Refused c).Else-high-lt-COLUMN_LENGTH) _ (code_refused q.first _ p.check_held-first.ensures _ c.in-Refused.is)
-
 
 pub returns-in-Refused-code2 : goal.returns-in-Refused-code2
 returns-in-Refused-code2 c =
@@ -74,12 +69,10 @@ returns-in-Refused-code2 c =
     let q = Q (goal.at.returns-in-Refused-code2 c).Start in
     common_second q (long (goal.at.returns-in-Refused-code2 c).Else-high-lt-COLUMN_LENGTH) (first_code (goal.at.returns-in-Refused-code2 c).In-Accepted) _ (code_refused q.second _ p.check_held-second.ensures _ c.in-Refused-code2.is)
 
-
 pub returns-else-are_equations_same : goal.returns-else-are_equations_same
 returns-else-are_equations_same c =
     let b = (goal.at.returns-else-are_equations_same c).In-Accepted-code2 in
     common_different (Q (goal.at.returns-else-are_equations_same c).Start) (long (goal.at.returns-else-are_equations_same c).Else-high-lt-COLUMN_LENGTH) (first_code (goal.at.returns-else-are_equations_same c).In-Accepted) (second_code (goal.at.returns-else-are_equations_same c).In-Accepted-code2) (different c)
-
 
 pub are_equations_same-requires-clause-n1_bound : goal.are_equations_same-requires-clause-n1_bound
 are_equations_same-requires-clause-n1_bound c = (equations_ready (Q (goal.at.are_equations_same-requires-clause-n1_bound c).Start).first (Q (goal.at.are_equations_same-requires-clause-n1_bound c).Start).second (first_code (goal.at.are_equations_same-requires-clause-n1_bound c).In-Accepted) (second_code c)).0

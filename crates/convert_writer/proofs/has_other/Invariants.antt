@@ -1,11 +1,8 @@
 use mathlib.Core.Path.{◌≡◌}
-use Prim.Native.Nat.{ℕ, ◌-◌, ◌≤◌}
-use native.Mathlib.Omega.{arith}
+use Prim.Native.Nat.{ℕ, ◌≤◌}
 use lib.IntN.{nat_abs}
 use Rattle.integer.specs.Finite.{largest}
-use Rattle.integer.proofs.Search.{largest_none}
 use Rattle.linear.specs.Slice.{at as number}
-use Rattle.convert_writer.proofs.Held.{small_read, none_more, one_found, none_found}
 use Rattle.convert_writer.proofs.has_other.Given as goal
 
 abbrev pub invariant-loop-i : goal.invariant-loop-i

@@ -1,11 +1,4 @@
-use mathlib.Core.Path.{ap, ◌∙◌}
-use Prim.Native.Nat.{ℕ}
-use lib.Dec.{ltb}
-use lib.IntN.{nat_abs}
-use Rattle.integer.specs.Finite.{largest}
-use Rattle.linear.specs.Slice.{at as number}
 use Rattle.convert_writer.proofs.Held.{size, tolerance_small}
-use Rattle.std.proofs.Common.{rules}
 use Rattle.convert_writer.proofs.has_tolerance.Goals as goal
 use Rattle.convert_writer.proofs.has_tolerance.Goals.{Start}
 

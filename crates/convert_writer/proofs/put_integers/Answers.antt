@@ -1,22 +1,17 @@
-use mathlib.Core.Path.{◌≡◌, refl, ◌∙◌}
+use mathlib.Core.Path.{refl, ◌∙◌}
 use mathlib.Core.List.{◌++◌}
-use Prim.Native.Nat.{ℕ, ◌+◌, ◌*◌, ◌-◌, ◌≤◌}
+use Prim.Native.Nat.{ℕ, ◌+◌}
 use native.Mathlib.Omega.{arith}
-use lib.ListN.{length}
 use Rattle.linear.specs.Slice.{at as number}
 use Rattle.line_numeral.specs.Decimal.{numeral}
-use Rattle.listing_text.specs.Wrote.{Wrote}
 use Rattle.listing_text.specs.Line.{gap}
-use Rattle.listing_text.proofs.Each.{wrote_none, wrote_more, wrote_end, next_room}
-use Rattle.convert_writer.specs.Written.{integers}
+use Rattle.listing_text.proofs.Each.{wrote_none, wrote_more}
 use Rattle.convert_writer.proofs.Held.{small_read}
-use Rattle.std.proofs.Common.{rules}
 use Rattle.convert_writer.proofs.put_integers.Goals as goal
 use Rattle.convert_writer.proofs.put_integers.Goals.{In-loop-j, Start}
 
 pub loop-j-init : goal.loop-j-init
 loop-j-init c = (omega arith, refl, wrote_none 21 _ _ _)
-
 
 pub loop-j-preserved : goal.loop-j-preserved
 loop-j-preserved c =

@@ -1,11 +1,8 @@
-use mathlib.Core.Path.{◌≡◌, refl, ◌∙◌}
-use Prim.Native.Nat.{ℕ, ◌*◌, ◌-◌, ◌≤◌}
-use native.Mathlib.Nat.{mul-le-mul_right}
-use native.Mathlib.Omega.{arith}
+use mathlib.Core.Path.{◌≡◌}
+use Prim.Native.Nat.{ℕ, ◌*◌, ◌≤◌}
 use lib.ListN.{length}
 use Rattle.listing_text.specs.Wrote.{Wrote}
 use Rattle.listing_text.specs.Line.{each}
-use Rattle.listing_text.proofs.Each.{wrote_none, wrote_more, wrote_end}
 use Rattle.convert_spec.specs.File.{form_for}
 use Rattle.convert_writer.specs.Written.{held_by, form_line, most_for}
 use Rattle.convert_writer.proofs.put_part.Given as goal

@@ -1,6 +1,5 @@
 use Rattle.listing_text.proofs.Wrote.{then, called}
 use Rattle.convert_writer.proofs.Each.{problem_line}
-use Rattle.std.proofs.Common.{rules}
 use Rattle.convert_writer.proofs.put_problem.Goals as goal
 use Rattle.convert_writer.proofs.put_problem.Goals.{After-out-1, After-out-2-1, After-put_bytes}
 

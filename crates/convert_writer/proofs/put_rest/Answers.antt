@@ -1,6 +1,4 @@
-use native.Mathlib.Omega.{arith}
 use Rattle.convert_writer.proofs.Whole.{rest_written}
-use Rattle.std.proofs.Common.{rules}
 use Rattle.convert_writer.proofs.put_rest.Goals as goal
 use Rattle.convert_writer.proofs.put_rest.Goals.{After-out-1, After-out-2-1, After-out-3-1, After-out-4-1, After-out-5-1, After-put_bytes, After-slice_known-1}
 

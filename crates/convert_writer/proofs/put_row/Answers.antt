@@ -1,6 +1,5 @@
 use native.Mathlib.Omega.{arith}
 use Rattle.listing_text.proofs.Wrote.{then, wider}
-use Rattle.std.proofs.Common.{rules}
 use Rattle.convert_writer.proofs.put_row.Goals as goal
 use Rattle.convert_writer.proofs.put_row.Goals.{After-put_bytes, Start}
 

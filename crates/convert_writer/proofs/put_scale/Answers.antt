@@ -1,6 +1,5 @@
 use Rattle.listing_text.proofs.Wrote.{then, called}
 use Rattle.convert_writer.proofs.Each.{scale_line}
-use Rattle.std.proofs.Common.{rules}
 use Rattle.convert_writer.proofs.put_scale.Goals as goal
 use Rattle.convert_writer.proofs.put_scale.Goals.{After-out-3-1, After-out-4-1, After-put_bytes, After-slice_known-2-1, After-slice_known-3-1}
 

@@ -1,6 +1,5 @@
 use Rattle.integer.proofs.Machine.{read}
 use Rattle.listing_text.proofs.Wrote.{then, wider}
-use Rattle.std.proofs.Common.{rules}
 use Rattle.convert_writer.proofs.put_value.Goals as goal
 use Rattle.convert_writer.proofs.put_value.Goals.{After-out-3-1, After-out-4-1, After-put_bytes, After-shared_slice_known-1, After-slice_known-2-1, After-slice_known-3-1}
 

@@ -1,5 +1,4 @@
 use Rattle.converter.proofs.Held.{ready, file_delivered, file_refused}
-use Rattle.std.proofs.Common.{rules}
 use Rattle.converter.proofs.convert_file.Goals as goal
 use Rattle.converter.proofs.convert_file.Goals.{After-read_file-collected, In-Accepted}
 
@@ -9,12 +8,10 @@ deliver-answer-requires c =
     let r = (goal.at.deliver-answer-requires c).After-read_file-collected in
     ready r.args.file.now r.read_file-collected.ensures status.in-Accepted.is
 
-
 pub returns-in-Refused : goal.returns-in-Refused
 returns-in-Refused c =
     let r = (goal.at.returns-in-Refused c).After-read_file-collected in
     file_refused r.args.file.now r.read_file-collected.ensures _ c.in-Refused.is _
-
 
 pub returns-in-Accepted : goal.returns-in-Accepted
 returns-in-Accepted c =

@@ -1,5 +1,5 @@
 use mathlib.Core.Path.{sym, ◌∙◌}
-use Rattle.converter.proofs.Handed.{taken_text, counted, held_delivered, open_delivered}
+use Rattle.converter.proofs.Handed.{taken_text, held_delivered}
 use Rattle.std.proofs.Common.{rules}
 use Rattle.converter.proofs.deliver.Goals as goal
 use Rattle.converter.proofs.deliver.Goals.{After-hand_over, After-has_ended, After-has_tolerance, After-put_file-length, Start, Then-has_ended}

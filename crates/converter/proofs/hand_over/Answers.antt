@@ -1,5 +1,4 @@
-use Rattle.converter.proofs.Handed.{handed_none, handed_room, handed}
-use Rattle.std.proofs.Common.{rules}
+use Rattle.converter.proofs.Handed.{handed}
 use Rattle.converter.proofs.hand_over.Goals as goal
 use Rattle.converter.proofs.hand_over.Goals.{Else-tolerance-out}
 

@@ -1,10 +1,8 @@
-use mathlib.Core.Path.{sym}
 use native.Mathlib.Omega.{arith}
 use Rattle.linear.proofs.Places.{square}
 use Rattle.check_spec.specs.Input.{input}
 use Rattle.dependent_spec.specs.Nets.{Nets, nets}
 use Rattle.dependent_check.proofs.Held.{short_solution, short_inverse, main_refused, marks_few, guess_known, limits_long, inverse_long, dependent_refused, both_accepted}
-use Rattle.std.proofs.Common.{rules}
 use Rattle.dependent_check.proofs.check_dependent.Goals as goal
 use Rattle.dependent_check.proofs.check_dependent.Goals.{After-check_dependent_net-own, After-check_held-held, After-copy_limits, Start}
 
@@ -19,10 +17,8 @@ J s =
 pub returns-then-solution_bounds1-lt-COLUMN_LENGTH : goal.returns-then-solution_bounds1-lt-COLUMN_LENGTH
 returns-then-solution_bounds1-lt-COLUMN_LENGTH c = short_solution (J (goal.at.returns-then-solution_bounds1-lt-COLUMN_LENGTH c).Start) c.if-solution_bounds1-lt-COLUMN_LENGTH.true
 
-
 pub returns-then-inverse_bounds1-lt-MATRIX_LENGTH : goal.returns-then-inverse_bounds1-lt-MATRIX_LENGTH
 returns-then-inverse_bounds1-lt-MATRIX_LENGTH c = short_inverse (J (goal.at.returns-then-inverse_bounds1-lt-MATRIX_LENGTH c).Start) c.if-inverse_bounds1-lt-MATRIX_LENGTH.true
-
 
 pub copy_limits-requires : goal.copy_limits-requires
 copy_limits-requires c =
@@ -33,7 +29,6 @@ copy_limits-requires c =
     let long = limits_long (J (goal.at.copy_limits-requires c).Start) h.if-solution_bounds1-lt-COLUMN_LENGTH.false h.if-inverse_bounds1-lt-MATRIX_LENGTH.false h.check_held-held.ensures e in
     (omega (arith, n_max, long), omega (arith, n_max, h.if-solution_bounds1-lt-COLUMN_LENGTH.false))
 
-
 pub copy_limits-requires-in-Accepted-own : goal.copy_limits-requires-in-Accepted-own
 copy_limits-requires-in-Accepted-own c =
     let a = (goal.at.copy_limits-requires-in-Accepted-own c).After-check_dependent_net-own in
@@ -43,19 +38,16 @@ copy_limits-requires-in-Accepted-own c =
     let long = inverse_long (J (goal.at.copy_limits-requires-in-Accepted-own c).Start) h.if-solution_bounds1-lt-COLUMN_LENGTH.false h.if-inverse_bounds1-lt-MATRIX_LENGTH.false h.check_held-held.ensures e in
     (omega (arith, square n_max, long), omega (arith, square n_max, h.if-inverse_bounds1-lt-MATRIX_LENGTH.false))
 
-
 pub returns-in-Refused : goal.returns-in-Refused
 returns-in-Refused c =
     let h = (goal.at.returns-in-Refused c).After-check_held-held in
     main_refused (J (goal.at.returns-in-Refused c).Start) h.if-solution_bounds1-lt-COLUMN_LENGTH.false h.if-inverse_bounds1-lt-MATRIX_LENGTH.false h.check_held-held.ensures _ c.in-Refused.is
-
 
 pub returns-in-Refused-own : goal.returns-in-Refused-own
 returns-in-Refused-own c =
     let a = (goal.at.returns-in-Refused-own c).After-check_dependent_net-own in
     let h = (goal.at.returns-in-Refused-own c).After-check_held-held in
     dependent_refused (J (goal.at.returns-in-Refused-own c).Start) h.if-solution_bounds1-lt-COLUMN_LENGTH.false h.if-inverse_bounds1-lt-MATRIX_LENGTH.false h.check_held-held.ensures c.in-Accepted.is a.check_dependent_net-own.ensures _ c.in-Refused-own.is
-
 
 pub returns-in-Accepted-own : goal.returns-in-Accepted-own
 returns-in-Accepted-own c =
@@ -64,7 +56,6 @@ returns-in-Accepted-own c =
     let h = (goal.at.returns-in-Accepted-own c).After-check_held-held in
     both_accepted (J (goal.at.returns-in-Accepted-own c).Start) h.if-solution_bounds1-lt-COLUMN_LENGTH.false h.if-inverse_bounds1-lt-MATRIX_LENGTH.false h.check_held-held.ensures c.in-Accepted.is a.check_dependent_net-own.ensures c.in-Accepted-own.is
     i.copy_limits.ensures c.copy_limits-in-Accepted-own.ensures
-
 
 pub check_dependent_net-own-requires-clause-marks_bound : goal.check_dependent_net-own-requires-clause-marks_bound
 check_dependent_net-own-requires-clause-marks_bound c = let h = (goal.at.check_dependent_net-own-requires-clause-marks_bound c).After-check_held-held in let e = c.in-Accepted.is in let l = h.if-solution_bounds1-lt-COLUMN_LENGTH.false in let m = h.if-inverse_bounds1-lt-MATRIX_LENGTH.false in marks_few (J (goal.at.check_dependent_net-own-requires-clause-marks_bound c).Start) l m h.check_held-held.ensures e

@@ -1,10 +1,5 @@
-use mathlib.Core.Path.{◌≡◌, subst}
-use Prim.Native.Nat.{ℕ, ◌≤◌, ◌-◌}
-use native.Mathlib.Nat.{le_antisymm}
 use native.Mathlib.Omega.{arith}
-use Rattle.file.specs.Feeds.{FeedWithin}
-use Rattle.file.proofs.Feeds.{no_bytes, one_byte_more}
-use Rattle.std.proofs.Common.{rules}
+use Rattle.file.proofs.Feeds.{one_byte_more}
 use Rattle.file.proofs.has_feed.Goals as goal
 use Rattle.file.proofs.has_feed.Goals.{Start}
 

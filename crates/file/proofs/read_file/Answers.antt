@@ -1,7 +1,6 @@
 use mathlib.Core.Path.{refl}
 use Rattle.loader_runs.specs.Read.{zeros}
 use Rattle.file.proofs.Turns.{from_zeros}
-use Rattle.std.proofs.Common.{rules}
 use Rattle.file.proofs.read_file.Goals as goal
 use Rattle.file.proofs.read_file.Goals.{After-take_lines-taken, Start}
 

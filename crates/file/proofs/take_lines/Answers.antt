@@ -1,9 +1,6 @@
-use mathlib.Core.Path.{◌≡◌, refl, ◌∙◌}
-use Prim.Native.Nat.{◌-◌}
-use lib.ListN.{length}
+use mathlib.Core.Path.{◌∙◌}
 use Rattle.loader_lists.specs.Lists.{Lists, lists}
-use Rattle.file.proofs.Turns.{ReadUpTo, at_start, at_end, read_on, read_refusal}
-use Rattle.std.proofs.Common.{rules}
+use Rattle.file.proofs.Turns.{at_end, read_on, read_refusal}
 use Rattle.file.proofs.take_lines.Goals as goal
 use Rattle.file.proofs.take_lines.Goals.{After-line_end-end, After-take-taken, Start}
 
@@ -17,7 +14,6 @@ returns-in-Refused c =
     let e = (goal.at.returns-in-Refused c).After-line_end-end in
     let s = (goal.at.returns-in-Refused c).Start in
     read_refusal s.args.file.now (old (goal.at.returns-in-Refused c).Start) e.loop-at.invariant.6 e.loop-at-test.true e.line_end-end.ensures t.take-taken.ensures _ c.in-Refused.is
-
 
 pub loop-at-preserved : goal.loop-at-preserved
 loop-at-preserved c =
@@ -34,7 +30,6 @@ loop-at-preserved c =
       k.weights ∙ l.invariant.5,
       read_on s.args.file.now (old (goal.at.loop-at-preserved c).Start) l.invariant.6 e.loop-at-test.true e.line_end-end.ensures t.take-taken.ensures c.in-Accepted.is,
     )
-
 
 pub returns : goal.returns
 returns c =

@@ -1,8 +1,8 @@
-use mathlib.Core.Path.{◌≡◌, refl, ◌∙◌}
+use mathlib.Core.Path.{◌≡◌}
 use Prim.Native.Nat.{◌-◌}
 use lib.ListN.{length}
-use Rattle.loader_lists.specs.Lists.{Lists, lists}
-use Rattle.file.proofs.Turns.{ReadUpTo, at_start, at_end, read_on, read_refusal}
+use Rattle.loader_lists.specs.Lists.{lists}
+use Rattle.file.proofs.Turns.{ReadUpTo}
 use Rattle.file.proofs.take_lines.Given as goal
 
 abbrev pub invariant-loop-at : goal.invariant-loop-at

@@ -1,5 +1,4 @@
-use Rattle.file_check.proofs.Shown.{shown_refused, shown_accepted, report_ready}
-use Rattle.std.proofs.Common.{rules}
+use Rattle.file_check.proofs.Shown.{shown_accepted, report_ready}
 use Rattle.file_check.proofs.put_checked.Goals as goal
 use Rattle.file_check.proofs.put_checked.Goals.{After-put_report-length, After-solution_scale-s, In-Accepted}
 
@@ -9,7 +8,6 @@ returns-in-Accepted c =
     let k = (goal.at.returns-in-Accepted c).After-solution_scale-s in
     let m = (goal.at.returns-in-Accepted c).In-Accepted in
     shown_accepted _ _ m.check-outcome.ensures m.in-Accepted.is k.size-n.ensures k.solution_scale-s.ensures c.no_refusal.ensures p.put_report-length.ensures
-
 
 pub put_report-length-requires-clause-reportable : goal.put_report-length-requires-clause-reportable
 put_report-length-requires-clause-reportable c = let k = (goal.at.put_report-length-requires-clause-reportable c).After-solution_scale-s in let m = (goal.at.put_report-length-requires-clause-reportable c).In-Accepted in report_ready _ _ m.check-outcome.ensures m.in-Accepted.is k.size-n.ensures k.solution_scale-s.ensures

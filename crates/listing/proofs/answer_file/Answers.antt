@@ -17,7 +17,6 @@ returns-in-Refused c =
     let file = k.args.file.now in
     as_answered file (search rules) (refusal_answered file k.take_lines-taken.ensures (unfold zeros in refl) _ c.in-Refused.is c.put_refusal.ensures)
 
-
 pub returns-in-Accepted : goal.returns-in-Accepted
 returns-in-Accepted c =
     let lent = (goal.at.returns-in-Accepted c).After-put_checked-arg-1 in

@@ -1,6 +1,5 @@
 use Rattle.loader_numbers.proofs.Taken.{taken_accepted, taken_refused}
 use Rattle.loader_lists.specs.Lists.{Lists, lists}
-use Rattle.std.proofs.Common.{rules}
 use Rattle.loader_numbers.proofs.take.Goals as goal
 use Rattle.loader_numbers.proofs.take.Goals.{After-from_numbers, After-take-taken, Start}
 
@@ -18,7 +17,6 @@ returns-in-Accepted c =
     let d = (goal.at.returns-in-Accepted c).After-from_numbers in
     let s = (goal.at.returns-in-Accepted c).Start in
     taken_accepted s.args.loader.now {l = lent (goal.at.returns-in-Accepted c).Start} {l' = left (goal.at.returns-in-Accepted c).After-take-taken} d.from_numbers.ensures k.take-taken.ensures c.in-Accepted.is c.numbers-numbers.ensures
-
 
 pub returns-in-Refused : goal.returns-in-Refused
 returns-in-Refused c =

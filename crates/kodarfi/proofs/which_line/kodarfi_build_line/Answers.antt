@@ -1,6 +1,5 @@
-use Rattle.std.proofs.Common.{◌≡◌}
 use Rattle.build_equations.specs.declared.Layout.TheVariants.{Square}
-use Rattle.build.proofs.Contract.{gathered_for, ready}
+use Rattle.build.proofs.Contract.{ready}
 use Rattle.kodarfi.proofs.Lined.{is_whole, lined}
 use Rattle.kodarfi.proofs.which_line.kodarfi_build_line.Goals as goal
 

@@ -1,7 +1,6 @@
 use mathlib.Core.Path.{sym, ◌∙◌}
 use Rattle.check_spec.specs.Input.{Input, input}
 use Rattle.loader_order.proofs.Through.{through_ended, through_open}
-use Rattle.std.proofs.Common.{rules}
 use Rattle.loader.proofs.Loader.check.Goals as goal
 use Rattle.loader.proofs.Loader.check.Goals.{After-check, After-is_short-short, Else-is_ended, Start, Then-is_ended}
 
@@ -16,7 +15,6 @@ returns-then-is_ended c =
     let t = (goal.at.returns-then-is_ended c).Then-is_ended in
     let s = (goal.at.returns-then-is_ended c).Start in
     through_ended s.args.self.stage (I (goal.at.returns-then-is_ended c).Start) (sym t.is_ended.ensures ∙ t.if-is_ended.true) k.check.ensures
-
 
 pub returns : goal.returns
 returns c =

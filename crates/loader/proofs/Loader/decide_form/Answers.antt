@@ -1,5 +1,4 @@
-use Rattle.loader.proofs.Form.{fits_of, decided_refused, decided_accepted}
-use Rattle.std.proofs.Common.{rules}
+use Rattle.loader.proofs.Form.{fits_of}
 use Rattle.loader.proofs.Loader.decide_form.Goals as goal
 use Rattle.loader.proofs.Loader.decide_form.Goals.{After-item_of-item, After-judge_form-outcome}
 

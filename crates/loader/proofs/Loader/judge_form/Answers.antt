@@ -4,7 +4,6 @@ use Rattle.loader_values.specs.Capped.{outside_in}
 use Rattle.loader_progress.specs.Progress.{early, misplaced, repeated}
 use Rattle.loader_progress.proofs.Progress.{placed_32}
 use Rattle.loader.proofs.Judge.{says_11, says_3_place, says_12, says_3_values, says_4, says_rest}
-use Rattle.std.proofs.Common.{rules}
 use Rattle.loader.proofs.Loader.judge_form.Goals as goal
 use Rattle.loader.proofs.Loader.judge_form.Goals.{After-item_of-item, Else-is_early, Else-is_miscounted, Else-is_misplaced, Else-is_outside, Else-is_repeated}
 
@@ -27,7 +26,6 @@ returns-then-is_early c =
     let a = m.args in
     says_11 a.self a.form a.count a.inside m.item_of-item.ensures (sym c.is_early.ensures ∙ c.if-is_early.true)
 
-
 pub returns-then-is_misplaced : goal.returns-then-is_misplaced
 returns-then-is_misplaced c =
     let e = (goal.at.returns-then-is_misplaced c).Else-is_early in
@@ -35,13 +33,11 @@ returns-then-is_misplaced c =
     let a = m.args in
     says_3_place a.self a.form a.count a.inside m.item_of-item.ensures (not-early (goal.at.returns-then-is_misplaced c).Else-is_early) (sym c.is_misplaced.ensures ∙ c.if-is_misplaced.true)
 
-
 pub is_repeated-requires : goal.is_repeated-requires
 is_repeated-requires c =
     let p = (goal.at.is_repeated-requires c).Else-is_misplaced in
     let e = (goal.at.is_repeated-requires c).Else-is_early in
     placed_32 e.args.self.stage e.args.self.n e.item_of-item.result (not-early (goal.at.is_repeated-requires c).Else-is_early) (not-misplaced (goal.at.is_repeated-requires c).Else-is_misplaced)
-
 
 pub returns-then-is_repeated : goal.returns-then-is_repeated
 returns-then-is_repeated c =
@@ -50,7 +46,6 @@ returns-then-is_repeated c =
     let m = (goal.at.returns-then-is_repeated c).After-item_of-item in
     let a = m.args in
     says_12 a.self a.form a.count a.inside m.item_of-item.ensures (not-early (goal.at.returns-then-is_repeated c).Else-is_early) (not-misplaced (goal.at.returns-then-is_repeated c).Else-is_misplaced) (sym c.is_repeated.ensures ∙ c.if-is_repeated.true)
-
 
 pub returns-then-is_outside : goal.returns-then-is_outside
 returns-then-is_outside c =
@@ -61,7 +56,6 @@ returns-then-is_outside c =
     let a = m.args in
     says_3_values a.self a.form a.count a.inside m.item_of-item.ensures (not-early (goal.at.returns-then-is_outside c).Else-is_early) (not-misplaced (goal.at.returns-then-is_outside c).Else-is_misplaced) (not-repeated (goal.at.returns-then-is_outside c).Else-is_repeated) (sym c.is_outside.ensures ∙ c.if-is_outside.true)
 
-
 pub returns-then-is_miscounted : goal.returns-then-is_miscounted
 returns-then-is_miscounted c =
     let k = (goal.at.returns-then-is_miscounted c).Else-is_outside in
@@ -71,7 +65,6 @@ returns-then-is_miscounted c =
     let m = (goal.at.returns-then-is_miscounted c).After-item_of-item in
     let a = m.args in
     says_4 a.self a.form a.count a.inside m.item_of-item.ensures (not-early (goal.at.returns-then-is_miscounted c).Else-is_early) (not-misplaced (goal.at.returns-then-is_miscounted c).Else-is_misplaced) (not-repeated (goal.at.returns-then-is_miscounted c).Else-is_repeated) (not-outside (goal.at.returns-then-is_miscounted c).Else-is_outside) (sym c.is_miscounted.ensures ∙ c.if-is_miscounted.true)
-
 
 pub returns : goal.returns
 returns c =

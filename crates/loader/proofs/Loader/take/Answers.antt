@@ -1,8 +1,6 @@
 use mathlib.Core.Path.{sym}
 use Rattle.loader_lists.specs.Lists.{Lists, lists}
 use Rattle.loader.specs.Decided.{DecidedFor}
-use Rattle.loader.proofs.Line.{taken_so}
-use Rattle.std.proofs.Common.{rules}
 use Rattle.loader.proofs.Loader.take.Goals as goal
 use Rattle.loader.proofs.Loader.take.Goals.{After-decide-decided, Start}
 
