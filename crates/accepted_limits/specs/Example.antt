@@ -1,5 +1,5 @@
 -- Two nets where no joint solution comes near the limits of the dependent net.
---   fork — the main net has one mark, with the tolerance 3 and so with the limit 48 (`oneMark`); the dependent net has A2 = (2 1 / 1 1) with its exact inverse
+--   fork — the main net has one mark, with the tolerance 3 and so with the limit 48 (`one_mark`); the dependent net has A2 = (2 1 / 1 1) with its exact inverse
 --     16·(1 −1 / −1 2), guesses and right sides 0 without tolerance, weights 1, and C = (1 / 1). The limits of the dependent net are 3·48; of a joint
 --     solution the first height is its guess, and the second lies as far from it as the main net's
 use Rattle.std.specs.Prelude.{[], ◌∷◌, pos, negsuc, replicate}

@@ -1,7 +1,7 @@
 -- The contract of `build` (document 02, Papers 3 and 10).
 --   short_as layout k — a matrix list of k numbers is too short for its layout: under 1,024, or under 528 where the lower half is written
 --   short_for layout a b — 8: one of the lent lists a and b is too short
---   BuiltAs n ls layout a b r a' b' — r says what `buildAnswer` says of n, the lines and the lent lists a and b; where that is nothing, the first places
+--   BuiltAs n ls layout a b r a' b' — r says what `build_answer` says of n, the lines and the lent lists a and b; where that is nothing, the first places
 --   of the matrix list, n × n of them or n·(n + 1)/2 by the layout, row after row, and the first n of the other hold the equations of the distinct
 --   lines; every other place, and on a refusal every place, is as before
 use Rattle.std.specs.Prelude.{Bool, ◌||◌, List, ◌≡◌, ℕ, ℤ, length}

@@ -1,5 +1,5 @@
 -- The small net of specs/Example, computed: what is said, A and b; the ends of the ranges: 3 one past each of them, and past 256 lines; and heights that fit
--- every line, so that `heights-solve` is of more than nothing.
+-- every line, so that `heights_solve` is of more than nothing.
 use mathlib.Core.Path.{◌≡◌, refl, sym, subst}
 use mathlib.Core.Bool.{true, false}
 use mathlib.Core.List.{List, [], ◌∷◌, ◌++◌}

@@ -5,7 +5,7 @@
 --                     its length as `ListedAs`, the contract of `listing::listing`, has them
 --   EntryExported   — the contract of `kodarfi_entry`: the number of an answer that `RegisteredAs`, the contract of `entry::register_entry`, holds of;
 --                     V and its limit where it is an entry, and both as before where it is refused
--- What the exported loader says and leaves (01: desk). Its state is nine numbers that the caller lends, any numbers; `loaderOf` is the loader they stand for.
+-- What the exported loader says and leaves (01: desk). Its state is nine numbers that the caller lends, any numbers; `loader_of` is the loader they stand for.
 --   LoaderTakeExported  — the contract of `kodarfi_loader_take`: its result and its places are the number and the values of an outcome that `LoaderTaken`, the
 --                       contract of `loader_numbers::take`, holds of, with the nine numbers and the six lists as there
 --   LoaderCheckExported — the contract of `kodarfi_loader_check`: the number and the values of an outcome that `CheckedThrough`, the contract of `Loader::check`,

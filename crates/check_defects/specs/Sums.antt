@@ -1,4 +1,4 @@
--- Sums of multiples of biased rows; cited by contracts inside. A factor has two natural numbers (`posPart`, `negPart`), of which one is 0, so the sums stay natural numbers:
+-- Sums of multiples of biased rows; cited by contracts inside. A factor has two natural numbers (`pos_part`, `neg_part`), of which one is 0, so the sums stay natural numbers:
 -- those of factors of 0 or more stand from place 0 on, those of factors below 0 from place 32 on.
 --   half_of x     — the place from which on the sums that x belongs to stand
 --   NoSums sums n — there are 64 sums, and the first n of both halves are 0

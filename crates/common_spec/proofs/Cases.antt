@@ -73,7 +73,7 @@ below₄ Q a b c d (suc (suc zero)) l = c
 below₄ Q a b c d (suc (suc (suc zero))) l = d
 below₄ Q a b c d (suc (suc (suc (suc i)))) l = absurd (omega arith)
 
--- document 01's whole file as in `fileAt`, with a 7 after the last number of each list
+-- document 01's whole file as in `file_at`, with a 7 after the last number of each list
 abbrev followed_at : ℕ → ℤ → ℤ → CaseRow
 followed_at s x y =
     row 2 s 4 (pos 4 ∷ negsuc 0 ∷ negsuc 0 ∷ pos 3 ∷ pos 7 ∷ []) (pos 5 ∷ pos 1 ∷ pos 7 ∷ []) (pos 0 ∷ pos 0 ∷ pos 7 ∷ []) (x ∷ y ∷ pos 7 ∷ [])

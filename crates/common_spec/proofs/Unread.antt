@@ -1,4 +1,4 @@
--- The rest of each list is not read by a call on two proposals (specs/Agree); that it is not written is `rest-kept` (Contract).
+-- The rest of each list is not read by a call on two proposals (specs/Agree); that it is not written is `rest_kept` (Contract).
 --   chained     — the same equations, from one to a second and on to a third
 --   same_common — two calls that agree on the places used say the same, and where nothing is said write the same
 use mathlib.Core.Path.{◌≡◌, refl, sym, ap, ap₂, ◌∙◌, subst}

@@ -1,4 +1,4 @@
--- Pairs of proposals worked out by hand, as rows of a table; `CaseRow`, `row` and `caseInput` are of check_spec/specs/Cases.
+-- Pairs of proposals worked out by hand, as rows of a table; `CaseRow`, `row` and `case_input` are of check_spec/specs/Cases.
 --   CommonRow  — two proposals, what is said of them, and the ends that are written
 --   file_at s x y d — document 01's whole file, with s, the guess and the tolerances
 --   coarse     — in steps of 1/16, limits 1 and 1: 23 to 25 and 12 to 14;  fine — in steps of 1/64, limits 2 and 2: 90 to 94 and 50 to 54

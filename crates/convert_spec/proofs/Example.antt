@@ -4,7 +4,7 @@
 --   shuffled_accepted_01 — 01's own check accepts what the desk of 01 holds after the new file
 --   unbounded_refused, unbounded_converted, unbounded_new_lem — a file that a check refuses with 5 is converted
 --   tolerant_refused — a file with a tolerance is 22, whatever the room
---   longest_in_range, longest_size — a problem in range whose file has 21,300 bytes: the bound of `old-size` is reached
+--   longest_in_range, longest_size — a problem in range whose file has 21,300 bytes: the bound of `old_size` is reached
 --   longest_converted, longest_too_small — that file is converted for a buffer of 21,300 bytes, and is 22 for one that is a byte shorter
 use mathlib.Core.Path.{◌≡◌, refl, ap, ◌∙◌}
 use mathlib.Core.Bool.{true, false}

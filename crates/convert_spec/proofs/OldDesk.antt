@@ -1,4 +1,4 @@
--- The desk of 01 refuses what 01 refuses, so that `old-desk` says something of the files that it accepts.
+-- The desk of 01 refuses what 01 refuses, so that `old_desk` says something of the files that it accepts.
 --   OldHolds cs    — of each file in cs the desk of 01 says first what stands there
 --   old_cases_hold — the table of specs/Cases, computed line by line
 use mathlib.Core.Path.{◌≡◌, refl}

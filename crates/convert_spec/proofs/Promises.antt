@@ -1,4 +1,4 @@
--- What 02's Paper 14 promises of a file that is converted: of every file and every room for which `convertAnswer` says nothing.
+-- What 02's Paper 14 promises of a file that is converted: of every file and every room for which `convert_answer` says nothing.
 --   complete, untolerant, fits — such a file is complete, its tolerances are 0, and there is room for the new file
 --   old_desk     — "Some offices can read only what 01 describes": the desk of 01 accepts every line of the new file, end among them
 --   new_count    — its forms are problem, scale and end, and 5n others

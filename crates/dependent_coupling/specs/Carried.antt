@@ -1,7 +1,7 @@
 -- What a dependent net takes over from the main net, from lists; cited by contracts inside. C stands row after row, `marks` numbers a row.
 --   limit_cap — 2^25 + 1: a larger limit counts as this in the code's slack, so that the sum fits. The slack of the definitions has no such cap. By the laws of
---     proofs/Cap a residual with the one slack is above 2^25 exactly where it is with the other (`capped-test`), and where it is not the two slacks are equal
---     (`capped-equal`)
+--     proofs/Cap a residual with the one slack is above 2^25 exactly where it is with the other (`capped_test`), and where it is not the two slacks are equal
+--     (`capped_equal`)
 --   capped_sum marks coupling limits k — the sum over j of |C_kj|·min(E_j, 2^25 + 1)
 use Rattle.std.specs.Prelude.{List, ℕ, ◌+◌, ◌*◌, min, ℤ, nat_abs, get_or}
 use Rattle.integer.specs.Finite.{sumℕ}

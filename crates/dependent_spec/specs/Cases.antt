@@ -1,4 +1,4 @@
--- Pairs of nets worked out by hand, as rows of a table; `CaseRow`, `row`, `caseInput` and `same_numbers` are of check_spec/specs/Cases.
+-- Pairs of nets worked out by hand, as rows of a table; `CaseRow`, `row`, `case_input` and `same_numbers` are of check_spec/specs/Cases.
 --   NetsRow, nets_row — both nets, C as it is handed in, what is said of them, and the dependent net's first two solution limits afterwards
 --   three_of x d₁ d₂ d₃ — three marks, 1, 0 and 2 high, with these tolerances and the guess x of the first; weights 1, 2 and 3
 --   three_marks — with the tolerances 1, 2 and 3, so with the limits 16, 32 and 48;  three_exact — with none and the limits 0;  three_far — 4 steps off: 6, row 1

@@ -2,7 +2,7 @@
 --   one_mark d — 1·x = 0 with the tolerance d, both steps 1/16, guess 0, inverse 16/16; as a net by itself its limit is 16·d
 --   coupled_by c — x with the tolerance 3, so with the limit 48, and y with the tolerance 1 and 1·y + c·x = 0, so with the slack |c|·48 + 16
 --   coupled_nets, uncoupled_nets — these with c = −2 and with c = 0
---   far_right₂, far_height₂ — with `farRight` and `farHeight` of enclosure/specs/Example, right sides 9/3 and 1/1 and the joint solution 3/1 and 7/1, which lies
+--   far_right₂, far_height₂ — with `far_right` and `far_height` of enclosure/specs/Example, right sides 9/3 and 1/1 and the joint solution 3/1 and 7/1, which lies
 --     just 112 = 2·48 + 16 steps from the guess
 use Rattle.std.specs.Prelude.{[], ◌∷◌, ℤ, pos, negsuc, replicate}
 use Rattle.linear.specs.Matrix.{Vec}

@@ -1,6 +1,6 @@
 -- What the check of two nets says and leaves (02, Paper 8: "either net's leaves the limit lists of both").
 --   dependent_solution_after code D — the solution limits of the dependent net where this is said: its limits where it is nothing, as before where it is a
---     refusal of either net. The other three lists are those of a check on lists (`solutionAfter`, `inverseAfter`)
+--     refusal of either net. The other three lists are those of a check on lists (`solution_after`, `inverse_after`)
 --   CheckedTogether — the contract of `check_dependent`: what is said, the four limit lists, and what acceptance shows for the limits that the call wrote
 use Rattle.std.specs.Prelude.{List, [], ◌≡◌, ℕ, ◌+◌, ◌*◌, get_or}
 use Rattle.linear.specs.Written.{written}

@@ -11,7 +11,7 @@
 --     enough: 3·Σ|A_ij| ≤ 2·T
 --   OneStep n E L   — every limit is 0 or 1
 --   Good P E L      — the proposal has its own factor; all this holds of the solution's limits, and of those of each column of the inverse as its own problem
---     (`columnOf`), which has the same factors; and where the proposal is so rounded, every limit is 0 or 1
+--     (`column_of`), which has the same factors; and where the proposal is so rounded, every limit is 0 or 1
 use Rattle.std.specs.Prelude.{◌≡◌, ℕ, ◌+◌, ◌*◌, ◌≤◌, ◌<◌, nat_abs, ◌-ℤ◌}
 use Rattle.linear.specs.Matrix.{Vec, Mat}
 use Rattle.enclosure.specs.Problem.{Problem, S, T, column_of}

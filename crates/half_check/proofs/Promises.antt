@@ -1,5 +1,5 @@
 -- What a check by halves promises, from its contract.
---   own_matrix — an input with its own matrix list again is that input: `withMatrix` puts another list in the place of the matrix and of nothing else
+--   own_matrix — an input with its own matrix list again is that input: `with_matrix` puts another list in the place of the matrix and of nothing else
 --   half_stated — each refusal, and acceptance, is said exactly in its stated case
 --   half_8 — 8 exactly where the half or another list is too short;  half_3 — n out of range is 3, whatever the half holds
 --   half_encloses, half_accepts — both halves of demand 3, for the filled-out matrix

@@ -1,7 +1,7 @@
 -- The reading of a line and the spelling of a form are inverse to each other, for numbers and lists of any size.
 --   spelled_read — a line that reads as a form is the spelling of that form
 --   reads_as, read_spelled — the spelling of a form reads as that form
--- So a line is refused with 2 exactly where it is the spelling of no form (`code-2` of crate line).
+-- So a line is refused with 2 exactly where it is the spelling of no form (`code_2` of crate line).
 use mathlib.Core.Path.{◌≡◌, refl, sym, ap, ◌∙◌}
 use mathlib.Core.Bool.{Bool, true, false, cond}
 use mathlib.Core.List.{List, [], ◌∷◌, ◌++◌, append_assoc}

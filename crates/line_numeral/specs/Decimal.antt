@@ -1,7 +1,7 @@
 -- The spelling of a number (01: "A number is 0, or digits without a leading 0, with a minus before it where negative").
 --   decimal n — the decimal digits of n as bytes, the highest first, without a leading 0; 0 is the one digit 0
 --   numeral z — the same with a minus before it where z is negative
---   digits f n — the last f digits of n at most; in `decimal` f is at least their count (law `decimal-next`: 10 ≤ n → decimal n ≡ decimal (n / 10) ++ ..)
+--   digits f n — the last f digits of n at most; in `decimal` f is at least their count (law `decimal_next`: 10 ≤ n → decimal n ≡ decimal (n / 10) ++ ..)
 use Rattle.std.specs.Prelude.{ℕ, zero, suc, ◌+◌, ◌/◌, ◌%◌, ◌^◌, cond, List, [], ◌∷◌, ◌++◌, ℤ, pos, negsuc, nat_lt}
 
 unfoldable pub digits : ℕ → ℕ → List ℕ

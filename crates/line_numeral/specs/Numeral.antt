@@ -7,7 +7,7 @@
 --   magnitude_at s at — 0, or digits without a leading 0
 --   positive_of, negative_of — the number of a magnitude, and its negative; −0 is none
 --   number_at s at — a number
---   cap_at         — the cap, 2^40; no range of 01 reaches so far (law `cap-range`)
+--   cap_at         — the cap, 2^40; no range of 01 reaches so far (law `cap_range`)
 --   cap_magnitude, cap z — a magnitude, and a number, or ±2^40 where it is larger in absolute value: the one place where numbers are capped
 use Rattle.std.specs.Prelude.{ℕ, suc, ◌+◌, ◌-◌, ◌*◌, ◌^◌, min, cond, List, [], ◌∷◌, length, drop, ℤ, pos, negsuc, neg_ℤ, ◌==◌, nat_lt, slice_index}
 use Rattle.line_numeral.specs.declared.Number.{Number}

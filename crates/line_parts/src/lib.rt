@@ -26,7 +26,7 @@ pub enum CappedForm {
     End,
 }
 
-// The form, or 1 or 2 (01's numbers by `lineCode` of specs/Line.antt).
+// The form, or 1 or 2 (01's numbers by `line_code` of specs/Line.antt).
 #[derive(Clone, Copy)]
 pub enum Answer {
     Form(CappedForm),

@@ -1,5 +1,5 @@
 -- Places that are carried along are the places that row and column give.
---   matrix_place  — `matrixOf` reads the place of row i and column j
+--   matrix_place  — `matrix_of` reads the place of row i and column j
 --   row_place     — along row i: start i·n, stride 1;  column_place — down column j: start j, stride n
 --   start_place   — the start of row i, carried from row to row;  unit_place — with stride 1
 --   carried       — the place of term j;  carried_first, carried_next — at the start, and one stride on, for loops

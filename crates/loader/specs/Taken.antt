@@ -7,7 +7,7 @@
 --   TakenAs      — the contract of `take`
 -- A loader in nine numbers: how far it has come, n, s and t, and its five sets of given forms, in the order of rows, right sides, guesses, inverse rows and weights.
 --   numbers_of_loader d — the numbers of a loader
---   loader_of w  — the loader that numbers stand for: that of `loaderNumbers` where they are those of a loader (proofs/Numbers.antt), and else n, s, t and sets as
+--   loader_of w  — the loader that numbers stand for: that of `numbers_of_loader` where they are those of a loader (proofs/Numbers.antt), and else n, s, t and sets as
 --                 they are there
 use Rattle.std.specs.Prelude.{List, ◌∷◌, ◌≡◌, ℕ, nat_abs, replicate, get_or, drop}
 use Rattle.rules.specs.Order.{if_accepted}

@@ -1,6 +1,6 @@
 -- The same of a form as the code has it, its numbers capped and those of a list beside it; cited by the contracts inside. Laws in
 -- proofs/Capped.antt tie them to the exact form: the tests say the same of both, and a form that no test refuses is its capped form.
---   item_in m      — itemOf
+--   item_in m      — item_of
 --   outside_in m b — outside, b telling whether the numbers of a list are in their range
 --   miscounted_in n m c — miscounted, c being the count of a list
 --   values_in m vs — 32 numbers, of which the first are those that it gives for a list; of a right side the second is its tolerance

@@ -61,7 +61,7 @@ abbrev pub RefusedTakeLeaves : Type 0
 RefusedTakeLeaves =
     (w line : List ℕ) (l : Lists) (number : ℕ) (places w' : List ℕ) (l' : Lists) → LoaderTakeExported w line l number places w' l' → (number ≡ 0 → ⊥) → (w' ≡ w) × (l' ≡ l)
 
--- line by line as by the whole file: the lines that were taken with 0 (`keptLines`), an accepted end and a check give the number and the places of the listing's call
+-- line by line as by the whole file: the lines that were taken with 0 (`kept_lines`), an accepted end and a check give the number and the places of the listing's call
 abbrev pub LineByLineAsListing : Type 0
 LineByLineAsListing =
     (l : Lists) → short_lists l ≡ false → (lines : List (List ℕ)) (numbers w' : List ℕ) (l' : Lists) → Turns (numbers_of_loader fresh) l lines numbers w' l' →

@@ -115,7 +115,7 @@ AfterEndIs14 = RefusedExactly (14 ∷ []) (λ (d : Loader) (l : Lists) (line : L
 abbrev pub LineOrdered : Type 0
 LineOrdered = (c : LineCase) → test_numbers (line_order c) ≡ 8 ∷ 14 ∷ 1 ∷ 2 ∷ 11 ∷ 3 ∷ 12 ∷ 3 ∷ 4 ∷ 13 ∷ []
 
--- "An accepted line puts n, or s and t, into the desk, or its form's other numbers at their own places in the lent lists" (`after`, `listsWith`)
+-- "An accepted line puts n, or s and t, into the desk, or its form's other numbers at their own places in the lent lists" (`after`, `lists_with`)
 abbrev pub AcceptedLinePuts : Type 0
 AcceptedLinePuts =
     (d : Loader) (line : List ℕ) (l : Lists) (r : Taken) (l' : Lists) → TakenAs d line l r l' → code r.outcome ≡ [] →

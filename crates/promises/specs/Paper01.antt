@@ -28,7 +28,7 @@ EndWritesOnes =
 -- "What the desk remembers as outstanding changes with it. The count of forms still missing is now out of 4n": `MissingIs13` of Lines01
 
 -- "A file without weights whose every line the desk accepts, end among them, and the same file with 1 everywhere, get equal listings". That with (weight i 1)
--- for every i put before its end a complete file stays complete is `ones-complete` of listing/proofs/WithOnes
+-- for every i put before its end a complete file stays complete is `ones_complete` of listing/proofs/WithOnes
 abbrev pub WithoutWeightsSame : Type 0
 WithoutWeightsSame =
     (file file' : List ℕ) → let fs = forms (lines_of file) in let gs = forms (lines_of file') in

@@ -1,6 +1,6 @@
 -- 02, Paper 2. An entry must cover its own rounding. "Register readers take the entry's limit as the distance from the printed whole unit": `EntryEncloses`,
 -- `EntryLeast`. "entry limit is (E + |X − S·V|)/S rounded up": `EntryLimited` of Document01. "The solution lines are unaffected": the line of a solution
--- (`solutionLine` of listing_report/specs/Report) has guess and limit alone.
+-- (`solution_line` of listing_report/specs/Report) has guess and limit alone.
 use Rattle.std.specs.Prelude.{◌≡◌, ℕ, ◌^◌, ℤ, pos}
 use Rattle.integer.specs.Quotient.{ceil_div}
 use Rattle.linear.specs.Matrix.{Vec}

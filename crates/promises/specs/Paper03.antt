@@ -16,7 +16,7 @@ use Rattle.build.specs.Diagonal.{TwiceTheWeight}
 use Rattle.promises.specs.Ways.{RangeIs, Refused}
 
 -- "A field line has a key (1 to 65,535), two marks from and to (0 to n [..]), a difference in whole units (−65,536 to 65,536) and a weight (1 to 64)". A mark is
--- one of 32 here, and at most n by `outsideRange` of build_lines/specs/Line; "0 is the fixed mark of height 0": `FitAll` of build_lines/specs/Heights
+-- one of 32 here, and at most n by `outside_range` of build_lines/specs/Line; "0 is the fixed mark of height 0": `FitAll` of build_lines/specs/Heights
 abbrev pub LinesRanged : Type 0
 LinesRanged =
     RangeIs kind.Key (pos 1) (pos 65535) × (RangeIs kind.Mark (pos 0) (pos 32) × (RangeIs kind.Difference (neg_ℤ (pos 65536)) (pos 65536) × RangeIs kind.LineWeight (pos 1) (pos 64)))

@@ -27,7 +27,7 @@ abbrev pub OtherRightIsNoForm : Type 0
 OtherRightIsNoForm =
     (i a : ℤ) (others : List ℤ) → (length others ≡ 1 → ⊥) → (f : Form) → bytes "(right " ++ numeral i ++ bytes " (" ++ numerals a others ++ bytes "))" ≡ spell f → ⊥
 
--- "The residual of row m now comes with a slack S·d_m, and everything built on it carries both" (`exceeds`, `magnitudesWith` and `boundWith` take both); "(6 is
+-- "The residual of row m now comes with a slack S·d_m, and everything built on it carries both" (`exceeds`, `magnitudes_with` and `bound_with` take both); "(6 is
 -- now given where size of residual plus slack is above 2^25.)" The other test is Paper 9's
 abbrev pub ResidualWithSlack : Type 0
 ResidualWithSlack =

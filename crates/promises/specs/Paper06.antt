@@ -14,7 +14,7 @@ use Rattle.loader_runs.specs.Before.{answer_before, Becomes12}
 use Rattle.loader_runs.specs.Accepts.{Made}
 
 -- "The answers that change are exactly each 3 or 4 for a kind and i given already, i in range, and each 3 for a second problem or scale form" (`Becomes12`;
--- `answerBefore` is what was said in 01's order)
+-- `answer_before` is what was said in 01's order)
 abbrev pub AnswersChanged : Type 0
 AnswersChanged =
     (d : Loader) (line : List ℕ) (l : Lists) (r : Taken) (l' : Lists) → TakenAs d line l r l' → Made d →

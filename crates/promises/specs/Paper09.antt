@@ -35,10 +35,10 @@ NearColumnMeets =
 abbrev pub CasesBecome : Type 0
 CasesBecome = (all_rows_hold rows ≡ true) × (all_hold01 rows01 ≡ true) × (all_hold05 rows01 ≡ true)
 
--- "Limits already in the register remain true": what the check before this paper accepted and wrote (`answer05`, `solutionAfter05`, `inverseAfter05`) encloses
+-- "Limits already in the register remain true": what the check before this paper accepted and wrote (`answer05`, `solution_after05`, `inverse_after05`) encloses
 abbrev pub OldLimitsTrue : Type 0
 OldLimitsTrue =
     (I : Input) → answer05 I ≡ [] → Encloses (problem I) (λ (i : ℕ). get_or (solution_after05 I) i 0) (λ (i j : ℕ). get_or (inverse_after05 I) (i * I.n + j) 0)
 
 -- "The heights of a hung net keep Paper 8's test only; its inverse columns take the new condition": `StatedDependent` of dependent_spec/specs/Stated, whose 6 asks
--- `dependentExceeds` and whose 7 asks `exceeds` (`TogetherRefusesAsStated` of Paper08)
+-- `dependent_exceeds` and whose 7 asks `exceeds` (`TogetherRefusesAsStated` of Paper08)

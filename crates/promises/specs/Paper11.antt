@@ -1,5 +1,5 @@
 -- 02, Paper 11. Doubles in, doubles out. "Solvers hand over IEEE 754 doubles and design programs read them" is its reason. `whole x` is the double x in units
--- of 2 ^ -1074, of which every finite double is a whole number; `unitsOf s z` are z steps.
+-- of 2 ^ -1074, of which every finite double is a whole number; `units_of s z` are z steps.
 use Rattle.std.specs.Prelude.{true, false, List, [], ◌∷◌, ◌↔◌, ◌≡◌, ℕ, ◌<◌, ◌≤◌, Float, ℤ, pos, ◌+ℤ◌, ◌-ℤ◌, get_or, ◌≤ℤ◌, ◌<ℤ◌}
 use Rattle.std.specs.Float.{fin}
 use Rattle.linear.specs.Matrix.{Vec}
@@ -49,7 +49,7 @@ NoDoubleBetween =
     ((whole (double_at low i) <ℤ whole y) × (whole y ≤ℤ units_of I.s (X -ℤ pos E)) → ⊥)
     × ((units_of I.s (X +ℤ pos E) ≤ℤ whole y) × (whole y <ℤ whole (double_at high i)) → ⊥)
 
--- "(8 and 3 first, then new 19, for a double that is not finite or whose guess leaves its range": `hasGuess` is neither
+-- "(8 and 3 first, then new 19, for a double that is not finite or whose guess leaves its range": `has_guess` is neither
 abbrev pub InwardRefusals : Type 0
 InwardRefusals =
     (I : Incoming) (r : Guessed) (guess : List ℤ) → GuessesOf I r guess →
@@ -68,7 +68,7 @@ InwardAccepted =
 abbrev pub RefusedInwardLeaves : Type 0
 RefusedInwardLeaves = (I : Incoming) (r : Guessed) (guess : List ℤ) → GuessesOf I r guess → Refused (guesses_code r) → guess ≡ I.guess
 
--- "Outward, 3 also for a limit outside 0 to 2^60" (`outgoingInRanges`)
+-- "Outward, 3 also for a limit outside 0 to 2^60" (`outgoing_in_ranges`)
 abbrev pub OutwardRefusals : Type 0
 OutwardRefusals =
     (I : Outgoing) (r : Outcome) (low high : List Float) → IntervalsOf I r low high →

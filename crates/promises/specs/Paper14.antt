@@ -16,7 +16,7 @@ use Rattle.convert_spec.specs.declared.Converted.{Converted}
 use Rattle.promises.specs.Ways.{Refused}
 
 -- "A converter takes any file whose every line the desk accepts, end among them, and writes problem, scale, rows, right sides without tolerance, guesses, inverse
--- rows and all n weights, each kind by rising i, then end, every line with its line feed" (`partsThen`; `text_of` spells each form with its line feed)
+-- rows and all n weights, each kind by rising i, then end, every line with its line feed" (`parts_then`; `text_of` spells each form with its line feed)
 abbrev pub NewFileIs : Type 0
 NewFileIs =
     (file : List ℕ) → let P = problem_in file in

@@ -1,4 +1,4 @@
--- Laws of `allInRange`: those of `every` (proofs/Every), for ranges.
+-- Laws of `all_in_range`: those of `every` (proofs/Every), for ranges.
 --   all_none, all_next, all_end — at none, at n + 1 and at the end, for loops
 --   all_at, all_in — each of the numbers is in range, and the converse
 --   all_ext        — equal numbers are alike

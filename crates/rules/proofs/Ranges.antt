@@ -1,10 +1,10 @@
 -- What the ranges say of a number.
---   range_magnitude — a number in range is at most `magnitudeOf k` in absolute value
+--   range_magnitude — a number in range is at most `magnitude_of k` in absolute value
 --   range_natural — where the lowest value is a natural number, a number in range is one, and at least that;  range_kept — so its magnitude is in range
 --   size_range, solution_scale_range, .., weight_range, allowance_range, in_allowance_range, line_weight_range, difference_range — what the range of each kind is
 --   in_size_range, in_matrix_range, in_inverse_range, in_right_range — the converse: a number of that magnitude is in range;  zero_tolerance, one_weight — so are these two
 --   both, both_left, both_right, not_both, not_first, neither, neither_left, neither_right, or_left, or_right, and_true — of two tests
---   range_test — what the code tests is inRange
+--   range_test — what the code tests is in_range
 use mathlib.Core.Path.{◌≡◌, refl, sym, subst}
 use mathlib.Core.Bool.{Bool, true, false, ◌&&◌, ◌||◌}
 use Prim.Native.Nat.{ℕ, suc, ◌<◌, ◌≤◌, ◌^◌, max}

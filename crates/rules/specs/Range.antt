@@ -4,7 +4,7 @@
 --   ranges      — the table: lowest and highest value, in the order of `Kind`, which stands beside each
 --   index_of k   — the line of the kind k
 --   range_of k   — its lowest and highest value
---   inRange k z — z is a number of that kind's range
+--   in_range k z — z is a number of that kind's range
 --   all_in_range k n f — f 0, .., f (n − 1) all are
 --   short_matrix k, short_column k — 8: a lent matrix list, or column list, of k numbers is too short
 use Rattle.std.specs.Prelude.{Bool, ◌&&◌, List, [], ◌∷◌, ℕ, ltb, ℤ, pos, negsuc, get_or}
