@@ -27,7 +27,7 @@ LOGS = {
     "sum/too_large": "refused, as it must be (only by a limit of the prover, which gave no verdict): ./proofs/Law.antt:7:3: error: `total_even`: antt ran out of stack",
     "text/cut": "refused, as it must be: note: src/lib.rt:2:1: it is not proved that what `put` requires holds at this call (`put-requires-cla",
     "text/no_proof_file": "refused, as it must be: note: src/lib.rt:2:1: it is not proved that what the function ensures holds when it returns (`returns-then-a`); `search` gave up",
-    "text/of_loop": "refused, as it must be: note: src/lib.rt:4:5: it is not proved that the invariant of the loop holds (`loop-i-preserved`); the facts known there allow it",
+    "text/of_loop": "refused, as it must be: note: src/lib.rt:5:5: it is not proved that the invariant of the loop holds (`loop-i-preserved`); the facts known there allow it",
 }
 
 RIGHT = {
@@ -113,7 +113,7 @@ class Repository(Box):
         for name in LOGS:
             crate, label = name.split("/")
             self.write(f"crates/{crate}/must-fail/{label}.edit", f"|{label}| is kept\nrefused at: {RIGHT[name]}\nfile: src/lib.rt\nold: a\nnew: b\n")
-        self.write("crates/text/src/lib.rt", "// Text.\npub fn put() {}\npub fn take() {\n    for i in 0..4 {}\n}\n")
+        self.write("crates/text/src/lib.rt", "// Text.\n#[unsafe(no_mangle)]\npub extern \"C\" fn put() {}\npub fn take() {\n    for i in 0..4 {}\n}\n")
         self.write("crates/sum/proofs/total/Answers.antt", ANSWERS)
         self.write("crates/sum/proofs/Law.antt", "total_even : Even total\ntotal_even = refl\n")
         self.write(LOG, "".join(f"rt: must-fail {name}.edit: {said}\n" for name, said in LOGS.items()))

@@ -29,8 +29,11 @@ def is_goal(path, fact):
 
 
 def function_at(path, line):
-    """The function that a line of code belongs to."""
-    return re.findall(r"\bfn (\w+)", "\n".join(path.read_text().split("\n")[:line]))[-1]
+    """The function that a line of code belongs to, or that an attribute stands on."""
+    lines = path.read_text().split("\n")
+    while lines[line - 1].lstrip().startswith("#["):
+        line += 1
+    return re.findall(r"\bfn (\w+)", "\n".join(lines[:line]))[-1]
 
 
 def refused_at(crate, said):
