@@ -1,7 +1,7 @@
 -- How good the limits of two nets are, the second dependent on the first (document 02, Paper 8). Of the dependent net's limits it is said of A2·u = β for the right
 -- sides β within its slack, |C|·E1 plus the tolerance slack, and not of joint solutions: docs/DECISIONS.md has two nets where every joint error is at most E1 and the
 -- limits are 3·E1 (specs/Example).
---   dependent_in_steps D — the dependent net as a problem by itself whose heights and right sides are in solution steps: S·b2 − C-as-X1 for the right side, its slack for the
+--   dependent_in_steps D — the dependent net as a problem by itself whose heights and right sides are in solution steps: S·b2 − C·X1 for the right side, its slack for the
 --     tolerance, the step 1; A2, X2, G2 and the weights as they are. Its residual and slack, and so its limits, are those of Paper 8
 --   GoodBoth J E₁ L₁ E₂ L₂ — the limits of the main net are good, and those of the dependent net as such a problem;  GoodNets — of the four lists that a call leaves
 use Rattle.std.specs.Prelude.{List, ℕ, ◌+◌, ◌*◌, pos, ◌-ℤ◌, ◌*ℤ◌, get_or}

@@ -1,5 +1,5 @@
 -- Magnitudes of the reckoning's numbers, all within an i64.
---   power_magnitude, unit_same, unit_other, unit_magnitude, scaled_magnitude — of 2^t, of the numbers of T-as-I and of S·b
+--   power_magnitude, unit_same, unit_other, unit_magnitude, scaled_magnitude — of 2^t, of the numbers of T·I and of S·b
 --   raisable — a matrix list, as `bias_rows` and `bias_columns` ask for it
 --   Ranged P, defect_most — n at most 32, t at most 20, A and G at most 2^20 in absolute value: then |D_mj| ≤ 2^45 + 2^20
 --   ranged_of, defect_magnitude — of lists in these ranges;  residual_exchanged — a residual of the inverse is a number of D with the two matrices exchanged

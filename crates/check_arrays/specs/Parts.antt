@@ -1,7 +1,7 @@
 -- The parts of a problem that a step of the reckoning works on, and what it makes of them; cited by contracts inside.
 --   rows_part      — the problem whose inverse stands in biased rows, as far as its residuals and p need it; b, d, X and w are left out
 --   cut_margin     — the margin in ℕ: 0 where it is 0 or less
---   residual_from  — a base less A-as-X;  column_residual — the residual of row k of the inverse's column j
+--   residual_from  — a base less A·X;  column_residual — the residual of row k of the inverse's column j
 --   above_allowed a z — the magnitude of the residual z is above a; of any residual where a is below 0
 use Rattle.std.specs.Prelude.{Bool, List, [], ℕ, ◌*◌, ◌-◌, ℤ, pos, nat_abs, ◌-ℤ◌}
 use Rattle.std.specs.Int.Signed.{lt_z}

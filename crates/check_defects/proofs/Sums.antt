@@ -2,8 +2,8 @@
 --   none_cleared, one_cleared, all_cleared — at none, with the sums of one number more and at the end, for the loop that clears them
 --   sums_none, sums_more, sums_end — at none, with one row more and at the end, for loops
 --   ups_small, downs_small, sums_room, total_small, biased_small — the sums, the sum of the factors and 2^25 times it stay small
---   unit_up, unit_down — what adding number m, m of T-as-I to its sum leaves of the two sums of number j;  unit_small — it stays small
---   sums_less — the two sums with that, put right, are T-as-I less the sum of the multiples of what the biased numbers stand for
+--   unit_up, unit_down — what adding number m, m of T·I to its sum leaves of the two sums of number j;  unit_small — it stays small
+--   sums_less — the two sums with that, put right, are T·I less the sum of the multiples of what the biased numbers stand for
 use mathlib.Core.List.{List}
 use mathlib.Core.Path.{◌≡◌, refl, sym, ap, subst, ◌∙◌}
 use Prim.Native.Nat.{ℕ, zero, suc, ◌+◌, ◌*◌, ◌≤◌, ◌<◌, ◌^◌}

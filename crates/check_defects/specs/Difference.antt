@@ -1,4 +1,4 @@
--- T-as-I less a product of a matrix in a list and one in biased rows; cited by contracts inside.
+-- T·I less a product of a matrix in a list and one in biased rows; cited by contracts inside.
 --   combination xs start stride rows n j — the sum over k below n of number k from a start on, some places apart, times number j of the k-th of the rows
 --   number_less t xs start stride rows n m j — number m, j of 2^t·I less it
 --   difference n t xs step stride rows j m — number m, j of 2^t·I less the product of the matrix whose row m starts m steps on, its numbers a stride apart,

@@ -1,4 +1,4 @@
--- Where A and G are symmetric, so is G·(T-as-I − A-as-G), from the biased rows of G and the residuals of the inverse.
+-- Where A and G are symmetric, so is G·(T·I − A·G), from the biased rows of G and the residuals of the inverse.
 --   residual_product — p_m of column j, from what the rows and the list stand for;  symmetric_product — it is p_j of column m
 use mathlib.Core.Path.{◌≡◌, sym, ap₂, ◌∙◌}
 use mathlib.Core.List.{List}

@@ -1,5 +1,5 @@
 -- What is handed to the reckoning once 8 and 3 are passed, and what it makes of it; cited by the contract of `compute_bounds` alone.
---   Work     — n, t and the lists of a problem; `base`, from which A-as-X is taken to give the residuals of the guess; `allowed`, how large
+--   Work     — n, t and the lists of a problem; `base`, from which A·X is taken to give the residuals of the guess; `allowed`, how large
 --     they may be, row by row; `allowed_in_columns`, the same of the inverse's columns; `slacks`, what may be missing in the absolute values of the guess's; and the two
 --     limit lists as they come in
 --   work     — from its parts;  work_problem W — its problem, in which s, b and d don't count

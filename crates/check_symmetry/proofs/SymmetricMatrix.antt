@@ -1,9 +1,9 @@
 -- Products of symmetric matrices.
 --   SymmetricMatrix A n — number i, j is number j, i, for all below n
---   product_symmetric — number k, j of A-as-G is number j, k of G-as-A
---   difference_symmetric — number k, j of T-as-I − A-as-G is number j, k of T-as-I − G-as-A
---   columns_identity — G-as-I = G
---   triple_symmetric — G·(A-as-G) is symmetric;  residual_symmetric — G·(T-as-I − A-as-G) is symmetric
+--   product_symmetric — number k, j of A·G is number j, k of G·A
+--   difference_symmetric — number k, j of T·I − A·G is number j, k of T·I − G·A
+--   columns_identity — G·I = G
+--   triple_symmetric — G·(A·G) is symmetric;  residual_symmetric — G·(T·I − A·G) is symmetric
 --   matrix_symmetric — a symmetric matrix in a list
 use mathlib.Core.Path.{◌≡◌, sym, ap, ap₂, ◌∙◌}
 use mathlib.Core.List.{List}

@@ -5,7 +5,7 @@
 --   in_steps s I z — z of I's own steps, in steps of 2^s to a unit
 --   low_of s I i, high_of s I i — X − E and X + E of height i, of one proposal
 --   low_end I J i, high_end I J i — the ends of its common interval
---   WithinEnds I J low high N q — q·low_i ≤ S-as-N_i ≤ q·high_i for every height N_i / q, with S = 2^s of the finer step
+--   WithinEnds I J low high N q — q·low_i ≤ S·N_i ≤ q·high_i for every height N_i / q, with S = 2^s of the finer step
 --   Contains I J low high — "It contains the exact height for every right side within the tolerance, and its lower end is never above its upper"
 use Rattle.std.specs.Prelude.{cond, ℕ, ◌-◌, ◌<◌, ◌^◌, max, ℤ, pos, ◌+ℤ◌, ◌-ℤ◌, ◌*ℤ◌, ◌≤ℤ◌}
 use Rattle.std.specs.Int.Signed.{le_z}

@@ -1,6 +1,6 @@
 -- The rows of C, n rows of `marks` numbers.
 --   row_past   — row k ends by place 1,024
---   base_magnitude — S·b2 less C-as-X1 is at most 2^62 in absolute value
+--   base_magnitude — S·b2 less C·X1 is at most 2^62 in absolute value
 --   carried_magnitude — the sum of |C_kj|·E_j over the first j, each limit capped, is at most 2^51
 use mathlib.Core.Path.{ap}
 use Prim.Native.Nat.{ℕ, ◌+◌, ◌*◌, ◌≤◌, ◌<◌, ◌^◌, min}

@@ -1,4 +1,4 @@
--- A dependent net that passes 8 and 3, as work for the reckoning: its base is S·b2 − C-as-X1, its slacks are |C|·E1, each limit capped, and S·d2, and what is
+-- A dependent net that passes 8 and 3, as work for the reckoning: its base is S·b2 − C·X1, its slacks are |C|·E1, each limit capped, and S·d2, and what is
 -- allowed is 2^25 less the slack; in the columns it is the sum along the row.
 --   coupling_list, scaled_list, own_slacks — magnitudes of C, S·b2 and S·d2
 --   HandedDependent — what the arrays hold;  workable — the reckoning may start on it

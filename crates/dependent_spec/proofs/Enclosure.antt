@@ -1,7 +1,7 @@
 -- The enclosure of a net that depends on marks with guesses X₁ and limits E₁, in the steps of its problem P, over plain vectors.
---   shifted_both — A·(S-as-N − q·X) less q times the residual S·b − C-as-X₁ − A-as-X is S·(A-as-N + C-as-N₁ − q·b) less C·(S-as-N₁ − q·X₁)
---   carried  — |C·(S-as-N₁ − q·X₁)| ≤ q·Σ|C|·E₁ where every S-as-N₁ is within q·E₁ of q·X₁
---   dependent_within — then A-as-N + C-as-N₁ within q·d of q·b gives |S·N_i − q·X_i| ≤ q·E_i, for the limits E of that residual and the slack Σ|C|·E₁ + S·d
+--   shifted_both — A·(S·N − q·X) less q times the residual S·b − C·X₁ − A·X is S·(A·N + C·N₁ − q·b) less C·(S·N₁ − q·X₁)
+--   carried  — |C·(S·N₁ − q·X₁)| ≤ q·Σ|C|·E₁ where every S·N₁ is within q·E₁ of q·X₁
+--   dependent_within — then A·N + C·N₁ within q·d of q·b gives |S·N_i − q·X_i| ≤ q·E_i, for the limits E of that residual and the slack Σ|C|·E₁ + S·d
 use mathlib.Core.Path.{◌≡◌, ap, ◌∙◌}
 use Prim.Native.Nat.{ℕ, ◌+◌, ◌*◌, ◌≤◌, ◌<◌}
 use native.Mathlib.Omega.{arith}

@@ -43,7 +43,7 @@ module _ (J : Nets) where
   C = C₂₁ J
 
   module _ (kernel₁ : ZeroKernel n₁ A₁) (kernel₂ : ZeroKernel n₂ A₂) where
-    -- N₁ = 0 leaves A2-as-N₂ = 0
+    -- N₁ = 0 leaves A2·N₂ = 0
     pub joint_kernel : JointKernel J
     joint_kernel N₁ N₂ h₁ h₂ = record { main = zero₁; dependent = kernel₂ N₂ (λ k l. sym (+ℤ_idr _) ∙ (ap (λ (z : ℤ). apply n₂ A₂ N₂ k +ℤ z) (sym (nothing k)) ∙ h₂ k l)) }
       where
@@ -74,7 +74,7 @@ module _ (J : Nets) where
             ∙ free ρ₂ _ o₂ (one_row (pos ρ₂) (pos q) (pos q') (apply n₂ A₂ N₂ k +ℤ apply n₁ C N₁ k) (apply n₂ A₂ N₂' k +ℤ apply n₁ C N₁' k) (β₂ k)
             (x.dependent k l) (y.dependent k l)))
 
-  -- N₁ / q₁ of the main net, then N₂ / q₂ of the other with the right side β₂ / ρ₂ − C-as-N₁ / q₁, both over q₁·q₂
+  -- N₁ / q₁ of the main net, then N₂ / q₂ of the other with the right side β₂ / ρ₂ − C·N₁ / q₁, both over q₁·q₂
   pub joint_exists : Determined n₁ A₁ → Determined n₂ A₂ → (β₁ : Vec) (ρ₁ : ℕ) (β₂ : Vec) (ρ₂ : ℕ) → 1 ≤ ρ₁ → 1 ≤ ρ₂ → JointHeights J β₁ ρ₁ β₂ ρ₂
   joint_exists x y β₁ ρ₁ β₂ ρ₂ o₁ o₂ =
       let u = x.exists_over β₁ ρ₁ o₁ in

@@ -2,9 +2,9 @@
 -- limits, tolerances included"). q, N₁, N₂, ρ and β are whole numbers of any size.
 --   C₂₁ J — C as a matrix, n2 rows of n1 numbers;  main_problem J, dependent_problem J — the numbers and lists of each net as a problem
 --   JointSolution J β₁ ρ₁ β₂ ρ₂ N₁ N₂ q — the fractions N₁ / q and N₂ / q solve both nets with the right sides β₁ / ρ₁ and β₂ / ρ₂: q ≥ 1,
---     ρ₁·(A1-as-N₁) = q·β₁ and ρ₂·(A2-as-N₂ + C-as-N₁) = q·β₂
+--     ρ₁·(A1·N₁) = q·β₁ and ρ₂·(A2·N₂ + C·N₁) = q·β₂
 --   JointHeights — there is a joint solution
---   JointKernel J — A1-as-N₁ = 0 and A2-as-N₂ + C-as-N₁ = 0 give N₁ = 0 and N₂ = 0 (`Zero`)
+--   JointKernel J — A1·N₁ = 0 and A2·N₂ + C·N₁ = 0 give N₁ = 0 and N₂ = 0 (`Zero`)
 --   SameHeights — of both nets the same fractions;  WithinBoth — N₁ / q within E₁ of X1 and N₂ / q within E₂ of X2, and both within the entry limits of
 --     their entries
 --   EnclosesBoth J E₁ L₁ E₂ L₂ — the main net's limits enclose, as after its own check; every joint solution of right sides within both tolerances lies

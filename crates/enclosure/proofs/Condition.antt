@@ -1,6 +1,6 @@
 -- Source document 002, Theorem 1, with a tolerance: the limits come from one vector v that meets condition (2.9) for every right side within the tolerances.
---   start_next   — u_0 − u_1 is G·(S·β − ρ·(A-as-X)) in steps of 1/(ρ·S·T), up to its sign
---   next_near    — so it is at most |p_i| with its slack, in steps of 1/(S-as-T)
+--   start_next   — u_0 − u_1 is G·(S·β − ρ·(A·X)) in steps of 1/(ρ·S·T), up to its sign
+--   next_near    — so it is at most |p_i| with its slack, in steps of 1/(S·T)
 --   largest_ratio_row     — there is a row where |p_k| with its slack over g_k is largest
 --   condition    — v_i = w_i·sizes_k / (g_k·S) meets (2.9) for such a row k
 --   bound_is_v   — limit i is S·v_i rounded up
@@ -36,7 +36,7 @@ swap r d x y = rw (*-+ r d x) (cancel (r *ℤ d) (r *ℤ x) y)
     cancel d x y = by_zero (simp ring (simp moves (simp ring₀)))
 
 module _ (P : Problem) (β : Vec) (ρ : ℕ) where
-  -- S·β − ρ·(A-as-X)
+  -- S·β − ρ·(A·X)
   abbrev away : Vec
   away k = pos (S P) *ℤ β k -ℤ pos ρ *ℤ apply P.n P.A P.X k
 

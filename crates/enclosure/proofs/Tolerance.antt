@@ -1,7 +1,7 @@
 -- Laws of tolerances (02, Paper 5).
 --   column_exact — a column of the inverse has none
---   tolerated — β/ρ within d of b, and A-as-N / q equal to it: then A-as-N is within q·d of q·b
---   residual_shifted — A·(S-as-N − q·X) less q times the residual S·b − A-as-X is S times A-as-N − q·b
+--   tolerated — β/ρ within d of b, and A·N / q equal to it: then A·N is within q·d of q·b
+--   residual_shifted — A·(S·N − q·X) less q times the residual S·b − A·X is S times A·N − q·b
 use mathlib.Core.Path.{◌≡◌, refl, ap, ◌∙◌}
 use Prim.Native.Nat.{ℕ, ◌*◌, ◌≤◌}
 use native.Mathlib.Omega.{arith}

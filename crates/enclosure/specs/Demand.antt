@@ -1,10 +1,10 @@
 -- Demand 3 in the words of document 01, widened by 02's Paper 5 to right sides within a tolerance. q, N, ρ, β and H are whole numbers of any size, and H has
 -- its own q.
---   ExactSolution P N q — q ≥ 1 and A-as-N = q·b
+--   ExactSolution P N q — q ≥ 1 and A·N = q·b
 --   RightSide P β ρ     — the right side β_k / ρ, in fractions, "differs from b by at most d in each place" (Paper 5): ρ ≥ 1 and |β_k − ρ·b_k| ≤ ρ·d_k.
 --     b itself is one, with ρ = 1
---   ExactSolutionOf P β ρ N q — q ≥ 1 and ρ·(A-as-N) = q·β: the fractions N_i / q solve the equations with that right side
---   ExactInverse P H q  — q ≥ 1 and A-as-H = q·I;  TwoSided — H-as-A = q·I as well
+--   ExactSolutionOf P β ρ N q — q ≥ 1 and ρ·(A·N) = q·β: the fractions N_i / q solve the equations with that right side
+--   ExactInverse P H q  — q ≥ 1 and A·H = q·I;  TwoSided — H·A = q·I as well
 --   InLimits P E N q    — every N_i / q lies within its limit of the guess;  InEntryLimits P E N q — and within its entry limit of the entry
 --   Encloses P E L      — the first half, for the limits E of the heights and L of the inverse, with what 02's Papers 2, 5 and 12 add
 --   NoTolerance P       — all d are 0

@@ -1,9 +1,9 @@
 -- The reckoning of document 01, in its order and letters. Rows and columns count from 0 here.
---   defect P    — D = T-as-I − G-as-A
+--   defect P    — D = T·I − G·A
 --   load P m    — the sum over j of |D_mj|·w_j
 --   margin P m  — g_m = T·w_m − load, a whole number with its sign
 --   margin_fails P m — that margin is 0 or less (refusal 5)
---   residual P  — r = S·b − A-as-X;  residual (column_of P j) is that of the inverse's column j
+--   residual P  — r = S·b − A·X;  residual (column_of P j) is that of the inverse's column j
 --   slack P     — what may be missing in the magnitude of a residual, row by row (02, Paper 5: "The residual of row m now comes with a slack S·d_m"); of a column
 --     of the inverse it is 0
 -- What comes after the residual, for any residual r and any slack σ:

@@ -1,10 +1,10 @@
 -- Square systems of whole-number equations, solved exactly in fractions (02, Paper 12: "an exact solution in fractions exists, .. any two are the same
 -- fractions, and .. the matrix has an inverse on both sides"). Numerators and denominators are whole numbers of any size.
---   ZeroKernel n A    — A-as-N = 0 gives N = 0
---   Solves n A c N q  — the fractions N_i / q solve A·x = c: q ≥ 1 and A-as-N = q·c. With q = 0 let through, N = 0 would solve every system
---   SolvesOver n A M r N q — the fractions N_i / q solve A·x = M / r: q ≥ 1 and r·(A-as-N) = q·M
---   RightInverse n A H q — the fractions H_ij / q are an inverse from the right: q ≥ 1 and A-as-H = q·I
---   Inverse n A H q   — they are one from both sides: H-as-A = q·I too, with the same q; nothing is presumed of the left side
+--   ZeroKernel n A    — A·N = 0 gives N = 0
+--   Solves n A c N q  — the fractions N_i / q solve A·x = c: q ≥ 1 and A·N = q·c. With q = 0 let through, N = 0 would solve every system
+--   SolvesOver n A M r N q — the fractions N_i / q solve A·x = M / r: q ≥ 1 and r·(A·N) = q·M
+--   RightInverse n A H q — the fractions H_ij / q are an inverse from the right: q ≥ 1 and A·H = q·I
+--   Inverse n A H q   — they are one from both sides: H·A = q·I too, with the same q; nothing is presumed of the left side
 --   Same n N q N' q'  — N_i / q and N'_i / q' are the same fractions: q'·N_i = q·N'_i. (1/2 and 2/4 are: equal numerators are not asked)
 --   Solution, SolutionOver, BothSided — there is a solution, or an inverse on both sides
 --   Determined n A    — every right side in whole numbers, and every one in fractions, has a solution, not only the system's own; any two solutions of one

@@ -3,7 +3,7 @@
 --   OwnFactor P a c — the proposal's own factor: a / c is at least (T·w_m + load_m) / margin_m in every row m, and it is that of one row
 --   Attained P E exact — there are exact heights; and of all exact heights, and for every factor a / c, there is a row, one for all limits, such that every E_i is
 --     at most a / c times the true error of that row, times w_i over that row's weight, rounded up (`NeverFar`)
---   ExactGuess P    — the guess solves the equations exactly, A-as-X = S·b, and no right side has a tolerance
+--   ExactGuess P    — the guess solves the equations exactly, A·X = S·b, and no right side has a tolerance
 --   GoodFor P E     — of the limits E of one problem:
 --     there is a right side, each number of it at an end of its tolerance, for which this holds; without tolerances it holds for b;
 --     a limit of 0 says that the guess is exact; and where the guess is exact, every limit is 0

@@ -1,6 +1,6 @@
 -- Laws of products of matrices and vectors.
 --   identity_same, identity_other — the numbers of I;  identity_turned — I is symmetric
---   apply_identity — I·v = v;  apply_product, product_assoc — (G-as-A)·v = G·(A·v), (G-as-A)·H = G·(A-as-H)
+--   apply_identity — I·v = v;  apply_product, product_assoc — (G·A)·v = G·(A·v), (G·A)·H = G·(A·H)
 --   apply_vectors, apply_sub, apply_matrices, apply_less, apply_scale — products with k·u − l·v, u − v, k·A − l·B, k·A − B, q·v
 --   apply_ext — only the first n numbers count;  abs_apply — |A·v| ≤ |A|·|v|
 use mathlib.Core.Path.{◌≡◌, refl, sym, ◌∙◌}
@@ -52,7 +52,7 @@ sum_identity (suc n) i e h = go (ℕ_discrete i n) (sum_identity n i e)
     go (no p) ih = rw (ih (omega (arith, h)), identity_other i n p, zero-* (e n)) (+ℤ_idr (e i))
 
 -- ---- the laws
--- (G-as-A)·e = G·(A·e)
+-- (G·A)·e = G·(A·e)
 pub apply_product : (n : ℕ) (g a : Mat) (e : Vec) (m : ℕ) → apply n (product n g a) e m ≡ apply n g (apply n a e) m
 unfolding apply product
 apply_product n g a e m = simp (← sum-*, ← sum-*r, *-assoc) (sum_swap n n (λ (j k : ℕ). g m k *ℤ (a k j *ℤ e j)))

@@ -2,7 +2,7 @@
 --   Vec, Mat     — ℕ → ℤ, and ℕ → ℕ → ℤ (row, column)
 --   column A j   — column j of A
 --   apply n A v  — the product A·v: row k is the sum over j of A k j · v j
---   product n G A — the product G-as-A
+--   product n G A — the product G·A
 --   identity     — the unit matrix I
 use Rattle.std.specs.Prelude.{cond, ℕ, eqb, ℤ, pos, ◌*ℤ◌}
 use Rattle.integer.specs.Finite.{sum}
