@@ -72,7 +72,7 @@ MUTANTS = {
     "another meaning": ("words.tsv", "a number of a list", "the last of a list", "the last of a list"),
     "a case that a contract cites": (
         "crates/half/specs/Filled.antt", "use Rattle.std.specs.Prelude",
-        "use Rattle.entry.specs.Cases.{cases}\nuse lib.ListN", "should not have: | Tier 3",
+        "use Rattle.entry.specs.Cases.{cases}\nuse Rattle.std.specs.Prelude", "should not have: | Tier 3",
     ),
 }
 

@@ -1,6 +1,6 @@
 // Equations from the field lines (document 02, Papers 3 and 10): 8 first, then 3 for n and the count, then all lines gathered, and where nothing is said, the equations
-// written. Two functions are lent a slice of field lines, `gather` and `build`; each is proved by a walk of its code by hand, and does no more than take the slice
-// apart: tests, sums and writing are in covered functions.
+// written. Two functions are lent a slice of field lines, `gather` and `build`; each does no more than take the slice apart: tests, sums
+// and writing are in functions on plain numbers and lists.
 #![tactic(auto)]
 
 ghost use Rattle.std.specs.Prelude.{◌≡◌, ◌||◌, length};
