@@ -15,7 +15,7 @@ use lib.ListN.{get_or}
 use Rattle.linear.specs.Slice.{at}
 use Rattle.rules.specs.Range.{all_in_range}
 use Rattle.rules.specs.declared.Kind.TheVariants as kind
-use Rattle.rules.specs.declared.Outcome.TheVariants as outcome
+use Rattle.std.specs.Prelude.{Err}
 use Rattle.check_spec.specs.Input.{lists_in_range}
 use Rattle.build_lines.specs.declared.Built.{Built}
 use Rattle.build_lines.specs.declared.Built.TheVariants.{Done, Refused, SameMark, OtherContents}
@@ -33,7 +33,7 @@ use Rattle.calls_spec.proofs.Meaning.{zero_code}
 
 zero_built : (b : Built) → get_or (build_code b) 0 0 ≡ 0 → build_code b ≡ []
 zero_built Done e = refl
-zero_built (Refused r) e = zero_code (outcome.Refused r) e
+zero_built (Refused r) e = zero_code (Err r) e
 zero_built SameMark e = absurd (omega arith)
 zero_built OtherContents e = absurd (omega arith)
 

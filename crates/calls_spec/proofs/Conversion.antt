@@ -8,7 +8,7 @@ use mathlib.Core.Path.{◌≡◌, refl, sym, ap, subst, ◌∙◌}
 use Prim.Native.Nat.{ℕ, suc}
 use native.Mathlib.Omega.{arith}
 use lib.ListN.{length, get_or, drop}
-use Rattle.rules.specs.declared.Outcome.TheVariants as outcome
+use Rattle.std.specs.Prelude.{Err}
 use Rattle.rules.proofs.Verdicts.{accepted_new, accepted_old}
 use Rattle.convert_spec.specs.declared.Converted.{Converted}
 use Rattle.convert_spec.specs.declared.Converted.TheVariants.{Length, Refused, NotConvertible}
@@ -20,7 +20,7 @@ use Rattle.calls_spec.proofs.Meaning.{zero_code}
 
 zero_converted : (r : Converted) → get_or (convert_code r) 0 0 ≡ 0 → convert_code r ≡ []
 zero_converted (Length n) e = refl
-zero_converted (Refused x) e = zero_code (outcome.Refused x) e
+zero_converted (Refused x) e = zero_code (Err x) e
 zero_converted NotConvertible e = absurd (omega arith)
 
 pub record Exported (file old new : List ℕ) (written : ℕ) : Type 0 where

@@ -12,7 +12,7 @@ use lib.IntN.{ℤ}
 use lib.ListN.{get_or}
 use Rattle.linear.specs.Slice.{at}
 use Rattle.rules.specs.Which.{which_of, refusal_of}
-use Rattle.rules.specs.declared.Outcome.TheVariants.{Refused}
+use Rattle.std.specs.Prelude.{Err}
 use Rattle.rules.proofs.Verdicts.{nothing_is_not}
 use Rattle.check_spec.specs.Order.{answer}
 use Rattle.common_spec.specs.declared.Common.{Common}
@@ -30,8 +30,8 @@ use Rattle.calls_spec.proofs.Meaning.{zero_code}
 pub zero_common : (c : Common) → get_or (refusal_of (common_code c)) 0 0 ≡ 0 → common_code c ≡ []
 zero_common Found e = refl
 zero_common TooShort e = absurd (omega arith)
-zero_common (First r) e = absurd (nothing_is_not (zero_code (Refused r) e))
-zero_common (Second r) e = absurd (nothing_is_not (zero_code (Refused r) e))
+zero_common (First r) e = absurd (nothing_is_not (zero_code (Err r) e))
+zero_common (Second r) e = absurd (nothing_is_not (zero_code (Err r) e))
 zero_common Different e = absurd (omega arith)
 zero_common TooWide e = absurd (omega arith)
 

@@ -5,7 +5,7 @@
 --                       with the two lists of ends as there
 use Rattle.std.specs.Prelude.{List, ℕ, ℤ, Float}
 use Rattle.rules.specs.Refusal.{code}
-use Rattle.rules.specs.declared.Outcome.{Outcome}
+use Rattle.rules.specs.Refusal.{Outcome}
 use Rattle.doubles_lists.specs.declared.Guessed.{Guessed}
 use Rattle.doubles_lists.specs.Inward.{guesses_code, Incoming, GuessesOf}
 use Rattle.doubles_lists.specs.Outward.{Outgoing, IntervalsOf}

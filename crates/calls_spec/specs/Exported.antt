@@ -13,7 +13,7 @@
 use Rattle.std.specs.Prelude.{List, ◌≡◌, ℕ, ℤ}
 use Rattle.rules.specs.Order.{if_accepted}
 use Rattle.rules.specs.Refusal.{code}
-use Rattle.rules.specs.declared.Outcome.{Outcome}
+use Rattle.rules.specs.Refusal.{Outcome}
 use Rattle.check_spec.specs.Input.{Input}
 use Rattle.check_spec.specs.Checked.{Checked}
 use Rattle.entry.specs.Entry.{entry_value, entry_bound}

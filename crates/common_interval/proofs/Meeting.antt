@@ -17,7 +17,7 @@ use Rattle.integer.proofs.Search.{largest_ext}
 use Rattle.linear.specs.Reach.{ColumnList}
 use Rattle.linear.proofs.Written.{written_ext}
 use Rattle.rules.specs.Refusal.{code}
-use Rattle.rules.specs.declared.Outcome.TheVariants.{Accepted, Refused}
+use Rattle.std.specs.Prelude.{Ok, Err}
 use Rattle.rules.specs.declared.Refusal.{Refusal}
 use Rattle.rules.proofs.Ranges.{neither}
 use Rattle.enclosure.specs.Reckoning.{bound}
@@ -49,10 +49,10 @@ module _ (Q : Proposals) where
   long_both l h = neither (le-ltb (length Q.low) 32 l) (le-ltb (length Q.high) 32 h)
 
 module _ (I : Input) (c : Held) (x : HeldAs I c) where
-  pub code_refused : (r : Refusal) → c.outcome ≡ Refused r → code (Refused r) ≡ answer I
+  pub code_refused : (r : Refusal) → c.outcome ≡ Err r → code (Err r) ≡ answer I
   code_refused r e = ap code (sym e) ∙ x.says
 
-  pub code_accepted : c.outcome ≡ Accepted → answer I ≡ []
+  pub code_accepted : c.outcome ≡ (Ok tt) → answer I ≡ []
   code_accepted e = sym x.says ∙ ap code e
 
 module _ (I : Input) (a : answer I ≡ []) where

@@ -7,7 +7,7 @@ ghost use Rattle.common_spec.specs.Proposals.{proposal, proposals};
 use check_held::check_held;
 use common_ends::{are_equations_same, meet};
 use common_spec::Common;
-use rules::{COLUMN_LENGTH, Outcome};
+use rules::COLUMN_LENGTH;
 
 // The common interval of each height, in the finer of the two steps. Order: 8 for an interval list, the first proposal, the second, 20, 21; a refusal leaves
 // both interval lists as they were.
@@ -49,15 +49,15 @@ pub fn common_interval(
     );
     let code1 = first.outcome;
     match code1 {
-        Outcome::Refused(refusal) => Common::First(refusal),
-        Outcome::Accepted => {
+        Err(refusal) => Common::First(refusal),
+        Ok(()) => {
             let second = check_held(
                 n2, s2, t2, matrix2, right2, tolerance2, guess2, inverse2, weights2,
             );
             let code2 = second.outcome;
             match code2 {
-                Outcome::Refused(refusal) => Common::Second(refusal),
-                Outcome::Accepted => {
+                Err(refusal) => Common::Second(refusal),
+                Ok(()) => {
                     let size = n1 as usize;
                     if are_equations_same(
                         size,

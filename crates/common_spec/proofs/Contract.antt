@@ -17,7 +17,7 @@ use Rattle.linear.specs.Written.{written}
 use Rattle.linear.proofs.Written.{front_at}
 use Rattle.rules.specs.Range.{short_column}
 use Rattle.rules.specs.Refusal.{code}
-use Rattle.rules.specs.declared.Outcome.TheVariants.{Refused}
+use Rattle.std.specs.Prelude.{Err}
 use Rattle.rules.specs.declared.Refusal.{Refusal}
 use Rattle.rules.proofs.Ranges.{neither_left, neither_right}
 use Rattle.rules.proofs.Verdicts.{accepted_new, accepted_old, nothing_is_not}
@@ -89,11 +89,11 @@ module _ (Q : Proposals) where
   common_short e = refused TooShort refl (answer_short Q e)
 
   module _ (e : short_intervals Q ≡ false) where
-    pub common_first : (r : Refusal) → code (Refused r) ≡ answer Q.first → CommonAs Q (First r) Q.low Q.high
+    pub common_first : (r : Refusal) → code (Err r) ≡ answer Q.first → CommonAs Q (First r) Q.low Q.high
     common_first r a = refused (First r) refl (answer_first Q e (sym a))
 
     module _ (a : answer Q.first ≡ []) where
-      pub common_second : (r : Refusal) → code (Refused r) ≡ answer Q.second → CommonAs Q (Second r) Q.low Q.high
+      pub common_second : (r : Refusal) → code (Err r) ≡ answer Q.second → CommonAs Q (Second r) Q.low Q.high
       common_second r b = refused (Second r) refl (answer_second Q e a (sym b))
 
       module _ (b : answer Q.second ≡ []) where

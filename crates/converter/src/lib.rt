@@ -11,7 +11,7 @@ use convert_spec::{Conversion, Converted};
 use convert_writer::{has_tolerance, put_file};
 use file::{Collected, read_file};
 use listing_text::put_bytes;
-use rules::{Outcome, Refusal};
+use rules::Refusal;
 
 // The text at the start of the buffer, or 22 where there is a tolerance or the buffer is shorter than the text.
 fn hand_over(out: &mut [u8], text: &[u8], tolerance: bool) -> Converted
@@ -45,11 +45,11 @@ pub fn convert_file(file: &[u8], out: &mut [u8]) -> Conversion
     let collected = read_file(file);
     let outcome = collected.outcome;
     match outcome {
-        Outcome::Refused(refusal) => Conversion {
+        Err(refusal) => Conversion {
             answer: Converted::Refused(refusal),
             line: collected.line,
         },
-        Outcome::Accepted => {
+        Ok(()) => {
             let answer = deliver(out, collected);
             Conversion { answer, line: 0 }
         }

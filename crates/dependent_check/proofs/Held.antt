@@ -15,8 +15,8 @@ use Rattle.linear.specs.Written.{written}
 use Rattle.linear.proofs.Written.{written_length, written_ext}
 use Rattle.rules.specs.Range.{short_matrix, short_column}
 use Rattle.rules.specs.Refusal.{code}
-use Rattle.rules.specs.declared.Outcome.{Outcome}
-use Rattle.rules.specs.declared.Outcome.TheVariants as outcome
+use Rattle.rules.specs.Refusal.{Outcome}
+use Rattle.std.specs.Prelude.{Ok, Err}
 use Rattle.rules.specs.declared.Refusal.{Refusal}
 use Rattle.rules.specs.declared.Refusal.TheVariants.{TooShort}
 use Rattle.rules.proofs.Ranges.{or_right}
@@ -65,11 +65,11 @@ module _ (J : Nets) where
     code_main : code r ≡ answer J.main
     code_main = x.says ∙ lent_answer J.main (replicate 32 0) (replicate 1024 0) h g (lit≤ tt) (lit≤ tt)
 
-    pub main_refused : (y : Refusal) → r ≡ outcome.Refused y →
+    pub main_refused : (y : Refusal) → r ≡ Err y →
         CheckedTogether J (Main y) J.main.solution_bounds J.main.inverse_bounds J.dependent.solution_bounds J.dependent.inverse_bounds
     main_refused y e = together_main J y (ap code (sym e) ∙ code_main)
 
-    module _ (e : r ≡ outcome.Accepted) where
+    module _ (e : r ≡ (Ok tt)) where
       main_accepted : answer J.main ≡ []
       main_accepted = sym code_main ∙ ap code e
 
@@ -106,12 +106,12 @@ module _ (J : Nets) where
         z : DependentAs (dependent_of J) q K M
         z = dependent_same J.main.n J.main.s (vector_of J.main.guess) (λ (j : ℕ). get_or E j 0) (bound (problem J.main)) J.coupling J.dependent limit_is y
 
-        pub dependent_refused : (w : Refusal) → q ≡ outcome.Refused w → CheckedTogether J (Dependent w) J.main.solution_bounds J.main.inverse_bounds K M
+        pub dependent_refused : (w : Refusal) → q ≡ Err w → CheckedTogether J (Dependent w) J.main.solution_bounds J.main.inverse_bounds K M
         dependent_refused w f =
-            let s : code (outcome.Refused w) ≡ dependent_answer (dependent_of J) = ap code (sym f) ∙ z.says in
+            let s : code (Err w) ≡ dependent_answer (dependent_of J) = ap code (sym f) ∙ z.says in
             rw (z.solution_bounds ∙ accepted_old _ _ (sym s), z.inverse_bounds ∙ accepted_old _ _ (sym s)) (together_dependent J w main_accepted s)
 
-        pub both_accepted : q ≡ outcome.Accepted → {A B : List ℕ} → A ≡ written J.main.solution_bounds 0 1 (λ (i : ℕ). get_or E i 0) J.main.n →
+        pub both_accepted : q ≡ (Ok tt) → {A B : List ℕ} → A ≡ written J.main.solution_bounds 0 1 (λ (i : ℕ). get_or E i 0) J.main.n →
             B ≡ written J.main.inverse_bounds 0 1 (λ (i : ℕ). get_or L i 0) (J.main.n * J.main.n) → CheckedTogether J Accepted A B K M
         both_accepted f {A} {B} a b =
             let s : dependent_answer (dependent_of J) ≡ [] = sym z.says ∙ ap code f in

@@ -9,7 +9,7 @@ use check_held::check_held;
 use dependent_coupling::copy_limits;
 use dependent_net::check_dependent_net;
 use dependent_spec::CheckedNets;
-use rules::{COLUMN_LENGTH, MATRIX_LENGTH, Outcome, Refusal};
+use rules::{COLUMN_LENGTH, MATRIX_LENGTH, Refusal};
 
 // The main net first: 8, 3, 5, 6, 7; then the dependent net in the same order. The main net's limits are held until both are accepted, so that a refusal of
 // either leaves all four limit lists as they were.
@@ -57,8 +57,8 @@ pub fn check_dependent(
     );
     let main = held.outcome;
     match main {
-        Outcome::Refused(refusal) => CheckedNets::Main(refusal),
-        Outcome::Accepted => {
+        Err(refusal) => CheckedNets::Main(refusal),
+        Ok(()) => {
             let marks = n1 as usize;
             let limits = held.solution;
             let own = check_dependent_net(
@@ -80,8 +80,8 @@ pub fn check_dependent(
                 inverse_bounds2,
             );
             match own {
-                Outcome::Refused(refusal) => CheckedNets::Dependent(refusal),
-                Outcome::Accepted => {
+                Err(refusal) => CheckedNets::Dependent(refusal),
+                Ok(()) => {
                     let inverse_limits = held.inverse;
                     copy_limits(solution_bounds1, &limits, marks);
                     copy_limits(inverse_bounds1, &inverse_limits, marks * marks);

@@ -13,7 +13,7 @@ use check_lists::compute_bounds;
 use check_ranges::{are_lists_in_range, are_sizes_in_range, is_short};
 use check_residuals::scaled_right;
 use dependent_coupling::{base_of, slacks_with};
-use rules::{Kind, MATRIX_LENGTH, Outcome, Refusal, all_in_range};
+use rules::{Kind, MATRIX_LENGTH, Refusal, all_in_range};
 
 // The check of a dependent net, from n, s, the guess and the limits of the main net. Order 8, 3, 5, 6, 7; a refusal leaves both limit lists as they were. The sums
 // along the rows are not asked of its heights.
@@ -34,7 +34,7 @@ pub fn check_dependent_net(
     weights: &[i64],
     solution_bounds: &mut [u64],
     inverse_bounds: &mut [u64],
-) -> Outcome
+) -> Result<(), Refusal>
     requires marks_bound { marks ≤ 32 }
     requires column_list { ColumnList main_guess.now marks (2 ^ 36) }
     ensures { DependentAs (dependent_by marks main_scale (vector_of main_guess.now) (λ (j : ℕ). get_or main_limits j 0)
@@ -43,7 +43,7 @@ pub fn check_dependent_net(
         result solution_bounds.new inverse_bounds.new }
 {
     if coupling.len() < MATRIX_LENGTH {
-        return Outcome::Refused(Refusal::TooShort);
+        return Err(Refusal::TooShort);
     }
     if is_short(
         matrix.len(),
@@ -55,7 +55,7 @@ pub fn check_dependent_net(
         solution_bounds.len(),
         inverse_bounds.len(),
     ) {
-        return Outcome::Refused(Refusal::TooShort);
+        return Err(Refusal::TooShort);
     }
     if are_sizes_in_range(n, s, t) {
         let size = n as usize;
@@ -92,5 +92,5 @@ pub fn check_dependent_net(
             }
         }
     }
-    Outcome::Refused(Refusal::OutOfRange)
+    Err(Refusal::OutOfRange)
 }

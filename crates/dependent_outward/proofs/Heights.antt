@@ -8,7 +8,7 @@ use lib.ListN.{length, get_or}
 use lib.Ieee.{Float}
 use Rattle.rules.specs.Range.{short_matrix}
 use Rattle.rules.specs.Refusal.{code}
-use Rattle.rules.specs.declared.Outcome.{Outcome}
+use Rattle.rules.specs.Refusal.{Outcome}
 use Rattle.rules.proofs.Ranges.{both_left, neither_right}
 use Rattle.rules.proofs.Verdicts.{accepted_new}
 use Rattle.linear.specs.Matrix.{Vec}

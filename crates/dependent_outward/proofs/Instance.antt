@@ -4,7 +4,7 @@
 use mathlib.Core.List.{[]}
 use mathlib.Core.Path.{◌≡◌, refl}
 use lib.Dec.{lit≤}
-use Rattle.rules.specs.declared.Outcome.TheVariants as outcome
+use Rattle.std.specs.Prelude.{Ok}
 use Rattle.doubles_lists.specs.Outward.{Outgoing, lows_after, highs_after, IntervalsOf}
 use Rattle.doubles_lists.proofs.Instance.{outward_accepts, zero_doubles}
 use Rattle.check_spec.specs.Checked.{solution_after, inverse_after}
@@ -28,10 +28,10 @@ ends₁ = main_outgoing coupled_nets (solution_after [] coupled_nets.main) zero_
 abbrev pub ends₂ : Outgoing
 ends₂ = dependent_outgoing coupled_nets (dependent_solution_after [] (dependent_of coupled_nets)) zero_doubles zero_doubles
 
-found₁ : IntervalsOf ends₁ outcome.Accepted (lows_after ends₁) (highs_after ends₁)
+found₁ : IntervalsOf ends₁ (Ok tt) (lows_after ends₁) (highs_after ends₁)
 found₁ = outward_accepts ends₁ ((both_taken coupled_nets both_checked refl).main zero_doubles zero_doubles (lit≤ tt) (lit≤ tt))
 
-found₂ : IntervalsOf ends₂ outcome.Accepted (lows_after ends₂) (highs_after ends₂)
+found₂ : IntervalsOf ends₂ (Ok tt) (lows_after ends₂) (highs_after ends₂)
 found₂ = outward_accepts ends₂ ((both_taken coupled_nets both_checked refl).dependent zero_doubles zero_doubles (lit≤ tt) (lit≤ tt))
 
 pub both_between_here : HeightsBetween coupled_nets (lows_after ends₁) (highs_after ends₁) (lows_after ends₂) (highs_after ends₂) far_height far_height₂ 1

@@ -11,7 +11,7 @@ use Rattle.linear.specs.Written.{written}
 use Rattle.linear.proofs.Places.{place, square, place_column, place_row}
 use Rattle.linear.proofs.Written.{front_at}
 use Rattle.rules.specs.Refusal.{code, number_of, values_of}
-use Rattle.rules.specs.declared.Outcome.TheVariants as outcome
+use Rattle.std.specs.Prelude.{Err}
 use Rattle.rules.specs.declared.Refusal.{Refusal}
 use Rattle.rules.proofs.Ranges.{both_left, both_right}
 use Rattle.rules.proofs.Verdicts.{accepted_new, accepted_old, nothing_is_not}
@@ -31,7 +31,7 @@ use Rattle.dependent_spec.proofs.Joint.{encloses_both, encloses_both_as}
 use Rattle.dependent_spec.proofs.Statements.{own_fit, Passed, passed_of, joint_main, joint_dependent, joint_accepted}
 
 module _ (J : Nets) where
-  pub together_main : (x : Refusal) → code (outcome.Refused x) ≡ answer J.main →
+  pub together_main : (x : Refusal) → code (Err x) ≡ answer J.main →
       CheckedTogether J (Main x) J.main.solution_bounds J.main.inverse_bounds J.dependent.solution_bounds J.dependent.inverse_bounds
   together_main x e =
       let j : joint_answer J ≡ 1 ∷ number_of x ∷ values_of x = joint_main J (sym e) in
@@ -44,7 +44,7 @@ module _ (J : Nets) where
         encloses = λ n. absurd (nothing_is_not n);
       }
 
-  pub together_dependent : (x : Refusal) → answer J.main ≡ [] → code (outcome.Refused x) ≡ dependent_answer (dependent_of J) →
+  pub together_dependent : (x : Refusal) → answer J.main ≡ [] → code (Err x) ≡ dependent_answer (dependent_of J) →
       CheckedTogether J (Dependent x) J.main.solution_bounds J.main.inverse_bounds J.dependent.solution_bounds J.dependent.inverse_bounds
   together_dependent x e f =
       let j : joint_answer J ≡ 2 ∷ number_of x ∷ values_of x = joint_dependent J e (sym f) in

@@ -2,7 +2,7 @@
 --   DependentAs D r E L — what is said, and its two limit lists
 use Rattle.std.specs.Prelude.{List, ◌≡◌, ℕ}
 use Rattle.rules.specs.Refusal.{code}
-use Rattle.rules.specs.declared.Outcome.{Outcome}
+use Rattle.rules.specs.Refusal.{Outcome}
 use Rattle.check_spec.specs.Checked.{inverse_after}
 use Rattle.dependent_spec.specs.Nets.{DependentNet}
 use Rattle.dependent_spec.specs.Order.{dependent_answer}

@@ -15,7 +15,7 @@ use lib.Signed.{◌≤ℤ◌, ◌<ℤ◌}
 use lib.Ieee.{Float}
 use Rattle.linear.specs.Slice.{at}
 use Rattle.rules.specs.Refusal.{code}
-use Rattle.rules.specs.declared.Outcome.{Outcome}
+use Rattle.rules.specs.Refusal.{Outcome}
 use Rattle.doubles_guess.specs.Guess.{guess_for}
 use Rattle.doubles_guess.specs.Units.{whole, Double}
 use Rattle.doubles_guess.proofs.Steps.{guess_whole}

@@ -21,7 +21,7 @@ use Rattle.linear.proofs.Written.{written_length, front_at}
 use Rattle.rules.specs.Range.{in_range, range_of, ranges, short_column}
 use Rattle.rules.specs.Refusal.{code}
 use Rattle.rules.specs.declared.Kind.TheVariants as kind
-use Rattle.rules.specs.declared.Outcome.{Outcome}
+use Rattle.rules.specs.Refusal.{Outcome}
 use Rattle.rules.proofs.AllInRange.{all_in}
 use Rattle.rules.proofs.Ranges.{both, both_left, both_right, neither_right, size_range, in_size_range, guess_range}
 use Rattle.enclosure.specs.Reckoning.{bound}

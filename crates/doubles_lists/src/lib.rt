@@ -13,7 +13,7 @@ ghost use Rattle.doubles_lists.specs.Outward.{IntervalsOf, outgoing, SmallInterv
 
 use doubles_guess::guess_of;
 use doubles_interval::interval_of;
-use rules::{COLUMN_LENGTH, Kind, Outcome, Refusal, all_in_range, is_natural_in_range};
+use rules::{COLUMN_LENGTH, Kind, Refusal, all_in_range, is_natural_in_range};
 
 // The answer to doubles that are to become guesses.
 #[derive(Clone, Copy)]
@@ -123,20 +123,20 @@ pub fn intervals_of(
     bounds: &[u64],
     low: &mut [f64],
     high: &mut [f64],
-) -> Outcome
+) -> Result<(), Refusal>
     ensures { IntervalsOf (outgoing n s guess.now bounds.now low.old high.old) result low.new high.new }
 {
     if is_short(guess.len(), bounds.len(), low.len(), high.len()) {
-        return Outcome::Refused(Refusal::TooShort);
+        return Err(Refusal::TooShort);
     }
     if are_sizes_in_range(n, s) {
         let size = n as usize;
         if all_in_range(Kind::Guess, guess, size) {
             if all_bounds_in_range(size, bounds) {
                 write_intervals(size, s, guess, bounds, low, high);
-                return Outcome::Accepted;
+                return Ok(());
             }
         }
     }
-    Outcome::Refused(Refusal::OutOfRange)
+    Err(Refusal::OutOfRange)
 }

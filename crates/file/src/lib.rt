@@ -8,7 +8,7 @@ ghost use Rattle.file.specs.Read.{ReadAs, LinesTakenAs};
 ghost use Rattle.file.specs.Feeds.{FeedWithin};
 
 use loader::Loader;
-use rules::Outcome;
+use rules::Refusal;
 
 // Whether one of 16 bytes is a line feed: all are compared, so that they can be compared at once.
 fn has_feed(file: &[u8], at: usize) -> bool
@@ -55,7 +55,7 @@ fn line_end(file: &[u8], at: usize) -> usize
 // What taking a file's lines gives back: the first refusal and the number of its line, from 1, or acceptance of all lines; and the loader then.
 #[derive(Clone, Copy)]
 pub struct LinesTaken {
-    pub outcome: Outcome,
+    pub outcome: Result<(), Refusal>,
     pub line: u64,
     pub loader: Loader,
 }
@@ -94,21 +94,21 @@ pub fn take_lines(
         line += 1;
         let outcome = taken.outcome;
         match outcome {
-            Outcome::Refused(refusal) => {
+            Err(refusal) => {
                 return LinesTaken {
-                    outcome: Outcome::Refused(refusal),
+                    outcome: Err(refusal),
                     line,
                     loader,
                 };
             }
-            Outcome::Accepted => {}
+            Ok(()) => {}
         }
         let next = taken.loader;
         loader = next;
         at = end + 1;
     }
     LinesTaken {
-        outcome: Outcome::Accepted,
+        outcome: Ok(()),
         line,
         loader,
     }
@@ -117,7 +117,7 @@ pub fn take_lines(
 // The same, with the lists by value.
 #[derive(Clone, Copy)]
 pub struct Collected {
-    pub outcome: Outcome,
+    pub outcome: Result<(), Refusal>,
     pub line: u64,
     pub loader: Loader,
     pub matrix: [i64; 1024],

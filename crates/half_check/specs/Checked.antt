@@ -5,7 +5,7 @@
 --                 for the filled-out matrix, with its outcome, its limit lists and both halves of demand 3
 use Rattle.std.specs.Prelude.{true, false, List, [], ◌∷◌, ◌≡◌, ℕ, ℤ, length}
 use Rattle.rules.specs.Refusal.{code}
-use Rattle.rules.specs.declared.Outcome.{Outcome}
+use Rattle.rules.specs.Refusal.{Outcome}
 use Rattle.check_spec.specs.Checked.{Checked}
 use Rattle.check_spec.specs.Input.{Input, input}
 use Rattle.half_fill.specs.Half.{short_half, filled_out}

@@ -9,7 +9,7 @@ use Rattle.std.proofs.Math.Option.{Option, none, some}
 use Rattle.line_numeral.specs.Numeral.{cap}
 use Rattle.rules.specs.Refusal.{code}
 use Rattle.rules.specs.declared.Kind.TheVariants as kind
-use Rattle.rules.specs.declared.Outcome.TheVariants.{Refused}
+use Rattle.std.specs.Prelude.{Err}
 use Rattle.rules.specs.declared.Refusal.{Refusal}
 use Rattle.rules.specs.declared.Refusal.TheVariants.{TooLong, NoForm}
 use Rattle.line_parts.specs.declared.Answer.{Answer}
@@ -56,4 +56,4 @@ line_of s = cond (ltb 320 (length s)) (refused TooLong) (of_reading (reading s))
 
 abbrev pub line_code : Answer → List ℕ
 line_code (answer.Form f) = []
-line_code (answer.Refused r) = code (Refused r)
+line_code (answer.Refused r) = code (Err r)

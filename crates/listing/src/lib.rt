@@ -7,7 +7,6 @@ ghost use Rattle.listing.specs.Listing.{ListedAs, AnsweredAs};
 use file::take_lines;
 use file_check::put_checked;
 use listing_refusal::{FileAnswer, put_refusal};
-use rules::Outcome;
 
 // The listing of a file, from the start of the buffer on, and its answer in numbers.
 pub fn answer_file(file: &[u8], out: &mut [u8; 32768]) -> FileAnswer
@@ -30,8 +29,8 @@ pub fn answer_file(file: &[u8], out: &mut [u8; 32768]) -> FileAnswer
     );
     let outcome = taken.outcome;
     match outcome {
-        Outcome::Refused(refusal) => put_refusal(out, refusal, taken.line),
-        Outcome::Accepted => {
+        Err(refusal) => put_refusal(out, refusal, taken.line),
+        Ok(()) => {
             let loader = taken.loader;
             put_checked(
                 out, loader, &matrix, &right, &tolerance, &guess, &inverse, &weights,

@@ -8,8 +8,8 @@ use Prim.Native.Nat.{ℕ}
 use borrow.Author.Tests.{not-false}
 use lib.IntN.{ℤ}
 use Rattle.rules.specs.Refusal.{code, number_of, values_of}
-use Rattle.rules.specs.declared.Outcome.{Outcome}
-use Rattle.rules.specs.declared.Outcome.TheVariants.{Accepted, Refused}
+use Rattle.rules.specs.Refusal.{Outcome}
+use Rattle.std.specs.Prelude.{Ok, Err}
 use Rattle.rules.specs.declared.Refusal.{Refusal}
 use Rattle.line_parts.specs.declared.CappedForm.{CappedForm}
 use Rattle.line_parts.specs.declared.CappedForm.TheVariants as form
@@ -43,7 +43,7 @@ narrow_by d (Scale s t) a b = tt
 narrow_by d (Of p i) a b = ((size_of d.stage d.n (Of p i) (late d.stage a) b).1, placed_32 d.stage d.n (Of p i) a b)
 narrow_by d End a b = (size_of d.stage d.n End (late d.stage a) b).1
 
-module _ (d : Loader) (m : CappedForm) (count : ℕ) (inside : Bool) {x : Item} (e : x ≡ item_in m) {o : Outcome} (s : code o ≡ code_in d m count inside) (a : o ≡ Accepted) where
+module _ (d : Loader) (m : CappedForm) (count : ℕ) (inside : Bool) {x : Item} (e : x ≡ item_in m) {o : Outcome} (s : code o ≡ code_in d m count inside) (a : o ≡ (Ok tt)) where
   holds : Passed (case_in d m count inside)
   unfolding code_in
   holds = passed (case_in d m count inside) (sym s ∙ ap code a)
@@ -53,12 +53,12 @@ module _ (d : Loader) (m : CappedForm) (count : ℕ) (inside : Bool) {x : Item} 
 
 -- ---- what the code decides
 module _ (d : Loader) (m : CappedForm) (z : Numbers) {o : Outcome} {x : Item} {vs : List ℤ} (s : code o ≡ code_in d m z.count z.inside) (p : x ≡ item_in m) (q : vs ≡ values_in m z.values) where
-  pub decided_refused : {r : Refusal} → o ≡ Refused r → DecidedIn d m z (record { taken = record { loader = d; outcome = Refused r }; item = nothing; values = vs })
+  pub decided_refused : {r : Refusal} → o ≡ Err r → DecidedIn d m z (record { taken = record { loader = d; outcome = Err r }; item = nothing; values = vs })
   decided_refused {r} e =
       let t : number_of r ∷ values_of r ≡ code_in d m z.count z.inside = ap code (sym e) ∙ s in
       record { says = t; loader = rw (← t); item = rw (← t); values = q }
 
-  pub decided_accepted : {d' : Loader} → o ≡ Accepted → d' ≡ after d x → DecidedIn d m z (record { taken = record { loader = d'; outcome = Accepted }; item = x; values = vs })
+  pub decided_accepted : {d' : Loader} → o ≡ (Ok tt) → d' ≡ after d x → DecidedIn d m z (record { taken = record { loader = d'; outcome = (Ok tt) }; item = x; values = vs })
   decided_accepted e f =
       let t : [] ≡ code_in d m z.count z.inside = ap code (sym e) ∙ s in
       record { says = t; loader = rw (← t, ← p) f; item = rw (← t) p; values = q }

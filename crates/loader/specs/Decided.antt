@@ -12,7 +12,7 @@ use Rattle.rules.specs.Order.{if_accepted, verdict}
 use Rattle.rules.specs.Range.{in_range}
 use Rattle.rules.specs.Refusal.{code}
 use Rattle.rules.specs.declared.Kind.TheVariants as kind
-use Rattle.rules.specs.declared.Outcome.TheVariants.{Refused}
+use Rattle.std.specs.Prelude.{Err}
 use Rattle.rules.specs.declared.Refusal.{Refusal}
 use Rattle.line_parts.specs.declared.CappedForm.{CappedForm}
 use Rattle.line_form.specs.declared.Numbers.{Numbers}
@@ -59,7 +59,7 @@ abbrev pub nothing : Item
 nothing = Problem (pos 0)
 
 abbrev pub refused_by : Loader → Refusal → Decided
-refused_by d x = record { taken = record { loader = d; outcome = Refused x }; item = nothing; values = replicate 32 (pos 0) }
+refused_by d x = record { taken = record { loader = d; outcome = Err x }; item = nothing; values = replicate 32 (pos 0) }
 
 pub record DecidedIn (d : Loader) (m : CappedForm) (z : Numbers) (r : Decided) : Type 0 where
   pub says : code r.taken.outcome ≡ code_in d m z.count z.inside

@@ -14,7 +14,7 @@ use line_form::Numbers;
 use line_parts::{Answer, CappedForm};
 use loader_progress::Stage;
 use loader_values::{Item, Part};
-use rules::{Outcome, Refusal};
+use rules::Refusal;
 
 // n, s and t once given, how far the loader has come, and for each part the set of the forms it was given.
 #[derive(Clone, Copy)]
@@ -30,7 +30,7 @@ pub struct Loader {
 #[derive(Clone, Copy)]
 pub struct Taken {
     pub loader: Loader,
-    pub outcome: Outcome,
+    pub outcome: Result<(), Refusal>,
 }
 
 // What is decided of a line before anything is written: what is given back, and the form to write. A problem form writes nothing, and stands where nothing
@@ -119,7 +119,7 @@ impl Loader {
     }
 
     // The answer to a form: 11, 3 for i, 12, 3 for values, 4 and 13, in this order.
-    fn judge_form(self, form: CappedForm, count: usize, inside: bool) -> Outcome
+    fn judge_form(self, form: CappedForm, count: usize, inside: bool) -> Result<(), Refusal>
         ensures { code result ≡ code_in self form count inside }
     {
         let n = self.n;
@@ -127,19 +127,19 @@ impl Loader {
         let sets = self.sets;
         let item = loader_values::item_of(form);
         if loader_progress::is_early(stage, item) {
-            return Outcome::Refused(Refusal::TooEarly);
+            return Err(Refusal::TooEarly);
         }
         if loader_progress::is_misplaced(stage, n, item) {
-            return Outcome::Refused(Refusal::OutOfRange);
+            return Err(Refusal::OutOfRange);
         }
         if loader_progress::is_repeated(stage, sets, item) {
-            return Outcome::Refused(Refusal::Repeated);
+            return Err(Refusal::Repeated);
         }
         if loader_values::is_outside(form, inside) {
-            return Outcome::Refused(Refusal::OutOfRange);
+            return Err(Refusal::OutOfRange);
         }
         if loader_values::is_miscounted(form, count, n as usize) {
-            return Outcome::Refused(Refusal::WrongCount);
+            return Err(Refusal::WrongCount);
         }
         loader_progress::judge_end(stage, n, sets, item)
     }
@@ -190,7 +190,7 @@ impl Loader {
         Decided {
             taken: Taken {
                 loader: self,
-                outcome: Outcome::Refused(refusal),
+                outcome: Err(refusal),
             },
             item: Item::Problem(0),
             values: [0; 32],
@@ -208,18 +208,18 @@ impl Loader {
         let values = loader_values::values_of(form, listed);
         let outcome = self.judge_form(form, count, inside);
         match outcome {
-            Outcome::Refused(refusal) => Decided {
+            Err(refusal) => Decided {
                 taken: Taken {
                     loader: self,
-                    outcome: Outcome::Refused(refusal),
+                    outcome: Err(refusal),
                 },
                 item: Item::Problem(0),
                 values,
             },
-            Outcome::Accepted => Decided {
+            Ok(()) => Decided {
                 taken: Taken {
                     loader: self.advance(item),
-                    outcome: Outcome::Accepted,
+                    outcome: Ok(()),
                 },
                 item,
                 values,
@@ -299,7 +299,7 @@ impl Loader {
         weights: &[i64],
         solution_bounds: &mut [u64],
         inverse_bounds: &mut [u64],
-    ) -> Outcome
+    ) -> Result<(), Refusal>
         ensures { CheckedThrough self.stage
             (input self.n self.s self.t matrix.now right.now tolerance.now guess.now
             inverse.now weights.now solution_bounds.old inverse_bounds.old)
@@ -336,11 +336,11 @@ impl Loader {
 }
 
 // The answer to a check before an accepted end; short: whether a lent list is too short.
-fn not_ended(short: bool) -> Outcome
+fn not_ended(short: bool) -> Result<(), Refusal>
     ensures { code result ≡ cond short (8 ∷ []) (15 ∷ []) }
 {
     if short {
-        return Outcome::Refused(Refusal::TooShort);
+        return Err(Refusal::TooShort);
     }
-    Outcome::Refused(Refusal::NotEnded)
+    Err(Refusal::NotEnded)
 }

@@ -5,7 +5,7 @@
 use Rattle.std.specs.Prelude.{List, ◌≡◌, ℕ}
 use Rattle.rules.specs.Order.{if_accepted}
 use Rattle.rules.specs.Refusal.{code}
-use Rattle.rules.specs.declared.Outcome.{Outcome}
+use Rattle.rules.specs.Refusal.{Outcome}
 use Rattle.loader_lists.specs.Lists.{Lists}
 use Rattle.loader.specs.Answer.{line_answer}
 use Rattle.loader.specs.Taken.{loader_after, lists_after, loader_of, numbers_of_loader}

@@ -7,7 +7,7 @@ ghost use Rattle.loader_values.specs.Item.{placed};
 ghost use Rattle.loader_progress.specs.Progress.{set_of, given, marked, missing, sized, scaled, ended, early, misplaced, repeated, incomplete, stage_number, stage_of};
 
 use loader_values::{Item, Part};
-use rules::{Kind, Outcome, Refusal};
+use rules::{Kind, Refusal};
 
 // Nothing given yet, problem given, scale given, end accepted.
 #[derive(Clone, Copy)]
@@ -178,20 +178,20 @@ fn count_missing(sets: [u32; 5], n: u32) -> u32
 }
 
 // 13: end with forms outstanding, and their count. Any other form is accepted here.
-pub fn judge_end(stage: Stage, n: u32, sets: [u32; 5], item: Item) -> Outcome
+pub fn judge_end(stage: Stage, n: u32, sets: [u32; 5], item: Item) -> Result<(), Refusal>
     requires { (early stage item ≡ false) × (misplaced stage n item ≡ false) }
     ensures { code result ≡ cond (incomplete n sets item) (13 ∷ missing n sets ∷ []) [] }
 {
     match item {
-        Item::Problem(_) => Outcome::Accepted,
-        Item::Scale(_, _) => Outcome::Accepted,
-        Item::Of(_, _) => Outcome::Accepted,
+        Item::Problem(_) => Ok(()),
+        Item::Scale(_, _) => Ok(()),
+        Item::Of(_, _) => Ok(()),
         Item::End => {
             let count = count_missing(sets, n);
             if 0 < count {
-                Outcome::Refused(Refusal::Missing(count))
+                Err(Refusal::Missing(count))
             } else {
-                Outcome::Accepted
+                Ok(())
             }
         }
     }

@@ -3,7 +3,7 @@
 use Rattle.std.specs.Prelude.{false, List, [], ◌∷◌, ◌≡◌, ℕ, ◌+◌, ◌-◌, ◌*◌, ◌/◌, ◌≤◌, ◌<◌, ℤ, length}
 use Rattle.linear.specs.Slice.{at}
 use Rattle.rules.specs.Refusal.{code}
-use Rattle.rules.specs.declared.Outcome.{Outcome}
+use Rattle.rules.specs.Refusal.{Outcome}
 use Rattle.check_spec.specs.Checked.{Checked}
 use Rattle.check_spec.specs.Input.{Input}
 use Rattle.half_fill.specs.Half.{filled_out}

@@ -5,7 +5,7 @@ use Rattle.std.specs.Float.{fin}
 use Rattle.linear.specs.Matrix.{Vec}
 use Rattle.linear.specs.Slice.{at}
 use Rattle.rules.specs.Refusal.{code}
-use Rattle.rules.specs.declared.Outcome.{Outcome}
+use Rattle.rules.specs.Refusal.{Outcome}
 use Rattle.enclosure.specs.Demand.{RightSide, ExactSolutionOf}
 use Rattle.enclosure.specs.Problem.{Problem}
 use Rattle.doubles_guess.specs.Guess.{guess_for, has_guess, Nearest}

@@ -9,7 +9,7 @@ ghost use Rattle.build_lines.specs.Order.{build_code};
 
 use build_lines::Built;
 use listing_refusal::{Reply, no_refusal, reply_of};
-use rules::{Outcome, Refusal};
+use rules::Refusal;
 
 pub mod builds;
 pub mod conversions;
@@ -20,12 +20,12 @@ pub mod proposals;
 pub mod searches;
 
 // The answer of an outcome; a refusal that gives its number alone leaves both places 0.
-pub fn outcome_reply(outcome: Outcome) -> Reply
+pub fn outcome_reply(outcome: Result<(), Refusal>) -> Reply
     ensures { result ≡ reply_of (printed 0 (code outcome)) }
 {
     match outcome {
-        Outcome::Accepted => no_refusal(),
-        Outcome::Refused(refusal) => reply_of(refusal, 0),
+        Ok(()) => no_refusal(),
+        Err(refusal) => reply_of(refusal, 0),
     }
 }
 

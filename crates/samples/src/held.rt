@@ -2,7 +2,7 @@
 ghost use Rattle.std.specs.Prelude.{◌≡◌, ◌≤◌, length};
 
 use loader::Loader;
-use rules::Outcome;
+use rules::Refusal;
 
 // What stands in the limit lists before a check: no limit is as large.
 pub const UNWRITTEN: u64 = 1152921504606846977;
@@ -17,13 +17,13 @@ pub struct Loaded {
     pub guess: [i64; 32],
     pub inverse: [i64; 1024],
     pub weights: [i64; 32],
-    pub outcome: Outcome,
+    pub outcome: Result<(), Refusal>,
 }
 
 // What a check answered, and the limit lists after it.
 #[derive(Clone, Copy)]
 pub struct Limits {
-    pub outcome: Outcome,
+    pub outcome: Result<(), Refusal>,
     pub solution: [u64; 32],
     pub inverse: [u64; 1024],
 }
@@ -51,7 +51,7 @@ pub fn fresh() -> Loaded {
         guess: list,
         inverse: matrix,
         weights: list,
-        outcome: Outcome::Accepted,
+        outcome: Ok(()),
     }
 }
 

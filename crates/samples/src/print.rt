@@ -1,6 +1,6 @@
 // Answers, lists and numbers on standard output.
 use crate::held::{Limits, UNWRITTEN};
-use rules::{Outcome, Refusal};
+use rules::Refusal;
 use std::io::Stdout;
 
 pub fn print_text(output: Stdout, text: &[u8]) {
@@ -12,15 +12,15 @@ pub fn print_number(output: Stdout, x: u64) {
 }
 
 // An answer by itself on a line.
-pub fn print_answer(output: Stdout, outcome: Outcome) {
+pub fn print_answer(output: Stdout, outcome: Result<(), Refusal>) {
     print_outcome(output, outcome);
     print_text(output, b"\n");
 }
 
-fn print_outcome(output: Stdout, outcome: Outcome) {
+fn print_outcome(output: Stdout, outcome: Result<(), Refusal>) {
     match outcome {
-        Outcome::Accepted => print_text(output, b"accepted"),
-        Outcome::Refused(refusal) => print_refusal(output, refusal),
+        Ok(()) => print_text(output, b"accepted"),
+        Err(refusal) => print_refusal(output, refusal),
     }
 }
 

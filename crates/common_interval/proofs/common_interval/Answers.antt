@@ -6,7 +6,7 @@ use Rattle.common_spec.specs.Proposals.{Proposals, proposal, proposals, short_in
 use Rattle.common_spec.proofs.Contract.{common_short, common_first, common_second, common_different}
 use Rattle.common_interval.proofs.Meeting.{short_low, short_high, long_both, code_refused, code_accepted, equations_ready, meeting_ready, common_met}
 use Rattle.common_interval.proofs.common_interval.Goals as goal
-use Rattle.common_interval.proofs.common_interval.Goals.{After-check_held-first, After-check_held-second, After-meet, Else-are_equations_same, Else-high-lt-COLUMN_LENGTH, In-Accepted, In-Accepted-code2, Start, Then-are_equations_same}
+use Rattle.common_interval.proofs.common_interval.Goals.{After-check_held-first, After-check_held-second, After-meet, Else-are_equations_same, Else-high-lt-COLUMN_LENGTH, In-Ok, In-Ok-code2, Start, Then-are_equations_same}
 
 abbrev Q : Start → Proposals
 Q s =
@@ -20,22 +20,22 @@ Q s =
 long : (c : Else-high-lt-COLUMN_LENGTH) → short_intervals (Q (goal.at.Else-high-lt-COLUMN_LENGTH c).Start) ≡ false
 long c = long_both (Q (goal.at.Else-high-lt-COLUMN_LENGTH c).Start) c.if-low-lt-COLUMN_LENGTH.false c.if-high-lt-COLUMN_LENGTH.false
 
-module _ (c : In-Accepted) where
+module _ (c : In-Ok) where
   abbrev e : Else-high-lt-COLUMN_LENGTH
-  e = (goal.at.In-Accepted c).Else-high-lt-COLUMN_LENGTH
+  e = (goal.at.In-Ok c).Else-high-lt-COLUMN_LENGTH
 
   first_code : answer (Q (goal.at.Else-high-lt-COLUMN_LENGTH e).Start).first ≡ []
-  first_code = code_accepted (Q (goal.at.Else-high-lt-COLUMN_LENGTH e).Start).first _ c.check_held-first.ensures c.in-Accepted.is
+  first_code = code_accepted (Q (goal.at.Else-high-lt-COLUMN_LENGTH e).Start).first _ c.check_held-first.ensures c.in-Ok.is
 
-module _ (c : In-Accepted-code2) where
-  abbrev a : In-Accepted
-  a = (goal.at.In-Accepted-code2 c).In-Accepted
+module _ (c : In-Ok-code2) where
+  abbrev a : In-Ok
+  a = (goal.at.In-Ok-code2 c).In-Ok
 
   abbrev s : Start
-  s = (goal.at.In-Accepted a).Start
+  s = (goal.at.In-Ok a).Start
 
   second_code : answer (Q s).second ≡ []
-  second_code = code_accepted (Q s).second _ c.check_held-second.ensures c.in-Accepted-code2.is
+  second_code = code_accepted (Q s).second _ c.check_held-second.ensures c.in-Ok-code2.is
 
 same : (c : Then-are_equations_same) → same_equations (Q (goal.at.Then-are_equations_same c).Start).first (Q (goal.at.Then-are_equations_same c).Start).second ≡ true
 same c = sym c.are_equations_same.ensures ∙ c.if-are_equations_same.true
@@ -53,38 +53,38 @@ pub returns-then-are_equations_same : goal.returns-then-are_equations_same
 returns-then-are_equations_same c =
     let m = (goal.at.returns-then-are_equations_same c).After-meet in
     let t = (goal.at.returns-then-are_equations_same c).Then-are_equations_same in
-    let b = (goal.at.returns-then-are_equations_same c).In-Accepted-code2 in
-    common_met (Q (goal.at.returns-then-are_equations_same c).Start) _ _ b.check_held-first.ensures b.check_held-second.ensures (long (goal.at.returns-then-are_equations_same c).Else-high-lt-COLUMN_LENGTH) (first_code (goal.at.returns-then-are_equations_same c).In-Accepted) (second_code (goal.at.returns-then-are_equations_same c).In-Accepted-code2) (same (goal.at.returns-then-are_equations_same c).Then-are_equations_same) m.meet.ensures
+    let b = (goal.at.returns-then-are_equations_same c).In-Ok-code2 in
+    common_met (Q (goal.at.returns-then-are_equations_same c).Start) _ _ b.check_held-first.ensures b.check_held-second.ensures (long (goal.at.returns-then-are_equations_same c).Else-high-lt-COLUMN_LENGTH) (first_code (goal.at.returns-then-are_equations_same c).In-Ok) (second_code (goal.at.returns-then-are_equations_same c).In-Ok-code2) (same (goal.at.returns-then-are_equations_same c).Then-are_equations_same) m.meet.ensures
 
-pub returns-in-Refused : goal.returns-in-Refused
-returns-in-Refused c =
-    let p = (goal.at.returns-in-Refused c).After-check_held-first in
-    let q = Q (goal.at.returns-in-Refused c).Start in
-    common_first q (long (goal.at.returns-in-Refused c).Else-high-lt-COLUMN_LENGTH) _ (code_refused q.first _ p.check_held-first.ensures _ c.in-Refused.is)
+pub returns-in-Err : goal.returns-in-Err
+returns-in-Err c =
+    let p = (goal.at.returns-in-Err c).After-check_held-first in
+    let q = Q (goal.at.returns-in-Err c).Start in
+    common_first q (long (goal.at.returns-in-Err c).Else-high-lt-COLUMN_LENGTH) _ (code_refused q.first _ p.check_held-first.ensures _ c.in-Err.is)
 
-pub returns-in-Refused-code2 : goal.returns-in-Refused-code2
-returns-in-Refused-code2 c =
-    let p = (goal.at.returns-in-Refused-code2 c).After-check_held-second in
-    let b = (goal.at.returns-in-Refused-code2 c).In-Accepted in
-    let q = Q (goal.at.returns-in-Refused-code2 c).Start in
-    common_second q (long (goal.at.returns-in-Refused-code2 c).Else-high-lt-COLUMN_LENGTH) (first_code (goal.at.returns-in-Refused-code2 c).In-Accepted) _ (code_refused q.second _ p.check_held-second.ensures _ c.in-Refused-code2.is)
+pub returns-in-Err-code2 : goal.returns-in-Err-code2
+returns-in-Err-code2 c =
+    let p = (goal.at.returns-in-Err-code2 c).After-check_held-second in
+    let b = (goal.at.returns-in-Err-code2 c).In-Ok in
+    let q = Q (goal.at.returns-in-Err-code2 c).Start in
+    common_second q (long (goal.at.returns-in-Err-code2 c).Else-high-lt-COLUMN_LENGTH) (first_code (goal.at.returns-in-Err-code2 c).In-Ok) _ (code_refused q.second _ p.check_held-second.ensures _ c.in-Err-code2.is)
 
 pub returns-else-are_equations_same : goal.returns-else-are_equations_same
 returns-else-are_equations_same c =
-    let b = (goal.at.returns-else-are_equations_same c).In-Accepted-code2 in
-    common_different (Q (goal.at.returns-else-are_equations_same c).Start) (long (goal.at.returns-else-are_equations_same c).Else-high-lt-COLUMN_LENGTH) (first_code (goal.at.returns-else-are_equations_same c).In-Accepted) (second_code (goal.at.returns-else-are_equations_same c).In-Accepted-code2) (different c)
+    let b = (goal.at.returns-else-are_equations_same c).In-Ok-code2 in
+    common_different (Q (goal.at.returns-else-are_equations_same c).Start) (long (goal.at.returns-else-are_equations_same c).Else-high-lt-COLUMN_LENGTH) (first_code (goal.at.returns-else-are_equations_same c).In-Ok) (second_code (goal.at.returns-else-are_equations_same c).In-Ok-code2) (different c)
 
 pub are_equations_same-requires-clause-n1_bound : goal.are_equations_same-requires-clause-n1_bound
-are_equations_same-requires-clause-n1_bound c = (equations_ready (Q (goal.at.are_equations_same-requires-clause-n1_bound c).Start).first (Q (goal.at.are_equations_same-requires-clause-n1_bound c).Start).second (first_code (goal.at.are_equations_same-requires-clause-n1_bound c).In-Accepted) (second_code c)).0
+are_equations_same-requires-clause-n1_bound c = (equations_ready (Q (goal.at.are_equations_same-requires-clause-n1_bound c).Start).first (Q (goal.at.are_equations_same-requires-clause-n1_bound c).Start).second (first_code (goal.at.are_equations_same-requires-clause-n1_bound c).In-Ok) (second_code c)).0
 
 pub are_equations_same-requires-clause-in_bounds_2 : goal.are_equations_same-requires-clause-in_bounds_2
-are_equations_same-requires-clause-in_bounds_2 c = (equations_ready (Q (goal.at.are_equations_same-requires-clause-in_bounds_2 c).Start).first (Q (goal.at.are_equations_same-requires-clause-in_bounds_2 c).Start).second (first_code (goal.at.are_equations_same-requires-clause-in_bounds_2 c).In-Accepted) (second_code c)).1.1
+are_equations_same-requires-clause-in_bounds_2 c = (equations_ready (Q (goal.at.are_equations_same-requires-clause-in_bounds_2 c).Start).first (Q (goal.at.are_equations_same-requires-clause-in_bounds_2 c).Start).second (first_code (goal.at.are_equations_same-requires-clause-in_bounds_2 c).In-Ok) (second_code c)).1.1
 
 pub are_equations_same-requires-clause-in_bounds : goal.are_equations_same-requires-clause-in_bounds
-are_equations_same-requires-clause-in_bounds c = (equations_ready (Q (goal.at.are_equations_same-requires-clause-in_bounds c).Start).first (Q (goal.at.are_equations_same-requires-clause-in_bounds c).Start).second (first_code (goal.at.are_equations_same-requires-clause-in_bounds c).In-Accepted) (second_code c)).1.0
+are_equations_same-requires-clause-in_bounds c = (equations_ready (Q (goal.at.are_equations_same-requires-clause-in_bounds c).Start).first (Q (goal.at.are_equations_same-requires-clause-in_bounds c).Start).second (first_code (goal.at.are_equations_same-requires-clause-in_bounds c).In-Ok) (second_code c)).1.0
 
 pub meet-requires-clause-n_bound : goal.meet-requires-clause-n_bound
-meet-requires-clause-n_bound c = let t = (goal.at.meet-requires-clause-n_bound c).Then-are_equations_same in let b = (goal.at.meet-requires-clause-n_bound c).In-Accepted-code2 in (meeting_ready (Q (goal.at.meet-requires-clause-n_bound c).Start) (long (goal.at.meet-requires-clause-n_bound c).Else-high-lt-COLUMN_LENGTH) (first_code (goal.at.meet-requires-clause-n_bound c).In-Accepted) (second_code (goal.at.meet-requires-clause-n_bound c).In-Accepted-code2) (same (goal.at.meet-requires-clause-n_bound c).Then-are_equations_same)).0
+meet-requires-clause-n_bound c = let t = (goal.at.meet-requires-clause-n_bound c).Then-are_equations_same in let b = (goal.at.meet-requires-clause-n_bound c).In-Ok-code2 in (meeting_ready (Q (goal.at.meet-requires-clause-n_bound c).Start) (long (goal.at.meet-requires-clause-n_bound c).Else-high-lt-COLUMN_LENGTH) (first_code (goal.at.meet-requires-clause-n_bound c).In-Ok) (second_code (goal.at.meet-requires-clause-n_bound c).In-Ok-code2) (same (goal.at.meet-requires-clause-n_bound c).Then-are_equations_same)).0
 
 pub meet-requires-clause-s1_bound : goal.meet-requires-clause-s1_bound
-meet-requires-clause-s1_bound c = let t = (goal.at.meet-requires-clause-s1_bound c).Then-are_equations_same in let b = (goal.at.meet-requires-clause-s1_bound c).In-Accepted-code2 in (meeting_ready (Q (goal.at.meet-requires-clause-s1_bound c).Start) (long (goal.at.meet-requires-clause-s1_bound c).Else-high-lt-COLUMN_LENGTH) (first_code (goal.at.meet-requires-clause-s1_bound c).In-Accepted) (second_code (goal.at.meet-requires-clause-s1_bound c).In-Accepted-code2) (same (goal.at.meet-requires-clause-s1_bound c).Then-are_equations_same)).1
+meet-requires-clause-s1_bound c = let t = (goal.at.meet-requires-clause-s1_bound c).Then-are_equations_same in let b = (goal.at.meet-requires-clause-s1_bound c).In-Ok-code2 in (meeting_ready (Q (goal.at.meet-requires-clause-s1_bound c).Start) (long (goal.at.meet-requires-clause-s1_bound c).Else-high-lt-COLUMN_LENGTH) (first_code (goal.at.meet-requires-clause-s1_bound c).In-Ok) (second_code (goal.at.meet-requires-clause-s1_bound c).In-Ok-code2) (same (goal.at.meet-requires-clause-s1_bound c).Then-are_equations_same)).1

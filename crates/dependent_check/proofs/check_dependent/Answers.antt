@@ -24,41 +24,41 @@ pub copy_limits-requires : goal.copy_limits-requires
 copy_limits-requires c =
     let a = (goal.at.copy_limits-requires c).After-check_dependent_net-own in
     let h = (goal.at.copy_limits-requires c).After-check_held-held in
-    let e = c.in-Accepted.is in
+    let e = c.in-Ok.is in
     let n_max = marks_few (J (goal.at.copy_limits-requires c).Start) h.if-solution_bounds1-lt-COLUMN_LENGTH.false h.if-inverse_bounds1-lt-MATRIX_LENGTH.false h.check_held-held.ensures e in
     let long = limits_long (J (goal.at.copy_limits-requires c).Start) h.if-solution_bounds1-lt-COLUMN_LENGTH.false h.if-inverse_bounds1-lt-MATRIX_LENGTH.false h.check_held-held.ensures e in
     (omega (arith, n_max, long), omega (arith, n_max, h.if-solution_bounds1-lt-COLUMN_LENGTH.false))
 
-pub copy_limits-requires-in-Accepted-own : goal.copy_limits-requires-in-Accepted-own
-copy_limits-requires-in-Accepted-own c =
-    let a = (goal.at.copy_limits-requires-in-Accepted-own c).After-check_dependent_net-own in
-    let h = (goal.at.copy_limits-requires-in-Accepted-own c).After-check_held-held in
-    let e = c.in-Accepted.is in
-    let n_max = marks_few (J (goal.at.copy_limits-requires-in-Accepted-own c).Start) h.if-solution_bounds1-lt-COLUMN_LENGTH.false h.if-inverse_bounds1-lt-MATRIX_LENGTH.false h.check_held-held.ensures e in
-    let long = inverse_long (J (goal.at.copy_limits-requires-in-Accepted-own c).Start) h.if-solution_bounds1-lt-COLUMN_LENGTH.false h.if-inverse_bounds1-lt-MATRIX_LENGTH.false h.check_held-held.ensures e in
+pub copy_limits-requires-in-Ok-own : goal.copy_limits-requires-in-Ok-own
+copy_limits-requires-in-Ok-own c =
+    let a = (goal.at.copy_limits-requires-in-Ok-own c).After-check_dependent_net-own in
+    let h = (goal.at.copy_limits-requires-in-Ok-own c).After-check_held-held in
+    let e = c.in-Ok.is in
+    let n_max = marks_few (J (goal.at.copy_limits-requires-in-Ok-own c).Start) h.if-solution_bounds1-lt-COLUMN_LENGTH.false h.if-inverse_bounds1-lt-MATRIX_LENGTH.false h.check_held-held.ensures e in
+    let long = inverse_long (J (goal.at.copy_limits-requires-in-Ok-own c).Start) h.if-solution_bounds1-lt-COLUMN_LENGTH.false h.if-inverse_bounds1-lt-MATRIX_LENGTH.false h.check_held-held.ensures e in
     (omega (arith, square n_max, long), omega (arith, square n_max, h.if-inverse_bounds1-lt-MATRIX_LENGTH.false))
 
-pub returns-in-Refused : goal.returns-in-Refused
-returns-in-Refused c =
-    let h = (goal.at.returns-in-Refused c).After-check_held-held in
-    main_refused (J (goal.at.returns-in-Refused c).Start) h.if-solution_bounds1-lt-COLUMN_LENGTH.false h.if-inverse_bounds1-lt-MATRIX_LENGTH.false h.check_held-held.ensures _ c.in-Refused.is
+pub returns-in-Err : goal.returns-in-Err
+returns-in-Err c =
+    let h = (goal.at.returns-in-Err c).After-check_held-held in
+    main_refused (J (goal.at.returns-in-Err c).Start) h.if-solution_bounds1-lt-COLUMN_LENGTH.false h.if-inverse_bounds1-lt-MATRIX_LENGTH.false h.check_held-held.ensures _ c.in-Err.is
 
-pub returns-in-Refused-own : goal.returns-in-Refused-own
-returns-in-Refused-own c =
-    let a = (goal.at.returns-in-Refused-own c).After-check_dependent_net-own in
-    let h = (goal.at.returns-in-Refused-own c).After-check_held-held in
-    dependent_refused (J (goal.at.returns-in-Refused-own c).Start) h.if-solution_bounds1-lt-COLUMN_LENGTH.false h.if-inverse_bounds1-lt-MATRIX_LENGTH.false h.check_held-held.ensures c.in-Accepted.is a.check_dependent_net-own.ensures _ c.in-Refused-own.is
+pub returns-in-Err-own : goal.returns-in-Err-own
+returns-in-Err-own c =
+    let a = (goal.at.returns-in-Err-own c).After-check_dependent_net-own in
+    let h = (goal.at.returns-in-Err-own c).After-check_held-held in
+    dependent_refused (J (goal.at.returns-in-Err-own c).Start) h.if-solution_bounds1-lt-COLUMN_LENGTH.false h.if-inverse_bounds1-lt-MATRIX_LENGTH.false h.check_held-held.ensures c.in-Ok.is a.check_dependent_net-own.ensures _ c.in-Err-own.is
 
-pub returns-in-Accepted-own : goal.returns-in-Accepted-own
-returns-in-Accepted-own c =
-    let i = (goal.at.returns-in-Accepted-own c).After-copy_limits in
-    let a = (goal.at.returns-in-Accepted-own c).After-check_dependent_net-own in
-    let h = (goal.at.returns-in-Accepted-own c).After-check_held-held in
-    both_accepted (J (goal.at.returns-in-Accepted-own c).Start) h.if-solution_bounds1-lt-COLUMN_LENGTH.false h.if-inverse_bounds1-lt-MATRIX_LENGTH.false h.check_held-held.ensures c.in-Accepted.is a.check_dependent_net-own.ensures c.in-Accepted-own.is
-    i.copy_limits.ensures c.copy_limits-in-Accepted-own.ensures
+pub returns-in-Ok-own : goal.returns-in-Ok-own
+returns-in-Ok-own c =
+    let i = (goal.at.returns-in-Ok-own c).After-copy_limits in
+    let a = (goal.at.returns-in-Ok-own c).After-check_dependent_net-own in
+    let h = (goal.at.returns-in-Ok-own c).After-check_held-held in
+    both_accepted (J (goal.at.returns-in-Ok-own c).Start) h.if-solution_bounds1-lt-COLUMN_LENGTH.false h.if-inverse_bounds1-lt-MATRIX_LENGTH.false h.check_held-held.ensures c.in-Ok.is a.check_dependent_net-own.ensures c.in-Ok-own.is
+    i.copy_limits.ensures c.copy_limits-in-Ok-own.ensures
 
 pub check_dependent_net-own-requires-clause-marks_bound : goal.check_dependent_net-own-requires-clause-marks_bound
-check_dependent_net-own-requires-clause-marks_bound c = let h = (goal.at.check_dependent_net-own-requires-clause-marks_bound c).After-check_held-held in let e = c.in-Accepted.is in let l = h.if-solution_bounds1-lt-COLUMN_LENGTH.false in let m = h.if-inverse_bounds1-lt-MATRIX_LENGTH.false in marks_few (J (goal.at.check_dependent_net-own-requires-clause-marks_bound c).Start) l m h.check_held-held.ensures e
+check_dependent_net-own-requires-clause-marks_bound c = let h = (goal.at.check_dependent_net-own-requires-clause-marks_bound c).After-check_held-held in let e = c.in-Ok.is in let l = h.if-solution_bounds1-lt-COLUMN_LENGTH.false in let m = h.if-inverse_bounds1-lt-MATRIX_LENGTH.false in marks_few (J (goal.at.check_dependent_net-own-requires-clause-marks_bound c).Start) l m h.check_held-held.ensures e
 
 pub check_dependent_net-own-requires-clause-column_list : goal.check_dependent_net-own-requires-clause-column_list
-check_dependent_net-own-requires-clause-column_list c = let h = (goal.at.check_dependent_net-own-requires-clause-column_list c).After-check_held-held in let e = c.in-Accepted.is in let l = h.if-solution_bounds1-lt-COLUMN_LENGTH.false in let m = h.if-inverse_bounds1-lt-MATRIX_LENGTH.false in guess_known (J (goal.at.check_dependent_net-own-requires-clause-column_list c).Start) l m h.check_held-held.ensures e
+check_dependent_net-own-requires-clause-column_list c = let h = (goal.at.check_dependent_net-own-requires-clause-column_list c).After-check_held-held in let e = c.in-Ok.is in let l = h.if-solution_bounds1-lt-COLUMN_LENGTH.false in let m = h.if-inverse_bounds1-lt-MATRIX_LENGTH.false in guess_known (J (goal.at.check_dependent_net-own-requires-clause-column_list c).Start) l m h.check_held-held.ensures e

@@ -8,12 +8,12 @@ use Rattle.file.proofs.take_lines.Goals.{After-line_end-end, After-take-taken, S
 abbrev old : Start → Lists
 old s = lists s.args.matrix.now s.args.right.now s.args.tolerance.now s.args.guess.now s.args.inverse.now s.args.weights.now
 
-pub returns-in-Refused : goal.returns-in-Refused
-returns-in-Refused c =
-    let t = (goal.at.returns-in-Refused c).After-take-taken in
-    let e = (goal.at.returns-in-Refused c).After-line_end-end in
-    let s = (goal.at.returns-in-Refused c).Start in
-    read_refusal s.args.file.now (old (goal.at.returns-in-Refused c).Start) e.loop-at.invariant.6 e.loop-at-test.true e.line_end-end.ensures t.take-taken.ensures _ c.in-Refused.is
+pub returns-in-Err : goal.returns-in-Err
+returns-in-Err c =
+    let t = (goal.at.returns-in-Err c).After-take-taken in
+    let e = (goal.at.returns-in-Err c).After-line_end-end in
+    let s = (goal.at.returns-in-Err c).Start in
+    read_refusal s.args.file.now (old (goal.at.returns-in-Err c).Start) e.loop-at.invariant.6 e.loop-at-test.true e.line_end-end.ensures t.take-taken.ensures _ c.in-Err.is
 
 pub loop-at-preserved : goal.loop-at-preserved
 loop-at-preserved c =
@@ -28,7 +28,7 @@ loop-at-preserved c =
       k.guess ∙ l.invariant.3,
       k.inverse ∙ l.invariant.4,
       k.weights ∙ l.invariant.5,
-      read_on s.args.file.now (old (goal.at.loop-at-preserved c).Start) l.invariant.6 e.loop-at-test.true e.line_end-end.ensures t.take-taken.ensures c.in-Accepted.is,
+      read_on s.args.file.now (old (goal.at.loop-at-preserved c).Start) l.invariant.6 e.loop-at-test.true e.line_end-end.ensures t.take-taken.ensures c.in-Ok.is,
     )
 
 pub returns : goal.returns

@@ -11,16 +11,16 @@ left k =
     let z = k.take-taken.new in
     lists z.matrix z.right z.tolerance z.guess z.inverse z.weights
 
-pub returns-in-Accepted : goal.returns-in-Accepted
-returns-in-Accepted c =
-    let k = (goal.at.returns-in-Accepted c).After-take-taken in
-    let d = (goal.at.returns-in-Accepted c).After-from_numbers in
-    let s = (goal.at.returns-in-Accepted c).Start in
-    taken_accepted s.args.loader.now {l = lent (goal.at.returns-in-Accepted c).Start} {l' = left (goal.at.returns-in-Accepted c).After-take-taken} d.from_numbers.ensures k.take-taken.ensures c.in-Accepted.is c.numbers-numbers.ensures
+pub returns-in-Ok : goal.returns-in-Ok
+returns-in-Ok c =
+    let k = (goal.at.returns-in-Ok c).After-take-taken in
+    let d = (goal.at.returns-in-Ok c).After-from_numbers in
+    let s = (goal.at.returns-in-Ok c).Start in
+    taken_accepted s.args.loader.now {l = lent (goal.at.returns-in-Ok c).Start} {l' = left (goal.at.returns-in-Ok c).After-take-taken} d.from_numbers.ensures k.take-taken.ensures c.in-Ok.is c.numbers-numbers.ensures
 
-pub returns-in-Refused : goal.returns-in-Refused
-returns-in-Refused c =
-    let k = (goal.at.returns-in-Refused c).After-take-taken in
-    let d = (goal.at.returns-in-Refused c).After-from_numbers in
-    let s = (goal.at.returns-in-Refused c).Start in
-    taken_refused s.args.loader.now {l = lent (goal.at.returns-in-Refused c).Start} {l' = left (goal.at.returns-in-Refused c).After-take-taken} d.from_numbers.ensures k.take-taken.ensures c.in-Refused.is
+pub returns-in-Err : goal.returns-in-Err
+returns-in-Err c =
+    let k = (goal.at.returns-in-Err c).After-take-taken in
+    let d = (goal.at.returns-in-Err c).After-from_numbers in
+    let s = (goal.at.returns-in-Err c).Start in
+    taken_refused s.args.loader.now {l = lent (goal.at.returns-in-Err c).Start} {l' = left (goal.at.returns-in-Err c).After-take-taken} d.from_numbers.ensures k.take-taken.ensures c.in-Err.is

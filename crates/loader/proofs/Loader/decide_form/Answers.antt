@@ -7,4 +7,4 @@ advance-requires c =
     let j = (goal.at.advance-requires c).After-judge_form-outcome in
     let i = (goal.at.advance-requires c).After-item_of-item in
     let a = i.args in
-    fits_of a.self a.form a.numbers.count a.numbers.inside i.item_of-item.ensures j.judge_form-outcome.ensures c.in-Accepted.is
+    fits_of a.self a.form a.numbers.count a.numbers.inside i.item_of-item.ensures j.judge_form-outcome.ensures c.in-Ok.is
