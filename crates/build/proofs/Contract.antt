@@ -7,7 +7,7 @@ use Prim.Native.Nat.{ℕ, ◌+◌}
 use lib.IntN.{ℤ}
 use Rattle.linear.proofs.Written.{written_ext}
 use Rattle.rules.specs.Order.{if_accepted}
-use Rattle.build_lines.specs.declared.Built.{Built}
+use Rattle.build_lines.specs.Order.{Built}
 use Rattle.build_lines.specs.declared.Observation.{Observation}
 use Rattle.build_lines.specs.Distinct.{built_matrix, built_right, weight_at, gain}
 use Rattle.build_lines.specs.Order.{build_code}

@@ -3,8 +3,8 @@
 --   Finished — what `finish` says and leaves: it says what was said before any line, or of the lines
 use Rattle.std.specs.Prelude.{false, List, ◌≡◌, ℤ}
 use Rattle.rules.specs.Order.{if_accepted}
-use Rattle.build_lines.specs.declared.Built.{Built}
-use Rattle.build_lines.specs.declared.Built.TheVariants.{Done}
+use Rattle.build_lines.specs.Order.{Built}
+use Rattle.std.specs.Prelude.{Ok}
 use Rattle.build_lines.specs.Order.{build_code}
 use Rattle.build_gathering.specs.declared.Gathered.{Gathered}
 use Rattle.build_gathering.specs.Gathered.{ReadyWhenDone}
@@ -15,7 +15,7 @@ use Rattle.build.specs.BuiltAs.{short_for}
 
 pub record ReadyFor (g : Gathered) (layout : Layout) (a b : List ℤ) : Type 0 where
   pub lines : ReadyWhenDone g
-  pub long : g.progress.status ≡ Done → short_for layout a b ≡ false
+  pub long : g.progress.status ≡ Ok tt → short_for layout a b ≡ false
 
 pub record Finished (g : Gathered) (layout : Layout) (a b : List ℤ) (r : Built) (a' b' : List ℤ) : Type 0 where
   pub says : build_code r ≡ build_code g.progress.status

@@ -11,7 +11,7 @@ ghost use Rattle.build.specs.Finished.{ReadyFor, Finished};
 
 use build_equations::{Layout, write_equations};
 use build_gathering::{Gathered, Progress, add_observation, as_gathered, few_of, no_lines, open};
-use build_lines::{Built, Observation};
+use build_lines::{BuildRefusal, Observation};
 use half_fill::HALF_LENGTH;
 use rules::{COLUMN_LENGTH, MATRIX_LENGTH};
 
@@ -41,20 +41,20 @@ pub fn begin(n: u32, lines: usize, layout: Layout, matrix: usize, right: usize) 
 }
 
 // The equations written, where nothing is said.
-pub fn finish(g: Gathered, layout: Layout, matrix: &mut [i64], right: &mut [i64]) -> Built
+pub fn finish(g: Gathered, layout: Layout, matrix: &mut [i64], right: &mut [i64]) -> Result<(), BuildRefusal>
     requires { ReadyFor g layout matrix.old right.old }
     ensures { Finished g layout matrix.old right.old result matrix.new right.new }
 {
     let progress = g.progress;
     let status = progress.status;
     match status {
-        Built::Done => {
+        Ok(()) => {
             write_equations(g, layout, matrix, right);
-            Built::Done
+            Ok(())
         }
-        Built::Refused(_) => status,
-        Built::SameMark => status,
-        Built::OtherContents => status,
+        Err(BuildRefusal::Refused(_)) => status,
+        Err(BuildRefusal::SameMark) => status,
+        Err(BuildRefusal::OtherContents) => status,
     }
 }
 
@@ -80,7 +80,7 @@ pub fn build(
     layout: Layout,
     matrix: &mut [i64],
     right: &mut [i64],
-) -> Built
+) -> Result<(), BuildRefusal>
     ensures { BuiltAs n observations.now layout matrix.old right.old result matrix.new right.new }
 {
     let start = begin(n, observations.len(), layout, matrix.len(), right.len());

@@ -13,8 +13,8 @@ use lib.ListN.{length}
 use Rattle.integer.specs.Finite.{sum}
 use Rattle.integer.proofs.Search.{upto}
 use Rattle.integer.proofs.Sum.{sum_next, sum_ext}
-use Rattle.build_lines.specs.declared.Built.{Built}
-use Rattle.build_lines.specs.declared.Built.TheVariants.{Done}
+use Rattle.build_lines.specs.Order.{Built}
+use Rattle.std.specs.Prelude.{Ok}
 use Rattle.build_gathering.specs.declared.Gathered.{Gathered}
 use Rattle.build_lines.specs.declared.Observation.{Observation}
 use Rattle.build_lines.specs.Line.{has_key}
@@ -36,7 +36,7 @@ pub record MetLine (g : Gathered) (e : Observation) : Type 0 where
 
 pub record Follows (n : ℕ) (es : List Observation) (g : Gathered) : Type 0 where
   pub size : g.progress.n ≡ n
-  pub done : g.progress.status ≡ Done
+  pub done : g.progress.status ≡ Ok tt
   pub long : length g.seen ≡ 1280
   pub count_max : g.progress.count ≤ 256
   pub lines : g.progress.lines ≡ length es

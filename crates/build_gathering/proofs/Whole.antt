@@ -21,8 +21,9 @@ use Rattle.rules.specs.declared.Kind.TheVariants as kind
 use Rattle.rules.specs.declared.Refusal.TheVariants.{OutOfRange, TooShort}
 use Rattle.rules.proofs.Ranges.{size_range}
 use Rattle.rules.proofs.Verdicts.{nothing_is_not}
-use Rattle.build_lines.specs.declared.Built.{Built}
-use Rattle.build_lines.specs.declared.Built.TheVariants.{Done, Refused}
+use Rattle.build_lines.specs.Order.{Built}
+use Rattle.build_lines.specs.declared.BuildRefusal.TheVariants.{Refused}
+use Rattle.std.specs.Prelude.{Ok, Err}
 use Rattle.build_gathering.specs.declared.Gathered.{Gathered}
 use Rattle.build_lines.specs.declared.Observation.{Observation}
 use Rattle.build_lines.specs.Line.{no_observation}
@@ -43,11 +44,11 @@ unfolding gathered added
 still_at g ls zero e = refl
 still_at g ls (suc k) e = ap (λ (z : Gathered). added z (get_or ls k no_observation)) (still_at g ls k e) ∙ old g.progress.status (taken (counted g) (get_or ls k no_observation)) g e
 
-few_all : (k : ℕ) → k ≤ 256 → few Done k ≡ k
+few_all : (k : ℕ) → k ≤ 256 → few (Ok tt) k ≡ k
 unfolding few
 few_all k h = rw (le-leb k 256 h)
 
-begun : (n k : ℕ) (short : Bool) → (opened n k short).progress.status ≡ Done → Follows n [] (opened n k short)
+begun : (n k : ℕ) (short : Bool) → (opened n k short).progress.status ≡ Ok tt → Follows n [] (opened n k short)
 unfolding opening_progress no_lines
 begun n k short d = record {
   size = refl;
@@ -67,7 +68,7 @@ proper_of n l few good =
     record { start = omega (arith, i.start, few); end = omega (arith, i.end, few); apart = good.apart; weight = i.weight; difference = i.difference }
 
 -- ---- before any line: 8 first, then 3 for n, then 3 for a list above 256
-few_or_many : (s z m l : Bool) → not m ≡ l → build_code (cond s (Refused TooShort) (cond (z && m) Done (Refused OutOfRange))) ≡ cond s (8 ∷ []) (cond (not z) (3 ∷ []) (cond l (3 ∷ []) []))
+few_or_many : (s z m l : Bool) → not m ≡ l → build_code (cond s (Err (Refused TooShort)) (cond (z && m) (Ok tt) (Err (Refused OutOfRange)))) ≡ cond s (8 ∷ []) (cond (not z) (3 ∷ []) (cond l (3 ∷ []) []))
 few_or_many true z m l e = refl
 few_or_many false false m l e = refl
 few_or_many false true true l e = rw (sym e)
@@ -85,7 +86,7 @@ module _ (n k : ℕ) (short : Bool) where
   unfolding opening_progress opened_as
   opening_says = few_or_many short (in_range kind.Size (pos n)) (leb k 256) (ltb 256 k) many
 
-  opening_done : Admitted n k short → (opened n k short).progress.status ≡ Done
+  opening_done : Admitted n k short → (opened n k short).progress.status ≡ Ok tt
   unfolding opening_progress opened_as
   opening_done u = rw (u.long, u.size, le-leb k 256 u.count_max)
 
@@ -119,7 +120,7 @@ module _ (n : ℕ) (ls : List Observation) (short : Bool) where
     pub says : build_code gathered_of.progress.status ≡ build_answer n ls short
     pub line : line_number_of gathered_of ≡ build_line n ls short
     pub size : gathered_of.progress.n ≡ n
-    pub long : gathered_of.progress.status ≡ Done → short ≡ false
+    pub long : gathered_of.progress.status ≡ Ok tt → short ≡ false
     pub sound : ReadyWhenDone gathered_of
     pub sums : build_code gathered_of.progress.status ≡ [] → (f : Observation → ℤ) → kept_sum f gathered_of ≡ total f (distinct ls)
 

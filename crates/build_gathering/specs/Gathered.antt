@@ -17,8 +17,9 @@ use Rattle.integer.specs.Finite.{sum, first}
 use Rattle.rules.specs.Range.{in_range}
 use Rattle.rules.specs.declared.Kind.TheVariants as kind
 use Rattle.rules.specs.declared.Refusal.TheVariants.{OutOfRange, TooShort}
-use Rattle.build_lines.specs.declared.Built.{Built}
-use Rattle.build_lines.specs.declared.Built.TheVariants.{Done, Refused, SameMark, OtherContents}
+use Rattle.build_lines.specs.Order.{Built}
+use Rattle.build_lines.specs.declared.BuildRefusal.TheVariants.{Refused, SameMark, OtherContents}
+use Rattle.std.specs.Prelude.{Ok, Err}
 use Rattle.build_gathering.specs.declared.Gathered.{Gathered}
 use Rattle.build_gathering.specs.declared.Progress.{Progress}
 use Rattle.build_lines.specs.declared.Observation.{Observation}
@@ -69,17 +70,17 @@ kept g l =
 
 unfoldable pub taken : Gathered → Observation → Gathered
 taken g l =
-    cond (outside_range g.progress.n l) (refused_as g (Refused OutOfRange))
-    (cond (same_mark l) (refused_as g SameMark)
+    cond (outside_range g.progress.n l) (refused_as g (Err (Refused OutOfRange)))
+    (cond (same_mark l) (refused_as g (Err SameMark))
     (cond (ltb (met_at g l) (places g.progress.count))
-    (cond (same_contents (line_at g.seen (met_at g l)) l) g (refused_as g OtherContents))
+    (cond (same_contents (line_at g.seen (met_at g l)) l) g (refused_as g (Err OtherContents)))
     (kept g l)))
 
 abbrev pub is_refused : Built → Bool
-is_refused Done = false
-is_refused (Refused r) = true
-is_refused SameMark = true
-is_refused OtherContents = true
+is_refused (Ok tt) = false
+is_refused (Err (Refused r)) = true
+is_refused (Err SameMark) = true
+is_refused (Err OtherContents) = true
 
 abbrev pub when_done : Built → Gathered → Gathered → Gathered
 when_done t new old = cond (is_refused t) old new
@@ -98,7 +99,7 @@ unfoldable pub few : Built → ℕ → ℕ
 few t k = cond (is_refused t) 0 (cond (leb k 256) k 0)
 
 unfoldable pub opened_as : ℕ → ℕ → Bool → Built
-opened_as n k short = cond short (Refused TooShort) (cond (in_range kind.Size (pos n) && leb k 256) Done (Refused OutOfRange))
+opened_as n k short = cond short (Err (Refused TooShort)) (cond (in_range kind.Size (pos n) && leb k 256) (Ok tt) (Err (Refused OutOfRange)))
 
 unfoldable pub opening_progress : ℕ → ℕ → Bool → Progress
 opening_progress n k short = record { n = n; count = 0; lines = 0; status = opened_as n k short }
@@ -132,4 +133,4 @@ pub record Ready (g : Gathered) : Type 0 where
   pub lines : ProperLines g.seen g.progress.count
 
 pub record ReadyWhenDone (g : Gathered) : Type 0 where
-  pub ready : g.progress.status ≡ Done → Ready g
+  pub ready : g.progress.status ≡ Ok tt → Ready g

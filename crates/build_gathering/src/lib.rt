@@ -5,7 +5,7 @@ ghost use Rattle.std.specs.Prelude.{◌≡◌, ℕ, ◌+◌, ◌≤◌, ◌<◌,
 ghost use Rattle.integer.specs.Finite.{first};
 ghost use Rattle.build_gathering.specs.Gathered.{places, key_at, line_at, with_line, together, saying, is_refused, added, opened_as, opening_progress, no_lines, few, line_number_of};
 
-use build_lines::{Built, Observation, has_contents, is_outside_range};
+use build_lines::{BuildRefusal, Observation, has_contents, is_outside_range};
 use rules::{Kind, Refusal, is_natural_in_range};
 
 // How far the lines are taken: `count` of them are kept, `lines` of them were looked at, the refused one among them.
@@ -14,7 +14,7 @@ pub struct Progress {
     pub n: u32,
     pub count: usize,
     pub lines: usize,
-    pub status: Built,
+    pub status: Result<(), BuildRefusal>,
 }
 
 // The lines taken so far. Those whose key no earlier line has are kept in `seen`, as numbers, because a list of numbers can be lent to the adder: line p has its key
@@ -39,7 +39,7 @@ fn next_line(lines: usize) -> usize
     if lines < 256 { lines + 1 } else { 256 }
 }
 
-fn refuse(g: Progress, status: Built) -> Progress
+fn refuse(g: Progress, status: Result<(), BuildRefusal>) -> Progress
     ensures { result ≡ saying g status }
 {
     Progress {
@@ -51,14 +51,14 @@ fn refuse(g: Progress, status: Built) -> Progress
 }
 
 // Whether something is said already.
-fn is_refused(status: Built) -> bool
+fn is_refused(status: Result<(), BuildRefusal>) -> bool
     ensures { result ≡ is_refused status }
 {
     match status {
-        Built::Done => false,
-        Built::Refused(_) => true,
-        Built::SameMark => true,
-        Built::OtherContents => true,
+        Ok(()) => false,
+        Err(BuildRefusal::Refused(_)) => true,
+        Err(BuildRefusal::SameMark) => true,
+        Err(BuildRefusal::OtherContents) => true,
     }
 }
 
@@ -127,10 +127,10 @@ pub fn add_observation(mut g: Progress, seen: &mut [u32; 1280], l: Observation) 
     }
     g.lines = next_line(g.lines);
     if is_outside_range(l, g.n) {
-        return refuse(g, Built::Refused(Refusal::OutOfRange));
+        return refuse(g, Err(BuildRefusal::Refused(Refusal::OutOfRange)));
     }
     if l.from == l.to {
-        return refuse(g, Built::SameMark);
+        return refuse(g, Err(BuildRefusal::SameMark));
     }
     let end = places_of(g.count);
     let at = met_at(seen, end, l.key);
@@ -138,7 +138,7 @@ pub fn add_observation(mut g: Progress, seen: &mut [u32; 1280], l: Observation) 
         if has_contents(line_at(seen, at), l) {
             return g;
         }
-        return refuse(g, Built::OtherContents);
+        return refuse(g, Err(BuildRefusal::OtherContents));
     }
     if end < 256 {
         keep(seen, end, l);
@@ -159,16 +159,16 @@ pub fn few_of(start: Progress, lines: usize) -> usize
 }
 
 // What is said before any line: 8 where a lent list is too short, then 3 for n, and for a list above 256.
-fn opened_as(n: u32, lines: usize, short: bool) -> Built
+fn opened_as(n: u32, lines: usize, short: bool) -> Result<(), BuildRefusal>
     ensures { result ≡ opened_as n lines short }
 {
     if short {
-        return Built::Refused(Refusal::TooShort);
+        return Err(BuildRefusal::Refused(Refusal::TooShort));
     }
     if is_natural_in_range(Kind::Size, n) & (lines <= 256) {
-        return Built::Done;
+        return Ok(());
     }
-    Built::Refused(Refusal::OutOfRange)
+    Err(BuildRefusal::Refused(Refusal::OutOfRange))
 }
 
 // Before any line.

@@ -17,11 +17,9 @@ pub struct Observation {
     pub weight: u32,
 }
 
-// The answer to a list of field lines.
+// Why no equations are built from a list of field lines.
 #[derive(Clone, Copy)]
-pub enum Built {
-    // the equations are built
-    Done,
+pub enum BuildRefusal {
     // 8 or 3
     Refused(Refusal),
     // 16: from equals to

@@ -6,7 +6,7 @@
 use Rattle.std.specs.Prelude.{List, ℕ, ℤ, Float}
 use Rattle.rules.specs.Refusal.{code}
 use Rattle.rules.specs.Refusal.{Outcome}
-use Rattle.doubles_lists.specs.declared.Guessed.{Guessed}
+use Rattle.doubles_lists.specs.Inward.{Guessed}
 use Rattle.doubles_lists.specs.Inward.{guesses_code, Incoming, GuessesOf}
 use Rattle.doubles_lists.specs.Outward.{Outgoing, IntervalsOf}
 use Rattle.reply.specs.ReplyIs.{ReplyIs}

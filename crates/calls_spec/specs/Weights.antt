@@ -3,7 +3,7 @@
 --                    with the weight list as there; the tried count where a list is found, and as before where the search is refused
 use Rattle.std.specs.Prelude.{List, ◌≡◌, ℕ, ℤ}
 use Rattle.rules.specs.Order.{if_accepted}
-use Rattle.weights_spec.specs.declared.Found.{Found}
+use Rattle.weights_spec.specs.Search.{Found}
 use Rattle.weights_spec.specs.Request.{Request}
 use Rattle.weights_spec.specs.Search.{search_code, count_of, FoundAs}
 use Rattle.reply.specs.ReplyIs.{ReplyIs}

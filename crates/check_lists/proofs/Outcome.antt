@@ -70,7 +70,7 @@ module _ (W : Work) (ready : Workable W) {rows margins : List ℕ} {residuals co
       let s : code (Err x) ≡ work_answer W = ap code (sym e) ∙ code_is in
       record { says = s; solution_bounds = sym (accepted_old _ _ (sym s)); inverse_bounds = sym (accepted_old _ _ (sym s)) }
 
-  module _ (e : r ≡ (Ok tt)) where
+  module _ (e : r ≡ Ok tt) where
     none : NoPlace W.n a.m a.k a.i
     none = accepted_places W.n a.m a.k a.i (sym a.er ∙ ap code e)
 

@@ -63,28 +63,23 @@ fn compute_bounds_in(
     let m = first_zero(&margins, n);
     let k = first_above(&residuals, 0, allowed, n);
     let i = first_above_in_columns(columns, allowed_in_columns, n);
-    let outcome = judge(n, m, k, i);
-    match outcome {
-        Err(refusal) => Err(refusal),
-        Ok(()) => {
-            let mut caps = [0u64; 32];
-            caps_of(&mut caps, &margins, weights, n);
-            let column = column_bounds(rows, &residuals, slacks, &margins, &caps, weights, n);
-            store(solution_bounds, 0, 1, column, n);
-            store_columns(
-                inverse_bounds,
-                rows,
-                columns,
-                magnitudes,
-                symmetric,
-                &margins,
-                &caps,
-                weights,
-                n,
-            );
-            Ok(())
-        }
-    }
+    judge(n, m, k, i)?;
+    let mut caps = [0u64; 32];
+    caps_of(&mut caps, &margins, weights, n);
+    let column = column_bounds(rows, &residuals, slacks, &margins, &caps, weights, n);
+    store(solution_bounds, 0, 1, column, n);
+    store_columns(
+        inverse_bounds,
+        rows,
+        columns,
+        magnitudes,
+        symmetric,
+        &margins,
+        &caps,
+        weights,
+        n,
+    );
+    Ok(())
 }
 
 // The same in lists of its own. Filling long ones takes longer than the rest where n is small, so there are three lengths of them.

@@ -10,7 +10,7 @@ ghost use Rattle.common_spec.specs.Ends.{maxℤ, minℤ};
 ghost use Rattle.common_spec.specs.Proposals.{proposal, all_same, same_equations, most_steps};
 ghost use Rattle.common_ends.specs.Met.{wide_limits, lows_of, highs_of, Fitting, Met};
 
-use common_spec::Common;
+use common_spec::CommonRefusal;
 use integer::power;
 
 // 2^36: a solution limit above it is 21.
@@ -165,17 +165,17 @@ pub fn meet(
     limits2: [u64; 32],
     low: &mut [i64],
     high: &mut [i64],
-) -> Common
+) -> Result<(), CommonRefusal>
     requires n_bound { (n ≤ 32) × ((n ≤ length low.old) × (n ≤ length high.old)) }
     requires s1_bound { ((s1 ≤ 20) × (s2 ≤ 20)) × (ColumnList guess1.now n (2 ^ 36) × ColumnList guess2.now n (2 ^ 36)) }
     ensures { Met n s1 guess1.now limits1 s2 guess2.now limits2
         low.old high.old result low.new high.new }
 {
     if is_wide(&limits1, n) {
-        return Common::TooWide;
+        return Err(CommonRefusal::TooWide);
     }
     if is_wide(&limits2, n) {
-        return Common::TooWide;
+        return Err(CommonRefusal::TooWide);
     }
     let s = finer(s1, s2);
     write_ends(
@@ -189,5 +189,5 @@ pub fn meet(
         guess2,
         limits2,
     );
-    Common::Found
+    Ok(())
 }

@@ -28,7 +28,7 @@ use Rattle.check_spec.specs.Stated.{LongEnough}
 use Rattle.check_spec.proofs.Lengths.{long_of}
 use Rattle.check_spec.proofs.Statements.{accepted_usable}
 use Rattle.check_spec.proofs.Written.{solution_written, accepted_fit, solution_at}
-use Rattle.common_spec.specs.declared.Common.{Common}
+use Rattle.common_spec.specs.Answer.{Common}
 use Rattle.common_spec.specs.Answer.{CommonAs}
 use Rattle.common_spec.specs.Ends.{finer, low_end, high_end}
 use Rattle.common_spec.specs.Proposals.{Proposals, short_intervals, same_equations, most_steps, is_too_wide}
@@ -52,7 +52,7 @@ module _ (I : Input) (c : Held) (x : HeldAs I c) where
   pub code_refused : (r : Refusal) → c.outcome ≡ Err r → code (Err r) ≡ answer I
   code_refused r e = ap code (sym e) ∙ x.says
 
-  pub code_accepted : c.outcome ≡ (Ok tt) → answer I ≡ []
+  pub code_accepted : c.outcome ≡ Ok tt → answer I ≡ []
   code_accepted e = sym x.says ∙ ap code e
 
 module _ (I : Input) (a : answer I ≡ []) where

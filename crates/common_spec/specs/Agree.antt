@@ -4,7 +4,7 @@
 use Rattle.std.specs.Prelude.{false, List, [], ◌≡◌, ℕ, ◌<◌, ℤ}
 use Rattle.linear.specs.Slice.{at}
 use Rattle.check_spec.specs.Agree.{Agree}
-use Rattle.common_spec.specs.declared.Common.{Common}
+use Rattle.common_spec.specs.Answer.{Common}
 use Rattle.common_spec.specs.Proposals.{Proposals, short_intervals}
 use Rattle.common_spec.specs.Answer.{common_code}
 

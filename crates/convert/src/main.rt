@@ -4,7 +4,7 @@
 ghost use Rattle.std.specs.Prelude.{◌≤◌, ◌≡◌, length, take};
 ghost use Rattle.convert_spec.specs.Converted.{converted_text};
 
-use convert_spec::Converted;
+use convert_spec::ConversionRefusal;
 use converter::convert_file;
 use listing_refusal::put_refusal;
 use listing_text::put_list;
@@ -31,12 +31,12 @@ fn put_text(file: &[u8], out: &mut [u8; 32768]) -> usize
     let conversion = convert_file(file, out);
     let answer = conversion.answer;
     match answer {
-        Converted::Length(length) => length,
-        Converted::Refused(refusal) => {
+        Ok(length) => length,
+        Err(ConversionRefusal::Refused(refusal)) => {
             let status = put_refusal(out, refusal, conversion.line);
             status.length
         }
-        Converted::NotConvertible => {
+        Err(ConversionRefusal::NotConvertible) => {
             let shown = [conversion.line];
             put_list(out, 0, b"(refused ", 22, &shown, 0, 1)
         }

@@ -8,7 +8,7 @@ ghost use Rattle.dependent_spec.specs.Together.{CheckedTogether};
 use check_held::check_held;
 use dependent_coupling::copy_limits;
 use dependent_net::check_dependent_net;
-use dependent_spec::CheckedNets;
+use dependent_spec::NetsRefusal;
 use rules::{COLUMN_LENGTH, MATRIX_LENGTH, Refusal};
 
 // The main net first: 8, 3, 5, 6, 7; then the dependent net in the same order. The main net's limits are held until both are accepted, so that a refusal of
@@ -37,7 +37,7 @@ pub fn check_dependent(
     weights2: &[i64],
     solution_bounds2: &mut [u64],
     inverse_bounds2: &mut [u64],
-) -> CheckedNets
+) -> Result<(), NetsRefusal>
     ensures { CheckedTogether (nets
         (input n1 s1 t1 matrix1.now right1.now tolerance1.now guess1.now inverse1.now
         weights1.now solution_bounds1.old inverse_bounds1.old)
@@ -47,17 +47,17 @@ pub fn check_dependent(
         result solution_bounds1.new inverse_bounds1.new solution_bounds2.new inverse_bounds2.new }
 {
     if solution_bounds1.len() < COLUMN_LENGTH {
-        return CheckedNets::Main(Refusal::TooShort);
+        return Err(NetsRefusal::Main(Refusal::TooShort));
     }
     if inverse_bounds1.len() < MATRIX_LENGTH {
-        return CheckedNets::Main(Refusal::TooShort);
+        return Err(NetsRefusal::Main(Refusal::TooShort));
     }
     let held = check_held(
         n1, s1, t1, matrix1, right1, tolerance1, guess1, inverse1, weights1,
     );
     let main = held.outcome;
     match main {
-        Err(refusal) => CheckedNets::Main(refusal),
+        Err(refusal) => Err(NetsRefusal::Main(refusal)),
         Ok(()) => {
             let marks = n1 as usize;
             let limits = held.solution;
@@ -80,12 +80,12 @@ pub fn check_dependent(
                 inverse_bounds2,
             );
             match own {
-                Err(refusal) => CheckedNets::Dependent(refusal),
+                Err(refusal) => Err(NetsRefusal::Dependent(refusal)),
                 Ok(()) => {
                     let inverse_limits = held.inverse;
                     copy_limits(solution_bounds1, &limits, marks);
                     copy_limits(inverse_bounds1, &inverse_limits, marks * marks);
-                    CheckedNets::Accepted
+                    Ok(())
                 }
             }
         }

@@ -22,7 +22,7 @@ use Rattle.doubles_lists.specs.Hands.{Hands}
 use Rattle.doubles_lists.specs.Outward.{IntervalsOf}
 use Rattle.doubles_lists.proofs.Enclosed.{limits_between, encloses_between}
 use Rattle.doubles_lists.proofs.Taken.{written_taken}
-use Rattle.dependent_spec.specs.declared.CheckedNets.{CheckedNets}
+use Rattle.dependent_spec.specs.Order.{CheckedNets}
 use Rattle.dependent_spec.specs.Nets.{Nets, dependent_of}
 use Rattle.dependent_spec.specs.Reckoning.{dependent_bound}
 use Rattle.dependent_spec.specs.Order.{nets_code, joint_answer}

@@ -9,7 +9,7 @@ use Rattle.doubles_lists.specs.Outward.{Outgoing, lows_after, highs_after, Inter
 use Rattle.doubles_lists.proofs.Instance.{outward_accepts, zero_doubles}
 use Rattle.check_spec.specs.Checked.{solution_after, inverse_after}
 use Rattle.enclosure.specs.Example.{far_right, far_height}
-use Rattle.dependent_spec.specs.declared.CheckedNets.TheVariants.{Accepted}
+use Rattle.std.specs.Prelude.{Ok}
 use Rattle.dependent_spec.specs.Nets.{dependent_of}
 use Rattle.dependent_spec.specs.Together.{CheckedTogether, dependent_solution_after}
 use Rattle.dependent_spec.specs.Example.{coupled_nets, far_right₂, far_height₂}
@@ -19,7 +19,7 @@ use Rattle.dependent_spec.proofs.Largest.{joint_none}
 use Rattle.dependent_outward.specs.Heights.{main_outgoing, dependent_outgoing, HeightsBetween}
 use Rattle.dependent_outward.proofs.Heights.{both_taken, both_between}
 
-both_checked : CheckedTogether coupled_nets Accepted (solution_after [] coupled_nets.main) (inverse_after [] coupled_nets.main) (dependent_solution_after [] (dependent_of coupled_nets)) (inverse_after [] coupled_nets.dependent)
+both_checked : CheckedTogether coupled_nets (Ok tt) (solution_after [] coupled_nets.main) (inverse_after [] coupled_nets.main) (dependent_solution_after [] (dependent_of coupled_nets)) (inverse_after [] coupled_nets.dependent)
 both_checked = let e = joint_none coupled_nets accepted_here in together_accepted coupled_nets e.0 e.1 refl refl refl refl
 
 abbrev pub ends₁ : Outgoing

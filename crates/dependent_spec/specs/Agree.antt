@@ -6,7 +6,7 @@ use Rattle.std.specs.Prelude.{false, List, [], ◌≡◌, ℕ, ◌*◌, ◌≤�
 use Rattle.linear.specs.Slice.{at}
 use Rattle.rules.specs.Range.{short_matrix}
 use Rattle.check_spec.specs.Agree.{Agree}
-use Rattle.dependent_spec.specs.declared.CheckedNets.{CheckedNets}
+use Rattle.dependent_spec.specs.Order.{CheckedNets}
 use Rattle.dependent_spec.specs.Nets.{Nets}
 use Rattle.dependent_spec.specs.Order.{nets_code}
 

@@ -6,7 +6,7 @@ use Rattle.std.specs.Prelude.{List, [], ◌≡◌, ℕ, ◌+◌, ◌*◌, get_or
 use Rattle.linear.specs.Written.{written}
 use Rattle.rules.specs.Order.{if_accepted}
 use Rattle.check_spec.specs.Checked.{solution_after, inverse_after}
-use Rattle.dependent_spec.specs.declared.CheckedNets.{CheckedNets}
+use Rattle.dependent_spec.specs.Order.{CheckedNets}
 use Rattle.dependent_spec.specs.Nets.{Nets, DependentNet, dependent_of}
 use Rattle.dependent_spec.specs.Reckoning.{dependent_bound}
 use Rattle.dependent_spec.specs.Order.{joint_answer, nets_code}

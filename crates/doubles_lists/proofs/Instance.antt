@@ -38,7 +38,7 @@ use Rattle.doubles_lists.specs.Lists.{double_at}
 use Rattle.doubles_lists.specs.Inward.{Incoming, incoming, inward_answer, guesses_after, GuessesOf}
 use Rattle.doubles_lists.specs.Outward.{Outgoing, outgoing, outward_answer, ends_in, lows_after, highs_after, IntervalsOf}
 use Rattle.doubles_lists.specs.Hands.{Hands, AllBetween}
-use Rattle.doubles_lists.specs.declared.Guessed.TheVariants as guessed
+use Rattle.std.specs.Prelude.{Ok}
 use Rattle.doubles_lists.proofs.Enclosed.{encloses_between, checked_between_at_b}
 use Rattle.doubles_lists.proofs.Inward.{after_at, each_double}
 use Rattle.doubles_lists.proofs.Inward as inward
@@ -46,7 +46,7 @@ use Rattle.doubles_lists.proofs.Outward.{low_after_lem, high_after_lem, code_not
 use Rattle.doubles_lists.proofs.Promises.{comes_back}
 use Rattle.doubles_lists.proofs.Taken.{numbers_taken, checked_taken, guesses_taken}
 
-inward_accepts : (I : Incoming) → ((i : ℕ) → T (fits binary64 (double_at I.values i))) → inward_answer I ≡ [] → GuessesOf I guessed.Accepted (guesses_after I)
+inward_accepts : (I : Incoming) → ((i : ℕ) → T (fits binary64 (double_at I.values i))) → inward_answer I ≡ [] → GuessesOf I (Ok tt) (guesses_after I)
 inward_accepts I held e = record {
   says = sym e;
   guesses = refl;

@@ -25,7 +25,7 @@ use Rattle.doubles_interval.proofs.Heights.{between, ordered, wider, meets, agai
 use Rattle.doubles_lists.specs.Lists.{double_at}
 use Rattle.doubles_lists.specs.Inward.{guesses_code, Incoming, GuessesOf}
 use Rattle.doubles_lists.specs.Outward.{Outgoing, outgoing, ends_in, IntervalsOf}
-use Rattle.doubles_lists.specs.declared.Guessed.{Guessed}
+use Rattle.doubles_lists.specs.Inward.{Guessed}
 use Rattle.doubles_lists.proofs.Inward as inward
 use Rattle.doubles_lists.proofs.Outward as outward
 

@@ -42,7 +42,7 @@ use Rattle.doubles_interval.specs.Interval.{Steps}
 use Rattle.doubles_lists.specs.Lists.{double_at}
 use Rattle.doubles_lists.specs.Inward.{Incoming, guesses_code, inward_answer, GuessesOf}
 use Rattle.doubles_lists.specs.Outward.{outgoing, outward_answer}
-use Rattle.doubles_lists.specs.declared.Guessed.{Guessed}
+use Rattle.doubles_lists.specs.Inward.{Guessed}
 use Rattle.doubles_lists.proofs.Inward as inward
 use Rattle.rules.proofs.Every.{every_in}
 use Rattle.doubles_lists.proofs.Outward as outward

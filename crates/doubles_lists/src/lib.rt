@@ -15,10 +15,10 @@ use doubles_guess::guess_of;
 use doubles_interval::interval_of;
 use rules::{COLUMN_LENGTH, Kind, Refusal, all_in_range, is_natural_in_range};
 
-// The answer to doubles that are to become guesses.
+// Why doubles do not become guesses.
 #[derive(Clone, Copy)]
-pub enum Guessed {
-    Accepted,
+pub enum GuessRefusal {
+    // 8 or 3
     Refused(Refusal),
     // 19: a double that is not finite, or whose guess leaves its range
     NoGuess,
@@ -57,24 +57,24 @@ fn write_guesses(n: usize, s: u32, values: &[f64], guess: &mut [i64])
 }
 
 // Inward: the first n doubles as guesses. Order 8, 3, 19; a refusal leaves the guess list as it was.
-pub fn guesses_of(n: u32, s: u32, values: &[f64], guess: &mut [i64]) -> Guessed
+pub fn guesses_of(n: u32, s: u32, values: &[f64], guess: &mut [i64]) -> Result<(), GuessRefusal>
     ensures { GuessesOf (incoming n s values.now guess.old) result guess.new }
 {
     if values.len() < COLUMN_LENGTH {
-        return Guessed::Refused(Refusal::TooShort);
+        return Err(GuessRefusal::Refused(Refusal::TooShort));
     }
     if guess.len() < COLUMN_LENGTH {
-        return Guessed::Refused(Refusal::TooShort);
+        return Err(GuessRefusal::Refused(Refusal::TooShort));
     }
     if are_sizes_in_range(n, s) {
         let size = n as usize;
         if all_have_guess(size, s, values) {
             write_guesses(size, s, values, guess);
-            return Guessed::Accepted;
+            return Ok(());
         }
-        return Guessed::NoGuess;
+        return Err(GuessRefusal::NoGuess);
     }
-    Guessed::Refused(Refusal::OutOfRange)
+    Err(GuessRefusal::Refused(Refusal::OutOfRange))
 }
 
 // 3 for the limits: whether each of the first n is at most 2^60.

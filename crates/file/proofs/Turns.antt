@@ -65,7 +65,7 @@ module _ (file : List ℕ) (old : Lists) {l l' : Lists} {k at end : ℕ} {d : Lo
   split : read_from k (state_with d l) (line ∷ rest) ≡ read_with old file
   split = rw (lines_at file inside place.0) at h.so
 
-  pub read_on : r.outcome ≡ (Ok tt) → ReadUpTo file old (k + 1) (end + 1) r.loader l'
+  pub read_on : r.outcome ≡ Ok tt → ReadUpTo file old (k + 1) (end + 1) r.loader l'
   read_on e =
       let s : line_answer d l line ≡ [] = sym taken.says ∙ ap code e in
       record {

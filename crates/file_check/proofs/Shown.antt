@@ -38,7 +38,7 @@ module _ (s : Stage) (I : Input) where
   shown_refused {r} {E} {L} {o} {p} {a} c x e = subst (λ (k : List ℕ). Answered (printed 0 k) (line_or (printed 0 k) (reported_of (problem I))) o p a) (sym (ap code e) ∙ c.says)
 
   -- ---- accepted
-  module _ {r : Outcome} {E L : List ℕ} (c : CheckedThrough s I r E L) (e : r ≡ (Ok tt)) where
+  module _ {r : Outcome} {E L : List ℕ} (c : CheckedThrough s I r E L) (e : r ≡ Ok tt) where
     quiet : answer_through s I ≡ []
     quiet = sym c.says ∙ ap code e
 

@@ -130,7 +130,7 @@ module _ (file : List ℕ) {old new : Lists} {r : LinesTaken} (lent : LinesTaken
       let q : answer_of file ≡ printed r.line (number_of x ∷ values_of x) = rw read.line (answer_refused file (sym read.says ∙ ap code e)) in
       same_answer (sym q) (sym (listing_from file q))
 
-  pub check_answered : {o p : List ℕ} {a : FileAnswer} → r.outcome ≡ (Ok tt) → Answered (code_of (state_with r.loader new)) (shown_of (state_with r.loader new)) o p a → Answered (answer_of file) (listing_of file) o p a
+  pub check_answered : {o p : List ℕ} {a : FileAnswer} → r.outcome ≡ Ok tt → Answered (code_of (state_with r.loader new)) (shown_of (state_with r.loader new)) o p a → Answered (answer_of file) (listing_of file) o p a
   check_answered {o} {p} {a} e =
       let quiet = sym read.says ∙ ap code e in
       let c = as_checked file quiet in

@@ -43,7 +43,7 @@ narrow_by d (Scale s t) a b = tt
 narrow_by d (Of p i) a b = ((size_of d.stage d.n (Of p i) (late d.stage a) b).1, placed_32 d.stage d.n (Of p i) a b)
 narrow_by d End a b = (size_of d.stage d.n End (late d.stage a) b).1
 
-module _ (d : Loader) (m : CappedForm) (count : ℕ) (inside : Bool) {x : Item} (e : x ≡ item_in m) {o : Outcome} (s : code o ≡ code_in d m count inside) (a : o ≡ (Ok tt)) where
+module _ (d : Loader) (m : CappedForm) (count : ℕ) (inside : Bool) {x : Item} (e : x ≡ item_in m) {o : Outcome} (s : code o ≡ code_in d m count inside) (a : o ≡ Ok tt) where
   holds : Passed (case_in d m count inside)
   unfolding code_in
   holds = passed (case_in d m count inside) (sym s ∙ ap code a)
@@ -58,7 +58,7 @@ module _ (d : Loader) (m : CappedForm) (z : Numbers) {o : Outcome} {x : Item} {v
       let t : number_of r ∷ values_of r ≡ code_in d m z.count z.inside = ap code (sym e) ∙ s in
       record { says = t; loader = rw (← t); item = rw (← t); values = q }
 
-  pub decided_accepted : {d' : Loader} → o ≡ (Ok tt) → d' ≡ after d x → DecidedIn d m z (record { taken = record { loader = d'; outcome = (Ok tt) }; item = x; values = vs })
+  pub decided_accepted : {d' : Loader} → o ≡ Ok tt → d' ≡ after d x → DecidedIn d m z (record { taken = record { loader = d'; outcome = (Ok tt) }; item = x; values = vs })
   decided_accepted e f =
       let t : [] ≡ code_in d m z.count z.inside = ap code (sym e) ∙ s in
       record { says = t; loader = rw (← t, ← p) f; item = rw (← t) p; values = q }

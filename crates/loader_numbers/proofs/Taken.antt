@@ -22,7 +22,7 @@ module _ (w : List ℕ) {line : List ℕ} {l l' : Lists} {d : Loader} {t : Taken
   own : TakenAs (loader_of w) line l t l'
   own = subst (λ (d : Loader). TakenAs d line l t l') e x
 
-  pub taken_accepted : {w' : List ℕ} → t.outcome ≡ (Ok tt) → w' ≡ numbers_of_loader t.loader → LoaderTaken w line l (Ok tt) w' l'
+  pub taken_accepted : {w' : List ℕ} → t.outcome ≡ Ok tt → w' ≡ numbers_of_loader t.loader → LoaderTaken w line l (Ok tt) w' l'
   unfolding numbers_after
   taken_accepted o n =
       let a : line_answer (loader_of w) l line ≡ [] = sym own.says ∙ ap code o in

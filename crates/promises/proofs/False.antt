@@ -30,7 +30,8 @@ use Rattle.check_spec.proofs.Written.{checked_solution, checked_inverse}
 use Rattle.dependent_spec.specs.Example.{coupled_nets}
 use Rattle.dependent_spec.specs.Nets.{Nets, nets, dependent_of}
 use Rattle.dependent_spec.specs.Stated.{StatedDependent, too_short}
-use Rattle.dependent_spec.specs.declared.CheckedNets.TheVariants.{Dependent}
+use Rattle.dependent_spec.specs.declared.NetsRefusal.TheVariants.{Dependent}
+use Rattle.std.specs.Prelude.{Err}
 use Rattle.dependent_spec.proofs.Contract.{together_dependent}
 use Rattle.dependent_spec.proofs.Instance.{accepted_here}
 use Rattle.dependent_spec.proofs.Largest.{joint_none}
@@ -170,7 +171,7 @@ pub not_dependent_status_as_main : wrong.DependentStatusAsMain → ⊥
 not_dependent_status_as_main h =
     let short : StatedDependent (dependent_of torn) (8 ∷ []) = too_short refl in
     let x = together_dependent torn TooShort main_accepted (sym (code_of_dependent (dependent_of torn) short)) in
-    let status = h torn (Dependent TooShort) _ _ _ _ x 8 [] (subst (Stated coupled_nets.main) main_accepted (stated coupled_nets.main)) short in
+    let status = h torn (Err (Dependent TooShort)) _ _ _ _ x 8 [] (subst (Stated coupled_nets.main) main_accepted (stated coupled_nets.main)) short in
     let z : ◌≡◌ {A = ℕ} 2 1 = ap (λ (l : List ℕ). get_or l 0 0) status in
     omega (arith, z)
 

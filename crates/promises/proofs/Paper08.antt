@@ -12,7 +12,7 @@ use Rattle.dependent_spec.specs.Order.{nets_code, joint_answer}
 use Rattle.dependent_spec.specs.Reckoning.{dependent_residual, dependent_slack, dependent_bound}
 use Rattle.dependent_spec.specs.Stated.{StatedTogether, of_main, of_dependent}
 use Rattle.dependent_spec.specs.Together.{CheckedTogether}
-use Rattle.dependent_spec.specs.declared.CheckedNets.{CheckedNets}
+use Rattle.dependent_spec.specs.Order.{CheckedNets}
 use Rattle.dependent_spec.proofs.Largest.{joint_none}
 use Rattle.dependent_spec.proofs.Statements.{own_fit, passed_of, stated_together, code_of_together}
 use Rattle.promises.specs.Paper08 as paper

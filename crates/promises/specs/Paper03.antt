@@ -7,7 +7,7 @@ use Rattle.rules.specs.declared.Kind.TheVariants as kind
 use Rattle.build_lines.specs.Distinct.{distinct, total, touches, joins}
 use Rattle.build_lines.specs.Order.{build_code}
 use Rattle.build_lines.specs.Stated.{BuildStated}
-use Rattle.build_lines.specs.declared.Built.{Built}
+use Rattle.build_lines.specs.Order.{Built}
 use Rattle.build_lines.specs.declared.Observation.{Observation}
 use Rattle.build_equations.specs.declared.Layout.{Layout}
 use Rattle.build_equations.specs.declared.Layout.TheVariants.{Square}

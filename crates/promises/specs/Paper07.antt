@@ -10,7 +10,7 @@ use Rattle.weights_spec.specs.Promised.{SearchStated, UsableRequest, PlaceOfFirs
 use Rattle.weights_spec.specs.Request.{Request, search_problem}
 use Rattle.weights_spec.specs.Search.{search_code, count_of, passed, FoundAs}
 use Rattle.weights_spec.specs.Sequence.{good, tried, weighted}
-use Rattle.weights_spec.specs.declared.Found.{Found}
+use Rattle.weights_spec.specs.Search.{Found}
 use Rattle.promises.specs.Ways.{RangeIs, Refused}
 
 -- "Begin with 1 everywhere"

@@ -15,7 +15,7 @@ use Rattle.doubles_lists.specs.Hands.{Hands, AllBetween}
 use Rattle.doubles_lists.specs.Inward.{guesses_code, Incoming, short_incoming, GuessesOf}
 use Rattle.doubles_lists.specs.Lists.{double_at, exchange_sizes}
 use Rattle.doubles_lists.specs.Outward.{Outgoing, short_outgoing, outgoing_in_ranges, ends_in, IntervalsOf}
-use Rattle.doubles_lists.specs.declared.Guessed.{Guessed}
+use Rattle.doubles_lists.specs.Inward.{Guessed}
 use Rattle.promises.specs.Ways.{Refused, Accepted}
 
 -- "A double becomes a guess by rounding its exact value times S to a nearest whole number, halves away from zero"

@@ -10,7 +10,7 @@ use Rattle.common_spec.specs.Ends.{maxℤ, minℤ, WithinEnds}
 use Rattle.common_spec.specs.Promised.{OwnEnds}
 use Rattle.common_spec.specs.Proposals.{Proposals, proposals}
 use Rattle.common_spec.specs.Stated.{CommonStated}
-use Rattle.common_spec.specs.declared.Common.{Common}
+use Rattle.common_spec.specs.Answer.{Common}
 use Rattle.promises.specs.Ways.{Refused}
 
 -- "From two accepted proposals give each height's common interval, in the finer of the two steps: the larger lower end and the smaller upper end"

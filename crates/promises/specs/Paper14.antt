@@ -12,7 +12,7 @@ use Rattle.convert_spec.specs.File.{parts_then, new_file}
 use Rattle.convert_spec.specs.Numbers.{SameNumbers}
 use Rattle.convert_spec.specs.Promised.{EqualChecks}
 use Rattle.convert_spec.specs.Stated.{ConvertStated}
-use Rattle.convert_spec.specs.declared.Converted.{Converted}
+use Rattle.convert_spec.specs.Converted.{Converted}
 use Rattle.promises.specs.Ways.{Refused}
 
 -- "A converter takes any file whose every line the desk accepts, end among them, and writes problem, scale, rows, right sides without tolerance, guesses, inverse

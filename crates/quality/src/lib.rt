@@ -13,7 +13,7 @@ ghost use Rattle.quality_spec.specs.Answer.{QualityAs};
 
 use check_margins::first_zero;
 use integer::{magnitude, power};
-use quality_spec::Quality;
+use quality_spec::Fraction;
 use ranges::{are_lists_in_range, are_sizes_in_range};
 use rules::Refusal;
 use weights_steps::{defect_magnitudes, is_short, loads_of, margins_from};
@@ -96,7 +96,7 @@ fn peak_of(spreads: &[u64; 32], margins: &[u64; 32], n: usize) -> usize
 }
 
 // The factor of an inquiry that passes 8 and 3.
-fn rate(n: usize, t: u32, matrix: &[i64], inverse: &[i64], weights: &[i64]) -> Quality
+fn rate(n: usize, t: u32, matrix: &[i64], inverse: &[i64], weights: &[i64]) -> Result<Fraction, Refusal>
     requires weights_value { inquiry_short (inquiry n t matrix.now inverse.now weights.now) ≡ false }
     requires weights_value_2 { inquiry_in_ranges (inquiry n t matrix.now inverse.now weights.now) ≡ true }
     ensures { QualityAs (inquiry n t matrix.now inverse.now weights.now) result }
@@ -104,19 +104,22 @@ fn rate(n: usize, t: u32, matrix: &[i64], inverse: &[i64], weights: &[i64]) -> Q
     let margins = margins_for(t, matrix, inverse, weights, n);
     let low = first_zero(&margins, n);
     if low < n {
-        return Quality::Refused(Refusal::Margin(low as u32 + 1));
+        return Err(Refusal::Margin(low as u32 + 1));
     }
     let spreads = spreads_of(t, weights, &margins, n);
     let k = peak_of(&spreads, &margins, n);
-    Quality::Factor(spreads[k], margins[k])
+    Ok(Fraction {
+        numerator: spreads[k],
+        denominator: margins[k],
+    })
 }
 
 // The largest (T·w_m + load_m) / margin_m over all rows. Order 8, 3, 5; no list is written.
-pub fn quality(n: u32, t: u32, matrix: &[i64], inverse: &[i64], weights: &[i64]) -> Quality
+pub fn quality(n: u32, t: u32, matrix: &[i64], inverse: &[i64], weights: &[i64]) -> Result<Fraction, Refusal>
     ensures { QualityAs (inquiry n t matrix.now inverse.now weights.now) result }
 {
     if is_short(matrix.len(), inverse.len(), weights.len()) {
-        return Quality::Refused(Refusal::TooShort);
+        return Err(Refusal::TooShort);
     }
     if are_sizes_in_range(n, t) {
         let size = n as usize;
@@ -124,5 +127,5 @@ pub fn quality(n: u32, t: u32, matrix: &[i64], inverse: &[i64], weights: &[i64])
             return rate(size, t, matrix, inverse, weights);
         }
     }
-    Quality::Refused(Refusal::OutOfRange)
+    Err(Refusal::OutOfRange)
 }

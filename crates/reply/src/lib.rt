@@ -7,7 +7,7 @@ ghost use Rattle.listing_refusal.specs.Refused.{printed};
 ghost use Rattle.listing_refusal.specs.Reply.{reply_of};
 ghost use Rattle.build_lines.specs.Order.{build_code};
 
-use build_lines::Built;
+use build_lines::BuildRefusal;
 use listing_refusal::{Reply, no_refusal, reply_of};
 use rules::Refusal;
 
@@ -46,13 +46,13 @@ fn refused_number(refusal: Refusal) -> u32
 }
 
 // The number of the answer to field lines, 0 where the equations are built.
-pub fn built_number(built: Built) -> u32
+pub fn built_number(built: Result<(), BuildRefusal>) -> u32
     ensures { result ≡ get_or (build_code built) 0 0 }
 {
     match built {
-        Built::Done => 0,
-        Built::Refused(refusal) => refused_number(refusal),
-        Built::SameMark => 16,
-        Built::OtherContents => 17,
+        Ok(()) => 0,
+        Err(BuildRefusal::Refused(refusal)) => refused_number(refusal),
+        Err(BuildRefusal::SameMark) => 16,
+        Err(BuildRefusal::OtherContents) => 17,
     }
 }

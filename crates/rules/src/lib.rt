@@ -143,12 +143,6 @@ pub enum Refusal {
     NotEnded,
 }
 
-#[derive(Clone, Copy)]
-pub enum Outcome {
-    Accepted,
-    Refused(Refusal),
-}
-
 fn index_of(kind: Kind) -> usize
     ensures { (result ≡ index_of kind) × (result < 14) }
 {

@@ -7,7 +7,7 @@ use crate::print::{
     magnitude_of, print_column, print_matrix, print_number, print_refusal, print_text,
 };
 use build_equations::Layout;
-use build_lines::{Built, Observation};
+use build_lines::{BuildRefusal, Observation};
 use line_numeral::Number;
 use std::io::Stdout;
 
@@ -27,7 +27,7 @@ struct Lines {
 // The answer, and both lists afterwards.
 #[derive(Clone, Copy)]
 struct BuiltLists {
-    built: Built,
+    built: Result<(), BuildRefusal>,
     matrix: [i64; 1024],
     right: [i64; 32],
 }
@@ -110,12 +110,12 @@ fn shown_of(n: u32) -> usize {
     if n < 6 { 26 } else { 1024 }
 }
 
-fn print_built(output: Stdout, built: Built) {
+fn print_built(output: Stdout, built: Result<(), BuildRefusal>) {
     match built {
-        Built::Done => print_text(output, b"built"),
-        Built::Refused(refusal) => print_refusal(output, refusal),
-        Built::SameMark => print_number(output, 16),
-        Built::OtherContents => print_number(output, 17),
+        Ok(()) => print_text(output, b"built"),
+        Err(BuildRefusal::Refused(refusal)) => print_refusal(output, refusal),
+        Err(BuildRefusal::SameMark) => print_number(output, 16),
+        Err(BuildRefusal::OtherContents) => print_number(output, 17),
     }
 }
 

@@ -12,7 +12,7 @@ ghost use Rattle.weights_search.specs.Reached.{SearchedTo};
 
 use ranges::{are_lists_in_range, are_sizes_in_range};
 use rules::Refusal;
-use weights_spec::Found;
+use weights_spec::SearchRefusal;
 use weights_steps::{defect_magnitudes, is_good, is_short, loads_of, next_weights};
 
 mod ranges;
@@ -63,7 +63,7 @@ fn find_ready(
     inverse: &[i64],
     allowance: u32,
     weights: &mut [i64],
-) -> Found
+) -> Result<u32, SearchRefusal>
     requires weights_value { search_short (request n t matrix.now inverse.now allowance weights.old) ≡ false }
     requires weights_value_2 { search_in_ranges (request n t matrix.now inverse.now allowance weights.old) ≡ true }
     ensures { FoundAs (request n t matrix.now inverse.now allowance weights.old) result weights.new }
@@ -73,9 +73,9 @@ fn find_ready(
     if passed < allowance {
         let list = end.weights;
         write_weights(weights, list, n);
-        return Found::Tried(passed + 1);
+        return Ok(passed + 1);
     }
-    Found::NoneGood
+    Err(SearchRefusal::NoneGood)
 }
 
 // Weights found by the program. Order 8, 3, 18; a refusal leaves the weight list as it was.
@@ -86,11 +86,11 @@ pub fn find_weights(
     inverse: &[i64],
     allowance: u32,
     weights: &mut [i64],
-) -> Found
+) -> Result<u32, SearchRefusal>
     ensures { FoundAs (request n t matrix.now inverse.now allowance weights.old) result weights.new }
 {
     if is_short(matrix.len(), inverse.len(), weights.len()) {
-        return Found::Refused(Refusal::TooShort);
+        return Err(SearchRefusal::Refused(Refusal::TooShort));
     }
     if are_sizes_in_range(n, t, allowance) {
         let size = n as usize;
@@ -98,5 +98,5 @@ pub fn find_weights(
             return find_ready(size, t, matrix, inverse, allowance, weights);
         }
     }
-    Found::Refused(Refusal::OutOfRange)
+    Err(SearchRefusal::Refused(Refusal::OutOfRange))
 }

@@ -14,7 +14,7 @@ use Rattle.check_spec.specs.Input as check
 use Rattle.check_spec.specs.Order as checking
 use Rattle.check_spec.specs.Stated.{Stated, too_short, out_of_range, margin_low, residual_large, inverse_large, accepted}
 use Rattle.check_spec.proofs.Statements.{stated}
-use Rattle.weights_spec.specs.declared.Found.{Found}
+use Rattle.weights_spec.specs.Search.{Found}
 use Rattle.weights_spec.specs.Request.{Request}
 use Rattle.weights_spec.specs.Search.{search_code, FoundAs}
 

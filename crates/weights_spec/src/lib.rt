@@ -3,10 +3,9 @@
 
 use rules::Refusal;
 
+// Why no list of weights was found. Where one was, the answer is its number in the sequence, from 1: so many lists were tried.
 #[derive(Clone, Copy)]
-pub enum Found {
-    // the number of the first good list, from 1: so many lists were tried
-    Tried(u32),
+pub enum SearchRefusal {
     // 8 or 3
     Refused(Refusal),
     // 18: none of the allowed lists is good
