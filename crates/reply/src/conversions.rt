@@ -5,6 +5,7 @@ ghost use Rattle.listing_refusal.specs.Refused.{printed};
 ghost use Rattle.listing_refusal.specs.Reply.{reply_of};
 ghost use Rattle.convert_spec.specs.Converted.{convert_code, length_of};
 
+use crate::alone;
 use convert_spec::ConversionRefusal;
 use listing_refusal::{Reply, no_refusal, reply_of};
 
@@ -15,12 +16,7 @@ pub fn converted_reply(converted: Result<usize, ConversionRefusal>) -> Reply
     match converted {
         Ok(_) => no_refusal(),
         Err(ConversionRefusal::Refused(refusal)) => reply_of(refusal, 0),
-        Err(ConversionRefusal::NotConvertible) => Reply {
-            number: 22,
-            count: 1,
-            first: 0,
-            second: 0,
-        },
+        Err(ConversionRefusal::NotConvertible) => alone(22),
     }
 }
 
@@ -30,7 +26,6 @@ pub fn length_or(converted: Result<usize, ConversionRefusal>, before: usize) -> 
 {
     match converted {
         Ok(length) => length,
-        Err(ConversionRefusal::Refused(_)) => before,
-        Err(ConversionRefusal::NotConvertible) => before,
+        Err(_) => before,
     }
 }

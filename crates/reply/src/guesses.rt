@@ -4,6 +4,7 @@ ghost use Rattle.listing_refusal.specs.Refused.{printed};
 ghost use Rattle.listing_refusal.specs.Reply.{reply_of};
 ghost use Rattle.doubles_lists.specs.Inward.{guesses_code};
 
+use crate::alone;
 use doubles_lists::GuessRefusal;
 use listing_refusal::{Reply, no_refusal, reply_of};
 
@@ -14,11 +15,6 @@ pub fn guessed_reply(guessed: Result<(), GuessRefusal>) -> Reply
     match guessed {
         Ok(()) => no_refusal(),
         Err(GuessRefusal::Refused(refusal)) => reply_of(refusal, 0),
-        Err(GuessRefusal::NoGuess) => Reply {
-            number: 19,
-            count: 1,
-            first: 0,
-            second: 0,
-        },
+        Err(GuessRefusal::NoGuess) => alone(19),
     }
 }

@@ -29,6 +29,18 @@ pub fn outcome_reply(outcome: Result<(), Refusal>) -> Reply
     }
 }
 
+// A refusal that gives its number alone.
+fn alone(number: u32) -> Reply
+    ensures { result ≡ reply_of (number ∷ 0 ∷ []) }
+{
+    Reply {
+        number,
+        count: 1,
+        first: 0,
+        second: 0,
+    }
+}
+
 // Writes the two places of a reply; gives its number.
 pub fn write_reply(reply: Reply, places: &mut [u64; 2]) -> u32
     ensures { (result ≡ reply.number) × (places.new ≡ reply.first ∷ reply.second ∷ []) }

@@ -14,8 +14,7 @@ pub fn nets_reply(checked: Result<(), NetsRefusal>) -> Reply
 {
     match checked {
         Ok(()) => no_refusal(),
-        Err(NetsRefusal::Main(refusal)) => reply_of(refusal, 0),
-        Err(NetsRefusal::Dependent(refusal)) => reply_of(refusal, 0),
+        Err(NetsRefusal::Main(refusal) | NetsRefusal::Dependent(refusal)) => reply_of(refusal, 0),
     }
 }
 

@@ -5,6 +5,7 @@ ghost use Rattle.listing_refusal.specs.Refused.{printed};
 ghost use Rattle.listing_refusal.specs.Reply.{reply_of};
 ghost use Rattle.weights_spec.specs.Search.{search_code, count_of};
 
+use crate::alone;
 use listing_refusal::{Reply, no_refusal, reply_of};
 use weights_spec::SearchRefusal;
 
@@ -15,12 +16,7 @@ pub fn found_reply(found: Result<u32, SearchRefusal>) -> Reply
     match found {
         Ok(_) => no_refusal(),
         Err(SearchRefusal::Refused(refusal)) => reply_of(refusal, 0),
-        Err(SearchRefusal::NoneGood) => Reply {
-            number: 18,
-            count: 1,
-            first: 0,
-            second: 0,
-        },
+        Err(SearchRefusal::NoneGood) => alone(18),
     }
 }
 
@@ -30,7 +26,6 @@ pub fn tried_or(found: Result<u32, SearchRefusal>, before: u32) -> u32
 {
     match found {
         Ok(count) => count,
-        Err(SearchRefusal::Refused(_)) => before,
-        Err(SearchRefusal::NoneGood) => before,
+        Err(_) => before,
     }
 }
