@@ -1,9 +1,8 @@
 // The ranges of document 01 and of 02's Papers 7, 5 and 3, and 01's refusals.
 #![tactic(auto)]
 
-ghost use Rattle.std.specs.Prelude.{◌≡◌, ◌&&◌, ℕ, ◌<◌, ◌≤◌, pos, get_or, length};
-ghost use Rattle.std.specs.Int.Signed.{le_z};
-ghost use Rattle.rules.specs.Range.{index_of, range_of, in_range, all_in_range};
+ghost use Rattle.std.specs.Prelude.{◌≡◌, ℕ, ◌≤◌, pos, get_or, length};
+ghost use Rattle.rules.specs.Range.{from_to, range_of, in_range, all_in_range};
 
 // What a number stands for; each kind has its own range (01: "Every form has its own range").
 #[derive(Clone, Copy)]
@@ -32,80 +31,6 @@ pub struct Range {
     pub lowest: i64,
     pub highest: i64,
 }
-
-// In the order of `Kind`.
-const RANGES: [Range; 14] = [
-    // Size
-    Range {
-        lowest: 1,
-        highest: 32,
-    },
-    // SolutionScale
-    Range {
-        lowest: 0,
-        highest: 20,
-    },
-    // InverseScale
-    Range {
-        lowest: 0,
-        highest: 20,
-    },
-    // Matrix
-    Range {
-        lowest: -1048576,
-        highest: 1048576,
-    },
-    // Right
-    Range {
-        lowest: -1073741824,
-        highest: 1073741824,
-    },
-    // Guess
-    Range {
-        lowest: -68719476736,
-        highest: 68719476736,
-    },
-    // Inverse
-    Range {
-        lowest: -1048576,
-        highest: 1048576,
-    },
-    // Weight
-    Range {
-        lowest: 1,
-        highest: 1024,
-    },
-    // Allowance
-    Range {
-        lowest: 1,
-        highest: 64,
-    },
-    // Tolerance
-    Range {
-        lowest: 0,
-        highest: 1048576,
-    },
-    // Key
-    Range {
-        lowest: 1,
-        highest: 65535,
-    },
-    // Mark
-    Range {
-        lowest: 0,
-        highest: 32,
-    },
-    // Difference
-    Range {
-        lowest: -65536,
-        highest: 65536,
-    },
-    // LineWeight
-    Range {
-        lowest: 1,
-        highest: 64,
-    },
-];
 
 // 01: "A lent matrix list has at least 1,024 numbers and a column list at least 32"; 8 for a shorter one.
 pub const MATRIX_LENGTH: usize = 1024;
@@ -143,42 +68,32 @@ pub enum Refusal {
     NotEnded,
 }
 
-fn index_of(kind: Kind) -> usize
-    ensures { (result ≡ index_of kind) × (result < 14) }
+fn from_to(lowest: i64, highest: i64) -> Range
+    ensures { result ≡ from_to lowest highest }
 {
-    match kind {
-        Kind::Size => 0,
-        Kind::SolutionScale => 1,
-        Kind::InverseScale => 2,
-        Kind::Matrix => 3,
-        Kind::Right => 4,
-        Kind::Guess => 5,
-        Kind::Inverse => 6,
-        Kind::Weight => 7,
-        Kind::Allowance => 8,
-        Kind::Tolerance => 9,
-        Kind::Key => 10,
-        Kind::Mark => 11,
-        Kind::Difference => 12,
-        Kind::LineWeight => 13,
-    }
+    Range { lowest, highest }
 }
 
-// The line of the table for a kind.
+// The range of a kind.
 pub fn range_of(kind: Kind) -> Range
     ensures { result ≡ range_of kind }
 {
-    RANGES[index_of(kind)]
-}
-
-// Whether lowest ≤ x ≤ highest.
-fn is_between(x: i64, lowest: i64, highest: i64) -> bool
-    ensures { result ≡ le_z lowest x && le_z x highest }
-{
-    if lowest <= x {
-        return x <= highest;
+    match kind {
+        Kind::Size => from_to(1, 32),
+        Kind::SolutionScale => from_to(0, 20),
+        Kind::InverseScale => from_to(0, 20),
+        Kind::Matrix => from_to(-1048576, 1048576),
+        Kind::Right => from_to(-1073741824, 1073741824),
+        Kind::Guess => from_to(-68719476736, 68719476736),
+        Kind::Inverse => from_to(-1048576, 1048576),
+        Kind::Weight => from_to(1, 1024),
+        Kind::Allowance => from_to(1, 64),
+        Kind::Tolerance => from_to(0, 1048576),
+        Kind::Key => from_to(1, 65535),
+        Kind::Mark => from_to(0, 32),
+        Kind::Difference => from_to(-65536, 65536),
+        Kind::LineWeight => from_to(1, 64),
     }
-    false
 }
 
 // Whether x is a number of that kind's range.
@@ -186,14 +101,14 @@ pub fn is_in_range(kind: Kind, x: i64) -> bool
     ensures { result ≡ in_range kind x }
 {
     let range = range_of(kind);
-    is_between(x, range.lowest, range.highest)
+    range.lowest <= x && x <= range.highest
 }
 
 // The same of a natural number.
 pub fn is_natural_in_range(kind: Kind, x: u32) -> bool
     ensures { result ≡ in_range kind (pos x) }
 {
-    is_in_range(kind, x as i64)
+    is_in_range(kind, i64::from(x))
 }
 
 // Whether the first n numbers of a list all are.
@@ -201,9 +116,5 @@ pub fn all_in_range(kind: Kind, xs: &[i64], n: usize) -> bool
     requires { n ≤ length xs.now }
     ensures { result ≡ all_in_range kind n (λ (i : ℕ). get_or xs.now i (pos 0)) }
 {
-    let mut all = true;
-    for i in 0..n {
-        all = is_in_range(kind, xs[i]) & all;
-    }
-    all
+    xs[..n].iter().all(|&x| is_in_range(kind, x))
 }
