@@ -2,8 +2,7 @@
 --   run_digit, run_stop, run_end — a run of digits, its value capped on the way, at a digit, at another byte and at the line's end
 --   magnitude_zero, magnitude_other, magnitude_run — a magnitude, by the byte at its place
 --   number_minus, number_plain      — a number, by the byte at its place
-use Rattle.std.proofs.Common.{◌≡◌, ℕ, zero, suc, ◌+◌, ◌*◌, ◌^◌, ◌<◌, ◌≤◌, Bool, true, false, cond, ltb, List, [], ◌∷◌, length, get_or, drop, pos, neg_ℤ, refl, ◌∙◌, add-one, arith, drop_of_length-le, drop-cons, le-ltb, lt-ltb, eq-eqb, ne_eqb}
-use lib.Signed.{mag}
+use Rattle.std.proofs.Common.{◌≡◌, ℕ, zero, suc, ◌+◌, ◌*◌, ◌<◌, ◌≤◌, Bool, true, false, cond, ltb, List, [], ◌∷◌, length, get_or, drop, refl, ◌∙◌, add-one, arith, drop_of_length-le, drop-cons, le-ltb, lt-ltb, eq-eqb, ne_eqb}
 use Rattle.line_numeral.specs.declared.Number.{Number}
 use Rattle.line_numeral.specs.declared.Magnitude.{Magnitude}
 use Rattle.line_numeral.specs.Numeral.{digit_of, lost, run_at, magnitude_at, number_at, positive_of, negative_of, cap, cap_at, cap_magnitude}
@@ -44,11 +43,6 @@ module _ (s : List ℕ) (v i k : ℕ) where
       rw (drop_of_length-le s h, q)
 
 -- ---- the cap
--- −v of a small v fits
-pub neg_fits : (v : ℕ) → v ≤ cap_at → mag (neg_ℤ (pos v)) < 2 ^ 63
-neg_fits zero h = omega arith
-neg_fits (suc v) h = omega arith
-
 positive_capped : (z : Magnitude) → positive_of (capped_magnitude z) ≡ capped_number (positive_of z)
 unfolding cap
 positive_capped z = refl
