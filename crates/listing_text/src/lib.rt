@@ -10,12 +10,9 @@ pub fn put_bytes(out: &mut [u8], at: usize, src: &[u8]) -> usize
     requires { at + length src.now ≤ length out.old }
     ensures { Wrote (length src.now) out.old at src.now out.new result }
 {
-    let mut i = 0;
-    while i < src.len() {
-        out[at + i] = src[i];
-        i += 1;
-    }
-    at + i
+    let end = at + src.len();
+    out[at..end].copy_from_slice(src);
+    end
 }
 
 // The digits of n, the highest first.
@@ -24,11 +21,11 @@ fn put_digits(out: &mut [u8], at: usize, n: u64) -> usize
     ensures { Wrote (length (decimal n)) out.old at (decimal n) out.new result }
 {
     if n < 10 {
-        out[at] = 48 + n as u8;
+        out[at] = b'0' + n as u8;
         return at + 1;
     }
     let last = put_digits(out, at, n / 10);
-    out[last] = 48 + (n % 10) as u8;
+    out[last] = b'0' + (n % 10) as u8;
     last + 1
 }
 
@@ -38,7 +35,7 @@ pub fn put_natural(out: &mut [u8], at: usize, n: u64) -> usize
     ensures { Wrote 20 out.old at (decimal n) out.new result }
 {
     if n < 10 {
-        out[at] = 48 + n as u8;
+        out[at] = b'0' + n as u8;
         return at + 1;
     }
     put_digits(out, at, n)
