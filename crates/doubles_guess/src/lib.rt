@@ -7,9 +7,9 @@ ghost use Rattle.doubles_guess.specs.Decoded.{Decoded, Normal};
 ghost use Rattle.doubles_guess.specs.Guess.{MagnitudeFoundAs, GuessFoundAs};
 
 // The sign's bit, and the one in front of the digits that a double keeps.
-const SIGN: u64 = 1 << 63;
+pub const SIGN: u64 = 1 << 63;
 
-const LEADING: u64 = 1 << 52;
+pub const LEADING: u64 = 1 << 52;
 // The field of an exponent that no number has.
 const NO_NUMBER: u64 = 2047;
 // The greatest guess.
