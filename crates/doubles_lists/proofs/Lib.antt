@@ -1,3 +1,4 @@
+pub mod Front
 pub mod Inward
 pub mod Outward
 pub mod Unread

@@ -24,6 +24,9 @@ pub enum GuessRefusal {
     NoGuess,
 }
 
+// The greatest limit of a height that goes out.
+const MOST_LIMIT: u64 = 1 << 60;
+
 // 3 for n and s.
 fn are_sizes_in_range(n: u32, s: u32) -> bool
     ensures { result ≡ exchange_sizes n s }
@@ -36,12 +39,7 @@ fn all_have_guess(n: usize, s: u32, values: &[f64]) -> bool
     requires { (n ≤ length values.now) × (s ≤ 20) }
     ensures { result ≡ every n (λ (i : ℕ). has_guess s (double_at values.now i)) }
 {
-    let mut all = true;
-    for i in 0..n {
-        let g = guess_of(values[i], s);
-        all = g.found & all;
-    }
-    all
+    values[..n].iter().all(|&x| guess_of(x, s).is_some())
 }
 
 fn write_guesses(n: usize, s: u32, values: &[f64], guess: &mut [i64])
@@ -49,10 +47,8 @@ fn write_guesses(n: usize, s: u32, values: &[f64], guess: &mut [i64])
     requires i_value { every n (λ (i : ℕ). has_guess s (double_at values.now i)) ≡ true }
     ensures { guess.new ≡ written guess.old 0 1 (λ (i : ℕ). guess_for s (double_at values.now i)) n }
 {
-    for i in 0..n {
-        let g = guess_of(values[i], s);
-        let steps = g.steps;
-        guess[i] = steps;
+    for (i, &x) in values[..n].iter().enumerate() {
+        guess[i] = guess_of(x, s).unwrap();
     }
 }
 
@@ -82,11 +78,7 @@ fn all_bounds_in_range(n: usize, bounds: &[u64]) -> bool
     requires { n ≤ length bounds.now }
     ensures { result ≡ every n (λ (i : ℕ). leb (get_or bounds.now i 0) (2 ^ 60)) }
 {
-    let mut all = true;
-    for i in 0..n {
-        all = (bounds[i] <= 1152921504606846976) & all;
-    }
-    all
+    bounds[..n].iter().all(|&e| e <= MOST_LIMIT)
 }
 
 fn write_intervals(
@@ -102,8 +94,8 @@ fn write_intervals(
     ensures low_after { low.new ≡ written low.old 0 1 (λ (i : ℕ). (interval_of s (at guess.now i) (get_or bounds.now i 0)).low) n }
     ensures high_after { high.new ≡ written high.old 0 1 (λ (i : ℕ). (interval_of s (at guess.now i) (get_or bounds.now i 0)).high) n }
 {
-    for i in 0..n {
-        let v = interval_of(guess[i], bounds[i], s);
+    for (i, &x) in guess[..n].iter().enumerate() {
+        let v = interval_of(x, bounds[i], s);
         low[i] = v.low;
         high[i] = v.high;
     }
