@@ -1,4 +1,3 @@
-pub mod Front
 pub mod Inward
 pub mod Outward
 pub mod Unread

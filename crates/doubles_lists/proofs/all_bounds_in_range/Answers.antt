@@ -2,7 +2,7 @@ use lib.Dec.{leb}
 use Prim.Native.Nat.{ℕ, ◌^◌}
 use Rattle.std.proofs.Common.{rules}
 use Rattle.std.proofs.iter.runs.Made.{chains}
-use Rattle.doubles_lists.proofs.Front.{every_front}
+use Rattle.rules.proofs.Front.{every_front}
 use Rattle.doubles_lists.proofs.all_bounds_in_range.Goals as goal
 
 pub returns : goal.returns

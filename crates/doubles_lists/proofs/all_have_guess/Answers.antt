@@ -2,7 +2,7 @@ use lib.Ieee.{Float, nan}
 use Rattle.std.proofs.Common.{rules}
 use Rattle.std.proofs.iter.runs.Made.{chains}
 use Rattle.doubles_guess.specs.Guess.{has_guess}
-use Rattle.doubles_lists.proofs.Front.{every_front}
+use Rattle.rules.proofs.Front.{every_front}
 use Rattle.doubles_lists.proofs.all_have_guess.Goals as goal
 
 pub returns : goal.returns
