@@ -55,29 +55,6 @@ pub fn fresh() -> Loaded {
     }
 }
 
-// The list itself; what it ensures is what a part of it is lent by.
-fn wide(l: [i64; 1024]) -> [i64; 1024]
-    ensures { 1024 ≡ length result }
-{
-    l
-}
-
-fn narrow(l: [i64; 32]) -> [i64; 32]
-    ensures { 32 ≡ length result }
-{
-    l
-}
-
-fn unwritten() -> [u64; 32]
-    ensures { 32 ≡ length result }
-{
-    [UNWRITTEN; 32]
-}
-
-fn unwritten_matrix() -> [u64; 1024] {
-    [UNWRITTEN; 1024]
-}
-
 // A length, one less where the list is to be too short.
 pub fn less_where(n: usize, short: bool) -> usize
     requires { 1 ≤ n }
@@ -87,104 +64,61 @@ pub fn less_where(n: usize, short: bool) -> usize
 }
 
 // Takes a line; of the lists 0 to 5 the one named is too short.
-pub fn taken(held: Loaded, line: &[u8], short: u8) -> Loaded {
-    let loader = held.loader;
-    let held_matrix = held.matrix;
-    let held_right = held.right;
-    let held_tolerance = held.tolerance;
-    let held_guess = held.guess;
-    let held_inverse = held.inverse;
-    let held_weights = held.weights;
-    let mut matrix = wide(held_matrix);
-    let mut right = narrow(held_right);
-    let mut tolerance = narrow(held_tolerance);
-    let mut guess = narrow(held_guess);
-    let mut inverse = wide(held_inverse);
-    let mut weights = narrow(held_weights);
-    let a = less_where(1024, short == b'0');
-    let b = less_where(32, short == b'1');
-    let d = less_where(32, short == b'2');
-    let x = less_where(32, short == b'3');
-    let g = less_where(1024, short == b'4');
-    let w = less_where(32, short == b'5');
-    let taken = loader.take(
+pub fn take(held: &mut Loaded, line: &[u8], short: u8) {
+    let taken = held.loader.take(
         line,
-        &mut matrix[..a],
-        &mut right[..b],
-        &mut tolerance[..d],
-        &mut guess[..x],
-        &mut inverse[..g],
-        &mut weights[..w],
+        &mut held.matrix[..less_where(1024, short == b'0')],
+        &mut held.right[..less_where(32, short == b'1')],
+        &mut held.tolerance[..less_where(32, short == b'2')],
+        &mut held.guess[..less_where(32, short == b'3')],
+        &mut held.inverse[..less_where(1024, short == b'4')],
+        &mut held.weights[..less_where(32, short == b'5')],
     );
-    let outcome = taken.outcome;
-    let next = taken.loader;
-    Loaded {
-        loader: next,
-        matrix,
-        right,
-        tolerance,
-        guess,
-        inverse,
-        weights,
-        outcome,
-    }
+    held.loader = taken.loader;
+    held.outcome = taken.outcome;
 }
 
 // A check through the loader, with a solution limit list that is long enough or too short.
-pub fn checked_through(held: Loaded, short: bool) -> Limits {
-    let loader = held.loader;
-    let matrix = held.matrix;
-    let right = held.right;
-    let tolerance = held.tolerance;
-    let guess = held.guess;
-    let inverse = held.inverse;
-    let weights = held.weights;
-    let mut solution_bounds = unwritten();
-    let mut inverse_bounds = unwritten_matrix();
-    let k = less_where(32, short);
-    let outcome = loader.check(
-        &matrix,
-        &right,
-        &tolerance,
-        &guess,
-        &inverse,
-        &weights,
-        &mut solution_bounds[..k],
-        &mut inverse_bounds,
+pub fn checked_through(held: &Loaded, short: bool) -> Limits {
+    let mut solution = [UNWRITTEN; 32];
+    let mut inverse = [UNWRITTEN; 1024];
+    let outcome = held.loader.check(
+        &held.matrix,
+        &held.right,
+        &held.tolerance,
+        &held.guess,
+        &held.inverse,
+        &held.weights,
+        &mut solution[..less_where(32, short)],
+        &mut inverse,
     );
     Limits {
         outcome,
-        solution: solution_bounds,
-        inverse: inverse_bounds,
+        solution,
+        inverse,
     }
 }
 
 // A check on the lists.
-pub fn checked_on_lists(held: Loaded, n: u32, s: u32, t: u32) -> Limits {
-    let matrix = held.matrix;
-    let right = held.right;
-    let tolerance = held.tolerance;
-    let guess = held.guess;
-    let inverse = held.inverse;
-    let weights = held.weights;
-    let mut solution_bounds = unwritten();
-    let mut inverse_bounds = unwritten_matrix();
+pub fn checked_on_lists(held: &Loaded, n: u32, s: u32, t: u32) -> Limits {
+    let mut solution = [UNWRITTEN; 32];
+    let mut inverse = [UNWRITTEN; 1024];
     let outcome = check_lists::check(
         n,
         s,
         t,
-        &matrix,
-        &right,
-        &tolerance,
-        &guess,
-        &inverse,
-        &weights,
-        &mut solution_bounds,
-        &mut inverse_bounds,
+        &held.matrix,
+        &held.right,
+        &held.tolerance,
+        &held.guess,
+        &held.inverse,
+        &held.weights,
+        &mut solution,
+        &mut inverse,
     );
     Limits {
         outcome,
-        solution: solution_bounds,
-        inverse: inverse_bounds,
+        solution,
+        inverse,
     }
 }
