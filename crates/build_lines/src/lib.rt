@@ -3,6 +3,7 @@
 
 ghost use Rattle.std.specs.Prelude.{◌≡◌};
 ghost use Rattle.build_lines.specs.Line.{is_mark, outside_range, same_contents};
+ghost use Rattle.build_lines.specs.declared.BuildRefusal.TheVariants.{Refused};
 
 use rules::{Kind, Refusal, is_in_range, is_natural_in_range};
 
@@ -26,6 +27,14 @@ pub enum BuildRefusal {
     SameMark,
     // 17: a key met before with other contents
     OtherContents,
+}
+
+impl From<Refusal> for BuildRefusal {
+    ghost from_gives = { λ r e. e ≡ Refused r };
+
+    fn from(r: Refusal) -> BuildRefusal {
+        BuildRefusal::Refused(r)
+    }
 }
 
 // Whether k is the fixed mark or one of the marks 1 to n.

@@ -9,8 +9,8 @@ pub fn are_sizes_in_range(n: u32, t: u32, allowance: u32) -> bool
     ensures { result ≡ search_sizes n t allowance }
 {
     is_natural_in_range(Kind::Size, n)
-        & (is_natural_in_range(Kind::InverseScale, t)
-            & is_natural_in_range(Kind::Allowance, allowance))
+        && is_natural_in_range(Kind::InverseScale, t)
+        && is_natural_in_range(Kind::Allowance, allowance)
 }
 
 // 3 for the numbers of the lists that are used.
@@ -18,8 +18,6 @@ pub fn are_lists_in_range(n: usize, matrix: &[i64], inverse: &[i64]) -> bool
     requires { (n ≤ 32) × ((1024 ≤ length matrix.now) × (1024 ≤ length inverse.now)) }
     ensures { result ≡ search_lists n matrix.now inverse.now }
 {
-    if all_in_range(Kind::Matrix, matrix, n * n) {
-        return all_in_range(Kind::Inverse, inverse, n * n);
-    }
-    false
+    let size = n * n;
+    all_in_range(Kind::Matrix, matrix, size) && all_in_range(Kind::Inverse, inverse, size)
 }
