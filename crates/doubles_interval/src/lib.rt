@@ -102,7 +102,8 @@ fn end_at(low: bool, z: i64, s: u32) -> f64
         return plus_zero();
     }
     let negative = z < 0;
-    if negative == low {
+    let farther = negative == low;
+    if farther {
         away_from_zero(negative, a, s)
     } else {
         toward_zero(negative, a, s)

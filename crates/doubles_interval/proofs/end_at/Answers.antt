@@ -17,14 +17,14 @@ pub returns-then-a-eq0 : goal.returns-then-a-eq0
 returns-then-a-eq0 c =
     c.plus_zero.ensures ∙ end_zero c.args.s c.args.z c.args.low (sym (magnitude_is (goal.at.returns-then-a-eq0 c).After-unsigned_abs-a) ∙ c.if-a-eq0.true)
 
-pub returns-then-negative-low : goal.returns-then-negative-low
-returns-then-negative-low c =
-    let i = (goal.at.returns-then-negative-low c).Else-a-eq0 in
+pub returns-then-farther : goal.returns-then-farther
+returns-then-farther c =
+    let i = (goal.at.returns-then-farther c).Else-a-eq0 in
     (rw (read c.args.z c.ranges.z.sfits) at c.away_from_zero.ensures)
-    ∙ end_away c.args.s c.args.z c.unsigned_abs-a.result (magnitude_is (goal.at.returns-then-negative-low c).After-unsigned_abs-a) (some i) _ c.args.low refl (rw (read c.args.z c.ranges.z.sfits) at c.if-negative-low.true)
+    ∙ end_away c.args.s c.args.z c.unsigned_abs-a.result (magnitude_is (goal.at.returns-then-farther c).After-unsigned_abs-a) (some i) _ c.args.low refl (rw (read c.args.z c.ranges.z.sfits) at c.if-farther.true)
 
-pub returns-else-negative-low : goal.returns-else-negative-low
-returns-else-negative-low c =
-    let i = (goal.at.returns-else-negative-low c).Else-a-eq0 in
+pub returns-else-farther : goal.returns-else-farther
+returns-else-farther c =
+    let i = (goal.at.returns-else-farther c).Else-a-eq0 in
     (rw (read c.args.z c.ranges.z.sfits) at c.toward_zero.ensures)
-    ∙ end_toward c.args.s c.args.z c.unsigned_abs-a.result (magnitude_is (goal.at.returns-else-negative-low c).After-unsigned_abs-a) (some i) _ c.args.low refl (rw (read c.args.z c.ranges.z.sfits) at c.if-negative-low.false)
+    ∙ end_toward c.args.s c.args.z c.unsigned_abs-a.result (magnitude_is (goal.at.returns-else-farther c).After-unsigned_abs-a) (some i) _ c.args.low refl (rw (read c.args.z c.ranges.z.sfits) at c.if-farther.false)
