@@ -1,8 +1,8 @@
 // The ranges of document 01 and of 02's Papers 7, 5 and 3, and 01's refusals.
 #![tactic(auto)]
 
-ghost use Rattle.std.specs.Prelude.{◌≡◌, ℕ, ◌≤◌, pos, get_or, length};
-ghost use Rattle.rules.specs.Range.{from_to, range_of, in_range, all_in_range};
+ghost use Rattle.std.specs.Prelude.{◌≡◌, ℕ, ◌<◌, ◌≤◌, pos, get_or, length};
+ghost use Rattle.rules.specs.Range.{index_of, range_of, in_range, all_in_range};
 
 // What a number stands for; each kind has its own range (01: "Every form has its own range").
 #[derive(Clone, Copy)]
@@ -31,6 +31,80 @@ pub struct Range {
     pub lowest: i64,
     pub highest: i64,
 }
+
+// In the order of `Kind`. A constant table is the form that document 01 names.
+const RANGES: [Range; 14] = [
+    // Size
+    Range {
+        lowest: 1,
+        highest: 32,
+    },
+    // SolutionScale
+    Range {
+        lowest: 0,
+        highest: 20,
+    },
+    // InverseScale
+    Range {
+        lowest: 0,
+        highest: 20,
+    },
+    // Matrix
+    Range {
+        lowest: -1048576,
+        highest: 1048576,
+    },
+    // Right
+    Range {
+        lowest: -1073741824,
+        highest: 1073741824,
+    },
+    // Guess
+    Range {
+        lowest: -68719476736,
+        highest: 68719476736,
+    },
+    // Inverse
+    Range {
+        lowest: -1048576,
+        highest: 1048576,
+    },
+    // Weight
+    Range {
+        lowest: 1,
+        highest: 1024,
+    },
+    // Allowance
+    Range {
+        lowest: 1,
+        highest: 64,
+    },
+    // Tolerance
+    Range {
+        lowest: 0,
+        highest: 1048576,
+    },
+    // Key
+    Range {
+        lowest: 1,
+        highest: 65535,
+    },
+    // Mark
+    Range {
+        lowest: 0,
+        highest: 32,
+    },
+    // Difference
+    Range {
+        lowest: -65536,
+        highest: 65536,
+    },
+    // LineWeight
+    Range {
+        lowest: 1,
+        highest: 64,
+    },
+];
 
 // 01: "A lent matrix list has at least 1,024 numbers and a column list at least 32"; 8 for a shorter one.
 pub const MATRIX_LENGTH: usize = 1024;
@@ -68,32 +142,33 @@ pub enum Refusal {
     NotEnded,
 }
 
-fn from_to(lowest: i64, highest: i64) -> Range
-    ensures { result ≡ from_to lowest highest }
+// `kind as usize` in place of this was tried: that the number of each kind is its line is not found then.
+fn index_of(kind: Kind) -> usize
+    ensures { (result ≡ index_of kind) × (result < 14) }
 {
-    Range { lowest, highest }
+    match kind {
+        Kind::Size => 0,
+        Kind::SolutionScale => 1,
+        Kind::InverseScale => 2,
+        Kind::Matrix => 3,
+        Kind::Right => 4,
+        Kind::Guess => 5,
+        Kind::Inverse => 6,
+        Kind::Weight => 7,
+        Kind::Allowance => 8,
+        Kind::Tolerance => 9,
+        Kind::Key => 10,
+        Kind::Mark => 11,
+        Kind::Difference => 12,
+        Kind::LineWeight => 13,
+    }
 }
 
-// The range of a kind.
+// The line of the table for a kind.
 pub fn range_of(kind: Kind) -> Range
     ensures { result ≡ range_of kind }
 {
-    match kind {
-        Kind::Size => from_to(1, 32),
-        Kind::SolutionScale => from_to(0, 20),
-        Kind::InverseScale => from_to(0, 20),
-        Kind::Matrix => from_to(-1048576, 1048576),
-        Kind::Right => from_to(-1073741824, 1073741824),
-        Kind::Guess => from_to(-68719476736, 68719476736),
-        Kind::Inverse => from_to(-1048576, 1048576),
-        Kind::Weight => from_to(1, 1024),
-        Kind::Allowance => from_to(1, 64),
-        Kind::Tolerance => from_to(0, 1048576),
-        Kind::Key => from_to(1, 65535),
-        Kind::Mark => from_to(0, 32),
-        Kind::Difference => from_to(-65536, 65536),
-        Kind::LineWeight => from_to(1, 64),
-    }
+    RANGES[index_of(kind)]
 }
 
 // Whether x is a number of that kind's range.
