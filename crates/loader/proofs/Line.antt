@@ -2,6 +2,7 @@
 --   decided_short, decided_ended — 8 and 14
 --   decided_unread — 1 and 2;  decided_form — what is decided of its form, capped, is right for the line
 --   taken_so       — once it is written, the line is taken
+use Rattle.std.specs.Prelude.{Ok, Err}
 use mathlib.Core.Path.{◌≡◌, refl, sym, ap, ◌∙◌}
 use mathlib.Core.Bool.{Bool, true, false, cond}
 use mathlib.Core.List.{List, [], ◌∷◌}
@@ -18,7 +19,6 @@ use Rattle.line_numeral.specs.Numeral.{cap_at}
 use Rattle.line_form.specs.Form.{Form}
 use Rattle.line_form.specs.Reading.{reading}
 use Rattle.line_parts.specs.Line.{capped_form, numbers_in, line_of, of_reading, refused}
-use Rattle.line_parts.specs.declared.Answer.TheVariants as answer
 use Rattle.line_parts.specs.declared.CappedForm.{CappedForm}
 use Rattle.line_parts.specs.declared.Line.{Line}
 use Rattle.line_form.specs.declared.Numbers.{Numbers}
@@ -63,14 +63,14 @@ module _ (d : Loader) (l : Lists) (line : List ℕ) where
     decided_ended b = kept (rw (a, b))
 
     module _ (b : ended d.stage ≡ false) where
-      unread : {q : Refusal} (t : Bool) → ltb 320 (length line) ≡ t → (o : Option Form) → reading line ≡ o → (cond t (refused TooLong) (of_reading o)).answer ≡ answer.Refused q
+      unread : {q : Refusal} (t : Bool) → ltb 320 (length line) ≡ t → (o : Option Form) → reading line ≡ o → (cond t (refused TooLong) (of_reading o)).answer ≡ Err q
           → number_of q ∷ values_of q ≡ line_answer d l line
       unfolding line_answer
       unread {q} true c o e h = let s : TooLong ≡ q = cc in rw (a, b, c, ← s)
       unread {q} false c none e h = let s : NoForm ≡ q = cc in rw (a, b, c, e, ← s)
       unread {q} false c (some f) e h = let z : ◌≡◌ {A = ℕ} 0 1 = cc in absurd (omega arith)
 
-      pub decided_unread : {r : Line} {q : Refusal} → r ≡ line_of line → r.answer ≡ answer.Refused q → DecidedFor d l line (refused_by d q)
+      pub decided_unread : {r : Line} {q : Refusal} → r ≡ line_of line → r.answer ≡ Err q → DecidedFor d l line (refused_by d q)
       unfolding line_of
       decided_unread e h = kept (unread (ltb 320 (length line)) refl (reading line) refl (ap (λ (x : Line). x.answer) (sym e) ∙ h))
 
@@ -106,14 +106,14 @@ module _ (d : Loader) (l : Lists) (line : List ℕ) where
             }
 
       by_reading : {m : CappedForm} {z : Numbers} {t : Decided} (u : Bool) → ltb 320 (length line) ≡ u → (o : Option Form) → reading line ≡ o
-          → (cond u (refused TooLong) (of_reading o)).answer ≡ answer.Form m → (cond u (refused TooLong) (of_reading o)).numbers ≡ z → d.n < cap_at → DecidedIn d m z t → DecidedFor d l line t
+          → (cond u (refused TooLong) (of_reading o)).answer ≡ Ok m → (cond u (refused TooLong) (of_reading o)).numbers ≡ z → d.n < cap_at → DecidedIn d m z t → DecidedFor d l line t
       by_reading true c o e h k n g = let x : ◌≡◌ {A = ℕ} 0 1 = cc in absurd (omega arith)
       by_reading false c none e h k n g = let x : ◌≡◌ {A = ℕ} 0 1 = cc in absurd (omega arith)
       by_reading {m} {z} {t} false c (some f) e h k n g =
           let x : capped_form f ≡ m = cc in
           by_code f n c e (rw (x, k) g) (form_code d f) refl
 
-      pub decided_form : {r : Line} {m : CappedForm} {t : Decided} → d.n < cap_at → r ≡ line_of line → r.answer ≡ answer.Form m → DecidedIn d m r.numbers t → DecidedFor d l line t
+      pub decided_form : {r : Line} {m : CappedForm} {t : Decided} → d.n < cap_at → r ≡ line_of line → r.answer ≡ Ok m → DecidedIn d m r.numbers t → DecidedFor d l line t
       unfolding line_of
       decided_form n e h g =
           by_reading (ltb 320 (length line)) refl (reading line) refl (ap (λ (x : Line). x.answer) (sym e) ∙ h) (ap (λ (x : Line). x.numbers) (sym e)) n g

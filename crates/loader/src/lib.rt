@@ -11,7 +11,7 @@ ghost use Rattle.loader.specs.Taken.{fresh, after, TakenAs, numbers_of_loader, l
 ghost use Rattle.loader.specs.Decided.{code_in, fits, refused_by, DecidedIn, DecidedAs};
 
 use line_form::Numbers;
-use line_parts::{Answer, CappedForm};
+use line_parts::CappedForm;
 use loader_progress::Stage;
 use loader_values::{Item, Part};
 use rules::{Outcome, Refusal};
@@ -239,13 +239,9 @@ impl Loader {
             return self.refused(Refusal::AfterEnd);
         }
         let read = line::read_line(line);
-        let answer = read.answer;
-        match answer {
-            Answer::Refused(refusal) => self.refused(refusal),
-            Answer::Form(form) => {
-                let numbers = read.numbers;
-                self.decide_form(form, numbers)
-            }
+        match read.answer {
+            Ok(form) => self.decide_form(form, read.numbers),
+            Err(refusal) => self.refused(refusal),
         }
     }
 

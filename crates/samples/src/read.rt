@@ -1,7 +1,8 @@
 // What a line is, and the listing of a file.
 use crate::print::{print_column, print_number, print_refusal, print_signed, print_text};
 use line_form::Numbers;
-use line_parts::{Answer, CappedForm};
+use line_parts::CappedForm;
+use rules::Refusal;
 use std::io::Stdout;
 
 pub fn print_line(output: Stdout, text: &[u8]) {
@@ -14,13 +15,13 @@ pub fn print_line(output: Stdout, text: &[u8]) {
 }
 
 // A line that is refused has no numbers beside it.
-fn print_read(output: Stdout, answer: Answer) {
+fn print_read(output: Stdout, answer: Result<CappedForm, Refusal>) {
     match answer {
-        Answer::Refused(refusal) => {
+        Ok(form) => print_form(output, form),
+        Err(refusal) => {
             print_text(output, b"refused ");
             print_refusal(output, refusal);
         }
-        Answer::Form(form) => print_form(output, form),
     }
 }
 

@@ -17,20 +17,20 @@ returns-then-is_ended c l e =
     let a = i.args in
     rw c.refused-then-is_ended.ensures (decided_ended a.self l a.line.now (e ∙ i.if-short.false) (sym i.is_ended.ensures ∙ c.if-is_ended.true))
 
-pub returns-in-Refused : goal.returns-in-Refused
-returns-in-Refused c l e =
-    let r = (goal.at.returns-in-Refused c).After-read_line-read in
-    let n = (goal.at.returns-in-Refused c).Else-is_ended in
-    let i = (goal.at.returns-in-Refused c).After-is_ended in
+pub returns-in-Err : goal.returns-in-Err
+returns-in-Err c l e =
+    let r = (goal.at.returns-in-Err c).After-read_line-read in
+    let n = (goal.at.returns-in-Err c).Else-is_ended in
+    let i = (goal.at.returns-in-Err c).After-is_ended in
     let a = i.args in
-    rw c.refused-in-Refused.ensures (decided_unread a.self l a.line.now (e ∙ i.if-short.false) (sym i.is_ended.ensures ∙ n.if-is_ended.false) r.read_line-read.ensures c.in-Refused.is)
+    rw c.refused-in-Err.ensures (decided_unread a.self l a.line.now (e ∙ i.if-short.false) (sym i.is_ended.ensures ∙ n.if-is_ended.false) r.read_line-read.ensures c.in-Err.is)
 
-pub returns-in-Form : goal.returns-in-Form
-returns-in-Form c l e =
-    let r = (goal.at.returns-in-Form c).After-read_line-read in
-    let n = (goal.at.returns-in-Form c).Else-is_ended in
-    let i = (goal.at.returns-in-Form c).After-is_ended in
-    let s = (goal.at.returns-in-Form c).Start in
+pub returns-in-Ok : goal.returns-in-Ok
+returns-in-Ok c l e =
+    let r = (goal.at.returns-in-Ok c).After-read_line-read in
+    let n = (goal.at.returns-in-Ok c).Else-is_ended in
+    let i = (goal.at.returns-in-Ok c).After-is_ended in
+    let s = (goal.at.returns-in-Ok c).Start in
     let a = s.args in
     let small : a.self.n < cap_at = omega arith in
-    decided_form a.self l a.line.now (e ∙ i.if-short.false) (sym i.is_ended.ensures ∙ n.if-is_ended.false) small r.read_line-read.ensures c.in-Form.is c.decide_form.ensures
+    decided_form a.self l a.line.now (e ∙ i.if-short.false) (sym i.is_ended.ensures ∙ n.if-is_ended.false) small r.read_line-read.ensures c.in-Ok.is c.decide_form.ensures
