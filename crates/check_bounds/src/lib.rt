@@ -33,16 +33,6 @@ fn magnitudes_of(out: &mut [u64; 32], rows: &[u64], residuals: &[u64], n: usize)
     }
 }
 
-// Term j of a slack: sum + |x|·slack, where x is number j of a biased row, by way of the place that was carried to it.
-fn add_slack(sum: u64, rows: &[u64], row: usize, place: usize, slack: u64, j: usize) -> u64
-    requires carried { Carried row 1 j place }
-    requires j_in_bounds { (row + j < length rows.now) × (get_or rows.now (row + j) 0 ≤ 2 * bias) }
-    requires sum_bound { (sum ≤ 2 ^ 62) × (slack ≤ allowed_residual) }
-    ensures { result ≡ sum + nat_abs (unbiased (get_or rows.now (row + j) 0)) * slack }
-{
-    add_low(sum, unbiased_magnitude(rows[place]), slack)
-}
-
 // The sum over j of |G_mj|·σ_j, for the biased row m of G that starts at index row.
 fn slack_of(rows: &[u64], m: usize, row: usize, slacks: &[u64; 32], n: usize) -> u64
     requires n_bound { n ≤ 32 }
@@ -52,10 +42,8 @@ fn slack_of(rows: &[u64], m: usize, row: usize, slacks: &[u64; 32], n: usize) ->
     ensures { result ≡ sumℕ n (λ (j : ℕ). nat_abs (unbiased_rows rows.now n m j) * get_or slacks.now j 0) }
 {
     let mut sum: u64 = 0;
-    let mut place = row;
-    for j in 0..n {
-        sum = add_slack(sum, rows, row, place, slacks[j], j);
-        place += 1;
+    for (&x, &slack) in rows[row..row + n].iter().zip(slacks) {
+        sum = add_low(sum, unbiased_magnitude(x), slack);
     }
     sum
 }
@@ -116,8 +104,8 @@ pub fn store(dst: &mut [u64], start: usize, stride: usize, column: [u64; 32], n:
     ensures { dst.new ≡ written dst.old start stride (λ (i : ℕ). get_or column i 0) n }
 {
     let mut place = start;
-    for i in 0..n {
-        dst[place] = column[i];
+    for &limit in &column[..n] {
+        dst[place] = limit;
         place += stride;
     }
 }

@@ -14,7 +14,7 @@ ghost use Rattle.weights_steps.specs.Steps.{Below, stored_load, stored_margin, s
 use check_biased_rows::{ROWS_LENGTH, bias_rows};
 use check_defects::inverse_residuals_of;
 use check_margins::first_zero;
-use integer::{larger, magnitude, power};
+use integer::power;
 use rules::{COLUMN_LENGTH, MATRIX_LENGTH};
 
 // 8: whether a matrix list, an inverse or a weight list of these lengths is too short.
@@ -35,18 +35,10 @@ pub fn defect_magnitudes(t: u32, matrix: &[i64], inverse: &[i64], n: usize) -> [
     let mut columns = [0i64; 1024];
     inverse_residuals_of(&mut columns, t, inverse, &rows, n);
     let mut out = [0u64; 1024];
-    for i in 0..n * n {
-        out[i] = magnitude(columns[i]);
+    for (i, d) in columns[..n * n].iter().enumerate() {
+        out[i] = d.unsigned_abs();
     }
     out
-}
-
-// One term of a sum: sum + d·w.
-fn weigh(sum: u64, d: u64, w: u64) -> u64
-    requires { (sum ≤ 2 ^ 62) × ((d ≤ 2 ^ 46) × (w ≤ 1024)) }
-    ensures { result ≡ sum + d * w }
-{
-    sum + d * w
 }
 
 // Term j of a sum, where d is number m of column j of |D|, by way of the place that was carried to it.
@@ -64,7 +56,7 @@ fn weigh_at(
     requires sum_bound { (sum ≤ 2 ^ 62) × (w ≤ 1024) }
     ensures { result ≡ sum + get_or magnitudes.now (j * n + m) 0 * w }
 {
-    weigh(sum, magnitudes[place], w)
+    sum + magnitudes[place] * w
 }
 
 // The sum over j of |D_mj|·w_j; the place is carried from column to column.
@@ -130,9 +122,9 @@ fn largest_of(loads: &[u64; 32], n: usize) -> u64
     requires { n ≤ 32 }
     ensures { result ≡ largest n (λ (m : ℕ). get_or loads.now m 0) }
 {
-    let mut best = 0;
-    for m in 0..n {
-        best = larger(best, loads[m]);
+    let mut best: u64 = 0;
+    for &load in &loads[..n] {
+        best = best.max(load);
     }
     best
 }
@@ -157,8 +149,8 @@ pub fn next_weights(loads: &[u64; 32], n: usize) -> [u64; 32]
 {
     let count = bits_of(largest_of(loads, n));
     let mut out = [0u64; 32];
-    for i in 0..n {
-        out[i] = (loads[i] >> count) + 1;
+    for (i, &load) in loads[..n].iter().enumerate() {
+        out[i] = (load >> count) + 1;
     }
     out
 }
