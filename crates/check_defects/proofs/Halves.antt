@@ -5,20 +5,15 @@
 use mathlib.Core.List.{List}
 use mathlib.Core.Bool.{true, false}
 use mathlib.Core.Path.{◌≡◌, refl, sym, subst, ◌∙◌}
-use Prim.Native.Nat.{ℕ, ◌+◌, ◌-◌, ◌*◌, ◌≤◌, ◌<◌, ◌^◌}
+use Prim.Native.Nat.{ℕ, ◌+◌, ◌-◌, ◌*◌, ◌≤◌, ◌<◌}
 use native.Mathlib.Omega.{arith}
 use borrow.Author.Tests.{ltb-true}
 use lib.Dec.{T}
 use lib.IntN.{ℤ, pos, negsuc, nat_abs, ◌-ℤ◌, +ℤ_idl}
 use lib.ListN.{get_or, length}
 use lib.Signed.{lt_z}
-use mir.Syntax.{w64}
-use mir.Val.{to_z, of_z}
-use mir.ValLaws.{to_z-of_z}
 use Rattle.integer.specs.SignedParts.{pos_part, neg_part}
 use Rattle.integer.proofs.Difference.{zz}
-use Rattle.integer.proofs.Machine.{small}
-use Rattle.linear.specs.Slice.{at}
 use borrow.Rule.Slice.PartMut.{put_mid}
 use Rattle.linear.proofs.Slices.{placed_length, placed_at, placed_below, placed_above}
 use Rattle.check_defects.specs.Sums.{half_of, SmallSums, Added}

@@ -13,7 +13,7 @@ use Rattle.check_biased_rows.specs.Biased.{BiasedRow}
 use Rattle.check_biased_rows.specs.Place.{biased_place}
 use Rattle.check_biased_rows.proofs.Unbiasing.{slice_at, slice_small}
 use Rattle.check_defects.specs.Sums.{half_of}
-use Rattle.check_defects.proofs.Halves.{half_ends, half_room, added_none, added_row}
+use Rattle.check_defects.proofs.Halves.{half_room, added_none, added_row}
 use Rattle.check_defects.proofs.add_multiple.Goals as goal
 use Rattle.check_defects.proofs.add_multiple.Goals.{Start}
 
@@ -39,7 +39,7 @@ returns-then-x-ne0 c =
     let magnitude-is = rw (x-is s) at c.magnitude.ensures in
     let same : length c.add_row.new.sums ≡ s.args.n = c.add_row.auto.sums ∙ part_long s _ c.half_of-half.ensures.within in
     let each : (j : ℕ) → j < s.args.n → get_or c.add_row.new.sums j 0 ≡ get_or s.args.sums.now (half_of s.args.x + j) 0 + nat_abs s.args.x * get_or s.args.rows.now (biased_place s.args.n s.args.k j) 0
-        = λ j l. c.add_row.ensures j (omega (arith, same)) ∙ rw (part_at s c.half_of-half.result j l, slice_at (row s) j l, half, magnitude-is, start_place s.requires.carried) refl in
+    = λ j l. c.add_row.ensures j (omega (arith, same)) ∙ rw (part_at s c.half_of-half.result j l, slice_at (row s) j l, half, magnitude-is, start_place s.requires.carried) refl in
     rw half (added_row _ _ s.args.n s.requires.n_bound.0 s.requires.sums_len.0 _ same s.args.x each)
 
 pub returns-else-x-ne0 : goal.returns-else-x-ne0
