@@ -18,14 +18,14 @@ pub fn magnitude(x: i64) -> u64
     requires { nat_abs x < 2 ^ 63 }
     ensures { result ≡ nat_abs x }
 {
-    if x < 0 { (-x) as u64 } else { x as u64 }
+    x.unsigned_abs()
 }
 
 // The larger of two numbers.
 pub fn larger(a: u64, b: u64) -> u64
     ensures { result ≡ max a b }
 {
-    if a < b { b } else { a }
+    a.max(b)
 }
 
 // 01: "rounded up to a whole number".
