@@ -79,7 +79,7 @@ fn margin_of(
 {
     let full = power(t) * magnitude(weights[m]);
     let sum = load_of(defects, weights, ones, n, m, row);
-    if sum < full { full - sum } else { 0 }
+    full.saturating_sub(sum)
 }
 
 // The margins of all rows, from D, row after row.

@@ -5,7 +5,7 @@
 use mathlib.Core.Path.{◌≡◌, refl, sym, ap, ◌∙◌}
 use mathlib.Core.Bool.{Bool, true, false}
 use mathlib.Core.List.{List}
-use Prim.Native.Nat.{ℕ, zero, suc, ◌+◌, ◌≤◌, ◌<◌, max}
+use Prim.Native.Nat.{ℕ, zero, suc, ◌≤◌, ◌<◌, max}
 use native.Mathlib.Omega.{arith}
 use native.Mathlib.Numerals.{add-one}
 use lib.ListN.{get_or, length, take}
@@ -28,9 +28,9 @@ pub zero_front : {b : Bool} (xs : List ℕ) (n : ℕ) → n ≤ length xs → (I
 zero_front {b} xs n l h = (
   (λ e. sumℕ_ext n _ _ (λ k m. sym (get_or-take n xs k 0 m) ∙ All-get_or (λ (x : ℕ). x ≡ 0) (take n xs) k 0 (omega (arith, length-take-le n xs l)) (h.0 e)) ∙ sumℕ_zero n),
   λ e.
-    let some : sumℕ n (λ (k : ℕ). get_or xs k 0) ≡ 0 → ⊥ =
-    λ z. clash b (h.1 (All-from_get_or (λ (x : ℕ). x ≡ 0) (take n xs) 0 (λ k m. omega (arith, length-take-le n xs l, get_or-take n xs k 0, sumℕ_at n (λ (k : ℕ). get_or xs k 0) k)))) e in
-    omega (arith, some),
+      let some : sumℕ n (λ (k : ℕ). get_or xs k 0) ≡ 0 → ⊥ =
+      λ z. clash b (h.1 (All-from_get_or (λ (x : ℕ). x ≡ 0) (take n xs) 0 (λ k m. omega (arith, length-take-le n xs l, get_or-take n xs k 0, sumℕ_at n (λ (k : ℕ). get_or xs k 0) k)))) e in
+      omega (arith, some),
 )
 
 pub largest_front : {A : Type 0} (g : A → ℕ) (d : A) (xs : List A) (n : ℕ) → n ≤ length xs → fold (λ (m : ℕ) (x : A). max m (g x)) 0 (take n xs) ≡ largest n (λ (k : ℕ). g (get_or xs k d))

@@ -39,6 +39,7 @@ fn ratio_of(row: usize, p: u64, g: u64) -> Ratio
 }
 
 // The row with the larger ratio; a where they are equal.
+#[tactic(auto, unfolding(crate::specs::Ratio::larger_ratio_of))]
 fn larger_ratio(a: Ratio, b: Ratio) -> Ratio
     requires { SmallTerms a × SmallTerms b }
     ensures { result ≡ larger_ratio_of a b }
@@ -55,7 +56,8 @@ fn larger_ratio(a: Ratio, b: Ratio) -> Ratio
     a
 }
 
-// A row where magnitudes / margins is largest, found by quotients and remainders.
+// A row where magnitudes / margins is largest, found by quotients and remainders. The row number is part of a ratio, so the loops here and by products
+// go by it: `zip`, `enumerate` and `skip` over two arrays are no plainer.
 fn largest_ratio_by_quotients(magnitudes: &[u64; 32], margins: &[u64; 32], n: usize) -> usize
     requires n_nonzero { (0 < n) × (n ≤ 32) }
     requires positive { Positive margins.now n }
@@ -123,7 +125,8 @@ fn bound_of(w: i64, p: u64, g: u64) -> u64
     ceil_div(magnitude(w) * p, g)
 }
 
-// The limits of a column by the row with the largest ratio.
+// The limits of a column by the row with the largest ratio. Arrays are filled by index, here and in `caps_of`: after a loop over `iter_mut().zip(..)` the
+// proof knows no number that was written (tried).
 pub fn ratio_bounds(
     magnitudes: &[u64; 32],
     margins: &[u64; 32],
@@ -170,7 +173,9 @@ fn largest_weight(weights: &[i64], n: usize) -> u64
     requires column_list { ColumnList weights.now n 1024 }
     ensures { result ≡ largest n (λ (i : ℕ). nat_abs (at weights.now i)) }
 {
-    weights[..n].iter().fold(0, |most, w| most.max(w.unsigned_abs()))
+    weights[..n]
+        .iter()
+        .fold(0u64, |most, w| most.max(w.unsigned_abs()))
 }
 
 // The caps of all rows: each margin divided by the largest weight.

@@ -28,12 +28,10 @@ fn fill_row(out: &mut [i64; 1024], to: usize, half: &[i64], from: usize, i: usiz
     requires to_value { (to ≡ i * n) × (from ≡ lower_place i 0) }
     ensures { out.new ≡ written out.old to 1 (λ (j : ℕ). at half.now (half_place i j)) n }
 {
-    let mut at_out = to;
-    let mut at_half = from;
+    let mut place = from;
     for j in 0..n {
-        out[at_out] = half[at_half];
-        at_out += 1;
-        at_half = next_place(at_half, i, j);
+        out[to + j] = half[place];
+        place = next_place(place, i, j);
     }
 }
 

@@ -41,24 +41,6 @@ pub fn defect_magnitudes(t: u32, matrix: &[i64], inverse: &[i64], n: usize) -> [
     out
 }
 
-// Term j of a sum, where d is number m of column j of |D|, by way of the place that was carried to it.
-fn weigh_at(
-    sum: u64,
-    magnitudes: &[u64; 1024],
-    n: usize,
-    m: usize,
-    place: usize,
-    w: u64,
-    j: usize,
-) -> u64
-    requires carried { Carried m n j place }
-    requires m_bound { (j * n + m < 1024) × (get_or magnitudes.now (j * n + m) 0 ≤ 2 ^ 46) }
-    requires sum_bound { (sum ≤ 2 ^ 62) × (w ≤ 1024) }
-    ensures { result ≡ sum + get_or magnitudes.now (j * n + m) 0 * w }
-{
-    sum + magnitudes[place] * w
-}
-
 // The sum over j of |D_mj|·w_j; the place is carried from column to column.
 fn load_of(magnitudes: &[u64; 1024], weights: &[u64; 32], n: usize, m: usize) -> u64
     requires n_bound { (n ≤ 32) × (m < n) }
@@ -67,8 +49,8 @@ fn load_of(magnitudes: &[u64; 1024], weights: &[u64; 32], n: usize, m: usize) ->
 {
     let mut sum: u64 = 0;
     let mut place = m;
-    for j in 0..n {
-        sum = weigh_at(sum, magnitudes, n, m, place, weights[j], j);
+    for &w in &weights[..n] {
+        sum += magnitudes[place] * w;
         place += n;
     }
     sum
@@ -92,8 +74,7 @@ fn cut(t: u32, w: u64, load: u64) -> u64
     requires { (t ≤ 20) × (w ≤ 1024) }
     ensures { result ≡ 2 ^ t * w - load }
 {
-    let full = power(t) * w;
-    if load < full { full - load } else { 0 }
+    (power(t) * w).saturating_sub(load)
 }
 
 // The margins of all rows.
@@ -133,13 +114,7 @@ fn largest_of(loads: &[u64; 32], n: usize) -> u64
 fn bits_of(u: u64) -> u32
     ensures { result ≡ bits u }
 {
-    let mut rest = u;
-    let mut count = 0;
-    while 1023 < rest {
-        rest /= 2;
-        count += 1;
-    }
-    count
+    u64::BITS - (u >> 10).leading_zeros()
 }
 
 // The list after one with these sums: each shifted right by one count of bits for all rows, plus 1.
