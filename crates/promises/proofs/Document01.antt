@@ -14,7 +14,7 @@ use Rattle.rules.specs.Range.{in_range, range_of, ranges}
 use Rattle.rules.specs.declared.Refusal.{Refusal}
 use Rattle.rules.proofs.Ranges.{neither_left, neither_right}
 use Rattle.entry.specs.Entry.{entry_value, entry_bound}
-use Rattle.entry.specs.Register.{RegisteredAs, entry_of}
+use Rattle.entry.specs.Register.{RegisteredAs, entry_with}
 use Rattle.entry.specs.declared.Entry.{Entry}
 use Rattle.entry.proofs.Limit.{entry_near}
 use Rattle.enclosure.specs.Problem.{Problem, S, column_of}
@@ -125,7 +125,7 @@ abbrev limit_of : Result Entry Refusal → ℕ → ℕ
 limit_of (Ok y) z = y.limit
 limit_of (Err r) z = z
 
-module _ (x : ℤ) (e s : ℕ) (v : ℤ) (b : ℕ) (r : RegisteredAs x e s (entry_of v b)) where
+module _ (x : ℤ) (e s : ℕ) (v : ℤ) (b : ℕ) (r : RegisteredAs x e s (entry_with v b)) where
   pub entered : v ≡ entry_value s x
   entered = ap (λ (k : Result Entry Refusal). value_of k v) (r.entry refl)
 

@@ -16,7 +16,7 @@ use Rattle.rules.specs.Range.{ranges, range_of, in_range, all_in_range}
 use Rattle.std.specs.Prelude.{Ok, Err}
 use Rattle.rules.specs.declared.Refusal.TheVariants.{TooShort, Missing}
 use Rattle.entry.specs.Entry.{entry_value, entry_bound}
-use Rattle.entry.specs.Register.{RegisteredAs, entry_of}
+use Rattle.entry.specs.Register.{RegisteredAs, entry_with}
 use Rattle.enclosure.specs.Reckoning.{defect, load, margin, margin_fails, residual, row_sum, exceeds, magnitudes_with, bound_from, bound_with, bound, inverse_bound}
 use Rattle.check_spec.specs.Cases.{single, skewed, tolerant, case_input}
 use Rattle.check_spec.specs.Checked.{Checked, solution_after, inverse_after}
@@ -187,7 +187,7 @@ not_listing_one_longer h =
     omega (arith, status)
 
 -- ---- 8 of 16 steps to a unit: the entry is 1
-half_way : RegisteredAs (pos 8) 0 4 (entry_of (entry_value 4 (pos 8)) (entry_bound 4 (pos 8) 0))
+half_way : RegisteredAs (pos 8) 0 4 (entry_with (entry_value 4 (pos 8)) (entry_bound 4 (pos 8) 0))
 unfolding in_range range_of ranges
 half_way = record { says = refl; entry = λ e. refl }
 

@@ -36,6 +36,7 @@ fn script_buffer() -> [u8; 262144]
 }
 
 // Reads until the buffer is full, the input ends or a read fails; gives how many bytes were read.
+// `program_input::fill` does not serve: it gives no count where a read fails, and what came before that is run here.
 fn read_full(input: &mut Stdin, buf: &mut [u8]) -> usize
     ensures { result ≤ length buf.new }
 {

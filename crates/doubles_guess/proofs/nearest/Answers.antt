@@ -10,9 +10,9 @@ use Rattle.doubles_guess.proofs.Steps.{magnitude_down, magnitude_none, magnitude
 use Rattle.doubles_guess.proofs.nearest.Goals as goal
 
 -- the magnitude, where it is small enough
-found : (q k s n : ℕ) → magnitude_for q k s ≡ n → (b : Bool) → leb n (2 ^ 36) ≡ b → MagnitudeFoundAs q k s (then_some b n)
-found q k s n e true h = record { found = sym (rw e h); steps = sym e }
-found q k s n e false h = record { found = sym (rw e h); steps = tt }
+magnitude_found : (q k s n : ℕ) → magnitude_for q k s ≡ n → (b : Bool) → leb n (2 ^ 36) ≡ b → MagnitudeFoundAs q k s (then_some b n)
+magnitude_found q k s n e true h = record { found = sym (rw e h); steps = sym e }
+magnitude_found q k s n e false h = record { found = sym (rw e h); steps = tt }
 
 -- halves counted up, as the magnitude in steps has them
 up : (h r : ℕ) → 2 * r ≡ h + h % 2 → (h + 1) / 2 ≡ r
@@ -27,10 +27,10 @@ returns-in_err-d c =
 pub returns-then-d-gt63 : goal.returns-then-d-gt63
 returns-then-d-gt63 c =
     let s = c.args in
-    found s.digits s.shift s.s 0 (magnitude_none s.digits s.shift s.s c.in_ok-d.d (omega (arith, c.in_ok-d.ensures)) c.requires.0.narrow (omega arith)) true refl
+    magnitude_found s.digits s.shift s.s 0 (magnitude_none s.digits s.shift s.s c.in_ok-d.d (omega (arith, c.in_ok-d.ensures)) c.requires.0.narrow (omega arith)) true refl
 
 pub returns : goal.returns
 returns c =
     let s = c.args in
     rw c.then_some.ensures
-    (found s.digits s.shift s.s c.half_up-steps.result (magnitude_down s.digits s.shift s.s c.in_ok-d.d (omega (arith, c.in_ok-d.ensures)) ∙ up _ _ c.half_up-steps.ensures) _ refl)
+    (magnitude_found s.digits s.shift s.s c.half_up-steps.result (magnitude_down s.digits s.shift s.s c.in_ok-d.d (omega (arith, c.in_ok-d.ensures)) ∙ up _ _ c.half_up-steps.ensures) _ refl)
