@@ -45,7 +45,7 @@ fn put_line(out: &mut [u8], at: usize, part: Part, i: usize, n: usize, c: Collec
     }
 }
 
-// The lines of a part, by rising i.
+// The lines of a part, by rising i. The part says which: a closure that writes into the buffer would need `form_line` in its contract at each of five calls.
 fn put_part(out: &mut [u8], at: usize, part: Part, n: usize, c: Collected) -> usize
     requires in_range { InRange (state_of c) }
     requires n_value { (n ≡ c.loader.n) × ((n ≤ 32) × (at + n * most_for part + line_room ≤ length out.old)) }
