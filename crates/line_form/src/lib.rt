@@ -1,5 +1,5 @@
 // The parts of a line at an index: a form's opening word, bytes, and a list of numbers. Each gives the index after it, past the end of
-// the line where it does not stand there.
+// the line where it does not stand there: `word_at`, `head_at` and `listed_at` of specs/ have it so, and what follows is read from there.
 #![tactic(auto)]
 
 ghost use Rattle.std.specs.Prelude.{◌≡◌, drop, set};
@@ -40,7 +40,8 @@ pub struct Head {
     pub next: usize,
 }
 
-// The numbers of a list: how many, whether all of them are in their range, and the first 32 of them.
+// The numbers of a list: how many, whether all of them are in their range, and the first 32 of them. `numbers_of` of specs/List.antt has these three, and
+// nothing is allocated.
 #[derive(Clone, Copy)]
 pub struct Numbers {
     pub count: usize,
@@ -137,6 +138,7 @@ fn put(values: &mut [i64], n: usize, v: i64)
 }
 
 // The numbers from an index on, single spaces between them, and the index after the last. Past the 32nd they are only counted and tested.
+// The count is a part of the answer, which a `for` would hold beside an index of its own.
 pub fn list_at(s: &[u8], at: usize, kind: Kind) -> Listed
     ensures { result ≡ listed_at kind s.now at }
 {

@@ -14,7 +14,8 @@ struct Magnitude {
     next: usize,
 }
 
-// A number, and the index after it.
+// A number, and the index after it. The index is past the end where no number stands: `number_at` of specs/Numeral.antt has it so, and what follows
+// is read from there.
 #[derive(Clone, Copy)]
 pub struct Number {
     pub value: i64,

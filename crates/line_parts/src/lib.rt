@@ -12,8 +12,8 @@ use line_form::{Head, Listed, Numbers, Word};
 use line_numeral::Number;
 use rules::{Kind, Refusal};
 
-// A form's numbers, ±2^40 where they are larger in absolute value; i comes first and is kept apart. The numbers of a row stand beside it. The third of a right side is
-// its tolerance, 0 where it has none.
+// A form's numbers, ±2^40 where they are larger in absolute value; i comes first and is kept apart. The numbers of a row stand beside it. The third
+// of a right side is its tolerance, 0 where it has none.
 #[derive(Clone, Copy)]
 pub enum CappedForm {
     Problem(i64),

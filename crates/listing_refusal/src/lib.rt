@@ -11,6 +11,7 @@ use listing_text::put_list;
 use rules::Refusal;
 
 // The answer in numbers: 01's number of a refusal, how many numbers stand in the inner brackets, and these; 0 where there is none.
+// `reply_of` of specs/Reply.antt has these four, which C is given.
 #[derive(Clone, Copy)]
 pub struct Reply {
     pub number: u32,

@@ -25,7 +25,8 @@ fn put_entry(out: &mut [u8], at: usize, i: u64, x: i64, e: u64, s: u32) -> usize
     put_pair(out, at, b"(entry ", i, value, bound)
 }
 
-// The three blocks of a report, a line for each row.
+// The three blocks of a report, a line for each row. An enum and no closure: `line_in` says of a block which line is written, and a closure that writes
+// into the buffer would need that contract at each of its three calls.
 #[derive(Clone, Copy)]
 pub enum Block {
     Solution,

@@ -134,7 +134,7 @@ fn put_item<T: Numeral>(out: &mut [u8], at: usize, j: usize, v: T) -> usize
     v.put(out, a)
 }
 
-// The n numbers from an index of a list on, single spaces between them.
+// The n numbers from an index of a list on, single spaces between them. j is also the place in the line, and the contract of `put_list` names start and n.
 fn put_numbers<T: Numeral>(out: &mut [u8], at: usize, values: &[T], start: usize, n: usize) -> usize
     requires room { (n ≤ 32) × ((start + n ≤ length values.now) × (at + n * 21 ≤ length out.old)) }
     requires fit { (j : ℕ) → j < n → T.Fits (slice_index_or values.now (start + j) T.zero) }

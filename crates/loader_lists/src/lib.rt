@@ -11,7 +11,7 @@ ghost use Rattle.loader_lists.specs.Pasted.{Rooms, pasted_all};
 use loader_values::{Item, Part};
 use rules::{COLUMN_LENGTH, MATRIX_LENGTH};
 
-// Places of a list, one after another.
+// Places of a list, one after another, as `span_of` of specs/Span.antt has them.
 #[derive(Clone, Copy)]
 pub struct Span {
     at: usize,
@@ -82,7 +82,7 @@ pub fn fill_weights(item: Item, given: u32, n: usize, weights: &mut [i64])
     }
 }
 
-// 8: whether a list of one of these lengths is too short.
+// 8: whether a list of one of these lengths is too short. The six lengths come one by one, as C lends the lists and `is_too_short` has them.
 pub fn is_short(
     matrix: usize,
     right: usize,
@@ -102,8 +102,8 @@ pub fn is_short(
 }
 
 // Writes the numbers of an accepted form at their own indices: they come first among the values, n of them in a row, else one, and a right side's tolerance is
-// the second, which goes into a list of its own. An end fills in the
-// weights whose indices are not in the set of those given.
+// the second, which goes into a list of its own. An end fills in the weights whose indices are not in the set of
+// those given. The six lists come one by one, as C lends them.
 pub fn write_all(
     item: Item,
     values: [i64; 32],

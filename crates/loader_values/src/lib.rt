@@ -28,6 +28,7 @@ pub enum Item {
     End,
 }
 
+// Its numbers but i are left out, so it is no `From`.
 pub fn item_of(form: CappedForm) -> Item
     ensures { result ≡ item_in form }
 {

@@ -33,7 +33,7 @@ returns-in-Row c =
     let s = (goal.at.returns-in-Row c).Start in
     let e = s.requires.n_value.0 in
     let l = inside (goal.at.returns-in-Row c).Start in
-    line_of s.args.c s.requires.in_range s.args.i l Row c.in-Row.is (row_text_lem s.args.c s.requires.in_range s.args.i) (rw e at c.put_row.ensures)
+    line_of s.args.c s.requires.in_range s.args.i l Row c.in-Row.is (row_text_lem s.args.c s.requires.in_range s.args.i) (rw e at c.put_list.ensures)
 
 pub returns-in-Right : goal.returns-in-Right
 returns-in-Right c =
@@ -57,7 +57,7 @@ returns-in-Inverse c =
     let s = (goal.at.returns-in-Inverse c).Start in
     let e = s.requires.n_value.0 in
     let l = inside (goal.at.returns-in-Inverse c).Start in
-    line_of s.args.c s.requires.in_range s.args.i l Inverse status.in-Inverse.is (inverse_text s.args.c s.requires.in_range s.args.i) (rw e at c.put_row-in-Inverse.ensures)
+    line_of s.args.c s.requires.in_range s.args.i l Inverse status.in-Inverse.is (inverse_text s.args.c s.requires.in_range s.args.i) (rw e at c.put_list-in-Inverse.ensures)
 
 pub returns-in-Weight : goal.returns-in-Weight
 returns-in-Weight c =
@@ -67,8 +67,12 @@ returns-in-Weight c =
     let h = weight_small s.args.c s.requires.in_range s.args.i l in
     line_of s.args.c s.requires.in_range s.args.i l Weight status.in-Weight.is (weight_text s.args.c s.requires.in_range s.args.i l) (rw (small_read _ h) at c.put_value-in-Weight.ensures)
 
-pub put_row-requires-clause-small_from : goal.put_row-requires-clause-small_from
-put_row-requires-clause-small_from c = let s = (goal.at.put_row-requires-clause-small_from c).Start in let e = s.requires.n_value.0 in let n_max = s.requires.n_value.1.0 in rw e (matrix_small s.args.c s.requires.in_range s.args.i (inside (goal.at.put_row-requires-clause-small_from c).Start))
+pub put_list-requires-clause-fit : goal.put_list-requires-clause-fit
+put_list-requires-clause-fit c =
+    let s = (goal.at.put_list-requires-clause-fit c).Start in
+    rw s.requires.n_value.0 (matrix_small s.args.c s.requires.in_range s.args.i (inside s))
 
-pub put_row-requires-in-Inverse-clause-small_from : goal.put_row-requires-in-Inverse-clause-small_from
-put_row-requires-in-Inverse-clause-small_from c = let s = (goal.at.put_row-requires-in-Inverse-clause-small_from c).Start in let e = s.requires.n_value.0 in let n_max = s.requires.n_value.1.0 in rw e (inverse_small s.args.c s.requires.in_range s.args.i (inside (goal.at.put_row-requires-in-Inverse-clause-small_from c).Start))
+pub put_list-requires-in-Inverse-clause-fit : goal.put_list-requires-in-Inverse-clause-fit
+put_list-requires-in-Inverse-clause-fit c =
+    let s = (goal.at.put_list-requires-in-Inverse-clause-fit c).Start in
+    rw s.requires.n_value.0 (inverse_small s.args.c s.requires.in_range s.args.i (inside s))
