@@ -53,7 +53,7 @@ unfolding opening_progress no_lines
 begun n k short d = record {
   size = refl;
   done = d;
-  long = length-replicate {A = ℕ} 1280 0;
+  long = length-replicate {A = Observation} 256 no_observation;
   count_max = omega arith;
   lines = refl;
   among = λ p b. absurd (omega arith);
