@@ -19,7 +19,7 @@ use Rattle.build_lines.specs.Line.{no_observation}
 use Rattle.build_lines.specs.Order.{build_code, observations_say}
 use Rattle.build_lines.specs.Refused.{refused_from}
 use Rattle.build_lines.specs.Distinct.{distinct_after, total}
-use Rattle.build_gathering.specs.Gathered.{saying, counted, refused_as, is_refused, taken, added, when_done, line_number_of, gathered, few, kept_at, kept_sum}
+use Rattle.build_gathering.specs.Gathered.{saying, counted, refused_as, is_refused, taken, added, when_done, line_number_of, gathered, kept_at, kept_sum}
 use Rattle.build_lines.specs.Stated.{Passes}
 use Rattle.build_lines.proofs.Repeat.{share, first}
 use Rattle.build_gathering.proofs.Follows.{Follows, LineStep, refused, passed}

@@ -1,7 +1,7 @@
 -- What is gathered of a whole list, from `opened`, over the lines that are looked at.
 --   gathered_of n ls short — the lines ls gathered, short being whether a lent list is too short;  Whole, whole — what is said, and of which line; where nothing is, that
 --   no list is too short, the kept lines are sound, and their sums are those of the distinct lines
---   gathered_none, gathered_next, gathered_end, few_below — for the loop over the lines
+--   gathered_none, gathered_next, gathered_end, few_within — for the loop over the lines
 use mathlib.Core.Path.{◌≡◌, refl, sym, ap, subst, ◌∙◌}
 use mathlib.Core.Bool.{Bool, true, false, not, cond, ◌&&◌}
 use mathlib.Core.List.{List, [], ◌∷◌}
@@ -53,7 +53,7 @@ unfolding opening_progress no_lines
 begun n k short d = record {
   size = refl;
   done = d;
-  long = length-replicate {A = ℕ} 1280 0;
+  long = length-replicate {A = Observation} 256 no_observation;
   count_max = omega arith;
   lines = refl;
   among = λ p b. absurd (omega arith);
@@ -182,11 +182,11 @@ module _ (g : Gathered) (ls : List Observation) where
   pub gathered_end : {i n : ℕ} → i ≤ n → n ≤ i → gathered g ls i ≡ gathered g ls n
   gathered_end p q = ap (gathered g ls) (le_antisymm p q)
 
-pub few_below : (t : Built) (n : ℕ) {i : ℕ} → i < few t n → i < n
+pub few_within : (t : Built) (n : ℕ) → few t n ≤ n
 unfolding few
-few_below t n h = go (is_refused t) (leb n 256) h
+few_within t n = go (is_refused t) (leb n 256)
   where
-    go : {i : ℕ} (r b : Bool) → i < cond r 0 (cond b n 0) → i < n
-    go true b h = absurd (omega arith)
-    go false true h = h
-    go false false h = absurd (omega arith)
+    go : (r b : Bool) → cond r 0 (cond b n 0) ≤ n
+    go true b = omega arith
+    go false true = omega arith
+    go false false = omega arith

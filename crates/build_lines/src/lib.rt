@@ -9,7 +9,7 @@ use rules::{Kind, Refusal, is_in_range, is_natural_in_range};
 
 // A field line: its key, the two marks, the difference in whole units and the weight. Its layout is C's.
 #[repr(C)]
-#[derive(Clone, Copy)]
+#[derive(Clone, Copy, PartialEq, Eq)]
 pub struct Observation {
     pub key: u32,
     pub from: u32,
@@ -41,7 +41,7 @@ impl From<Refusal> for BuildRefusal {
 fn is_mark(k: u32, n: u32) -> bool
     ensures { result ≡ is_mark n k }
 {
-    is_natural_in_range(Kind::Mark, k) & (k <= n)
+    is_natural_in_range(Kind::Mark, k) && k <= n
 }
 
 // 3: whether a number of the line is outside its range.
@@ -49,16 +49,15 @@ pub fn is_outside_range(l: Observation, n: u32) -> bool
     ensures { result ≡ outside_range n l }
 {
     !(is_natural_in_range(Kind::Key, l.key)
-        & (is_mark(l.from, n)
-            & (is_mark(l.to, n)
-                & (is_in_range(Kind::Difference, l.difference)
-                    & is_natural_in_range(Kind::LineWeight, l.weight)))))
+        && is_mark(l.from, n)
+        && is_mark(l.to, n)
+        && is_in_range(Kind::Difference, l.difference)
+        && is_natural_in_range(Kind::LineWeight, l.weight))
 }
 
 // Whether two lines have the same contents.
 pub fn has_contents(a: Observation, b: Observation) -> bool
     ensures { result ≡ same_contents a b }
 {
-    (a.from == b.from)
-        & ((a.to == b.to) & ((a.difference == b.difference) & (a.weight == b.weight)))
+    Observation { key: b.key, ..a } == b
 }
