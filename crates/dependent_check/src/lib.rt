@@ -46,48 +46,35 @@ pub fn check_dependent(
         coupling.now)
         result solution_bounds1.new inverse_bounds1.new solution_bounds2.new inverse_bounds2.new }
 {
-    if solution_bounds1.len() < COLUMN_LENGTH {
+    if solution_bounds1.len() < COLUMN_LENGTH || inverse_bounds1.len() < MATRIX_LENGTH {
         return Err(NetsRefusal::Main(Refusal::TooShort));
     }
-    if inverse_bounds1.len() < MATRIX_LENGTH {
-        return Err(NetsRefusal::Main(Refusal::TooShort));
-    }
-    let held = check_held(
+    let main = check_held(
         n1, s1, t1, matrix1, right1, tolerance1, guess1, inverse1, weights1,
     );
-    let main = held.outcome;
-    match main {
-        Err(refusal) => Err(NetsRefusal::Main(refusal)),
-        Ok(()) => {
-            let marks = n1 as usize;
-            let limits = held.solution;
-            let own = check_dependent_net(
-                marks,
-                s1,
-                guess1,
-                limits,
-                n2,
-                s2,
-                t2,
-                matrix2,
-                coupling,
-                right2,
-                tolerance2,
-                guess2,
-                inverse2,
-                weights2,
-                solution_bounds2,
-                inverse_bounds2,
-            );
-            match own {
-                Err(refusal) => Err(NetsRefusal::Dependent(refusal)),
-                Ok(()) => {
-                    let inverse_limits = held.inverse;
-                    copy_limits(solution_bounds1, &limits, marks);
-                    copy_limits(inverse_bounds1, &inverse_limits, marks * marks);
-                    Ok(())
-                }
-            }
-        }
-    }
+    main.outcome.map_err(NetsRefusal::Main)?;
+    let marks = n1 as usize;
+    let limits = main.solution;
+    check_dependent_net(
+        marks,
+        s1,
+        guess1,
+        limits,
+        n2,
+        s2,
+        t2,
+        matrix2,
+        coupling,
+        right2,
+        tolerance2,
+        guess2,
+        inverse2,
+        weights2,
+        solution_bounds2,
+        inverse_bounds2,
+    )
+    .map_err(NetsRefusal::Dependent)?;
+    copy_limits(solution_bounds1, &limits, marks);
+    copy_limits(inverse_bounds1, &main.inverse, marks * marks);
+    Ok(())
 }
