@@ -12,7 +12,7 @@ use Rattle.rules.specs.Refusal.{Outcome}
 use Rattle.std.specs.Prelude.{Ok, Err}
 use Rattle.rules.specs.declared.Refusal.{Refusal}
 use Rattle.rules.proofs.Verdicts.{accepted_old}
-use Rattle.loader_lists.specs.Lists.{Lists, lists}
+use Rattle.loader_lists.specs.Lists.{Lists}
 use Rattle.loader.specs.declared.Loader.{Loader}
 use Rattle.loader.specs.declared.Taken.{Taken}
 use Rattle.loader.specs.Answer.{line_answer}
@@ -23,7 +23,6 @@ use Rattle.loader_runs.specs.Read.{Reading, read_from, zeros}
 use Rattle.loader_runs.specs.Run.{state_with, from_new}
 use Rattle.loader_runs.proofs.Lines.{lines_at, lines_end}
 use Rattle.loader_runs.proofs.Read.{read_none, read_accepted, read_refused}
-use Rattle.file.specs.declared.Collected.{Collected}
 use Rattle.file.specs.declared.LinesTaken.{LinesTaken}
 use Rattle.file.specs.Read.{LinesTakenAs, ReadAs}
 

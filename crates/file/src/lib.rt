@@ -16,8 +16,8 @@ fn has_feed(file: &[u8], at: usize) -> bool
     ensures { FeedWithin file.now at 16 result }
 {
     let mut found = false;
-    for j in 0..16 {
-        found = found | (file[at + j] == 10);
+    for &byte in &file[at..at + 16] {
+        found |= byte == b'\n';
     }
     found
 }
@@ -37,19 +37,23 @@ fn skip_blocks(file: &[u8], at: usize) -> usize
     i
 }
 
+// How many bytes stand before the first line feed, or before the end.
+fn first_feed(bytes: &[u8]) -> usize
+    ensures { (result ≡ line_length bytes.now) × (result ≤ length bytes.now) }
+{
+    bytes
+        .iter()
+        .position(|&byte| byte == b'\n')
+        .unwrap_or(bytes.len())
+}
+
 // The index of the first line feed from an index on, or the end of the file.
 fn line_end(file: &[u8], at: usize) -> usize
     requires { at ≤ length file.now }
     ensures { (result ≡ at + line_length (drop at file.now)) × (result ≤ length file.now) }
 {
-    let mut i = skip_blocks(file, at);
-    while i < file.len() {
-        if file[i] == 10 {
-            return i;
-        }
-        i += 1;
-    }
-    i
+    let near = skip_blocks(file, at);
+    near + first_feed(&file[near..])
 }
 
 // What taking a file's lines gives back: the first refusal and the number of its line, from 1, or acceptance of all lines; and the loader then.
@@ -92,19 +96,14 @@ pub fn take_lines(
             weights,
         );
         line += 1;
-        let outcome = taken.outcome;
-        match outcome {
-            Err(refusal) => {
-                return LinesTaken {
-                    outcome: Err(refusal),
-                    line,
-                    loader,
-                };
-            }
-            Ok(()) => {}
+        if let Err(refusal) = taken.outcome {
+            return LinesTaken {
+                outcome: Err(refusal),
+                line,
+                loader,
+            };
         }
-        let next = taken.loader;
-        loader = next;
+        loader = taken.loader;
         at = end + 1;
     }
     LinesTaken {
@@ -147,12 +146,10 @@ pub fn read_file(file: &[u8]) -> Collected
         &mut inverse,
         &mut weights,
     );
-    let outcome = taken.outcome;
-    let loader = taken.loader;
     Collected {
-        outcome,
+        outcome: taken.outcome,
         line: taken.line,
-        loader,
+        loader: taken.loader,
         matrix,
         right,
         tolerance,

@@ -30,7 +30,7 @@ pub fn put_checked(
 {
     let mut solution_bounds = [0u64; 32];
     let mut inverse_bounds = [0u64; 1024];
-    let outcome = loader.check(
+    match loader.check(
         matrix,
         right,
         tolerance,
@@ -39,8 +39,7 @@ pub fn put_checked(
         weights,
         &mut solution_bounds,
         &mut inverse_bounds,
-    );
-    match outcome {
+    ) {
         Err(refusal) => put_refusal(out, refusal, 0),
         Ok(()) => {
             let n = loader.size() as usize;

@@ -27,15 +27,18 @@ pub fn answer_file(file: &[u8], out: &mut [u8; 32768]) -> FileAnswer
         &mut inverse,
         &mut weights,
     );
-    let outcome = taken.outcome;
-    match outcome {
+    match taken.outcome {
         Err(refusal) => put_refusal(out, refusal, taken.line),
-        Ok(()) => {
-            let loader = taken.loader;
-            put_checked(
-                out, loader, &matrix, &right, &tolerance, &guess, &inverse, &weights,
-            )
-        }
+        Ok(()) => put_checked(
+            out,
+            taken.loader,
+            &matrix,
+            &right,
+            &tolerance,
+            &guess,
+            &inverse,
+            &weights,
+        ),
     }
 }
 
@@ -43,6 +46,5 @@ pub fn answer_file(file: &[u8], out: &mut [u8; 32768]) -> FileAnswer
 pub fn listing(file: &[u8], out: &mut [u8; 32768]) -> usize
     ensures { ListedAs file.now out.old out.new result }
 {
-    let answer = answer_file(file, out);
-    answer.length
+    answer_file(file, out).length
 }

@@ -1,29 +1,23 @@
 -- Laws of a form as the code has it, from what is said of it to what it leaves.
 --   fits_of — where nothing is said its numbers are in their ranges;  narrow_by — and there is room for them
---   decided_refused, decided_accepted — what the code decides
 use mathlib.Core.Path.{◌≡◌, refl, sym, ap, ◌∙◌}
 use mathlib.Core.Bool.{Bool, true, false}
-use mathlib.Core.List.{List, [], ◌∷◌}
 use Prim.Native.Nat.{ℕ}
 use borrow.Author.Tests.{not-false}
-use lib.IntN.{ℤ}
-use Rattle.rules.specs.Refusal.{code, number_of, values_of}
+use Rattle.rules.specs.Refusal.{code}
 use Rattle.rules.specs.Refusal.{Outcome}
-use Rattle.std.specs.Prelude.{Ok, Err}
-use Rattle.rules.specs.declared.Refusal.{Refusal}
+use Rattle.std.specs.Prelude.{Ok}
 use Rattle.line_parts.specs.declared.CappedForm.{CappedForm}
 use Rattle.line_parts.specs.declared.CappedForm.TheVariants as form
-use Rattle.line_form.specs.declared.Numbers.{Numbers}
 use Rattle.loader_values.specs.Item.{placed}
-use Rattle.loader_values.specs.Capped.{item_in, outside_in, values_in}
+use Rattle.loader_values.specs.Capped.{item_in, outside_in}
 use Rattle.loader_values.specs.declared.Item.{Item}
 use Rattle.loader_values.specs.declared.Item.TheVariants.{Problem, Scale, Of, End}
 use Rattle.loader.specs.declared.Loader.{Loader}
 use Rattle.loader_lists.specs.Span.{Narrow}
 use Rattle.loader_progress.specs.Progress.{early, misplaced}
 use Rattle.loader_order.proofs.CodeLaws.{Passed, passed}
-use Rattle.loader.specs.Taken.{after}
-use Rattle.loader.specs.Decided.{case_in, code_in, fits, nothing, DecidedIn}
+use Rattle.loader.specs.Decided.{case_in, code_in, fits}
 use Rattle.loader_progress.proofs.Progress.{placed_32, size_of, late}
 
 -- ---- a form of which nothing is said
@@ -50,15 +44,3 @@ module _ (d : Loader) (m : CappedForm) (count : ℕ) (inside : Bool) {x : Item} 
 
   pub fits_of : fits x ≡ true
   fits_of = rw e (fits_by m inside (placed_32 d.stage d.n (item_in m) holds.early holds.misplaced) holds.outside)
-
--- ---- what the code decides
-module _ (d : Loader) (m : CappedForm) (z : Numbers) {o : Outcome} {x : Item} {vs : List ℤ} (s : code o ≡ code_in d m z.count z.inside) (p : x ≡ item_in m) (q : vs ≡ values_in m z.values) where
-  pub decided_refused : {r : Refusal} → o ≡ Err r → DecidedIn d m z (record { taken = record { loader = d; outcome = Err r }; item = nothing; values = vs })
-  decided_refused {r} e =
-      let t : number_of r ∷ values_of r ≡ code_in d m z.count z.inside = ap code (sym e) ∙ s in
-      record { says = t; loader = rw (← t); item = rw (← t); values = q }
-
-  pub decided_accepted : {d' : Loader} → o ≡ Ok tt → d' ≡ after d x → DecidedIn d m z (record { taken = record { loader = d'; outcome = (Ok tt) }; item = x; values = vs })
-  decided_accepted e f =
-      let t : [] ≡ code_in d m z.count z.inside = ap code (sym e) ∙ s in
-      record { says = t; loader = rw (← t, ← p) f; item = rw (← t) p; values = q }
