@@ -6,10 +6,12 @@ ghost use Rattle.doubles_guess.specs.Units.{signed_by};
 ghost use Rattle.doubles_guess.specs.Decoded.{Decoded, Normal};
 ghost use Rattle.doubles_guess.specs.Guess.{MagnitudeFoundAs, GuessFoundAs};
 
-// The sign's bit, and the one in front of the digits that a double keeps.
+// The bit of the sign.
 pub const SIGN: u64 = 1 << 63;
 
+// The one in front of the digits that a double keeps.
 pub const LEADING: u64 = 1 << 52;
+
 // The field of an exponent that no number has.
 const NO_NUMBER: u64 = 2047;
 // The greatest guess.
