@@ -40,7 +40,12 @@ pub fn begin(n: u32, lines: usize, layout: Layout, matrix: usize, right: usize) 
 }
 
 // The equations written, where nothing is said.
-pub fn finish(g: Gathered, layout: Layout, matrix: &mut [i64], right: &mut [i64]) -> Result<(), BuildRefusal>
+pub fn finish(
+    g: Gathered,
+    layout: Layout,
+    matrix: &mut [i64],
+    right: &mut [i64],
+) -> Result<(), BuildRefusal>
     requires { ReadyFor g layout matrix.old right.old }
     ensures { Finished g layout matrix.old right.old result matrix.new right.new }
 {

@@ -25,7 +25,7 @@ use Rattle.build_lines.specs.declared.Observation.{Observation}
 use Rattle.build_lines.specs.Distinct.{when, touches, weight_at, gain}
 use Rattle.build_gathering.specs.Gathered.{Proper}
 use Rattle.build_equations.specs.declared.Row.{Row}
-use Rattle.build_equations.specs.Kept.{Grown, SmallRow}
+use Rattle.build_equations.specs.Kept.{Grown}
 
 -- ---- machine numbers
 module _ {a b x y : ℤ} (p : x ≡ a) (q : y ≡ b) (h : nat_abs a ≤ 2 ^ 31) (k : nat_abs b ≤ 2 ^ 31) where

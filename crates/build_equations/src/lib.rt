@@ -103,7 +103,7 @@ fn width_of(layout: Layout, n: usize, i: usize) -> usize
     }
 }
 
-// Writes the equations of the kept lines, row after row.
+// Writes the equations of the kept lines, row after row. The loop counts i because a row is that of mark i + 1 and its width depends on i.
 pub fn write_equations(g: Gathered, layout: Layout, matrix: &mut [i64], right: &mut [i64])
     requires ready { Ready g }
     requires n_in_bounds { (sumℕ g.progress.n (width_of layout g.progress.n) ≤ length matrix.old) × (g.progress.n ≤ length right.old) }

@@ -70,7 +70,7 @@ fn spreads_of(t: u32, weights: &[i64], margins: &[u64; 32], n: usize) -> [u64; 3
     out
 }
 
-// The lowest row where spreads / margins is largest.
+// The lowest row where spreads / margins is largest. What is sought is an index of both lists, so the loop counts one: a fold over the indices is no plainer.
 fn peak_of(spreads: &[u64; 32], margins: &[u64; 32], n: usize) -> usize
     requires n_nonzero { (0 < n) × (n ≤ 32) }
     requires by_index { (m : ℕ) → m < n → get_or spreads.now m 0 ≤ 2 ^ 31 }

@@ -1,4 +1,5 @@
-// Whether the numbers of an inquiry can be used: 3.
+// Whether the numbers of an inquiry can be used: 3. The tests of weights_search are of other kinds and lists; one function over a list of kinds and numbers is
+// no plainer, since every kind and number is named there just the same.
 ghost use Rattle.std.specs.Prelude.{◌≡◌, ◌≤◌, length};
 ghost use Rattle.quality_spec.specs.Inquiry.{inquiry_sizes, inquiry_lists};
 

@@ -1,4 +1,5 @@
-// Whether the numbers of a request can be used: 3.
+// Whether the numbers of a request can be used: 3. The tests of quality are of other kinds and lists; one function over a list of kinds and numbers is no
+// plainer, since every kind and number is named there just the same.
 ghost use Rattle.std.specs.Prelude.{◌≡◌, ◌≤◌, length};
 ghost use Rattle.weights_spec.specs.Request.{search_sizes, search_lists};
 

@@ -9,7 +9,6 @@ use Rattle.build_equations.proofs.Terms.{same_row}
 use Rattle.build_equations.specs.Kept.{Grown}
 use mathlib.Core.Path.{◌≡◌, sym, subst, ◌∙◌}
 use Prim.Native.Nat.{◌<◌}
-use Rattle.std.proofs.Common.{rules}
 use Rattle.build_equations.proofs.row_of.Goals as goal
 use Rattle.build_equations.proofs.row_of.Goals.{then-is_at, else-is_at, In-loop-l}
 
@@ -30,11 +29,11 @@ loop-l-preserved c =
     let i = c.loop-l in
     let l = get_or (take c.args.count c.args.seen.now) i.l-index no_observation in
     row_next c.args.seen.now c.args.k i.l-index i.invariant
-        (subst (λ (z : Observation). Grown c.args.k z i.row c.if-is_at.row) (line t)
-        (elim c.if-is_at.branch [
-          | then-is_at w ↦ subst (Grown c.args.k l i.row) (sym w.row-is) w.grow-row.ensures
-          | else-is_at w ↦ subst (Grown c.args.k l i.row) (sym w.row-is) (same_row c.args.k l (sym c.is_at.ensures ∙ w.if-is_at.false) i.row i.invariant.long)
-        ]))
+    (subst (λ (z : Observation). Grown c.args.k z i.row c.if-is_at.row) (line t)
+    (elim c.if-is_at.branch [
+      | then-is_at w ↦ subst (Grown c.args.k l i.row) (sym w.row-is) w.grow-row.ensures
+      | else-is_at w ↦ subst (Grown c.args.k l i.row) (sym w.row-is) (same_row c.args.k l (sym c.is_at.ensures ∙ w.if-is_at.false) i.row i.invariant.long)
+    ]))
 
 pub grow-row-requires-clause-k_bound : goal.grow-row-requires-clause-k_bound
 grow-row-requires-clause-k_bound c =

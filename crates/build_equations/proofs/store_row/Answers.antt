@@ -1,9 +1,9 @@
 use mathlib.Core.Path.{◌≡◌, refl, sym, ap, ◌∙◌}
 use mathlib.Core.List.{List}
-use Prim.Native.Nat.{ℕ, zero, suc, ◌+◌, ◌*◌, ◌≤◌, ◌<◌}
+use Prim.Native.Nat.{ℕ, zero, suc, ◌+◌, ◌*◌, ◌≤◌}
 use native.Mathlib.Omega.{arith}
 use lib.IntN.{ℤ, pos}
-use lib.ListN.{length, get_or}
+use lib.ListN.{length}
 use lib.Seq.{paste, paste-zero, paste-suc}
 use Rattle.std.proofs.lemmas.Slice.{put_mid-paste}
 use Rattle.std.proofs.lemmas.List.Edits.{get_or-between, length-between}
@@ -28,4 +28,4 @@ returns c =
     put_mid-paste c.args.start _ c.args.dst.now s.new.self s.new.self c.args.width refl (omega arith) long
     ∙ pasted c.args.dst.now s.new.self c.args.start c.args.width c.requires.1 (omega (arith, long))
     ∙ written_ext c.args.dst.now c.args.start 1 (at s.new.self) (λ (j : ℕ). at c.args.sums.now (j + 1)) c.args.width
-        (λ j l. let e : 1 + j ≡ j + 1 = omega arith in rw same (get_or-between c.args.sums.now 1 (c.args.width + 1) j (pos 0) (omega (arith, l)) ∙ ap (at c.args.sums.now) e))
+    (λ j l. let e : 1 + j ≡ j + 1 = omega arith in rw same (get_or-between c.args.sums.now 1 (c.args.width + 1) j (pos 0) (omega (arith, l)) ∙ ap (at c.args.sums.now) e))

@@ -4,9 +4,7 @@ use mir.Syntax.{w64}
 use Rattle.build_equations.proofs.Places.{rows_none, row_start, row_room, row_length, row_written}
 use Rattle.build_equations.proofs.Rows.{row_matrix, row_right}
 use Rattle.build_equations.specs.Kept.{kept_matrix}
-use Rattle.build_equations.specs.Written.{width_of}
 use Rattle.integer.proofs.Sum.{sumℕ_none}
-use Rattle.integer.specs.Finite.{sumℕ}
 use Rattle.linear.proofs.Written.{written_none, written_more}
 use lib.ListN.{length, length-set}
 use native.Mathlib.Omega.{arith}
