@@ -103,6 +103,12 @@ fn width_of(layout: Layout, n: usize, i: usize) -> usize
     }
 }
 
+fn count_of(n: u32) -> usize
+    ensures { result ≡ n }
+{
+    n as usize
+}
+
 // Writes the equations of the kept lines, row after row. The loop counts i because a row is that of mark i + 1 and its width depends on i.
 pub fn write_equations(g: Gathered, layout: Layout, matrix: &mut [i64], right: &mut [i64])
     requires ready { Ready g }
@@ -110,7 +116,7 @@ pub fn write_equations(g: Gathered, layout: Layout, matrix: &mut [i64], right: &
     ensures { (matrix.new ≡ matrix_written layout g.progress.n (kept_matrix g) matrix.old)
         × (right.new ≡ right_written g.progress.n (kept_right g) right.old) }
 {
-    let n = g.progress.n as usize;
+    let n = count_of(g.progress.n);
     let mut start = 0;
     for i in 0..n {
         let row = row_of(&g.seen, g.progress.count, (i + 1) as u32);
