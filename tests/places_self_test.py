@@ -59,7 +59,7 @@ MUTANTS_HERE = {
     "a row of p": ("check_bounds/src/lib.rt", "out[m] = magnitude(row_dot(rows, m, row, residuals, 0, 0, n))", "out[m] = magnitude(row_dot(rows, m, m * (n + 1), residuals, 0, 0, n))"),
     "a magnitude across the columns": ("check_inverse_bounds/src/lib.rt", "        across += n;", "        across = (m + 1) * n + j;"),
     "a term of the search's sums": ("weights_steps/src/lib.rt", "        place += n;", "        place = (j + 1) * n + m;"),
-    "a term handed on in the search": ("weights_steps/src/lib.rt", "weigh_at(sum, magnitudes, n, m, place, weights[j], j)", "weigh_at(sum, magnitudes, n, m, j * n + m, weights[j], j)"),
+    "a term handed on in the search": ("weights_steps/src/lib.rt", "sum += magnitudes[place] * w;", "sum += magnitudes[j * n + m] * w;"),
     "a row that is filled out": ("half_fill/src/lib.rt", "        to += n;", "        to = (i + 1) * n;"),
     "a row of the equations": ("build_equations/src/lib.rt", "store_row(sums, width, matrix, start)", "store_row(sums, width, matrix, i * n)"),
     "where a limit is written": ("check_bounds/src/lib.rt", "        dst[place] = column[i];", "        dst[start + i * stride] = column[i];"),

@@ -82,7 +82,8 @@ fn margin_of(
     full.saturating_sub(sum)
 }
 
-// The margins of all rows, from D, row after row.
+// The margins of all rows, from D, row after row. The start of a row is carried beside its number (docs/PROMISES.md: "the start of a row is carried from
+// row to row"), so the loop goes by number; `chunks_exact` has no chunks for n = 0.
 fn margins_from(out: &mut [u64; 32], t: u32, defects: &[i64], weights: &[i64], n: usize)
     requires t_bound { (t ≤ 20) × ((n ≤ 32) × (length out.old ≡ 32)) }
     requires column_list { ColumnList defects.now (n * n) (2 ^ 46) }
@@ -125,7 +126,7 @@ pub fn margins_of(
     margins_from(out, t, &defects_of(t, matrix, inverse, n), weights, n);
 }
 
-// The first margin that is 0; n where there is none.
+// The first margin that is 0; n where there is none: the number that `judge` of check_ranges takes.
 pub fn first_zero(margins: &[u64; 32], n: usize) -> usize
     requires { n ≤ 32 }
     ensures { result ≡ first n (λ (m : ℕ). eqb (get_or margins.now m 0) 0) }

@@ -45,7 +45,8 @@ fn difference(base: i64, a: &[i64], k: usize, p: usize, x: &[i64], n: usize) -> 
     base - dot(a, p, 1, x, 0, 1, n)
 }
 
-// The residuals of a guess: a base less A·X.
+// The residuals of a guess: a base less A·X. Arrays are filled by index, here and in `scaled_right`: after a loop over `iter_mut().zip(..)` the proof knows
+// no number that was written (tried in check_ratios).
 pub fn residuals_of(out: &mut [i64; 32], base: &[i64; 32], matrix: &[i64], guess: &[i64], n: usize)
     requires n_bound { (n ≤ 32) × (length out.old ≡ 32) }
     requires column_list { ColumnList base.now n (2 ^ 62) }
@@ -85,7 +86,8 @@ fn position_above(column: &[i64], allowed: &[i64; 32]) -> Option<usize>
     None
 }
 
-// The first of n residuals from an index on that is above what its row allows; n where there is none.
+// The first of n residuals from an index on that is above what its row allows; n where there is none: the number that `judge` of check_ranges takes, as
+// it takes n·n from `first_above_in_columns`.
 pub fn first_above(residuals: &[i64], start: usize, allowed: &[i64; 32], n: usize) -> usize
     requires n_bound { (n ≤ 32) × ((start + n ≤ length residuals.now) × (start ≤ 1024)) }
     requires column_list { ColumnList allowed.now n allowed_residual }

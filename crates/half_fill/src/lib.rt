@@ -22,7 +22,8 @@ fn next_place(place: usize, i: usize, j: usize) -> usize
     place + (j + 1)
 }
 
-// Writes row i from index `to` on; its first number is at index `from` of the half.
+// Writes row i from index `to` on; its first number is at index `from` of the half. The loop goes by column, which `next_place` takes, as that of `fill_rows`
+// goes by row: `iter_mut().enumerate()` over the part of `out` is no plainer.
 fn fill_row(out: &mut [i64; 1024], to: usize, half: &[i64], from: usize, i: usize, n: usize)
     requires n_bound { (n ≤ 32) × ((i < n) × (528 ≤ length half.now)) }
     requires to_value { (to ≡ i * n) × (from ≡ lower_place i 0) }

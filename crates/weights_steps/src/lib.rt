@@ -14,7 +14,7 @@ ghost use Rattle.weights_steps.specs.Steps.{Below, stored_load, stored_margin, s
 use check_biased_rows::{ROWS_LENGTH, bias_rows};
 use check_defects::inverse_residuals_of;
 use check_margins::first_zero;
-use integer::power;
+use integer::{magnitude, power};
 use rules::{COLUMN_LENGTH, MATRIX_LENGTH};
 
 // 8: whether a matrix list, an inverse or a weight list of these lengths is too short.
@@ -25,6 +25,7 @@ pub fn is_short(a: usize, g: usize, w: usize) -> bool
 }
 
 // |D|, column after column: T·I − G·A is what the residuals of an inverse are with the two matrices exchanged.
+// The loop goes by number: n·n may be the end of a range, and no part of an index (tests/places.py).
 pub fn defect_magnitudes(t: u32, matrix: &[i64], inverse: &[i64], n: usize) -> [u64; 1024]
     requires t_bound { (t ≤ 20) × (n ≤ 32) }
     requires matrix_list { MatrixList matrix.now n × MatrixList inverse.now n }
@@ -35,13 +36,13 @@ pub fn defect_magnitudes(t: u32, matrix: &[i64], inverse: &[i64], n: usize) -> [
     let mut columns = [0i64; 1024];
     inverse_residuals_of(&mut columns, t, inverse, &rows, n);
     let mut out = [0u64; 1024];
-    for (i, d) in columns[..n * n].iter().enumerate() {
-        out[i] = d.unsigned_abs();
+    for i in 0..n * n {
+        out[i] = magnitude(columns[i]);
     }
     out
 }
 
-// The sum over j of |D_mj|·w_j; the place is carried from column to column.
+// The sum over j of |D_mj|·w_j; the place is carried from column to column (02, Paper 4: "no term multiplies it out from row and column").
 fn load_of(magnitudes: &[u64; 1024], weights: &[u64; 32], n: usize, m: usize) -> u64
     requires n_bound { (n ≤ 32) × (m < n) }
     requires below { Below magnitudes.now (n * n) (2 ^ 46) × Below weights.now n 1024 }
@@ -56,7 +57,8 @@ fn load_of(magnitudes: &[u64; 1024], weights: &[u64; 32], n: usize, m: usize) ->
     sum
 }
 
-// The sums of all rows.
+// The sums of all rows. The loops here and in `margins_from` go by row: `load_of` takes its number, and two lists are read at it, where `zip` and `enumerate`
+// are no plainer.
 pub fn loads_of(magnitudes: &[u64; 1024], weights: &[u64; 32], n: usize) -> [u64; 32]
     requires n_bound { n ≤ 32 }
     requires below { Below magnitudes.now (n * n) (2 ^ 46) × Below weights.now n 1024 }

@@ -16,7 +16,6 @@ use Rattle.integer.proofs.Sum.{sumℕ_none, sumℕ_next}
 use Rattle.linear.specs.Slice.{at}
 use Rattle.linear.proofs.Carried.{start_place}
 use Rattle.linear.proofs.Places.{place, row_ends}
-use Rattle.check_margins.specs.Load.{load_from}
 use Rattle.check_margins.proofs.Loads.{load_magnitude}
 use Rattle.check_margins.proofs.weighted_load.Goals as goal
 use Rattle.check_margins.proofs.weighted_load.Goals.{In-Some, In-None}

@@ -16,5 +16,5 @@ returns c =
     let n = c.args.n in
     let long : length (between s (s + n) c.args.residuals.now) ≡ n = omega (arith, length-between c.args.residuals.now s (s + n), c.requires.n_bound.1.0) in
     c.unwrap_or.ensures
-        ∙ first_place c.position_above.result n _ _ (λ k l. ap (above_allowed (at c.args.allowed.now k)) (get_or-between c.args.residuals.now s (s + n) k (pos 0) (omega arith)))
-        (rw long at c.position_above.ensures)
+    ∙ first_place c.position_above.result n _ _ (λ k l. ap (above_allowed (at c.args.allowed.now k)) (get_or-between c.args.residuals.now s (s + n) k (pos 0) (omega arith)))
+    (rw long at c.position_above.ensures)

@@ -7,7 +7,7 @@ use Rattle.std.specs.List.{between}
 use Rattle.std.proofs.lemmas.List.Edits.{length-between, get_or-between}
 use Rattle.integer.proofs.Search.{first_never}
 use Rattle.linear.specs.Slice.{at}
-use Rattle.linear.proofs.Places.{place, row_room}
+use Rattle.linear.proofs.Places.{row_room}
 use Rattle.check_arrays.specs.Parts.{above_allowed}
 use Rattle.check_residuals.proofs.FirstPlace.{upto_column, place_in_column}
 use Rattle.check_residuals.proofs.first_above_in_columns.Goals as goal

@@ -1,6 +1,6 @@
 use mathlib.Core.Bool.{false}
 use mathlib.Core.Path.{◌≡◌}
-use Prim.Native.Nat.{ℕ, ◌*◌, ◌%◌, ◌≤◌, ◌<◌}
+use Prim.Native.Nat.{ℕ, ◌*◌, ◌%◌, ◌<◌}
 use Rattle.linear.specs.Slice.{at}
 use Rattle.check_arrays.specs.Parts.{above_allowed}
 use Rattle.check_residuals.proofs.first_above_in_columns.Given as goal

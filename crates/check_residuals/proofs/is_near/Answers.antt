@@ -52,7 +52,7 @@ loop-z-preserved c =
     let s = (goal.at.loop-z-preserved c).In-Some in
     let next : length (c.loop-z.yielded ++ ((c.in-Some.field-0-0, c.in-Some.field-0-1) ∷ [])) ≡ k s + 1 = length-append c.loop-z.yielded _ in
     λ low i l. upto (λ (j : ℕ). above_allowed (at c.args.allowed.now j) (at c.args.column.now j) ≡ false) (k s) i (omega (arith, next)) (c.loop-z.invariant (omega (arith, c.add_far-all.ensures.0)))
-        (rw (z_read s, a_read s) at (c.add_far-all.ensures.1 low))
+    (rw (z_read s, a_read s) at (c.add_far-all.ensures.1 low))
 
 pub returns : goal.returns
 returns c =

@@ -1,6 +1,4 @@
-use mathlib.Core.Path.{sym, ◌∙◌}
 use Rattle.std.proofs.Common.{rules}
-use Rattle.integer.proofs.Machine.{read}
 use Rattle.check_residuals.proofs.position_above.Goals as goal
 
 pub returns-then-is_above : goal.returns-then-is_above
