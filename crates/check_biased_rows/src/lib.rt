@@ -83,6 +83,7 @@ pub fn bias_row(out: &mut [u64], place: usize, xs: &[i64], start: usize, stride:
     ensures { RowOf out.new place n (λ (k : ℕ). at xs.now (start + k * stride))
         × Kept out.old out.new place }
 {
+    // The source's place is carried: `step_by` refuses a stride of 0, which the clauses of `bias_row` allow.
     let mut sum: u64 = 0;
     let mut from = start;
     for slot in &mut out[place..place + n] {
@@ -100,6 +101,7 @@ fn bias_all(out: &mut [u64], xs: &[i64], step: usize, stride: usize, n: usize)
     requires by_index { (i : ℕ) → i < n → Reach xs.now (i * step) stride n bias }
     ensures { RowsOf out.new n n (λ (i k : ℕ). at xs.now (i * step + k * stride)) }
 {
+    // Both starts are carried: the clauses of `bias_row` take a list and a place, not a part.
     let mut place = 0;
     let mut start = 0;
     for i in 0..n {

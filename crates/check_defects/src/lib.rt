@@ -82,6 +82,7 @@ fn add_rows(
         × SumsOf sums.new n n (λ (k : ℕ). at xs.now (start + k * stride))
         (λ (k j : ℕ). get_or rows.now (biased_place n k j) 0)) }
 {
+    // The places are carried, here, in `store_row` and in `differences_of`: a stride is 0 where n is, which the clauses of `bias_columns` allow, and `step_by` refuses it.
     let mut total: i64 = 0;
     let mut from = start;
     let mut row = 0;
