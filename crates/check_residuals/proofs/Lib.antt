@@ -1,1 +1,1 @@
-pub mod FirstPlace
+pub mod FirstFound

@@ -10,7 +10,7 @@ ghost use Rattle.linear.specs.Reach.{Within, ColumnList, MatrixList};
 ghost use Rattle.enclosure.specs.Reckoning.{allowed_residual};
 ghost use Rattle.check_arrays.specs.Arrays.{PrefixIs};
 ghost use Rattle.check_arrays.specs.Parts.{residual_from, above_allowed};
-ghost use Rattle.check_residuals.specs.Place.{FirstPlace};
+ghost use Rattle.check_residuals.specs.Place.{FirstFound};
 
 use integer::{magnitude, power};
 use linear::dot;
@@ -76,7 +76,7 @@ fn is_above(allowed: i64, z: i64) -> bool
 // The first of a column's residuals that is above what its row allows.
 fn position_above(column: &[i64], allowed: &[i64; 32]) -> Option<usize>
     requires { ColumnList allowed.now (length column.now) allowed_residual }
-    ensures { FirstPlace result (length column.now) (λ (k : ℕ). above_allowed (at allowed.now k) (at column.now k)) }
+    ensures { FirstFound result (length column.now) (λ (k : ℕ). above_allowed (at allowed.now k) (at column.now k)) }
 {
     for (k, &z) in column.iter().enumerate() {
         if is_above(allowed[k], z) {
@@ -121,7 +121,7 @@ fn is_near(column: &[i64], allowed: &[i64; 32]) -> bool
 fn first_in_column(column: &[i64], allowed: &[i64; 32]) -> Option<usize>
     requires within { Within column.now (length column.now) (2 ^ 46) }
     requires column_list { ColumnList allowed.now (length column.now) allowed_residual }
-    ensures { FirstPlace result (length column.now) (λ (k : ℕ). above_allowed (at allowed.now k) (at column.now k)) }
+    ensures { FirstFound result (length column.now) (λ (k : ℕ). above_allowed (at allowed.now k) (at column.now k)) }
 {
     if is_near(column, allowed) {
         return None;

@@ -22,17 +22,17 @@ eqb_sym m n = go (eqb m n) refl
     go true e = rw (eq-eqb n m (sym (eqb-true m n e)))
     go false e = rw (ne_eqb n m (λ q. eqb-false m n e (sym q)))
 
-starts_here : (w l : List ℕ) → starts_with eqb l w ≡ starts w l
+starts_with_is : (w l : List ℕ) → starts_with eqb l w ≡ starts w l
 unfolding starts
-starts_here [] l = refl
-starts_here (b ∷ w) [] = refl
-starts_here (b ∷ w) (c ∷ l) = ap₂ (λ (t u : Bool). t && u) (eqb_sym b c) (starts_here w l)
+starts_with_is [] l = refl
+starts_with_is (b ∷ w) [] = refl
+starts_with_is (b ∷ w) (c ∷ l) = ap₂ (λ (t u : Bool). t && u) (eqb_sym b c) (starts_with_is w l)
 
 -- the test of the bytes from a place on, of which there may be none
 pub word_test : (s w : List ℕ) (at : ℕ) {m : ℕ} → m ≡ min at (length s) → starts_with eqb (take (length s - m) (drop m s)) w ≡ starts w (drop at s)
 word_test s w at {m} e =
     let n : take (length s - m) (drop m s) ≡ drop m s = rw (← length-drop m s) (take-length (drop m s)) in
-    rw (n, e, drop_min at s) (starts_here w (drop at s))
+    rw (n, e, drop_min at s) (starts_with_is w (drop at s))
 
 module _ (s w : List ℕ) (at : ℕ) {t : Bool} (e : t ≡ starts w (drop at s)) where
   pub word_yes : t ≡ true → at + length w ≡ word_at s at w

@@ -1,3 +1,3 @@
 pub mod Report
 pub mod Ready
-pub mod Accepted
+pub mod ShownReport

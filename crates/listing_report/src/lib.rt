@@ -7,13 +7,13 @@ ghost use Rattle.listing_text.specs.Wrote.{Wrote};
 ghost use Rattle.entry.specs.Entry.{entry_value, entry_bound};
 ghost use Rattle.listing_text.specs.Line.{each, pair_line};
 ghost use Rattle.listing_report.specs.Report.{bounds_line};
-ghost use Rattle.listing_report.specs.Accepted.{line_in};
+ghost use Rattle.listing_report.specs.ShownReport.{line_in};
 ghost use Rattle.listing_report.specs.Ready.{Reportable, report_in, most_of};
 
-use accepted::Accepted;
+use shown_report::ShownReport;
 use listing_text::{put_bytes, put_list, put_natural, put_pair};
 
-mod accepted;
+mod shown_report;
 
 // (entry i (V limit))
 fn put_entry(out: &mut [u8], at: usize, i: u64, x: i64, e: u64, s: u32) -> usize
@@ -34,7 +34,7 @@ pub enum Block {
     Inverse,
 }
 
-impl<'a> Accepted<'a> {
+impl<'a> ShownReport<'a> {
     // The line of row i in a block.
     fn put_line(self, out: &mut [u8], at: usize, block: Block, i: usize) -> usize
         requires { (i < self.n) × (at + most_of block ≤ length out.old) }
@@ -95,7 +95,7 @@ pub fn put_report(
     ensures { Wrote 32768 out.old 0
         (report_in n s guess.now solution_bounds.now inverse_bounds.now) out.new result }
 {
-    let accepted = Accepted {
+    let shown = ShownReport {
         n,
         s,
         guess,
@@ -103,8 +103,8 @@ pub fn put_report(
         inverse_bounds,
     };
     let a = put_bounds(out, 0, n as u64);
-    let b = accepted.put_lines(out, a, Block::Solution);
-    let c = accepted.put_lines(out, b, Block::Entry);
-    let d = accepted.put_lines(out, c, Block::Inverse);
+    let b = shown.put_lines(out, a, Block::Solution);
+    let c = shown.put_lines(out, b, Block::Entry);
+    let d = shown.put_lines(out, c, Block::Inverse);
     put_bytes(out, d, b"(end)\n")
 }

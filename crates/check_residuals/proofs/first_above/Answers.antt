@@ -7,7 +7,7 @@ use Rattle.std.specs.List.{between}
 use Rattle.std.proofs.lemmas.List.Edits.{length-between, get_or-between}
 use Rattle.linear.specs.Slice.{at}
 use Rattle.check_arrays.specs.Parts.{above_allowed}
-use Rattle.check_residuals.proofs.FirstPlace.{first_place}
+use Rattle.check_residuals.proofs.FirstFound.{first_place}
 use Rattle.check_residuals.proofs.first_above.Goals as goal
 
 pub returns : goal.returns

@@ -9,7 +9,7 @@ use Rattle.integer.proofs.Search.{first_never}
 use Rattle.linear.specs.Slice.{at}
 use Rattle.linear.proofs.Places.{row_room}
 use Rattle.check_arrays.specs.Parts.{above_allowed}
-use Rattle.check_residuals.proofs.FirstPlace.{upto_column, place_in_column}
+use Rattle.check_residuals.proofs.FirstFound.{upto_column, place_in_column}
 use Rattle.check_residuals.proofs.first_above_in_columns.Goals as goal
 use Rattle.check_residuals.proofs.first_above_in_columns.Goals.{After-first_in_column}
 

@@ -2,7 +2,7 @@
 ghost use Rattle.listing_report.specs.Ready.{Reportable};
 
 #[derive(Clone, Copy)]
-pub struct Accepted<'a> {
+pub struct ShownReport<'a> {
     pub n: usize,
     pub s: u32,
     pub guess: &'a [i64],

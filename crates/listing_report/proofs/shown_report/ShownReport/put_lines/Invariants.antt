@@ -1,9 +1,9 @@
 use Rattle.std.proofs.Common.{◌≡◌, ◌*◌, length}
 use Rattle.listing_text.specs.Wrote.{Wrote}
 use Rattle.listing_text.specs.Line.{each}
-use Rattle.listing_report.specs.Accepted.{line_in}
+use Rattle.listing_report.specs.ShownReport.{line_in}
 use Rattle.listing_report.specs.Ready.{most_of}
-use Rattle.listing_report.proofs.accepted.Accepted.put_lines.Given as goal
+use Rattle.listing_report.proofs.shown_report.ShownReport.put_lines.Given as goal
 
 abbrev pub invariant-loop-i : goal.invariant-loop-i
 invariant-loop-i l = record {

@@ -1,6 +1,6 @@
 use Rattle.std.proofs.Common.{refl, ◌∙◌}
 use Rattle.listing_text.proofs.Each.{wrote_none, wrote_more}
-use Rattle.listing_report.proofs.accepted.Accepted.put_lines.Goals as goal
+use Rattle.listing_report.proofs.shown_report.ShownReport.put_lines.Goals as goal
 
 pub loop-i-init : goal.loop-i-init
 loop-i-init c = record { same_length = refl; wrote = wrote_none _ _ _ _ }

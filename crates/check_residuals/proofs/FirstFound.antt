@@ -11,9 +11,9 @@ use Rattle.std.specs.Option.{unwrap_or}
 use Rattle.integer.specs.Finite.{first}
 use Rattle.integer.proofs.Search.{first_is, first_never}
 use Rattle.linear.proofs.Places.{place, place_row}
-use Rattle.check_residuals.specs.Place.{FirstPlace}
+use Rattle.check_residuals.specs.Place.{FirstFound}
 
-pub first_place : (r : Option ℕ) (n : ℕ) (f g : ℕ → Bool) → ((k : ℕ) → k < n → f k ≡ g k) → FirstPlace r n f → unwrap_or r n ≡ first n g
+pub first_place : (r : Option ℕ) (n : ℕ) (f g : ℕ → Bool) → ((k : ℕ) → k < n → f k ≡ g k) → FirstFound r n f → unwrap_or r n ≡ first n g
 first_place None n f g e h = sym (first_never n g (λ k l. sym (e k l) ∙ h k l))
 first_place (Some k) n f g e h = sym (first_is n g k h.0 (sym (e k h.0) ∙ h.1) (λ j l. sym (e j (omega (arith, h.0))) ∙ h.2 j l))
 
