@@ -19,7 +19,8 @@ use check_biased_rows::{add_low, bias_row, row_dot, unbiased_magnitude};
 use check_ratios::{all_zero, is_within_caps, ratio_bounds, sum_of};
 use integer::magnitude;
 
-// The absolute values of p = G·r, from the biased rows of G and the biased row that stands for r.
+// The absolute values of p = G·r, from the biased rows of G and the biased row that stands for r. `row_dot` takes a row by its number and its start, which
+// is carried beside it (docs/PROMISES.md: "the start of a row is carried from row to row"), so the loop goes by number, as in `add_slacks`.
 fn magnitudes_of(out: &mut [u64; 32], rows: &[u64], residuals: &[u64], n: usize)
     requires n_bound { (n ≤ 32) × (length out.old ≡ 32) }
     requires biased_rows { BiasedRows rows.now n × BiasedRow residuals.now (0 * (n + 1)) n }
@@ -97,15 +98,16 @@ pub fn column_bounds(
     column
 }
 
-// Writes n limits from an index on, a stride apart.
+// Writes n limits from an index on, a stride apart. The loop goes by number: tests/columns.py reads that each number written is an element of an array that was
+// handed over.
 pub fn store(dst: &mut [u64], start: usize, stride: usize, column: [u64; 32], n: usize)
     requires n_bound { (n ≤ 32) × (start + n * stride < 2 ^ 60) }
     requires by_index { (k : ℕ) → k < n → start + k * stride < length dst.old }
     ensures { dst.new ≡ written dst.old start stride (λ (i : ℕ). get_or column i 0) n }
 {
     let mut place = start;
-    for &limit in &column[..n] {
-        dst[place] = limit;
+    for i in 0..n {
+        dst[place] = column[i];
         place += stride;
     }
 }
