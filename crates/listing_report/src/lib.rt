@@ -10,8 +10,8 @@ ghost use Rattle.listing_report.specs.Report.{bounds_line};
 ghost use Rattle.listing_report.specs.ShownReport.{line_in};
 ghost use Rattle.listing_report.specs.Ready.{Reportable, report_in, most_of};
 
-use shown_report::ShownReport;
 use listing_text::{put_bytes, put_list, put_natural, put_pair};
+use shown_report::ShownReport;
 
 mod shown_report;
 
