@@ -15,7 +15,7 @@ use Rattle.linear.specs.Written as W
 use Rattle.half_fill.proofs.Places.{place_lower}
 use Rattle.rules.specs.Range as R
 use Rattle.rules.proofs.Verdicts.{accepted_new}
-use Rattle.build_lines.specs.Order.{Built}
+use Rattle.build_lines.specs.Order.{Built, build_code, build_answer}
 use Rattle.std.specs.Prelude.{Ok}
 use Rattle.build_lines.specs.declared.Observation.{Observation}
 use Rattle.build_lines.specs.Distinct as D
@@ -24,7 +24,6 @@ use Rattle.build_lines.specs.Example.{net}
 use Rattle.build_lines.specs.Heights.{fixed_weight, all_weight}
 use Rattle.build_lines.specs.Line as L
 use Rattle.build_lines.specs.Order as O
-use Rattle.build_lines.specs.Order.{build_code, build_answer}
 use Rattle.build_lines.proofs.Net.{diagonal}
 use Rattle.build_equations.specs.declared.Layout.{Layout}
 use Rattle.build_equations.specs.declared.Layout.TheVariants.{Square, Lower}

@@ -13,12 +13,11 @@ use lib.ListN.{length}
 use Rattle.integer.specs.Finite.{sum}
 use Rattle.integer.proofs.Search.{upto}
 use Rattle.integer.proofs.Sum.{sum_next, sum_ext}
-use Rattle.build_lines.specs.Order.{Built}
+use Rattle.build_lines.specs.Order.{Built, build_code, observation_says}
 use Rattle.std.specs.Prelude.{Ok}
 use Rattle.build_gathering.specs.declared.Gathered.{Gathered}
 use Rattle.build_lines.specs.declared.Observation.{Observation}
 use Rattle.build_lines.specs.Line.{has_key}
-use Rattle.build_lines.specs.Order.{build_code, observation_says}
 use Rattle.build_gathering.specs.Gathered.{places, with_line, together, counted, refused_as, kept, added, kept_at, kept_sum}
 use Rattle.integer.specs.Among.{Among, here, there}
 use Rattle.build_lines.specs.Stated.{Passes}

@@ -10,13 +10,12 @@ use native.Mathlib.Omega.{arith}
 use lib.IntN.{ℤ, ◌+ℤ◌, +ℤ_assoc, +ℤ_idr}
 use lib.ListN.{length, get_or}
 use Rattle.rules.proofs.Verdicts.{nothing_is_not}
-use Rattle.build_lines.specs.Order.{Built}
+use Rattle.build_lines.specs.Order.{Built, build_code, observations_say}
 use Rattle.build_lines.specs.declared.BuildRefusal.TheVariants.{Refused, SameMark, OtherContents}
 use Rattle.std.specs.Prelude.{Ok, Err}
 use Rattle.build_gathering.specs.declared.Gathered.{Gathered}
 use Rattle.build_lines.specs.declared.Observation.{Observation}
 use Rattle.build_lines.specs.Line.{no_observation}
-use Rattle.build_lines.specs.Order.{build_code, observations_say}
 use Rattle.build_lines.specs.Refused.{refused_from}
 use Rattle.build_lines.specs.Distinct.{distinct_after, total}
 use Rattle.build_gathering.specs.Gathered.{saying, counted, refused_as, is_refused, taken, added, when_done, line_number_of, gathered, kept_at, kept_sum}

@@ -21,13 +21,12 @@ use Rattle.rules.specs.declared.Kind.TheVariants as kind
 use Rattle.rules.specs.declared.Refusal.TheVariants.{OutOfRange, TooShort}
 use Rattle.rules.proofs.Ranges.{size_range}
 use Rattle.rules.proofs.Verdicts.{nothing_is_not}
-use Rattle.build_lines.specs.Order.{Built}
+use Rattle.build_lines.specs.Order.{Built, build_code, observations_say, open_order, build_answer}
 use Rattle.build_lines.specs.declared.BuildRefusal.TheVariants.{Refused}
 use Rattle.std.specs.Prelude.{Ok, Err}
 use Rattle.build_gathering.specs.declared.Gathered.{Gathered}
 use Rattle.build_lines.specs.declared.Observation.{Observation}
 use Rattle.build_lines.specs.Line.{no_observation}
-use Rattle.build_lines.specs.Order.{build_code, observations_say, open_order, build_answer}
 use Rattle.build_lines.specs.Refused.{refused_from, build_line}
 use Rattle.build_lines.specs.Distinct.{distinct, total}
 use Rattle.build_gathering.specs.Gathered.{counted, is_refused, taken, added, line_number_of, gathered, few, opened_as, opening_progress, no_lines, opened, kept_at, kept_sum, Proper, ReadyWhenDone}

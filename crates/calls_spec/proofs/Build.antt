@@ -15,13 +15,11 @@ use lib.ListN.{get_or}
 use Rattle.linear.specs.Slice.{at}
 use Rattle.rules.specs.Range.{all_in_range}
 use Rattle.rules.specs.declared.Kind.TheVariants as kind
-use Rattle.std.specs.Prelude.{Err}
+use Rattle.std.specs.Prelude.{Err, Ok}
 use Rattle.check_spec.specs.Input.{lists_in_range}
-use Rattle.build_lines.specs.Order.{Built}
+use Rattle.build_lines.specs.Order.{Built, build_code, build_answer}
 use Rattle.build_lines.specs.declared.BuildRefusal.TheVariants.{Refused, SameMark, OtherContents}
-use Rattle.std.specs.Prelude.{Ok, Err}
 use Rattle.build_lines.specs.declared.Observation.{Observation}
-use Rattle.build_lines.specs.Order.{build_code, build_answer}
 use Rattle.half_fill.specs.Half.{filled_out}
 use Rattle.build_equations.specs.declared.Layout.{Layout}
 use Rattle.build_equations.specs.declared.Layout.TheVariants.{Square, Lower}

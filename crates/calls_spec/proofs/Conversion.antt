@@ -8,12 +8,10 @@ use mathlib.Core.Path.{◌≡◌, refl, sym, ap, subst, ◌∙◌}
 use Prim.Native.Nat.{ℕ, suc}
 use native.Mathlib.Omega.{arith}
 use lib.ListN.{length, get_or, drop}
-use Rattle.std.specs.Prelude.{Err}
+use Rattle.std.specs.Prelude.{Err, Ok}
 use Rattle.rules.proofs.Verdicts.{accepted_new, accepted_old}
-use Rattle.convert_spec.specs.Converted.{Converted}
+use Rattle.convert_spec.specs.Converted.{Converted, convert_code, convert_answer}
 use Rattle.convert_spec.specs.declared.ConversionRefusal.TheVariants.{Refused, NotConvertible}
-use Rattle.std.specs.Prelude.{Ok, Err}
-use Rattle.convert_spec.specs.Converted.{convert_code, convert_answer}
 use Rattle.convert_spec.specs.File.{new_file}
 use Rattle.calls_spec.specs.Conversion.{ConvertExported}
 use Rattle.reply.specs.ReplyIs.{ReplyIs}

@@ -15,8 +15,7 @@ use native.Mathlib.Omega.{arith}
 use lib.IntN.{ℤ}
 use lib.ListN.{get_or, take}
 use Rattle.linear.specs.Matrix.{Vec, Mat}
-use Rattle.rules.specs.Refusal.{code}
-use Rattle.rules.specs.Refusal.{Outcome}
+use Rattle.rules.specs.Refusal.{code, Outcome}
 use Rattle.std.specs.Prelude.{Ok, Err}
 use Rattle.rules.specs.declared.Refusal.TheVariants.{TooLong, NoForm, OutOfRange, WrongCount, Margin, Residual, InverseResidual, TooShort, TooEarly, Repeated, Missing, AfterEnd, NotEnded}
 use Rattle.rules.proofs.Verdicts.{accepted_new, accepted_old}

@@ -7,13 +7,11 @@ use mathlib.Core.Path.{◌≡◌, refl, sym, ap, ◌∙◌}
 use Prim.Native.Nat.{ℕ, ◌+◌, ◌*◌}
 use lib.ListN.{get_or}
 use Rattle.rules.specs.Which.{which_of, refusal_of}
-use Rattle.std.specs.Prelude.{Err}
+use Rattle.std.specs.Prelude.{Err, Ok}
 use Rattle.rules.proofs.Verdicts.{nothing_is_not}
-use Rattle.dependent_spec.specs.Order.{CheckedNets}
+use Rattle.dependent_spec.specs.Order.{CheckedNets, nets_code, joint_answer}
 use Rattle.dependent_spec.specs.declared.NetsRefusal.TheVariants.{Main, Dependent}
-use Rattle.std.specs.Prelude.{Ok, Err}
 use Rattle.dependent_spec.specs.Nets.{Nets}
-use Rattle.dependent_spec.specs.Order.{nets_code, joint_answer}
 use Rattle.dependent_spec.specs.Joint.{EnclosesBoth}
 use Rattle.reply.specs.ReplyIs.{ReplyIs}
 use Rattle.calls_spec.specs.TwoNets.{DependentExported}

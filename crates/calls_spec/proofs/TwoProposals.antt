@@ -12,13 +12,11 @@ use lib.IntN.{ℤ}
 use lib.ListN.{get_or}
 use Rattle.linear.specs.Slice.{at}
 use Rattle.rules.specs.Which.{which_of, refusal_of}
-use Rattle.std.specs.Prelude.{Err}
+use Rattle.std.specs.Prelude.{Err, Ok}
 use Rattle.rules.proofs.Verdicts.{nothing_is_not}
 use Rattle.check_spec.specs.Order.{answer}
-use Rattle.common_spec.specs.Answer.{Common}
+use Rattle.common_spec.specs.Answer.{Common, common_code, common_answer}
 use Rattle.common_spec.specs.declared.CommonRefusal.TheVariants.{First, Second, TooShort, Different, TooWide}
-use Rattle.std.specs.Prelude.{Ok, Err}
-use Rattle.common_spec.specs.Answer.{common_code, common_answer}
 use Rattle.common_spec.specs.Ends.{Contains}
 use Rattle.common_spec.specs.Promised.{exchanged}
 use Rattle.common_spec.specs.Proposals.{Proposals}

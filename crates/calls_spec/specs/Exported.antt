@@ -12,8 +12,7 @@
 --                       holds of, with the two limit lists as there
 use Rattle.std.specs.Prelude.{Result, List, ◌≡◌, ℕ, ℤ}
 use Rattle.rules.specs.Order.{if_accepted}
-use Rattle.rules.specs.Refusal.{code}
-use Rattle.rules.specs.Refusal.{Outcome}
+use Rattle.rules.specs.Refusal.{code, Outcome}
 use Rattle.rules.specs.declared.Refusal.{Refusal}
 use Rattle.check_spec.specs.Input.{Input}
 use Rattle.check_spec.specs.Checked.{Checked}

@@ -18,8 +18,7 @@ use Rattle.linear.proofs.Written.{written_ext}
 use Rattle.linear.proofs.Places.{square}
 use Rattle.check_biased_rows.specs.Place.{RowsOfMatrix}
 use Rattle.rules.specs.Order.{verdict}
-use Rattle.rules.specs.Refusal.{code}
-use Rattle.rules.specs.Refusal.{Outcome}
+use Rattle.rules.specs.Refusal.{code, Outcome}
 use Rattle.std.specs.Prelude.{Ok, Err}
 use Rattle.rules.specs.declared.Refusal.{Refusal}
 use Rattle.rules.proofs.Verdicts.{accepted_new, accepted_old}

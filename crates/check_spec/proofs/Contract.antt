@@ -17,8 +17,7 @@ use Rattle.integer.proofs.Search.{first_past, first_never, clash}
 use Rattle.linear.proofs.Places.{place, square, place_column, place_row}
 use Rattle.linear.proofs.Written.{front_at}
 use Rattle.rules.specs.Order.{verdict}
-use Rattle.rules.specs.Refusal.{code}
-use Rattle.rules.specs.Refusal.{Outcome}
+use Rattle.rules.specs.Refusal.{code, Outcome}
 use Rattle.std.specs.Prelude.{Err}
 use Rattle.rules.specs.declared.Refusal.TheVariants.{TooShort, OutOfRange}
 use Rattle.rules.proofs.Verdicts.{accepted_new, accepted_old, nothing_is_not}

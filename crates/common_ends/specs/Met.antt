@@ -4,14 +4,13 @@
 --   lows_of k X E k' X' E', highs_of .. — the larger lower end and the smaller upper end
 --   Fitting n k X E — what the ends ask of one proposal: 2^k at most 2^20, the first n guesses in their range, no limit above 2^36
 --   Met — 21 and the interval lists as they were, or the ends in their first n places
-use Rattle.std.specs.Prelude.{Bool, true, false, ◌||◌, List, ◌≡◌, ℕ, ◌-◌, ◌≤◌, ◌<◌, ◌^◌, max, ltb, ℤ, pos, ◌+ℤ◌, ◌-ℤ◌, ◌*ℤ◌, get_or}
+use Rattle.std.specs.Prelude.{Bool, true, false, ◌||◌, List, ◌≡◌, ℕ, ◌-◌, ◌≤◌, ◌<◌, ◌^◌, max, ltb, ℤ, pos, ◌+ℤ◌, ◌-ℤ◌, ◌*ℤ◌, get_or, Ok, Err}
 use Rattle.integer.specs.Finite.{largest}
 use Rattle.linear.specs.Reach.{ColumnList}
 use Rattle.linear.specs.Slice.{at}
 use Rattle.linear.specs.Written.{written}
 use Rattle.common_spec.specs.Answer.{Common}
 use Rattle.common_spec.specs.declared.CommonRefusal.TheVariants.{TooWide}
-use Rattle.std.specs.Prelude.{Ok, Err}
 use Rattle.common_spec.specs.Ends.{maxℤ, minℤ}
 use Rattle.common_spec.specs.Proposals.{most_steps}
 

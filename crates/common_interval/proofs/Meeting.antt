@@ -28,8 +28,7 @@ use Rattle.check_spec.specs.Stated.{LongEnough}
 use Rattle.check_spec.proofs.Lengths.{long_of}
 use Rattle.check_spec.proofs.Statements.{accepted_usable}
 use Rattle.check_spec.proofs.Written.{solution_written, accepted_fit, solution_at}
-use Rattle.common_spec.specs.Answer.{Common}
-use Rattle.common_spec.specs.Answer.{CommonAs}
+use Rattle.common_spec.specs.Answer.{Common, CommonAs}
 use Rattle.common_spec.specs.Ends.{finer, low_end, high_end}
 use Rattle.common_spec.specs.Proposals.{Proposals, short_intervals, same_equations, most_steps, is_too_wide}
 use Rattle.common_spec.proofs.Contract.{long_low, long_high, common_wide, common_found}

@@ -17,7 +17,7 @@ use Rattle.linear.specs.Written.{written}
 use Rattle.linear.proofs.Written.{front_at}
 use Rattle.rules.specs.Range.{short_column}
 use Rattle.rules.specs.Refusal.{code}
-use Rattle.std.specs.Prelude.{Err}
+use Rattle.std.specs.Prelude.{Err, Ok}
 use Rattle.rules.specs.declared.Refusal.{Refusal}
 use Rattle.rules.proofs.Ranges.{neither_left, neither_right}
 use Rattle.rules.proofs.Verdicts.{accepted_new, accepted_old, nothing_is_not}
@@ -25,12 +25,10 @@ use Rattle.check_spec.specs.Order.{answer}
 use Rattle.check_spec.proofs.Fit.{fit_of}
 use Rattle.check_spec.proofs.Statements.{accepted_usable}
 use Rattle.check_spec.proofs.Written.{past_kept}
-use Rattle.common_spec.specs.Answer.{Common}
+use Rattle.common_spec.specs.Answer.{Common, common_code, common_answer, low_after, high_after, CommonAs}
 use Rattle.common_spec.specs.declared.CommonRefusal.TheVariants.{First, Second, TooShort, Different, TooWide}
-use Rattle.std.specs.Prelude.{Ok, Err}
 use Rattle.common_spec.specs.Proposals.{Proposals, short_intervals, same_equations, is_too_wide}
 use Rattle.common_spec.specs.Ends.{low_end, high_end}
-use Rattle.common_spec.specs.Answer.{common_code, common_answer, low_after, high_after, CommonAs}
 use Rattle.common_spec.proofs.Contains.{contains, contains_as}
 use Rattle.common_spec.proofs.Equations.{same_of}
 

@@ -16,10 +16,9 @@ use Rattle.rules.proofs.Ranges.{neither_right}
 use Rattle.loader_progress.specs.Progress.{ended}
 use Rattle.listing_text.specs.Wrote.{Wrote}
 use Rattle.file.specs.declared.Collected.{Collected}
-use Rattle.convert_spec.specs.Converted.{Converted}
+use Rattle.convert_spec.specs.Converted.{Converted, some_tolerance, Delivered}
 use Rattle.convert_spec.specs.declared.ConversionRefusal.TheVariants.{Refused, NotConvertible}
 use Rattle.std.specs.Prelude.{Ok, Err}
-use Rattle.convert_spec.specs.Converted.{some_tolerance, Delivered}
 use Rattle.convert_spec.specs.File.{old_file}
 use Rattle.convert_writer.specs.Written.{held_by}
 use Rattle.converter.specs.Held.{unfit, held_answer}

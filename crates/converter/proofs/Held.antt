@@ -25,9 +25,8 @@ use Rattle.file.specs.Read.{state_of, ReadAs}
 use Rattle.listing.specs.Listing.{problem_in}
 use Rattle.listing.specs.Complete.{Complete}
 use Rattle.listing.proofs.Entire.{from, inside}
-use Rattle.convert_spec.specs.Converted.{Converted}
+use Rattle.convert_spec.specs.Converted.{Converted, some_tolerance, convert_answer, Delivered, ConvertedAs, ConvertedAt}
 use Rattle.convert_spec.specs.declared.ConversionRefusal.TheVariants.{Refused}
-use Rattle.convert_spec.specs.Converted.{some_tolerance, convert_answer, Delivered, ConvertedAs, ConvertedAt}
 use Rattle.convert_spec.specs.File.{old_file, new_file}
 use Rattle.convert_spec.specs.Numbers.{SameNumbers, SameTolerances}
 use Rattle.convert_spec.proofs.Limits.{held_numbers, held_tolerances}

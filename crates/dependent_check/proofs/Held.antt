@@ -14,8 +14,7 @@ use Rattle.linear.specs.Slice.{vector_of}
 use Rattle.linear.specs.Written.{written}
 use Rattle.linear.proofs.Written.{written_length, written_ext}
 use Rattle.rules.specs.Range.{short_matrix, short_column}
-use Rattle.rules.specs.Refusal.{code}
-use Rattle.rules.specs.Refusal.{Outcome}
+use Rattle.rules.specs.Refusal.{code, Outcome}
 use Rattle.std.specs.Prelude.{Ok, Err, is_ok, IsErrAnd, MatchResult}
 use Rattle.rules.specs.declared.Refusal.{Refusal}
 use Rattle.rules.specs.declared.Refusal.TheVariants.{TooShort}

@@ -9,7 +9,6 @@ use Rattle.doubles_lists.specs.Outward.{Outgoing, lows_after, highs_after, Inter
 use Rattle.doubles_lists.proofs.Instance.{outward_accepts, zero_doubles}
 use Rattle.check_spec.specs.Checked.{solution_after, inverse_after}
 use Rattle.enclosure.specs.Example.{far_right, far_height}
-use Rattle.std.specs.Prelude.{Ok}
 use Rattle.dependent_spec.specs.Nets.{dependent_of}
 use Rattle.dependent_spec.specs.Together.{CheckedTogether, dependent_solution_after}
 use Rattle.dependent_spec.specs.Example.{coupled_nets, far_right₂, far_height₂}

@@ -11,7 +11,7 @@ use Rattle.linear.specs.Written.{written}
 use Rattle.linear.proofs.Places.{place, square, place_column, place_row}
 use Rattle.linear.proofs.Written.{front_at}
 use Rattle.rules.specs.Refusal.{code, number_of, values_of}
-use Rattle.std.specs.Prelude.{Err}
+use Rattle.std.specs.Prelude.{Err, Ok}
 use Rattle.rules.specs.declared.Refusal.{Refusal}
 use Rattle.rules.proofs.Ranges.{both_left, both_right}
 use Rattle.rules.proofs.Verdicts.{accepted_new, accepted_old, nothing_is_not}
@@ -23,7 +23,6 @@ use Rattle.check_spec.proofs.Contract.{answer_ready, code_sound, written_enclose
 use Rattle.check_spec.proofs.Fit.{Fit, fit_of}
 use Rattle.check_spec.proofs.Statements.{accepted_usable}
 use Rattle.dependent_spec.specs.declared.NetsRefusal.TheVariants.{Main, Dependent}
-use Rattle.std.specs.Prelude.{Ok, Err}
 use Rattle.dependent_spec.specs.Nets.{Nets, dependent_of}
 use Rattle.dependent_spec.specs.Reckoning.{dependent_bound}
 use Rattle.dependent_spec.specs.Order.{dependent_answer, joint_answer}

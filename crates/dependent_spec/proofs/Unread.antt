@@ -19,10 +19,9 @@ use Rattle.check_spec.proofs.Fit.{Fit, fit_of}
 use Rattle.check_spec.proofs.Lengths.{long_of}
 use Rattle.check_spec.proofs.Statements.{accepted_usable}
 use Rattle.check_spec.proofs.Written.{past_kept}
-use Rattle.dependent_spec.specs.Order.{CheckedNets}
+use Rattle.dependent_spec.specs.Order.{CheckedNets, joint_answer, nets_code}
 use Rattle.dependent_spec.specs.Nets.{Nets, dependent_of}
 use Rattle.dependent_spec.specs.Reckoning.{dependent_bound}
-use Rattle.dependent_spec.specs.Order.{joint_answer, nets_code}
 use Rattle.dependent_spec.specs.Together.{CheckedTogether}
 use Rattle.dependent_spec.specs.Agree.{AgreeingNets, SameTogether, SameRest, RestKept}
 use Rattle.dependent_spec.proofs.Same.{K', K'_is, joint_alike, bound_alike}

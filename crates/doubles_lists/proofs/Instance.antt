@@ -38,7 +38,6 @@ use Rattle.doubles_lists.specs.Lists.{double_at}
 use Rattle.doubles_lists.specs.Inward.{Incoming, incoming, inward_answer, guesses_after, GuessesOf}
 use Rattle.doubles_lists.specs.Outward.{Outgoing, outgoing, outward_answer, ends_in, lows_after, highs_after, IntervalsOf}
 use Rattle.doubles_lists.specs.Hands.{Hands, AllBetween}
-use Rattle.std.specs.Prelude.{Ok}
 use Rattle.doubles_lists.proofs.Enclosed.{encloses_between, checked_between_at_b}
 use Rattle.doubles_lists.proofs.Inward.{after_at, each_double}
 use Rattle.doubles_lists.proofs.Inward as inward

@@ -6,8 +6,7 @@ use mathlib.Core.List.{List, [], ◌∷◌}
 use Prim.Native.Nat.{ℕ, ◌+◌, ◌*◌, ◌/◌, ◌%◌}
 use native.Mathlib.Omega.{arith}
 use lib.ListN.{get_or, length}
-use Rattle.rules.specs.Refusal.{code, number_of, values_of}
-use Rattle.rules.specs.Refusal.{Outcome}
+use Rattle.rules.specs.Refusal.{code, number_of, values_of, Outcome}
 use Rattle.std.specs.Prelude.{Ok, Err}
 use Rattle.rules.specs.declared.Refusal.{Refusal}
 use Rattle.linear.specs.Slice.{at}

@@ -30,7 +30,6 @@ use Rattle.dependent_spec.specs.Example.{coupled_nets}
 use Rattle.dependent_spec.specs.Nets.{Nets, nets, dependent_of}
 use Rattle.dependent_spec.specs.Stated.{StatedDependent, too_short}
 use Rattle.dependent_spec.specs.declared.NetsRefusal.TheVariants.{Dependent}
-use Rattle.std.specs.Prelude.{Err}
 use Rattle.dependent_spec.proofs.Contract.{together_dependent}
 use Rattle.dependent_spec.proofs.Instance.{accepted_here}
 use Rattle.dependent_spec.proofs.Largest.{joint_none}

@@ -28,11 +28,10 @@ use Rattle.enclosure.specs.Reckoning.{defect, load, margin, margin_fails}
 use Rattle.enclosure.specs.Quality.{Factor}
 use Rattle.check_spec.specs.Order.{first_margin}
 use Rattle.check_spec.proofs.Fit.{squared}
-use Rattle.quality_spec.specs.Answer.{Quality}
+use Rattle.quality_spec.specs.Answer.{Quality, quality_code, numerator_of, denominator_of, quality_answer, numerator_after, denominator_after, QualityAs}
 use Rattle.std.specs.Prelude.{Ok, Err}
 use Rattle.quality_spec.specs.Peak.{numerator, denominator}
 use Rattle.quality_spec.specs.Inquiry.{Inquiry, inquiry_problem, inquiry_short, inquiry_in_ranges, inquiry_sizes, inquiry_lists}
-use Rattle.quality_spec.specs.Answer.{quality_code, numerator_of, denominator_of, quality_answer, numerator_after, denominator_after, QualityAs}
 use Rattle.quality_spec.proofs.Peak.{peak_factor, peak_least}
 
 -- ---- 8 and 3

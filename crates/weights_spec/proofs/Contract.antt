@@ -24,12 +24,11 @@ use Rattle.rules.proofs.Ranges.{both_left, both_right, neither_left, neither_rig
 use Rattle.rules.proofs.Verdicts.{accepted_new, accepted_old, nothing_is_not}
 use Rattle.check_arrays.specs.Arrays.{PrefixIs}
 use Rattle.check_spec.proofs.Fit.{squared}
-use Rattle.weights_spec.specs.Search.{Found}
+use Rattle.weights_spec.specs.Search.{Found, search_code, count_of, passed, search_answer, count_after, weights_after, FoundAs}
 use Rattle.weights_spec.specs.declared.SearchRefusal.TheVariants.{Refused, NoneGood}
 use Rattle.std.specs.Prelude.{Ok, Err}
 use Rattle.weights_spec.specs.Sequence.{tried}
 use Rattle.weights_spec.specs.Request.{Request, search_problem, search_short, search_in_ranges, search_sizes, search_lists}
-use Rattle.weights_spec.specs.Search.{search_code, count_of, passed, search_answer, count_after, weights_after, FoundAs}
 use Rattle.weights_spec.proofs.Listed.{listed_inside, listed_margins}
 
 -- ---- 8 and 3

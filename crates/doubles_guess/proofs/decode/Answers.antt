@@ -1,5 +1,5 @@
 use native.Mathlib.Omega.{arith}
-use Rattle.std.proofs.Common.{rules}
+use Rattle.std.proofs.Common.{rules, Some, None}
 use mathlib.Core.Path.{◌≡◌, refl, sym, subst, ◌∙◌}
 use mathlib.Core.Bool.{Bool, not}
 use Prim.Native.Nat.{ℕ, ◌+◌, ◌-◌, ◌*◌, ◌/◌, ◌%◌, ◌^◌}
@@ -8,7 +8,6 @@ use lib.Ieee.{Float, binary64, fits, to_bits, of_fields}
 use lib.Ieee.Bits.{of_bits-to_bits, is_true, is_false}
 use lib.Ieee.Exact.{HasValue}
 use lib.Ieee.Scale.{finite}
-use Rattle.std.proofs.Common.{Some, None}
 use Rattle.doubles_guess.specs.Decoded.{Decoded, Normal}
 use Rattle.doubles_guess.proofs.Pattern.{field_zero, field_some, field_top, of_bits_is, nan_not_finite}
 use Rattle.doubles_guess.proofs.Exact.{value_finite}
