@@ -5,7 +5,7 @@ ghost use Rattle.common_spec.specs.Answer.{CommonAs};
 ghost use Rattle.common_spec.specs.Proposals.{proposal, proposals};
 
 use check_held::check_held;
-use common_ends::{are_equations_same, meet};
+use common_ends::{Heights, are_equations_same, meet};
 use common_spec::CommonRefusal;
 use rules::COLUMN_LENGTH;
 
@@ -38,44 +38,39 @@ pub fn common_interval(
         (proposal n2 s2 t2 matrix2.now right2.now tolerance2.now guess2.now inverse2.now weights2.now)
         low.old high.old) result low.new high.new }
 {
-    if low.len() < COLUMN_LENGTH {
-        return Err(CommonRefusal::TooShort);
-    }
-    if high.len() < COLUMN_LENGTH {
+    if low.len() < COLUMN_LENGTH || high.len() < COLUMN_LENGTH {
         return Err(CommonRefusal::TooShort);
     }
     let first = check_held(
         n1, s1, t1, matrix1, right1, tolerance1, guess1, inverse1, weights1,
     );
-    let code1 = first.outcome;
-    match code1 {
-        Err(refusal) => Err(CommonRefusal::First(refusal)),
-        Ok(()) => {
-            let second = check_held(
-                n2, s2, t2, matrix2, right2, tolerance2, guess2, inverse2, weights2,
-            );
-            let code2 = second.outcome;
-            match code2 {
-                Err(refusal) => Err(CommonRefusal::Second(refusal)),
-                Ok(()) => {
-                    let size = n1 as usize;
-                    if are_equations_same(
-                        size,
-                        matrix1,
-                        right1,
-                        tolerance1,
-                        n2 as usize,
-                        matrix2,
-                        right2,
-                        tolerance2,
-                    ) {
-                        let limits1 = first.solution;
-                        let limits2 = second.solution;
-                        return meet(size, s1, guess1, limits1, s2, guess2, limits2, low, high);
-                    }
-                    Err(CommonRefusal::Different)
-                }
-            }
-        }
+    first.outcome.map_err(CommonRefusal::First)?;
+    let second = check_held(
+        n2, s2, t2, matrix2, right2, tolerance2, guess2, inverse2, weights2,
+    );
+    second.outcome.map_err(CommonRefusal::Second)?;
+    let size = n1 as usize;
+    if !are_equations_same(
+        size,
+        matrix1,
+        right1,
+        tolerance1,
+        n2 as usize,
+        matrix2,
+        right2,
+        tolerance2,
+    ) {
+        return Err(CommonRefusal::Different);
     }
+    let heights1 = Heights {
+        s: s1,
+        guess: guess1,
+        limits: &first.solution,
+    };
+    let heights2 = Heights {
+        s: s2,
+        guess: guess2,
+        limits: &second.solution,
+    };
+    meet(size, heights1, heights2, low, high)
 }

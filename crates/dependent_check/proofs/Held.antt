@@ -2,7 +2,7 @@
 --   short_solution, short_inverse — 8 of the main net by its limit lists
 --   main_refused, dependent_refused, both_accepted — the contract, by what is said of each net
 --   marks_few, guess_known — what the check of the dependent net asks of the main net;  limits_long, inverse_long — the arrays that hold its limits
-use mathlib.Core.Path.{◌≡◌, refl, sym, ap, subst, ◌∙◌}
+use mathlib.Core.Path.{◌≡◌, sym, ap, ◌∙◌}
 use mathlib.Core.Bool.{true, ◌||◌}
 use mathlib.Core.List.{List, []}
 use Prim.Native.Nat.{ℕ, ◌*◌, ◌/◌, ◌%◌, ◌≤◌, ◌<◌, ◌^◌}
@@ -15,7 +15,7 @@ use Rattle.linear.specs.Written.{written}
 use Rattle.linear.proofs.Written.{written_length, written_ext}
 use Rattle.rules.specs.Range.{short_matrix, short_column}
 use Rattle.rules.specs.Refusal.{code, Outcome}
-use Rattle.std.specs.Prelude.{Ok, Err, is_ok, IsErrAnd, MatchResult}
+use Rattle.std.specs.Prelude.{Ok, Err}
 use Rattle.rules.specs.declared.Refusal.{Refusal}
 use Rattle.rules.specs.declared.Refusal.TheVariants.{TooShort}
 use Rattle.rules.proofs.Ranges.{or_right}
@@ -28,23 +28,12 @@ use Rattle.check_spec.proofs.Contract.{answer_short}
 use Rattle.check_spec.proofs.Fit.{Fit}
 use Rattle.check_spec.proofs.Written.{solution_written, inverse_written, accepted_fit, inverse_place, checked_fit, checked_solution}
 use Rattle.dependent_spec.specs.declared.NetsRefusal.TheVariants.{Main, Dependent}
-use Rattle.dependent_spec.specs.declared.NetsRefusal.{NetsRefusal}
 use Rattle.dependent_spec.specs.Nets.{Nets, dependent_by, dependent_of}
-use Rattle.dependent_spec.specs.Order.{CheckedNets, dependent_answer}
+use Rattle.dependent_spec.specs.Order.{dependent_answer}
 use Rattle.dependent_spec.specs.Checked.{DependentAs}
 use Rattle.dependent_spec.specs.Together.{CheckedTogether}
 use Rattle.dependent_spec.proofs.Contract.{together_main, together_dependent, together_accepted, lent, lent_answer}
 use Rattle.dependent_spec.proofs.Limits.{dependent_same}
-
--- what `map_err` says of an answer
-pub accepted_of : (o : Outcome) → true ≡ is_ok o → o ≡ Ok tt
-accepted_of (Ok x) e = refl
-accepted_of (Err r) e = cc
-
-pub refused_as : {f : NetsRefusal} (P : Refusal → NetsRefusal → Type 0) (o : Outcome) (q : CheckedNets) → MatchResult o (λ x. q ≡ Ok x) (λ e. IsErrAnd q (P e)) → q ≡ Err f →
-    (e : Refusal) × (o ≡ Err e) × P e f
-refused_as {f} P (Ok x) q m e = let no : Err f ≡ Ok x = sym e ∙ m in cc
-refused_as {f} P (Err r) q m e = (r, refl, subst (λ (z : CheckedNets). IsErrAnd z (P r)) e m)
 
 -- 8 by one of the two limit lists, which come last
 by_limits : (I : Input) → short_column (length I.solution_bounds) || short_matrix (length I.inverse_bounds) ≡ true → short I ≡ true

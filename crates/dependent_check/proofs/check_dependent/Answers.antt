@@ -4,7 +4,8 @@ use Rattle.linear.proofs.Places.{square}
 use Rattle.check_spec.specs.Input.{input}
 use Rattle.dependent_spec.specs.Nets.{Nets, nets}
 use Rattle.dependent_spec.specs.declared.NetsRefusal.TheVariants.{Main, Dependent}
-use Rattle.dependent_check.proofs.Held.{accepted_of, refused_as, short_solution, short_inverse, main_refused, marks_few, guess_known, limits_long, inverse_long, dependent_refused, both_accepted}
+use Rattle.check_held.proofs.Refused.{accepted_of, refused_as}
+use Rattle.dependent_check.proofs.Held.{short_solution, short_inverse, main_refused, marks_few, guess_known, limits_long, inverse_long, dependent_refused, both_accepted}
 use Rattle.dependent_check.proofs.check_dependent.Goals as goal
 use Rattle.dependent_check.proofs.check_dependent.Goals.{Start, In_ok-map_err, then-solution_bounds1-lt-COLUMN_LENGTH-via-then-solution_bounds1-lt-COLUMN_LENGTH, then-solution_bounds1-lt-COLUMN_LENGTH-via-else-solution_bounds1-lt-COLUMN_LENGTH+then-inverse_bounds1-lt-MATRIX_LENGTH}
 
