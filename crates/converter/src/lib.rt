@@ -17,11 +17,10 @@ use rules::Refusal;
 fn hand_over(out: &mut [u8], text: &[u8], tolerance: bool) -> Result<usize, ConversionRefusal>
     ensures { Delivered (unfit tolerance (length out.old) (length text.now)) text.now out.old out.new result }
 {
-    if tolerance | (out.len() < text.len()) {
+    if tolerance || out.len() < text.len() {
         return Err(ConversionRefusal::NotConvertible);
     }
-    let length = put_bytes(out, 0, text);
-    Ok(length)
+    Ok(put_bytes(out, 0, text))
 }
 
 // The new file of the numbers that a file's lines gave; it is written whole before any of it is handed over. 15 where the file stopped before an end.
@@ -29,13 +28,12 @@ fn deliver(out: &mut [u8], collected: Collected) -> Result<usize, ConversionRefu
     requires { InRangeAtEnd collected }
     ensures { Delivered (held_answer collected (length out.old)) (old_file (held_by collected)) out.old out.new result }
 {
-    let loader = collected.loader;
-    if loader.has_ended() {
-        let mut buffer = [0u8; 32768];
-        let length = put_file(&mut buffer, collected);
-        return hand_over(out, &buffer[..length], has_tolerance(collected));
+    if !collected.loader.has_ended() {
+        return Err(ConversionRefusal::Refused(Refusal::NotEnded));
     }
-    Err(ConversionRefusal::Refused(Refusal::NotEnded))
+    let mut buffer = [0u8; 32768];
+    let length = put_file(&mut buffer, collected);
+    hand_over(out, &buffer[..length], has_tolerance(collected))
 }
 
 // The same file for the old edition, from the start of the buffer on, and the number of the line where one is refused.
@@ -43,16 +41,15 @@ pub fn convert_file(file: &[u8], out: &mut [u8]) -> Conversion
     ensures { ConvertedAt file.now out.old out.new result }
 {
     let collected = read_file(file);
-    let outcome = collected.outcome;
-    match outcome {
+    match collected.outcome {
         Err(refusal) => Conversion {
             answer: Err(ConversionRefusal::Refused(refusal)),
             line: collected.line,
         },
-        Ok(()) => {
-            let answer = deliver(out, collected);
-            Conversion { answer, line: 0 }
-        }
+        Ok(()) => Conversion {
+            answer: deliver(out, collected),
+            line: 0,
+        },
     }
 }
 
@@ -60,7 +57,5 @@ pub fn convert_file(file: &[u8], out: &mut [u8]) -> Conversion
 pub fn convert(file: &[u8], out: &mut [u8]) -> Result<usize, ConversionRefusal>
     ensures { ConvertedAs file.now out.old out.new result }
 {
-    let conversion = convert_file(file, out);
-    let answer = conversion.answer;
-    answer
+    convert_file(file, out).answer
 }

@@ -81,17 +81,11 @@ pub fn is_misplaced(stage: Stage, n: u32, item: Item) -> bool
         || !loader_values::is_placed(item, n)
 }
 
-// The set of a part. Its index is a constant in each arm, here and in `with`, so that the five sets need not stand in memory.
+// The set of a part.
 pub fn set_of(sets: [u32; 5], part: Part) -> u32
     ensures { result ≡ set_of sets part }
 {
-    match part {
-        Part::Row => sets[0],
-        Part::Right => sets[1],
-        Part::Guess => sets[2],
-        Part::Inverse => sets[3],
-        Part::Weight => sets[4],
-    }
+    sets[part as usize]
 }
 
 // Whether the form of a part for the number i, from 1, was given.
@@ -107,14 +101,8 @@ pub fn with(mut sets: [u32; 5], part: Part, i: u32) -> [u32; 5]
     requires { (1 ≤ i) × (i ≤ 32) }
     ensures { result ≡ marked sets part i }
 {
-    let set = loader_bit_set::with_place(set_of(sets, part), i - 1);
-    match part {
-        Part::Row => sets[0] = set,
-        Part::Right => sets[1] = set,
-        Part::Guess => sets[2] = set,
-        Part::Inverse => sets[3] = set,
-        Part::Weight => sets[4] = set,
-    }
+    let k = part as usize;
+    sets[k] = loader_bit_set::with_place(sets[k], i - 1);
     sets
 }
 
@@ -132,6 +120,7 @@ pub fn is_repeated(stage: Stage, sets: [u32; 5], item: Item) -> bool
 }
 
 // How many forms are still missing out of 4n: rows, right sides, guesses and inverse rows.
+// The four are named: in a chain over sets[..4] what `sum` and count_lacking require of each step was tried and not proved.
 #[tactic(auto, unfolding(crate::specs::Progress::missing))]
 fn count_missing(sets: [u32; 5], n: u32) -> u32
     requires { (1 ≤ n) × (n ≤ 32) }
