@@ -41,15 +41,15 @@ pub block_byte : (s : List ℕ) (at n k : ℕ) → k < n → get_or (take n (dro
 block_byte s at n k h = get_or-take n (drop at s) k 0 h ∙ get_or-drop at s k 0
 
 -- bytes without a line feed, and what is left
-passed : (s : List ℕ) (k : ℕ) → k ≤ length s → ((j : ℕ) → j < k → get_or s j 0 ≡ 10 → ⊥) → line_length s ≡ k + line_length (drop k s)
-passed s zero h n = omega arith
-passed s (suc k) h n =
-    let before = passed s k (omega arith) (λ j m. n j (omega arith)) in
+feed_passed : (s : List ℕ) (k : ℕ) → k ≤ length s → ((j : ℕ) → j < k → get_or s j 0 ≡ 10 → ⊥) → line_length s ≡ k + line_length (drop k s)
+feed_passed s zero h n = omega arith
+feed_passed s (suc k) h n =
+    let before = feed_passed s k (omega arith) (λ j m. n j (omega arith)) in
     let here = length_byte s {i = k} (omega arith) (n k (omega arith)) in
     let m : k + 1 ≡ suc k = omega arith in
     omega (arith, before, rw m at here)
 
 pub first_feed_is : (r : Option ℕ) (s : List ℕ) →
     MatchOption r (All (λ (x : ℕ). x ≡ 10 → ⊥) s) (λ (k : ℕ). (k < length s) × (get_or s k 0 ≡ 10) × ((j : ℕ) → j < k → get_or s j 0 ≡ 10 → ⊥)) → unwrap_or r (length s) ≡ line_length s
-first_feed_is None s h = omega (arith, passed s (length s) (omega arith) (λ j m. All-get_or (λ (x : ℕ). x ≡ 10 → ⊥) s j 0 m h), length_end s {i = length s} (omega arith))
-first_feed_is (Some k) s h = omega (arith, passed s k (omega (arith, h.0)) h.2, length_feed s {i = k} h.0 h.1)
+first_feed_is None s h = omega (arith, feed_passed s (length s) (omega arith) (λ j m. All-get_or (λ (x : ℕ). x ≡ 10 → ⊥) s j 0 m h), length_end s {i = length s} (omega arith))
+first_feed_is (Some k) s h = omega (arith, feed_passed s k (omega (arith, h.0)) h.2, length_feed s {i = k} h.0 h.1)

@@ -1,7 +1,7 @@
 use Rattle.std.proofs.Common.{◌≡◌, ◌∙◌, sym, [], true, false, rules}
 use Rattle.std.proofs.lemmas.Result.{err_from_is_err_and}
 use Rattle.check_spec.specs.Order.{answer}
-use Rattle.check_held.proofs.Refused.{accepted_of, refused_as}
+use Rattle.check_held.proofs.Refused.{held_accepted, held_refused}
 use Rattle.common_spec.specs.declared.CommonRefusal.TheVariants.{First, Second}
 use Rattle.common_spec.specs.Proposals.{Proposals, proposal, proposals, short_intervals, same_equations}
 use Rattle.common_spec.proofs.Contract.{common_short, common_first, common_second, common_different}
@@ -22,10 +22,10 @@ long : (c : Else-high-lt-COLUMN_LENGTH) → short_intervals (Q (goal.at.Else-hig
 long c = long_both (Q (goal.at.Else-high-lt-COLUMN_LENGTH c).Start) c.if-low-lt-COLUMN_LENGTH.false c.if-high-lt-COLUMN_LENGTH.false
 
 first_code : (c : In_ok-map_err) → answer (Q (goal.at.In_ok-map_err c).Start).first ≡ []
-first_code c = code_accepted (Q (goal.at.In_ok-map_err c).Start).first _ c.check_held-first.ensures (accepted_of _ c.in_ok-map_err.ensures.variant)
+first_code c = code_accepted (Q (goal.at.In_ok-map_err c).Start).first _ c.check_held-first.ensures (held_accepted _ c.in_ok-map_err.ensures.variant)
 
 second_code : (c : In_ok-map_err-2) → answer (Q (goal.at.In_ok-map_err-2 c).Start).second ≡ []
-second_code c = code_accepted (Q (goal.at.In_ok-map_err-2 c).Start).second _ c.check_held-second.ensures (accepted_of _ c.in_ok-map_err-2.ensures.variant)
+second_code c = code_accepted (Q (goal.at.In_ok-map_err-2 c).Start).second _ c.check_held-second.ensures (held_accepted _ c.in_ok-map_err-2.ensures.variant)
 
 same : (c : Else-not-are_equations_same) → same_equations (Q (goal.at.Else-not-are_equations_same c).Start).first (Q (goal.at.Else-not-are_equations_same c).Start).second ≡ true
 same c = sym c.are_equations_same.ensures ∙ c.if-not-are_equations_same.false
@@ -43,7 +43,7 @@ pub returns-in_err-map_err : goal.returns-in_err-map_err
 returns-in_err-map_err c =
     let q = Q (goal.at.returns-in_err-map_err c).Start in
     let p = err_from_is_err_and c.from_residual.result c.from_residual.ensures.1 in
-    let w = refused_as _ c.check_held-first.result.outcome c.map_err.result c.map_err.ensures.cases c.in_err-map_err.was in
+    let w = held_refused _ c.check_held-first.result.outcome c.map_err.result c.map_err.ensures.cases c.in_err-map_err.was in
     let m : c.in_err-map_err.field-0.0 ≡ First w.0 = search (rules, w.2) in
     rw (p.1, p.2, m) (common_first q (long (goal.at.returns-in_err-map_err c).Else-high-lt-COLUMN_LENGTH) _ (code_refused q.first _ c.check_held-first.ensures _ w.1))
 
@@ -51,7 +51,7 @@ pub returns-in_err-map_err-2 : goal.returns-in_err-map_err-2
 returns-in_err-map_err-2 c =
     let q = Q (goal.at.returns-in_err-map_err-2 c).Start in
     let p = err_from_is_err_and c.from_residual-in_err-map_err-2.result c.from_residual-in_err-map_err-2.ensures.1 in
-    let w = refused_as _ c.check_held-second.result.outcome c.map_err-2.result c.map_err-2.ensures.cases c.in_err-map_err-2.was in
+    let w = held_refused _ c.check_held-second.result.outcome c.map_err-2.result c.map_err-2.ensures.cases c.in_err-map_err-2.was in
     let m : c.in_err-map_err-2.field-0.0 ≡ Second w.0 = search (rules, w.2) in
     rw (p.1, p.2, m)
     (common_second q (long (goal.at.returns-in_err-map_err-2 c).Else-high-lt-COLUMN_LENGTH) (first_code (goal.at.returns-in_err-map_err-2 c).In_ok-map_err) _ (code_refused q.second _ c.check_held-second.ensures _ w.1))

@@ -4,7 +4,7 @@ use Rattle.linear.proofs.Places.{square}
 use Rattle.check_spec.specs.Input.{input}
 use Rattle.dependent_spec.specs.Nets.{Nets, nets}
 use Rattle.dependent_spec.specs.declared.NetsRefusal.TheVariants.{Main, Dependent}
-use Rattle.check_held.proofs.Refused.{accepted_of, refused_as}
+use Rattle.check_held.proofs.Refused.{held_accepted, held_refused}
 use Rattle.dependent_check.proofs.Held.{short_solution, short_inverse, main_refused, marks_few, guess_known, limits_long, inverse_long, dependent_refused, both_accepted}
 use Rattle.dependent_check.proofs.check_dependent.Goals as goal
 use Rattle.dependent_check.proofs.check_dependent.Goals.{Start, In_ok-map_err, then-solution_bounds1-lt-COLUMN_LENGTH-via-then-solution_bounds1-lt-COLUMN_LENGTH, then-solution_bounds1-lt-COLUMN_LENGTH-via-else-solution_bounds1-lt-COLUMN_LENGTH+then-inverse_bounds1-lt-MATRIX_LENGTH}
@@ -31,7 +31,7 @@ module _ (c : In_ok-map_err) where
   j = J (goal.at.In_ok-map_err c).Start
 
   main_in : c.check_held-main.result.outcome ≡ Ok tt
-  main_in = accepted_of _ c.in_ok-map_err.ensures.variant
+  main_in = held_accepted _ c.in_ok-map_err.ensures.variant
 
   few : c.args.n1 ≤ 32
   few = marks_few j c.if-solution_bounds1-lt-COLUMN_LENGTH.false c.if-inverse_bounds1-lt-MATRIX_LENGTH.false c.check_held-main.ensures main_in
@@ -39,7 +39,7 @@ module _ (c : In_ok-map_err) where
 pub returns-in_err-map_err : goal.returns-in_err-map_err
 returns-in_err-map_err c =
     let p = err_from_is_err_and c.from_residual.result c.from_residual.ensures.1 in
-    let w = refused_as _ c.check_held-main.result.outcome c.map_err.result c.map_err.ensures.cases c.in_err-map_err.was in
+    let w = held_refused _ c.check_held-main.result.outcome c.map_err.result c.map_err.ensures.cases c.in_err-map_err.was in
     let m : c.in_err-map_err.field-0.0 ≡ Main w.0 = search (rules, w.2) in
     rw (p.1, p.2, m) (main_refused (J (goal.at.returns-in_err-map_err c).Start) c.if-solution_bounds1-lt-COLUMN_LENGTH.false c.if-inverse_bounds1-lt-MATRIX_LENGTH.false c.check_held-main.ensures w.0 w.1)
 
@@ -47,7 +47,7 @@ pub returns-in_err-map_err-2 : goal.returns-in_err-map_err-2
 returns-in_err-map_err-2 c =
     let a = (goal.at.returns-in_err-map_err-2 c).In_ok-map_err in
     let p = err_from_is_err_and c.from_residual-in_err-map_err-2.result c.from_residual-in_err-map_err-2.ensures.1 in
-    let w = refused_as _ c.check_dependent_net.result c.map_err-2.result c.map_err-2.ensures.cases c.in_err-map_err-2.was in
+    let w = held_refused _ c.check_dependent_net.result c.map_err-2.result c.map_err-2.ensures.cases c.in_err-map_err-2.was in
     let m : c.in_err-map_err-2.field-0.0 ≡ Dependent w.0 = search (rules, w.2) in
     rw (p.1, p.2, m) (dependent_refused (j a) a.if-solution_bounds1-lt-COLUMN_LENGTH.false a.if-inverse_bounds1-lt-MATRIX_LENGTH.false a.check_held-main.ensures (main_in a) c.check_dependent_net.ensures w.0 w.1)
 
@@ -75,4 +75,4 @@ pub returns : goal.returns
 returns c =
     let a = (goal.at.returns c).In_ok-map_err in
     both_accepted (j a) a.if-solution_bounds1-lt-COLUMN_LENGTH.false a.if-inverse_bounds1-lt-MATRIX_LENGTH.false a.check_held-main.ensures (main_in a)
-    c.check_dependent_net.ensures (accepted_of _ c.in_ok-map_err-2.ensures.variant) c.copy_limits.ensures c.copy_limits-2.ensures
+    c.check_dependent_net.ensures (held_accepted _ c.in_ok-map_err-2.ensures.variant) c.copy_limits.ensures c.copy_limits-2.ensures
