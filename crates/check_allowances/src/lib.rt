@@ -66,7 +66,8 @@ pub fn slacks_of(out: &mut [u64; 32], s: u32, tolerance: &[i64], n: usize)
     }
 }
 
-// How large a residual may be, with this slack and this sum along its row; below 0 where the slack alone is too large.
+// How large a residual may be, with this slack and this sum along its row; below 0 where the slack alone is too large. Not an Option: `allowed_beside`, which the
+// clause of `allowed_of` names, is one signed number.
 fn allowed_at(slack: u64, sum: u64) -> i64
     ensures { result ≡ allowed_beside slack sum }
 {

@@ -101,7 +101,7 @@ fn bias_all(out: &mut [u64], xs: &[i64], step: usize, stride: usize, n: usize)
     requires by_index { (i : ℕ) → i < n → Reach xs.now (i * step) stride n bias }
     ensures { RowsOf out.new n n (λ (i k : ℕ). at xs.now (i * step + k * stride)) }
 {
-    // Both starts are carried: the clauses of `bias_row` take a list and a place, not a part.
+    // As `for row in out.chunks_exact_mut(n + 1)`, tried, the proof did not close: what that loop writes is not known after it.
     let mut place = 0;
     let mut start = 0;
     for i in 0..n {

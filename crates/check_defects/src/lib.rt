@@ -82,7 +82,7 @@ fn add_rows(
         × SumsOf sums.new n n (λ (k : ℕ). at xs.now (start + k * stride))
         (λ (k j : ℕ). get_or rows.now (biased_place n k j) 0)) }
 {
-    // The places are carried, here, in `store_row` and in `differences_of`: a stride is 0 where n is, which the clauses of `bias_columns` allow, and `step_by` refuses it.
+    // Places are carried, here and in `differences_of`: `xs[start..].iter().step_by(stride).zip(rows.chunks_exact(n + 1)).take(n)` is no plainer.
     let mut total: i64 = 0;
     let mut from = start;
     let mut row = 0;
@@ -134,6 +134,7 @@ fn store_row(
     clear(sums, n);
     let biased = BIAS as i64 * add_rows(sums, xs, start, stride, rows, n);
     add_unit(sums, t, m);
+    // As `out[m..].iter_mut().step_by(n).enumerate()`, tried, the proof did not close.
     let mut place = m;
     for j in 0..n {
         out[place] = number_less(biased, sums[j], sums[32 + j]);

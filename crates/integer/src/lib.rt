@@ -28,7 +28,7 @@ pub fn larger(a: u64, b: u64) -> u64
     a.max(b)
 }
 
-// 01: "rounded up to a whole number".
+// 01: "rounded up to a whole number". Not std's `div_ceil`: the edit ceil_rounds_down and the definition `ceil_div` speak of the divisor less 1 that is added.
 pub fn ceil_div(a: u64, b: u64) -> u64
     requires { (0 < b) × (a + b ≤ 2 ^ 64) }
     ensures { result ≡ ceil_div a b }
