@@ -11,6 +11,7 @@ use rules::COLUMN_LENGTH;
 
 // The common interval of each height, in the finer of the two steps. Order: 8 for an interval list, the first proposal, the second, 20, 21; a refusal leaves
 // both interval lists as they were.
+// The lists stand one by one and in the order of the C call (docs/API.md).
 pub fn common_interval(
     n1: u32,
     s1: u32,

@@ -13,6 +13,7 @@ use rules::{COLUMN_LENGTH, MATRIX_LENGTH, Refusal};
 
 // The main net first: 8, 3, 5, 6, 7; then the dependent net in the same order. The main net's limits are held until both are accepted, so that a refusal of
 // either leaves all four limit lists as they were.
+// The lists stand one by one and in the order of the C call (docs/API.md).
 pub fn check_dependent(
     n1: u32,
     s1: u32,

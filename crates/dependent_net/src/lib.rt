@@ -17,6 +17,7 @@ use rules::{Kind, MATRIX_LENGTH, Refusal, all_in_range};
 
 // The check of a dependent net, from n, s, the guess and the limits of the main net. Order 8, 3, 5, 6, 7; a refusal leaves both limit lists as they were. The sums
 // along the rows are not asked of its heights.
+// The lists stand one by one and in the order of the C call (docs/API.md).
 pub fn check_dependent_net(
     marks: usize,
     main_scale: u32,
