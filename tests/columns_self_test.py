@@ -33,7 +33,7 @@ MUTANTS = {
 }
 # The project's own sources: a file, its text and another text.
 MUTANTS_HERE = {
-    "the writer adds": ("check_bounds/src/lib.rt", "dst[place] = limit;", "dst[place] = limit + 1;"),
+    "the writer adds": ("check_bounds/src/lib.rt", "dst[place] = column[i];", "dst[place] = column[i] + 1;"),
     "the array by reference that may change": ("check_bounds/src/lib.rt", "column: [u64; 32], n: usize)", "column: &mut [u64; 32], n: usize)"),
     "the check writes one itself": ("check_lists/src/lib.rt", "store(solution_bounds, 0, 1, column, n);", "solution_bounds[0] = column[0];"),
     "a column is written as it is worked out": ("check_inverse_bounds/src/lib.rt", "store_limits(dst, j, n, &magnitudes, margins, caps, weights, n);", "dst[j] = largest(&magnitudes);"),

@@ -62,7 +62,7 @@ MUTANTS_HERE = {
     "a term handed on in the search": ("weights_steps/src/lib.rt", "sum += magnitudes[place] * w;", "sum += magnitudes[j * n + m] * w;"),
     "a row that is filled out": ("half_fill/src/lib.rt", "        to += n;", "        to = (i + 1) * n;"),
     "a row of the equations": ("build_equations/src/lib.rt", "store_row(&row.sums, width, matrix, start)", "store_row(&row.sums, width, matrix, i * n)"),
-    "where a limit is written": ("check_bounds/src/lib.rt", "        dst[place] = limit;", "        dst[start + n * stride] = limit;"),
+    "where a limit is written": ("check_bounds/src/lib.rt", "        dst[place] = column[i];", "        dst[start + i * stride] = column[i];"),
 }
 
 
