@@ -29,7 +29,7 @@ fn base_at(base: i64, coupling: &[i64], k: usize, row: usize, guess: &[i64], mar
     base - dot(coupling, row, 1, guess, 0, 1, marks)
 }
 
-// The base of the residuals: S·b2 less C·X1.
+// The base of the residuals: S·b2 less C·X1. Here and in `slacks_with` the start of a row is carried: `chunks` takes no rows of 0 numbers.
 pub fn base_of(
     base: [i64; 32],
     coupling: &[i64],
