@@ -2,12 +2,12 @@
 // numbers one pair at a time: so a matrix is biased row after row, and a sum of products is put right by the sums of its two rows.
 #![tactic(auto)]
 
-ghost use Rattle.std.specs.Prelude.{◌≡◌, ℕ, ◌+◌, ◌*◌, ◌<◌, ◌≤◌, ◌^◌, pos, nat_abs, ◌-ℤ◌, get_or, length, EachIndex, slice_index};
+ghost use Rattle.std.specs.Prelude.{◌≡◌, ℕ, ◌+◌, ◌*◌, ◌<◌, ◌≤◌, ◌^◌, pos, nat_abs, ◌-ℤ◌, length, EachIndex, slice_index};
 ghost use Rattle.integer.specs.Finite.{sumℕ};
 ghost use Rattle.linear.specs.Slice.{at};
 ghost use Rattle.linear.specs.Place.{Carried};
 ghost use Rattle.linear.specs.Reach.{Reach, ColumnList};
-ghost use Rattle.check_biased_rows.specs.Biased.{bias, unbiased, Small, BiasedRow, row_dot, RowOf, RowsOf, Kept};
+ghost use Rattle.check_biased_rows.specs.Biased.{bias, unbiased, BiasedRow, row_dot, RowOf, RowsOf, Kept};
 ghost use Rattle.check_biased_rows.specs.Place.{RowsOfMatrix, ColumnsOfMatrix};
 
 // What is added to a number to bias it, 2^25, and its square.

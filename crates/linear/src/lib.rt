@@ -1,9 +1,7 @@
 // The dot product over slices.
 #![tactic(auto)]
 
-ghost use Rattle.std.specs.Prelude.{◌≡◌, ◌+◌, ◌*◌, ◌<◌, ◌≤◌, ◌^◌, nat_abs, ◌+ℤ◌, ◌*ℤ◌, length};
-ghost use Rattle.linear.specs.Slice.{at};
-ghost use Rattle.linear.specs.Place.{Carried};
+ghost use Rattle.std.specs.Prelude.{◌≡◌, ◌+◌, ◌*◌, ◌<◌, ◌≤◌, ◌^◌};
 ghost use Rattle.linear.specs.Reach.{dot_of, Reach};
 
 use integer::add_product;
