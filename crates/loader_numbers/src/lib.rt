@@ -39,16 +39,9 @@ pub fn take(
     let taken = Loader::from_numbers(*loader).take(
         line, matrix, right, tolerance, guess, inverse, weights,
     );
-    let outcome = taken.outcome;
-    let next = taken.loader;
-    let numbers = next.numbers();
-    match outcome {
-        Ok(()) => {
-            *loader = numbers;
-            Ok(())
-        }
-        Err(refusal) => Err(refusal),
-    }
+    taken.outcome?;
+    *loader = taken.loader.numbers();
+    Ok(())
 }
 
 // The check of what was collected (`Loader::check`).
