@@ -12,7 +12,8 @@ pub enum ConversionRefusal {
     NotConvertible,
 }
 
-// The length of the new file, or why there is none; and the number of the line that is refused, from 1, 0 where every line is accepted.
+// The length of the new file, or why there is none; and the number of the line that is refused, from 1, 0 where every line is accepted: the second is what
+// kodarfi_convert_line gives to C beside the answer, on acceptance too.
 #[derive(Clone, Copy)]
 pub struct Conversion {
     pub answer: Result<usize, ConversionRefusal>,

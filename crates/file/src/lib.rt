@@ -57,7 +57,8 @@ fn line_end(file: &[u8], at: usize) -> usize
     near + first_feed(&file[near..])
 }
 
-// What taking a file's lines gives back: the first refusal and the number of its line, from 1, or acceptance of all lines; and the loader then.
+// What taking a file's lines gives back: the first refusal and the number of its line, from 1, or acceptance of all lines; and the loader then. All three stand side by
+// side, since LinesTakenAs says what they are whether a line is refused or not.
 #[derive(Clone, Copy)]
 pub struct LinesTaken {
     pub outcome: Result<(), Refusal>,
@@ -115,7 +116,8 @@ pub fn take_lines(
     }
 }
 
-// The same, with the lists by value.
+// The same, with the lists by value. They stand one by one, as take_lines and `Loader::take` are lent them: from a struct of lists each would be lent by its name
+// all the same.
 #[derive(Clone, Copy)]
 pub struct Collected {
     pub outcome: Result<(), Refusal>,

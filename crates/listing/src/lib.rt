@@ -8,7 +8,7 @@ use file::take_lines;
 use file_check::put_checked;
 use listing_refusal::{FileAnswer, put_refusal};
 
-// The listing of a file, from the start of the buffer on, and its answer in numbers.
+// The listing of a file, from the start of the buffer on, and its answer in numbers. The six lists are lent where they stand: `read_file` would hand them on by value.
 pub fn answer_file(file: &[u8], out: &mut [u8; 32768]) -> FileAnswer
     ensures { AnsweredAs file.now out.old out.new result }
 {

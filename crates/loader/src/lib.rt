@@ -26,7 +26,7 @@ pub struct Loader {
     sets: [u32; 5],
 }
 
-// What taking a line gives back.
+// What taking a line gives back. The loader stands beside the outcome, since TakenAs says of both what they are on a refusal too: the loader as before.
 #[derive(Clone, Copy)]
 pub struct Taken {
     pub loader: Loader,
@@ -55,7 +55,7 @@ impl Loader {
         }
     }
 
-    // The loader in nine numbers, for callers that cannot hold the struct.
+    // The loader in nine numbers, for callers that cannot hold the struct: kodarfi_loader_new and kodarfi_loader_take give them to C.
     pub fn numbers(self) -> [u32; 9]
         ensures { result ≡ numbers_of_loader self }
     {
@@ -194,7 +194,7 @@ impl Loader {
         self.decide_form(form, read.numbers)
     }
 
-    // One line without its line feed, and the lists that its numbers go into.
+    // One line without its line feed, and the lists that its numbers go into: six, as kodarfi_loader_take is lent them.
     pub fn take(
         self,
         line: &[u8],
