@@ -17,7 +17,7 @@ pub struct Progress {
     pub status: Result<(), BuildRefusal>,
 }
 
-// The lines taken so far. Those whose key no earlier line has are kept in `seen`, the first `count` of it.
+// The lines taken so far. Those whose key no earlier line has are kept in `seen`, the first `count` of it: an array with its count, since there is no heap.
 #[derive(Clone, Copy)]
 pub struct Gathered {
     pub progress: Progress,
@@ -51,6 +51,7 @@ fn met_at(kept: &[Observation], key: u32) -> Option<usize>
 }
 
 // The adder: a line more, by the tests in their order, where no line before it is refused; after a refusal no line is looked at. A line whose key is new is kept.
+// Progress and lines are handed in apart, so that the lines are changed where they stand, and never copied.
 pub fn add_observation(mut g: Progress, seen: &mut [Observation; 256], l: Observation) -> Progress
     ensures { together result seen.new ≡ added (together g seen.old) l }
 {

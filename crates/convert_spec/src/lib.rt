@@ -3,7 +3,7 @@
 
 use rules::Refusal;
 
-// Why no new file is written.
+// Why no new file is written. No `From<Refusal>`: the one call that meets a refusal of a line answers a `Conversion`, so there is no `?`.
 #[derive(Clone, Copy)]
 pub enum ConversionRefusal {
     // a refusal of a line, or 15
