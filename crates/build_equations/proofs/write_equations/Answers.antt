@@ -12,11 +12,13 @@ use Prim.Native.Nat.{◌+◌, ◌≤◌}
 use mathlib.Core.Path.{sym, ◌∙◌}
 use Rattle.std.proofs.Common.{rules}
 use Rattle.build_equations.proofs.write_equations.Goals as goal
-use Rattle.build_equations.proofs.write_equations.Goals.{After-width_of-width}
+use Rattle.build_equations.proofs.write_equations.Goals.{After-count_of-n, After-width_of-width}
 
 -- the row of a turn has room
 row-room : (c : After-width_of-width) → c.loop-i.start + c.width_of-width.result ≤ length c.args.matrix.now
-row-room c = row_room c.args.layout c.args.g.progress.n c.loop-i.i c.loop-i.invariant.1 c.width_of-width.ensures.0 c.loop-i-test.true c.requires.n_in_bounds.0
+row-room c =
+    let s = (goal.at.After-width_of-width c).After-count_of-n in
+    row_room c.args.layout s.count_of-n.result c.loop-i.i c.loop-i.invariant.1 c.width_of-width.ensures.0 c.loop-i-test.true (rw s.count_of-n.ensures s.requires.n_in_bounds.0)
 
 pub loop-i-init : goal.loop-i-init
 loop-i-init c = (search rules, sym (sumℕ_none _), search rules, search rules, sym (rows_none _ _ _), sym (written_none _ _ 1 _))
@@ -32,16 +34,17 @@ overflow_add-start c = let e = row-room (goal.at.overflow_add-start c).After-wid
 pub loop-i-preserved : goal.loop-i-preserved
 loop-i-preserved c =
     let a = c.args in
+    let n = (goal.at.loop-i-preserved c).After-count_of-n in
     let l = c.loop-i in
     let w = c.width_of-width.ensures in
     let o = c.row_of-row in
     let r = c.store_row.ensures in
     let f : SFits w64 o.result.right = search rules in (
       search rules,
-      row_start a.layout a.g.progress.n l.i l.invariant.1 w.0,
-      row_length a.layout a.g.progress.n l.i l.invariant.1 w.0 _ (kept_matrix a.g) a.matrix.now l.matrix r l.invariant.2,
+      row_start a.layout n.count_of-n.result l.i l.invariant.1 w.0,
+      row_length a.layout n.count_of-n.result l.i l.invariant.1 w.0 _ (kept_matrix a.g) a.matrix.now l.matrix r l.invariant.2,
       simp length-set l.invariant.3,
-      row_written a.layout a.g.progress.n l.i l.invariant.1 w.0 _ (kept_matrix a.g) a.matrix.now l.matrix r
+      row_written a.layout n.count_of-n.result l.i l.invariant.1 w.0 _ (kept_matrix a.g) a.matrix.now l.matrix r
           (λ j b. row_matrix a.g l.i o.ensures j (omega (arith, b, w.1, c.requires.ready.size))) l.invariant.4,
       written_more _ _ 1 _ l.i l.invariant.5 (omega arith) (to_z-of_z w64 o.result.right f ∙ row_right a.g l.i o.ensures),
     )
