@@ -29,17 +29,19 @@ fn put_text(file: &[u8], out: &mut [u8; 32768]) -> usize
     ensures { (result ≡ length (converted_text file.now)) × (take result out.new ≡ converted_text file.now) }
 {
     let conversion = convert_file(file, out);
-    let answer = conversion.answer;
-    match answer {
+    match conversion.answer {
         Ok(length) => length,
-        Err(ConversionRefusal::Refused(refusal)) => {
-            let status = put_refusal(out, refusal, conversion.line);
-            status.length
-        }
-        Err(ConversionRefusal::NotConvertible) => {
-            let shown = [conversion.line];
-            put_list(out, 0, b"(refused ", 22, &shown, 0, 1)
-        }
+        Err(error) => match error {
+            ConversionRefusal::Refused(refusal) => put_refusal(
+                out,
+                refusal,
+                conversion.line,
+            ).length,
+            ConversionRefusal::NotConvertible => {
+                let shown = [conversion.line];
+                put_list(out, 0, b"(refused ", 22, &shown, 0, 1)
+            }
+        },
     }
 }
 
