@@ -30,10 +30,10 @@ fn put_value(out: &mut [u8], at: usize, word: &[u8], i: u64, z: i64) -> usize
 }
 
 // The line of a part for row i.
-fn put_line(out: &mut [u8], at: usize, part: Part, i: usize, n: usize, c: Collected) -> usize
-    requires in_range { InRange (state_of c) }
-    requires n_value { (n ≡ c.loader.n) × ((n ≤ 32) × ((i < n) × (at + line_room ≤ length out.old))) }
-    ensures { Wrote (most_for part) out.old at (form_line (form_for (held_by c) part i)) out.new result }
+fn put_line(out: &mut [u8], at: usize, part: Part, i: usize, n: usize, c: &Collected) -> usize
+    requires in_range { InRange (state_of c.now) }
+    requires n_value { (n ≡ c.now.loader.n) × ((n ≤ 32) × ((i < n) × (at + line_room ≤ length out.old))) }
+    ensures { Wrote (most_for part) out.old at (form_line (form_for (held_by c.now) part i)) out.new result }
 {
     let number = i as u64 + 1;
     match part {
@@ -46,10 +46,10 @@ fn put_line(out: &mut [u8], at: usize, part: Part, i: usize, n: usize, c: Collec
 }
 
 // The lines of a part, by rising i. The part says which: a closure that writes into the buffer would need `form_line` in its contract at each of five calls.
-fn put_part(out: &mut [u8], at: usize, part: Part, n: usize, c: Collected) -> usize
-    requires in_range { InRange (state_of c) }
-    requires n_value { (n ≡ c.loader.n) × ((n ≤ 32) × (at + n * most_for part + line_room ≤ length out.old)) }
-    ensures { Wrote (n * most_for part) out.old at (each n (λ (i : ℕ). form_line (form_for (held_by c) part i))) out.new result }
+fn put_part(out: &mut [u8], at: usize, part: Part, n: usize, c: &Collected) -> usize
+    requires in_range { InRange (state_of c.now) }
+    requires n_value { (n ≡ c.now.loader.n) × ((n ≤ 32) × (at + n * most_for part + line_room ≤ length out.old)) }
+    ensures { Wrote (n * most_for part) out.old at (each n (λ (i : ℕ). form_line (form_for (held_by c.now) part i))) out.new result }
 {
     let mut index = at;
     for i in 0..n {
@@ -81,10 +81,10 @@ fn put_scale(out: &mut [u8], at: usize, s: u64, t: u64) -> usize
 }
 
 // The lines of the parts, part after part, and the end.
-fn put_rest(out: &mut [u8], at: usize, n: usize, c: Collected) -> usize
-    requires in_range { InRange (state_of c) }
-    requires n_value { (n ≡ c.loader.n) × ((n ≤ 32) × (at + 22100 ≤ length out.old)) }
-    ensures { Wrote 21318 out.old at (rest_of (held_by c)) out.new result }
+fn put_rest(out: &mut [u8], at: usize, n: usize, c: &Collected) -> usize
+    requires in_range { InRange (state_of c.now) }
+    requires n_value { (n ≡ c.now.loader.n) × ((n ≤ 32) × (at + 22100 ≤ length out.old)) }
+    ensures { Wrote 21318 out.old at (rest_of (held_by c.now)) out.new result }
 {
     let d = put_part(out, at, Part::Row, n, c);
     let e = put_part(out, d, Part::Right, n, c);
@@ -106,7 +106,7 @@ pub fn put_file(out: &mut [u8], c: Collected) -> usize
     let t = u64::from(loader.inverse_scale());
     let a = put_problem(out, 0, n as u64);
     let b = put_scale(out, a, s, t);
-    put_rest(out, b, n, c)
+    put_rest(out, b, n, &c)
 }
 
 // Whether one of the first n numbers is other than 0.
