@@ -65,17 +65,19 @@ pub fn less_where(n: usize, short: bool) -> usize
 
 // Takes a line; of the lists 0 to 5 the one named is too short.
 pub fn take(held: &mut Loaded, line: &[u8], short: u8) {
-    let taken = held.loader.take(
+    let mut next = *held;
+    let taken = next.loader.take(
         line,
-        &mut held.matrix[..less_where(1024, short == b'0')],
-        &mut held.right[..less_where(32, short == b'1')],
-        &mut held.tolerance[..less_where(32, short == b'2')],
-        &mut held.guess[..less_where(32, short == b'3')],
-        &mut held.inverse[..less_where(1024, short == b'4')],
-        &mut held.weights[..less_where(32, short == b'5')],
+        &mut next.matrix[..less_where(1024, short == b'0')],
+        &mut next.right[..less_where(32, short == b'1')],
+        &mut next.tolerance[..less_where(32, short == b'2')],
+        &mut next.guess[..less_where(32, short == b'3')],
+        &mut next.inverse[..less_where(1024, short == b'4')],
+        &mut next.weights[..less_where(32, short == b'5')],
     );
-    held.loader = taken.loader;
-    held.outcome = taken.outcome;
+    next.loader = taken.loader;
+    next.outcome = taken.outcome;
+    *held = next;
 }
 
 // A check through the loader, with a solution limit list that is long enough or too short.
